@@ -1,0 +1,7 @@
+pub mod Register
+pub mod BlockChecks
+pub mod Unique
+pub mod NoFault
+pub mod Fronts
+pub mod OneFault
+pub mod OneOutcome

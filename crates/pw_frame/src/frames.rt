@@ -1,0 +1,85 @@
+ghost use Rattle.std.specs.Prelude.{◌≡◌, ℕ, ◌+◌, ◌*◌, ◌^◌, ◌<◌, ◌≤◌, ◌↔◌, ◌∷◌, ◌++◌, [], List, Bool, true, false, length, slice_index, IsNone, MatchOption, MatchResult, IfSome, IfNone, IfOk, IfErr, IsTrue};
+ghost use Rattle.pw_frame.specs.Frame.{FrameText, text_of};
+ghost use Rattle.pw_frame.specs.Body.{Gap, Front, Reading, Fault, Progress};
+
+use crate::frame::{Frame, FrameFault};
+use crate::whole::first_frame;
+use std::marker::Model;
+
+/// The frames of a body, in order, up to the first fault.
+#[derive(Drop)]
+pub struct Frames<'a> {
+    body: &'a [u8],
+    first: usize,
+    place: usize,
+    ended: bool,
+}
+
+impl<'a> Model for Frames<'a> {
+    ghost Value = { Progress };
+
+    ghost view = { λ f. record { body = f.body.now; place = f.place; ended = f.ended } };
+
+    ghost invariant = { λ f. Gap f.body.now 0 f.first × (f.first ≤ f.place) × (f.place ≤ length f.body.now) };
+}
+
+impl<'a> Frames<'a> {
+    /// The frames of a body.
+    pub fn new(body: &'a [u8]) -> Frames<'a>
+        ensures body { result.body ≡ body.now }
+        ensures front { Front body.now [] result.place }
+        ensures open { result.ended ≡ false }
+    {
+        let first = skip_line_ends(body, 0);
+        Frames {
+            body,
+            first,
+            place: first,
+            ended: false,
+        }
+    }
+
+    /// The next frame, `None` at the body's end, or what is wrong. After a fault every later call answers `None`.
+    pub fn next_frame(&mut self) -> Option<Result<Frame<'a>, FrameFault>>
+        ensures body { self.new.body ≡ self.old.body }
+        ensures within { self.new.place ≤ length self.new.body }
+        ensures ended { self.old.ended ≡ true → IsNone result × (self.new ≡ self.old) }
+        ensures next { self.old.ended ≡ false → (frames : List FrameText) → Front self.old.body frames self.old.place →
+            MatchOption result
+            (Reading self.old.body frames × (self.new ≡ self.old))
+            (λ answer. MatchResult answer
+            (λ frame. Front self.old.body (frames ++ text_of frame ∷ []) self.new.place × (self.new.ended ≡ false))
+            (λ fault. Fault self.old.body frames fault × (self.new.ended ≡ true))) }
+    {
+        if self.ended {
+            return None;
+        }
+        if self.first < self.place && self.place == self.body.len() {
+            return None;
+        }
+        match first_frame(&self.body[self.place..], self.place) {
+            Ok((frame, size)) => {
+                self.place = skip_line_ends(self.body, self.place + size);
+                Some(Ok(frame))
+            }
+            Err(fault) => {
+                self.ended = true;
+                Some(Err(fault))
+            }
+        }
+    }
+}
+
+/// The place behind all CR LF pairs that stand at `from`.
+fn skip_line_ends(body: &[u8], from: usize) -> usize
+    requires { from ≤ length body.now }
+    ensures gap { Gap body.now from result }
+    ensures within { result ≤ length body.now }
+    ensures after { from ≤ result }
+{
+    let mut at = from;
+    while body.len() - at >= 2 && body[at] == b'\r' && body[at + 1] == b'\n' {
+        at += 2;
+    }
+    at
+}

@@ -1,0 +1,21 @@
+//! Frames of meter data: telegrams (DSMR P1 Companion Standard 5.0.2) with their CRC16, and data readouts
+//! (IEC 62056-21) with their block check. No call takes memory: frames borrow the body that they stand in.
+#![tactic(auto)]
+
+mod bytes;
+mod crc;
+mod ending;
+mod frame;
+mod frames;
+mod head;
+pub mod laws;
+mod parity;
+mod search;
+#[cfg(test)]
+mod tests;
+mod whole;
+
+pub use crc::{crc_update, crc16};
+pub use frame::{Frame, FrameFault, Kind};
+pub use frames::Frames;
+pub use parity::block_check;
