@@ -43,6 +43,7 @@ impl<'a> Frames<'a> {
     pub fn next_frame(&mut self) -> Option<Result<Frame<'a>, FrameFault>>
         ensures body { self.new.body ≡ self.old.body }
         ensures within { self.new.place ≤ length self.new.body }
+        ensures rises { IfSome result (λ answer. IfOk answer (λ _. self.old.place < self.new.place)) }
         ensures ended { self.old.ended ≡ true → IsNone result × (self.new ≡ self.old) }
         ensures next { self.old.ended ≡ false → (frames : List FrameText) → Front self.old.body frames self.old.place →
             MatchOption result

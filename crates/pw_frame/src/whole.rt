@@ -74,7 +74,7 @@ fn frame_size(
 ) -> Result<usize, FrameFault>
     requires framed { Framed rest.now kind header_end block_end }
     requires within { block_end < length rest.now }
-    ensures size { IfOk result (λ size. (size ≡ block_end + ending_size kind) × (size ≤ length rest.now)) }
+    ensures size { IfOk result (λ size. (size ≡ block_end + ending_size kind) × (0 < size) × (size ≤ length rest.now)) }
     ensures check { IfOk result (λ _. (check : ℕ) × Ending kind rest.now block_end check × Checks kind rest.now header_end block_end check) }
     ensures fault { IfErr result (λ fault. IsFault rest.now place fault) }
 {
@@ -88,6 +88,7 @@ fn frame_size(
 pub fn first_frame<'a>(rest: &'a [u8], place: usize) -> Result<(Frame<'a>, usize), FrameFault>
     requires { place + length rest.now < 2 ^ 63 }
     ensures whole { IfOk result (λ found. Whole rest.now (text_of found.0) found.1 × (found.1 ≤ length rest.now)) }
+    ensures some { IfOk result (λ found. 0 < found.1) }
     ensures fault { IfErr result (λ fault. IsFault rest.now place fault) }
 {
     let (kind, end) = head(rest, place)?;

@@ -1,0 +1,11 @@
+pub mod Sums
+pub mod Points
+pub mod Level
+pub mod Kept
+pub mod Neighbours
+pub mod Insert
+pub mod Pairs
+pub mod Whole
+pub mod Shares
+pub mod Turns
+pub mod Listed

@@ -1,0 +1,10 @@
+pub mod Decimals
+pub mod EachLine
+pub mod FirstDigits
+pub mod FirstMark
+pub mod FirstOfSet
+pub mod OneCode
+pub mod OnePart
+pub mod OneRegister
+pub mod OneUnit
+pub mod Taken

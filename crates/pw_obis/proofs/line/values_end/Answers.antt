@@ -1,0 +1,20 @@
+use Rattle.std.proofs.Common.{◌∙◌, sym, arith}
+use Rattle.pw_obis.specs.Places.{along_more, along_end, along_stuck}
+use Rattle.pw_obis.proofs.line.values_end.Goals as goal
+
+pub returns-in_default-clause-none : goal.returns-in_default-clause-none
+returns-in_default-clause-none c = λ n t w. c.in_default.ensures.none w.0 w.1
+
+pub returns-in_default-value_end-clause-none : goal.returns-in_default-value_end-clause-none
+returns-in_default-value_end-clause-none c =
+    along_stuck c.args.block.now c.args.from c.loop-to.to c.loop-to.invariant.2 (sym c.byte_at.ensures ∙ c.loop-to-test.true) c.in_default-value_end.ensures.none
+
+pub loop-to-preserved : goal.loop-to-preserved
+loop-to-preserved c = (
+  omega (arith, c.in-Some-value_end.ensures.within),
+  c.in-Some-value_end.ensures.within.1,
+  along_more c.args.block.now c.args.from c.loop-to.to c.in-Some-value_end.next c.in-Some-value_end.ensures.some c.loop-to.invariant.2,
+)
+
+pub returns-clause-some : goal.returns-clause-some
+returns-clause-some c = along_end c.args.block.now c.args.from c.loop-to.to c.loop-to.invariant.2 (λ e. c.loop-to-test.false (c.byte_at.ensures ∙ e))

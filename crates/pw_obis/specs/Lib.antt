@@ -1,0 +1,12 @@
+pub mod Address
+pub mod Answers
+pub mod Block
+pub mod Coming
+pub mod FirstValue
+pub mod Found
+pub mod Groups
+pub mod Laws
+pub mod Line
+pub mod Places
+pub mod References
+pub mod Value

@@ -1,0 +1,131 @@
+//! The code that an address states.
+
+ghost use Rattle.std.specs.Prelude.{◌≡◌, ℕ, ◌∷◌, ◌<◌, ◌≤◌, List, Option, Some, None, length, take, drop, slice_index, IfSome, IfNone, MatchOption};
+ghost use Rattle.std.specs.Char.{digit_value};
+ghost use Rattle.std.specs.Str.Parse.{AllDigits};
+ghost use Rattle.pw_obis.specs.Address.{Group, Storage, Ending, IsCodeOf};
+ghost use Rattle.pw_obis.specs.Groups.{FirstGroup, ReadsBefore, ReadsBehind, Unreadable};
+
+use crate::reference::Code;
+use crate::texts::{behind_mark, is_numeral, with_digits};
+
+/// The value of a text that is one group: one to three digits, at most 255.
+fn group_value(text: &[u8]) -> Option<u8>
+    ensures some { IfSome result (λ value. Group text.now value) }
+    ensures none { IfNone result ((value : ℕ) → Group text.now value → ⊥) }
+{
+    if text.len() > 3 || !is_numeral(text) {
+        return None;
+    }
+    match with_digits(0, text, 255) {
+        Some(value) => Some(value as u8),
+        None => None,
+    }
+}
+
+/// How many digits a text begins with.
+fn digits_end(text: &[u8]) -> usize
+    ensures within { result ≤ length text.now }
+    ensures digits { AllDigits 10 (take result text.now) }
+    ensures stops { digit_value (slice_index text.now result) < 10 → ⊥ }
+{
+    let mut end = 0;
+    while end < text.len() && text[end].is_ascii_digit() {
+        end += 1;
+    }
+    end
+}
+
+/// The group that a text begins with, and what stands behind it.
+fn first_group(text: &[u8]) -> Option<(u8, &[u8])>
+    ensures some { IfSome result (λ read. FirstGroup text.now read.0 read.1.now) }
+    ensures none { IfNone result ((value : ℕ) (rest : List ℕ) → FirstGroup text.now value rest → ⊥) }
+{
+    let end = digits_end(text);
+    match group_value(&text[..end]) {
+        Some(value) => Some((value, &text[end..])),
+        None => None,
+    }
+}
+
+/// A group with its mark behind it, where the text begins so, and what stands behind.
+fn group_before(text: &[u8], mark: u8) -> (Option<u8>, &[u8])
+    requires { digit_value mark < 10 → ⊥ }
+    ensures { ReadsBefore mark text.now result.0 result.1.now }
+{
+    let Some((value, behind)) = first_group(text) else {
+        return (None, text);
+    };
+    match behind_mark(behind, mark) {
+        Some(rest) => (Some(value), rest),
+        None => (None, text),
+    }
+}
+
+/// A group with its mark in front of it, where the text begins with the mark, and what stands behind;
+/// `None` where no group stands behind the mark.
+fn group_behind(text: &[u8], mark: u8) -> Option<(Option<u8>, &[u8])>
+    ensures some { IfSome result (λ read. ReadsBehind mark text.now read.0 read.1.now) }
+    ensures none { IfNone result (Unreadable mark text.now) }
+{
+    let Some(behind) = behind_mark(text, mark) else {
+        return Some((None, text));
+    };
+    match first_group(behind) {
+        Some((value, rest)) => Some((Some(value), rest)),
+        None => None,
+    }
+}
+
+/// The last group, `*F` or `&F`, of which the text may be.
+fn storage(text: &[u8]) -> Option<Option<u8>>
+    ensures some { IfSome result (λ f. Storage text.now f) }
+    ensures none { IfNone result ((f : Option ℕ) → Storage text.now f → ⊥) }
+{
+    if text.is_empty() {
+        return Some(None);
+    }
+    if text[0] != b'*' && text[0] != b'&' {
+        return None;
+    }
+    match group_value(&text[1..]) {
+        Some(value) => Some(Some(value)),
+        None => None,
+    }
+}
+
+/// The groups D, E and F that an address ends with.
+fn ending(text: &[u8]) -> Option<(u8, Option<u8>, Option<u8>)>
+    ensures some { IfSome result (λ groups. Ending text.now groups.0 groups.1 groups.2) }
+    ensures none { IfNone result ((d : ℕ) (e f : Option ℕ) → Ending text.now d e f → ⊥) }
+{
+    let Some((d, behind)) = first_group(text) else {
+        return None;
+    };
+    let Some((e, rest)) = group_behind(behind, b'.') else {
+        return None;
+    };
+    let Some(f) = storage(rest) else {
+        return None;
+    };
+    Some((d, e, f))
+}
+
+/// The OBIS code of an address: an optional `A-`, an optional `B:`, then `C.D`, an optional `.E`, and
+/// an optional `*F` or `&F`, each group one to three digits of value at most 255 (IEC 62056-6-1).
+///
+/// Any other address, as `F.F`, `C.1.0` and the empty one, has no code.
+pub fn code(address: &[u8]) -> Option<Code>
+    ensures { IsCodeOf address.now result }
+{
+    let (a, behind_a) = group_before(address, b'-');
+    let (b, behind_b) = group_before(behind_a, b':');
+    let (c, behind_c) = group_before(behind_b, b'.');
+    let Some(c) = c else {
+        return None;
+    };
+    let Some((d, e, f)) = ending(behind_c) else {
+        return None;
+    };
+    Some(Code { a, b, c, d, e, f })
+}

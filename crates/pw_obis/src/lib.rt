@@ -1,0 +1,29 @@
+//! The data sets of a meter's block: its lines, the OBIS codes of their addresses,
+//! and the watt-hours of a register's value.
+//!
+//! Lines and values are those of IEC 62056-21 and of the DSMR P1 Companion Standard 5.0.2,
+//! codes those of IEC 62056-6-1. No call takes memory: sets are slices of the block.
+#![tactic(auto)]
+
+mod address;
+mod data_set;
+mod energy;
+pub mod laws;
+mod line;
+mod meaning;
+mod next;
+mod reader;
+mod reference;
+mod texts;
+mod value;
+
+pub use address::code;
+pub use data_set::{Set, first_value};
+pub use energy::{LARGEST_WATT_HOURS, WattHours};
+pub use meaning::{is_date, is_identifier, is_stamp, is_time, register};
+pub use reader::{LineFault, Sets};
+pub use reference::{Code, Register};
+pub use value::{ValueFault, watt_hours};
+
+#[cfg(test)]
+mod tests;

@@ -1,0 +1,147 @@
+//! Worked examples, their values from the standards and from the telegrams that meters send.
+
+use crate::{
+    Code, LineFault, Register, Sets, ValueFault, WattHours, code, first_value, is_date,
+    is_identifier, is_stamp, is_time, register, watt_hours,
+};
+
+fn wh(value: u64) -> Option<WattHours> {
+    WattHours::of(value)
+}
+
+#[test]
+fn values_of_registers(rt: HostRuntime) {
+    assert_eq!(rt; watt_hours(b"001000.000*kWh").ok(), wh(1_000_000));
+    assert_eq!(rt; watt_hours(b"123456.789*kWh").ok(), wh(123_456_789));
+    assert_eq!(rt; watt_hours(b"00000001.99999999*kWh").ok(), wh(1_999));
+    assert_eq!(rt; watt_hours(b"0000001000.5*kWh").ok(), wh(1_000_500));
+    assert_eq!(rt; watt_hours(b"99999999999*Wh").ok(), wh(99_999_999_999));
+    assert_eq!(rt; watt_hours(b"000.001*MWh"), Err(ValueFault::Unit));
+    assert_eq!(rt; watt_hours(b"1000.000"), Err(ValueFault::Unit));
+    assert_eq!(rt; watt_hours(b"1*2*kWh"), Err(ValueFault::Unit));
+    assert_eq!(rt; watt_hours(b"123456789*kWh"), Err(ValueFault::TooLarge));
+    assert_eq!(rt; watt_hours(b"100000000000*Wh"), Err(ValueFault::TooLarge));
+    assert_eq!(rt; watt_hours(b"1,5*kWh"), Err(ValueFault::Digits));
+    assert_eq!(rt; watt_hours(b"5.0*Wh"), Err(ValueFault::Digits));
+    assert_eq!(rt; watt_hours(b"5.*kWh"), Err(ValueFault::Digits));
+    assert_eq!(rt; watt_hours(b"*kWh"), Err(ValueFault::Digits));
+}
+
+#[test]
+fn cut_line(rt: HostRuntime) {
+    let mut sets = Sets::new(b"F.F(00)\r\n1.8.0(1\r\n");
+    if let Some(Ok(set)) = sets.next_set() {
+        assert!(rt; set.address == b"F.F".as_slice());
+        assert!(rt; set.code.is_none());
+        assert!(rt; set.values == b"(00)".as_slice());
+    } else {
+        assert!(rt; false);
+    }
+    assert!(rt; matches!(sets.next_set(), Some(Err(LineFault { at: 9 }))));
+    assert!(rt; matches!(sets.next_set(), None));
+    assert!(rt; matches!(sets.next_set(), None));
+}
+
+#[test]
+fn obis_breadth(rt: HostRuntime) {
+    let block = b"0-0:1.0.0(240102060000W)\r\n0-0:96.1.1(4D31)\r\n1-0:1.8.1(123456.789*kWh)\r\n\
+        1-3:0.2.8(50)\r\n0-0:96.13.0()\r\n1-0:1.7.0(00.318*kW)\r\n\
+        1-0:99.97.0(2)(0-0:96.7.19)(101208152415W)(0000000240*s)\r\n\r\n";
+    let mut sets = Sets::new(block.as_slice());
+    let mut given = 0u32;
+    let mut found = 0u32;
+    for _ in 0..9 {
+        let Some(Ok(set)) = sets.next_set() else {
+            continue;
+        };
+        given = given.saturating_add(1);
+        let Some(code) = set.code else {
+            continue;
+        };
+        if is_stamp(&code) {
+            assert!(rt; first_value(&set) == b"240102060000W".as_slice());
+            found = found.saturating_add(1);
+        }
+        if is_identifier(&code) {
+            assert!(rt; first_value(&set) == b"4D31".as_slice());
+            found = found.saturating_add(1);
+        }
+        if register(&code) == Some(Register::I1) {
+            assert_eq!(rt; watt_hours(first_value(&set)).ok(), wh(123_456_789));
+            found = found.saturating_add(1);
+        }
+        if set.address == b"1-0:99.97.0".as_slice() {
+            assert!(rt; set.values == b"(2)(0-0:96.7.19)(101208152415W)(0000000240*s)".as_slice());
+            assert!(rt; first_value(&set) == b"2".as_slice());
+            assert!(rt; register(&code).is_none());
+            found = found.saturating_add(1);
+        }
+    }
+    assert_eq!(rt; given, 7);
+    assert_eq!(rt; found, 4);
+    assert!(rt; matches!(sets.next_set(), None));
+}
+
+fn register_at(address: &[u8]) -> Option<Register> {
+    let code = code(address)?;
+    register(&code)
+}
+
+#[test]
+fn registers_of_addresses(rt: HostRuntime) {
+    assert_eq!(rt; register_at(b"1-0:1.8.0"), Some(Register::I0));
+    assert_eq!(rt; register_at(b"1-0:1.8.1"), Some(Register::I1));
+    assert_eq!(rt; register_at(b"1-0:1.8.2"), Some(Register::I2));
+    assert_eq!(rt; register_at(b"1-0:2.8.0"), Some(Register::E0));
+    assert_eq!(rt; register_at(b"1-0:2.8.1"), Some(Register::E1));
+    assert_eq!(rt; register_at(b"1-0:2.8.2"), Some(Register::E2));
+    assert_eq!(rt; register_at(b"1.8.0"), Some(Register::I0));
+    assert_eq!(rt; register_at(b"1-2.8.1*255"), Some(Register::E1));
+    assert_eq!(rt; register_at(b"1:001.008.002&255"), Some(Register::I2));
+    assert_eq!(rt; register_at(b"0-0:1.8.0"), None);
+    assert_eq!(rt; register_at(b"1-2:1.8.0"), None);
+    assert_eq!(rt; register_at(b"1-0:1.8.3"), None);
+    assert_eq!(rt; register_at(b"1-0:1.8"), None);
+    assert_eq!(rt; register_at(b"1-0:1.8.0*05"), None);
+    assert_eq!(rt; register_at(b"1-0:1.8.0&05"), None);
+}
+
+#[test]
+fn codes_of_addresses(rt: HostRuntime) {
+    let whole = Code {
+        a: Some(1),
+        b: Some(0),
+        c: 99,
+        d: 97,
+        e: Some(0),
+        f: Some(255),
+    };
+    assert_eq!(rt; code(b"1-0:99.97.0*255"), Some(whole));
+    assert_eq!(rt; code(b"1-000:099.97.0&255"), Some(whole));
+    assert!(rt; code(b"1-0:99.97.0*256").is_none());
+    assert!(rt; code(b"256.8").is_none());
+    assert!(rt; code(b"0001.8.0").is_none());
+    assert!(rt; code(b"F.F").is_none());
+    assert!(rt; code(b"C.1.0").is_none());
+    assert!(rt; code(b"").is_none());
+    assert!(rt; code(b"1.8.0.0").is_none());
+    assert!(rt; code(b"1.8.").is_none());
+    assert!(rt; code(b"0:1-1.8.0").is_none());
+}
+
+fn is_clock_address(address: &[u8]) -> (bool, bool) {
+    match code(address) {
+        Some(code) => (is_time(&code), is_date(&code)),
+        None => (false, false),
+    }
+}
+
+#[test]
+fn clock_of_a_readout(rt: HostRuntime) {
+    assert_eq!(rt; is_clock_address(b"0.9.1"), (true, false));
+    assert_eq!(rt; is_clock_address(b"0.9.2"), (false, true));
+    assert_eq!(rt; is_clock_address(b"1-0:0.9.1*255"), (true, false));
+    assert_eq!(rt; is_clock_address(b"0-1:0.9.2"), (false, true));
+    assert_eq!(rt; is_clock_address(b"2-0:0.9.2"), (false, false));
+    assert_eq!(rt; is_clock_address(b"0.9.1*1"), (false, false));
+}

@@ -1,0 +1,6 @@
+pub mod Hexadecimal
+pub mod FaultLine
+pub mod Lines
+pub mod Instant
+pub mod Text
+pub mod Run

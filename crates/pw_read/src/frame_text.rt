@@ -1,0 +1,134 @@
+ghost use Rattle.std.specs.Prelude.{◌≡◌, ℕ, ◌++◌, List, Option, Some, None, Err, IfOk, OnOk, IfErr};
+ghost use Rattle.pw_frame.specs.Frame.{text_of};
+ghost use Rattle.pw_obis.specs.Line.{SetText};
+ghost use Rattle.pw_obis.specs.Block.{HasSets};
+ghost use Rattle.pw_read.specs.Lines.{SetsShow};
+ghost use Rattle.pw_read.specs.Text.{kind_name as name_of, heading, InstantShows, FrameShows, FirstWrong, FrameRefused, BodyShows, BodyFails};
+
+use crate::fault::{Cause, Halt, ReadFault, Refusal};
+use crate::moment::frame_instant;
+use crate::set_line::{SetHalt, put_line, put_set};
+use pw_frame::{Frame, Frames, Kind};
+use pw_obis::{LineFault, Sets, ValueFault};
+use pw_time::{Clock, Instant, Zone, write_utc};
+use std::alloc::{AllocError, Global};
+
+/// The text that is printed of a body: for each frame its kind and header, and a line for each set with a code that is
+/// read.
+pub fn body_text(
+    alloc: Global,
+    clock: Clock,
+    zone: &Zone,
+    body: &[u8],
+) -> Result<Vec<u8>, ReadFault>
+    ensures text { IfOk result (λ text. BodyShows clock body.now text.items) }
+    ensures fault { IfErr result (λ fault. BodyFails clock body.now fault) }
+{
+    let mut text = Vec::new(alloc);
+    let mut frames = Frames::new(body);
+    let mut part = 1;
+    'frames: while let Some(next) = frames.next_frame() {
+        let frame = match next {
+            Ok(frame) => frame,
+            Err(fault) => {
+                let cause = Cause::Frame(fault);
+                return Err(ReadFault::Refused(Refusal { part, cause }));
+            }
+        };
+        match put_frame(&mut text, alloc, clock, zone, &frame) {
+            Ok(()) => {}
+            Err(Halt::Memory) => return Err(ReadFault::Memory),
+            Err(Halt::Refused(cause)) => {
+                return Err(ReadFault::Refused(Refusal { part, cause }));
+            }
+        }
+        part += 1;
+    }
+    Ok(text)
+}
+
+/// Writes what is printed of a frame behind the text.
+fn put_frame(
+    text: &mut Vec<u8>,
+    alloc: Global,
+    clock: Clock,
+    zone: &Zone,
+    frame: &Frame,
+) -> Result<(), Halt>
+    ensures ok { OnOk result ((shown : List ℕ) × FrameShows clock (text_of frame.now) shown × (text.new.items ≡ text.old.items ++ shown)) }
+    ensures err { (cause : Cause) → result ≡ Err (Halt.Refused cause) → FrameRefused clock (text_of frame.now) cause }
+{
+    let Ok(()) = check_lines(frame.block) else {
+        return Err(Halt::Refused(Cause::Line));
+    };
+    put_heading(text, frame)?;
+    match put_sets(text, alloc, frame) {
+        Ok(()) => {}
+        Err(SetHalt::Memory) => return Err(Halt::Memory),
+        Err(SetHalt::Value(fault)) => return Err(Halt::Refused(Cause::Value(fault))),
+    }
+    match frame_instant(frame, clock, zone) {
+        Ok(instant) => Ok(put_instant(text, instant)?),
+        Err(fault) => Err(Halt::Refused(Cause::Instant(fault))),
+    }
+}
+
+/// Writes the line of an instant, where there is one.
+fn put_instant(text: &mut Vec<u8>, instant: Option<Instant>) -> Result<(), AllocError>
+    ensures { OnOk result ((line : List ℕ) × InstantShows instant line × (text.new.items ≡ text.old.items ++ line)) }
+{
+    match instant {
+        None => Ok(()),
+        Some(instant) => put_line(text, b"instant", &write_utc(instant)),
+    }
+}
+
+/// Whether all lines of a block are in the grammar, or the first that isn't.
+fn check_lines(block: &[u8]) -> Result<(), LineFault>
+    ensures ok { OnOk result ((sets : List SetText) × HasSets block.now sets None) }
+    ensures err { IfErr result (λ fault. (sets : List SetText) × HasSets block.now sets (Some fault.at)) }
+{
+    let mut sets = Sets::new(block);
+    'sets: while let Some(next) = sets.next_set() {
+        if let Err(fault) = next {
+            return Err(fault);
+        }
+    }
+    Ok(())
+}
+
+fn kind_name(kind: Kind) -> &'static [u8]
+    ensures { result.now ≡ name_of kind }
+{
+    match kind {
+        Kind::Telegram => b"telegram /",
+        Kind::Readout => b"readout /",
+    }
+}
+
+fn put_heading(text: &mut Vec<u8>, frame: &Frame) -> Result<(), AllocError>
+    ensures { OnOk result (text.new.items ≡ text.old.items ++ heading (text_of frame.now)) }
+{
+    text.extend_from_slice(kind_name(frame.kind))?;
+    text.extend_from_slice(frame.header)?;
+    text.extend_from_slice(b"\n")
+}
+
+/// Writes the lines of a frame's sets behind the text.
+fn put_sets(text: &mut Vec<u8>, alloc: Global, frame: &Frame) -> Result<(), SetHalt>
+    requires { (sets : List SetText) × HasSets frame.now.block.now sets None }
+    ensures ok { OnOk result ((sets : List SetText) × (lines : List ℕ) × HasSets frame.now.block.now sets None × SetsShow frame.now.kind sets lines × (text.new.items ≡ text.old.items ++ lines)) }
+    ensures err { (fault : ValueFault) → result ≡ Err (SetHalt.Value fault) → (sets : List SetText) × HasSets frame.now.block.now sets None × FirstWrong frame.now.kind sets fault }
+{
+    let mut sets = Sets::new(frame.block);
+    'sets: while let Some(next) = sets.next_set() {
+        let Ok(set) = next else {
+            return Ok(());
+        };
+        match put_set(text, alloc, frame.kind, &set) {
+            Ok(()) => {}
+            Err(halt) => return Err(halt),
+        }
+    }
+    Ok(())
+}

@@ -1,0 +1,93 @@
+ghost use Rattle.std.specs.Prelude.{◌≡◌, ℕ, ◌++◌, List, IfSome, IfNone, IfOk, IfErr, OnOk, Ok, Err, codes};
+ghost use Rattle.pw_obis.specs.Address.{IsCodeOf};
+ghost use Rattle.pw_read.specs.Lines.{text_of, IsTextName, register_name as name_of, line_of, SetShows};
+
+use pw_frame::Kind;
+use pw_obis::{
+    Code, Register, Set, ValueFault, first_value, is_date, is_identifier, is_stamp, is_time,
+    register, watt_hours,
+};
+use std::alloc::{AllocError, Global};
+
+/// Why the line of a set can't be written.
+#[derive(Clone, Copy, Debug, PartialEq, Eq)]
+pub enum SetHalt {
+    Memory,
+    Value(ValueFault),
+}
+
+impl From<AllocError> for SetHalt {
+    ghost use Rattle.std.specs.Prelude.{◌≡◌};
+    ghost use Rattle.pw_read.specs.declared.set_line.SetHalt.TheVariants.{Memory};
+
+    ghost from_gives = { λ _ halt. halt ≡ Memory };
+
+    fn from(_error: AllocError) -> SetHalt {
+        SetHalt::Memory
+    }
+}
+
+/// The name under which a set's first value is printed as it stands: identifier and stamp belong to telegrams, time and
+/// date to readouts.
+fn text_name(kind: Kind, code: &Code) -> Option<&'static str>
+    ensures some { IfSome result (λ name. IsTextName kind code.now name.now) }
+    ensures none { IfNone result ((name : List ℕ) → IsTextName kind code.now name → ⊥) }
+{
+    match kind {
+        Kind::Telegram if is_identifier(code) => Some("meter"),
+        Kind::Telegram if is_stamp(code) => Some("stamp"),
+        Kind::Readout if is_time(code) => Some("time"),
+        Kind::Readout if is_date(code) => Some("date"),
+        _ => None,
+    }
+}
+
+fn register_name(register: Register) -> &'static str
+    ensures { result.now ≡ name_of register }
+{
+    match register {
+        Register::I0 => "I0",
+        Register::I1 => "I1",
+        Register::I2 => "I2",
+        Register::E0 => "E0",
+        Register::E1 => "E1",
+        Register::E2 => "E2",
+    }
+}
+
+/// Writes the line of a set behind the text, where its code has one.
+pub fn put_set(text: &mut Vec<u8>, alloc: Global, kind: Kind, set: &Set) -> Result<(), SetHalt>
+    requires { IsCodeOf set.now.address.now set.now.code }
+    ensures ok { OnOk result ((line : List ℕ) × SetShows kind (text_of set.now) (Ok line) × (text.new.items ≡ text.old.items ++ line)) }
+    ensures err { (fault : ValueFault) → result ≡ Err (SetHalt.Value fault) → SetShows kind (text_of set.now) (Err fault) }
+{
+    let Some(code) = set.code else {
+        return Ok(());
+    };
+    let value = first_value(set);
+    if let Some(name) = text_name(kind, &code) {
+        put_line(text, name.as_bytes(), value)?;
+        return Ok(());
+    }
+    let Some(register) = register(&code) else {
+        return Ok(());
+    };
+    match watt_hours(value) {
+        Ok(energy) => {
+            let digits = format!(in alloc; "{}", energy.get())?;
+            put_line(text, register_name(register).as_bytes(), digits.as_bytes())?;
+            Ok(())
+        }
+        Err(fault) => Err(SetHalt::Value(fault)),
+    }
+}
+
+/// Writes a name, a space and a value as a line.
+pub fn put_line(text: &mut Vec<u8>, name: &[u8], value: &[u8]) -> Result<(), AllocError>
+    ensures { OnOk result (text.new.items ≡ text.old.items ++ line_of name.now value.now) }
+{
+    text.extend_from_slice(name)?;
+    text.extend_from_slice(b" ")?;
+    text.extend_from_slice(value)?;
+    text.extend_from_slice(b"\n")
+}

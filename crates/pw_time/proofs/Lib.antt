@@ -1,0 +1,7 @@
+pub mod CalendarFacts
+pub mod OutcomeFacts
+pub mod SummerFacts
+pub mod TableFacts
+pub mod TextFacts
+pub mod UniqueOutcomes
+pub mod UniqueTexts

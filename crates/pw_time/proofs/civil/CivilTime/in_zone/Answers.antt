@@ -1,0 +1,9 @@
+use Rattle.std.proofs.Common.{arith, ◌≤◌, sym}
+use Rattle.pw_time.proofs.OutcomeFacts.{fold_outcome}
+use Rattle.pw_time.proofs.civil.CivilTime.in_zone.Goals as goal
+
+pub returns-in-true-false : goal.returns-in-true-false
+returns-in-true-false c =
+    let shown = c.in_ok-shown.ensures in
+    let low : 7200 ≤ c.in_ok-shown.shown = omega (arith, shown.bound) in
+    (shown.there, fold_outcome c.args.self.now c.in_ok-shown.shown shown.value low (sym c.in-true-false.ensures) (sym c.in-true-false.ensures'))

@@ -1,0 +1,7 @@
+pub mod Faults
+pub mod Instants
+pub mod Civil
+pub mod Texts
+pub mod Summer
+pub mod Outcomes
+pub mod Laws

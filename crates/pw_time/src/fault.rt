@@ -1,0 +1,54 @@
+/// Why a text has no instant.
+#[derive(Clone, Copy, Debug, PartialEq, Eq)]
+pub enum StampFault {
+    /// The text isn't in its form.
+    Form,
+    /// The calendar hasn't the date.
+    NoSuchDate,
+    /// A day hasn't the time: an hour above 23, a minute or a second above 59.
+    NoSuchTime,
+    /// The season mark is neither `S` nor `W`; or the clock marks its times, and the text has no
+    /// mark.
+    Mark,
+    /// The instant isn't from 2000-01-01T00:00:00Z to 2099-12-31T23:59:59Z.
+    Range,
+    /// Local clocks never show this time: it is skipped as summer time begins.
+    Gap,
+    /// Local clocks show this time twice, as summer time ends.
+    Fold,
+}
+
+impl StampFault {
+    ghost use Rattle.std.specs.Prelude.{◌≡◌};
+    ghost use Rattle.pw_time.specs.Faults.{name_of, number_of};
+
+    /// The number under which the fault is reported, from 1 to 7.
+    pub fn number(self) -> u8
+        ensures { result ≡ number_of self }
+    {
+        match self {
+            StampFault::Form => 1,
+            StampFault::NoSuchDate => 2,
+            StampFault::NoSuchTime => 3,
+            StampFault::Mark => 4,
+            StampFault::Range => 5,
+            StampFault::Gap => 6,
+            StampFault::Fold => 7,
+        }
+    }
+
+    /// The name under which the fault is reported: that of the variant.
+    pub fn name(self) -> &'static str
+        ensures { result.now ≡ name_of self }
+    {
+        match self {
+            StampFault::Form => "Form",
+            StampFault::NoSuchDate => "NoSuchDate",
+            StampFault::NoSuchTime => "NoSuchTime",
+            StampFault::Mark => "Mark",
+            StampFault::Range => "Range",
+            StampFault::Gap => "Gap",
+            StampFault::Fold => "Fold",
+        }
+    }
+}

@@ -1,0 +1,49 @@
+//! Laws: each contract is a theorem. A body is empty, or makes the calls that its theorem is about.
+
+ghost use Rattle.std.specs.Prelude.{◌≡◌, Ok};
+ghost use Rattle.pw_time.specs.Laws.{InstantHasOneText, LastSundayIsLast, LocalHourIsConstantWithinAnHour, ReadoutHasOneOutcome, StampHasOneOutcome, SummerIsOfSomeYear, UtcHasOneOutcome};
+
+use crate::{Instant, StampFault, utc, write_utc};
+
+/// A stamp has one answer: its instant, or one refusal.
+pub fn stamp_has_one_outcome()
+    ensures { StampHasOneOutcome }
+{}
+
+/// A text in UTC has one answer.
+pub fn utc_has_one_outcome()
+    ensures { UtcHasOneOutcome }
+{}
+
+/// The date and the time of a readout have one answer by a clock.
+pub fn readout_has_one_outcome()
+    ensures { ReadoutHasOneOutcome }
+{}
+
+/// An instant has one text in UTC.
+pub fn instant_has_one_text()
+    ensures { InstantHasOneText }
+{}
+
+/// What is written for an instant is read back as that instant.
+pub fn written_is_read_back(instant: Instant) -> Result<Instant, StampFault>
+    ensures { result ≡ Ok instant }
+{
+    utc(&write_utc(instant))
+}
+
+/// The last Sunday of a month of 31 days is a Sunday, and one of the days 25 to 31.
+pub fn last_sunday_is_last()
+    ensures { LastSundayIsLast }
+{}
+
+/// An instant lies in summer time exactly where it lies in that of some year, of whatever century.
+pub fn summer_is_of_some_year()
+    ensures { SummerIsOfSomeYear }
+{}
+
+/// Offset, local weekday and local hour don't change within an hour of UTC, since each change lies
+/// at a whole hour.
+pub fn local_hour_is_constant_within_an_hour()
+    ensures { LocalHourIsConstantWithinAnHour }
+{}

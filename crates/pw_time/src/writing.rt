@@ -1,0 +1,24 @@
+ghost use Rattle.std.specs.Prelude.{Ok};
+ghost use Rattle.pw_time.specs.Outcomes.{IsUtcOutcome};
+
+use crate::Instant;
+use crate::civil::CivilTime;
+use crate::digits::digits_of;
+
+/// The text `YYYY-MM-DDThh:mm:ssZ` of an instant: [`utc`](crate::utc) of it is the instant.
+pub fn write_utc(instant: Instant) -> [u8; 20]
+    ensures { IsUtcOutcome result (Ok instant) }
+{
+    let civil = CivilTime::at(instant);
+    let century = digits_of((civil.year / 100) as u8);
+    let year = digits_of((civil.year % 100) as u8);
+    let month = digits_of(civil.month);
+    let day = digits_of(civil.day);
+    let hour = digits_of(civil.hour);
+    let minute = digits_of(civil.minute);
+    let second = digits_of(civil.second);
+    [
+        century[0], century[1], year[0], year[1], b'-', month[0], month[1], b'-', day[0], day[1],
+        b'T', hour[0], hour[1], b':', minute[0], minute[1], b':', second[0], second[1], b'Z',
+    ]
+}
