@@ -36,8 +36,7 @@ abbrev pub Tells : Failure → Option (List ℕ) → Option (List ℕ) → ℕ �
 Tells failure old new status = ((status ≡ failure_status failure) × Appends old new (failure_line failure)) ⊎ (status ≡ 3)
 
 -- Of a body and of what both streams hold before and after: with status 0 its text is written and no line; with status 1 nothing but the line
--- of its refusal; 3 is for a device that failed or for want of memory; there is no other.
+-- of its refusal. (3 is for a device that failed or for want of memory: then nothing is said of the streams.)
 pub record IsRun (clock : Clock) (body : List ℕ) (old new old_line new_line : Option (List ℕ)) (status : ℕ) : Type 0 where
   pub printed : status ≡ 0 → (length body ≤ LONGEST_BODY) × ((text : List ℕ) × BodyShows clock body text × Appends old new text) × (old_line ≡ new_line)
   pub refused : status ≡ 1 → (failure : Failure) × IsFailure clock body failure × (failure_status failure ≡ 1) × (old ≡ new) × Appends old_line new_line (failure_line failure)
-  pub other : (status ≡ 0) ⊎ ((status ≡ 1) ⊎ (status ≡ 3))

@@ -1,4 +1,4 @@
-ghost use Rattle.std.specs.Prelude.{◌≡◌, ℕ, ◌<◌, ◌≤◌, List, Some, length, OnOk, MatchResult};
+ghost use Rattle.std.specs.Prelude.{◌≡◌, ◌⊎◌, ℕ, ◌<◌, ◌≤◌, List, Some, length, OnOk, MatchResult};
 ghost use Rattle.std.specs.Io.KnownBytes.{Appends};
 ghost use Rattle.pw_read.specs.Text.{BodyShows};
 ghost use Rattle.pw_read.specs.Run.{IsFailure, failure_line, failure_status, Tells, IsRun};
@@ -35,7 +35,8 @@ pub fn read_run<R: Read, O: Write, E: Write>(
     out: &mut O,
     err: &mut E,
 ) -> u8
-    ensures { (body : List ℕ) → R.remaining reader.old ≡ Some body →
+    ensures status { (result ≡ 0) ⊎ ((result ≡ 1) ⊎ (result ≡ 3)) }
+    ensures run { (body : List ℕ) → R.remaining reader.old ≡ Some body →
         IsRun clock body (O.contents out.old) (O.contents out.new) (E.contents err.old) (E.contents err.new) result }
 {
     let text = match text_of(alloc, clock, reader) {

@@ -43,6 +43,20 @@ impl<'a> Read for BrokenReader<'a> {
     }
 }
 
+/// A reader that never ends, and counts what it has given.
+#[derive(Drop)]
+struct EndlessReader {
+    given: u64,
+}
+
+impl Read for EndlessReader {
+    fn read(&mut self, buf: &mut [u8]) -> io::Result<usize> {
+        buf.fill(b'x');
+        self.given = self.given.saturating_add(buf.len() as u64);
+        Ok(buf.len())
+    }
+}
+
 /// A writer that takes nothing.
 #[derive(Drop)]
 struct BrokenWriter;
@@ -233,6 +247,15 @@ fn longest_body(rt: HostRuntime) -> Result<(), Fail> {
             b"refused 10 Header part 1 at 0\n"
         )
     );
+    let mut endless = EndlessReader { given: 0 };
+    let mut out = Vec::new(rt.alloc());
+    let mut err = Vec::new(rt.alloc());
+    assert_eq!(rt;
+        read_run(rt.alloc(), Clock::Winter, &mut endless, &mut out, &mut err),
+        1
+    );
+    assert!(rt; err.as_slice() == b"body too large\n".as_slice());
+    assert_eq!(rt; endless.given, 262_145);
     body.extend_from_slice(b"\n")?;
     assert!(rt;
         gives(

@@ -34,7 +34,7 @@ LastSundayIsLast =
     × (pos (last_sunday year month) ≡ days_from_civil (pos year) month day)
     × (weekday_number (days_from_civil (pos year) month day) ≡ 6)
 
--- an instant lies in summer time exactly where some year's summer time has it, whatever the year
+-- an instant lies in summer time exactly where the summer time of some year from 1970 on has it
 abbrev pub SummerIsOfSomeYear : Type 0
 SummerIsOfSomeYear =
     (t : ℕ) → IsInstant t

@@ -37,7 +37,7 @@ pub fn last_sunday_is_last()
     ensures { LastSundayIsLast }
 {}
 
-/// An instant lies in summer time exactly where it lies in that of some year, of whatever century.
+/// An instant lies in summer time exactly where it lies in that of some year from 1970 on.
 pub fn summer_is_of_some_year()
     ensures { SummerIsOfSomeYear }
 {}
