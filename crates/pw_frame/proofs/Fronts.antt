@@ -5,7 +5,7 @@ use Rattle.pw_frame.specs.declared.frame.Kind.TheVariants.{Telegram, Readout}
 use Rattle.pw_frame.specs.declared.frame.FrameFault.{FrameFault}
 use Rattle.pw_frame.specs.Frame.{FrameText, Whole, ending_size}
 use Rattle.pw_frame.specs.Fault.{IsFault}
-use Rattle.pw_frame.specs.Body.{PairAt, Gap, NextFrame, FramesFrom, Front, Reading, Fault}
+use Rattle.pw_frame.specs.Body.{PairAt, Gap, NextFrame, FramesFrom, Front, Fault}
 use Rattle.pw_frame.proofs.Unique.{same_place, one_size}
 use Rattle.pw_frame.proofs.NoFault.{no_whole}
 

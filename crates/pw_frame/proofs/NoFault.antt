@@ -1,5 +1,5 @@
 -- No fault stands where a whole frame does.
-use Rattle.std.proofs.Common.{suc, ◌≡◌, ℕ, ◌+◌, ◌<◌, ◌≤◌, ⊎_elim, List, sym, ap, ◌∙◌, subst, arith}
+use Rattle.std.proofs.Common.{suc, ◌≡◌, ℕ, ◌+◌, ◌<◌, ⊎_elim, List, sym, ap, ◌∙◌, subst, arith}
 use Rattle.std.specs.Prelude.{slice_index}
 use Rattle.pw_frame.specs.declared.frame.Kind.{Kind}
 use Rattle.pw_frame.specs.declared.frame.FrameFault.{FrameFault}

@@ -1,12 +1,10 @@
 -- One place has one header, one kind, one block, one stated and one right check.
-use Rattle.std.proofs.Common.{◌≡◌, ℕ, ◌+◌, ◌<◌, ◌≤◌, ⊎_elim, List, take, refl, sym, ap, ◌∙◌, subst, arith}
+use Rattle.std.proofs.Common.{◌≡◌, ℕ, ◌+◌, ◌<◌, ◌≤◌, ⊎_elim, List, refl, sym, ap, ◌∙◌, subst, arith}
 use Rattle.std.specs.Prelude.{slice_index, slice_range}
 use Rattle.std.proofs.lemmas.Bool.{cases_lt}
 use Rattle.pw_frame.specs.declared.frame.Kind.{Kind}
 use Rattle.pw_frame.specs.declared.frame.Kind.TheVariants.{Telegram, Readout}
-use Rattle.pw_frame.specs.Crc.{crc_of}
-use Rattle.pw_frame.specs.Check.{IsBlockCheck}
-use Rattle.pw_frame.specs.Frame.{FrameText, HeaderEnd, Head, Plain, BlockEnd, Framed, IsDigit, StatedCrc, StatedCheck, Ending, Checks, Whole, block_start, ending_size}
+use Rattle.pw_frame.specs.Frame.{FrameText, HeaderEnd, Head, Plain, BlockEnd, Framed, IsDigit, StatedCrc, Ending, Checks, Whole, block_start, ending_size}
 use Rattle.pw_frame.proofs.BlockChecks.{one_block_check}
 
 -- two numbers are equal where neither is the smaller

@@ -1,5 +1,5 @@
 -- What the sets of a block tell of a moment, one set more.
-use Rattle.std.proofs.Common.{◌≡◌, ℕ, List, [], ◌∷◌, ◌++◌, Option, Some, None, All, refl, sym, ap, ◌∙◌, subst}
+use Rattle.std.proofs.Common.{◌≡◌, ℕ, List, [], ◌∷◌, ◌++◌, Option, Some, None, All, sym, ap, ◌∙◌, subst}
 use Rattle.std.proofs.lemmas.List.{append-nil}
 use Rattle.pw_obis.specs.declared.data_set.Set.{Set}
 use Rattle.pw_obis.specs.declared.reference.Code.{Code}
@@ -11,9 +11,7 @@ use Rattle.pw_obis.specs.Line.{SetText}
 use Rattle.pw_obis.proofs.EachLine.{one_list}
 use Rattle.pw_obis.proofs.OneCode.{one_code}
 use Rattle.pw_read.specs.declared.moment.Moment.{Moment}
-use Rattle.pw_read.specs.Lines.{text_of}
 use Rattle.pw_read.specs.Instant.{Means, TellsNo, FirstTold}
-use Rattle.pw_read.proofs.Shown.{given_text}
 
 -- a set that is given and has no code tells nothing
 pub no_code_tells : (moment : Moment) (first : SetText) (set : Set) → IsGiven first set → set.code ≡ None → TellsNo moment first

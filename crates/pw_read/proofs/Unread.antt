@@ -1,5 +1,5 @@
 -- A set without a code that is read prints nothing.
-use Rattle.std.proofs.Common.{◌≡◌, ℕ, List, [], ◌++◌, Option, Some, None, Ok, refl, sym, ap, ◌∙◌, subst, inl, inr}
+use Rattle.std.proofs.Common.{◌≡◌, ℕ, List, [], ◌++◌, Some, None, Ok, refl, sym, subst, inr}
 use Rattle.std.proofs.lemmas.List.{append-nil}
 use Rattle.pw_frame.specs.declared.frame.Kind.{Kind}
 use Rattle.pw_obis.specs.declared.data_set.Set.{Set}

@@ -1,11 +1,8 @@
 -- The line that tells why a body is refused: `refused`, the number, the name, `part` with its number; for 10 to 15 then
 -- `at` with the place; for 12 and 14 then the stated and the computed check. Single spaces stand between.
 use Rattle.std.specs.Prelude.{ℕ, List, [], ◌++◌, codes, decimal}
-use Rattle.pw_frame.specs.declared.frame.FrameFault.{FrameFault}
 use Rattle.pw_frame.specs.declared.frame.FrameFault.TheVariants.{Header, NoEnd, Crc, Trailer, BlockCheck, HighBit}
-use Rattle.pw_obis.specs.declared.value.ValueFault.{ValueFault}
 use Rattle.pw_obis.specs.declared.value.ValueFault.TheVariants.{Digits, Unit, TooLarge}
-use Rattle.pw_time.specs.declared.fault.StampFault.{StampFault}
 use Rattle.pw_time.specs.declared.fault.StampFault.TheVariants.{Form, NoSuchDate, NoSuchTime, Mark, Range, Gap, Fold}
 use Rattle.pw_read.specs.declared.fault.Cause.{Cause}
 use Rattle.pw_read.specs.declared.fault.Cause.TheVariants.{Frame, Line, Value, Instant}

@@ -1,5 +1,5 @@
 -- What is printed of a data set: a line where its code is one that is read, and else nothing.
-use Rattle.std.specs.Prelude.{◌≡◌, ℕ, ◌⊎◌, List, [], ◌∷◌, ◌++◌, Option, Some, Result, Ok, Err, codes, decimal}
+use Rattle.std.specs.Prelude.{◌≡◌, ℕ, ◌⊎◌, List, [], ◌∷◌, ◌++◌, Some, Result, Ok, Err, codes, decimal}
 use Rattle.pw_frame.specs.declared.frame.Kind.{Kind}
 use Rattle.pw_frame.specs.declared.frame.Kind.TheVariants.{Telegram, Readout}
 use Rattle.pw_obis.specs.declared.reference.Code.{Code}

@@ -1,7 +1,6 @@
 -- What a run of `read` does: it prints a body's text on one stream, or one line on the other.
 use Rattle.std.specs.Prelude.{◌≡◌, ℕ, ◌<◌, ◌≤◌, ◌⊎◌, List, ◌++◌, length, Option, codes}
 use Rattle.std.specs.Io.KnownBytes.{Appends}
-use Rattle.pw_read.specs.declared.fault.ReadFault.{ReadFault}
 use Rattle.pw_read.specs.declared.fault.ReadFault.TheVariants.{Memory, Refused}
 use Rattle.pw_read.specs.declared.run.Failure.{Failure}
 use Rattle.pw_read.specs.declared.run.Failure.TheVariants.{Body, TooLarge, Device}

@@ -1,6 +1,6 @@
-use Rattle.std.proofs.Common.{Err, ◌≡◌, ℕ, List, ◌+◌, ◌<◌, ◌≤◌, ◌++◌, ◌∷◌, [], length, arith, subst, ap, sym, ◌∙◌}
+use Rattle.std.proofs.Common.{Err, ◌≡◌, ℕ, List, ◌<◌, ◌++◌, ◌∷◌, [], arith, subst, ap, sym, ◌∙◌}
 use Rattle.std.proofs.lemmas.List.{length-append}
-use Rattle.pw_frame.specs.Frame.{FrameText, text_of}
+use Rattle.pw_frame.specs.Frame.{text_of}
 use Rattle.pw_frame.specs.Body.{Front, Fault, Reading}
 use Rattle.pw_read.specs.Text.{FramesShow}
 use Rattle.pw_read.proofs.Shown.{frames_more, stops_at}

@@ -1,4 +1,4 @@
-use Rattle.std.proofs.Common.{◌≡◌, ◌++◌, refl, subst, ap, sym, ◌∙◌, append_assoc}
+use Rattle.std.proofs.Common.{◌≡◌, ◌++◌, refl, subst, ap, ◌∙◌, append_assoc}
 use Rattle.pw_frame.specs.Frame.{text_of}
 use Rattle.pw_read.specs.Text.{heading, FrameRefused}
 use Rattle.pw_read.specs.declared.fault.Cause.TheVariants.{Instant}

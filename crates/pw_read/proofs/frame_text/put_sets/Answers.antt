@@ -1,4 +1,4 @@
-use Rattle.std.proofs.Common.{◌≡◌, ◌++◌, ◌∷◌, [], List, ap, sym, ◌∙◌, append_assoc}
+use Rattle.std.proofs.Common.{◌++◌, ◌∷◌, [], List, ap, sym, ◌∙◌, append_assoc}
 use Rattle.pw_obis.specs.Line.{SetText}
 use Rattle.pw_read.specs.Lines.{text_of}
 use Rattle.pw_read.proofs.Shown.{sets_more, no_refusal, wrong_behind, shown_behind, all_shown}
