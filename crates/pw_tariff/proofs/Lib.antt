@@ -1,0 +1,10 @@
+pub mod Starts
+pub mod Adding
+pub mod Named
+pub mod Seconds
+pub mod Listed
+pub mod Order
+pub mod Parts
+pub mod Sound
+pub mod Answered
+pub mod OneWay

@@ -1,0 +1,129 @@
+-- What holds of an office whose file passes all checks.
+use Rattle.std.proofs.Common.{◌≡◌, ◌==◌, ◌&&◌, ℕ, zero, suc, ◌<◌, ◌≤◌, ℤ, pos, negsuc, Option, Some, None, is_some, unwrap_or, List, [], ◌∷◌, ◌++◌, length, map, All, nat_le, nat_lt, not, codes, Bool, true, false, cond, refl, sym, ◌∙◌, arith, eqb-true}
+use Rattle.std.specs.List.{list_all}
+use Rattle.std.proofs.lemmas.List.{length-map}
+use Rattle.std.proofs.lemmas.Bool.{leb-true, ltb-true}
+use Rattle.toml.specs.Data.{Members}
+use Rattle.pw_tariff.specs.declared.fault.OfficeFault.{OfficeFault}
+use Rattle.pw_tariff.specs.declared.limits.TheConstants.{MOST_PRICE, MOST_ACCOUNTS, MOST_BANDS, MOST_METERS, LONGEST_METER_ID}
+use Rattle.pw_tariff.specs.Office.{IsSound, IsDay, BandText, MeterText, band_named, overlap}
+use Rattle.pw_tariff.specs.Words.{is_price, is_name, is_band_name, is_new, clock_named}
+use Rattle.pw_tariff.specs.declared.fault.OfficeFault.TheVariants.{MissingField, BadName, TwiceNamed, Week, Price, RegistersOverlap, Empty, TooMany}
+use Rattle.pw_tariff.specs.Checks.{Check, check, first_refusal, Passes, each_in_turn, length_checks, list_checks}
+use Rattle.pw_tariff.specs.Text.{has_band_keys, has_meter_keys, clock_of, texts_at, tables_at, accounts_checks, account_checks, bands_checks, meters_checks, week_checks, file_of_table, band_of_table, meter_of_table, whole_of, price_at, name_of, id_of, register_texts, registers_of, registers_in_turn, is_day, is_week, week_of, bands_of_table, band_checks, meter_checks}
+use Rattle.pw_tariff.proofs.Order.{first-passes}
+
+no-refusal : {A : Type 0} (x : A) → Some x ≡ None → ⊥
+no-refusal x h = cc
+
+no-truth : false ≡ true → ⊥
+no-truth h = cc
+
+head : (b : Bool) (f : OfficeFault) (n : Option OfficeFault) → cond b n (Some f) ≡ None → (b ≡ true) × (n ≡ None)
+head true f n h = (refl, h)
+head false f n h = absurd (no-refusal f h)
+
+both : (a b : Bool) → (a && b) ≡ true → (a ≡ true) × (b ≡ true)
+both true b h = (refl, h)
+both false b h = absurd (no-truth h)
+
+-- the first of two lists of checks passes, and so does the second
+left : (a b : List Check) → Passes (a ++ b) → Passes a
+left [] b p = refl
+left (c ∷ a) b p = let h = head c.passes c.fault (first_refusal (a ++ b)) p in rw h.0 (left a b h.1)
+
+right : (a b : List Check) → Passes (a ++ b) → Passes b
+right a b p = sym (first-passes a b (left a b p)) ∙ p
+
+each-all : {A T : Type 0} (P : T → Type 0) → (h : A → T) (name : A → List ℕ) (checks : List (List ℕ) → A → List Check) → ((earlier : List (List ℕ)) (x : A) → Passes (checks earlier x) → P (h x)) →
+    (earlier : List (List ℕ)) (xs : List A) → Passes (each_in_turn name checks earlier xs) → All P (map h xs)
+unfolding each_in_turn
+each-all P h name checks k earlier [] p i d l = absurd (omega arith)
+each-all P h name checks k earlier (x ∷ xs) p zero d l = k earlier x (left (checks earlier x) _ p)
+each-all P h name checks k earlier (x ∷ xs) p (suc i) d l =
+    each-all P h name checks k (earlier ++ name x ∷ []) xs (right (checks earlier x) (each_in_turn name checks (earlier ++ name x ∷ []) xs) p) i d (omega arith)
+
+first-of : (c : Check) (cs : List Check) → Passes (c ∷ cs) → (c.passes ≡ true) × Passes cs
+first-of c cs p = head c.passes c.fault (first_refusal cs) p
+
+-- a list that passes its checks
+pub record IsListed {A : Type 0} (most : ℕ) (name : A → List ℕ) (checks : List (List ℕ) → A → List Check) (xs : List A) : Type 0 where
+  pub some : 1 ≤ length xs
+  pub few : length xs ≤ most
+  pub each : Passes (each_in_turn name checks [] xs)
+
+listed : {A : Type 0} (most : ℕ) (name : A → List ℕ) (checks : List (List ℕ) → A → List Check) (list : Option (List A)) → Passes (list_checks most name checks list) → IsListed most name checks (unwrap_or list [])
+listed most name checks list p =
+    let xs = unwrap_or list [] in
+    let a = first-of (check MissingField (is_some list)) (length_checks (length xs) most ++ each_in_turn name checks [] xs) p in
+    let b = first-of (check Empty (nat_le 1 (length xs))) (check TooMany (nat_le (length xs) most) ∷ each_in_turn name checks [] xs) a.1 in
+    let c = first-of (check TooMany (nat_le (length xs) most)) (each_in_turn name checks [] xs) b.1 in
+    record { some = leb-true 1 (length xs) b.0; few = leb-true (length xs) most c.0; each = c.1 }
+
+price-bound : (z : ℤ) → is_price z ≡ true → whole_of z ≤ MOST_PRICE
+price-bound (pos n) h = leb-true n MOST_PRICE h
+price-bound (negsuc n) h = absurd (no-truth h)
+
+last-two : (a b c d e : Check) → Passes (a ∷ b ∷ c ∷ d ∷ e ∷ []) → (d.passes ≡ true) × (e.passes ≡ true)
+last-two a b c d e p =
+    let k = first-of a (b ∷ c ∷ d ∷ e ∷ []) p in
+    let m = first-of b (c ∷ d ∷ e ∷ []) k.1 in
+    let n = first-of c (d ∷ e ∷ []) m.1 in
+    let i = first-of d (e ∷ []) n.1 in
+    (i.0, (first-of e [] i.1).0)
+
+behind-five : (a b c d e : Check) (cs : List Check) → Passes (a ∷ b ∷ c ∷ d ∷ e ∷ cs) → Passes cs
+behind-five a b c d e cs p =
+    let k = first-of a (b ∷ c ∷ d ∷ e ∷ cs) p in
+    let m = first-of b (c ∷ d ∷ e ∷ cs) k.1 in
+    let n = first-of c (d ∷ e ∷ cs) m.1 in
+    let i = first-of d (e ∷ cs) n.1 in
+    (first-of e cs i.1).1
+
+band-prices : (earlier : List (List ℕ)) (b : Members) → Passes (band_checks earlier b) → ((band_of_table b).import_price ≤ MOST_PRICE) × ((band_of_table b).export_price ≤ MOST_PRICE)
+band-prices earlier b p =
+    let i = last-two (check MissingField (has_band_keys b)) (check BadName (is_band_name (name_of b))) (check TwiceNamed (is_new (name_of b) earlier))
+    (check Price (is_price (price_at (codes "import") b))) (check Price (is_price (price_at (codes "export") b))) p in
+    (price-bound (price_at (codes "import") b) i.0, price-bound (price_at (codes "export") b) i.1)
+
+negated : (b : Bool) → not b ≡ true → b ≡ false
+negated true h = absurd (no-truth h)
+negated false h = refl
+
+meter-totals : (earlier : List (List ℕ)) (m : Members) → Passes (meter_checks earlier m) → overlap (meter_of_table m).registers ≡ false
+meter-totals earlier m p =
+    let last = check RegistersOverlap (not (overlap (registers_of (register_texts m)))) ∷ [] in
+    let s = behind-five (check MissingField (has_meter_keys m)) (check BadName (is_name LONGEST_METER_ID (id_of m))) (check TwiceNamed (is_new (id_of m) earlier))
+    (check BadName (is_some (clock_named (clock_of m)))) (check Empty (nat_le 1 (length (register_texts m)))) (registers_in_turn (register_texts m) ++ last) p in
+    let o = right (registers_in_turn (register_texts m)) last s in
+    negated (overlap (registers_of (register_texts m))) (first-of (check RegistersOverlap (not (overlap (registers_of (register_texts m))))) [] o).0
+
+all-of : {A : Type 0} (p : A → Bool) (P : A → Type 0) → ((x : A) → p x ≡ true → P x) → (xs : List A) → list_all p xs ≡ true → All P xs
+all-of p P k [] h i d l = absurd (omega arith)
+all-of p P k (x ∷ xs) h zero d l = k x (both (p x) (list_all p xs) h).0
+all-of p P k (x ∷ xs) h (suc i) d l = all-of p P k xs (both (p x) (list_all p xs) h).1 i d (omega arith)
+
+day-of : (bands : List BandText) (day : List ℕ) → is_day bands day ≡ true → IsDay bands day
+day-of bands day h =
+    let b = both (length day == 24) (list_all (λ c. nat_lt (band_named bands c) (length bands)) day) h in
+    (eqb-true (length day) 24 b.0, all-of (λ c. nat_lt (band_named bands c) (length bands)) (λ c. band_named bands c < length bands) (λ c k. ltb-true _ _ k) day b.1)
+
+pub sound : (t : Members) → Passes (accounts_checks t) → Passes (bands_checks t) → Passes (meters_checks t) → Passes (week_checks t) → IsSound (file_of_table t)
+sound t p q m w =
+    let a = listed MOST_ACCOUNTS (λ (name : List ℕ). name) account_checks (texts_at (codes "accounts") t) p in
+    let b = listed MOST_BANDS name_of band_checks (tables_at (codes "band") t) q in
+    let n = listed MOST_METERS id_of meter_checks (tables_at (codes "meter") t) m in
+    let there = first-of (check MissingField (is_some (texts_at (codes "week") t))) (check Week (is_week (bands_of_table t) (week_of t)) ∷ []) w in
+    let week = first-of (check Week (is_week (bands_of_table t) (week_of t))) [] there.1 in
+    let days = both (length (week_of t) == 7) (list_all (is_day (bands_of_table t)) (week_of t)) week.0 in
+    let bl : length (bands_of_table t) ≡ length (unwrap_or (tables_at (codes "band") t) []) = length-map (unwrap_or (tables_at (codes "band") t) []) band_of_table in
+    let ml : length (map meter_of_table (unwrap_or (tables_at (codes "meter") t) [])) ≡ length (unwrap_or (tables_at (codes "meter") t) []) = length-map (unwrap_or (tables_at (codes "meter") t) []) meter_of_table in
+    record {
+      accounts = (a.some, a.few);
+      bands = rw bl (b.some, b.few);
+      meters = rw ml (n.some, n.few);
+      prices = each-all (λ (x : BandText). (x.import_price ≤ MOST_PRICE) × (x.export_price ≤ MOST_PRICE)) band_of_table name_of band_checks band-prices [] _ b.each;
+      totals = each-all (λ (x : MeterText). overlap x.registers ≡ false) meter_of_table id_of meter_checks meter-totals [] _ n.each;
+      days = eqb-true (length (week_of t)) 7 days.0;
+      hours = all-of (is_day (bands_of_table t)) (IsDay (bands_of_table t)) (day-of (bands_of_table t)) (week_of t) days.1;
+    }

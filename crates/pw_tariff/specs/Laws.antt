@@ -1,0 +1,34 @@
+-- What follows from the definitions alone.
+use Rattle.std.specs.Prelude.{◌≡◌, ◌<◌, ◌/◌, ℕ, Option, List, Result, Ok, Err}
+use Rattle.pw_tariff.specs.declared.ids.AccountId.{AccountId}
+use Rattle.pw_tariff.specs.declared.cells.Cell.{Cell}
+use Rattle.pw_tariff.specs.declared.spread.Span.{Span}
+use Rattle.pw_tariff.specs.declared.fault.OfficeFault.{OfficeFault}
+use Rattle.pw_tariff.specs.declared.fault.OfficeFault.TheVariants.{Memory}
+use Rattle.pw_tariff.specs.Office.{OfficeFile, IsSound, band_at, office_of}
+use Rattle.pw_tariff.specs.Shares.{AreShares}
+use Rattle.pw_tariff.specs.Text.{IsOfficeOf, IsRefused}
+
+-- the band is the same throughout an hour of UTC
+abbrev pub BandIsConstantWithinAnHour : Type 0
+BandIsConstantWithinAnHour = (file : OfficeFile) (t u : ℕ) → t / 3600 ≡ u / 3600 → band_at file t ≡ band_at file u
+
+-- the band of each second is one of the office's
+abbrev pub BandsAreOfTheOffice : Type 0
+BandsAreOfTheOffice = (file : OfficeFile) → IsSound file → (t : ℕ) → (office_of file).band t < (office_of file).bands
+
+-- what a text is answered; want of memory is no answer
+abbrev pub IsAnswer : List ℕ → Result OfficeFile OfficeFault → Type 0
+IsAnswer text (Ok file) = IsOfficeOf text file
+IsAnswer text (Err Memory) = ⊥
+IsAnswer text (Err fault) = IsRefused text fault
+
+-- a text has one answer: the office, or one refusal
+abbrev pub TextHasOneAnswer : Type 0
+TextHasOneAnswer = (text : List ℕ) (a b : Result OfficeFile OfficeFault) → IsAnswer text a → IsAnswer text b → a ≡ b
+
+-- a difference is shared out in one way
+abbrev pub SharesAreUnique : Type 0
+SharesAreUnique =
+    (file : OfficeFile) (owners : List (ℕ × Option AccountId)) (span : Span) (a b : List Cell)
+    → AreShares file owners span a → AreShares file owners span b → a ≡ b

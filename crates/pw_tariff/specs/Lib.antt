@@ -1,0 +1,10 @@
+pub mod Owners
+pub mod Cells
+pub mod Office
+pub mod Held
+pub mod Shares
+pub mod Faults
+pub mod Words
+pub mod Checks
+pub mod Text
+pub mod Laws

@@ -1,0 +1,121 @@
+-- What an office file says, and the office that it is.
+-- (Definitions of this project. Weekdays and hours are those of Central European time, EU directive 2000/84/EC.)
+use Rattle.std.specs.Prelude.{◌≡◌, ◌==◌, ◌&&◌, ◌||◌, ℕ, ◌<◌, ◌≤◌, Option, Some, None, List, [], length, slice_get, slice_index, slice_index_or, All, Bool, false}
+use Rattle.std.specs.List.{list_any, position_or_len}
+use Rattle.pw_obis.specs.declared.reference.Register.{Register}
+use Rattle.pw_obis.specs.declared.reference.Register.TheVariants.{I0, I1, I2, E0, E1, E2}
+use Rattle.pw_time.specs.declared.zone.Clock.{Clock}
+use Rattle.pw_time.specs.declared.instant.TheConstants.{END_SECOND}
+use Rattle.pw_time.specs.Summer.{local_weekday, local_hour}
+use Rattle.pw_tariff.specs.declared.ids.Direction.{Direction}
+use Rattle.pw_tariff.specs.declared.ids.Direction.TheVariants.{Import, Export}
+use Rattle.pw_tariff.specs.declared.limits.TheConstants.{MOST_ACCOUNTS, MOST_METERS, MOST_BANDS, MOST_PRICE}
+
+-- ---- what the file says
+-- a band: its letter, and its prices in nano-euro per watt-hour
+pub record BandText : Type 0 where
+  pub name : ℕ
+  pub import_price : ℕ
+  pub export_price : ℕ
+
+-- a meter: its id, what its clock tells, and the registers that count
+pub record MeterText : Type 0 where
+  pub id : List ℕ
+  pub clock : Clock
+  pub registers : List Register
+
+-- the names of the accounts, the bands, the meters, and a text of letters for each weekday, Monday first
+pub record OfficeFile : Type 0 where
+  pub accounts : List (List ℕ)
+  pub bands : List BandText
+  pub meters : List MeterText
+  pub week : List (List ℕ)
+
+-- ---- what it means
+-- the letter at a weekday (0 is Monday) and an hour
+abbrev pub letter : List (List ℕ) → ℕ → ℕ → ℕ
+letter week day hour = slice_index (slice_index_or week day []) hour
+
+-- the position of the band with a letter, the number of bands where none has it
+abbrev pub band_named : List BandText → ℕ → ℕ
+band_named bands c = position_or_len (λ b. b.name == c) bands
+
+-- the band of a second: that of the letter at the local weekday and hour
+unfoldable pub band_at : OfficeFile → ℕ → ℕ
+band_at file t = band_named file.bands (letter file.week (local_weekday t) (local_hour t))
+
+-- in nano-euro per watt-hour
+abbrev pub price_of : Option BandText → Direction → ℕ
+price_of None direction = 0
+price_of (Some b) Import = b.import_price
+price_of (Some b) Export = b.export_price
+
+abbrev pub price_at : OfficeFile → ℕ → Direction → ℕ
+price_at file band direction = price_of (slice_get file.bands band) direction
+
+-- the place of a register in the order I0, I1, I2, E0, E1, E2
+abbrev pub register_place : Register → ℕ
+register_place I0 = 0
+register_place I1 = 1
+register_place I2 = 2
+register_place E0 = 3
+register_place E1 = 4
+register_place E2 = 5
+
+abbrev pub same_register : Register → Register → Bool
+same_register a b = register_place a == register_place b
+
+-- the register is one of the list
+abbrev pub lists : List Register → Register → Bool
+lists registers r = list_any (same_register r) registers
+
+abbrev pub counts_for : Option MeterText → Register → Bool
+counts_for None r = false
+counts_for (Some m) r = lists m.registers r
+
+abbrev pub counts_at : OfficeFile → ℕ → Register → Bool
+counts_at file meter r = counts_for (slice_get file.meters meter) r
+
+-- a total beside one of its rates would count energy twice
+abbrev pub overlap : List Register → Bool
+overlap registers = (lists registers I0 && (lists registers I1 || lists registers I2))
+    || (lists registers E0 && (lists registers E1 || lists registers E2))
+
+-- ---- the office, as records are judged and energy is shared out by it
+pub record Office : Type 0 where
+  pub accounts : ℕ
+  pub meters : ℕ
+  pub bands : ℕ
+  -- the first second behind all instants
+  pub end : ℕ
+  -- whether a meter's register counts
+  pub counts : ℕ → Register → Bool
+  -- the band of a second
+  pub band : ℕ → ℕ
+  -- in nano-euro per watt-hour
+  pub price : ℕ → Direction → ℕ
+
+abbrev pub office_of : OfficeFile → Office
+office_of file = record {
+  accounts = length file.accounts;
+  meters = length file.meters;
+  bands = length file.bands;
+  end = END_SECOND;
+  counts = counts_at file;
+  band = band_at file;
+  price = price_at file;
+}
+
+-- ---- what holds of each office
+-- a text of 24 letters, one for each hour, each a band's name
+abbrev pub IsDay : List BandText → List ℕ → Type 0
+IsDay bands day = (length day ≡ 24) × All (λ c. band_named bands c < length bands) day
+
+pub record IsSound (file : OfficeFile) : Type 0 where
+  pub accounts : (1 ≤ length file.accounts) × (length file.accounts ≤ MOST_ACCOUNTS)
+  pub bands : (1 ≤ length file.bands) × (length file.bands ≤ MOST_BANDS)
+  pub meters : (1 ≤ length file.meters) × (length file.meters ≤ MOST_METERS)
+  pub prices : All (λ b. (b.import_price ≤ MOST_PRICE) × (b.export_price ≤ MOST_PRICE)) file.bands
+  pub totals : All (λ m. overlap m.registers ≡ false) file.meters
+  pub days : length file.week ≡ 7
+  pub hours : All (IsDay file.bands) file.week

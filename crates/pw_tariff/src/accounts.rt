@@ -1,0 +1,59 @@
+//! The accounts of an office file.
+
+ghost use Rattle.std.specs.Prelude.{◌≡◌, MatchResult, map, string_bytes};
+ghost use Rattle.toml.specs.View.{table_view};
+ghost use Rattle.pw_tariff.specs.Checks.{IsRefusal, Passes};
+ghost use Rattle.pw_tariff.specs.Text.{account_checks, accounts_checks, accounts_in_turn, accounts_of};
+
+use crate::OfficeFault;
+use crate::limits::{LONGEST_ACCOUNT_NAME, MOST_ACCOUNTS};
+use crate::table::{check_length, texts_at};
+use crate::words::{is_name, is_new};
+use std::alloc::Global;
+use toml::Table;
+
+// The names of the accounts, or the first refusal.
+pub(crate) fn read_accounts(alloc: Global, table: &Table) -> Result<Vec<String>, OfficeFault>
+    ensures { MatchResult result
+        (λ v. Passes (accounts_checks (table_view table.now)) × (map string_bytes v.items ≡ accounts_of (table_view table.now)))
+        (λ e. IsRefusal (accounts_checks (table_view table.now)) e) }
+{
+    let names = match texts_at(alloc, table, "accounts") {
+        Ok(names) => names,
+        Err(fault) => return Err(fault),
+    };
+    if let Err(fault) = check_length(names.len(), MOST_ACCOUNTS) {
+        return Err(fault);
+    }
+    if let Err(fault) = check_accounts(&names) {
+        return Err(fault);
+    }
+    Ok(names)
+}
+
+fn check_accounts(names: &[String]) -> Result<(), OfficeFault>
+    ensures { MatchResult result
+        (λ _. Passes (accounts_in_turn (map string_bytes names.now)))
+        (λ e. IsRefusal (accounts_in_turn (map string_bytes names.now)) e) }
+{
+    for (i, name) in names.iter().enumerate() {
+        if let Err(fault) = check_account(name.as_bytes(), &names[..i]) {
+            return Err(fault);
+        }
+    }
+    Ok(())
+}
+
+fn check_account(name: &[u8], earlier: &[String]) -> Result<(), OfficeFault>
+    ensures { MatchResult result
+        (λ _. Passes (account_checks (map string_bytes earlier.now) name.now))
+        (λ e. IsRefusal (account_checks (map string_bytes earlier.now) name.now) e) }
+{
+    if !is_name(LONGEST_ACCOUNT_NAME, name) {
+        return Err(OfficeFault::BadName);
+    }
+    if !is_new(name, earlier) {
+        return Err(OfficeFault::TwiceNamed);
+    }
+    Ok(())
+}

@@ -1,0 +1,25 @@
+//! What an office's accounts, meters and bands are called in the program.
+
+/// An account, by its position in the office file's list, from 0.
+#[derive(Clone, Copy, Debug, PartialEq, Eq, PartialOrd, Ord, Hash)]
+pub struct AccountId(pub u16);
+
+/// A meter, by its position in the office file's list, from 0.
+#[derive(Clone, Copy, Debug, PartialEq, Eq, PartialOrd, Ord, Hash)]
+pub struct MeterId(pub u16);
+
+/// A tariff band, by its position in the office file's list, from 0.
+#[derive(Clone, Copy, Debug, PartialEq, Eq, PartialOrd, Ord, Hash)]
+pub struct BandId(pub u8);
+
+/// An account, or nobody.
+pub type Owner = Option<AccountId>;
+
+/// Which way energy flows, seen from the client.
+#[derive(Clone, Copy, Debug, PartialEq, Eq, PartialOrd, Ord, Hash)]
+pub enum Direction {
+    /// Delivered to the client.
+    Import,
+    /// Delivered by the client.
+    Export,
+}

@@ -1,0 +1,29 @@
+//! The laws of an office and its shares.
+//!
+//! Each function does nothing. What counts is its contract, a law of the definitions in `specs/`.
+
+ghost use Rattle.pw_tariff.specs.Laws.{BandIsConstantWithinAnHour, BandsAreOfTheOffice, SharesAreUnique, TextHasOneAnswer};
+
+pub use pw_flow::laws::{
+    classes_add_up, flow_is_level_rise, flows_of_a_piece_add_up, piece_of_one_kind,
+};
+
+/// The tariff band is the same throughout an hour of UTC.
+pub fn band_is_constant_within_an_hour()
+    ensures { BandIsConstantWithinAnHour }
+{}
+
+/// The band of each second is one of the office's.
+pub fn bands_are_of_the_office()
+    ensures { BandsAreOfTheOffice }
+{}
+
+/// A text has one answer: its office, or one refusal.
+pub fn text_has_one_answer()
+    ensures { TextHasOneAnswer }
+{}
+
+/// A difference is shared out in one way.
+pub fn shares_are_unique()
+    ensures { SharesAreUnique }
+{}

@@ -1,0 +1,31 @@
+//! The office file, its tariff bands and prices, and how the difference between two readings is shared out.
+#![tactic(auto)]
+
+mod accounts;
+mod bands;
+mod cells;
+mod fault;
+mod ids;
+pub mod laws;
+mod limits;
+mod meters;
+mod office;
+mod owners;
+mod read;
+mod spread;
+mod table;
+mod week;
+mod words;
+
+pub use cells::Cell;
+pub use fault::OfficeFault;
+pub use ids::{AccountId, BandId, Direction, MeterId, Owner};
+pub use limits::{
+    LONGEST_ACCOUNT_NAME, LONGEST_METER_ID, MOST_ACCOUNTS, MOST_BANDS, MOST_METERS, MOST_PRICE,
+};
+pub use office::Office;
+pub use owners::Owners;
+pub use spread::{Span, apportion};
+
+#[cfg(test)]
+mod tests;

@@ -1,0 +1,182 @@
+//! An office: its accounts, meters and bands, its prices, and its week.
+
+ghost use Rattle.std.specs.Prelude.{◌≡◌, ◌≢◌, ◌<◌, ◌≤◌, ℕ, length, slice_get, option_map, IfSome, IfNone};
+ghost use Rattle.pw_tariff.specs.Office.{IsSound, band_at, band_named, counts_at, lists, price_at};
+ghost use Rattle.pw_tariff.specs.Held.{bands_of};
+
+use crate::limits::MOST_PRICE;
+use crate::{AccountId, BandId, Direction, MeterId};
+use pw_obis::Register;
+use pw_time::{Clock, Instant, Zone, week_hour};
+use std::marker::Model;
+
+// A tariff band: its letter, and its prices in nano-euro per Wh.
+#[derive(Clone, Copy)]
+pub(crate) struct Band {
+    pub(crate) name: u8,
+    pub(crate) import_price: u32,
+    pub(crate) export_price: u32,
+}
+
+// A meter: its id, what its clock tells, and the registers that count.
+#[derive(Drop)]
+pub(crate) struct Meter {
+    pub(crate) id: String,
+    pub(crate) clock: Clock,
+    pub(crate) registers: Vec<Register>,
+}
+
+/// An office, as its file tells it: accounts, meters with their clocks and registers, tariff bands with their prices,
+/// and the band of each hour of the week.
+#[derive(Drop)]
+pub struct Office {
+    pub(crate) accounts: Vec<String>,
+    pub(crate) bands: Vec<Band>,
+    pub(crate) meters: Vec<Meter>,
+    pub(crate) week: Vec<String>,
+}
+
+impl Model for Office {
+    ghost use Rattle.pw_tariff.specs.Office.{OfficeFile, IsSound};
+    ghost use Rattle.pw_tariff.specs.Held.{file_of};
+
+    ghost Value = { OfficeFile };
+
+    ghost view = { file_of };
+
+    ghost invariant = { λ o. IsSound (file_of o) };
+}
+
+impl Office {
+    /// The number of accounts.
+    pub fn accounts(&self) -> u16
+        ensures count { result ≡ length self.now.accounts }
+        ensures sound { IsSound self.now }
+    {
+        self.accounts.len() as u16
+    }
+
+    /// The number of meters.
+    pub fn meters(&self) -> u16
+        ensures count { result ≡ length self.now.meters }
+        ensures sound { IsSound self.now }
+    {
+        self.meters.len() as u16
+    }
+
+    /// The number of tariff bands.
+    pub fn bands(&self) -> u8
+        ensures count { result ≡ length self.now.bands }
+        ensures sound { IsSound self.now }
+    {
+        self.bands.len() as u8
+    }
+
+    /// The name of an account.
+    pub fn account_name(&self, account: AccountId) -> &str
+        requires { account.0 < length self.now.accounts }
+        ensures { slice_get self.now.accounts account.0 ≡ Some result.now }
+    {
+        self.accounts[account.0 as usize].as_str()
+    }
+
+    /// The id of a meter.
+    pub fn meter_name(&self, meter: MeterId) -> &str
+        requires { meter.0 < length self.now.meters }
+        ensures { option_map (λ m. m.id) (slice_get self.now.meters meter.0) ≡ Some result.now }
+    {
+        self.meters[meter.0 as usize].id.as_str()
+    }
+
+    /// The name of a band, one letter from A to Z.
+    pub fn band_name(&self, band: BandId) -> char
+        requires { band.0 < length self.now.bands }
+        ensures { option_map (λ b. b.name) (slice_get self.now.bands band.0) ≡ Some result }
+    {
+        char::from(self.bands[band.0 as usize].name)
+    }
+
+    /// The account of a name.
+    pub fn account(&self, name: &[u8]) -> Option<AccountId>
+        ensures some { IfSome result (λ a. slice_get self.now.accounts a.0 ≡ Some name.now) }
+        ensures none { IfNone result ((i : ℕ) → slice_get self.now.accounts i ≢ Some name.now) }
+    {
+        for (i, own) in self.accounts.iter().enumerate() {
+            if own.as_bytes() == name {
+                return Some(AccountId(i as u16));
+            }
+        }
+        None
+    }
+
+    /// The meter of an id.
+    pub fn meter(&self, id: &[u8]) -> Option<MeterId>
+        ensures some { IfSome result (λ m. option_map (λ t. t.id) (slice_get self.now.meters m.0) ≡ Some id.now) }
+        ensures none { IfNone result ((i : ℕ) → option_map (λ t. t.id) (slice_get self.now.meters i) ≢ Some id.now) }
+    {
+        for (i, own) in self.meters.iter().enumerate() {
+            if own.id.as_bytes() == id {
+                return Some(MeterId(i as u16));
+            }
+        }
+        None
+    }
+
+    /// What a meter's clock tells.
+    pub fn clock(&self, meter: MeterId) -> Clock
+        requires { meter.0 < length self.now.meters }
+        ensures { option_map (λ m. m.clock) (slice_get self.now.meters meter.0) ≡ Some result }
+    {
+        self.meters[meter.0 as usize].clock
+    }
+
+    /// Whether a register of a meter counts.
+    pub fn counts(&self, meter: MeterId, register: Register) -> bool
+        requires { meter.0 < length self.now.meters }
+        ensures { result ≡ counts_at self.now meter.0 register }
+    {
+        holds(&self.meters[meter.0 as usize].registers, register)
+    }
+
+    /// The tariff band of an instant, by the weekday and hour that local clocks show.
+    pub fn band(&self, instant: Instant, zone: &Zone) -> BandId
+        ensures band { result.0 ≡ band_at self.now instant }
+        ensures within { result.0 < length self.now.bands }
+    {
+        let local = week_hour(instant, zone);
+        let letter = self.week[local.day as usize].as_bytes()[local.hour as usize];
+        BandId(named(&self.bands, letter) as u8)
+    }
+
+    /// The price of a band in a direction, in nano-euro per Wh.
+    pub fn price(&self, band: BandId, direction: Direction) -> u32
+        requires { band.0 < length self.now.bands }
+        ensures price { result ≡ price_at self.now band.0 direction }
+        ensures bound { result ≤ MOST_PRICE }
+    {
+        let band = self.bands[band.0 as usize];
+        match direction {
+            Direction::Import => band.import_price,
+            Direction::Export => band.export_price,
+        }
+    }
+}
+
+// The position of the band with a letter, the number of bands where none has it.
+pub(crate) fn named(bands: &[Band], letter: u8) -> usize
+    ensures { result ≡ band_named (bands_of bands.now) letter }
+{
+    for (i, band) in bands.iter().enumerate() {
+        if band.name == letter {
+            return i;
+        }
+    }
+    bands.len()
+}
+
+// Whether the register is one of the list.
+pub(crate) fn holds(registers: &[Register], register: Register) -> bool
+    ensures { result ≡ lists registers.now register }
+{
+    registers.contains(&register)
+}

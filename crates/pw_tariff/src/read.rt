@@ -1,0 +1,74 @@
+//! Reading an office file.
+
+ghost use Rattle.std.specs.Prelude.{◌≡◌, IsUtf8, MatchResult, Some};
+ghost use Rattle.toml.specs.View.{table_view};
+ghost use Rattle.pw_tariff.specs.Checks.{IsRefusal, Passes};
+ghost use Rattle.pw_tariff.specs.Text.{IsNoTable, IsOfficeOf, IsRefused, IsTable, file_of_table, office_checks};
+
+use crate::accounts::read_accounts;
+use crate::bands::read_bands;
+use crate::meters::read_meters;
+use crate::week::read_week;
+use crate::{Office, OfficeFault};
+use std::alloc::Global;
+use toml::Table;
+
+impl Office {
+    /// The office of a text, by the format of the office file, or the first refusal in its order.
+    ///
+    /// `Memory` is answered only where memory was refused.
+    pub fn read(alloc: Global, text: &[u8]) -> Result<Office, OfficeFault>
+        ensures { MatchResult result (λ office. IsOfficeOf text.now office) (λ e. IsRefused text.now e) }
+    {
+        let table = match table_of(alloc, text) {
+            Ok(table) => table,
+            Err(fault) => return Err(fault),
+        };
+        office_of(alloc, &table)
+    }
+}
+
+// The table of a text.
+fn table_of(alloc: Global, text: &[u8]) -> Result<Table, OfficeFault>
+    ensures { MatchResult result (λ t. IsTable text.now (table_view t)) (λ e. IsNoTable text.now e) }
+{
+    match toml::table_from_slice(alloc, text) {
+        Ok(table) => Ok(table),
+        Err(error) => {
+            if error.is_memory() {
+                return Err(OfficeFault::Memory);
+            }
+            Err(OfficeFault::Toml)
+        }
+    }
+}
+
+// The office of a table, or the first refusal.
+fn office_of(alloc: Global, table: &Table) -> Result<Office, OfficeFault>
+    ensures { MatchResult result
+        (λ office. Passes (office_checks (table_view table.now)) × (office ≡ file_of_table (table_view table.now)))
+        (λ e. IsRefusal (office_checks (table_view table.now)) e) }
+{
+    let accounts = match read_accounts(alloc, table) {
+        Ok(accounts) => accounts,
+        Err(fault) => return Err(fault),
+    };
+    let bands = match read_bands(alloc, table) {
+        Ok(bands) => bands,
+        Err(fault) => return Err(fault),
+    };
+    let meters = match read_meters(alloc, table) {
+        Ok(meters) => meters,
+        Err(fault) => return Err(fault),
+    };
+    let week = match read_week(alloc, table, &bands) {
+        Ok(week) => week,
+        Err(fault) => return Err(fault),
+    };
+    Ok(Office {
+        accounts,
+        bands,
+        meters,
+        week,
+    })
+}

@@ -1,0 +1,97 @@
+//! What stands at the keys of a TOML table.
+
+ghost use Rattle.std.specs.Prelude.{◌≡◌, IsTrue, false, None, Some, MatchResult, map, option_copied, option_map, string_bytes};
+ghost use Rattle.toml.specs.View.{array_view, table_view};
+ghost use Rattle.pw_tariff.specs.Text.{integer_at, list_at, tables_of, text_at, texts_at, texts_of};
+ghost use Rattle.pw_tariff.specs.Held.{table_in};
+ghost use Rattle.pw_tariff.specs.Checks.{IsListFault, IsRefusal, Passes, length_checks};
+
+use crate::OfficeFault;
+use std::alloc::Global;
+use toml::Table;
+use toml::value::Array;
+
+// The text at a key.
+pub(crate) fn text_at<'t>(table: &'t Table, key: &str) -> Option<&'t str>
+    ensures { option_copied result ≡ text_at key.now (table_view table.now) }
+{
+    let Some(value) = table.get(key) else {
+        return None;
+    };
+    value.as_str()
+}
+
+// The whole number at a key.
+pub(crate) fn integer_at(table: &Table, key: &str) -> Option<i64>
+    ensures { result ≡ integer_at key.now (table_view table.now) }
+{
+    let Some(value) = table.get(key) else {
+        return None;
+    };
+    value.as_integer()
+}
+
+// The list at a key.
+pub(crate) fn list_at<'t>(table: &'t Table, key: &str) -> Option<&'t Array>
+    ensures { option_map (λ v. array_view v.now) result ≡ list_at key.now (table_view table.now) }
+{
+    let Some(value) = table.get(key) else {
+        return None;
+    };
+    value.as_array()
+}
+
+// The texts of a list, each of whose elements has to be one.
+fn texts(alloc: Global, array: &Array) -> Result<Vec<String>, OfficeFault>
+    ensures { MatchResult result (λ v. texts_of (array_view array.now) ≡ Some (map string_bytes v.items)) (λ e. IsListFault (texts_of (array_view array.now)) e) }
+{
+    let mut texts = Vec::new(alloc);
+    for value in array {
+        let Some(text) = value.as_str() else {
+            return Err(OfficeFault::MissingField);
+        };
+        let Ok(text) = String::from_str(alloc, text) else {
+            return Err(OfficeFault::Memory);
+        };
+        if texts.push(text).is_err() {
+            return Err(OfficeFault::Memory);
+        }
+    }
+    Ok(texts)
+}
+
+// The texts of the list at a key.
+pub(crate) fn texts_at(alloc: Global, table: &Table, key: &str) -> Result<Vec<String>, OfficeFault>
+    ensures { MatchResult result (λ v. texts_at key.now (table_view table.now) ≡ Some (map string_bytes v.items)) (λ e. IsListFault (texts_at key.now (table_view table.now)) e) }
+{
+    let Some(array) = list_at(table, key) else {
+        return Err(OfficeFault::MissingField);
+    };
+    texts(alloc, array)
+}
+
+// Whether each element of a list is a table.
+pub(crate) fn are_tables(array: &Array) -> bool
+    ensures yes { IsTrue result → tables_of (array_view array.now) ≡ Some (map table_in array.now.items) }
+    ensures no { result ≡ false → tables_of (array_view array.now) ≡ None }
+{
+    for value in array {
+        if value.as_table().is_none() {
+            return false;
+        }
+    }
+    true
+}
+
+// A list isn't empty, and not too long.
+pub(crate) fn check_length(length: usize, most: usize) -> Result<(), OfficeFault>
+    ensures { MatchResult result (λ _. Passes (length_checks length most)) (λ e. IsRefusal (length_checks length most) e) }
+{
+    if length == 0 {
+        return Err(OfficeFault::Empty);
+    }
+    if length > most {
+        return Err(OfficeFault::TooMany);
+    }
+    Ok(())
+}

@@ -1,0 +1,5 @@
+//! Worked rows.
+
+mod files;
+mod limits;
+mod shares;

@@ -1,0 +1,301 @@
+//! Office files: the sample, and each refusal.
+
+use crate::{AccountId, BandId, Direction, MeterId, Office, OfficeFault};
+use pw_obis::Register;
+use pw_time::{Clock, Instant, Zone};
+use std::alloc::{AllocError, Global};
+use std::test::Fail;
+
+const ACCOUNTS: &str = "accounts = [\"A1\", \"A2\"]\n";
+
+const WEEK: &str = r#"week = [
+  "LLLLLLLHHHHHHHHHHHHHHHHL",
+  "LLLLLLLHHHHHHHHHHHHHHHHL",
+  "LLLLLLLHHHHHHHHHHHHHHHHL",
+  "LLLLLLLHHHHHHHHHHHHHHHHL",
+  "LLLLLLLHHHHHHHHHHHHHHHHL",
+  "LLLLLLLLLLLLLLLLLLLLLLLL",
+  "LLLLLLLLLLLLLLLLLLLLLLLL",
+]
+
+"#;
+
+const BANDS: &str = r#"[[band]]
+name = "L"
+import = 200000
+export = 50000
+
+[[band]]
+name = "H"
+import = 300000
+export = 50000
+
+"#;
+
+const METERS: &str = r#"[[meter]]
+id = "4D31"
+clock = "marked"
+registers = ["I1", "I2", "E1", "E2"]
+
+[[meter]]
+id = "Z7"
+clock = "winter"
+registers = ["I0"]
+
+[[meter]]
+id = "Z8"
+clock = "local"
+registers = ["I0"]
+"#;
+
+pub(super) fn sample(alloc: Global) -> Result<String, AllocError> {
+    Ok(format!(in alloc; "{ACCOUNTS}{WEEK}{BANDS}{METERS}")?)
+}
+
+// The refusal of a file in four parts.
+fn refusal(alloc: Global, parts: [&str; 4]) -> Result<Option<OfficeFault>, AllocError> {
+    let [accounts, week, bands, meters] = parts;
+    let text = format!(in alloc; "{accounts}{week}{bands}{meters}")?;
+    Ok(Office::read(alloc, text.as_bytes()).err())
+}
+
+fn band_at(office: &Office, seconds: u32) -> Option<BandId> {
+    Instant::of(seconds).map(|instant| office.band(instant, &Zone::central()))
+}
+
+// The sample office whole. A test that runs out of memory may be refused with `Memory` alone.
+#[test]
+fn sample_office(rt: HostRuntime) -> Result<(), Fail> {
+    let text = sample(rt.alloc())?;
+    let office = match Office::read(rt.alloc(), text.as_bytes()) {
+        Ok(office) => office,
+        Err(fault) => {
+            assert_eq!(rt; fault, OfficeFault::Memory);
+            return Ok(());
+        }
+    };
+    assert!(rt; office.accounts() == 2 && office.meters() == 3 && office.bands() == 2);
+    assert_eq!(rt; office.account_name(AccountId(1)), "A2");
+    assert_eq!(rt; office.meter_name(MeterId(0)), "4D31");
+    assert_eq!(rt; office.band_name(BandId(1)), 'H');
+    assert_eq!(rt; office.account(b"A2"), Some(AccountId(1)));
+    assert_eq!(rt; office.account(b"A9"), None);
+    assert_eq!(rt; office.meter(b"Z8"), Some(MeterId(2)));
+    assert_eq!(rt; office.meter(b"z8"), None);
+    assert_eq!(rt; office.clock(MeterId(0)), Clock::Marked);
+    assert_eq!(rt; office.clock(MeterId(1)), Clock::Winter);
+    assert_eq!(rt; office.clock(MeterId(2)), Clock::Local);
+    assert!(rt; office.counts(MeterId(0), Register::E2));
+    assert!(rt; !office.counts(MeterId(0), Register::I0));
+    assert!(rt; office.counts(MeterId(2), Register::I0));
+    assert_eq!(rt; office.price(BandId(0), Direction::Import), 200_000);
+    assert_eq!(rt; office.price(BandId(1), Direction::Import), 300_000);
+    assert_eq!(rt; office.price(BandId(1), Direction::Export), 50_000);
+    // 2024-07-01T05:00:00Z, a Monday, the second before, and 2024-01-07T11:00:00Z, a Sunday
+    assert_eq!(rt; band_at(&office, 1_719_810_000), Some(BandId(1)));
+    assert_eq!(rt; band_at(&office, 1_719_809_999), Some(BandId(0)));
+    assert_eq!(rt; band_at(&office, 1_704_625_200), Some(BandId(0)));
+    Ok(())
+}
+
+#[test]
+fn refused_lists(rt: HostRuntime) -> Result<(), Fail> {
+    let alloc = rt.alloc();
+    let accounts = |text: &str| refusal(alloc, [text, WEEK, BANDS, METERS]);
+    assert_eq!(rt; accounts("")?, Some(OfficeFault::MissingField));
+    assert_eq!(rt;
+        accounts("accounts = 1\n")?,
+        Some(OfficeFault::MissingField)
+    );
+    assert_eq!(rt;
+        accounts("accounts = [1, \"A1\", \"\"]\n")?,
+        Some(OfficeFault::MissingField)
+    );
+    assert_eq!(rt; accounts("accounts = []\n")?, Some(OfficeFault::Empty));
+    assert_eq!(rt; accounts("accounts = [\n")?, Some(OfficeFault::Toml));
+    assert_eq!(rt;
+        accounts("accounts = [\"\"]\n")?,
+        Some(OfficeFault::BadName)
+    );
+    assert_eq!(rt;
+        accounts("accounts = [\"A 1\"]\n")?,
+        Some(OfficeFault::BadName)
+    );
+    assert_eq!(rt;
+        accounts("accounts = [\"A1\", \"A1\"]\n")?,
+        Some(OfficeFault::TwiceNamed)
+    );
+    assert_eq!(rt;
+        accounts("accounts = [\"A1\", \"A1\", \"A 1\"]\n")?,
+        Some(OfficeFault::TwiceNamed)
+    );
+    assert_eq!(rt; accounts("other = 1\naccounts = [\"a-_9Z\"]\n")?, None);
+    assert_eq!(rt;
+        refusal(alloc, [ACCOUNTS, "", BANDS, METERS])?,
+        Some(OfficeFault::MissingField)
+    );
+    assert_eq!(rt;
+        refusal(alloc, [ACCOUNTS, WEEK, "", METERS])?,
+        Some(OfficeFault::MissingField)
+    );
+    assert_eq!(rt;
+        refusal(alloc, [ACCOUNTS, WEEK, BANDS, ""])?,
+        Some(OfficeFault::MissingField)
+    );
+    assert_eq!(rt;
+        refusal(alloc, ["", "", "", ""])?,
+        Some(OfficeFault::MissingField)
+    );
+    Ok(())
+}
+
+// Each body is the keys of a further band.
+#[test]
+fn refused_bands(rt: HostRuntime) -> Result<(), Fail> {
+    let alloc = rt.alloc();
+    let band = |keys: &str| -> Result<Option<OfficeFault>, AllocError> {
+        let bands = format!(in alloc; "{BANDS}[[band]]\n{keys}\n")?;
+        refusal(alloc, [ACCOUNTS, WEEK, bands.as_str(), METERS])
+    };
+    assert_eq!(rt;
+        band("name = \"M\"\nimport = 0\nexport = 1000000000\nother = 1")?,
+        None
+    );
+    assert_eq!(rt;
+        band("name = \"M\"\nimport = 0")?,
+        Some(OfficeFault::MissingField)
+    );
+    assert_eq!(rt;
+        band("name = \"M\"\nimport = 1.5\nexport = 1")?,
+        Some(OfficeFault::MissingField)
+    );
+    assert_eq!(rt;
+        band("name = \"LL\"\nimport = 1\nexport = 1")?,
+        Some(OfficeFault::BadName)
+    );
+    assert_eq!(rt;
+        band("name = \"m\"\nimport = 1\nexport = 1")?,
+        Some(OfficeFault::BadName)
+    );
+    assert_eq!(rt;
+        band("name = \"H\"\nimport = -1\nexport = 1")?,
+        Some(OfficeFault::TwiceNamed)
+    );
+    assert_eq!(rt;
+        band("name = \"M\"\nimport = 1000000001\nexport = 1")?,
+        Some(OfficeFault::Price)
+    );
+    assert_eq!(rt;
+        band("name = \"M\"\nimport = 1\nexport = -1")?,
+        Some(OfficeFault::Price)
+    );
+    assert_eq!(rt;
+        band("name = \"M\"\nimport = 9223372036854775808\nexport = 1")?,
+        Some(OfficeFault::Toml)
+    );
+    Ok(())
+}
+
+// Each body is the keys of a further meter.
+#[test]
+fn refused_meters(rt: HostRuntime) -> Result<(), Fail> {
+    let alloc = rt.alloc();
+    let meter = |keys: &str| -> Result<Option<OfficeFault>, AllocError> {
+        let meters = format!(in alloc; "{METERS}[[meter]]\n{keys}\n")?;
+        refusal(alloc, [ACCOUNTS, WEEK, BANDS, meters.as_str()])
+    };
+    assert_eq!(rt;
+        meter("id = \"Q\"\nclock = \"local\"\nregisters = [\"I0\", \"E1\", \"E2\"]")?,
+        None
+    );
+    assert_eq!(rt;
+        meter("id = \"Q\"\nclock = \"local\"")?,
+        Some(OfficeFault::MissingField)
+    );
+    assert_eq!(rt;
+        meter("id = \"Q\"\nclock = \"local\"\nregisters = [1]")?,
+        Some(OfficeFault::MissingField)
+    );
+    assert_eq!(rt;
+        meter("id = \"Q.\"\nclock = \"x\"\nregisters = []")?,
+        Some(OfficeFault::BadName)
+    );
+    assert_eq!(rt;
+        meter("id = \"Z7\"\nclock = \"x\"\nregisters = []")?,
+        Some(OfficeFault::TwiceNamed)
+    );
+    assert_eq!(rt;
+        meter("id = \"Q\"\nclock = \"Local\"\nregisters = []")?,
+        Some(OfficeFault::BadName)
+    );
+    assert_eq!(rt;
+        meter("id = \"Q\"\nclock = \"local\"\nregisters = []")?,
+        Some(OfficeFault::Empty)
+    );
+    assert_eq!(rt;
+        meter("id = \"Q\"\nclock = \"local\"\nregisters = [\"I3\", \"I0\"]")?,
+        Some(OfficeFault::BadName)
+    );
+    assert_eq!(rt;
+        meter("id = \"Q\"\nclock = \"local\"\nregisters = [\"I1\", \"I1\"]")?,
+        Some(OfficeFault::TwiceNamed)
+    );
+    assert_eq!(rt;
+        meter("id = \"Q\"\nclock = \"local\"\nregisters = [\"I0\", \"I1\"]")?,
+        Some(OfficeFault::RegistersOverlap)
+    );
+    assert_eq!(rt;
+        meter("id = \"Q\"\nclock = \"local\"\nregisters = [\"E2\", \"E0\"]")?,
+        Some(OfficeFault::RegistersOverlap)
+    );
+    Ok(())
+}
+
+#[test]
+fn refused_weeks(rt: HostRuntime) -> Result<(), Fail> {
+    let alloc = rt.alloc();
+    let days = |day: &str, count: usize| -> Result<Option<OfficeFault>, AllocError> {
+        let mut week = format!(in alloc; "week = [")?;
+        for _ in 0..count {
+            week.push_str(day)?;
+        }
+        week.push_str("]\n")?;
+        refusal(alloc, [ACCOUNTS, week.as_str(), BANDS, METERS])
+    };
+    assert_eq!(rt; days("\"HHHHHHHHHHHHHHHHHHHHHHHH\",", 7)?, None);
+    assert_eq!(rt;
+        days("\"HHHHHHHHHHHHHHHHHHHHHHHH\",", 6)?,
+        Some(OfficeFault::Week)
+    );
+    assert_eq!(rt;
+        days("\"HHHHHHHHHHHHHHHHHHHHHHHH\",", 8)?,
+        Some(OfficeFault::Week)
+    );
+    assert_eq!(rt;
+        days("\"HHHHHHHHHHHHHHHHHHHHHHH\",", 7)?,
+        Some(OfficeFault::Week)
+    );
+    assert_eq!(rt;
+        days("\"HHHHHHHHHHHHHHHHHHHHHHHHL\",", 7)?,
+        Some(OfficeFault::Week)
+    );
+    assert_eq!(rt;
+        days("\"HHHHHHHHHHHHHHHHHHHHHHHM\",", 7)?,
+        Some(OfficeFault::Week)
+    );
+    assert_eq!(rt; days("7,", 7)?, Some(OfficeFault::MissingField));
+    Ok(())
+}
+
+#[test]
+fn other_bytes(rt: HostRuntime) -> Result<(), Fail> {
+    assert!(rt; Office::read(rt.alloc(), b"").err() == Some(OfficeFault::MissingField));
+    assert!(rt; Office::read(rt.alloc(), b"accounts = [").err() == Some(OfficeFault::Toml));
+    assert!(rt;
+        Office::read(rt.alloc(), b"accounts = [\"A\xFF\"]\n").err() == Some(OfficeFault::Toml)
+    );
+    assert_eq!(rt; OfficeFault::RegistersOverlap.number(), 36);
+    assert_eq!(rt; OfficeFault::Memory.number(), 62);
+    assert_eq!(rt; OfficeFault::TwiceNamed.name(), "TwiceNamed");
+    Ok(())
+}

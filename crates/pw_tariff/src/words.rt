@@ -1,0 +1,97 @@
+//! The words of an office file: names, clocks, registers.
+
+ghost use Rattle.std.specs.Prelude.{◌≡◌, ◌&&◌, length, map, nat_le, string_bytes};
+ghost use Rattle.std.specs.List.{list_all};
+ghost use Rattle.pw_tariff.specs.Words.{clock_named, is_between, is_capital, is_name, is_name_character, is_new, register_named};
+
+use pw_obis::Register;
+use pw_time::Clock;
+
+fn is_between(low: u8, high: u8, byte: u8) -> bool
+    ensures { result ≡ is_between low high byte }
+{
+    low <= byte && byte <= high
+}
+
+// A to Z.
+pub(crate) fn is_capital(byte: u8) -> bool
+    ensures { result ≡ is_capital byte }
+{
+    is_between(b'A', b'Z', byte)
+}
+
+// A to Z, a to z, 0 to 9, '-' or '_'.
+fn is_name_character(byte: u8) -> bool
+    ensures { result ≡ is_name_character byte }
+{
+    is_capital(byte)
+        || is_between(b'a', b'z', byte)
+        || is_between(b'0', b'9', byte)
+        || byte == b'-'
+        || byte == b'_'
+}
+
+// One character or more, at most so many.
+pub(crate) fn is_name(most: usize, text: &[u8]) -> bool
+    ensures { result ≡ is_name most text.now }
+{
+    has_length(most, text) && are_name_characters(text)
+}
+
+fn has_length(most: usize, text: &[u8]) -> bool
+    ensures { result ≡ (nat_le 1 (length text.now) && nat_le (length text.now) most) }
+{
+    1 <= text.len() && text.len() <= most
+}
+
+fn are_name_characters(text: &[u8]) -> bool
+    ensures { result ≡ list_all is_name_character text.now }
+{
+    text.iter().all(|byte| is_name_character(*byte))
+}
+
+// None of the earlier names.
+pub(crate) fn is_new(name: &[u8], earlier: &[String]) -> bool
+    ensures { result ≡ is_new name.now (map string_bytes earlier.now) }
+{
+    for other in earlier {
+        if other.as_bytes() == name {
+            return false;
+        }
+    }
+    true
+}
+
+pub(crate) fn clock_named(text: &[u8]) -> Option<Clock>
+    ensures { result ≡ clock_named text.now }
+{
+    if text == b"marked".as_slice() {
+        Some(Clock::Marked)
+    } else if text == b"winter".as_slice() {
+        Some(Clock::Winter)
+    } else if text == b"local".as_slice() {
+        Some(Clock::Local)
+    } else {
+        None
+    }
+}
+
+pub(crate) fn register_named(text: &[u8]) -> Option<Register>
+    ensures { result ≡ register_named text.now }
+{
+    if text == b"I0".as_slice() {
+        Some(Register::I0)
+    } else if text == b"I1".as_slice() {
+        Some(Register::I1)
+    } else if text == b"I2".as_slice() {
+        Some(Register::I2)
+    } else if text == b"E0".as_slice() {
+        Some(Register::E0)
+    } else if text == b"E1".as_slice() {
+        Some(Register::E1)
+    } else if text == b"E2".as_slice() {
+        Some(Register::E2)
+    } else {
+        None
+    }
+}
