@@ -1,0 +1,126 @@
+-- What the plain program adds up.
+use Rattle.std.proofs.Common.{◌≡◌, ℕ, zero, suc, ◌+◌, ◌*◌, ◌<◌, ◌≤◌, Bool, true, cond, Option, Some, None, List, length, All, ap, sym, subst, ◌∙◌, ⊎_elim, arith, inl, inr}
+use Rattle.std.proofs.lemmas.Bool.{cases_lt}
+use Rattle.std.proofs.lemmas.Nat.{mul-le}
+use Rattle.std.proofs.lemmas.Int.{ints}
+use Rattle.pw_obis.specs.declared.reference.Register.{Register}
+use Rattle.pw_obis.specs.declared.reference.Register.TheVariants.{I0, I1, I2, E0, E1, E2}
+use Rattle.pw_tariff.specs.declared.ids.AccountId.{AccountId}
+use Rattle.pw_tariff.specs.declared.ids.Direction.{Direction}
+use Rattle.pw_tariff.specs.declared.ids.Direction.TheVariants.{Import, Export}
+use Rattle.pw_model.specs.Payments.{topped_up}
+use Rattle.pw_time.specs.declared.instant.TheConstants.{END_SECOND}
+use Rattle.pw_flow.specs.declared.plain.Point.{Point}
+use Rattle.pw_flow.specs.Time.{sum_over}
+use Rattle.pw_flow.specs.Plain.{value_at}
+use Rattle.pw_flow.specs.Energy.{register_energy}
+use Rattle.pw_flow.proofs.Points.{option-cases}
+use Rattle.pw_model.specs.declared.records.Content.TheVariants as content
+use Rattle.pw_model.specs.declared.records.Entry.{Entry}
+use Rattle.pw_model.specs.Same.{direction_of}
+use Rattle.pw_model.specs.Counting.{contents_at, point, reading_key}
+use Rattle.pw_model.specs.Office.{Office, IsOffice, AllOfOffice, IsOfOffice, most_records}
+use Rattle.pw_model.specs.Energy.{Asked, over_registers, share_of, meter_share, energy_where, seconds_of, of_band, cost}
+use Rattle.pw_model.specs.Bounds.{BalancesFit}
+use Rattle.pw_model.proofs.Bounded.{totals-bounded}
+use Rattle.pw_model.proofs.Counting.{entry}
+use Rattle.pw_model.proofs.Found.{point-member}
+use Rattle.pw_model.proofs.Pushed.{none-late}
+
+-- no reading of the office counts behind all instants
+none-behind : (office : Office) (s : List Entry) (m : ℕ) (r : Register) (t : ℕ) → AllOfOffice office s → END_SECOND ≤ t → point (contents_at s) m r t ≡ None
+none-behind office s m r t h l =
+    elim (option-cases (point (contents_at s) m r t)) [
+      | inl n ↦ n
+      | inr f ↦ (
+          let of_office : IsOfOffice office (entry (reading_key m r t) (content.Reading f.0)) = h (entry (reading_key m r t) (content.Reading f.0)) (point-member s m r t f.0 f.1) in
+          absurd (omega (arith, of_office.2.1, l)))
+    ]
+
+listed-point : (office : Office) (s : List Entry) (m : ℕ) (r : Register) (ps : List Point) → AllOfOffice office s → All (λ p. p.at < END_SECOND) ps →
+    ((t : ℕ) → t < END_SECOND → value_at ps t ≡ point (contents_at s) m r t) → (t : ℕ) → value_at ps t ≡ point (contents_at s) m r t
+listed-point office s m r ps h e v t =
+    ⊎_elim (λ (l : t < END_SECOND). v t l) (λ (l : END_SECOND ≤ t). none-late ps END_SECOND t e l ∙ sym (none-behind office s m r t h l)) (cases_lt t END_SECOND)
+
+pub energy-listed : (office : Office) (s : List Entry) (m : ℕ) (r : Register) (ps : List Point) (keeps : ℕ → Bool) → AllOfOffice office s → All (λ p. p.at < END_SECOND) ps →
+    ((t : ℕ) → t < END_SECOND → value_at ps t ≡ point (contents_at s) m r t) → register_energy keeps (value_at ps) office.end ≡ register_energy keeps (point (contents_at s) m r) office.end
+energy-listed office s m r ps keeps h e v =
+    let same : value_at ps ≡ point (contents_at s) m r = λ i t. listed-point office s m r ps h e v t i in
+    ap (λ (p : ℕ → Option ℕ). register_energy keeps p office.end) same
+
+-- ---- a part is at most the whole
+sum-part : (f : ℕ → ℕ) (m n : ℕ) → m < n → f m ≤ sum_over f 0 n
+unfolding sum_over
+sum-part f m zero l = absurd (omega arith)
+sum-part f m (suc n) l =
+    ⊎_elim (λ (a : m < n). (let r : f m ≤ sum_over f 0 n = sum-part f m n a in omega arith)) (λ (b : n ≤ m). (let e : m ≡ n = omega arith in let k : f m ≡ f (0 + n) = ap f (omega arith) in omega arith)) (cases_lt m n)
+
+pub sum-next : (f : ℕ → ℕ) (n : ℕ) → sum_over f 0 (n + 1) ≡ sum_over f 0 n + f n
+unfolding sum_over
+sum-next f n = let e : n + 1 ≡ suc n = omega arith in let k : f (0 + n) ≡ f n = ap f (omega arith) in rw e (omega (arith, k))
+
+pub sum-to : (f : ℕ → ℕ) (m n : ℕ) → m ≤ n → sum_over f 0 m ≤ sum_over f 0 n
+unfolding sum_over
+sum-to f zero n l = omega arith
+sum-to f (suc m) zero l = absurd (omega arith)
+sum-to f (suc m) (suc n) l =
+    ⊎_elim (λ (a : m < n). (let r : sum_over f 0 (suc m) ≤ sum_over f 0 n = sum-to f (suc m) n a in omega arith)) (λ (b : n ≤ m). (let e : m ≡ n = omega arith in let P : ℕ → Type 0 = λ k. sum_over f 0 (suc m) ≤ sum_over f 0 (suc k) in subst P e (omega arith))) (cases_lt m n)
+
+registers-part : (r : Register) (f : Register → ℕ) → f r ≤ over_registers (direction_of r) f
+registers-part I0 f = omega arith
+registers-part I1 f = omega arith
+registers-part I2 f = omega arith
+registers-part E0 f = omega arith
+registers-part E1 f = omega arith
+registers-part E2 f = omega arith
+
+pub share-fits : (office : Office) (s : List Entry) (asked : Asked) (m : ℕ) (r : Register) → IsOffice office → AllOfOffice office s → length s ≤ most_records → m < office.meters →
+    share_of office (contents_at s) asked m r ≤ 999_999_999_990_000_000
+unfolding energy_where
+share-fits office s asked m r o h few l =
+    let a = registers-part r (share_of office (contents_at s) asked m) in
+    let b = sum-part (meter_share office (contents_at s) (direction_of r) asked) m office.meters l in
+    let c = (totals-bounded office s o h).energies (direction_of r) asked in
+    omega (arith, a, b, c, few)
+
+pub energy-fits : (office : Office) (s : List Entry) (d : Direction) (asked : Asked) → IsOffice office → AllOfOffice office s → length s ≤ most_records →
+    energy_where office (contents_at s) d asked ≤ 999_999_999_990_000_000
+energy-fits office s d asked o h few = let c = (totals-bounded office s o h).energies d asked in omega (arith, c, few)
+
+-- the energy of the points that were found is the register's share
+pub plain-share : (office : Office) (s : List Entry) (asked : Asked) (m : ℕ) (r : Register) (ps : List Point) (result : ℕ) → IsOffice office → AllOfOffice office s → office.counts m r ≡ true →
+    All (λ p. p.at < END_SECOND) ps → ((t : ℕ) → t < END_SECOND → value_at ps t ≡ point (contents_at s) m r t) →
+    (All (λ p. p.at < office.end) ps → result ≡ register_energy (seconds_of (contents_at s) asked m) (value_at ps) office.end) →
+    result ≡ share_of office (contents_at s) asked m r
+plain-share office s asked m r ps result o h c e v f =
+    let early : All (λ p. p.at < office.end) ps = λ k d l. omega (arith, e k d l, o.end) in
+    f early ∙ energy-listed office s m r ps (seconds_of (contents_at s) asked m) h e v ∙ sym (ap (λ b. cond b (register_energy (seconds_of (contents_at s) asked m) (point (contents_at s) m r) office.end) 0) c)
+
+-- ---- prices
+pub price-fits : (office : Office) (b wh : ℕ) (d : Direction) → IsOffice office → b < office.bands → wh ≤ 999_999_999_990_000_000 → office.price b d * wh ≤ 999_999_999_990_000_000_000_000_000
+price-fits office b wh d o l h = mul-le (office.price b d) wh 1_000_000_000 999_999_999_990_000_000 (o.price b d l) h
+
+costs-to : (office : Office) (s : List Entry) (owner : Option AccountId) (d : Direction) (n : ℕ) → IsOffice office → AllOfOffice office s → length s ≤ most_records → n ≤ office.bands →
+    sum_over (λ b. office.price b d * energy_where office (contents_at s) d (of_band office owner b)) 0 n ≤ n * 999_999_999_990_000_000_000_000_000
+unfolding sum_over
+costs-to office s owner d zero o h few l = omega arith
+costs-to office s owner d (suc n) o h few l =
+    let r = costs-to office s owner d n o h few (omega arith) in
+    let w = energy-fits office s d (of_band office owner (0 + n)) o h few in
+    let p = price-fits office (0 + n) (energy_where office (contents_at s) d (of_band office owner (0 + n))) d o (omega arith) w in
+    omega (arith, r, p)
+
+pub cost-fits : (office : Office) (s : List Entry) (owner : Option AccountId) (d : Direction) → IsOffice office → AllOfOffice office s → length s ≤ most_records →
+    cost office (contents_at s) owner d ≤ 7_999_999_999_920_000_000_000_000_000
+unfolding cost
+cost-fits office s owner d o h few = let c = costs-to office s owner d office.bands o h few (omega arith) in omega (arith, c, o.bands)
+
+pub topped-fits : (office : Office) (s : List Entry) (a : ℕ) → IsOffice office → AllOfOffice office s → length s ≤ most_records → topped_up s a ≤ 1_000_000_000_000_000
+topped-fits office s a o h few = let c = (totals-bounded office s o h).topped a in omega (arith, c, few)
+
+pub balance-fits : BalancesFit
+balance-fits office s a o h few =
+    let t = topped-fits office s a o h few in
+    let i = cost-fits office s (Some (record { 0 = a })) Import o h few in
+    let e = cost-fits office s (Some (record { 0 = a })) Export o h few in
+    omega (arith, ints, t, i, e)

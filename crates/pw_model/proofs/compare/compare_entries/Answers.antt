@@ -1,0 +1,6 @@
+use Rattle.std.proofs.Common.{◌∙◌}
+use Rattle.pw_model.proofs.InKeyOrder.{entries-ordered}
+use Rattle.pw_model.proofs.compare.compare_entries.Goals as goal
+
+pub returns : goal.returns
+returns c = c.cmp.ensures ∙ entries-ordered c.args.a.now c.args.b.now c.requires.first c.requires.second

@@ -1,0 +1,6 @@
+use Rattle.std.proofs.Common.{rules}
+use Rattle.pw_model.proofs.PaddedText.{text-fits}
+use Rattle.pw_model.proofs.reference.Reference.of.Goals as goal
+
+pub invariant_of-result : goal.invariant_of-result
+invariant_of-result c = text-fits c.args.text.now c.copy_from_slice.new.self (search rules) (search rules)

@@ -1,0 +1,79 @@
+-- The energy of a set, one second at a time, and what it costs.
+-- (Definitions of this project. Import and export are energy delivered to and by the client, 1.8 and 2.8 of IEC 62056-6-1.)
+use Rattle.std.specs.Prelude.{ℕ, ◌+◌, ◌*◌, Bool, cond, ◌==◌, ◌&&◌, Option, Some, None, List}
+use Rattle.pw_tariff.specs.declared.ids.AccountId.{AccountId}
+use Rattle.pw_obis.specs.declared.reference.Register.{Register}
+use Rattle.pw_obis.specs.declared.reference.Register.TheVariants.{I0, I1, I2, E0, E1, E2}
+use Rattle.pw_tariff.specs.declared.ids.Direction.{Direction}
+use Rattle.pw_tariff.specs.declared.ids.Direction.TheVariants.{Import, Export}
+use Rattle.pw_model.specs.declared.records.Key.{Key}
+use Rattle.pw_model.specs.declared.records.Contents.{Contents}
+use Rattle.pw_model.specs.declared.records.Entry.{Entry}
+use Rattle.pw_model.specs.Same.{same_owner}
+use Rattle.pw_model.specs.Counting.{contents_at, point, start}
+use Rattle.pw_model.specs.Office.{Office}
+use Rattle.pw_flow.specs.Time.{last, sum_over}
+use Rattle.pw_flow.specs.Energy.{register_energy}
+use Rattle.pw_flow.specs.Flow.{rises}
+
+abbrev pub owner_from : Option (ℕ × Option AccountId) → Option AccountId
+owner_from None = None
+owner_from (Some a) = a.1
+
+-- the owner of a meter at a second: that of the latest start
+unfoldable pub owner_at : (Key → Contents) → ℕ → ℕ → Option AccountId
+owner_at at m t = owner_from (last (start at m) t)
+
+-- which seconds are asked for, by their owner and the second
+abbrev pub Asked : Type 0
+Asked = Option AccountId → ℕ → Bool
+
+-- the seconds of a meter that are asked for
+abbrev pub seconds_of : (Key → Contents) → Asked → ℕ → ℕ → Bool
+seconds_of at asked m t = asked (owner_at at m t) t
+
+-- over the registers of a direction
+abbrev pub over_registers : Direction → (Register → ℕ) → ℕ
+over_registers Import f = f I0 + f I1 + f I2
+over_registers Export f = f E0 + f E1 + f E2
+
+-- of a meter's register, where it counts
+abbrev pub share_of : Office → (Key → Contents) → Asked → ℕ → Register → ℕ
+share_of office at asked m r = cond (office.counts m r) (register_energy (seconds_of at asked m) (point at m r) office.end) 0
+
+abbrev pub meter_share : Office → (Key → Contents) → Direction → Asked → ℕ → ℕ
+meter_share office at direction asked m = over_registers direction (share_of office at asked m)
+
+-- the flow of all meters, their registers of a direction, and the seconds that are asked for
+unfoldable pub energy_where : Office → (Key → Contents) → Direction → Asked → ℕ
+energy_where office at direction asked = sum_over (meter_share office at direction asked) 0 office.meters
+
+-- the seconds with this owner and band
+abbrev pub of_band : Office → Option AccountId → ℕ → Asked
+of_band office owner band o t = same_owner o owner && (office.band t == band)
+
+abbrev pub energy : Office → List Entry → Option AccountId → ℕ → Direction → ℕ
+energy office s owner band direction = energy_where office (contents_at s) direction (of_band office owner band)
+
+-- the price of an owner's energy of a direction, in nano-euro
+unfoldable pub cost : Office → (Key → Contents) → Option AccountId → Direction → ℕ
+cost office at owner direction = sum_over (λ b. office.price b direction * energy_where office at direction (of_band office owner b)) 0 office.bands
+
+-- ---- the whole, however it is shared out
+abbrev pub account : ℕ → AccountId
+account a = record { 0 = a }
+
+-- over nobody, and all accounts
+abbrev pub over_owners : Office → (Option AccountId → ℕ) → ℕ
+over_owners office f = f None + sum_over (λ a. f (Some (account a))) 0 office.accounts
+
+abbrev pub over_bands : Office → (ℕ → ℕ) → ℕ
+over_bands office f = sum_over f 0 office.bands
+
+-- of a meter's register, where it counts
+abbrev pub register_rises : Office → (Key → Contents) → ℕ → Register → ℕ
+register_rises office at m r = cond (office.counts m r) (rises (point at m r) office.end) 0
+
+-- the rises of all neighbours of a direction that don't fall
+unfoldable pub all_rises : Office → (Key → Contents) → Direction → ℕ
+all_rises office at direction = sum_over (λ m. over_registers direction (register_rises office at m)) 0 office.meters

@@ -1,0 +1,13 @@
+pub mod References
+pub mod Inverse
+pub mod Same
+pub mod Counting
+pub mod Office
+pub mod Energy
+pub mod Payments
+pub mod Lists
+pub mod Shelf
+pub mod Laws
+pub mod Bounds
+pub mod Search
+pub mod Sample

@@ -1,0 +1,73 @@
+-- An office: what is fixed before any record comes.
+-- (Definitions of this project; limits and prices are its profile.)
+use Rattle.std.specs.Prelude.{◌≡◌, ℕ, ◌<◌, ◌≤◌, Bool, true, Option, Some, None, List}
+use Rattle.pw_obis.specs.declared.energy.TheConstants.{LARGEST_WATT_HOURS}
+use Rattle.pw_obis.specs.declared.reference.Register.{Register}
+use Rattle.pw_tariff.specs.declared.ids.AccountId.{AccountId}
+use Rattle.pw_tariff.specs.declared.ids.Direction.{Direction}
+use Rattle.pw_time.specs.declared.instant.TheConstants.{END_SECOND}
+use Rattle.pw_time.specs.Instants.{IsInstant}
+use Rattle.pw_model.specs.declared.records.Key.{Key}
+use Rattle.pw_model.specs.declared.records.Key.TheVariants as key
+use Rattle.pw_model.specs.declared.records.Content.{Content}
+use Rattle.pw_model.specs.declared.records.Content.TheVariants as content
+use Rattle.pw_model.specs.declared.records.Entry.{Entry}
+use Rattle.pw_model.specs.References.{IsReference}
+use Rattle.pw_model.specs.Counting.{Member}
+
+pub record Office : Type 0 where
+  pub accounts : ℕ
+  pub meters : ℕ
+  pub bands : ℕ
+  -- the first second behind all instants; readings are seen up to it
+  pub end : ℕ
+  -- whether a meter's register counts
+  pub counts : ℕ → Register → Bool
+  -- the band of a second
+  pub band : ℕ → ℕ
+  -- in nano-euro per watt-hour
+  pub price : ℕ → Direction → ℕ
+
+-- at most 1,000,000 euro in one top-up
+abbrev pub most_cents : ℕ
+most_cents = 100_000_000
+
+abbrev pub most_records : ℕ
+most_records = 10_000_000
+
+abbrev pub most_price : ℕ
+most_price = 1_000_000_000
+
+-- nobody, or an account of the office
+abbrev pub HasOwner : Office → Option AccountId → Type 0
+HasOwner office None = Unit {0}
+HasOwner office (Some a) = a.0 < office.accounts
+
+-- a key with a content of its kind, all of the office
+abbrev pub IsOf : Office → Key → Content → Type 0
+IsOf office (key.Reading m r t) (content.Reading w) =
+    (m.0 < office.meters) × (office.counts m.0 r ≡ true) × IsInstant t × (w ≤ LARGEST_WATT_HOURS)
+IsOf office (key.Assignment m t) (content.Assignment o) = (m.0 < office.meters) × IsInstant t × HasOwner office o
+IsOf office (key.TopUp r) (content.TopUp a c t) =
+    IsReference r × (a.0 < office.accounts) × (1 ≤ c) × (c ≤ most_cents) × IsInstant t
+IsOf office _ _ = ⊥
+
+-- an entry of the office
+abbrev pub IsOfOffice : Office → Entry → Type 0
+IsOfOffice office e = IsOf office e.key e.content
+
+abbrev pub AllOfOffice : Office → List Entry → Type 0
+AllOfOffice office s = (e : Entry) → Member e s → IsOfOffice office e
+
+-- each second's band is one of the office's
+abbrev pub HasBands : Office → Type 0
+HasBands office = (t : ℕ) → office.band t < office.bands
+
+-- what the office file ensures
+pub record IsOffice (office : Office) : Type 0 where
+  pub accounts : office.accounts ≤ 256
+  pub meters : office.meters ≤ 1024
+  pub bands : office.bands ≤ 8
+  pub end : office.end ≡ END_SECOND
+  pub band : HasBands office
+  pub price : (b : ℕ) (d : Direction) → b < office.bands → office.price b d ≤ most_price

@@ -1,0 +1,80 @@
+-- Keys and contents as numbers: the tests by which two are the same, and the order in which they are listed.
+-- (Definitions of this project. The registers are those of IEC 62056-6-1, in the order I0, I1, I2, E0, E1, E2.)
+use Rattle.std.specs.Prelude.{ℕ, Bool, true, false, ◌==◌, ◌&&◌, Option, Some, None, List, [], ◌∷◌}
+use Rattle.std.specs.Cmp.Lexicographic.{pointwise, slice_cmp}
+use Rattle.std.specs.Ordering.{nat_cmp, ordering_then}
+use Rattle.std.specs.declared.cmp.Ordering.{Ordering}
+use Rattle.pw_obis.specs.declared.reference.Register.{Register}
+use Rattle.pw_obis.specs.declared.reference.Register.TheVariants.{I0, I1, I2, E0, E1, E2}
+use Rattle.pw_tariff.specs.declared.ids.Direction.{Direction}
+use Rattle.pw_tariff.specs.declared.ids.Direction.TheVariants.{Import, Export}
+use Rattle.pw_tariff.specs.declared.ids.AccountId.{AccountId}
+use Rattle.pw_model.specs.declared.records.Key.{Key}
+use Rattle.pw_model.specs.declared.records.Key.TheVariants as key
+use Rattle.pw_model.specs.declared.records.Content.{Content}
+use Rattle.pw_model.specs.declared.records.Content.TheVariants as content
+use Rattle.pw_model.specs.declared.records.Entry.{Entry}
+use Rattle.pw_model.specs.References.{IsReference}
+
+-- the place of a register in the order I0, I1, I2, E0, E1, E2
+abbrev pub register_place : Register → ℕ
+register_place I0 = 0
+register_place I1 = 1
+register_place I2 = 2
+register_place E0 = 3
+register_place E1 = 4
+register_place E2 = 5
+
+abbrev pub direction_of : Register → Direction
+direction_of I0 = Import
+direction_of I1 = Import
+direction_of I2 = Import
+direction_of E0 = Export
+direction_of E1 = Export
+direction_of E2 = Export
+
+abbrev pub same_direction : Direction → Direction → Bool
+same_direction Import Import = true
+same_direction Export Export = true
+same_direction Import Export = false
+same_direction Export Import = false
+
+abbrev pub same_owner : Option AccountId → Option AccountId → Bool
+same_owner None None = true
+same_owner (Some a) (Some b) = a.0 == b.0
+same_owner None (Some b) = false
+same_owner (Some a) None = false
+
+-- readings first, then assignments, then top-ups; each by its fields in their order
+unfoldable pub key_numbers : Key → List ℕ
+key_numbers (key.Reading m r t) = 0 ∷ m.0 ∷ register_place r ∷ t ∷ []
+key_numbers (key.Assignment m t) = 1 ∷ m.0 ∷ t ∷ []
+key_numbers (key.TopUp r) = 2 ∷ r
+
+-- nobody stands before every account
+unfoldable pub content_numbers : Content → List ℕ
+content_numbers (content.Reading w) = 0 ∷ w ∷ []
+content_numbers (content.Assignment None) = 1 ∷ []
+content_numbers (content.Assignment (Some a)) = 1 ∷ a.0 ∷ []
+content_numbers (content.TopUp a c t) = 2 ∷ a.0 ∷ c ∷ t ∷ []
+
+abbrev pub same_key : Key → Key → Bool
+same_key k l = pointwise ◌==◌ (key_numbers k) (key_numbers l)
+
+abbrev pub same_content : Content → Content → Bool
+same_content c d = pointwise ◌==◌ (content_numbers c) (content_numbers d)
+
+abbrev pub same_entry : Entry → Entry → Bool
+same_entry e f = same_key e.key f.key && same_content e.content f.content
+
+abbrev pub key_order : Key → Key → Ordering
+key_order k l = slice_cmp nat_cmp (key_numbers k) (key_numbers l)
+
+-- of entries: by the key, then by the content
+abbrev pub entry_order : Entry → Entry → Ordering
+entry_order e f = ordering_then (key_order e.key f.key) (slice_cmp nat_cmp (content_numbers e.content) (content_numbers f.content))
+
+-- where the key names a top-up, its reference is one
+abbrev pub HasReference : Key → Type 0
+HasReference (key.TopUp r) = IsReference r
+HasReference _ = Unit {0}

@@ -1,0 +1,59 @@
+-- What a shelf holds, and when that is true.
+-- (Definitions of this project.)
+use Rattle.std.specs.Prelude.{◌≡◌, ℕ, ◌*◌, ◌≤◌, Option, None, List, [], length}
+use Rattle.pw_obis.specs.declared.energy.TheConstants.{LARGEST_WATT_HOURS}
+use Rattle.pw_obis.specs.declared.reference.Register.{Register}
+use Rattle.pw_tariff.specs.declared.ids.AccountId.{AccountId}
+use Rattle.pw_model.specs.declared.records.TotalKey.{TotalKey}
+use Rattle.pw_model.specs.declared.records.TotalKey.TheVariants.{Energy, TopUps}
+use Rattle.pw_model.specs.declared.records.Entry.{Entry}
+use Rattle.pw_model.specs.Counting.{EachOnce, SameMembers, contents_at, point, start}
+use Rattle.pw_model.specs.Office.{Office, AllOfOffice, IsOffice, most_records}
+use Rattle.pw_model.specs.Energy.{energy}
+use Rattle.pw_model.specs.Payments.{topped_up}
+
+pub record ShelfContent : Type 0 where
+  -- in some order
+  pub records : List Entry
+  -- the counting reading of a meter and register at a second
+  pub point : ℕ → Register → ℕ → Option ℕ
+  -- the counting assignment of a meter at a second
+  pub start : ℕ → ℕ → Option (Option AccountId)
+  -- absent is 0
+  pub total : TotalKey → ℕ
+
+-- the total of the records, for every key
+abbrev pub total_of : Office → List Entry → TotalKey → ℕ
+total_of office s (Energy o b d) = energy office s o b.0 d
+total_of office s (TopUps a) = topped_up s a.0
+
+-- each record is held once, and points, starts and totals are those of the records:
+-- a total at a key that no account or band of the office has is 0
+pub record IsTrueContent (office : Office) (c : ShelfContent) : Type 0 where
+  pub once : EachOnce c.records
+  pub points : c.point ≡ point (contents_at c.records)
+  pub starts : c.start ≡ start (contents_at c.records)
+  pub totals : (k : TotalKey) → c.total k ≡ total_of office c.records k
+
+-- nothing held
+abbrev pub no_content : ShelfContent
+no_content = record { records = []; point = λ m r t. None; start = λ m t. None; total = λ k. 0 }
+
+-- ---- laws
+-- nothing held is true in every office
+abbrev pub EmptyIsTrue : Type 0
+EmptyIsTrue = (office : Office) → IsTrueContent office no_content
+
+-- true contents of one set of records are alike
+pub record AreAlike (c d : ShelfContent) : Type 0 where
+  pub points : c.point ≡ d.point
+  pub starts : c.start ≡ d.start
+  pub totals : (k : TotalKey) → c.total k ≡ d.total k
+
+abbrev pub TrueContentsAreAlike : Type 0
+TrueContentsAreAlike = (office : Office) (c d : ShelfContent) → IsTrueContent office c → IsTrueContent office d → SameMembers c.records d.records → AreAlike c d
+
+-- a true total of at most 10,000,000 records is at most as many times the largest reading
+abbrev pub TrueTotalsAreBounded : Type 0
+TrueTotalsAreBounded = (office : Office) (c : ShelfContent) → IsOffice office → AllOfOffice office c.records → length c.records ≤ most_records → IsTrueContent office c →
+    (k : TotalKey) → c.total k ≤ most_records * LARGEST_WATT_HOURS

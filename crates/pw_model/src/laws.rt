@@ -1,0 +1,80 @@
+//! The laws of the definitions.
+//!
+//! Each function does nothing. What counts is its contract, a law of the definitions in `specs/`, which is proved for
+//! all sets of records.
+
+ghost use Rattle.pw_model.specs.Bounds.{BalancesFit, TotalsAreBounded};
+ghost use Rattle.pw_model.specs.Laws.{ListsAreOne, NothingIsLost, OneIsCounting, OneMoreAssignment, OneMorePayment, OneMoreReading, OneMoreRecord, OrderCountsNothing, OtherStartWindow};
+ghost use Rattle.pw_model.specs.Shelf.{EmptyIsTrue, TrueContentsAreAlike, TrueTotalsAreBounded};
+
+/// The contents at a key are one exactly for the record that counts.
+pub fn one_is_counting()
+    ensures { OneIsCounting }
+{}
+
+/// Order counts nothing, and repetition neither: two lists of one set have the same energies, top-ups and balances,
+/// the same falls, disputes and readings, and the same number of records.
+pub fn order_counts_nothing()
+    ensures { OrderCountsNothing }
+{}
+
+/// A set has at most one list of falls, one of disputes, and one of the readings of a register.
+pub fn lists_are_one()
+    ensures { ListsAreOne }
+{}
+
+/// Conservation of energy: over all owners with nobody and all bands, the energies of a direction add up to the rises
+/// of all its neighbours that don't fall.
+pub fn conservation_of_energy()
+    ensures { NothingIsLost }
+{}
+
+/// What one more counting reading changes, or one less.
+pub fn one_more_reading()
+    ensures { OneMoreReading }
+{}
+
+/// What one more record changes: the contents at its key alone.
+pub fn one_more_record()
+    ensures { OneMoreRecord }
+{}
+
+/// What one more record changes of what is topped up.
+pub fn one_more_payment()
+    ensures { OneMorePayment }
+{}
+
+/// What another assignment of a meter changes.
+pub fn one_more_assignment()
+    ensures { OneMoreAssignment }
+{}
+
+/// Totals are bounded: an energy by 99,999,999,999 Wh for each record, what is topped up by 100,000,000 cents for each.
+pub fn totals_are_bounded()
+    ensures { TotalsAreBounded }
+{}
+
+/// A balance fits a signed number of 128 bits, up to 10,000,000 records.
+pub fn balances_fit()
+    ensures { BalancesFit }
+{}
+
+/// An empty shelf is true in every office.
+pub fn empty_content_is_true()
+    ensures { EmptyIsTrue }
+{}
+
+/// True contents of one set of records have the same points, starts and totals.
+pub fn true_contents_are_alike()
+    ensures { TrueContentsAreAlike }
+{}
+
+/// A true total of at most 10,000,000 records is at most 10,000,000 times 99,999,999,999.
+pub fn true_totals_are_bounded()
+    ensures { TrueTotalsAreBounded }
+{}
+
+/// Which pairs of a register change where a meter has another assignment.
+pub fn other_start_window()
+    ensures { OtherStartWindow }
+{}

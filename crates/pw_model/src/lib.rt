@@ -1,0 +1,15 @@
+//! What a set of records means: what counts in it, and the energies, payments and balances that follow.
+#![tactic(auto)]
+
+mod compare;
+pub mod laws;
+pub mod plain;
+mod records;
+mod reference;
+
+pub use compare::{compare_entries, compare_keys, is_same_content, is_same_entry, is_same_key};
+pub use records::{Content, Contents, Dispute, Entry, Fall, Key, ReadingRow, TotalKey};
+pub use reference::{LONGEST_REFERENCE, Reference};
+
+#[cfg(test)]
+mod tests;

@@ -1,0 +1,64 @@
+//! The balance of an account.
+
+ghost use Rattle.std.specs.Prelude.{◌≡◌, ◌<◌, ◌≤◌, ◌^◌, IfOk, Some, length, pos, ◌+ℤ◌, ◌-ℤ◌};
+ghost use Rattle.pw_model.specs.Counting.{contents_at as told_at};
+ghost use Rattle.pw_model.specs.Energy.{cost as cost_of};
+ghost use Rattle.pw_model.specs.Office.{AllOfOffice, IsOffice, most_records};
+ghost use Rattle.pw_model.specs.Payments.{balance as balance_of};
+
+use super::energies::energy;
+use super::payments::topped_up;
+use super::terms::Terms;
+use crate::records::Entry;
+use pw_tariff::{AccountId, BandId, Direction};
+use std::alloc::{AllocError, Global};
+
+/// The balance of an account, in nano-euro: what was topped up, less what it took, and what it gave.
+pub fn balance<T: Terms>(
+    alloc: Global,
+    terms: &T,
+    entries: &[Entry],
+    account: AccountId,
+) -> Result<i128, AllocError>
+    requires office { IsOffice (T.office terms.now) }
+    requires entries { AllOfOffice (T.office terms.now) entries.now }
+    requires few { length entries.now ≤ most_records }
+    ensures { IfOk result (λ nano. nano ≡ balance_of (T.office terms.now) entries.now account.0) }
+{
+    let imported = cost(alloc, terms, entries, account, Direction::Import)?;
+    let exported = cost(alloc, terms, entries, account, Direction::Export)?;
+    let paid = 10_000_000 * topped_up(entries, account);
+    Ok(difference(paid, imported, exported))
+}
+
+fn difference(paid: u128, imported: u128, exported: u128) -> i128
+    requires paid { paid < 2 ^ 120 }
+    requires imported { imported < 2 ^ 120 }
+    requires exported { exported < 2 ^ 120 }
+    ensures { result ≡ (pos paid -ℤ pos imported) +ℤ pos exported }
+{
+    paid as i128 - imported as i128 + exported as i128
+}
+
+// What an account's energy costs, in nano-euro.
+fn cost<T: Terms>(
+    alloc: Global,
+    terms: &T,
+    entries: &[Entry],
+    account: AccountId,
+    direction: Direction,
+) -> Result<u128, AllocError>
+    requires office { IsOffice (T.office terms.now) }
+    requires entries { AllOfOffice (T.office terms.now) entries.now }
+    requires few { length entries.now ≤ most_records }
+    ensures cost { IfOk result (λ nano. nano ≡ cost_of (T.office terms.now) (told_at entries.now) (Some account) direction) }
+    ensures bound { IfOk result (λ nano. nano ≤ 7999999999920000000000000000) }
+{
+    let mut nano = 0;
+    for band in 0..terms.bands() {
+        let band = BandId(band);
+        let wh = energy(alloc, terms, entries, Some(account), band, direction)?;
+        nano += u128::from(terms.price(band, direction)) * u128::from(wh);
+    }
+    Ok(nano)
+}

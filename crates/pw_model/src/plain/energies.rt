@@ -1,0 +1,129 @@
+//! The energy of an owner in a band.
+
+ghost use Rattle.std.specs.Prelude.{◌≡◌, ℕ, ◌<◌, ◌≤◌, All, IfOk, length};
+ghost use Rattle.std.specs.List.Sorted.{IsStrictlyIncreasing};
+ghost use Rattle.pw_flow.specs.Energy.{register_energy};
+ghost use Rattle.pw_flow.specs.Plain.{seconds_of as times_of, value_at};
+ghost use Rattle.pw_model.specs.Counting.{contents_at as told_at};
+ghost use Rattle.pw_model.specs.Energy.{energy as energy_of, meter_share, of_band, seconds_of, share_of};
+ghost use Rattle.pw_model.specs.Office.{AllOfOffice, IsOffice, most_records};
+ghost use Rattle.pw_model.specs.Same.{same_owner};
+
+use super::points::points_of;
+use super::search::owner_at;
+use super::terms::Terms;
+use crate::records::Entry;
+use pw_flow::plain::Point;
+use pw_obis::Register;
+use pw_tariff::{BandId, Direction, MeterId, Owner};
+use std::alloc::{AllocError, Global};
+
+/// The energy of an owner in a band, in Wh.
+pub fn energy<T: Terms>(
+    alloc: Global,
+    terms: &T,
+    entries: &[Entry],
+    owner: Owner,
+    band: BandId,
+    direction: Direction,
+) -> Result<u64, AllocError>
+    requires office { IsOffice (T.office terms.now) }
+    requires entries { AllOfOffice (T.office terms.now) entries.now }
+    requires few { length entries.now ≤ most_records }
+    ensures { IfOk result (λ wh. wh ≡ energy_of (T.office terms.now) entries.now owner band.0 direction) }
+{
+    let mut total = 0;
+    for meter in 0..terms.meters() {
+        total += meter_energy(
+            alloc,
+            terms,
+            entries,
+            MeterId(meter),
+            owner,
+            band,
+            direction,
+        )?;
+    }
+    Ok(total)
+}
+
+fn meter_energy<T: Terms>(
+    alloc: Global,
+    terms: &T,
+    entries: &[Entry],
+    meter: MeterId,
+    owner: Owner,
+    band: BandId,
+    direction: Direction,
+) -> Result<u64, AllocError>
+    requires office { IsOffice (T.office terms.now) }
+    requires entries { AllOfOffice (T.office terms.now) entries.now }
+    requires few { length entries.now ≤ most_records }
+    requires meter { meter.0 < (T.office terms.now).meters }
+    ensures { IfOk result (λ wh. wh ≡ meter_share (T.office terms.now) (told_at entries.now) direction (of_band (T.office terms.now) owner band.0) meter.0) }
+{
+    let [total, first, second] = match direction {
+        Direction::Import => [Register::I0, Register::I1, Register::I2],
+        Direction::Export => [Register::E0, Register::E1, Register::E2],
+    };
+    let total = register_share(alloc, terms, entries, meter, total, owner, band)?;
+    let first = register_share(alloc, terms, entries, meter, first, owner, band)?;
+    let second = register_share(alloc, terms, entries, meter, second, owner, band)?;
+    Ok(total + first + second)
+}
+
+fn register_share<T: Terms>(
+    alloc: Global,
+    terms: &T,
+    entries: &[Entry],
+    meter: MeterId,
+    register: Register,
+    owner: Owner,
+    band: BandId,
+) -> Result<u64, AllocError>
+    requires office { IsOffice (T.office terms.now) }
+    requires entries { AllOfOffice (T.office terms.now) entries.now }
+    requires few { length entries.now ≤ most_records }
+    requires meter { meter.0 < (T.office terms.now).meters }
+    ensures share { IfOk result (λ wh. wh ≡ share_of (T.office terms.now) (told_at entries.now) (of_band (T.office terms.now) owner band.0) meter.0 register) }
+    ensures bound { IfOk result (λ wh. wh ≤ 999999999990000000) }
+{
+    if !terms.counts(meter, register) {
+        return Ok(0);
+    }
+    let points = points_of(alloc, entries, meter, register)?;
+    let energy = points_energy(terms, entries, meter, owner, band, &points);
+    Ok(energy as u64)
+}
+
+// The energy of points over the seconds of a meter with this owner and band.
+fn points_energy<T: Terms>(
+    terms: &T,
+    entries: &[Entry],
+    meter: MeterId,
+    owner: Owner,
+    band: BandId,
+    points: &[Point],
+) -> u128
+    requires rising { IsStrictlyIncreasing (times_of points.now) }
+    ensures { (end : ℕ) → All (λ p. p.at < end) points.now → result ≡ register_energy (seconds_of (told_at entries.now) (of_band (T.office terms.now) owner band.0) meter.0) (value_at points.now) end }
+{
+    pw_flow::plain::energy(
+        points,
+        |second: u32| -> bool
+            ensures { result ≡ seconds_of (told_at entries.entry.now) (of_band (T.office terms.entry.now) owner band.0) meter.0 second }
+        {
+            is_same_owner(owner_at(entries, meter, second), owner) && terms.band(second).0 == band.0
+        },
+    )
+}
+
+fn is_same_owner(a: Owner, b: Owner) -> bool
+    ensures { result ≡ same_owner a b }
+{
+    match (a, b) {
+        (None, None) => true,
+        (Some(a), Some(b)) => a.0 == b.0,
+        _ => false,
+    }
+}

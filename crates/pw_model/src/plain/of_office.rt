@@ -1,0 +1,67 @@
+//! Whether records are of an office.
+
+ghost use Rattle.std.specs.Prelude.{IsTrue, ◌↔◌};
+ghost use Rattle.pw_model.specs.Office.{AllOfOffice, HasOwner, IsOfOffice};
+
+use super::terms::Terms;
+use crate::records::{Content, Entry, Key};
+use pw_tariff::Owner;
+
+/// Whether a record has a content of its key's kind, and all that it names is the office's.
+pub fn is_entry_of_office<T: Terms>(terms: &T, entry: &Entry) -> bool
+    ensures { IsTrue result ↔ IsOfOffice (T.office terms.now) entry.now }
+{
+    match &entry.key {
+        Key::Reading {
+            meter,
+            register,
+            instant,
+        } => {
+            let Content::Reading { wh } = &entry.content else {
+                return false;
+            };
+            let _second = instant.seconds();
+            let _wh = wh.get();
+            meter.0 < terms.meters() && terms.counts(*meter, *register)
+        }
+        Key::Assignment { meter, start } => {
+            let Content::Assignment { owner } = &entry.content else {
+                return false;
+            };
+            let _second = start.seconds();
+            meter.0 < terms.meters() && has_owner(terms, *owner)
+        }
+        Key::TopUp { reference } => {
+            let Content::TopUp {
+                account,
+                cents,
+                instant,
+            } = &entry.content
+            else {
+                return false;
+            };
+            let _second = instant.seconds();
+            let _text = reference.bytes();
+            account.0 < terms.accounts() && 1 <= *cents && *cents <= 100_000_000
+        }
+    }
+}
+
+/// Whether all records are.
+pub fn are_of_office<T: Terms>(terms: &T, entries: &[Entry]) -> bool
+    ensures { IsTrue result ↔ AllOfOffice (T.office terms.now) entries.now }
+{
+    match entries {
+        [] => true,
+        [entry, others @ ..] => is_entry_of_office(terms, entry) && are_of_office(terms, others),
+    }
+}
+
+fn has_owner<T: Terms>(terms: &T, owner: Owner) -> bool
+    ensures { IsTrue result ↔ HasOwner (T.office terms.now) owner }
+{
+    match owner {
+        None => true,
+        Some(account) => account.0 < terms.accounts(),
+    }
+}

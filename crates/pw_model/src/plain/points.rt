@@ -1,0 +1,34 @@
+//! The counting readings of a register, in order.
+
+ghost use Rattle.std.specs.Prelude.{◌≡◌, ℕ, ◌<◌, All, IfOk};
+ghost use Rattle.std.specs.List.Sorted.{IsStrictlyIncreasing};
+ghost use Rattle.pw_flow.specs.Plain.{seconds_of, value_at};
+ghost use Rattle.pw_time.specs.declared.instant.TheConstants.{END_SECOND as the_end};
+ghost use Rattle.pw_model.specs.Counting.{contents_at as told_at, point};
+
+use super::search::earliest_point;
+use crate::records::Entry;
+use pw_flow::plain::Point;
+use pw_obis::Register;
+use pw_tariff::MeterId;
+use std::alloc::{AllocError, Global};
+
+/// The counting readings of a register, each behind the one before it.
+pub fn points_of(
+    alloc: Global,
+    entries: &[Entry],
+    meter: MeterId,
+    register: Register,
+) -> Result<Vec<Point>, AllocError>
+    ensures rising { IfOk result (λ points. IsStrictlyIncreasing (seconds_of points.items)) }
+    ensures early { IfOk result (λ points. All (λ p. p.at < the_end) points.items) }
+    ensures values { IfOk result (λ points. (t : ℕ) → t < the_end → value_at points.items t ≡ point (told_at entries.now) meter.0 register t) }
+{
+    let mut points = Vec::new(alloc);
+    let mut from = 0;
+    while let Some((at, watt_hours)) = earliest_point(entries, entries, meter, register, from) {
+        points.push(Point { at, watt_hours })?;
+        from = at + 1;
+    }
+    Ok(points)
+}

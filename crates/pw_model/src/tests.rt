@@ -1,0 +1,6 @@
+//! Worked rows of 2024-01-02, a Tuesday. The expected values are counted by hand.
+
+mod energies;
+mod payments;
+mod sample;
+mod texts;
