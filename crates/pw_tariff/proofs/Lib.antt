@@ -5,6 +5,8 @@ pub mod Seconds
 pub mod Listed
 pub mod Order
 pub mod Parts
+pub mod Behind
+pub mod Distinct
 pub mod Sound
 pub mod Answered
 pub mod OneWay

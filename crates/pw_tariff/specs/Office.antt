@@ -1,6 +1,6 @@
 -- What an office file says, and the office that it is.
 -- (Definitions of this project. Weekdays and hours are those of Central European time, EU directive 2000/84/EC.)
-use Rattle.std.specs.Prelude.{◌≡◌, ◌==◌, ◌&&◌, ◌||◌, ℕ, ◌<◌, ◌≤◌, Option, Some, None, List, [], length, slice_get, slice_index, slice_index_or, All, Bool, false}
+use Rattle.std.specs.Prelude.{◌≡◌, ◌==◌, ◌&&◌, ◌||◌, ℕ, ◌<◌, ◌≤◌, Option, Some, None, List, [], length, slice_get, slice_index, slice_index_or, map, All, Bool, true, false}
 use Rattle.std.specs.List.{list_any, position_or_len}
 use Rattle.pw_obis.specs.declared.reference.Register.{Register}
 use Rattle.pw_obis.specs.declared.reference.Register.TheVariants.{I0, I1, I2, E0, E1, E2}
@@ -9,7 +9,8 @@ use Rattle.pw_time.specs.declared.instant.TheConstants.{END_SECOND}
 use Rattle.pw_time.specs.Summer.{local_weekday, local_hour}
 use Rattle.pw_tariff.specs.declared.ids.Direction.{Direction}
 use Rattle.pw_tariff.specs.declared.ids.Direction.TheVariants.{Import, Export}
-use Rattle.pw_tariff.specs.declared.limits.TheConstants.{MOST_ACCOUNTS, MOST_METERS, MOST_BANDS, MOST_PRICE}
+use Rattle.pw_tariff.specs.declared.limits.TheConstants.{MOST_ACCOUNTS, MOST_METERS, MOST_BANDS, MOST_PRICE, LONGEST_ACCOUNT_NAME, LONGEST_METER_ID}
+use Rattle.pw_tariff.specs.Words.{is_name, is_capital}
 
 -- ---- what the file says
 -- a band: its letter, and its prices in nano-euro per watt-hour
@@ -111,7 +112,32 @@ office_of file = record {
 abbrev pub IsDay : List BandText → List ℕ → Type 0
 IsDay bands day = (length day ≡ 24) × All (λ c. band_named bands c < length bands) day
 
+-- no two places of a list have the same
+abbrev pub AreDistinct : {A : Type 0} → List A → Type 0
+AreDistinct {A} xs = (i j : ℕ) (x : A) → slice_get xs i ≡ Some x → slice_get xs j ≡ Some x → i ≡ j
+
+abbrev pub ids : List MeterText → List (List ℕ)
+ids meters = map (λ m. m.id) meters
+
+abbrev pub letters : List BandText → List ℕ
+letters bands = map (λ b. b.name) bands
+
+-- each account, meter and band is the only one of its name
+pub record AreNamed (file : OfficeFile) : Type 0 where
+  pub accounts : AreDistinct file.accounts
+  pub meters : AreDistinct (ids file.meters)
+  pub bands : AreDistinct (letters file.bands)
+
+-- each is named as names are written, and each meter counts some register
+pub record AreWritten (file : OfficeFile) : Type 0 where
+  pub accounts : All (λ name. is_name LONGEST_ACCOUNT_NAME name ≡ true) file.accounts
+  pub meters : All (λ m. is_name LONGEST_METER_ID m.id ≡ true) file.meters
+  pub bands : All (λ b. is_capital b.name ≡ true) file.bands
+  pub registers : All (λ m. 1 ≤ length m.registers) file.meters
+
 pub record IsSound (file : OfficeFile) : Type 0 where
+  pub named : AreNamed file
+  pub written : AreWritten file
   pub accounts : (1 ≤ length file.accounts) × (length file.accounts ≤ MOST_ACCOUNTS)
   pub bands : (1 ≤ length file.bands) × (length file.bands ≤ MOST_BANDS)
   pub meters : (1 ≤ length file.meters) × (length file.meters ≤ MOST_METERS)

@@ -1,7 +1,7 @@
 /// Why a text is no office file.
 #[derive(Clone, Copy, Debug, Drop, PartialEq, Eq)]
 pub enum OfficeFault {
-    /// The text isn't TOML.
+    /// The text isn't UTF-8, or isn't TOML.
     Toml,
     /// A key is missing, or its value is of another kind.
     MissingField,
@@ -15,9 +15,9 @@ pub enum OfficeFault {
     Price,
     /// A meter counts a total beside one of its rates.
     RegistersOverlap,
-    /// A list is empty.
+    /// There are no accounts, no bands or no meters, or a meter counts no register.
     Empty,
-    /// A list is too long.
+    /// There are more than 256 accounts, 8 bands or 1,024 meters.
     TooMany,
     /// Memory was refused.
     Memory,

@@ -99,6 +99,7 @@ impl Office {
     /// The account of a name.
     pub fn account(&self, name: &[u8]) -> Option<AccountId>
         ensures some { IfSome result (λ a. slice_get self.now.accounts a.0 ≡ Some name.now) }
+        ensures only { IfSome result (λ a. (i : ℕ) → slice_get self.now.accounts i ≡ Some name.now → i ≡ a.0) }
         ensures none { IfNone result ((i : ℕ) → slice_get self.now.accounts i ≢ Some name.now) }
     {
         for (i, own) in self.accounts.iter().enumerate() {
@@ -112,6 +113,7 @@ impl Office {
     /// The meter of an id.
     pub fn meter(&self, id: &[u8]) -> Option<MeterId>
         ensures some { IfSome result (λ m. option_map (λ t. t.id) (slice_get self.now.meters m.0) ≡ Some id.now) }
+        ensures only { IfSome result (λ m. (i : ℕ) → option_map (λ t. t.id) (slice_get self.now.meters i) ≡ Some id.now → i ≡ m.0) }
         ensures none { IfNone result ((i : ℕ) → option_map (λ t. t.id) (slice_get self.now.meters i) ≢ Some id.now) }
     {
         for (i, own) in self.meters.iter().enumerate() {

@@ -16,7 +16,7 @@ use toml::Table;
 impl Office {
     /// The office of a text, by the format of the office file, or the first refusal in its order.
     ///
-    /// `Memory` is answered only where memory was refused.
+    /// `Memory` says nothing of the text: memory was refused while it was read.
     pub fn read(alloc: Global, text: &[u8]) -> Result<Office, OfficeFault>
         ensures { MatchResult result (λ office. IsOfficeOf text.now office) (λ e. IsRefused text.now e) }
     {
