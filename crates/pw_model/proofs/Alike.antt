@@ -16,7 +16,8 @@ use Rattle.pw_model.specs.declared.records.Content.{Content}
 use Rattle.pw_model.specs.declared.records.Content.TheVariants as content
 use Rattle.pw_model.specs.declared.records.Entry.{Entry}
 use Rattle.pw_model.specs.References.{padded}
-use Rattle.pw_model.specs.Same.{same_key, same_content, same_entry, key_numbers, content_numbers, register_place}
+use Rattle.pw_tariff.specs.Office.{register_place}
+use Rattle.pw_model.specs.Same.{same_key, same_content, same_entry, key_numbers, content_numbers}
 
 and-true : (b : Bool) → (b && true) ≡ b
 and-true true = refl

@@ -1,5 +1,6 @@
 -- Two lists of one set give the same answers.
-use Rattle.std.proofs.Common.{◌≡◌, ℕ, ◌*◌, cond, Option, Some, List, [], ◌∷◌, refl, ap, sym, subst, ◌∙◌, inl, inr, ◌↔◌, pos, ◌+ℤ◌, ◌-ℤ◌}
+use Rattle.std.proofs.Common.{◌≡◌, ℕ, ◌*◌, cond, Option, Some, List, [], ◌∷◌, refl, ap, sym, subst, ◌∙◌, inl, inr, ◌↔◌, pos, ◌+ℤ◌, ◌-ℤ◌, length, arith}
+use Rattle.std.proofs.lemmas.Bool.{cases_Bool}
 use Rattle.pw_tariff.specs.declared.ids.AccountId.{AccountId}
 use Rattle.pw_tariff.specs.declared.ids.Direction.{Direction}
 use Rattle.pw_tariff.specs.declared.ids.Direction.TheVariants.{Import, Export}
@@ -11,19 +12,19 @@ use Rattle.pw_model.specs.declared.records.Dispute.{Dispute}
 use Rattle.pw_model.specs.declared.records.ReadingRow.{ReadingRow}
 use Rattle.pw_obis.specs.declared.reference.Register.{Register}
 use Rattle.pw_model.specs.Same.{same_key, same_entry, key_numbers}
-use Rattle.pw_model.specs.Counting.{Member, SameMembers, Counts, standing, contents_at}
-use Rattle.pw_model.specs.Office.{Office}
+use Rattle.pw_model.specs.Counting.{Member, SameMembers, EachOnce, Counts, standing, contents_at}
+use Rattle.pw_tariff.specs.Office.{Office}
 use Rattle.pw_model.specs.Energy.{energy, energy_where, of_band, cost}
-use Rattle.pw_model.specs.Payments.{sum_once, keys, cents_for, topped_up, balance, nano_in_cent}
+use Rattle.pw_model.specs.Payments.{stands_in, sum_once, keys, cents_for, topped_up, balance, nano_in_cent}
 use Rattle.pw_model.specs.Lists.{Lists, IsFall, IsDispute, IsReading, fall_numbers, fall_order, dispute_order, reading_numbers, reading_order, reading_entry, records_at, record_count, AreFalls, AreDisputes, AreReadings}
-use Rattle.pw_model.specs.Laws.{OrderCountsNothing, ListsAreOne}
+use Rattle.pw_model.specs.Laws.{OrderCountsNothing, CountIsLength, ListsAreOne}
 use Rattle.pw_model.proofs.Same.{same_key-decides, same_entry-decides}
 use Rattle.pw_model.proofs.Counting.{contents-same, standing-same}
-use Rattle.pw_model.proofs.Once.{once-same}
+use Rattle.pw_model.proofs.Once.{once-same, stands-decides}
 use Rattle.pw_model.proofs.InOrder.{by-numbers, lists-one}
 
 -- a key of the list is the key of a member
-key-to : (k : Key) (s : List Entry) → Member k (keys s) → (e : Entry) × (Member e s × (e.key ≡ k))
+pub key-to : (k : Key) (s : List Entry) → Member k (keys s) → (e : Entry) × (Member e s × (e.key ≡ k))
 key-to k [] m = absurd m
 key-to k (e ∷ s) m = elim m [ inl i ↦ (e, (inl refl, sym i)) | inr j ↦ (let r : (e : Entry) × (Member e s × (e.key ≡ k)) = key-to k s j in (r.0, (inr r.1.0, r.1.1))) ]
 
@@ -123,3 +124,16 @@ lists-are_one s = record {
   disputes = λ ds es a b. lists-one dispute_order (by-numbers (λ (d : Dispute). key_numbers d.key)) (IsDispute s) (IsDispute s) (same-both (IsDispute s)) ds es a b;
   readings = λ m r x y a b. lists-one reading_order (by-numbers reading_numbers) (IsReading s m r) (IsReading s m r) (same-both (IsReading s m r)) x y a b;
 }
+
+-- ---- each once
+count-length : (s : List Entry) → EachOnce s → sum_once same_entry (λ e. 1) s ≡ length s
+count-length [] h = refl
+count-length (e ∷ s) h =
+    elim (cases_Bool (stands_in same_entry e s)) [
+      | inl t ↦ absurd (h.0 ((stands-decides same_entry same_entry-decides (λ x. 1) e s).0 t))
+      | inr f ↦ (let r : sum_once same_entry (λ x. 1) s ≡ length s = count-length s h.1 in rw f (omega arith))
+    ]
+
+pub count-is_length : CountIsLength
+unfolding record_count
+count-is_length s h = count-length s h

@@ -9,8 +9,9 @@ use Rattle.pw_model.specs.declared.records.Key.{Key}
 use Rattle.pw_model.specs.declared.records.Key.TheVariants as key
 use Rattle.pw_model.specs.declared.records.Contents.{Contents}
 use Rattle.pw_model.specs.Counting.{point, start, wh_of, owner_of, reading_key, assignment_key}
-use Rattle.pw_model.specs.Office.{Office}
-use Rattle.pw_model.specs.Energy.{Asked, seconds_of, owner_at, owner_from, over_registers, share_of, meter_share, energy_where}
+use Rattle.pw_tariff.specs.Office.{Office}
+use Rattle.pw_tariff.specs.Owners.{owner_from}
+use Rattle.pw_model.specs.Energy.{Asked, seconds_of, owner_at, over_registers, share_of, meter_share, energy_where}
 use Rattle.pw_model.specs.Laws.{IsOtherStart, OneMoreAssignment}
 use Rattle.pw_flow.specs.Time.{last}
 use Rattle.pw_flow.specs.Energy.{register_energy}

@@ -15,7 +15,8 @@ use Rattle.pw_model.specs.declared.records.Contents.TheVariants.{Nothing, One, S
 use Rattle.pw_model.specs.declared.records.Entry.{Entry}
 use Rattle.pw_model.specs.Same.{same_key, same_content, same_direction, direction_of}
 use Rattle.pw_model.specs.Counting.{contents_at, contents_among, joined, point, wh_of, reading_key}
-use Rattle.pw_model.specs.Office.{Office, AllOfOffice, IsOf, most_cents}
+use Rattle.pw_tariff.specs.Office.{Office}
+use Rattle.pw_model.specs.Office.{AllOfOffice, IsOf, most_cents}
 use Rattle.pw_model.specs.Energy.{Asked, seconds_of, over_registers, share_of, meter_share, energy_where}
 use Rattle.pw_model.specs.Payments.{topped_up, cents_for}
 use Rattle.pw_model.specs.Laws.{IsJoined, IsOneMoreReading, in_direction}

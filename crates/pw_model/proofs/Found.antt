@@ -1,17 +1,22 @@
 -- What is found among all records is what the definitions name.
-use Rattle.std.proofs.Common.{◌≡◌, ℕ, zero, suc, ◌-◌, ◌<◌, ◌≤◌, Option, Some, None, List, [], ◌∷◌, length, take, drop, get_or, refl, ap, sym, subst, ◌∙◌, arith, inl, inr}
+use Rattle.std.proofs.Common.{◌≡◌, ◌↔◌, Bool, false, IsTrue, ℕ, zero, suc, ◌-◌, ◌<◌, ◌≤◌, Option, Some, None, List, [], ◌∷◌, length, take, drop, get_or, refl, ap, sym, subst, ◌∙◌, arith, inl, inr}
+use Rattle.std.proofs.lemmas.Bool.{true≢false}
 use Rattle.std.proofs.lemmas.Bool.Decides.{leb_tells}
 use Rattle.pw_obis.specs.declared.reference.Register.{Register}
 use Rattle.pw_tariff.specs.declared.ids.AccountId.{AccountId}
 use Rattle.pw_model.specs.declared.records.Key.{Key}
 use Rattle.pw_model.specs.declared.records.Key.TheVariants as key
+use Rattle.pw_model.specs.declared.records.Content.{Content}
 use Rattle.pw_model.specs.declared.records.Content.TheVariants as content
 use Rattle.pw_model.specs.declared.records.Contents.{Contents}
 use Rattle.pw_model.specs.declared.records.Contents.TheVariants.{Nothing, One, Several}
 use Rattle.pw_model.specs.declared.records.Entry.{Entry}
-use Rattle.pw_model.specs.Counting.{Member, contents_at, wh_of, owner_of, point, start, reading_key, assignment_key}
-use Rattle.pw_model.specs.Energy.{owner_at, owner_from}
+use Rattle.pw_model.specs.Counting.{Member, Counts, contents_at, wh_of, owner_of, point, start, reading_key, assignment_key}
+use Rattle.pw_tariff.specs.Owners.{owner_from}
+use Rattle.pw_model.specs.Energy.{owner_at}
 use Rattle.pw_model.specs.Search.{NoStart, IsLatestAmong, IsStartIn, later_of, NoPoint, IsEarliestAmong, IsPointIn, earlier_of}
+use Rattle.pw_model.specs.Same.{same_content}
+use Rattle.pw_model.proofs.Same.{same_content-decides}
 use Rattle.pw_model.proofs.Counting.{entry, one-is_counting}
 use Rattle.pw_flow.proofs.Points.{LastIs, option-cases, last-told}
 
@@ -22,7 +27,7 @@ owner-back (One (content.Reading w)) o e = cc
 owner-back (One (content.TopUp a c i)) o e = cc
 owner-back (One (content.Assignment p)) o e = cc
 
-wh-back : (c : Contents) (w : ℕ) → wh_of c ≡ Some w → c ≡ One (content.Reading w)
+pub wh-back : (c : Contents) (w : ℕ) → wh_of c ≡ Some w → c ≡ One (content.Reading w)
 wh-back Nothing w e = cc
 wh-back Several w e = cc
 wh-back (One (content.Reading v)) w e = cc
@@ -68,7 +73,7 @@ no-start-from : (at : Key → Contents) (m x y t : ℕ) (some : List Entry) → 
 no-start-from at m x y t some l h = λ f n s i j k. h f n s i (omega arith) k
 
 -- the second in a key
-abbrev second_of : Key → ℕ
+abbrev pub second_of : Key → ℕ
 second_of (key.Reading m r t) = t
 second_of (key.Assignment m t) = t
 second_of (key.TopUp r) = 0
@@ -138,3 +143,19 @@ earliest-turn at m q x y e some others found here result s r h i =
     let P : List Entry → Type 0 = λ l. IsEarliestAmong at m q x y l result in
     let Q : Option (ℕ × ℕ) → Type 0 = λ o. IsEarliestAmong at m q x y (e ∷ others) o in
     subst P (sym s) (subst Q (sym r) (earliest-more at m q x y e others found here h i))
+
+-- ---- whether a record counts
+pub counts-told : (s : List Entry) (e : Entry) (c : Content) (b : Bool) → One c ≡ contents_at s e.key → b ≡ same_content c e.content → IsTrue b ↔ Counts s e
+counts-told s e c b h i = (
+  λ t.
+      let same : c ≡ e.content = (same_content-decides c e.content).0 (sym i ∙ t) in
+      (one-is_counting s e).0 (sym h ∙ ap (λ (d : Content). One d) same),
+  λ k.
+      let told : contents_at s e.key ≡ One e.content = (one-is_counting s e).1 k in
+      let one : One c ≡ One e.content = h ∙ told in
+      let same : c ≡ e.content = cc in
+      i ∙ (same_content-decides c e.content).1 same,
+)
+
+pub counts-not_told : (s : List Entry) (e : Entry) (r : Contents) → r ≡ contents_at s e.key → ((c : Content) → r ≡ One c → ⊥) → IsTrue false ↔ Counts s e
+counts-not_told s e r h n = (λ t. absurd (true≢false (sym t)), λ k. absurd (n e.content (h ∙ (one-is_counting s e).1 k)))

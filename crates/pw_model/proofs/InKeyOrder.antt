@@ -1,7 +1,7 @@
 -- The derived order of keys and the model's are one.
 use Rattle.std.specs.Cmp.{nat_cmp_is}
 use Rattle.std.proofs.lemmas.Bool.{cases_lt}
-use Rattle.std.proofs.Common.{◌≡◌, ℕ, zero, suc, ◌+◌, ◌-◌, ◌<◌, ◌≤◌, ⊎_elim, subst, true, Some, None, List, [], ◌∷◌, ◌++◌, length, replicate, refl, ap, sym, ◌∙◌, nat_cmp, Ordering, Less, Equal, Greater, arith}
+use Rattle.std.proofs.Common.{◌≡◌, ℕ, zero, suc, ◌+◌, ◌-◌, ◌<◌, ◌≤◌, ⊎_elim, subst, true, Option, Some, None, add-one, List, [], ◌∷◌, ◌++◌, length, replicate, refl, ap, sym, ◌∙◌, nat_cmp, Ordering, Less, Equal, Greater, arith}
 use Rattle.std.proofs.lemmas.Bool.{true≢false}
 use Rattle.std.proofs.lemmas.List.Elements.{All-head, All-tail}
 use Rattle.std.specs.List.{AllPass}
@@ -10,6 +10,8 @@ use Rattle.std.specs.Ordering.{ordering_then}
 use Rattle.pw_model.specs.contracts.records.KeyOrd.TheImpl as derived_key
 use Rattle.pw_model.specs.contracts.records.ContentOrd.TheImpl as derived_content
 use Rattle.pw_model.specs.contracts.records.EntryOrd.TheImpl as derived_entry
+use Rattle.pw_model.specs.contracts.records.TotalKeyOrd.TheImpl as derived_total
+use Rattle.pw_tariff.specs.contracts.ids.DirectionOrd.TheImpl as derived_direction
 use Rattle.pw_model.specs.contracts.reference.ReferenceOrd.TheImpl as derived_reference
 use Rattle.pw_obis.specs.contracts.reference.RegisterOrd.TheImpl as derived_register
 use Rattle.pw_obis.specs.declared.reference.Register.{Register}
@@ -19,8 +21,16 @@ use Rattle.pw_model.specs.declared.records.Key.TheVariants as key
 use Rattle.pw_model.specs.declared.records.Content.{Content}
 use Rattle.pw_model.specs.declared.records.Content.TheVariants as content
 use Rattle.pw_model.specs.declared.records.Entry.{Entry}
+use Rattle.pw_model.specs.declared.records.TotalKey.{TotalKey}
+use Rattle.pw_model.specs.declared.records.TotalKey.TheVariants.{Energy, TopUps}
+use Rattle.pw_tariff.specs.declared.ids.AccountId.{AccountId}
+use Rattle.pw_tariff.specs.declared.ids.Direction.{Direction}
+use Rattle.pw_tariff.specs.declared.ids.Direction.TheVariants.{Import, Export}
+use Rattle.pw_tariff.specs.Cells.{owner_place}
+use Rattle.std.specs.Option.{option_cmp}
 use Rattle.pw_model.specs.References.{IsReference, is_reference_byte}
-use Rattle.pw_model.specs.Same.{key_order, key_numbers, content_numbers, entry_order, register_place, HasReference}
+use Rattle.pw_tariff.specs.Office.{register_place}
+use Rattle.pw_model.specs.Same.{total_order, total_numbers, direction_place, key_order, key_numbers, content_numbers, entry_order, HasReference}
 
 then-equal : (o : Ordering) → ordering_then o Equal ≡ o
 then-equal Less = refl
@@ -159,3 +169,24 @@ pub entries-ordered : (a b : Entry) → HasReference a.key → HasReference b.ke
 entries-ordered a b h i =
     ap (λ o. ordering_then o (derived_content.ghosts.cmp a.content b.content)) (keys-ordered a.key b.key h i)
     ∙ ap (λ o. ordering_then (key_order a.key b.key) o) (contents-ordered a.content b.content)
+
+-- ---- keys of totals
+owners-ordered : (o p : Option AccountId) → option_cmp (λ (a b : AccountId). nat_cmp a.0 b.0) o p ≡ nat_cmp (owner_place o) (owner_place p)
+owners-ordered None None = refl
+owners-ordered None (Some b) = sym (cmp-less 0 (b.0 + 1) (omega arith))
+owners-ordered (Some a) None = sym (cmp-greater (a.0 + 1) 0 (omega arith))
+owners-ordered (Some a) (Some b) = rw (add-one, add-one) (sym (cmp-suc a.0 b.0))
+
+directions-ordered : (d e : Direction) → derived_direction.ghosts.cmp d e ≡ nat_cmp (direction_place d) (direction_place e)
+directions-ordered Import Import = refl
+directions-ordered Import Export = refl
+directions-ordered Export Import = refl
+directions-ordered Export Export = refl
+
+pub totals-ordered : (a b : TotalKey) → derived_total.ghosts.cmp a b ≡ total_order a b
+unfolding total_numbers
+totals-ordered (Energy o b d) (Energy p c e) =
+    λ i. ordering_then (owners-ordered o p i) (ordering_then (nat_cmp b.0 c.0) ((directions-ordered d e ∙ sym (then-equal (nat_cmp (direction_place d) (direction_place e)))) i))
+totals-ordered (TopUps a) (TopUps b) = sym (then-equal (nat_cmp a.0 b.0))
+totals-ordered (Energy o b d) (TopUps a) = refl
+totals-ordered (TopUps a) (Energy o b d) = refl

@@ -16,3 +16,9 @@ pub mod Pushed
 pub mod PlainEnergy
 pub mod Truth
 pub mod Windows
+pub mod EntryOrder
+pub mod PlainFalls
+pub mod PlainDisputes
+pub mod PlainReadings
+pub mod SoundOffice
+pub mod Existence

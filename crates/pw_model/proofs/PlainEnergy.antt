@@ -1,6 +1,6 @@
 -- What the plain program adds up.
-use Rattle.std.proofs.Common.{◌≡◌, ℕ, zero, suc, ◌+◌, ◌*◌, ◌<◌, ◌≤◌, Bool, true, cond, Option, Some, None, List, length, All, ap, sym, subst, ◌∙◌, ⊎_elim, arith, inl, inr}
-use Rattle.std.proofs.lemmas.Bool.{cases_lt}
+use Rattle.std.proofs.Common.{◌≡◌, ℕ, zero, suc, ◌+◌, ◌*◌, ◌<◌, ◌≤◌, nat_le, Bool, true, cond, Option, Some, None, List, length, All, ap, sym, subst, ◌∙◌, ⊎_elim, arith, inl, inr}
+use Rattle.std.proofs.lemmas.Bool.{cases_lt, le-leb}
 use Rattle.std.proofs.lemmas.Nat.{mul-le}
 use Rattle.std.proofs.lemmas.Int.{ints}
 use Rattle.pw_obis.specs.declared.reference.Register.{Register}
@@ -9,23 +9,28 @@ use Rattle.pw_tariff.specs.declared.ids.AccountId.{AccountId}
 use Rattle.pw_tariff.specs.declared.ids.Direction.{Direction}
 use Rattle.pw_tariff.specs.declared.ids.Direction.TheVariants.{Import, Export}
 use Rattle.pw_model.specs.Payments.{topped_up}
-use Rattle.pw_time.specs.declared.instant.TheConstants.{END_SECOND}
+use Rattle.pw_time.specs.declared.instant.TheConstants.{FIRST_SECOND, LAST_SECOND, END_SECOND}
+use Rattle.pw_time.specs.Instants.{IsInstant}
+use Rattle.pw_model.specs.Search.{at_instants}
+use Rattle.pw_flow.specs.Flow.{flow}
+use Rattle.pw_flow.proofs.Sums.{sum-same, kept-nothing}
 use Rattle.pw_flow.specs.declared.plain.Point.{Point}
-use Rattle.pw_flow.specs.Time.{sum_over}
+use Rattle.pw_flow.specs.Time.{last, sum_over}
 use Rattle.pw_flow.specs.Plain.{value_at}
-use Rattle.pw_flow.specs.Energy.{register_energy}
-use Rattle.pw_flow.proofs.Points.{option-cases}
+use Rattle.pw_flow.specs.Energy.{kept, register_energy}
+use Rattle.pw_flow.proofs.Points.{option-cases, last-none}
 use Rattle.pw_model.specs.declared.records.Content.TheVariants as content
 use Rattle.pw_model.specs.declared.records.Entry.{Entry}
 use Rattle.pw_model.specs.Same.{direction_of}
 use Rattle.pw_model.specs.Counting.{contents_at, point, reading_key}
-use Rattle.pw_model.specs.Office.{Office, IsOffice, AllOfOffice, IsOfOffice, most_records}
+use Rattle.pw_tariff.specs.Office.{Office}
+use Rattle.pw_model.specs.Office.{IsOffice, AllOfOffice, IsOfOffice, most_records}
 use Rattle.pw_model.specs.Energy.{Asked, over_registers, share_of, meter_share, energy_where, seconds_of, of_band, cost}
 use Rattle.pw_model.specs.Bounds.{BalancesFit}
 use Rattle.pw_model.proofs.Bounded.{totals-bounded}
 use Rattle.pw_model.proofs.Counting.{entry}
 use Rattle.pw_model.proofs.Found.{point-member}
-use Rattle.pw_model.proofs.Pushed.{none-late}
+use Rattle.pw_model.proofs.Pushed.{none-late, no-value}
 
 -- no reading of the office counts behind all instants
 none-behind : (office : Office) (s : List Entry) (m : ℕ) (r : Register) (t : ℕ) → AllOfOffice office s → END_SECOND ≤ t → point (contents_at s) m r t ≡ None
@@ -87,14 +92,47 @@ pub energy-fits : (office : Office) (s : List Entry) (d : Direction) (asked : As
     energy_where office (contents_at s) d asked ≤ 999_999_999_990_000_000
 energy-fits office s d asked o h few = let c = (totals-bounded office s o h).energies d asked in omega (arith, c, few)
 
+-- ---- readings stand at instants, so other seconds carry nothing or aren't looked at
+-- before the first point nothing flows
+nothing-before : (ps : List Point) (end t : ℕ) → All (λ p. IsInstant p.at) ps → t < FIRST_SECOND → flow (value_at ps) end t ≡ 0
+unfolding flow
+nothing-before ps end t h l =
+    let n : last (value_at ps) t ≡ None = last-none (value_at ps) t (λ s k. no-value ps s h (omega arith)) in
+    rw n
+
+asked-alike : (asked : ℕ → Bool) (t : ℕ) → IsInstant t → at_instants asked t ≡ asked t
+asked-alike asked t h =
+    let a : nat_le FIRST_SECOND t ≡ true = le-leb FIRST_SECOND t h.0 in
+    let b : nat_le t LAST_SECOND ≡ true = le-leb t LAST_SECOND h.1 in
+    rw (a, b)
+
+at-second : (ps : List Point) (asked : ℕ → Bool) (t : ℕ) → All (λ p. IsInstant p.at) ps → t < END_SECOND →
+    kept (at_instants asked) (flow (value_at ps) END_SECOND) t ≡ kept asked (flow (value_at ps) END_SECOND) t
+at-second ps asked t h l =
+    ⊎_elim
+    (λ (a : t < FIRST_SECOND). (
+    let z : flow (value_at ps) END_SECOND t ≡ 0 = nothing-before ps END_SECOND t h a in
+    kept-nothing (at_instants asked t) (flow (value_at ps) END_SECOND t) z ∙ sym (kept-nothing (asked t) (flow (value_at ps) END_SECOND t) z)))
+    (λ (a : FIRST_SECOND ≤ t). ap (λ (b : Bool). cond b (flow (value_at ps) END_SECOND t) 0) (asked-alike asked t (a, omega arith)))
+    (cases_lt t FIRST_SECOND)
+
+pub instants-alone : (ps : List Point) (asked : ℕ → Bool) → All (λ p. IsInstant p.at) ps →
+    register_energy (at_instants asked) (value_at ps) END_SECOND ≡ register_energy asked (value_at ps) END_SECOND
+unfolding register_energy
+instants-alone ps asked h =
+    sum-same (kept (at_instants asked) (flow (value_at ps) END_SECOND)) (kept asked (flow (value_at ps) END_SECOND)) 0 END_SECOND (λ t a b. at-second ps asked t h (omega arith))
+
+pub all-early : (ps : List Point) → All (λ p. IsInstant p.at) ps → All (λ p. p.at < END_SECOND) ps
+all-early ps h k d l = let i = h k d l in omega (arith, i.1)
+
 -- the energy of the points that were found is the register's share
 pub plain-share : (office : Office) (s : List Entry) (asked : Asked) (m : ℕ) (r : Register) (ps : List Point) (result : ℕ) → IsOffice office → AllOfOffice office s → office.counts m r ≡ true →
-    All (λ p. p.at < END_SECOND) ps → ((t : ℕ) → t < END_SECOND → value_at ps t ≡ point (contents_at s) m r t) →
-    (All (λ p. p.at < office.end) ps → result ≡ register_energy (seconds_of (contents_at s) asked m) (value_at ps) office.end) →
+    All (λ p. IsInstant p.at) ps → ((t : ℕ) → t < END_SECOND → value_at ps t ≡ point (contents_at s) m r t) →
+    result ≡ register_energy (seconds_of (contents_at s) asked m) (value_at ps) END_SECOND →
     result ≡ share_of office (contents_at s) asked m r
 plain-share office s asked m r ps result o h c e v f =
-    let early : All (λ p. p.at < office.end) ps = λ k d l. omega (arith, e k d l, o.end) in
-    f early ∙ energy-listed office s m r ps (seconds_of (contents_at s) asked m) h e v ∙ sym (ap (λ b. cond b (register_energy (seconds_of (contents_at s) asked m) (point (contents_at s) m r) office.end) 0) c)
+    f ∙ ap (register_energy (seconds_of (contents_at s) asked m) (value_at ps)) (sym o.end)
+    ∙ energy-listed office s m r ps (seconds_of (contents_at s) asked m) h (all-early ps e) v ∙ sym (ap (λ b. cond b (register_energy (seconds_of (contents_at s) asked m) (point (contents_at s) m r) office.end) 0) c)
 
 -- ---- prices
 pub price-fits : (office : Office) (b wh : ℕ) (d : Direction) → IsOffice office → b < office.bands → wh ≤ 999_999_999_990_000_000 → office.price b d * wh ≤ 999_999_999_990_000_000_000_000_000

@@ -7,7 +7,8 @@ use Rattle.std.proofs.lemmas.Bool.{cases_lt, eq-eqb, ne_eqb}
 use Rattle.std.proofs.lemmas.List.{map-append}
 use Rattle.std.proofs.lemmas.List.Elements.{All-head, All-tail, All-append}
 use Rattle.pw_obis.specs.declared.reference.Register.{Register}
-use Rattle.pw_time.specs.declared.instant.TheConstants.{END_SECOND}
+use Rattle.pw_time.specs.Instants.{IsInstant}
+use Rattle.pw_time.specs.declared.instant.TheConstants.{FIRST_SECOND, END_SECOND}
 use Rattle.pw_flow.specs.declared.plain.Point.{Point}
 use Rattle.pw_flow.specs.Plain.{seconds_of, value_at}
 use Rattle.pw_model.specs.declared.records.Entry.{Entry}
@@ -24,6 +25,14 @@ none-late [] n t h l = refl
 none-late (p ∷ ps) n t h l =
     let a : p.at < n = All-head (λ q. q.at < n) p ps h in
     rw (ne_eqb p.at t (λ e. absurd (omega arith))) (none-late ps n t (All-tail (λ q. q.at < n) p ps h) l)
+
+-- no point stands before all instants
+pub no-value : (ps : List Point) (t : ℕ) → All (λ p. IsInstant p.at) ps → t < FIRST_SECOND → value_at ps t ≡ None
+unfolding value_at
+no-value [] t h l = refl
+no-value (p ∷ ps) t h l =
+    let a : IsInstant p.at = All-head (λ (q : Point). IsInstant q.at) p ps h in
+    rw (ne_eqb p.at t (λ e. absurd (omega (arith, a.0)))) (no-value ps t (All-tail (λ (q : Point). IsInstant q.at) p ps h) l)
 
 push-here : (ps : List Point) (q : Point) → value_at ps q.at ≡ None → value_at (ps ++ q ∷ []) q.at ≡ Some q.watt_hours
 unfolding value_at
@@ -69,6 +78,7 @@ later-all ps m n l h k d i = omega (arith, h k d i)
 pub record IsListed (s : List Entry) (m : ℕ) (r : Register) (from : ℕ) (ps : List Point) : Type 0 where
   pub rising : IsStrictlyIncreasing (seconds_of ps)
   pub early : All (λ p. p.at < from) ps
+  pub instants : All (λ p. IsInstant p.at) ps
   pub within : from ≤ END_SECOND
   pub values : (t : ℕ) → t < from → value_at ps t ≡ point (contents_at s) m r t
 
@@ -78,6 +88,10 @@ one q = q ∷ []
 one-early : (q : Point) (k : ℕ) (d : Point) → k < 1 → (get_or (one q) k d).at < q.at + 1
 one-early q zero d l = omega arith
 one-early q (suc k) d l = absurd (omega arith)
+
+one-instant : (q : Point) → IsInstant q.at → (k : ℕ) (d : Point) → k < 1 → IsInstant (get_or (one q) k d).at
+one-instant q h zero d l = h
+one-instant q h (suc k) d l = absurd (omega arith)
 
 value-more : (s : List Entry) (m : ℕ) (r : Register) (from : ℕ) (ps : List Point) (q : Point) → IsListed s m r from ps →
     IsEarliestAmong (contents_at s) m r from END_SECOND s (Some (q.at, q.watt_hours)) → (t : ℕ) → t < q.at + 1 → value_at (ps ++ q ∷ []) t ≡ point (contents_at s) m r t
@@ -94,13 +108,14 @@ value-more s m r from ps q h e t l =
     (cases_lt t q.at)
 
 pub listed-more : (s : List Entry) (m : ℕ) (r : Register) (from : ℕ) (ps : List Point) (q : Point) →
-    IsListed s m r from ps → IsEarliestAmong (contents_at s) m r from END_SECOND s (Some (q.at, q.watt_hours)) → IsListed s m r (q.at + 1) (ps ++ q ∷ [])
-listed-more s m r from ps q h e = record {
+    IsListed s m r from ps → IsEarliestAmong (contents_at s) m r from END_SECOND s (Some (q.at, q.watt_hours)) → IsInstant q.at → IsListed s m r (q.at + 1) (ps ++ q ∷ [])
+listed-more s m r from ps q h e at = record {
   rising =
       let b : (k : ℕ) → k < length (seconds_of ps) → get_or (seconds_of ps) k 0 < q.at = below-all ps q.at (later-all ps from q.at e.1 h.early) in
       let P : List ℕ → Type 0 = IsStrictlyIncreasing in
       subst P (sym (map-append (λ (p : Point). p.at) ps (one q))) (rising-push (seconds_of ps) q.at h.rising b);
   early = All-append (λ p. p.at < q.at + 1) ps (one q) (later-all ps from (q.at + 1) (omega (arith, e.1)) h.early) (λ k d i. one-early q k d i);
+  instants = All-append (λ p. IsInstant p.at) ps (one q) h.instants (λ k d i. one-instant q at k d i);
   within = omega (arith, e.2);
   values = λ t l. value-more s m r from ps q h e t l;
 }

@@ -11,7 +11,8 @@ use Rattle.pw_model.specs.declared.records.Key.TheVariants as key
 use Rattle.pw_model.specs.declared.records.Content.{Content}
 use Rattle.pw_model.specs.declared.records.Content.TheVariants as content
 use Rattle.pw_model.specs.declared.records.Entry.{Entry}
-use Rattle.pw_model.specs.Same.{register_place, key_numbers, content_numbers, same_key, same_content, same_entry}
+use Rattle.pw_tariff.specs.Office.{register_place}
+use Rattle.pw_model.specs.Same.{key_numbers, content_numbers, same_key, same_content, same_entry}
 
 register_at : ℕ → Register
 register_at zero = I0

@@ -7,7 +7,8 @@ use Rattle.pw_model.specs.declared.records.TotalKey.{TotalKey}
 use Rattle.pw_model.specs.declared.records.TotalKey.TheVariants.{Energy, TopUps}
 use Rattle.pw_model.specs.declared.records.Entry.{Entry}
 use Rattle.pw_model.specs.Counting.{SameMembers, contents_at, contents_among, point, start}
-use Rattle.pw_model.specs.Office.{Office, IsOffice, AllOfOffice, most_records}
+use Rattle.pw_tariff.specs.Office.{Office}
+use Rattle.pw_model.specs.Office.{IsOffice, AllOfOffice, most_records}
 use Rattle.pw_model.specs.Energy.{of_band}
 use Rattle.pw_model.specs.Payments.{topped_up}
 use Rattle.pw_model.specs.Shelf.{total_of, EmptyIsTrue, TrueContentsAreAlike, TrueTotalsAreBounded}
@@ -26,7 +27,7 @@ no-total office (TopUps a) = refl
 
 pub empty-true : EmptyIsTrue
 unfolding contents_at contents_among
-empty-true office = record { once = tt; points = refl; starts = refl; totals = no-total office }
+empty-true office = record { points = refl; starts = refl; totals = no-total office }
 
 totals-same : (office : Office) (s t : List Entry) → SameMembers s t → (k : TotalKey) → total_of office s k ≡ total_of office t k
 totals-same office s t h (Energy o b d) = energy-same office s t h o b.0 d

@@ -10,9 +10,10 @@ use Rattle.pw_model.specs.declared.records.Content.TheVariants as content
 use Rattle.pw_model.specs.declared.records.Contents.{Contents}
 use Rattle.pw_model.specs.declared.records.Contents.TheVariants.{Nothing, One, Several}
 use Rattle.pw_model.specs.declared.records.Entry.{Entry}
-use Rattle.pw_model.specs.Same.{same_owner}
+use Rattle.pw_tariff.specs.Owners.{same_owner}
 use Rattle.pw_model.specs.Counting.{contents_at, point, start, owner_of, assignment_key}
-use Rattle.pw_model.specs.Office.{Office, HasBands, AllOfOffice, IsOfOffice, HasOwner}
+use Rattle.pw_tariff.specs.Office.{Office}
+use Rattle.pw_model.specs.Office.{HasBands, AllOfOffice, IsOfOffice, HasOwner}
 use Rattle.pw_model.specs.Energy.{seconds_of, owner_at, over_registers, share_of, meter_share, energy_where, of_band, account, over_owners, over_bands, register_rises, all_rises}
 use Rattle.pw_model.specs.Laws.{NothingIsLost}
 use Rattle.pw_model.proofs.Counting.{one-is_counting, standing-part, entry}

@@ -5,7 +5,7 @@ use Rattle.pw_tariff.specs.declared.ids.AccountId.{AccountId}
 use Rattle.pw_model.specs.declared.records.Key.{Key}
 use Rattle.pw_model.specs.declared.records.Contents.{Contents}
 use Rattle.pw_model.specs.Counting.{point, start}
-use Rattle.pw_model.specs.Office.{Office}
+use Rattle.pw_tariff.specs.Office.{Office}
 use Rattle.pw_model.specs.Energy.{Asked, owner_at, seconds_of}
 use Rattle.pw_model.specs.Laws.{IsOtherStart, TakesIn, OtherStartWindow}
 use Rattle.pw_model.proofs.Assignments.{points-same, before-start, behind-next}

@@ -6,7 +6,8 @@ use Rattle.pw_obis.specs.declared.energy.TheConstants.{LARGEST_WATT_HOURS}
 use Rattle.pw_tariff.specs.declared.ids.Direction.{Direction}
 use Rattle.pw_model.specs.declared.records.Entry.{Entry}
 use Rattle.pw_model.specs.Counting.{contents_at}
-use Rattle.pw_model.specs.Office.{Office, AllOfOffice, IsOffice, most_cents, most_records}
+use Rattle.pw_tariff.specs.Office.{Office}
+use Rattle.pw_model.specs.Office.{AllOfOffice, IsOffice, most_cents, most_records}
 use Rattle.pw_model.specs.Energy.{Asked, energy_where}
 use Rattle.pw_model.specs.Payments.{topped_up, balance}
 

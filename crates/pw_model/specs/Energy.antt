@@ -9,16 +9,12 @@ use Rattle.pw_tariff.specs.declared.ids.Direction.TheVariants.{Import, Export}
 use Rattle.pw_model.specs.declared.records.Key.{Key}
 use Rattle.pw_model.specs.declared.records.Contents.{Contents}
 use Rattle.pw_model.specs.declared.records.Entry.{Entry}
-use Rattle.pw_model.specs.Same.{same_owner}
+use Rattle.pw_tariff.specs.Owners.{owner_from, same_owner}
 use Rattle.pw_model.specs.Counting.{contents_at, point, start}
-use Rattle.pw_model.specs.Office.{Office}
+use Rattle.pw_tariff.specs.Office.{Office}
 use Rattle.pw_flow.specs.Time.{last, sum_over}
 use Rattle.pw_flow.specs.Energy.{register_energy}
 use Rattle.pw_flow.specs.Flow.{rises}
-
-abbrev pub owner_from : Option (ℕ × Option AccountId) → Option AccountId
-owner_from None = None
-owner_from (Some a) = a.1
 
 -- the owner of a meter at a second: that of the latest start
 unfoldable pub owner_at : (Key → Contents) → ℕ → ℕ → Option AccountId
@@ -55,7 +51,7 @@ of_band office owner band o t = same_owner o owner && (office.band t == band)
 abbrev pub energy : Office → List Entry → Option AccountId → ℕ → Direction → ℕ
 energy office s owner band direction = energy_where office (contents_at s) direction (of_band office owner band)
 
--- the price of an owner's energy of a direction, in nano-euro
+-- what the energy of an owner in a direction costs, in nano-euro
 unfoldable pub cost : Office → (Key → Contents) → Option AccountId → Direction → ℕ
 cost office at owner direction = sum_over (λ b. office.price b direction * energy_where office at direction (of_band office owner b)) 0 office.bands
 

@@ -1,5 +1,5 @@
 -- The laws of these definitions. Each is the contract of a function of the module `laws`.
-use Rattle.std.specs.Prelude.{◌≡◌, ℕ, ◌+◌, ◌<◌, ◌≤◌, true, cond, Option, Some, None, List, ◌∷◌, ◌↔◌, ◌⊎◌}
+use Rattle.std.specs.Prelude.{◌≡◌, ℕ, ◌+◌, ◌<◌, ◌≤◌, true, cond, length, Option, Some, None, List, ◌∷◌, ◌↔◌, ◌⊎◌}
 use Rattle.pw_obis.specs.declared.reference.Register.{Register}
 use Rattle.pw_tariff.specs.declared.ids.AccountId.{AccountId}
 use Rattle.pw_tariff.specs.declared.ids.Direction.{Direction}
@@ -12,8 +12,9 @@ use Rattle.pw_model.specs.declared.records.Fall.{Fall}
 use Rattle.pw_model.specs.declared.records.Dispute.{Dispute}
 use Rattle.pw_model.specs.declared.records.ReadingRow.{ReadingRow}
 use Rattle.pw_model.specs.Same.{same_direction, direction_of}
-use Rattle.pw_model.specs.Counting.{SameMembers, Counts, IsInserted, joined, contents_at, point, start, reading_key, assignment_key}
-use Rattle.pw_model.specs.Office.{Office, HasBands, AllOfOffice}
+use Rattle.pw_model.specs.Counting.{SameMembers, EachOnce, Counts, IsInserted, joined, contents_at, point, start, reading_key, assignment_key}
+use Rattle.pw_tariff.specs.Office.{Office}
+use Rattle.pw_model.specs.Office.{HasBands, AllOfOffice}
 use Rattle.pw_model.specs.Energy.{Asked, owner_at, share_of, over_registers, seconds_of, energy, energy_where, over_owners, over_bands, all_rises}
 use Rattle.pw_model.specs.Payments.{topped_up, balance, cents_for}
 use Rattle.pw_model.specs.Lists.{AreFalls, AreDisputes, AreReadings, record_count}
@@ -36,7 +37,7 @@ pub record HaveSameAnswers (office : Office) (s t : List Entry) : Type 0 where
 abbrev pub OrderCountsNothing : Type 0
 OrderCountsNothing = (office : Office) (s t : List Entry) → SameMembers s t → HaveSameAnswers office s t
 
--- a set has one list of falls, one of disputes, and one of the readings of a register
+-- a set has at most one list of falls, one of disputes, and one of the readings of a register
 pub record HasOneList (s : List Entry) : Type 0 where
   pub falls : (fs gs : List Fall) → AreFalls s fs → AreFalls s gs → fs ≡ gs
   pub disputes : (ds es : List Dispute) → AreDisputes s ds → AreDisputes s es → ds ≡ es
@@ -44,6 +45,19 @@ pub record HasOneList (s : List Entry) : Type 0 where
 
 abbrev pub ListsAreOne : Type 0
 ListsAreOne = (s : List Entry) → HasOneList s
+
+-- a set has a list of falls, one of disputes, and one of the readings of each register
+pub record HasLists (s : List Entry) : Type 0 where
+  pub falls : (fs : List Fall) × AreFalls s fs
+  pub disputes : (ds : List Dispute) × AreDisputes s ds
+  pub readings : (m : ℕ) (r : Register) → (rows : List ReadingRow) × AreReadings s m r rows
+
+abbrev pub ListsExist : Type 0
+ListsExist = (s : List Entry) → HasLists s
+
+-- where each record stands once, those held are as many as the list is long
+abbrev pub CountIsLength : Type 0
+CountIsLength = (s : List Entry) → EachOnce s → record_count s ≡ length s
 
 -- the energies of a direction, of all owners with nobody and all bands, are all that its neighbours rise by
 abbrev pub NothingIsLost : Type 0

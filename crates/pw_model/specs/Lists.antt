@@ -14,7 +14,8 @@ use Rattle.pw_model.specs.declared.records.Entry.{Entry}
 use Rattle.pw_model.specs.declared.records.Fall.{Fall}
 use Rattle.pw_model.specs.declared.records.Dispute.{Dispute}
 use Rattle.pw_model.specs.declared.records.ReadingRow.{ReadingRow}
-use Rattle.pw_model.specs.Same.{same_key, same_entry, register_place, key_order}
+use Rattle.pw_tariff.specs.Office.{register_place}
+use Rattle.pw_model.specs.Same.{same_key, same_entry, key_order}
 use Rattle.pw_model.specs.Counting.{Member, standing, Counts, contents_at, point, reading_key}
 use Rattle.pw_model.specs.Payments.{sum_once}
 

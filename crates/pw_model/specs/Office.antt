@@ -1,10 +1,11 @@
--- An office: what is fixed before any record comes.
+-- Which records are of an office, and what every office keeps to.
 -- (Definitions of this project; limits and prices are its profile.)
-use Rattle.std.specs.Prelude.{◌≡◌, ℕ, ◌<◌, ◌≤◌, Bool, true, Option, Some, None, List}
+use Rattle.std.specs.Prelude.{◌≡◌, ℕ, ◌<◌, ◌≤◌, true, Option, Some, None, List}
 use Rattle.pw_obis.specs.declared.energy.TheConstants.{LARGEST_WATT_HOURS}
-use Rattle.pw_obis.specs.declared.reference.Register.{Register}
 use Rattle.pw_tariff.specs.declared.ids.AccountId.{AccountId}
 use Rattle.pw_tariff.specs.declared.ids.Direction.{Direction}
+use Rattle.pw_tariff.specs.declared.limits.TheConstants.{MOST_ACCOUNTS, MOST_METERS, MOST_BANDS, MOST_PRICE}
+use Rattle.pw_tariff.specs.Office.{Office, OfficeFile, IsSound, office_of}
 use Rattle.pw_time.specs.declared.instant.TheConstants.{END_SECOND}
 use Rattle.pw_time.specs.Instants.{IsInstant}
 use Rattle.pw_model.specs.declared.records.Key.{Key}
@@ -15,28 +16,12 @@ use Rattle.pw_model.specs.declared.records.Entry.{Entry}
 use Rattle.pw_model.specs.References.{IsReference}
 use Rattle.pw_model.specs.Counting.{Member}
 
-pub record Office : Type 0 where
-  pub accounts : ℕ
-  pub meters : ℕ
-  pub bands : ℕ
-  -- the first second behind all instants; readings are seen up to it
-  pub end : ℕ
-  -- whether a meter's register counts
-  pub counts : ℕ → Register → Bool
-  -- the band of a second
-  pub band : ℕ → ℕ
-  -- in nano-euro per watt-hour
-  pub price : ℕ → Direction → ℕ
-
 -- at most 1,000,000 euro in one top-up
 abbrev pub most_cents : ℕ
 most_cents = 100_000_000
 
 abbrev pub most_records : ℕ
 most_records = 10_000_000
-
-abbrev pub most_price : ℕ
-most_price = 1_000_000_000
 
 -- nobody, or an account of the office
 abbrev pub HasOwner : Office → Option AccountId → Type 0
@@ -65,9 +50,13 @@ HasBands office = (t : ℕ) → office.band t < office.bands
 
 -- what the office file ensures
 pub record IsOffice (office : Office) : Type 0 where
-  pub accounts : office.accounts ≤ 256
-  pub meters : office.meters ≤ 1024
-  pub bands : office.bands ≤ 8
+  pub accounts : office.accounts ≤ MOST_ACCOUNTS
+  pub meters : office.meters ≤ MOST_METERS
+  pub bands : office.bands ≤ MOST_BANDS
   pub end : office.end ≡ END_SECOND
   pub band : HasBands office
-  pub price : (b : ℕ) (d : Direction) → b < office.bands → office.price b d ≤ most_price
+  pub price : (b : ℕ) (d : Direction) → b < office.bands → office.price b d ≤ MOST_PRICE
+
+-- a sound office file is an office
+abbrev pub SoundOfficeIsOffice : Type 0
+SoundOfficeIsOffice = (file : OfficeFile) → IsSound file → IsOffice (office_of file)

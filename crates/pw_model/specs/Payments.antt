@@ -10,7 +10,7 @@ use Rattle.pw_model.specs.declared.records.Contents.TheVariants.{One}
 use Rattle.pw_model.specs.declared.records.Entry.{Entry}
 use Rattle.pw_model.specs.Same.{same_key}
 use Rattle.pw_model.specs.Counting.{contents_at}
-use Rattle.pw_model.specs.Office.{Office}
+use Rattle.pw_tariff.specs.Office.{Office}
 use Rattle.pw_model.specs.Energy.{cost}
 
 -- whether x stands in a list
@@ -26,7 +26,7 @@ sum_once same f (x ∷ xs) = cond (stands_in same x xs) 0 (f x) + sum_once same 
 abbrev pub keys : List Entry → List Key
 keys = map (λ e. e.key)
 
--- the cents for an account that count at a key
+-- the cents that count for an account at a key with these contents
 abbrev pub cents_for : ℕ → Contents → ℕ
 cents_for a (One (content.TopUp b c t)) = cond (b.0 == a) c 0
 cents_for a _ = 0

@@ -1,6 +1,6 @@
--- Keys and contents as numbers: the tests by which two are the same, and the order in which they are listed.
+-- Keys, contents and keys of totals as numbers: the tests by which two are the same, and the order in which they are listed.
 -- (Definitions of this project. The registers are those of IEC 62056-6-1, in the order I0, I1, I2, E0, E1, E2.)
-use Rattle.std.specs.Prelude.{ℕ, Bool, true, false, ◌==◌, ◌&&◌, Option, Some, None, List, [], ◌∷◌}
+use Rattle.std.specs.Prelude.{ℕ, Bool, true, false, ◌==◌, ◌&&◌, Some, None, List, [], ◌∷◌}
 use Rattle.std.specs.Cmp.Lexicographic.{pointwise, slice_cmp}
 use Rattle.std.specs.Ordering.{nat_cmp, ordering_then}
 use Rattle.std.specs.declared.cmp.Ordering.{Ordering}
@@ -8,22 +8,16 @@ use Rattle.pw_obis.specs.declared.reference.Register.{Register}
 use Rattle.pw_obis.specs.declared.reference.Register.TheVariants.{I0, I1, I2, E0, E1, E2}
 use Rattle.pw_tariff.specs.declared.ids.Direction.{Direction}
 use Rattle.pw_tariff.specs.declared.ids.Direction.TheVariants.{Import, Export}
-use Rattle.pw_tariff.specs.declared.ids.AccountId.{AccountId}
 use Rattle.pw_model.specs.declared.records.Key.{Key}
 use Rattle.pw_model.specs.declared.records.Key.TheVariants as key
 use Rattle.pw_model.specs.declared.records.Content.{Content}
 use Rattle.pw_model.specs.declared.records.Content.TheVariants as content
 use Rattle.pw_model.specs.declared.records.Entry.{Entry}
+use Rattle.pw_model.specs.declared.records.TotalKey.{TotalKey}
+use Rattle.pw_model.specs.declared.records.TotalKey.TheVariants.{Energy, TopUps}
+use Rattle.pw_tariff.specs.Office.{register_place}
+use Rattle.pw_tariff.specs.Cells.{owner_place}
 use Rattle.pw_model.specs.References.{IsReference}
-
--- the place of a register in the order I0, I1, I2, E0, E1, E2
-abbrev pub register_place : Register → ℕ
-register_place I0 = 0
-register_place I1 = 1
-register_place I2 = 2
-register_place E0 = 3
-register_place E1 = 4
-register_place E2 = 5
 
 abbrev pub direction_of : Register → Direction
 direction_of I0 = Import
@@ -38,12 +32,6 @@ same_direction Import Import = true
 same_direction Export Export = true
 same_direction Import Export = false
 same_direction Export Import = false
-
-abbrev pub same_owner : Option AccountId → Option AccountId → Bool
-same_owner None None = true
-same_owner (Some a) (Some b) = a.0 == b.0
-same_owner None (Some b) = false
-same_owner (Some a) None = false
 
 -- readings first, then assignments, then top-ups; each by its fields in their order
 unfoldable pub key_numbers : Key → List ℕ
@@ -73,6 +61,18 @@ key_order k l = slice_cmp nat_cmp (key_numbers k) (key_numbers l)
 -- of entries: by the key, then by the content
 abbrev pub entry_order : Entry → Entry → Ordering
 entry_order e f = ordering_then (key_order e.key f.key) (slice_cmp nat_cmp (content_numbers e.content) (content_numbers f.content))
+
+abbrev pub direction_place : Direction → ℕ
+direction_place Import = 0
+direction_place Export = 1
+
+-- energies first, by owner (nobody first), band and direction; then top-ups, by account
+unfoldable pub total_numbers : TotalKey → List ℕ
+total_numbers (Energy o b d) = 0 ∷ owner_place o ∷ b.0 ∷ direction_place d ∷ []
+total_numbers (TopUps a) = 1 ∷ a.0 ∷ []
+
+abbrev pub total_order : TotalKey → TotalKey → Ordering
+total_order k l = slice_cmp nat_cmp (total_numbers k) (total_numbers l)
 
 -- where the key names a top-up, its reference is one
 abbrev pub HasReference : Key → Type 0

@@ -6,7 +6,7 @@ use Rattle.pw_obis.specs.declared.reference.Register.TheVariants.{I0, I1, I2, E0
 use Rattle.pw_tariff.specs.declared.ids.Direction.{Direction}
 use Rattle.pw_tariff.specs.declared.ids.Direction.TheVariants.{Import, Export}
 use Rattle.pw_time.specs.declared.instant.TheConstants.{END_SECOND}
-use Rattle.pw_model.specs.Office.{Office}
+use Rattle.pw_tariff.specs.Office.{Office}
 
 -- the first meter counts two rates of each direction, the others import in total
 abbrev pub sample_counts : ℕ → Register → Bool

@@ -1,4 +1,4 @@
--- What a shelf holds, and when that is true.
+-- What a shelf holds, and when that is true. That each record stands once among those held (`EachOnce`) is asked apart.
 -- (Definitions of this project.)
 use Rattle.std.specs.Prelude.{◌≡◌, ℕ, ◌*◌, ◌≤◌, Option, None, List, [], length}
 use Rattle.pw_obis.specs.declared.energy.TheConstants.{LARGEST_WATT_HOURS}
@@ -7,19 +7,20 @@ use Rattle.pw_tariff.specs.declared.ids.AccountId.{AccountId}
 use Rattle.pw_model.specs.declared.records.TotalKey.{TotalKey}
 use Rattle.pw_model.specs.declared.records.TotalKey.TheVariants.{Energy, TopUps}
 use Rattle.pw_model.specs.declared.records.Entry.{Entry}
-use Rattle.pw_model.specs.Counting.{EachOnce, SameMembers, contents_at, point, start}
-use Rattle.pw_model.specs.Office.{Office, AllOfOffice, IsOffice, most_records}
+use Rattle.pw_model.specs.Counting.{SameMembers, contents_at, point, start}
+use Rattle.pw_tariff.specs.Office.{Office}
+use Rattle.pw_model.specs.Office.{AllOfOffice, IsOffice, most_records}
 use Rattle.pw_model.specs.Energy.{energy}
 use Rattle.pw_model.specs.Payments.{topped_up}
 
 pub record ShelfContent : Type 0 where
-  -- in some order
+  -- the records held, in some order
   pub records : List Entry
-  -- the counting reading of a meter and register at a second
+  -- what is kept as the value of the counting reading of a meter and register at a second
   pub point : ℕ → Register → ℕ → Option ℕ
-  -- the counting assignment of a meter at a second
+  -- what is kept as the owner that the counting assignment of a meter gives from a second on
   pub start : ℕ → ℕ → Option (Option AccountId)
-  -- absent is 0
+  -- what is kept as the total at a key; absent is 0
   pub total : TotalKey → ℕ
 
 -- the total of the records, for every key
@@ -27,10 +28,9 @@ abbrev pub total_of : Office → List Entry → TotalKey → ℕ
 total_of office s (Energy o b d) = energy office s o b.0 d
 total_of office s (TopUps a) = topped_up s a.0
 
--- each record is held once, and points, starts and totals are those of the records:
--- a total at a key that no account or band of the office has is 0
+-- points and starts are those of the records held, and the total at each key, whatever account or band it names,
+-- is the energy or the top-ups that the records give for it
 pub record IsTrueContent (office : Office) (c : ShelfContent) : Type 0 where
-  pub once : EachOnce c.records
   pub points : c.point ≡ point (contents_at c.records)
   pub starts : c.start ≡ start (contents_at c.records)
   pub totals : (k : TotalKey) → c.total k ≡ total_of office c.records k

@@ -4,7 +4,8 @@
 //! all sets of records.
 
 ghost use Rattle.pw_model.specs.Bounds.{BalancesFit, TotalsAreBounded};
-ghost use Rattle.pw_model.specs.Laws.{ListsAreOne, NothingIsLost, OneIsCounting, OneMoreAssignment, OneMorePayment, OneMoreReading, OneMoreRecord, OrderCountsNothing, OtherStartWindow};
+ghost use Rattle.pw_model.specs.Laws.{CountIsLength, ListsAreOne, ListsExist, NothingIsLost, OneIsCounting, OneMoreAssignment, OneMorePayment, OneMoreReading, OneMoreRecord, OrderCountsNothing, OtherStartWindow};
+ghost use Rattle.pw_model.specs.Office.{SoundOfficeIsOffice};
 ghost use Rattle.pw_model.specs.Shelf.{EmptyIsTrue, TrueContentsAreAlike, TrueTotalsAreBounded};
 
 /// The contents at a key are one exactly for the record that counts.
@@ -21,6 +22,16 @@ pub fn order_counts_nothing()
 /// A set has at most one list of falls, one of disputes, and one of the readings of a register.
 pub fn lists_are_one()
     ensures { ListsAreOne }
+{}
+
+/// A set has a list of falls, one of disputes, and one of the readings of each register.
+pub fn lists_exist()
+    ensures { ListsExist }
+{}
+
+/// Where each record stands once in a list, the records held are as many as the list is long.
+pub fn count_is_length()
+    ensures { CountIsLength }
 {}
 
 /// Conservation of energy: over all owners with nobody and all bands, the energies of a direction add up to the rises
@@ -57,6 +68,11 @@ pub fn totals_are_bounded()
 /// A balance fits a signed number of 128 bits, up to 10,000,000 records.
 pub fn balances_fit()
     ensures { BalancesFit }
+{}
+
+/// A sound office file is an office: its bands, prices and limits are as the laws ask.
+pub fn sound_office_is_office()
+    ensures { SoundOfficeIsOffice }
 {}
 
 /// An empty shelf is true in every office.

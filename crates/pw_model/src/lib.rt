@@ -7,7 +7,9 @@ pub mod plain;
 mod records;
 mod reference;
 
-pub use compare::{compare_entries, compare_keys, is_same_content, is_same_entry, is_same_key};
+pub use compare::{
+    compare_entries, compare_keys, compare_totals, is_same_content, is_same_entry, is_same_key,
+};
 pub use records::{Content, Contents, Dispute, Entry, Fall, Key, ReadingRow, TotalKey};
 pub use reference::{LONGEST_REFERENCE, Reference};
 

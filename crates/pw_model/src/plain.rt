@@ -4,17 +4,24 @@
 //! compared with it.
 
 mod balances;
+mod dispute_list;
 mod energies;
+mod fall_list;
 mod of_office;
 mod payments;
 mod points;
+mod reading_list;
 mod search;
+mod sorted;
 mod terms;
 
 pub use balances::balance;
+pub use dispute_list::disputes;
 pub use energies::energy;
+pub use fall_list::falls;
 pub use of_office::{are_of_office, is_entry_of_office};
 pub use payments::topped_up;
 pub use points::points_of;
+pub use reading_list::readings;
 pub use search::{contents_at, owner_at};
-pub use terms::Terms;
+pub use terms::{OfficeTerms, Terms};

@@ -1,13 +1,16 @@
 //! The energy of an owner in a band.
 
-ghost use Rattle.std.specs.Prelude.{◌≡◌, ℕ, ◌<◌, ◌≤◌, All, IfOk, length};
+ghost use Rattle.std.specs.Prelude.{◌≡◌, ◌<◌, ◌≤◌, All, IfOk, length};
 ghost use Rattle.std.specs.List.Sorted.{IsStrictlyIncreasing};
 ghost use Rattle.pw_flow.specs.Energy.{register_energy};
 ghost use Rattle.pw_flow.specs.Plain.{seconds_of as times_of, value_at};
 ghost use Rattle.pw_model.specs.Counting.{contents_at as told_at};
 ghost use Rattle.pw_model.specs.Energy.{energy as energy_of, meter_share, of_band, seconds_of, share_of};
 ghost use Rattle.pw_model.specs.Office.{AllOfOffice, IsOffice, most_records};
-ghost use Rattle.pw_model.specs.Same.{same_owner};
+ghost use Rattle.pw_model.specs.Search.{at_instants};
+ghost use Rattle.pw_tariff.specs.Owners.{same_owner};
+ghost use Rattle.pw_time.specs.Instants.{IsInstant};
+ghost use Rattle.pw_time.specs.declared.instant.TheConstants.{END_SECOND as the_end};
 
 use super::points::points_of;
 use super::search::owner_at;
@@ -16,6 +19,7 @@ use crate::records::Entry;
 use pw_flow::plain::Point;
 use pw_obis::Register;
 use pw_tariff::{BandId, Direction, MeterId, Owner};
+use pw_time::Instant;
 use std::alloc::{AllocError, Global};
 
 /// The energy of an owner in a band, in Wh.
@@ -106,16 +110,32 @@ fn points_energy<T: Terms>(
     points: &[Point],
 ) -> u128
     requires rising { IsStrictlyIncreasing (times_of points.now) }
-    ensures { (end : ℕ) → All (λ p. p.at < end) points.now → result ≡ register_energy (seconds_of (told_at entries.now) (of_band (T.office terms.now) owner band.0) meter.0) (value_at points.now) end }
+    requires instants { All (λ p. IsInstant p.at) points.now }
+    ensures { result ≡ register_energy (seconds_of (told_at entries.now) (of_band (T.office terms.now) owner band.0) meter.0) (value_at points.now) the_end }
 {
     pw_flow::plain::energy(
         points,
         |second: u32| -> bool
-            ensures { result ≡ seconds_of (told_at entries.entry.now) (of_band (T.office terms.entry.now) owner band.0) meter.0 second }
-        {
-            is_same_owner(owner_at(entries, meter, second), owner) && terms.band(second).0 == band.0
-        },
+            ensures { result ≡ at_instants (seconds_of (told_at entries.entry.now) (of_band (T.office terms.entry.now) owner band.0) meter.0) second }
+        { is_of(terms, entries, meter, owner, band, second) },
     )
+}
+
+// Whether a second is an instant of this owner and band.
+fn is_of<T: Terms>(
+    terms: &T,
+    entries: &[Entry],
+    meter: MeterId,
+    owner: Owner,
+    band: BandId,
+    second: u32,
+) -> bool
+    ensures { result ≡ at_instants (seconds_of (told_at entries.now) (of_band (T.office terms.now) owner band.0) meter.0) second }
+{
+    let Some(instant) = Instant::of(second) else {
+        return false;
+    };
+    is_same_owner(owner_at(entries, meter, second), owner) && terms.band(instant).0 == band.0
 }
 
 fn is_same_owner(a: Owner, b: Owner) -> bool

@@ -36,7 +36,8 @@ fn cents_among(all: &[Entry], some: &[Entry], account: AccountId) -> u128
     }
 }
 
-fn has_key(entries: &[Entry], key: &Key) -> bool
+// Whether one of the records has a key.
+pub(crate) fn has_key(entries: &[Entry], key: &Key) -> bool
     ensures { result ≡ stands_in same_key key.now (keys entries.now) }
 {
     match entries {

@@ -3,6 +3,7 @@
 ghost use Rattle.std.specs.Prelude.{◌≡◌, ℕ, ◌<◌, All, IfOk};
 ghost use Rattle.std.specs.List.Sorted.{IsStrictlyIncreasing};
 ghost use Rattle.pw_flow.specs.Plain.{seconds_of, value_at};
+ghost use Rattle.pw_time.specs.Instants.{IsInstant};
 ghost use Rattle.pw_time.specs.declared.instant.TheConstants.{END_SECOND as the_end};
 ghost use Rattle.pw_model.specs.Counting.{contents_at as told_at, point};
 
@@ -21,12 +22,14 @@ pub fn points_of(
     register: Register,
 ) -> Result<Vec<Point>, AllocError>
     ensures rising { IfOk result (λ points. IsStrictlyIncreasing (seconds_of points.items)) }
-    ensures early { IfOk result (λ points. All (λ p. p.at < the_end) points.items) }
+    ensures instants { IfOk result (λ points. All (λ p. IsInstant p.at) points.items) }
     ensures values { IfOk result (λ points. (t : ℕ) → t < the_end → value_at points.items t ≡ point (told_at entries.now) meter.0 register t) }
 {
     let mut points = Vec::new(alloc);
     let mut from = 0;
-    while let Some((at, watt_hours)) = earliest_point(entries, entries, meter, register, from) {
+    while let Some(next) = earliest_point(entries, entries, meter, register, from) {
+        let at = next.0.seconds();
+        let watt_hours = next.1.get();
         points.push(Point { at, watt_hours })?;
         from = at + 1;
     }

@@ -1,14 +1,14 @@
 //! What counts at a key, the owner of a meter at a second, and the next point of a register.
 
-ghost use Rattle.std.specs.Prelude.{◌≡◌, ℕ, IfSome, IfNone};
+ghost use Rattle.std.specs.Prelude.{◌≡◌, ◌≤◌, ◌↔◌, ℕ, IfSome, IfNone, IsTrue};
 ghost use Rattle.pw_time.specs.declared.instant.TheConstants.{END_SECOND as the_end};
-ghost use Rattle.pw_model.specs.Counting.{contents_at as told_at, joined as one_more, reading_key, wh_of};
+ghost use Rattle.pw_model.specs.Counting.{Counts, contents_at as told_at, joined as one_more, reading_key, wh_of};
 ghost use Rattle.pw_model.specs.Energy.{owner_at as owner_of_second};
 ghost use Rattle.pw_model.specs.Search.{IsEarliestAmong, IsLatestAmong, IsPointIn, IsStartIn, earlier_of, later_of};
 
 use crate::compare::{is_same_content, is_same_key};
 use crate::records::{Content, Contents, Entry, Key};
-use pw_obis::Register;
+use pw_obis::{Register, WattHours};
 use pw_tariff::{MeterId, Owner};
 use pw_time::Instant;
 
@@ -43,6 +43,16 @@ fn joined(content: Content, behind: Contents) -> Contents
             }
         }
         Contents::Several => Contents::Several,
+    }
+}
+
+// Whether a record counts.
+pub(crate) fn counts(entries: &[Entry], entry: &Entry) -> bool
+    ensures { IsTrue result ↔ Counts entries.now entry.now }
+{
+    match contents_at(entries, &entry.key) {
+        Contents::One(content) => is_same_content(&content, &entry.content),
+        _ => false,
     }
 }
 
@@ -100,15 +110,15 @@ fn later(found: Option<(u32, Owner)>, here: Option<(u32, Owner)>) -> Option<(u32
     if a.0 <= b.0 { Some(b) } else { Some(a) }
 }
 
-// The earliest counting reading of a register from a second on that some of the records have: its second and its Wh.
-pub fn earliest_point(
+// The earliest counting reading of a register from a second on that some of the records have.
+pub(crate) fn earliest_point(
     all: &[Entry],
     some: &[Entry],
     meter: MeterId,
     register: Register,
     from: u32,
-) -> Option<(u32, u64)>
-    ensures { IsEarliestAmong (told_at all.now) meter.0 register from the_end some.now result }
+) -> Option<(Instant, WattHours)>
+    ensures { (y : ℕ) → the_end ≤ y → IsEarliestAmong (told_at all.now) meter.0 register from y some.now result }
 {
     match some {
         [] => None,
@@ -125,8 +135,8 @@ fn point_in(
     meter: MeterId,
     register: Register,
     from: u32,
-) -> Option<(u32, u64)>
-    ensures { IsPointIn (told_at all.now) meter.0 register from the_end entry.now result }
+) -> Option<(Instant, WattHours)>
+    ensures { (y : ℕ) → the_end ≤ y → IsPointIn (told_at all.now) meter.0 register from y entry.now result }
 {
     let Some(instant) = instant_of(&entry.key, meter, register) else {
         return None;
@@ -135,23 +145,23 @@ fn point_in(
         return None;
     }
     let wh = wh_in(&contents_at(all, &entry.key))?;
-    Some((instant.seconds(), wh))
+    Some((instant, wh))
 }
 
-fn wh_in(contents: &Contents) -> Option<u64>
+fn wh_in(contents: &Contents) -> Option<WattHours>
     ensures { result ≡ wh_of contents.now }
 {
     let Contents::One(content) = contents else {
         return None;
     };
     match content {
-        Content::Reading { wh } => Some(wh.get()),
+        Content::Reading { wh } => Some(*wh),
         _ => None,
     }
 }
 
 // The instant of a key, where it is a reading's of this register.
-fn instant_of(key: &Key, meter: MeterId, register: Register) -> Option<Instant>
+pub(crate) fn instant_of(key: &Key, meter: MeterId, register: Register) -> Option<Instant>
     ensures some { IfSome result (λ t. key.now ≡ reading_key meter.0 register t) }
     ensures none { IfNone result ((t : ℕ) → key.now ≡ reading_key meter.0 register t → ⊥) }
 {
@@ -171,7 +181,10 @@ fn instant_of(key: &Key, meter: MeterId, register: Register) -> Option<Instant>
     }
 }
 
-fn earlier(found: Option<(u32, u64)>, here: Option<(u32, u64)>) -> Option<(u32, u64)>
+fn earlier(
+    found: Option<(Instant, WattHours)>,
+    here: Option<(Instant, WattHours)>,
+) -> Option<(Instant, WattHours)>
     ensures { result ≡ earlier_of found here }
 {
     let Some(a) = found else {
@@ -180,5 +193,9 @@ fn earlier(found: Option<(u32, u64)>, here: Option<(u32, u64)>) -> Option<(u32, 
     let Some(b) = here else {
         return Some(a);
     };
-    if a.0 <= b.0 { Some(a) } else { Some(b) }
+    if a.0.seconds() <= b.0.seconds() {
+        Some(a)
+    } else {
+        Some(b)
+    }
 }

@@ -57,8 +57,8 @@ impl Terms for Sample {
         }
     }
 
-    fn band(&self, second: u32) -> BandId {
-        let of_day = second % 86_400;
+    fn band(&self, instant: Instant) -> BandId {
+        let of_day = instant.seconds() % 86_400;
         if 21_600 <= of_day && of_day < 79_200 {
             HIGH
         } else {
@@ -78,17 +78,31 @@ pub fn at(rt: &impl Abort, second: u32) -> Instant {
     Instant::of(second).expect(rt, "an instant")
 }
 
-pub fn reading(rt: &impl Abort, second: u32, watt_hours: u64) -> Entry {
+pub fn watt_hours(rt: &impl Abort, number: u64) -> WattHours {
+    WattHours::of(number).expect(rt, "watt-hours")
+}
+
+fn reading_of(rt: &impl Abort, register: Register, second: u32, number: u64) -> Entry {
     Entry {
         key: Key::Reading {
             meter: MeterId(0),
-            register: Register::I1,
+            register,
             instant: at(rt, second),
         },
         content: Content::Reading {
-            wh: WattHours::of(watt_hours).expect(rt, "watt-hours"),
+            wh: watt_hours(rt, number),
         },
     }
+}
+
+/// A reading of I1.
+pub fn reading(rt: &impl Abort, second: u32, number: u64) -> Entry {
+    reading_of(rt, Register::I1, second, number)
+}
+
+/// A reading of E1.
+pub fn exported(rt: &impl Abort, second: u32, number: u64) -> Entry {
+    reading_of(rt, Register::E1, second, number)
 }
 
 pub fn assigned(rt: &impl Abort, second: u32, owner: Owner) -> Entry {
@@ -114,11 +128,12 @@ pub fn paid(rt: &impl Abort, reference: &[u8], account: AccountId, cents: u32) -
     }
 }
 
-fn require_sound(rt: &impl Abort, entries: &[Entry])
-    ensures of_office { AllOfOffice sample entries.now }
+/// What energies and balances ask of records.
+pub fn require_sound<T: Terms>(rt: &impl Abort, terms: &T, entries: &[Entry])
+    ensures of_office { AllOfOffice (T.office terms.now) entries.now }
     ensures few { length entries.now ≤ most_records }
 {
-    let of_office = are_of_office(&Sample, entries);
+    let of_office = are_of_office(terms, entries);
     assert!(rt; of_office);
     assert!(rt; entries.len() <= 100);
 }
@@ -134,7 +149,7 @@ pub fn imported(
     entries: &[Entry],
     owner: Owner,
 ) -> Result<(u64, u64), Fail> {
-    require_sound(rt, entries);
+    require_sound(rt, &Sample, entries);
     office();
     let low = energy(alloc, &Sample, entries, owner, LOW, Direction::Import)?;
     let high = energy(alloc, &Sample, entries, owner, HIGH, Direction::Import)?;
@@ -148,7 +163,7 @@ pub fn nano(
     entries: &[Entry],
     account: AccountId,
 ) -> Result<i128, Fail> {
-    require_sound(rt, entries);
+    require_sound(rt, &Sample, entries);
     office();
     Ok(balance(alloc, &Sample, entries, account)?)
 }

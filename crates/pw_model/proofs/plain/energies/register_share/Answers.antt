@@ -8,8 +8,7 @@ overflow_cast-result g c =
     let office = g.T.Terms.office c.args.terms.now in
     let asked = of_band office c.args.owner c.args.band.0 in
     let e = plain-share office c.args.entries.now asked c.args.meter.0 c.args.register c.in_ok-points.points.items c.points_energy-energy.result c.requires.office c.requires.entries
-    (sym c.counts.ensures ∙ c.if-not-counts.false) c.in_ok-points.ensures.early c.in_ok-points.ensures.values
-    (λ h. rw c.deref.ensures.value at (c.points_energy-energy.ensures office.end (rw c.deref.ensures.value h))) in
+    (sym c.counts.ensures ∙ c.if-not-counts.false) c.in_ok-points.ensures.instants c.in_ok-points.ensures.values (rw c.deref.ensures.value at c.points_energy-energy.ensures) in
     let f = share-fits office c.args.entries.now asked c.args.meter.0 c.args.register c.requires.office c.requires.entries c.requires.few c.requires.meter in
     omega (arith, e, f)
 
@@ -17,17 +16,14 @@ pub returns-clause-share : goal.returns-clause-share
 returns-clause-share g c =
     let office = g.T.Terms.office c.args.terms.now in
     let asked = of_band office c.args.owner c.args.band.0 in
-    let e = plain-share office c.args.entries.now asked c.args.meter.0 c.args.register c.in_ok-points.points.items c.points_energy-energy.result c.requires.office c.requires.entries
-    (sym c.counts.ensures ∙ c.if-not-counts.false) c.in_ok-points.ensures.early c.in_ok-points.ensures.values
-    (λ h. rw c.deref.ensures.value at (c.points_energy-energy.ensures office.end (rw c.deref.ensures.value h))) in
-    e
+    plain-share office c.args.entries.now asked c.args.meter.0 c.args.register c.in_ok-points.points.items c.points_energy-energy.result c.requires.office c.requires.entries
+    (sym c.counts.ensures ∙ c.if-not-counts.false) c.in_ok-points.ensures.instants c.in_ok-points.ensures.values (rw c.deref.ensures.value at c.points_energy-energy.ensures)
 
 pub returns-clause-bound : goal.returns-clause-bound
 returns-clause-bound g c =
     let office = g.T.Terms.office c.args.terms.now in
     let asked = of_band office c.args.owner c.args.band.0 in
     let e = plain-share office c.args.entries.now asked c.args.meter.0 c.args.register c.in_ok-points.points.items c.points_energy-energy.result c.requires.office c.requires.entries
-    (sym c.counts.ensures ∙ c.if-not-counts.false) c.in_ok-points.ensures.early c.in_ok-points.ensures.values
-    (λ h. rw c.deref.ensures.value at (c.points_energy-energy.ensures office.end (rw c.deref.ensures.value h))) in
+    (sym c.counts.ensures ∙ c.if-not-counts.false) c.in_ok-points.ensures.instants c.in_ok-points.ensures.values (rw c.deref.ensures.value at c.points_energy-energy.ensures) in
     let f = share-fits office c.args.entries.now asked c.args.meter.0 c.args.register c.requires.office c.requires.entries c.requires.few c.requires.meter in
     omega (arith, e, f)

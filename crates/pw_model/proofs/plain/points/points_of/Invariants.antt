@@ -3,8 +3,8 @@ use Rattle.pw_time.specs.declared.instant.TheConstants.{END_SECOND}
 use Rattle.pw_model.proofs.Pushed.{IsListed}
 use Rattle.pw_model.proofs.plain.points.points_of.Given as goal
 
-abbrev pub invariant-loop-at : goal.invariant-loop-at
-invariant-loop-at l = IsListed l.entries l.meter.0 l.register l.from l.points.items
+abbrev pub invariant-loop-next : goal.invariant-loop-next
+invariant-loop-next l = IsListed l.entries l.meter.0 l.register l.from l.points.items
 
-abbrev pub decreases-loop-at : goal.decreases-loop-at
-decreases-loop-at l = END_SECOND - l.from
+abbrev pub decreases-loop-next : goal.decreases-loop-next
+decreases-loop-next l = END_SECOND - l.from

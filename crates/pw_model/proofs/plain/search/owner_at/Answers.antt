@@ -1,5 +1,5 @@
 use Rattle.std.proofs.Common.{sym, ap, ◌∙◌}
-use Rattle.pw_model.specs.Energy.{owner_from}
+use Rattle.pw_tariff.specs.Owners.{owner_from}
 use Rattle.pw_model.proofs.Found.{owner-found}
 use Rattle.pw_model.proofs.plain.search.owner_at.Goals as goal
 
