@@ -1,0 +1,5 @@
+pub mod Walks
+pub mod InOrder
+pub mod Listing
+pub mod AtKey
+pub mod OfKind

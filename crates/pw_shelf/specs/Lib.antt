@@ -1,0 +1,7 @@
+pub mod State
+pub mod Left
+pub mod Rows
+pub mod Once
+pub mod Kinds
+pub mod Held
+pub mod Memory

@@ -1,0 +1,54 @@
+-- The rows that an answer gives.
+-- (Definitions of this project.)
+use Rattle.std.specs.Prelude.{◌≡◌, ℕ, List, Result, Ok, Err}
+use Rattle.pw_obis.specs.declared.reference.Register.{Register}
+use Rattle.pw_tariff.specs.declared.ids.MeterId.{MeterId}
+use Rattle.pw_model.specs.declared.records.Key.{Key}
+use Rattle.pw_model.specs.declared.records.Key.TheVariants as key
+use Rattle.pw_model.specs.declared.records.Entry.{Entry}
+use Rattle.pw_model.specs.declared.records.Contents.{Contents}
+use Rattle.pw_model.specs.declared.records.Contents.TheVariants.{Nothing, One, Several}
+use Rattle.pw_model.specs.Same.{entry_order}
+use Rattle.pw_model.specs.Counting.{Member}
+use Rattle.pw_model.specs.Lists.{Lists}
+use Rattle.pw_shelf.specs.declared.fault.ShelfFault.{ShelfFault}
+
+-- ---- which records a list has
+-- the key of a reading of the register
+abbrev pub IsReadingOf : MeterId → Register → Key → Type 0
+IsReadingOf m r (key.Reading n s t) = (n ≡ m) × (s ≡ r)
+IsReadingOf m r _ = ⊥
+
+-- the key of an assignment of the meter
+abbrev pub IsAssignmentOf : MeterId → Key → Type 0
+IsAssignmentOf m (key.Assignment n t) = n ≡ m
+IsAssignmentOf m _ = ⊥
+
+-- the key of a top-up
+abbrev pub IsTopUp : Key → Type 0
+IsTopUp (key.TopUp r) = Unit {0}
+IsTopUp _ = ⊥
+
+-- the records held with such a key, sorted by key and content
+abbrev pub ListsHeld : (Key → Type 0) → List Entry → List Entry → Type 0
+ListsHeld Of records = Lists entry_order (λ e. Member e records × Of e.key)
+
+abbrev pub ListsReadings : List Entry → MeterId → Register → List Entry → Type 0
+ListsReadings records m r = ListsHeld (IsReadingOf m r) records
+
+abbrev pub ListsAssignments : List Entry → MeterId → List Entry → Type 0
+ListsAssignments records m = ListsHeld (IsAssignmentOf m) records
+
+abbrev pub ListsTopUps : List Entry → List Entry → Type 0
+ListsTopUps records = ListsHeld IsTopUp records
+
+-- ---- how many rows an answer gives
+abbrev pub rows_at : Contents → ℕ
+rows_at Nothing = 0
+rows_at (One c) = 1
+rows_at Several = 2
+
+-- none with a fault
+abbrev pub rows_given : {T : Type 0} → (T → ℕ) → Result T ShelfFault → ℕ
+rows_given rows (Ok answer) = rows answer
+rows_given rows (Err fault) = 0

@@ -1,0 +1,90 @@
+//! The records of a store in memory, in order.
+
+ghost use Rattle.std.specs.Prelude.{◌≡◌, ◌<◌, ◌≤◌, [], IfOk, IfErr, OnOk, OnErr, IsTrue, ◌↔◌, length};
+ghost use Rattle.pw_model.specs.Office.{most_records};
+ghost use Rattle.pw_model.specs.Counting.{Member, IsInserted};
+ghost use Rattle.pw_model.specs.Counting.{EachOnce};
+ghost use Rattle.pw_shelf.specs.Held.{AreNamed, AreNamed-prop, EachOnce-prop, IsNamed};
+ghost use Rattle.pw_shelf.specs.declared.fault.ShelfFault.TheVariants.{Memory};
+
+use crate::fault::ShelfFault;
+use pw_model::{Contents, Entry, Key};
+use std::alloc::Global;
+use std::collections::BTreeSet;
+
+/// What is held.
+#[derive(Drop)]
+pub struct Held {
+    pub(crate) records: BTreeSet<Entry>,
+    ghost once: { EachOnce records.keys } by { EachOnce-prop records.keys },
+    ghost few: { length records.keys ≤ most_records },
+    ghost named: { AreNamed records.keys } by { AreNamed-prop records.keys },
+}
+
+impl Held {
+    /// Nothing.
+    pub(crate) fn new(alloc: Global) -> Held
+        ensures { result.records.keys ≡ [] }
+    {
+        Held {
+            records: BTreeSet::new(alloc),
+        }
+    }
+
+    /// The same once more.
+    pub(crate) fn copy(&self) -> Result<Held, ShelfFault>
+        ensures copy { IfOk result (λ copy. copy.records.keys ≡ self.now.records.keys) }
+        ensures memory { IfErr result (λ e. e ≡ Memory) }
+    {
+        let records = self.records.clone()?;
+        Ok(Held { records })
+    }
+
+    /// Whether a record is held.
+    pub(crate) fn has(&self, entry: &Entry) -> bool
+        ensures { IsTrue result ↔ Member entry.now self.now.records.keys }
+    {
+        self.records.contains(entry)
+    }
+
+    /// Holds a record more.
+    pub(crate) fn insert(&mut self, entry: Entry) -> Result<(), ShelfFault>
+        requires fresh { Member entry self.old.records.keys → ⊥ }
+        requires room { length self.old.records.keys < most_records }
+        ensures added { OnOk result (IsInserted entry self.old.records.keys self.new.records.keys) }
+        ensures same { OnErr result (self.new.records.keys ≡ self.old.records.keys) }
+        ensures memory { IfErr result (λ e. e ≡ Memory) }
+    {
+        name_of(&entry.key);
+        self.records.insert(entry)?;
+        Ok(())
+    }
+
+    /// How many records are held.
+    pub(crate) fn count(&self) -> u32
+        ensures { result ≡ length self.now.records.keys }
+    {
+        self.records.len() as u32
+    }
+}
+
+// The instant and the reference that a key names are what their types say.
+fn name_of(key: &Key)
+    ensures { IsNamed key.now }
+{
+    match key {
+        Key::Reading {
+            meter: _,
+            register: _,
+            instant,
+        } => {
+            let _second = instant.seconds();
+        }
+        Key::Assignment { meter: _, start } => {
+            let _second = start.seconds();
+        }
+        Key::TopUp { reference } => {
+            let _text = reference.bytes();
+        }
+    }
+}

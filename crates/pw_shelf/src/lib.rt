@@ -1,0 +1,22 @@
+//! The interface of a store of records, and the store in memory.
+#![tactic(auto)]
+
+mod calls;
+mod fault;
+mod held;
+pub mod laws;
+mod lists;
+mod memory;
+mod once;
+mod shelf;
+mod tally;
+
+pub use fault::ShelfFault;
+pub use memory::MemoryShelf;
+pub use once::{AddFault, add_once};
+pub use pw_model::{Contents, TotalKey};
+pub use shelf::Shelf;
+pub use tally::Tally;
+
+#[cfg(test)]
+mod tests;

@@ -1,0 +1,87 @@
+//! A record added in an upload of its own.
+
+ghost use Rattle.std.specs.Prelude.{◌≡◌, ◌+◌, ◌<◌, ◌≤◌, None, IfOk, OnOk, OnErr, IsErrOf, IsSome, length};
+ghost use Rattle.pw_model.specs.Office.{most_records};
+ghost use Rattle.pw_shelf.specs.Left.{LeavesOnly};
+ghost use Rattle.pw_shelf.specs.Once.{IsAfter, LeavesBeforeOrAfter};
+ghost use Rattle.pw_shelf.specs.State.{KeepsCounts};
+ghost use Rattle.pw_shelf.specs.declared.fault.ShelfFault.TheVariants.{Device};
+ghost use Rattle.pw_shelf.specs.declared.once.AddFault.TheVariants.{Device as NoDevice, Reopen};
+
+use crate::fault::ShelfFault;
+use crate::shelf::Shelf;
+use pw_model::Entry;
+
+/// Why a record wasn't added.
+#[derive(Clone, Copy, Debug, PartialEq, Eq)]
+pub enum AddFault {
+    /// Memory was refused, and nothing is changed.
+    Memory,
+    /// The device of the store failed, and nothing is changed.
+    Device,
+    /// The upload couldn't be abandoned: the store has to be opened again.
+    Reopen,
+}
+
+/// Adds a record in an upload of its own, unless it is held, and answers whether it is new.
+///
+/// After `Memory` and `Device` the content is as before. What a crash leaves is what it could leave before, or the
+/// content with the record; after Ok the latter alone.
+pub fn add_once<S: Shelf>(shelf: &mut S, entry: &Entry) -> Result<bool, AddFault>
+    requires idle { (S.state shelf.old).begun ≡ None }
+    requires room { S.clean shelf.old → length (S.state shelf.old).content.records < most_records }
+    ensures added { S.clean shelf.new → IfOk result (λ fresh. IsAfter (S.state shelf.old).content entry.now fresh (S.state shelf.new).content) }
+    ensures same { S.clean shelf.new → OnErr result ((IsErrOf result Reopen → ⊥) → (S.state shelf.new).content ≡ (S.state shelf.old).content) }
+    ensures idle { (IsErrOf result Reopen → ⊥) → (S.state shelf.new).begun ≡ None }
+    ensures undone { (IsErrOf result Reopen → ⊥) → (S.state shelf.new).failed_abandons ≡ (S.state shelf.old).failed_abandons }
+    ensures reopen { IsErrOf result Reopen → (S.state shelf.new).failed_abandons ≡ (S.state shelf.old).failed_abandons + 1 }
+    ensures failures { (S.state shelf.old).failures ≤ (S.state shelf.new).failures }
+    ensures cause { IsErrOf result NoDevice → (S.state shelf.old).failures < (S.state shelf.new).failures }
+    ensures tally { (S.state shelf.new).tally ≤ (S.state shelf.old).tally + 5 }
+    ensures kept { S.clean shelf.new → OnOk result (LeavesOnly (S.state shelf.new).content (S.left shelf.new)) }
+    ensures left { S.clean shelf.new → OnErr result (LeavesBeforeOrAfter (S.state shelf.old).content entry.now (S.left shelf.old) (S.left shelf.new)) }
+    ensures cleanness { S.clean shelf.new → S.clean shelf.old }
+{
+    if let Err(fault) = shelf.begin() {
+        return Err(nothing_changed(fault));
+    }
+    match add_unless_held(shelf, entry) {
+        Ok(fresh) => Ok(fresh),
+        Err(fault) => match shelf.abandon() {
+            Ok(()) => Err(nothing_changed(fault)),
+            Err(_) => Err(AddFault::Reopen),
+        },
+    }
+}
+
+// Adds a record to the upload that is begun, unless it is held, and commits.
+fn add_unless_held<S: Shelf>(shelf: &mut S, entry: &Entry) -> Result<bool, ShelfFault>
+    requires begun { IsSome (S.state shelf.old).begun }
+    requires room { S.clean shelf.old → length (S.state shelf.old).content.records < most_records }
+    ensures added { S.clean shelf.new → IfOk result (λ fresh. IsAfter (S.state shelf.old).content entry.now fresh (S.state shelf.new).content) }
+    ensures ended { OnOk result ((S.state shelf.new).begun ≡ None) }
+    ensures begun { OnErr result ((S.state shelf.new).begun ≡ (S.state shelf.old).begun) }
+    ensures counts { KeepsCounts (S.state shelf.old) (S.state shelf.new) }
+    ensures cause { IsErrOf result Device → (S.state shelf.old).failures < (S.state shelf.new).failures }
+    ensures tally { (S.state shelf.new).tally ≤ (S.state shelf.old).tally + 3 }
+    ensures kept { S.clean shelf.new → OnOk result (LeavesOnly (S.state shelf.new).content (S.left shelf.new)) }
+    ensures left { S.clean shelf.new → OnErr result (LeavesBeforeOrAfter (S.state shelf.old).content entry.now (S.left shelf.old) (S.left shelf.new)) }
+    ensures cleanness { S.clean shelf.new → S.clean shelf.old }
+{
+    let held = shelf.holds(entry)?;
+    if !held {
+        shelf.add(entry)?;
+    }
+    shelf.commit()?;
+    Ok(!held)
+}
+
+fn nothing_changed(fault: ShelfFault) -> AddFault
+    ensures device { result ≡ NoDevice → fault ≡ Device }
+    ensures other { result ≡ Reopen → ⊥ }
+{
+    match fault {
+        ShelfFault::Memory => AddFault::Memory,
+        ShelfFault::Device => AddFault::Device,
+    }
+}

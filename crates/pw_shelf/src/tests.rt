@@ -1,0 +1,209 @@
+//! Each call over the trait's bound with ample memory, and what stays where memory is refused.
+
+ghost use Rattle.std.specs.Prelude.{◌≡◌, None, IsSome, OnOk};
+
+use crate::laws::memory_abandons;
+use crate::{AddFault, Contents, MemoryShelf, Shelf, ShelfFault, add_once};
+use pw_model::{Content, Entry, Key, Reference};
+use pw_obis::{Register, WattHours};
+use pw_tariff::{AccountId, MeterId};
+use pw_time::Instant;
+use std::alloc::Global;
+use std::process::Abort;
+use std::test::Fail;
+
+// 2024-01-02T05:00:00Z and 06:00:00Z
+const FIVE: u32 = 1_704_171_600;
+
+const SIX: u32 = FIVE + 3_600;
+
+const METER: MeterId = MeterId(0);
+
+fn at(rt: &impl Abort, second: u32) -> Instant {
+    Instant::of(second).expect(rt, "an instant")
+}
+
+fn reading(rt: &impl Abort, register: Register, second: u32, watt_hours: u64) -> Entry {
+    Entry {
+        key: Key::Reading {
+            meter: METER,
+            register,
+            instant: at(rt, second),
+        },
+        content: Content::Reading {
+            wh: WattHours::of(watt_hours).expect(rt, "watt-hours"),
+        },
+    }
+}
+
+fn assigned(rt: &impl Abort, second: u32, account: u16) -> Entry {
+    Entry {
+        key: Key::Assignment {
+            meter: METER,
+            start: at(rt, second),
+        },
+        content: Content::Assignment {
+            owner: Some(AccountId(account)),
+        },
+    }
+}
+
+fn paid(rt: &impl Abort, reference: &[u8], cents: u32) -> Entry {
+    Entry {
+        key: Key::TopUp {
+            reference: Reference::of(reference).expect(rt, "a reference"),
+        },
+        content: Content::TopUp {
+            account: AccountId(0),
+            cents,
+            instant: at(rt, FIVE),
+        },
+    }
+}
+
+// Adds a record to the upload, if it is new and there is room.
+fn put<S: Shelf>(shelf: &mut S, entry: &Entry) -> Result<bool, ShelfFault>
+    requires { IsSome (S.state shelf.old).begun }
+    ensures { (S.state shelf.new).begun ≡ (S.state shelf.old).begun }
+{
+    if shelf.holds(entry)? {
+        return Ok(false);
+    }
+    if 10_000_000 <= shelf.count()? {
+        return Ok(false);
+    }
+    shelf.add(entry)?;
+    Ok(true)
+}
+
+// Two records in an upload of their own.
+fn uploaded<S: Shelf>(shelf: &mut S, first: &Entry, second: &Entry) -> Result<(), ShelfFault>
+    requires { (S.state shelf.old).begun ≡ None }
+    ensures { OnOk result ((S.state shelf.new).begun ≡ None) }
+{
+    shelf.begin()?;
+    put(shelf, first)?;
+    put(shelf, second)?;
+    shelf.commit()
+}
+
+// A second content at a key, seen within an upload and gone behind it.
+fn disputed<S: Shelf>(rt: &impl Abort, shelf: &mut S, other: &Entry) -> Result<(), ShelfFault>
+    requires { (S.state shelf.old).begun ≡ None }
+    ensures { OnOk result ((S.state shelf.new).begun ≡ None) }
+{
+    shelf.begin()?;
+    assert!(rt; put(shelf, other)?);
+    assert_eq!(rt; shelf.contents_at(&other.key)?, Contents::Several);
+    shelf.abandon()
+}
+
+fn found_at<S: Shelf>(rt: &impl Abort, shelf: &mut S, entry: &Entry) -> Result<(), ShelfFault> {
+    assert!(rt; shelf.holds(entry)?);
+    assert_eq!(rt;
+        shelf.contents_at(&entry.key)?,
+        Contents::One(entry.content)
+    );
+    Ok(())
+}
+
+fn never_at<S: Shelf>(rt: &impl Abort, shelf: &mut S, entry: &Entry) -> Result<(), ShelfFault> {
+    assert!(rt; !shelf.holds(entry)?);
+    assert_eq!(rt; shelf.contents_at(&entry.key)?, Contents::Nothing);
+    Ok(())
+}
+
+// All readings of the register, the assignment of the meter and all top-ups, sorted.
+fn listed<S: Shelf>(
+    rt: &impl Abort,
+    alloc: Global,
+    shelf: &mut S,
+    readings: &[Entry],
+    owner: &Entry,
+    topups: &[Entry],
+) -> Result<(), ShelfFault> {
+    assert!(rt; shelf.readings_of(alloc, METER, Register::I1)?.as_slice() == readings);
+    assert!(rt; shelf.assignments_of(alloc, METER)?.as_slice() == [*owner].as_slice());
+    assert!(rt; shelf.topups(alloc)?.as_slice() == topups);
+    Ok(())
+}
+
+fn unlisted<S: Shelf>(rt: &impl Abort, alloc: Global, shelf: &mut S) -> Result<(), ShelfFault> {
+    assert!(rt; shelf.readings_of(alloc, METER, Register::E0)?.is_empty());
+    assert!(rt; shelf.assignments_of(alloc, MeterId(1))?.is_empty());
+    Ok(())
+}
+
+#[test]
+fn each_call(rt: HostRuntime) -> Result<(), Fail> {
+    let mut shelf = MemoryShelf::new(rt.alloc());
+    let readings = [
+        reading(&rt, Register::I1, FIVE, 1_000_000),
+        reading(&rt, Register::I1, SIX, 1_001_000),
+    ];
+    let owner = assigned(&rt, FIVE, 1);
+    let topups = [paid(&rt, b"P1", 2_000), paid(&rt, b"P10", 5_000)];
+    uploaded(&mut shelf, &topups[1], &readings[1])?;
+    uploaded(&mut shelf, &owner, &readings[0])?;
+    uploaded(&mut shelf, &topups[0], &reading(&rt, Register::I2, FIVE, 7))?;
+    disputed(
+        &rt,
+        &mut shelf,
+        &reading(&rt, Register::I1, FIVE, 1_000_500),
+    )?;
+    shelf.begin()?;
+    memory_abandons(&mut shelf)?;
+    found_at(&rt, &mut shelf, &readings[0])?;
+    never_at(&rt, &mut shelf, &assigned(&rt, SIX, 0))?;
+    listed(&rt, rt.alloc(), &mut shelf, &readings, &owner, &topups)?;
+    unlisted(&rt, rt.alloc(), &mut shelf)?;
+    assert_eq!(rt; shelf.count()?, 6);
+    Ok(())
+}
+
+// Adds a new record, and finds the content as before where memory was refused.
+fn added_or_refused<S: Shelf>(
+    rt: &impl Abort,
+    shelf: &mut S,
+    entry: &Entry,
+) -> Result<(), ShelfFault>
+    requires { (S.state shelf.old).begun ≡ None }
+    ensures { OnOk result ((S.state shelf.new).begun ≡ None) }
+{
+    let before = shelf.count()?;
+    if 10 <= before {
+        return Ok(());
+    }
+    match add_once(shelf, entry) {
+        Ok(fresh) => {
+            assert!(rt; fresh);
+            assert_eq!(rt; shelf.count()?, before + 1);
+        }
+        Err(AddFault::Memory) => {
+            assert_eq!(rt; shelf.count()?, before);
+            assert!(rt; !shelf.holds(entry)?);
+            assert_eq!(rt; shelf.contents_at(&entry.key)?, Contents::Nothing);
+        }
+        Err(_) => return Err(ShelfFault::Device),
+    }
+    Ok(())
+}
+
+#[test]
+fn refused_memory_changes_nothing(rt: HostRuntime) -> Result<(), Fail> {
+    let mut shelf = MemoryShelf::new(rt.alloc());
+    added_or_refused(
+        &rt,
+        &mut shelf,
+        &reading(&rt, Register::I1, FIVE, 1_000_000),
+    )?;
+    added_or_refused(&rt, &mut shelf, &assigned(&rt, FIVE, 1))?;
+    added_or_refused(&rt, &mut shelf, &paid(&rt, b"P1", 2_000))?;
+    let before = shelf.count()?;
+    match shelf.topups(rt.alloc()) {
+        Ok(found) => assert!(rt; found.len() <= 1),
+        Err(fault) => assert_eq!(rt; fault, ShelfFault::Memory),
+    }
+    assert_eq!(rt; shelf.count()?, before);
+    Ok(())
+}
