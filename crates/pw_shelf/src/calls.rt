@@ -5,6 +5,7 @@ ghost use Rattle.pw_shelf.specs.Kinds.{IsOfKind};
 ghost use Rattle.pw_shelf.specs.Rows.{ListsHeld, rows_given};
 ghost use Rattle.pw_shelf.specs.declared.fault.ShelfFault.TheVariants.{Memory};
 ghost use Rattle.pw_shelf.specs.Memory.{state_of, left_of, clean_of};
+ghost use Rattle.pw_shelf.specs.State.{committed};
 
 use crate::fault::ShelfFault;
 use crate::lists::Kind;
@@ -88,6 +89,8 @@ impl Shelf for MemoryShelf {
     ghost once = { λ s _. s.held.once };
 
     ghost lasting = { λ s _ _. refl };
+
+    ghost survives = { λ s _ none. none (committed (state_of s)) refl };
 }
 
 impl MemoryShelf {

@@ -18,7 +18,13 @@ pub fn records_are_each_once<S: Shelf>(shelf: &S)
     ensures { EachOnce (S.state shelf.now).content.records }
 {}
 
-/// As long as no device has failed, a crash may leave what was committed last: so what a crash leaves is never nothing.
+/// A crash leaves something: what is said of all that it may leave is never said of nothing.
+pub fn a_crash_leaves_something<S: Shelf>(shelf: &S)
+    requires { S.clean shelf.now }
+    ensures { ¬ ((c : ShelfContent) → ¬ (S.left shelf.now c)) }
+{}
+
+/// As long as no device has failed, a crash may leave what was committed last.
 pub fn committed_can_be_left<S: Shelf>(shelf: &S)
     requires clean { S.clean shelf.now }
     requires whole { (S.state shelf.now).failures ≡ 0 }

@@ -56,6 +56,7 @@ pub trait Shelf {
         ensures cause { IsErrOf result Device → (state self.old).failures < (state self.new).failures }
         ensures tally { (state self.new).tally ≡ (state self.old).tally + 1 }
         ensures kept { clean self.new → OnOk result (LeavesOnly (state self.old).content (left self.new)) }
+        ensures stays { clean self.new → OnOk result (left self.new (state self.old).content) }
         ensures left { clean self.new → OnErr result (LeavesNoMoreOr (state self.old).content (left self.old) (left self.new)) }
         ensures cleanness { clean self.new → clean self.old };
 
@@ -169,4 +170,7 @@ pub trait Shelf {
 
     /// As long as no device has failed, a crash may leave what was committed last.
     ghost lasting: { (s : Self) → clean s → (state s).failures ≡ 0 → left s (committed (state s)) };
+
+    /// A crash leaves something.
+    ghost survives: { (s : Self) → clean s → ¬ ((c : ShelfContent) → ¬ (left s c)) };
 }

@@ -134,6 +134,21 @@ fn unlisted<S: Shelf>(rt: &impl Abort, alloc: Global, shelf: &mut S) -> Result<(
     Ok(())
 }
 
+// Adds a record in an upload of its own.
+fn added<S: Shelf>(shelf: &mut S, entry: &Entry) -> Result<bool, ShelfFault>
+    requires { (S.state shelf.old).begun ≡ None }
+    ensures { OnOk result ((S.state shelf.new).begun ≡ None) }
+{
+    if 10 <= shelf.count()? {
+        return Ok(false);
+    }
+    match add_once(shelf, entry) {
+        Ok(fresh) => Ok(fresh),
+        Err(AddFault::Memory) => Err(ShelfFault::Memory),
+        Err(_) => Err(ShelfFault::Device),
+    }
+}
+
 #[test]
 fn each_call(rt: HostRuntime) -> Result<(), Fail> {
     let mut shelf = MemoryShelf::new(rt.alloc());
@@ -153,11 +168,14 @@ fn each_call(rt: HostRuntime) -> Result<(), Fail> {
     )?;
     shelf.begin()?;
     memory_abandons(&mut shelf)?;
+    let exported = reading(&rt, Register::E1, FIVE, 1);
+    assert!(rt; added(&mut shelf, &exported)?);
+    assert!(rt; !added(&mut shelf, &exported)?);
     found_at(&rt, &mut shelf, &readings[0])?;
     never_at(&rt, &mut shelf, &assigned(&rt, SIX, 0))?;
     listed(&rt, rt.alloc(), &mut shelf, &readings, &owner, &topups)?;
     unlisted(&rt, rt.alloc(), &mut shelf)?;
-    assert_eq!(rt; shelf.count()?, 6);
+    assert_eq!(rt; shelf.count()?, 7);
     Ok(())
 }
 
@@ -189,6 +207,14 @@ fn added_or_refused<S: Shelf>(
     Ok(())
 }
 
+// At most one record, or want of memory.
+fn one_or_refused(rt: &impl Abort, found: Result<Vec<Entry>, ShelfFault>) {
+    match found {
+        Ok(found) => assert!(rt; found.len() <= 1),
+        Err(fault) => assert_eq!(rt; fault, ShelfFault::Memory),
+    }
+}
+
 #[test]
 fn refused_memory_changes_nothing(rt: HostRuntime) -> Result<(), Fail> {
     let mut shelf = MemoryShelf::new(rt.alloc());
@@ -200,10 +226,9 @@ fn refused_memory_changes_nothing(rt: HostRuntime) -> Result<(), Fail> {
     added_or_refused(&rt, &mut shelf, &assigned(&rt, FIVE, 1))?;
     added_or_refused(&rt, &mut shelf, &paid(&rt, b"P1", 2_000))?;
     let before = shelf.count()?;
-    match shelf.topups(rt.alloc()) {
-        Ok(found) => assert!(rt; found.len() <= 1),
-        Err(fault) => assert_eq!(rt; fault, ShelfFault::Memory),
-    }
+    one_or_refused(&rt, shelf.topups(rt.alloc()));
+    one_or_refused(&rt, shelf.readings_of(rt.alloc(), METER, Register::I1));
+    one_or_refused(&rt, shelf.assignments_of(rt.alloc(), METER));
     assert_eq!(rt; shelf.count()?, before);
     Ok(())
 }
