@@ -5,9 +5,11 @@
 mod bytes;
 mod crc;
 mod ending;
+mod fault;
 mod frame;
 mod frames;
 mod head;
+mod hexadecimal;
 pub mod laws;
 mod parity;
 mod search;

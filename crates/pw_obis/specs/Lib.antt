@@ -2,6 +2,7 @@ pub mod Address
 pub mod Answers
 pub mod Block
 pub mod Coming
+pub mod Faults
 pub mod FirstValue
 pub mod Found
 pub mod Groups

@@ -8,6 +8,7 @@
 mod address;
 mod data_set;
 mod energy;
+mod fault;
 pub mod laws;
 mod line;
 mod meaning;

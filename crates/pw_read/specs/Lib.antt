@@ -1,4 +1,3 @@
-pub mod Hexadecimal
 pub mod FaultLine
 pub mod Lines
 pub mod Instant

@@ -1,7 +1,6 @@
 ghost use Rattle.std.specs.Prelude.{◌≡◌};
-ghost use Rattle.pw_read.specs.FaultLine.{cause_name};
+ghost use Rattle.pw_read.specs.FaultLine.{cause_name, cause_number};
 
-use crate::hexadecimal::{FourDigits, TwoDigits};
 use pw_frame::FrameFault;
 use pw_obis::ValueFault;
 use pw_time::StampFault;
@@ -56,28 +55,25 @@ pub enum ReadFault {
 }
 
 impl Cause {
-    /// The number and the name.
+    fn number(self) -> u8
+        ensures { result ≡ cause_number self }
+    {
+        match self {
+            Cause::Frame(fault) => fault.number(),
+            Cause::Line => 20,
+            Cause::Value(fault) => fault.number(),
+            Cause::Instant(fault) => fault.number(),
+        }
+    }
+
     fn name(self) -> &'static str
         ensures { result.now ≡ cause_name self }
     {
         match self {
-            Cause::Frame(FrameFault::Header { .. }) => "10 Header",
-            Cause::Frame(FrameFault::NoEnd { .. }) => "11 NoEnd",
-            Cause::Frame(FrameFault::Crc { .. }) => "12 Crc",
-            Cause::Frame(FrameFault::Trailer { .. }) => "13 Trailer",
-            Cause::Frame(FrameFault::BlockCheck { .. }) => "14 BlockCheck",
-            Cause::Frame(FrameFault::HighBit { .. }) => "15 HighBit",
-            Cause::Line => "20 Line",
-            Cause::Value(ValueFault::Digits) => "21 Digits",
-            Cause::Value(ValueFault::Unit) => "22 Unit",
-            Cause::Value(ValueFault::TooLarge) => "23 TooLarge",
-            Cause::Instant(StampFault::Form) => "1 Form",
-            Cause::Instant(StampFault::NoSuchDate) => "2 NoSuchDate",
-            Cause::Instant(StampFault::NoSuchTime) => "3 NoSuchTime",
-            Cause::Instant(StampFault::Mark) => "4 Mark",
-            Cause::Instant(StampFault::Range) => "5 Range",
-            Cause::Instant(StampFault::Gap) => "6 Gap",
-            Cause::Instant(StampFault::Fold) => "7 Fold",
+            Cause::Frame(fault) => fault.name(),
+            Cause::Line => "Line",
+            Cause::Value(fault) => fault.name(),
+            Cause::Instant(fault) => fault.name(),
         }
     }
 }
@@ -96,28 +92,7 @@ impl fmt::Display for Details {
         let Cause::Frame(fault) = self.0 else {
             return Ok(());
         };
-        match fault {
-            FrameFault::Crc {
-                at,
-                stated,
-                computed,
-            } => {
-                let (stated, computed) = (FourDigits(stated), FourDigits(computed));
-                write!(f, " at {at} stated {stated} computed {computed}")
-            }
-            FrameFault::BlockCheck {
-                at,
-                stated,
-                computed,
-            } => {
-                let (stated, computed) = (TwoDigits(stated), TwoDigits(computed));
-                write!(f, " at {at} stated {stated} computed {computed}")
-            }
-            FrameFault::Header { at }
-            | FrameFault::NoEnd { at }
-            | FrameFault::Trailer { at }
-            | FrameFault::HighBit { at } => write!(f, " at {at}"),
-        }
+        write!(f, " {fault}")
     }
 }
 
@@ -130,9 +105,10 @@ impl fmt::Display for Refusal {
     ghost output = { λ refusal. Some (fault_line refusal) };
 
     fn fmt<W: fmt::Write>(&self, f: &mut fmt::Formatter<W>) -> fmt::Result {
+        let number = self.cause.number();
         let name = self.cause.name();
         let part = self.part;
         let details = Details(self.cause);
-        write!(f, "refused {name} part {part}{details}")
+        write!(f, "refused {number} {name} part {part}{details}")
     }
 }

@@ -3,7 +3,6 @@
 
 mod fault;
 mod frame_text;
-mod hexadecimal;
 mod moment;
 mod run;
 mod set_line;

@@ -1,5 +1,5 @@
 ghost use Rattle.std.specs.Prelude.{◌≡◌, ◌<◌};
-ghost use Rattle.pw_read.specs.Hexadecimal.{digit_character as character_of};
+ghost use Rattle.pw_frame.specs.Hexadecimal.{digit_character as character_of};
 
 use std::fmt;
 
@@ -9,7 +9,7 @@ pub struct TwoDigits(pub u8);
 
 impl fmt::Display for TwoDigits {
     ghost use Rattle.std.specs.Prelude.{Some};
-    ghost use Rattle.pw_read.specs.Hexadecimal.{two_digits};
+    ghost use Rattle.pw_frame.specs.Hexadecimal.{two_digits};
 
     ghost output = { λ number. Some (two_digits number.0) };
 
@@ -25,7 +25,7 @@ pub struct FourDigits(pub u16);
 
 impl fmt::Display for FourDigits {
     ghost use Rattle.std.specs.Prelude.{Some};
-    ghost use Rattle.pw_read.specs.Hexadecimal.{four_digits};
+    ghost use Rattle.pw_frame.specs.Hexadecimal.{four_digits};
 
     ghost output = { λ number. Some (four_digits number.0) };
 

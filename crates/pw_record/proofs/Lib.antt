@@ -1,0 +1,10 @@
+pub mod Deduplicated
+pub mod EntryOrder
+pub mod Fields
+pub mod OfOffice
+pub mod RowFacts
+pub mod Members
+pub mod Telling
+pub mod Capitals
+pub mod Measuring
+pub mod FrameFacts

@@ -1,0 +1,67 @@
+-- What rows give is of the office.
+use Rattle.std.proofs.Common.{◌≡◌, ℕ, ◌<◌, Option, Some, None, option_map, slice_get, List, [], ◌∷◌, length, sym, ap, subst, ◌∙◌, ⊎_elim, Ok}
+use Rattle.std.proofs.lemmas.Option.{slice_get_within, slice_get_cases, none-some}
+use Rattle.pw_tariff.specs.declared.ids.AccountId.{AccountId}
+use Rattle.pw_tariff.specs.Office.{OfficeFile, MeterText, office_of}
+use Rattle.pw_time.specs.Instants.{IsInstant}
+use Rattle.pw_time.specs.Outcomes.{IsUtcOutcome}
+use Rattle.pw_model.specs.declared.records.Key.{Key}
+use Rattle.pw_model.specs.declared.records.Key.TheVariants as key
+use Rattle.pw_model.specs.declared.records.Content.{Content}
+use Rattle.pw_model.specs.declared.records.Content.TheVariants as content
+use Rattle.pw_model.specs.declared.records.Entry.{Entry}
+use Rattle.pw_model.specs.Counting.{Member, assignment_key}
+use Rattle.pw_model.specs.Office.{IsOf, IsOfOffice, AllOfOffice, HasOwner}
+use Rattle.pw_model.specs.Same.{HasReference}
+use Rattle.pw_record.specs.declared.row.RowKind.{RowKind}
+use Rattle.pw_record.specs.declared.row.RowKind.TheVariants.{Assignment, TopUp}
+use Rattle.pw_record.specs.Listed.{AreListed, HaveReferences}
+use Rattle.pw_record.specs.Names.{IsOwner}
+use Rattle.pw_record.specs.Row.{Row, GivesEntry}
+use Rattle.pw_record.specs.Rows.{GiveEntries}
+
+-- what a place has lies in the list
+pub within : {X Y : Type 0} (f : X → Y) (xs : List X) (i : ℕ) (y : Y) → option_map f (slice_get xs i) ≡ Some y → i < length xs
+within {X} {Y} f xs i y e = ⊎_elim
+    (λ x. x.1)
+    (λ n. absurd (none-some y (sym (ap (option_map f) n.1) ∙ e)))
+    (slice_get_cases xs i).1
+
+pub utc-instant : (text : List ℕ) (t : ℕ) → IsUtcOutcome text (Ok t) → IsInstant t
+utc-instant text t x = x.2.2
+
+owner-of : (file : OfficeFile) (name : List ℕ) (owner : Option AccountId) → IsOwner file name owner → HasOwner (office_of file) owner
+owner-of file name None x = tt
+owner-of file name (Some account) x = slice_get_within file.accounts account.0 name x.1
+
+pub given-by : (file : OfficeFile) (e f : Entry) → e ≡ f → IsOfOffice (office_of file) f → IsOfOffice (office_of file) e
+given-by file e f i x = subst (IsOfOffice (office_of file)) (sym i) x
+
+pub of-office : (file : OfficeFile) (kind : RowKind) (row : Row) (e : Entry) → GivesEntry file kind row e → IsOfOffice (office_of file) e
+of-office file Assignment row e x =
+    given-by file e (record { key = assignment_key x.meter x.instant; content = content.Assignment x.owner }) x.entry_is
+    (within (λ (m : MeterText). m.id) file.meters x.meter x.id x.meter_is, utc-instant x.start x.instant x.start_is, owner-of file x.account x.owner x.owner_is)
+of-office file TopUp row e x =
+    given-by file e (record { key = key.TopUp x.reference; content = content.TopUp (record { 0 = x.account }) x.cents x.instant }) x.entry_is
+    (x.reference_is, slice_get_within file.accounts x.account x.name x.account_is, x.cents_are.least, x.cents_are.most, utc-instant x.when x.instant x.instant_is)
+
+pub all-of-office : (file : OfficeFile) (kind : RowKind) (rows : List Row) (given : List Entry) → GiveEntries file kind rows given → AllOfOffice (office_of file) given
+all-of-office file kind [] given x e m = absurd (subst (Member e) x m)
+all-of-office file kind (row ∷ rows) [] x e m = absurd x
+all-of-office file kind (row ∷ rows) (g ∷ given) x e m = ⊎_elim
+    (λ (i : e ≡ g). given-by file e g i (of-office file kind row g x.0))
+    (λ (n : Member e given). all-of-office file kind rows given x.1 e n)
+    m
+
+reference-of : (file : OfficeFile) (k : Key) (c : Content) → IsOf (office_of file) k c → HasReference k
+reference-of file (key.Reading m r t) c x = tt
+reference-of file (key.Assignment m t) c x = tt
+reference-of file (key.TopUp r) (content.TopUp a n t) x = x.0
+reference-of file (key.TopUp r) (content.Reading w) x = absurd x
+reference-of file (key.TopUp r) (content.Assignment o) x = absurd x
+
+pub have-references : (file : OfficeFile) (given : List Entry) → AllOfOffice (office_of file) given → HaveReferences given
+have-references file given a e m = reference-of file e.key e.content (a e m)
+
+pub listed-of-office : (file : OfficeFile) (given listed : List Entry) → AreListed given listed → AllOfOffice (office_of file) given → AllOfOffice (office_of file) listed
+listed-of-office file given listed l a e m = a e ((l.same e).1 m)

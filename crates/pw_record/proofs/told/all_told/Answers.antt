@@ -1,0 +1,28 @@
+use Rattle.std.proofs.Common.{◌++◌, ◌∷◌, [], List, subst, sym, ap, ◌∙◌}
+use Rattle.pw_obis.specs.Line.{SetText}
+use Rattle.pw_record.specs.Told.{AreTelling, text_of}
+use Rattle.pw_record.proofs.Members.{given_behind, all_done}
+use Rattle.pw_record.proofs.told.all_told.Goals as goal
+
+pub returns-in_default-next : goal.returns-in_default-next
+returns-in_default-next c = λ sets x.
+    let i = c.sets.invariant in
+    let h = rw c.in_default-next.is at c.in-Some.ensures in
+    let same = all_done c.args.block.now c.new-sets.result.sets i.0 c.sets.sets.sets c.new-sets.result.refusal c.new-sets.ensures i.1 h.0 sets x in
+    subst (λ (s : List SetText). AreTelling c.args.meaning s c.sets.told) same i.3
+
+pub sets-preserved : goal.sets-preserved
+sets-preserved c =
+    let i = c.sets.invariant in
+    let h = rw c.in-Ok.is at c.in-Some.ensures in (
+      i.0 ++ text_of c.in-Ok.set ∷ [],
+      given_behind c.new-sets.result.sets i.0 c.sets.sets.sets c.next_set.new.self.sets h.0 c.in-Ok.set h.1 i.1 h.2,
+      sym h.3 ∙ i.2,
+      c.joined-told.ensures i.0 i.3,
+    )
+
+pub returns : goal.returns
+returns c = λ sets x.
+    let i = c.sets.invariant in
+    let same = all_done c.args.block.now c.new-sets.result.sets i.0 c.sets.sets.sets c.new-sets.result.refusal c.new-sets.ensures i.1 (ap (λ y. y.sets) c.in_default.ensures.0) sets x in
+    subst (λ (s : List SetText). AreTelling c.args.meaning s c.sets.told) same i.3

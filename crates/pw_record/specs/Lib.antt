@@ -1,0 +1,10 @@
+pub mod Causes
+pub mod Listed
+pub mod Names
+pub mod Cents
+pub mod Row
+pub mod Rows
+pub mod Told
+pub mod Origin
+pub mod Shown
+pub mod Frames

@@ -1,0 +1,163 @@
+//! Why an upload is refused.
+
+ghost use Rattle.std.specs.Prelude.{◌≡◌};
+ghost use Rattle.pw_record.specs.Causes.{cause_name, cause_number};
+
+use pw_frame::FrameFault;
+use pw_obis::{LineFault, ValueFault};
+use pw_time::StampFault;
+use std::fmt;
+
+/// What is wrong with a part of a body, or with the body itself.
+#[derive(Clone, Copy, Debug, PartialEq, Eq)]
+pub enum Cause {
+    /// 1 to 7: a stamp, a date and a time, or an instant of a row.
+    Stamp(StampFault),
+    /// 10 to 15: no frame stands there.
+    Frame(FrameFault),
+    /// 20: a line of the frame's block isn't in the grammar of data sets.
+    Line(LineFault),
+    /// 21 to 23: the value of a register that counts.
+    Value(ValueFault),
+    /// 40: a telegram has no meter identifier.
+    NoMeter,
+    /// 41: the office has no meter with the id.
+    UnknownMeter,
+    /// 42: a frame is of another kind than its path is for, or its meter's clock is.
+    WrongKind,
+    /// 43: a telegram has no stamp, or a readout lacks its date or its time.
+    NoInstant,
+    /// 44: a frame shows a register twice, with unlike energies.
+    RegisterTwice,
+    /// 45: a frame shows no register that counts for its meter.
+    NoRegister,
+    /// 46: the office has no account with the name.
+    UnknownAccount,
+    /// 47: a row hasn't the number of fields of its kind.
+    CsvForm,
+    /// 48: the first row isn't the header of the body's kind, or there is none.
+    Header,
+    /// 49: cents aren't 1 to 9 digits of a value from 1 to 100,000,000.
+    Cents,
+    /// 50: a reference isn't 1 to 32 characters of A to Z, a to z, 0 to 9, `-` and `.`.
+    Reference,
+    /// 51: more than 64 frames, or more than 1,000 rows.
+    TooManyParts,
+    /// 52: a frame gives two unlike identifiers, stamps, dates or times.
+    TwiceGiven,
+    /// 62: memory was refused.
+    Memory,
+}
+
+/// Why a part of a body gives no entries.
+#[derive(Clone, Copy, Debug, PartialEq, Eq)]
+pub enum Halt {
+    /// Memory was refused, which says nothing of the part.
+    Memory,
+    Refused(Cause),
+}
+
+/// Want of memory, in whatever part.
+pub const MEMORY_FAULT: UploadFault = UploadFault {
+    part: 0,
+    cause: Cause::Memory,
+};
+
+/// Why an upload is refused, and which part of it.
+///
+/// A part is a frame, or a row behind the header; they are counted from 1. A fault before the first part, as that of a
+/// header, has the part 0, and so has want of memory.
+#[derive(Clone, Copy, Debug, PartialEq, Eq)]
+pub struct UploadFault {
+    pub part: u32,
+    pub cause: Cause,
+}
+
+impl Cause {
+    /// The number under which the cause is reported.
+    pub fn number(self) -> u8
+        ensures { result ≡ cause_number self }
+    {
+        match self {
+            Cause::Stamp(fault) => fault.number(),
+            Cause::Frame(fault) => fault.number(),
+            Cause::Line(fault) => fault.number(),
+            Cause::Value(fault) => fault.number(),
+            Cause::NoMeter => 40,
+            Cause::UnknownMeter => 41,
+            Cause::WrongKind => 42,
+            Cause::NoInstant => 43,
+            Cause::RegisterTwice => 44,
+            Cause::NoRegister => 45,
+            Cause::UnknownAccount => 46,
+            Cause::CsvForm => 47,
+            Cause::Header => 48,
+            Cause::Cents => 49,
+            Cause::Reference => 50,
+            Cause::TooManyParts => 51,
+            Cause::TwiceGiven => 52,
+            Cause::Memory => 62,
+        }
+    }
+
+    /// The name under which the cause is reported: that of the variant, or of the fault that it holds.
+    pub fn name(self) -> &'static str
+        ensures { result.now ≡ cause_name self }
+    {
+        match self {
+            Cause::Stamp(fault) => fault.name(),
+            Cause::Frame(fault) => fault.name(),
+            Cause::Line(fault) => fault.name(),
+            Cause::Value(fault) => fault.name(),
+            Cause::NoMeter => "NoMeter",
+            Cause::UnknownMeter => "UnknownMeter",
+            Cause::WrongKind => "WrongKind",
+            Cause::NoInstant => "NoInstant",
+            Cause::RegisterTwice => "RegisterTwice",
+            Cause::NoRegister => "NoRegister",
+            Cause::UnknownAccount => "UnknownAccount",
+            Cause::CsvForm => "CsvForm",
+            Cause::Header => "Header",
+            Cause::Cents => "Cents",
+            Cause::Reference => "Reference",
+            Cause::TooManyParts => "TooManyParts",
+            Cause::TwiceGiven => "TwiceGiven",
+            Cause::Memory => "Memory",
+        }
+    }
+}
+
+/// What the fault line tells behind the part's number: of a frame that isn't there the place, and the checks.
+#[derive(Clone, Copy)]
+struct Details(Cause);
+
+impl fmt::Display for Details {
+    ghost use Rattle.std.specs.Prelude.{Some};
+    ghost use Rattle.pw_record.specs.Causes.{cause_details};
+
+    ghost output = { λ details. Some (cause_details details.0) };
+
+    fn fmt<W: fmt::Write>(&self, f: &mut fmt::Formatter<W>) -> fmt::Result {
+        let Cause::Frame(fault) = self.0 else {
+            return Ok(());
+        };
+        write!(f, " {fault}")
+    }
+}
+
+/// The fault line without its end: `refused`, the number, the name, and `part` with its number; for 10 to 15 `at` with
+/// the place, and for 12 and 14 the stated and the computed check.
+impl fmt::Display for UploadFault {
+    ghost use Rattle.std.specs.Prelude.{Some};
+    ghost use Rattle.pw_record.specs.Causes.{fault_line};
+
+    ghost output = { λ fault. Some (fault_line fault) };
+
+    fn fmt<W: fmt::Write>(&self, f: &mut fmt::Formatter<W>) -> fmt::Result {
+        let number = self.cause.number();
+        let name = self.cause.name();
+        let part = self.part;
+        let details = Details(self.cause);
+        write!(f, "refused {number} {name} part {part}{details}")
+    }
+}

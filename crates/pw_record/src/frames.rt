@@ -1,0 +1,155 @@
+//! Bodies of telegrams and of readouts.
+
+ghost use Rattle.std.specs.Prelude.{◌≡◌, ◌<◌, ◌++◌, List, Option, Some, None, IfOk, IfErr, OnOk, Err, length};
+ghost use Rattle.pw_frame.specs.Frame.{text_of};
+ghost use Rattle.pw_obis.specs.Block.{HasSets};
+ghost use Rattle.pw_obis.specs.Line.{SetText};
+ghost use Rattle.pw_tariff.specs.Office.{office_of};
+ghost use Rattle.pw_model.specs.Office.{AllOfOffice};
+ghost use Rattle.pw_record.specs.Origin.{IsSourceOf};
+ghost use Rattle.pw_record.specs.Frames.{BodyGives, BodyRefused, FrameGives, ReadoutsGive, ReadoutsRefused, RefusesFrame, TelegramsGive, TelegramsRefused};
+
+use crate::fault::{Cause, Halt, MEMORY_FAULT, UploadFault};
+use crate::order::in_order;
+use crate::origin::{Source, block_origin};
+use crate::shown::{all_shown, is_nothing_shown, put_readings};
+use pw_frame::{Frame, Frames};
+use pw_model::Entry;
+use pw_obis::{LineFault, Sets};
+use pw_tariff::Office;
+use pw_time::{Clock, Zone};
+use std::alloc::Global;
+
+/// The most frames of a body.
+pub const MOST_FRAMES: u32 = 64;
+
+/// The entries of a body of telegrams (DSMR P1 Companion Standard 5.0.2), or the first refusal.
+///
+/// Each telegram is of the meter that it names, by an identifier whose letters a to f are read as capitals, and its
+/// entries are the readings of the registers that the office counts for the meter. `Memory` is answered only where
+/// memory was refused.
+pub fn telegram_records(
+    alloc: Global,
+    office: &Office,
+    zone: &Zone,
+    body: &[u8],
+) -> Result<Vec<Entry>, UploadFault>
+    ensures entries { IfOk result (λ entries. TelegramsGive office.now body.now entries.items) }
+    ensures of_office { IfOk result (λ entries. AllOfOffice (office_of office.now) entries.items) }
+    ensures refused { IfErr result (λ fault. TelegramsRefused office.now body.now fault) }
+{
+    frame_records(alloc, office, zone, Source::Telegrams, body)
+}
+
+/// The entries of a body of readouts (IEC 62056-21) of the meter with an id, or the first refusal.
+///
+/// The meter's clock tells how dates and times are read. That the meter is unknown, or that its clock marks its times,
+/// is told with the part 0 before anything else. `Memory` is answered only where memory was refused.
+pub fn readout_records(
+    alloc: Global,
+    meter: &[u8],
+    office: &Office,
+    zone: &Zone,
+    body: &[u8],
+) -> Result<Vec<Entry>, UploadFault>
+    ensures entries { IfOk result (λ entries. ReadoutsGive office.now meter.now body.now entries.items) }
+    ensures of_office { IfOk result (λ entries. AllOfOffice (office_of office.now) entries.items) }
+    ensures refused { IfErr result (λ fault. ReadoutsRefused office.now meter.now body.now fault) }
+{
+    let Some(meter) = office.meter(meter) else {
+        let cause = Cause::UnknownMeter;
+        return Err(UploadFault { part: 0, cause });
+    };
+    let clock = office.clock(meter);
+    if clock == Clock::Marked {
+        let cause = Cause::WrongKind;
+        return Err(UploadFault { part: 0, cause });
+    }
+    frame_records(alloc, office, zone, Source::Readouts(meter, clock), body)
+}
+
+fn frame_records(
+    alloc: Global,
+    office: &Office,
+    zone: &Zone,
+    source: Source,
+    body: &[u8],
+) -> Result<Vec<Entry>, UploadFault>
+    requires { IsSourceOf office.now source }
+    ensures entries { IfOk result (λ entries. BodyGives office.now source body.now entries.items) }
+    ensures of_office { IfOk result (λ entries. AllOfOffice (office_of office.now) entries.items) }
+    ensures refused { IfErr result (λ fault. BodyRefused office.now source body.now fault) }
+{
+    let mut given = Vec::new(alloc);
+    let mut frames = Frames::new(body);
+    let mut part = 1;
+    'frames: while let Some(next) = frames.next_frame() {
+        if part > MOST_FRAMES {
+            let cause = Cause::TooManyParts;
+            return Err(UploadFault { part, cause });
+        }
+        let frame = match next {
+            Ok(frame) => frame,
+            Err(fault) => {
+                let cause = Cause::Frame(fault);
+                return Err(UploadFault { part, cause });
+            }
+        };
+        match put_frame(&mut given, office, zone, source, &frame) {
+            Ok(()) => {}
+            Err(Halt::Memory) => return Err(MEMORY_FAULT),
+            Err(Halt::Refused(cause)) => return Err(UploadFault { part, cause }),
+        }
+        part += 1;
+    }
+    Ok(in_order(given))
+}
+
+/// Puts the readings of a frame behind the entries.
+fn put_frame(
+    given: &mut Vec<Entry>,
+    office: &Office,
+    zone: &Zone,
+    source: Source,
+    frame: &Frame,
+) -> Result<(), Halt>
+    requires { IsSourceOf office.now source }
+    ensures ok { OnOk result ((more : List Entry) × FrameGives office.now source (text_of frame.now) more × (given.new.items ≡ given.old.items ++ more)) }
+    ensures err { (cause : Cause) → result ≡ Err (Halt.Refused cause) → RefusesFrame office.now source (text_of frame.now) cause }
+{
+    if frame.kind != source.kind() {
+        return Err(Halt::Refused(Cause::WrongKind));
+    }
+    if let Err(fault) = check_lines(frame.block) {
+        return Err(Halt::Refused(Cause::Line(fault)));
+    }
+    let origin = match block_origin(office, zone, source, frame.block) {
+        Ok(origin) => origin,
+        Err(cause) => return Err(Halt::Refused(cause)),
+    };
+    let shown = match all_shown(office, origin.meter, frame.block) {
+        Ok(shown) => shown,
+        Err(cause) => return Err(Halt::Refused(cause)),
+    };
+    if is_nothing_shown(&shown) {
+        return Err(Halt::Refused(Cause::NoRegister));
+    }
+    if put_readings(given, &origin, &shown).is_err() {
+        return Err(Halt::Memory);
+    }
+    Ok(())
+}
+
+/// Whether all lines of a block are in the grammar, or the first that isn't.
+fn check_lines(block: &[u8]) -> Result<(), LineFault>
+    ensures ok { OnOk result ((sets : List SetText) × HasSets block.now sets None) }
+    ensures err { IfErr result (λ fault. (sets : List SetText) × HasSets block.now sets (Some fault.at)) }
+{
+    let mut sets = Sets::new(block);
+    'sets: while let Some(next) = sets.next_set() {
+        if let Err(fault) = next {
+            return Err(fault);
+        }
+    }
+    Ok(())
+}

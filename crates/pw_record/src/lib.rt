@@ -1,0 +1,20 @@
+//! Records from upload bodies: telegrams, readouts, rows of assignments and rows of top-ups.
+#![tactic(auto)]
+
+mod cents;
+mod fault;
+mod frames;
+mod order;
+mod origin;
+mod row;
+mod rows;
+mod shown;
+mod told;
+
+pub use fault::{Cause, UploadFault};
+pub use frames::{MOST_FRAMES, readout_records, telegram_records};
+pub use pw_model::{Content, Entry, Key, Reference};
+pub use rows::{MOST_ROWS, assignment_records, topup_records};
+
+#[cfg(test)]
+mod tests;

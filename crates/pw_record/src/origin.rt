@@ -1,0 +1,147 @@
+//! The meter and the instant of a frame.
+
+ghost use Rattle.std.specs.Prelude.{◌≡◌, List, None, IfOk, IfErr, IfSome, IfNone};
+ghost use Rattle.pw_obis.specs.Block.{HasSets};
+ghost use Rattle.pw_obis.specs.Line.{SetText};
+ghost use Rattle.pw_record.specs.Names.{HasId, IsUnknownId};
+ghost use Rattle.pw_record.specs.Origin.{HasDateAndTime, HasMeter, HasOrigin, HasStamp, RefusesDateAndTime, RefusesMeter, RefusesOrigin, RefusesStamp, kind_of};
+ghost use Rattle.pw_record.specs.Told.{capitals};
+
+use crate::fault::Cause;
+use crate::told::{Meaning, Told, all_told, is_in_capitals};
+use pw_frame::Kind;
+use pw_tariff::{MeterId, Office};
+use pw_time::{Clock, Instant, Zone, readout_instant, stamp};
+
+/// Where the frames of a body come from.
+#[derive(Clone, Copy, Debug, PartialEq, Eq)]
+pub enum Source {
+    /// Telegrams, each of the meter that it names.
+    Telegrams,
+    /// Readouts of one meter, with what its clock tells.
+    Readouts(MeterId, Clock),
+}
+
+/// Whose the readings of a frame are, and when they were taken.
+#[derive(Clone, Copy, Debug)]
+pub struct Origin {
+    pub meter: MeterId,
+    pub instant: Instant,
+}
+
+impl Source {
+    /// The kind of its frames.
+    pub fn kind(self) -> Kind
+        ensures { result ≡ kind_of self }
+    {
+        match self {
+            Source::Telegrams => Kind::Telegram,
+            Source::Readouts(..) => Kind::Readout,
+        }
+    }
+}
+
+/// The meter and the instant of a frame's block.
+pub fn block_origin(
+    office: &Office,
+    zone: &Zone,
+    source: Source,
+    block: &[u8],
+) -> Result<Origin, Cause>
+    ensures ok { IfOk result (λ origin. (sets : List SetText) → HasSets block.now sets None → HasOrigin office.now source sets origin.meter.0 origin.instant) }
+    ensures err { IfErr result (λ cause. (sets : List SetText) → HasSets block.now sets None → RefusesOrigin office.now source sets cause) }
+{
+    match source {
+        Source::Telegrams => telegram_origin(office, block),
+        Source::Readouts(meter, clock) => match date_and_time(block, clock, zone) {
+            Ok(instant) => Ok(Origin { meter, instant }),
+            Err(cause) => Err(cause),
+        },
+    }
+}
+
+fn telegram_origin(office: &Office, block: &[u8]) -> Result<Origin, Cause>
+    ensures ok { IfOk result (λ origin. (sets : List SetText) → HasSets block.now sets None → HasOrigin office.now Source.Telegrams sets origin.meter.0 origin.instant) }
+    ensures err { IfErr result (λ cause. (sets : List SetText) → HasSets block.now sets None → RefusesOrigin office.now Source.Telegrams sets cause) }
+{
+    let meter = match telegram_meter(office, block) {
+        Ok(meter) => meter,
+        Err(cause) => return Err(cause),
+    };
+    match telegram_instant(block) {
+        Ok(instant) => Ok(Origin { meter, instant }),
+        Err(cause) => Err(cause),
+    }
+}
+
+/// The meter that the identifiers of a telegram name. Its clock marks its times.
+fn telegram_meter(office: &Office, block: &[u8]) -> Result<MeterId, Cause>
+    ensures ok { IfOk result (λ meter. (sets : List SetText) → HasSets block.now sets None → HasMeter office.now sets meter.0) }
+    ensures err { IfErr result (λ cause. (sets : List SetText) → HasSets block.now sets None → RefusesMeter office.now sets cause) }
+{
+    let identifier = match all_told(block, Meaning::Identifier) {
+        Told::Nothing => return Err(Cause::NoMeter),
+        Told::Unlike => return Err(Cause::TwiceGiven),
+        Told::One(identifier) => identifier,
+    };
+    let Some(meter) = meter_in_capitals(office, identifier) else {
+        return Err(Cause::UnknownMeter);
+    };
+    match office.clock(meter) {
+        Clock::Marked => Ok(meter),
+        _ => Err(Cause::WrongKind),
+    }
+}
+
+/// The meter whose id an identifier is, its letters a to f read as capitals.
+fn meter_in_capitals(office: &Office, identifier: &[u8]) -> Option<MeterId>
+    ensures some { IfSome result (λ meter. HasId office.now (capitals identifier.now) meter.0) }
+    ensures none { IfNone result (IsUnknownId office.now (capitals identifier.now)) }
+{
+    for place in 0..office.meters() {
+        let meter = MeterId(place);
+        if is_in_capitals(identifier, office.meter_name(meter).as_bytes()) {
+            return Some(meter);
+        }
+    }
+    None
+}
+
+/// The instant that the stamps of a telegram tell.
+fn telegram_instant(block: &[u8]) -> Result<Instant, Cause>
+    ensures ok { IfOk result (λ instant. (sets : List SetText) → HasSets block.now sets None → HasStamp sets instant) }
+    ensures err { IfErr result (λ cause. (sets : List SetText) → HasSets block.now sets None → RefusesStamp sets cause) }
+{
+    let text = match all_told(block, Meaning::Stamp) {
+        Told::Nothing => return Err(Cause::NoInstant),
+        Told::Unlike => return Err(Cause::TwiceGiven),
+        Told::One(text) => text,
+    };
+    match stamp(text) {
+        Ok(instant) => Ok(instant),
+        Err(fault) => Err(Cause::Stamp(fault)),
+    }
+}
+
+/// The instant that the dates and the times of a readout tell.
+fn date_and_time(block: &[u8], clock: Clock, zone: &Zone) -> Result<Instant, Cause>
+    ensures ok { IfOk result (λ instant. (sets : List SetText) → HasSets block.now sets None → HasDateAndTime clock sets instant) }
+    ensures err { IfErr result (λ cause. (sets : List SetText) → HasSets block.now sets None → RefusesDateAndTime clock sets cause) }
+{
+    let time = all_told(block, Meaning::Time);
+    match all_told(block, Meaning::Date) {
+        Told::Nothing => Err(Cause::NoInstant),
+        Told::One(date) => match time {
+            Told::Nothing => Err(Cause::NoInstant),
+            Told::One(time) => match readout_instant(date, time, clock, zone) {
+                Ok(instant) => Ok(instant),
+                Err(fault) => Err(Cause::Stamp(fault)),
+            },
+            Told::Unlike => Err(Cause::TwiceGiven),
+        },
+        Told::Unlike => match time {
+            Told::Nothing => Err(Cause::NoInstant),
+            _ => Err(Cause::TwiceGiven),
+        },
+    }
+}

@@ -1,0 +1,166 @@
+//! What the sets of a frame show of the registers that count.
+
+ghost use Rattle.std.specs.Prelude.{◌≡◌, ◌≢◌, ◌<◌, ◌+◌, ◌++◌, ℕ, List, Option, Some, None, IfOk, IfErr, IfSome, OnOk, MatchOption, Ok, Err, length};
+ghost use Rattle.std.specs.Bool.{OnTrue, OnFalse};
+ghost use Rattle.pw_obis.specs.Address.{IsCodeOf};
+ghost use Rattle.pw_obis.specs.Block.{HasSets};
+ghost use Rattle.pw_obis.specs.Line.{SetText};
+ghost use Rattle.pw_tariff.specs.Office.{register_place as place_of};
+ghost use Rattle.pw_record.specs.Shown.{AreShown, HasWrongSet, IsNoted, IsUnlike, Measures, MeasuresNothing, reading_of, readings_of, shown_in};
+ghost use Rattle.pw_record.specs.Told.{text_of};
+
+use crate::fault::Cause;
+use crate::order::put;
+use crate::origin::Origin;
+use pw_model::{Content, Entry, Key};
+use pw_obis::{Register, Set, Sets, ValueFault, WattHours, first_value, register, watt_hours};
+use pw_tariff::{MeterId, Office};
+use std::alloc::AllocError;
+
+/// The registers, in their order.
+pub const REGISTERS: [Register; 6] = [
+    Register::I0,
+    Register::I1,
+    Register::I2,
+    Register::E0,
+    Register::E1,
+    Register::E2,
+];
+
+/// What is shown of each register, by its place.
+pub type Shown = [Option<WattHours>; 6];
+
+/// A register and what it shows.
+#[derive(Clone, Copy, Debug)]
+struct Reading {
+    register: Register,
+    wh: WattHours,
+}
+
+/// What the sets of a block show of the registers that count for a meter.
+pub fn all_shown(office: &Office, meter: MeterId, block: &[u8]) -> Result<Shown, Cause>
+    requires meter { meter.0 < length office.now.meters }
+    requires sets { (sets : List SetText) × HasSets block.now sets None }
+    ensures ok { IfOk result (λ shown. (sets : List SetText) → HasSets block.now sets None → AreShown office.now meter.0 sets (shown_in shown)) }
+    ensures err { IfErr result (λ cause. (sets : List SetText) → HasSets block.now sets None → HasWrongSet office.now meter.0 sets cause) }
+{
+    let mut shown = [None; 6];
+    let mut sets = Sets::new(block);
+    'sets: while let Some(next) = sets.next_set() {
+        let Ok(set) = next else {
+            return Ok(shown);
+        };
+        let reading = match measured(office, meter, &set) {
+            Ok(Some(reading)) => reading,
+            Ok(None) => continue,
+            Err(fault) => return Err(Cause::Value(fault)),
+        };
+        if !note(&mut shown, reading) {
+            return Err(Cause::RegisterTwice);
+        }
+    }
+    Ok(shown)
+}
+
+/// What a set shows, if it is of a register that counts for the meter.
+fn measured(office: &Office, meter: MeterId, set: &Set) -> Result<Option<Reading>, ValueFault>
+    requires meter { meter.0 < length office.now.meters }
+    requires code { IsCodeOf set.now.address.now set.now.code }
+    ensures ok { IfOk result (λ reading. MatchOption reading
+        (MeasuresNothing office.now meter.0 (text_of set.now))
+        (λ r. Measures office.now meter.0 (text_of set.now) r.register (Ok r.wh))) }
+    ensures err { IfErr result (λ fault. (r : Register) × Measures office.now meter.0 (text_of set.now) r (Err fault)) }
+{
+    let Some(code) = set.code else {
+        return Ok(None);
+    };
+    let Some(register) = register(&code) else {
+        return Ok(None);
+    };
+    if !office.counts(meter, register) {
+        return Ok(None);
+    }
+    match watt_hours(first_value(set)) {
+        Ok(wh) => Ok(Some(Reading { register, wh })),
+        Err(fault) => Err(fault),
+    }
+}
+
+/// Notes what a register shows; `false` where it is shown already, and otherwise.
+fn note(shown: &mut Shown, reading: Reading) -> bool
+    ensures noted { OnTrue result (IsNoted shown.old shown.new reading.register reading.wh) }
+    ensures unlike { OnFalse result (IsUnlike shown.old reading.register reading.wh) }
+{
+    let place = register_place(reading.register);
+    match shown[place] {
+        None => {
+            shown[place] = Some(reading.wh);
+            true
+        }
+        Some(wh) => wh == reading.wh,
+    }
+}
+
+fn register_place(register: Register) -> usize
+    ensures place { result ≡ place_of register }
+    ensures within { result < 6 }
+{
+    match register {
+        Register::I0 => 0,
+        Register::I1 => 1,
+        Register::I2 => 2,
+        Register::E0 => 3,
+        Register::E1 => 4,
+        Register::E2 => 5,
+    }
+}
+
+/// Whether no register is shown.
+pub fn is_nothing_shown(shown: &Shown) -> bool
+    ensures nothing { OnTrue result ((r : Register) → shown_in shown.now r ≡ None) }
+    ensures some { OnFalse result ((r : Register) × (wh : ℕ) × (shown_in shown.now r ≡ Some wh)) }
+{
+    for register in REGISTERS {
+        if shown[register_place(register)].is_some() {
+            return false;
+        }
+    }
+    true
+}
+
+/// Puts the reading of each register that is shown behind the entries.
+pub fn put_readings(
+    given: &mut Vec<Entry>,
+    origin: &Origin,
+    shown: &Shown,
+) -> Result<(), AllocError>
+    ensures { OnOk result (given.new.items ≡ given.old.items ++ readings_of origin.now.meter.0 origin.now.instant (shown_in shown.now)) }
+{
+    put_reading(given, origin, shown, Register::I0)?;
+    put_reading(given, origin, shown, Register::I1)?;
+    put_reading(given, origin, shown, Register::I2)?;
+    put_reading(given, origin, shown, Register::E0)?;
+    put_reading(given, origin, shown, Register::E1)?;
+    put_reading(given, origin, shown, Register::E2)?;
+    Ok(())
+}
+
+fn put_reading(
+    given: &mut Vec<Entry>,
+    origin: &Origin,
+    shown: &Shown,
+    register: Register,
+) -> Result<(), AllocError>
+    ensures { OnOk result (given.new.items ≡ given.old.items ++ reading_of origin.now.meter.0 origin.now.instant register (shown_in shown.now register)) }
+{
+    let Some(wh) = shown[register_place(register)] else {
+        return Ok(());
+    };
+    let Origin { meter, instant } = *origin;
+    let key = Key::Reading {
+        meter,
+        register,
+        instant,
+    };
+    put(given, key, Content::Reading { wh })
+}

@@ -1,0 +1,8 @@
+//! Worked examples: the entries and the refusals of bodies.
+
+mod bodies;
+mod frames;
+mod memory;
+mod rows;
+mod sample;
+mod telegrams;

@@ -1,0 +1,152 @@
+//! The sample office, and what it is asked.
+
+use crate::{
+    Content, Entry, Key, Reference, UploadFault, assignment_records, readout_records,
+    telegram_records, topup_records,
+};
+use pw_obis::{Register, WattHours};
+use pw_tariff::{AccountId, MeterId, Office, Owner};
+use pw_time::{Instant, Zone};
+use std::alloc::Global;
+use std::test::Fail;
+
+const SAMPLE: &str = r#"accounts = ["A1", "A2"]
+week = [
+  "LLLLLLLHHHHHHHHHHHHHHHHL",
+  "LLLLLLLHHHHHHHHHHHHHHHHL",
+  "LLLLLLLHHHHHHHHHHHHHHHHL",
+  "LLLLLLLHHHHHHHHHHHHHHHHL",
+  "LLLLLLLHHHHHHHHHHHHHHHHL",
+  "LLLLLLLLLLLLLLLLLLLLLLLL",
+  "LLLLLLLLLLLLLLLLLLLLLLLL",
+]
+
+[[band]]
+name = "L"
+import = 200000
+export = 50000
+
+[[band]]
+name = "H"
+import = 300000
+export = 50000
+
+[[meter]]
+id = "4D31"
+clock = "marked"
+registers = ["I1", "I2", "E1", "E2"]
+
+[[meter]]
+id = "Z7"
+clock = "winter"
+registers = ["I0"]
+
+[[meter]]
+id = "Z8"
+clock = "local"
+registers = ["I0"]
+
+[[meter]]
+id = "3960221976967177082151037881335713"
+clock = "marked"
+registers = ["I1", "I2", "E1", "E2"]
+
+[[meter]]
+id = "4B384547303034303436333935353037"
+clock = "marked"
+registers = ["I1", "I2", "E1", "E2"]
+"#;
+
+/// 2024-01-02T05:00:00Z.
+pub const FIVE: u32 = 1_704_171_600;
+
+/// 2024-01-01T00:00:00Z.
+pub const NEW_YEAR: u32 = 1_704_067_200;
+
+/// Where a body is sent.
+#[derive(Clone, Copy)]
+pub enum Path<'a> {
+    Telegrams,
+    Readouts(&'a [u8]),
+    Assignments,
+    TopUps,
+}
+
+/// What a body gives in the sample office.
+pub fn send(
+    alloc: Global,
+    path: Path,
+    body: &[u8],
+) -> Result<Result<Vec<Entry>, UploadFault>, Fail> {
+    let Ok(office) = Office::read(alloc, SAMPLE.as_bytes()) else {
+        return Err(Fail::from("no office"));
+    };
+    Ok(given(alloc, &office, path, body))
+}
+
+/// What a body gives in an office.
+pub fn given(
+    alloc: Global,
+    office: &Office,
+    path: Path,
+    body: &[u8],
+) -> Result<Vec<Entry>, UploadFault> {
+    let zone = Zone::central();
+    match path {
+        Path::Telegrams => telegram_records(alloc, office, &zone, body),
+        Path::Readouts(meter) => readout_records(alloc, meter, office, &zone, body),
+        Path::Assignments => assignment_records(alloc, office, body),
+        Path::TopUps => topup_records(alloc, office, body),
+    }
+}
+
+/// The fault line of a body, or how many entries it gives.
+pub fn line_of(alloc: Global, path: Path, body: &[u8]) -> Result<String, Fail> {
+    match send(alloc, path, body)? {
+        Ok(entries) => Ok(format!(in alloc; "{} entries", entries.len())?),
+        Err(fault) => Ok(format!(in alloc; "{fault}")?),
+    }
+}
+
+/// Whether a body gives these entries.
+pub fn gives(alloc: Global, path: Path, body: &[u8], wanted: &[Entry]) -> Result<bool, Fail> {
+    match send(alloc, path, body)? {
+        Ok(entries) => Ok(entries.as_slice() == wanted),
+        Err(_) => Ok(false),
+    }
+}
+
+pub fn instant(second: u32) -> Result<Instant, Fail> {
+    Ok(Instant::of(second).ok_or("no instant")?)
+}
+
+pub fn reading(meter: u16, register: Register, second: u32, wh: u64) -> Result<Entry, Fail> {
+    let key = Key::Reading {
+        meter: MeterId(meter),
+        register,
+        instant: instant(second)?,
+    };
+    let wh = WattHours::of(wh).ok_or("no energy")?;
+    let content = Content::Reading { wh };
+    Ok(Entry { key, content })
+}
+
+pub fn assignment(meter: u16, second: u32, owner: Owner) -> Result<Entry, Fail> {
+    let key = Key::Assignment {
+        meter: MeterId(meter),
+        start: instant(second)?,
+    };
+    let content = Content::Assignment { owner };
+    Ok(Entry { key, content })
+}
+
+pub fn top_up(reference: &[u8], account: u16, cents: u32) -> Result<Entry, Fail> {
+    let reference = Reference::of(reference).ok_or("no reference")?;
+    let key = Key::TopUp { reference };
+    let content = Content::TopUp {
+        account: AccountId(account),
+        cents,
+        instant: instant(NEW_YEAR)?,
+    };
+    Ok(Entry { key, content })
+}

@@ -1,0 +1,132 @@
+//! What the sets of a frame tell of its meter and its instant.
+
+ghost use Rattle.std.specs.Prelude.{◌≡◌, ◌↔◌, ◌∷◌, ◌++◌, [], List, None, IsTrue};
+ghost use Rattle.pw_obis.specs.Address.{IsCodeOf};
+ghost use Rattle.pw_obis.specs.Block.{HasSets};
+ghost use Rattle.pw_obis.specs.Line.{SetText};
+ghost use Rattle.pw_record.specs.Told.{AreTelling, Means, capital as capital_of, capitals, read_as, text_of};
+
+use pw_obis::{Code, Set, Sets, first_value, is_date, is_identifier, is_stamp, is_time};
+
+/// What a set can tell: the identifier and the stamp of a telegram, the time and the date of a readout.
+#[derive(Clone, Copy, Debug, PartialEq, Eq)]
+pub enum Meaning {
+    Identifier,
+    Stamp,
+    Time,
+    Date,
+}
+
+/// What the sets of a block tell.
+#[derive(Clone, Copy, Debug)]
+pub enum Told<'a> {
+    /// No set tells it.
+    Nothing,
+    /// All sets that tell it tell this.
+    One(&'a [u8]),
+    /// Two sets tell unlike things.
+    Unlike,
+}
+
+impl Meaning {
+    fn is_meant_by(self, code: &Code) -> bool
+        ensures { IsTrue result ↔ Means self code.now }
+    {
+        match self {
+            Meaning::Identifier => is_identifier(code),
+            Meaning::Stamp => is_stamp(code),
+            Meaning::Time => is_time(code),
+            Meaning::Date => is_date(code),
+        }
+    }
+}
+
+/// What all sets of a block tell.
+pub fn all_told<'a>(block: &'a [u8], meaning: Meaning) -> Told<'a>
+    ensures { (sets : List SetText) → HasSets block.now sets None → AreTelling meaning sets result }
+{
+    let mut told = Told::Nothing;
+    let mut sets = Sets::new(block);
+    'sets: while let Some(next) = sets.next_set() {
+        let Ok(set) = next else {
+            return told;
+        };
+        told = joined(told, meaning, &set);
+    }
+    told
+}
+
+/// What sets tell with one set more.
+fn joined<'a>(told: Told<'a>, meaning: Meaning, set: &Set<'a>) -> Told<'a>
+    requires { IsCodeOf set.now.address.now set.now.code }
+    ensures { (sets : List SetText) → AreTelling meaning sets told.entry → AreTelling meaning (sets ++ text_of set.now ∷ []) result }
+{
+    let Some(code) = set.code else {
+        return told;
+    };
+    if !meaning.is_meant_by(&code) {
+        return told;
+    }
+    let value = first_value(set);
+    match told {
+        Told::Nothing => Told::One(value),
+        Told::One(first) => {
+            if are_alike(meaning, value, first) {
+                Told::One(first)
+            } else {
+                Told::Unlike
+            }
+        }
+        Told::Unlike => Told::Unlike,
+    }
+}
+
+/// Whether two values are the same; of identifiers, in capitals.
+fn are_alike(meaning: Meaning, one: &[u8], other: &[u8]) -> bool
+    ensures { IsTrue result ↔ (read_as meaning one.now ≡ read_as meaning other.now) }
+{
+    match meaning {
+        Meaning::Identifier => are_alike_in_capitals(one, other),
+        Meaning::Stamp | Meaning::Time | Meaning::Date => one == other,
+    }
+}
+
+fn are_alike_in_capitals(one: &[u8], other: &[u8]) -> bool
+    ensures { IsTrue result ↔ (capitals one.now ≡ capitals other.now) }
+{
+    if one.len() != other.len() {
+        return false;
+    }
+    for (i, byte) in one.iter().enumerate() {
+        if capital(*byte) != capital(other[i]) {
+            return false;
+        }
+    }
+    true
+}
+
+/// Whether a text is these capitals, its letters a to f read as capitals.
+pub fn is_in_capitals(text: &[u8], wanted: &[u8]) -> bool
+    ensures { IsTrue result ↔ (capitals text.now ≡ wanted.now) }
+{
+    if text.len() != wanted.len() {
+        return false;
+    }
+    for (i, byte) in text.iter().enumerate() {
+        if capital(*byte) != wanted[i] {
+            return false;
+        }
+    }
+    true
+}
+
+/// A letter from a to f as its capital, any other byte as it is.
+fn capital(byte: u8) -> u8
+    ensures { result ≡ capital_of byte }
+{
+    if b'a' <= byte && byte <= b'f' {
+        byte - 32
+    } else {
+        byte
+    }
+}
