@@ -44,7 +44,8 @@ pub fn telegram_records(
 /// The entries of a body of readouts (IEC 62056-21) of the meter with an id, or the first refusal.
 ///
 /// The meter's clock tells how dates and times are read. That the meter is unknown, or that its clock marks its times,
-/// is told with the part 0 before anything else. `Memory` is answered only where memory was refused.
+/// is told with the part 0 before anything else. `Memory` says nothing of the body:
+/// memory was refused while it was read.
 pub fn readout_records(
     alloc: Global,
     meter: &[u8],

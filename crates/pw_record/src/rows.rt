@@ -21,7 +21,8 @@ pub const MOST_ROWS: u32 = 1_000;
 /// The entries of a body of assignment rows, `meter,start,account` below this header, or the first refusal.
 ///
 /// Rows are CSV (RFC 4180): fields between commas, quoted or not; blank lines are no rows, and a byte order mark at the
-/// body's start is taken off. An empty account means nobody. `Memory` is answered only where memory was refused.
+/// body's start is taken off. An empty account means nobody. `Memory` says nothing of the body:
+/// memory was refused while it was read.
 pub fn assignment_records(
     alloc: Global,
     office: &Office,
@@ -36,7 +37,8 @@ pub fn assignment_records(
 
 /// The entries of a body of top-up rows, `reference,account,cents,instant` below this header, or the first refusal.
 ///
-/// The form is that of [`assignment_records`]. `Memory` is answered only where memory was refused.
+/// The form is that of [`assignment_records`]. `Memory` says nothing of the body:
+/// memory was refused while it was read.
 pub fn topup_records(alloc: Global, office: &Office, body: &[u8]) -> Result<Vec<Entry>, UploadFault>
     ensures entries { IfOk result (λ entries. TopUpsGive office.now body.now entries.items) }
     ensures of_office { IfOk result (λ entries. AllOfOffice (office_of office.now) entries.items) }
