@@ -1,0 +1,283 @@
+-- How many records have a key, and which keys two or more have.
+use Rattle.std.proofs.Common.{◌≡◌, ℕ, zero, suc, ◌+◌, ◌-◌, ◌^◌, ◌<◌, ◌≤◌, cond, List, [], ◌∷◌, ◌++◌, length, take, drop, refl, ap, sym, ◌∙◌, subst, inl, inr, Less, arith}
+use Rattle.std.proofs.lemmas.Bool.{cases_Bool, cases_lt, true≢false}
+use Rattle.std.proofs.lemmas.List.{take-append-drop, take_rest, append-nil, length-take-le}
+use Rattle.pw_model.specs.declared.records.Key.{Key}
+use Rattle.pw_model.specs.declared.records.Dispute.{Dispute}
+use Rattle.pw_model.specs.declared.records.Entry.{Entry}
+use Rattle.pw_model.specs.Counting.{Member, SameMembers}
+use Rattle.pw_model.specs.Lists.{IsRising, Lists, IsDispute, records_at, dispute_order}
+use Rattle.pw_model.specs.Payments.{stands_in, sum_once}
+use Rattle.pw_model.specs.Same.{same_key, same_entry, key_order, entry_order}
+use Rattle.pw_model.proofs.Same.{same_key-decides, same_entry-decides}
+use Rattle.pw_model.proofs.Once.{once-same, stands-decides}
+use Rattle.pw_shelf.specs.Rows.{ListsHeld}
+use Rattle.pw_book.specs.Groups.{HasSameKey, IsDisputeOf}
+use Rattle.pw_book.proofs.Keys.{entry-apart, key-apart}
+use Rattle.pw_book.proofs.Groups.{AreApart, apart-more, joined-up, before-member, member-left, member-right, member-split, rising-right, rising-across, rising-push}
+
+-- one for a record with the key
+abbrev pub one_at : Key → Entry → ℕ
+one_at k e = cond (same_key e.key k) 1 0
+
+one-here : (k : Key) (e : Entry) → e.key ≡ k → one_at k e ≡ 1
+one-here k e h = rw ((same_key-decides e.key k).1 h) refl
+
+one-elsewhere : (k : Key) (e : Entry) → (e.key ≡ k → ⊥) → one_at k e ≡ 0
+one-elsewhere k e h = elim (cases_Bool (same_key e.key k)) [
+  | inl t ↦ absurd (h ((same_key-decides e.key k).0 t))
+  | inr u ↦ rw u refl
+]
+
+unfoldable pub count : Key → List Entry → ℕ
+count k es = sum_once same_entry (one_at k) es
+
+-- what stands in front and is told again, or has another key, adds nothing
+count-front : (k : Key) (xs ys : List Entry) → ((x : Entry) → Member x xs → (Member x ys → ⊥) → one_at k x ≡ 0) → count k (xs ++ ys) ≡ count k ys
+unfolding count
+count-front k [] ys h = refl
+count-front k (x ∷ xs) ys h =
+    let behind = count-front k xs ys (λ z m n. h z (inr m) n) in
+    elim (cases_Bool (stands_in same_entry x (xs ++ ys))) [
+      | inl t ↦ rw t (omega (arith, behind))
+      | inr u ↦ (
+          let zero : one_at k x ≡ 0 = h x (inl refl) (λ m. true≢false (sym ((stands-decides same_entry same_entry-decides (one_at k) x (xs ++ ys)).1 (member-right x xs ys m)) ∙ u)) in
+          rw (u, zero) (omega (arith, behind)))
+    ]
+
+-- of records in order each counts by itself
+count-rising : (k : Key) (e : Entry) (es : List Entry) → IsRising entry_order (e ∷ es) → count k (e ∷ es) ≡ one_at k e + count k es
+unfolding count
+count-rising k e es r = elim (cases_Bool (stands_in same_entry e es)) [
+  | inl t ↦ absurd (entry-apart e (before-member entry_order e e es r.0 ((stands-decides same_entry same_entry-decides (one_at k) e es).0 t)))
+  | inr u ↦ rw u refl
+]
+
+count-none : (k : Key) (es : List Entry) → ((e : Entry) → Member e es → e.key ≡ k → ⊥) → count k es ≡ 0
+unfolding count
+count-none k [] h = refl
+count-none k (e ∷ es) h =
+    let behind = count-none k es (λ x m. h x (inr m)) in
+    let zero : one_at k e ≡ 0 = one-elsewhere k e (h e (inl refl)) in
+    elim (cases_Bool (stands_in same_entry e es)) [
+      | inl t ↦ rw t (omega (arith, behind))
+      | inr u ↦ rw (u, zero) (omega (arith, behind))
+    ]
+
+-- behind records of other keys
+count-behind : (k : Key) (done rest : List Entry) → IsRising entry_order (done ++ rest) → ((e : Entry) → Member e done → e.key ≡ k → ⊥) → count k (done ++ rest) ≡ count k rest
+count-behind k [] rest r h = refl
+count-behind k (e ∷ done) rest r h =
+    let behind = count-behind k done rest r.1 (λ x m. h x (inr m)) in
+    let one = count-rising k e (done ++ rest) r in
+    let zero : one_at k e ≡ 0 = one-elsewhere k e (h e (inl refl)) in
+    omega (arith, behind, one, zero)
+
+-- all of a key in front of others
+count-group : (k : Key) (es rest : List Entry) → IsRising entry_order (es ++ rest) → ((e : Entry) → Member e es → e.key ≡ k) → ((e : Entry) → Member e rest → e.key ≡ k → ⊥) → count k (es ++ rest) ≡ length es
+count-group k [] rest r h n = count-none k rest n
+count-group k (e ∷ es) rest r h n =
+    let behind = count-group k es rest r.1 (λ x m. h x (inr m)) n in
+    let one = count-rising k e (es ++ rest) r in
+    let here : one_at k e ≡ 1 = one-here k e (h e (inl refl)) in
+    omega (arith, behind, one, here)
+
+-- at most all
+count-most : (k : Key) (es : List Entry) → count k es ≤ length es
+unfolding count
+count-most k [] = omega arith
+count-most k (e ∷ es) =
+    let behind = count-most k es in
+    let one : one_at k e ≤ 1 = elim (cases_Bool (same_key e.key k)) [ inl t ↦ rw t (omega arith) | inr u ↦ rw u (omega arith) ] in
+    elim (cases_Bool (stands_in same_entry e es)) [
+      | inl t ↦ rw t (omega (arith, behind))
+      | inr u ↦ rw u (omega (arith, behind, one))
+    ]
+
+-- where some have a key, one does
+pub count-some : (k : Key) (es : List Entry) → 1 ≤ count k es → (e : Entry) × Member e es × (e.key ≡ k)
+unfolding count
+count-some k [] h = absurd (omega arith)
+count-some k (e ∷ es) h = elim (cases_Bool (same_key e.key k)) [
+  | inl t ↦ (e, inl refl, (same_key-decides e.key k).0 t)
+  | inr u ↦ (
+      let zero : one_at k e ≡ 0 = rw u refl in
+      let behind : 1 ≤ count k es = elim (cases_Bool (stands_in same_entry e es)) [
+        | inl t ↦ (let g = rw t at h in omega (arith, g))
+        | inr f ↦ (let g = rw (f, zero) at h in omega (arith, g))
+      ] in
+      let r = count-some k es behind in
+      (r.0, inr r.1, r.2))
+]
+
+-- ---- the records of one key
+-- how many have the key of a group
+group-number : (all done others : List Entry) (first : Entry) (n : ℕ) → IsRising entry_order all → all ≡ done ++ first ∷ others → AreApart done (first ∷ others) → HasSameKey first others n → records_at all first.key ≡ suc n
+unfolding records_at count
+group-number all done others first n r e a h =
+    let split : first ∷ others ≡ (first ∷ take n others) ++ drop n others = ap (λ xs. first ∷ xs) (sym (take-append-drop n others)) in
+    let whole : all ≡ done ++ ((first ∷ take n others) ++ drop n others) = e ∙ ap (λ xs. done ++ xs) split in
+    let P : List Entry → Type 0 = IsRising entry_order in
+    let up : IsRising entry_order (done ++ ((first ∷ take n others) ++ drop n others)) = subst P whole r in
+    let one : count first.key (done ++ ((first ∷ take n others) ++ drop n others)) ≡ count first.key ((first ∷ take n others) ++ drop n others) =
+    count-behind first.key done ((first ∷ take n others) ++ drop n others) up (λ x m k. a x first m (inl refl) (sym k)) in
+    let two : count first.key ((first ∷ take n others) ++ drop n others) ≡ length (first ∷ take n others) =
+    count-group first.key (first ∷ take n others) (drop n others) (rising-right entry_order done _ up)
+    (λ x m. elim m [ inl i ↦ ap (λ (y : Entry). y.key) i | inr t ↦ h.same x t ]) h.apart in
+    let three : length (take n others) ≡ n = (let w = h.within in length-take-le n others w) in
+    ap (λ xs. count first.key xs) whole ∙ one ∙ two ∙ ap suc three
+
+-- a dispute over a key that is met so far
+abbrev IsMet : List Entry → List Entry → Dispute → Type 0
+IsMet all done d = IsDispute all d × ((e : Entry) × Member e done × (e.key ≡ d.key))
+
+abbrev pub DisputesSoFar : List Entry → List Entry → List Dispute → Type 0
+DisputesSoFar all rest ds = (done : List Entry) × (all ≡ done ++ rest) × AreApart done rest × Lists dispute_order (IsMet all done) ds
+
+pub none-met : (all : List Entry) → DisputesSoFar all all []
+none-met all = ([], refl, (λ x y m n k. absurd m), record { rising = tt; members = λ d. ((λ m. absurd m), (λ h. absurd h.1.1)) })
+
+met-more : (all done more : List Entry) (d : Dispute) → IsMet all done d → IsMet all (done ++ more) d
+met-more all done more d h = (h.0, (h.1.0, member-left h.1.0 done more h.1.1, h.1.2))
+
+-- behind a record with a key of its own
+met-alone : (all rest others : List Entry) (first : Entry) (ds : List Dispute) → IsRising entry_order all → rest ≡ first ∷ others → DisputesSoFar all rest ds → HasSameKey first others 0 → DisputesSoFar all (drop 0 others) ds
+met-alone all rest others first ds r q s h =
+    let w : all ≡ s.0 ++ first ∷ others = s.1 ∙ ap (λ xs. s.0 ++ xs) q in
+    let a : AreApart s.0 (first ∷ others) = (let P : List Entry → Type 0 = λ xs. AreApart s.0 xs in subst P q s.2) in
+    let n = group-number all s.0 others first 0 r w a h in (
+      s.0 ++ first ∷ [],
+      joined-up s.0 others first 0 all w,
+      apart-more s.0 others first 0 a h,
+      record {
+        rising = s.3.rising;
+        members = λ d. (
+          λ m. met-more all s.0 (first ∷ []) d ((s.3.members d).0 m),
+          λ k. elim (member-split k.1.0 s.0 (first ∷ []) k.1.1) [
+            | inl i ↦ (s.3.members d).1 (k.0, (k.1.0, i, k.1.2))
+            | inr (inl i) ↦ absurd (
+                let same : first.key ≡ d.key = ap (λ (y : Entry). y.key) (sym i) ∙ k.1.2 in
+                let number : d.contents ≡ 1 = k.0.number ∙ ap (records_at all) (sym same) ∙ n in
+                let several = k.0.several in
+                omega (arith, number, several))
+            | inr (inr z) ↦ absurd z
+          ],
+        );
+      },
+    )
+
+-- behind records of one key
+met-many : (all rest others : List Entry) (first : Entry) (n : ℕ) (ds : List Dispute) (d : Dispute) → IsRising entry_order all → rest ≡ first ∷ others → DisputesSoFar all rest ds → HasSameKey first others (suc n) →
+    ((k : Key) → records_at all k < 2 ^ 32) → IsDisputeOf first (suc n) d → DisputesSoFar all (drop (suc n) others) (ds ++ d ∷ [])
+met-many all rest others first n ds d r q s h few g =
+    let w : all ≡ s.0 ++ first ∷ others = s.1 ∙ ap (λ xs. s.0 ++ xs) q in
+    let a : AreApart s.0 (first ∷ others) = (let P : List Entry → Type 0 = λ xs. AreApart s.0 xs in subst P q s.2) in
+    let up : IsRising entry_order (s.0 ++ first ∷ others) = (let P : List Entry → Type 0 = IsRising entry_order in subst P w r) in
+    let number : records_at all first.key ≡ suc (suc n) = group-number all s.0 others first (suc n) r w a h in
+    let fits = few first.key in
+    let contents : d.contents ≡ suc n + 1 = g.number (omega (arith, number, fits)) in
+    let here : IsDispute all d = record { several = omega (arith, contents); number = (let k : records_at all d.key ≡ suc (suc n) = ap (records_at all) g.key ∙ number in omega (arith, contents, k)) } in
+    let group = first ∷ take (suc n) others in (
+      s.0 ++ group,
+      joined-up s.0 others first (suc n) all w,
+      apart-more s.0 others first (suc n) a h,
+      record {
+        rising = rising-push dispute_order ds d s.3.rising (λ x m.
+            let k = ((s.3.members x).0 m).1 in
+            let o : key_order k.0.key first.key ≡ Less = key-apart k.0 first (rising-across entry_order s.0 (first ∷ others) up k.0 first k.1 (inl refl)) (λ i. a k.0 first k.1 (inl refl) i) in
+            (rw (sym k.2, g.key) o));
+        members = λ x. (
+          λ m. elim (member-split x ds (d ∷ []) m) [
+            | inl i ↦ met-more all s.0 group x ((s.3.members x).0 i)
+            | inr (inl i) ↦ (let P : Dispute → Type 0 = λ y. IsMet all (s.0 ++ group) y in subst P (sym i) (here, (first, member-right first s.0 group (inl refl), sym g.key)))
+            | inr (inr z) ↦ absurd z
+          ],
+          λ k. elim (member-split k.1.0 s.0 group k.1.1) [
+            | inl i ↦ member-left x ds (d ∷ []) ((s.3.members x).1 (k.0, (k.1.0, i, k.1.2)))
+            | inr t ↦ (
+                let same : k.1.0.key ≡ first.key = elim t [ inl i ↦ ap (λ (y : Entry). y.key) i | inr j ↦ h.same k.1.0 j ] in
+                let key : x.key ≡ d.key = sym k.1.2 ∙ same ∙ sym g.key in
+                let both : x.contents ≡ d.contents = k.0.number ∙ ap (records_at all) key ∙ sym here.number in
+                let is : x ≡ d = λ i. record { key = key i; contents = both i } in
+                member-right x ds (d ∷ []) (inl is))
+          ],
+        );
+      },
+    )
+
+pub all-met : (all rest : List Entry) (ds : List Dispute) → length rest ≡ 0 → DisputesSoFar all rest ds → Lists dispute_order (IsDispute all) ds
+unfolding records_at count
+all-met all [] ds e s = record {
+  rising = s.3.rising;
+  members = λ d. (
+    λ m. ((s.3.members d).0 m).0,
+    λ h.
+        let several = h.several in
+        let number : d.contents ≡ count d.key all = h.number in
+        let some = count-some d.key all (omega (arith, several, number)) in
+        let P : List Entry → Type 0 = λ xs. Member some.0 xs in
+        (s.3.members d).1 (h, (some.0, subst P (s.1 ∙ append-nil s.0) some.1, some.2)),
+  );
+}
+all-met all (x ∷ rest) ds e s = absurd (omega arith)
+
+-- where the rest is cut off at a place
+pub step-alone : (all rest others : List Entry) (first : Entry) (n : ℕ) (ds new : List Dispute) → IsRising entry_order all → rest ≡ first ∷ others → DisputesSoFar all rest ds → HasSameKey first others n →
+    (0 < n → ⊥) → new ≡ ds → DisputesSoFar all (take (length others - n) (drop n others)) new
+step-alone all rest others first zero ds new r q s h z e = rw (take_rest others 0, e) (met-alone all rest others first ds r q s h)
+step-alone all rest others first (suc n) ds new r q s h z e = absurd (z (omega arith))
+
+pub step-many : (all rest others : List Entry) (first : Entry) (n : ℕ) (ds new : List Dispute) (d : Dispute) → IsRising entry_order all → rest ≡ first ∷ others → DisputesSoFar all rest ds → HasSameKey first others n →
+    0 < n → ((k : Key) → records_at all k < 2 ^ 32) → IsDisputeOf first n d → new ≡ ds ++ d ∷ [] → DisputesSoFar all (take (length others - n) (drop n others)) new
+step-many all rest others first zero ds new d r q s h z few g e = absurd (omega arith)
+step-many all rest others first (suc n) ds new d r q s h z few g e = rw (take_rest others (suc n), e) (met-many all rest others first n ds d r q s h few g)
+
+-- ---- the records held with some keys
+pub held-number : (Of : Key → Type 0) (s records : List Entry) → ListsHeld Of s records → (k : Key) → Of k → records_at s k ≡ records_at records k
+unfolding records_at count
+held-number Of s records h k o =
+    let both : SameMembers s (s ++ records) = λ x. (
+      λ m. member-left x s records m,
+      λ m. elim (member-split x s records m) [ inl i ↦ i | inr j ↦ ((h.members x).0 j).0 ],
+    ) in
+    once-same same_entry same_entry-decides (one_at k) s (s ++ records) both
+    ∙ count-front k s records (λ x m n. one-elsewhere k x (λ i. n ((h.members x).1 (m, subst Of (sym i) o))))
+
+-- fewer than the largest u32 where fewer are held
+pub held-few : (Of : Key → Type 0) (s records : List Entry) → ListsHeld Of s records → length s < 2 ^ 32 → (k : Key) → records_at records k < 2 ^ 32
+unfolding records_at count
+held-few Of s records h l k = elim (cases_lt 0 (count k records)) [
+  | inl p ↦ (
+      let some = count-some k records (omega (arith, p)) in
+      let same : records_at s k ≡ records_at records k = held-number Of s records h k (subst Of some.2 ((h.members some.0).0 some.1).1) in
+      let most = count-most k s in
+      omega (arith, same, most, l))
+  | inr p ↦ omega (arith, p)
+]
+
+-- the disputes among records held with some keys are those of the whole set over such keys
+pub held-disputes : (Of : Key → Type 0) (s records : List Entry) (ds : List Dispute) → ListsHeld Of s records → Lists dispute_order (IsDispute records) ds → Lists dispute_order (λ d. IsDispute s d × Of d.key) ds
+unfolding records_at count
+held-disputes Of s records ds h l = record {
+  rising = l.rising;
+  members = λ d. (
+    λ m.
+        let k = (l.members d).0 m in
+        let several = k.several in
+        let number : d.contents ≡ count d.key records = k.number in
+        let some = count-some d.key records (omega (arith, several, number)) in
+        let o : Of d.key = subst Of some.2 ((h.members some.0).0 some.1).1 in
+        (record { several = several; number = number ∙ sym (held-number Of s records h d.key o) }, o),
+    λ k. (l.members d).1 (record { several = k.0.several; number = k.0.number ∙ held-number Of s records h d.key k.1 }),
+  );
+}
+
+-- ---- the rest of a list
+abbrev pub IsTail : List Entry → List Entry → Type 0
+IsTail all rest = (done : List Entry) × (all ≡ done ++ rest)
+
+pub tail-rises : (all rest : List Entry) → IsRising entry_order all → IsTail all rest → IsRising entry_order rest
+tail-rises all rest r t = rising-right entry_order t.0 rest (let P : List Entry → Type 0 = IsRising entry_order in subst P t.1 r)
+
+pub tail-more : (all rest others : List Entry) (first : Entry) (n : ℕ) → rest ≡ first ∷ others → IsTail all rest → IsTail all (take (length others - n) (drop n others))
+tail-more all rest others first n q t = (t.0 ++ first ∷ take n others, joined-up t.0 others first n all (t.1 ∙ ap (λ xs. t.0 ++ xs) q) ∙ ap (λ xs. (t.0 ++ first ∷ take n others) ++ xs) (sym (take_rest others n)))

@@ -1,0 +1,40 @@
+use Rattle.std.proofs.Common.{◌≡◌, ℕ, ◌*◌, Some, refl, ap, ◌∙◌, arith}
+use Rattle.pw_flow.specs.Time.{sum_over}
+use Rattle.pw_tariff.specs.Office.{office_of}
+use Rattle.pw_model.specs.Counting.{contents_at}
+use Rattle.pw_model.specs.Energy.{cost, energy_where, of_band}
+use Rattle.pw_model.specs.Shelf.{ShelfContent}
+use Rattle.pw_model.proofs.PlainEnergy.{sum-next}
+use Rattle.pw_book.proofs.Chains.{asked-none, asked-then}
+use Rattle.pw_book.proofs.balances.cost_held.Goals as goal
+
+pub loop-band-init : goal.loop-band-init
+unfolding sum_over
+loop-band-init g c = record { sum = λ k. refl; few = omega arith; asked = asked-none _ _ _ }
+
+pub loop-band-preserved : goal.loop-band-preserved
+loop-band-preserved g c = record {
+  sum = λ k.
+      let before = c.energy_held.ensures.asked.clean k in
+      let office = office_of c.args.office.now in
+      let was = (g.S.Shelf.state c.args.shelf.now).content in
+      let f : ℕ → ℕ = λ b. office.price b c.args.direction * energy_where office (contents_at was.records) c.args.direction (of_band office (Some c.args.account) b) in
+      let p : c.price.result ≡ office.price c.loop-band.band c.args.direction = c.price.ensures.price in
+      let q : c.in_ok-wh.wh ≡ energy_where office (contents_at was.records) c.args.direction (of_band office (Some c.args.account) c.loop-band.band) =
+      c.in_ok-wh.ensures.energy k ∙ ap (λ (d : ShelfContent). energy_where office (contents_at d.records) c.args.direction (of_band office (Some c.args.account) c.loop-band.band)) (c.loop-band.invariant.asked.content before) in
+      let here : c.price_of-nano.result ≡ f c.loop-band.band = c.price_of-nano.ensures.price ∙ (λ i. p i * q i) in
+      let so_far = c.loop-band.invariant.sum before in
+      let next = sum-next f c.loop-band.band in
+      omega (arith, here, so_far, next);
+  few = let a = c.loop-band.invariant.few in let b = c.price_of-nano.ensures.bound in omega (arith, a, b);
+  asked = asked-then _ _ _ _ _ _ _ _ _ c.loop-band.invariant.asked c.energy_held.ensures.asked;
+}
+
+pub returns-clause-cost : goal.returns-clause-cost
+unfolding cost
+returns-clause-cost g c = λ k.
+    let office = office_of c.args.office.now in
+    let was = (g.S.Shelf.state c.args.shelf.now).content in
+    let f : ℕ → ℕ = λ b. office.price b c.args.direction * energy_where office (contents_at was.records) c.args.direction (of_band office (Some c.args.account) b) in
+    let all : c.loop-band.band ≡ office.bands = omega (arith, c.bands-band-end.ensures.count, c.loop-band.auto.band-end, c.loop-band-test.false) in
+    c.loop-band.invariant.sum k ∙ ap (sum_over f 0) all

@@ -1,0 +1,17 @@
+use Rattle.std.proofs.Common.{◌+◌, ◌*◌, List, ◌++◌, sym, ◌∙◌, ap, subst, arith}
+use Rattle.pw_model.specs.declared.records.Dispute.{Dispute}
+use Rattle.pw_model.specs.declared.records.Entry.{Entry}
+use Rattle.pw_shelf.specs.Rows.{ListsHeld, IsAssignmentOf}
+use Rattle.pw_book.specs.Places.{DisputesBefore}
+use Rattle.pw_book.proofs.Contested.{disputes-more, disputes-at, assignment-place}
+use Rattle.pw_book.proofs.disputes.add_assignments_of.Goals as goal
+
+pub returns-clause-disputes : goal.returns-clause-disputes
+returns-clause-disputes g c = λ k meters w l before.
+    let records = (g.S.Shelf.state c.args.shelf.now).content.records in
+    let R : List Entry → Type 0 = λ found. ListsHeld (IsAssignmentOf c.args.meter) records found in
+    let rows : ListsHeld (IsAssignmentOf c.args.meter) records c.deref.result.now = subst R (sym c.deref.ensures.value) (c.in_ok-assignments.ensures.rows k) in
+    let all = disputes-more (IsAssignmentOf c.args.meter) meters (6 * meters + c.args.meter.0) records c.deref.result.now c.args.disputes.now.items c.in_ok-more.more.items w rows (assignment-place meters c.args.meter l) (c.in_ok-more.ensures rows.rising) before in
+    let lent = c.in_ok-extend_from_slice.ensures.items ∙ ap (λ (xs : List Dispute). c.args.disputes.now.items ++ xs) c.deref-2.ensures.value in
+    let F : List Dispute → Type 0 = λ items. DisputesBefore meters records (6 * meters + c.args.meter.0 + 1) items in
+    disputes-at meters records (6 * meters + c.args.meter.0 + 1) (6 * meters + (c.args.meter.0 + 1)) _ (omega arith) (subst F (sym lent) all)

@@ -1,0 +1,17 @@
+use Rattle.std.proofs.Common.{◌+◌, ◌*◌, List, ◌++◌, sym, ◌∙◌, ap, subst}
+use Rattle.pw_model.specs.declared.records.Dispute.{Dispute}
+use Rattle.pw_model.specs.declared.records.Entry.{Entry}
+use Rattle.pw_shelf.specs.Rows.{ListsHeld, IsTopUp}
+use Rattle.pw_book.specs.Places.{DisputesBefore}
+use Rattle.pw_book.proofs.Contested.{disputes-more, topup-place}
+use Rattle.pw_book.proofs.disputes.add_topups.Goals as goal
+
+pub returns-clause-disputes : goal.returns-clause-disputes
+returns-clause-disputes g c = λ k meters w before.
+    let records = (g.S.Shelf.state c.args.shelf.now).content.records in
+    let R : List Entry → Type 0 = λ found. ListsHeld (IsTopUp) records found in
+    let rows : ListsHeld (IsTopUp) records c.deref.result.now = subst R (sym c.deref.ensures.value) (c.in_ok-topups.ensures.rows k) in
+    let all = disputes-more (IsTopUp) meters (7 * meters) records c.deref.result.now c.args.disputes.now.items c.in_ok-more.more.items w rows (topup-place meters) (c.in_ok-more.ensures rows.rising) before in
+    let lent = c.in_ok-extend_from_slice.ensures.items ∙ ap (λ (xs : List Dispute). c.args.disputes.now.items ++ xs) c.deref-2.ensures.value in
+    let F : List Dispute → Type 0 = λ items. DisputesBefore meters records (7 * meters + 1) items in
+    subst F (sym lent) all

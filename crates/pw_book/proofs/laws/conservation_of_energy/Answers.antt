@@ -1,0 +1,10 @@
+use Rattle.std.proofs.Common.{subst}
+use Rattle.pw_tariff.specs.Office.{IsSound, office_of}
+use Rattle.pw_tariff.proofs.Answered.{bands-of}
+use Rattle.pw_model.proofs.Whole.{nothing-is_lost}
+use Rattle.pw_book.proofs.laws.conservation_of_energy.Goals as goal
+
+pub returns : goal.returns
+returns g c = λ d.
+    let sound : IsSound c.args.book.now.office = subst IsSound c.office.ensures c.bands.ensures.sound in
+    nothing-is_lost (office_of c.args.book.now.office) (g.S.Shelf.state c.args.book.now.shelf).content.records d (bands-of c.args.book.now.office sound) (c.args.book.now.of_office c.requires.open_yet c.requires.clean)

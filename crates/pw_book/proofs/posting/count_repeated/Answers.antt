@@ -1,0 +1,26 @@
+use Rattle.std.proofs.Common.{◌≡◌, ◌+◌, cond, ◌∙◌, ap, arith}
+use Rattle.pw_model.specs.Payments.{stands_in}
+use Rattle.pw_model.specs.Same.{same_entry}
+use Rattle.pw_model.specs.Shelf.{ShelfContent}
+use Rattle.pw_book.proofs.Chains.{asked-then}
+use Rattle.pw_book.proofs.EachOne.{repeated-more}
+use Rattle.pw_book.proofs.posting.count_repeated.Goals as goal
+use Rattle.pw_book.proofs.posting.count_repeated.Goals.{then-branch, else-branch}
+
+pub loop-entry-preserved : goal.loop-entry-preserved
+loop-entry-preserved g c =
+    let step : c.if-branch.repeated ≡ c.loop-entry.repeated + cond c.in_ok-is_held.field-0 1 0 = elim c.if-branch.branch [
+      | then-branch w ↦ rw w.if-branch.true w.repeated-is
+      | else-branch w ↦ rw w.if-branch.false (omega arith)
+    ] in
+    record {
+      repeated = λ k.
+          let before = c.is_held.ensures.asked.clean k in
+          repeated-more _ c.args.distinct.now c.loop-entry.entry-index c.entry-item.result c.loop-entry.repeated c.if-branch.repeated c.in_ok-is_held.field-0 c.requires.once c.loop-entry-test.true c.entry-item.is
+          (c.in_ok-is_held.ensures.held k ∙ ap (λ (s : ShelfContent). stands_in same_entry c.entry-item.result s.records) (c.loop-entry.invariant.asked.content before)) (c.loop-entry.invariant.repeated before) step;
+      within = elim c.if-branch.branch [
+        | then-branch w ↦ omega arith
+        | else-branch w ↦ omega arith
+      ];
+      asked = asked-then _ _ _ _ _ _ _ _ _ c.loop-entry.invariant.asked c.is_held.ensures.asked;
+    }

@@ -1,0 +1,57 @@
+-- The numbers, names and lines of the book's faults.
+-- (A format of this project.)
+use Rattle.std.specs.Prelude.{ℕ, List, ◌++◌, codes, decimal}
+use Rattle.pw_shelf.specs.declared.fault.ShelfFault.{ShelfFault}
+use Rattle.pw_shelf.specs.declared.fault.ShelfFault.TheVariants as shelf
+use Rattle.pw_book.specs.declared.fault.PostFault.{PostFault}
+use Rattle.pw_book.specs.declared.fault.PostFault.TheVariants as post
+use Rattle.pw_book.specs.declared.fault.BookFault.{BookFault}
+use Rattle.pw_book.specs.declared.fault.BookFault.TheVariants as book
+
+-- ---- of an upload
+abbrev pub post_number : PostFault → ℕ
+post_number (post.Full held limit) = 60
+post_number post.Device = 61
+post_number post.Memory = 62
+post_number post.Reopen = 63
+
+abbrev pub post_name : PostFault → List ℕ
+post_name (post.Full held limit) = codes "Full"
+post_name post.Device = codes "Device"
+post_name post.Memory = codes "Memory"
+post_name post.Reopen = codes "Reopen"
+
+abbrev pub post_line : PostFault → List ℕ
+post_line (post.Full held limit) = codes "refused 60 Full held " ++ (decimal held ++ (codes " limit " ++ decimal limit))
+post_line post.Device = codes "refused 61 Device"
+post_line post.Memory = codes "refused 62 Memory"
+post_line post.Reopen = codes "refused 63 Reopen"
+
+abbrev pub post_fault : ShelfFault → PostFault
+post_fault shelf.Memory = post.Memory
+post_fault shelf.Device = post.Device
+
+-- ---- of a question
+abbrev pub book_number : BookFault → ℕ
+book_number book.Device = 61
+book_number book.Memory = 62
+book_number book.Reopen = 63
+
+abbrev pub book_name : BookFault → List ℕ
+book_name book.Device = codes "Device"
+book_name book.Memory = codes "Memory"
+book_name book.Reopen = codes "Reopen"
+
+abbrev pub book_line : BookFault → List ℕ
+book_line book.Device = codes "refused 61 Device"
+book_line book.Memory = codes "refused 62 Memory"
+book_line book.Reopen = codes "refused 63 Reopen"
+
+abbrev pub book_fault : ShelfFault → BookFault
+book_fault shelf.Memory = book.Memory
+book_fault shelf.Device = book.Device
+
+abbrev pub post_fault_of : BookFault → PostFault
+post_fault_of book.Device = post.Device
+post_fault_of book.Memory = post.Memory
+post_fault_of book.Reopen = post.Reopen

@@ -1,0 +1,9 @@
+pub mod Groups
+pub mod Counted
+pub mod Faults
+pub mod Kept
+pub mod Asking
+pub mod Posting
+pub mod Writing
+pub mod Places
+pub mod After

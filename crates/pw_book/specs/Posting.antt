@@ -1,0 +1,80 @@
+-- What an upload does to the records held.
+-- (Definitions of this project.)
+use Rattle.std.specs.Prelude.{◌≡◌, ℕ, ◌+◌, ◌<◌, ◌≤◌, ◌⊎◌, Bool, true, false, cond, List, ◌++◌, Result, Ok, Err}
+use Rattle.pw_model.specs.declared.records.Entry.{Entry}
+use Rattle.pw_model.specs.Counting.{EachOnce, SameMembers}
+use Rattle.pw_model.specs.Lists.{record_count}
+use Rattle.pw_model.specs.Payments.{stands_in, sum_once}
+use Rattle.pw_model.specs.Same.{same_entry}
+use Rattle.pw_model.specs.Shelf.{ShelfContent}
+use Rattle.pw_shelf.specs.Left.{LeavesNoMore, LeavesOnly}
+use Rattle.pw_book.specs.declared.book.Accepted.{Accepted}
+use Rattle.pw_book.specs.declared.fault.PostFault.{PostFault}
+use Rattle.pw_book.specs.declared.fault.PostFault.TheVariants.{Full, Device, Memory, Reopen}
+
+-- ---- entries of an upload, each counted once
+-- how many aren't held
+abbrev pub fresh_in : List Entry → List Entry → ℕ
+fresh_in held entries = sum_once same_entry (λ e. cond (stands_in same_entry e held) 0 1) entries
+
+-- how many are held
+abbrev pub repeated_in : List Entry → List Entry → ℕ
+repeated_in held entries = sum_once same_entry (λ e. cond (stands_in same_entry e held) 1 0) entries
+
+-- ---- what is held after it
+-- the records before with the entries, and nothing else changed
+pub record IsJoined (entries : List Entry) (old new : ShelfContent) : Type 0 where
+  pub records : SameMembers new.records (old.records ++ entries)
+  pub point : new.point ≡ old.point
+  pub start : new.start ≡ old.start
+  pub total : new.total ≡ old.total
+
+-- the content with the whole upload, each record held once
+pub record IsWithUpload (entries : List Entry) (old new : ShelfContent) : Type 0 where
+  pub once : EachOnce new.records
+  pub joined : IsJoined entries old new
+
+-- ---- what is answered
+-- there was room, and the entries are held
+pub record IsAccepted (limit : ℕ) (entries : List Entry) (old new : ShelfContent) (a : Accepted) : Type 0 where
+  pub room : record_count old.records + fresh_in old.records entries ≤ limit
+  pub fresh : a.fresh ≡ fresh_in old.records entries
+  pub repeated : a.repeated ≡ repeated_in old.records entries
+  pub content : IsWithUpload entries old new
+
+-- held and fresh together are more than the limit, and nothing is changed
+pub record IsFull (limit : ℕ) (entries : List Entry) (old new : ShelfContent) (held stated : ℕ) : Type 0 where
+  pub over : limit < record_count old.records + fresh_in old.records entries
+  pub held_is : held ≡ record_count old.records
+  pub stated_is : stated ≡ limit
+  pub content : new ≡ old
+
+-- nothing is known of the content where an upload couldn't be taken back
+abbrev pub IsPosted : ℕ → List Entry → ShelfContent → ShelfContent → Result Accepted PostFault → Type 0
+IsPosted limit entries old new (Ok a) = IsAccepted limit entries old new a
+IsPosted limit entries old new (Err (Full held stated)) = IsFull limit entries old new held stated
+IsPosted limit entries old new (Err Device) = new ≡ old
+IsPosted limit entries old new (Err Memory) = new ≡ old
+IsPosted limit entries old new (Err Reopen) = Unit {0}
+
+-- ---- what a crash may leave
+-- what could be left before, or the content with the whole upload
+abbrev pub LeavesUpload : List Entry → ShelfContent → (ShelfContent → Type 0) → (ShelfContent → Type 0) → Type 0
+LeavesUpload entries content old new = (c : ShelfContent) → new c → old c ⊎ IsWithUpload entries content c
+
+-- the content alone where the upload is accepted, what could be left before alone where the book is full
+abbrev pub LeavesPosted : List Entry → ShelfContent → ShelfContent → (ShelfContent → Type 0) → (ShelfContent → Type 0) → Result Accepted PostFault → Type 0
+LeavesPosted entries old new old_left new_left (Ok a) = LeavesOnly new new_left
+LeavesPosted entries old new old_left new_left (Err (Full held stated)) = LeavesNoMore old_left new_left
+LeavesPosted entries old new old_left new_left (Err Device) = LeavesUpload entries old old_left new_left
+LeavesPosted entries old new old_left new_left (Err Memory) = LeavesUpload entries old old_left new_left
+LeavesPosted entries old new old_left new_left (Err Reopen) = LeavesUpload entries old old_left new_left
+
+-- how often `abandon` fails in it: once where it answers Reopen, unless the book was shut before
+abbrev pub failed_in : Bool → Result Accepted PostFault → ℕ
+failed_in false (Err Reopen) = 1
+failed_in false (Err Memory) = 0
+failed_in false (Err Device) = 0
+failed_in false (Err (Full held stated)) = 0
+failed_in false (Ok a) = 0
+failed_in true answer = 0

@@ -1,0 +1,68 @@
+//! The shelf's reading calls outside an upload.
+
+ghost use Rattle.std.specs.Prelude.{◌≡◌, ◌<◌, IfOk, IsErrOf, IsNone, length};
+ghost use Rattle.pw_model.specs.Payments.{stands_in};
+ghost use Rattle.pw_model.specs.Same.{same_entry};
+ghost use Rattle.pw_shelf.specs.Rows.{ListsAssignments, ListsReadings, ListsTopUps};
+ghost use Rattle.pw_shelf.specs.declared.fault.ShelfFault.TheVariants.{Device};
+ghost use Rattle.pw_book.specs.Asking.{IsOnlyAsked};
+
+use pw_model::Entry;
+use pw_obis::Register;
+use pw_shelf::{Shelf, ShelfFault};
+use pw_tariff::MeterId;
+use std::alloc::Global;
+
+pub(crate) fn count_held<S: Shelf>(shelf: &mut S) -> Result<u32, ShelfFault>
+    requires { IsNone (S.state shelf.old).begun }
+    ensures number { S.clean shelf.new → IfOk result (λ held. held ≡ length (S.state shelf.old).content.records) }
+    ensures asked { IsOnlyAsked (S.state shelf.old) (S.state shelf.new) (S.left shelf.old) (S.left shelf.new) (S.clean shelf.old) (S.clean shelf.new) }
+    ensures cause { IsErrOf result Device → (S.state shelf.old).failures < (S.state shelf.new).failures }
+{
+    shelf.count()
+}
+
+pub(crate) fn readings_held<S: Shelf>(
+    shelf: &mut S,
+    alloc: Global,
+    meter: MeterId,
+    register: Register,
+) -> Result<Vec<Entry>, ShelfFault>
+    requires { IsNone (S.state shelf.old).begun }
+    ensures rows { S.clean shelf.new → IfOk result (λ found. ListsReadings (S.state shelf.old).content.records meter register found.items) }
+    ensures asked { IsOnlyAsked (S.state shelf.old) (S.state shelf.new) (S.left shelf.old) (S.left shelf.new) (S.clean shelf.old) (S.clean shelf.new) }
+    ensures cause { IsErrOf result Device → (S.state shelf.old).failures < (S.state shelf.new).failures }
+{
+    shelf.readings_of(alloc, meter, register)
+}
+
+pub(crate) fn is_held<S: Shelf>(shelf: &mut S, entry: &Entry) -> Result<bool, ShelfFault>
+    requires { IsNone (S.state shelf.old).begun }
+    ensures held { S.clean shelf.new → IfOk result (λ held. held ≡ stands_in same_entry entry.now (S.state shelf.old).content.records) }
+    ensures asked { IsOnlyAsked (S.state shelf.old) (S.state shelf.new) (S.left shelf.old) (S.left shelf.new) (S.clean shelf.old) (S.clean shelf.new) }
+    ensures cause { IsErrOf result Device → (S.state shelf.old).failures < (S.state shelf.new).failures }
+{
+    shelf.holds(entry)
+}
+
+pub(crate) fn assignments_held<S: Shelf>(
+    shelf: &mut S,
+    alloc: Global,
+    meter: MeterId,
+) -> Result<Vec<Entry>, ShelfFault>
+    requires { IsNone (S.state shelf.old).begun }
+    ensures rows { S.clean shelf.new → IfOk result (λ found. ListsAssignments (S.state shelf.old).content.records meter found.items) }
+    ensures asked { IsOnlyAsked (S.state shelf.old) (S.state shelf.new) (S.left shelf.old) (S.left shelf.new) (S.clean shelf.old) (S.clean shelf.new) }
+    ensures cause { IsErrOf result Device → (S.state shelf.old).failures < (S.state shelf.new).failures }
+{
+    shelf.assignments_of(alloc, meter)
+}
+
+pub(crate) fn topups_held<S: Shelf>(shelf: &mut S, alloc: Global) -> Result<Vec<Entry>, ShelfFault>
+    requires { IsNone (S.state shelf.old).begun }
+    ensures rows { S.clean shelf.new → IfOk result (λ found. ListsTopUps (S.state shelf.old).content.records found.items) }
+    ensures asked { IsOnlyAsked (S.state shelf.old) (S.state shelf.new) (S.left shelf.old) (S.left shelf.new) (S.clean shelf.old) (S.clean shelf.new) }
+    ensures cause { IsErrOf result Device → (S.state shelf.old).failures < (S.state shelf.new).failures }
+{
+    shelf.topups(alloc)
+}

@@ -1,0 +1,104 @@
+//! What an account paid, and its balance, of the records that a shelf holds.
+
+ghost use Rattle.std.specs.Prelude.{◌≡◌, ◌*◌, ◌<◌, ◌≤◌, ◌^◌, Some, IfOk, IsErrOf, IsNone, length, pos, ◌+ℤ◌, ◌-ℤ◌};
+ghost use Rattle.pw_model.specs.Counting.{contents_at as told_at};
+ghost use Rattle.pw_model.specs.Energy.{cost as cost_of};
+ghost use Rattle.pw_model.specs.Office.{AllOfOffice, most_records};
+ghost use Rattle.pw_model.specs.Payments.{balance as balance_of, topped_up as cents_of};
+ghost use Rattle.pw_shelf.specs.declared.fault.ShelfFault.TheVariants.{Device};
+ghost use Rattle.pw_tariff.specs.Office.{Office as AnOffice, office_of};
+ghost use Rattle.pw_book.specs.Asking.{IsOnlyAsked};
+
+use crate::asked::topups_held;
+use crate::energies::energy_held;
+use crate::energy::Class;
+use crate::payments::topped_up_of;
+use pw_shelf::{Shelf, ShelfFault};
+use pw_tariff::{AccountId, BandId, Direction, Office};
+use pw_time::Zone;
+use std::alloc::Global;
+
+// What the top-ups that count give an account, in cents.
+pub(crate) fn topped_up_held<S: Shelf>(
+    shelf: &mut S,
+    alloc: Global,
+    account: AccountId,
+) -> Result<u64, ShelfFault>
+    requires idle { IsNone (S.state shelf.old).begun }
+    requires few { S.clean shelf.old → length (S.state shelf.old).content.records ≤ most_records }
+    ensures cents { S.clean shelf.new → (office : AnOffice) → AllOfOffice office (S.state shelf.old).content.records → IfOk result (λ cents. cents ≡ cents_of (S.state shelf.old).content.records account.0) }
+    ensures asked { IsOnlyAsked (S.state shelf.old) (S.state shelf.new) (S.left shelf.old) (S.left shelf.new) (S.clean shelf.old) (S.clean shelf.new) }
+    ensures cause { IsErrOf result Device → (S.state shelf.old).failures < (S.state shelf.new).failures }
+{
+    let topups = topups_held(shelf, alloc)?;
+    let cents = topped_up_of(alloc, &topups, account)?;
+    Ok(cents.min(u128::from(u64::MAX)) as u64)
+}
+
+// The balance of an account, in nano-euro: what was topped up, less what it took, and what it gave.
+pub(crate) fn balance_held<S: Shelf>(
+    shelf: &mut S,
+    alloc: Global,
+    office: &Office,
+    zone: &Zone,
+    account: AccountId,
+) -> Result<i128, ShelfFault>
+    requires idle { IsNone (S.state shelf.old).begun }
+    requires few { S.clean shelf.old → length (S.state shelf.old).content.records ≤ most_records }
+    requires of_office { S.clean shelf.old → AllOfOffice (office_of office.now) (S.state shelf.old).content.records }
+    ensures balance { S.clean shelf.new → IfOk result (λ nano. nano ≡ balance_of (office_of office.now) (S.state shelf.old).content.records account.0) }
+    ensures asked { IsOnlyAsked (S.state shelf.old) (S.state shelf.new) (S.left shelf.old) (S.left shelf.new) (S.clean shelf.old) (S.clean shelf.new) }
+    ensures cause { IsErrOf result Device → (S.state shelf.old).failures < (S.state shelf.new).failures }
+{
+    let imported = cost_held(shelf, alloc, office, zone, account, Direction::Import)?;
+    let exported = cost_held(shelf, alloc, office, zone, account, Direction::Export)?;
+    let cents = topped_up_held(shelf, alloc, account)?;
+    let paid = 10_000_000 * u128::from(cents);
+    Ok(difference(paid, imported, exported))
+}
+
+fn difference(paid: u128, imported: u128, exported: u128) -> i128
+    requires paid { paid < 2 ^ 120 }
+    requires imported { imported < 2 ^ 120 }
+    requires exported { exported < 2 ^ 120 }
+    ensures { result ≡ (pos paid -ℤ pos imported) +ℤ pos exported }
+{
+    paid as i128 - imported as i128 + exported as i128
+}
+
+// What an account's energy of a direction costs, in nano-euro.
+fn cost_held<S: Shelf>(
+    shelf: &mut S,
+    alloc: Global,
+    office: &Office,
+    zone: &Zone,
+    account: AccountId,
+    direction: Direction,
+) -> Result<u128, ShelfFault>
+    requires idle { IsNone (S.state shelf.old).begun }
+    requires few { S.clean shelf.old → length (S.state shelf.old).content.records ≤ most_records }
+    requires of_office { S.clean shelf.old → AllOfOffice (office_of office.now) (S.state shelf.old).content.records }
+    ensures cost { S.clean shelf.new → IfOk result (λ nano. nano ≡ cost_of (office_of office.now) (told_at (S.state shelf.old).content.records) (Some account) direction) }
+    ensures bound { IfOk result (λ nano. nano < 2 ^ 120) }
+    ensures asked { IsOnlyAsked (S.state shelf.old) (S.state shelf.new) (S.left shelf.old) (S.left shelf.new) (S.clean shelf.old) (S.clean shelf.new) }
+    ensures cause { IsErrOf result Device → (S.state shelf.old).failures < (S.state shelf.new).failures }
+{
+    let mut nano: u128 = 0;
+    for band in 0..office.bands() {
+        let class = Class {
+            owner: Some(account),
+            band: BandId(band),
+        };
+        let wh = energy_held(shelf, alloc, office, zone, direction, class)?;
+        nano += price_of(wh, office.price(BandId(band), direction));
+    }
+    Ok(nano)
+}
+
+// What energy costs at a price, in nano-euro.
+fn price_of(wh: u64, price: u32) -> u128
+    ensures price { result ≡ price * wh }
+    ensures bound { result < 2 ^ 96 }
+{
+    u128::from(price) * u128::from(wh)
+}

@@ -1,0 +1,176 @@
+//! The disputes among records.
+
+ghost use Rattle.std.specs.Prelude.{◌≡◌, ◌+◌, ◌*◌, ◌^◌, ◌<◌, ◌≤◌, ℕ, IfOk, OnOk, IsErrOf, IsNone, length};
+ghost use Rattle.pw_model.specs.declared.records.Key.{Key as AKey};
+ghost use Rattle.pw_model.specs.Lists.{AreDisputes, IsDispute, IsRising, Lists, dispute_order, records_at};
+ghost use Rattle.pw_model.specs.Office.{AllOfOffice, most_records};
+ghost use Rattle.pw_model.specs.Same.{entry_order};
+ghost use Rattle.pw_shelf.specs.declared.fault.ShelfFault.TheVariants.{Device};
+ghost use Rattle.pw_tariff.specs.Office.{office_of, register_place};
+ghost use Rattle.pw_book.specs.Asking.{IsOnlyAsked};
+ghost use Rattle.pw_book.specs.Places.{AreWithin, DisputesBefore};
+ghost use Rattle.pw_book.specs.Groups.{IsDisputeOf};
+
+use crate::asked::{assignments_held, readings_held, topups_held};
+use crate::counting::same_key_behind;
+use crate::registers::REGISTERS;
+use pw_model::{Dispute, Entry};
+use pw_obis::Register;
+use pw_shelf::{Shelf, ShelfFault};
+use pw_tariff::{MeterId, Office};
+use std::alloc::{AllocError, Global};
+
+// The disputes of all keys, of the records held.
+pub(crate) fn disputes_held<S: Shelf>(
+    shelf: &mut S,
+    alloc: Global,
+    office: &Office,
+) -> Result<Vec<Dispute>, ShelfFault>
+    requires idle { IsNone (S.state shelf.old).begun }
+    requires few { S.clean shelf.old → length (S.state shelf.old).content.records ≤ most_records }
+    requires of_office { S.clean shelf.old → AllOfOffice (office_of office.now) (S.state shelf.old).content.records }
+    ensures disputes { S.clean shelf.new → IfOk result (λ disputes. AreDisputes (S.state shelf.old).content.records disputes.items) }
+    ensures asked { IsOnlyAsked (S.state shelf.old) (S.state shelf.new) (S.left shelf.old) (S.left shelf.new) (S.clean shelf.old) (S.clean shelf.new) }
+    ensures cause { IsErrOf result Device → (S.state shelf.old).failures < (S.state shelf.new).failures }
+{
+    let mut disputes = Vec::new(alloc);
+    add_readings(shelf, alloc, office.meters(), &mut disputes)?;
+    add_assignments(shelf, alloc, office.meters(), &mut disputes)?;
+    add_topups(shelf, alloc, &mut disputes)?;
+    Ok(disputes)
+}
+
+// Adds the disputed readings of all meters.
+fn add_readings<S: Shelf>(
+    shelf: &mut S,
+    alloc: Global,
+    count: u16,
+    disputes: &mut Vec<Dispute>,
+) -> Result<(), ShelfFault>
+    requires { IsNone (S.state shelf.old).begun }
+    ensures disputes { S.clean shelf.new → (meters : ℕ) → AreWithin meters (S.state shelf.old).content.records → count ≡ meters → DisputesBefore meters (S.state shelf.old).content.records (0) disputes.old.items → OnOk result (DisputesBefore meters (S.state shelf.old).content.records (6 * meters) disputes.new.items) }
+    ensures asked { IsOnlyAsked (S.state shelf.old) (S.state shelf.new) (S.left shelf.old) (S.left shelf.new) (S.clean shelf.old) (S.clean shelf.new) }
+    ensures cause { IsErrOf result Device → (S.state shelf.old).failures < (S.state shelf.new).failures }
+{
+    for meter in 0..count {
+        add_meter(shelf, alloc, MeterId(meter), disputes)?;
+    }
+    Ok(())
+}
+
+// Adds the disputed assignments of all meters.
+fn add_assignments<S: Shelf>(
+    shelf: &mut S,
+    alloc: Global,
+    count: u16,
+    disputes: &mut Vec<Dispute>,
+) -> Result<(), ShelfFault>
+    requires { IsNone (S.state shelf.old).begun }
+    ensures disputes { S.clean shelf.new → (meters : ℕ) → AreWithin meters (S.state shelf.old).content.records → count ≡ meters → DisputesBefore meters (S.state shelf.old).content.records (6 * meters) disputes.old.items → OnOk result (DisputesBefore meters (S.state shelf.old).content.records (7 * meters) disputes.new.items) }
+    ensures asked { IsOnlyAsked (S.state shelf.old) (S.state shelf.new) (S.left shelf.old) (S.left shelf.new) (S.clean shelf.old) (S.clean shelf.new) }
+    ensures cause { IsErrOf result Device → (S.state shelf.old).failures < (S.state shelf.new).failures }
+{
+    for meter in 0..count {
+        add_assignments_of(shelf, alloc, MeterId(meter), disputes)?;
+    }
+    Ok(())
+}
+
+// Adds the disputed readings of a meter behind those of the meters before it.
+fn add_meter<S: Shelf>(
+    shelf: &mut S,
+    alloc: Global,
+    meter: MeterId,
+    disputes: &mut Vec<Dispute>,
+) -> Result<(), ShelfFault>
+    requires { IsNone (S.state shelf.old).begun }
+    ensures disputes { S.clean shelf.new → (meters : ℕ) → AreWithin meters (S.state shelf.old).content.records → meter.0 < meters → DisputesBefore meters (S.state shelf.old).content.records (6 * meter.0) disputes.old.items → OnOk result (DisputesBefore meters (S.state shelf.old).content.records (6 * meter.0 + 6) disputes.new.items) }
+    ensures asked { IsOnlyAsked (S.state shelf.old) (S.state shelf.new) (S.left shelf.old) (S.left shelf.new) (S.clean shelf.old) (S.clean shelf.new) }
+    ensures cause { IsErrOf result Device → (S.state shelf.old).failures < (S.state shelf.new).failures }
+{
+    for register in &REGISTERS {
+        add_readings_of(shelf, alloc, meter, *register, disputes)?;
+    }
+    Ok(())
+}
+
+// Adds the disputed readings of a register behind those of the registers before it.
+fn add_readings_of<S: Shelf>(
+    shelf: &mut S,
+    alloc: Global,
+    meter: MeterId,
+    register: Register,
+    disputes: &mut Vec<Dispute>,
+) -> Result<(), ShelfFault>
+    requires { IsNone (S.state shelf.old).begun }
+    ensures disputes { S.clean shelf.new → (meters : ℕ) → AreWithin meters (S.state shelf.old).content.records → meter.0 < meters → DisputesBefore meters (S.state shelf.old).content.records (6 * meter.0 + register_place register) disputes.old.items → OnOk result (DisputesBefore meters (S.state shelf.old).content.records (6 * meter.0 + register_place register + 1) disputes.new.items) }
+    ensures asked { IsOnlyAsked (S.state shelf.old) (S.state shelf.new) (S.left shelf.old) (S.left shelf.new) (S.clean shelf.old) (S.clean shelf.new) }
+    ensures cause { IsErrOf result Device → (S.state shelf.old).failures < (S.state shelf.new).failures }
+{
+    let readings = readings_held(shelf, alloc, meter, register)?;
+    let more = disputes_of(alloc, &readings)?;
+    disputes.extend_from_slice(&more)?;
+    Ok(())
+}
+
+// Adds the disputed assignments of a meter behind those of the meters before it.
+fn add_assignments_of<S: Shelf>(
+    shelf: &mut S,
+    alloc: Global,
+    meter: MeterId,
+    disputes: &mut Vec<Dispute>,
+) -> Result<(), ShelfFault>
+    requires { IsNone (S.state shelf.old).begun }
+    ensures disputes { S.clean shelf.new → (meters : ℕ) → AreWithin meters (S.state shelf.old).content.records → meter.0 < meters → DisputesBefore meters (S.state shelf.old).content.records (6 * meters + meter.0) disputes.old.items → OnOk result (DisputesBefore meters (S.state shelf.old).content.records (6 * meters + (meter.0 + 1)) disputes.new.items) }
+    ensures asked { IsOnlyAsked (S.state shelf.old) (S.state shelf.new) (S.left shelf.old) (S.left shelf.new) (S.clean shelf.old) (S.clean shelf.new) }
+    ensures cause { IsErrOf result Device → (S.state shelf.old).failures < (S.state shelf.new).failures }
+{
+    let assignments = assignments_held(shelf, alloc, meter)?;
+    let more = disputes_of(alloc, &assignments)?;
+    disputes.extend_from_slice(&more)?;
+    Ok(())
+}
+
+// Adds the disputed top-ups.
+fn add_topups<S: Shelf>(
+    shelf: &mut S,
+    alloc: Global,
+    disputes: &mut Vec<Dispute>,
+) -> Result<(), ShelfFault>
+    requires { IsNone (S.state shelf.old).begun }
+    ensures disputes { S.clean shelf.new → (meters : ℕ) → AreWithin meters (S.state shelf.old).content.records → DisputesBefore meters (S.state shelf.old).content.records (7 * meters) disputes.old.items → OnOk result (DisputesBefore meters (S.state shelf.old).content.records (7 * meters + 1) disputes.new.items) }
+    ensures asked { IsOnlyAsked (S.state shelf.old) (S.state shelf.new) (S.left shelf.old) (S.left shelf.new) (S.clean shelf.old) (S.clean shelf.new) }
+    ensures cause { IsErrOf result Device → (S.state shelf.old).failures < (S.state shelf.new).failures }
+{
+    let topups = topups_held(shelf, alloc)?;
+    let more = disputes_of(alloc, &topups)?;
+    disputes.extend_from_slice(&more)?;
+    Ok(())
+}
+
+// The keys that two or more of some records have, and how many.
+pub(crate) fn disputes_of(alloc: Global, records: &[Entry]) -> Result<Vec<Dispute>, AllocError>
+    ensures { IsRising entry_order records.now → ((k : AKey) → records_at records.now k < 2 ^ 32) → IfOk result (λ disputes. Lists dispute_order (IsDispute records.now) disputes.items) }
+{
+    let mut disputes = Vec::new(alloc);
+    let mut rest = records;
+    while let Some((first, others)) = rest.split_first() {
+        let same = same_key_behind(first, others);
+        if same > 0 {
+            disputes.push(dispute(first, same))?;
+        }
+        rest = &others[same..];
+    }
+    Ok(disputes)
+}
+
+// What a record and some behind it dispute. (No set of records has so many that their number isn't a u32.)
+fn dispute(first: &Entry, behind: usize) -> Dispute
+    ensures { IsDisputeOf first.now behind result }
+{
+    let contents = u32::try_from(behind).unwrap_or(u32::MAX).saturating_add(1);
+    Dispute {
+        key: first.key,
+        contents,
+    }
+}

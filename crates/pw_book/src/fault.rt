@@ -1,0 +1,185 @@
+//! Why a call of the book fails.
+
+use pw_shelf::ShelfFault;
+use std::alloc::AllocError;
+use std::fmt;
+
+/// Why an upload isn't accepted.
+#[derive(Clone, Copy, Debug, PartialEq, Eq)]
+pub enum PostFault {
+    /// 60: the records held and the fresh ones together are more than the limit.
+    Full { held: u32, limit: u32 },
+    /// 61: the device of the store failed.
+    Device,
+    /// 62: memory was refused.
+    Memory,
+    /// 63: an upload couldn't be taken back. The store has to be opened again.
+    Reopen,
+}
+
+/// Why a question isn't answered.
+#[derive(Clone, Copy, Debug, PartialEq, Eq)]
+pub enum BookFault {
+    /// 61: the device of the store failed.
+    Device,
+    /// 62: memory was refused.
+    Memory,
+    /// 63: an upload couldn't be taken back. The store has to be opened again.
+    Reopen,
+}
+
+impl PostFault {
+    ghost use Rattle.std.specs.Prelude.{◌≡◌};
+    ghost use Rattle.pw_book.specs.Faults.{post_name, post_number};
+
+    /// The number under which the fault is reported: 60 to 63.
+    pub fn number(self) -> u8
+        ensures { result ≡ post_number self }
+    {
+        match self {
+            PostFault::Full { .. } => 60,
+            PostFault::Device => 61,
+            PostFault::Memory => 62,
+            PostFault::Reopen => 63,
+        }
+    }
+
+    /// The name under which the fault is reported: that of the variant.
+    pub fn name(self) -> &'static str
+        ensures { result.now ≡ post_name self }
+    {
+        match self {
+            PostFault::Full { .. } => "Full",
+            PostFault::Device => "Device",
+            PostFault::Memory => "Memory",
+            PostFault::Reopen => "Reopen",
+        }
+    }
+}
+
+impl BookFault {
+    ghost use Rattle.std.specs.Prelude.{◌≡◌};
+    ghost use Rattle.pw_book.specs.Faults.{book_name, book_number};
+
+    /// The number under which the fault is reported: 61 to 63.
+    pub fn number(self) -> u8
+        ensures { result ≡ book_number self }
+    {
+        match self {
+            BookFault::Device => 61,
+            BookFault::Memory => 62,
+            BookFault::Reopen => 63,
+        }
+    }
+
+    /// The name under which the fault is reported: that of the variant.
+    pub fn name(self) -> &'static str
+        ensures { result.now ≡ book_name self }
+    {
+        match self {
+            BookFault::Device => "Device",
+            BookFault::Memory => "Memory",
+            BookFault::Reopen => "Reopen",
+        }
+    }
+}
+
+/// The fault line without its end: `refused`, the number, the name; behind a full book's the number held and the limit.
+impl fmt::Display for PostFault {
+    ghost use Rattle.std.specs.Prelude.{Some};
+    ghost use Rattle.pw_book.specs.Faults.{post_line};
+
+    ghost output = { λ fault. Some (post_line fault) };
+
+    fn fmt<W: fmt::Write>(&self, f: &mut fmt::Formatter<W>) -> fmt::Result {
+        match *self {
+            PostFault::Full { held, limit } => {
+                write!(f, "refused 60 Full held {held} limit {limit}")
+            }
+            PostFault::Device => write!(f, "refused 61 Device"),
+            PostFault::Memory => write!(f, "refused 62 Memory"),
+            PostFault::Reopen => write!(f, "refused 63 Reopen"),
+        }
+    }
+}
+
+/// The fault line without its end: `refused`, the number and the name.
+impl fmt::Display for BookFault {
+    ghost use Rattle.std.specs.Prelude.{Some};
+    ghost use Rattle.pw_book.specs.Faults.{book_line};
+
+    ghost output = { λ fault. Some (book_line fault) };
+
+    fn fmt<W: fmt::Write>(&self, f: &mut fmt::Formatter<W>) -> fmt::Result {
+        match *self {
+            BookFault::Device => write!(f, "refused 61 Device"),
+            BookFault::Memory => write!(f, "refused 62 Memory"),
+            BookFault::Reopen => write!(f, "refused 63 Reopen"),
+        }
+    }
+}
+
+impl From<ShelfFault> for PostFault {
+    ghost use Rattle.std.specs.Prelude.{◌≡◌};
+    ghost use Rattle.pw_book.specs.Faults.{post_fault};
+
+    ghost from_gives = { λ fault e. e ≡ post_fault fault };
+
+    fn from(fault: ShelfFault) -> Self {
+        match fault {
+            ShelfFault::Memory => PostFault::Memory,
+            ShelfFault::Device => PostFault::Device,
+        }
+    }
+}
+
+impl From<AllocError> for PostFault {
+    ghost use Rattle.std.specs.Prelude.{◌≡◌};
+    ghost use Rattle.pw_book.specs.declared.fault.PostFault.TheVariants.{Memory};
+
+    ghost from_gives = { λ _ e. e ≡ Memory };
+
+    fn from(_: AllocError) -> Self {
+        PostFault::Memory
+    }
+}
+
+impl From<BookFault> for PostFault {
+    ghost use Rattle.std.specs.Prelude.{◌≡◌};
+    ghost use Rattle.pw_book.specs.Faults.{post_fault_of};
+
+    ghost from_gives = { λ fault e. e ≡ post_fault_of fault };
+
+    fn from(fault: BookFault) -> Self {
+        match fault {
+            BookFault::Device => PostFault::Device,
+            BookFault::Memory => PostFault::Memory,
+            BookFault::Reopen => PostFault::Reopen,
+        }
+    }
+}
+
+impl From<ShelfFault> for BookFault {
+    ghost use Rattle.std.specs.Prelude.{◌≡◌};
+    ghost use Rattle.pw_book.specs.Faults.{book_fault};
+
+    ghost from_gives = { λ fault e. e ≡ book_fault fault };
+
+    fn from(fault: ShelfFault) -> Self {
+        match fault {
+            ShelfFault::Memory => BookFault::Memory,
+            ShelfFault::Device => BookFault::Device,
+        }
+    }
+}
+
+impl From<AllocError> for BookFault {
+    ghost use Rattle.std.specs.Prelude.{◌≡◌};
+    ghost use Rattle.pw_book.specs.declared.fault.BookFault.TheVariants.{Memory};
+
+    ghost from_gives = { λ _ e. e ≡ Memory };
+
+    fn from(_: AllocError) -> Self {
+        BookFault::Memory
+    }
+}

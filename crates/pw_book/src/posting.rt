@@ -1,0 +1,90 @@
+//! An upload's way to a shelf: weighed first, then written.
+
+ghost use Rattle.std.specs.Prelude.{◌≡◌, ◌+◌, ◌<◌, ◌≤◌, ◌^◌, IfOk, IsErrOf, IsNone, MatchResult, length};
+ghost use Rattle.pw_model.specs.Counting.{EachOnce};
+ghost use Rattle.pw_model.specs.Lists.{record_count};
+ghost use Rattle.pw_model.specs.Office.{most_records};
+ghost use Rattle.pw_shelf.specs.declared.fault.ShelfFault.TheVariants.{Device as NoDevice};
+ghost use Rattle.pw_book.specs.Asking.{IsOnlyAsked};
+ghost use Rattle.pw_book.specs.Posting.{IsPosted, LeavesPosted, repeated_in};
+ghost use Rattle.pw_book.specs.declared.fault.PostFault.TheVariants.{Device, Full, Reopen};
+
+use crate::asked::{count_held, is_held};
+use crate::book::Accepted;
+use crate::distinct::distinct;
+use crate::fault::PostFault;
+use crate::upload::upload;
+use pw_model::Entry;
+use pw_shelf::{Shelf, ShelfFault};
+use std::alloc::Global;
+
+// Adds the entries to a shelf in an upload of their own, unless there is no room.
+pub(crate) fn post_to<S: Shelf>(
+    shelf: &mut S,
+    alloc: Global,
+    limit: u32,
+    entries: &[Entry],
+) -> Result<Accepted, PostFault>
+    requires idle { IsNone (S.state shelf.old).begun }
+    requires most { limit ≤ most_records }
+    ensures posted { S.clean shelf.new → IsPosted limit entries.now (S.state shelf.old).content (S.state shelf.new).content result }
+    ensures left { S.clean shelf.new → LeavesPosted entries.now (S.state shelf.old).content (S.state shelf.new).content (S.left shelf.old) (S.left shelf.new) result }
+    ensures idle { (IsErrOf result Reopen → ⊥) → IsNone (S.state shelf.new).begun }
+    ensures undone { (IsErrOf result Reopen → ⊥) → (S.state shelf.new).failed_abandons ≡ (S.state shelf.old).failed_abandons }
+    ensures reopen { IsErrOf result Reopen → (S.state shelf.new).failed_abandons ≡ (S.state shelf.old).failed_abandons + 1 }
+    ensures failures { (S.state shelf.old).failures ≤ (S.state shelf.new).failures }
+    ensures cause { IsErrOf result Device → (S.state shelf.old).failures < (S.state shelf.new).failures }
+    ensures cleanness { S.clean shelf.new → S.clean shelf.old }
+{
+    let distinct = distinct(alloc, entries)?;
+    let (held, repeated) = weigh(shelf, &distinct)?;
+    let accepted = admitted(held, distinct.len() - repeated, repeated, limit)?;
+    upload(shelf, &distinct)?;
+    Ok(accepted)
+}
+
+// What is answered where so many records are held, and so many of an upload's distinct entries are fresh and repeated.
+fn admitted(held: u32, fresh: usize, repeated: usize, limit: u32) -> Result<Accepted, PostFault>
+    ensures { MatchResult result (λ a. (held + fresh ≤ limit) × (a.fresh ≡ fresh) × (repeated < 2 ^ 32 → a.repeated ≡ repeated)) (λ e. (limit < held + fresh) × (e ≡ Full held limit)) }
+{
+    if held > limit || fresh > (limit - held) as usize {
+        return Err(PostFault::Full { held, limit });
+    }
+    Ok(Accepted {
+        fresh: fresh as u32,
+        repeated: repeated.min(u32::MAX as usize) as u32,
+    })
+}
+
+// How many records are held, and how many of an upload's distinct entries.
+fn weigh<S: Shelf>(shelf: &mut S, distinct: &[Entry]) -> Result<(u32, usize), ShelfFault>
+    requires idle { IsNone (S.state shelf.old).begun }
+    requires once { EachOnce distinct.now }
+    ensures held { S.clean shelf.new → IfOk result (λ w. w.0 ≡ length (S.state shelf.old).content.records) }
+    ensures repeated { S.clean shelf.new → IfOk result (λ w. w.1 ≡ repeated_in (S.state shelf.old).content.records distinct.now) }
+    ensures within { IfOk result (λ w. w.1 ≤ length distinct.now) }
+    ensures asked { IsOnlyAsked (S.state shelf.old) (S.state shelf.new) (S.left shelf.old) (S.left shelf.new) (S.clean shelf.old) (S.clean shelf.new) }
+    ensures cause { IsErrOf result NoDevice → (S.state shelf.old).failures < (S.state shelf.new).failures }
+{
+    let held = count_held(shelf)?;
+    let repeated = count_repeated(shelf, distinct)?;
+    Ok((held, repeated))
+}
+
+// How many of an upload's distinct entries are held.
+fn count_repeated<S: Shelf>(shelf: &mut S, distinct: &[Entry]) -> Result<usize, ShelfFault>
+    requires idle { IsNone (S.state shelf.old).begun }
+    requires once { EachOnce distinct.now }
+    ensures repeated { S.clean shelf.new → IfOk result (λ repeated. repeated ≡ repeated_in (S.state shelf.old).content.records distinct.now) }
+    ensures within { IfOk result (λ repeated. repeated ≤ length distinct.now) }
+    ensures asked { IsOnlyAsked (S.state shelf.old) (S.state shelf.new) (S.left shelf.old) (S.left shelf.new) (S.clean shelf.old) (S.clean shelf.new) }
+    ensures cause { IsErrOf result NoDevice → (S.state shelf.old).failures < (S.state shelf.new).failures }
+{
+    let mut repeated = 0;
+    for entry in distinct {
+        if is_held(shelf, entry)? {
+            repeated += 1;
+        }
+    }
+    Ok(repeated)
+}

@@ -1,0 +1,76 @@
+//! One upload to a shelf, written and committed, or taken back.
+
+ghost use Rattle.std.specs.Prelude.{◌≡◌, ◌+◌, ◌<◌, ◌≤◌, ◌++◌, [], ◌∷◌, None, OnOk, OnErr, IsErrOf, IsNone, IsSome, length};
+ghost use Rattle.pw_model.specs.Counting.{Member};
+ghost use Rattle.pw_model.specs.Lists.{record_count};
+ghost use Rattle.pw_model.specs.Office.{most_records};
+ghost use Rattle.pw_shelf.specs.Left.{LeavesOnly};
+ghost use Rattle.pw_shelf.specs.State.{KeepsCounts};
+ghost use Rattle.pw_shelf.specs.declared.fault.ShelfFault.TheVariants.{Device as NoDevice};
+ghost use Rattle.pw_book.specs.Posting.{IsJoined, IsWithUpload, LeavesUpload};
+ghost use Rattle.pw_book.specs.Writing.{IsWriting};
+ghost use Rattle.pw_book.specs.declared.fault.BookFault.TheVariants.{Device, Reopen};
+
+use crate::fault::BookFault;
+use pw_model::Entry;
+use pw_shelf::{Shelf, ShelfFault};
+
+// Adds the entries that aren't held in an upload of their own.
+pub(crate) fn upload<S: Shelf>(shelf: &mut S, entries: &[Entry]) -> Result<(), BookFault>
+    requires idle { IsNone (S.state shelf.old).begun }
+    requires room { S.clean shelf.old → record_count ((S.state shelf.old).content.records ++ entries.now) ≤ most_records }
+    ensures posted { S.clean shelf.new → OnOk result (IsWithUpload entries.now (S.state shelf.old).content (S.state shelf.new).content) }
+    ensures back { S.clean shelf.new → OnErr result ((IsErrOf result Reopen → ⊥) → (S.state shelf.new).content ≡ (S.state shelf.old).content) }
+    ensures idle { (IsErrOf result Reopen → ⊥) → IsNone (S.state shelf.new).begun }
+    ensures undone { (IsErrOf result Reopen → ⊥) → (S.state shelf.new).failed_abandons ≡ (S.state shelf.old).failed_abandons }
+    ensures reopen { IsErrOf result Reopen → (S.state shelf.new).failed_abandons ≡ (S.state shelf.old).failed_abandons + 1 }
+    ensures failures { (S.state shelf.old).failures ≤ (S.state shelf.new).failures }
+    ensures cause { IsErrOf result Device → (S.state shelf.old).failures < (S.state shelf.new).failures }
+    ensures kept { S.clean shelf.new → OnOk result (LeavesOnly (S.state shelf.new).content (S.left shelf.new)) }
+    ensures left { S.clean shelf.new → OnErr result (LeavesUpload entries.now (S.state shelf.old).content (S.left shelf.old) (S.left shelf.new)) }
+    ensures cleanness { S.clean shelf.new → S.clean shelf.old }
+{
+    if let Err(fault) = shelf.begin() {
+        return Err(BookFault::from(fault));
+    }
+    match write(shelf, entries) {
+        Ok(()) => Ok(()),
+        Err(fault) => match shelf.abandon() {
+            Ok(()) => Err(BookFault::from(fault)),
+            Err(_) => Err(BookFault::Reopen),
+        },
+    }
+}
+
+// Adds the entries that aren't held to the upload that is begun, and commits.
+fn write<S: Shelf>(shelf: &mut S, entries: &[Entry]) -> Result<(), ShelfFault>
+    requires begun { IsSome (S.state shelf.old).begun }
+    requires room { S.clean shelf.old → record_count ((S.state shelf.old).content.records ++ entries.now) ≤ most_records }
+    ensures posted { S.clean shelf.new → OnOk result (IsWithUpload entries.now (S.state shelf.old).content (S.state shelf.new).content) }
+    ensures ended { OnOk result ((S.state shelf.new).begun ≡ None) }
+    ensures begun { OnErr result ((S.state shelf.new).begun ≡ (S.state shelf.old).begun) }
+    ensures counts { KeepsCounts (S.state shelf.old) (S.state shelf.new) }
+    ensures cause { IsErrOf result NoDevice → (S.state shelf.old).failures < (S.state shelf.new).failures }
+    ensures kept { S.clean shelf.new → OnOk result (LeavesOnly (S.state shelf.new).content (S.left shelf.new)) }
+    ensures left { S.clean shelf.new → OnErr result (LeavesUpload entries.now (S.state shelf.old).content (S.left shelf.old) (S.left shelf.new)) }
+    ensures cleanness { S.clean shelf.new → S.clean shelf.old }
+{
+    for entry in entries {
+        put(shelf, entry)?;
+    }
+    shelf.commit()
+}
+
+// Adds an entry to the upload that is begun, unless it is held.
+fn put<S: Shelf>(shelf: &mut S, entry: &Entry) -> Result<(), ShelfFault>
+    requires begun { IsSome (S.state shelf.old).begun }
+    requires room { S.clean shelf.old → (Member entry.now (S.state shelf.old).content.records → ⊥) → length (S.state shelf.old).content.records < most_records }
+    ensures put { S.clean shelf.new → OnOk result (IsJoined (entry.now ∷ []) (S.state shelf.old).content (S.state shelf.new).content) }
+    ensures written { IsWriting (S.state shelf.old) (S.state shelf.new) (S.left shelf.old) (S.left shelf.new) (S.clean shelf.old) (S.clean shelf.new) }
+    ensures cause { IsErrOf result NoDevice → (S.state shelf.old).failures < (S.state shelf.new).failures }
+{
+    if !shelf.holds(entry)? {
+        shelf.add(entry)?;
+    }
+    Ok(())
+}
