@@ -111,6 +111,7 @@ impl<S: Shelf> Book<S> {
         ensures left { S.clean self.new.shelf → LeavesPosted entries.now (S.state self.old.shelf).content (S.state self.new.shelf).content (S.left self.old.shelf) (S.left self.new.shelf) result }
         ensures reopen { IsErrOf result PostFault.Reopen ↔ ((self.old.shut ≡ true) ⊎ ((S.state self.old.shelf).failed_abandons < (S.state self.new.shelf).failed_abandons)) }
         ensures abandons { (S.state self.new.shelf).failed_abandons ≡ (S.state self.old.shelf).failed_abandons + failed_in self.old.shut result }
+        ensures untouched { self.old.shut ≡ true → self.new.shelf ≡ self.old.shelf }
         ensures shut { (self.new.shut ≡ true) ↔ IsErrOf result PostFault.Reopen }
         ensures device { IsErrOf result PostFault.Device → (S.state self.old.shelf).failures < (S.state self.new.shelf).failures }
         ensures failures { (S.state self.old.shelf).failures ≤ (S.state self.new.shelf).failures }

@@ -1,17 +1,18 @@
 //! The book over a store in memory, on rows worked out by hand.
 
-ghost use Rattle.std.specs.Prelude.{◌≡◌, ◌<◌, IfOk, IsTrue, ◌↔◌, length};
-ghost use Rattle.pw_model.specs.Office.{AllOfOffice, IsOfOffice};
+ghost use Rattle.std.specs.Prelude.{◌≤◌, IsTrue, ◌↔◌, length};
+ghost use Rattle.pw_model.specs.Office.{AllOfOffice, most_records};
 ghost use Rattle.pw_tariff.specs.Office.{office_of};
 
 use super::Book;
 use crate::{Accepted, BookFault, PostFault};
+use pw_model::plain::{self, OfficeTerms};
 use pw_model::{Content, Entry, Key, Reference};
 use pw_obis::{Register, WattHours};
 use pw_shelf::{MemoryShelf, Shelf};
 use pw_tariff::{AccountId, BandId, Direction, MeterId, Office, Owner};
 use pw_time::{Instant, Zone};
-use std::alloc::Global;
+use std::alloc::{AllocError, Global};
 use std::process::Abort;
 use std::test::Fail;
 
@@ -58,56 +59,11 @@ clock = "marked"
 registers = ["I1", "I2", "E1", "E2"]
 "#;
 
-fn is_of_office(office: &Office, entry: &Entry) -> bool
-    ensures { IsTrue result ↔ IsOfOffice (office_of office.now) entry.now }
-{
-    match &entry.key {
-        Key::Reading {
-            meter,
-            register,
-            instant,
-        } => {
-            let Content::Reading { wh } = &entry.content else {
-                return false;
-            };
-            let _second = instant.seconds();
-            let _wh = wh.get();
-            meter.0 < office.meters() && office.counts(*meter, *register)
-        }
-        Key::Assignment { meter, start } => {
-            let Content::Assignment { owner } = &entry.content else {
-                return false;
-            };
-            let _second = start.seconds();
-            meter.0 < office.meters()
-                && match owner {
-                    None => true,
-                    Some(account) => account.0 < office.accounts(),
-                }
-        }
-        Key::TopUp { reference } => {
-            let Content::TopUp {
-                account,
-                cents,
-                instant,
-            } = &entry.content
-            else {
-                return false;
-            };
-            let _second = instant.seconds();
-            let _text = reference.bytes();
-            account.0 < office.accounts() && 1 <= *cents && *cents <= 100_000_000
-        }
-    }
-}
-
-fn are_of_office(office: &Office, entries: &[Entry]) -> bool
+fn are_of_office(office: &Office, zone: &Zone, entries: &[Entry]) -> bool
     ensures { IsTrue result ↔ AllOfOffice (office_of office.now) entries.now }
 {
-    match entries {
-        [] => true,
-        [entry, others @ ..] => is_of_office(office, entry) && are_of_office(office, others),
-    }
+    let terms = OfficeTerms::new(office, zone);
+    plain::are_of_office(&terms, entries)
 }
 
 fn empty_book(rt: &impl Abort, alloc: Global, limit: u32) -> Result<Book<MemoryShelf>, Fail> {
@@ -122,7 +78,7 @@ fn post<S: Shelf>(
     book: &mut Book<S>,
     entries: &[Entry],
 ) -> Result<(u32, u32), PostFault> {
-    let of_office = are_of_office(book.office(), entries);
+    let of_office = are_of_office(book.office(), book.zone(), entries);
     assert!(rt; of_office);
     let Accepted { fresh, repeated } = book.post(alloc, entries)?;
     Ok((fresh, repeated))
@@ -198,6 +154,71 @@ fn paid(rt: &impl Abort, reference: &[u8], cents: u32) -> Entry {
     }
 }
 
+// What an account imported in both bands, computed from the definitions, one second at a time.
+fn plain_imported(
+    alloc: Global,
+    office: &Office,
+    zone: &Zone,
+    entries: &[Entry],
+    account: AccountId,
+) -> Result<(u64, u64), AllocError>
+    requires entries { AllOfOffice (office_of office.now) entries.now }
+    requires few { length entries.now ≤ most_records }
+{
+    let terms = OfficeTerms::new(office, zone);
+    let (owner, import) = (Some(account), Direction::Import);
+    let low = plain::energy(alloc, &terms, entries, owner, BandId(0), import)?;
+    let high = plain::energy(alloc, &terms, entries, owner, BandId(1), import)?;
+    Ok((low, high))
+}
+
+fn plain_balance(
+    alloc: Global,
+    office: &Office,
+    zone: &Zone,
+    entries: &[Entry],
+    account: AccountId,
+) -> Result<i128, AllocError>
+    requires entries { AllOfOffice (office_of office.now) entries.now }
+    requires few { length entries.now ≤ most_records }
+{
+    let terms = OfficeTerms::new(office, zone);
+    plain::balance(alloc, &terms, entries, account)
+}
+
+// The book answers what the definitions give for all the entries that it took.
+fn agrees<S: Shelf>(
+    rt: &impl Abort,
+    alloc: Global,
+    book: &mut Book<S>,
+    entries: &[Entry],
+) -> Result<(), Fail> {
+    let of_office = are_of_office(book.office(), book.zone(), entries);
+    assert!(rt; of_office && entries.len() <= 100);
+    let both = plain_imported(alloc, book.office(), book.zone(), entries, FIRST)?;
+    let nano = plain_balance(alloc, book.office(), book.zone(), entries, FIRST)?;
+    assert_eq!(rt; imported(rt, alloc, book, FIRST)?, both);
+    assert_eq!(rt; money(rt, alloc, book, FIRST)?.1, nano);
+    Ok(())
+}
+
+fn lists_agree<S: Shelf>(
+    rt: &impl Abort,
+    alloc: Global,
+    book: &mut Book<S>,
+    entries: &[Entry],
+) -> Result<(), Fail> {
+    assert!(rt; entries.len() <= 100);
+    assert!(rt; METER.0 < book.office().meters());
+    let falls = plain::falls(alloc, entries)?;
+    assert!(rt; book.falls(alloc)?.as_slice() == falls.as_slice());
+    let disputes = plain::disputes(alloc, entries)?;
+    assert!(rt; book.disputes(alloc)?.as_slice() == disputes.as_slice());
+    let rows = plain::readings(alloc, entries, METER, Register::I1)?;
+    assert!(rt; book.readings(alloc, METER, Register::I1)?.as_slice() == rows.as_slice());
+    Ok(())
+}
+
 // An upload of one entry, and what the first account imported behind it.
 #[derive(Clone, Copy)]
 struct Step {
@@ -214,6 +235,7 @@ fn run<S: Shelf>(
     rt: &impl Abort,
     alloc: Global,
     book: &mut Book<S>,
+    taken: &mut Vec<Entry>,
     steps: &[Step],
 ) -> Result<(), Fail> {
     for step in steps {
@@ -221,8 +243,10 @@ fn run<S: Shelf>(
         let (low, high) = imported(rt, alloc, book, FIRST)?;
         assert_eq!(rt; low, step.low);
         assert_eq!(rt; high, step.high);
+        taken.push(step.entry)?;
     }
-    Ok(())
+    agrees(rt, alloc, book, taken)?;
+    lists_agree(rt, alloc, book, taken)
 }
 
 // The dispute over three readings, and the five rows of their register.
@@ -242,6 +266,7 @@ fn lists<S: Shelf>(rt: &impl Abort, alloc: Global, book: &mut Book<S>) -> Result
 #[test]
 fn late_and_disputed_readings(rt: HostRuntime) -> Result<(), Fail> {
     let mut book = empty_book(&rt, rt.alloc(), 100)?;
+    let mut taken = Vec::new(rt.alloc());
     let steps = [
         expecting(assigned(&rt, NEW_YEAR, Some(FIRST)), 0, 0),
         expecting(reading(&rt, SEVEN, 1_003_001), 0, 0),
@@ -251,14 +276,77 @@ fn late_and_disputed_readings(rt: HostRuntime) -> Result<(), Fail> {
         expecting(reading(&rt, SIX, 1_001_000), 1_500, 1_501),
         expecting(reading(&rt, SIX, 1_001_200), 1_500, 1_501),
     ];
-    run(&rt, rt.alloc(), &mut book, &steps)?;
+    run(&rt, rt.alloc(), &mut book, &mut taken, &steps)?;
     lists(&rt, rt.alloc(), &mut book)?;
+    Ok(())
+}
+
+#[test]
+fn two_readings_one_topup(rt: HostRuntime) -> Result<(), Fail> {
+    let alloc = rt.alloc();
+    let mut book = empty_book(&rt, alloc, 100)?;
+    assert_eq!(rt; money(&rt, alloc, &mut book, SECOND)?, (0, 0));
+    let mut taken = Vec::new(alloc);
+    let steps = [
+        expecting(reading(&rt, SEVEN, 1_003_001), 0, 0),
+        expecting(paid(&rt, b"P1", 5_000), 0, 0),
+        expecting(reading(&rt, FIVE, 1_000_000), 0, 0),
+        expecting(assigned(&rt, NEW_YEAR, Some(FIRST)), 1_500, 1_501),
+        expecting(paid(&rt, b"P1", 5_000), 1_500, 1_501),
+    ];
+    run(&rt, alloc, &mut book, &mut taken, &steps)?;
+    assert_eq!(rt;
+        money(&rt, alloc, &mut book, FIRST)?,
+        (5_000, 49_249_700_000)
+    );
+    Ok(())
+}
+
+// Takes an upload, again where memory was refused: then nothing had changed.
+fn posted_or_refused<S: Shelf>(
+    rt: &impl Abort,
+    alloc: Global,
+    book: &mut Book<S>,
+    entry: Entry,
+) -> Result<(), Fail> {
+    let before = book.count()?;
+    if let Err(fault) = post(rt, alloc, book, &[entry]) {
+        assert_eq!(rt; fault, PostFault::Memory);
+        assert_eq!(rt; book.count()?, before);
+        assert_eq!(rt; post(rt, alloc, book, &[entry])?, (1, 0));
+    }
+    Ok(())
+}
+
+// With each allocation refused in turn: what is right, or want of memory, and the next call is right.
+#[test]
+fn memory_refused(rt: HostRuntime) -> Result<(), Fail> {
+    let alloc = rt.alloc();
+    let mut book = empty_book(&rt, alloc, 100)?;
+    posted_or_refused(&rt, alloc, &mut book, assigned(&rt, NEW_YEAR, Some(FIRST)))?;
+    posted_or_refused(&rt, alloc, &mut book, reading(&rt, FIVE, 1_000_000))?;
+    posted_or_refused(&rt, alloc, &mut book, reading(&rt, SEVEN, 1_003_001))?;
+    posted_or_refused(&rt, alloc, &mut book, paid(&rt, b"P1", 5_000))?;
+    match money(&rt, alloc, &mut book, FIRST) {
+        Ok(both) => assert_eq!(rt; both, (5_000, 49_249_700_000)),
+        Err(fault) => assert_eq!(rt; fault, BookFault::Memory),
+    }
+    let both = money(&rt, alloc, &mut book, FIRST);
+    match falls(alloc, &mut book) {
+        Ok(found) => assert_eq!(rt; found, (0, 0)),
+        Err(fault) => assert_eq!(rt; fault, BookFault::Memory),
+    }
+    match both {
+        Ok(both) => assert_eq!(rt; both, (5_000, 49_249_700_000)),
+        Err(fault) => assert_eq!(rt; fault, BookFault::Memory),
+    }
     Ok(())
 }
 
 #[test]
 fn assignment_mid_pair(rt: HostRuntime) -> Result<(), Fail> {
     let mut book = empty_book(&rt, rt.alloc(), 100)?;
+    let mut taken = Vec::new(rt.alloc());
     let steps = [
         expecting(assigned(&rt, NEW_YEAR, Some(FIRST)), 0, 0),
         expecting(paid(&rt, b"P1", 5_000), 0, 0),
@@ -266,7 +354,7 @@ fn assignment_mid_pair(rt: HostRuntime) -> Result<(), Fail> {
         expecting(reading(&rt, FIVE, 1_000_000), 1_500, 1_501),
         expecting(assigned(&rt, FIVE + 1_800, Some(SECOND)), 750, 0),
     ];
-    run(&rt, rt.alloc(), &mut book, &steps)?;
+    run(&rt, rt.alloc(), &mut book, &mut taken, &steps)?;
     let (cents, nano) = money(&rt, rt.alloc(), &mut book, FIRST)?;
     assert_eq!(rt; cents, 5_000);
     assert_eq!(rt; nano, 49_850_000_000);
@@ -288,16 +376,17 @@ fn falls<S: Shelf>(alloc: Global, book: &mut Book<S>) -> Result<(usize, u32), Bo
 #[test]
 fn fall_and_recovery(rt: HostRuntime) -> Result<(), Fail> {
     let mut book = empty_book(&rt, rt.alloc(), 100)?;
+    let mut taken = Vec::new(rt.alloc());
     let steps = [
         expecting(assigned(&rt, NEW_YEAR, Some(FIRST)), 0, 0),
         expecting(reading(&rt, FIVE, 100_000), 0, 0),
         expecting(reading(&rt, SIX, 50_000), 0, 0),
         expecting(reading(&rt, SEVEN, 120_000), 0, 70_000),
     ];
-    run(&rt, rt.alloc(), &mut book, &steps)?;
+    run(&rt, rt.alloc(), &mut book, &mut taken, &steps)?;
     assert_eq!(rt; falls(rt.alloc(), &mut book)?, (1, FIVE));
     let steps = [expecting(reading(&rt, SIX, 60_000), 10_000, 10_000)];
-    run(&rt, rt.alloc(), &mut book, &steps)?;
+    run(&rt, rt.alloc(), &mut book, &mut taken, &steps)?;
     assert_eq!(rt; falls(rt.alloc(), &mut book)?, (0, 0));
     Ok(())
 }
