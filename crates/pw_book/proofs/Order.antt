@@ -1,53 +1,71 @@
 -- What uploads bring depends on which they are alone.
-use Rattle.std.proofs.Common.{◌≡◌, Option, Some, None, List, [], ◌∷◌, refl, sym, subst, inl, inr, ◌⊎◌}
-use Rattle.std.proofs.lemmas.Option.{none-some, same_Some}
+use Rattle.std.proofs.Common.{◌≡◌, List, [], ◌∷◌, ◌++◌, refl, sym, subst, inl, inr, ◌⊎◌}
+use Rattle.pw_tariff.specs.Office.{OfficeFile, office_of}
 use Rattle.pw_model.specs.declared.records.Entry.{Entry}
 use Rattle.pw_model.specs.Counting.{Member, SameMembers}
 use Rattle.pw_model.proofs.Answers.{order_counts_nothing}
-use Rattle.pw_book.specs.After.{Upload, Records, with_entries, after, OrderOfUploadsCountsNothing}
+use Rattle.pw_record.specs.Uploads.{Upload, Gives}
+use Rattle.pw_record.specs.Laws.{HasOneOutcome}
+use Rattle.pw_book.specs.After.{IsTaken, IsRefused, After, OrderOfUploadsCountsNothing}
 use Rattle.pw_book.proofs.Groups.{member-left, member-right, member-split}
 
--- one of the uploads brings the record
-abbrev Brings : Records → List Upload → Entry → Type 0
-Brings read us x = (u : Upload) × Member u us × ((es : List Entry) × (read u ≡ Some es) × Member x es)
+-- what no upload of an office has
+abbrev AreOne : OfficeFile → Type 0
+AreOne file = (upload : Upload) → HasOneOutcome file upload
 
-with-from : (s : List Entry) (r : Option (List Entry)) (x : Entry) → Member x (with_entries s r) → Member x s ⊎ ((es : List Entry) × (r ≡ Some es) × Member x es)
-with-from s None x m = inl m
-with-from s (Some es) x m = elim (member-split x s es m) [ inl a ↦ inl a | inr b ↦ inr (es, refl, b) ]
+-- an upload does one or the other
+abbrev Adds : OfficeFile → Upload → List Entry → List Entry → Type 0
+Adds file u s t = IsTaken file u s t ⊎ IsRefused file u s t
 
-with-old : (s : List Entry) (r : Option (List Entry)) (x : Entry) → Member x s → Member x (with_entries s r)
-with-old s None x m = m
-with-old s (Some es) x m = member-left x s es m
+-- an upload brings the record
+abbrev Brings : OfficeFile → Upload → Entry → Type 0
+Brings file u x = (entries : List Entry) × Gives file u entries × Member x entries
 
-with-new : (s : List Entry) (r : Option (List Entry)) (x : Entry) (es : List Entry) → r ≡ Some es → Member x es → Member x (with_entries s r)
-with-new s None x es e m = absurd (none-some es e)
-with-new s (Some fs) x es e m = let P : List Entry → Type 0 = λ xs. Member x xs in member-right x s fs (subst P (sym (same_Some fs es e)) m)
+-- one of the uploads does
+abbrev OneBrings : OfficeFile → List Upload → Entry → Type 0
+OneBrings file us x = (u : Upload) × Member u us × Brings file u x
 
-after-from : (read : Records) (us : List Upload) (s : List Entry) (x : Entry) → Member x (after read s us) → Member x s ⊎ Brings read us x
-after-from read [] s x m = inl m
-after-from read (u ∷ us) s x m = elim (after-from read us (with_entries s (read u)) x m) [
-  | inl a ↦ elim (with-from s (read u) x a) [ inl b ↦ inl b | inr b ↦ inr (u, inl refl, b) ]
+adds-from : (file : OfficeFile) (u : Upload) (s t : List Entry) (x : Entry) → Adds file u s t → Member x t → Member x s ⊎ Brings file u x
+adds-from file u s t x (inl taken) m = elim (member-split x s taken.0 ((taken.2 x).0 m)) [ inl a ↦ inl a | inr b ↦ inr (taken.0, taken.1, b) ]
+adds-from file u s t x (inr refused) m = inl ((refused.1 x).0 m)
+
+adds-old : (file : OfficeFile) (u : Upload) (s t : List Entry) (x : Entry) → Adds file u s t → Member x s → Member x t
+adds-old file u s t x (inl taken) m = (taken.2 x).1 (member-left x s taken.0 m)
+adds-old file u s t x (inr refused) m = (refused.1 x).1 m
+
+-- since the upload gives these entries and no others, and isn't refused
+adds-new : (file : OfficeFile) → AreOne file → (u : Upload) (s t : List Entry) (x : Entry) → Adds file u s t → Brings file u x → Member x t
+adds-new file one u s t x (inl taken) b =
+    let P : List Entry → Type 0 = λ entries. Member x entries in
+    (taken.2 x).1 (member-right x s taken.0 (subst P ((one u).entries b.0 taken.0 b.1 taken.1) b.2))
+adds-new file one u s t x (inr refused) b = absurd ((one u).either b.0 refused.0.0 b.1 refused.0.1)
+
+after-from : (file : OfficeFile) (us : List Upload) (s t : List Entry) (x : Entry) → After file s us t → Member x t → Member x s ⊎ OneBrings file us x
+after-from file [] s t x a m = inl ((a x).0 m)
+after-from file (u ∷ us) s t x a m = elim (after-from file us a.0 t x a.2 m) [
+  | inl b ↦ elim (adds-from file u s a.0 x a.1 b) [ inl c ↦ inl c | inr c ↦ inr (u, inl refl, c) ]
   | inr b ↦ inr (b.0, inr b.1, b.2)
 ]
 
-after-old : (read : Records) (us : List Upload) (s : List Entry) (x : Entry) → Member x s → Member x (after read s us)
-after-old read [] s x m = m
-after-old read (u ∷ us) s x m = after-old read us (with_entries s (read u)) x (with-old s (read u) x m)
+after-old : (file : OfficeFile) (us : List Upload) (s t : List Entry) (x : Entry) → After file s us t → Member x s → Member x t
+after-old file [] s t x a m = (a x).1 m
+after-old file (u ∷ us) s t x a m = after-old file us a.0 t x a.2 (adds-old file u s a.0 x a.1 m)
 
-after-new : (read : Records) (us : List Upload) (s : List Entry) (x : Entry) (u : Upload) (es : List Entry) → Member u us → read u ≡ Some es → Member x es → Member x (after read s us)
-after-new read [] s x u es m e k = absurd m
-after-new read (v ∷ us) s x u es (inl i) e k =
-    let P : Upload → Type 0 = λ w. read w ≡ Some es in
-    after-old read us (with_entries s (read v)) x (with-new s (read v) x es (subst P i e) k)
-after-new read (v ∷ us) s x u es (inr m) e k = after-new read us (with_entries s (read v)) x u es m e k
+after-new : (file : OfficeFile) → AreOne file → (us : List Upload) (s t : List Entry) (x : Entry) → After file s us t → OneBrings file us x → Member x t
+after-new file one [] s t x a b = absurd b.1
+after-new file one (u ∷ us) s t x a (v, inl i, b) =
+    let P : Upload → Type 0 = λ w. Brings file w x in
+    after-old file us a.0 t x a.2 (adds-new file one u s a.0 x a.1 (subst P i b))
+after-new file one (u ∷ us) s t x a (v, inr m, b) = after-new file one us a.0 t x a.2 (v, m, b)
 
-one-way : (read : Records) (us vs : List Upload) (s : List Entry) → ((u : Upload) → Member u us → Member u vs) → (x : Entry) → Member x (after read s us) → Member x (after read s vs)
-one-way read us vs s h x m = elim (after-from read us s x m) [
-  | inl a ↦ after-old read vs s x a
-  | inr b ↦ after-new read vs s x b.0 b.2.0 (h b.0 b.1) b.2.1 b.2.2
+one-way : (file : OfficeFile) → AreOne file → (us vs : List Upload) (s t w : List Entry) → ((u : Upload) → Member u us → Member u vs) →
+    After file s us t → After file s vs w → (x : Entry) → Member x t → Member x w
+one-way file one us vs s t w h a b x m = elim (after-from file us s t x a m) [
+  | inl c ↦ after-old file vs s w x b c
+  | inr c ↦ after-new file one vs s w x b (c.0, h c.0 c.1, c.2)
 ]
 
-pub order-of_uploads : OrderOfUploadsCountsNothing
-order-of_uploads office read s us vs h =
-    let same : SameMembers (after read s us) (after read s vs) = λ x. (one-way read us vs s (λ u. (h u).0) x, one-way read vs us s (λ u. (h u).1) x) in
-    (same, order_counts_nothing office (after read s us) (after read s vs) same)
+pub order-of_uploads : (file : OfficeFile) → AreOne file → OrderOfUploadsCountsNothing file
+order-of_uploads file one s us vs t w h a b =
+    let same : SameMembers t w = λ x. (one-way file one us vs s t w (λ u. (h u).0) a b x, one-way file one vs us s w t (λ u. (h u).1) b a x) in
+    (same, order_counts_nothing (office_of file) t w same)

@@ -1,30 +1,29 @@
 -- The records after uploads, whatever their order.
 -- (Definitions of this project.)
-use Rattle.std.specs.Prelude.{ℕ, Option, Some, None, List, [], ◌∷◌, ◌++◌}
+use Rattle.std.specs.Prelude.{List, [], ◌∷◌, ◌++◌, ◌⊎◌}
+use Rattle.pw_tariff.specs.Office.{OfficeFile, office_of}
 use Rattle.pw_model.specs.declared.records.Entry.{Entry}
 use Rattle.pw_model.specs.Counting.{SameMembers}
 use Rattle.pw_model.specs.Laws.{HaveSameAnswers}
-use Rattle.pw_tariff.specs.Office.{Office}
+use Rattle.pw_record.specs.declared.fault.UploadFault.{UploadFault}
+use Rattle.pw_record.specs.Uploads.{Upload, Gives, RefusesContent}
 
--- an upload: where it is sent, and what
-pub record Upload : Type 0 where
-  pub path : List ℕ
-  pub body : List ℕ
+-- an upload adds the entries that it gives
+abbrev pub IsTaken : OfficeFile → Upload → List Entry → List Entry → Type 0
+IsTaken file upload before records = (entries : List Entry) × Gives file upload entries × SameMembers records (before ++ entries)
 
--- the entries of an upload; none where it is refused for its content
-abbrev pub Records : Type 0
-Records = Upload → Option (List Entry)
+-- refused for its content, it adds none
+abbrev pub IsRefused : OfficeFile → Upload → List Entry → List Entry → Type 0
+IsRefused file upload before records = ((fault : UploadFault) × RefusesContent file upload fault) × SameMembers records before
 
-abbrev pub with_entries : List Entry → Option (List Entry) → List Entry
-with_entries s None = s
-with_entries s (Some entries) = s ++ entries
-
--- a set of records with those of each upload that isn't refused for its content
-abbrev pub after : Records → List Entry → List Upload → List Entry
-after read s [] = s
-after read s (u ∷ uploads) = after read (with_entries s (read u)) uploads
+-- the records after uploads, one after the other
+abbrev pub After : OfficeFile → List Entry → List Upload → List Entry → Type 0
+After file before [] records = SameMembers records before
+After file before (upload ∷ uploads) records =
+    (between : List Entry) × (IsTaken file upload before between ⊎ IsRefused file upload before between) × After file between uploads records
 
 -- lists of the same uploads, in any order and repeated at will, leave the same records and the same answers
-abbrev pub OrderOfUploadsCountsNothing : Type 0
-OrderOfUploadsCountsNothing = (office : Office) (read : Records) (s : List Entry) (us vs : List Upload) → SameMembers us vs →
-    SameMembers (after read s us) (after read s vs) × HaveSameAnswers office (after read s us) (after read s vs)
+abbrev pub OrderOfUploadsCountsNothing : OfficeFile → Type 0
+OrderOfUploadsCountsNothing file = (before : List Entry) (uploads others : List Upload) (records found : List Entry) → SameMembers uploads others →
+    After file before uploads records → After file before others found →
+    SameMembers records found × HaveSameAnswers (office_of file) records found

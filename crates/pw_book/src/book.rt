@@ -1,6 +1,6 @@
 //! The book over a store of records.
 
-ghost use Rattle.std.specs.Prelude.{◌≡◌, ◌+◌, ◌<◌, ◌≤◌, ◌↔◌, ◌⊎◌, None, IfOk, IsErrOf, IsNone, IsTrue, true, false, length};
+ghost use Rattle.std.specs.Prelude.{◌≡◌, ◌+◌, ◌<◌, ◌≤◌, ◌↔◌, ◌⊎◌, None, IfOk, IsErrOf, IsNone, IsTrue, MatchResult, true, false, length};
 ghost use Rattle.std.proofs.Props.{props};
 ghost use mathlib.Core.HLevel.{Π_prop};
 ghost use Rattle.pw_tariff.specs.Office.{office_of};
@@ -142,9 +142,7 @@ impl<S: Shelf> Book<S> {
         ensures device { IsErrOf result BookFault.Device → (S.state self.old.shelf).failures < (S.state self.new.shelf).failures }
         ensures reopen { IsErrOf result BookFault.Reopen ↔ (self.old.shut ≡ true) }
     {
-        if self.shut {
-            return Err(BookFault::Reopen);
-        }
+        self.still_open()?;
         let class = Class { owner, band };
         let wh = energy_held(
             &mut self.shelf,
@@ -166,9 +164,7 @@ impl<S: Shelf> Book<S> {
         ensures device { IsErrOf result BookFault.Device → (S.state self.old.shelf).failures < (S.state self.new.shelf).failures }
         ensures reopen { IsErrOf result BookFault.Reopen ↔ (self.old.shut ≡ true) }
     {
-        if self.shut {
-            return Err(BookFault::Reopen);
-        }
+        self.still_open()?;
         let cents = topped_up_held(&mut self.shelf, alloc, account)?;
         Ok(cents)
     }
@@ -183,9 +179,7 @@ impl<S: Shelf> Book<S> {
         ensures device { IsErrOf result BookFault.Device → (S.state self.old.shelf).failures < (S.state self.new.shelf).failures }
         ensures reopen { IsErrOf result BookFault.Reopen ↔ (self.old.shut ≡ true) }
     {
-        if self.shut {
-            return Err(BookFault::Reopen);
-        }
+        self.still_open()?;
         let nano = balance_held(&mut self.shelf, alloc, &self.office, &self.zone, account)?;
         Ok(nano)
     }
@@ -204,9 +198,7 @@ impl<S: Shelf> Book<S> {
         ensures device { IsErrOf result BookFault.Device → (S.state self.old.shelf).failures < (S.state self.new.shelf).failures }
         ensures reopen { IsErrOf result BookFault.Reopen ↔ (self.old.shut ≡ true) }
     {
-        if self.shut {
-            return Err(BookFault::Reopen);
-        }
+        self.still_open()?;
         let rows = rows_held(&mut self.shelf, alloc, meter, register)?;
         Ok(rows)
     }
@@ -219,9 +211,7 @@ impl<S: Shelf> Book<S> {
         ensures device { IsErrOf result BookFault.Device → (S.state self.old.shelf).failures < (S.state self.new.shelf).failures }
         ensures reopen { IsErrOf result BookFault.Reopen ↔ (self.old.shut ≡ true) }
     {
-        if self.shut {
-            return Err(BookFault::Reopen);
-        }
+        self.still_open()?;
         let falls = falls_held(&mut self.shelf, alloc, &self.office)?;
         Ok(falls)
     }
@@ -235,9 +225,7 @@ impl<S: Shelf> Book<S> {
         ensures device { IsErrOf result BookFault.Device → (S.state self.old.shelf).failures < (S.state self.new.shelf).failures }
         ensures reopen { IsErrOf result BookFault.Reopen ↔ (self.old.shut ≡ true) }
     {
-        if self.shut {
-            return Err(BookFault::Reopen);
-        }
+        self.still_open()?;
         let disputes = disputes_held(&mut self.shelf, alloc, &self.office)?;
         Ok(disputes)
     }
@@ -250,10 +238,19 @@ impl<S: Shelf> Book<S> {
         ensures device { IsErrOf result BookFault.Device → (S.state self.old.shelf).failures < (S.state self.new.shelf).failures }
         ensures reopen { IsErrOf result BookFault.Reopen ↔ (self.old.shut ≡ true) }
     {
-        if self.shut {
-            return Err(BookFault::Reopen);
-        }
+        self.still_open()?;
         Ok(count_held(&mut self.shelf)?)
+    }
+
+    // A shut book answers no question.
+    fn still_open(&self) -> Result<(), BookFault>
+        ensures { MatchResult result (λ _. self.now.shut ≡ false) (λ fault. (self.now.shut ≡ true) × (fault ≡ BookFault.Reopen)) }
+    {
+        if self.shut {
+            Err(BookFault::Reopen)
+        } else {
+            Ok(())
+        }
     }
 }
 

@@ -11,6 +11,7 @@ ghost use Rattle.pw_book.specs.After.{OrderOfUploadsCountsNothing};
 
 use crate::book::Book;
 use pw_shelf::Shelf;
+use pw_tariff::Office;
 
 /// Conservation of energy, of what a book answers: over all owners with nobody and all bands, its energies of a
 /// direction add up to the rises of all neighbouring readings that don't fall.
@@ -24,6 +25,8 @@ pub fn conservation_of_energy<S: Shelf>(book: &Book<S>)
 
 /// Order counts nothing, and repetition neither: uploads in any order leave the same records and the same answers, those
 /// refused for their content leave nothing.
-pub fn order_of_uploads_counts_nothing()
-    ensures { OrderOfUploadsCountsNothing }
-{}
+pub fn order_of_uploads_counts_nothing(office: &Office)
+    ensures { OrderOfUploadsCountsNothing office.now }
+{
+    let _ = office.bands();
+}

@@ -8,3 +8,15 @@ pub mod Telling
 pub mod Capitals
 pub mod Measuring
 pub mod FrameFacts
+pub mod OneName
+pub mod OneListed
+pub mod OneOrigin
+pub mod OneCut
+pub mod OneShown
+pub mod OneFrame
+pub mod OneFront
+pub mod OneBody
+pub mod OneReading
+pub mod OneEntry
+pub mod OneRows
+pub mod OneOutcome

@@ -8,3 +8,5 @@ pub mod Told
 pub mod Origin
 pub mod Shown
 pub mod Frames
+pub mod Uploads
+pub mod Laws

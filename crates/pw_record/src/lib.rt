@@ -4,6 +4,7 @@
 mod cents;
 mod fault;
 mod frames;
+pub mod laws;
 mod order;
 mod origin;
 mod row;

@@ -84,18 +84,30 @@ fn post<S: Shelf>(
     Ok((fresh, repeated))
 }
 
-// What an account imported in both bands.
+// What an owner has of a direction in both bands.
+fn energies<S: Shelf>(
+    rt: &impl Abort,
+    alloc: Global,
+    book: &mut Book<S>,
+    owner: Owner,
+    direction: Direction,
+) -> Result<(u64, u64), BookFault> {
+    if let Some(account) = owner {
+        assert!(rt; account.0 < book.office().accounts());
+    }
+    assert!(rt; 1 < book.office().bands());
+    let low = book.energy(alloc, owner, BandId(0), direction)?;
+    let high = book.energy(alloc, owner, BandId(1), direction)?;
+    Ok((low, high))
+}
+
+// What the first account imported in both bands.
 fn imported<S: Shelf>(
     rt: &impl Abort,
     alloc: Global,
     book: &mut Book<S>,
-    account: AccountId,
 ) -> Result<(u64, u64), BookFault> {
-    assert!(rt; account.0 < book.office().accounts());
-    assert!(rt; 1 < book.office().bands());
-    let low = book.energy(alloc, Some(account), BandId(0), Direction::Import)?;
-    let high = book.energy(alloc, Some(account), BandId(1), Direction::Import)?;
-    Ok((low, high))
+    energies(rt, alloc, book, Some(FIRST), Direction::Import)
 }
 
 fn money<S: Shelf>(
@@ -118,17 +130,21 @@ fn wh(rt: &impl Abort, watt_hours: u64) -> WattHours {
     WattHours::of(watt_hours).expect(rt, "watt-hours")
 }
 
-fn reading(rt: &impl Abort, second: u32, watt_hours: u64) -> Entry {
+fn shown(rt: &impl Abort, register: Register, second: u32, watt_hours: u64) -> Entry {
     Entry {
         key: Key::Reading {
             meter: METER,
-            register: Register::I1,
+            register,
             instant: at(rt, second),
         },
         content: Content::Reading {
             wh: wh(rt, watt_hours),
         },
     }
+}
+
+fn reading(rt: &impl Abort, second: u32, watt_hours: u64) -> Entry {
+    shown(rt, Register::I1, second, watt_hours)
 }
 
 fn assigned(rt: &impl Abort, second: u32, owner: Owner) -> Entry {
@@ -154,51 +170,91 @@ fn paid(rt: &impl Abort, reference: &[u8], cents: u32) -> Entry {
     }
 }
 
-// What an account imported in both bands, computed from the definitions, one second at a time.
-fn plain_imported(
+// What an owner has of a direction in both bands, computed from the definitions, one second at a time.
+fn plain_energies(
     alloc: Global,
     office: &Office,
     zone: &Zone,
     entries: &[Entry],
-    account: AccountId,
+    owner: Owner,
+    direction: Direction,
 ) -> Result<(u64, u64), AllocError>
     requires entries { AllOfOffice (office_of office.now) entries.now }
     requires few { length entries.now ≤ most_records }
 {
     let terms = OfficeTerms::new(office, zone);
-    let (owner, import) = (Some(account), Direction::Import);
-    let low = plain::energy(alloc, &terms, entries, owner, BandId(0), import)?;
-    let high = plain::energy(alloc, &terms, entries, owner, BandId(1), import)?;
+    let low = plain::energy(alloc, &terms, entries, owner, BandId(0), direction)?;
+    let high = plain::energy(alloc, &terms, entries, owner, BandId(1), direction)?;
     Ok((low, high))
 }
 
-fn plain_balance(
+// What was topped up for an account and its balance, computed from the definitions.
+fn plain_money(
     alloc: Global,
     office: &Office,
     zone: &Zone,
     entries: &[Entry],
     account: AccountId,
-) -> Result<i128, AllocError>
+) -> Result<(u128, i128), AllocError>
     requires entries { AllOfOffice (office_of office.now) entries.now }
     requires few { length entries.now ≤ most_records }
 {
     let terms = OfficeTerms::new(office, zone);
-    plain::balance(alloc, &terms, entries, account)
+    let cents = plain::topped_up(entries, account);
+    let nano = plain::balance(alloc, &terms, entries, account)?;
+    Ok((cents, nano))
 }
 
 // The book answers what the definitions give for all the entries that it took.
+fn energies_agree<S: Shelf>(
+    rt: &impl Abort,
+    alloc: Global,
+    book: &mut Book<S>,
+    entries: &[Entry],
+    owner: Owner,
+) -> Result<(), Fail> {
+    let of_office = are_of_office(book.office(), book.zone(), entries);
+    assert!(rt; of_office && entries.len() <= 100);
+    let (office, zone) = (book.office(), book.zone());
+    let imported = plain_energies(alloc, office, zone, entries, owner, Direction::Import)?;
+    let exported = plain_energies(alloc, office, zone, entries, owner, Direction::Export)?;
+    assert_eq!(rt;
+        energies(rt, alloc, book, owner, Direction::Import)?,
+        imported
+    );
+    assert_eq!(rt;
+        energies(rt, alloc, book, owner, Direction::Export)?,
+        exported
+    );
+    Ok(())
+}
+
+fn money_agrees<S: Shelf>(
+    rt: &impl Abort,
+    alloc: Global,
+    book: &mut Book<S>,
+    entries: &[Entry],
+    account: AccountId,
+) -> Result<(), Fail> {
+    let of_office = are_of_office(book.office(), book.zone(), entries);
+    assert!(rt; of_office && entries.len() <= 100);
+    let both = plain_money(alloc, book.office(), book.zone(), entries, account)?;
+    let (cents, nano) = money(rt, alloc, book, account)?;
+    assert_eq!(rt; (u128::from(cents), nano), both);
+    Ok(())
+}
+
 fn agrees<S: Shelf>(
     rt: &impl Abort,
     alloc: Global,
     book: &mut Book<S>,
     entries: &[Entry],
 ) -> Result<(), Fail> {
-    let of_office = are_of_office(book.office(), book.zone(), entries);
-    assert!(rt; of_office && entries.len() <= 100);
-    let both = plain_imported(alloc, book.office(), book.zone(), entries, FIRST)?;
-    let nano = plain_balance(alloc, book.office(), book.zone(), entries, FIRST)?;
-    assert_eq!(rt; imported(rt, alloc, book, FIRST)?, both);
-    assert_eq!(rt; money(rt, alloc, book, FIRST)?.1, nano);
+    energies_agree(rt, alloc, book, entries, None)?;
+    for account in [FIRST, SECOND] {
+        energies_agree(rt, alloc, book, entries, Some(account))?;
+        money_agrees(rt, alloc, book, entries, account)?;
+    }
     Ok(())
 }
 
@@ -223,12 +279,30 @@ fn lists_agree<S: Shelf>(
 #[derive(Clone, Copy)]
 struct Step {
     entry: Entry,
+    fresh: u32,
     low: u64,
     high: u64,
 }
 
 fn expecting(entry: Entry, low: u64, high: u64) -> Step {
-    Step { entry, low, high }
+    let fresh = 1;
+    Step {
+        entry,
+        fresh,
+        low,
+        high,
+    }
+}
+
+// The entry is held before.
+fn repeating(entry: Entry, low: u64, high: u64) -> Step {
+    let fresh = 0;
+    Step {
+        entry,
+        fresh,
+        low,
+        high,
+    }
 }
 
 fn run<S: Shelf>(
@@ -239,27 +313,63 @@ fn run<S: Shelf>(
     steps: &[Step],
 ) -> Result<(), Fail> {
     for step in steps {
-        let _ = post(rt, alloc, book, &[step.entry])?;
-        let (low, high) = imported(rt, alloc, book, FIRST)?;
-        assert_eq!(rt; low, step.low);
-        assert_eq!(rt; high, step.high);
+        let (fresh, repeated) = post(rt, alloc, book, &[step.entry])?;
+        assert_eq!(rt; fresh, step.fresh);
+        assert_eq!(rt; repeated, if step.fresh == 0 { 1 } else { 0 });
+        assert_eq!(rt; imported(rt, alloc, book)?, (step.low, step.high));
         taken.push(step.entry)?;
     }
     agrees(rt, alloc, book, taken)?;
     lists_agree(rt, alloc, book, taken)
 }
 
+#[test]
+fn empty_book_answers(rt: HostRuntime) -> Result<(), Fail> {
+    let alloc = rt.alloc();
+    let mut book = empty_book(&rt, alloc, 1)?;
+    assert_eq!(rt; post(&rt, alloc, &mut book, &[])?, (0, 0));
+    assert_eq!(rt; imported(&rt, alloc, &mut book)?, (0, 0));
+    assert_eq!(rt; money(&rt, alloc, &mut book, SECOND)?, (0, 0));
+    assert_eq!(rt; lengths(&rt, alloc, &mut book)?, (0, 0, 0));
+    assert_eq!(rt; book.count()?, 0);
+    agrees(&rt, alloc, &mut book, &[])?;
+    lists_agree(&rt, alloc, &mut book, &[])
+}
+
+// How many falls, disputes and readings of the register there are.
+fn lengths<S: Shelf>(
+    rt: &impl Abort,
+    alloc: Global,
+    book: &mut Book<S>,
+) -> Result<(usize, usize, usize), BookFault> {
+    assert!(rt; METER.0 < book.office().meters());
+    let falls = book.falls(alloc)?.len();
+    let disputes = book.disputes(alloc)?.len();
+    let readings = book.readings(alloc, METER, Register::I1)?.len();
+    Ok((falls, disputes, readings))
+}
+
 // The dispute over three readings, and the five rows of their register.
 fn lists<S: Shelf>(rt: &impl Abort, alloc: Global, book: &mut Book<S>) -> Result<(), BookFault> {
     let disputes = book.disputes(alloc)?;
     assert_eq!(rt; disputes.len(), 1);
+    assert_eq!(rt; disputes[0].key, reading(rt, SIX, 0).key);
     assert_eq!(rt; disputes[0].contents, 3);
     assert!(rt; METER.0 < book.office().meters());
     let rows = book.readings(alloc, METER, Register::I1)?;
+    let expected = [
+        (FIVE, 1_000_000, true),
+        (SIX, 1_001_000, false),
+        (SIX, 1_001_200, false),
+        (SIX, 1_001_500, false),
+        (SEVEN, 1_003_001, true),
+    ];
     assert_eq!(rt; rows.len(), 5);
-    assert!(rt; rows[0].counted);
-    assert!(rt; !rows[2].counted);
-    assert_eq!(rt; rows[2].wh.get(), 1_001_200);
+    for (row, (second, watt_hours, counted)) in rows.iter().zip(expected.iter()) {
+        assert_eq!(rt; row.instant.seconds(), *second);
+        assert_eq!(rt; row.wh.get(), *watt_hours);
+        assert_eq!(rt; row.counted, *counted);
+    }
     Ok(())
 }
 
@@ -273,7 +383,7 @@ fn late_and_disputed_readings(rt: HostRuntime) -> Result<(), Fail> {
         expecting(reading(&rt, FIVE, 1_000_000), 1_500, 1_501),
         expecting(reading(&rt, SIX, 1_001_000), 1_000, 2_001),
         expecting(reading(&rt, SIX, 1_001_500), 1_500, 1_501),
-        expecting(reading(&rt, SIX, 1_001_000), 1_500, 1_501),
+        repeating(reading(&rt, SIX, 1_001_000), 1_500, 1_501),
         expecting(reading(&rt, SIX, 1_001_200), 1_500, 1_501),
     ];
     run(&rt, rt.alloc(), &mut book, &mut taken, &steps)?;
@@ -285,20 +395,35 @@ fn late_and_disputed_readings(rt: HostRuntime) -> Result<(), Fail> {
 fn two_readings_one_topup(rt: HostRuntime) -> Result<(), Fail> {
     let alloc = rt.alloc();
     let mut book = empty_book(&rt, alloc, 100)?;
-    assert_eq!(rt; money(&rt, alloc, &mut book, SECOND)?, (0, 0));
     let mut taken = Vec::new(alloc);
     let steps = [
         expecting(reading(&rt, SEVEN, 1_003_001), 0, 0),
         expecting(paid(&rt, b"P1", 5_000), 0, 0),
         expecting(reading(&rt, FIVE, 1_000_000), 0, 0),
         expecting(assigned(&rt, NEW_YEAR, Some(FIRST)), 1_500, 1_501),
-        expecting(paid(&rt, b"P1", 5_000), 1_500, 1_501),
+        repeating(paid(&rt, b"P1", 5_000), 1_500, 1_501),
     ];
     run(&rt, alloc, &mut book, &mut taken, &steps)?;
-    assert_eq!(rt;
-        money(&rt, alloc, &mut book, FIRST)?,
-        (5_000, 49_249_700_000)
-    );
+    let both = money(&rt, alloc, &mut book, FIRST)?;
+    assert_eq!(rt; both, (5_000, 49_249_700_000));
+    Ok(())
+}
+
+#[test]
+fn exported_energy(rt: HostRuntime) -> Result<(), Fail> {
+    let alloc = rt.alloc();
+    let mut book = empty_book(&rt, alloc, 100)?;
+    let mut taken = Vec::new(alloc);
+    let steps = [
+        expecting(assigned(&rt, NEW_YEAR, Some(FIRST)), 0, 0),
+        expecting(shown(&rt, Register::E1, FIVE, 1_000_000), 0, 0),
+        expecting(shown(&rt, Register::E1, SEVEN, 1_003_001), 0, 0),
+    ];
+    run(&rt, alloc, &mut book, &mut taken, &steps)?;
+    let both = energies(&rt, alloc, &mut book, Some(FIRST), Direction::Export)?;
+    assert_eq!(rt; both, (1_500, 1_501));
+    let both = money(&rt, alloc, &mut book, FIRST)?;
+    assert_eq!(rt; both, (0, 150_050_000));
     Ok(())
 }
 
@@ -318,6 +443,20 @@ fn posted_or_refused<S: Shelf>(
     Ok(())
 }
 
+// What the questions are answered behind two readings and a top-up.
+fn two_readings_told<S: Shelf>(
+    rt: &impl Abort,
+    alloc: Global,
+    book: &mut Book<S>,
+) -> Result<(), BookFault> {
+    assert_eq!(rt; imported(rt, alloc, book)?, (1_500, 1_501));
+    let both = money(rt, alloc, book, FIRST)?;
+    assert_eq!(rt; both, (5_000, 49_249_700_000));
+    assert_eq!(rt; lengths(rt, alloc, book)?, (0, 0, 2));
+    assert_eq!(rt; book.count()?, 4);
+    Ok(())
+}
+
 // With each allocation refused in turn: what is right, or want of memory, and the next call is right.
 #[test]
 fn memory_refused(rt: HostRuntime) -> Result<(), Fail> {
@@ -327,40 +466,88 @@ fn memory_refused(rt: HostRuntime) -> Result<(), Fail> {
     posted_or_refused(&rt, alloc, &mut book, reading(&rt, FIVE, 1_000_000))?;
     posted_or_refused(&rt, alloc, &mut book, reading(&rt, SEVEN, 1_003_001))?;
     posted_or_refused(&rt, alloc, &mut book, paid(&rt, b"P1", 5_000))?;
-    match money(&rt, alloc, &mut book, FIRST) {
-        Ok(both) => assert_eq!(rt; both, (5_000, 49_249_700_000)),
-        Err(fault) => assert_eq!(rt; fault, BookFault::Memory),
+    if let Err(fault) = two_readings_told(&rt, alloc, &mut book) {
+        assert_eq!(rt; fault, BookFault::Memory);
+        two_readings_told(&rt, alloc, &mut book)?;
     }
-    let both = money(&rt, alloc, &mut book, FIRST);
-    match falls(alloc, &mut book) {
-        Ok(found) => assert_eq!(rt; found, (0, 0)),
-        Err(fault) => assert_eq!(rt; fault, BookFault::Memory),
+    Ok(())
+}
+
+// One of the uploads of two readings and a top-up.
+fn upload_at(rt: &impl Abort, place: u8) -> [Entry; 2] {
+    match place {
+        0 => [assigned(rt, NEW_YEAR, Some(FIRST)); 2],
+        1 => [reading(rt, FIVE, 1_000_000), reading(rt, SEVEN, 1_003_001)],
+        _ => [paid(rt, b"P1", 5_000); 2],
     }
-    match both {
-        Ok(both) => assert_eq!(rt; both, (5_000, 49_249_700_000)),
-        Err(fault) => assert_eq!(rt; fault, BookFault::Memory),
+}
+
+#[test]
+fn all_six_orders(rt: HostRuntime) -> Result<(), Fail> {
+    let orders = [
+        [0, 1, 2],
+        [0, 2, 1],
+        [1, 0, 2],
+        [1, 2, 0],
+        [2, 0, 1],
+        [2, 1, 0],
+    ];
+    for order in orders {
+        let mut book = empty_book(&rt, rt.alloc(), 100)?;
+        for place in order {
+            let upload = upload_at(&rt, place);
+            let distinct = if place == 1 { 2 } else { 1 };
+            assert_eq!(rt; post(&rt, rt.alloc(), &mut book, &upload)?, (distinct, 0));
+            assert_eq!(rt; post(&rt, rt.alloc(), &mut book, &upload)?, (0, distinct));
+        }
+        two_readings_told(&rt, rt.alloc(), &mut book)?;
     }
+    Ok(())
+}
+
+// A meter that passes from the first account to another owner between two readings.
+fn mid_pair<S: Shelf>(
+    rt: &impl Abort,
+    alloc: Global,
+    book: &mut Book<S>,
+    next: Owner,
+) -> Result<(), Fail> {
+    let mut taken = Vec::new(alloc);
+    if let Some(account) = next {
+        assert!(rt; account.0 < book.office().accounts());
+    }
+    let steps = [
+        expecting(assigned(rt, NEW_YEAR, Some(FIRST)), 0, 0),
+        expecting(paid(rt, b"P1", 5_000), 0, 0),
+        expecting(reading(rt, SEVEN, 1_003_001), 0, 0),
+        expecting(reading(rt, FIVE, 1_000_000), 1_500, 1_501),
+        expecting(assigned(rt, FIVE + 1_800, next), 750, 0),
+    ];
+    run(rt, alloc, book, &mut taken, &steps)?;
+    let both = energies(rt, alloc, book, next, Direction::Import)?;
+    assert_eq!(rt; both, (750, 1_501));
+    let both = money(rt, alloc, book, FIRST)?;
+    assert_eq!(rt; both, (5_000, 49_850_000_000));
     Ok(())
 }
 
 #[test]
 fn assignment_mid_pair(rt: HostRuntime) -> Result<(), Fail> {
-    let mut book = empty_book(&rt, rt.alloc(), 100)?;
-    let mut taken = Vec::new(rt.alloc());
-    let steps = [
-        expecting(assigned(&rt, NEW_YEAR, Some(FIRST)), 0, 0),
-        expecting(paid(&rt, b"P1", 5_000), 0, 0),
-        expecting(reading(&rt, SEVEN, 1_003_001), 0, 0),
-        expecting(reading(&rt, FIVE, 1_000_000), 1_500, 1_501),
-        expecting(assigned(&rt, FIVE + 1_800, Some(SECOND)), 750, 0),
-    ];
-    run(&rt, rt.alloc(), &mut book, &mut taken, &steps)?;
-    let (cents, nano) = money(&rt, rt.alloc(), &mut book, FIRST)?;
-    assert_eq!(rt; cents, 5_000);
-    assert_eq!(rt; nano, 49_850_000_000);
-    let (cents, nano) = money(&rt, rt.alloc(), &mut book, SECOND)?;
-    assert_eq!(rt; cents, 0);
-    assert_eq!(rt; nano, -600_300_000);
+    let alloc = rt.alloc();
+    let mut book = empty_book(&rt, alloc, 100)?;
+    mid_pair(&rt, alloc, &mut book, Some(SECOND))?;
+    let both = money(&rt, alloc, &mut book, SECOND)?;
+    assert_eq!(rt; both, (0, -600_300_000));
+    Ok(())
+}
+
+#[test]
+fn assignment_to_nobody(rt: HostRuntime) -> Result<(), Fail> {
+    let alloc = rt.alloc();
+    let mut book = empty_book(&rt, alloc, 100)?;
+    mid_pair(&rt, alloc, &mut book, None)?;
+    let both = money(&rt, alloc, &mut book, SECOND)?;
+    assert_eq!(rt; both, (0, 0));
     Ok(())
 }
 
@@ -391,25 +578,73 @@ fn fall_and_recovery(rt: HostRuntime) -> Result<(), Fail> {
     Ok(())
 }
 
+// Two payments of one reference, in this order.
+fn disputed<S: Shelf>(
+    rt: &impl Abort,
+    alloc: Global,
+    book: &mut Book<S>,
+    first: u32,
+    other: u32,
+) -> Result<(), Fail> {
+    let pair = [paid(rt, b"P1", first), paid(rt, b"P1", other)];
+    assert_eq!(rt; post(rt, alloc, book, &[pair[0]])?, (1, 0));
+    assert_eq!(rt; money(rt, alloc, book, FIRST)?.0, u64::from(first));
+    assert_eq!(rt; post(rt, alloc, book, &[pair[1]])?, (1, 0));
+    assert_eq!(rt; money(rt, alloc, book, FIRST)?, (0, 0));
+    assert_eq!(rt; lengths(rt, alloc, book)?, (0, 1, 0));
+    agrees(rt, alloc, book, &pair)
+}
+
 #[test]
-fn full_book_and_disputed_payment(rt: HostRuntime) -> Result<(), Fail> {
+fn disputed_payment(rt: HostRuntime) -> Result<(), Fail> {
+    let mut book = empty_book(&rt, rt.alloc(), 100)?;
+    disputed(&rt, rt.alloc(), &mut book, 2_000, 3_000)?;
+    let mut book = empty_book(&rt, rt.alloc(), 100)?;
+    disputed(&rt, rt.alloc(), &mut book, 3_000, 2_000)
+}
+
+#[test]
+fn room_for_one(rt: HostRuntime) -> Result<(), Fail> {
     let alloc = rt.alloc();
-    let mut book = empty_book(&rt, alloc, 2)?;
-    let first = paid(&rt, b"P1", 2_000);
-    let other = paid(&rt, b"P1", 3_000);
-    let third = paid(&rt, b"P2", 1);
-    assert_eq!(rt; post(&rt, alloc, &mut book, &[first, first])?, (1, 0));
-    assert_eq!(rt;
-        money(&rt, alloc, &mut book, FIRST)?,
-        (2_000, 20_000_000_000)
-    );
-    assert_eq!(rt; post(&rt, alloc, &mut book, &[other])?, (1, 0));
-    assert_eq!(rt; money(&rt, alloc, &mut book, FIRST)?, (0, 0));
-    assert_eq!(rt; post(&rt, alloc, &mut book, &[first, first])?, (0, 1));
-    let full = post(&rt, alloc, &mut book, &[third]);
-    assert_eq!(rt; full, Err(PostFault::Full { held: 2, limit: 2 }));
-    assert_eq!(rt; book.count()?, 2);
+    let mut book = empty_book(&rt, alloc, 1)?;
+    let payment = paid(&rt, b"P1", 2_000);
+    assert_eq!(rt; post(&rt, alloc, &mut book, &[payment, payment])?, (1, 0));
+    assert_eq!(rt; post(&rt, alloc, &mut book, &[payment, payment])?, (0, 1));
+    assert_eq!(rt; book.count()?, 1);
     Ok(())
+}
+
+#[test]
+fn full_book(rt: HostRuntime) -> Result<(), Fail> {
+    let alloc = rt.alloc();
+    let mut book = empty_book(&rt, alloc, 3)?;
+    let held = [
+        paid(&rt, b"P1", 1),
+        paid(&rt, b"P2", 2),
+        paid(&rt, b"P3", 3),
+    ];
+    assert_eq!(rt; post(&rt, alloc, &mut book, &held)?, (3, 0));
+    assert_eq!(rt; post(&rt, alloc, &mut book, &[held[1]])?, (0, 1));
+    let full = post(&rt, alloc, &mut book, &[held[1], paid(&rt, b"P4", 4)]);
+    assert_eq!(rt; full, Err(PostFault::Full { held: 3, limit: 3 }));
+    assert_eq!(rt; book.count()?, 3);
+    assert_eq!(rt; money(&rt, alloc, &mut book, FIRST)?, (6, 60_000_000));
+    let shelf = &mut book.into_shelf();
+    assert_eq!(rt; shelf.count()?, 3);
+    Ok(())
+}
+
+// A book over the store that another book filled, with another limit.
+fn with_limit<S: Shelf>(rt: &impl Abort, book: Book<S>, limit: u32) -> Book<S> {
+    assert!(rt; 1 <= limit && limit <= 100 && !book.shut);
+    let Book {
+        office,
+        zone,
+        shelf,
+        limit: _,
+        shut: _,
+    } = book;
+    Book::new(office, zone, shelf, limit)
 }
 
 #[test]
@@ -418,9 +653,10 @@ fn over_its_limit(rt: HostRuntime) -> Result<(), Fail> {
     let mut book = empty_book(&rt, alloc, 2)?;
     let two = [paid(&rt, b"P1", 1), paid(&rt, b"P2", 1)];
     assert_eq!(rt; post(&rt, alloc, &mut book, &two)?, (2, 0));
-    book.limit = 1;
+    let mut book = with_limit(&rt, book, 1);
     let full = PostFault::Full { held: 2, limit: 1 };
     assert_eq!(rt; post(&rt, alloc, &mut book, &[]), Err(full));
+    assert_eq!(rt; post(&rt, alloc, &mut book, &two), Err(full));
     let line = format!(in alloc; "{full}")?;
     assert_eq!(rt; line.as_str(), "refused 60 Full held 2 limit 1");
     Ok(())
