@@ -4,14 +4,15 @@ use Rattle.pw_tariff.specs.Office.{OfficeFile, office_of}
 use Rattle.pw_model.specs.declared.records.Entry.{Entry}
 use Rattle.pw_model.specs.Counting.{Member, SameMembers}
 use Rattle.pw_model.proofs.Answers.{order_counts_nothing}
-use Rattle.pw_record.specs.Uploads.{Upload, Gives}
-use Rattle.pw_record.specs.Laws.{HasOneOutcome}
-use Rattle.pw_book.specs.After.{IsTaken, IsRefused, After, OrderOfUploadsCountsNothing}
+use Rattle.pw_record.specs.declared.fault.UploadFault.{UploadFault}
+use Rattle.pw_record.specs.Uploads.{Upload, Gives, RefusesContent}
+use Rattle.pw_record.specs.Laws.{HasNoTwoOutcomes}
+use Rattle.pw_book.specs.After.{IsTaken, IsRefused, After, LeaveTheSame, OrderOfUploadsCountsNothing}
 use Rattle.pw_book.proofs.Groups.{member-left, member-right, member-split}
 
 -- what no upload of an office has
 abbrev AreOne : OfficeFile → Type 0
-AreOne file = (upload : Upload) → HasOneOutcome file upload
+AreOne file = (upload : Upload) → HasNoTwoOutcomes file upload
 
 -- an upload does one or the other
 abbrev Adds : OfficeFile → Upload → List Entry → List Entry → Type 0
@@ -65,7 +66,46 @@ one-way file one us vs s t w h a b x m = elim (after-from file us s t x a m) [
   | inr c ↦ after-new file one vs s w x b (c.0, h c.0 c.1, c.2)
 ]
 
+-- ---- uploads that have an outcome leave records in any order
+-- an upload gives entries, or is refused for its content
+abbrev HasOutcome : OfficeFile → Upload → Type 0
+HasOutcome file u = ((entries : List Entry) × Gives file u entries) ⊎ ((fault : UploadFault) × RefusesContent file u fault)
+
+outcome-of : (file : OfficeFile) (us : List Upload) (s t : List Entry) (v : Upload) → After file s us t → Member v us → HasOutcome file v
+outcome-of file [] s t v a m = absurd m
+outcome-of file (u ∷ us) s t v a (inl i) =
+    let here : HasOutcome file u = elim a.1 [ inl taken ↦ inl (taken.0, taken.1) | inr refused ↦ inr refused.0 ] in
+    let P : Upload → Type 0 = λ w. HasOutcome file w in
+    subst P (sym i) here
+outcome-of file (u ∷ us) s t v a (inr m) = outcome-of file us a.0 t v a.2 m
+
+itself : (s : List Entry) → SameMembers s s
+itself s = λ x. (λ m. m, λ m. m)
+
+one-added : (file : OfficeFile) (u : Upload) (s : List Entry) → HasOutcome file u → (t : List Entry) × Adds file u s t
+one-added file u s (inl given) = (s ++ given.0, inl (given.0, given.1, itself (s ++ given.0)))
+one-added file u s (inr refused) = (s, inr (refused, itself s))
+
+all-added : (file : OfficeFile) (us : List Upload) (s : List Entry) → ((u : Upload) → Member u us → HasOutcome file u) → (t : List Entry) × After file s us t
+all-added file [] s h = (s, itself s)
+all-added file (u ∷ us) s h =
+    let first : (t : List Entry) × Adds file u s t = one-added file u s (h u (inl refl)) in
+    let others : (t : List Entry) × After file first.0 us t = all-added file us first.0 (λ v m. h v (inr m)) in
+    (others.0, (first.0, first.1, others.1))
+
+-- what is left is a set
+same-left : (file : OfficeFile) (us : List Upload) (s t w : List Entry) → After file s us t → SameMembers w t → After file s us w
+same-left file [] s t w a same = λ x. (λ m. (a x).0 ((same x).0 m), λ m. (same x).1 ((a x).1 m))
+same-left file (u ∷ us) s t w a same = (a.0, a.1, same-left file us a.0 t w a.2 same)
+
+-- in any order the same is left
+same-after : (file : OfficeFile) → AreOne file → (us vs : List Upload) (s t w : List Entry) → SameMembers us vs → After file s us t → After file s vs w → SameMembers t w
+same-after file one us vs s t w h a b = λ x. (one-way file one us vs s t w (λ u. (h u).0) a b x, one-way file one vs us s w t (λ u. (h u).1) b a x)
+
 pub order-of_uploads : (file : OfficeFile) → AreOne file → OrderOfUploadsCountsNothing file
-order-of_uploads file one s us vs t w h a b =
-    let same : SameMembers t w = λ x. (one-way file one us vs s t w (λ u. (h u).0) a b x, one-way file one vs us s w t (λ u. (h u).1) b a x) in
-    (same, order_counts_nothing (office_of file) t w same)
+order-of_uploads file one s us vs t h a =
+    let left : (w : List Entry) × After file s vs w = all-added file vs s (λ v m. outcome-of file us s t v a ((h v).1 m)) in
+    record {
+      after = same-left file vs s left.0 t left.1 (same-after file one us vs s t left.0 h a left.1);
+      only = λ w b. let same : SameMembers t w = same-after file one us vs s t w h a b in (same, order_counts_nothing (office_of file) t w same);
+    }

@@ -22,8 +22,12 @@ After file before [] records = SameMembers records before
 After file before (upload ∷ uploads) records =
     (between : List Entry) × (IsTaken file upload before between ⊎ IsRefused file upload before between) × After file between uploads records
 
--- lists of the same uploads, in any order and repeated at will, leave the same records and the same answers
+-- other uploads leave just these records, and the same answers
+pub record LeaveTheSame (file : OfficeFile) (before : List Entry) (others : List Upload) (records : List Entry) : Type 0 where
+  pub after : After file before others records
+  pub only : (left : List Entry) → After file before others left → SameMembers records left × HaveSameAnswers (office_of file) records left
+
+-- the same uploads, none of them answered `Full`, `Device`, `Memory` or `Reopen`, leave the same in any order and repeated at will
 abbrev pub OrderOfUploadsCountsNothing : OfficeFile → Type 0
-OrderOfUploadsCountsNothing file = (before : List Entry) (uploads others : List Upload) (records found : List Entry) → SameMembers uploads others →
-    After file before uploads records → After file before others found →
-    SameMembers records found × HaveSameAnswers (office_of file) records found
+OrderOfUploadsCountsNothing file = (before : List Entry) (uploads others : List Upload) (records : List Entry) → SameMembers uploads others →
+    After file before uploads records → LeaveTheSame file before others records

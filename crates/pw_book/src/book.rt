@@ -141,6 +141,7 @@ impl<S: Shelf> Book<S> {
         ensures book { (self.new.office ≡ self.old.office) × (self.new.zone ≡ self.old.zone) × (self.new.limit ≡ self.old.limit) × (self.new.shut ≡ self.old.shut) }
         ensures device { IsErrOf result BookFault.Device → (S.state self.old.shelf).failures < (S.state self.new.shelf).failures }
         ensures reopen { IsErrOf result BookFault.Reopen ↔ (self.old.shut ≡ true) }
+        ensures untouched { self.old.shut ≡ true → self.new.shelf ≡ self.old.shelf }
     {
         self.still_open()?;
         let class = Class { owner, band };
@@ -163,6 +164,7 @@ impl<S: Shelf> Book<S> {
         ensures book { (self.new.office ≡ self.old.office) × (self.new.zone ≡ self.old.zone) × (self.new.limit ≡ self.old.limit) × (self.new.shut ≡ self.old.shut) }
         ensures device { IsErrOf result BookFault.Device → (S.state self.old.shelf).failures < (S.state self.new.shelf).failures }
         ensures reopen { IsErrOf result BookFault.Reopen ↔ (self.old.shut ≡ true) }
+        ensures untouched { self.old.shut ≡ true → self.new.shelf ≡ self.old.shelf }
     {
         self.still_open()?;
         let cents = topped_up_held(&mut self.shelf, alloc, account)?;
@@ -178,6 +180,7 @@ impl<S: Shelf> Book<S> {
         ensures book { (self.new.office ≡ self.old.office) × (self.new.zone ≡ self.old.zone) × (self.new.limit ≡ self.old.limit) × (self.new.shut ≡ self.old.shut) }
         ensures device { IsErrOf result BookFault.Device → (S.state self.old.shelf).failures < (S.state self.new.shelf).failures }
         ensures reopen { IsErrOf result BookFault.Reopen ↔ (self.old.shut ≡ true) }
+        ensures untouched { self.old.shut ≡ true → self.new.shelf ≡ self.old.shelf }
     {
         self.still_open()?;
         let nano = balance_held(&mut self.shelf, alloc, &self.office, &self.zone, account)?;
@@ -197,6 +200,7 @@ impl<S: Shelf> Book<S> {
         ensures book { (self.new.office ≡ self.old.office) × (self.new.zone ≡ self.old.zone) × (self.new.limit ≡ self.old.limit) × (self.new.shut ≡ self.old.shut) }
         ensures device { IsErrOf result BookFault.Device → (S.state self.old.shelf).failures < (S.state self.new.shelf).failures }
         ensures reopen { IsErrOf result BookFault.Reopen ↔ (self.old.shut ≡ true) }
+        ensures untouched { self.old.shut ≡ true → self.new.shelf ≡ self.old.shelf }
     {
         self.still_open()?;
         let rows = rows_held(&mut self.shelf, alloc, meter, register)?;
@@ -210,6 +214,7 @@ impl<S: Shelf> Book<S> {
         ensures book { (self.new.office ≡ self.old.office) × (self.new.zone ≡ self.old.zone) × (self.new.limit ≡ self.old.limit) × (self.new.shut ≡ self.old.shut) }
         ensures device { IsErrOf result BookFault.Device → (S.state self.old.shelf).failures < (S.state self.new.shelf).failures }
         ensures reopen { IsErrOf result BookFault.Reopen ↔ (self.old.shut ≡ true) }
+        ensures untouched { self.old.shut ≡ true → self.new.shelf ≡ self.old.shelf }
     {
         self.still_open()?;
         let falls = falls_held(&mut self.shelf, alloc, &self.office)?;
@@ -224,6 +229,7 @@ impl<S: Shelf> Book<S> {
         ensures book { (self.new.office ≡ self.old.office) × (self.new.zone ≡ self.old.zone) × (self.new.limit ≡ self.old.limit) × (self.new.shut ≡ self.old.shut) }
         ensures device { IsErrOf result BookFault.Device → (S.state self.old.shelf).failures < (S.state self.new.shelf).failures }
         ensures reopen { IsErrOf result BookFault.Reopen ↔ (self.old.shut ≡ true) }
+        ensures untouched { self.old.shut ≡ true → self.new.shelf ≡ self.old.shelf }
     {
         self.still_open()?;
         let disputes = disputes_held(&mut self.shelf, alloc, &self.office)?;
@@ -237,6 +243,7 @@ impl<S: Shelf> Book<S> {
         ensures book { (self.new.office ≡ self.old.office) × (self.new.zone ≡ self.old.zone) × (self.new.limit ≡ self.old.limit) × (self.new.shut ≡ self.old.shut) }
         ensures device { IsErrOf result BookFault.Device → (S.state self.old.shelf).failures < (S.state self.new.shelf).failures }
         ensures reopen { IsErrOf result BookFault.Reopen ↔ (self.old.shut ≡ true) }
+        ensures untouched { self.old.shut ≡ true → self.new.shelf ≡ self.old.shelf }
     {
         self.still_open()?;
         Ok(count_held(&mut self.shelf)?)

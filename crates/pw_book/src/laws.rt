@@ -13,18 +13,16 @@ use crate::book::Book;
 use pw_shelf::Shelf;
 use pw_tariff::Office;
 
-/// Conservation of energy, of what a book answers: over all owners with nobody and all bands, its energies of a
-/// direction add up to the rises of all neighbouring readings that don't fall.
+/// Conservation of energy: in a book that isn't shut, over all owners with nobody and all bands, the energies of a
+/// direction, which `energy` answers, add up to the rises of all neighbouring readings that don't fall.
 pub fn conservation_of_energy<S: Shelf>(book: &Book<S>)
-    requires open_yet { book.now.shut ≡ false }
-    requires clean { S.clean book.now.shelf }
-    ensures { (d : Direction) → over_owners (office_of book.now.office) (λ o. over_bands (office_of book.now.office) (λ b. energy (office_of book.now.office) (S.state book.now.shelf).content.records o b d)) ≡ all_rises (office_of book.now.office) (contents_at (S.state book.now.shelf).content.records) d }
+    ensures { book.now.shut ≡ false → S.clean book.now.shelf → (d : Direction) → over_owners (office_of book.now.office) (λ o. over_bands (office_of book.now.office) (λ b. energy (office_of book.now.office) (S.state book.now.shelf).content.records o b d)) ≡ all_rises (office_of book.now.office) (contents_at (S.state book.now.shelf).content.records) d }
 {
     let _ = book.office().bands();
 }
 
-/// Order counts nothing, and repetition neither: uploads in any order leave the same records and the same answers, those
-/// refused for their content leave nothing.
+/// Order counts nothing, and repetition neither: the same uploads, none of them answered `Full`, `Device`, `Memory` or
+/// `Reopen`, leave the same records and the same answers in any order. Those refused for their content leave nothing.
 pub fn order_of_uploads_counts_nothing(office: &Office)
     ensures { OrderOfUploadsCountsNothing office.now }
 {

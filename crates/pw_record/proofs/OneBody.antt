@@ -16,7 +16,7 @@ use Rattle.pw_record.specs.Causes.{want_of_memory}
 use Rattle.pw_record.specs.Listed.{AreListed}
 use Rattle.pw_record.specs.Names.{HasId, HasClock}
 use Rattle.pw_record.specs.Frames.{FrameGives, RefusesFrame, FramesGive, BodyGives, HasMoreFrames, HasNoFrame, HasRefusedFrame, RefusesBehind, BodyStops, BodyRefused, IsReadoutMeter, readouts_of, ReadoutsGive, ReadoutsRefused}
-use Rattle.pw_record.specs.Laws.{HasOneOutcome}
+use Rattle.pw_record.specs.Laws.{HasNoTwoOutcomes}
 use Rattle.pw_record.specs.Uploads.{Telegrams, Readouts}
 use Rattle.pw_record.proofs.OneCut.{cuts, longer, nothing-behind}
 use Rattle.pw_record.proofs.OneFrame.{one-given, given-or-refused, one-cause}
@@ -150,7 +150,7 @@ one-refusal : (file : OfficeFile) → AreNamed file → (source : Source) (body 
 one-refusal file named source body a b m n x y = one-stop file named source body a b (stops-there file source body a m x) (stops-there file source body b n y)
 
 -- ---- telegrams
-pub one_telegrams : (file : OfficeFile) → AreNamed file → (body : List ℕ) → HasOneOutcome file (Telegrams body)
+pub one_telegrams : (file : OfficeFile) → AreNamed file → (body : List ℕ) → HasNoTwoOutcomes file (Telegrams body)
 one_telegrams file named body = record {
   entries = λ a b x y. one-entries file named OfTelegrams body a b x y;
   either = λ given fault x y. given-or-stopped file named OfTelegrams body given fault y.1 x y.0;
@@ -204,7 +204,7 @@ readouts-entries file named id body a b x y =
     let e : readouts_of x.0 x.1 ≡ readouts_of y.0 y.1 = same-meter file named id x.0 y.0 x.1 y.1 x.2 y.2 in
     one-entries file named (readouts_of y.0 y.1) body a b (subst (λ (s : Source). BodyGives file s body a) e x.3) y.3
 
-pub one_readouts : (file : OfficeFile) → AreNamed file → (id body : List ℕ) → HasOneOutcome file (Readouts id body)
+pub one_readouts : (file : OfficeFile) → AreNamed file → (id body : List ℕ) → HasNoTwoOutcomes file (Readouts id body)
 one_readouts file named id body = record {
   entries = λ a b x y. readouts-entries file named id body a b x y;
   either = λ given fault x y. readouts-either file named id body given fault y.1 x y.0;

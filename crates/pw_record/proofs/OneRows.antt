@@ -14,7 +14,7 @@ use Rattle.pw_record.specs.Listed.{AreListed}
 use Rattle.pw_record.specs.Row.{Row, header_of, GivesEntry}
 use Rattle.pw_record.specs.Rows.{AreRows, RowsFront, GiveEntries, AreGoodRecords, RowsGive, RefusesRecord, RefusedAt, RowsRefused}
 use Rattle.pw_record.specs.Uploads.{Assignments, TopUps}
-use Rattle.pw_record.specs.Laws.{HasOneOutcome}
+use Rattle.pw_record.specs.Laws.{HasNoTwoOutcomes}
 use Rattle.pw_record.proofs.OneReading.{IsFront, two_fronts, front_of_all, one_records}
 use Rattle.pw_record.proofs.OneListed.{one_listed}
 use Rattle.pw_record.proofs.OneEntry.{one_entry, one_cause, given_or_refused}
@@ -175,14 +175,14 @@ module _ (file : OfficeFile) (named : AreNamed file) (kind : RowKind) where
       let same : (one.part ≡ other.part) × (one.cause ≡ other.cause) = one_refused body one.part other.part one.cause other.cause a b in
       same_fault one other same.0 same.1
 
-pub one_assignments : (file : OfficeFile) → AreNamed file → (body : List ℕ) → HasOneOutcome file (Assignments body)
+pub one_assignments : (file : OfficeFile) → AreNamed file → (body : List ℕ) → HasNoTwoOutcomes file (Assignments body)
 one_assignments file named body = record {
   entries = one_list file named Assignment body;
   either = list_or_fault file named Assignment body;
   refusal = one_fault file named Assignment body;
 }
 
-pub one_top_ups : (file : OfficeFile) → AreNamed file → (body : List ℕ) → HasOneOutcome file (TopUps body)
+pub one_top_ups : (file : OfficeFile) → AreNamed file → (body : List ℕ) → HasNoTwoOutcomes file (TopUps body)
 one_top_ups file named body = record {
   entries = one_list file named TopUp body;
   either = list_or_fault file named TopUp body;

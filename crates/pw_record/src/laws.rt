@@ -2,15 +2,15 @@
 //!
 //! The function changes nothing. What counts is its contract.
 
-ghost use Rattle.pw_record.specs.Laws.{HasOneOutcome};
+ghost use Rattle.pw_record.specs.Laws.{HasNoTwoOutcomes};
 ghost use Rattle.pw_record.specs.Uploads.{Upload};
 
 use pw_tariff::Office;
 
-/// No upload has two outcomes: the office file and its bytes alone say which entries it gives, or for what it is refused,
-/// and in which part.
+/// No upload has two outcomes: by the office file and its bytes it gives one list of entries at most, or is refused for one
+/// content fault in one part at most, and not both.
 pub fn no_upload_has_two_outcomes(office: &Office)
-    ensures { (upload : Upload) → HasOneOutcome office.now upload }
+    ensures { (upload : Upload) → HasNoTwoOutcomes office.now upload }
 {
     let _ = office.bands();
 }

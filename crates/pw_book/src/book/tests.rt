@@ -4,8 +4,11 @@ ghost use Rattle.std.specs.Prelude.{◌≤◌, IsTrue, ◌↔◌, length};
 ghost use Rattle.pw_model.specs.Office.{AllOfOffice, most_records};
 ghost use Rattle.pw_tariff.specs.Office.{office_of};
 
+mod bodies;
+mod memory;
+
 use super::Book;
-use crate::{Accepted, BookFault, PostFault};
+use crate::{Accepted, BookFault, Fall, PostFault};
 use pw_model::plain::{self, OfficeTerms};
 use pw_model::{Content, Entry, Key, Reference};
 use pw_obis::{Register, WattHours};
@@ -258,20 +261,36 @@ fn agrees<S: Shelf>(
     Ok(())
 }
 
-fn lists_agree<S: Shelf>(
+fn rows_agree<S: Shelf>(
     rt: &impl Abort,
     alloc: Global,
     book: &mut Book<S>,
     entries: &[Entry],
+    register: Register,
+) -> Result<(), Fail> {
+    assert!(rt; METER.0 < book.office().meters());
+    let rows = plain::readings(alloc, entries, METER, register)?;
+    assert!(rt; book.readings(alloc, METER, register)?.as_slice() == rows.as_slice());
+    Ok(())
+}
+
+// The book answers all questions as the definitions do, and holds so many records.
+fn all_agree<S: Shelf>(
+    rt: &impl Abort,
+    alloc: Global,
+    book: &mut Book<S>,
+    entries: &[Entry],
+    held: u32,
 ) -> Result<(), Fail> {
     assert!(rt; entries.len() <= 100);
-    assert!(rt; METER.0 < book.office().meters());
+    agrees(rt, alloc, book, entries)?;
     let falls = plain::falls(alloc, entries)?;
     assert!(rt; book.falls(alloc)?.as_slice() == falls.as_slice());
     let disputes = plain::disputes(alloc, entries)?;
     assert!(rt; book.disputes(alloc)?.as_slice() == disputes.as_slice());
-    let rows = plain::readings(alloc, entries, METER, Register::I1)?;
-    assert!(rt; book.readings(alloc, METER, Register::I1)?.as_slice() == rows.as_slice());
+    rows_agree(rt, alloc, book, entries, Register::I1)?;
+    rows_agree(rt, alloc, book, entries, Register::E1)?;
+    assert_eq!(rt; book.count()?, held);
     Ok(())
 }
 
@@ -312,15 +331,16 @@ fn run<S: Shelf>(
     taken: &mut Vec<Entry>,
     steps: &[Step],
 ) -> Result<(), Fail> {
+    let mut held = book.count()?;
     for step in steps {
         let (fresh, repeated) = post(rt, alloc, book, &[step.entry])?;
         assert_eq!(rt; fresh, step.fresh);
         assert_eq!(rt; repeated, if step.fresh == 0 { 1 } else { 0 });
         assert_eq!(rt; imported(rt, alloc, book)?, (step.low, step.high));
         taken.push(step.entry)?;
+        held = held.saturating_add(fresh);
     }
-    agrees(rt, alloc, book, taken)?;
-    lists_agree(rt, alloc, book, taken)
+    all_agree(rt, alloc, book, taken, held)
 }
 
 #[test]
@@ -331,9 +351,7 @@ fn empty_book_answers(rt: HostRuntime) -> Result<(), Fail> {
     assert_eq!(rt; imported(&rt, alloc, &mut book)?, (0, 0));
     assert_eq!(rt; money(&rt, alloc, &mut book, SECOND)?, (0, 0));
     assert_eq!(rt; lengths(&rt, alloc, &mut book)?, (0, 0, 0));
-    assert_eq!(rt; book.count()?, 0);
-    agrees(&rt, alloc, &mut book, &[])?;
-    lists_agree(&rt, alloc, &mut book, &[])
+    all_agree(&rt, alloc, &mut book, &[], 0)
 }
 
 // How many falls, disputes and readings of the register there are.
@@ -427,22 +445,6 @@ fn exported_energy(rt: HostRuntime) -> Result<(), Fail> {
     Ok(())
 }
 
-// Takes an upload, again where memory was refused: then nothing had changed.
-fn posted_or_refused<S: Shelf>(
-    rt: &impl Abort,
-    alloc: Global,
-    book: &mut Book<S>,
-    entry: Entry,
-) -> Result<(), Fail> {
-    let before = book.count()?;
-    if let Err(fault) = post(rt, alloc, book, &[entry]) {
-        assert_eq!(rt; fault, PostFault::Memory);
-        assert_eq!(rt; book.count()?, before);
-        assert_eq!(rt; post(rt, alloc, book, &[entry])?, (1, 0));
-    }
-    Ok(())
-}
-
 // What the questions are answered behind two readings and a top-up.
 fn two_readings_told<S: Shelf>(
     rt: &impl Abort,
@@ -454,22 +456,6 @@ fn two_readings_told<S: Shelf>(
     assert_eq!(rt; both, (5_000, 49_249_700_000));
     assert_eq!(rt; lengths(rt, alloc, book)?, (0, 0, 2));
     assert_eq!(rt; book.count()?, 4);
-    Ok(())
-}
-
-// With each allocation refused in turn: what is right, or want of memory, and the next call is right.
-#[test]
-fn memory_refused(rt: HostRuntime) -> Result<(), Fail> {
-    let alloc = rt.alloc();
-    let mut book = empty_book(&rt, alloc, 100)?;
-    posted_or_refused(&rt, alloc, &mut book, assigned(&rt, NEW_YEAR, Some(FIRST)))?;
-    posted_or_refused(&rt, alloc, &mut book, reading(&rt, FIVE, 1_000_000))?;
-    posted_or_refused(&rt, alloc, &mut book, reading(&rt, SEVEN, 1_003_001))?;
-    posted_or_refused(&rt, alloc, &mut book, paid(&rt, b"P1", 5_000))?;
-    if let Err(fault) = two_readings_told(&rt, alloc, &mut book) {
-        assert_eq!(rt; fault, BookFault::Memory);
-        two_readings_told(&rt, alloc, &mut book)?;
-    }
     Ok(())
 }
 
@@ -492,6 +478,8 @@ fn all_six_orders(rt: HostRuntime) -> Result<(), Fail> {
         [2, 0, 1],
         [2, 1, 0],
     ];
+    let [first, second] = upload_at(&rt, 1);
+    let entries = [first, second, upload_at(&rt, 0)[0], upload_at(&rt, 2)[0]];
     for order in orders {
         let mut book = empty_book(&rt, rt.alloc(), 100)?;
         for place in order {
@@ -501,6 +489,7 @@ fn all_six_orders(rt: HostRuntime) -> Result<(), Fail> {
             assert_eq!(rt; post(&rt, rt.alloc(), &mut book, &upload)?, (0, distinct));
         }
         two_readings_told(&rt, rt.alloc(), &mut book)?;
+        all_agree(&rt, rt.alloc(), &mut book, &entries, 4)?;
     }
     Ok(())
 }
@@ -551,13 +540,19 @@ fn assignment_to_nobody(rt: HostRuntime) -> Result<(), Fail> {
     Ok(())
 }
 
-// How many falls there are, and the second from which the first counts.
-fn falls<S: Shelf>(alloc: Global, book: &mut Book<S>) -> Result<(usize, u32), BookFault> {
-    let falls = book.falls(alloc)?;
-    match falls.first() {
-        Some(fall) => Ok((falls.len(), fall.from.seconds())),
-        None => Ok((0, 0)),
-    }
+fn falls<S: Shelf>(rt: &impl Abort, alloc: Global, book: &mut Book<S>) -> Result<(), BookFault> {
+    let fall = Fall {
+        meter: METER,
+        register: Register::I1,
+        from: at(rt, FIVE),
+        high: wh(rt, 100_000),
+        to: at(rt, SIX),
+        low: wh(rt, 50_000),
+    };
+    let found = book.falls(alloc)?;
+    assert_eq!(rt; found.len(), 1);
+    assert_eq!(rt; found[0], fall);
+    Ok(())
 }
 
 #[test]
@@ -571,10 +566,10 @@ fn fall_and_recovery(rt: HostRuntime) -> Result<(), Fail> {
         expecting(reading(&rt, SEVEN, 120_000), 0, 70_000),
     ];
     run(&rt, rt.alloc(), &mut book, &mut taken, &steps)?;
-    assert_eq!(rt; falls(rt.alloc(), &mut book)?, (1, FIVE));
+    falls(&rt, rt.alloc(), &mut book)?;
     let steps = [expecting(reading(&rt, SIX, 60_000), 10_000, 10_000)];
     run(&rt, rt.alloc(), &mut book, &mut taken, &steps)?;
-    assert_eq!(rt; falls(rt.alloc(), &mut book)?, (0, 0));
+    assert_eq!(rt; lengths(&rt, rt.alloc(), &mut book)?, (0, 1, 4));
     Ok(())
 }
 
@@ -591,8 +586,11 @@ fn disputed<S: Shelf>(
     assert_eq!(rt; money(rt, alloc, book, FIRST)?.0, u64::from(first));
     assert_eq!(rt; post(rt, alloc, book, &[pair[1]])?, (1, 0));
     assert_eq!(rt; money(rt, alloc, book, FIRST)?, (0, 0));
-    assert_eq!(rt; lengths(rt, alloc, book)?, (0, 1, 0));
-    agrees(rt, alloc, book, &pair)
+    let disputes = book.disputes(alloc)?;
+    assert_eq!(rt; disputes.len(), 1);
+    assert_eq!(rt; disputes[0].key, pair[0].key);
+    assert_eq!(rt; disputes[0].contents, 2);
+    all_agree(rt, alloc, book, &pair, 2)
 }
 
 #[test]
@@ -607,11 +605,10 @@ fn disputed_payment(rt: HostRuntime) -> Result<(), Fail> {
 fn room_for_one(rt: HostRuntime) -> Result<(), Fail> {
     let alloc = rt.alloc();
     let mut book = empty_book(&rt, alloc, 1)?;
-    let payment = paid(&rt, b"P1", 2_000);
-    assert_eq!(rt; post(&rt, alloc, &mut book, &[payment, payment])?, (1, 0));
-    assert_eq!(rt; post(&rt, alloc, &mut book, &[payment, payment])?, (0, 1));
-    assert_eq!(rt; book.count()?, 1);
-    Ok(())
+    let twice = [paid(&rt, b"P1", 2_000); 2];
+    assert_eq!(rt; post(&rt, alloc, &mut book, &twice)?, (1, 0));
+    assert_eq!(rt; post(&rt, alloc, &mut book, &twice)?, (0, 1));
+    all_agree(&rt, alloc, &mut book, &twice, 1)
 }
 
 #[test]
@@ -623,12 +620,16 @@ fn full_book(rt: HostRuntime) -> Result<(), Fail> {
         paid(&rt, b"P2", 2),
         paid(&rt, b"P3", 3),
     ];
+    let fourth = paid(&rt, b"P4", 4);
+    let full = PostFault::Full { held: 3, limit: 3 };
     assert_eq!(rt; post(&rt, alloc, &mut book, &held)?, (3, 0));
     assert_eq!(rt; post(&rt, alloc, &mut book, &[held[1]])?, (0, 1));
-    let full = post(&rt, alloc, &mut book, &[held[1], paid(&rt, b"P4", 4)]);
-    assert_eq!(rt; full, Err(PostFault::Full { held: 3, limit: 3 }));
-    assert_eq!(rt; book.count()?, 3);
+    assert_eq!(rt; post(&rt, alloc, &mut book, &[fourth]), Err(full));
+    assert_eq!(rt; post(&rt, alloc, &mut book, &[held[1], fourth]), Err(full));
+    let line = format!(in alloc; "{full}")?;
+    assert_eq!(rt; line.as_str(), "refused 60 Full held 3 limit 3");
     assert_eq!(rt; money(&rt, alloc, &mut book, FIRST)?, (6, 60_000_000));
+    all_agree(&rt, alloc, &mut book, &held, 3)?;
     let shelf = &mut book.into_shelf();
     assert_eq!(rt; shelf.count()?, 3);
     Ok(())
@@ -657,7 +658,17 @@ fn over_its_limit(rt: HostRuntime) -> Result<(), Fail> {
     let full = PostFault::Full { held: 2, limit: 1 };
     assert_eq!(rt; post(&rt, alloc, &mut book, &[]), Err(full));
     assert_eq!(rt; post(&rt, alloc, &mut book, &two), Err(full));
-    let line = format!(in alloc; "{full}")?;
-    assert_eq!(rt; line.as_str(), "refused 60 Full held 2 limit 1");
+    all_agree(&rt, alloc, &mut book, &two, 2)
+}
+
+#[test]
+fn lines_of_questions(rt: HostRuntime) -> Result<(), Fail> {
+    let alloc = rt.alloc();
+    let device = format!(in alloc; "{}", BookFault::Device)?;
+    assert_eq!(rt; device.as_str(), "refused 61 Device");
+    let memory = format!(in alloc; "{}", BookFault::Memory)?;
+    assert_eq!(rt; memory.as_str(), "refused 62 Memory");
+    let reopen = format!(in alloc; "{}", BookFault::Reopen)?;
+    assert_eq!(rt; reopen.as_str(), "refused 63 Reopen");
     Ok(())
 }

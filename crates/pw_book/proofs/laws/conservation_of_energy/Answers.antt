@@ -5,6 +5,6 @@ use Rattle.pw_model.proofs.Whole.{nothing-is_lost}
 use Rattle.pw_book.proofs.laws.conservation_of_energy.Goals as goal
 
 pub returns : goal.returns
-returns g c = λ d.
+returns g c = λ open-yet clean d.
     let sound : IsSound c.args.book.now.office = subst IsSound c.office.ensures c.bands.ensures.sound in
-    nothing-is_lost (office_of c.args.book.now.office) (g.S.Shelf.state c.args.book.now.shelf).content.records d (bands-of c.args.book.now.office sound) (c.args.book.now.of_office c.requires.open_yet c.requires.clean)
+    nothing-is_lost (office_of c.args.book.now.office) (g.S.Shelf.state c.args.book.now.shelf).content.records d (bands-of c.args.book.now.office sound) (c.args.book.now.of_office open-yet clean)

@@ -1,0 +1,68 @@
+//! The book with each allocation refused in turn: what is right, or want of memory, and the next call is right.
+
+use super::{
+    FIRST, FIVE, NEW_YEAR, OFFICE, SEVEN, SIX, all_agree, assigned, imported, lengths, money, paid,
+    post, reading,
+};
+use crate::{Book, BookFault, PostFault};
+use pw_model::Entry;
+use pw_shelf::{MemoryShelf, Shelf};
+use pw_tariff::Office;
+use pw_time::Zone;
+use std::alloc::Global;
+use std::process::Abort;
+use std::test::Fail;
+
+// Takes an upload behind others, again where memory was refused: then nothing had changed.
+fn posted_or_refused<S: Shelf>(
+    rt: &impl Abort,
+    alloc: Global,
+    book: &mut Book<S>,
+    taken: &[Entry],
+    upload: &[Entry],
+) -> Result<(), Fail> {
+    let fresh = upload.len().min(100) as u32;
+    match post(rt, alloc, book, upload) {
+        Ok(accepted) => assert_eq!(rt; accepted, (fresh, 0)),
+        Err(fault) => {
+            assert_eq!(rt; fault, PostFault::Memory);
+            all_agree(rt, alloc, book, taken, taken.len().min(100) as u32)?;
+            assert_eq!(rt; post(rt, alloc, book, upload)?, (fresh, 0));
+        }
+    }
+    Ok(())
+}
+
+// What the questions are answered: a fall and a rise in the high band, and a payment that is disputed.
+fn told<S: Shelf>(rt: &impl Abort, alloc: Global, book: &mut Book<S>) -> Result<(), BookFault> {
+    assert_eq!(rt; imported(rt, alloc, book)?, (0, 70_000));
+    assert_eq!(rt; money(rt, alloc, book, FIRST)?, (0, -21_000_000_000));
+    assert_eq!(rt; lengths(rt, alloc, book)?, (1, 1, 3));
+    assert_eq!(rt; book.count()?, 6);
+    Ok(())
+}
+
+#[test]
+fn memory_refused(rt: HostRuntime) -> Result<(), Fail> {
+    let alloc = rt.alloc();
+    let Ok(office) = Office::read(alloc, OFFICE.as_bytes()) else {
+        return Ok(());
+    };
+    let mut book = Book::new(office, Zone::central(), MemoryShelf::new(alloc), 100);
+    let entries = [
+        reading(&rt, FIVE, 100_000),
+        reading(&rt, SIX, 50_000),
+        reading(&rt, SEVEN, 120_000),
+        assigned(&rt, NEW_YEAR, Some(FIRST)),
+        paid(&rt, b"P1", 2_000),
+        paid(&rt, b"P1", 3_000),
+    ];
+    let (first, others) = entries.split_at(3);
+    posted_or_refused(&rt, alloc, &mut book, &[], first)?;
+    posted_or_refused(&rt, alloc, &mut book, first, others)?;
+    if let Err(fault) = told(&rt, alloc, &mut book) {
+        assert_eq!(rt; fault, BookFault::Memory);
+        told(&rt, alloc, &mut book)?;
+    }
+    Ok(())
+}
