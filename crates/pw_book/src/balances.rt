@@ -18,6 +18,9 @@ use pw_tariff::{AccountId, BandId, Direction, Office};
 use pw_time::Zone;
 use std::alloc::Global;
 
+// Nano-euro in a cent.
+const NANO_IN_CENT: u128 = 10_000_000;
+
 // What the top-ups that count give an account, in cents.
 pub(crate) fn topped_up_held<S: Shelf>(
     shelf: &mut S,
@@ -35,7 +38,8 @@ pub(crate) fn topped_up_held<S: Shelf>(
     Ok(cents.min(u128::from(u64::MAX)) as u64)
 }
 
-// The balance of an account, in nano-euro: what was topped up, less what it took, and what it gave.
+// The balance of an account, in nano-euro: what was topped up, less what its imported energy costs, plus what its exported
+// energy does.
 pub(crate) fn balance_held<S: Shelf>(
     shelf: &mut S,
     alloc: Global,
@@ -53,7 +57,7 @@ pub(crate) fn balance_held<S: Shelf>(
     let imported = cost_held(shelf, alloc, office, zone, account, Direction::Import)?;
     let exported = cost_held(shelf, alloc, office, zone, account, Direction::Export)?;
     let cents = topped_up_held(shelf, alloc, account)?;
-    let paid = 10_000_000 * u128::from(cents);
+    let paid = NANO_IN_CENT * u128::from(cents);
     Ok(difference(paid, imported, exported))
 }
 

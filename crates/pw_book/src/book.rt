@@ -50,7 +50,11 @@ pub struct Book<S: Shelf> {
 }
 
 impl<S: Shelf> Book<S> {
-    /// A book of an office over a store, which holds at most so many records. It takes no memory.
+    /// A book of an office over a store, which takes no upload that would leave more records than the limit. It takes no
+    /// memory, and leaves the store as it is.
+    ///
+    /// It asks for a limit of 1 to 10,000,000, and for a store with no upload begun, which holds at most 10,000,000 records,
+    /// all of the office. (A store may hold more than the limit: then each upload is answered `Full`.)
     pub fn new(office: Office, zone: Zone, shelf: S, limit: u32) -> Book<S>
         requires least { 1 ≤ limit }
         requires most { limit ≤ most_records }
@@ -86,7 +90,8 @@ impl<S: Shelf> Book<S> {
         &self.zone
     }
 
-    /// The store, as it stands.
+    /// The store, as it stands. Behind `Reopen` an upload may still be begun in it, and what it holds isn't known: it has to be
+    /// opened again.
     pub fn into_shelf(self) -> S
         ensures { result ≡ self.shelf }
     {
@@ -100,11 +105,12 @@ impl<S: Shelf> Book<S> {
         shelf
     }
 
-    /// Takes an upload: its entries that aren't held are held from then on.
+    /// Takes an upload: its entries that aren't held are held from then on. It asks for entries of the office.
     ///
-    /// After `Full`, `Device` and `Memory` the records are as before. After `Reopen` the book is shut: each later call
-    /// that can fail answers `Reopen`. A crash leaves what it could leave before, or the content with the whole upload;
-    /// after Ok the latter alone, after `Full` the former alone.
+    /// `Full` is answered where the records held and the fresh ones together are more than the limit. After `Full`, `Device` and
+    /// `Memory` the records are as before. After `Reopen` the book is shut: each later call that can fail answers `Reopen`. A
+    /// crash leaves what it could leave before, or the content with the whole upload; after Ok the latter alone, after `Full`
+    /// the former alone.
     pub fn post(&mut self, alloc: Global, entries: &[Entry]) -> Result<Accepted, PostFault>
         requires { AllOfOffice (office_of self.old.office) entries.now }
         ensures posted { S.clean self.new.shelf → IsPosted self.old.limit entries.now (S.state self.old.shelf).content (S.state self.new.shelf).content result }
@@ -126,7 +132,10 @@ impl<S: Shelf> Book<S> {
         answer
     }
 
-    /// The energy of an owner in a band, in Wh, of the direction.
+    /// The energy of an owner in a band, in Wh, of the direction, by the records held. It asks for an account and a band of the
+    /// office; the owner may be nobody.
+    ///
+    /// As with each question, `Device`, `Memory` and `Reopen` (of a shut book) leave the records as they are.
     pub fn energy(
         &mut self,
         alloc: Global,
@@ -156,7 +165,7 @@ impl<S: Shelf> Book<S> {
         Ok(wh)
     }
 
-    /// What was topped up for an account, in cents.
+    /// What was topped up for an account, in cents, by the records held. It asks for an account of the office.
     pub fn topped_up(&mut self, alloc: Global, account: AccountId) -> Result<u64, BookFault>
         requires { account.0 < length self.old.office.accounts }
         ensures topped_up { S.clean self.new.shelf → IfOk result (λ cents. cents ≡ cents_of (S.state self.old.shelf).content.records account.0) }
@@ -171,8 +180,8 @@ impl<S: Shelf> Book<S> {
         Ok(cents)
     }
 
-    /// The balance of an account, in nano-euro: what was topped up, less the price of its imported energy, and the price of its
-    /// exported energy.
+    /// The balance of an account, in nano-euro, by the records held: what was topped up, less the price of its imported energy,
+    /// plus the price of its exported energy. It asks for an account of the office.
     pub fn balance(&mut self, alloc: Global, account: AccountId) -> Result<i128, BookFault>
         requires { account.0 < length self.old.office.accounts }
         ensures balance { S.clean self.new.shelf → IfOk result (λ nano. nano ≡ balance_of (office_of self.old.office) (S.state self.old.shelf).content.records account.0) }
@@ -187,7 +196,8 @@ impl<S: Shelf> Book<S> {
         Ok(nano)
     }
 
-    /// The readings held of a register, by instant and then by Wh, each with whether it counts.
+    /// The readings held of a register, by instant and then by Wh, each with whether it counts. It asks for a meter of the
+    /// office.
     pub fn readings(
         &mut self,
         alloc: Global,
@@ -207,7 +217,8 @@ impl<S: Shelf> Book<S> {
         Ok(rows)
     }
 
-    /// The falls of all registers: neighbouring readings of which the later shows less. By meter, register and instant.
+    /// The falls of all registers, by the records held: neighbouring readings of which the later shows less. By meter, register
+    /// and instant.
     pub fn falls(&mut self, alloc: Global) -> Result<Vec<Fall>, BookFault>
         ensures falls { S.clean self.new.shelf → IfOk result (λ falls. AreFalls (S.state self.old.shelf).content.records falls.items) }
         ensures shelf { IsOnlyAsked (S.state self.old.shelf) (S.state self.new.shelf) (S.left self.old.shelf) (S.left self.new.shelf) (S.clean self.old.shelf) (S.clean self.new.shelf) }
@@ -221,8 +232,8 @@ impl<S: Shelf> Book<S> {
         Ok(falls)
     }
 
-    /// The disputes: the keys that two or more records have, and how many. Readings first, then assignments, then top-ups;
-    /// each by its key.
+    /// The disputes: the keys that two or more of the records held have, and how many. Readings first, then assignments, then
+    /// top-ups; each by its key.
     pub fn disputes(&mut self, alloc: Global) -> Result<Vec<Dispute>, BookFault>
         ensures disputes { S.clean self.new.shelf → IfOk result (λ disputes. AreDisputes (S.state self.old.shelf).content.records disputes.items) }
         ensures shelf { IsOnlyAsked (S.state self.old.shelf) (S.state self.new.shelf) (S.left self.old.shelf) (S.left self.new.shelf) (S.clean self.old.shelf) (S.clean self.new.shelf) }
@@ -236,7 +247,7 @@ impl<S: Shelf> Book<S> {
         Ok(disputes)
     }
 
-    /// The number of records held.
+    /// The number of records held, each counted once.
     pub fn count(&mut self) -> Result<u32, BookFault>
         ensures count { S.clean self.new.shelf → IfOk result (λ held. held ≡ record_count (S.state self.old.shelf).content.records) }
         ensures shelf { IsOnlyAsked (S.state self.old.shelf) (S.state self.new.shelf) (S.left self.old.shelf) (S.left self.new.shelf) (S.clean self.old.shelf) (S.clean self.new.shelf) }

@@ -7,7 +7,7 @@ use std::fmt;
 /// Why an upload isn't accepted.
 #[derive(Clone, Copy, Debug, PartialEq, Eq)]
 pub enum PostFault {
-    /// 60: the records held and the fresh ones together are more than the limit.
+    /// 60: the records held before the call and the fresh ones together are more than the limit. It tells both numbers.
     Full { held: u32, limit: u32 },
     /// 61: the device of the store failed.
     Device,

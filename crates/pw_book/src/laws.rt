@@ -7,13 +7,13 @@ ghost use Rattle.pw_model.specs.Counting.{contents_at};
 ghost use Rattle.pw_model.specs.Energy.{all_rises, energy, over_bands, over_owners};
 ghost use Rattle.pw_tariff.specs.Office.{office_of};
 ghost use Rattle.pw_tariff.specs.declared.ids.Direction.{Direction};
-ghost use Rattle.pw_book.specs.After.{OrderOfUploadsCountsNothing};
+ghost use Rattle.pw_book.specs.After.{LeavesAfter, OrderOfUploadsCountsNothing};
 
 use crate::book::Book;
 use pw_shelf::Shelf;
 use pw_tariff::Office;
 
-/// Conservation of energy: in a book that isn't shut, over all owners with nobody and all bands, the energies of a
+/// Conservation of energy: in a book that isn't shut, over a store that returned what was written, over all owners with nobody and all bands, the energies of a
 /// direction, which `energy` answers, add up to the rises of all neighbouring readings that don't fall.
 pub fn conservation_of_energy<S: Shelf>(book: &Book<S>)
     ensures { book.now.shut ≡ false → S.clean book.now.shelf → (d : Direction) → over_owners (office_of book.now.office) (λ o. over_bands (office_of book.now.office) (λ b. energy (office_of book.now.office) (S.state book.now.shelf).content.records o b d)) ≡ all_rises (office_of book.now.office) (contents_at (S.state book.now.shelf).content.records) d }
@@ -21,8 +21,17 @@ pub fn conservation_of_energy<S: Shelf>(book: &Book<S>)
     let _ = book.office().bands();
 }
 
-/// Order counts nothing, and repetition neither: the same uploads, none of them answered `Full`, `Device`, `Memory` or
-/// `Reopen`, leave the same records and the same answers in any order. Those refused for their content leave nothing.
+/// The records that a book holds are those after the uploads that it was sent: one upload more that it takes adds what the
+/// upload gives, and one that is refused for its content adds nothing. Uploads that are answered `Full`, `Device` or
+/// `Memory` are none of them, and leave what is held as it was.
+pub fn records_are_those_after_uploads(office: &Office)
+    ensures { LeavesAfter office.now }
+{
+    let _ = office.bands();
+}
+
+/// Order counts nothing, and repetition neither: the same uploads have the same records after them, and the same answers,
+/// in any order.
 pub fn order_of_uploads_counts_nothing(office: &Office)
     ensures { OrderOfUploadsCountsNothing office.now }
 {

@@ -58,6 +58,6 @@ fault_line fault =
     codes "refused " ++ (decimal (cause_number fault.cause) ++ (codes " " ++ (cause_name fault.cause
     ++ (codes " part " ++ (decimal fault.part ++ cause_details fault.cause)))))
 
--- want of memory, in whatever part
+-- want of memory: its part is always 0
 abbrev pub want_of_memory : UploadFault
 want_of_memory = record { part = 0; cause = Memory }

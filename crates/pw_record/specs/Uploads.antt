@@ -8,7 +8,7 @@ use Rattle.pw_record.specs.Causes.{want_of_memory}
 use Rattle.pw_record.specs.Frames.{TelegramsGive, TelegramsRefused, ReadoutsGive, ReadoutsRefused}
 use Rattle.pw_record.specs.Rows.{AssignmentsGive, AssignmentsRefused, TopUpsGive, TopUpsRefused}
 
--- an upload: a body of telegrams, of readouts of the meter with an id, of assignments, or of top-ups
+-- an upload: a body of telegrams; the id of a meter and a body of its readouts; a body of assignments; or one of top-ups
 pub data Upload : Type 0 where
   Telegrams : List ℕ → Upload
   Readouts : List ℕ → List ℕ → Upload

@@ -26,8 +26,8 @@ pub const MOST_FRAMES: u32 = 64;
 /// The entries of a body of telegrams (DSMR P1 Companion Standard 5.0.2), or the first refusal.
 ///
 /// Each telegram is of the meter that it names, by an identifier whose letters a to f are read as capitals, and its
-/// entries are the readings of the registers that the office counts for the meter. `Memory` is answered only where
-/// memory was refused.
+/// entries are the readings of the registers that the office counts for the meter. `Memory` says nothing of the body:
+/// memory was refused while it was read.
 pub fn telegram_records(
     alloc: Global,
     office: &Office,

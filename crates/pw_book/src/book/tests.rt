@@ -35,6 +35,8 @@ const SECOND: AccountId = AccountId(1);
 
 const METER: MeterId = MeterId(0);
 
+const OTHER: MeterId = MeterId(1);
+
 const OFFICE: &str = r#"accounts = ["A1", "A2"]
 week = [
   "LLLLLLLHHHHHHHHHHHHHHHHL",
@@ -58,6 +60,11 @@ export = 50000
 
 [[meter]]
 id = "4D31"
+clock = "marked"
+registers = ["I1", "I2", "E1", "E2"]
+
+[[meter]]
+id = "4D32"
 clock = "marked"
 registers = ["I1", "I2", "E1", "E2"]
 "#;
@@ -133,10 +140,16 @@ fn wh(rt: &impl Abort, watt_hours: u64) -> WattHours {
     WattHours::of(watt_hours).expect(rt, "watt-hours")
 }
 
-fn shown(rt: &impl Abort, register: Register, second: u32, watt_hours: u64) -> Entry {
+fn shown(
+    rt: &impl Abort,
+    meter: MeterId,
+    register: Register,
+    second: u32,
+    watt_hours: u64,
+) -> Entry {
     Entry {
         key: Key::Reading {
-            meter: METER,
+            meter,
             register,
             instant: at(rt, second),
         },
@@ -147,13 +160,17 @@ fn shown(rt: &impl Abort, register: Register, second: u32, watt_hours: u64) -> E
 }
 
 fn reading(rt: &impl Abort, second: u32, watt_hours: u64) -> Entry {
-    shown(rt, Register::I1, second, watt_hours)
+    shown(rt, METER, Register::I1, second, watt_hours)
 }
 
 fn assigned(rt: &impl Abort, second: u32, owner: Owner) -> Entry {
+    given(rt, METER, second, owner)
+}
+
+fn given(rt: &impl Abort, meter: MeterId, second: u32, owner: Owner) -> Entry {
     Entry {
         key: Key::Assignment {
-            meter: METER,
+            meter,
             start: at(rt, second),
         },
         content: Content::Assignment { owner },
@@ -266,11 +283,13 @@ fn rows_agree<S: Shelf>(
     alloc: Global,
     book: &mut Book<S>,
     entries: &[Entry],
-    register: Register,
+    meter: MeterId,
 ) -> Result<(), Fail> {
-    assert!(rt; METER.0 < book.office().meters());
-    let rows = plain::readings(alloc, entries, METER, register)?;
-    assert!(rt; book.readings(alloc, METER, register)?.as_slice() == rows.as_slice());
+    for register in [Register::I1, Register::I2, Register::E1, Register::E2] {
+        assert!(rt; meter.0 < book.office().meters());
+        let rows = plain::readings(alloc, entries, meter, register)?;
+        assert!(rt; book.readings(alloc, meter, register)?.as_slice() == rows.as_slice());
+    }
     Ok(())
 }
 
@@ -288,8 +307,8 @@ fn all_agree<S: Shelf>(
     assert!(rt; book.falls(alloc)?.as_slice() == falls.as_slice());
     let disputes = plain::disputes(alloc, entries)?;
     assert!(rt; book.disputes(alloc)?.as_slice() == disputes.as_slice());
-    rows_agree(rt, alloc, book, entries, Register::I1)?;
-    rows_agree(rt, alloc, book, entries, Register::E1)?;
+    rows_agree(rt, alloc, book, entries, METER)?;
+    rows_agree(rt, alloc, book, entries, OTHER)?;
     assert_eq!(rt; book.count()?, held);
     Ok(())
 }
@@ -434,8 +453,8 @@ fn exported_energy(rt: HostRuntime) -> Result<(), Fail> {
     let mut taken = Vec::new(alloc);
     let steps = [
         expecting(assigned(&rt, NEW_YEAR, Some(FIRST)), 0, 0),
-        expecting(shown(&rt, Register::E1, FIVE, 1_000_000), 0, 0),
-        expecting(shown(&rt, Register::E1, SEVEN, 1_003_001), 0, 0),
+        expecting(shown(&rt, METER, Register::E1, FIVE, 1_000_000), 0, 0),
+        expecting(shown(&rt, METER, Register::E1, SEVEN, 1_003_001), 0, 0),
     ];
     run(&rt, alloc, &mut book, &mut taken, &steps)?;
     let both = energies(&rt, alloc, &mut book, Some(FIRST), Direction::Export)?;
@@ -571,6 +590,34 @@ fn fall_and_recovery(rt: HostRuntime) -> Result<(), Fail> {
     run(&rt, rt.alloc(), &mut book, &mut taken, &steps)?;
     assert_eq!(rt; lengths(&rt, rt.alloc(), &mut book)?, (0, 1, 4));
     Ok(())
+}
+
+// Three falls and five disputes, over both meters and of all kinds, uploaded from the last to the first.
+#[test]
+fn lists_in_their_order(rt: HostRuntime) -> Result<(), Fail> {
+    let alloc = rt.alloc();
+    let mut book = empty_book(&rt, alloc, 100)?;
+    let entries = [
+        paid(&rt, b"P1", 2),
+        paid(&rt, b"P1", 1),
+        given(&rt, OTHER, NEW_YEAR, Some(FIRST)),
+        given(&rt, OTHER, NEW_YEAR, None),
+        assigned(&rt, NEW_YEAR, Some(SECOND)),
+        assigned(&rt, NEW_YEAR, Some(FIRST)),
+        shown(&rt, OTHER, Register::I1, SEVEN, 2),
+        shown(&rt, OTHER, Register::I1, SEVEN, 1),
+        shown(&rt, OTHER, Register::I1, SIX, 10),
+        shown(&rt, OTHER, Register::I1, FIVE, 20),
+        shown(&rt, METER, Register::E2, SEVEN, 5),
+        shown(&rt, METER, Register::E2, SIX, 6),
+        reading(&rt, SEVEN, 4),
+        reading(&rt, SEVEN, 3),
+        reading(&rt, SIX, 10),
+        reading(&rt, FIVE, 20),
+    ];
+    assert_eq!(rt; post(&rt, alloc, &mut book, &entries)?, (16, 0));
+    assert_eq!(rt; lengths(&rt, alloc, &mut book)?, (3, 5, 4));
+    all_agree(&rt, alloc, &mut book, &entries, 16)
 }
 
 // Two payments of one reference, in this order.

@@ -15,7 +15,7 @@ const ASSIGNMENTS: &[u8] = b"meter,start,account\n4D31,2024-01-01T00:00:00Z,A1\n
 
 const TOPUPS: &[u8] = b"reference,account,cents,instant\nP1,A1,5000,2024-01-01T00:00:00Z\n";
 
-// The second row has no cents that count.
+// The second row is of 0 cents.
 const FAULTY: &[u8] =
     b"reference,account,cents,instant\nP2,A1,100,2024-01-01T00:00:00Z\nP3,A1,0,2024-01-01T00:00:00Z\n";
 

@@ -1,4 +1,5 @@
-//! The book with each allocation refused in turn: what is right, or want of memory, and the next call is right.
+//! The book with an allocation refused: what is right, or want of memory, and the next call is right. (To be run with the
+//! first allocation refused, with the second, and so on.)
 
 use super::{
     FIRST, FIVE, NEW_YEAR, OFFICE, SEVEN, SIX, all_agree, assigned, imported, lengths, money, paid,

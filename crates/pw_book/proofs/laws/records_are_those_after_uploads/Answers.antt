@@ -1,0 +1,8 @@
+use Rattle.std.proofs.Common.{subst}
+use Rattle.pw_tariff.specs.Office.{IsSound}
+use Rattle.pw_record.proofs.OneOutcome.{one-outcome}
+use Rattle.pw_book.proofs.Order.{leaves-after}
+use Rattle.pw_book.proofs.laws.records_are_those_after_uploads.Goals as goal
+
+pub returns : goal.returns
+returns c = let sound : IsSound c.args.office.now = c.bands.ensures.sound in leaves-after c.args.office.now (one-outcome c.args.office.now sound.named)
