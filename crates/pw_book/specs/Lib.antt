@@ -4,6 +4,5 @@ pub mod Faults
 pub mod Kept
 pub mod Asking
 pub mod Posting
-pub mod Writing
 pub mod Places
 pub mod After
