@@ -27,12 +27,26 @@ use pw_shelf::Shelf;
 use pw_tariff::{AccountId, BandId, Direction, MeterId, Office, Owner};
 use pw_time::Zone;
 use std::alloc::Global;
+use std::fmt;
 
 /// What an accepted upload brought: its distinct entries that weren't held before, and those that were.
 #[derive(Clone, Copy, Debug, PartialEq, Eq)]
 pub struct Accepted {
     pub fresh: u32,
     pub repeated: u32,
+}
+
+/// The acceptance line without its end: how many entries were fresh, and how many repeated.
+impl fmt::Display for Accepted {
+    ghost use Rattle.std.specs.Prelude.{Some};
+    ghost use Rattle.pw_book.specs.Acceptance.{acceptance_line};
+
+    ghost output = { λ accepted. Some (acceptance_line accepted) };
+
+    fn fmt<W: fmt::Write>(&self, f: &mut fmt::Formatter<W>) -> fmt::Result {
+        let Accepted { fresh, repeated } = *self;
+        write!(f, "accepted fresh {fresh} repeated {repeated}")
+    }
 }
 
 /// The book of an office over a store of records: it takes uploads, and answers what the records held mean.
