@@ -4,6 +4,6 @@ pub mod Faults
 pub mod Kept
 pub mod Asking
 pub mod Posting
-pub mod Writing
+pub mod Acceptance
 pub mod Places
 pub mod After

@@ -1,10 +1,10 @@
 //! The shelf's reading calls outside an upload.
 
-ghost use Rattle.std.specs.Prelude.{◌≡◌, ◌<◌, IfOk, IsErrOf, IsNone, length};
+ghost use Rattle.std.specs.Prelude.{◌≡◌, IfOk, IsNone, length};
 ghost use Rattle.pw_model.specs.Payments.{stands_in};
 ghost use Rattle.pw_model.specs.Same.{same_entry};
 ghost use Rattle.pw_shelf.specs.Rows.{ListsAssignments, ListsReadings, ListsTopUps};
-ghost use Rattle.pw_shelf.specs.declared.fault.ShelfFault.TheVariants.{Device};
+ghost use Rattle.pw_shelf.specs.Calls.{failures_told};
 ghost use Rattle.pw_book.specs.Asking.{IsOnlyAsked};
 
 use pw_model::Entry;
@@ -16,8 +16,7 @@ use std::alloc::Global;
 pub(crate) fn count_held<S: Shelf>(shelf: &mut S) -> Result<u32, ShelfFault>
     requires { IsNone (S.state shelf.old).begun }
     ensures number { S.clean shelf.new → IfOk result (λ held. held ≡ length (S.state shelf.old).content.records) }
-    ensures asked { IsOnlyAsked (S.state shelf.old) (S.state shelf.new) (S.left shelf.old) (S.left shelf.new) (S.clean shelf.old) (S.clean shelf.new) }
-    ensures cause { IsErrOf result Device → (S.state shelf.old).failures < (S.state shelf.new).failures }
+    ensures asked { IsOnlyAsked S.state S.left S.clean (failures_told result) shelf.old shelf.new }
 {
     shelf.count()
 }
@@ -30,8 +29,7 @@ pub(crate) fn readings_held<S: Shelf>(
 ) -> Result<Vec<Entry>, ShelfFault>
     requires { IsNone (S.state shelf.old).begun }
     ensures rows { S.clean shelf.new → IfOk result (λ found. ListsReadings (S.state shelf.old).content.records meter register found.items) }
-    ensures asked { IsOnlyAsked (S.state shelf.old) (S.state shelf.new) (S.left shelf.old) (S.left shelf.new) (S.clean shelf.old) (S.clean shelf.new) }
-    ensures cause { IsErrOf result Device → (S.state shelf.old).failures < (S.state shelf.new).failures }
+    ensures asked { IsOnlyAsked S.state S.left S.clean (failures_told result) shelf.old shelf.new }
 {
     shelf.readings_of(alloc, meter, register)
 }
@@ -39,8 +37,7 @@ pub(crate) fn readings_held<S: Shelf>(
 pub(crate) fn is_held<S: Shelf>(shelf: &mut S, entry: &Entry) -> Result<bool, ShelfFault>
     requires { IsNone (S.state shelf.old).begun }
     ensures held { S.clean shelf.new → IfOk result (λ held. held ≡ stands_in same_entry entry.now (S.state shelf.old).content.records) }
-    ensures asked { IsOnlyAsked (S.state shelf.old) (S.state shelf.new) (S.left shelf.old) (S.left shelf.new) (S.clean shelf.old) (S.clean shelf.new) }
-    ensures cause { IsErrOf result Device → (S.state shelf.old).failures < (S.state shelf.new).failures }
+    ensures asked { IsOnlyAsked S.state S.left S.clean (failures_told result) shelf.old shelf.new }
 {
     shelf.holds(entry)
 }
@@ -52,8 +49,7 @@ pub(crate) fn assignments_held<S: Shelf>(
 ) -> Result<Vec<Entry>, ShelfFault>
     requires { IsNone (S.state shelf.old).begun }
     ensures rows { S.clean shelf.new → IfOk result (λ found. ListsAssignments (S.state shelf.old).content.records meter found.items) }
-    ensures asked { IsOnlyAsked (S.state shelf.old) (S.state shelf.new) (S.left shelf.old) (S.left shelf.new) (S.clean shelf.old) (S.clean shelf.new) }
-    ensures cause { IsErrOf result Device → (S.state shelf.old).failures < (S.state shelf.new).failures }
+    ensures asked { IsOnlyAsked S.state S.left S.clean (failures_told result) shelf.old shelf.new }
 {
     shelf.assignments_of(alloc, meter)
 }
@@ -61,8 +57,7 @@ pub(crate) fn assignments_held<S: Shelf>(
 pub(crate) fn topups_held<S: Shelf>(shelf: &mut S, alloc: Global) -> Result<Vec<Entry>, ShelfFault>
     requires { IsNone (S.state shelf.old).begun }
     ensures rows { S.clean shelf.new → IfOk result (λ found. ListsTopUps (S.state shelf.old).content.records found.items) }
-    ensures asked { IsOnlyAsked (S.state shelf.old) (S.state shelf.new) (S.left shelf.old) (S.left shelf.new) (S.clean shelf.old) (S.clean shelf.new) }
-    ensures cause { IsErrOf result Device → (S.state shelf.old).failures < (S.state shelf.new).failures }
+    ensures asked { IsOnlyAsked S.state S.left S.clean (failures_told result) shelf.old shelf.new }
 {
     shelf.topups(alloc)
 }

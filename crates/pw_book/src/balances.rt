@@ -1,11 +1,11 @@
 //! What an account paid, and its balance, of the records that a shelf holds.
 
-ghost use Rattle.std.specs.Prelude.{◌≡◌, ◌*◌, ◌<◌, ◌≤◌, ◌^◌, Some, IfOk, IsErrOf, IsNone, length, pos, ◌+ℤ◌, ◌-ℤ◌};
+ghost use Rattle.std.specs.Prelude.{◌≡◌, ◌*◌, ◌<◌, ◌≤◌, ◌^◌, Some, IfOk, IsNone, length, pos, ◌+ℤ◌, ◌-ℤ◌};
 ghost use Rattle.pw_model.specs.Counting.{contents_at as told_at};
 ghost use Rattle.pw_model.specs.Energy.{cost as cost_of};
 ghost use Rattle.pw_model.specs.Office.{AllOfOffice, most_records};
 ghost use Rattle.pw_model.specs.Payments.{balance as balance_of, topped_up as cents_of};
-ghost use Rattle.pw_shelf.specs.declared.fault.ShelfFault.TheVariants.{Device};
+ghost use Rattle.pw_shelf.specs.Calls.{failures_told};
 ghost use Rattle.pw_tariff.specs.Office.{Office as AnOffice, office_of};
 ghost use Rattle.pw_book.specs.Asking.{IsOnlyAsked};
 
@@ -30,8 +30,7 @@ pub(crate) fn topped_up_held<S: Shelf>(
     requires idle { IsNone (S.state shelf.old).begun }
     requires few { S.clean shelf.old → length (S.state shelf.old).content.records ≤ most_records }
     ensures cents { S.clean shelf.new → (office : AnOffice) → AllOfOffice office (S.state shelf.old).content.records → IfOk result (λ cents. cents ≡ cents_of (S.state shelf.old).content.records account.0) }
-    ensures asked { IsOnlyAsked (S.state shelf.old) (S.state shelf.new) (S.left shelf.old) (S.left shelf.new) (S.clean shelf.old) (S.clean shelf.new) }
-    ensures cause { IsErrOf result Device → (S.state shelf.old).failures < (S.state shelf.new).failures }
+    ensures asked { IsOnlyAsked S.state S.left S.clean (failures_told result) shelf.old shelf.new }
 {
     let topups = topups_held(shelf, alloc)?;
     let cents = topped_up_of(alloc, &topups, account)?;
@@ -51,8 +50,7 @@ pub(crate) fn balance_held<S: Shelf>(
     requires few { S.clean shelf.old → length (S.state shelf.old).content.records ≤ most_records }
     requires of_office { S.clean shelf.old → AllOfOffice (office_of office.now) (S.state shelf.old).content.records }
     ensures balance { S.clean shelf.new → IfOk result (λ nano. nano ≡ balance_of (office_of office.now) (S.state shelf.old).content.records account.0) }
-    ensures asked { IsOnlyAsked (S.state shelf.old) (S.state shelf.new) (S.left shelf.old) (S.left shelf.new) (S.clean shelf.old) (S.clean shelf.new) }
-    ensures cause { IsErrOf result Device → (S.state shelf.old).failures < (S.state shelf.new).failures }
+    ensures asked { IsOnlyAsked S.state S.left S.clean (failures_told result) shelf.old shelf.new }
 {
     let imported = cost_held(shelf, alloc, office, zone, account, Direction::Import)?;
     let exported = cost_held(shelf, alloc, office, zone, account, Direction::Export)?;
@@ -84,8 +82,7 @@ fn cost_held<S: Shelf>(
     requires of_office { S.clean shelf.old → AllOfOffice (office_of office.now) (S.state shelf.old).content.records }
     ensures cost { S.clean shelf.new → IfOk result (λ nano. nano ≡ cost_of (office_of office.now) (told_at (S.state shelf.old).content.records) (Some account) direction) }
     ensures bound { IfOk result (λ nano. nano < 2 ^ 120) }
-    ensures asked { IsOnlyAsked (S.state shelf.old) (S.state shelf.new) (S.left shelf.old) (S.left shelf.new) (S.clean shelf.old) (S.clean shelf.new) }
-    ensures cause { IsErrOf result Device → (S.state shelf.old).failures < (S.state shelf.new).failures }
+    ensures asked { IsOnlyAsked S.state S.left S.clean (failures_told result) shelf.old shelf.new }
 {
     let mut nano: u128 = 0;
     for band in 0..office.bands() {

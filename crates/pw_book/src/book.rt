@@ -8,8 +8,8 @@ ghost use Rattle.pw_model.specs.Energy.{energy as energy_of};
 ghost use Rattle.pw_model.specs.Lists.{AreDisputes, AreFalls, AreReadings, record_count};
 ghost use Rattle.pw_model.specs.Office.{AllOfOffice, HasOwner, most_records};
 ghost use Rattle.pw_model.specs.Payments.{balance as balance_of, topped_up as cents_of};
-ghost use Rattle.pw_book.specs.Asking.{IsOnlyAsked};
-ghost use Rattle.pw_book.specs.Posting.{IsPosted, LeavesPosted, failed_in};
+ghost use Rattle.pw_book.specs.Asking.{IsQuestion};
+ghost use Rattle.pw_book.specs.Posting.{FailuresPosted, IsPosted, LeavesPosted, failed_in};
 ghost use Rattle.pw_book.specs.Kept.{AllOfOffice-prop};
 
 use crate::asked::count_held;
@@ -27,12 +27,26 @@ use pw_shelf::Shelf;
 use pw_tariff::{AccountId, BandId, Direction, MeterId, Office, Owner};
 use pw_time::Zone;
 use std::alloc::Global;
+use std::fmt;
 
 /// What an accepted upload brought: its distinct entries that weren't held before, and those that were.
 #[derive(Clone, Copy, Debug, PartialEq, Eq)]
 pub struct Accepted {
     pub fresh: u32,
     pub repeated: u32,
+}
+
+/// The acceptance line without its end: how many entries were fresh, and how many repeated.
+impl fmt::Display for Accepted {
+    ghost use Rattle.std.specs.Prelude.{Some};
+    ghost use Rattle.pw_book.specs.Acceptance.{acceptance_line};
+
+    ghost output = { λ accepted. Some (acceptance_line accepted) };
+
+    fn fmt<W: fmt::Write>(&self, f: &mut fmt::Formatter<W>) -> fmt::Result {
+        let Accepted { fresh, repeated } = *self;
+        write!(f, "accepted fresh {fresh} repeated {repeated}")
+    }
 }
 
 /// The book of an office over a store of records: it takes uploads, and answers what the records held mean.
@@ -119,8 +133,7 @@ impl<S: Shelf> Book<S> {
         ensures abandons { (S.state self.new.shelf).failed_abandons ≡ (S.state self.old.shelf).failed_abandons + failed_in self.old.shut result }
         ensures untouched { self.old.shut ≡ true → self.new.shelf ≡ self.old.shelf }
         ensures shut { (self.new.shut ≡ true) ↔ IsErrOf result PostFault.Reopen }
-        ensures device { IsErrOf result PostFault.Device → (S.state self.old.shelf).failures < (S.state self.new.shelf).failures }
-        ensures failures { (S.state self.old.shelf).failures ≤ (S.state self.new.shelf).failures }
+        ensures failures { FailuresPosted result (S.state self.old.shelf).failures (S.state self.new.shelf).failures }
         ensures cleanness { S.clean self.new.shelf → S.clean self.old.shelf }
         ensures book { (self.new.office ≡ self.old.office) × (self.new.zone ≡ self.old.zone) × (self.new.limit ≡ self.old.limit) }
     {
@@ -146,11 +159,8 @@ impl<S: Shelf> Book<S> {
         requires owner { HasOwner (office_of self.old.office) owner }
         requires band { band.0 < length self.old.office.bands }
         ensures energy { S.clean self.new.shelf → IfOk result (λ wh. wh ≡ energy_of (office_of self.old.office) (S.state self.old.shelf).content.records owner band.0 direction) }
-        ensures shelf { IsOnlyAsked (S.state self.old.shelf) (S.state self.new.shelf) (S.left self.old.shelf) (S.left self.new.shelf) (S.clean self.old.shelf) (S.clean self.new.shelf) }
+        ensures asked { IsQuestion S.state S.left S.clean self.old.shut result self.old.shelf self.new.shelf }
         ensures book { (self.new.office ≡ self.old.office) × (self.new.zone ≡ self.old.zone) × (self.new.limit ≡ self.old.limit) × (self.new.shut ≡ self.old.shut) }
-        ensures device { IsErrOf result BookFault.Device → (S.state self.old.shelf).failures < (S.state self.new.shelf).failures }
-        ensures reopen { IsErrOf result BookFault.Reopen ↔ (self.old.shut ≡ true) }
-        ensures untouched { self.old.shut ≡ true → self.new.shelf ≡ self.old.shelf }
     {
         self.still_open()?;
         let class = Class { owner, band };
@@ -169,11 +179,8 @@ impl<S: Shelf> Book<S> {
     pub fn topped_up(&mut self, alloc: Global, account: AccountId) -> Result<u64, BookFault>
         requires { account.0 < length self.old.office.accounts }
         ensures topped_up { S.clean self.new.shelf → IfOk result (λ cents. cents ≡ cents_of (S.state self.old.shelf).content.records account.0) }
-        ensures shelf { IsOnlyAsked (S.state self.old.shelf) (S.state self.new.shelf) (S.left self.old.shelf) (S.left self.new.shelf) (S.clean self.old.shelf) (S.clean self.new.shelf) }
+        ensures asked { IsQuestion S.state S.left S.clean self.old.shut result self.old.shelf self.new.shelf }
         ensures book { (self.new.office ≡ self.old.office) × (self.new.zone ≡ self.old.zone) × (self.new.limit ≡ self.old.limit) × (self.new.shut ≡ self.old.shut) }
-        ensures device { IsErrOf result BookFault.Device → (S.state self.old.shelf).failures < (S.state self.new.shelf).failures }
-        ensures reopen { IsErrOf result BookFault.Reopen ↔ (self.old.shut ≡ true) }
-        ensures untouched { self.old.shut ≡ true → self.new.shelf ≡ self.old.shelf }
     {
         self.still_open()?;
         let cents = topped_up_held(&mut self.shelf, alloc, account)?;
@@ -185,11 +192,8 @@ impl<S: Shelf> Book<S> {
     pub fn balance(&mut self, alloc: Global, account: AccountId) -> Result<i128, BookFault>
         requires { account.0 < length self.old.office.accounts }
         ensures balance { S.clean self.new.shelf → IfOk result (λ nano. nano ≡ balance_of (office_of self.old.office) (S.state self.old.shelf).content.records account.0) }
-        ensures shelf { IsOnlyAsked (S.state self.old.shelf) (S.state self.new.shelf) (S.left self.old.shelf) (S.left self.new.shelf) (S.clean self.old.shelf) (S.clean self.new.shelf) }
+        ensures asked { IsQuestion S.state S.left S.clean self.old.shut result self.old.shelf self.new.shelf }
         ensures book { (self.new.office ≡ self.old.office) × (self.new.zone ≡ self.old.zone) × (self.new.limit ≡ self.old.limit) × (self.new.shut ≡ self.old.shut) }
-        ensures device { IsErrOf result BookFault.Device → (S.state self.old.shelf).failures < (S.state self.new.shelf).failures }
-        ensures reopen { IsErrOf result BookFault.Reopen ↔ (self.old.shut ≡ true) }
-        ensures untouched { self.old.shut ≡ true → self.new.shelf ≡ self.old.shelf }
     {
         self.still_open()?;
         let nano = balance_held(&mut self.shelf, alloc, &self.office, &self.zone, account)?;
@@ -206,11 +210,8 @@ impl<S: Shelf> Book<S> {
     ) -> Result<Vec<ReadingRow>, BookFault>
         requires { meter.0 < length self.old.office.meters }
         ensures readings { S.clean self.new.shelf → IfOk result (λ rows. AreReadings (S.state self.old.shelf).content.records meter.0 register rows.items) }
-        ensures shelf { IsOnlyAsked (S.state self.old.shelf) (S.state self.new.shelf) (S.left self.old.shelf) (S.left self.new.shelf) (S.clean self.old.shelf) (S.clean self.new.shelf) }
+        ensures asked { IsQuestion S.state S.left S.clean self.old.shut result self.old.shelf self.new.shelf }
         ensures book { (self.new.office ≡ self.old.office) × (self.new.zone ≡ self.old.zone) × (self.new.limit ≡ self.old.limit) × (self.new.shut ≡ self.old.shut) }
-        ensures device { IsErrOf result BookFault.Device → (S.state self.old.shelf).failures < (S.state self.new.shelf).failures }
-        ensures reopen { IsErrOf result BookFault.Reopen ↔ (self.old.shut ≡ true) }
-        ensures untouched { self.old.shut ≡ true → self.new.shelf ≡ self.old.shelf }
     {
         self.still_open()?;
         let rows = rows_held(&mut self.shelf, alloc, meter, register)?;
@@ -221,11 +222,8 @@ impl<S: Shelf> Book<S> {
     /// and instant.
     pub fn falls(&mut self, alloc: Global) -> Result<Vec<Fall>, BookFault>
         ensures falls { S.clean self.new.shelf → IfOk result (λ falls. AreFalls (S.state self.old.shelf).content.records falls.items) }
-        ensures shelf { IsOnlyAsked (S.state self.old.shelf) (S.state self.new.shelf) (S.left self.old.shelf) (S.left self.new.shelf) (S.clean self.old.shelf) (S.clean self.new.shelf) }
+        ensures asked { IsQuestion S.state S.left S.clean self.old.shut result self.old.shelf self.new.shelf }
         ensures book { (self.new.office ≡ self.old.office) × (self.new.zone ≡ self.old.zone) × (self.new.limit ≡ self.old.limit) × (self.new.shut ≡ self.old.shut) }
-        ensures device { IsErrOf result BookFault.Device → (S.state self.old.shelf).failures < (S.state self.new.shelf).failures }
-        ensures reopen { IsErrOf result BookFault.Reopen ↔ (self.old.shut ≡ true) }
-        ensures untouched { self.old.shut ≡ true → self.new.shelf ≡ self.old.shelf }
     {
         self.still_open()?;
         let falls = falls_held(&mut self.shelf, alloc, &self.office)?;
@@ -236,11 +234,8 @@ impl<S: Shelf> Book<S> {
     /// top-ups; each by its key.
     pub fn disputes(&mut self, alloc: Global) -> Result<Vec<Dispute>, BookFault>
         ensures disputes { S.clean self.new.shelf → IfOk result (λ disputes. AreDisputes (S.state self.old.shelf).content.records disputes.items) }
-        ensures shelf { IsOnlyAsked (S.state self.old.shelf) (S.state self.new.shelf) (S.left self.old.shelf) (S.left self.new.shelf) (S.clean self.old.shelf) (S.clean self.new.shelf) }
+        ensures asked { IsQuestion S.state S.left S.clean self.old.shut result self.old.shelf self.new.shelf }
         ensures book { (self.new.office ≡ self.old.office) × (self.new.zone ≡ self.old.zone) × (self.new.limit ≡ self.old.limit) × (self.new.shut ≡ self.old.shut) }
-        ensures device { IsErrOf result BookFault.Device → (S.state self.old.shelf).failures < (S.state self.new.shelf).failures }
-        ensures reopen { IsErrOf result BookFault.Reopen ↔ (self.old.shut ≡ true) }
-        ensures untouched { self.old.shut ≡ true → self.new.shelf ≡ self.old.shelf }
     {
         self.still_open()?;
         let disputes = disputes_held(&mut self.shelf, alloc, &self.office)?;
@@ -250,11 +245,8 @@ impl<S: Shelf> Book<S> {
     /// The number of records held, each counted once.
     pub fn count(&mut self) -> Result<u32, BookFault>
         ensures count { S.clean self.new.shelf → IfOk result (λ held. held ≡ record_count (S.state self.old.shelf).content.records) }
-        ensures shelf { IsOnlyAsked (S.state self.old.shelf) (S.state self.new.shelf) (S.left self.old.shelf) (S.left self.new.shelf) (S.clean self.old.shelf) (S.clean self.new.shelf) }
+        ensures asked { IsQuestion S.state S.left S.clean self.old.shut result self.old.shelf self.new.shelf }
         ensures book { (self.new.office ≡ self.old.office) × (self.new.zone ≡ self.old.zone) × (self.new.limit ≡ self.old.limit) × (self.new.shut ≡ self.old.shut) }
-        ensures device { IsErrOf result BookFault.Device → (S.state self.old.shelf).failures < (S.state self.new.shelf).failures }
-        ensures reopen { IsErrOf result BookFault.Reopen ↔ (self.old.shut ≡ true) }
-        ensures untouched { self.old.shut ≡ true → self.new.shelf ≡ self.old.shelf }
     {
         self.still_open()?;
         Ok(count_held(&mut self.shelf)?)

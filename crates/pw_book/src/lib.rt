@@ -21,4 +21,7 @@ mod upload;
 
 pub use book::{Accepted, Book};
 pub use fault::{BookFault, PostFault};
-pub use pw_model::{Dispute, Fall, ReadingRow};
+pub use pw_model::{Content, Dispute, Entry, Fall, Key, ReadingRow, Reference};
+pub use pw_obis::{Register, WattHours};
+pub use pw_tariff::{AccountId, BandId, Direction, MeterId, Office, Owner};
+pub use pw_time::{Instant, Zone};

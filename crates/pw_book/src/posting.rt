@@ -4,10 +4,10 @@ ghost use Rattle.std.specs.Prelude.{◌≡◌, ◌+◌, ◌<◌, ◌≤◌, ◌^
 ghost use Rattle.pw_model.specs.Counting.{EachOnce};
 ghost use Rattle.pw_model.specs.Lists.{record_count};
 ghost use Rattle.pw_model.specs.Office.{most_records};
-ghost use Rattle.pw_shelf.specs.declared.fault.ShelfFault.TheVariants.{Device as NoDevice};
+ghost use Rattle.pw_shelf.specs.Calls.{failures_told};
 ghost use Rattle.pw_book.specs.Asking.{IsOnlyAsked};
-ghost use Rattle.pw_book.specs.Posting.{IsPosted, LeavesPosted, repeated_in};
-ghost use Rattle.pw_book.specs.declared.fault.PostFault.TheVariants.{Device, Full, Reopen};
+ghost use Rattle.pw_book.specs.Posting.{FailuresPosted, IsPosted, LeavesPosted, repeated_in};
+ghost use Rattle.pw_book.specs.declared.fault.PostFault.TheVariants.{Full, Reopen};
 
 use crate::asked::{count_held, is_held};
 use crate::book::Accepted;
@@ -32,8 +32,7 @@ pub(crate) fn post_to<S: Shelf>(
     ensures idle { (IsErrOf result Reopen → ⊥) → IsNone (S.state shelf.new).begun }
     ensures undone { (IsErrOf result Reopen → ⊥) → (S.state shelf.new).failed_abandons ≡ (S.state shelf.old).failed_abandons }
     ensures reopen { IsErrOf result Reopen → (S.state shelf.new).failed_abandons ≡ (S.state shelf.old).failed_abandons + 1 }
-    ensures failures { (S.state shelf.old).failures ≤ (S.state shelf.new).failures }
-    ensures cause { IsErrOf result Device → (S.state shelf.old).failures < (S.state shelf.new).failures }
+    ensures failures { FailuresPosted result (S.state shelf.old).failures (S.state shelf.new).failures }
     ensures cleanness { S.clean shelf.new → S.clean shelf.old }
 {
     let distinct = distinct(alloc, entries)?;
@@ -63,8 +62,7 @@ fn weigh<S: Shelf>(shelf: &mut S, distinct: &[Entry]) -> Result<(u32, usize), Sh
     ensures held { S.clean shelf.new → IfOk result (λ w. w.0 ≡ length (S.state shelf.old).content.records) }
     ensures repeated { S.clean shelf.new → IfOk result (λ w. w.1 ≡ repeated_in (S.state shelf.old).content.records distinct.now) }
     ensures within { IfOk result (λ w. w.1 ≤ length distinct.now) }
-    ensures asked { IsOnlyAsked (S.state shelf.old) (S.state shelf.new) (S.left shelf.old) (S.left shelf.new) (S.clean shelf.old) (S.clean shelf.new) }
-    ensures cause { IsErrOf result NoDevice → (S.state shelf.old).failures < (S.state shelf.new).failures }
+    ensures asked { IsOnlyAsked S.state S.left S.clean (failures_told result) shelf.old shelf.new }
 {
     let held = count_held(shelf)?;
     let repeated = count_repeated(shelf, distinct)?;
@@ -77,8 +75,7 @@ fn count_repeated<S: Shelf>(shelf: &mut S, distinct: &[Entry]) -> Result<usize, 
     requires once { EachOnce distinct.now }
     ensures repeated { S.clean shelf.new → IfOk result (λ repeated. repeated ≡ repeated_in (S.state shelf.old).content.records distinct.now) }
     ensures within { IfOk result (λ repeated. repeated ≤ length distinct.now) }
-    ensures asked { IsOnlyAsked (S.state shelf.old) (S.state shelf.new) (S.left shelf.old) (S.left shelf.new) (S.clean shelf.old) (S.clean shelf.new) }
-    ensures cause { IsErrOf result NoDevice → (S.state shelf.old).failures < (S.state shelf.new).failures }
+    ensures asked { IsOnlyAsked S.state S.left S.clean (failures_told result) shelf.old shelf.new }
 {
     let mut repeated = 0;
     for entry in distinct {

@@ -1,12 +1,12 @@
 //! The readings of a register, each with whether it counts.
 
-ghost use Rattle.std.specs.Prelude.{◌≡◌, ◌∷◌, ◌++◌, ◌<◌, ◌↔◌, List, IfOk, IsErrOf, IsNone, IsTrue, option_map};
+ghost use Rattle.std.specs.Prelude.{◌≡◌, ◌∷◌, ◌++◌, ◌↔◌, List, IfOk, IsNone, IsTrue, option_map};
 ghost use Rattle.pw_model.specs.declared.records.Entry.{Entry as ARecord};
 ghost use Rattle.pw_model.specs.Counting.{Counts};
 ghost use Rattle.pw_model.specs.Lists.{AreReadings, IsRising};
 ghost use Rattle.pw_model.specs.Same.{entry_order};
 ghost use Rattle.pw_shelf.specs.Rows.{ListsReadings};
-ghost use Rattle.pw_shelf.specs.declared.fault.ShelfFault.TheVariants.{Device};
+ghost use Rattle.pw_shelf.specs.Calls.{failures_told};
 ghost use Rattle.pw_book.specs.Asking.{IsOnlyAsked};
 ghost use Rattle.pw_book.specs.Counted.{row, shown};
 ghost use Rattle.pw_book.specs.Groups.{IsFirst, IsLast, has_same_key};
@@ -27,8 +27,7 @@ pub(crate) fn rows_held<S: Shelf>(
 ) -> Result<Vec<ReadingRow>, ShelfFault>
     requires { IsNone (S.state shelf.old).begun }
     ensures rows { S.clean shelf.new → IfOk result (λ rows. AreReadings (S.state shelf.old).content.records meter.0 register rows.items) }
-    ensures asked { IsOnlyAsked (S.state shelf.old) (S.state shelf.new) (S.left shelf.old) (S.left shelf.new) (S.clean shelf.old) (S.clean shelf.new) }
-    ensures cause { IsErrOf result Device → (S.state shelf.old).failures < (S.state shelf.new).failures }
+    ensures asked { IsOnlyAsked S.state S.left S.clean (failures_told result) shelf.old shelf.new }
 {
     let readings = readings_held(shelf, alloc, meter, register)?;
     let rows = rows_of(alloc, &readings)?;

@@ -5,11 +5,10 @@ ghost use Rattle.pw_model.specs.Counting.{Member};
 ghost use Rattle.pw_model.specs.Lists.{record_count};
 ghost use Rattle.pw_model.specs.Office.{most_records};
 ghost use Rattle.pw_shelf.specs.Left.{LeavesOnly};
-ghost use Rattle.pw_shelf.specs.State.{KeepsCounts};
-ghost use Rattle.pw_shelf.specs.declared.fault.ShelfFault.TheVariants.{Device as NoDevice};
-ghost use Rattle.pw_book.specs.Posting.{IsJoined, IsWithUpload, LeavesUpload};
-ghost use Rattle.pw_book.specs.Writing.{IsWriting};
-ghost use Rattle.pw_book.specs.declared.fault.BookFault.TheVariants.{Device, Reopen};
+ghost use Rattle.pw_shelf.specs.Calls.{GoesOn, failures_told};
+ghost use Rattle.pw_shelf.specs.State.{CountsFailures};
+ghost use Rattle.pw_book.specs.Posting.{FailuresUploaded, IsJoined, IsWithUpload, LeavesUpload};
+ghost use Rattle.pw_book.specs.declared.fault.BookFault.TheVariants.{Reopen};
 
 use crate::fault::BookFault;
 use pw_model::Entry;
@@ -24,8 +23,7 @@ pub(crate) fn upload<S: Shelf>(shelf: &mut S, entries: &[Entry]) -> Result<(), B
     ensures idle { (IsErrOf result Reopen → ⊥) → IsNone (S.state shelf.new).begun }
     ensures undone { (IsErrOf result Reopen → ⊥) → (S.state shelf.new).failed_abandons ≡ (S.state shelf.old).failed_abandons }
     ensures reopen { IsErrOf result Reopen → (S.state shelf.new).failed_abandons ≡ (S.state shelf.old).failed_abandons + 1 }
-    ensures failures { (S.state shelf.old).failures ≤ (S.state shelf.new).failures }
-    ensures cause { IsErrOf result Device → (S.state shelf.old).failures < (S.state shelf.new).failures }
+    ensures failures { FailuresUploaded result (S.state shelf.old).failures (S.state shelf.new).failures }
     ensures kept { S.clean shelf.new → OnOk result (LeavesOnly (S.state shelf.new).content (S.left shelf.new)) }
     ensures left { S.clean shelf.new → OnErr result (LeavesUpload entries.now (S.state shelf.old).content (S.left shelf.old) (S.left shelf.new)) }
     ensures cleanness { S.clean shelf.new → S.clean shelf.old }
@@ -49,8 +47,7 @@ fn write<S: Shelf>(shelf: &mut S, entries: &[Entry]) -> Result<(), ShelfFault>
     ensures posted { S.clean shelf.new → OnOk result (IsWithUpload entries.now (S.state shelf.old).content (S.state shelf.new).content) }
     ensures ended { OnOk result ((S.state shelf.new).begun ≡ None) }
     ensures begun { OnErr result ((S.state shelf.new).begun ≡ (S.state shelf.old).begun) }
-    ensures counts { KeepsCounts (S.state shelf.old) (S.state shelf.new) }
-    ensures cause { IsErrOf result NoDevice → (S.state shelf.old).failures < (S.state shelf.new).failures }
+    ensures counts { CountsFailures (failures_told result) (S.state shelf.old) (S.state shelf.new) }
     ensures kept { S.clean shelf.new → OnOk result (LeavesOnly (S.state shelf.new).content (S.left shelf.new)) }
     ensures left { S.clean shelf.new → OnErr result (LeavesUpload entries.now (S.state shelf.old).content (S.left shelf.old) (S.left shelf.new)) }
     ensures cleanness { S.clean shelf.new → S.clean shelf.old }
@@ -66,8 +63,7 @@ fn put<S: Shelf>(shelf: &mut S, entry: &Entry) -> Result<(), ShelfFault>
     requires begun { IsSome (S.state shelf.old).begun }
     requires room { S.clean shelf.old → (Member entry.now (S.state shelf.old).content.records → ⊥) → length (S.state shelf.old).content.records < most_records }
     ensures put { S.clean shelf.new → OnOk result (IsJoined (entry.now ∷ []) (S.state shelf.old).content (S.state shelf.new).content) }
-    ensures written { IsWriting (S.state shelf.old) (S.state shelf.new) (S.left shelf.old) (S.left shelf.new) (S.clean shelf.old) (S.clean shelf.new) }
-    ensures cause { IsErrOf result NoDevice → (S.state shelf.old).failures < (S.state shelf.new).failures }
+    ensures kept { GoesOn S.state S.left S.clean (failures_told result) shelf.old shelf.new }
 {
     if !shelf.holds(entry)? {
         shelf.add(entry)?;

@@ -1,6 +1,7 @@
 -- The rows that an answer gives.
 -- (Definitions of this project.)
-use Rattle.std.specs.Prelude.{◌≡◌, ℕ, List, Result, Ok, Err}
+use Rattle.std.specs.Prelude.{◌≡◌, ℕ, List, Vec, Result, Ok, Err, vec_len}
+use Rattle.std.specs.Global.{Global}
 use Rattle.pw_obis.specs.declared.reference.Register.{Register}
 use Rattle.pw_tariff.specs.declared.ids.MeterId.{MeterId}
 use Rattle.pw_model.specs.declared.records.Key.{Key}
@@ -43,6 +44,12 @@ abbrev pub ListsTopUps : List Entry → List Entry → Type 0
 ListsTopUps records = ListsHeld IsTopUp records
 
 -- ---- how many rows an answer gives
+abbrev pub no_rows : {T : Type 0} → T → ℕ
+no_rows answer = 0
+
+abbrev pub rows_listed : {T : Type 0} → Vec T Global → ℕ
+rows_listed found = vec_len found
+
 abbrev pub rows_at : Contents → ℕ
 rows_at Nothing = 0
 rows_at (One c) = 1

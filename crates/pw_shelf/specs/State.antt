@@ -1,6 +1,6 @@
 -- What is known of a shelf, and what a call leaves as it is.
 -- (Definitions of this project.)
-use Rattle.std.specs.Prelude.{◌≡◌, ◌≤◌, ℕ, Option, Some, None}
+use Rattle.std.specs.Prelude.{◌≡◌, ◌+◌, ℕ, Option, Some, None}
 use Rattle.pw_model.specs.declared.records.Entry.{Entry}
 use Rattle.pw_model.specs.Shelf.{ShelfContent}
 use Rattle.pw_model.specs.Counting.{IsInserted}
@@ -25,9 +25,9 @@ committed_of (Some b) c = b
 abbrev pub committed : State → ShelfContent
 committed s = committed_of s.begun s.content
 
--- no failure is forgotten, and no `abandon` has failed since
-pub record KeepsCounts (old new : State) : Type 0 where
-  pub failures : old.failures ≤ new.failures
+-- so many failures of the device more are counted, and no `abandon` has failed since
+pub record CountsFailures (told : ℕ) (old new : State) : Type 0 where
+  pub failures : new.failures ≡ old.failures + told
   pub failed_abandons : new.failed_abandons ≡ old.failed_abandons
 
 -- the upload, or that none is begun, is as before

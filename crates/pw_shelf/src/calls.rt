@@ -1,9 +1,9 @@
 //! The calls of a store in memory.
 
-ghost use Rattle.std.specs.Prelude.{◌≡◌, ◌+◌, IfOk, IfErr, length, refl};
+ghost use Rattle.std.specs.Prelude.{IfOk, refl};
+ghost use Rattle.pw_shelf.specs.Calls.{IsAsking};
 ghost use Rattle.pw_shelf.specs.Kinds.{IsOfKind};
-ghost use Rattle.pw_shelf.specs.Rows.{ListsHeld, rows_given};
-ghost use Rattle.pw_shelf.specs.declared.fault.ShelfFault.TheVariants.{Memory};
+ghost use Rattle.pw_shelf.specs.Rows.{ListsHeld, rows_listed};
 ghost use Rattle.pw_shelf.specs.Memory.{state_of, left_of, clean_of};
 ghost use Rattle.pw_shelf.specs.State.{committed};
 
@@ -88,8 +88,6 @@ impl Shelf for MemoryShelf {
 
     ghost once = { λ s _. s.held.once };
 
-    ghost lasting = { λ s _ _. refl };
-
     ghost survives = { λ s _ none. none (committed (state_of s)) refl };
 }
 
@@ -97,10 +95,7 @@ impl MemoryShelf {
     // All records of a kind, sorted; the tally rises by the rows given.
     fn all_of(&mut self, alloc: Global, kind: Kind) -> Result<Vec<Entry>, ShelfFault>
         ensures rows { IfOk result (λ found. ListsHeld (IsOfKind kind) (state_of self.old).content.records found.items) }
-        ensures content { (state_of self.new).content ≡ (state_of self.old).content }
-        ensures begun { (state_of self.new).begun ≡ (state_of self.old).begun }
-        ensures tally { (state_of self.new).tally ≡ (state_of self.old).tally + 1 + rows_given (λ found. length found.items) result }
-        ensures memory { IfErr result (λ e. e ≡ Memory) }
+        ensures asked { IsAsking state_of left_of clean_of rows_listed result self.old self.new }
     {
         match self.held.all_of(alloc, kind) {
             Ok(found) => {

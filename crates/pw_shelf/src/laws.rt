@@ -24,14 +24,8 @@ pub fn a_crash_leaves_something<S: Shelf>(shelf: &S)
     ensures { ¬ ((c : ShelfContent) → ¬ (S.left shelf.now c)) }
 {}
 
-/// As long as no device has failed, a crash may leave what was committed last.
-pub fn committed_can_be_left<S: Shelf>(shelf: &S)
-    requires clean { S.clean shelf.now }
-    requires whole { (S.state shelf.now).failures ≡ 0 }
-    ensures { S.left shelf.now (committed (S.state shelf.now)) }
-{}
-
-/// Of a store in memory a crash leaves what was committed last, and this alone.
+/// Of a store in memory a crash leaves what was committed last, and this alone: so that can always be left. (Of other
+/// stores it isn't said: a device that has failed unseen may leave less.)
 pub fn memory_leaves_what_was_committed(shelf: &MemoryShelf)
     ensures { (c : ShelfContent) → ⟦<MemoryShelf as Shelf>⟧.left shelf.now c ↔ (c ≡ committed (⟦<MemoryShelf as Shelf>⟧.state shelf.now)) }
 {}

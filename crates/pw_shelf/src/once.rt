@@ -3,10 +3,10 @@
 ghost use Rattle.std.specs.Prelude.{◌≡◌, ◌+◌, ◌<◌, ◌≤◌, None, IfOk, OnOk, OnErr, IsErrOf, IsSome, length};
 ghost use Rattle.pw_model.specs.Office.{most_records};
 ghost use Rattle.pw_shelf.specs.Left.{LeavesOnly};
-ghost use Rattle.pw_shelf.specs.Once.{IsAfter, LeavesBeforeOrAfter};
-ghost use Rattle.pw_shelf.specs.State.{KeepsCounts};
-ghost use Rattle.pw_shelf.specs.declared.fault.ShelfFault.TheVariants.{Device};
-ghost use Rattle.pw_shelf.specs.declared.once.AddFault.TheVariants.{Device as NoDevice, Reopen};
+ghost use Rattle.pw_shelf.specs.Calls.{failures_told};
+ghost use Rattle.pw_shelf.specs.Once.{FailuresAdded, IsAfter, LeavesBeforeOrAfter, add_fault};
+ghost use Rattle.pw_shelf.specs.State.{CountsFailures};
+ghost use Rattle.pw_shelf.specs.declared.once.AddFault.TheVariants.{Reopen};
 
 use crate::fault::ShelfFault;
 use crate::shelf::Shelf;
@@ -35,8 +35,7 @@ pub fn add_once<S: Shelf>(shelf: &mut S, entry: &Entry) -> Result<bool, AddFault
     ensures idle { (IsErrOf result Reopen → ⊥) → (S.state shelf.new).begun ≡ None }
     ensures undone { (IsErrOf result Reopen → ⊥) → (S.state shelf.new).failed_abandons ≡ (S.state shelf.old).failed_abandons }
     ensures reopen { IsErrOf result Reopen → (S.state shelf.new).failed_abandons ≡ (S.state shelf.old).failed_abandons + 1 }
-    ensures failures { (S.state shelf.old).failures ≤ (S.state shelf.new).failures }
-    ensures cause { IsErrOf result NoDevice → (S.state shelf.old).failures < (S.state shelf.new).failures }
+    ensures failures { FailuresAdded result (S.state shelf.old).failures (S.state shelf.new).failures }
     ensures tally { (S.state shelf.new).tally ≤ (S.state shelf.old).tally + 5 }
     ensures kept { S.clean shelf.new → OnOk result (LeavesOnly (S.state shelf.new).content (S.left shelf.new)) }
     ensures left { S.clean shelf.new → OnErr result (LeavesBeforeOrAfter (S.state shelf.old).content entry.now (S.left shelf.old) (S.left shelf.new)) }
@@ -61,8 +60,7 @@ fn add_unless_held<S: Shelf>(shelf: &mut S, entry: &Entry) -> Result<bool, Shelf
     ensures added { S.clean shelf.new → IfOk result (λ fresh. IsAfter (S.state shelf.old).content entry.now fresh (S.state shelf.new).content) }
     ensures ended { OnOk result ((S.state shelf.new).begun ≡ None) }
     ensures begun { OnErr result ((S.state shelf.new).begun ≡ (S.state shelf.old).begun) }
-    ensures counts { KeepsCounts (S.state shelf.old) (S.state shelf.new) }
-    ensures cause { IsErrOf result Device → (S.state shelf.old).failures < (S.state shelf.new).failures }
+    ensures counts { CountsFailures (failures_told result) (S.state shelf.old) (S.state shelf.new) }
     ensures tally { (S.state shelf.new).tally ≤ (S.state shelf.old).tally + 3 }
     ensures kept { S.clean shelf.new → OnOk result (LeavesOnly (S.state shelf.new).content (S.left shelf.new)) }
     ensures left { S.clean shelf.new → OnErr result (LeavesBeforeOrAfter (S.state shelf.old).content entry.now (S.left shelf.old) (S.left shelf.new)) }
@@ -77,8 +75,7 @@ fn add_unless_held<S: Shelf>(shelf: &mut S, entry: &Entry) -> Result<bool, Shelf
 }
 
 fn nothing_changed(fault: ShelfFault) -> AddFault
-    ensures device { result ≡ NoDevice → fault ≡ Device }
-    ensures other { result ≡ Reopen → ⊥ }
+    ensures { result ≡ add_fault fault }
 {
     match fault {
         ShelfFault::Memory => AddFault::Memory,

@@ -83,7 +83,7 @@ october_before_2000 year early =
     let tie = days_from_civil-day_count (pos year) 10 31 in
     omega (arith, ints, day_count-at_2000, below, tie)
 
-new_year_from_2100 : (year : ℕ) → 2100 ≤ year → 4_419_435 ≤ day_count (pos year) 1 1
+pub new_year_from_2100 : (year : ℕ) → 2100 ≤ year → 4_419_435 ≤ day_count (pos year) 1 1
 new_year_from_2100 year late =
     elim (cases_lt 2100 year) [
       | inl later ↦

@@ -5,3 +5,4 @@ pub mod TableFacts
 pub mod TextFacts
 pub mod UniqueOutcomes
 pub mod UniqueTexts
+pub mod WrittenDays

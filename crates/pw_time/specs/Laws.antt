@@ -7,7 +7,13 @@ use Rattle.pw_time.specs.Instants.{IsInstant}
 use Rattle.pw_time.specs.Summer.{last_sunday, summer_start, summer_end, is_summer, civil_offset, local_weekday, local_hour}
 use Rattle.pw_time.specs.Outcomes.{IsStampOutcome, IsUtcOutcome, IsReadoutOutcome}
 
--- a text has one answer: the instant, or one refusal
+-- there is an answer, and no other
+pub record ExactlyOne {A : Type 0} (Is : A → Type 0) : Type 0 where
+  pub answer : A
+  pub holds : Is answer
+  pub only : (other : A) → Is other → answer ≡ other
+
+-- no two answers are right for a text, whatever numbers stand for its bytes
 abbrev pub StampHasOneOutcome : Type 0
 StampHasOneOutcome =
     (text : List ℕ) (a b : Result ℕ StampFault) → IsStampOutcome text a → IsStampOutcome text b → a ≡ b
@@ -21,7 +27,11 @@ ReadoutHasOneOutcome =
     (date time : List ℕ) (clock : Clock) (a b : Result ℕ StampFault)
     → IsReadoutOutcome date time clock a → IsReadoutOutcome date time clock b → a ≡ b
 
--- an instant has one text in UTC
+-- the text in UTC is one of the instant
+abbrev pub IsTextOf : ℕ → List ℕ → Type 0
+IsTextOf instant text = IsUtcOutcome text (Ok instant)
+
+-- no two texts in UTC are of one instant
 abbrev pub InstantHasOneText : Type 0
 InstantHasOneText =
     (t : ℕ) (text other : List ℕ) → IsUtcOutcome text (Ok t) → IsUtcOutcome other (Ok t) → text ≡ other

@@ -1,29 +1,42 @@
 //! Laws: each contract is a theorem. A body is empty, or makes the calls that its theorem is about.
 
 ghost use Rattle.std.specs.Prelude.{◌≡◌, Ok};
-ghost use Rattle.pw_time.specs.Laws.{InstantHasOneText, LastSundayIsLast, LocalHourIsConstantWithinAnHour, ReadoutHasOneOutcome, StampHasOneOutcome, SummerIsOfSomeYear, UtcHasOneOutcome};
+ghost use Rattle.pw_time.specs.Outcomes.{IsReadoutOutcome, IsStampOutcome, IsUtcOutcome};
+ghost use Rattle.pw_time.specs.Laws.{ExactlyOne, InstantHasOneText, IsTextOf, LastSundayIsLast, LocalHourIsConstantWithinAnHour, ReadoutHasOneOutcome, StampHasOneOutcome, SummerIsOfSomeYear, UtcHasOneOutcome};
 
-use crate::{Instant, StampFault, utc, write_utc};
+use crate::{Clock, Instant, StampFault, Zone, readout_instant, stamp, utc, write_utc};
 
 /// A stamp has one answer: its instant, or one refusal.
-pub fn stamp_has_one_outcome()
-    ensures { StampHasOneOutcome }
-{}
+pub fn stamp_has_one_outcome(text: &[u8])
+    ensures one { ExactlyOne (IsStampOutcome text.now) }
+    ensures never_two { StampHasOneOutcome }
+{
+    let _ = stamp(text);
+}
 
 /// A text in UTC has one answer.
-pub fn utc_has_one_outcome()
-    ensures { UtcHasOneOutcome }
-{}
+pub fn utc_has_one_outcome(text: &[u8])
+    ensures one { ExactlyOne (IsUtcOutcome text.now) }
+    ensures never_two { UtcHasOneOutcome }
+{
+    let _ = utc(text);
+}
 
 /// The date and the time of a readout have one answer by a clock.
-pub fn readout_has_one_outcome()
-    ensures { ReadoutHasOneOutcome }
-{}
+pub fn readout_has_one_outcome(date: &[u8], time: &[u8], clock: Clock)
+    ensures one { ExactlyOne (IsReadoutOutcome date.now time.now clock) }
+    ensures never_two { ReadoutHasOneOutcome }
+{
+    let _ = readout_instant(date, time, clock, &Zone::central());
+}
 
 /// An instant has one text in UTC.
-pub fn instant_has_one_text()
-    ensures { InstantHasOneText }
-{}
+pub fn instant_has_one_text(instant: Instant)
+    ensures one { ExactlyOne (IsTextOf instant) }
+    ensures never_two { InstantHasOneText }
+{
+    let _ = write_utc(instant);
+}
 
 /// What is written for an instant is read back as that instant.
 pub fn written_is_read_back(instant: Instant) -> Result<Instant, StampFault>

@@ -89,6 +89,8 @@ fn week_hours(rt: HostRuntime) -> Result<(), Fail> {
         write_utc(monday).as_slice(),
         b"2024-07-01T05:00:00Z".as_slice()
     );
+    let text = format!(in rt.alloc(); "{monday}")?;
+    assert_eq!(rt; text.as_str(), "2024-07-01T05:00:00Z");
     assert_eq!(rt; week_hour(monday, &zone), WeekHour { day: 0, hour: 7 });
     let sunday = utc(b"2024-01-07T11:00:00Z")?;
     assert_eq!(rt; week_hour(sunday, &zone), WeekHour { day: 6, hour: 12 });

@@ -671,6 +671,12 @@ fn full_book(rt: HostRuntime) -> Result<(), Fail> {
     let full = PostFault::Full { held: 3, limit: 3 };
     assert_eq!(rt; post(&rt, alloc, &mut book, &held)?, (3, 0));
     assert_eq!(rt; post(&rt, alloc, &mut book, &[held[1]])?, (0, 1));
+    let accepted = Accepted {
+        fresh: 0,
+        repeated: 1,
+    };
+    let line = format!(in alloc; "{accepted}")?;
+    assert_eq!(rt; line.as_str(), "accepted fresh 0 repeated 1");
     assert_eq!(rt; post(&rt, alloc, &mut book, &[fourth]), Err(full));
     assert_eq!(rt; post(&rt, alloc, &mut book, &[held[1], fourth]), Err(full));
     let line = format!(in alloc; "{full}")?;

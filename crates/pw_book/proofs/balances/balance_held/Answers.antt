@@ -13,9 +13,9 @@ use Rattle.pw_book.proofs.balances.balance_held.Goals as goal
 
 pub returns-clause-balance : goal.returns-clause-balance
 returns-clause-balance g c = λ k.
-    let second = c.topped_up_held.ensures.asked.clean k in
-    let first = c.cost_held-2.ensures.asked.clean second in
-    let before = c.cost_held.ensures.asked.clean first in
+    let second = c.topped_up_held.ensures.asked.kept.clean k in
+    let first = c.cost_held-2.ensures.asked.kept.clean second in
+    let before = c.cost_held.ensures.asked.kept.clean first in
     let office = office_of c.args.office.now in
     let was = (g.S.Shelf.state c.args.shelf.now).content in
     let a = c.cost_held.ensures.asked.content first in

@@ -10,12 +10,12 @@ use Rattle.pw_book.proofs.balances.cost_held.Goals as goal
 
 pub loop-band-init : goal.loop-band-init
 unfolding sum_over
-loop-band-init g c = record { sum = λ k. refl; few = omega arith; asked = asked-none _ _ _ }
+loop-band-init g c = record { sum = λ k. refl; few = omega arith; asked = asked-none _ _ _ _ }
 
 pub loop-band-preserved : goal.loop-band-preserved
 loop-band-preserved g c = record {
   sum = λ k.
-      let before = c.energy_held.ensures.asked.clean k in
+      let before = c.energy_held.ensures.asked.kept.clean k in
       let office = office_of c.args.office.now in
       let was = (g.S.Shelf.state c.args.shelf.now).content in
       let f : ℕ → ℕ = λ b. office.price b c.args.direction * energy_where office (contents_at was.records) c.args.direction (of_band office (Some c.args.account) b) in
@@ -27,7 +27,7 @@ loop-band-preserved g c = record {
       let next = sum-next f c.loop-band.band in
       omega (arith, here, so_far, next);
   few = let a = c.loop-band.invariant.few in let b = c.price_of-nano.ensures.bound in omega (arith, a, b);
-  asked = asked-then _ _ _ _ _ _ _ _ _ c.loop-band.invariant.asked c.energy_held.ensures.asked;
+  asked = asked-then _ _ _ _ _ _ _ c.loop-band.invariant.asked c.in_ok-wh.ensures.asked;
 }
 
 pub returns-clause-cost : goal.returns-clause-cost

@@ -6,7 +6,7 @@ use Rattle.pw_book.proofs.balances.topped_up_held.Goals as goal
 
 pub returns-clause-cents : goal.returns-clause-cents
 returns-clause-cents g c = λ k office h.
-    let before = c.topups_held.ensures.asked.clean k in
+    let before = c.topups_held.ensures.asked.kept.clean k in
     let records = (g.S.Shelf.state c.args.shelf.now).content.records in
     let R : List Entry → Type 0 = λ found. ListsTopUps records found in
     let cents = c.in_ok-cents.ensures.cents office records h (subst R (sym c.deref.ensures.value) (c.in_ok-topups.ensures.rows k)) in

@@ -5,9 +5,9 @@ use Rattle.pw_book.proofs.disputes.disputes_held.Goals as goal
 
 pub returns-clause-disputes : goal.returns-clause-disputes
 returns-clause-disputes g c = λ k.
-    let third = c.add_topups.ensures.asked.clean k in
-    let second = c.add_assignments.ensures.asked.clean third in
-    let first = c.add_readings.ensures.asked.clean second in
+    let third = c.add_topups.ensures.asked.kept.clean k in
+    let second = c.add_assignments.ensures.asked.kept.clean third in
+    let first = c.add_readings.ensures.asked.kept.clean second in
     let office = office_of c.args.office.now in
     let was = (g.S.Shelf.state c.args.shelf.now).content in
     let one = c.add_readings.ensures.asked.content second in

@@ -12,12 +12,12 @@ use Rattle.pw_book.proofs.energies.energy_held.Goals as goal
 
 pub loop-meter-init : goal.loop-meter-init
 unfolding sum_over
-loop-meter-init g c = record { sum = λ k. refl; few = omega arith; asked = asked-none _ _ _ }
+loop-meter-init g c = record { sum = λ k. refl; few = omega arith; asked = asked-none _ _ _ _ }
 
 pub loop-meter-preserved : goal.loop-meter-preserved
 loop-meter-preserved g c = record {
   sum = λ k.
-      let before = c.meter_share.ensures.asked.clean k in
+      let before = c.meter_share.ensures.asked.kept.clean k in
       let office = office_of c.args.office.now in
       let asked = of_band office c.args.class.owner c.args.class.band.0 in
       let was = (g.S.Shelf.state c.args.shelf.now).content in
@@ -28,13 +28,13 @@ loop-meter-preserved g c = record {
       let next = sum-next f c.loop-meter.meter in
       omega (arith, here, so_far, next);
   few = let a = c.loop-meter.invariant.few in let b = c.in_ok-total.ensures.bound in omega (arith, a, b);
-  asked = asked-then _ _ _ _ _ _ _ _ _ c.loop-meter.invariant.asked c.meter_share.ensures.asked;
+  asked = asked-then _ _ _ _ _ _ _ c.loop-meter.invariant.asked c.in_ok-total.ensures.asked;
 }
 
 pub returns-clause-energy : goal.returns-clause-energy
 unfolding energy_where
 returns-clause-energy g c = λ k.
-    let before = c.loop-meter.invariant.asked.clean k in
+    let before = c.loop-meter.invariant.asked.kept.clean k in
     let office = office_of c.args.office.now in
     let asked = of_band office c.args.class.owner c.args.class.band.0 in
     let was = (g.S.Shelf.state c.args.shelf.now).content in

@@ -20,9 +20,9 @@ returns-in_default-clause-share g c = λ k.
 
 pub returns-clause-share : goal.returns-clause-share
 returns-clause-share g c = λ k.
-    let third = c.register_share-3.ensures.asked.clean k in
-    let second = c.register_share-2.ensures.asked.clean third in
-    let first = c.register_share.ensures.asked.clean second in
+    let third = c.register_share-3.ensures.asked.kept.clean k in
+    let second = c.register_share-2.ensures.asked.kept.clean third in
+    let first = c.register_share.ensures.asked.kept.clean second in
     let was = (g.S.Shelf.state c.args.shelf.now).content in
     let R : List Entry → Type 0 = λ found. ListsAssignments was.records c.args.meter found in
     let starts = c.in_ok-starts.ensures was.records c.args.meter (subst R (sym c.deref.ensures.value) (c.in_ok-assignments.ensures.rows first)) in

@@ -10,7 +10,7 @@ use Rattle.pw_book.proofs.energies.register_share.Goals as goal
 
 pub returns-clause-share : goal.returns-clause-share
 returns-clause-share g c = λ k h.
-    let before = c.readings_held.ensures.asked.clean k in
+    let before = c.readings_held.ensures.asked.kept.clean k in
     let records = (g.S.Shelf.state c.args.shelf.now).content.records in
     let told = point (contents_at records) c.args.meter.0 c.args.register in
     let R : List Entry → Type 0 = λ found. ListsReadings records c.args.meter c.args.register found in

@@ -7,16 +7,16 @@ use Rattle.pw_book.proofs.falls.falls_held.Goals as goal
 pub loop-meter-preserved : goal.loop-meter-preserved
 loop-meter-preserved g c = record {
   falls = λ k.
-      let before = c.add_meter.ensures.asked.clean k in
-      let start = c.loop-meter.invariant.asked.clean before in
+      let before = c.add_meter.ensures.asked.kept.clean k in
+      let start = c.loop-meter.invariant.asked.kept.clean before in
       falls-next (office_of c.args.office.now) _ _ (6 * c.loop-meter.meter) (6 * c.loop-meter.meter) (6 * c.loop-meter.meter + 6) (6 * (c.loop-meter.meter + 1)) c.loop-meter.falls.items c.add_meter.new.falls.items
       (c.loop-meter.invariant.asked.content before) refl (omega arith) (c.requires.of_office start) (c.loop-meter.invariant.falls before) (c.in_ok-add_meter.ensures.falls k (office_of c.args.office.now));
-  asked = asked-then _ _ _ _ _ _ _ _ _ c.loop-meter.invariant.asked c.add_meter.ensures.asked;
+  asked = asked-then _ _ _ _ _ _ _ c.loop-meter.invariant.asked c.in_ok-add_meter.ensures.asked;
 }
 
 pub returns-clause-falls : goal.returns-clause-falls
 returns-clause-falls g c = λ k.
-    let start = c.loop-meter.invariant.asked.clean k in
+    let start = c.loop-meter.invariant.asked.kept.clean k in
     let office = office_of c.args.office.now in
     let all : c.loop-meter.meter ≡ office.meters = omega (arith, c.meters-meter-end.ensures.count, c.loop-meter.auto.meter-end, c.loop-meter-test.false) in
     falls-all office _ c.loop-meter.falls.items (c.requires.of_office start) (falls-at _ _ _ c.loop-meter.falls.items (ap (λ (n : ℕ). 6 * n) all) (c.loop-meter.invariant.falls k))

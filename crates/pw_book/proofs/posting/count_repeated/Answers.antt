@@ -15,12 +15,12 @@ loop-entry-preserved g c =
     ] in
     record {
       repeated = λ k.
-          let before = c.is_held.ensures.asked.clean k in
+          let before = c.is_held.ensures.asked.kept.clean k in
           repeated-more _ c.args.distinct.now c.loop-entry.entry-index c.entry-item.result c.loop-entry.repeated c.if-branch.repeated c.in_ok-is_held.field-0 c.requires.once c.loop-entry-test.true c.entry-item.is
           (c.in_ok-is_held.ensures.held k ∙ ap (λ (s : ShelfContent). stands_in same_entry c.entry-item.result s.records) (c.loop-entry.invariant.asked.content before)) (c.loop-entry.invariant.repeated before) step;
       within = elim c.if-branch.branch [
         | then-branch w ↦ omega arith
         | else-branch w ↦ omega arith
       ];
-      asked = asked-then _ _ _ _ _ _ _ _ _ c.loop-entry.invariant.asked c.is_held.ensures.asked;
+      asked = asked-then _ _ _ _ _ _ _ c.loop-entry.invariant.asked c.in_ok-is_held.ensures.asked;
     }
