@@ -8,6 +8,7 @@ mod frames;
 mod instants;
 mod offices;
 mod sets;
+mod shelves;
 
 use pw_tariff::Office;
 use std::io::Write;
@@ -30,12 +31,15 @@ meter = [
 ]
 "#;
 
-/// The exit status where the office can't be read.
-const NO_OFFICE: u8 = 3;
+/// The exit status where what the trials need can't be made.
+const NO_MEMORY: u8 = 3;
 
 fn main(rt: HostRuntime) -> ExitCode {
     let Ok(office) = Office::read(rt.alloc(), OFFICE.as_bytes()) else {
-        return ExitCode::from(NO_OFFICE);
+        return ExitCode::from(NO_MEMORY);
+    };
+    let Some(mut shelf) = shelves::with_upload(rt.alloc()) else {
+        return ExitCode::from(NO_MEMORY);
     };
     let mut out = rt.stdout();
     tell(&mut out, b"no memory\n");
@@ -45,6 +49,14 @@ fn main(rt: HostRuntime) -> ExitCode {
     tell(
         &mut out,
         line(offices::is_right(&office), b"office right\n"),
+    );
+    tell(
+        &mut out,
+        line(shelves::is_taken_back(&mut shelf), b"upload taken back\n"),
+    );
+    tell(
+        &mut out,
+        line(shelves::is_kept(rt.alloc(), office), b"book right\n"),
     );
     tell(&mut out, b"memory again\n");
     ExitCode::from(0)

@@ -1,0 +1,55 @@
+//! The calls on a store in memory, and on a book over it.
+
+ghost use Rattle.std.specs.Prelude.{◌≡◌, IfSome, IsSome, None};
+ghost use Rattle.pw_shelf.specs.Memory.{state_of};
+
+use pw_book::Book;
+use pw_model::{Content, Entry, Key, Reference};
+use pw_shelf::{MemoryShelf, Shelf};
+use pw_tariff::{AccountId, Office};
+use pw_time::{FIRST_SECOND, Instant, Zone};
+use std::alloc::Global;
+
+/// A store with an upload of one record, which is neither ended nor taken back.
+pub(crate) fn with_upload(alloc: Global) -> Option<MemoryShelf>
+    ensures { IfSome result (λ shelf. IsSome (state_of shelf).begun) }
+{
+    let mut shelf = MemoryShelf::new(alloc);
+    let entry = payment()?;
+    if shelf.begin().is_err() {
+        return None;
+    }
+    if shelf.add(&entry).is_err() {
+        return None;
+    }
+    Some(shelf)
+}
+
+fn payment() -> Option<Entry> {
+    let reference = Reference::of(b"P1")?;
+    let instant = Instant::of(FIRST_SECOND)?;
+    Some(Entry {
+        key: Key::TopUp { reference },
+        content: Content::TopUp {
+            account: AccountId(0),
+            cents: 1,
+            instant,
+        },
+    })
+}
+
+/// Whether an upload is taken back.
+pub(crate) fn is_taken_back(shelf: &mut MemoryShelf) -> bool
+    requires { IsSome (state_of shelf.old).begun }
+{
+    shelf.abandon().is_ok() && shelf.count() == Ok(0)
+}
+
+/// Whether a book is made, tells its office, and gives its store back.
+pub(crate) fn is_kept(alloc: Global, office: Office) -> bool {
+    let book = Book::new(office, Zone::central(), MemoryShelf::new(alloc), 1);
+    let _ = book.zone();
+    let accounts = book.office().accounts();
+    let mut shelf = book.into_shelf();
+    accounts == 2 && shelf.count() == Ok(0)
+}
