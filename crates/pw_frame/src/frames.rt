@@ -45,6 +45,8 @@ impl<'a> Frames<'a> {
         ensures within { self.new.place ≤ length self.new.body }
         ensures rises { IfSome result (λ answer. IfOk answer (λ _. self.old.place < self.new.place)) }
         ensures ended { self.old.ended ≡ true → IsNone result × (self.new ≡ self.old) }
+        ensures end { IfNone result (self.new ≡ self.old) }
+        ensures stops { IfSome result (λ answer. MatchResult answer (λ _. self.new.ended ≡ false) (λ _. self.new.ended ≡ true)) }
         ensures next { self.old.ended ≡ false → (frames : List FrameText) → Front self.old.body frames self.old.place →
             MatchOption result
             (Reading self.old.body frames × (self.new ≡ self.old))
