@@ -19,7 +19,8 @@ use Rattle.pw_model.specs.Office.{AllOfOffice}
 use Rattle.pw_record.specs.declared.origin.Source.{Source}
 use Rattle.pw_record.specs.declared.origin.Source.TheVariants.{Telegrams, Readouts}
 use Rattle.pw_record.specs.Origin.{HasOrigin, IsSourceOf}
-use Rattle.pw_record.specs.Shown.{ShowOne, IsShown, registers, reading_of}
+use Rattle.pw_record.specs.Shown.{ShowOne, IsShown, reading_of}
+use Rattle.pw_obis.specs.Registers.{registers}
 use Rattle.pw_record.specs.Frames.{FrameGives, FramesGive}
 use Rattle.pw_record.proofs.OfOffice.{within, given-by}
 

@@ -4,12 +4,12 @@ use Rattle.std.specs.Prelude.{◌≡◌, ℕ, ◌⊎◌, true, Option, Some, Non
 use Rattle.std.specs.List.{flat_map}
 use Rattle.pw_obis.specs.declared.reference.Code.{Code}
 use Rattle.pw_obis.specs.declared.reference.Register.{Register}
-use Rattle.pw_obis.specs.declared.reference.Register.TheVariants.{I0, I1, I2, E0, E1, E2}
 use Rattle.pw_obis.specs.declared.value.ValueFault.{ValueFault}
 use Rattle.pw_obis.specs.Address.{IsCodeOf}
 use Rattle.pw_obis.specs.FirstValue.{IsFirstValue}
 use Rattle.pw_obis.specs.Line.{SetText}
 use Rattle.pw_obis.specs.References.{IsCodeOfRegister}
+use Rattle.pw_obis.specs.Registers.{registers}
 use Rattle.pw_obis.specs.Value.{IsEnergy}
 use Rattle.pw_tariff.specs.Office.{OfficeFile, counts_at, register_place}
 use Rattle.pw_model.specs.declared.records.Entry.{Entry}
@@ -67,9 +67,6 @@ pub record HasWrongSet (file : OfficeFile) (meter : ℕ) (sets : List SetText) (
   pub wrong : IsWrongSet file meter shown set cause
 
 -- ---- the readings of a frame: one of each register that is shown
-abbrev pub registers : List Register
-registers = I0 ∷ I1 ∷ I2 ∷ E0 ∷ E1 ∷ E2 ∷ []
-
 abbrev pub reading_of : ℕ → ℕ → Register → Option ℕ → List Entry
 reading_of meter instant register None = []
 reading_of meter instant register (Some wh) = reading_entry meter register instant wh ∷ []

@@ -17,16 +17,6 @@ use pw_obis::{Register, Set, Sets, ValueFault, WattHours, first_value, register,
 use pw_tariff::{MeterId, Office};
 use std::alloc::AllocError;
 
-/// The registers, in their order.
-pub const REGISTERS: [Register; 6] = [
-    Register::I0,
-    Register::I1,
-    Register::I2,
-    Register::E0,
-    Register::E1,
-    Register::E2,
-];
-
 /// What is shown of each register, by its place.
 pub type Shown = [Option<WattHours>; 6];
 
@@ -120,7 +110,7 @@ pub fn is_nothing_shown(shown: &Shown) -> bool
     ensures nothing { OnTrue result ((r : Register) → shown_in shown.now r ≡ None) }
     ensures some { OnFalse result ((r : Register) × (wh : ℕ) × (shown_in shown.now r ≡ Some wh)) }
 {
-    for register in REGISTERS {
+    for register in Register::ALL {
         if shown[register_place(register)].is_some() {
             return false;
         }

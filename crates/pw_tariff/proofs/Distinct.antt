@@ -1,5 +1,5 @@
 -- No two names of a list are the same where each was new behind those before it.
-use Rattle.std.proofs.Common.{◌≡◌, ◌==◌, ◌||◌, ℕ, zero, suc, Some, None, slice_get, List, [], ◌∷◌, ◌++◌, length, map, not, Bool, true, false, refl, ap}
+use Rattle.std.proofs.Common.{◌≡◌, ◌||◌, ℕ, zero, suc, Some, slice_get, List, [], ◌∷◌, ◌++◌, length, map, not, Bool, true, false, refl, ap}
 use Rattle.std.proofs.lemmas.Option.{none-some, same_Some}
 use Rattle.pw_tariff.specs.Checks.{Check, Passes, each_in_turn}
 use Rattle.pw_tariff.specs.Office.{AreDistinct}

@@ -1,17 +1,16 @@
 -- What holds of an office whose file passes all checks.
-use Rattle.std.proofs.Common.{◌≡◌, ◌==◌, ◌&&◌, ℕ, zero, suc, ◌<◌, ◌≤◌, ℤ, pos, negsuc, Option, Some, None, is_some, unwrap_or, slice_get, List, [], ◌∷◌, ◌++◌, length, map, All, nat_le, nat_lt, not, codes, Bool, true, false, cond, refl, sym, ◌∙◌, arith, eqb-true}
+use Rattle.std.proofs.Common.{◌≡◌, ◌==◌, ◌&&◌, ℕ, zero, suc, ◌<◌, ◌≤◌, ℤ, pos, negsuc, Option, Some, is_some, unwrap_or, slice_get, List, [], ◌∷◌, ◌++◌, length, map, All, nat_le, nat_lt, not, codes, Bool, true, false, refl, arith, eqb-true}
 use Rattle.std.specs.List.{list_all}
 use Rattle.std.proofs.lemmas.List.{length-map, map-id}
 use Rattle.std.proofs.lemmas.Option.{none-some, same_Some}
 use Rattle.std.proofs.lemmas.Simd.{map-map}
 use Rattle.std.proofs.lemmas.Bool.{leb-true, ltb-true}
 use Rattle.toml.specs.Data.{Members}
-use Rattle.pw_tariff.specs.declared.fault.OfficeFault.{OfficeFault}
 use Rattle.pw_tariff.specs.declared.limits.TheConstants.{MOST_PRICE, MOST_ACCOUNTS, MOST_BANDS, MOST_METERS, LONGEST_ACCOUNT_NAME, LONGEST_METER_ID}
 use Rattle.pw_tariff.specs.Office.{IsSound, AreDistinct, IsDay, BandText, MeterText, band_named, overlap}
 use Rattle.pw_tariff.specs.Words.{is_price, is_name, is_capital, is_band_name, is_new, clock_named}
 use Rattle.pw_tariff.specs.declared.fault.OfficeFault.TheVariants.{MissingField, BadName, TwiceNamed, Week, Price, RegistersOverlap, Empty, TooMany}
-use Rattle.pw_tariff.specs.Checks.{Check, check, first_refusal, Passes, each_in_turn, length_checks, list_checks}
+use Rattle.pw_tariff.specs.Checks.{Check, check, Passes, each_in_turn, length_checks, list_checks}
 use Rattle.pw_tariff.specs.Text.{has_band_keys, has_meter_keys, clock_of, texts_at, tables_at, accounts_checks, account_checks, bands_checks, meters_checks, week_checks, file_of_table, band_of_table, meter_of_table, whole_of, price_at, name_of, id_of, register_texts, register_of, registers_of, registers_in_turn, registers_checks, letter_of, is_day, is_week, week_of, bands_of_table, band_checks, meter_checks}
 use Rattle.pw_tariff.proofs.Behind.{left, right, first-of}
 use Rattle.pw_tariff.proofs.Distinct.{distinct}

@@ -1,5 +1,5 @@
--- The numbers and names under which refusals of an office file are reported.
-use Rattle.std.specs.Prelude.{ℕ, List, codes}
+-- The numbers and names under which refusals of an office file are reported, and the line that tells one.
+use Rattle.std.specs.Prelude.{ℕ, List, ◌++◌, codes, decimal}
 use Rattle.pw_tariff.specs.declared.fault.OfficeFault.{OfficeFault}
 use Rattle.pw_tariff.specs.declared.fault.OfficeFault.TheVariants.{Toml, MissingField, BadName, TwiceNamed, Week, Price, RegistersOverlap, Empty, TooMany, Memory}
 
@@ -26,3 +26,7 @@ name_of RegistersOverlap = codes "RegistersOverlap"
 name_of Empty = codes "Empty"
 name_of TooMany = codes "TooMany"
 name_of Memory = codes "Memory"
+
+-- `refused`, the number, the name; single spaces stand between
+abbrev pub fault_line : OfficeFault → List ℕ
+fault_line fault = codes "refused " ++ (decimal (number_of fault) ++ (codes " " ++ name_of fault))

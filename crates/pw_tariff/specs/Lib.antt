@@ -2,6 +2,7 @@ pub mod Owners
 pub mod Cells
 pub mod Office
 pub mod Held
+pub mod Ids
 pub mod Shares
 pub mod Faults
 pub mod Words

@@ -1,3 +1,7 @@
+//! Why an office file is refused.
+
+use std::fmt;
+
 /// Why a text is no office file.
 #[derive(Clone, Copy, Debug, Drop, PartialEq, Eq)]
 pub enum OfficeFault {
@@ -61,5 +65,19 @@ impl OfficeFault {
             OfficeFault::TooMany => "TooMany",
             OfficeFault::Memory => "Memory",
         }
+    }
+}
+
+/// The fault line without its end: `refused`, the number, the name.
+impl fmt::Display for OfficeFault {
+    ghost use Rattle.std.specs.Prelude.{Some};
+    ghost use Rattle.pw_tariff.specs.Faults.{fault_line};
+
+    ghost output = { λ fault. Some (fault_line fault) };
+
+    fn fmt<W: fmt::Write>(&self, f: &mut fmt::Formatter<W>) -> fmt::Result {
+        let number = self.number();
+        let name = self.name();
+        write!(f, "refused {number} {name}")
     }
 }
