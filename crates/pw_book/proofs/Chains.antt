@@ -1,5 +1,5 @@
 -- Calls of a shelf behind another.
-use Rattle.std.proofs.Common.{◌≡◌, ℕ, ◌∙◌, refl, arith}
+use Rattle.std.proofs.Common.{ℕ, ◌∙◌, refl, arith}
 use Rattle.pw_model.specs.Shelf.{ShelfContent}
 use Rattle.pw_shelf.specs.Calls.{GoesOn}
 use Rattle.pw_shelf.specs.State.{State, CountsFailures}
