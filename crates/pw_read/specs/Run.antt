@@ -1,5 +1,5 @@
 -- What a run of `read` does: it prints a body's text on one stream, or one line on the other.
-use Rattle.std.specs.Prelude.{◌≡◌, ℕ, ◌<◌, ◌≤◌, ◌⊎◌, List, ◌++◌, length, Option, codes}
+use Rattle.std.specs.Prelude.{◌≡◌, ℕ, ◌<◌, ◌≤◌, ◌⊎◌, List, ◌++◌, length, take, Option, Result, Ok, Err, codes}
 use Rattle.std.specs.Io.KnownBytes.{Appends}
 use Rattle.pw_read.specs.declared.fault.ReadFault.TheVariants.{Memory, Refused}
 use Rattle.pw_read.specs.declared.run.Failure.{Failure}
@@ -30,12 +30,41 @@ failure_status (Body Memory) = 3
 failure_status TooLarge = 1
 failure_status Device = 3
 
--- the line of a failure is written, or the writer fails
+-- a front of the bytes is written, or all of them
+abbrev pub WritesFront : Option (List ℕ) → Option (List ℕ) → List ℕ → Type 0
+WritesFront old new bytes = (n : ℕ) × Appends old new (take n bytes)
+
+-- the bytes are written, or after an error a front of them
+abbrev pub Writes : {T E : Type 0} → Option (List ℕ) → Option (List ℕ) → List ℕ → Result T E → Type 0
+Writes old new bytes (Ok done) = Appends old new bytes
+Writes old new bytes (Err error) = WritesFront old new bytes
+
+-- a line is written and its status answered, or the writer fails within the line, and 3 is answered
+abbrev pub TellsLine : List ℕ → ℕ → Option (List ℕ) → Option (List ℕ) → ℕ → Type 0
+TellsLine line told old new status = ((status ≡ told) × Appends old new line) ⊎ ((status ≡ 3) × WritesFront old new line)
+
+abbrev pub IsRefusal : Failure → Type 0
+IsRefusal (Body (Refused refusal)) = Unit {0}
+IsRefusal (Body Memory) = ⊥
+IsRefusal TooLarge = ⊥
+IsRefusal Device = ⊥
+
+-- the line of a failure is told; for a refusal want of memory may be told in its place
 abbrev pub Tells : Failure → Option (List ℕ) → Option (List ℕ) → ℕ → Type 0
-Tells failure old new status = ((status ≡ failure_status failure) × Appends old new (failure_line failure)) ⊎ (status ≡ 3)
+Tells failure old new status =
+    TellsLine (failure_line failure) (failure_status failure) old new status
+    ⊎ (IsRefusal failure × TellsLine (failure_line (Body Memory)) 3 old new status)
+
+-- what is printed where a run fails: nothing, or, where a device failed, a front of the body's text
+abbrev pub PrintsFront : Clock → List ℕ → Failure → Option (List ℕ) → Option (List ℕ) → Type 0
+PrintsFront clock body Device old new =
+    (old ≡ new) ⊎ ((length body ≤ LONGEST_BODY) × ((text : List ℕ) × BodyShows clock body text × WritesFront old new text))
+PrintsFront clock body (Body fault) old new = old ≡ new
+PrintsFront clock body TooLarge old new = old ≡ new
 
 -- Of a body and of what both streams hold before and after: with status 0 its text is written and no line; with status 1 nothing but the line
--- of its refusal. (3 is for a device that failed or for want of memory: then nothing is said of the streams.)
+-- of its refusal; with status 3 a front of the line of one failure, and of the body's text a front, or nothing where the failure isn't the device's.
 pub record IsRun (clock : Clock) (body : List ℕ) (old new old_line new_line : Option (List ℕ)) (status : ℕ) : Type 0 where
   pub printed : status ≡ 0 → (length body ≤ LONGEST_BODY) × ((text : List ℕ) × BodyShows clock body text × Appends old new text) × (old_line ≡ new_line)
   pub refused : status ≡ 1 → (failure : Failure) × IsFailure clock body failure × (failure_status failure ≡ 1) × (old ≡ new) × Appends old_line new_line (failure_line failure)
+  pub failed : status ≡ 3 → (failure : Failure) × IsFailure clock body failure × PrintsFront clock body failure old new × WritesFront old_line new_line (failure_line failure)
