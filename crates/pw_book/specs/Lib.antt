@@ -3,6 +3,7 @@ pub mod Counted
 pub mod Faults
 pub mod Kept
 pub mod Asking
+pub mod Questions
 pub mod Posting
 pub mod Acceptance
 pub mod Places

@@ -30,7 +30,7 @@ pub(crate) fn disputes_held<S: Shelf>(
     requires few { S.clean shelf.old → length (S.state shelf.old).content.records ≤ most_records }
     requires of_office { S.clean shelf.old → AllOfOffice (office_of office.now) (S.state shelf.old).content.records }
     ensures disputes { S.clean shelf.new → IfOk result (λ disputes. AreDisputes (S.state shelf.old).content.records disputes.items) }
-    ensures asked { IsOnlyAsked S.state S.left S.clean (failures_told result) shelf.old shelf.new }
+    ensures asked { IsOnlyAsked S.Shelf (failures_told result) shelf.old shelf.new }
 {
     let mut disputes = Vec::new(alloc);
     add_readings(shelf, alloc, office.meters(), &mut disputes)?;
@@ -48,7 +48,7 @@ fn add_readings<S: Shelf>(
 ) -> Result<(), ShelfFault>
     requires { IsNone (S.state shelf.old).begun }
     ensures disputes { S.clean shelf.new → (meters : ℕ) → AreWithin meters (S.state shelf.old).content.records → count ≡ meters → DisputesBefore meters (S.state shelf.old).content.records (0) disputes.old.items → OnOk result (DisputesBefore meters (S.state shelf.old).content.records (6 * meters) disputes.new.items) }
-    ensures asked { IsOnlyAsked S.state S.left S.clean (failures_told result) shelf.old shelf.new }
+    ensures asked { IsOnlyAsked S.Shelf (failures_told result) shelf.old shelf.new }
 {
     for meter in 0..count {
         add_meter(shelf, alloc, MeterId(meter), disputes)?;
@@ -65,7 +65,7 @@ fn add_assignments<S: Shelf>(
 ) -> Result<(), ShelfFault>
     requires { IsNone (S.state shelf.old).begun }
     ensures disputes { S.clean shelf.new → (meters : ℕ) → AreWithin meters (S.state shelf.old).content.records → count ≡ meters → DisputesBefore meters (S.state shelf.old).content.records (6 * meters) disputes.old.items → OnOk result (DisputesBefore meters (S.state shelf.old).content.records (7 * meters) disputes.new.items) }
-    ensures asked { IsOnlyAsked S.state S.left S.clean (failures_told result) shelf.old shelf.new }
+    ensures asked { IsOnlyAsked S.Shelf (failures_told result) shelf.old shelf.new }
 {
     for meter in 0..count {
         add_assignments_of(shelf, alloc, MeterId(meter), disputes)?;
@@ -82,7 +82,7 @@ fn add_meter<S: Shelf>(
 ) -> Result<(), ShelfFault>
     requires { IsNone (S.state shelf.old).begun }
     ensures disputes { S.clean shelf.new → (meters : ℕ) → AreWithin meters (S.state shelf.old).content.records → meter.0 < meters → DisputesBefore meters (S.state shelf.old).content.records (6 * meter.0) disputes.old.items → OnOk result (DisputesBefore meters (S.state shelf.old).content.records (6 * meter.0 + 6) disputes.new.items) }
-    ensures asked { IsOnlyAsked S.state S.left S.clean (failures_told result) shelf.old shelf.new }
+    ensures asked { IsOnlyAsked S.Shelf (failures_told result) shelf.old shelf.new }
 {
     for register in &REGISTERS {
         add_readings_of(shelf, alloc, meter, *register, disputes)?;
@@ -100,7 +100,7 @@ fn add_readings_of<S: Shelf>(
 ) -> Result<(), ShelfFault>
     requires { IsNone (S.state shelf.old).begun }
     ensures disputes { S.clean shelf.new → (meters : ℕ) → AreWithin meters (S.state shelf.old).content.records → meter.0 < meters → DisputesBefore meters (S.state shelf.old).content.records (6 * meter.0 + register_place register) disputes.old.items → OnOk result (DisputesBefore meters (S.state shelf.old).content.records (6 * meter.0 + register_place register + 1) disputes.new.items) }
-    ensures asked { IsOnlyAsked S.state S.left S.clean (failures_told result) shelf.old shelf.new }
+    ensures asked { IsOnlyAsked S.Shelf (failures_told result) shelf.old shelf.new }
 {
     let readings = readings_held(shelf, alloc, meter, register)?;
     let more = disputes_of(alloc, &readings)?;
@@ -117,7 +117,7 @@ fn add_assignments_of<S: Shelf>(
 ) -> Result<(), ShelfFault>
     requires { IsNone (S.state shelf.old).begun }
     ensures disputes { S.clean shelf.new → (meters : ℕ) → AreWithin meters (S.state shelf.old).content.records → meter.0 < meters → DisputesBefore meters (S.state shelf.old).content.records (6 * meters + meter.0) disputes.old.items → OnOk result (DisputesBefore meters (S.state shelf.old).content.records (6 * meters + (meter.0 + 1)) disputes.new.items) }
-    ensures asked { IsOnlyAsked S.state S.left S.clean (failures_told result) shelf.old shelf.new }
+    ensures asked { IsOnlyAsked S.Shelf (failures_told result) shelf.old shelf.new }
 {
     let assignments = assignments_held(shelf, alloc, meter)?;
     let more = disputes_of(alloc, &assignments)?;
@@ -133,7 +133,7 @@ fn add_topups<S: Shelf>(
 ) -> Result<(), ShelfFault>
     requires { IsNone (S.state shelf.old).begun }
     ensures disputes { S.clean shelf.new → (meters : ℕ) → AreWithin meters (S.state shelf.old).content.records → DisputesBefore meters (S.state shelf.old).content.records (7 * meters) disputes.old.items → OnOk result (DisputesBefore meters (S.state shelf.old).content.records (7 * meters + 1) disputes.new.items) }
-    ensures asked { IsOnlyAsked S.state S.left S.clean (failures_told result) shelf.old shelf.new }
+    ensures asked { IsOnlyAsked S.Shelf (failures_told result) shelf.old shelf.new }
 {
     let topups = topups_held(shelf, alloc)?;
     let more = disputes_of(alloc, &topups)?;

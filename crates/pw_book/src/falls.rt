@@ -28,7 +28,7 @@ pub(crate) fn falls_held<S: Shelf>(
     requires idle { IsNone (S.state shelf.old).begun }
     requires of_office { S.clean shelf.old → AllOfOffice (office_of office.now) (S.state shelf.old).content.records }
     ensures falls { S.clean shelf.new → IfOk result (λ falls. AreFalls (S.state shelf.old).content.records falls.items) }
-    ensures asked { IsOnlyAsked S.state S.left S.clean (failures_told result) shelf.old shelf.new }
+    ensures asked { IsOnlyAsked S.Shelf (failures_told result) shelf.old shelf.new }
 {
     let mut falls = Vec::new(alloc);
     for meter in 0..office.meters() {
@@ -46,7 +46,7 @@ fn add_meter<S: Shelf>(
 ) -> Result<(), ShelfFault>
     requires { IsNone (S.state shelf.old).begun }
     ensures falls { S.clean shelf.new → (office : AnOffice) → AllOfOffice office (S.state shelf.old).content.records → FallsBefore (S.state shelf.old).content.records (6 * meter.0) falls.old.items → OnOk result (FallsBefore (S.state shelf.old).content.records (6 * meter.0 + 6) falls.new.items) }
-    ensures asked { IsOnlyAsked S.state S.left S.clean (failures_told result) shelf.old shelf.new }
+    ensures asked { IsOnlyAsked S.Shelf (failures_told result) shelf.old shelf.new }
 {
     for register in &REGISTERS {
         add_register(shelf, alloc, meter, *register, falls)?;
@@ -64,7 +64,7 @@ fn add_register<S: Shelf>(
 ) -> Result<(), ShelfFault>
     requires { IsNone (S.state shelf.old).begun }
     ensures falls { S.clean shelf.new → (office : AnOffice) → AllOfOffice office (S.state shelf.old).content.records → FallsBefore (S.state shelf.old).content.records (6 * meter.0 + register_place register) falls.old.items → OnOk result (FallsBefore (S.state shelf.old).content.records (6 * meter.0 + register_place register + 1) falls.new.items) }
-    ensures asked { IsOnlyAsked S.state S.left S.clean (failures_told result) shelf.old shelf.new }
+    ensures asked { IsOnlyAsked S.Shelf (failures_told result) shelf.old shelf.new }
 {
     let readings = readings_held(shelf, alloc, meter, register)?;
     let points = points_of(alloc, &readings)?;

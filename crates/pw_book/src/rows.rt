@@ -27,7 +27,7 @@ pub(crate) fn rows_held<S: Shelf>(
 ) -> Result<Vec<ReadingRow>, ShelfFault>
     requires { IsNone (S.state shelf.old).begun }
     ensures rows { S.clean shelf.new → IfOk result (λ rows. AreReadings (S.state shelf.old).content.records meter.0 register rows.items) }
-    ensures asked { IsOnlyAsked S.state S.left S.clean (failures_told result) shelf.old shelf.new }
+    ensures asked { IsOnlyAsked S.Shelf (failures_told result) shelf.old shelf.new }
 {
     let readings = readings_held(shelf, alloc, meter, register)?;
     let rows = rows_of(alloc, &readings)?;

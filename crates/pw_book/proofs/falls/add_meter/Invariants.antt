@@ -10,5 +10,5 @@ invariant-loop-register g l = record {
   falls : g.S.Shelf.clean l.shelf → (office : Office) → AllOfOffice office (g.S.Shelf.state l.initial.shelf).content.records →
       FallsBefore (g.S.Shelf.state l.initial.shelf).content.records (6 * l.meter.0) l.initial.falls.items →
       FallsBefore (g.S.Shelf.state l.initial.shelf).content.records (6 * l.meter.0 + l.register-index) l.falls.items;
-  asked : IsOnlyAsked g.S.Shelf.state g.S.Shelf.left g.S.Shelf.clean 0 l.initial.shelf l.shelf;
+  asked : IsOnlyAsked g.S.Shelf 0 l.initial.shelf l.shelf;
 }
