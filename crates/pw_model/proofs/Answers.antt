@@ -18,7 +18,7 @@ use Rattle.pw_model.specs.Energy.{energy, energy_where, of_band, cost}
 use Rattle.pw_model.specs.Payments.{stands_in, sum_once, keys, cents_for, topped_up, balance, nano_in_cent}
 use Rattle.pw_model.specs.Lists.{Lists, IsFall, IsDispute, IsReading, fall_numbers, fall_order, dispute_order, reading_numbers, reading_order, reading_entry, records_at, record_count, AreFalls, AreDisputes, AreReadings}
 use Rattle.pw_model.specs.Search.{AreSorted}
-use Rattle.pw_model.specs.Laws.{OrderCountsNothing, CountIsLength, ListsAreOne}
+use Rattle.pw_model.specs.Laws.{OrderCountsNothing, CountIsLength, ListsAreAtMostOne}
 use Rattle.pw_model.proofs.Same.{same_key-decides, same_entry-decides}
 use Rattle.pw_model.proofs.Counting.{contents-same, standing-same}
 use Rattle.pw_model.proofs.Once.{once-same, stands-decides}
@@ -135,8 +135,8 @@ readings-of_sorted s view sorted m r rows v a h =
 same-both : {X : Type 0} (P : X → Type 0) (x : X) → P x ↔ P x
 same-both P x = (λ h. h, λ h. h)
 
-pub lists-are_one : ListsAreOne
-lists-are_one s = record {
+pub lists-are_at_most_one : ListsAreAtMostOne
+lists-are_at_most_one s = record {
   falls = λ fs gs a b. lists-one fall_order (by-numbers fall_numbers) (IsFall (contents_at s)) (IsFall (contents_at s)) (same-both (IsFall (contents_at s))) fs gs a b;
   disputes = λ ds es a b. lists-one dispute_order (by-numbers (λ (d : Dispute). key_numbers d.key)) (IsDispute s) (IsDispute s) (same-both (IsDispute s)) ds es a b;
   readings = λ m r x y a b. lists-one reading_order (by-numbers reading_numbers) (IsReading s m r) (IsReading s m r) (same-both (IsReading s m r)) x y a b;

@@ -27,3 +27,5 @@ pub mod PlainReadings
 pub mod PlainPoints
 pub mod SoundOffice
 pub mod Existence
+pub mod Foreign
+pub mod TopUps

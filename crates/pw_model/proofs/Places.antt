@@ -129,16 +129,16 @@ at-taken (y ∷ ys) zero j x l a = absurd (omega arith)
 at-taken (y ∷ ys) (suc i) zero x l a = inl (sym a.1)
 at-taken (y ∷ ys) (suc i) (suc j) x l a = inr (at-taken ys i j x (omega arith) (let k = a.0 in omega (arith, k), a.1))
 
-member-left : {X : Type 0} (x : X) (xs ys : List X) → Member x xs → Member x (xs ++ ys)
+pub member-left : {X : Type 0} (x : X) (xs ys : List X) → Member x xs → Member x (xs ++ ys)
 member-left x [] ys m = absurd m
 member-left x (z ∷ xs) ys (inl e) = inl e
 member-left x (z ∷ xs) ys (inr m) = inr (member-left x xs ys m)
 
-member-right : {X : Type 0} (x : X) (xs ys : List X) → Member x ys → Member x (xs ++ ys)
+pub member-right : {X : Type 0} (x : X) (xs ys : List X) → Member x ys → Member x (xs ++ ys)
 member-right x [] ys m = m
 member-right x (z ∷ xs) ys m = inr (member-right x xs ys m)
 
-member-split : {X : Type 0} (x : X) (xs ys : List X) → Member x (xs ++ ys) → Member x xs ⊎ Member x ys
+pub member-split : {X : Type 0} (x : X) (xs ys : List X) → Member x (xs ++ ys) → Member x xs ⊎ Member x ys
 member-split x [] ys m = inr m
 member-split x (z ∷ xs) ys (inl e) = inl (inl e)
 member-split x (z ∷ xs) ys (inr m) = elim (member-split x xs ys m) [ inl a ↦ inl (inr a) | inr b ↦ inr b ]
