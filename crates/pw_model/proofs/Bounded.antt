@@ -77,11 +77,11 @@ no-energy : (p : ℕ → Option ℕ) (end : ℕ) → ((s : ℕ) → p s ≡ None
 unfolding register_energy
 no-energy p end h = sum-none _ 0 end (λ t x y. no-flow p end t h)
 
-cond-zero : (b : Bool) (n : ℕ) → n ≡ 0 → cond b n 0 ≡ 0
+pub cond-zero : (b : Bool) (n : ℕ) → n ≡ 0 → cond b n 0 ≡ 0
 cond-zero true n h = h
 cond-zero false n h = refl
 
-registers-zero : (d : Direction) (f : Register → ℕ) → ((r : Register) → f r ≡ 0) → over_registers d f ≡ 0
+pub registers-zero : (d : Direction) (f : Register → ℕ) → ((r : Register) → f r ≡ 0) → over_registers d f ≡ 0
 registers-zero Import f h = omega (arith, h I0, h I1, h I2)
 registers-zero Export f h = omega (arith, h E0, h E1, h E2)
 

@@ -45,7 +45,7 @@ with-there_is e (x ∷ xs) =
       | inr (inr g) ↦ (let r : (ys : List Entry) × IsWith e xs ys = with-there_is e xs in (x ∷ r.0, with-later e x xs r.0 g r.1))
     ]
 
-sorted-there_is : (s : List Entry) → (t : List Entry) × AreSorted s t
+pub sorted-there_is : (s : List Entry) → (t : List Entry) × AreSorted s t
 sorted-there_is [] = ([], sorted-none)
 sorted-there_is (e ∷ s) =
     let r : (t : List Entry) × AreSorted s t = sorted-there_is s in

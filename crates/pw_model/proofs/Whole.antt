@@ -105,7 +105,7 @@ contents-fit office s m t (One (content.Assignment o)) h e =
 start-fits : (office : Office) (s : List Entry) (m t : ℕ) → AllOfOffice office s → OwnerFits office (start (contents_at s) m t)
 start-fits office s m t h = contents-fit office s m t (contents_at s (assignment_key m t)) h refl
 
-owner-fits : (office : Office) (s : List Entry) (m t : ℕ) → AllOfOffice office s → HasOwner office (owner_at (contents_at s) m t)
+pub owner-fits : (office : Office) (s : List Entry) (m t : ℕ) → AllOfOffice office s → HasOwner office (owner_at (contents_at s) m t)
 unfolding owner_at
 owner-fits office s m t h =
     elim (last-cases (start (contents_at s) m) t) [

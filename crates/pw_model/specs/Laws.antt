@@ -1,23 +1,27 @@
 -- The laws of these definitions. Each is the contract of a function of the module `laws`.
 use Rattle.std.specs.Prelude.{◌≡◌, ℕ, ◌+◌, ◌<◌, ◌≤◌, true, cond, length, Option, Some, None, List, ◌∷◌, ◌↔◌, ◌⊎◌}
+use Rattle.std.specs.List.{sum_by}
 use Rattle.pw_obis.specs.declared.reference.Register.{Register}
 use Rattle.pw_tariff.specs.declared.ids.AccountId.{AccountId}
+use Rattle.pw_tariff.specs.declared.ids.BandId.{BandId}
 use Rattle.pw_tariff.specs.declared.ids.Direction.{Direction}
 use Rattle.pw_flow.specs.Energy.{register_energy, cell_between, pairs_sum, Chain, last_of, IsGap}
 use Rattle.pw_model.specs.declared.records.Key.{Key}
 use Rattle.pw_model.specs.declared.records.Contents.{Contents}
 use Rattle.pw_model.specs.declared.records.Contents.TheVariants.{One}
 use Rattle.pw_model.specs.declared.records.Entry.{Entry}
+use Rattle.pw_model.specs.declared.records.TotalKey.TheVariants.{Energy, TopUps}
 use Rattle.pw_model.specs.declared.records.Fall.{Fall}
 use Rattle.pw_model.specs.declared.records.Dispute.{Dispute}
 use Rattle.pw_model.specs.declared.records.ReadingRow.{ReadingRow}
 use Rattle.pw_model.specs.Same.{same_direction, direction_of}
-use Rattle.pw_model.specs.Counting.{SameMembers, EachOnce, Counts, IsInserted, joined, contents_at, point, start, reading_key, assignment_key}
+use Rattle.pw_model.specs.Counting.{Member, SameMembers, EachOnce, Counts, IsInserted, joined, contents_at, point, start, reading_key, assignment_key}
 use Rattle.pw_tariff.specs.Office.{Office}
-use Rattle.pw_model.specs.Office.{HasBands, AllOfOffice}
+use Rattle.pw_model.specs.Office.{HasBands, HasOwner, AllOfOffice}
 use Rattle.pw_model.specs.Energy.{Asked, owner_at, share_of, over_registers, seconds_of, energy, energy_where, over_owners, over_bands, all_rises}
-use Rattle.pw_model.specs.Payments.{topped_up, balance, cents_for}
+use Rattle.pw_model.specs.Payments.{topped_up, balance, cents_for, cents_in, IsTopUpFor}
 use Rattle.pw_model.specs.Lists.{AreFalls, AreDisputes, AreReadings, record_count}
+use Rattle.pw_model.specs.Shelf.{total_of}
 
 -- One is told exactly for the record that counts
 abbrev pub OneIsCounting : Type 0
@@ -38,13 +42,13 @@ abbrev pub OrderCountsNothing : Type 0
 OrderCountsNothing = (office : Office) (s t : List Entry) → SameMembers s t → HaveSameAnswers office s t
 
 -- a set has at most one list of falls, one of disputes, and one of the readings of a register
-pub record HasOneList (s : List Entry) : Type 0 where
+pub record HasAtMostOneList (s : List Entry) : Type 0 where
   pub falls : (fs gs : List Fall) → AreFalls s fs → AreFalls s gs → fs ≡ gs
   pub disputes : (ds es : List Dispute) → AreDisputes s ds → AreDisputes s es → ds ≡ es
   pub readings : (m : ℕ) (r : Register) (a b : List ReadingRow) → AreReadings s m r a → AreReadings s m r b → a ≡ b
 
-abbrev pub ListsAreOne : Type 0
-ListsAreOne = (s : List Entry) → HasOneList s
+abbrev pub ListsAreAtMostOne : Type 0
+ListsAreAtMostOne = (s : List Entry) → HasAtMostOneList s
 
 -- a set has a list of falls, one of disputes, and one of the readings of each register
 pub record HasLists (s : List Entry) : Type 0 where
@@ -58,6 +62,31 @@ ListsExist = (s : List Entry) → HasLists s
 -- where each record stands once, those held are as many as the list is long
 abbrev pub CountIsLength : Type 0
 CountIsLength = (s : List Entry) → EachOnce s → record_count s ≡ length s
+
+-- what is no account or band of the office has no total
+pub record ForeignHaveNone (office : Office) (s : List Entry) : Type 0 where
+  -- where all records are of the office, an owner that is no account of it has no energy
+  pub owners : AllOfOffice office s → (o : Option AccountId) (b : BandId) (d : Direction) → (HasOwner office o → ⊥) → total_of office s (Energy o b d) ≡ 0
+  -- where each second's band is one of the office's, another band has no energy
+  pub bands : HasBands office → (o : Option AccountId) (b : BandId) (d : Direction) → office.bands ≤ b.0 → total_of office s (Energy o b d) ≡ 0
+  -- where all records are of the office, what is no account of it has no top-ups
+  pub top_ups : AllOfOffice office s → (a : AccountId) → office.accounts ≤ a.0 → total_of office s (TopUps a) ≡ 0
+
+abbrev pub ForeignTotalsAreNone : Type 0
+ForeignTotalsAreNone = (office : Office) (s : List Entry) → ForeignHaveNone office s
+
+-- a list of the counting top-ups of an account, each once, in any order
+pub record AreTopUps (s : List Entry) (a : ℕ) (es : List Entry) : Type 0 where
+  pub once : EachOnce es
+  pub members : (e : Entry) → Member e es ↔ (Counts s e × IsTopUpFor a e.content)
+
+-- there is one, and for each of them what is topped up is the sum of its cents
+pub record IsSumOfTopUps (s : List Entry) (a : ℕ) : Type 0 where
+  pub exists : (es : List Entry) × AreTopUps s a es
+  pub sum : (es : List Entry) → AreTopUps s a es → topped_up s a ≡ sum_by (λ e. cents_in e.content) es
+
+abbrev pub TopUpsAddUp : Type 0
+TopUpsAddUp = (s : List Entry) (a : ℕ) → IsSumOfTopUps s a
 
 -- the energies of a direction, of all owners with nobody and all bands, are all that its neighbours rise by
 abbrev pub NothingIsLost : Type 0

@@ -1,9 +1,10 @@
 -- What was topped up, and the balance.
 -- (Definitions of this project.)
-use Rattle.std.specs.Prelude.{ℕ, ◌+◌, ◌*◌, Bool, false, ◌||◌, cond, ◌==◌, Option, Some, List, [], ◌∷◌, map, ℤ, pos, ◌+ℤ◌, ◌-ℤ◌}
+use Rattle.std.specs.Prelude.{◌≡◌, ℕ, ◌+◌, ◌*◌, Bool, false, ◌||◌, cond, ◌==◌, Option, Some, List, [], ◌∷◌, map, ℤ, pos, ◌+ℤ◌, ◌-ℤ◌}
 use Rattle.pw_tariff.specs.declared.ids.AccountId.{AccountId}
 use Rattle.pw_tariff.specs.declared.ids.Direction.TheVariants.{Import, Export}
 use Rattle.pw_model.specs.declared.records.Key.{Key}
+use Rattle.pw_model.specs.declared.records.Content.{Content}
 use Rattle.pw_model.specs.declared.records.Content.TheVariants as content
 use Rattle.pw_model.specs.declared.records.Contents.{Contents}
 use Rattle.pw_model.specs.declared.records.Contents.TheVariants.{One}
@@ -30,6 +31,16 @@ keys = map (λ e. e.key)
 abbrev pub cents_for : ℕ → Contents → ℕ
 cents_for a (One (content.TopUp b c t)) = cond (b.0 == a) c 0
 cents_for a _ = 0
+
+-- a top-up for an account
+abbrev pub IsTopUpFor : ℕ → Content → Type 0
+IsTopUpFor a (content.TopUp b c t) = b.0 ≡ a
+IsTopUpFor a _ = ⊥
+
+-- the cents of a top-up
+abbrev pub cents_in : Content → ℕ
+cents_in (content.TopUp b c t) = c
+cents_in _ = 0
 
 -- the counting top-ups of an account, in cents
 unfoldable pub topped_up : List Entry → ℕ → ℕ

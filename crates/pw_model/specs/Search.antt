@@ -1,9 +1,8 @@
 -- What the plain program finds among some of the records.
 -- (Definitions of this project.)
-use Rattle.std.specs.Prelude.{◌≡◌, ℕ, suc, ◌<◌, ◌≤◌, ◌⊎◌, ◌↔◌, ◌&&◌, Bool, IsTrue, cond, nat_le, Option, Some, None, List}
+use Rattle.std.specs.Prelude.{◌≡◌, ℕ, ◌+◌, ◌<◌, ◌≤◌, ◌⊎◌, ◌↔◌, ◌&&◌, Bool, IsTrue, cond, nat_le, Option, Some, None, List, length, get_or}
 use Rattle.pw_time.specs.declared.instant.TheConstants.{FIRST_SECOND, LAST_SECOND}
 use Rattle.pw_obis.specs.declared.reference.Register.{Register}
-use Rattle.pw_tariff.specs.declared.ids.AccountId.{AccountId}
 use Rattle.pw_model.specs.declared.records.Key.{Key}
 use Rattle.pw_model.specs.declared.records.Contents.{Contents}
 use Rattle.pw_model.specs.declared.records.Entry.{Entry}
@@ -11,7 +10,7 @@ use Rattle.pw_model.specs.declared.records.Fall.{Fall}
 use Rattle.pw_model.specs.declared.records.Dispute.{Dispute}
 use Rattle.pw_model.specs.declared.records.ReadingRow.{ReadingRow}
 use Rattle.pw_model.specs.Same.{entry_order}
-use Rattle.pw_model.specs.Counting.{Member, Counts, contents_at, point, start, reading_key, assignment_key}
+use Rattle.pw_model.specs.Counting.{Member, Counts, contents_at, point, reading_key, assignment_key}
 use Rattle.pw_model.specs.Payments.{keys}
 use Rattle.pw_model.specs.Lists.{IsRising, Lists, IsFall, IsDispute, fall_order, dispute_order, reading_order, reading_entry}
 
@@ -20,26 +19,22 @@ abbrev pub at_instants : (ℕ → Bool) → ℕ → Bool
 at_instants asked t = (nat_le FIRST_SECOND t && nat_le t LAST_SECOND) && asked t
 
 -- ---- starts
--- none of these records is a counting start of the meter from second x up to and with t
-abbrev pub NoStart : (Key → Contents) → ℕ → ℕ → ℕ → List Entry → Type 0
-NoStart at m x t some = (e : Entry) → Member e some → (s : ℕ) → e.key ≡ assignment_key m s → x ≤ s → s ≤ t → start at m s ≡ None
+-- none: none of these records assigns the meter up to and with t; some: the second isn't behind t, and none of them does so
+-- between it and t
+abbrev pub IsLatestAmong : ℕ → ℕ → List Entry → Option ℕ → Type 0
+IsLatestAmong m t some None = (e : Entry) → Member e some → (s : ℕ) → e.key ≡ assignment_key m s → s ≤ t → ⊥
+IsLatestAmong m t some (Some a) = (a ≤ t) × ((e : Entry) → Member e some → (s : ℕ) → e.key ≡ assignment_key m s → s ≤ t → s ≤ a)
 
--- none: none of these records is a counting start up to and with t; some: it is a counting start up to and with t,
--- and none of these records is a later one
-abbrev pub IsLatestAmong : (Key → Contents) → ℕ → ℕ → List Entry → Option (ℕ × Option AccountId) → Type 0
-IsLatestAmong at m t some None = NoStart at m 0 t some
-IsLatestAmong at m t some (Some a) = (start at m a.0 ≡ Some a.1) × (a.0 ≤ t) × NoStart at m (suc a.0) t some
-
--- none: a record isn't a counting start up to and with t; some: it is this one
-abbrev pub IsStartIn : (Key → Contents) → ℕ → ℕ → Entry → Option (ℕ × Option AccountId) → Type 0
-IsStartIn at m t e None = (s : ℕ) → e.key ≡ assignment_key m s → s ≤ t → start at m s ≡ None
-IsStartIn at m t e (Some a) = (e.key ≡ assignment_key m a.0) × (a.0 ≤ t) × (start at m a.0 ≡ Some a.1)
+-- none: a record doesn't assign the meter up to and with t; some: it does so from this second on
+abbrev pub IsStartIn : ℕ → ℕ → Entry → Option ℕ → Type 0
+IsStartIn m t e None = (s : ℕ) → e.key ≡ assignment_key m s → s ≤ t → ⊥
+IsStartIn m t e (Some a) = (e.key ≡ assignment_key m a) × (a ≤ t)
 
 -- the later of two
-abbrev pub later_of : {A : Type 0} → Option (ℕ × A) → Option (ℕ × A) → Option (ℕ × A)
+abbrev pub later_of : Option ℕ → Option ℕ → Option ℕ
 later_of None b = b
 later_of (Some a) None = Some a
-later_of (Some a) (Some b) = cond (nat_le a.0 b.0) (Some b) (Some a)
+later_of (Some a) (Some b) = cond (nat_le a b) (Some b) (Some a)
 
 -- ---- points
 -- none of these records is a counting reading of the register from second x up to and without y
@@ -62,6 +57,15 @@ abbrev pub earlier_of : Option (ℕ × ℕ) → Option (ℕ × ℕ) → Option (
 earlier_of None b = b
 earlier_of (Some a) None = Some a
 earlier_of (Some a) (Some b) = cond (nat_le a.0 b.0) (Some a) (Some b)
+
+-- ---- places in a list
+-- x stands at place i
+abbrev pub IsAt : {X : Type 0} → List X → ℕ → X → Type 0
+IsAt xs i x = (i < length xs) × (get_or xs i x ≡ x)
+
+-- the record behind place i has the key of the one there
+abbrev pub IsKeyBehind : List Entry → ℕ → Type 0
+IsKeyBehind s i = (e : Entry) × (f : Entry) × IsAt s i e × IsAt s (i + 1) f × (e.key ≡ f.key)
 
 -- ---- records in order, and the lists of what some of them give
 -- new is old, which stands in order, with one record

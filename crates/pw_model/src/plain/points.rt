@@ -7,7 +7,7 @@ ghost use Rattle.pw_time.specs.Instants.{IsInstant};
 ghost use Rattle.pw_time.specs.declared.instant.TheConstants.{END_SECOND as the_end};
 ghost use Rattle.pw_model.specs.Counting.{contents_at as told_at, point};
 
-use super::search::earliest_point;
+use super::reading_list::readings;
 use crate::records::Entry;
 use pw_flow::plain::Point;
 use pw_obis::Register;
@@ -25,13 +25,15 @@ pub fn points_of(
     ensures instants { IfOk result (λ points. All (λ p. IsInstant p.at) points.items) }
     ensures values { IfOk result (λ points. (t : ℕ) → t < the_end → value_at points.items t ≡ point (told_at entries.now) meter.0 register t) }
 {
+    let rows = readings(alloc, entries, meter, register)?;
     let mut points = Vec::new(alloc);
-    let mut from = 0;
-    while let Some(next) = earliest_point(entries, entries, meter, register, from) {
-        let at = next.0.seconds();
-        let watt_hours = next.1.get();
-        points.push(Point { at, watt_hours })?;
-        from = at + 1;
+    for row in &rows {
+        if row.counted {
+            points.push(Point {
+                at: row.instant.seconds(),
+                watt_hours: row.wh.get(),
+            })?;
+        }
     }
     Ok(points)
 }

@@ -135,7 +135,7 @@ pub fn require_sound<T: Terms>(rt: &impl Abort, terms: &T, entries: &[Entry])
 {
     let of_office = are_of_office(terms, entries);
     assert!(rt; of_office);
-    assert!(rt; entries.len() <= 100);
+    assert!(rt; entries.len() <= 10_000_000);
 }
 
 fn office()
