@@ -6,7 +6,7 @@ ghost use Rattle.pw_model.specs.Energy.{cost as cost_of};
 ghost use Rattle.pw_model.specs.Office.{AllOfOffice, most_records};
 ghost use Rattle.pw_model.specs.Payments.{balance as balance_of, topped_up as cents_of};
 ghost use Rattle.pw_shelf.specs.Calls.{failures_told};
-ghost use Rattle.pw_tariff.specs.Office.{Office as AnOffice, office_of};
+ghost use Rattle.pw_tariff.specs.Office.{OfficeRules as AnOffice, office_of};
 ghost use Rattle.pw_book.specs.Asking.{IsOnlyAsked};
 
 use crate::asked::topups_held;

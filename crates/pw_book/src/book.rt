@@ -6,7 +6,7 @@ ghost use mathlib.Core.HLevel.{Π_prop};
 ghost use Rattle.pw_tariff.specs.Office.{office_of};
 ghost use Rattle.pw_model.specs.Office.{AllOfOffice, most_records};
 ghost use Rattle.pw_book.specs.Posting.{FailuresPosted, IsPosted, LeavesPosted, failed_in};
-ghost use Rattle.pw_book.specs.Kept.{AllOfOffice-prop};
+ghost use Rattle.pw_book.specs.lemmas.Kept.{AllOfOffice-prop};
 
 mod questions;
 

@@ -6,7 +6,7 @@ ghost use Rattle.pw_model.specs.Energy.{energy as energy_of, meter_share as shar
 ghost use Rattle.pw_model.specs.Office.{AllOfOffice, most_records};
 ghost use Rattle.pw_shelf.specs.Calls.{failures_told};
 ghost use Rattle.pw_tariff.specs.Office.{office_of};
-ghost use Rattle.pw_tariff.specs.Owners.{owner_at};
+ghost use Rattle.pw_tariff.specs.Owners.{owner_by_starts};
 ghost use Rattle.pw_obis.specs.declared.reference.Register.{Register as AnyRegister};
 ghost use Rattle.pw_book.specs.Asking.{IsOnlyAsked};
 
@@ -55,7 +55,7 @@ fn register_share<S: Shelf>(
     requires idle { IsNone (S.state shelf.old).begun }
     requires of_office { S.clean shelf.old → AllOfOffice (office_of office.now) (S.state shelf.old).content.records }
     requires meter { meter.0 < length office.now.meters }
-    ensures share { S.clean shelf.new → ((t : ℕ) → owner_at owners.now t ≡ owner_told (told_at (S.state shelf.old).content.records) meter.0 t) → IfOk result (λ wh. wh ≡ share_of (office_of office.now) (told_at (S.state shelf.old).content.records) (of_band (office_of office.now) class.owner class.band.0) meter.0 register) }
+    ensures share { S.clean shelf.new → ((t : ℕ) → owner_by_starts owners.now t ≡ owner_told (told_at (S.state shelf.old).content.records) meter.0 t) → IfOk result (λ wh. wh ≡ share_of (office_of office.now) (told_at (S.state shelf.old).content.records) (of_band (office_of office.now) class.owner class.band.0) meter.0 register) }
     ensures bound { IfOk result (λ wh. wh < 2 ^ 101) }
     ensures asked { IsOnlyAsked S.Shelf (failures_told result) shelf.old shelf.new }
 {

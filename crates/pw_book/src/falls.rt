@@ -4,10 +4,10 @@ ghost use Rattle.std.specs.Prelude.{◌≡◌, ◌+◌, ◌*◌, ◌<◌, ℕ, O
 ghost use Rattle.pw_model.specs.Lists.{AreFalls, Lists, fall_order};
 ghost use Rattle.pw_model.specs.Office.{AllOfOffice};
 ghost use Rattle.pw_shelf.specs.Calls.{failures_told};
-ghost use Rattle.pw_tariff.specs.Office.{Office as AnOffice, office_of, register_place};
+ghost use Rattle.pw_tariff.specs.Office.{OfficeRules as AnOffice, office_of, register_place};
 ghost use Rattle.pw_book.specs.Asking.{IsOnlyAsked};
-ghost use Rattle.pw_book.specs.Counted.{IsFallOf, ListsSeconds};
-ghost use Rattle.pw_book.specs.Places.{FallsBefore};
+ghost use Rattle.pw_book.specs.inner.Counted.{IsFallOf, ListsSeconds};
+ghost use Rattle.pw_book.specs.inner.Places.{FallsBefore};
 
 use crate::asked::readings_held;
 use crate::registers::REGISTERS;

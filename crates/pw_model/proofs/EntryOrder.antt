@@ -12,7 +12,7 @@ use Rattle.pw_model.specs.declared.records.Entry.{Entry}
 use Rattle.pw_model.specs.Same.{key_numbers, content_numbers, key_order, entry_order}
 use Rattle.pw_model.specs.Counting.{Member}
 use Rattle.pw_model.specs.Lists.{IsBeforeAll, Lists}
-use Rattle.pw_model.specs.Search.{IsWith, AreSorted}
+use Rattle.pw_model.specs.inner.Search.{IsWith, AreSorted}
 use Rattle.pw_model.proofs.Same.{key-numbers-one, content-numbers-one}
 use Rattle.pw_model.proofs.InOrder.{IsStrict, before-member}
 

@@ -3,7 +3,7 @@ use Rattle.std.proofs.Common.{◌≡◌, ℕ, ◌<◌, ◌≤◌, Bool, true, fa
 use Rattle.std.proofs.lemmas.Bool.{ne_eqb}
 use Rattle.pw_tariff.specs.declared.ids.AccountId.{AccountId}
 use Rattle.pw_tariff.specs.declared.ids.Direction.{Direction}
-use Rattle.pw_tariff.specs.Office.{Office}
+use Rattle.pw_tariff.specs.Office.{OfficeRules}
 use Rattle.pw_tariff.specs.Owners.{same_owner}
 use Rattle.pw_model.specs.declared.records.Key.{Key}
 use Rattle.pw_model.specs.declared.records.Key.TheVariants as key
@@ -14,7 +14,7 @@ use Rattle.pw_model.specs.declared.records.Entry.{Entry}
 use Rattle.pw_model.specs.Same.{same_key}
 use Rattle.pw_model.specs.Counting.{contents_at, point}
 use Rattle.pw_model.specs.Office.{AllOfOffice, HasOwner}
-use Rattle.pw_model.specs.Energy.{Asked, owner_at, seconds_of, share_of, meter_share, energy_where, of_band}
+use Rattle.pw_model.specs.Energy.{Asked, owner_at, asked_seconds, share_of, meter_share, energy_where, of_band}
 use Rattle.pw_model.specs.Payments.{keys, cents_for, topped_up}
 use Rattle.pw_model.specs.Laws.{ForeignTotalsAreNone}
 use Rattle.pw_flow.specs.Energy.{kept, register_energy}
@@ -29,13 +29,13 @@ none-kept : (k : ℕ → Bool) (p : ℕ → Option ℕ) (end : ℕ) → ((t : �
 unfolding register_energy
 none-kept k p end h = sum-none (kept k (flow p end)) 0 end (λ t x y. ap (λ (b : Bool). cond b (flow p end t) 0) (h t))
 
-none-asked : (office : Office) (at : Key → Contents) (d : Direction) (asked : Asked) → ((m t : ℕ) → asked (owner_at at m t) t ≡ false) → energy_where office at d asked ≡ 0
+none-asked : (office : OfficeRules) (at : Key → Contents) (d : Direction) (asked : Asked) → ((m t : ℕ) → asked (owner_at at m t) t ≡ false) → energy_where office at d asked ≡ 0
 unfolding energy_where
 none-asked office at d asked h =
     sum-none (meter_share office at d asked) 0 office.meters
-    (λ m x y. registers-zero d (share_of office at asked m) (λ r. cond-zero (office.counts m r) _ (none-kept (seconds_of at asked m) (point at m r) office.end (h m))))
+    (λ m x y. registers-zero d (share_of office at asked m) (λ r. cond-zero (office.counts m r) _ (none-kept (asked_seconds at asked m) (point at m r) office.end (h m))))
 
-other-owner : (office : Office) (o p : Option AccountId) (b : Bool) → HasOwner office o → (HasOwner office p → ⊥) → (same_owner o p && b) ≡ false
+other-owner : (office : OfficeRules) (o p : Option AccountId) (b : Bool) → HasOwner office o → (HasOwner office p → ⊥) → (same_owner o p && b) ≡ false
 other-owner office o None b h n = absurd (n tt)
 other-owner office None (Some a) b h n = refl
 other-owner office (Some c) (Some a) b h n =
@@ -46,7 +46,7 @@ other-band true b band bands l k = ne_eqb b band (λ e. absurd (omega arith))
 other-band false b band bands l k = refl
 
 -- ---- top-ups
-no-cents : (office : Office) (a : ℕ) (k : Key) (r : Contents) → office.accounts ≤ a → ToldOf office k r → cents_for a r ≡ 0
+no-cents : (office : OfficeRules) (a : ℕ) (k : Key) (r : Contents) → office.accounts ≤ a → ToldOf office k r → cents_for a r ≡ 0
 no-cents office a k Nothing l h = refl
 no-cents office a k Several l h = refl
 no-cents office a k (One (content.Reading w)) l h = refl
@@ -57,7 +57,7 @@ no-cents office a (key.TopUp r) (One (content.TopUp b c i)) l h =
     let f : b.0 < office.accounts = h.1 in
     rw (ne_eqb b.0 a (λ e. absurd (omega arith)))
 
-no-top_ups : (office : Office) (s : List Entry) (a : ℕ) → AllOfOffice office s → office.accounts ≤ a → topped_up s a ≡ 0
+no-top_ups : (office : OfficeRules) (s : List Entry) (a : ℕ) → AllOfOffice office s → office.accounts ≤ a → topped_up s a ≡ 0
 unfolding topped_up
 no-top_ups office s a h l = once-zero same_key (λ k. cents_for a (contents_at s k)) (keys s) (λ k m. no-cents office a k (contents_at s k) l (contents-of office s k h))
 

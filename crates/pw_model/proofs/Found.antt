@@ -14,9 +14,9 @@ use Rattle.pw_model.specs.declared.records.Entry.{Entry}
 use Rattle.pw_model.specs.Counting.{Member, Counts, joined, contents_at, wh_of, owner_of, point, start, reading_key, assignment_key}
 use Rattle.pw_tariff.specs.Owners.{owner_from}
 use Rattle.pw_model.specs.Energy.{owner_at}
-use Rattle.pw_model.specs.Search.{IsAt, IsLatestAmong, IsStartIn, later_of, NoPoint, IsEarliestAmong, IsPointIn, earlier_of}
+use Rattle.pw_model.specs.inner.Search.{IsAt, IsLatestAmong, IsStartIn, later_of, NoPoint, IsEarliestAmong, IsPointIn, earlier_of}
 use Rattle.pw_model.specs.Same.{same_key, same_content}
-use Rattle.pw_model.specs.Laws.{IsJoined}
+use Rattle.pw_model.specs.Changes.{ChangesAtOneKey}
 use Rattle.pw_model.proofs.Same.{same_key-decides, same_content-decides}
 use Rattle.pw_model.proofs.Counting.{entry, one-is_counting, one-more_record}
 use Rattle.pw_model.proofs.Places.{taken-to, taken-whole, taken-inserted}
@@ -196,7 +196,7 @@ earliest-more at m r x y e some (Some a) (Some b) h i =
 pub contents-next : (s : List Entry) (i : ℕ) (e : Entry) (k : Key) (b : Bool) → IsAt s i e → b ≡ same_key e.key k →
     contents_at (take (i + 1) s) k ≡ cond b (joined e.content (contents_at (take i s) k)) (contents_at (take i s) k)
 contents-next s i e k b a h =
-    let j : IsJoined (take i s) (take (i + 1) s) e = one-more_record (take i s) (take (i + 1) s) e (taken-inserted s i e a) in
+    let j : ChangesAtOneKey (take i s) (take (i + 1) s) e = one-more_record (take i s) (take (i + 1) s) e (taken-inserted s i e a) in
     elim (cases_Bool b) [
       | inl t ↦ (
           let q : e.key ≡ k = (same_key-decides e.key k).0 (sym h ∙ t) in

@@ -30,7 +30,8 @@ use Rattle.pw_tariff.specs.Cells.{owner_place}
 use Rattle.std.specs.Option.{option_cmp}
 use Rattle.pw_model.specs.References.{IsReference, is_reference_byte}
 use Rattle.pw_tariff.specs.Office.{register_place}
-use Rattle.pw_model.specs.Same.{total_order, total_numbers, direction_place, key_order, key_numbers, content_numbers, entry_order, HasReference}
+use Rattle.pw_model.specs.Same.{total_order, total_numbers, direction_place, key_order, key_numbers, content_numbers, entry_order}
+use Rattle.pw_model.specs.inner.Keys.{HasReference}
 
 then-equal : (o : Ordering) → ordering_then o Equal ≡ o
 then-equal Less = refl

@@ -10,13 +10,13 @@ use Rattle.std.specs.declared.cmp.Ordering.TheVariants.{Less, Greater}
 use Rattle.pw_obis.specs.declared.reference.Register.{Register}
 use Rattle.pw_time.specs.Instants.{IsInstant}
 use Rattle.pw_flow.specs.declared.plain.Point.{Point}
-use Rattle.pw_flow.specs.Plain.{seconds_of, value_at}
+use Rattle.pw_flow.specs.Plain.{times_of, value_at}
 use Rattle.pw_flow.proofs.Points.{option-cases}
 use Rattle.pw_model.specs.declared.records.Entry.{Entry}
 use Rattle.pw_model.specs.declared.records.ReadingRow.{ReadingRow}
 use Rattle.pw_model.specs.Counting.{Member, Counts, contents_at, wh_of, point, reading_key}
-use Rattle.pw_model.specs.Lists.{IsRising, reading_order, reading_numbers, reading_entry, IsReading, AreReadings}
-use Rattle.pw_model.specs.Search.{IsAt}
+use Rattle.pw_model.specs.Lists.{IsSorted, reading_order, reading_numbers, reading_entry, IsReading, AreReadings}
+use Rattle.pw_model.specs.inner.Search.{IsAt}
 use Rattle.pw_model.proofs.Counting.{one-is_counting}
 use Rattle.pw_model.proofs.Found.{wh-back}
 use Rattle.pw_model.proofs.InOrder.{by-numbers, before-member}
@@ -51,13 +51,13 @@ row-apart a b h e =
     (by-numbers reading_numbers).apart a (subst P (sym e) h)
 
 all-later : (a : ReadingRow) (rows : List ReadingRow) → ((b : ReadingRow) → Member b rows → b.counted ≡ true → a.instant < b.instant) →
-    AllByRecursion (λ y. nat_cmp a.instant y ≡ Less) (seconds_of (counted rows))
+    AllByRecursion (λ y. nat_cmp a.instant y ≡ Less) (times_of (counted rows))
 all-later a [] h = tt
 all-later a (b ∷ rows) h =
     let r = all-later a rows (λ c m. h c (inr m)) in
     elim (cases_Bool b.counted) [ inl t ↦ rw t (cmp-less a.instant b.instant (h b (inl refl) t), r) | inr f ↦ rw f r ]
 
-later-counted : (a b : ReadingRow) (rows : List ReadingRow) → IsRising reading_order (a ∷ rows) → AreApart (a ∷ rows) → a.counted ≡ true → Member b rows → b.counted ≡ true → a.instant < b.instant
+later-counted : (a b : ReadingRow) (rows : List ReadingRow) → IsSorted reading_order (a ∷ rows) → AreApart (a ∷ rows) → a.counted ≡ true → Member b rows → b.counted ≡ true → a.instant < b.instant
 later-counted a b rows up one t m c =
     let o : reading_order a b ≡ Less = before-member reading_order a b rows up.0 m in
     let l : a.instant ≤ b.instant = row-later a b o in
@@ -66,7 +66,7 @@ later-counted a b rows up one t m c =
       | inr g ↦ absurd (row-apart a b o (one a b (inl refl) (inr m) t c (omega arith)))
     ]
 
-points-sorted : (rows : List ReadingRow) → IsRising reading_order rows → AreApart rows → IsStrictlySortedBy nat_cmp (seconds_of (counted rows))
+points-sorted : (rows : List ReadingRow) → IsSorted reading_order rows → AreApart rows → IsStrictlySortedBy nat_cmp (times_of (counted rows))
 unfolding IsStrictlySortedBy
 points-sorted [] up one = tt
 points-sorted (a ∷ rows) up one =
@@ -115,8 +115,8 @@ readings-apart s m r rows h a b k l t u e =
     let same : reading_entry m r b.instant b.wh ≡ reading_entry m r a.instant a.wh = (x.counted.0 t).1 (reading_entry m r b.instant b.wh) y.held q in
     rows-one s m r a b (sym same) x.counted y.counted
 
-pub points-rise : (s : List Entry) (m : ℕ) (r : Register) (rows : List ReadingRow) → AreReadings s m r rows → IsStrictlyIncreasing (seconds_of (counted rows))
-points-rise s m r rows h = IsStrictlyIncreasing-from_sorted (seconds_of (counted rows)) (points-sorted rows h.rising (readings-apart s m r rows h))
+pub points-rise : (s : List Entry) (m : ℕ) (r : Register) (rows : List ReadingRow) → AreReadings s m r rows → IsStrictlyIncreasing (times_of (counted rows))
+points-rise s m r rows h = IsStrictlyIncreasing-from_sorted (times_of (counted rows)) (points-sorted rows h.rising (readings-apart s m r rows h))
 
 pub points-told : (s : List Entry) (m : ℕ) (r : Register) (rows : List ReadingRow) (t : ℕ) → AreReadings s m r rows → value_at (counted rows) t ≡ point (contents_at s) m r t
 points-told s m r rows t h =

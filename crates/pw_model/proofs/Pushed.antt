@@ -10,10 +10,10 @@ use Rattle.pw_obis.specs.declared.reference.Register.{Register}
 use Rattle.pw_time.specs.Instants.{IsInstant}
 use Rattle.pw_time.specs.declared.instant.TheConstants.{FIRST_SECOND, END_SECOND}
 use Rattle.pw_flow.specs.declared.plain.Point.{Point}
-use Rattle.pw_flow.specs.Plain.{seconds_of, value_at}
+use Rattle.pw_flow.specs.Plain.{times_of, value_at}
 use Rattle.pw_model.specs.declared.records.Entry.{Entry}
 use Rattle.pw_model.specs.Counting.{contents_at, point}
-use Rattle.pw_model.specs.Search.{IsEarliestAmong, NoPoint}
+use Rattle.pw_model.specs.inner.Search.{IsEarliestAmong, NoPoint}
 use Rattle.pw_model.proofs.Found.{no-point}
 
 abbrev EarlierThan : ℕ → List Point → Type 0
@@ -66,7 +66,7 @@ rising-push xs z h b k l =
     omega (arith, last, kept, c)))
     (cases_lt (k + 1) (length xs))
 
-below-all : (ps : List Point) (n : ℕ) → EarlierThan n ps → (k : ℕ) → k < length (seconds_of ps) → get_or (seconds_of ps) k 0 < n
+below-all : (ps : List Point) (n : ℕ) → EarlierThan n ps → (k : ℕ) → k < length (times_of ps) → get_or (times_of ps) k 0 < n
 below-all [] n h k l = absurd (omega arith)
 below-all (p ∷ ps) n h zero l = All-head (λ q. q.at < n) p ps h
 below-all (p ∷ ps) n h (suc k) l = below-all ps n (All-tail (λ q. q.at < n) p ps h) k (omega arith)
@@ -76,7 +76,7 @@ later-all ps m n l h k d i = omega (arith, h k d i)
 
 -- ---- the points of a register up to a second
 pub record IsListed (s : List Entry) (m : ℕ) (r : Register) (from : ℕ) (ps : List Point) : Type 0 where
-  pub rising : IsStrictlyIncreasing (seconds_of ps)
+  pub rising : IsStrictlyIncreasing (times_of ps)
   pub early : All (λ p. p.at < from) ps
   pub instants : All (λ p. IsInstant p.at) ps
   pub within : from ≤ END_SECOND
@@ -111,9 +111,9 @@ pub listed-more : (s : List Entry) (m : ℕ) (r : Register) (from : ℕ) (ps : L
     IsListed s m r from ps → IsEarliestAmong (contents_at s) m r from END_SECOND s (Some (q.at, q.watt_hours)) → IsInstant q.at → IsListed s m r (q.at + 1) (ps ++ q ∷ [])
 listed-more s m r from ps q h e at = record {
   rising =
-      let b : (k : ℕ) → k < length (seconds_of ps) → get_or (seconds_of ps) k 0 < q.at = below-all ps q.at (later-all ps from q.at e.1 h.early) in
+      let b : (k : ℕ) → k < length (times_of ps) → get_or (times_of ps) k 0 < q.at = below-all ps q.at (later-all ps from q.at e.1 h.early) in
       let P : List ℕ → Type 0 = IsStrictlyIncreasing in
-      subst P (sym (map-append (λ (p : Point). p.at) ps (one q))) (rising-push (seconds_of ps) q.at h.rising b);
+      subst P (sym (map-append (λ (p : Point). p.at) ps (one q))) (rising-push (times_of ps) q.at h.rising b);
   early = All-append (λ p. p.at < q.at + 1) ps (one q) (later-all ps from (q.at + 1) (omega (arith, e.1)) h.early) (λ k d i. one-early q k d i);
   instants = All-append (λ p. IsInstant p.at) ps (one q) h.instants (λ k d i. one-instant q at k d i);
   within = omega (arith, e.2);

@@ -11,7 +11,7 @@ use Rattle.pw_model.specs.declared.records.Contents.TheVariants.{One}
 use Rattle.pw_model.specs.declared.records.Entry.{Entry}
 use Rattle.pw_model.specs.Same.{same_key}
 use Rattle.pw_model.specs.Counting.{contents_at}
-use Rattle.pw_tariff.specs.Office.{Office}
+use Rattle.pw_tariff.specs.Office.{OfficeRules}
 use Rattle.pw_model.specs.Energy.{cost}
 
 -- whether x stands in a list
@@ -50,7 +50,7 @@ abbrev pub nano_in_cent : ℕ
 nano_in_cent = 10000000
 
 -- in nano-euro
-abbrev pub balance : Office → List Entry → ℕ → ℤ
+abbrev pub balance : OfficeRules → List Entry → ℕ → ℤ
 balance office s a =
     let owner : Option AccountId = Some (record { 0 = a }) in
     (pos (nano_in_cent * topped_up s a) -ℤ pos (cost office (contents_at s) owner Import)) +ℤ pos (cost office (contents_at s) owner Export)

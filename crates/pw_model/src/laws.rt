@@ -4,7 +4,12 @@
 //! all sets of records.
 
 ghost use Rattle.pw_model.specs.Bounds.{BalancesFit, TotalsAreBounded};
-ghost use Rattle.pw_model.specs.Laws.{CountIsLength, ForeignTotalsAreNone, ListsAreAtMostOne, ListsExist, NothingIsLost, OneIsCounting, OneMoreAssignment, OneMorePayment, OneMoreReading, OneMoreRecord, OrderCountsNothing, OtherStartWindow, TopUpsAddUp};
+ghost use Rattle.pw_model.specs.Laws.{CountIsLength, ForeignTotalsAreNone, ListsAreAtMostOne, ListsExist, NothingIsLost, OneIsCounting, OrderCountsNothing, TopUpsAddUp};
+ghost use Rattle.pw_model.specs.Changes.{OtherStartWindow};
+ghost use Rattle.pw_model.specs.Changes.{OneMoreAssignment};
+ghost use Rattle.pw_model.specs.Changes.{OneMorePayment};
+ghost use Rattle.pw_model.specs.Changes.{OneMoreRecord};
+ghost use Rattle.pw_model.specs.Changes.{OneMoreReading};
 ghost use Rattle.pw_model.specs.Office.{SoundOfficeIsOffice};
 ghost use Rattle.pw_model.specs.Shelf.{EmptyIsTrue, TrueContentsAreAlike, TrueTotalsAreBounded};
 

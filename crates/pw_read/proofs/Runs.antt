@@ -8,7 +8,9 @@ use Rattle.pw_read.specs.declared.run.Failure.TheVariants.{Body, TooLarge, Devic
 use Rattle.pw_read.specs.declared.run.TheConstants.{LONGEST_BODY}
 use Rattle.pw_time.specs.declared.zone.Clock.{Clock}
 use Rattle.pw_read.specs.Text.{BodyShows}
-use Rattle.pw_read.specs.Run.{IsFailure, failure_line, failure_status, WritesFront, TellsLine, Tells, PrintsFront, IsRun}
+use Rattle.pw_read.specs.Run.{IsFailure, failure_line, failure_status, WritesFront, PrintsFront, IsRun}
+use Rattle.pw_read.specs.inner.Run.{Tells}
+use Rattle.pw_read.specs.inner.Run.{TellsLine}
 
 -- all of a text is a front of it
 whole_front : (old new : Option (List ℕ)) (bytes : List ℕ) → Appends old new bytes → WritesFront old new bytes

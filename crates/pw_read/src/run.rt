@@ -1,6 +1,9 @@
 ghost use Rattle.std.specs.Prelude.{◌≡◌, ◌⊎◌, ℕ, ◌<◌, ◌≤◌, List, Some, length, MatchResult};
 ghost use Rattle.pw_read.specs.Text.{BodyShows};
-ghost use Rattle.pw_read.specs.Run.{IsFailure, failure_status, Writes, TellsLine, Tells, IsRun};
+ghost use Rattle.pw_read.specs.Run.{IsFailure, failure_status, IsRun};
+ghost use Rattle.pw_read.specs.inner.Run.{Tells};
+ghost use Rattle.pw_read.specs.inner.Run.{TellsLine};
+ghost use Rattle.pw_read.specs.inner.Run.{Writes};
 ghost use Rattle.pw_time.specs.declared.zone.Clock.{Clock};
 
 use crate::fault::ReadFault;

@@ -7,7 +7,7 @@ use Rattle.pw_tariff.specs.declared.fault.OfficeFault.TheVariants.{Toml, Memory,
 use Rattle.pw_tariff.specs.declared.limits.TheConstants.{MOST_ACCOUNTS, MOST_BANDS, MOST_METERS}
 use Rattle.pw_tariff.specs.Checks.{Check, check, first_refusal, each_in_turn, list_checks}
 use Rattle.pw_tariff.specs.Office.{overlap}
-use Rattle.pw_tariff.specs.Text.{texts_at, tables_at, account_checks, accounts_checks, name_of, band_checks, bands_checks, id_of, register_texts, registers_of, register_checks, registers_in_turn, meter_checks, meters_checks, week_checks, office_checks}
+use Rattle.pw_tariff.specs.Text.{texts_at, tables_at, account_checks, accounts_checks, band_name_of, band_checks, bands_checks, id_of, register_texts, registers_of, register_checks, registers_in_turn, meter_checks, meters_checks, week_checks, office_checks}
 
 -- it is a fault of what the table says
 abbrev pub IsOfTable : OfficeFault → Type 0
@@ -70,7 +70,7 @@ pub office-of-table : (t : Members) → AreOfTable (office_checks t)
 office-of-table t =
     let accounts =
     in-list MOST_ACCOUNTS (λ (name : List ℕ). name) account_checks of-account (texts_at (codes "accounts") t) in
-    let bands = in-list MOST_BANDS name_of band_checks of-band (tables_at (codes "band") t) in
+    let bands = in-list MOST_BANDS band_name_of band_checks of-band (tables_at (codes "band") t) in
     let meters = in-list MOST_METERS id_of meter_checks of-meter (tables_at (codes "meter") t) in
     let two = both (accounts_checks t) (bands_checks t) accounts bands in
     let three = both (accounts_checks t ++ bands_checks t) (meters_checks t) two meters in

@@ -1,7 +1,7 @@
 //! An office: its accounts, meters and bands, its prices, and its week.
 
 ghost use Rattle.std.specs.Prelude.{◌≡◌, ◌≢◌, ◌<◌, ◌≤◌, ℕ, length, slice_get, option_map, IfSome, IfNone};
-ghost use Rattle.pw_tariff.specs.Office.{IsSound, band_at, band_named, counts_at, lists, price_at};
+ghost use Rattle.pw_tariff.specs.Office.{IsSound, band_at, band_named, counts_at, has_register, price_at};
 ghost use Rattle.pw_tariff.specs.Held.{bands_of};
 ghost use Rattle.pw_tariff.specs.Ids.{ids_below};
 
@@ -201,7 +201,7 @@ pub(crate) fn named(bands: &[Band], letter: u8) -> usize
 
 // Whether the register is one of the list.
 pub(crate) fn holds(registers: &[Register], register: Register) -> bool
-    ensures { result ≡ lists registers.now register }
+    ensures { result ≡ has_register registers.now register }
 {
     registers.contains(&register)
 }

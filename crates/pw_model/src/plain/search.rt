@@ -3,7 +3,7 @@
 ghost use Rattle.std.specs.Prelude.{◌≡◌, ◌↔◌, ℕ, IfSome, IfNone, IsTrue};
 ghost use Rattle.pw_model.specs.Counting.{Counts, contents_at as told_at, joined as one_more, owner_of, reading_key};
 ghost use Rattle.pw_model.specs.Energy.{owner_at as owner_of_second};
-ghost use Rattle.pw_model.specs.Search.{IsLatestAmong, IsStartIn, later_of};
+ghost use Rattle.pw_model.specs.inner.Search.{IsLatestAmong, IsStartIn, later_of};
 
 use crate::compare::{is_same_content, is_same_key};
 use crate::records::{Content, Contents, Entry, Key};

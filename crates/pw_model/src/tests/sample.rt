@@ -2,7 +2,7 @@
 
 ghost use Rattle.std.specs.Prelude.{◌≡◌, ◌≤◌, IsTrue, length};
 ghost use Rattle.pw_model.specs.Office.{AllOfOffice, IsOffice, most_records};
-ghost use Rattle.pw_model.specs.Sample.{sample};
+ghost use Rattle.pw_model.specs.inner.Sample.{sample};
 
 use crate::plain::{Terms, are_of_office, balance, energy};
 use crate::records::{Content, Entry, Key};

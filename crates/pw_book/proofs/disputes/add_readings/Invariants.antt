@@ -1,6 +1,6 @@
 use Rattle.std.proofs.Common.{◌≡◌, ℕ, ◌*◌}
 use Rattle.pw_book.specs.Asking.{IsOnlyAsked}
-use Rattle.pw_book.specs.Places.{AreWithin, DisputesBefore}
+use Rattle.pw_book.specs.inner.Places.{AreWithin, DisputesBefore}
 use Rattle.pw_book.proofs.disputes.add_readings.Given as goal
 
 abbrev pub invariant-loop-meter : goal.invariant-loop-meter

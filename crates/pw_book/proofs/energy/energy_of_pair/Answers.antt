@@ -3,13 +3,13 @@ use Rattle.pw_obis.specs.declared.energy.TheConstants.{LARGEST_WATT_HOURS}
 use Rattle.pw_flow.specs.Energy.{cell}
 use Rattle.pw_tariff.specs.Cells.{energy_in}
 use Rattle.pw_flow.proofs.Level.{cell-fall, cell-at_most}
-use Rattle.pw_tariff.specs.Shares.{seconds_of}
+use Rattle.pw_tariff.specs.Shares.{class_seconds}
 use Rattle.pw_book.proofs.energy.energy_of_pair.Goals as goal
 
 pub returns-then-get-clause-cell : goal.returns-then-get-clause-cell
 returns-then-get-clause-cell c = λ later.
     let lower : c.args.to.1 < c.args.from.1 = rw (c.get.ensures.value, c.get-2.ensures.value) at c.if-get.true in
-    sym (cell-fall (seconds_of c.args.office.now c.args.owners.now c.args.class.owner c.args.class.band.0) c.args.from.0 c.args.from.1 c.args.to.0 c.args.to.1 lower)
+    sym (cell-fall (class_seconds c.args.office.now c.args.owners.now c.args.class.owner c.args.class.band.0) c.args.from.0 c.args.from.1 c.args.to.0 c.args.to.1 lower)
 
 -- no asked seconds have more than the difference
 share-at_most : (asked : ℕ → Bool) (from to : ℕ × ℕ) (wh : ℕ) → wh ≡ cell asked from to → wh ≤ to.1 - from.1

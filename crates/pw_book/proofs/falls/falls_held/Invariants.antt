@@ -1,6 +1,6 @@
 use Rattle.std.proofs.Common.{◌*◌}
 use Rattle.pw_book.specs.Asking.{IsOnlyAsked}
-use Rattle.pw_book.specs.Places.{FallsBefore}
+use Rattle.pw_book.specs.inner.Places.{FallsBefore}
 use Rattle.pw_book.proofs.falls.falls_held.Given as goal
 
 abbrev pub invariant-loop-meter : goal.invariant-loop-meter

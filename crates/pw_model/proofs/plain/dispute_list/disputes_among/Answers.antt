@@ -1,6 +1,6 @@
 use Rattle.std.proofs.Common.{sym, ap, ◌∙◌}
 use Rattle.std.proofs.lemmas.Bool.{true≢false}
-use Rattle.pw_model.specs.Search.{DisputesUnder, IsKeyBehind}
+use Rattle.pw_model.specs.inner.Search.{DisputesUnder, IsKeyBehind}
 use Rattle.pw_model.proofs.Places.{at-told}
 use Rattle.pw_model.proofs.SoFar.{so-far-first}
 use Rattle.pw_model.proofs.PlainDisputes.{count-first, count-again, count-none, disputes-pass_again, disputes-pass_few, disputes-push, disputes-end}

@@ -1,4 +1,4 @@
-use Rattle.pw_model.specs.Search.{DisputesUnder}
+use Rattle.pw_model.specs.inner.Search.{DisputesUnder}
 use Rattle.pw_model.proofs.SoFar.{IsSoFar}
 use Rattle.pw_model.proofs.PlainDisputes.{IsCountUp}
 use Rattle.pw_model.proofs.plain.dispute_list.disputes_among.Given as goal

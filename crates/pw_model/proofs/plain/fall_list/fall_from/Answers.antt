@@ -1,6 +1,6 @@
 use Rattle.std.proofs.Common.{arith}
 use Rattle.pw_time.specs.declared.instant.TheConstants.{END_SECOND}
-use Rattle.pw_model.specs.Search.{high_reading}
+use Rattle.pw_model.specs.inner.Search.{high_reading}
 use Rattle.pw_model.proofs.Places.{at-told, at-one}
 use Rattle.pw_model.proofs.PlainFalls.{fall-not_counting, none-behind, no-fall, fall-found, fall-at}
 use Rattle.pw_model.proofs.plain.fall_list.fall_from.Goals as goal

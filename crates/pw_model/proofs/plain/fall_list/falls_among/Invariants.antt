@@ -1,4 +1,4 @@
-use Rattle.pw_model.specs.Search.{FallsFrom}
+use Rattle.pw_model.specs.inner.Search.{FallsFrom}
 use Rattle.pw_model.proofs.SoFar.{IsSoFar}
 use Rattle.pw_model.proofs.plain.fall_list.falls_among.Given as goal
 

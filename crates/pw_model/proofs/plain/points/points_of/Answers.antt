@@ -2,7 +2,7 @@ use Rattle.std.proofs.Common.{◌≡◌, All, List, [], ◌∷◌, ◌++◌, ap,
 use Rattle.std.specs.List.Sorted.{IsStrictlyIncreasing}
 use Rattle.pw_time.specs.Instants.{IsInstant}
 use Rattle.pw_flow.specs.declared.plain.Point.{Point}
-use Rattle.pw_flow.specs.Plain.{seconds_of, value_at}
+use Rattle.pw_flow.specs.Plain.{times_of, value_at}
 use Rattle.pw_model.proofs.Places.{at-told, take-all}
 use Rattle.pw_model.proofs.PlainPoints.{point_of, counted, counted-next, counted-pass, instants-more, points-rise, points-told}
 use Rattle.pw_model.proofs.plain.points.points_of.Goals as goal
@@ -32,7 +32,7 @@ pub returns-clause-rising : goal.returns-clause-rising
 returns-clause-rising c =
     let all : c.loop-row.points.items ≡ counted c.in_ok-rows.rows.items
     = c.loop-row.invariant.points ∙ ap counted (take-all c.deref-row-items.result.now c.loop-row.row-index c.loop-row-test.false ∙ c.deref-row-items.ensures.value) in
-    let P : List Point → Type 0 = λ ps. IsStrictlyIncreasing (seconds_of ps) in
+    let P : List Point → Type 0 = λ ps. IsStrictlyIncreasing (times_of ps) in
     subst P (sym all) (points-rise c.args.entries.now c.args.meter.0 c.args.register c.in_ok-rows.rows.items c.in_ok-rows.ensures)
 
 pub returns-clause-values : goal.returns-clause-values

@@ -1,4 +1,4 @@
-use Rattle.pw_model.specs.Search.{RowsOf}
+use Rattle.pw_model.specs.inner.Search.{RowsOf}
 use Rattle.pw_model.proofs.SoFar.{IsSoFar}
 use Rattle.pw_model.proofs.plain.reading_list.rows_among.Given as goal
 

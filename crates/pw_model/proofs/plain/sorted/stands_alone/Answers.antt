@@ -1,6 +1,6 @@
 use Rattle.std.proofs.Common.{◌≡◌, ℕ, ◌-◌, sym, subst, ◌∙◌, arith}
 use Rattle.std.proofs.lemmas.Bool.{true≢false}
-use Rattle.pw_model.specs.Search.{IsKeyBehind}
+use Rattle.pw_model.specs.inner.Search.{IsKeyBehind}
 use Rattle.pw_model.proofs.Places.{alone-told, not-alone}
 use Rattle.pw_model.proofs.plain.sorted.stands_alone.Goals as goal
 use Rattle.pw_model.proofs.plain.sorted.stands_alone.Goals.{else-index-gt0-via-then-index-gt0+else-has_key_behind, else-index-gt0-via-else-index-gt0}

@@ -1,4 +1,4 @@
--- What the parts of the reader of addresses answer.
+-- What the parts of the reader of addresses answer. It serves `src/address.rt`.
 use Rattle.std.specs.Prelude.{◌≡◌, ℕ, ◌<◌, List, ◌∷◌, ◌++◌, slice_index, Option, Some, None}
 use Rattle.std.specs.Char.{digit_value}
 use Rattle.pw_obis.specs.Address.{Group, Before, Behind}

@@ -1,4 +1,5 @@
 -- From each place of a block on there is a list of sets and an end or a refusal: one is found by trying.
+-- The model of `Sets` names what is found here.
 -- What counts is what the record FromPlace says of it; that there is no other is a law of this crate.
 use Rattle.std.proofs.Common.{zero, suc, ◌≡◌, ℕ, ◌+◌, ◌<◌, ◌≤◌, ◌⊎◌, inl, inr, ⊎_elim, Option, Some, None, List, [], ◌∷◌, ◌++◌, length, refl, sym, subst, arith, get_or}
 use Rattle.std.specs.Prelude.{slice_index, slice_range}
@@ -6,7 +7,7 @@ use Rattle.std.proofs.lemmas.List.{get_or_past}
 use Rattle.std.proofs.lemmas.Bool.{cases_lt, cases_eq}
 use Rattle.pw_obis.specs.Line.{SetText, IsText, TextAt, ValueAt, ValuesAt, SetAt, SetsAt}
 use Rattle.pw_obis.specs.Block.{LinesAt}
-use Rattle.pw_obis.specs.Places.{one_text, one_value, reach_set, no_line, stuck_set, values_rise, sets_rise, line_within}
+use Rattle.pw_obis.specs.lemmas.Places.{one_text, one_value, reach_set, no_line, stuck_set, values_rise, sets_rise, line_within}
 
 past : (b : List ℕ) (i c : ℕ) → length b ≤ i → slice_index b i ≡ c → 0 < c → ⊥
 past b i c l e h = let z : get_or b i 0 ≡ 0 = get_or_past b i 0 l in omega (arith, z, e, h)

@@ -1,4 +1,4 @@
--- The records that count, and what they tell by the second.
+-- The records that count, and what they tell by the second. It serves the questions of a book.
 -- (Definitions of this project.)
 use Rattle.std.specs.Prelude.{◌≡◌, ◌<◌, ℕ, Bool, Option, Some, None, List}
 use Rattle.std.specs.Ordering.{nat_cmp}
@@ -47,9 +47,9 @@ given_at _ _ = None
 abbrev pub given : Entry → Option (ℕ × Option AccountId)
 given e = given_at e.key e.content
 
--- a row of what a reading shows
-abbrev pub row : ℕ × ℕ → Bool → ReadingRow
-row shows counts = record { instant = shows.0; wh = shows.1; counted = counts }
+-- a row_of_reading of what a reading shows
+abbrev pub row_of_reading : ℕ × ℕ → Bool → ReadingRow
+row_of_reading shows counts = record { instant = shows.0; wh = shows.1; counted = counts }
 
 -- a fall of the register whose values are told by the second
 pub record IsFallOf (m : MeterId) (r : Register) (told : ℕ → Option ℕ) (f : Fall) : Type 0 where

@@ -1,4 +1,4 @@
--- A place has one text, one value, one run of values, one set; and how far each goes.
+-- A place has one text, one value, one run of values, one set; and how far each goes. `Found` and the proofs name them.
 -- These are lemmas on the relations of Line, not definitions. They stand here because Found names them.
 use Rattle.std.proofs.Common.{zero, suc, ◌≡◌, ℕ, ◌+◌, ◌<◌, ◌≤◌, ⊎_elim, List, [], ◌∷◌, length, get_or, refl, sym, ◌∙◌, subst, arith}
 use Rattle.std.specs.Prelude.{slice_index, slice_range}

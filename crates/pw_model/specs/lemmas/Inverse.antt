@@ -1,4 +1,4 @@
--- A reference gives its fields back.
+-- A reference gives its fields back. The model of `Reference` names it.
 use Rattle.std.specs.Prelude.{◌≡◌, length, take}
 use Rattle.std.proofs.Common.{sym}
 use Rattle.pw_model.specs.References.{IsReference, padded}

@@ -1,4 +1,4 @@
--- Which records a store in memory looks for.
+-- Which records a store in memory looks for. It serves `src/lists.rt`.
 -- (Definitions of this project.)
 use Rattle.std.specs.Prelude.{[], ◌∷◌}
 use Rattle.pw_time.specs.declared.instant.TheConstants.{FIRST_SECOND}

@@ -4,14 +4,15 @@ use Rattle.pw_frame.specs.declared.frame.Kind.{Kind}
 use Rattle.pw_frame.specs.declared.frame.Kind.TheVariants.{Telegram, Readout}
 use Rattle.pw_frame.specs.declared.frame.FrameFault.{FrameFault}
 use Rattle.pw_frame.specs.declared.frame.FrameFault.TheVariants.{Header, NoEnd, Crc, Trailer, BlockCheck, HighBit}
-use Rattle.pw_frame.specs.Frame.{HeaderEnd, Head, Plain, Framed, Ending, Checks, block_start}
+use Rattle.pw_frame.specs.Frame.{HeaderEnd, Head, Plain, Framed, FrameEnding, Checks, block_start}
+use Rattle.pw_frame.specs.Bytes.{CR, SLASH}
 
 -- a header with a byte that doesn't fit it, none of them above 7F, or with neither an empty line nor STX behind it
 pub record BadHeader (rest : List ℕ) : Type 0 where
   pub end : ℕ
   pub header : HeaderEnd rest end
   pub low : slice_index rest end < 128
-  pub next : 5 ≤ end → slice_index rest end ≡ 13 → slice_index rest (end + 1) < 128
+  pub next : 5 ≤ end → slice_index rest end ≡ CR → slice_index rest (end + 1) < 128
   pub bad : (kind : Kind) → Head rest kind end → ⊥
 
 -- the first byte that doesn't fit the header is above 7F: it stands in place of a character or of CR ..
@@ -24,7 +25,7 @@ pub record HighLine (rest : List ℕ) (i : ℕ) : Type 0 where
   pub end : ℕ
   pub header : HeaderEnd rest end
   pub long : 5 ≤ end
-  pub cr : slice_index rest end ≡ 13
+  pub cr : slice_index rest end ≡ CR
   pub place : i ≡ end + 1
   pub high : 128 ≤ slice_index rest i
 
@@ -50,32 +51,23 @@ pub record BadEnding (rest : List ℕ) : Type 0 where
   pub header_end : ℕ
   pub block_end : ℕ
   pub framed : Framed rest kind header_end block_end
-  pub bad : (stated : ℕ) → Ending kind rest block_end stated → ⊥
+  pub bad : (stated : ℕ) → FrameEnding kind rest block_end stated → ⊥
 
 -- the stated check isn't the right one
 pub record BadCheck (kind : Kind) (rest : List ℕ) (stated computed : ℕ) : Type 0 where
   pub header_end : ℕ
   pub block_end : ℕ
   pub framed : Framed rest kind header_end block_end
-  pub ending : Ending kind rest block_end stated
+  pub ending : FrameEnding kind rest block_end stated
   pub right : Checks kind rest header_end block_end computed
   pub unlike : stated ≡ computed → ⊥
 
 -- The fault of a frame that should begin where `rest` does, `place` bytes from the body's start. It is told at that
 -- place, and a byte above 7F at its own.
 abbrev pub IsFault : List ℕ → ℕ → FrameFault → Type 0
-IsFault rest place (Header at) = (at ≡ place) × ((slice_index rest 0 ≡ 47 → ⊥) ⊎ BadHeader rest)
+IsFault rest place (Header at) = (at ≡ place) × ((slice_index rest 0 ≡ SLASH → ⊥) ⊎ BadHeader rest)
 IsFault rest place (NoEnd at) = (at ≡ place) × Endless rest
 IsFault rest place (Crc at stated computed) = (at ≡ place) × BadCheck Telegram rest stated computed
 IsFault rest place (Trailer at) = (at ≡ place) × BadEnding rest
 IsFault rest place (BlockCheck at stated computed) = (at ≡ place) × BadCheck Readout rest stated computed
 IsFault rest place (HighBit at) = (i : ℕ) × (at ≡ place + i) × (HighHeader rest i ⊎ (HighLine rest i ⊎ HighBlock rest i))
-
--- the faults that the search for the end of a block that begins at `start` can find
-abbrev pub IsBlockFault : List ℕ → ℕ → ℕ → FrameFault → Type 0
-IsBlockFault rest start place (NoEnd at) = (at ≡ place) × ((stop : ℕ) → Plain rest start stop)
-IsBlockFault rest start place (HighBit at) = (i : ℕ) × (at ≡ place + i) × (start ≤ i) × Plain rest start i × (128 ≤ slice_index rest i)
-IsBlockFault rest start place (Header at) = ⊥
-IsBlockFault rest start place (Crc at stated computed) = ⊥
-IsBlockFault rest start place (Trailer at) = ⊥
-IsBlockFault rest start place (BlockCheck at stated computed) = ⊥

@@ -1,4 +1,5 @@
 -- Falls and disputes, as far as registers, meters and kinds were looked through.
+-- It serves `src/falls.rt` and `src/disputes.rt`.
 -- (Definitions of this project.)
 use Rattle.std.specs.Prelude.{ℕ, ◌+◌, ◌*◌, ◌<◌, ◌≤◌, List, length}
 use Rattle.pw_model.specs.declared.records.Key.{Key}

@@ -1,4 +1,4 @@
--- Records in order, those of one key together.
+-- Records in order, those of one key together. It serves `src/disputes.rt` and `src/counting.rt`.
 -- (Definitions of this project.)
 use Rattle.std.specs.Prelude.{◌≡◌, ℕ, ◌+◌, ◌^◌, ◌<◌, ◌≤◌, Bool, false, Option, Some, None, List, [], ◌∷◌, ◌++◌, length, take, drop}
 use Rattle.pw_model.specs.declared.records.Dispute.{Dispute}
@@ -13,14 +13,14 @@ pub record HasSameKey (first : Entry) (others : List Entry) (count : ℕ) : Type
   pub apart : (e : Entry) → Member e (drop count others) → e.key ≡ first.key → ⊥
 
 -- the last of a list, if it has any
-abbrev pub IsLast : List Entry → Option Entry → Type 0
-IsLast done None = done ≡ []
-IsLast done (Some e) = (front : List Entry) × (done ≡ front ++ e ∷ [])
+abbrev pub IsLastOf : List Entry → Option Entry → Type 0
+IsLastOf done None = done ≡ []
+IsLastOf done (Some e) = (front : List Entry) × (done ≡ front ++ e ∷ [])
 
 -- the first of a list, if it has any
-abbrev pub IsFirst : List Entry → Option Entry → Type 0
-IsFirst [] e = e ≡ None
-IsFirst (x ∷ xs) e = e ≡ Some x
+abbrev pub IsFirstOf : List Entry → Option Entry → Type 0
+IsFirstOf [] e = e ≡ None
+IsFirstOf (x ∷ xs) e = e ≡ Some x
 
 -- a record, if it is there, has the key of another
 abbrev pub has_same_key : Option Entry → Entry → Bool

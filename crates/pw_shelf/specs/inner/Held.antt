@@ -1,4 +1,4 @@
--- What a store in memory knows of the records that it keeps.
+-- What a store in memory knows of the records that it keeps. It serves `src/held.rt`, which keeps these facts.
 -- (Definitions of this project.)
 use Rattle.std.specs.Prelude.{List, [], ◌∷◌}
 use Rattle.std.proofs.Props.{props}

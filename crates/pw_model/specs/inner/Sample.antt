@@ -1,4 +1,4 @@
--- The office that tests use: two accounts, three meters, and the bands L (low) and H (high).
+-- The office that tests use: two accounts, three meters, and the bands L (low) and H (high). It serves the tests.
 -- (A sample of this project.)
 use Rattle.std.specs.Prelude.{ℕ, ◌%◌, Bool, true, false, ◌==◌, ◌&&◌, nat_le, nat_lt, cond}
 use Rattle.pw_obis.specs.declared.reference.Register.{Register}
@@ -6,7 +6,7 @@ use Rattle.pw_obis.specs.declared.reference.Register.TheVariants.{I0, I1, I2, E0
 use Rattle.pw_tariff.specs.declared.ids.Direction.{Direction}
 use Rattle.pw_tariff.specs.declared.ids.Direction.TheVariants.{Import, Export}
 use Rattle.pw_time.specs.declared.instant.TheConstants.{END_SECOND}
-use Rattle.pw_tariff.specs.Office.{Office}
+use Rattle.pw_tariff.specs.Office.{OfficeRules}
 
 -- the first meter counts two rates of each direction, the others import in total
 abbrev pub sample_counts : ℕ → Register → Bool
@@ -25,7 +25,7 @@ abbrev pub sample_price : ℕ → Direction → ℕ
 sample_price b Import = cond (b == 0) 200_000 300_000
 sample_price b Export = 50_000
 
-abbrev pub sample : Office
+abbrev pub sample : OfficeRules
 sample = record {
   accounts = 2;
   meters = 3;
