@@ -7,7 +7,7 @@ use Rattle.pw_flow.specs.Pairs.{ListsPoints}
 use Rattle.pw_flow.specs.Pairs.{pairs_sum}
 use Rattle.pw_flow.proofs.Points.{option-cases}
 use Rattle.pw_model.specs.Counting.{Member}
-use Rattle.pw_model.specs.Lists.{IsSorted}
+use Rattle.pw_model.specs.Lists.{IsInOrder}
 use Rattle.pw_book.specs.inner.Counted.{ListsSeconds, by_second}
 use Rattle.pw_book.proofs.Groups.{before-member}
 
@@ -21,7 +21,7 @@ less-is x y h = elim (cases_lt x y) [
 ]
 
 -- a list of the points from a second on
-listed-from : (told : ℕ → Option ℕ) (end from : ℕ) (ps : List (ℕ × ℕ)) → IsSorted by_second ps → ((a : ℕ × ℕ) → Member a ps → (told a.0 ≡ Some a.1) × (from ≤ a.0) × (a.0 < end)) →
+listed-from : (told : ℕ → Option ℕ) (end from : ℕ) (ps : List (ℕ × ℕ)) → IsInOrder by_second ps → ((a : ℕ × ℕ) → Member a ps → (told a.0 ≡ Some a.1) × (from ≤ a.0) × (a.0 < end)) →
     ((t w : ℕ) → from ≤ t → told t ≡ Some w → Member (t, w) ps) → ListsPoints told end from ps
 listed-from told end from [] r h k = λ s l. elim (option-cases (told s)) [
   | inl n ↦ n

@@ -10,7 +10,7 @@ use Rattle.pw_tariff.specs.declared.ids.MeterId.{MeterId}
 use Rattle.pw_tariff.specs.Office.{register_place}
 use Rattle.pw_model.specs.declared.records.Fall.{Fall}
 use Rattle.pw_model.specs.Counting.{Member}
-use Rattle.pw_model.specs.Lists.{IsSorted, Lists, fall_order, fall_numbers}
+use Rattle.pw_model.specs.Lists.{IsInOrder, Lists, fall_order, fall_numbers}
 use Rattle.pw_book.specs.inner.Counted.{IsFallOf, ListsSeconds}
 use Rattle.pw_book.proofs.Groups.{before-all}
 use Rattle.pw_book.proofs.Chart.{listed}
@@ -119,7 +119,7 @@ module _ (m : MeterId) (r : Register) (told : ℕ → Option ℕ) (end : ℕ) wh
   in-order f g a b c d l =
       rw (a, b, c, d, same-number m.0, same-number (register_place r), sym (nat_cmp_is f.from g.from Less l)) refl
 
-  rise : (from : ℕ) (ps : List (ℕ × ℕ)) → flow.ListsPoints told end from ps → IsSorted fall_order (falls_in m r ps)
+  rise : (from : ℕ) (ps : List (ℕ × ℕ)) → flow.ListsPoints told end from ps → IsInOrder fall_order (falls_in m r ps)
   rise from [] l = tt
   rise from (a ∷ []) l = tt
   rise from (a ∷ b ∷ ps) l =

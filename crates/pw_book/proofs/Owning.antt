@@ -9,7 +9,7 @@ use Rattle.pw_model.specs.declared.records.Key.{Key}
 use Rattle.pw_model.specs.declared.records.Contents.{Contents}
 use Rattle.pw_model.specs.Counting.{Member, start}
 use Rattle.pw_model.specs.Energy.{owner_at as owner_told}
-use Rattle.pw_model.specs.Lists.{IsSorted}
+use Rattle.pw_model.specs.Lists.{IsInOrder}
 use Rattle.pw_book.specs.inner.Counted.{ListsSeconds, by_second}
 use Rattle.pw_book.proofs.Chart.{less-is}
 use Rattle.pw_book.proofs.Groups.{before-member}
@@ -29,7 +29,7 @@ start-back (x ∷ xs) s o e = elim (cases_eq x.0 s) [
       inr (start-back xs s o v))
 ]
 
-start-there : (xs : List Start) (s : ℕ) (o : Option AccountId) → IsSorted by_second xs → Member (s, o) xs → start_at xs s ≡ Some o
+start-there : (xs : List Start) (s : ℕ) (o : Option AccountId) → IsInOrder by_second xs → Member (s, o) xs → start_at xs s ≡ Some o
 unfolding start_at
 start-there [] s o r m = absurd m
 start-there (x ∷ xs) s o r (inl i) =
@@ -53,7 +53,7 @@ pub owners-told : (at : Key → Contents) (m : ℕ) (xs : List Start) → ListsS
 unfolding owner_by_starts owner_told
 owners-told at m xs l t = ap owner_from (last-same (start_at xs) (start at m) t (λ s k. starts-told (start at m) xs l s))
 
-pub starts-rise : (xs : List Start) → IsSorted by_second xs → StartsIncrease xs
+pub starts-rise : (xs : List Start) → IsInOrder by_second xs → StartsIncrease xs
 starts-rise [] r k l = absurd (omega arith)
 starts-rise (x ∷ []) r k l = absurd (omega arith)
 starts-rise (x ∷ y ∷ xs) r zero l = less-is x.0 y.0 r.0.0

@@ -12,7 +12,7 @@ use Rattle.pw_model.specs.declared.records.Entry.{Entry}
 use Rattle.pw_model.specs.declared.records.Contents.{Contents}
 use Rattle.pw_model.specs.declared.records.Contents.TheVariants.{Nothing, One, Several}
 use Rattle.pw_model.specs.Counting.{Member, SameMembers, contents_at}
-use Rattle.pw_model.specs.Lists.{IsSorted}
+use Rattle.pw_model.specs.Lists.{IsInOrder}
 use Rattle.pw_model.specs.Office.{AllOfOffice, IsOf}
 use Rattle.pw_model.specs.Payments.{stands_in, sum_once, keys, cents_for, topped_up}
 use Rattle.pw_model.specs.Same.{same_key, entry_order}
@@ -45,7 +45,7 @@ key-of k (e ∷ es) m = elim m [
 ]
 
 -- of records whose keys differ, each adds its own
-once-each : (f : Key → ℕ) (es : List Entry) → IsSorted entry_order es → ((a b : Entry) → Member a es → Member b es → a.key ≡ b.key → a ≡ b) → sum_once same_key f (keys es) ≡ sum_by (λ e. f e.key) es
+once-each : (f : Key → ℕ) (es : List Entry) → IsInOrder entry_order es → ((a b : Entry) → Member a es → Member b es → a.key ≡ b.key → a ≡ b) → sum_once same_key f (keys es) ≡ sum_by (λ e. f e.key) es
 once-each f [] r h = refl
 once-each f (e ∷ es) r h =
     let behind = once-each f es r.1 (λ a b m n. h a b (inr m) (inr n)) in

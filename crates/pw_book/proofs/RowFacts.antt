@@ -12,7 +12,7 @@ use Rattle.pw_tariff.specs.Office.{register_place}
 use Rattle.pw_model.specs.declared.records.Entry.{Entry}
 use Rattle.pw_model.specs.declared.records.ReadingRow.{ReadingRow}
 use Rattle.pw_model.specs.Counting.{Member, Counts}
-use Rattle.pw_model.specs.Lists.{IsSorted, Lists, AreReadings, reading_entry, reading_order, reading_numbers}
+use Rattle.pw_model.specs.Lists.{IsInOrder, Lists, AreReadings, reading_entry, reading_order, reading_numbers}
 use Rattle.pw_model.specs.Same.{entry_order, key_numbers, content_numbers}
 use Rattle.pw_shelf.specs.Rows.{IsReadingOf, ListsReadings}
 use Rattle.pw_book.specs.inner.Counted.{row_of_reading, shown}
@@ -116,12 +116,12 @@ whole-is all rest others done e r s = s ∙ ap (λ xs. done ++ xs) r
 on : (all others done : List Entry) (e : Entry) → all ≡ done ++ e ∷ others → all ≡ (done ++ e ∷ []) ++ others
 on all others done e w = w ∙ sym (append_assoc done (e ∷ []) others)
 
-pub next-row : (all rest others : List Entry) (before : Option Entry) (rows new : List ReadingRow) (e : Entry) (counted : Bool) (a : ℕ × ℕ) → IsSorted entry_order all → rest ≡ e ∷ others →
-    RowsSoFar all rest before rows → ((done : List Entry) → IsSorted entry_order (done ++ e ∷ others) → IsLastOf done before → IsTrue counted ↔ Counts (done ++ e ∷ others) e) →
+pub next-row : (all rest others : List Entry) (before : Option Entry) (rows new : List ReadingRow) (e : Entry) (counted : Bool) (a : ℕ × ℕ) → IsInOrder entry_order all → rest ≡ e ∷ others →
+    RowsSoFar all rest before rows → ((done : List Entry) → IsInOrder entry_order (done ++ e ∷ others) → IsLastOf done before → IsTrue counted ↔ Counts (done ++ e ∷ others) e) →
     shown e ≡ Some a → new ≡ rows ++ row_of_reading a counted ∷ [] → RowsSoFar all others (Some e) new
 next-row all rest others before rows new e counted a rise r s d h n =
     let w : all ≡ s.0 ++ e ∷ others = whole-is all rest others s.0 e r s.1 in
-    let up : IsSorted entry_order (s.0 ++ e ∷ others) = (let P : List Entry → Type 0 = IsSorted entry_order in subst P w rise) in
+    let up : IsInOrder entry_order (s.0 ++ e ∷ others) = (let P : List Entry → Type 0 = IsInOrder entry_order in subst P w rise) in
     let counts : IsTrue counted ↔ Counts all e = (let P : List Entry → Type 0 = λ xs. IsTrue counted ↔ Counts xs e in subst P (sym w) (d s.0 up s.2)) in
     let inside : Member e all = (let P : List Entry → Type 0 = λ xs. Member e xs in subst P (sym w) (member-right e s.0 (e ∷ others) (inl refl))) in (
       s.0 ++ e ∷ [],
@@ -172,8 +172,8 @@ all-rows s all [] before rows m r e d h =
 all-rows s all (x ∷ rest) before rows m r e d h = absurd (omega arith)
 
 -- by what the row_of_reading of a record is
-pub row-told : (all rest others : List Entry) (before : Option Entry) (rows new : List ReadingRow) (e : Entry) (counted : Bool) (q : ReadingRow) → IsSorted entry_order all → rest ≡ e ∷ others →
-    RowsSoFar all rest before rows → ((done : List Entry) → IsSorted entry_order (done ++ e ∷ others) → IsLastOf done before → IsTrue counted ↔ Counts (done ++ e ∷ others) e) →
+pub row-told : (all rest others : List Entry) (before : Option Entry) (rows new : List ReadingRow) (e : Entry) (counted : Bool) (q : ReadingRow) → IsInOrder entry_order all → rest ≡ e ∷ others →
+    RowsSoFar all rest before rows → ((done : List Entry) → IsInOrder entry_order (done ++ e ∷ others) → IsLastOf done before → IsTrue counted ↔ Counts (done ++ e ∷ others) e) →
     option_map (λ a. row_of_reading a counted) (shown e) ≡ Some q → new ≡ rows ++ q ∷ [] → RowsSoFar all others (Some e) new
 row-told all rest others before rows new e counted q rise r s d h n = elim (option-cases (shown e)) [
   | inl i ↦ absurd (none-some q (let g = rw i at h in g))

@@ -8,11 +8,11 @@ use Rattle.pw_obis.specs.declared.reference.Register.{Register}
 use Rattle.pw_obis.specs.declared.reference.Register.TheVariants.{I0, I1, I2, E0, E1, E2}
 use Rattle.pw_tariff.specs.Office.{register_place}
 use Rattle.pw_model.specs.Counting.{Member}
-use Rattle.pw_model.specs.Lists.{IsSorted, Lists}
+use Rattle.pw_model.specs.Lists.{IsInOrder, Lists}
 use Rattle.pw_book.proofs.Groups.{member-left, member-right, member-split, before-member, before-all}
 
 module _ {X : Type 0} (order : X → X → Ordering) where
-  rising-joined : (xs ys : List X) → IsSorted order xs → IsSorted order ys → ((x y : X) → Member x xs → Member y ys → order x y ≡ Less) → IsSorted order (xs ++ ys)
+  rising-joined : (xs ys : List X) → IsInOrder order xs → IsInOrder order ys → ((x y : X) → Member x xs → Member y ys → order x y ≡ Less) → IsInOrder order (xs ++ ys)
   rising-joined [] ys r s h = s
   rising-joined (x ∷ xs) ys r s h = (
     before-all order x (xs ++ ys) (λ z m. elim (member-split z xs ys m) [ inl a ↦ before-member order x z xs r.0 a | inr b ↦ h x z (inl refl) b ]),

@@ -2,7 +2,7 @@
 
 ghost use Rattle.std.specs.Prelude.{◌≡◌, ◌+◌, ◌*◌, ◌^◌, ◌<◌, ◌≤◌, ℕ, IfOk, OnOk, IsNone, length};
 ghost use Rattle.pw_model.specs.declared.records.Key.{Key as AKey};
-ghost use Rattle.pw_model.specs.Lists.{AreDisputes, IsDispute, IsSorted, Lists, dispute_order, records_at};
+ghost use Rattle.pw_model.specs.Lists.{AreDisputes, IsDispute, IsInOrder, Lists, dispute_order, records_at};
 ghost use Rattle.pw_model.specs.Office.{AllOfOffice, most_records};
 ghost use Rattle.pw_model.specs.Same.{entry_order};
 ghost use Rattle.pw_shelf.specs.Calls.{failures_told};
@@ -143,7 +143,7 @@ fn add_topups<S: Shelf>(
 
 // The keys that two or more of some records have, and how many.
 pub(crate) fn disputes_of(alloc: Global, records: &[Entry]) -> Result<Vec<Dispute>, AllocError>
-    ensures { IsSorted entry_order records.now → ((k : AKey) → records_at records.now k < 2 ^ 32) → IfOk result (λ disputes. Lists dispute_order (IsDispute records.now) disputes.items) }
+    ensures { IsInOrder entry_order records.now → ((k : AKey) → records_at records.now k < 2 ^ 32) → IfOk result (λ disputes. Lists dispute_order (IsDispute records.now) disputes.items) }
 {
     let mut disputes = Vec::new(alloc);
     let mut rest = records;

@@ -2,7 +2,7 @@
 
 ghost use Rattle.std.specs.Prelude.{◌≡◌, ℕ, ◌^◌, ◌<◌, ◌≤◌, Option, Some, IfOk};
 ghost use Rattle.pw_flow.specs.Energy.{cell, register_energy};
-ghost use Rattle.pw_model.specs.Lists.{IsSorted};
+ghost use Rattle.pw_model.specs.Lists.{IsInOrder};
 ghost use Rattle.pw_tariff.specs.Cells.{energy_in, is_of};
 ghost use Rattle.pw_tariff.specs.Owners.{same_owner};
 ghost use Rattle.pw_tariff.specs.Shares.{class_seconds};

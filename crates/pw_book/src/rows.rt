@@ -3,7 +3,7 @@
 ghost use Rattle.std.specs.Prelude.{◌≡◌, ◌∷◌, ◌++◌, ◌↔◌, List, IfOk, IsNone, IsTrue, option_map};
 ghost use Rattle.pw_model.specs.declared.records.Entry.{Entry as ARecord};
 ghost use Rattle.pw_model.specs.Counting.{Counts};
-ghost use Rattle.pw_model.specs.Lists.{AreReadings, IsSorted};
+ghost use Rattle.pw_model.specs.Lists.{AreReadings, IsInOrder};
 ghost use Rattle.pw_model.specs.Same.{entry_order};
 ghost use Rattle.pw_shelf.specs.Rows.{ListsReadings};
 ghost use Rattle.pw_shelf.specs.Calls.{failures_told};
@@ -54,7 +54,7 @@ pub(crate) fn rows_of(alloc: Global, readings: &[Entry]) -> Result<Vec<ReadingRo
 
 // Whether a record has a key of its own among records in order: whether it counts.
 fn is_alone(before: &Option<Entry>, entry: &Entry, others: &[Entry]) -> bool
-    ensures { (done : List ARecord) → IsSorted entry_order (done ++ entry.now ∷ others.now) → IsLastOf done before.now → IsTrue result ↔ Counts (done ++ entry.now ∷ others.now) entry.now }
+    ensures { (done : List ARecord) → IsInOrder entry_order (done ++ entry.now ∷ others.now) → IsLastOf done before.now → IsTrue result ↔ Counts (done ++ entry.now ∷ others.now) entry.now }
 {
     !has_same_key(before, entry) && !has_same_key(&first_of(others), entry)
 }

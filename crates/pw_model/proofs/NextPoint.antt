@@ -13,7 +13,7 @@ use Rattle.pw_model.specs.declared.records.Content.TheVariants as content
 use Rattle.pw_model.specs.declared.records.Entry.{Entry}
 use Rattle.pw_model.specs.Same.{key_numbers, key_order, entry_order}
 use Rattle.pw_model.specs.Counting.{Member, Counts, contents_at, wh_of, point, reading_key}
-use Rattle.pw_model.specs.Lists.{IsSorted, reading_entry}
+use Rattle.pw_model.specs.Lists.{IsInOrder, reading_entry}
 use Rattle.pw_model.specs.inner.Search.{IsAt, NoPoint, IsEarliestAmong}
 use Rattle.pw_flow.proofs.Points.{option-cases}
 use Rattle.pw_model.proofs.Same.{register-one}
@@ -103,7 +103,7 @@ passed-more s m r i j t e h a k n = record {
 
 -- what stands at place i, and at place j behind it
 pub record AreRegister (s : List Entry) (m : ℕ) (r : Register) (x i j : ℕ) (b : Entry) : Type 0 where
-  pub rising : IsSorted entry_order s
+  pub rising : IsInOrder entry_order s
   pub at : IsAt s i b
   pub key : b.key ≡ reading_key m r x
   pub later : i < j
@@ -177,7 +177,7 @@ next-end s m r x i j y b h l = λ f mem u q g v.
     h.passed.none at.0 f u above (let k = at.1.0 in omega (arith, k)) at.1 q
 
 -- what stands at the place is found there
-pub are-register : (s : List Entry) (m : ℕ) (r : Register) (x i j : ℕ) → IsSorted entry_order s → i < length s → ((e : Entry) → IsAt s i e → e.key ≡ reading_key m r x) → i + 1 ≤ j → IsPassed s m r i j →
+pub are-register : (s : List Entry) (m : ℕ) (r : Register) (x i j : ℕ) → IsInOrder entry_order s → i < length s → ((e : Entry) → IsAt s i e → e.key ≡ reading_key m r x) → i + 1 ≤ j → IsPassed s m r i j →
     (b : Entry) × AreRegister s m r x i j b
 are-register s m r x i j rising l k g p =
     let b = at-there s i l in

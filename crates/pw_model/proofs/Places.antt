@@ -9,7 +9,7 @@ use Rattle.pw_model.specs.declared.records.Key.{Key}
 use Rattle.pw_model.specs.declared.records.Entry.{Entry}
 use Rattle.pw_model.specs.Same.{key_numbers, key_order, entry_order, same_key}
 use Rattle.pw_model.specs.Counting.{Member, SameMembers, Counts, IsInserted}
-use Rattle.pw_model.specs.Lists.{IsSorted}
+use Rattle.pw_model.specs.Lists.{IsInOrder}
 use Rattle.pw_model.specs.inner.Search.{IsAt, IsKeyBehind}
 use Rattle.pw_model.proofs.Same.{same_key-decides}
 use Rattle.pw_model.proofs.InOrder.{IsStrict, by-numbers, before-member}
@@ -159,7 +159,7 @@ parts-same xs i x = (
 )
 
 -- ---- a list in order
-pub rising-at : {X : Type 0} (order : X → X → Ordering) (xs : List X) (i j : ℕ) (x y : X) → IsSorted order xs → IsAt xs i x → IsAt xs j y → i < j → order x y ≡ Less
+pub rising-at : {X : Type 0} (order : X → X → Ordering) (xs : List X) (i j : ℕ) (x y : X) → IsInOrder order xs → IsAt xs i x → IsAt xs j y → i < j → order x y ≡ Less
 rising-at order [] i j x y r a b l = absurd (let k = a.0 in omega (arith, k))
 rising-at order (z ∷ zs) i zero x y r a b l = absurd (omega arith)
 rising-at {X} order (z ∷ zs) zero (suc j) x y r a b l =
@@ -168,7 +168,7 @@ rising-at {X} order (z ∷ zs) zero (suc j) x y r a b l =
 rising-at order (z ∷ zs) (suc i) (suc j) x y r a b l =
     rising-at order zs i j x y r.1 (let k = a.0 in omega (arith, k), a.1) (let k = b.0 in omega (arith, k), b.1) (omega arith)
 
-pub rising-drop : {X : Type 0} (order : X → X → Ordering) (xs : List X) (i : ℕ) → IsSorted order xs → IsSorted order (drop i xs)
+pub rising-drop : {X : Type 0} (order : X → X → Ordering) (xs : List X) (i : ℕ) → IsInOrder order xs → IsInOrder order (drop i xs)
 rising-drop order xs zero r = r
 rising-drop order [] (suc i) r = r
 rising-drop order (x ∷ xs) (suc i) r = rising-drop order xs i r.1
@@ -200,7 +200,7 @@ up-to-one k l (inr a) b = a
 up-to-one k l (inl a) (inr b) = sym b
 up-to-one k l (inl a) (inl b) = absurd (key-strict.apart k (key-strict.trans k l k a b))
 
-pub at-up_to : (s : List Entry) (i j : ℕ) (e f : Entry) → IsSorted entry_order s → IsAt s i e → IsAt s j f → i ≤ j → KeyUpTo e.key f.key
+pub at-up_to : (s : List Entry) (i j : ℕ) (e f : Entry) → IsInOrder entry_order s → IsAt s i e → IsAt s j f → i ≤ j → KeyUpTo e.key f.key
 at-up_to s i j e f r a b l =
     elim (cases_lt i j) [
       | inl k ↦ entry-up_to e f (rising-at entry_order s i j e f r a b k)
@@ -211,7 +211,7 @@ at-up_to s i j e f r a b l =
     ]
 
 -- what stands between two records of one key has it too
-pub same-between : (s : List Entry) (i j l : ℕ) (e f g : Entry) → IsSorted entry_order s → IsAt s i e → IsAt s j f → IsAt s l g → i ≤ j → j ≤ l → e.key ≡ g.key → f.key ≡ e.key
+pub same-between : (s : List Entry) (i j l : ℕ) (e f g : Entry) → IsInOrder entry_order s → IsAt s i e → IsAt s j f → IsAt s l g → i ≤ j → j ≤ l → e.key ≡ g.key → f.key ≡ e.key
 same-between s i j l e f g r a b c h k q =
     let P : Key → Type 0 = λ v. KeyUpTo f.key v in
     up-to-one f.key e.key (subst P (sym q) (at-up_to s j l f g r b c k)) (at-up_to s i j e f r a b h)
@@ -229,16 +229,16 @@ behind-told s i e f b l k p q g =
     )
 
 -- no record stands at two places in order
-pub entry-apart : (s : List Entry) (i j : ℕ) (e : Entry) → IsSorted entry_order s → IsAt s i e → IsAt s j e → i < j → ⊥
+pub entry-apart : (s : List Entry) (i j : ℕ) (e : Entry) → IsInOrder entry_order s → IsAt s i e → IsAt s j e → i < j → ⊥
 entry-apart s i j e r a b l = entry-strict.apart e (rising-at entry_order s i j e e r a b l)
 
-places-apart : (s : List Entry) (i : ℕ) (e f : Entry) → IsSorted entry_order s → IsAt s i e → IsAt s (i + 1) f → e ≡ f → ⊥
+places-apart : (s : List Entry) (i : ℕ) (e f : Entry) → IsInOrder entry_order s → IsAt s i e → IsAt s (i + 1) f → e ≡ f → ⊥
 places-apart s i e f r a b q =
     let P : Entry → Type 0 = λ v. IsAt s (i + 1) v in
     entry-apart s i (i + 1) e r a (subst P (sym q) b) (omega arith)
 
 -- a record counts where its key is neither behind it nor before it
-pub key-behind : (s : List Entry) (i j : ℕ) (e f : Entry) → IsSorted entry_order s → IsAt s i e → IsAt s j f → i < j → f.key ≡ e.key → IsKeyBehind s i
+pub key-behind : (s : List Entry) (i j : ℕ) (e f : Entry) → IsInOrder entry_order s → IsAt s i e → IsAt s j f → i < j → f.key ≡ e.key → IsKeyBehind s i
 key-behind s i j e f r a b l q =
     let m : i + 1 < length s = let k = b.0 in cases-next k in
     (e, get_or s (i + 1) e, a, at-some s (i + 1) e m, sym (same-between s i (i + 1) j e (get_or s (i + 1) e) f r a (at-some s (i + 1) e m) b (omega arith) (omega arith) (sym q)))
@@ -246,14 +246,14 @@ key-behind s i j e f r a b l q =
     cases-next : j < length s → i + 1 < length s
     cases-next k = omega arith
 
-key-before : (s : List Entry) (p i j : ℕ) (e f : Entry) → IsSorted entry_order s → p + 1 ≡ i → IsAt s i e → IsAt s j f → j < i → f.key ≡ e.key → IsKeyBehind s p
+key-before : (s : List Entry) (p i j : ℕ) (e f : Entry) → IsInOrder entry_order s → p + 1 ≡ i → IsAt s i e → IsAt s j f → j < i → f.key ≡ e.key → IsKeyBehind s p
 key-before s p i j e f r n a b l q =
     let m : p < length s = let k = a.0 in omega (arith, k) in
     let P : ℕ → Type 0 = λ v. IsAt s v e in
     let there : IsAt s p (get_or s p e) = at-some s p e m in
     (get_or s p e, e, there, subst P (sym n) a, same-between s j p i f (get_or s p e) e r b there a (omega arith) (omega arith) q ∙ q)
 
-pub alone-counts : (s : List Entry) (i : ℕ) (e : Entry) → IsSorted entry_order s → IsAt s i e → ((p : ℕ) → p + 1 ≡ i → IsKeyBehind s p → ⊥) → (IsKeyBehind s i → ⊥) → Counts s e
+pub alone-counts : (s : List Entry) (i : ℕ) (e : Entry) → IsInOrder entry_order s → IsAt s i e → ((p : ℕ) → p + 1 ≡ i → IsKeyBehind s p → ⊥) → (IsKeyBehind s i → ⊥) → Counts s e
 alone-counts s i e r a before behind = (
   at-member s i e a,
   λ f m q.
@@ -274,13 +274,13 @@ alone-counts s i e r a before behind = (
     pred-of zero k l = absurd (omega arith)
     pred-of (suc n) k l = (n, omega arith)
 
-pub counts-alone : (s : List Entry) (i : ℕ) (e : Entry) → IsSorted entry_order s → IsAt s i e → Counts s e → IsKeyBehind s i → ⊥
+pub counts-alone : (s : List Entry) (i : ℕ) (e : Entry) → IsInOrder entry_order s → IsAt s i e → Counts s e → IsKeyBehind s i → ⊥
 counts-alone s i e r a c b =
     let one : b.0 ≡ e = at-one s i b.0 e b.2 a in
     let two : b.1 ≡ e = c.1 b.1 (at-member s (i + 1) b.1 b.3) (sym b.4 ∙ ap (λ (v : Entry). v.key) one) in
     places-apart s i b.0 b.1 r b.2 b.3 (one ∙ sym two)
 
-pub counts-first : (s : List Entry) (p i : ℕ) (e : Entry) → IsSorted entry_order s → p + 1 ≡ i → IsAt s i e → Counts s e → IsKeyBehind s p → ⊥
+pub counts-first : (s : List Entry) (p i : ℕ) (e : Entry) → IsInOrder entry_order s → p + 1 ≡ i → IsAt s i e → Counts s e → IsKeyBehind s p → ⊥
 counts-first s p i e r n a c b =
     let P : ℕ → Type 0 = λ v. IsAt s v b.1 in
     let two : b.1 ≡ e = at-one s i b.1 e (subst P n b.3) a in
@@ -288,10 +288,10 @@ counts-first s p i e r n a c b =
     places-apart s p b.0 b.1 r b.2 b.3 (one ∙ sym two)
 
 -- the test that answers by them
-pub alone-told : (s : List Entry) (i : ℕ) (b : Bool) → IsSorted entry_order s → ((p : ℕ) → p + 1 ≡ i → IsKeyBehind s p → ⊥) → IsTrue b ↔ IsKeyBehind s i →
+pub alone-told : (s : List Entry) (i : ℕ) (b : Bool) → IsInOrder entry_order s → ((p : ℕ) → p + 1 ≡ i → IsKeyBehind s p → ⊥) → IsTrue b ↔ IsKeyBehind s i →
     (e : Entry) → IsAt s i e → IsTrue (not b) ↔ Counts s e
 alone-told s i true r before h e a = (λ t. absurd (true≢false (sym t)), λ c. absurd (counts-alone s i e r a c (h.0 refl)))
 alone-told s i false r before h e a = (λ t. alone-counts s i e r a before (λ k. true≢false (sym (h.1 k))), λ c. refl)
 
-pub not-alone : (s : List Entry) (p i : ℕ) → IsSorted entry_order s → p + 1 ≡ i → IsKeyBehind s p → (e : Entry) → IsAt s i e → IsTrue false ↔ Counts s e
+pub not-alone : (s : List Entry) (p i : ℕ) → IsInOrder entry_order s → p + 1 ≡ i → IsKeyBehind s p → (e : Entry) → IsAt s i e → IsTrue false ↔ Counts s e
 not-alone s p i r n k e a = (λ t. absurd (true≢false (sym t)), λ c. absurd (counts-first s p i e r n a c k))

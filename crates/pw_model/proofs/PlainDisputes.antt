@@ -10,7 +10,7 @@ use Rattle.pw_model.specs.declared.records.Dispute.{Dispute}
 use Rattle.pw_model.specs.Same.{same_key, same_entry, key_order, entry_order}
 use Rattle.pw_model.specs.Counting.{Member}
 use Rattle.pw_model.specs.Payments.{keys, stands_in, sum_once}
-use Rattle.pw_model.specs.Lists.{IsSorted, IsDispute, dispute_order, records_at, AreDisputes}
+use Rattle.pw_model.specs.Lists.{IsInOrder, IsDispute, dispute_order, records_at, AreDisputes}
 use Rattle.pw_model.specs.inner.Search.{IsAt, IsKeyBehind, DisputesUnder, AreSorted}
 use Rattle.pw_model.proofs.Same.{same_key-decides, same_entry-decides}
 use Rattle.pw_model.proofs.Counting.{inserted-same}
@@ -38,13 +38,13 @@ key-first Greater p n h = h
 stands-not : (k : Key) (ks : List Key) → stands_in same_key k ks ≡ false → Member k ks → ⊥
 stands-not k ks h m = true≢false (sym ((stands-decides same_key same_key-decides (λ l. 0) k ks).1 m) ∙ h)
 
-pub disputes-more : (s : List Entry) (e : Entry) (some others : List Entry) (d : Dispute) (ds es : List Dispute) → some ≡ e ∷ others → IsSorted entry_order some → es ≡ d ∷ ds →
+pub disputes-more : (s : List Entry) (e : Entry) (some others : List Entry) (d : Dispute) (ds es : List Dispute) → some ≡ e ∷ others → IsInOrder entry_order some → es ≡ d ∷ ds →
     stands_in same_key e.key (keys others) ≡ false → e.key ≡ d.key → IsDispute s d → DisputesUnder s others ds → DisputesUnder s some es
 disputes-more s e some others d ds es i rising j no_key k a l =
     let P : List Entry → Type 0 = λ v. DisputesUnder s v es in
     let Q : List Dispute → Type 0 = λ v. DisputesUnder s (e ∷ others) v in
-    let R : List Entry → Type 0 = IsSorted entry_order in
-    let up : IsSorted entry_order (e ∷ others) = subst R i rising in
+    let R : List Entry → Type 0 = IsInOrder entry_order in
+    let up : IsInOrder entry_order (e ∷ others) = subst R i rising in
     let first : (g : Dispute) → Member g ds → dispute_order d g ≡ Less = λ g m. (
     let under : Member g.key (keys others) = ((l.members g).0 m).1 in
     let at = key-to g.key others under in
@@ -158,7 +158,7 @@ one-with : (e : Entry) → has_key e.key e ≡ 1
 one-with e = rw ((same_key-decides e.key e.key).1 refl)
 
 -- with the record at the place
-count-here : (s : List Entry) (i n : ℕ) (e : Entry) → IsSorted entry_order s → IsAt s i e → IsCountUp s i n → n + 1 ≡ sum_once same_entry (has_key e.key) (take (i + 1) s)
+count-here : (s : List Entry) (i n : ℕ) (e : Entry) → IsInOrder entry_order s → IsAt s i e → IsCountUp s i n → n + 1 ≡ sum_once same_entry (has_key e.key) (take (i + 1) s)
 count-here s i n e r a h =
     let f : Entry → ℕ = has_key e.key in
     let fresh : Member e (take i s) → ⊥ = λ m. (let p = taken-at s i e m in entry-apart s p.0 i e r p.2 a p.1) in
@@ -168,7 +168,7 @@ count-here s i n e r a h =
     let before = h.count e a in
     omega (arith, same, more, one, before)
 
-pub count-again : (s : List Entry) (i n : ℕ) (e : Entry) → IsSorted entry_order s → IsAt s i e → IsCountUp s i n → IsKeyBehind s i → IsCountUp s (i + 1) (n + 1)
+pub count-again : (s : List Entry) (i n : ℕ) (e : Entry) → IsInOrder entry_order s → IsAt s i e → IsCountUp s i n → IsKeyBehind s i → IsCountUp s (i + 1) (n + 1)
 count-again s i n e r a h b = record {
   count = λ f at.
       let one : b.0 ≡ e = at-one s i b.0 e b.2 a in
@@ -179,7 +179,7 @@ count-again s i n e r a h b = record {
   bound = (let l = h.bound in omega (arith, l));
 }
 
-pub count-none : (s : List Entry) (i : ℕ) (e : Entry) → IsSorted entry_order s → IsAt s i e → (IsKeyBehind s i → ⊥) → IsCountUp s (i + 1) 0
+pub count-none : (s : List Entry) (i : ℕ) (e : Entry) → IsInOrder entry_order s → IsAt s i e → (IsKeyBehind s i → ⊥) → IsCountUp s (i + 1) 0
 count-none s i e r a n = record {
   count = λ f at. sym (once-zero same_entry (has_key f.key) (take (i + 1) s) (λ x m. none-with f.key x (λ k.
       let p = taken-at s (i + 1) x m in
@@ -188,7 +188,7 @@ count-none s i e r a n = record {
   bound = omega arith;
 }
 
-pub count-whole : (s : List Entry) (i n : ℕ) (e : Entry) → IsSorted entry_order s → IsAt s i e → IsCountUp s i n → (IsKeyBehind s i → ⊥) → n + 1 ≡ records_at s e.key
+pub count-whole : (s : List Entry) (i n : ℕ) (e : Entry) → IsInOrder entry_order s → IsAt s i e → IsCountUp s i n → (IsKeyBehind s i → ⊥) → n + 1 ≡ records_at s e.key
 unfolding records_at
 count-whole s i n e r a h none =
     let f : Entry → ℕ = has_key e.key in
@@ -208,13 +208,13 @@ disputes-pass_again s i e ds a b h =
     so-far-skip (DisputesUnder s) s i ds h (λ more x.
     disputes-again s e (drop i s) (drop (i + 1) s) more (drop-at s i e a) (sym ((stands-decides same_key same_key-decides (λ l. 0) e.key (keys (drop (i + 1) s))).1 m)) x)
 
-pub disputes-pass_few : (s : List Entry) (i n : ℕ) (e : Entry) (ds : List Dispute) → IsSorted entry_order s → IsAt s i e → IsCountUp s i n → (IsKeyBehind s i → ⊥) → n + 1 < 2 →
+pub disputes-pass_few : (s : List Entry) (i n : ℕ) (e : Entry) (ds : List Dispute) → IsInOrder entry_order s → IsAt s i e → IsCountUp s i n → (IsKeyBehind s i → ⊥) → n + 1 < 2 →
     IsSoFar (DisputesUnder s) s i ds → IsSoFar (DisputesUnder s) s (i + 1) ds
 disputes-pass_few s i n e ds r a c none few h =
     so-far-skip (DisputesUnder s) s i ds h (λ more x.
     disputes-few s e (drop i s) (drop (i + 1) s) more (n + 1) (drop-at s i e a) (count-whole s i n e r a c none) few x)
 
-pub disputes-push : (s : List Entry) (i n : ℕ) (e : Entry) (ds es : List Dispute) → IsSorted entry_order s → IsAt s i e → IsCountUp s i n → (IsKeyBehind s i → ⊥) → 2 ≤ n + 1 →
+pub disputes-push : (s : List Entry) (i n : ℕ) (e : Entry) (ds es : List Dispute) → IsInOrder entry_order s → IsAt s i e → IsCountUp s i n → (IsKeyBehind s i → ⊥) → 2 ≤ n + 1 →
     es ≡ ds ++ dispute e.key (n + 1) ∷ [] → IsSoFar (DisputesUnder s) s i ds → IsSoFar (DisputesUnder s) s (i + 1) es
 disputes-push s i n e ds es r a c none two q h =
     let d : Dispute = dispute e.key (n + 1) in
@@ -229,7 +229,7 @@ disputes-push s i n e ds es r a c none two q h =
     so-far-more (DisputesUnder s) s i ds es d h q (λ more x.
     disputes-more s e (drop i s) (drop (i + 1) s) d more (d ∷ more) (drop-at s i e a) (rising-drop entry_order s i r) refl last refl is x)
 
-pub disputes-end : (s : List Entry) (i : ℕ) (ds : List Dispute) → IsSorted entry_order s → length s ≤ i → IsSoFar (DisputesUnder s) s i ds → AreDisputes s ds
+pub disputes-end : (s : List Entry) (i : ℕ) (ds : List Dispute) → IsInOrder entry_order s → length s ≤ i → IsSoFar (DisputesUnder s) s i ds → AreDisputes s ds
 disputes-end s i ds r l h =
     disputes-whole s s ds (record { rising = r; members = λ x. (λ m. m, λ m. m) })
     (so-far-all (DisputesUnder s) s i ds h l (record { rising = tt; members = λ d. (λ m. absurd m, λ m. m.1) }))

@@ -15,7 +15,7 @@ use Rattle.pw_model.specs.declared.records.Entry.{Entry}
 use Rattle.pw_model.specs.declared.records.Fall.{Fall}
 use Rattle.pw_model.specs.Same.{entry_order, key_numbers, content_numbers}
 use Rattle.pw_model.specs.Counting.{Member, Counts, contents_at, wh_of, point, reading_key}
-use Rattle.pw_model.specs.Lists.{IsSorted, IsFall, fall_order, fall_numbers, reading_entry, AreFalls}
+use Rattle.pw_model.specs.Lists.{IsInOrder, IsFall, fall_order, fall_numbers, reading_entry, AreFalls}
 use Rattle.pw_model.specs.inner.Search.{IsEarliestAmong, IsAt, FallsFrom, high_reading, AreSorted}
 use Rattle.pw_model.proofs.Counting.{one-is_counting}
 use Rattle.pw_model.proofs.Found.{no-point, wh-back}
@@ -151,13 +151,13 @@ unfolding key_numbers content_numbers fall_numbers
 high-first f g h =
     less-then (nat_cmp f.meter.0 g.meter.0) (nat_cmp (register_place f.register) (register_place g.register)) (nat_cmp f.from g.from) (nat_cmp f.high g.high) (ordering_then (nat_cmp f.to g.to) (ordering_then (nat_cmp f.low g.low) Equal)) h
 
-pub falls-more : (s : List Entry) (e : Entry) (some others : List Entry) (f : Fall) (fs gs : List Fall) → some ≡ e ∷ others → IsSorted entry_order some → gs ≡ f ∷ fs →
+pub falls-more : (s : List Entry) (e : Entry) (some others : List Entry) (f : Fall) (fs gs : List Fall) → some ≡ e ∷ others → IsInOrder entry_order some → gs ≡ f ∷ fs →
     IsFall (contents_at s) f × (e ≡ high_reading f) → FallsFrom s others fs → FallsFrom s some gs
 falls-more s e some others f fs gs i rising j a l =
     let P : List Entry → Type 0 = λ v. FallsFrom s v gs in
     let Q : List Fall → Type 0 = λ v. FallsFrom s (e ∷ others) v in
-    let R : List Entry → Type 0 = IsSorted entry_order in
-    let up : IsSorted entry_order (e ∷ others) = subst R i rising in
+    let R : List Entry → Type 0 = IsInOrder entry_order in
+    let up : IsInOrder entry_order (e ∷ others) = subst R i rising in
     let first : (g : Fall) → Member g fs → fall_order f g ≡ Less = λ g m. (
     let S : Entry → Type 0 = λ v. entry_order v (high_reading g) ≡ Less in
     high-first f g (subst S a.1 (before-member entry_order e (high_reading g) others up.0 ((l.members g).0 m).1))) in
@@ -202,7 +202,7 @@ falls-all s sorted items fs i a l =
     falls-whole s items fs a (subst P i l)
 
 -- ---- the list of records in order, as far as it has come
-pub falls-push : (s : List Entry) (i : ℕ) (f : Fall) (fs gs : List Fall) → IsSorted entry_order s → IsFall (contents_at s) f × IsAt s i (high_reading f) → gs ≡ fs ++ f ∷ [] →
+pub falls-push : (s : List Entry) (i : ℕ) (f : Fall) (fs gs : List Fall) → IsInOrder entry_order s → IsFall (contents_at s) f × IsAt s i (high_reading f) → gs ≡ fs ++ f ∷ [] →
     IsSoFar (FallsFrom s) s i fs → IsSoFar (FallsFrom s) s (i + 1) gs
 falls-push s i f fs gs rising a e h =
     so-far-more (FallsFrom s) s i fs gs f h e (λ more m.
@@ -220,7 +220,7 @@ falls-pass s i fs l n h =
     so-far-skip (FallsFrom s) s i fs h (λ more m.
     falls-skip s at.0 (drop i s) (drop (i + 1) s) more (drop-at s i at.0 at.1) (λ f a q. n f a (subst P q at.1)) m)
 
-pub falls-end : (s : List Entry) (i : ℕ) (fs : List Fall) → IsSorted entry_order s → length s ≤ i → IsSoFar (FallsFrom s) s i fs → AreFalls s fs
+pub falls-end : (s : List Entry) (i : ℕ) (fs : List Fall) → IsInOrder entry_order s → length s ≤ i → IsSoFar (FallsFrom s) s i fs → AreFalls s fs
 falls-end s i fs rising l h =
     falls-whole s s fs (record { rising = rising; members = λ x. (λ m. m, λ m. m) })
     (so-far-all (FallsFrom s) s i fs h l (record { rising = tt; members = λ f. (λ m. absurd m, λ m. m.1) }))

@@ -15,7 +15,7 @@ use Rattle.pw_flow.proofs.Points.{option-cases}
 use Rattle.pw_model.specs.declared.records.Entry.{Entry}
 use Rattle.pw_model.specs.declared.records.ReadingRow.{ReadingRow}
 use Rattle.pw_model.specs.Counting.{Member, Counts, contents_at, wh_of, point, reading_key}
-use Rattle.pw_model.specs.Lists.{IsSorted, reading_order, reading_numbers, reading_entry, IsReading, AreReadings}
+use Rattle.pw_model.specs.Lists.{IsInOrder, reading_order, reading_numbers, reading_entry, IsReading, AreReadings}
 use Rattle.pw_model.specs.inner.Search.{IsAt}
 use Rattle.pw_model.proofs.Counting.{one-is_counting}
 use Rattle.pw_model.proofs.Found.{wh-back}
@@ -57,7 +57,7 @@ all-later a (b ∷ rows) h =
     let r = all-later a rows (λ c m. h c (inr m)) in
     elim (cases_Bool b.counted) [ inl t ↦ rw t (cmp-less a.instant b.instant (h b (inl refl) t), r) | inr f ↦ rw f r ]
 
-later-counted : (a b : ReadingRow) (rows : List ReadingRow) → IsSorted reading_order (a ∷ rows) → AreApart (a ∷ rows) → a.counted ≡ true → Member b rows → b.counted ≡ true → a.instant < b.instant
+later-counted : (a b : ReadingRow) (rows : List ReadingRow) → IsInOrder reading_order (a ∷ rows) → AreApart (a ∷ rows) → a.counted ≡ true → Member b rows → b.counted ≡ true → a.instant < b.instant
 later-counted a b rows up one t m c =
     let o : reading_order a b ≡ Less = before-member reading_order a b rows up.0 m in
     let l : a.instant ≤ b.instant = row-later a b o in
@@ -66,7 +66,7 @@ later-counted a b rows up one t m c =
       | inr g ↦ absurd (row-apart a b o (one a b (inl refl) (inr m) t c (omega arith)))
     ]
 
-points-sorted : (rows : List ReadingRow) → IsSorted reading_order rows → AreApart rows → IsStrictlySortedBy nat_cmp (times_of (counted rows))
+points-sorted : (rows : List ReadingRow) → IsInOrder reading_order rows → AreApart rows → IsStrictlySortedBy nat_cmp (times_of (counted rows))
 unfolding IsStrictlySortedBy
 points-sorted [] up one = tt
 points-sorted (a ∷ rows) up one =

@@ -13,7 +13,7 @@ use Rattle.pw_model.specs.declared.records.Entry.{Entry}
 use Rattle.pw_model.specs.declared.records.ReadingRow.{ReadingRow}
 use Rattle.pw_model.specs.Same.{entry_order, key_numbers, content_numbers}
 use Rattle.pw_model.specs.Counting.{Member, Counts}
-use Rattle.pw_model.specs.Lists.{IsSorted, reading_order, reading_numbers, reading_entry, AreReadings}
+use Rattle.pw_model.specs.Lists.{IsInOrder, reading_order, reading_numbers, reading_entry, AreReadings}
 use Rattle.pw_model.specs.inner.Search.{IsAt, IsRowOf, RowsOf, AreSorted}
 use Rattle.pw_model.proofs.InOrder.{before-member}
 use Rattle.pw_model.proofs.EntryOrder.{before-all}
@@ -53,13 +53,13 @@ entry-first m r a b h =
 counted-so : (s : List Entry) (m : ℕ) (r : Register) (e : Entry) (a : ReadingRow) → IsRowOf s m r e a → IsTrue a.counted ↔ Counts s (entry_of m r a)
 counted-so s m r e a h = let P : Entry → Type 0 = λ v. IsTrue a.counted ↔ Counts s v in subst P h.reading h.counted
 
-pub rows-more : (s : List Entry) (m : ℕ) (r : Register) (e : Entry) (some others : List Entry) (a : ReadingRow) (as_ bs : List ReadingRow) → some ≡ e ∷ others → IsSorted entry_order some → bs ≡ a ∷ as_ →
+pub rows-more : (s : List Entry) (m : ℕ) (r : Register) (e : Entry) (some others : List Entry) (a : ReadingRow) (as_ bs : List ReadingRow) → some ≡ e ∷ others → IsInOrder entry_order some → bs ≡ a ∷ as_ →
     IsRowOf s m r e a → RowsOf s m r others as_ → RowsOf s m r some bs
 rows-more s m r e some others a as_ bs i rising j h l =
     let P : List Entry → Type 0 = λ v. RowsOf s m r v bs in
     let Q : List ReadingRow → Type 0 = λ v. RowsOf s m r (e ∷ others) v in
-    let R : List Entry → Type 0 = IsSorted entry_order in
-    let up : IsSorted entry_order (e ∷ others) = subst R i rising in
+    let R : List Entry → Type 0 = IsInOrder entry_order in
+    let up : IsInOrder entry_order (e ∷ others) = subst R i rising in
     let first : (b : ReadingRow) → Member b as_ → reading_order a b ≡ Less = λ b q. (
     let S : Entry → Type 0 = λ v. entry_order v (entry_of m r b) ≡ Less in
     entry-first m r a b (subst S h.reading (before-member entry_order e (entry_of m r b) others up.0 ((l.members b).0 q).0))) in
@@ -105,7 +105,7 @@ rows-all s m r sorted items as_ i a l =
     rows-whole s m r items as_ a (subst P i l)
 
 -- ---- the list of records in order, as far as it has come
-pub rows-push : (s : List Entry) (m : ℕ) (r : Register) (i : ℕ) (e : Entry) (a : ReadingRow) (as_ bs : List ReadingRow) (b : Bool) → IsSorted entry_order s → IsAt s i e →
+pub rows-push : (s : List Entry) (m : ℕ) (r : Register) (i : ℕ) (e : Entry) (a : ReadingRow) (as_ bs : List ReadingRow) (b : Bool) → IsInOrder entry_order s → IsAt s i e →
     (e ≡ entry_of m r a) × (a.counted ≡ b) → (IsTrue b ↔ Counts s e) → bs ≡ as_ ++ a ∷ [] → IsSoFar (RowsOf s m r) s i as_ → IsSoFar (RowsOf s m r) s (i + 1) bs
 rows-push s m r i e a as_ bs b rising at told c q h =
     let row : IsRowOf s m r e a = record { reading = told.0; counted = (λ t. c.0 (sym told.1 ∙ t), λ k. told.1 ∙ c.1 k) } in
@@ -116,7 +116,7 @@ pub rows-pass : (s : List Entry) (m : ℕ) (r : Register) (i : ℕ) (e : Entry) 
     IsSoFar (RowsOf s m r) s i as_ → IsSoFar (RowsOf s m r) s (i + 1) as_
 rows-pass s m r i e as_ at n h = so-far-skip (RowsOf s m r) s i as_ h (λ more x. rows-skip s m r e (drop i s) (drop (i + 1) s) more (drop-at s i e at) n x)
 
-pub rows-end : (s : List Entry) (m : ℕ) (r : Register) (i : ℕ) (as_ : List ReadingRow) → IsSorted entry_order s → length s ≤ i → IsSoFar (RowsOf s m r) s i as_ → AreReadings s m r as_
+pub rows-end : (s : List Entry) (m : ℕ) (r : Register) (i : ℕ) (as_ : List ReadingRow) → IsInOrder entry_order s → length s ≤ i → IsSoFar (RowsOf s m r) s i as_ → AreReadings s m r as_
 rows-end s m r i as_ rising l h =
     rows-whole s m r s as_ (record { rising = rising; members = λ x. (λ q. q, λ q. q) })
     (so-far-all (RowsOf s m r) s i as_ h l (record { rising = tt; members = λ a. (λ q. absurd q, λ q. absurd q.0) }))

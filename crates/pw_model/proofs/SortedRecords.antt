@@ -14,7 +14,7 @@ use Rattle.pw_model.specs.declared.records.Entry.{Entry}
 use Rattle.pw_model.specs.contracts.records.EntryPartialEq.TheImpl as derived
 use Rattle.pw_model.specs.contracts.records.EntryEq.TheImpl.Laws.{laws-law}
 use Rattle.pw_model.specs.Counting.{Member}
-use Rattle.pw_model.specs.Lists.{IsBeforeAll, IsSorted}
+use Rattle.pw_model.specs.Lists.{IsBeforeAll, IsInOrder}
 use Rattle.pw_model.specs.Same.{entry_order}
 use Rattle.pw_model.specs.inner.Search.{AreSorted}
 use Rattle.pw_model.proofs.Alike.{entries-alike}
@@ -45,7 +45,7 @@ before-all : (x : Entry) (xs : List Entry) → AllByRecursion (λ y. entry_order
 before-all x [] h = tt
 before-all x (y ∷ ys) h = (h.0, before-all x ys h.1)
 
-strict-rises : (xs : List Entry) → IsStrictlySortedBy entry_order xs → IsSorted entry_order xs
+strict-rises : (xs : List Entry) → IsStrictlySortedBy entry_order xs → IsInOrder entry_order xs
 unfolding IsStrictlySortedBy
 strict-rises [] h = tt
 strict-rises (x ∷ xs) h = (before-all x xs h.0, strict-rises xs h.1)

@@ -11,7 +11,7 @@ use Rattle.pw_model.specs.declared.records.Contents.TheVariants.{Nothing, One, S
 use Rattle.pw_model.specs.declared.records.Entry.{Entry}
 use Rattle.pw_model.specs.Same.{same_key, entry_order}
 use Rattle.pw_model.specs.Counting.{Member, SameMembers, EachOnce, Counts, contents_at}
-use Rattle.pw_model.specs.Lists.{IsSorted}
+use Rattle.pw_model.specs.Lists.{IsInOrder}
 use Rattle.pw_model.specs.Payments.{sum_once, keys, cents_for, cents_in, IsTopUpFor, topped_up}
 use Rattle.pw_model.specs.Laws.{AreTopUps, TopUpsAddUp}
 use Rattle.pw_model.proofs.Same.{same_key-decides}
@@ -125,7 +125,7 @@ picked-there_are s a (x ∷ some) o =
       ]
     ]
 
-rising-once : (xs : List Entry) → IsSorted entry_order xs → EachOnce xs
+rising-once : (xs : List Entry) → IsInOrder entry_order xs → EachOnce xs
 rising-once [] r = tt
 rising-once (x ∷ xs) r = (λ m. entry-strict.apart x (before-member entry_order x x xs r.0 m), rising-once xs r.1)
 

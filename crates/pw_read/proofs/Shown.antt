@@ -30,11 +30,11 @@ frames_more clock (f ∷ frames) frame text shown x y =
     (x.0, x.1 ++ shown, x.2, frames_more clock frames frame x.1 shown x.3 y, ap (λ l. l ++ shown) x.4 ∙ append_assoc x.0 x.1 shown)
 
 -- a set that is given is the block's
-abbrev set_text : List ℕ → List ℕ → SetText
-set_text address values = record { address = address; values = values }
+abbrev set_of : List ℕ → List ℕ → SetText
+set_of address values = record { address = address; values = values }
 
 pub given_text : (first : SetText) (set : Set) → IsGiven first set → first ≡ set_text set
-given_text first set x = ap (λ a. set_text a first.values) x.address_is ∙ ap (set_text set.address.now) x.values_are
+given_text first set x = ap (λ a. set_of a first.values) x.address_is ∙ ap (set_of set.address.now) x.values_are
 
 -- where a block has one list of sets without a refusal, no list of it has one
 pub no_refusal : (block : List ℕ) (sets : List SetText) (refusal : Option ℕ) → (other : List SetText) × HasSets block other None → HasSets block sets refusal → HasSets block sets None

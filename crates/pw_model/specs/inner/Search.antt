@@ -12,7 +12,7 @@ use Rattle.pw_model.specs.declared.records.ReadingRow.{ReadingRow}
 use Rattle.pw_model.specs.Same.{entry_order}
 use Rattle.pw_model.specs.Counting.{Member, Counts, contents_at, point, reading_key, assignment_key}
 use Rattle.pw_model.specs.Payments.{keys}
-use Rattle.pw_model.specs.Lists.{IsSorted, Lists, IsFall, IsDispute, fall_order, dispute_order, reading_order, reading_entry}
+use Rattle.pw_model.specs.Lists.{IsInOrder, Lists, IsFall, IsDispute, fall_order, dispute_order, reading_order, reading_entry}
 
 -- the instants among the seconds that are asked for
 abbrev pub at_instants : (ℕ → Bool) → ℕ → Bool
@@ -70,7 +70,7 @@ IsKeyBehind s i = (e : Entry) × (f : Entry) × IsAt s i e × IsAt s (i + 1) f �
 -- ---- records in order, and the lists of what some of them give
 -- new is old, which stands in order, with one record
 abbrev pub IsWith : Entry → List Entry → List Entry → Type 0
-IsWith e old new = IsSorted entry_order old → Lists entry_order (λ x. (x ≡ e) ⊎ Member x old) new
+IsWith e old new = IsInOrder entry_order old → Lists entry_order (λ x. (x ≡ e) ⊎ Member x old) new
 
 -- the records of a list in their order, each once
 abbrev pub AreSorted : List Entry → List Entry → Type 0

@@ -1,7 +1,7 @@
 //! The disputes of a list of records.
 
 ghost use Rattle.std.specs.Prelude.{◌≤◌, IfOk, length};
-ghost use Rattle.pw_model.specs.Lists.{AreDisputes, IsSorted};
+ghost use Rattle.pw_model.specs.Lists.{AreDisputes, IsInOrder};
 ghost use Rattle.pw_model.specs.Office.{most_records};
 ghost use Rattle.pw_model.specs.Same.{entry_order};
 
@@ -20,7 +20,7 @@ pub fn disputes(alloc: Global, entries: &[Entry]) -> Result<Vec<Dispute>, AllocE
 
 // The disputes of some records in order: each stands at the last record of its key.
 fn disputes_among(alloc: Global, in_order: &[Entry]) -> Result<Vec<Dispute>, AllocError>
-    requires rising { IsSorted entry_order in_order.now }
+    requires rising { IsInOrder entry_order in_order.now }
     requires few { length in_order.now ≤ most_records }
     ensures { IfOk result (λ disputes. AreDisputes in_order.now disputes.items) }
 {

@@ -3,7 +3,7 @@
 ghost use Rattle.std.specs.Prelude.{◌≡◌, ℕ, ◌+◌, ◌<◌, ◌≤◌, IfOk, IfSome, IfNone, length};
 ghost use Rattle.pw_time.specs.declared.instant.TheConstants.{END_SECOND as the_end};
 ghost use Rattle.pw_model.specs.Counting.{contents_at as told_at, reading_key};
-ghost use Rattle.pw_model.specs.Lists.{AreFalls, IsFall, IsSorted};
+ghost use Rattle.pw_model.specs.Lists.{AreFalls, IsFall, IsInOrder};
 ghost use Rattle.pw_model.specs.Same.{entry_order};
 ghost use Rattle.pw_model.specs.inner.Search.{IsAt, IsEarliestAmong, high_reading};
 ghost use Rattle.pw_model.specs.declared.records.Entry.{Entry};
@@ -27,7 +27,7 @@ pub fn falls(alloc: Global, entries: &[Entry]) -> Result<Vec<Fall>, AllocError>
 
 // The falls of some records in order.
 fn falls_among(alloc: Global, in_order: &[Entry]) -> Result<Vec<Fall>, AllocError>
-    requires { IsSorted entry_order in_order.now }
+    requires { IsInOrder entry_order in_order.now }
     ensures { IfOk result (λ falls. AreFalls in_order.now falls.items) }
 {
     let mut falls = Vec::new(alloc);
@@ -41,7 +41,7 @@ fn falls_among(alloc: Global, in_order: &[Entry]) -> Result<Vec<Fall>, AllocErro
 
 // The fall whose earlier reading is the record at this place.
 fn fall_from(in_order: &[Entry], index: usize) -> Option<Fall>
-    requires rising { IsSorted entry_order in_order.now }
+    requires rising { IsInOrder entry_order in_order.now }
     requires within { index < length in_order.now }
     ensures some { IfSome result (λ f. IsFall (told_at in_order.now) f × IsAt in_order.now index (high_reading f)) }
     ensures none { IfNone result ((f : Fall) → IsFall (told_at in_order.now) f → IsAt in_order.now index (high_reading f) → ⊥) }
@@ -85,7 +85,7 @@ fn next_point(
     register: Register,
     instant: Instant,
 ) -> Option<(Instant, WattHours)>
-    requires rising { IsSorted entry_order in_order.now }
+    requires rising { IsInOrder entry_order in_order.now }
     requires within { index < length in_order.now }
     requires reading { (e : Entry) → IsAt in_order.now index e → e.key ≡ reading_key meter.0 register instant }
     ensures { (y : ℕ) → the_end ≤ y → IsEarliestAmong (told_at in_order.now) meter.0 register (instant + 1) y in_order.now result }

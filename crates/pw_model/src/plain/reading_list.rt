@@ -1,7 +1,7 @@
 //! The readings of a register that a list of records holds.
 
 ghost use Rattle.std.specs.Prelude.{◌≡◌, ℕ, IfOk, IfSome, IfNone};
-ghost use Rattle.pw_model.specs.Lists.{AreReadings, IsSorted, reading_entry};
+ghost use Rattle.pw_model.specs.Lists.{AreReadings, IsInOrder, reading_entry};
 ghost use Rattle.pw_model.specs.Same.{entry_order};
 
 use super::search::instant_of;
@@ -31,7 +31,7 @@ fn rows_among(
     meter: MeterId,
     register: Register,
 ) -> Result<Vec<ReadingRow>, AllocError>
-    requires { IsSorted entry_order in_order.now }
+    requires { IsInOrder entry_order in_order.now }
     ensures { IfOk result (λ rows. AreReadings in_order.now meter.0 register rows.items) }
 {
     let mut rows = Vec::new(alloc);

@@ -2,7 +2,7 @@
 
 ghost use Rattle.std.specs.Prelude.{◌<◌, ◌≤◌, ◌↔◌, IfOk, IsTrue, length};
 ghost use Rattle.pw_model.specs.Counting.{Counts};
-ghost use Rattle.pw_model.specs.Lists.{IsSorted};
+ghost use Rattle.pw_model.specs.Lists.{IsInOrder};
 ghost use Rattle.pw_model.specs.Same.{entry_order};
 ghost use Rattle.pw_model.specs.inner.Search.{AreSorted, IsAt, IsKeyBehind};
 ghost use Rattle.pw_model.specs.declared.records.Entry.{Entry};
@@ -24,7 +24,7 @@ pub(crate) fn sorted(alloc: Global, entries: &[Entry]) -> Result<Vec<Entry>, All
 
 // Whether a record of some in order counts among them: neither of its neighbours has its key.
 pub(crate) fn stands_alone(in_order: &[Entry], index: usize) -> bool
-    requires rising { IsSorted entry_order in_order.now }
+    requires rising { IsInOrder entry_order in_order.now }
     requires within { index < length in_order.now }
     ensures { (e : Entry) → IsAt in_order.now index e → IsTrue result ↔ Counts in_order.now e }
 {
