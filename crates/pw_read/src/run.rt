@@ -32,8 +32,8 @@ enum Failure {
 /// `clock` is the one of readouts. A telegram's stamp has its own mark.
 ///
 /// Answers the exit status: 0, 1 for a body that is refused or longer than 262,144 bytes, 3 for a reader or writer that
-/// fails or for want of memory. At most 262,145 bytes are read. With 3, `out` has a front of the body's text, or nothing,
-/// and `err` a front of the line of one failure, or all of it.
+/// fails or for want of memory. At most 262,145 bytes are read. With 3, `out` has a front of the body's
+/// text, or nothing, and `err` a front of the line of one failure, or all of it.
 pub fn read_run<R: Read, O: Write, E: Write>(
     alloc: Global,
     clock: Clock,

@@ -13,7 +13,8 @@ Writes old new bytes (Err error) = WritesFront old new bytes
 
 -- a line is written and its status answered, or the writer fails within the line, and 3 is answered
 abbrev pub TellsLine : List ℕ → ℕ → Option (List ℕ) → Option (List ℕ) → ℕ → Type 0
-TellsLine line told old new status = ((status ≡ told) × Appends old new line) ⊎ ((status ≡ 3) × WritesFront old new line)
+TellsLine line told old new status =
+    ((status ≡ told) × Appends old new line) ⊎ ((status ≡ 3) × WritesFront old new line)
 
 abbrev pub IsRefusal : Failure → Type 0
 IsRefusal (Body (Refused refusal)) = Unit {0}

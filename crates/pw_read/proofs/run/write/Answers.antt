@@ -13,7 +13,8 @@ calls-preserved g c =
           let bound = rw (take_rest c.args.bytes.now c.calls.at) at w.in-Ok.ensures.bound in
           record {
             within = omega (arith, w.at-is, bound, length-drop c.calls.at c.args.bytes.now);
-            written = rw w.at-is (Appends-further _ _ _ c.calls.at w.in-Ok.n c.args.bytes.now c.calls.invariant.written went);
+            written = rw w.at-is
+                (Appends-further _ _ _ c.calls.at w.in-Ok.n c.args.bytes.now c.calls.invariant.written went);
           }
       | in-Err+else-ne w ↦ record {
         within = omega (arith, w.at-is);
