@@ -51,15 +51,6 @@ push-to [] x z (inr m) = absurd m
 push-to (y ∷ ys) x z (inl e) = inl (inl e)
 push-to (y ∷ ys) x z (inr m) = elim (push-to ys x z m) [ inl k ↦ inl (inr k) | inr e ↦ inr e ]
 
-pub push-old : {X : Type 0} (xs : List X) (x z : X) → Member z xs → Member z (xs ++ x ∷ [])
-push-old [] x z m = absurd m
-push-old (y ∷ ys) x z (inl e) = inl e
-push-old (y ∷ ys) x z (inr m) = inr (push-old ys x z m)
-
-pub push-new : {X : Type 0} (xs : List X) (x : X) → Member x (xs ++ x ∷ [])
-push-new [] x = inl refl
-push-new (y ∷ ys) x = inr (push-new ys x)
-
 pub taken-to : {X : Type 0} (xs : List X) (i : ℕ) (x z : X) → IsAt xs i x → Member z (take (i + 1) xs) → Member z (take i xs) ⊎ (z ≡ x)
 taken-to {X} xs i x z a m =
     let P : List X → Type 0 = λ l. Member z l in
@@ -188,12 +179,6 @@ up-to-then k l Greater p e h = cc
 
 pub entry-up_to : (e f : Entry) → entry_order e f ≡ Less → KeyUpTo e.key f.key
 entry-up_to e f h = up-to-then e.key f.key (key_order e.key f.key) _ refl h
-
-pub up-to-trans : (k l n : Key) → KeyUpTo k l → KeyUpTo l n → KeyUpTo k n
-up-to-trans k l n (inl a) (inl b) = inl (key-strict.trans k l n a b)
-up-to-trans k l n (inl a) (inr b) = let P : Key → Type 0 = λ v. key_order k v ≡ Less in inl (subst P b a)
-up-to-trans k l n (inr a) (inl b) = let P : Key → Type 0 = λ v. key_order v n ≡ Less in inl (subst P (sym a) b)
-up-to-trans k l n (inr a) (inr b) = inr (a ∙ b)
 
 pub up-to-one : (k l : Key) → KeyUpTo k l → KeyUpTo l k → k ≡ l
 up-to-one k l (inr a) b = a
