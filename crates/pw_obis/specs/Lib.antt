@@ -10,4 +10,5 @@ pub mod Laws
 pub mod Line
 pub mod Places
 pub mod References
+pub mod Registers
 pub mod Value

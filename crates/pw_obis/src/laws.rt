@@ -1,8 +1,9 @@
-//! What holds of the definitions themselves: each has exactly one answer.
+//! What holds of the definitions themselves: each has exactly one answer. And of the registers: the list of all.
 
-ghost use Rattle.std.specs.Prelude.{Option, List};
+ghost use Rattle.std.specs.Prelude.{◌≡◌, Option, List};
 ghost use Rattle.pw_obis.specs.Address.{IsCodeOf};
 ghost use Rattle.pw_obis.specs.References.{IsRegisterOf};
+ghost use Rattle.pw_obis.specs.Registers.{registers};
 ghost use Rattle.pw_obis.specs.FirstValue.{IsFirstValue};
 ghost use Rattle.pw_obis.specs.Value.{IsEnergy};
 ghost use Rattle.pw_obis.specs.Laws.{ExactlyOne, IsOutcome};
@@ -11,7 +12,7 @@ use crate::address::code;
 use crate::data_set::{Set, first_value};
 use crate::meaning::register;
 use crate::reader::Sets;
-use crate::reference::Code;
+use crate::reference::{Code, Register};
 use crate::value::watt_hours;
 
 /// Each block has one list of sets, or one refusal with one list of sets before it.
@@ -48,3 +49,8 @@ pub fn each_value_has_one_energy_or_fault(value: &[u8])
 {
     let _ = watt_hours(value);
 }
+
+/// The constant of all registers holds each once, in their order.
+pub fn all_registers_stand_in_order()
+    ensures { Register.ALL ≡ registers }
+{}

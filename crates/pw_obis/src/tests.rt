@@ -145,3 +145,11 @@ fn clock_of_a_readout(rt: HostRuntime) {
     assert_eq!(rt; is_clock_address(b"2-0:0.9.2"), (false, false));
     assert_eq!(rt; is_clock_address(b"0.9.1*1"), (false, false));
 }
+
+#[test]
+fn registers_in_order(rt: HostRuntime) {
+    let names = ["I0", "I1", "I2", "E0", "E1", "E2"];
+    for (register, name) in Register::ALL.iter().zip(names) {
+        assert_eq!(rt; register.name(), name);
+    }
+}

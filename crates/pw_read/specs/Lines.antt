@@ -4,13 +4,13 @@ use Rattle.pw_frame.specs.declared.frame.Kind.{Kind}
 use Rattle.pw_frame.specs.declared.frame.Kind.TheVariants.{Telegram, Readout}
 use Rattle.pw_obis.specs.declared.reference.Code.{Code}
 use Rattle.pw_obis.specs.declared.reference.Register.{Register}
-use Rattle.pw_obis.specs.declared.reference.Register.TheVariants.{I0, I1, I2, E0, E1, E2}
 use Rattle.pw_obis.specs.declared.value.ValueFault.{ValueFault}
 use Rattle.pw_obis.specs.declared.data_set.Set.{Set}
 use Rattle.pw_obis.specs.Address.{IsCodeOf}
 use Rattle.pw_obis.specs.FirstValue.{IsFirstValue}
 use Rattle.pw_obis.specs.Line.{SetText}
 use Rattle.pw_obis.specs.References.{IsCodeOfRegister, IsIdentifier, IsStamp, IsTime, IsDate}
+use Rattle.pw_obis.specs.Registers.{register_name}
 use Rattle.pw_obis.specs.Value.{IsEnergy}
 
 -- a set without where it lies in memory
@@ -20,14 +20,6 @@ text_of set = record { address = set.address.now; values = set.values.now }
 -- a name, a space, a value and LF
 abbrev pub line_of : List ℕ → List ℕ → List ℕ
 line_of name value = name ++ codes " " ++ value ++ codes "\n"
-
-abbrev pub register_name : Register → List ℕ
-register_name I0 = codes "I0"
-register_name I1 = codes "I1"
-register_name I2 = codes "I2"
-register_name E0 = codes "E0"
-register_name E1 = codes "E1"
-register_name E2 = codes "E2"
 
 -- the name under which a value is printed as it stands: identifier and stamp are of telegrams, time and date of readouts
 abbrev pub IsTextName : Kind → Code → List ℕ → Type 0

@@ -1,11 +1,11 @@
 ghost use Rattle.std.specs.Prelude.{◌≡◌, ℕ, ◌++◌, List, IfSome, IfNone, IfOk, IfErr, OnOk, Ok, Err, codes};
 ghost use Rattle.pw_obis.specs.Address.{IsCodeOf};
-ghost use Rattle.pw_read.specs.Lines.{text_of, IsTextName, register_name as name_of, line_of, SetShows};
+ghost use Rattle.pw_read.specs.Lines.{text_of, IsTextName, line_of, SetShows};
 
 use pw_frame::Kind;
 use pw_obis::{
-    Code, Register, Set, ValueFault, first_value, is_date, is_identifier, is_stamp, is_time,
-    register, watt_hours,
+    Code, Set, ValueFault, first_value, is_date, is_identifier, is_stamp, is_time, register,
+    watt_hours,
 };
 use std::alloc::{AllocError, Global};
 
@@ -42,19 +42,6 @@ fn text_name(kind: Kind, code: &Code) -> Option<&'static str>
     }
 }
 
-fn register_name(register: Register) -> &'static str
-    ensures { result.now ≡ name_of register }
-{
-    match register {
-        Register::I0 => "I0",
-        Register::I1 => "I1",
-        Register::I2 => "I2",
-        Register::E0 => "E0",
-        Register::E1 => "E1",
-        Register::E2 => "E2",
-    }
-}
-
 /// Writes the line of a set behind the text, where its code has one.
 pub fn put_set(text: &mut Vec<u8>, alloc: Global, kind: Kind, set: &Set) -> Result<(), SetHalt>
     requires { IsCodeOf set.now.address.now set.now.code }
@@ -75,7 +62,7 @@ pub fn put_set(text: &mut Vec<u8>, alloc: Global, kind: Kind, set: &Set) -> Resu
     match watt_hours(value) {
         Ok(energy) => {
             let digits = format!(in alloc; "{}", energy.get())?;
-            put_line(text, register_name(register).as_bytes(), digits.as_bytes())?;
+            put_line(text, register.name().as_bytes(), digits.as_bytes())?;
             Ok(())
         }
         Err(fault) => Err(SetHalt::Value(fault)),
