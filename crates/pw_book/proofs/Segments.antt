@@ -6,6 +6,7 @@ use Rattle.std.specs.Ordering.{nat_cmp}
 use Rattle.std.proofs.lemmas.Bool.{cases_lt}
 use Rattle.pw_obis.specs.declared.reference.Register.{Register}
 use Rattle.pw_obis.specs.declared.reference.Register.TheVariants.{I0, I1, I2, E0, E1, E2}
+use Rattle.pw_obis.specs.Registers.{registers}
 use Rattle.pw_tariff.specs.Office.{register_place}
 use Rattle.pw_model.specs.Counting.{Member}
 use Rattle.pw_model.specs.Lists.{IsInOrder, Lists}
@@ -69,7 +70,7 @@ place-few E0 = omega arith
 place-few E1 = omega arith
 place-few E2 = omega arith
 
-pub place-at : (i : ℕ) (d : Register) → i < 6 → register_place (get_or (I0 ∷ I1 ∷ I2 ∷ E0 ∷ E1 ∷ E2 ∷ []) i d) ≡ i
+pub place-at : (i : ℕ) (d : Register) → i < 6 → register_place (get_or registers i d) ≡ i
 place-at zero d l = refl
 place-at (suc zero) d l = refl
 place-at (suc (suc zero)) d l = refl

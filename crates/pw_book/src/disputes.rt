@@ -13,7 +13,6 @@ ghost use Rattle.pw_book.specs.inner.Groups.{IsDisputeOf};
 
 use crate::asked::{assignments_held, readings_held, topups_held};
 use crate::counting::same_key_behind;
-use crate::registers::REGISTERS;
 use pw_model::{Dispute, Entry};
 use pw_obis::Register;
 use pw_shelf::{Shelf, ShelfFault};
@@ -84,7 +83,7 @@ fn add_meter<S: Shelf>(
     ensures disputes { S.clean shelf.new → (meters : ℕ) → AreWithin meters (S.state shelf.old).content.records → meter.0 < meters → DisputesBefore meters (S.state shelf.old).content.records (6 * meter.0) disputes.old.items → OnOk result (DisputesBefore meters (S.state shelf.old).content.records (6 * meter.0 + 6) disputes.new.items) }
     ensures asked { IsOnlyAsked S.Shelf (failures_told result) shelf.old shelf.new }
 {
-    for register in &REGISTERS {
+    for register in &Register::ALL {
         add_readings_of(shelf, alloc, meter, *register, disputes)?;
     }
     Ok(())

@@ -10,7 +10,6 @@ ghost use Rattle.pw_book.specs.inner.Counted.{IsFallOf, ListsSeconds};
 ghost use Rattle.pw_book.specs.inner.Places.{FallsBefore};
 
 use crate::asked::readings_held;
-use crate::registers::REGISTERS;
 use crate::told::points_of;
 use pw_model::Fall;
 use pw_obis::{Register, WattHours};
@@ -48,7 +47,7 @@ fn add_meter<S: Shelf>(
     ensures falls { S.clean shelf.new → (office : AnOffice) → AllOfOffice office (S.state shelf.old).content.records → FallsBefore (S.state shelf.old).content.records (6 * meter.0) falls.old.items → OnOk result (FallsBefore (S.state shelf.old).content.records (6 * meter.0 + 6) falls.new.items) }
     ensures asked { IsOnlyAsked S.Shelf (failures_told result) shelf.old shelf.new }
 {
-    for register in &REGISTERS {
+    for register in &Register::ALL {
         add_register(shelf, alloc, meter, *register, falls)?;
     }
     Ok(())
