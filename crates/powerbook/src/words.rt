@@ -1,14 +1,14 @@
 ghost use Rattle.std.specs.Prelude.{◌≡◌, ◌↔◌, IsTrue, IfSome, IfNone, map, string_bytes};
 ghost use Rattle.pw_time.specs.declared.zone.Clock.{Clock};
-ghost use Rattle.powerbook.specs.Words.{IsNamed, States};
+ghost use Rattle.powerbook.specs.Words.{IsClockWord, StatesClock};
 
 use pw_time::Clock;
 
 /// The clock of readouts that the program's words state: no word, or `read`, means winter time; `read --clock` is
 /// followed by `winter` or `local`. `None` for other words.
 pub fn readout_clock(words: &[String]) -> Option<Clock>
-    ensures some { IfSome result (λ clock. States (map string_bytes words.now) clock) }
-    ensures none { IfNone result ((clock : Clock) → States (map string_bytes words.now) clock → ⊥) }
+    ensures some { IfSome result (λ clock. StatesClock (map string_bytes words.now) clock) }
+    ensures none { IfNone result ((clock : Clock) → StatesClock (map string_bytes words.now) clock → ⊥) }
 {
     match words {
         [] => Some(Clock::Winter),
@@ -27,8 +27,8 @@ fn is_word(word: &String, text: &str) -> bool
 }
 
 fn clock_named(name: &str) -> Option<Clock>
-    ensures some { IfSome result (λ clock. IsNamed clock name.now) }
-    ensures none { IfNone result ((clock : Clock) → IsNamed clock name.now → ⊥) }
+    ensures some { IfSome result (λ clock. IsClockWord clock name.now) }
+    ensures none { IfNone result ((clock : Clock) → IsClockWord clock name.now → ⊥) }
 {
     match name {
         "winter" => Some(Clock::Winter),

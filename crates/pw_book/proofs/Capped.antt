@@ -3,7 +3,7 @@ use Rattle.std.proofs.Common.{◌≡◌, ◌==◌, ℕ, ◌*◌, ◌^◌, ◌<�
 use Rattle.std.specs.Int.{w128}
 use Rattle.std.proofs.lemmas.Bool.{cases_Bool}
 use Rattle.std.proofs.lemmas.Int.{ints}
-use Rattle.pw_tariff.specs.Office.{Office}
+use Rattle.pw_tariff.specs.Office.{OfficeRules}
 use Rattle.pw_model.specs.declared.records.Key.{Key}
 use Rattle.pw_model.specs.declared.records.Key.TheVariants as key
 use Rattle.pw_model.specs.declared.records.Content.TheVariants as content
@@ -20,7 +20,7 @@ use Rattle.pw_model.proofs.Payments.{one-more_payment}
 pub capped : (answer total top exact : ℕ) → answer ≡ min total top → top ≡ 18446744073709551615 → total ≡ exact → exact ≤ 999999999990000000 → answer ≡ exact
 capped answer total top exact a t e h = omega (arith, a, t, e, h)
 
-cents-most : (office : Office) (k : Key) (a : ℕ) (r : Contents) → ToldOf office k r → cents_for a r ≤ most_cents
+cents-most : (office : OfficeRules) (k : Key) (a : ℕ) (r : Contents) → ToldOf office k r → cents_for a r ≤ most_cents
 cents-most office k a Nothing h = omega arith
 cents-most office k a Several h = omega arith
 cents-most office k a (One (content.Reading w)) h = omega arith
@@ -29,7 +29,7 @@ cents-most office (key.TopUp x) a (One (content.TopUp b c t)) h = elim (cases_Bo
 cents-most office (key.Reading m q t) a (One (content.TopUp b c i)) h = absurd h
 cents-most office (key.Assignment m t) a (One (content.TopUp b c i)) h = absurd h
 
-topped-most : (office : Office) (s : List Entry) (a : ℕ) → AllOfOffice office s → topped_up s a ≤ length s * most_cents
+topped-most : (office : OfficeRules) (s : List Entry) (a : ℕ) → AllOfOffice office s → topped_up s a ≤ length s * most_cents
 unfolding topped_up
 topped-most office [] a h = omega arith
 topped-most office (e ∷ s) a h =
@@ -38,7 +38,7 @@ topped-most office (e ∷ s) a h =
     let rest = topped-most office s a (λ f m. h f (inr m)) in
     omega (arith, more, fit, rest)
 
-pub topped-fits : (office : Office) (s : List Entry) (a : ℕ) → AllOfOffice office s → length s ≤ most_records → topped_up s a ≤ 999999999990000000
+pub topped-fits : (office : OfficeRules) (s : List Entry) (a : ℕ) → AllOfOffice office s → length s ≤ most_records → topped_up s a ≤ 999999999990000000
 topped-fits office s a h few = let m = topped-most office s a h in omega (arith, m, few)
 
 -- a balance of such sums fits

@@ -1,8 +1,9 @@
 -- Calls of a shelf behind another.
-use Rattle.std.proofs.Common.{◌≡◌, ℕ, ◌∙◌, refl, arith}
+use Rattle.std.proofs.Common.{ℕ, ◌∙◌, refl, arith}
 use Rattle.pw_model.specs.Shelf.{ShelfContent}
 use Rattle.pw_shelf.specs.Calls.{GoesOn}
 use Rattle.pw_shelf.specs.State.{State, CountsFailures}
+use Rattle.pw_shelf.specs.declared.shelf.Shelf.{Ghosts}
 use Rattle.pw_book.specs.Asking.{IsOnlyAsked}
 
 counts-then : (told : ℕ) (a b c : State) → CountsFailures 0 a b → CountsFailures told b c → CountsFailures told a c
@@ -18,11 +19,14 @@ module _ {S : Type 0} (state : S → State) (leaves : S → ShelfContent → Typ
     clean = λ k. f.clean (g.clean k);
   }
 
-  pub asked-then : IsOnlyAsked state leaves is_clean 0 a b → IsOnlyAsked state leaves is_clean told b c → IsOnlyAsked state leaves is_clean told a c
-  asked-then f g = record { content = λ k. g.content k ∙ f.content (g.kept.clean k); kept = kept-then f.kept g.kept }
+pub asked-then : {S : Type 0} (shelf : Ghosts S) (told : ℕ) (a b c : S) → IsOnlyAsked shelf 0 a b → IsOnlyAsked shelf told b c → IsOnlyAsked shelf told a c
+asked-then shelf told a b c f g = record {
+  content = λ k. g.content k ∙ f.content (g.kept.clean k);
+  kept = kept-then shelf.state shelf.left shelf.clean told a b c f.kept g.kept;
+}
 
-pub asked-none : {S : Type 0} (state : S → State) (leaves : S → ShelfContent → Type 0) (is_clean : S → Type 0) (a : S) → IsOnlyAsked state leaves is_clean 0 a a
-asked-none state leaves is_clean a = record {
+pub asked-none : {S : Type 0} (shelf : Ghosts S) (a : S) → IsOnlyAsked shelf 0 a a
+asked-none shelf a = record {
   content = λ k. refl;
   kept = record { upload = refl; counts = record { failures = omega arith; failed_abandons = refl }; left = λ k c l. l; clean = λ k. k };
 }

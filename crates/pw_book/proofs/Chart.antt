@@ -3,11 +3,12 @@ use Rattle.std.proofs.Common.{◌≡◌, ℕ, suc, ◌<◌, ◌≤◌, Bool, len
 use Rattle.std.specs.Cmp.{nat_cmp_is}
 use Rattle.std.specs.Ordering.{nat_cmp}
 use Rattle.std.proofs.lemmas.Bool.{cases_lt}
-use Rattle.pw_flow.specs.Energy.{Lists, pairs_sum}
+use Rattle.pw_flow.specs.Pairs.{ListsPoints}
+use Rattle.pw_flow.specs.Pairs.{pairs_sum}
 use Rattle.pw_flow.proofs.Points.{option-cases}
 use Rattle.pw_model.specs.Counting.{Member}
-use Rattle.pw_model.specs.Lists.{IsRising}
-use Rattle.pw_book.specs.Counted.{ListsSeconds, by_second}
+use Rattle.pw_model.specs.Lists.{IsInOrder}
+use Rattle.pw_book.specs.inner.Counted.{ListsSeconds, by_second}
 use Rattle.pw_book.proofs.Groups.{before-member}
 
 pub less-is : (x y : ℕ) → nat_cmp x y ≡ Less → x < y
@@ -20,8 +21,8 @@ less-is x y h = elim (cases_lt x y) [
 ]
 
 -- a list of the points from a second on
-listed-from : (told : ℕ → Option ℕ) (end from : ℕ) (ps : List (ℕ × ℕ)) → IsRising by_second ps → ((a : ℕ × ℕ) → Member a ps → (told a.0 ≡ Some a.1) × (from ≤ a.0) × (a.0 < end)) →
-    ((t w : ℕ) → from ≤ t → told t ≡ Some w → Member (t, w) ps) → Lists told end from ps
+listed-from : (told : ℕ → Option ℕ) (end from : ℕ) (ps : List (ℕ × ℕ)) → IsInOrder by_second ps → ((a : ℕ × ℕ) → Member a ps → (told a.0 ≡ Some a.1) × (from ≤ a.0) × (a.0 < end)) →
+    ((t w : ℕ) → from ≤ t → told t ≡ Some w → Member (t, w) ps) → ListsPoints told end from ps
 listed-from told end from [] r h k = λ s l. elim (option-cases (told s)) [
   | inl n ↦ n
   | inr w ↦ absurd (k s w.0 l w.1)
@@ -46,7 +47,7 @@ listed-from told end from (a ∷ ps) r h k =
           ]),
     )
 
-pub listed : (told : ℕ → Option ℕ) (end : ℕ) (ps : List (ℕ × ℕ)) → ListsSeconds told ps → ((t w : ℕ) → told t ≡ Some w → t < end) → Lists told end 0 ps
+pub listed : (told : ℕ → Option ℕ) (end : ℕ) (ps : List (ℕ × ℕ)) → ListsSeconds told ps → ((t w : ℕ) → told t ≡ Some w → t < end) → ListsPoints told end 0 ps
 listed told end ps l e = listed-from told end 0 ps l.rising
     (λ a m. (let t = (l.members a).0 m in (t, omega arith, e a.0 a.1 t)))
     (λ t w f h. (l.members (t, w)).1 h)

@@ -2,7 +2,7 @@
 use Rattle.std.proofs.Common.{◌≡◌, ℕ, ◌+◌, ◌*◌, ◌<◌, ◌≤◌, ◌^◌, List, [], ◌∷◌, ◌++◌, ◌↔◌, length, refl, ap, sym, subst, inl, inr, arith, Less}
 use Rattle.pw_obis.specs.declared.reference.Register.{Register}
 use Rattle.pw_tariff.specs.declared.ids.MeterId.{MeterId}
-use Rattle.pw_tariff.specs.Office.{Office, register_place}
+use Rattle.pw_tariff.specs.Office.{OfficeRules, register_place}
 use Rattle.pw_model.specs.declared.records.Key.{Key}
 use Rattle.pw_model.specs.declared.records.Key.TheVariants as key
 use Rattle.pw_model.specs.declared.records.Content.{Content}
@@ -15,12 +15,12 @@ use Rattle.pw_model.specs.Same.{key_order, key_numbers}
 use Rattle.pw_model.specs.Shelf.{ShelfContent}
 use Rattle.pw_model.proofs.Same.{register-one}
 use Rattle.pw_shelf.specs.Rows.{ListsHeld, IsReadingOf, IsAssignmentOf, IsTopUp}
-use Rattle.pw_book.specs.Places.{DisputesBefore, key_place, IsWithin, AreWithin}
+use Rattle.pw_book.specs.inner.Places.{DisputesBefore, key_place, IsWithin, AreWithin}
 use Rattle.pw_book.proofs.Disputed.{held-disputes, held-few, count, count-some}
 use Rattle.pw_book.proofs.Segments.{segment-more, segment-all, segment-none, first-less, then-less, place-few, places-split, places-same}
 
 -- ---- the records of an office
-key-within : (office : Office) (k : Key) (c : Content) → IsOf office k c → IsWithin office.meters k
+key-within : (office : OfficeRules) (k : Key) (c : Content) → IsOf office k c → IsWithin office.meters k
 key-within office (key.Reading m r t) (content.Reading w) h = h.0
 key-within office (key.Reading m r t) (content.Assignment o) h = absurd h
 key-within office (key.Reading m r t) (content.TopUp a c u) h = absurd h
@@ -29,7 +29,7 @@ key-within office (key.Assignment m t) (content.Assignment o) h = h.0
 key-within office (key.Assignment m t) (content.TopUp a c u) h = absurd h
 key-within office (key.TopUp r) c h = tt
 
-pub all-within : (office : Office) (s : List Entry) → length s ≤ most_records → AllOfOffice office s → AreWithin office.meters s
+pub all-within : (office : OfficeRules) (s : List Entry) → length s ≤ most_records → AllOfOffice office s → AreWithin office.meters s
 all-within office s l h = record { few = l; keys = λ e m. key-within office e.key e.content (h e m) }
 
 dispute-within : (meters : ℕ) (s : List Entry) (d : Dispute) → AreWithin meters s → IsDispute s d → IsWithin meters d.key

@@ -6,13 +6,13 @@ use Rattle.pw_model.specs.declared.records.Key.{Key}
 use Rattle.pw_model.specs.declared.records.Dispute.{Dispute}
 use Rattle.pw_model.specs.declared.records.Entry.{Entry}
 use Rattle.pw_model.specs.Counting.{Member, SameMembers}
-use Rattle.pw_model.specs.Lists.{IsRising, Lists, IsDispute, records_at, dispute_order}
+use Rattle.pw_model.specs.Lists.{IsInOrder, Lists, IsDispute, records_at, dispute_order}
 use Rattle.pw_model.specs.Payments.{stands_in, sum_once}
 use Rattle.pw_model.specs.Same.{same_key, same_entry, key_order, entry_order}
 use Rattle.pw_model.proofs.Same.{same_key-decides, same_entry-decides}
 use Rattle.pw_model.proofs.Once.{once-same, stands-decides}
 use Rattle.pw_shelf.specs.Rows.{ListsHeld}
-use Rattle.pw_book.specs.Groups.{HasSameKey, IsDisputeOf}
+use Rattle.pw_book.specs.inner.Groups.{HasSameKey, IsDisputeOf}
 use Rattle.pw_book.proofs.Keys.{entry-apart, key-apart}
 use Rattle.pw_book.proofs.Groups.{AreApart, apart-more, joined-up, before-member, member-left, member-right, member-split, rising-right, rising-across, rising-push}
 
@@ -46,7 +46,7 @@ count-front k (x ∷ xs) ys h =
     ]
 
 -- of records in order each counts by itself
-count-rising : (k : Key) (e : Entry) (es : List Entry) → IsRising entry_order (e ∷ es) → count k (e ∷ es) ≡ one_at k e + count k es
+count-rising : (k : Key) (e : Entry) (es : List Entry) → IsInOrder entry_order (e ∷ es) → count k (e ∷ es) ≡ one_at k e + count k es
 unfolding count
 count-rising k e es r = elim (cases_Bool (stands_in same_entry e es)) [
   | inl t ↦ absurd (entry-apart e (before-member entry_order e e es r.0 ((stands-decides same_entry same_entry-decides (one_at k) e es).0 t)))
@@ -65,7 +65,7 @@ count-none k (e ∷ es) h =
     ]
 
 -- behind records of other keys
-count-behind : (k : Key) (done rest : List Entry) → IsRising entry_order (done ++ rest) → ((e : Entry) → Member e done → e.key ≡ k → ⊥) → count k (done ++ rest) ≡ count k rest
+count-behind : (k : Key) (done rest : List Entry) → IsInOrder entry_order (done ++ rest) → ((e : Entry) → Member e done → e.key ≡ k → ⊥) → count k (done ++ rest) ≡ count k rest
 count-behind k [] rest r h = refl
 count-behind k (e ∷ done) rest r h =
     let behind = count-behind k done rest r.1 (λ x m. h x (inr m)) in
@@ -74,7 +74,7 @@ count-behind k (e ∷ done) rest r h =
     omega (arith, behind, one, zero)
 
 -- all of a key in front of others
-count-group : (k : Key) (es rest : List Entry) → IsRising entry_order (es ++ rest) → ((e : Entry) → Member e es → e.key ≡ k) → ((e : Entry) → Member e rest → e.key ≡ k → ⊥) → count k (es ++ rest) ≡ length es
+count-group : (k : Key) (es rest : List Entry) → IsInOrder entry_order (es ++ rest) → ((e : Entry) → Member e es → e.key ≡ k) → ((e : Entry) → Member e rest → e.key ≡ k → ⊥) → count k (es ++ rest) ≡ length es
 count-group k [] rest r h n = count-none k rest n
 count-group k (e ∷ es) rest r h n =
     let behind = count-group k es rest r.1 (λ x m. h x (inr m)) n in
@@ -112,13 +112,13 @@ count-some k (e ∷ es) h = elim (cases_Bool (same_key e.key k)) [
 
 -- ---- the records of one key
 -- how many have the key of a group
-group-number : (all done others : List Entry) (first : Entry) (n : ℕ) → IsRising entry_order all → all ≡ done ++ first ∷ others → AreApart done (first ∷ others) → HasSameKey first others n → records_at all first.key ≡ suc n
+group-number : (all done others : List Entry) (first : Entry) (n : ℕ) → IsInOrder entry_order all → all ≡ done ++ first ∷ others → AreApart done (first ∷ others) → HasSameKey first others n → records_at all first.key ≡ suc n
 unfolding records_at count
 group-number all done others first n r e a h =
     let split : first ∷ others ≡ (first ∷ take n others) ++ drop n others = ap (λ xs. first ∷ xs) (sym (take-append-drop n others)) in
     let whole : all ≡ done ++ ((first ∷ take n others) ++ drop n others) = e ∙ ap (λ xs. done ++ xs) split in
-    let P : List Entry → Type 0 = IsRising entry_order in
-    let up : IsRising entry_order (done ++ ((first ∷ take n others) ++ drop n others)) = subst P whole r in
+    let P : List Entry → Type 0 = IsInOrder entry_order in
+    let up : IsInOrder entry_order (done ++ ((first ∷ take n others) ++ drop n others)) = subst P whole r in
     let one : count first.key (done ++ ((first ∷ take n others) ++ drop n others)) ≡ count first.key ((first ∷ take n others) ++ drop n others) =
     count-behind first.key done ((first ∷ take n others) ++ drop n others) up (λ x m k. a x first m (inl refl) (sym k)) in
     let two : count first.key ((first ∷ take n others) ++ drop n others) ≡ length (first ∷ take n others) =
@@ -141,7 +141,7 @@ met-more : (all done more : List Entry) (d : Dispute) → IsMet all done d → I
 met-more all done more d h = (h.0, (h.1.0, member-left h.1.0 done more h.1.1, h.1.2))
 
 -- behind a record with a key of its own
-met-alone : (all rest others : List Entry) (first : Entry) (ds : List Dispute) → IsRising entry_order all → rest ≡ first ∷ others → DisputesSoFar all rest ds → HasSameKey first others 0 → DisputesSoFar all (drop 0 others) ds
+met-alone : (all rest others : List Entry) (first : Entry) (ds : List Dispute) → IsInOrder entry_order all → rest ≡ first ∷ others → DisputesSoFar all rest ds → HasSameKey first others 0 → DisputesSoFar all (drop 0 others) ds
 met-alone all rest others first ds r q s h =
     let w : all ≡ s.0 ++ first ∷ others = s.1 ∙ ap (λ xs. s.0 ++ xs) q in
     let a : AreApart s.0 (first ∷ others) = (let P : List Entry → Type 0 = λ xs. AreApart s.0 xs in subst P q s.2) in
@@ -167,12 +167,12 @@ met-alone all rest others first ds r q s h =
     )
 
 -- behind records of one key
-met-many : (all rest others : List Entry) (first : Entry) (n : ℕ) (ds : List Dispute) (d : Dispute) → IsRising entry_order all → rest ≡ first ∷ others → DisputesSoFar all rest ds → HasSameKey first others (suc n) →
+met-many : (all rest others : List Entry) (first : Entry) (n : ℕ) (ds : List Dispute) (d : Dispute) → IsInOrder entry_order all → rest ≡ first ∷ others → DisputesSoFar all rest ds → HasSameKey first others (suc n) →
     ((k : Key) → records_at all k < 2 ^ 32) → IsDisputeOf first (suc n) d → DisputesSoFar all (drop (suc n) others) (ds ++ d ∷ [])
 met-many all rest others first n ds d r q s h few g =
     let w : all ≡ s.0 ++ first ∷ others = s.1 ∙ ap (λ xs. s.0 ++ xs) q in
     let a : AreApart s.0 (first ∷ others) = (let P : List Entry → Type 0 = λ xs. AreApart s.0 xs in subst P q s.2) in
-    let up : IsRising entry_order (s.0 ++ first ∷ others) = (let P : List Entry → Type 0 = IsRising entry_order in subst P w r) in
+    let up : IsInOrder entry_order (s.0 ++ first ∷ others) = (let P : List Entry → Type 0 = IsInOrder entry_order in subst P w r) in
     let number : records_at all first.key ≡ suc (suc n) = group-number all s.0 others first (suc n) r w a h in
     let fits = few first.key in
     let contents : d.contents ≡ suc n + 1 = g.number (omega (arith, number, fits)) in
@@ -222,12 +222,12 @@ all-met all [] ds e s = record {
 all-met all (x ∷ rest) ds e s = absurd (omega arith)
 
 -- where the rest is cut off at a place
-pub step-alone : (all rest others : List Entry) (first : Entry) (n : ℕ) (ds new : List Dispute) → IsRising entry_order all → rest ≡ first ∷ others → DisputesSoFar all rest ds → HasSameKey first others n →
+pub step-alone : (all rest others : List Entry) (first : Entry) (n : ℕ) (ds new : List Dispute) → IsInOrder entry_order all → rest ≡ first ∷ others → DisputesSoFar all rest ds → HasSameKey first others n →
     (0 < n → ⊥) → new ≡ ds → DisputesSoFar all (take (length others - n) (drop n others)) new
 step-alone all rest others first zero ds new r q s h z e = rw (take_rest others 0, e) (met-alone all rest others first ds r q s h)
 step-alone all rest others first (suc n) ds new r q s h z e = absurd (z (omega arith))
 
-pub step-many : (all rest others : List Entry) (first : Entry) (n : ℕ) (ds new : List Dispute) (d : Dispute) → IsRising entry_order all → rest ≡ first ∷ others → DisputesSoFar all rest ds → HasSameKey first others n →
+pub step-many : (all rest others : List Entry) (first : Entry) (n : ℕ) (ds new : List Dispute) (d : Dispute) → IsInOrder entry_order all → rest ≡ first ∷ others → DisputesSoFar all rest ds → HasSameKey first others n →
     0 < n → ((k : Key) → records_at all k < 2 ^ 32) → IsDisputeOf first n d → new ≡ ds ++ d ∷ [] → DisputesSoFar all (take (length others - n) (drop n others)) new
 step-many all rest others first zero ds new d r q s h z few g e = absurd (omega arith)
 step-many all rest others first (suc n) ds new d r q s h z few g e = rw (take_rest others (suc n), e) (met-many all rest others first n ds d r q s h few g)
@@ -276,8 +276,8 @@ held-disputes Of s records ds h l = record {
 abbrev pub IsTail : List Entry → List Entry → Type 0
 IsTail all rest = (done : List Entry) × (all ≡ done ++ rest)
 
-pub tail-rises : (all rest : List Entry) → IsRising entry_order all → IsTail all rest → IsRising entry_order rest
-tail-rises all rest r t = rising-right entry_order t.0 rest (let P : List Entry → Type 0 = IsRising entry_order in subst P t.1 r)
+pub tail-rises : (all rest : List Entry) → IsInOrder entry_order all → IsTail all rest → IsInOrder entry_order rest
+tail-rises all rest r t = rising-right entry_order t.0 rest (let P : List Entry → Type 0 = IsInOrder entry_order in subst P t.1 r)
 
 pub tail-more : (all rest others : List Entry) (first : Entry) (n : ℕ) → rest ≡ first ∷ others → IsTail all rest → IsTail all (take (length others - n) (drop n others))
 tail-more all rest others first n q t = (t.0 ++ first ∷ take n others, joined-up t.0 others first n all (t.1 ∙ ap (λ xs. t.0 ++ xs) q) ∙ ap (λ xs. (t.0 ++ first ∷ take n others) ++ xs) (sym (take_rest others n)))

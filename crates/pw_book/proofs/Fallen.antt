@@ -3,7 +3,7 @@ use Rattle.std.proofs.Common.{◌≡◌, ℕ, ◌+◌, ◌*◌, ◌<◌, Some, L
 use Rattle.pw_flow.specs.Flow.{AreNeighbours}
 use Rattle.pw_obis.specs.declared.reference.Register.{Register}
 use Rattle.pw_tariff.specs.declared.ids.MeterId.{MeterId}
-use Rattle.pw_tariff.specs.Office.{Office, register_place}
+use Rattle.pw_tariff.specs.Office.{OfficeRules, register_place}
 use Rattle.pw_model.specs.declared.records.Content.TheVariants as content
 use Rattle.pw_model.specs.declared.records.Entry.{Entry}
 use Rattle.pw_model.specs.declared.records.Fall.{Fall}
@@ -14,8 +14,8 @@ use Rattle.pw_model.specs.Shelf.{ShelfContent}
 use Rattle.pw_model.proofs.Counting.{entry}
 use Rattle.pw_model.proofs.Found.{point-member}
 use Rattle.pw_model.proofs.Same.{register-one}
-use Rattle.pw_book.specs.Counted.{IsFallOf}
-use Rattle.pw_book.specs.Places.{FallsBefore, fall_place}
+use Rattle.pw_book.specs.inner.Counted.{IsFallOf}
+use Rattle.pw_book.specs.inner.Places.{FallsBefore, fall_place}
 use Rattle.pw_book.proofs.Segments.{segment-more, segment-all, first-less, then-less, place-few, places-split, places-same}
 
 -- the falls of one register are those at its place
@@ -58,7 +58,7 @@ falls-more s m r old more a b =
     (λ f h. at-place m r f)
     (λ f g h k l. fall-before f g l)
 
-pub falls-all : (office : Office) (s : List Entry) (falls : List Fall) → AllOfOffice office s → FallsBefore s (6 * office.meters) falls → AreFalls s falls
+pub falls-all : (office : OfficeRules) (s : List Entry) (falls : List Fall) → AllOfOffice office s → FallsBefore s (6 * office.meters) falls → AreFalls s falls
 falls-all office s falls o a = segment-all fall_order (IsFall (contents_at s)) fall_place (6 * office.meters) falls a (λ f h.
     let first : point (contents_at s) f.meter.0 f.register f.from ≡ Some f.high = h.neighbours.first in
     let e : Entry = entry (reading_key f.meter.0 f.register f.from) (content.Reading f.high) in
@@ -71,7 +71,7 @@ pub falls-at : (s : List Entry) (m n : ℕ) (falls : List Fall) → m ≡ n → 
 falls-at s m n falls e a = let F : ℕ → Type 0 = λ k. FallsBefore s k falls in subst F e a
 
 -- a step over what a shelf tells: its content is as it was
-pub falls-next : (office : Office) (was now : ShelfContent) (from to after next : ℕ) (old new : List Fall) → now ≡ was → to ≡ from → after ≡ next → AllOfOffice office was.records → FallsBefore was.records from old →
+pub falls-next : (office : OfficeRules) (was now : ShelfContent) (from to after next : ℕ) (old new : List Fall) → now ≡ was → to ≡ from → after ≡ next → AllOfOffice office was.records → FallsBefore was.records from old →
     (AllOfOffice office now.records → FallsBefore now.records to old → FallsBefore now.records after new) → FallsBefore was.records next new
 falls-next office was now from to after next old new e p q o b h =
     let A : ShelfContent → Type 0 = λ c. AllOfOffice office c.records in

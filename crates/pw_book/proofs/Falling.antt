@@ -10,8 +10,8 @@ use Rattle.pw_tariff.specs.declared.ids.MeterId.{MeterId}
 use Rattle.pw_tariff.specs.Office.{register_place}
 use Rattle.pw_model.specs.declared.records.Fall.{Fall}
 use Rattle.pw_model.specs.Counting.{Member}
-use Rattle.pw_model.specs.Lists.{IsRising, Lists, fall_order, fall_numbers}
-use Rattle.pw_book.specs.Counted.{IsFallOf, ListsSeconds}
+use Rattle.pw_model.specs.Lists.{IsInOrder, Lists, fall_order, fall_numbers}
+use Rattle.pw_book.specs.inner.Counted.{IsFallOf, ListsSeconds}
 use Rattle.pw_book.proofs.Groups.{before-all}
 use Rattle.pw_book.proofs.Chart.{listed}
 
@@ -32,7 +32,7 @@ falls-ended m r (a ∷ b ∷ ps) l = absurd (omega arith)
 
 module _ (m : MeterId) (r : Register) (told : ℕ → Option ℕ) (end : ℕ) where
   -- a fall among points from a second on begins there or later
-  begins : (from : ℕ) (ps : List (ℕ × ℕ)) → flow.Lists told end from ps → (f : Fall) → Member f (falls_in m r ps) → from ≤ f.from
+  begins : (from : ℕ) (ps : List (ℕ × ℕ)) → flow.ListsPoints told end from ps → (f : Fall) → Member f (falls_in m r ps) → from ≤ f.from
   begins from [] l f n = absurd n
   begins from (a ∷ []) l f n = absurd n
   begins from (a ∷ b ∷ ps) l f n =
@@ -48,7 +48,7 @@ module _ (m : MeterId) (r : Register) (told : ℕ → Option ℕ) (end : ℕ) wh
       ]
 
   -- each is a fall of the register
-  is-fall : (from : ℕ) (ps : List (ℕ × ℕ)) → flow.Lists told end from ps → (f : Fall) → Member f (falls_in m r ps) → IsFallOf m r told f
+  is-fall : (from : ℕ) (ps : List (ℕ × ℕ)) → flow.ListsPoints told end from ps → (f : Fall) → Member f (falls_in m r ps) → IsFallOf m r told f
   is-fall from [] l f n = absurd n
   is-fall from (a ∷ []) l f n = absurd n
   is-fall from (a ∷ b ∷ ps) l f n =
@@ -75,7 +75,7 @@ module _ (m : MeterId) (r : Register) (told : ℕ → Option ℕ) (end : ℕ) wh
       ]
 
   -- each fall of the register from a second on is among them
-  has-fall : (from : ℕ) (ps : List (ℕ × ℕ)) → flow.Lists told end from ps → (f : Fall) → IsFallOf m r told f → from ≤ f.from → Member f (falls_in m r ps)
+  has-fall : (from : ℕ) (ps : List (ℕ × ℕ)) → flow.ListsPoints told end from ps → (f : Fall) → IsFallOf m r told f → from ≤ f.from → Member f (falls_in m r ps)
   has-fall from [] l f h g = absurd (none-some f.high (sym (l f.from g) ∙ h.neighbours.first))
   has-fall from (a ∷ []) l f h g =
       let late : a.0 < f.from → ⊥ = λ q. none-some f.high (sym (l.4 f.from (omega (arith, q))) ∙ h.neighbours.first) in
@@ -119,7 +119,7 @@ module _ (m : MeterId) (r : Register) (told : ℕ → Option ℕ) (end : ℕ) wh
   in-order f g a b c d l =
       rw (a, b, c, d, same-number m.0, same-number (register_place r), sym (nat_cmp_is f.from g.from Less l)) refl
 
-  rise : (from : ℕ) (ps : List (ℕ × ℕ)) → flow.Lists told end from ps → IsRising fall_order (falls_in m r ps)
+  rise : (from : ℕ) (ps : List (ℕ × ℕ)) → flow.ListsPoints told end from ps → IsInOrder fall_order (falls_in m r ps)
   rise from [] l = tt
   rise from (a ∷ []) l = tt
   rise from (a ∷ b ∷ ps) l =

@@ -6,10 +6,10 @@ use Rattle.std.proofs.Math.ListN.{drop_of_length-le}
 use Rattle.std.proofs.lemmas.Bool.{true≢false}
 use Rattle.pw_model.specs.declared.records.Entry.{Entry}
 use Rattle.pw_model.specs.Counting.{Member, Counts}
-use Rattle.pw_model.specs.Lists.{IsBeforeAll, IsRising, Lists}
+use Rattle.pw_model.specs.Lists.{IsBeforeAll, IsInOrder, Lists}
 use Rattle.pw_model.specs.Same.{same_key, entry_order}
 use Rattle.pw_model.proofs.Same.{same_key-decides}
-use Rattle.pw_book.specs.Groups.{HasSameKey}
+use Rattle.pw_book.specs.inner.Groups.{HasSameKey}
 use Rattle.pw_book.proofs.Keys.{between, entry-apart}
 
 -- ---- members and order of two lists together
@@ -36,17 +36,17 @@ pub before-all : {X : Type 0} (order : X → X → Ordering) (x : X) (xs : List 
 before-all order x [] h = tt
 before-all order x (y ∷ ys) h = (h y (inl refl), before-all order x ys (λ z m. h z (inr m)))
 
-pub rising-right : {X : Type 0} (order : X → X → Ordering) (xs ys : List X) → IsRising order (xs ++ ys) → IsRising order ys
+pub rising-right : {X : Type 0} (order : X → X → Ordering) (xs ys : List X) → IsInOrder order (xs ++ ys) → IsInOrder order ys
 rising-right order [] ys h = h
 rising-right order (x ∷ xs) ys h = rising-right order xs ys h.1
 
 -- each of the first list stands before each of the second
-pub rising-across : {X : Type 0} (order : X → X → Ordering) (xs ys : List X) → IsRising order (xs ++ ys) → (x y : X) → Member x xs → Member y ys → order x y ≡ Less
+pub rising-across : {X : Type 0} (order : X → X → Ordering) (xs ys : List X) → IsInOrder order (xs ++ ys) → (x y : X) → Member x xs → Member y ys → order x y ≡ Less
 rising-across order [] ys h x y m n = absurd m
 rising-across {X} order (z ∷ xs) ys h x y (inl i) n = let P : X → Type 0 = λ v. order v y ≡ Less in subst P (sym i) (before-member order z y (xs ++ ys) h.0 (member-right y xs ys n))
 rising-across order (z ∷ xs) ys h x y (inr m) n = rising-across order xs ys h.1 x y m n
 
-pub rising-push : {X : Type 0} (order : X → X → Ordering) (xs : List X) (y : X) → IsRising order xs → ((x : X) → Member x xs → order x y ≡ Less) → IsRising order (xs ++ y ∷ [])
+pub rising-push : {X : Type 0} (order : X → X → Ordering) (xs : List X) (y : X) → IsInOrder order xs → ((x : X) → Member x xs → order x y ≡ Less) → IsInOrder order (xs ++ y ∷ [])
 rising-push order [] y h b = (tt, tt)
 rising-push {X} order (x ∷ xs) y h b = (
   before-all order x (xs ++ y ∷ []) (λ z m. elim (member-split z xs (y ∷ []) m) [
@@ -71,12 +71,12 @@ alike-more others i other first l g s h e m =
       | inr b ↦ elim b [ inl j ↦ ap (λ (x : Entry). x.key) (j ∙ sym g) ∙ sym ((same_key-decides first.key other.key).0 s) | inr k ↦ absurd k ]
     ]
 
-pub apart-here : (others : List Entry) (i : ℕ) (other first : Entry) → IsRising entry_order (first ∷ others) → i < length others → other ≡ get_or others i other → same_key first.key other.key ≡ false →
+pub apart-here : (others : List Entry) (i : ℕ) (other first : Entry) → IsInOrder entry_order (first ∷ others) → i < length others → other ≡ get_or others i other → same_key first.key other.key ≡ false →
     (e : Entry) → Member e (drop i others) → e.key ≡ first.key → ⊥
 apart-here others i other first r l g s e m k =
     let split : drop i others ≡ other ∷ drop (i + 1) others = drop_more others i other l ∙ ap (λ (x : Entry). x ∷ drop (i + 1) others) (sym g) in
     let whole : take i others ++ (other ∷ drop (i + 1) others) ≡ others = ap (λ xs. take i others ++ xs) (sym split) ∙ take-append-drop i others in
-    let rest : IsRising entry_order (take i others ++ (other ∷ drop (i + 1) others)) = rw whole r.1 in
+    let rest : IsInOrder entry_order (take i others ++ (other ∷ drop (i + 1) others)) = rw whole r.1 in
     let here : Member other others = let P : List Entry → Type 0 = λ xs. Member other xs in subst P whole (member-right other (take i others) (other ∷ drop (i + 1) others) (inl refl)) in
     let unlike : first.key ≡ other.key → ⊥ = λ q. true≢false (sym ((same_key-decides first.key other.key).1 q) ∙ s) in
     let n : Member e (other ∷ drop (i + 1) others) = rw split at m in
@@ -138,11 +138,11 @@ alone-counts done others first all e a h = (
 )
 
 -- records of one key don't count
-pub together-don't : (done others : List Entry) (first : Entry) (count : ℕ) (all : List Entry) → IsRising entry_order all → all ≡ done ++ first ∷ others → HasSameKey first others (suc count) →
+pub together-don't : (done others : List Entry) (first : Entry) (count : ℕ) (all : List Entry) → IsInOrder entry_order all → all ≡ done ++ first ∷ others → HasSameKey first others (suc count) →
     (x : Entry) → Member x (first ∷ take (suc count) others) → Counts all x → ⊥
 together-don't done [] first count all r e h x m c = absurd (let l = h.within in omega (arith, l))
 together-don't done (second ∷ others) first count all r e h x m c =
-    let rest : IsRising entry_order (first ∷ second ∷ others) = rising-right entry_order done (first ∷ second ∷ others) (rw e at r) in
+    let rest : IsInOrder entry_order (first ∷ second ∷ others) = rising-right entry_order done (first ∷ second ∷ others) (rw e at r) in
     let P : List Entry → Type 0 = λ xs. Member first xs in
     let Q : List Entry → Type 0 = λ xs. Member second xs in
     let one : Member first all = subst P (sym e) (member-right first done (first ∷ second ∷ others) (inl refl)) in
@@ -154,7 +154,7 @@ together-don't done (second ∷ others) first count all r e h x m c =
     not-before-itself first second rest.0.0 (a ∙ sym b)
 
 -- a step over records of one key
-pub step-alone : (done others : List Entry) (first : Entry) (all counted : List Entry) → IsRising entry_order all → all ≡ done ++ first ∷ others → AreApart done (first ∷ others) → HasSameKey first others 0 →
+pub step-alone : (done others : List Entry) (first : Entry) (all counted : List Entry) → IsInOrder entry_order all → all ≡ done ++ first ∷ others → AreApart done (first ∷ others) → HasSameKey first others 0 →
     Lists entry_order (CountsSoFar all done) counted → Lists entry_order (CountsSoFar all (done ++ first ∷ [])) (counted ++ first ∷ [])
 step-alone done others first all counted r e a h l = record {
   rising = rising-push entry_order counted first l.rising (λ x m.
@@ -177,7 +177,7 @@ step-alone done others first all counted r e a h l = record {
   );
 }
 
-pub step-together : (done others : List Entry) (first : Entry) (count : ℕ) (all counted : List Entry) → IsRising entry_order all → all ≡ done ++ first ∷ others → HasSameKey first others (suc count) →
+pub step-together : (done others : List Entry) (first : Entry) (count : ℕ) (all counted : List Entry) → IsInOrder entry_order all → all ≡ done ++ first ∷ others → HasSameKey first others (suc count) →
     Lists entry_order (CountsSoFar all done) counted → Lists entry_order (CountsSoFar all (done ++ first ∷ take (suc count) others)) counted
 step-together done others first count all counted r e h l = record {
   rising = l.rising;
@@ -206,10 +206,10 @@ SoFar all rest counted = (done : List Entry) × (all ≡ done ++ rest) × AreApa
 pub none-yet : (all : List Entry) → SoFar all all []
 none-yet all = ([], refl, (λ x y m n k. absurd m), record { rising = tt; members = λ x. ((λ m. absurd m), (λ p. absurd p.0)) })
 
-pub rest-rises : (all rest counted : List Entry) → IsRising entry_order all → SoFar all rest counted → IsRising entry_order rest
+pub rest-rises : (all rest counted : List Entry) → IsInOrder entry_order all → SoFar all rest counted → IsInOrder entry_order rest
 rest-rises all rest counted r s = rising-right entry_order s.0 rest (rw s.1 at r)
 
-pub alone-so-far : (all others counted : List Entry) (first : Entry) → IsRising entry_order all → SoFar all (first ∷ others) counted → HasSameKey first others 0 → SoFar all (drop 0 others) (counted ++ first ∷ [])
+pub alone-so-far : (all others counted : List Entry) (first : Entry) → IsInOrder entry_order all → SoFar all (first ∷ others) counted → HasSameKey first others 0 → SoFar all (drop 0 others) (counted ++ first ∷ [])
 alone-so-far all others counted first r s h = (
   s.0 ++ first ∷ [],
   joined-up s.0 others first 0 all s.1,
@@ -217,7 +217,7 @@ alone-so-far all others counted first r s h = (
   step-alone s.0 others first all counted r s.1 s.2 h s.3,
 )
 
-pub together-so-far : (all others counted : List Entry) (first : Entry) (count : ℕ) → IsRising entry_order all → SoFar all (first ∷ others) counted → HasSameKey first others (suc count) → SoFar all (drop (suc count) others) counted
+pub together-so-far : (all others counted : List Entry) (first : Entry) (count : ℕ) → IsInOrder entry_order all → SoFar all (first ∷ others) counted → HasSameKey first others (suc count) → SoFar all (drop (suc count) others) counted
 together-so-far all others counted first count r s h = (
   s.0 ++ first ∷ take (suc count) others,
   joined-up s.0 others first (suc count) all s.1,
@@ -229,12 +229,12 @@ pub none-left : (all counted : List Entry) → SoFar all [] counted → Lists en
 none-left all counted s = all-done all s.0 counted s.1 s.3
 
 -- where the records behind the first are cut off at a place
-pub step-one : (all rest others counted new : List Entry) (first : Entry) (count : ℕ) → IsRising entry_order all → rest ≡ first ∷ others → SoFar all rest counted → HasSameKey first others count →
+pub step-one : (all rest others counted new : List Entry) (first : Entry) (count : ℕ) → IsInOrder entry_order all → rest ≡ first ∷ others → SoFar all rest counted → HasSameKey first others count →
     count ≡ 0 → new ≡ counted ++ first ∷ [] → SoFar all (take (length others - count) (drop count others)) new
 step-one all rest others counted new first zero r e s h z n = rw (take_rest others 0, n) (alone-so-far all others counted first r (rw e at s) h)
 step-one all rest others counted new first (suc count) r e s h z n = absurd (omega arith)
 
-pub step-many : (all rest others counted new : List Entry) (first : Entry) (count : ℕ) → IsRising entry_order all → rest ≡ first ∷ others → SoFar all rest counted → HasSameKey first others count →
+pub step-many : (all rest others counted new : List Entry) (first : Entry) (count : ℕ) → IsInOrder entry_order all → rest ≡ first ∷ others → SoFar all rest counted → HasSameKey first others count →
     (count ≡ 0 → ⊥) → new ≡ counted → SoFar all (take (length others - count) (drop count others)) new
 step-many all rest others counted new first zero r e s h z n = absurd (z refl)
 step-many all rest others counted new first (suc count) r e s h z n = rw (take_rest others (suc count), n) (together-so-far all others counted first count r (rw e at s) h)

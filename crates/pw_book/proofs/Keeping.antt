@@ -1,6 +1,6 @@
 -- What every book keeps, behind an upload.
 use Rattle.std.proofs.Common.{◌≡◌, ℕ, ◌≤◌, List, ◌++◌, length, refl, sym, subst, arith, inl, inr, Result, Ok, Err}
-use Rattle.pw_tariff.specs.Office.{Office}
+use Rattle.pw_tariff.specs.Office.{OfficeRules}
 use Rattle.pw_model.specs.declared.records.Entry.{Entry}
 use Rattle.pw_model.specs.Office.{AllOfOffice, most_records}
 use Rattle.pw_model.specs.Shelf.{ShelfContent}
@@ -27,7 +27,7 @@ module _ (limit : ℕ) (entries : List Entry) (old new : ShelfContent) where
   posted-few (Err Memory) m k h n = let P : ShelfContent → Type 0 = λ c. length c.records ≤ most_records in subst P (sym h) k
   posted-few (Err Reopen) m k h n = absurd (n refl)
 
-  pub posted-of_office : (office : Office) (answer : Result Accepted PostFault) → AllOfOffice office entries → AllOfOffice office old.records → IsPosted limit entries old new answer → (answer ≡ Err Reopen → ⊥) → AllOfOffice office new.records
+  pub posted-of_office : (office : OfficeRules) (answer : Result Accepted PostFault) → AllOfOffice office entries → AllOfOffice office old.records → IsPosted limit entries old new answer → (answer ≡ Err Reopen → ⊥) → AllOfOffice office new.records
   posted-of_office office (Ok a) m k h n = λ e q. elim (member-split e old.records entries ((h.content.joined.records e).0 q)) [ inl x ↦ k e x | inr x ↦ m e x ]
   posted-of_office office (Err (Full held stated)) m k h n = let P : ShelfContent → Type 0 = λ c. AllOfOffice office c.records in subst P (sym h.content) k
   posted-of_office office (Err Device) m k h n = let P : ShelfContent → Type 0 = λ c. AllOfOffice office c.records in subst P (sym h) k

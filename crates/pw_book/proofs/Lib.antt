@@ -21,3 +21,4 @@ pub mod Segments
 pub mod Fallen
 pub mod Contested
 pub mod Order
+pub mod Running

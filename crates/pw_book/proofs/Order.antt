@@ -1,24 +1,21 @@
 -- What uploads bring depends on which they are alone.
-use Rattle.std.proofs.Common.{◌≡◌, ◌↔◌, ℕ, List, [], ◌∷◌, ◌++◌, refl, sym, subst, inl, inr, ◌⊎◌}
+use Rattle.std.proofs.Common.{List, [], ◌∷◌, ◌++◌, refl, subst, inl, inr, ◌⊎◌}
 use Rattle.pw_tariff.specs.Office.{OfficeFile, office_of}
 use Rattle.pw_model.specs.declared.records.Entry.{Entry}
 use Rattle.pw_model.specs.Counting.{Member, SameMembers}
-use Rattle.pw_model.specs.Shelf.{ShelfContent}
 use Rattle.pw_model.proofs.Answers.{order_counts_nothing}
 use Rattle.pw_record.specs.declared.fault.UploadFault.{UploadFault}
 use Rattle.pw_record.specs.Uploads.{Upload, Gives, RefusesContent}
 use Rattle.pw_record.specs.Laws.{HasNoTwoOutcomes}
-use Rattle.pw_book.specs.declared.book.Accepted.{Accepted}
-use Rattle.pw_book.specs.Posting.{IsAccepted}
-use Rattle.pw_book.specs.After.{Brings, After, LeavesAfter, HaveTheSameAfter, OrderOfUploadsCountsNothing}
+use Rattle.pw_book.specs.After.{Brings, After, LeavesAfter, OrderOfUploadsCountsNothing}
 use Rattle.pw_book.proofs.Groups.{member-left, member-right, member-split}
 
 -- what no upload of an office has
-abbrev AreOne : OfficeFile → Type 0
+abbrev pub AreOne : OfficeFile → Type 0
 AreOne file = (upload : Upload) → HasNoTwoOutcomes file upload
 
 -- one of the uploads brings the record
-abbrev OneBrings : OfficeFile → List Upload → Entry → Type 0
+abbrev pub OneBrings : OfficeFile → List Upload → Entry → Type 0
 OneBrings file us x = (u : Upload) × Member u us × Brings file u x
 
 -- ---- one upload more
@@ -38,7 +35,7 @@ more-new file [] v x b = (v, inl refl, b)
 more-new file (w ∷ us) v x b = let c : OneBrings file (us ++ v ∷ []) x = more-new file us v x b in (c.0, inr c.1, c.2)
 
 -- an upload that gives entries brings these and no others
-brings-these : (file : OfficeFile) → AreOne file → (v : Upload) (entries : List Entry) (x : Entry) → Gives file v entries → Brings file v x → Member x entries
+pub brings-these : (file : OfficeFile) → AreOne file → (v : Upload) (entries : List Entry) (x : Entry) → Gives file v entries → Brings file v x → Member x entries
 brings-these file one v entries x g b =
     let P : List Entry → Type 0 = λ es. Member x es in
     subst P ((one v).entries b.0 entries b.1 g) b.2
@@ -82,13 +79,13 @@ AllIn us vs = (u : Upload) → Member u us → Member u vs
 other-from : (file : OfficeFile) (us vs : List Upload) (x : Entry) → AllIn us vs → OneBrings file us x → OneBrings file vs x
 other-from file us vs x h b = (b.0, h b.0 b.1, b.2)
 
-in-order : (file : OfficeFile) (s : List Entry) (us vs : List Upload) (t : List Entry) → SameMembers us vs → After file s us t → After file s vs t
+pub in-order : (file : OfficeFile) (s : List Entry) (us vs : List Upload) (t : List Entry) → SameMembers us vs → After file s us t → After file s vs t
 in-order file s us vs t h a x = (
   λ m. elim ((a x).0 m) [ inl b ↦ inl b | inr b ↦ inr (other-from file us vs x (λ u. (h u).0) b) ],
   λ m. (a x).1 (elim m [ inl b ↦ inl b | inr b ↦ inr (other-from file vs us x (λ u. (h u).1) b) ]),
 )
 
-one-after : (file : OfficeFile) (s : List Entry) (us : List Upload) (t w : List Entry) → After file s us t → After file s us w → SameMembers t w
+pub one-after : (file : OfficeFile) (s : List Entry) (us : List Upload) (t w : List Entry) → After file s us t → After file s us w → SameMembers t w
 one-after file s us t w a b x = (λ m. (b x).1 ((a x).0 m), λ m. (a x).1 ((b x).0 m))
 
 pub order-of_uploads : (file : OfficeFile) → OrderOfUploadsCountsNothing file

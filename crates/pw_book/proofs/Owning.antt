@@ -4,13 +4,13 @@ use Rattle.std.proofs.lemmas.Bool.{cases_eq, eq-eqb, ne_eqb}
 use Rattle.std.proofs.lemmas.Option.{none-some, same_Some}
 use Rattle.pw_flow.proofs.Points.{option-cases, last-same}
 use Rattle.pw_tariff.specs.declared.ids.AccountId.{AccountId}
-use Rattle.pw_tariff.specs.Owners.{Rises, start_at, owner_from, owner_at}
+use Rattle.pw_tariff.specs.Owners.{StartsIncrease, start_at, owner_from, owner_by_starts}
 use Rattle.pw_model.specs.declared.records.Key.{Key}
 use Rattle.pw_model.specs.declared.records.Contents.{Contents}
 use Rattle.pw_model.specs.Counting.{Member, start}
 use Rattle.pw_model.specs.Energy.{owner_at as owner_told}
-use Rattle.pw_model.specs.Lists.{IsRising}
-use Rattle.pw_book.specs.Counted.{ListsSeconds, by_second}
+use Rattle.pw_model.specs.Lists.{IsInOrder}
+use Rattle.pw_book.specs.inner.Counted.{ListsSeconds, by_second}
 use Rattle.pw_book.proofs.Chart.{less-is}
 use Rattle.pw_book.proofs.Groups.{before-member}
 
@@ -29,7 +29,7 @@ start-back (x ∷ xs) s o e = elim (cases_eq x.0 s) [
       inr (start-back xs s o v))
 ]
 
-start-there : (xs : List Start) (s : ℕ) (o : Option AccountId) → IsRising by_second xs → Member (s, o) xs → start_at xs s ≡ Some o
+start-there : (xs : List Start) (s : ℕ) (o : Option AccountId) → IsInOrder by_second xs → Member (s, o) xs → start_at xs s ≡ Some o
 unfolding start_at
 start-there [] s o r m = absurd m
 start-there (x ∷ xs) s o r (inl i) =
@@ -49,11 +49,11 @@ starts-told told xs l s = elim (option-cases (told s)) [
   | inr w ↦ start-there xs s w.0 l.rising ((l.members (s, w.0)).1 w.1) ∙ sym w.1
 ]
 
-pub owners-told : (at : Key → Contents) (m : ℕ) (xs : List Start) → ListsSeconds (start at m) xs → (t : ℕ) → owner_at xs t ≡ owner_told at m t
-unfolding owner_at owner_told
+pub owners-told : (at : Key → Contents) (m : ℕ) (xs : List Start) → ListsSeconds (start at m) xs → (t : ℕ) → owner_by_starts xs t ≡ owner_told at m t
+unfolding owner_by_starts owner_told
 owners-told at m xs l t = ap owner_from (last-same (start_at xs) (start at m) t (λ s k. starts-told (start at m) xs l s))
 
-pub starts-rise : (xs : List Start) → IsRising by_second xs → Rises xs
+pub starts-rise : (xs : List Start) → IsInOrder by_second xs → StartsIncrease xs
 starts-rise [] r k l = absurd (omega arith)
 starts-rise (x ∷ []) r k l = absurd (omega arith)
 starts-rise (x ∷ y ∷ xs) r zero l = less-is x.0 y.0 r.0.0

@@ -3,7 +3,7 @@ use Rattle.std.proofs.Common.{◌≡◌, ℕ, ◌+◌, List, [], ◌∷◌, ◌+
 use Rattle.std.specs.List.{sum_by}
 use Rattle.std.proofs.lemmas.Bool.{cases_Bool, true≢false}
 use Rattle.std.proofs.lemmas.List.Sums.{sum_by-cons}
-use Rattle.pw_tariff.specs.Office.{Office}
+use Rattle.pw_tariff.specs.Office.{OfficeRules}
 use Rattle.pw_model.specs.declared.records.Key.{Key}
 use Rattle.pw_model.specs.declared.records.Key.TheVariants as key
 use Rattle.pw_model.specs.declared.records.Content.{Content}
@@ -12,7 +12,7 @@ use Rattle.pw_model.specs.declared.records.Entry.{Entry}
 use Rattle.pw_model.specs.declared.records.Contents.{Contents}
 use Rattle.pw_model.specs.declared.records.Contents.TheVariants.{Nothing, One, Several}
 use Rattle.pw_model.specs.Counting.{Member, SameMembers, contents_at}
-use Rattle.pw_model.specs.Lists.{IsRising}
+use Rattle.pw_model.specs.Lists.{IsInOrder}
 use Rattle.pw_model.specs.Office.{AllOfOffice, IsOf}
 use Rattle.pw_model.specs.Payments.{stands_in, sum_once, keys, cents_for, topped_up}
 use Rattle.pw_model.specs.Same.{same_key, entry_order}
@@ -21,7 +21,7 @@ use Rattle.pw_model.proofs.Counting.{entry, one-is_counting}
 use Rattle.pw_model.proofs.Once.{once-same, stands-decides}
 use Rattle.pw_model.proofs.Answers.{key-back}
 use Rattle.pw_shelf.specs.Rows.{IsTopUp}
-use Rattle.pw_book.specs.Counted.{ListsCounting}
+use Rattle.pw_book.specs.inner.Counted.{ListsCounting}
 use Rattle.pw_book.proofs.Keys.{entry-apart}
 use Rattle.pw_book.proofs.Groups.{before-member, member-left, member-right, member-split}
 
@@ -45,7 +45,7 @@ key-of k (e ∷ es) m = elim m [
 ]
 
 -- of records whose keys differ, each adds its own
-once-each : (f : Key → ℕ) (es : List Entry) → IsRising entry_order es → ((a b : Entry) → Member a es → Member b es → a.key ≡ b.key → a ≡ b) → sum_once same_key f (keys es) ≡ sum_by (λ e. f e.key) es
+once-each : (f : Key → ℕ) (es : List Entry) → IsInOrder entry_order es → ((a b : Entry) → Member a es → Member b es → a.key ≡ b.key → a ≡ b) → sum_once same_key f (keys es) ≡ sum_by (λ e. f e.key) es
 once-each f [] r h = refl
 once-each f (e ∷ es) r h =
     let behind = once-each f es r.1 (λ a b m n. h a b (inr m) (inr n)) in
@@ -72,7 +72,7 @@ gives-nothing a k (One d) h n = elim (h d refl) [
   | inr z ↦ z
 ]
 
-kind-of : (office : Office) (a : ℕ) (k : Key) (d : Content) → IsOf office k d → IsTopUp k ⊎ (cents_for a (One d) ≡ 0)
+kind-of : (office : OfficeRules) (a : ℕ) (k : Key) (d : Content) → IsOf office k d → IsTopUp k ⊎ (cents_for a (One d) ≡ 0)
 kind-of office a (key.Reading m r t) (content.Reading w) h = inr refl
 kind-of office a (key.Reading m r t) (content.Assignment o) h = inr refl
 kind-of office a (key.Reading m r t) (content.TopUp b c u) h = absurd h
@@ -81,7 +81,7 @@ kind-of office a (key.Assignment m t) (content.Assignment o) h = inr refl
 kind-of office a (key.Assignment m t) (content.TopUp b c u) h = absurd h
 kind-of office a (key.TopUp r) d h = inl tt
 
-pub topped-up-is : (office : Office) (s counted : List Entry) (a : ℕ) → AllOfOffice office s → ListsCounting IsTopUp s counted → sum_by (λ e. cents_for a (One e.content)) counted ≡ topped_up s a
+pub topped-up-is : (office : OfficeRules) (s counted : List Entry) (a : ℕ) → AllOfOffice office s → ListsCounting IsTopUp s counted → sum_by (λ e. cents_for a (One e.content)) counted ≡ topped_up s a
 unfolding topped_up
 topped-up-is office s counted a o l =
     let f : Key → ℕ = λ k. cents_for a (contents_at s k) in

@@ -15,11 +15,11 @@ use Rattle.pw_model.specs.declared.records.Entry.{Entry}
 use Rattle.pw_model.specs.declared.records.Contents.{Contents}
 use Rattle.pw_model.specs.declared.records.Contents.TheVariants.{Nothing, One, Several}
 use Rattle.pw_model.specs.Counting.{Member, Counts, contents_at, point, start, wh_of, owner_of, reading_key, assignment_key}
-use Rattle.pw_model.specs.Lists.{IsRising, Lists}
+use Rattle.pw_model.specs.Lists.{IsInOrder, Lists}
 use Rattle.pw_model.specs.Same.{key_order, key_numbers, entry_order}
 use Rattle.pw_model.proofs.Counting.{entry, one-is_counting}
 use Rattle.pw_shelf.specs.Rows.{ListsHeld, IsReadingOf, IsAssignmentOf}
-use Rattle.pw_book.specs.Counted.{ListsCounting, ListsSeconds, by_second, shown, shown_at, given, given_at}
+use Rattle.pw_book.specs.inner.Counted.{ListsCounting, ListsSeconds, by_second, shown, shown_at, given, given_at}
 use Rattle.pw_flow.proofs.Points.{option-cases}
 use Rattle.pw_book.proofs.Keys.{keys-apart, key-less}
 use Rattle.pw_book.proofs.Groups.{before-member, before-all}
@@ -69,8 +69,8 @@ module _ {X Y : Type 0} (h : X → Option Y) where
     ])
   ]
 
-  pub told-rising : (order : X → X → Ordering) (other : Y → Y → Ordering) (xs : List X) → IsRising order xs →
-      ((a b : X) → Member a xs → Member b xs → order a b ≡ Less → (y z : Y) → h a ≡ Some y → h b ≡ Some z → other y z ≡ Less) → IsRising other (filter_map h xs)
+  pub told-rising : (order : X → X → Ordering) (other : Y → Y → Ordering) (xs : List X) → IsInOrder order xs →
+      ((a b : X) → Member a xs → Member b xs → order a b ≡ Less → (y z : Y) → h a ≡ Some y → h b ≡ Some z → other y z ≡ Less) → IsInOrder other (filter_map h xs)
   told-rising order other [] r k = tt
   told-rising order other (x ∷ xs) r k =
       let behind = told-rising order other xs r.1 (λ a b m n. k a b (inr m) (inr n)) in

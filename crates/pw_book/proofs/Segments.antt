@@ -6,13 +6,14 @@ use Rattle.std.specs.Ordering.{nat_cmp}
 use Rattle.std.proofs.lemmas.Bool.{cases_lt}
 use Rattle.pw_obis.specs.declared.reference.Register.{Register}
 use Rattle.pw_obis.specs.declared.reference.Register.TheVariants.{I0, I1, I2, E0, E1, E2}
+use Rattle.pw_obis.specs.Registers.{registers}
 use Rattle.pw_tariff.specs.Office.{register_place}
 use Rattle.pw_model.specs.Counting.{Member}
-use Rattle.pw_model.specs.Lists.{IsRising, Lists}
+use Rattle.pw_model.specs.Lists.{IsInOrder, Lists}
 use Rattle.pw_book.proofs.Groups.{member-left, member-right, member-split, before-member, before-all}
 
 module _ {X : Type 0} (order : X → X → Ordering) where
-  rising-joined : (xs ys : List X) → IsRising order xs → IsRising order ys → ((x y : X) → Member x xs → Member y ys → order x y ≡ Less) → IsRising order (xs ++ ys)
+  rising-joined : (xs ys : List X) → IsInOrder order xs → IsInOrder order ys → ((x y : X) → Member x xs → Member y ys → order x y ≡ Less) → IsInOrder order (xs ++ ys)
   rising-joined [] ys r s h = s
   rising-joined (x ∷ xs) ys r s h = (
     before-all order x (xs ++ ys) (λ z m. elim (member-split z xs ys m) [ inl a ↦ before-member order x z xs r.0 a | inr b ↦ h x z (inl refl) b ]),
@@ -69,7 +70,7 @@ place-few E0 = omega arith
 place-few E1 = omega arith
 place-few E2 = omega arith
 
-pub place-at : (i : ℕ) (d : Register) → i < 6 → register_place (get_or (I0 ∷ I1 ∷ I2 ∷ E0 ∷ E1 ∷ E2 ∷ []) i d) ≡ i
+pub place-at : (i : ℕ) (d : Register) → i < 6 → register_place (get_or registers i d) ≡ i
 place-at zero d l = refl
 place-at (suc zero) d l = refl
 place-at (suc (suc zero)) d l = refl

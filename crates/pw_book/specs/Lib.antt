@@ -1,9 +1,21 @@
-pub mod Groups
-pub mod Counted
-pub mod Faults
-pub mod Kept
-pub mod Asking
+-- Read these, in this order:
+-- Posting: what an upload does, and what it is answered
+-- Questions: what a question leaves as it is
+-- After: the records after uploads, and runs of them
 pub mod Posting
-pub mod Acceptance
-pub mod Places
+pub mod Questions
 pub mod After
+
+-- and where they are named:
+-- Asking: what asking a shelf leaves as it is
+-- Acceptance: the line of an accepted upload
+-- Faults: numbers, names and lines of faults
+pub mod Asking
+pub mod Acceptance
+pub mod Faults
+
+-- named by private functions, tests and proofs alone
+pub mod inner
+
+-- lemmas that stand here since a model or a kept fact names them
+pub mod lemmas

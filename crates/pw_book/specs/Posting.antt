@@ -8,9 +8,7 @@ use Rattle.pw_model.specs.Payments.{stands_in, sum_once}
 use Rattle.pw_model.specs.Same.{same_entry}
 use Rattle.pw_model.specs.Shelf.{ShelfContent}
 use Rattle.pw_shelf.specs.Left.{LeavesNoMore, LeavesOnly}
-use Rattle.pw_book.specs.Faults.{post_fault_of}
 use Rattle.pw_book.specs.declared.book.Accepted.{Accepted}
-use Rattle.pw_book.specs.declared.fault.BookFault.{BookFault}
 use Rattle.pw_book.specs.declared.fault.PostFault.{PostFault}
 use Rattle.pw_book.specs.declared.fault.PostFault.TheVariants.{Full, Device, Memory, Reopen}
 
@@ -93,7 +91,3 @@ FailuresWith Reopen old new = (old ≤ new) × (new ≤ old + 2)
 abbrev pub FailuresPosted : {T : Type 0} → Result T PostFault → ℕ → ℕ → Type 0
 FailuresPosted (Ok a) old new = new ≡ old
 FailuresPosted (Err fault) old new = FailuresWith fault old new
-
-abbrev pub FailuresUploaded : {T : Type 0} → Result T BookFault → ℕ → ℕ → Type 0
-FailuresUploaded (Ok a) old new = new ≡ old
-FailuresUploaded (Err fault) old new = FailuresWith (post_fault_of fault) old new

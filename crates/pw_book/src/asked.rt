@@ -16,7 +16,7 @@ use std::alloc::Global;
 pub(crate) fn count_held<S: Shelf>(shelf: &mut S) -> Result<u32, ShelfFault>
     requires { IsNone (S.state shelf.old).begun }
     ensures number { S.clean shelf.new → IfOk result (λ held. held ≡ length (S.state shelf.old).content.records) }
-    ensures asked { IsOnlyAsked S.state S.left S.clean (failures_told result) shelf.old shelf.new }
+    ensures asked { IsOnlyAsked S.Shelf (failures_told result) shelf.old shelf.new }
 {
     shelf.count()
 }
@@ -29,7 +29,7 @@ pub(crate) fn readings_held<S: Shelf>(
 ) -> Result<Vec<Entry>, ShelfFault>
     requires { IsNone (S.state shelf.old).begun }
     ensures rows { S.clean shelf.new → IfOk result (λ found. ListsReadings (S.state shelf.old).content.records meter register found.items) }
-    ensures asked { IsOnlyAsked S.state S.left S.clean (failures_told result) shelf.old shelf.new }
+    ensures asked { IsOnlyAsked S.Shelf (failures_told result) shelf.old shelf.new }
 {
     shelf.readings_of(alloc, meter, register)
 }
@@ -37,7 +37,7 @@ pub(crate) fn readings_held<S: Shelf>(
 pub(crate) fn is_held<S: Shelf>(shelf: &mut S, entry: &Entry) -> Result<bool, ShelfFault>
     requires { IsNone (S.state shelf.old).begun }
     ensures held { S.clean shelf.new → IfOk result (λ held. held ≡ stands_in same_entry entry.now (S.state shelf.old).content.records) }
-    ensures asked { IsOnlyAsked S.state S.left S.clean (failures_told result) shelf.old shelf.new }
+    ensures asked { IsOnlyAsked S.Shelf (failures_told result) shelf.old shelf.new }
 {
     shelf.holds(entry)
 }
@@ -49,7 +49,7 @@ pub(crate) fn assignments_held<S: Shelf>(
 ) -> Result<Vec<Entry>, ShelfFault>
     requires { IsNone (S.state shelf.old).begun }
     ensures rows { S.clean shelf.new → IfOk result (λ found. ListsAssignments (S.state shelf.old).content.records meter found.items) }
-    ensures asked { IsOnlyAsked S.state S.left S.clean (failures_told result) shelf.old shelf.new }
+    ensures asked { IsOnlyAsked S.Shelf (failures_told result) shelf.old shelf.new }
 {
     shelf.assignments_of(alloc, meter)
 }
@@ -57,7 +57,7 @@ pub(crate) fn assignments_held<S: Shelf>(
 pub(crate) fn topups_held<S: Shelf>(shelf: &mut S, alloc: Global) -> Result<Vec<Entry>, ShelfFault>
     requires { IsNone (S.state shelf.old).begun }
     ensures rows { S.clean shelf.new → IfOk result (λ found. ListsTopUps (S.state shelf.old).content.records found.items) }
-    ensures asked { IsOnlyAsked S.state S.left S.clean (failures_told result) shelf.old shelf.new }
+    ensures asked { IsOnlyAsked S.Shelf (failures_told result) shelf.old shelf.new }
 {
     shelf.topups(alloc)
 }

@@ -6,7 +6,7 @@ ghost use Rattle.pw_model.specs.Energy.{cost as cost_of};
 ghost use Rattle.pw_model.specs.Office.{AllOfOffice, most_records};
 ghost use Rattle.pw_model.specs.Payments.{balance as balance_of, topped_up as cents_of};
 ghost use Rattle.pw_shelf.specs.Calls.{failures_told};
-ghost use Rattle.pw_tariff.specs.Office.{Office as AnOffice, office_of};
+ghost use Rattle.pw_tariff.specs.Office.{OfficeRules as AnOffice, office_of};
 ghost use Rattle.pw_book.specs.Asking.{IsOnlyAsked};
 
 use crate::asked::topups_held;
@@ -30,7 +30,7 @@ pub(crate) fn topped_up_held<S: Shelf>(
     requires idle { IsNone (S.state shelf.old).begun }
     requires few { S.clean shelf.old → length (S.state shelf.old).content.records ≤ most_records }
     ensures cents { S.clean shelf.new → (office : AnOffice) → AllOfOffice office (S.state shelf.old).content.records → IfOk result (λ cents. cents ≡ cents_of (S.state shelf.old).content.records account.0) }
-    ensures asked { IsOnlyAsked S.state S.left S.clean (failures_told result) shelf.old shelf.new }
+    ensures asked { IsOnlyAsked S.Shelf (failures_told result) shelf.old shelf.new }
 {
     let topups = topups_held(shelf, alloc)?;
     let cents = topped_up_of(alloc, &topups, account)?;
@@ -50,7 +50,7 @@ pub(crate) fn balance_held<S: Shelf>(
     requires few { S.clean shelf.old → length (S.state shelf.old).content.records ≤ most_records }
     requires of_office { S.clean shelf.old → AllOfOffice (office_of office.now) (S.state shelf.old).content.records }
     ensures balance { S.clean shelf.new → IfOk result (λ nano. nano ≡ balance_of (office_of office.now) (S.state shelf.old).content.records account.0) }
-    ensures asked { IsOnlyAsked S.state S.left S.clean (failures_told result) shelf.old shelf.new }
+    ensures asked { IsOnlyAsked S.Shelf (failures_told result) shelf.old shelf.new }
 {
     let imported = cost_held(shelf, alloc, office, zone, account, Direction::Import)?;
     let exported = cost_held(shelf, alloc, office, zone, account, Direction::Export)?;
@@ -82,7 +82,7 @@ fn cost_held<S: Shelf>(
     requires of_office { S.clean shelf.old → AllOfOffice (office_of office.now) (S.state shelf.old).content.records }
     ensures cost { S.clean shelf.new → IfOk result (λ nano. nano ≡ cost_of (office_of office.now) (told_at (S.state shelf.old).content.records) (Some account) direction) }
     ensures bound { IfOk result (λ nano. nano < 2 ^ 120) }
-    ensures asked { IsOnlyAsked S.state S.left S.clean (failures_told result) shelf.old shelf.new }
+    ensures asked { IsOnlyAsked S.Shelf (failures_told result) shelf.old shelf.new }
 {
     let mut nano: u128 = 0;
     for band in 0..office.bands() {

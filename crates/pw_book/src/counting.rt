@@ -2,16 +2,16 @@
 
 ghost use Rattle.std.specs.Prelude.{◌≤◌, ◌∷◌, IfOk, length};
 ghost use Rattle.pw_model.specs.Counting.{Counts};
-ghost use Rattle.pw_model.specs.Lists.{IsRising, Lists};
+ghost use Rattle.pw_model.specs.Lists.{IsInOrder, Lists};
 ghost use Rattle.pw_model.specs.Same.{entry_order};
-ghost use Rattle.pw_book.specs.Groups.{HasSameKey};
+ghost use Rattle.pw_book.specs.inner.Groups.{HasSameKey};
 
 use pw_model::{Entry, is_same_key};
 use std::alloc::{AllocError, Global};
 
 // The records that count among records in order: those whose key no other record has.
 pub(crate) fn counting(alloc: Global, records: &[Entry]) -> Result<Vec<Entry>, AllocError>
-    ensures { IsRising entry_order records.now → IfOk result (λ counted. Lists entry_order (Counts records.now) counted.items) }
+    ensures { IsInOrder entry_order records.now → IfOk result (λ counted. Lists entry_order (Counts records.now) counted.items) }
 {
     let mut counted = Vec::new(alloc);
     let mut rest = records;
@@ -28,7 +28,7 @@ pub(crate) fn counting(alloc: Global, records: &[Entry]) -> Result<Vec<Entry>, A
 // How many records behind one have its key.
 pub(crate) fn same_key_behind(first: &Entry, others: &[Entry]) -> usize
     ensures within { result ≤ length others.now }
-    ensures same { IsRising entry_order (first.now ∷ others.now) → HasSameKey first.now others.now result }
+    ensures same { IsInOrder entry_order (first.now ∷ others.now) → HasSameKey first.now others.now result }
 {
     for (i, other) in others.iter().enumerate() {
         if !is_same_key(&first.key, &other.key) {

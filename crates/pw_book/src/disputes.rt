@@ -2,18 +2,17 @@
 
 ghost use Rattle.std.specs.Prelude.{◌≡◌, ◌+◌, ◌*◌, ◌^◌, ◌<◌, ◌≤◌, ℕ, IfOk, OnOk, IsNone, length};
 ghost use Rattle.pw_model.specs.declared.records.Key.{Key as AKey};
-ghost use Rattle.pw_model.specs.Lists.{AreDisputes, IsDispute, IsRising, Lists, dispute_order, records_at};
+ghost use Rattle.pw_model.specs.Lists.{AreDisputes, IsDispute, IsInOrder, Lists, dispute_order, records_at};
 ghost use Rattle.pw_model.specs.Office.{AllOfOffice, most_records};
 ghost use Rattle.pw_model.specs.Same.{entry_order};
 ghost use Rattle.pw_shelf.specs.Calls.{failures_told};
 ghost use Rattle.pw_tariff.specs.Office.{office_of, register_place};
 ghost use Rattle.pw_book.specs.Asking.{IsOnlyAsked};
-ghost use Rattle.pw_book.specs.Places.{AreWithin, DisputesBefore};
-ghost use Rattle.pw_book.specs.Groups.{IsDisputeOf};
+ghost use Rattle.pw_book.specs.inner.Places.{AreWithin, DisputesBefore};
+ghost use Rattle.pw_book.specs.inner.Groups.{IsDisputeOf};
 
 use crate::asked::{assignments_held, readings_held, topups_held};
 use crate::counting::same_key_behind;
-use crate::registers::REGISTERS;
 use pw_model::{Dispute, Entry};
 use pw_obis::Register;
 use pw_shelf::{Shelf, ShelfFault};
@@ -30,7 +29,7 @@ pub(crate) fn disputes_held<S: Shelf>(
     requires few { S.clean shelf.old → length (S.state shelf.old).content.records ≤ most_records }
     requires of_office { S.clean shelf.old → AllOfOffice (office_of office.now) (S.state shelf.old).content.records }
     ensures disputes { S.clean shelf.new → IfOk result (λ disputes. AreDisputes (S.state shelf.old).content.records disputes.items) }
-    ensures asked { IsOnlyAsked S.state S.left S.clean (failures_told result) shelf.old shelf.new }
+    ensures asked { IsOnlyAsked S.Shelf (failures_told result) shelf.old shelf.new }
 {
     let mut disputes = Vec::new(alloc);
     add_readings(shelf, alloc, office.meters(), &mut disputes)?;
@@ -48,7 +47,7 @@ fn add_readings<S: Shelf>(
 ) -> Result<(), ShelfFault>
     requires { IsNone (S.state shelf.old).begun }
     ensures disputes { S.clean shelf.new → (meters : ℕ) → AreWithin meters (S.state shelf.old).content.records → count ≡ meters → DisputesBefore meters (S.state shelf.old).content.records (0) disputes.old.items → OnOk result (DisputesBefore meters (S.state shelf.old).content.records (6 * meters) disputes.new.items) }
-    ensures asked { IsOnlyAsked S.state S.left S.clean (failures_told result) shelf.old shelf.new }
+    ensures asked { IsOnlyAsked S.Shelf (failures_told result) shelf.old shelf.new }
 {
     for meter in 0..count {
         add_meter(shelf, alloc, MeterId(meter), disputes)?;
@@ -65,7 +64,7 @@ fn add_assignments<S: Shelf>(
 ) -> Result<(), ShelfFault>
     requires { IsNone (S.state shelf.old).begun }
     ensures disputes { S.clean shelf.new → (meters : ℕ) → AreWithin meters (S.state shelf.old).content.records → count ≡ meters → DisputesBefore meters (S.state shelf.old).content.records (6 * meters) disputes.old.items → OnOk result (DisputesBefore meters (S.state shelf.old).content.records (7 * meters) disputes.new.items) }
-    ensures asked { IsOnlyAsked S.state S.left S.clean (failures_told result) shelf.old shelf.new }
+    ensures asked { IsOnlyAsked S.Shelf (failures_told result) shelf.old shelf.new }
 {
     for meter in 0..count {
         add_assignments_of(shelf, alloc, MeterId(meter), disputes)?;
@@ -82,9 +81,9 @@ fn add_meter<S: Shelf>(
 ) -> Result<(), ShelfFault>
     requires { IsNone (S.state shelf.old).begun }
     ensures disputes { S.clean shelf.new → (meters : ℕ) → AreWithin meters (S.state shelf.old).content.records → meter.0 < meters → DisputesBefore meters (S.state shelf.old).content.records (6 * meter.0) disputes.old.items → OnOk result (DisputesBefore meters (S.state shelf.old).content.records (6 * meter.0 + 6) disputes.new.items) }
-    ensures asked { IsOnlyAsked S.state S.left S.clean (failures_told result) shelf.old shelf.new }
+    ensures asked { IsOnlyAsked S.Shelf (failures_told result) shelf.old shelf.new }
 {
-    for register in &REGISTERS {
+    for register in &Register::ALL {
         add_readings_of(shelf, alloc, meter, *register, disputes)?;
     }
     Ok(())
@@ -100,7 +99,7 @@ fn add_readings_of<S: Shelf>(
 ) -> Result<(), ShelfFault>
     requires { IsNone (S.state shelf.old).begun }
     ensures disputes { S.clean shelf.new → (meters : ℕ) → AreWithin meters (S.state shelf.old).content.records → meter.0 < meters → DisputesBefore meters (S.state shelf.old).content.records (6 * meter.0 + register_place register) disputes.old.items → OnOk result (DisputesBefore meters (S.state shelf.old).content.records (6 * meter.0 + register_place register + 1) disputes.new.items) }
-    ensures asked { IsOnlyAsked S.state S.left S.clean (failures_told result) shelf.old shelf.new }
+    ensures asked { IsOnlyAsked S.Shelf (failures_told result) shelf.old shelf.new }
 {
     let readings = readings_held(shelf, alloc, meter, register)?;
     let more = disputes_of(alloc, &readings)?;
@@ -117,7 +116,7 @@ fn add_assignments_of<S: Shelf>(
 ) -> Result<(), ShelfFault>
     requires { IsNone (S.state shelf.old).begun }
     ensures disputes { S.clean shelf.new → (meters : ℕ) → AreWithin meters (S.state shelf.old).content.records → meter.0 < meters → DisputesBefore meters (S.state shelf.old).content.records (6 * meters + meter.0) disputes.old.items → OnOk result (DisputesBefore meters (S.state shelf.old).content.records (6 * meters + (meter.0 + 1)) disputes.new.items) }
-    ensures asked { IsOnlyAsked S.state S.left S.clean (failures_told result) shelf.old shelf.new }
+    ensures asked { IsOnlyAsked S.Shelf (failures_told result) shelf.old shelf.new }
 {
     let assignments = assignments_held(shelf, alloc, meter)?;
     let more = disputes_of(alloc, &assignments)?;
@@ -133,7 +132,7 @@ fn add_topups<S: Shelf>(
 ) -> Result<(), ShelfFault>
     requires { IsNone (S.state shelf.old).begun }
     ensures disputes { S.clean shelf.new → (meters : ℕ) → AreWithin meters (S.state shelf.old).content.records → DisputesBefore meters (S.state shelf.old).content.records (7 * meters) disputes.old.items → OnOk result (DisputesBefore meters (S.state shelf.old).content.records (7 * meters + 1) disputes.new.items) }
-    ensures asked { IsOnlyAsked S.state S.left S.clean (failures_told result) shelf.old shelf.new }
+    ensures asked { IsOnlyAsked S.Shelf (failures_told result) shelf.old shelf.new }
 {
     let topups = topups_held(shelf, alloc)?;
     let more = disputes_of(alloc, &topups)?;
@@ -143,7 +142,7 @@ fn add_topups<S: Shelf>(
 
 // The keys that two or more of some records have, and how many.
 pub(crate) fn disputes_of(alloc: Global, records: &[Entry]) -> Result<Vec<Dispute>, AllocError>
-    ensures { IsRising entry_order records.now → ((k : AKey) → records_at records.now k < 2 ^ 32) → IfOk result (λ disputes. Lists dispute_order (IsDispute records.now) disputes.items) }
+    ensures { IsInOrder entry_order records.now → ((k : AKey) → records_at records.now k < 2 ^ 32) → IfOk result (λ disputes. Lists dispute_order (IsDispute records.now) disputes.items) }
 {
     let mut disputes = Vec::new(alloc);
     let mut rest = records;

@@ -6,7 +6,7 @@ ghost use Rattle.pw_model.specs.Energy.{energy as energy_of, meter_share as shar
 ghost use Rattle.pw_model.specs.Office.{AllOfOffice, most_records};
 ghost use Rattle.pw_shelf.specs.Calls.{failures_told};
 ghost use Rattle.pw_tariff.specs.Office.{office_of};
-ghost use Rattle.pw_tariff.specs.Owners.{owner_at};
+ghost use Rattle.pw_tariff.specs.Owners.{owner_by_starts};
 ghost use Rattle.pw_obis.specs.declared.reference.Register.{Register as AnyRegister};
 ghost use Rattle.pw_book.specs.Asking.{IsOnlyAsked};
 
@@ -32,7 +32,7 @@ pub(crate) fn energy_held<S: Shelf>(
     requires few { S.clean shelf.old → length (S.state shelf.old).content.records ≤ most_records }
     requires of_office { S.clean shelf.old → AllOfOffice (office_of office.now) (S.state shelf.old).content.records }
     ensures energy { S.clean shelf.new → IfOk result (λ wh. wh ≡ energy_of (office_of office.now) (S.state shelf.old).content.records class.owner class.band.0 direction) }
-    ensures asked { IsOnlyAsked S.state S.left S.clean (failures_told result) shelf.old shelf.new }
+    ensures asked { IsOnlyAsked S.Shelf (failures_told result) shelf.old shelf.new }
 {
     let mut total: u128 = 0;
     for meter in 0..office.meters() {
@@ -55,9 +55,9 @@ fn register_share<S: Shelf>(
     requires idle { IsNone (S.state shelf.old).begun }
     requires of_office { S.clean shelf.old → AllOfOffice (office_of office.now) (S.state shelf.old).content.records }
     requires meter { meter.0 < length office.now.meters }
-    ensures share { S.clean shelf.new → ((t : ℕ) → owner_at owners.now t ≡ owner_told (told_at (S.state shelf.old).content.records) meter.0 t) → IfOk result (λ wh. wh ≡ share_of (office_of office.now) (told_at (S.state shelf.old).content.records) (of_band (office_of office.now) class.owner class.band.0) meter.0 register) }
+    ensures share { S.clean shelf.new → ((t : ℕ) → owner_by_starts owners.now t ≡ owner_told (told_at (S.state shelf.old).content.records) meter.0 t) → IfOk result (λ wh. wh ≡ share_of (office_of office.now) (told_at (S.state shelf.old).content.records) (of_band (office_of office.now) class.owner class.band.0) meter.0 register) }
     ensures bound { IfOk result (λ wh. wh < 2 ^ 101) }
-    ensures asked { IsOnlyAsked S.state S.left S.clean (failures_told result) shelf.old shelf.new }
+    ensures asked { IsOnlyAsked S.Shelf (failures_told result) shelf.old shelf.new }
 {
     if !office.counts(meter, register) {
         return Ok(0);
@@ -83,7 +83,7 @@ fn meter_share<S: Shelf>(
     requires meter { meter.0 < length office.now.meters }
     ensures share { S.clean shelf.new → IfOk result (λ wh. wh ≡ share_of_meter (office_of office.now) (told_at (S.state shelf.old).content.records) direction (of_band (office_of office.now) class.owner class.band.0) meter.0) }
     ensures bound { IfOk result (λ wh. wh < 2 ^ 103) }
-    ensures asked { IsOnlyAsked S.state S.left S.clean (failures_told result) shelf.old shelf.new }
+    ensures asked { IsOnlyAsked S.Shelf (failures_told result) shelf.old shelf.new }
 {
     let assignments = assignments_held(shelf, alloc, meter)?;
     let starts = starts_of(alloc, &assignments)?;

@@ -2,11 +2,11 @@
 
 ghost use Rattle.std.specs.Prelude.{◌≡◌, ℕ, ◌^◌, ◌<◌, ◌≤◌, Option, Some, IfOk};
 ghost use Rattle.pw_flow.specs.Energy.{cell, register_energy};
-ghost use Rattle.pw_model.specs.Lists.{IsRising};
+ghost use Rattle.pw_model.specs.Lists.{IsInOrder};
 ghost use Rattle.pw_tariff.specs.Cells.{energy_in, is_of};
 ghost use Rattle.pw_tariff.specs.Owners.{same_owner};
-ghost use Rattle.pw_tariff.specs.Shares.{seconds_of};
-ghost use Rattle.pw_book.specs.Counted.{ListsSeconds, by_second};
+ghost use Rattle.pw_tariff.specs.Shares.{class_seconds};
+ghost use Rattle.pw_book.specs.inner.Counted.{ListsSeconds, by_second};
 
 use pw_obis::{LARGEST_WATT_HOURS, WattHours};
 use pw_tariff::{BandId, Cell, Office, Owner, Owners, Span, apportion};
@@ -29,7 +29,7 @@ pub(crate) fn energy_of_points(
     points: &[(Instant, WattHours)],
     class: Class,
 ) -> Result<u128, AllocError>
-    ensures energy { (told : ℕ → Option ℕ) (end : ℕ) → ListsSeconds told points.now → ((t w : ℕ) → told t ≡ Some w → t < end) → IfOk result (λ wh. wh ≡ register_energy (seconds_of office.now owners.now class.owner class.band.0) told end) }
+    ensures energy { (told : ℕ → Option ℕ) (end : ℕ) → ListsSeconds told points.now → ((t w : ℕ) → told t ≡ Some w → t < end) → IfOk result (λ wh. wh ≡ register_energy (class_seconds office.now owners.now class.owner class.band.0) told end) }
     ensures bound { IfOk result (λ wh. wh < 2 ^ 101) }
 {
     let mut total = 0;
@@ -49,7 +49,7 @@ fn energy_of_pair(
     to: (Instant, WattHours),
     class: Class,
 ) -> Result<u64, AllocError>
-    ensures cell { from.0 < to.0 → IfOk result (λ wh. wh ≡ cell (seconds_of office.now owners.now class.owner class.band.0) from to) }
+    ensures cell { from.0 < to.0 → IfOk result (λ wh. wh ≡ cell (class_seconds office.now owners.now class.owner class.band.0) from to) }
     ensures bound { IfOk result (λ wh. wh ≤ LARGEST_WATT_HOURS) }
 {
     if to.0 <= from.0 {

@@ -4,13 +4,12 @@ ghost use Rattle.std.specs.Prelude.{◌≡◌, ◌+◌, ◌*◌, ◌<◌, ℕ, O
 ghost use Rattle.pw_model.specs.Lists.{AreFalls, Lists, fall_order};
 ghost use Rattle.pw_model.specs.Office.{AllOfOffice};
 ghost use Rattle.pw_shelf.specs.Calls.{failures_told};
-ghost use Rattle.pw_tariff.specs.Office.{Office as AnOffice, office_of, register_place};
+ghost use Rattle.pw_tariff.specs.Office.{OfficeRules as AnOffice, office_of, register_place};
 ghost use Rattle.pw_book.specs.Asking.{IsOnlyAsked};
-ghost use Rattle.pw_book.specs.Counted.{IsFallOf, ListsSeconds};
-ghost use Rattle.pw_book.specs.Places.{FallsBefore};
+ghost use Rattle.pw_book.specs.inner.Counted.{IsFallOf, ListsSeconds};
+ghost use Rattle.pw_book.specs.inner.Places.{FallsBefore};
 
 use crate::asked::readings_held;
-use crate::registers::REGISTERS;
 use crate::told::points_of;
 use pw_model::Fall;
 use pw_obis::{Register, WattHours};
@@ -28,7 +27,7 @@ pub(crate) fn falls_held<S: Shelf>(
     requires idle { IsNone (S.state shelf.old).begun }
     requires of_office { S.clean shelf.old → AllOfOffice (office_of office.now) (S.state shelf.old).content.records }
     ensures falls { S.clean shelf.new → IfOk result (λ falls. AreFalls (S.state shelf.old).content.records falls.items) }
-    ensures asked { IsOnlyAsked S.state S.left S.clean (failures_told result) shelf.old shelf.new }
+    ensures asked { IsOnlyAsked S.Shelf (failures_told result) shelf.old shelf.new }
 {
     let mut falls = Vec::new(alloc);
     for meter in 0..office.meters() {
@@ -46,9 +45,9 @@ fn add_meter<S: Shelf>(
 ) -> Result<(), ShelfFault>
     requires { IsNone (S.state shelf.old).begun }
     ensures falls { S.clean shelf.new → (office : AnOffice) → AllOfOffice office (S.state shelf.old).content.records → FallsBefore (S.state shelf.old).content.records (6 * meter.0) falls.old.items → OnOk result (FallsBefore (S.state shelf.old).content.records (6 * meter.0 + 6) falls.new.items) }
-    ensures asked { IsOnlyAsked S.state S.left S.clean (failures_told result) shelf.old shelf.new }
+    ensures asked { IsOnlyAsked S.Shelf (failures_told result) shelf.old shelf.new }
 {
-    for register in &REGISTERS {
+    for register in &Register::ALL {
         add_register(shelf, alloc, meter, *register, falls)?;
     }
     Ok(())
@@ -64,7 +63,7 @@ fn add_register<S: Shelf>(
 ) -> Result<(), ShelfFault>
     requires { IsNone (S.state shelf.old).begun }
     ensures falls { S.clean shelf.new → (office : AnOffice) → AllOfOffice office (S.state shelf.old).content.records → FallsBefore (S.state shelf.old).content.records (6 * meter.0 + register_place register) falls.old.items → OnOk result (FallsBefore (S.state shelf.old).content.records (6 * meter.0 + register_place register + 1) falls.new.items) }
-    ensures asked { IsOnlyAsked S.state S.left S.clean (failures_told result) shelf.old shelf.new }
+    ensures asked { IsOnlyAsked S.Shelf (failures_told result) shelf.old shelf.new }
 {
     let readings = readings_held(shelf, alloc, meter, register)?;
     let points = points_of(alloc, &readings)?;

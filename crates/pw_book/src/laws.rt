@@ -7,7 +7,7 @@ ghost use Rattle.pw_model.specs.Counting.{contents_at};
 ghost use Rattle.pw_model.specs.Energy.{all_rises, energy, over_bands, over_owners};
 ghost use Rattle.pw_tariff.specs.Office.{office_of};
 ghost use Rattle.pw_tariff.specs.declared.ids.Direction.{Direction};
-ghost use Rattle.pw_book.specs.After.{LeavesAfter, OrderOfUploadsCountsNothing};
+ghost use Rattle.pw_book.specs.After.{LeavesAfter, OrderOfUploadsCountsNothing, RunsLeaveAfter};
 
 use crate::book::Book;
 use pw_shelf::Shelf;
@@ -26,6 +26,19 @@ pub fn conservation_of_energy<S: Shelf>(book: &Book<S>)
 /// `Memory` are none of them, and leave what is held as it was.
 pub fn records_are_those_after_uploads(office: &Office)
     ensures { LeavesAfter office.now }
+{
+    let _ = office.bands();
+}
+
+/// After any list of uploads to a book, over a store that returned what was written, each accepted, refused for its body,
+/// or answered `Full`, `Device` or `Memory`: the records held at the end are those at the beginning, and all that the
+/// accepted uploads give. An upload that is refused for its content may be counted in or left out: it brings nothing. Two
+/// such lists that accept the same uploads, in whatever order and however often, end with the same records, and the same
+/// answers to every question.
+///
+/// (An upload that is answered `Reopen` ends such a list: what is held behind it is known when the store is opened again.)
+pub fn records_are_those_after_runs(office: &Office)
+    ensures { RunsLeaveAfter office.now }
 {
     let _ = office.bands();
 }

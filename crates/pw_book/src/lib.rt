@@ -14,7 +14,6 @@ mod fault;
 pub mod laws;
 mod payments;
 mod posting;
-mod registers;
 mod rows;
 mod told;
 mod upload;

@@ -7,7 +7,7 @@ ghost use Rattle.pw_model.specs.declared.records.Contents.TheVariants.{One};
 ghost use Rattle.pw_model.specs.Office.{AllOfOffice};
 ghost use Rattle.pw_model.specs.Payments.{cents_for, topped_up};
 ghost use Rattle.pw_shelf.specs.Rows.{ListsTopUps};
-ghost use Rattle.pw_tariff.specs.Office.{Office as AnOffice};
+ghost use Rattle.pw_tariff.specs.Office.{OfficeRules as AnOffice};
 
 use crate::counting::counting;
 use pw_model::{Content, Entry};

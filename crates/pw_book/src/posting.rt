@@ -62,7 +62,7 @@ fn weigh<S: Shelf>(shelf: &mut S, distinct: &[Entry]) -> Result<(u32, usize), Sh
     ensures held { S.clean shelf.new → IfOk result (λ w. w.0 ≡ length (S.state shelf.old).content.records) }
     ensures repeated { S.clean shelf.new → IfOk result (λ w. w.1 ≡ repeated_in (S.state shelf.old).content.records distinct.now) }
     ensures within { IfOk result (λ w. w.1 ≤ length distinct.now) }
-    ensures asked { IsOnlyAsked S.state S.left S.clean (failures_told result) shelf.old shelf.new }
+    ensures asked { IsOnlyAsked S.Shelf (failures_told result) shelf.old shelf.new }
 {
     let held = count_held(shelf)?;
     let repeated = count_repeated(shelf, distinct)?;
@@ -75,7 +75,7 @@ fn count_repeated<S: Shelf>(shelf: &mut S, distinct: &[Entry]) -> Result<usize, 
     requires once { EachOnce distinct.now }
     ensures repeated { S.clean shelf.new → IfOk result (λ repeated. repeated ≡ repeated_in (S.state shelf.old).content.records distinct.now) }
     ensures within { IfOk result (λ repeated. repeated ≤ length distinct.now) }
-    ensures asked { IsOnlyAsked S.state S.left S.clean (failures_told result) shelf.old shelf.new }
+    ensures asked { IsOnlyAsked S.Shelf (failures_told result) shelf.old shelf.new }
 {
     let mut repeated = 0;
     for entry in distinct {

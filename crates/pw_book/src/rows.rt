@@ -3,13 +3,13 @@
 ghost use Rattle.std.specs.Prelude.{◌≡◌, ◌∷◌, ◌++◌, ◌↔◌, List, IfOk, IsNone, IsTrue, option_map};
 ghost use Rattle.pw_model.specs.declared.records.Entry.{Entry as ARecord};
 ghost use Rattle.pw_model.specs.Counting.{Counts};
-ghost use Rattle.pw_model.specs.Lists.{AreReadings, IsRising};
+ghost use Rattle.pw_model.specs.Lists.{AreReadings, IsInOrder};
 ghost use Rattle.pw_model.specs.Same.{entry_order};
 ghost use Rattle.pw_shelf.specs.Rows.{ListsReadings};
 ghost use Rattle.pw_shelf.specs.Calls.{failures_told};
 ghost use Rattle.pw_book.specs.Asking.{IsOnlyAsked};
-ghost use Rattle.pw_book.specs.Counted.{row, shown};
-ghost use Rattle.pw_book.specs.Groups.{IsFirst, IsLast, has_same_key};
+ghost use Rattle.pw_book.specs.inner.Counted.{row_of_reading, shown};
+ghost use Rattle.pw_book.specs.inner.Groups.{IsFirstOf, IsLastOf, has_same_key};
 
 use crate::asked::readings_held;
 use pw_model::{Content, Entry, Key, ReadingRow, is_same_key};
@@ -27,7 +27,7 @@ pub(crate) fn rows_held<S: Shelf>(
 ) -> Result<Vec<ReadingRow>, ShelfFault>
     requires { IsNone (S.state shelf.old).begun }
     ensures rows { S.clean shelf.new → IfOk result (λ rows. AreReadings (S.state shelf.old).content.records meter.0 register rows.items) }
-    ensures asked { IsOnlyAsked S.state S.left S.clean (failures_told result) shelf.old shelf.new }
+    ensures asked { IsOnlyAsked S.Shelf (failures_told result) shelf.old shelf.new }
 {
     let readings = readings_held(shelf, alloc, meter, register)?;
     let rows = rows_of(alloc, &readings)?;
@@ -54,13 +54,13 @@ pub(crate) fn rows_of(alloc: Global, readings: &[Entry]) -> Result<Vec<ReadingRo
 
 // Whether a record has a key of its own among records in order: whether it counts.
 fn is_alone(before: &Option<Entry>, entry: &Entry, others: &[Entry]) -> bool
-    ensures { (done : List ARecord) → IsRising entry_order (done ++ entry.now ∷ others.now) → IsLast done before.now → IsTrue result ↔ Counts (done ++ entry.now ∷ others.now) entry.now }
+    ensures { (done : List ARecord) → IsInOrder entry_order (done ++ entry.now ∷ others.now) → IsLastOf done before.now → IsTrue result ↔ Counts (done ++ entry.now ∷ others.now) entry.now }
 {
     !has_same_key(before, entry) && !has_same_key(&first_of(others), entry)
 }
 
 fn first_of(records: &[Entry]) -> Option<Entry>
-    ensures { IsFirst records.now result }
+    ensures { IsFirstOf records.now result }
 {
     records.first().copied()
 }
@@ -75,7 +75,7 @@ fn has_same_key(other: &Option<Entry>, entry: &Entry) -> bool
 }
 
 fn row_of(entry: &Entry, counted: bool) -> Option<ReadingRow>
-    ensures { result ≡ option_map (λ shows. row shows counted) (shown entry.now) }
+    ensures { result ≡ option_map (λ shows. row_of_reading shows counted) (shown entry.now) }
 {
     let Key::Reading { instant, .. } = &entry.key else {
         return None;

@@ -4,7 +4,7 @@ ghost use Rattle.std.specs.Prelude.{◌≡◌, List, IfOk};
 ghost use Rattle.std.specs.List.{filter_map};
 ghost use Rattle.pw_model.specs.Counting.{contents_at, point, start};
 ghost use Rattle.pw_shelf.specs.Rows.{ListsAssignments, ListsReadings};
-ghost use Rattle.pw_book.specs.Counted.{ListsSeconds, given, shown};
+ghost use Rattle.pw_book.specs.inner.Counted.{ListsSeconds, given, shown};
 
 use crate::counting::counting;
 use pw_model::{Content, Entry, Key};

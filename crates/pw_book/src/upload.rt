@@ -7,7 +7,8 @@ ghost use Rattle.pw_model.specs.Office.{most_records};
 ghost use Rattle.pw_shelf.specs.Left.{LeavesOnly};
 ghost use Rattle.pw_shelf.specs.Calls.{GoesOn, failures_told};
 ghost use Rattle.pw_shelf.specs.State.{CountsFailures};
-ghost use Rattle.pw_book.specs.Posting.{FailuresUploaded, IsJoined, IsWithUpload, LeavesUpload};
+ghost use Rattle.pw_book.specs.Posting.{IsJoined, IsWithUpload, LeavesUpload};
+ghost use Rattle.pw_book.specs.inner.Failures.{FailuresUploaded};
 ghost use Rattle.pw_book.specs.declared.fault.BookFault.TheVariants.{Reopen};
 
 use crate::fault::BookFault;

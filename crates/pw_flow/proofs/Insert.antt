@@ -3,7 +3,10 @@ use Rattle.std.proofs.Common.{◌≡◌, ℕ, ◌+◌, ◌-◌, ◌<◌, ◌≤�
 use Rattle.std.proofs.lemmas.Bool.{cases_eq}
 use Rattle.pw_flow.specs.Time.{IsLast, last, next, sum_over}
 use Rattle.pw_flow.specs.Flow.{flow, flow_between}
-use Rattle.pw_flow.specs.Energy.{kept, register_energy, cell, cell_between, IsMore, IsGap}
+use Rattle.pw_flow.specs.Energy.{kept, register_energy, cell}
+use Rattle.pw_flow.specs.Pairs.{StandAround}
+use Rattle.pw_flow.specs.Pairs.{IsMore}
+use Rattle.pw_flow.specs.Pairs.{cell_between}
 use Rattle.pw_flow.proofs.Sums.{sum-split, sum-same, sum-none, kept-nothing}
 use Rattle.pw_flow.proofs.Points.{LastIs, NextIs, last-tells, next-tells, last-told, last-is, next-is, last-same, last-same_from, next-same, next-same_to, last-steady, next-steady}
 
@@ -119,7 +122,7 @@ four-spans f a z b end h i j =
     omega arith
 
 -- THE LEMMA: one more point takes the pair that it stands in away, and brings two
-pub energy-more : (k : ℕ → Bool) (p q : ℕ → Option ℕ) (end z u : ℕ) (below above : Option (ℕ × ℕ)) → IsMore p q z u → IsGap p end z below above →
+pub energy-more : (k : ℕ → Bool) (p q : ℕ → Option ℕ) (end z u : ℕ) (below above : Option (ℕ × ℕ)) → IsMore p q z u → StandAround p end z below above →
     register_energy k q end + cell_between k below above ≡ register_energy k p end + (cell_between k below (Some (z, u)) + cell_between k (Some (z, u)) above)
 unfolding register_energy
 energy-more k p q end z u below above m g =

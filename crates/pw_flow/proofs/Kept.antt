@@ -3,7 +3,8 @@ use Rattle.std.proofs.Common.{◌≡◌, ℕ, ◌+◌, ◌-◌, ◌<◌, ◌≤�
 use Rattle.pw_flow.specs.Time.{sum_over}
 use Rattle.pw_flow.specs.Flow.{pair_flow, flow}
 use Rattle.pw_flow.specs.Energy.{kept, register_energy, cell}
-use Rattle.pw_flow.specs.Laws.{PieceOfOneKind, SameSecondsSameEnergy}
+use Rattle.pw_flow.specs.Changes.{SameSecondsSameEnergy}
+use Rattle.pw_flow.specs.Changes.{PieceOfOneKind}
 use Rattle.pw_flow.proofs.Sums.{sum-same, sum-none}
 use Rattle.pw_flow.proofs.Level.{pieces-add}
 

@@ -4,8 +4,10 @@ use Rattle.std.specs.List.Sorted.{IsStrictlyIncreasing}
 use Rattle.std.proofs.lemmas.Bool.{eq-eqb, ne_eqb}
 use Rattle.std.proofs.lemmas.List.Elements.{All-head, All-tail}
 use Rattle.pw_flow.specs.declared.plain.Point.{Point}
-use Rattle.pw_flow.specs.Energy.{register_energy, pairs_sum, Lists}
-use Rattle.pw_flow.specs.Plain.{value_at, seconds_of}
+use Rattle.pw_flow.specs.Energy.{register_energy}
+use Rattle.pw_flow.specs.Pairs.{ListsPoints}
+use Rattle.pw_flow.specs.Pairs.{pairs_sum}
+use Rattle.pw_flow.specs.Plain.{value_at, times_of}
 use Rattle.pw_flow.proofs.Pairs.{energy-pairs}
 
 abbrev pub pair_of : Point → ℕ × ℕ
@@ -14,17 +16,17 @@ pair_of p = (p.at, p.watt_hours)
 abbrev pub pairs_of : List Point → List (ℕ × ℕ)
 pairs_of ps = map pair_of ps
 
-rising-first : (a b : Point) (ps : List Point) → IsStrictlyIncreasing (seconds_of (a ∷ b ∷ ps)) → a.at < b.at
+rising-first : (a b : Point) (ps : List Point) → IsStrictlyIncreasing (times_of (a ∷ b ∷ ps)) → a.at < b.at
 rising-first a b ps h = h 0 (omega arith)
 
-rising-rest : (a : Point) (ps : List Point) → IsStrictlyIncreasing (seconds_of (a ∷ ps)) → IsStrictlyIncreasing (seconds_of ps)
+rising-rest : (a : Point) (ps : List Point) → IsStrictlyIncreasing (times_of (a ∷ ps)) → IsStrictlyIncreasing (times_of ps)
 rising-rest a ps h k l =
     let e : suc k + 1 ≡ suc (k + 1) = omega arith in
-    let P : ℕ → Type 0 = λ n. get_or (seconds_of ps) k 0 < get_or (seconds_of (a ∷ ps)) n 0 in
+    let P : ℕ → Type 0 = λ n. get_or (times_of ps) k 0 < get_or (times_of (a ∷ ps)) n 0 in
     subst P e (h (suc k) (omega arith))
 
 -- nothing stands before the first point
-none-before : (ps : List Point) (a : Point) (s : ℕ) → IsStrictlyIncreasing (seconds_of (a ∷ ps)) → s < a.at → value_at (a ∷ ps) s ≡ None
+none-before : (ps : List Point) (a : Point) (s : ℕ) → IsStrictlyIncreasing (times_of (a ∷ ps)) → s < a.at → value_at (a ∷ ps) s ≡ None
 unfolding value_at
 none-before [] a s h l = rw (ne_eqb a.at s (λ e. absurd (omega arith)))
 none-before (b ∷ ps) a s h l =
@@ -42,7 +44,7 @@ unfolding value_at
 at-first a ps = rw (eq-eqb a.at a.at refl)
 
 -- what two functions that agree from a second on list from there
-lists-same : (p q : ℕ → Option ℕ) (end from : ℕ) (ps : List (ℕ × ℕ)) → ((s : ℕ) → from ≤ s → p s ≡ q s) → Lists p end from ps → Lists q end from ps
+lists-same : (p q : ℕ → Option ℕ) (end from : ℕ) (ps : List (ℕ × ℕ)) → ((s : ℕ) → from ≤ s → p s ≡ q s) → ListsPoints p end from ps → ListsPoints q end from ps
 lists-same p q end from [] h l = λ s a. sym (h s a) ∙ l s a
 lists-same p q end from (a ∷ ps) h l = (
   l.0,
@@ -52,7 +54,7 @@ lists-same p q end from (a ∷ ps) h l = (
   lists-same p q end (suc a.0) ps (λ s i. let g : from ≤ a.0 = l.0 in h s (omega arith)) l.4,
 )
 
-lists-from : (a : Point) (ps : List Point) (end from : ℕ) → IsStrictlyIncreasing (seconds_of (a ∷ ps)) → All (λ p. p.at < end) (a ∷ ps) → from ≤ a.at → Lists (value_at (a ∷ ps)) end from (pairs_of (a ∷ ps))
+lists-from : (a : Point) (ps : List Point) (end from : ℕ) → IsStrictlyIncreasing (times_of (a ∷ ps)) → All (λ p. p.at < end) (a ∷ ps) → from ≤ a.at → ListsPoints (value_at (a ∷ ps)) end from (pairs_of (a ∷ ps))
 unfolding value_at
 lists-from a [] end from h l f = (
   f,
@@ -71,12 +73,12 @@ lists-from a (b ∷ ps) end from h l f = (
 )
 
 -- the points of a list that rises
-pub lists-points : (ps : List Point) (end : ℕ) → IsStrictlyIncreasing (seconds_of ps) → All (λ p. p.at < end) ps → Lists (value_at ps) end 0 (pairs_of ps)
+pub lists-points : (ps : List Point) (end : ℕ) → IsStrictlyIncreasing (times_of ps) → All (λ p. p.at < end) ps → ListsPoints (value_at ps) end 0 (pairs_of ps)
 unfolding value_at
 lists-points [] end h l = λ s a. refl
 lists-points (a ∷ ps) end h l = lists-from a ps end 0 h l (omega arith)
 
-pub energy-points : (asked : ℕ → Bool) (ps : List Point) (end : ℕ) → IsStrictlyIncreasing (seconds_of ps) → All (λ p. p.at < end) ps → register_energy asked (value_at ps) end ≡ pairs_sum asked (pairs_of ps)
+pub energy-points : (asked : ℕ → Bool) (ps : List Point) (end : ℕ) → IsStrictlyIncreasing (times_of ps) → All (λ p. p.at < end) ps → register_energy asked (value_at ps) end ≡ pairs_sum asked (pairs_of ps)
 energy-points asked ps end h l = energy-pairs asked (value_at ps) end (pairs_of ps) (lists-points ps end h l)
 
 -- ---- a loop over the windows of two points

@@ -3,7 +3,8 @@ use Rattle.std.proofs.Common.{◌≡◌, ℕ, ◌-◌, ◌<◌, ◌≤◌, Optio
 use Rattle.std.proofs.lemmas.Bool.{cases_lt}
 use Rattle.pw_flow.specs.Time.{last, next, sum_over}
 use Rattle.pw_flow.specs.Flow.{AreNeighbours, IsSpanned, pair_flow, flow, flow_between}
-use Rattle.pw_flow.specs.Laws.{FlowIsLevelRise, FlowsAddUp, NeighboursAreFound}
+use Rattle.pw_flow.specs.Laws.{FlowIsLevelRise, FlowsAddUp}
+use Rattle.pw_flow.specs.Changes.{NeighboursAreFound}
 use Rattle.pw_flow.proofs.Sums.{sum-same}
 use Rattle.pw_flow.proofs.Level.{level-up, pair_flow-is, pair_flow-fall, pieces-add, pair-adds}
 use Rattle.pw_flow.proofs.Points.{NextIs, next-tells, last-is, last-none, last-cases, next-is, next-none, next-cases}

@@ -4,10 +4,14 @@ use Rattle.std.proofs.lemmas.List.Elements.{All-head, All-tail}
 use Rattle.std.proofs.Math.Nat.{suc-mul}
 use Rattle.pw_flow.specs.Time.{last, next, sum_over}
 use Rattle.pw_flow.specs.Flow.{flow, pair_flow}
-use Rattle.pw_flow.specs.Energy.{kept, register_energy, cell, pairs_sum, Lists, Chain, last_of}
+use Rattle.pw_flow.specs.Energy.{kept, register_energy, cell}
+use Rattle.pw_flow.specs.Pairs.{last_of}
+use Rattle.pw_flow.specs.Pairs.{Chain}
+use Rattle.pw_flow.specs.Pairs.{ListsPoints}
+use Rattle.pw_flow.specs.Pairs.{pairs_sum}
 use Rattle.pw_flow.proofs.Sums.{sum-split, sum-same, sum-none, kept-nothing}
 use Rattle.pw_flow.proofs.Points.{last-is, last-none, next-none}
-use Rattle.pw_flow.specs.Laws.{EnergyIsBounded}
+use Rattle.pw_flow.specs.Changes.{EnergyIsBounded}
 use Rattle.pw_flow.proofs.Level.{cell-at_most}
 use Rattle.pw_flow.proofs.Neighbours.{flow-spanned}
 use Rattle.pw_flow.proofs.Insert.{kept-same, four-spans}
@@ -25,7 +29,7 @@ pub flow-first : (p : ℕ → Option ℕ) (end t : ℕ) → ((s : ℕ) → s ≤
 unfolding flow
 flow-first p end t h = rw (last-none p t h)
 
-from-point : (k : ℕ → Bool) (p : ℕ → Option ℕ) (end : ℕ) (a : ℕ × ℕ) (ps : List (ℕ × ℕ)) → p a.0 ≡ Some a.1 → a.0 < end → Lists p end (suc a.0) ps →
+from-point : (k : ℕ → Bool) (p : ℕ → Option ℕ) (end : ℕ) (a : ℕ × ℕ) (ps : List (ℕ × ℕ)) → p a.0 ≡ Some a.1 → a.0 < end → ListsPoints p end (suc a.0) ps →
     sum_over (kept k (flow p end)) a.0 (end - a.0) ≡ pairs_sum k (a ∷ ps)
 unfolding cell
 from-point k p end a [] h l ls = sum-none _ a.0 (end - a.0) (λ t x y. kept-nothing (k t) _ (flow-last p end a.0 t a.1 (λ s z. ls s (omega arith)) x h))
@@ -39,7 +43,7 @@ from-point k p end a (b ∷ ps) h l ls =
     let r : sum_over (kept k (flow p end)) b.0 (end - b.0) ≡ pairs_sum k (b ∷ ps) = from-point k p end b ps ls.2 ls.1 ls.4 in
     s ∙ ap (λ n. n + sum_over (kept k (flow p end)) b.0 (end - b.0)) c ∙ ap (λ n. sum_over (kept k (pair_flow a b)) a.0 (b.0 - a.0) + n) r
 
-pub energy-pairs : (k : ℕ → Bool) (p : ℕ → Option ℕ) (end : ℕ) (ps : List (ℕ × ℕ)) → Lists p end 0 ps → register_energy k p end ≡ pairs_sum k ps
+pub energy-pairs : (k : ℕ → Bool) (p : ℕ → Option ℕ) (end : ℕ) (ps : List (ℕ × ℕ)) → ListsPoints p end 0 ps → register_energy k p end ≡ pairs_sum k ps
 unfolding register_energy
 energy-pairs k p end [] ls = sum-none _ 0 end (λ t x y. kept-nothing (k t) _ (flow-first p end t (λ s z. ls s (omega arith))))
 energy-pairs k p end (a ∷ ps) ls =

@@ -2,7 +2,8 @@
 use Rattle.std.proofs.Common.{◌≡◌, ℕ, zero, suc, ◌+◌, ◌<◌, ◌≤◌, Option, Some, None, refl, sym, ◌∙◌, subst, arith, ◌⊎◌, inl, inr}
 use Rattle.std.proofs.lemmas.Bool.{cases_lt, cases_eq}
 use Rattle.pw_flow.specs.Time.{IsLast, IsNext, last, next}
-use Rattle.pw_flow.specs.Laws.{FindsLatest, FindsNext}
+use Rattle.pw_flow.specs.Changes.{FindsNext}
+use Rattle.pw_flow.specs.Changes.{FindsLatest}
 
 pub option-cases : {A : Type 0} (o : Option A) → (o ≡ None) ⊎ ((a : A) × (o ≡ Some a))
 option-cases None = inl refl

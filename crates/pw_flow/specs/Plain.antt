@@ -9,8 +9,8 @@ value_at [] t = None
 value_at (p ∷ ps) t = cond (p.at == t) (Some p.watt_hours) (value_at ps t)
 
 -- the seconds of the points
-abbrev pub seconds_of : List Point → List ℕ
-seconds_of points = map (λ p. p.at) points
+abbrev pub times_of : List Point → List ℕ
+times_of points = map (λ p. p.at) points
 
 -- whatever a predicate answers at a second is what `keeps` tells
 abbrev pub AnswersBy : (ℕ → Bool → Type 0) → (ℕ → Bool) → Type 0

@@ -4,7 +4,17 @@
 //! all readings.
 
 ghost use Rattle.std.specs.Prelude.{ℕ, Option};
-ghost use Rattle.pw_flow.specs.Laws.{CellIsAtMostRise, ClassesAddUp, EnergyIsBounded, EnergyOfPairs, FindsLatest, FindsNext, FlowIsLevelRise, FlowIsRise, FlowsAddUp, NeighboursAreFound, OneMorePoint, OneTermChanges, OtherWindow, PieceOfOneKind, SameSecondsSameEnergy};
+ghost use Rattle.pw_flow.specs.Laws.{CellIsAtMostRise, ClassesAddUp, FlowIsLevelRise, FlowIsRise, FlowsAddUp};
+ghost use Rattle.pw_flow.specs.Changes.{NeighboursAreFound};
+ghost use Rattle.pw_flow.specs.Changes.{FindsNext};
+ghost use Rattle.pw_flow.specs.Changes.{FindsLatest};
+ghost use Rattle.pw_flow.specs.Changes.{OneTermChanges};
+ghost use Rattle.pw_flow.specs.Changes.{OtherWindow};
+ghost use Rattle.pw_flow.specs.Changes.{OneMorePoint};
+ghost use Rattle.pw_flow.specs.Changes.{SameSecondsSameEnergy};
+ghost use Rattle.pw_flow.specs.Changes.{PieceOfOneKind};
+ghost use Rattle.pw_flow.specs.Changes.{EnergyIsBounded};
+ghost use Rattle.pw_flow.specs.Changes.{EnergyOfPairs};
 
 /// The latest that stands at a second or before it is what `last` finds.
 pub fn latest_is_found<A>()

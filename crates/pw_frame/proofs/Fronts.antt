@@ -4,22 +4,22 @@ use Rattle.pw_frame.specs.declared.frame.Kind.{Kind}
 use Rattle.pw_frame.specs.declared.frame.Kind.TheVariants.{Telegram, Readout}
 use Rattle.pw_frame.specs.declared.frame.FrameFault.{FrameFault}
 use Rattle.pw_frame.specs.Frame.{FrameText, Whole, ending_size}
-use Rattle.pw_frame.specs.Fault.{IsFault}
-use Rattle.pw_frame.specs.Body.{PairAt, Gap, NextFrame, FramesFrom, Front, Fault}
+use Rattle.pw_frame.specs.FirstFault.{IsFault}
+use Rattle.pw_frame.specs.Body.{PairAt, PairsBetween, NextFrame, FramesFrom, Front, BodyFault}
 use Rattle.pw_frame.proofs.Unique.{same_place, one_size}
 use Rattle.pw_frame.proofs.NoFault.{no_whole}
 
-gap_before : (body : List ℕ) (from a b : ℕ) → (x : Gap body from a) → (y : Gap body from b) → x.count < y.count → ⊥
+gap_before : (body : List ℕ) (from a b : ℕ) → (x : PairsBetween body from a) → (y : PairsBetween body from b) → x.count < y.count → ⊥
 gap_before body from a b x y l = x.more (subst (PairAt body) (sym x.place) (y.pairs x.count l))
 
-pub one_gap : (body : List ℕ) (from a b : ℕ) → Gap body from a → Gap body from b → a ≡ b
+pub one_gap : (body : List ℕ) (from a b : ℕ) → PairsBetween body from a → PairsBetween body from b → a ≡ b
 one_gap body from a b x y =
     let e : x.count ≡ y.count = same_place x.count y.count (gap_before body from a b x y) (gap_before body from b a y x) in
     omega (arith, e, x.place, y.place)
 
 pub one_next : (body : List ℕ) (from a b : ℕ) (f g : FrameText) → NextFrame body from f a → NextFrame body from g b → a ≡ b
 one_next body from a b f g x y =
-    one_gap body (from + x.size) a b x.gap (subst (λ (s : ℕ). Gap body (from + s) b) (one_size (drop from body) g f y.size x.size y.whole x.whole) y.gap)
+    one_gap body (from + x.size) a b x.gap (subst (λ (s : ℕ). PairsBetween body (from + s) b) (one_size (drop from body) g f y.size x.size y.whole x.whole) y.gap)
 
 one_stop : (body : List ℕ) (fs : List FrameText) (from a b : ℕ) → FramesFrom body from fs a → FramesFrom body from fs b → a ≡ b
 one_stop body [] from a b x y = sym x ∙ y
@@ -52,13 +52,13 @@ frames_rise_more body (f ∷ fs) from to n x =
     let others : x.0 ≤ to = frames_rise body fs x.0 to x.2 in
     omega arith
 
-pub front_rises : (body : List ℕ) (fs : List FrameText) (first place : ℕ) → Gap body 0 first → (fs ≡ [] → ⊥) → Front body fs place → first < place
+pub front_rises : (body : List ℕ) (fs : List FrameText) (first place : ℕ) → PairsBetween body 0 first → (fs ≡ [] → ⊥) → Front body fs place → first < place
 front_rises body fs first place g n x =
     let e : first ≡ x.start = one_gap body 0 first x.start g x.gap in
     let l : x.start < place = frames_rise_more body fs x.start place n x.frames_are in
     omega arith
 
-pub front_some : (body : List ℕ) (fs : List FrameText) (first place : ℕ) → Gap body 0 first → first < place → Front body fs place → fs ≡ [] → ⊥
+pub front_some : (body : List ℕ) (fs : List FrameText) (first place : ℕ) → PairsBetween body 0 first → first < place → Front body fs place → fs ≡ [] → ⊥
 front_some body [] first place g l x n =
     let e : first ≡ x.start = one_gap body 0 first x.start g x.gap in
     omega (arith, e, x.frames_are)
@@ -69,15 +69,15 @@ frames_push : (body : List ℕ) (fs : List FrameText) (f : FrameText) (from mid 
 frames_push body [] f from mid to x y = (to, subst (λ (n : ℕ). NextFrame body n f to) (sym x) y, refl)
 frames_push body (g ∷ fs) f from mid to x y = (x.0, x.1, frames_push body fs f x.0 mid to x.2 y)
 
-pub front_push : (body : List ℕ) (fs : List FrameText) (f : FrameText) (mid to size : ℕ) → Front body fs mid → Whole (drop mid body) f size → Gap body (mid + size) to → Front body (fs ++ f ∷ []) to
+pub front_push : (body : List ℕ) (fs : List FrameText) (f : FrameText) (mid to size : ℕ) → Front body fs mid → Whole (drop mid body) f size → PairsBetween body (mid + size) to → Front body (fs ++ f ∷ []) to
 front_push body fs f mid to size x w g = record {
   start = x.start;
   gap = x.gap;
   frames_are = frames_push body fs f x.start mid to x.frames_are (record { size = size; whole = w; gap = g });
 }
 
-pub front_fault : (body : List ℕ) (fs : List FrameText) (first place : ℕ) (fault : FrameFault) → Gap body 0 first
-    → Front body fs place → IsFault (drop place body) place fault → (place ≡ length body → place ≤ first) → Fault body fs fault
+pub front_fault : (body : List ℕ) (fs : List FrameText) (first place : ℕ) (fault : FrameFault) → PairsBetween body 0 first
+    → Front body fs place → IsFault (drop place body) place fault → (place ≡ length body → place ≤ first) → BodyFault body fs fault
 front_fault body fs first place fault g x h last = record {
   place = place;
   front = x;

@@ -5,7 +5,7 @@ use Rattle.pw_frame.specs.declared.frame.Kind.{Kind}
 use Rattle.pw_frame.specs.declared.frame.FrameFault.{FrameFault}
 use Rattle.pw_frame.specs.declared.frame.FrameFault.TheVariants.{Header, NoEnd, Crc, Trailer, BlockCheck, HighBit}
 use Rattle.pw_frame.specs.Frame.{FrameText, Head, BlockEnd, Framed, Whole, block_start}
-use Rattle.pw_frame.specs.Fault.{BadHeader, HighHeader, HighLine, HighBlock, Endless, BadEnding, BadCheck, IsFault}
+use Rattle.pw_frame.specs.FirstFault.{BadHeader, HighHeader, HighLine, HighBlock, Endless, BadEnding, BadCheck, IsFault}
 use Rattle.pw_frame.proofs.Unique.{same_place, one_header, one_stated, one_right, block_at, ending_at, right_at}
 
 -- ---- what a head or a block's end rules out

@@ -6,7 +6,7 @@ use Rattle.pw_frame.specs.declared.frame.Kind.TheVariants.{Telegram, Readout}
 use Rattle.pw_frame.specs.declared.frame.FrameFault.{FrameFault}
 use Rattle.pw_frame.specs.declared.frame.FrameFault.TheVariants.{Header, NoEnd, Crc, Trailer, BlockCheck, HighBit}
 use Rattle.pw_frame.specs.Frame.{Head, Plain, Framed, block_start}
-use Rattle.pw_frame.specs.Fault.{BadHeader, HighHeader, HighLine, HighBlock, Endless, BadEnding, BadCheck, IsFault}
+use Rattle.pw_frame.specs.FirstFault.{BadHeader, HighHeader, HighLine, HighBlock, Endless, BadEnding, BadCheck, IsFault}
 use Rattle.pw_frame.proofs.Unique.{same_place, one_header, one_kind, one_start, one_stated, one_right, plain_at, ending_at, right_at}
 use Rattle.pw_frame.proofs.NoFault.{bad_head, high_header_head, high_line_head, high_block_end, endless_end}
 

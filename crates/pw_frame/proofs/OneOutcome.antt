@@ -3,8 +3,8 @@ use Rattle.std.proofs.Common.{◌≡◌, ℕ, List, [], ◌∷◌, Result, Ok, E
 use Rattle.std.proofs.lemmas.List.{drop_all}
 use Rattle.pw_frame.specs.declared.frame.FrameFault.{FrameFault}
 use Rattle.pw_frame.specs.Frame.{FrameText, Whole}
-use Rattle.pw_frame.specs.Fault.{IsFault}
-use Rattle.pw_frame.specs.Body.{FramesFrom, Front, Reading, Fault}
+use Rattle.pw_frame.specs.FirstFault.{IsFault}
+use Rattle.pw_frame.specs.Body.{FramesFrom, Front, BodyReading, BodyFault}
 use Rattle.pw_frame.specs.Laws.{IsOutcome, OneOutcome}
 use Rattle.pw_frame.proofs.Unique.{one_text}
 use Rattle.pw_frame.proofs.Fronts.{one_gap, one_next}
@@ -37,10 +37,10 @@ one_front_list body fs gs p q x m y n =
 
 -- ---- one outcome
 
-read_refused : (body : List ℕ) (fs gs : List FrameText) (g : FrameFault) → Reading body fs → Fault body gs g → ⊥
+read_refused : (body : List ℕ) (fs gs : List FrameText) (g : FrameFault) → BodyReading body fs → BodyFault body gs g → ⊥
 read_refused body fs gs g x y =
     let e : (fs ≡ gs) × (length body ≡ y.place) = one_front_list body fs gs (length body) y.place x.front (stops_at_end body) y.front y.no_frame in
-    y.no_reading (subst (Reading body) e.0 x)
+    y.no_reading (subst (BodyReading body) e.0 x)
 
 abbrev with_fault : List FrameText → FrameFault → List FrameText × FrameFault
 with_fault fs f = (fs, f)
@@ -58,8 +58,8 @@ one_outcome body (Err f) (Err g) x y =
     let same : f.1 ≡ g.1 = one_fault (drop y.place body) y.place f.1 g.1 (subst (λ (k : ℕ). IsFault (drop k body) k f.1) e.1 x.first) y.first in
     ap Err (same_refusal f.0 g.0 f.1 g.1 e.0 same)
 
-pub outcome_read : (body : List ℕ) (fs : List FrameText) → Reading body fs → OneOutcome body
+pub outcome_read : (body : List ℕ) (fs : List FrameText) → BodyReading body fs → OneOutcome body
 outcome_read body fs x = record { outcome = Ok fs; holds = x; only = λ o y. one_outcome body (Ok fs) o x y }
 
-pub outcome_refused : (body : List ℕ) (fs : List FrameText) (f : FrameFault) → Fault body fs f → OneOutcome body
+pub outcome_refused : (body : List ℕ) (fs : List FrameText) (f : FrameFault) → BodyFault body fs f → OneOutcome body
 outcome_refused body fs f x = record { outcome = Err (fs, f); holds = x; only = λ o y. one_outcome body (Err (fs, f)) o x y }

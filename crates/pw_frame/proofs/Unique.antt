@@ -4,7 +4,7 @@ use Rattle.std.specs.Prelude.{slice_index, slice_range}
 use Rattle.std.proofs.lemmas.Bool.{cases_lt}
 use Rattle.pw_frame.specs.declared.frame.Kind.{Kind}
 use Rattle.pw_frame.specs.declared.frame.Kind.TheVariants.{Telegram, Readout}
-use Rattle.pw_frame.specs.Frame.{FrameText, HeaderEnd, Head, Plain, BlockEnd, Framed, IsDigit, StatedCrc, Ending, Checks, Whole, block_start, ending_size}
+use Rattle.pw_frame.specs.Frame.{FrameText, HeaderEnd, Head, Plain, BlockEnd, Framed, IsHexadecimalDigit, StatedCrc, FrameEnding, Checks, Whole, block_start, ending_size}
 use Rattle.pw_frame.proofs.BlockChecks.{one_block_check}
 
 -- two numbers are equal where neither is the smaller
@@ -58,7 +58,7 @@ one_end rest k l a b i j x y = one_block rest (block_start l b) i j (block_at re
 
 -- ---- checks
 
-pub one_digit : (byte a b : ℕ) → IsDigit byte a → IsDigit byte b → a ≡ b
+pub one_digit : (byte a b : ℕ) → IsHexadecimalDigit byte a → IsHexadecimalDigit byte b → a ≡ b
 one_digit byte a b x y = omega (arith, x, y)
 
 one_crc : (rest : List ℕ) (end s t : ℕ) → StatedCrc rest end s → StatedCrc rest end t → s ≡ t
@@ -69,7 +69,7 @@ one_crc rest end s t x y =
     let d : x.d ≡ y.d = one_digit _ x.d y.d x.fourth y.fourth in
     omega (arith, a, b, c, d, x.value, y.value)
 
-pub one_stated : (rest : List ℕ) (kind : Kind) (end s t : ℕ) → Ending kind rest end s → Ending kind rest end t → s ≡ t
+pub one_stated : (rest : List ℕ) (kind : Kind) (end s t : ℕ) → FrameEnding kind rest end s → FrameEnding kind rest end t → s ≡ t
 one_stated rest Telegram end s t x y = one_crc rest end s t x y
 one_stated rest Readout end s t x y = x.value ∙ sym y.value
 
@@ -78,10 +78,10 @@ one_right rest Telegram a e s t x y = x ∙ sym y
 one_right rest Readout a e s t x y = one_block_check (slice_range rest (a + 3) (e + 4)) s t x y
 
 -- what holds of one kind, header and block holds of all that stand there
-pub ending_at : (rest : List ℕ) (k l : Kind) (a b i j s : ℕ) → Framed rest k a i → Framed rest l b j → Ending k rest i s → Ending l rest j s
+pub ending_at : (rest : List ℕ) (k l : Kind) (a b i j s : ℕ) → Framed rest k a i → Framed rest l b j → FrameEnding k rest i s → FrameEnding l rest j s
 ending_at rest k l a b i j s x y h =
-    subst (λ (n : ℕ). Ending l rest n s) (one_end rest k l a b i j x y)
-    (subst (λ (o : Kind). Ending o rest i s) (one_kind rest k l a b x.head y.head) h)
+    subst (λ (n : ℕ). FrameEnding l rest n s) (one_end rest k l a b i j x y)
+    (subst (λ (o : Kind). FrameEnding o rest i s) (one_kind rest k l a b x.head y.head) h)
 
 pub right_at : (rest : List ℕ) (k l : Kind) (a b i j s : ℕ) → Framed rest k a i → Framed rest l b j → Checks k rest a i s → Checks l rest b j s
 right_at rest k l a b i j s x y h =

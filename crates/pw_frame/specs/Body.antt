@@ -2,13 +2,14 @@
 use Rattle.std.specs.Prelude.{◌≡◌, ℕ, ◌+◌, ◌*◌, ◌<◌, Bool, List, [], ◌∷◌, length, drop, slice_index}
 use Rattle.pw_frame.specs.declared.frame.FrameFault.{FrameFault}
 use Rattle.pw_frame.specs.Frame.{FrameText, Whole}
-use Rattle.pw_frame.specs.Fault.{IsFault}
+use Rattle.pw_frame.specs.FirstFault.{IsFault}
+use Rattle.pw_frame.specs.Bytes.{LF, CR}
 
 abbrev pub PairAt : List ℕ → ℕ → Type 0
-PairAt body place = (slice_index body place ≡ 13) × (slice_index body (place + 1) ≡ 10)
+PairAt body place = (slice_index body place ≡ CR) × (slice_index body (place + 1) ≡ LF)
 
 -- CR LF pairs stand from `from` up to `to`, and none at `to`
-pub record Gap (body : List ℕ) (from to : ℕ) : Type 0 where
+pub record PairsBetween (body : List ℕ) (from to : ℕ) : Type 0 where
   pub count : ℕ
   pub place : to ≡ from + 2 * count
   pub pairs : (i : ℕ) → i < count → PairAt body (from + 2 * i)
@@ -17,7 +18,7 @@ pub record Gap (body : List ℕ) (from to : ℕ) : Type 0 where
 pub record NextFrame (body : List ℕ) (from : ℕ) (frame : FrameText) (to : ℕ) : Type 0 where
   pub size : ℕ
   pub whole : Whole (drop from body) frame size
-  pub gap : Gap body (from + size) to
+  pub gap : PairsBetween body (from + size) to
 
 -- from `from` up to `to` stand the whole frames, each followed by its pairs
 abbrev pub FramesFrom : List ℕ → ℕ → List FrameText → ℕ → Type 0
@@ -27,20 +28,20 @@ FramesFrom body from (frame ∷ frames) to = (next : ℕ) × NextFrame body from
 -- the first `place` bytes are pairs and these frames, and no pair stands at `place`
 pub record Front (body : List ℕ) (frames : List FrameText) (place : ℕ) : Type 0 where
   pub start : ℕ
-  pub gap : Gap body 0 start
+  pub gap : PairsBetween body 0 start
   pub frames_are : FramesFrom body start frames place
 
 -- the frames reach to the body's end
-pub record Reading (body : List ℕ) (frames : List FrameText) : Type 0 where
+pub record BodyReading (body : List ℕ) (frames : List FrameText) : Type 0 where
   pub front : Front body frames (length body)
   pub some : frames ≡ [] → ⊥
 
 -- behind the frames stands no whole frame, and what is wrong there is the fault
-pub record Fault (body : List ℕ) (frames : List FrameText) (fault : FrameFault) : Type 0 where
+pub record BodyFault (body : List ℕ) (frames : List FrameText) (fault : FrameFault) : Type 0 where
   pub place : ℕ
   pub front : Front body frames place
   pub no_frame : (frame : FrameText) (size : ℕ) → Whole (drop place body) frame size → ⊥
-  pub no_reading : Reading body frames → ⊥
+  pub no_reading : BodyReading body frames → ⊥
   pub first : IsFault (drop place body) place fault
 
 -- what a contract sees of the frames that are still to be read

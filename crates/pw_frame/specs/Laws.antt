@@ -2,12 +2,12 @@
 use Rattle.std.specs.Prelude.{◌≡◌, ℕ, List, Result, Ok, Err}
 use Rattle.pw_frame.specs.declared.frame.FrameFault.{FrameFault}
 use Rattle.pw_frame.specs.Frame.{FrameText}
-use Rattle.pw_frame.specs.Body.{Reading, Fault}
+use Rattle.pw_frame.specs.Body.{BodyReading, BodyFault}
 
 -- the frames of a body, or those before its fault and the fault
 abbrev pub IsOutcome : List ℕ → Result (List FrameText) (List FrameText × FrameFault) → Type 0
-IsOutcome body (Ok frames) = Reading body frames
-IsOutcome body (Err refused) = Fault body refused.0 refused.1
+IsOutcome body (Ok frames) = BodyReading body frames
+IsOutcome body (Err refused) = BodyFault body refused.0 refused.1
 
 -- one reading or one fault
 pub record OneOutcome (body : List ℕ) : Type 0 where

@@ -1,12 +1,12 @@
 ghost use Rattle.std.specs.Prelude.{◌≡◌, ℕ, ◌+◌, ◌*◌, ◌<◌, ◌≤◌, length, IfSome, IfNone};
-ghost use Rattle.pw_frame.specs.Frame.{IsDigit, StatedCrc, StatedCheck};
+ghost use Rattle.pw_frame.specs.Frame.{IsHexadecimalDigit, StatedCrc, StatedCheck};
 
 use crate::bytes::{CR, ETX, LF, byte_at};
 
 /// The value of a hexadecimal digit in either letter case.
 fn hex_digit(byte: u8) -> Option<u16>
-    ensures some { IfSome result (λ digit. IsDigit byte digit) }
-    ensures none { IfNone result ((digit : ℕ) → IsDigit byte digit → ⊥) }
+    ensures some { IfSome result (λ digit. IsHexadecimalDigit byte digit) }
+    ensures none { IfNone result ((digit : ℕ) → IsHexadecimalDigit byte digit → ⊥) }
 {
     match byte {
         b'0'..=b'9' => Some((byte - b'0') as u16),

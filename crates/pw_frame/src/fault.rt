@@ -6,11 +6,11 @@ use std::fmt;
 
 impl FrameFault {
     ghost use Rattle.std.specs.Prelude.{◌≡◌};
-    ghost use Rattle.pw_frame.specs.Faults.{name_of, number_of};
+    ghost use Rattle.pw_frame.specs.Faults.{frame_fault_name, frame_fault_number};
 
     /// The number under which the fault is reported, from 10 to 15.
     pub fn number(self) -> u8
-        ensures { result ≡ number_of self }
+        ensures { result ≡ frame_fault_number self }
     {
         match self {
             FrameFault::Header { .. } => 10,
@@ -24,7 +24,7 @@ impl FrameFault {
 
     /// The name under which the fault is reported: that of the variant.
     pub fn name(self) -> &'static str
-        ensures { result.now ≡ name_of self }
+        ensures { result.now ≡ frame_fault_name self }
     {
         match self {
             FrameFault::Header { .. } => "Header",
@@ -41,9 +41,9 @@ impl FrameFault {
 /// the two checks in capital hexadecimal digits.
 impl fmt::Display for FrameFault {
     ghost use Rattle.std.specs.Prelude.{Some};
-    ghost use Rattle.pw_frame.specs.Faults.{details_of};
+    ghost use Rattle.pw_frame.specs.Faults.{frame_fault_details};
 
-    ghost output = { λ fault. Some (details_of fault) };
+    ghost output = { λ fault. Some (frame_fault_details fault) };
 
     fn fmt<W: fmt::Write>(&self, f: &mut fmt::Formatter<W>) -> fmt::Result {
         match *self {

@@ -1,6 +1,6 @@
 ghost use Rattle.std.specs.Prelude.{◌≡◌, ℕ, ◌+◌, ◌*◌, ◌^◌, ◌<◌, ◌≤◌, ◌↔◌, ◌∷◌, ◌++◌, [], List, Bool, true, false, length, slice_index, IsNone, MatchOption, MatchResult, IfSome, IfNone, IfOk, IfErr, IsTrue};
-ghost use Rattle.pw_frame.specs.Frame.{FrameText, text_of};
-ghost use Rattle.pw_frame.specs.Body.{Gap, Front, Reading, Fault, Progress};
+ghost use Rattle.pw_frame.specs.Frame.{FrameText, frame_text};
+ghost use Rattle.pw_frame.specs.Body.{PairsBetween, Front, BodyReading, BodyFault, Progress};
 
 use crate::frame::{Frame, FrameFault};
 use crate::whole::first_frame;
@@ -20,7 +20,7 @@ impl<'a> Model for Frames<'a> {
 
     ghost view = { λ f. record { body = f.body.now; place = f.place; ended = f.ended } };
 
-    ghost invariant = { λ f. Gap f.body.now 0 f.first × (f.first ≤ f.place) × (f.place ≤ length f.body.now) };
+    ghost invariant = { λ f. PairsBetween f.body.now 0 f.first × (f.first ≤ f.place) × (f.place ≤ length f.body.now) };
 }
 
 impl<'a> Frames<'a> {
@@ -49,10 +49,10 @@ impl<'a> Frames<'a> {
         ensures stops { IfSome result (λ answer. MatchResult answer (λ _. self.new.ended ≡ false) (λ _. self.new.ended ≡ true)) }
         ensures next { self.old.ended ≡ false → (frames : List FrameText) → Front self.old.body frames self.old.place →
             MatchOption result
-            (Reading self.old.body frames × (self.new ≡ self.old))
+            (BodyReading self.old.body frames × (self.new ≡ self.old))
             (λ answer. MatchResult answer
-            (λ frame. Front self.old.body (frames ++ text_of frame ∷ []) self.new.place × (self.new.ended ≡ false))
-            (λ fault. Fault self.old.body frames fault × (self.new.ended ≡ true))) }
+            (λ frame. Front self.old.body (frames ++ frame_text frame ∷ []) self.new.place × (self.new.ended ≡ false))
+            (λ fault. BodyFault self.old.body frames fault × (self.new.ended ≡ true))) }
     {
         if self.ended {
             return None;
@@ -76,7 +76,7 @@ impl<'a> Frames<'a> {
 /// The place behind all CR LF pairs that stand at `from`.
 fn skip_line_ends(body: &[u8], from: usize) -> usize
     requires { from ≤ length body.now }
-    ensures gap { Gap body.now from result }
+    ensures gap { PairsBetween body.now from result }
     ensures within { result ≤ length body.now }
     ensures after { from ≤ result }
 {

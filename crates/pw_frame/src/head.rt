@@ -1,6 +1,6 @@
 ghost use Rattle.std.specs.Prelude.{◌≡◌, ◌+◌, ◌^◌, ◌<◌, ◌≤◌, length, slice_index, IfOk, IfErr, IfSome, IfNone};
 ghost use Rattle.pw_frame.specs.Frame.{HeaderEnd, Opens, Head, block_start};
-ghost use Rattle.pw_frame.specs.Fault.{IsFault};
+ghost use Rattle.pw_frame.specs.FirstFault.{IsFault};
 ghost use Rattle.pw_frame.specs.declared.frame.Kind.{Kind};
 
 use crate::bytes::{CR, LF, STX, byte_at, is_character};

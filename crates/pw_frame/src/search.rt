@@ -1,6 +1,6 @@
 ghost use Rattle.std.specs.Prelude.{◌+◌, ◌^◌, ◌<◌, ◌≤◌, ◌↔◌, length, IfOk, IfErr, IsTrue};
 ghost use Rattle.pw_frame.specs.Frame.{EndsAt, BlockEnd};
-ghost use Rattle.pw_frame.specs.Fault.{IsBlockFault};
+ghost use Rattle.pw_frame.specs.inner.Search.{IsBlockFault};
 
 use crate::bytes::{CR, LF};
 use crate::frame::FrameFault;

@@ -13,11 +13,12 @@ use Rattle.pw_model.specs.declared.records.ReadingRow.{ReadingRow}
 use Rattle.pw_obis.specs.declared.reference.Register.{Register}
 use Rattle.pw_model.specs.Same.{same_key, same_entry, key_numbers}
 use Rattle.pw_model.specs.Counting.{Member, SameMembers, EachOnce, Counts, standing, contents_at}
-use Rattle.pw_tariff.specs.Office.{Office}
+use Rattle.pw_tariff.specs.Office.{OfficeRules}
 use Rattle.pw_model.specs.Energy.{energy, energy_where, of_band, cost}
 use Rattle.pw_model.specs.Payments.{stands_in, sum_once, keys, cents_for, topped_up, balance, nano_in_cent}
 use Rattle.pw_model.specs.Lists.{Lists, IsFall, IsDispute, IsReading, fall_numbers, fall_order, dispute_order, reading_numbers, reading_order, reading_entry, records_at, record_count, AreFalls, AreDisputes, AreReadings}
-use Rattle.pw_model.specs.Laws.{OrderCountsNothing, CountIsLength, ListsAreOne}
+use Rattle.pw_model.specs.inner.Search.{AreSorted}
+use Rattle.pw_model.specs.Laws.{OrderCountsNothing, CountIsLength, ListsAreAtMostOne}
 use Rattle.pw_model.proofs.Same.{same_key-decides, same_entry-decides}
 use Rattle.pw_model.proofs.Counting.{contents-same, standing-same}
 use Rattle.pw_model.proofs.Once.{once-same, stands-decides}
@@ -41,10 +42,10 @@ keys-half s t h k m =
 pub keys-same : (s t : List Entry) → SameMembers s t → SameMembers (keys s) (keys t)
 keys-same s t h k = (keys-half s t h k, keys-half t s (λ e. ((h e).1, (h e).0)) k)
 
-pub energy-same : (office : Office) (s t : List Entry) → SameMembers s t → (o : Option AccountId) (b : ℕ) (d : Direction) → energy office s o b d ≡ energy office t o b d
+pub energy-same : (office : OfficeRules) (s t : List Entry) → SameMembers s t → (o : Option AccountId) (b : ℕ) (d : Direction) → energy office s o b d ≡ energy office t o b d
 energy-same office s t h o b d = ap (λ (at : Key → Contents). energy_where office at d (of_band office o b)) (contents-same s t h)
 
-cost-same : (office : Office) (s t : List Entry) → SameMembers s t → (o : Option AccountId) (d : Direction) → cost office (contents_at s) o d ≡ cost office (contents_at t) o d
+cost-same : (office : OfficeRules) (s t : List Entry) → SameMembers s t → (o : Option AccountId) (d : Direction) → cost office (contents_at s) o d ≡ cost office (contents_at t) o d
 cost-same office s t h o d = ap (λ (at : Key → Contents). cost office at o d) (contents-same s t h)
 
 pub topped-same : (s t : List Entry) → SameMembers s t → (a : ℕ) → topped_up s a ≡ topped_up t a
@@ -53,7 +54,7 @@ topped-same s t h a =
     ap (λ (at : Key → Contents). sum_once same_key (λ k. cents_for a (at k)) (keys s)) (contents-same s t h)
     ∙ once-same same_key same_key-decides (λ k. cents_for a (contents_at t k)) (keys s) (keys t) (keys-same s t h)
 
-balance-same : (office : Office) (s t : List Entry) → SameMembers s t → (a : ℕ) → balance office s a ≡ balance office t a
+balance-same : (office : OfficeRules) (s t : List Entry) → SameMembers s t → (a : ℕ) → balance office s a ≡ balance office t a
 balance-same office s t h a =
     let o : Option AccountId = Some (record { 0 = a }) in
     ap (λ (n : ℕ). (pos (nano_in_cent * n) -ℤ pos (cost office (contents_at s) o Import)) +ℤ pos (cost office (contents_at s) o Export)) (topped-same s t h a)
@@ -115,11 +116,27 @@ order_counts_nothing office s t h = record {
   readings = λ m r rows. (readings-half s t h m r rows, readings-half t s (members-back s t h) m r rows);
 }
 
+-- ---- of records that are sorted
+pub falls-of_sorted : (s view sorted : List Entry) (fs : List Fall) → view ≡ sorted → AreSorted s sorted → AreFalls view fs → AreFalls s fs
+falls-of_sorted s view sorted fs v a h =
+    let P : List Entry → Type 0 = λ l. AreFalls l fs in
+    falls-half sorted s a.members fs (subst P v h)
+
+pub disputes-of_sorted : (s view sorted : List Entry) (ds : List Dispute) → view ≡ sorted → AreSorted s sorted → AreDisputes view ds → AreDisputes s ds
+disputes-of_sorted s view sorted ds v a h =
+    let P : List Entry → Type 0 = λ l. AreDisputes l ds in
+    disputes-half sorted s a.members ds (subst P v h)
+
+pub readings-of_sorted : (s view sorted : List Entry) (m : ℕ) (r : Register) (rows : List ReadingRow) → view ≡ sorted → AreSorted s sorted → AreReadings view m r rows → AreReadings s m r rows
+readings-of_sorted s view sorted m r rows v a h =
+    let P : List Entry → Type 0 = λ l. AreReadings l m r rows in
+    readings-half sorted s a.members m r rows (subst P v h)
+
 same-both : {X : Type 0} (P : X → Type 0) (x : X) → P x ↔ P x
 same-both P x = (λ h. h, λ h. h)
 
-pub lists-are_one : ListsAreOne
-lists-are_one s = record {
+pub lists-are_at_most_one : ListsAreAtMostOne
+lists-are_at_most_one s = record {
   falls = λ fs gs a b. lists-one fall_order (by-numbers fall_numbers) (IsFall (contents_at s)) (IsFall (contents_at s)) (same-both (IsFall (contents_at s))) fs gs a b;
   disputes = λ ds es a b. lists-one dispute_order (by-numbers (λ (d : Dispute). key_numbers d.key)) (IsDispute s) (IsDispute s) (same-both (IsDispute s)) ds es a b;
   readings = λ m r x y a b. lists-one reading_order (by-numbers reading_numbers) (IsReading s m r) (IsReading s m r) (same-both (IsReading s m r)) x y a b;

@@ -9,10 +9,11 @@ use Rattle.pw_model.specs.declared.records.Key.{Key}
 use Rattle.pw_model.specs.declared.records.Key.TheVariants as key
 use Rattle.pw_model.specs.declared.records.Contents.{Contents}
 use Rattle.pw_model.specs.Counting.{point, start, wh_of, owner_of, reading_key, assignment_key}
-use Rattle.pw_tariff.specs.Office.{Office}
+use Rattle.pw_tariff.specs.Office.{OfficeRules}
 use Rattle.pw_tariff.specs.Owners.{owner_from}
-use Rattle.pw_model.specs.Energy.{Asked, seconds_of, owner_at, over_registers, share_of, meter_share, energy_where}
-use Rattle.pw_model.specs.Laws.{IsOtherStart, OneMoreAssignment}
+use Rattle.pw_model.specs.Energy.{Asked, asked_seconds, owner_at, over_registers, share_of, meter_share, energy_where}
+use Rattle.pw_model.specs.Changes.{OneMoreAssignment}
+use Rattle.pw_model.specs.Changes.{IsOtherStart}
 use Rattle.pw_flow.specs.Time.{last}
 use Rattle.pw_flow.specs.Energy.{register_energy}
 use Rattle.pw_flow.proofs.Sums.{sum-change}
@@ -48,13 +49,13 @@ other-meters : (old new : Key → Contents) (m z : ℕ) → IsOtherStart old new
 unfolding owner_at
 other-meters old new m z h n t d = ap owner_from (last-same (start old n) (start new n) t (λ s k. start-same old new m z n s h (λ i _. d i)))
 
-seconds-same : (old new : Key → Contents) (m z : ℕ) → IsOtherStart old new m z → (asked : Asked) (n : ℕ) → (n ≡ m → ⊥) → seconds_of old asked n ≡ seconds_of new asked n
+seconds-same : (old new : Key → Contents) (m z : ℕ) → IsOtherStart old new m z → (asked : Asked) (n : ℕ) → (n ≡ m → ⊥) → asked_seconds old asked n ≡ asked_seconds new asked n
 unfolding owner_at
 seconds-same old new m z h asked n d =
     let s : start old n ≡ start new n = λ i t. start-same old new m z n t h (λ j _. d j) i in
     λ i t. asked (owner_from (last (s i) t)) t
 
-meter-same : (office : Office) (old new : Key → Contents) (m z : ℕ) → IsOtherStart old new m z → (asked : Asked) (d : Direction) (n : ℕ) → (n ≡ m → ⊥) → meter_share office old d asked n ≡ meter_share office new d asked n
+meter-same : (office : OfficeRules) (old new : Key → Contents) (m z : ℕ) → IsOtherStart old new m z → (asked : Asked) (d : Direction) (n : ℕ) → (n ≡ m → ⊥) → meter_share office old d asked n ≡ meter_share office new d asked n
 meter-same office old new m z h asked d n k =
     λ i. over_registers d (λ r. cond (office.counts n r) (register_energy (seconds-same old new m z h asked n k i) (points-same old new m z h n r i) office.end) 0)
 

@@ -15,11 +15,13 @@ use Rattle.pw_model.specs.declared.records.Contents.TheVariants.{Nothing, One, S
 use Rattle.pw_model.specs.declared.records.Entry.{Entry}
 use Rattle.pw_model.specs.Same.{same_key, same_content, same_direction, direction_of}
 use Rattle.pw_model.specs.Counting.{contents_at, contents_among, joined, point, wh_of, reading_key}
-use Rattle.pw_tariff.specs.Office.{Office}
+use Rattle.pw_tariff.specs.Office.{OfficeRules}
 use Rattle.pw_model.specs.Office.{AllOfOffice, IsOf, most_cents}
-use Rattle.pw_model.specs.Energy.{Asked, seconds_of, over_registers, share_of, meter_share, energy_where}
+use Rattle.pw_model.specs.Energy.{Asked, asked_seconds, over_registers, share_of, meter_share, energy_where}
 use Rattle.pw_model.specs.Payments.{topped_up, cents_for}
-use Rattle.pw_model.specs.Laws.{IsJoined, IsOneMoreReading, in_direction}
+use Rattle.pw_model.specs.Changes.{ChangesAtOneKey}
+use Rattle.pw_model.specs.Changes.{in_direction}
+use Rattle.pw_model.specs.Changes.{IsOneMoreReading}
 use Rattle.pw_model.specs.Bounds.{TotalsAreBounded}
 use Rattle.pw_time.specs.declared.instant.TheConstants.{END_SECOND}
 use Rattle.pw_model.proofs.Same.{same_key-decides}
@@ -28,7 +30,9 @@ use Rattle.pw_model.proofs.Energy.{one-more_reading}
 use Rattle.pw_model.proofs.Payments.{one-more_payment}
 use Rattle.pw_flow.specs.Time.{last, next, sum_over}
 use Rattle.pw_flow.specs.Flow.{flow}
-use Rattle.pw_flow.specs.Energy.{register_energy, cell_between, IsGap}
+use Rattle.pw_flow.specs.Energy.{register_energy}
+use Rattle.pw_flow.specs.Pairs.{StandAround}
+use Rattle.pw_flow.specs.Pairs.{cell_between}
 use Rattle.pw_flow.proofs.Level.{kept-le, cell-at_most}
 use Rattle.pw_flow.proofs.Points.{LastIs, NextIs, last-none, next-tells}
 use Rattle.pw_flow.proofs.Sums.{sum-none}
@@ -50,21 +54,21 @@ cond-le : (b : Bool) (m n : ℕ) → m ≤ n → cond b m 0 ≤ cond b n 0
 cond-le true m n h = h
 cond-le false m n h = omega arith
 
-share-le : (office : Office) (at : Key → Contents) (asked : Asked) (m : ℕ) (r : Register) → share_of office at asked m r ≤ share_of office at always m r
-share-le office at asked m r = cond-le (office.counts m r) _ _ (register-le (seconds_of at asked m) (point at m r) office.end)
+share-le : (office : OfficeRules) (at : Key → Contents) (asked : Asked) (m : ℕ) (r : Register) → share_of office at asked m r ≤ share_of office at always m r
+share-le office at asked m r = cond-le (office.counts m r) _ _ (register-le (asked_seconds at asked m) (point at m r) office.end)
 
 registers-le : (d : Direction) (f g : Register → ℕ) → ((r : Register) → f r ≤ g r) → over_registers d f ≤ over_registers d g
 registers-le Import f g h = omega (arith, h I0, h I1, h I2)
 registers-le Export f g h = omega (arith, h E0, h E1, h E2)
 
-pub asked-le : (office : Office) (at : Key → Contents) (d : Direction) (asked : Asked) → energy_where office at d asked ≤ energy_where office at d always
+pub asked-le : (office : OfficeRules) (at : Key → Contents) (d : Direction) (asked : Asked) → energy_where office at d asked ≤ energy_where office at d always
 unfolding energy_where
 asked-le office at d asked =
     sum-le (meter_share office at d asked) (meter_share office at d always) 0 office.meters
     (λ m. registers-le d (share_of office at asked m) (share_of office at always m) (λ r. share-le office at asked m r))
 
 -- ---- the readings alone tell it
-points-tell : (office : Office) (old new : Key → Contents) (d : Direction) → ((m : ℕ) (r : Register) (t : ℕ) → point old m r t ≡ point new m r t) →
+points-tell : (office : OfficeRules) (old new : Key → Contents) (d : Direction) → ((m : ℕ) (r : Register) (t : ℕ) → point old m r t ≡ point new m r t) →
     energy_where office old d always ≡ energy_where office new d always
 unfolding energy_where
 points-tell office old new d h = λ i. sum_over (λ m. over_registers d (λ r. cond (office.counts m r) (register_energy (λ t. true) (λ t. h m r t i) office.end) 0)) 0 office.meters
@@ -77,15 +81,15 @@ no-energy : (p : ℕ → Option ℕ) (end : ℕ) → ((s : ℕ) → p s ≡ None
 unfolding register_energy
 no-energy p end h = sum-none _ 0 end (λ t x y. no-flow p end t h)
 
-cond-zero : (b : Bool) (n : ℕ) → n ≡ 0 → cond b n 0 ≡ 0
+pub cond-zero : (b : Bool) (n : ℕ) → n ≡ 0 → cond b n 0 ≡ 0
 cond-zero true n h = h
 cond-zero false n h = refl
 
-registers-zero : (d : Direction) (f : Register → ℕ) → ((r : Register) → f r ≡ 0) → over_registers d f ≡ 0
+pub registers-zero : (d : Direction) (f : Register → ℕ) → ((r : Register) → f r ≡ 0) → over_registers d f ≡ 0
 registers-zero Import f h = omega (arith, h I0, h I1, h I2)
 registers-zero Export f h = omega (arith, h E0, h E1, h E2)
 
-pub none-held : (office : Office) (d : Direction) → energy_where office (contents_at []) d always ≡ 0
+pub none-held : (office : OfficeRules) (d : Direction) → energy_where office (contents_at []) d always ≡ 0
 unfolding energy_where contents_at contents_among
 none-held office d = sum-none _ 0 office.meters (λ m x y. registers-zero d _ (λ r. cond-zero (office.counts m r) _ (no-energy (point (contents_at []) m r) office.end (λ s. refl))))
 
@@ -99,27 +103,27 @@ PointFits None = Unit {0}
 PointFits (Some a) = a.1 ≤ LARGEST_WATT_HOURS
 
 -- what is told at a key is of the office
-abbrev pub ToldOf : Office → Key → Contents → Type 0
+abbrev pub ToldOf : OfficeRules → Key → Contents → Type 0
 ToldOf office k Nothing = Unit {0}
 ToldOf office k (One c) = IsOf office k c
 ToldOf office k Several = Unit {0}
 
-told-of : (office : Office) (s : List Entry) (k : Key) (r : Contents) → AllOfOffice office s → contents_at s k ≡ r → ToldOf office k r
+told-of : (office : OfficeRules) (s : List Entry) (k : Key) (r : Contents) → AllOfOffice office s → contents_at s k ≡ r → ToldOf office k r
 told-of office s k Nothing h e = tt
 told-of office s k (One c) h e = h (entry k c) ((one-is_counting s (entry k c)).0 e).0
 told-of office s k Several h e = tt
 
-pub contents-of : (office : Office) (s : List Entry) (k : Key) → AllOfOffice office s → ToldOf office k (contents_at s k)
+pub contents-of : (office : OfficeRules) (s : List Entry) (k : Key) → AllOfOffice office s → ToldOf office k (contents_at s k)
 contents-of office s k h = told-of office s k (contents_at s k) h refl
 
-wh-fits : (office : Office) (m : ℕ) (r : Register) (t : ℕ) (c : Contents) → ToldOf office (reading_key m r t) c → WhFits (wh_of c)
+wh-fits : (office : OfficeRules) (m : ℕ) (r : Register) (t : ℕ) (c : Contents) → ToldOf office (reading_key m r t) c → WhFits (wh_of c)
 wh-fits office m r t Nothing h = tt
 wh-fits office m r t (One (content.Reading w)) h = h.3
 wh-fits office m r t (One (content.Assignment o)) h = tt
 wh-fits office m r t (One (content.TopUp a c i)) h = tt
 wh-fits office m r t Several h = tt
 
-point-fits : (office : Office) (s : List Entry) → AllOfOffice office s → (m : ℕ) (r : Register) (t : ℕ) → WhFits (point (contents_at s) m r t)
+point-fits : (office : OfficeRules) (s : List Entry) → AllOfOffice office s → (m : ℕ) (r : Register) (t : ℕ) → WhFits (point (contents_at s) m r t)
 point-fits office s h m r t = wh-fits office m r t (contents_at s (reading_key m r t)) (contents-of office s (reading_key m r t) h)
 
 below-fits : (p : ℕ → Option ℕ) (z : ℕ) (below : Option (ℕ × ℕ)) → ((s : ℕ) → WhFits (p s)) → LastIs p z below → PointFits below
@@ -151,15 +155,15 @@ record AreNear (a b : ℕ) : Type 0 where
   pub up : b ≤ a + LARGEST_WATT_HOURS
   pub down : a ≤ b + LARGEST_WATT_HOURS
 
-reading-near : (office : Office) (old new : Key → Contents) (m : ℕ) (r : Register) (z w : ℕ) (d : Direction) →
+reading-near : (office : OfficeRules) (old new : Key → Contents) (m : ℕ) (r : Register) (z w : ℕ) (d : Direction) →
     IsOneMoreReading old new m r z w → z < office.end → m < office.meters → office.counts m r ≡ true → w ≤ LARGEST_WATT_HOURS → ((s : ℕ) → WhFits (point old m r s)) →
     AreNear (energy_where office old d always) (energy_where office new d always)
 reading-near office old new m r z w d h l i c f g =
     let p = point old m r in
     let below = last p z in
     let above = next p z (office.end - z) in
-    let gap : IsGap p office.end z below above = record { inside = l; last_is = refl; next_is = refl } in
-    let k = seconds_of old always m in
+    let gap : StandAround p office.end z below above = record { inside = l; last_is = refl; next_is = refl } in
+    let k = asked_seconds old always m in
     let fit : PointFits above = above-fits p z (office.end - z) above g (next-tells p z (office.end - z) above refl) in
     let e : energy_where office new d always + in_direction d r (cell_between k below above)
     ≡ energy_where office old d always + in_direction d r (cell_between k below (Some (z, w)) + cell_between k (Some (z, w)) above)
@@ -178,11 +182,11 @@ everywhere old new k h o l =
       | inr f ↦ o l (λ i. true≢false (sym ((same_key-decides l k).1 i) ∙ f))
     ]
 
-same-total : (office : Office) (old new : Key → Contents) (d : Direction) → ((m : ℕ) (r : Register) (t : ℕ) → point old m r t ≡ point new m r t) →
+same-total : (office : OfficeRules) (old new : Key → Contents) (d : Direction) → ((m : ℕ) (r : Register) (t : ℕ) → point old m r t ≡ point new m r t) →
     energy_where office new d always ≤ energy_where office old d always + LARGEST_WATT_HOURS
 same-total office old new d h = let e = points-tell office old new d h in omega (arith, e)
 
-record OneMore (office : Office) (old new : Key → Contents) (k : Key) (c : Content) (r : Contents) : Type 0 where
+record OneMore (office : OfficeRules) (old new : Key → Contents) (k : Key) (c : Content) (r : Contents) : Type 0 where
   pub fits : IsOf office k c
   pub was_fit : ToldOf office k r
   pub was : old k ≡ r
@@ -191,7 +195,7 @@ record OneMore (office : Office) (old new : Key → Contents) (k : Key) (c : Con
   pub old_points : (m : ℕ) (q : Register) (t : ℕ) → WhFits (point old m q t)
   pub new_points : (m : ℕ) (q : Register) (t : ℕ) → WhFits (point new m q t)
 
-step : (office : Office) (old new : Key → Contents) (k : Key) (c : Content) (r : Contents) (d : Direction) → office.end ≡ END_SECOND → OneMore office old new k c r →
+step : (office : OfficeRules) (old new : Key → Contents) (k : Key) (c : Content) (r : Contents) (d : Direction) → office.end ≡ END_SECOND → OneMore office old new k c r →
     energy_where office new d always ≤ energy_where office old d always + LARGEST_WATT_HOURS
 step office old new (key.Assignment m t) c r d n h = same-total office old new d (λ a q u. ap wh_of (sym (h.elsewhere (reading_key a q u) (λ i. cc))))
 step office old new (key.TopUp x) c r d n h = same-total office old new d (λ a q u. ap wh_of (sym (h.elsewhere (reading_key a q u) (λ i. cc))))
@@ -215,12 +219,12 @@ step office old new (key.Reading m q t) (content.Reading w) (One (content.Readin
           (reading-near office new old m.0 q t v d less (omega (arith, n, h.fits.2.1)) h.fits.0 h.fits.1 h.was_fit.3 (h.new_points m.0 q)).down)
     ]
 
-energies-bounded : (office : Office) (s : List Entry) (d : Direction) → office.end ≡ END_SECOND → AllOfOffice office s →
+energies-bounded : (office : OfficeRules) (s : List Entry) (d : Direction) → office.end ≡ END_SECOND → AllOfOffice office s →
     energy_where office (contents_at s) d always ≤ length s * LARGEST_WATT_HOURS
 energies-bounded office [] d n h = omega (arith, none-held office d)
 energies-bounded office (e ∷ s) d n h =
     let part : AllOfOffice office s = λ f m. h f (inr m) in
-    let j : IsJoined s (e ∷ s) e = one-more_record s (e ∷ s) e ([], s, refl, refl) in
+    let j : ChangesAtOneKey s (e ∷ s) e = one-more_record s (e ∷ s) e ([], s, refl, refl) in
     let one : OneMore office (contents_at s) (contents_at (e ∷ s)) e.key e.content (contents_at s e.key) = record {
       fits = h e (inl refl);
       was_fit = contents-of office s e.key part;
@@ -234,7 +238,7 @@ energies-bounded office (e ∷ s) d n h =
     let rest = energies-bounded office s d n part in
     omega (arith, up, rest)
 
-cents-fit : (office : Office) (k : Key) (a : ℕ) (r : Contents) → ToldOf office k r → cents_for a r ≤ most_cents
+cents-fit : (office : OfficeRules) (k : Key) (a : ℕ) (r : Contents) → ToldOf office k r → cents_for a r ≤ most_cents
 cents-fit office k a Nothing h = omega arith
 cents-fit office k a Several h = omega arith
 cents-fit office k a (One (content.Reading w)) h = omega arith
@@ -243,7 +247,7 @@ cents-fit office (key.TopUp x) a (One (content.TopUp b c t)) h = elim (cases_Boo
 cents-fit office (key.Reading m q t) a (One (content.TopUp b c i)) h = absurd h
 cents-fit office (key.Assignment m t) a (One (content.TopUp b c i)) h = absurd h
 
-topped-bounded : (office : Office) (s : List Entry) (a : ℕ) → AllOfOffice office s → topped_up s a ≤ length s * most_cents
+topped-bounded : (office : OfficeRules) (s : List Entry) (a : ℕ) → AllOfOffice office s → topped_up s a ≤ length s * most_cents
 unfolding topped_up
 topped-bounded office [] a h = omega arith
 topped-bounded office (e ∷ s) a h =

@@ -8,12 +8,17 @@ use Rattle.pw_model.specs.declared.records.Key.{Key}
 use Rattle.pw_model.specs.declared.records.Key.TheVariants as key
 use Rattle.pw_model.specs.declared.records.Contents.{Contents}
 use Rattle.pw_model.specs.Counting.{point, start, wh_of, owner_of, reading_key, assignment_key}
-use Rattle.pw_tariff.specs.Office.{Office}
+use Rattle.pw_tariff.specs.Office.{OfficeRules}
 use Rattle.pw_tariff.specs.Owners.{owner_from}
-use Rattle.pw_model.specs.Energy.{Asked, seconds_of, owner_at, over_registers, share_of, meter_share, energy_where}
-use Rattle.pw_model.specs.Laws.{IsOneMoreReading, in_direction, OneMoreReading}
+use Rattle.pw_model.specs.Energy.{Asked, asked_seconds, owner_at, over_registers, share_of, meter_share, energy_where}
+use Rattle.pw_model.specs.Changes.{OneMoreReading}
+use Rattle.pw_model.specs.Changes.{in_direction}
+use Rattle.pw_model.specs.Changes.{IsOneMoreReading}
 use Rattle.pw_flow.specs.Time.{last}
-use Rattle.pw_flow.specs.Energy.{register_energy, cell_between, IsMore, IsGap}
+use Rattle.pw_flow.specs.Energy.{register_energy}
+use Rattle.pw_flow.specs.Pairs.{StandAround}
+use Rattle.pw_flow.specs.Pairs.{IsMore}
+use Rattle.pw_flow.specs.Pairs.{cell_between}
 use Rattle.pw_flow.proofs.Sums.{sum-change}
 use Rattle.pw_flow.proofs.Insert.{energy-more}
 
@@ -47,7 +52,7 @@ instant_in (key.Reading m r t) = t
 instant_in _ = 0
 
 -- the owners don't change
-pub seconds-same : (old new : Key → Contents) (m : ℕ) (r : Register) (z w : ℕ) → IsOneMoreReading old new m r z w → (asked : Asked) (n : ℕ) → seconds_of old asked n ≡ seconds_of new asked n
+pub seconds-same : (old new : Key → Contents) (m : ℕ) (r : Register) (z w : ℕ) → IsOneMoreReading old new m r z w → (asked : Asked) (n : ℕ) → asked_seconds old asked n ≡ asked_seconds new asked n
 unfolding owner_at
 seconds-same old new m r z w h asked n =
     let s : start old n ≡ start new n = λ i t. owner_of (h.elsewhere (assignment_key n t) (λ j. cc) i) in
@@ -57,31 +62,31 @@ seconds-same old new m r z w h asked n =
 pub point-same : (old new : Key → Contents) (m : ℕ) (r : Register) (z w : ℕ) → IsOneMoreReading old new m r z w → (n : ℕ) (s : Register) → (n ≡ m → s ≡ r → ⊥) → point old n s ≡ point new n s
 point-same old new m r z w h n s d = λ i t. wh_of (h.elsewhere (reading_key n s t) (λ j. d (ap meter_in j) (ap register_in j)) i)
 
-share-same : (office : Office) (old new : Key → Contents) (m : ℕ) (r : Register) (z w : ℕ) → IsOneMoreReading old new m r z w → (asked : Asked) (n : ℕ) (s : Register) → (n ≡ m → s ≡ r → ⊥) →
+share-same : (office : OfficeRules) (old new : Key → Contents) (m : ℕ) (r : Register) (z w : ℕ) → IsOneMoreReading old new m r z w → (asked : Asked) (n : ℕ) (s : Register) → (n ≡ m → s ≡ r → ⊥) →
     share_of office old asked n s ≡ share_of office new asked n s
 share-same office old new m r z w h asked n s d =
     ap (λ (k : ℕ → Bool). cond (office.counts n s) (register_energy k (point old n s) office.end) 0) (seconds-same old new m r z w h asked n)
-    ∙ ap (λ (p : ℕ → Option ℕ). cond (office.counts n s) (register_energy (seconds_of new asked n) p office.end) 0) (point-same old new m r z w h n s d)
+    ∙ ap (λ (p : ℕ → Option ℕ). cond (office.counts n s) (register_energy (asked_seconds new asked n) p office.end) 0) (point-same old new m r z w h n s d)
 
-meter-same : (office : Office) (old new : Key → Contents) (m : ℕ) (r : Register) (z w : ℕ) → IsOneMoreReading old new m r z w → (asked : Asked) (d : Direction) (n : ℕ) → (n ≡ m → ⊥) →
+meter-same : (office : OfficeRules) (old new : Key → Contents) (m : ℕ) (r : Register) (z w : ℕ) → IsOneMoreReading old new m r z w → (asked : Asked) (d : Direction) (n : ℕ) → (n ≡ m → ⊥) →
     meter_share office old d asked n ≡ meter_share office new d asked n
 meter-same office old new m r z w h asked d n l =
     let s : share_of office old asked n ≡ share_of office new asked n = λ i s. share-same office old new m r z w h asked n s (λ j _. l j) i in
     ap (λ (f : Register → ℕ). over_registers d f) s
 
-share-more : (office : Office) (old new : Key → Contents) (m : ℕ) (r : Register) (z w : ℕ) (below above : Option (ℕ × ℕ)) →
-    IsOneMoreReading old new m r z w → IsGap (point old m r) office.end z below above → office.counts m r ≡ true → (asked : Asked) →
-    share_of office new asked m r + cell_between (seconds_of old asked m) below above
-    ≡ share_of office old asked m r + (cell_between (seconds_of old asked m) below (Some (z, w)) + cell_between (seconds_of old asked m) (Some (z, w)) above)
+share-more : (office : OfficeRules) (old new : Key → Contents) (m : ℕ) (r : Register) (z w : ℕ) (below above : Option (ℕ × ℕ)) →
+    IsOneMoreReading old new m r z w → StandAround (point old m r) office.end z below above → office.counts m r ≡ true → (asked : Asked) →
+    share_of office new asked m r + cell_between (asked_seconds old asked m) below above
+    ≡ share_of office old asked m r + (cell_between (asked_seconds old asked m) below (Some (z, w)) + cell_between (asked_seconds old asked m) (Some (z, w)) above)
 share-more office old new m r z w below above h g c asked =
     let more : IsMore (point old m r) (point new m r) z w = record { free = h.free; here = h.here; same = λ s d. ap wh_of (h.elsewhere (reading_key m r s) (λ j. d (ap instant_in j))) } in
-    let e = energy-more (seconds_of old asked m) (point old m r) (point new m r) office.end z w below above more g in
+    let e = energy-more (asked_seconds old asked m) (point old m r) (point new m r) office.end z w below above more g in
     rw (c, ← seconds-same old new m r z w h asked m) e
 
 pub one-more_reading : OneMoreReading
 unfolding energy_where
 one-more_reading office old new m r z w below above h g l c asked d =
-    let seconds = seconds_of old asked m in
+    let seconds = asked_seconds old asked m in
     let cells = cell_between seconds below (Some (z, w)) + cell_between seconds (Some (z, w)) above in
     let here : meter_share office new d asked m + in_direction d r (cell_between seconds below above) ≡ meter_share office old d asked m + in_direction d r cells
     = registers-change d r (share_of office old asked m) (share_of office new asked m) (cell_between seconds below above) cells

@@ -12,7 +12,7 @@ use Rattle.pw_model.specs.declared.records.Entry.{Entry}
 use Rattle.pw_model.specs.Same.{key_numbers, content_numbers, key_order, entry_order}
 use Rattle.pw_model.specs.Counting.{Member}
 use Rattle.pw_model.specs.Lists.{IsBeforeAll, Lists}
-use Rattle.pw_model.specs.Search.{IsWith, AreSorted}
+use Rattle.pw_model.specs.inner.Search.{IsWith, AreSorted}
 use Rattle.pw_model.proofs.Same.{key-numbers-one, content-numbers-one}
 use Rattle.pw_model.proofs.InOrder.{IsStrict, before-member}
 
@@ -114,27 +114,3 @@ sorted-more e s old new a w =
 pub if-ok : {T E : Type 0} (r : Result T E) (P Q : T → Type 0) → ((x : T) → P x → Q x) → IfOk r P → IfOk r Q
 if-ok (Ok x) P Q f h = f x h
 if-ok (Err e) P Q f h = tt
-
--- ---- the same, of a slice that is cut in its first and the others
-pub turn-first : (e x : Entry) (some others : List Entry) (new : List Entry) → some ≡ x ∷ others → new ≡ e ∷ some → Less ≡ entry_order e x → IsWith e some new
-turn-first e x some others new i j h =
-    let P : List Entry → Type 0 = λ l. IsWith e l (e ∷ l) in
-    let Q : List Entry → Type 0 = λ l. IsWith e some l in
-    subst Q (sym j) (subst P (sym i) (with-first e x others (sym h)))
-
-pub turn-there : (e x : Entry) (some others : List Entry) (new : List Entry) → some ≡ x ∷ others → new ≡ some → Equal ≡ entry_order e x → IsWith e some new
-turn-there e x some others new i j h =
-    let P : List Entry → Type 0 = λ l. IsWith e l l in
-    let Q : List Entry → Type 0 = λ l. IsWith e some l in
-    subst Q (sym j) (subst P (sym i) (with-there e x others (sym h)))
-
-pub turn-later : (e x : Entry) (some others : List Entry) (old new : List Entry) → some ≡ x ∷ others → new ≡ x ∷ old → Greater ≡ entry_order e x → IsWith e others old → IsWith e some new
-turn-later e x some others old new i j h w =
-    let P : List Entry → Type 0 = λ l. IsWith e l (x ∷ old) in
-    let Q : List Entry → Type 0 = λ l. IsWith e some l in
-    subst Q (sym j) (subst P (sym i) (with-later e x others old (sym h) w))
-
-pub turn-sorted : (e : Entry) (s others old new : List Entry) → s ≡ e ∷ others → AreSorted others old → IsWith e old new → AreSorted s new
-turn-sorted e s others old new i a w =
-    let P : List Entry → Type 0 = λ l. AreSorted l new in
-    subst P (sym i) (sorted-more e others old new a w)

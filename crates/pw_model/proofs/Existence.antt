@@ -18,8 +18,8 @@ use Rattle.pw_model.specs.declared.records.ReadingRow.{ReadingRow}
 use Rattle.pw_model.specs.Same.{same_key, same_content, same_entry, entry_order}
 use Rattle.pw_model.specs.Counting.{Counts, contents_at, point, reading_key}
 use Rattle.pw_model.specs.Payments.{keys, stands_in, sum_once}
-use Rattle.pw_model.specs.Lists.{IsRising, IsFall, reading_entry, AreFalls, AreDisputes, AreReadings}
-use Rattle.pw_model.specs.Search.{IsWith, AreSorted, IsEarliestAmong, IsPointIn, earlier_of, high_reading, FallsFrom, DisputesUnder, IsRowOf, RowsOf}
+use Rattle.pw_model.specs.Lists.{IsInOrder, IsFall, reading_entry, AreFalls, AreDisputes, AreReadings}
+use Rattle.pw_model.specs.inner.Search.{IsWith, AreSorted, IsEarliestAmong, IsPointIn, earlier_of, high_reading, FallsFrom, DisputesUnder, IsRowOf, RowsOf}
 use Rattle.pw_model.specs.Laws.{ListsExist}
 use Rattle.pw_flow.proofs.Points.{option-cases}
 use Rattle.pw_model.proofs.Same.{same_key-decides}
@@ -45,7 +45,7 @@ with-there_is e (x ∷ xs) =
       | inr (inr g) ↦ (let r : (ys : List Entry) × IsWith e xs ys = with-there_is e xs in (x ∷ r.0, with-later e x xs r.0 g r.1))
     ]
 
-sorted-there_is : (s : List Entry) → (t : List Entry) × AreSorted s t
+pub sorted-there_is : (s : List Entry) → (t : List Entry) × AreSorted s t
 sorted-there_is [] = ([], sorted-none)
 sorted-there_is (e ∷ s) =
     let r : (t : List Entry) × AreSorted s t = sorted-there_is s in
@@ -131,7 +131,7 @@ fall-known s (key.Reading m r x) (content.Reading w) =
       | inr f ↦ inr (fall-not_counting s e b.0 b.1 f)
     ]
 
-falls-there_are : (s some : List Entry) → IsRising entry_order some → (fs : List Fall) × FallsFrom s some fs
+falls-there_are : (s some : List Entry) → IsInOrder entry_order some → (fs : List Fall) × FallsFrom s some fs
 unfolding FallAt
 falls-there_are s [] up = ([], record { rising = tt; members = λ f. (λ m. absurd m, λ m. m.1) })
 falls-there_are s (e ∷ others) up =
@@ -142,7 +142,7 @@ falls-there_are s (e ∷ others) up =
     ]
 
 -- ---- disputes
-disputes-there_are : (s some : List Entry) → IsRising entry_order some → (ds : List Dispute) × DisputesUnder s some ds
+disputes-there_are : (s some : List Entry) → IsInOrder entry_order some → (ds : List Dispute) × DisputesUnder s some ds
 disputes-there_are s [] up = ([], record { rising = tt; members = λ d. (λ m. absurd m, λ m. m.1) })
 disputes-there_are s (e ∷ others) up =
     let r : (ds : List Dispute) × DisputesUnder s others ds = disputes-there_are s others up.1 in
@@ -175,7 +175,7 @@ row-known s m r e =
       ]
     ]
 
-rows-there_are : (s : List Entry) (m : ℕ) (r : Register) (some : List Entry) → IsRising entry_order some → (rows : List ReadingRow) × RowsOf s m r some rows
+rows-there_are : (s : List Entry) (m : ℕ) (r : Register) (some : List Entry) → IsInOrder entry_order some → (rows : List ReadingRow) × RowsOf s m r some rows
 unfolding RowAt
 rows-there_are s m r [] up = ([], record { rising = tt; members = λ a. (λ q. absurd q, λ q. absurd q.0) })
 rows-there_are s m r (e ∷ others) up =

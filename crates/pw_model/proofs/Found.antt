@@ -1,6 +1,6 @@
 -- What is found among all records is what the definitions name.
-use Rattle.std.proofs.Common.{◌≡◌, ◌↔◌, Bool, false, IsTrue, ℕ, zero, suc, ◌-◌, ◌<◌, ◌≤◌, Option, Some, None, List, [], ◌∷◌, length, take, drop, get_or, refl, ap, sym, subst, ◌∙◌, arith, inl, inr}
-use Rattle.std.proofs.lemmas.Bool.{true≢false}
+use Rattle.std.proofs.Common.{◌≡◌, ◌↔◌, Bool, false, cond, IsTrue, ℕ, ◌+◌, ◌<◌, ◌≤◌, Option, Some, None, List, [], ◌∷◌, length, take, refl, ap, sym, subst, ◌∙◌, arith, inl, inr}
+use Rattle.std.proofs.lemmas.Bool.{cases_Bool, cases_lt, true≢false}
 use Rattle.std.proofs.lemmas.Bool.Decides.{leb_tells}
 use Rattle.pw_obis.specs.declared.reference.Register.{Register}
 use Rattle.pw_tariff.specs.declared.ids.AccountId.{AccountId}
@@ -11,13 +11,15 @@ use Rattle.pw_model.specs.declared.records.Content.TheVariants as content
 use Rattle.pw_model.specs.declared.records.Contents.{Contents}
 use Rattle.pw_model.specs.declared.records.Contents.TheVariants.{Nothing, One, Several}
 use Rattle.pw_model.specs.declared.records.Entry.{Entry}
-use Rattle.pw_model.specs.Counting.{Member, Counts, contents_at, wh_of, owner_of, point, start, reading_key, assignment_key}
+use Rattle.pw_model.specs.Counting.{Member, Counts, joined, contents_at, wh_of, owner_of, point, start, reading_key, assignment_key}
 use Rattle.pw_tariff.specs.Owners.{owner_from}
 use Rattle.pw_model.specs.Energy.{owner_at}
-use Rattle.pw_model.specs.Search.{NoStart, IsLatestAmong, IsStartIn, later_of, NoPoint, IsEarliestAmong, IsPointIn, earlier_of}
-use Rattle.pw_model.specs.Same.{same_content}
-use Rattle.pw_model.proofs.Same.{same_content-decides}
-use Rattle.pw_model.proofs.Counting.{entry, one-is_counting}
+use Rattle.pw_model.specs.inner.Search.{IsAt, IsLatestAmong, IsStartIn, later_of, NoPoint, IsEarliestAmong, IsPointIn, earlier_of}
+use Rattle.pw_model.specs.Same.{same_key, same_content}
+use Rattle.pw_model.specs.Changes.{ChangesAtOneKey}
+use Rattle.pw_model.proofs.Same.{same_key-decides, same_content-decides}
+use Rattle.pw_model.proofs.Counting.{entry, one-is_counting, one-more_record}
+use Rattle.pw_model.proofs.Places.{taken-to, taken-whole, taken-inserted}
 use Rattle.pw_flow.proofs.Points.{LastIs, option-cases, last-told}
 
 owner-back : (c : Contents) (o : Option AccountId) → owner_of c ≡ Some o → c ≡ One (content.Assignment o)
@@ -41,14 +43,7 @@ start-member s m t o e = ((one-is_counting s (entry (assignment_key m t) (conten
 pub point-member : (s : List Entry) (m : ℕ) (r : Register) (t w : ℕ) → point (contents_at s) m r t ≡ Some w → Member (entry (reading_key m r t) (content.Reading w)) s
 point-member s m r t w e = ((one-is_counting s (entry (reading_key m r t) (content.Reading w))).0 (wh-back (contents_at s (reading_key m r t)) w e)).0
 
--- where no record is a counting start, none stands
-no-start : (s : List Entry) (m x t y : ℕ) → NoStart (contents_at s) m x t s → x ≤ y → y ≤ t → start (contents_at s) m y ≡ None
-no-start s m x t y h l k =
-    elim (option-cases (start (contents_at s) m y)) [
-      | inl n ↦ n
-      | inr f ↦ h (entry (assignment_key m y) (content.Assignment f.0)) (start-member s m y f.0 f.1) y refl l k
-    ]
-
+-- where no record is a counting reading, none stands
 pub no-point : (s : List Entry) (m : ℕ) (r : Register) (x y t : ℕ) → NoPoint (contents_at s) m r x y s → x ≤ t → t < y → point (contents_at s) m r t ≡ None
 no-point s m r x y t h l k =
     elim (option-cases (point (contents_at s) m r t)) [
@@ -56,43 +51,123 @@ no-point s m r x y t h l k =
       | inr f ↦ h (entry (reading_key m r t) (content.Reading f.0)) (point-member s m r t f.0 f.1) t refl l k
     ]
 
-latest-is : (s : List Entry) (m t : ℕ) (found : Option (ℕ × Option AccountId)) → IsLatestAmong (contents_at s) m t s found → LastIs (start (contents_at s) m) t found
-latest-is s m t None h = λ y k. no-start s m 0 t y h (omega arith) k
-latest-is s m t (Some a) h = record { holds = h.0; early = h.1; none = λ y l k. no-start s m (suc a.0) t y h.2 (omega arith) k }
+-- no counting start stands between second t and second z
+abbrev pub NoStart : List Entry → ℕ → ℕ → ℕ → Type 0
+NoStart s m t z = (y : ℕ) → t < y → y ≤ z → start (contents_at s) m y ≡ None
 
-pub owner-found : (s : List Entry) (m t : ℕ) (found : Option (ℕ × Option AccountId)) → IsLatestAmong (contents_at s) m t s found → owner_at (contents_at s) m t ≡ owner_from found
+-- the second up to which a counting start is looked for: behind it none stands up to second z
+pub record IsLookedFor (s : List Entry) (m t z : ℕ) : Type 0 where
+  pub within : t ≤ z
+  pub none : NoStart s m t z
+
+pub looked-first : (s : List Entry) (m z : ℕ) → IsLookedFor s m z z
+looked-first s m z = record { within = omega arith; none = λ y l k. absurd (omega arith) }
+
+-- where records assign up to second a at the latest, no counting start stands behind it
+none-behind : (s : List Entry) (m t z a : ℕ) → IsLookedFor s m t z → IsLatestAmong m t s (Some a) → (y : ℕ) → a < y → y ≤ z → start (contents_at s) m y ≡ None
+none-behind s m t z a h l y g k =
+    elim (cases_lt t y) [
+      | inl b ↦ h.none y b k
+      | inr b ↦ elim (option-cases (start (contents_at s) m y)) [
+        | inl n ↦ n
+        | inr f ↦ absurd (let q = l.1 (entry (assignment_key m y) (content.Assignment f.0)) (start-member s m y f.0 f.1) y refl b in omega (arith, q))
+      ]
+    ]
+
+pub owner-here : (s : List Entry) (m t z a : ℕ) (c : Contents) (o : Option AccountId) → IsLookedFor s m t z → IsLatestAmong m t s (Some a) → c ≡ contents_at s (assignment_key m a) →
+    Some o ≡ owner_of c → o ≡ owner_at (contents_at s) m z
 unfolding owner_at
-owner-found s m t found h = ap owner_from (last-told (start (contents_at s) m) t found (latest-is s m t found h))
+owner-here s m t z a c o h l e q =
+    let told : LastIs (start (contents_at s) m) z (Some (a, o)) = record {
+      holds = ap owner_of (sym e) ∙ sym q;
+      early = (let w = h.within in let v = l.0 in omega (arith, w, v));
+      none = none-behind s m t z a h l;
+    } in
+    sym (ap owner_from (last-told (start (contents_at s) m) z (Some (a, o)) told))
+
+pub owner-none : (s : List Entry) (m t z : ℕ) → IsLookedFor s m t z → IsLatestAmong m t s None → None ≡ owner_at (contents_at s) m z
+unfolding owner_at
+owner-none s m t z h l =
+    let told : LastIs (start (contents_at s) m) z None = λ y k. elim (cases_lt t y) [
+      | inl b ↦ h.none y b k
+      | inr b ↦ elim (option-cases (start (contents_at s) m y)) [
+        | inl n ↦ n
+        | inr f ↦ absurd (l (entry (assignment_key m y) (content.Assignment f.0)) (start-member s m y f.0 f.1) y refl b)
+      ]
+    ] in
+    sym (ap owner_from (last-told (start (contents_at s) m) z None told))
+
+-- where the latest doesn't count, those before it are looked for
+pub looked-next : (s : List Entry) (m t z a b : ℕ) (c : Contents) → IsLookedFor s m t z → IsLatestAmong m t s (Some a) → c ≡ contents_at s (assignment_key m a) →
+    None ≡ owner_of c → b + 1 ≡ a → IsLookedFor s m b z
+looked-next s m t z a b c h l e n q = record {
+  within = (let w = h.within in let v = l.0 in omega (arith, w, v));
+  none = λ y g k. elim (cases_lt a y) [
+    | inl behind ↦ none-behind s m t z a h l y behind k
+    | inr here ↦ (
+        let i : a ≡ y = omega arith in
+        let P : ℕ → Type 0 = λ v. start (contents_at s) m v ≡ None in
+        subst P i (ap owner_of (sym e) ∙ sym n))
+  ];
+}
 
 -- ---- one record more
-no-start-more : (at : Key → Contents) (m x t : ℕ) (e : Entry) (some : List Entry) → ((s : ℕ) → e.key ≡ assignment_key m s → x ≤ s → s ≤ t → start at m s ≡ None) → NoStart at m x t some → NoStart at m x t (e ∷ some)
-no-start-more at m x t e some here h f mem s i l k =
-    elim mem [ inl j ↦ here s (ap (λ (g : Entry). g.key) (sym j) ∙ i) l k | inr n ↦ h f n s i l k ]
-
-no-start-from : (at : Key → Contents) (m x y t : ℕ) (some : List Entry) → x ≤ y → NoStart at m x t some → NoStart at m y t some
-no-start-from at m x y t some l h = λ f n s i j k. h f n s i (omega arith) k
-
 -- the second in a key
 abbrev pub second_of : Key → ℕ
 second_of (key.Reading m r t) = t
 second_of (key.Assignment m t) = t
 second_of (key.TopUp r) = 0
 
-pub latest-more : (at : Key → Contents) (m t : ℕ) (e : Entry) (some : List Entry) (found here : Option (ℕ × Option AccountId)) →
-    IsLatestAmong at m t some found → IsStartIn at m t e here → IsLatestAmong at m t (e ∷ some) (later_of found here)
-latest-more at m t e some None None h i = no-start-more at m 0 t e some (λ s j l k. i s j k) h
-latest-more at m t e some (Some a) None h i = (h.0, h.1, no-start-more at m (suc a.0) t e some (λ s j l k. i s j k) h.2)
-latest-more at m t e some None (Some b) h i =
-    (i.2, i.1, no-start-more at m (suc b.0) t e some (λ s j l k. absurd (let q : s ≡ b.0 = ap second_of (sym j ∙ i.0) in omega arith)) (no-start-from at m 0 (suc b.0) t some (omega arith) h))
-latest-more at m t e some (Some a) (Some b) h i =
-    elim (leb_tells a.0 b.0) [
-      | inl y ↦ (
-          let l : a.0 ≤ b.0 = y.1 in
-          rw y.0 (i.2, i.1, no-start-more at m (suc b.0) t e some (λ s j l k. absurd (let q : s ≡ b.0 = ap second_of (sym j ∙ i.0) in omega arith)) (no-start-from at m (suc a.0) (suc b.0) t some (omega arith) h.2)))
-      | inr n ↦ (
-          let l : b.0 < a.0 = n.1 in
-          rw n.0 (h.0, h.1, no-start-more at m (suc a.0) t e some (λ s j g k. absurd (let q : s ≡ b.0 = ap second_of (sym j ∙ i.0) in omega arith)) h.2))
+-- the second from which a key assigns the meter
+assigned-one : (k : Key) (m a b : ℕ) → k ≡ assignment_key m a → k ≡ assignment_key m b → a ≡ b
+assigned-one k m a b p q = ap second_of (sym p ∙ q)
+
+-- of some records, and of one more
+latest-more : (m t : ℕ) (e : Entry) (some : List Entry) (found here : Option ℕ) → IsLatestAmong m t some found → IsStartIn m t e here → IsLatestAmong m t (e ∷ some) (later_of found here)
+latest-more m t e some None None h i = λ f mem s k l. elim mem [ inl j ↦ i s (ap (λ (g : Entry). g.key) (sym j) ∙ k) l | inr n ↦ h f n s k l ]
+latest-more m t e some (Some a) None h i =
+    (h.0, λ f mem s k l. elim mem [ inl j ↦ absurd (i s (ap (λ (g : Entry). g.key) (sym j) ∙ k) l) | inr n ↦ h.1 f n s k l ])
+latest-more m t e some None (Some b) h i = (
+  i.1,
+  λ f mem s k l. elim mem [
+    | inl j ↦ (let q = assigned-one e.key m s b (ap (λ (g : Entry). g.key) (sym j) ∙ k) i.0 in omega (arith, q))
+    | inr n ↦ absurd (h f n s k l)
+  ],
+)
+latest-more m t e some (Some a) (Some b) h i =
+    elim (leb_tells a b) [
+      | inl y ↦ rw y.0 (
+        i.1,
+        λ f mem s k l. elim mem [
+          | inl j ↦ (let q = assigned-one e.key m s b (ap (λ (g : Entry). g.key) (sym j) ∙ k) i.0 in omega (arith, q))
+          | inr n ↦ (let q = h.1 f n s k l in let v = y.1 in omega (arith, q, v))
+        ],
+      )
+      | inr y ↦ rw y.0 (
+        h.0,
+        λ f mem s k l. elim mem [
+          | inl j ↦ (let q = assigned-one e.key m s b (ap (λ (g : Entry). g.key) (sym j) ∙ k) i.0 in let v = y.1 in omega (arith, q, v))
+          | inr n ↦ h.1 f n s k l
+        ],
+      )
     ]
+
+latest-same : (m t : ℕ) (some other : List Entry) (found : Option ℕ) → ((e : Entry) → Member e other → Member e some) → IsLatestAmong m t some found → IsLatestAmong m t other found
+latest-same m t some other None p h = λ f mem s k l. h f (p f mem) s k l
+latest-same m t some other (Some a) p h = (h.0, λ f mem s k l. h.1 f (p f mem) s k l)
+
+pub latest-turn : (m t : ℕ) (all : List Entry) (i : ℕ) (e : Entry) (found here result : Option ℕ) → IsAt all i e → result ≡ later_of found here →
+    IsLatestAmong m t (take i all) found → IsStartIn m t e here → IsLatestAmong m t (take (i + 1) all) result
+latest-turn m t all i e found here result a r h g =
+    let Q : Option ℕ → Type 0 = λ o. IsLatestAmong m t (take (i + 1) all) o in
+    subst Q (sym r) (latest-same m t (e ∷ take i all) (take (i + 1) all) (later_of found here) (λ f mem. elim (taken-to all i e f a mem) [ inl o ↦ inr o | inr n ↦ inl n ])
+    (latest-more m t e (take i all) found here h g))
+
+pub latest-none : (m t : ℕ) → IsLatestAmong m t [] None
+latest-none m t = λ e mem. absurd mem
+
+pub latest-all : (m t : ℕ) (all : List Entry) (i : ℕ) (found : Option ℕ) → length all ≤ i → IsLatestAmong m t (take i all) found → IsLatestAmong m t all found
+latest-all m t all i found l h = latest-same m t (take i all) all found (λ f mem. taken-whole all i f l mem) h
 
 no-point-more : (at : Key → Contents) (m : ℕ) (r : Register) (x y : ℕ) (e : Entry) (some : List Entry) → ((s : ℕ) → e.key ≡ reading_key m r s → x ≤ s → s < y → point at m r s ≡ None) → NoPoint at m r x y some → NoPoint at m r x y (e ∷ some)
 no-point-more at m r x y e some here h f mem s i l k =
@@ -117,32 +192,18 @@ earliest-more at m r x y e some (Some a) (Some b) h i =
           rw n.0 (i.3, i.1, i.2, no-point-more at m r x b.0 e some (λ s j g k. absurd (let q : s ≡ b.0 = ap second_of (sym j ∙ i.0) in omega arith)) (no-point-to at m r x a.0 b.0 some (omega arith) h.3)))
     ]
 
--- ---- the first of a slice, and the others
-take-whole : {X : Type 0} (xs : List X) (n : ℕ) → n ≡ length xs → take n xs ≡ xs
-take-whole [] zero e = refl
-take-whole [] (suc n) e = refl
-take-whole (x ∷ xs) zero e = absurd (omega arith)
-take-whole (x ∷ xs) (suc n) e = ap (λ l. x ∷ l) (take-whole xs n (omega arith))
-
-pub first-others : {X : Type 0} (xs : List X) (x : X) → 1 ≤ length xs → x ≡ get_or xs 0 x → xs ≡ x ∷ take (length xs - 1) (drop 1 xs)
-first-others [] x l e = absurd (omega arith)
-first-others (y ∷ ys) x l e =
-    let w : take (suc (length ys) - 1) ys ≡ ys = take-whole ys (suc (length ys) - 1) (omega arith) in
-    ap (λ z. z ∷ ys) (sym e) ∙ ap (λ l. x ∷ l) (sym w)
-
-pub latest-turn : (at : Key → Contents) (m t : ℕ) (e : Entry) (some others : List Entry) (found here result : Option (ℕ × Option AccountId)) → some ≡ e ∷ others → result ≡ later_of found here →
-    IsLatestAmong at m t others found → IsStartIn at m t e here → IsLatestAmong at m t some result
-latest-turn at m t e some others found here result s r h i =
-    let P : List Entry → Type 0 = λ l. IsLatestAmong at m t l result in
-    let Q : Option (ℕ × Option AccountId) → Type 0 = λ o. IsLatestAmong at m t (e ∷ others) o in
-    subst P (sym s) (subst Q (sym r) (latest-more at m t e others found here h i))
-
-pub earliest-turn : (at : Key → Contents) (m : ℕ) (q : Register) (x y : ℕ) (e : Entry) (some others : List Entry) (found here result : Option (ℕ × ℕ)) → some ≡ e ∷ others → result ≡ earlier_of found here →
-    IsEarliestAmong at m q x y others found → IsPointIn at m q x y e here → IsEarliestAmong at m q x y some result
-earliest-turn at m q x y e some others found here result s r h i =
-    let P : List Entry → Type 0 = λ l. IsEarliestAmong at m q x y l result in
-    let Q : Option (ℕ × ℕ) → Type 0 = λ o. IsEarliestAmong at m q x y (e ∷ others) o in
-    subst P (sym s) (subst Q (sym r) (earliest-more at m q x y e others found here h i))
+-- ---- what the records up to a place contain
+pub contents-next : (s : List Entry) (i : ℕ) (e : Entry) (k : Key) (b : Bool) → IsAt s i e → b ≡ same_key e.key k →
+    contents_at (take (i + 1) s) k ≡ cond b (joined e.content (contents_at (take i s) k)) (contents_at (take i s) k)
+contents-next s i e k b a h =
+    let j : ChangesAtOneKey (take i s) (take (i + 1) s) e = one-more_record (take i s) (take (i + 1) s) e (taken-inserted s i e a) in
+    elim (cases_Bool b) [
+      | inl t ↦ (
+          let q : e.key ≡ k = (same_key-decides e.key k).0 (sym h ∙ t) in
+          let P : Key → Type 0 = λ v. contents_at (take (i + 1) s) v ≡ joined e.content (contents_at (take i s) v) in
+          rw t (subst P q j.here))
+      | inr f ↦ rw f (j.elsewhere k (λ q. true≢false (sym ((same_key-decides e.key k).1 (sym q)) ∙ sym h ∙ f)))
+    ]
 
 -- ---- whether a record counts
 pub counts-told : (s : List Entry) (e : Entry) (c : Content) (b : Bool) → One c ≡ contents_at s e.key → b ≡ same_content c e.content → IsTrue b ↔ Counts s e

@@ -30,7 +30,8 @@ use Rattle.pw_tariff.specs.Cells.{owner_place}
 use Rattle.std.specs.Option.{option_cmp}
 use Rattle.pw_model.specs.References.{IsReference, is_reference_byte}
 use Rattle.pw_tariff.specs.Office.{register_place}
-use Rattle.pw_model.specs.Same.{total_order, total_numbers, direction_place, key_order, key_numbers, content_numbers, entry_order, HasReference}
+use Rattle.pw_model.specs.Same.{total_order, total_numbers, direction_place, key_order, key_numbers, content_numbers, entry_order}
+use Rattle.pw_model.specs.inner.Keys.{HasReference}
 
 then-equal : (o : Ordering) → ordering_then o Equal ≡ o
 then-equal Less = refl
@@ -89,13 +90,13 @@ byte-above : (c : ℕ) → is_reference_byte c ≡ true → 0 < c
 byte-above zero h = absurd (true≢false (sym h))
 byte-above (suc c) h = omega arith
 
-cmp-less : (a b : ℕ) → a < b → nat_cmp a b ≡ Less
+pub cmp-less : (a b : ℕ) → a < b → nat_cmp a b ≡ Less
 cmp-less a b l = sym (nat_cmp_is a b Less l)
 
-cmp-greater : (a b : ℕ) → b < a → nat_cmp a b ≡ Greater
+pub cmp-greater : (a b : ℕ) → b < a → nat_cmp a b ≡ Greater
 cmp-greater a b l = sym (nat_cmp_is a b Greater l)
 
-cmp-equal : (a b : ℕ) → a ≡ b → nat_cmp a b ≡ Equal
+pub cmp-equal : (a b : ℕ) → a ≡ b → nat_cmp a b ≡ Equal
 cmp-equal a b e = sym (nat_cmp_is a b Equal e)
 
 cmp-suc : (a b : ℕ) → nat_cmp (suc a) (suc b) ≡ nat_cmp a b

@@ -17,8 +17,15 @@ pub mod PlainEnergy
 pub mod Truth
 pub mod Windows
 pub mod EntryOrder
+pub mod Places
+pub mod SortedRecords
+pub mod SoFar
+pub mod NextPoint
 pub mod PlainFalls
 pub mod PlainDisputes
 pub mod PlainReadings
+pub mod PlainPoints
 pub mod SoundOffice
 pub mod Existence
+pub mod Foreign
+pub mod TopUps

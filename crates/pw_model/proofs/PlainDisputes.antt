@@ -1,5 +1,5 @@
 -- The disputes that the plain program finds.
-use Rattle.std.proofs.Common.{◌≡◌, ℕ, ◌<◌, ◌≤◌, true, false, cond, List, [], ◌∷◌, refl, ap, sym, subst, ◌∙◌, inl, inr, arith}
+use Rattle.std.proofs.Common.{◌≡◌, ℕ, ◌+◌, ◌<◌, ◌≤◌, true, false, cond, List, [], ◌∷◌, ◌++◌, length, take, drop, refl, ap, sym, subst, ◌∙◌, inl, inr, arith}
 use Rattle.std.proofs.lemmas.Bool.{cases_Bool, true≢false}
 use Rattle.std.specs.Ordering.{ordering_then}
 use Rattle.std.specs.declared.cmp.Ordering.{Ordering}
@@ -10,13 +10,16 @@ use Rattle.pw_model.specs.declared.records.Dispute.{Dispute}
 use Rattle.pw_model.specs.Same.{same_key, same_entry, key_order, entry_order}
 use Rattle.pw_model.specs.Counting.{Member}
 use Rattle.pw_model.specs.Payments.{keys, stands_in, sum_once}
-use Rattle.pw_model.specs.Lists.{IsRising, IsDispute, dispute_order, records_at, AreDisputes}
-use Rattle.pw_model.specs.Search.{DisputesUnder, AreSorted}
-use Rattle.pw_model.proofs.Same.{same_key-decides}
-use Rattle.pw_model.proofs.Once.{stands-decides}
+use Rattle.pw_model.specs.Lists.{IsInOrder, IsDispute, dispute_order, records_at, AreDisputes}
+use Rattle.pw_model.specs.inner.Search.{IsAt, IsKeyBehind, DisputesUnder, AreSorted}
+use Rattle.pw_model.proofs.Same.{same_key-decides, same_entry-decides}
+use Rattle.pw_model.proofs.Counting.{inserted-same}
+use Rattle.pw_model.proofs.Once.{stands-decides, once-same, once-fresh, once-behind, once-zero}
 use Rattle.pw_model.proofs.Answers.{key-to, key-back}
 use Rattle.pw_model.proofs.InOrder.{before-member}
 use Rattle.pw_model.proofs.EntryOrder.{before-all, keys-tie}
+use Rattle.pw_model.proofs.Places.{at-one, drop-at, dropped-at, at-dropped, taken-at, taken-inserted, parts-same, rising-drop, entry-apart, same-between, key-behind}
+use Rattle.pw_model.proofs.SoFar.{IsSoFar, so-far-more, so-far-skip, so-far-all}
 
 abbrev dispute : Key → ℕ → Dispute
 dispute k n = record { key = k; contents = n }
@@ -35,13 +38,13 @@ key-first Greater p n h = h
 stands-not : (k : Key) (ks : List Key) → stands_in same_key k ks ≡ false → Member k ks → ⊥
 stands-not k ks h m = true≢false (sym ((stands-decides same_key same_key-decides (λ l. 0) k ks).1 m) ∙ h)
 
-pub disputes-more : (s : List Entry) (e : Entry) (some others : List Entry) (d : Dispute) (ds es : List Dispute) → some ≡ e ∷ others → IsRising entry_order some → es ≡ d ∷ ds →
+pub disputes-more : (s : List Entry) (e : Entry) (some others : List Entry) (d : Dispute) (ds es : List Dispute) → some ≡ e ∷ others → IsInOrder entry_order some → es ≡ d ∷ ds →
     stands_in same_key e.key (keys others) ≡ false → e.key ≡ d.key → IsDispute s d → DisputesUnder s others ds → DisputesUnder s some es
 disputes-more s e some others d ds es i rising j no_key k a l =
     let P : List Entry → Type 0 = λ v. DisputesUnder s v es in
     let Q : List Dispute → Type 0 = λ v. DisputesUnder s (e ∷ others) v in
-    let R : List Entry → Type 0 = IsRising entry_order in
-    let up : IsRising entry_order (e ∷ others) = subst R i rising in
+    let R : List Entry → Type 0 = IsInOrder entry_order in
+    let up : IsInOrder entry_order (e ∷ others) = subst R i rising in
     let first : (g : Dispute) → Member g ds → dispute_order d g ≡ Less = λ g m. (
     let under : Member g.key (keys others) = ((l.members g).0 m).1 in
     let at = key-to g.key others under in
@@ -133,3 +136,100 @@ pub disputes-all : (s sorted items : List Entry) (ds : List Dispute) → sorted 
 disputes-all s sorted items ds i a l =
     let P : List Entry → Type 0 = λ v. DisputesUnder s v ds in
     disputes-whole s items ds a (subst P i l)
+
+-- ---- how many records up to a place have the key of the one there
+abbrev has_key : Key → Entry → ℕ
+has_key k e = cond (same_key e.key k) 1 0
+
+pub record IsCountUp (s : List Entry) (i n : ℕ) : Type 0 where
+  pub count : (e : Entry) → IsAt s i e → n ≡ sum_once same_entry (has_key e.key) (take i s)
+  pub bound : n ≤ i
+
+pub count-first : (s : List Entry) → IsCountUp s 0 0
+count-first s = record { count = λ e a. refl; bound = omega arith }
+
+key-apart : (k l : Key) → (k ≡ l → ⊥) → same_key k l ≡ false
+key-apart k l n = elim (cases_Bool (same_key k l)) [ inl t ↦ absurd (n ((same_key-decides k l).0 t)) | inr f ↦ f ]
+
+none-with : (k : Key) (e : Entry) → (e.key ≡ k → ⊥) → has_key k e ≡ 0
+none-with k e n = rw (key-apart e.key k n)
+
+one-with : (e : Entry) → has_key e.key e ≡ 1
+one-with e = rw ((same_key-decides e.key e.key).1 refl)
+
+-- with the record at the place
+count-here : (s : List Entry) (i n : ℕ) (e : Entry) → IsInOrder entry_order s → IsAt s i e → IsCountUp s i n → n + 1 ≡ sum_once same_entry (has_key e.key) (take (i + 1) s)
+count-here s i n e r a h =
+    let f : Entry → ℕ = has_key e.key in
+    let fresh : Member e (take i s) → ⊥ = λ m. (let p = taken-at s i e m in entry-apart s p.0 i e r p.2 a p.1) in
+    let same = once-same same_entry same_entry-decides f (take (i + 1) s) (e ∷ take i s) (inserted-same (take i s) (take (i + 1) s) e (taken-inserted s i e a)) in
+    let more = once-fresh same_entry same_entry-decides f e (take i s) fresh in
+    let one = one-with e in
+    let before = h.count e a in
+    omega (arith, same, more, one, before)
+
+pub count-again : (s : List Entry) (i n : ℕ) (e : Entry) → IsInOrder entry_order s → IsAt s i e → IsCountUp s i n → IsKeyBehind s i → IsCountUp s (i + 1) (n + 1)
+count-again s i n e r a h b = record {
+  count = λ f at.
+      let one : b.0 ≡ e = at-one s i b.0 e b.2 a in
+      let two : b.1 ≡ f = at-one s (i + 1) b.1 f b.3 at in
+      let k : e.key ≡ f.key = ap (λ (v : Entry). v.key) (sym one) ∙ b.4 ∙ ap (λ (v : Entry). v.key) two in
+      let P : Key → Type 0 = λ v. n + 1 ≡ sum_once same_entry (has_key v) (take (i + 1) s) in
+      subst P k (count-here s i n e r a h);
+  bound = (let l = h.bound in omega (arith, l));
+}
+
+pub count-none : (s : List Entry) (i : ℕ) (e : Entry) → IsInOrder entry_order s → IsAt s i e → (IsKeyBehind s i → ⊥) → IsCountUp s (i + 1) 0
+count-none s i e r a n = record {
+  count = λ f at. sym (once-zero same_entry (has_key f.key) (take (i + 1) s) (λ x m. none-with f.key x (λ k.
+      let p = taken-at s (i + 1) x m in
+      let same : e.key ≡ x.key = same-between s p.0 i (i + 1) x e f r p.2 a at (let l = p.1 in omega (arith, l)) (omega arith) k in
+      n (e, f, a, at, same ∙ k))));
+  bound = omega arith;
+}
+
+pub count-whole : (s : List Entry) (i n : ℕ) (e : Entry) → IsInOrder entry_order s → IsAt s i e → IsCountUp s i n → (IsKeyBehind s i → ⊥) → n + 1 ≡ records_at s e.key
+unfolding records_at
+count-whole s i n e r a h none =
+    let f : Entry → ℕ = has_key e.key in
+    let parts = once-same same_entry same_entry-decides f s (drop (i + 1) s ++ take (i + 1) s) (parts-same s (i + 1)) in
+    let behind = once-behind same_entry f (drop (i + 1) s) (take (i + 1) s) (λ x m. none-with e.key x (λ k.
+    let p = dropped-at s (i + 1) x m in
+    none (key-behind s i p.0 e x r a p.2 (let l = p.1 in omega (arith, l)) k))) in
+    count-here s i n e r a h ∙ sym behind ∙ sym parts
+
+-- ---- the list of records in order, as far as it has come
+pub disputes-pass_again : (s : List Entry) (i : ℕ) (e : Entry) (ds : List Dispute) → IsAt s i e → IsKeyBehind s i → IsSoFar (DisputesUnder s) s i ds → IsSoFar (DisputesUnder s) s (i + 1) ds
+disputes-pass_again s i e ds a b h =
+    let one : b.0 ≡ e = at-one s i b.0 e b.2 a in
+    let P : Key → Type 0 = λ v. Member v (keys (drop (i + 1) s)) in
+    let k : b.1.key ≡ e.key = sym b.4 ∙ ap (λ (v : Entry). v.key) one in
+    let m : Member e.key (keys (drop (i + 1) s)) = subst P k (key-back b.1 (drop (i + 1) s) (at-dropped s (i + 1) (i + 1) b.1 (omega arith) b.3)) in
+    so-far-skip (DisputesUnder s) s i ds h (λ more x.
+    disputes-again s e (drop i s) (drop (i + 1) s) more (drop-at s i e a) (sym ((stands-decides same_key same_key-decides (λ l. 0) e.key (keys (drop (i + 1) s))).1 m)) x)
+
+pub disputes-pass_few : (s : List Entry) (i n : ℕ) (e : Entry) (ds : List Dispute) → IsInOrder entry_order s → IsAt s i e → IsCountUp s i n → (IsKeyBehind s i → ⊥) → n + 1 < 2 →
+    IsSoFar (DisputesUnder s) s i ds → IsSoFar (DisputesUnder s) s (i + 1) ds
+disputes-pass_few s i n e ds r a c none few h =
+    so-far-skip (DisputesUnder s) s i ds h (λ more x.
+    disputes-few s e (drop i s) (drop (i + 1) s) more (n + 1) (drop-at s i e a) (count-whole s i n e r a c none) few x)
+
+pub disputes-push : (s : List Entry) (i n : ℕ) (e : Entry) (ds es : List Dispute) → IsInOrder entry_order s → IsAt s i e → IsCountUp s i n → (IsKeyBehind s i → ⊥) → 2 ≤ n + 1 →
+    es ≡ ds ++ dispute e.key (n + 1) ∷ [] → IsSoFar (DisputesUnder s) s i ds → IsSoFar (DisputesUnder s) s (i + 1) es
+disputes-push s i n e ds es r a c none two q h =
+    let d : Dispute = dispute e.key (n + 1) in
+    let is : IsDispute s d = record { several = two; number = count-whole s i n e r a c none } in
+    let last : stands_in same_key e.key (keys (drop (i + 1) s)) ≡ false = elim (cases_Bool (stands_in same_key e.key (keys (drop (i + 1) s)))) [
+      | inl t ↦ (
+          let f = key-to e.key (drop (i + 1) s) ((stands-decides same_key same_key-decides (λ l. 0) e.key (keys (drop (i + 1) s))).0 t) in
+          let p = dropped-at s (i + 1) f.0 f.1.0 in
+          absurd (none (key-behind s i p.0 e f.0 r a p.2 (let l = p.1 in omega (arith, l)) f.1.1)))
+      | inr n ↦ n
+    ] in
+    so-far-more (DisputesUnder s) s i ds es d h q (λ more x.
+    disputes-more s e (drop i s) (drop (i + 1) s) d more (d ∷ more) (drop-at s i e a) (rising-drop entry_order s i r) refl last refl is x)
+
+pub disputes-end : (s : List Entry) (i : ℕ) (ds : List Dispute) → IsInOrder entry_order s → length s ≤ i → IsSoFar (DisputesUnder s) s i ds → AreDisputes s ds
+disputes-end s i ds r l h =
+    disputes-whole s s ds (record { rising = r; members = λ x. (λ m. m, λ m. m) })
+    (so-far-all (DisputesUnder s) s i ds h l (record { rising = tt; members = λ d. (λ m. absurd m, λ m. m.1) }))

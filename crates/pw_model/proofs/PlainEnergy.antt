@@ -11,7 +11,7 @@ use Rattle.pw_tariff.specs.declared.ids.Direction.TheVariants.{Import, Export}
 use Rattle.pw_model.specs.Payments.{topped_up}
 use Rattle.pw_time.specs.declared.instant.TheConstants.{FIRST_SECOND, LAST_SECOND, END_SECOND}
 use Rattle.pw_time.specs.Instants.{IsInstant}
-use Rattle.pw_model.specs.Search.{at_instants}
+use Rattle.pw_model.specs.inner.Search.{at_instants}
 use Rattle.pw_flow.specs.Flow.{flow}
 use Rattle.pw_flow.proofs.Sums.{sum-same, kept-nothing}
 use Rattle.pw_flow.specs.declared.plain.Point.{Point}
@@ -23,9 +23,9 @@ use Rattle.pw_model.specs.declared.records.Content.TheVariants as content
 use Rattle.pw_model.specs.declared.records.Entry.{Entry}
 use Rattle.pw_model.specs.Same.{direction_of}
 use Rattle.pw_model.specs.Counting.{contents_at, point, reading_key}
-use Rattle.pw_tariff.specs.Office.{Office}
+use Rattle.pw_tariff.specs.Office.{OfficeRules}
 use Rattle.pw_model.specs.Office.{IsOffice, AllOfOffice, IsOfOffice, most_records}
-use Rattle.pw_model.specs.Energy.{Asked, over_registers, share_of, meter_share, energy_where, seconds_of, of_band, cost}
+use Rattle.pw_model.specs.Energy.{Asked, over_registers, share_of, meter_share, energy_where, asked_seconds, of_band, cost}
 use Rattle.pw_model.specs.Bounds.{BalancesFit}
 use Rattle.pw_model.proofs.Bounded.{totals-bounded}
 use Rattle.pw_model.proofs.Counting.{entry}
@@ -33,7 +33,7 @@ use Rattle.pw_model.proofs.Found.{point-member}
 use Rattle.pw_model.proofs.Pushed.{none-late, no-value}
 
 -- no reading of the office counts behind all instants
-none-behind : (office : Office) (s : List Entry) (m : ℕ) (r : Register) (t : ℕ) → AllOfOffice office s → END_SECOND ≤ t → point (contents_at s) m r t ≡ None
+none-behind : (office : OfficeRules) (s : List Entry) (m : ℕ) (r : Register) (t : ℕ) → AllOfOffice office s → END_SECOND ≤ t → point (contents_at s) m r t ≡ None
 none-behind office s m r t h l =
     elim (option-cases (point (contents_at s) m r t)) [
       | inl n ↦ n
@@ -42,12 +42,12 @@ none-behind office s m r t h l =
           absurd (omega (arith, of_office.2.1, l)))
     ]
 
-listed-point : (office : Office) (s : List Entry) (m : ℕ) (r : Register) (ps : List Point) → AllOfOffice office s → All (λ p. p.at < END_SECOND) ps →
+listed-point : (office : OfficeRules) (s : List Entry) (m : ℕ) (r : Register) (ps : List Point) → AllOfOffice office s → All (λ p. p.at < END_SECOND) ps →
     ((t : ℕ) → t < END_SECOND → value_at ps t ≡ point (contents_at s) m r t) → (t : ℕ) → value_at ps t ≡ point (contents_at s) m r t
 listed-point office s m r ps h e v t =
     ⊎_elim (λ (l : t < END_SECOND). v t l) (λ (l : END_SECOND ≤ t). none-late ps END_SECOND t e l ∙ sym (none-behind office s m r t h l)) (cases_lt t END_SECOND)
 
-pub energy-listed : (office : Office) (s : List Entry) (m : ℕ) (r : Register) (ps : List Point) (keeps : ℕ → Bool) → AllOfOffice office s → All (λ p. p.at < END_SECOND) ps →
+pub energy-listed : (office : OfficeRules) (s : List Entry) (m : ℕ) (r : Register) (ps : List Point) (keeps : ℕ → Bool) → AllOfOffice office s → All (λ p. p.at < END_SECOND) ps →
     ((t : ℕ) → t < END_SECOND → value_at ps t ≡ point (contents_at s) m r t) → register_energy keeps (value_at ps) office.end ≡ register_energy keeps (point (contents_at s) m r) office.end
 energy-listed office s m r ps keeps h e v =
     let same : value_at ps ≡ point (contents_at s) m r = λ i t. listed-point office s m r ps h e v t i in
@@ -79,7 +79,7 @@ registers-part E0 f = omega arith
 registers-part E1 f = omega arith
 registers-part E2 f = omega arith
 
-pub share-fits : (office : Office) (s : List Entry) (asked : Asked) (m : ℕ) (r : Register) → IsOffice office → AllOfOffice office s → length s ≤ most_records → m < office.meters →
+pub share-fits : (office : OfficeRules) (s : List Entry) (asked : Asked) (m : ℕ) (r : Register) → IsOffice office → AllOfOffice office s → length s ≤ most_records → m < office.meters →
     share_of office (contents_at s) asked m r ≤ 999_999_999_990_000_000
 unfolding energy_where
 share-fits office s asked m r o h few l =
@@ -88,7 +88,7 @@ share-fits office s asked m r o h few l =
     let c = (totals-bounded office s o h).energies (direction_of r) asked in
     omega (arith, a, b, c, few)
 
-pub energy-fits : (office : Office) (s : List Entry) (d : Direction) (asked : Asked) → IsOffice office → AllOfOffice office s → length s ≤ most_records →
+pub energy-fits : (office : OfficeRules) (s : List Entry) (d : Direction) (asked : Asked) → IsOffice office → AllOfOffice office s → length s ≤ most_records →
     energy_where office (contents_at s) d asked ≤ 999_999_999_990_000_000
 energy-fits office s d asked o h few = let c = (totals-bounded office s o h).energies d asked in omega (arith, c, few)
 
@@ -126,19 +126,19 @@ pub all-early : (ps : List Point) → All (λ p. IsInstant p.at) ps → All (λ 
 all-early ps h k d l = let i = h k d l in omega (arith, i.1)
 
 -- the energy of the points that were found is the register's share
-pub plain-share : (office : Office) (s : List Entry) (asked : Asked) (m : ℕ) (r : Register) (ps : List Point) (result : ℕ) → IsOffice office → AllOfOffice office s → office.counts m r ≡ true →
+pub plain-share : (office : OfficeRules) (s : List Entry) (asked : Asked) (m : ℕ) (r : Register) (ps : List Point) (result : ℕ) → IsOffice office → AllOfOffice office s → office.counts m r ≡ true →
     All (λ p. IsInstant p.at) ps → ((t : ℕ) → t < END_SECOND → value_at ps t ≡ point (contents_at s) m r t) →
-    result ≡ register_energy (seconds_of (contents_at s) asked m) (value_at ps) END_SECOND →
+    result ≡ register_energy (asked_seconds (contents_at s) asked m) (value_at ps) END_SECOND →
     result ≡ share_of office (contents_at s) asked m r
 plain-share office s asked m r ps result o h c e v f =
-    f ∙ ap (register_energy (seconds_of (contents_at s) asked m) (value_at ps)) (sym o.end)
-    ∙ energy-listed office s m r ps (seconds_of (contents_at s) asked m) h (all-early ps e) v ∙ sym (ap (λ b. cond b (register_energy (seconds_of (contents_at s) asked m) (point (contents_at s) m r) office.end) 0) c)
+    f ∙ ap (register_energy (asked_seconds (contents_at s) asked m) (value_at ps)) (sym o.end)
+    ∙ energy-listed office s m r ps (asked_seconds (contents_at s) asked m) h (all-early ps e) v ∙ sym (ap (λ b. cond b (register_energy (asked_seconds (contents_at s) asked m) (point (contents_at s) m r) office.end) 0) c)
 
 -- ---- prices
-pub price-fits : (office : Office) (b wh : ℕ) (d : Direction) → IsOffice office → b < office.bands → wh ≤ 999_999_999_990_000_000 → office.price b d * wh ≤ 999_999_999_990_000_000_000_000_000
+pub price-fits : (office : OfficeRules) (b wh : ℕ) (d : Direction) → IsOffice office → b < office.bands → wh ≤ 999_999_999_990_000_000 → office.price b d * wh ≤ 999_999_999_990_000_000_000_000_000
 price-fits office b wh d o l h = mul-le (office.price b d) wh 1_000_000_000 999_999_999_990_000_000 (o.price b d l) h
 
-costs-to : (office : Office) (s : List Entry) (owner : Option AccountId) (d : Direction) (n : ℕ) → IsOffice office → AllOfOffice office s → length s ≤ most_records → n ≤ office.bands →
+costs-to : (office : OfficeRules) (s : List Entry) (owner : Option AccountId) (d : Direction) (n : ℕ) → IsOffice office → AllOfOffice office s → length s ≤ most_records → n ≤ office.bands →
     sum_over (λ b. office.price b d * energy_where office (contents_at s) d (of_band office owner b)) 0 n ≤ n * 999_999_999_990_000_000_000_000_000
 unfolding sum_over
 costs-to office s owner d zero o h few l = omega arith
@@ -148,12 +148,12 @@ costs-to office s owner d (suc n) o h few l =
     let p = price-fits office (0 + n) (energy_where office (contents_at s) d (of_band office owner (0 + n))) d o (omega arith) w in
     omega (arith, r, p)
 
-pub cost-fits : (office : Office) (s : List Entry) (owner : Option AccountId) (d : Direction) → IsOffice office → AllOfOffice office s → length s ≤ most_records →
+pub cost-fits : (office : OfficeRules) (s : List Entry) (owner : Option AccountId) (d : Direction) → IsOffice office → AllOfOffice office s → length s ≤ most_records →
     cost office (contents_at s) owner d ≤ 7_999_999_999_920_000_000_000_000_000
 unfolding cost
 cost-fits office s owner d o h few = let c = costs-to office s owner d office.bands o h few (omega arith) in omega (arith, c, o.bands)
 
-pub topped-fits : (office : Office) (s : List Entry) (a : ℕ) → IsOffice office → AllOfOffice office s → length s ≤ most_records → topped_up s a ≤ 1_000_000_000_000_000
+pub topped-fits : (office : OfficeRules) (s : List Entry) (a : ℕ) → IsOffice office → AllOfOffice office s → length s ≤ most_records → topped_up s a ≤ 1_000_000_000_000_000
 topped-fits office s a o h few = let c = (totals-bounded office s o h).topped a in omega (arith, c, few)
 
 pub balance-fits : BalancesFit

@@ -1,5 +1,5 @@
 -- The falls that the plain program finds.
-use Rattle.std.proofs.Common.{◌≡◌, ◌↔◌, ℕ, ◌+◌, ◌<◌, ◌≤◌, Bool, IsTrue, false, Option, Some, None, List, ◌∷◌, refl, ap, sym, subst, ◌∙◌, inl, inr, ⊎_elim, arith}
+use Rattle.std.proofs.Common.{◌≡◌, ◌↔◌, ℕ, ◌+◌, ◌<◌, ◌≤◌, Bool, IsTrue, false, Option, Some, None, List, [], ◌∷◌, ◌++◌, length, drop, refl, ap, sym, subst, ◌∙◌, inl, inr, ⊎_elim, arith}
 use Rattle.std.proofs.lemmas.Bool.{cases_lt, true≢false}
 use Rattle.std.specs.Ordering.{nat_cmp, ordering_then}
 use Rattle.std.specs.declared.cmp.Ordering.{Ordering}
@@ -15,12 +15,14 @@ use Rattle.pw_model.specs.declared.records.Entry.{Entry}
 use Rattle.pw_model.specs.declared.records.Fall.{Fall}
 use Rattle.pw_model.specs.Same.{entry_order, key_numbers, content_numbers}
 use Rattle.pw_model.specs.Counting.{Member, Counts, contents_at, wh_of, point, reading_key}
-use Rattle.pw_model.specs.Lists.{IsRising, IsFall, fall_order, fall_numbers, reading_entry, AreFalls}
-use Rattle.pw_model.specs.Search.{IsEarliestAmong, FallsFrom, high_reading, AreSorted}
+use Rattle.pw_model.specs.Lists.{IsInOrder, IsFall, fall_order, fall_numbers, reading_entry, AreFalls}
+use Rattle.pw_model.specs.inner.Search.{IsEarliestAmong, IsAt, FallsFrom, high_reading, AreSorted}
 use Rattle.pw_model.proofs.Counting.{one-is_counting}
 use Rattle.pw_model.proofs.Found.{no-point, wh-back}
 use Rattle.pw_model.proofs.InOrder.{before-member}
 use Rattle.pw_model.proofs.EntryOrder.{before-all}
+use Rattle.pw_model.proofs.Places.{drop-at, at-there, rising-drop}
+use Rattle.pw_model.proofs.SoFar.{IsSoFar, so-far-more, so-far-skip, so-far-all}
 
 -- ---- one fall from a reading
 -- the later neighbour of a point is one
@@ -76,9 +78,6 @@ fall-not_counting s e b h n f a i =
 -- the earliest counting reading behind second x, whatever second from end on the search goes up to
 abbrev pub IsNext : ℕ → List Entry → MeterId → Register → ℕ → Option (ℕ × ℕ) → Type 0
 IsNext end s m r x found = (y : ℕ) → end ≤ y → IsEarliestAmong (contents_at s) m.0 r (x + 1) y s found
-
-pub next-at : (end : ℕ) (s : List Entry) (m : MeterId) (r : Register) (n x : ℕ) (found : Option (ℕ × ℕ)) → n ≡ x → IsNext end s m r n found → IsNext end s m r x found
-next-at end s m r n x found e h = let P : ℕ → Type 0 = λ z. IsNext end s m r z found in subst P e h
 
 -- what a reading's key and content say of the fall from it
 pub record IsFrom (e : Entry) (m : MeterId) (r : Register) (x w : ℕ) : Type 0 where
@@ -152,13 +151,13 @@ unfolding key_numbers content_numbers fall_numbers
 high-first f g h =
     less-then (nat_cmp f.meter.0 g.meter.0) (nat_cmp (register_place f.register) (register_place g.register)) (nat_cmp f.from g.from) (nat_cmp f.high g.high) (ordering_then (nat_cmp f.to g.to) (ordering_then (nat_cmp f.low g.low) Equal)) h
 
-pub falls-more : (s : List Entry) (e : Entry) (some others : List Entry) (f : Fall) (fs gs : List Fall) → some ≡ e ∷ others → IsRising entry_order some → gs ≡ f ∷ fs →
+pub falls-more : (s : List Entry) (e : Entry) (some others : List Entry) (f : Fall) (fs gs : List Fall) → some ≡ e ∷ others → IsInOrder entry_order some → gs ≡ f ∷ fs →
     IsFall (contents_at s) f × (e ≡ high_reading f) → FallsFrom s others fs → FallsFrom s some gs
 falls-more s e some others f fs gs i rising j a l =
     let P : List Entry → Type 0 = λ v. FallsFrom s v gs in
     let Q : List Fall → Type 0 = λ v. FallsFrom s (e ∷ others) v in
-    let R : List Entry → Type 0 = IsRising entry_order in
-    let up : IsRising entry_order (e ∷ others) = subst R i rising in
+    let R : List Entry → Type 0 = IsInOrder entry_order in
+    let up : IsInOrder entry_order (e ∷ others) = subst R i rising in
     let first : (g : Fall) → Member g fs → fall_order f g ≡ Less = λ g m. (
     let S : Entry → Type 0 = λ v. entry_order v (high_reading g) ≡ Less in
     high-first f g (subst S a.1 (before-member entry_order e (high_reading g) others up.0 ((l.members g).0 m).1))) in
@@ -201,3 +200,27 @@ pub falls-all : (s sorted items : List Entry) (fs : List Fall) → sorted ≡ it
 falls-all s sorted items fs i a l =
     let P : List Entry → Type 0 = λ v. FallsFrom s v fs in
     falls-whole s items fs a (subst P i l)
+
+-- ---- the list of records in order, as far as it has come
+pub falls-push : (s : List Entry) (i : ℕ) (f : Fall) (fs gs : List Fall) → IsInOrder entry_order s → IsFall (contents_at s) f × IsAt s i (high_reading f) → gs ≡ fs ++ f ∷ [] →
+    IsSoFar (FallsFrom s) s i fs → IsSoFar (FallsFrom s) s (i + 1) gs
+falls-push s i f fs gs rising a e h =
+    so-far-more (FallsFrom s) s i fs gs f h e (λ more m.
+    falls-more s (high_reading f) (drop i s) (drop (i + 1) s) f more (f ∷ more) (drop-at s i (high_reading f) a.1) (rising-drop entry_order s i rising) refl (a.0, refl) m)
+
+-- a fall from the record that stands at a place
+pub fall-at : (s : List Entry) (i : ℕ) (e : Entry) (f : Fall) → IsAt s i e → IsFall (contents_at s) f × (e ≡ high_reading f) → IsFall (contents_at s) f × IsAt s i (high_reading f)
+fall-at s i e f at a = let P : Entry → Type 0 = λ v. IsAt s i v in (a.0, subst P a.1 at)
+
+pub falls-pass : (s : List Entry) (i : ℕ) (fs : List Fall) → i < length s → ((f : Fall) → IsFall (contents_at s) f → IsAt s i (high_reading f) → ⊥) →
+    IsSoFar (FallsFrom s) s i fs → IsSoFar (FallsFrom s) s (i + 1) fs
+falls-pass s i fs l n h =
+    let at = at-there s i l in
+    let P : Entry → Type 0 = λ v. IsAt s i v in
+    so-far-skip (FallsFrom s) s i fs h (λ more m.
+    falls-skip s at.0 (drop i s) (drop (i + 1) s) more (drop-at s i at.0 at.1) (λ f a q. n f a (subst P q at.1)) m)
+
+pub falls-end : (s : List Entry) (i : ℕ) (fs : List Fall) → IsInOrder entry_order s → length s ≤ i → IsSoFar (FallsFrom s) s i fs → AreFalls s fs
+falls-end s i fs rising l h =
+    falls-whole s s fs (record { rising = rising; members = λ x. (λ m. m, λ m. m) })
+    (so-far-all (FallsFrom s) s i fs h l (record { rising = tt; members = λ f. (λ m. absurd m, λ m. m.1) }))

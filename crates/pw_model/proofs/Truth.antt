@@ -7,17 +7,17 @@ use Rattle.pw_model.specs.declared.records.TotalKey.{TotalKey}
 use Rattle.pw_model.specs.declared.records.TotalKey.TheVariants.{Energy, TopUps}
 use Rattle.pw_model.specs.declared.records.Entry.{Entry}
 use Rattle.pw_model.specs.Counting.{SameMembers, contents_at, contents_among, point, start}
-use Rattle.pw_tariff.specs.Office.{Office}
+use Rattle.pw_tariff.specs.Office.{OfficeRules}
 use Rattle.pw_model.specs.Office.{IsOffice, AllOfOffice, most_records}
 use Rattle.pw_model.specs.Energy.{of_band}
 use Rattle.pw_model.specs.Payments.{topped_up}
-use Rattle.pw_model.specs.Shelf.{total_of, EmptyIsTrue, TrueContentsAreAlike, TrueTotalsAreBounded}
+use Rattle.pw_model.specs.Shelf.{total_among, EmptyIsTrue, TrueContentsAreAlike, TrueTotalsAreBounded}
 use Rattle.pw_model.proofs.Answers.{energy-same, topped-same}
 use Rattle.pw_model.proofs.Bounded.{asked-le, none-held}
 use Rattle.pw_model.proofs.Counting.{contents-same}
 use Rattle.pw_model.proofs.PlainEnergy.{energy-fits, topped-fits}
 
-no-total : (office : Office) (k : TotalKey) → 0 ≡ total_of office [] k
+no-total : (office : OfficeRules) (k : TotalKey) → 0 ≡ total_among office [] k
 unfolding topped_up
 no-total office (Energy o b d) =
     let a = asked-le office (contents_at []) d (of_band office o b.0) in
@@ -29,7 +29,7 @@ pub empty-true : EmptyIsTrue
 unfolding contents_at contents_among
 empty-true office = record { points = refl; starts = refl; totals = no-total office }
 
-totals-same : (office : Office) (s t : List Entry) → SameMembers s t → (k : TotalKey) → total_of office s k ≡ total_of office t k
+totals-same : (office : OfficeRules) (s t : List Entry) → SameMembers s t → (k : TotalKey) → total_among office s k ≡ total_among office t k
 totals-same office s t h (Energy o b d) = energy-same office s t h o b.0 d
 totals-same office s t h (TopUps a) = topped-same s t h a.0
 
@@ -40,7 +40,7 @@ true-alike office c d h i m = record {
   totals = λ k. h.totals k ∙ totals-same office c.records d.records m k ∙ sym (i.totals k);
 }
 
-total-fits : (office : Office) (s : List Entry) → IsOffice office → AllOfOffice office s → length s ≤ most_records → (k : TotalKey) → total_of office s k ≤ most_records * LARGEST_WATT_HOURS
+total-fits : (office : OfficeRules) (s : List Entry) → IsOffice office → AllOfOffice office s → length s ≤ most_records → (k : TotalKey) → total_among office s k ≤ most_records * LARGEST_WATT_HOURS
 total-fits office s o h few (Energy q b d) = let f = energy-fits office s d (of_band office q b.0) o h few in omega (arith, f)
 total-fits office s o h few (TopUps a) = let f = topped-fits office s a.0 o h few in omega (arith, f)
 

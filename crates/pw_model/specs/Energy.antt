@@ -11,7 +11,7 @@ use Rattle.pw_model.specs.declared.records.Contents.{Contents}
 use Rattle.pw_model.specs.declared.records.Entry.{Entry}
 use Rattle.pw_tariff.specs.Owners.{owner_from, same_owner}
 use Rattle.pw_model.specs.Counting.{contents_at, point, start}
-use Rattle.pw_tariff.specs.Office.{Office}
+use Rattle.pw_tariff.specs.Office.{OfficeRules}
 use Rattle.pw_flow.specs.Time.{last, sum_over}
 use Rattle.pw_flow.specs.Energy.{register_energy}
 use Rattle.pw_flow.specs.Flow.{rises}
@@ -25,8 +25,8 @@ abbrev pub Asked : Type 0
 Asked = Option AccountId → ℕ → Bool
 
 -- the seconds of a meter that are asked for
-abbrev pub seconds_of : (Key → Contents) → Asked → ℕ → ℕ → Bool
-seconds_of at asked m t = asked (owner_at at m t) t
+abbrev pub asked_seconds : (Key → Contents) → Asked → ℕ → ℕ → Bool
+asked_seconds at asked m t = asked (owner_at at m t) t
 
 -- over the registers of a direction
 abbrev pub over_registers : Direction → (Register → ℕ) → ℕ
@@ -34,25 +34,25 @@ over_registers Import f = f I0 + f I1 + f I2
 over_registers Export f = f E0 + f E1 + f E2
 
 -- of a meter's register, where it counts
-abbrev pub share_of : Office → (Key → Contents) → Asked → ℕ → Register → ℕ
-share_of office at asked m r = cond (office.counts m r) (register_energy (seconds_of at asked m) (point at m r) office.end) 0
+abbrev pub share_of : OfficeRules → (Key → Contents) → Asked → ℕ → Register → ℕ
+share_of office at asked m r = cond (office.counts m r) (register_energy (asked_seconds at asked m) (point at m r) office.end) 0
 
-abbrev pub meter_share : Office → (Key → Contents) → Direction → Asked → ℕ → ℕ
+abbrev pub meter_share : OfficeRules → (Key → Contents) → Direction → Asked → ℕ → ℕ
 meter_share office at direction asked m = over_registers direction (share_of office at asked m)
 
 -- the flow of all meters, their registers of a direction, and the seconds that are asked for
-unfoldable pub energy_where : Office → (Key → Contents) → Direction → Asked → ℕ
+unfoldable pub energy_where : OfficeRules → (Key → Contents) → Direction → Asked → ℕ
 energy_where office at direction asked = sum_over (meter_share office at direction asked) 0 office.meters
 
 -- the seconds with this owner and band
-abbrev pub of_band : Office → Option AccountId → ℕ → Asked
+abbrev pub of_band : OfficeRules → Option AccountId → ℕ → Asked
 of_band office owner band o t = same_owner o owner && (office.band t == band)
 
-abbrev pub energy : Office → List Entry → Option AccountId → ℕ → Direction → ℕ
+abbrev pub energy : OfficeRules → List Entry → Option AccountId → ℕ → Direction → ℕ
 energy office s owner band direction = energy_where office (contents_at s) direction (of_band office owner band)
 
 -- what the energy of an owner in a direction costs, in nano-euro
-unfoldable pub cost : Office → (Key → Contents) → Option AccountId → Direction → ℕ
+unfoldable pub cost : OfficeRules → (Key → Contents) → Option AccountId → Direction → ℕ
 cost office at owner direction = sum_over (λ b. office.price b direction * energy_where office at direction (of_band office owner b)) 0 office.bands
 
 -- ---- the whole, however it is shared out
@@ -60,16 +60,16 @@ abbrev pub account : ℕ → AccountId
 account a = record { 0 = a }
 
 -- over nobody, and all accounts
-abbrev pub over_owners : Office → (Option AccountId → ℕ) → ℕ
+abbrev pub over_owners : OfficeRules → (Option AccountId → ℕ) → ℕ
 over_owners office f = f None + sum_over (λ a. f (Some (account a))) 0 office.accounts
 
-abbrev pub over_bands : Office → (ℕ → ℕ) → ℕ
+abbrev pub over_bands : OfficeRules → (ℕ → ℕ) → ℕ
 over_bands office f = sum_over f 0 office.bands
 
 -- of a meter's register, where it counts
-abbrev pub register_rises : Office → (Key → Contents) → ℕ → Register → ℕ
+abbrev pub register_rises : OfficeRules → (Key → Contents) → ℕ → Register → ℕ
 register_rises office at m r = cond (office.counts m r) (rises (point at m r) office.end) 0
 
 -- the rises of all neighbours of a direction that don't fall
-unfoldable pub all_rises : Office → (Key → Contents) → Direction → ℕ
+unfoldable pub all_rises : OfficeRules → (Key → Contents) → Direction → ℕ
 all_rises office at direction = sum_over (λ m. over_registers direction (register_rises office at m)) 0 office.meters

@@ -25,13 +25,13 @@ IsBeforeAll order x [] = Unit {0}
 IsBeforeAll order x (y ∷ ys) = (order x y ≡ Less) × IsBeforeAll order x ys
 
 -- each stands before all behind it
-abbrev pub IsRising : {X : Type 0} → (X → X → Ordering) → List X → Type 0
-IsRising order [] = Unit {0}
-IsRising order (x ∷ xs) = IsBeforeAll order x xs × IsRising order xs
+abbrev pub IsInOrder : {X : Type 0} → (X → X → Ordering) → List X → Type 0
+IsInOrder order [] = Unit {0}
+IsInOrder order (x ∷ xs) = IsBeforeAll order x xs × IsInOrder order xs
 
 -- the list of all that P holds of, in order
 pub record Lists {X : Type 0} (order : X → X → Ordering) (P : X → Type 0) (xs : List X) : Type 0 where
-  pub rising : IsRising order xs
+  pub rising : IsInOrder order xs
   pub members : (x : X) → Member x xs ↔ P x
 
 -- ---- falls

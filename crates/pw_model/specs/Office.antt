@@ -5,7 +5,7 @@ use Rattle.pw_obis.specs.declared.energy.TheConstants.{LARGEST_WATT_HOURS}
 use Rattle.pw_tariff.specs.declared.ids.AccountId.{AccountId}
 use Rattle.pw_tariff.specs.declared.ids.Direction.{Direction}
 use Rattle.pw_tariff.specs.declared.limits.TheConstants.{MOST_ACCOUNTS, MOST_METERS, MOST_BANDS, MOST_PRICE}
-use Rattle.pw_tariff.specs.Office.{Office, OfficeFile, IsSound, office_of}
+use Rattle.pw_tariff.specs.Office.{OfficeRules, OfficeFile, IsSound, office_of}
 use Rattle.pw_time.specs.declared.instant.TheConstants.{END_SECOND}
 use Rattle.pw_time.specs.Instants.{IsInstant}
 use Rattle.pw_model.specs.declared.records.Key.{Key}
@@ -24,12 +24,12 @@ abbrev pub most_records : ℕ
 most_records = 10_000_000
 
 -- nobody, or an account of the office
-abbrev pub HasOwner : Office → Option AccountId → Type 0
+abbrev pub HasOwner : OfficeRules → Option AccountId → Type 0
 HasOwner office None = Unit {0}
 HasOwner office (Some a) = a.0 < office.accounts
 
 -- a key with a content of its kind, all of the office
-abbrev pub IsOf : Office → Key → Content → Type 0
+abbrev pub IsOf : OfficeRules → Key → Content → Type 0
 IsOf office (key.Reading m r t) (content.Reading w) =
     (m.0 < office.meters) × (office.counts m.0 r ≡ true) × IsInstant t × (w ≤ LARGEST_WATT_HOURS)
 IsOf office (key.Assignment m t) (content.Assignment o) = (m.0 < office.meters) × IsInstant t × HasOwner office o
@@ -38,18 +38,18 @@ IsOf office (key.TopUp r) (content.TopUp a c t) =
 IsOf office _ _ = ⊥
 
 -- an entry of the office
-abbrev pub IsOfOffice : Office → Entry → Type 0
+abbrev pub IsOfOffice : OfficeRules → Entry → Type 0
 IsOfOffice office e = IsOf office e.key e.content
 
-abbrev pub AllOfOffice : Office → List Entry → Type 0
+abbrev pub AllOfOffice : OfficeRules → List Entry → Type 0
 AllOfOffice office s = (e : Entry) → Member e s → IsOfOffice office e
 
 -- each second's band is one of the office's
-abbrev pub HasBands : Office → Type 0
+abbrev pub HasBands : OfficeRules → Type 0
 HasBands office = (t : ℕ) → office.band t < office.bands
 
 -- what the office file ensures
-pub record IsOffice (office : Office) : Type 0 where
+pub record IsOffice (office : OfficeRules) : Type 0 where
   pub accounts : office.accounts ≤ MOST_ACCOUNTS
   pub meters : office.meters ≤ MOST_METERS
   pub bands : office.bands ≤ MOST_BANDS

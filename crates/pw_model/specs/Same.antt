@@ -17,7 +17,6 @@ use Rattle.pw_model.specs.declared.records.TotalKey.{TotalKey}
 use Rattle.pw_model.specs.declared.records.TotalKey.TheVariants.{Energy, TopUps}
 use Rattle.pw_tariff.specs.Office.{register_place}
 use Rattle.pw_tariff.specs.Cells.{owner_place}
-use Rattle.pw_model.specs.References.{IsReference}
 
 abbrev pub direction_of : Register → Direction
 direction_of I0 = Import
@@ -73,8 +72,3 @@ total_numbers (TopUps a) = 1 ∷ a.0 ∷ []
 
 abbrev pub total_order : TotalKey → TotalKey → Ordering
 total_order k l = slice_cmp nat_cmp (total_numbers k) (total_numbers l)
-
--- where the key names a top-up, its reference is one
-abbrev pub HasReference : Key → Type 0
-HasReference (key.TopUp r) = IsReference r
-HasReference _ = Unit {0}

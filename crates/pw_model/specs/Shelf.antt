@@ -8,7 +8,7 @@ use Rattle.pw_model.specs.declared.records.TotalKey.{TotalKey}
 use Rattle.pw_model.specs.declared.records.TotalKey.TheVariants.{Energy, TopUps}
 use Rattle.pw_model.specs.declared.records.Entry.{Entry}
 use Rattle.pw_model.specs.Counting.{SameMembers, contents_at, point, start}
-use Rattle.pw_tariff.specs.Office.{Office}
+use Rattle.pw_tariff.specs.Office.{OfficeRules}
 use Rattle.pw_model.specs.Office.{AllOfOffice, IsOffice, most_records}
 use Rattle.pw_model.specs.Energy.{energy}
 use Rattle.pw_model.specs.Payments.{topped_up}
@@ -24,16 +24,16 @@ pub record ShelfContent : Type 0 where
   pub total : TotalKey → ℕ
 
 -- the total of the records, for every key
-abbrev pub total_of : Office → List Entry → TotalKey → ℕ
-total_of office s (Energy o b d) = energy office s o b.0 d
-total_of office s (TopUps a) = topped_up s a.0
+abbrev pub total_among : OfficeRules → List Entry → TotalKey → ℕ
+total_among office s (Energy o b d) = energy office s o b.0 d
+total_among office s (TopUps a) = topped_up s a.0
 
 -- points and starts are those of the records held, and the total at each key, whatever account or band it names,
 -- is the energy or the top-ups that the records give for it
-pub record IsTrueContent (office : Office) (c : ShelfContent) : Type 0 where
+pub record IsTrueContent (office : OfficeRules) (c : ShelfContent) : Type 0 where
   pub points : c.point ≡ point (contents_at c.records)
   pub starts : c.start ≡ start (contents_at c.records)
-  pub totals : (k : TotalKey) → c.total k ≡ total_of office c.records k
+  pub totals : (k : TotalKey) → c.total k ≡ total_among office c.records k
 
 -- nothing held
 abbrev pub no_content : ShelfContent
@@ -42,7 +42,7 @@ no_content = record { records = []; point = λ m r t. None; start = λ m t. None
 -- ---- laws
 -- nothing held is true in every office
 abbrev pub EmptyIsTrue : Type 0
-EmptyIsTrue = (office : Office) → IsTrueContent office no_content
+EmptyIsTrue = (office : OfficeRules) → IsTrueContent office no_content
 
 -- true contents of one set of records are alike
 pub record AreAlike (c d : ShelfContent) : Type 0 where
@@ -51,9 +51,9 @@ pub record AreAlike (c d : ShelfContent) : Type 0 where
   pub totals : (k : TotalKey) → c.total k ≡ d.total k
 
 abbrev pub TrueContentsAreAlike : Type 0
-TrueContentsAreAlike = (office : Office) (c d : ShelfContent) → IsTrueContent office c → IsTrueContent office d → SameMembers c.records d.records → AreAlike c d
+TrueContentsAreAlike = (office : OfficeRules) (c d : ShelfContent) → IsTrueContent office c → IsTrueContent office d → SameMembers c.records d.records → AreAlike c d
 
 -- a true total of at most 10,000,000 records is at most as many times the largest reading
 abbrev pub TrueTotalsAreBounded : Type 0
-TrueTotalsAreBounded = (office : Office) (c : ShelfContent) → IsOffice office → AllOfOffice office c.records → length c.records ≤ most_records → IsTrueContent office c →
+TrueTotalsAreBounded = (office : OfficeRules) (c : ShelfContent) → IsOffice office → AllOfOffice office c.records → length c.records ≤ most_records → IsTrueContent office c →
     (k : TotalKey) → c.total k ≤ most_records * LARGEST_WATT_HOURS

@@ -1,7 +1,8 @@
 //! What the derived comparisons of keys and contents say, in the words of the definitions.
 
 ghost use Rattle.std.specs.Prelude.{◌≡◌};
-ghost use Rattle.pw_model.specs.Same.{HasReference, entry_order, key_order, same_content, same_entry, same_key, total_order};
+ghost use Rattle.pw_model.specs.Same.{entry_order, key_order, same_content, same_entry, same_key, total_order};
+ghost use Rattle.pw_model.specs.inner.Keys.{HasReference};
 
 use crate::records::{Content, Entry, Key, TotalKey};
 use std::cmp::Ordering;

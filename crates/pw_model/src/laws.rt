@@ -4,7 +4,12 @@
 //! all sets of records.
 
 ghost use Rattle.pw_model.specs.Bounds.{BalancesFit, TotalsAreBounded};
-ghost use Rattle.pw_model.specs.Laws.{CountIsLength, ListsAreOne, ListsExist, NothingIsLost, OneIsCounting, OneMoreAssignment, OneMorePayment, OneMoreReading, OneMoreRecord, OrderCountsNothing, OtherStartWindow};
+ghost use Rattle.pw_model.specs.Laws.{CountIsLength, ForeignTotalsAreNone, ListsAreAtMostOne, ListsExist, NothingIsLost, OneIsCounting, OrderCountsNothing, TopUpsAddUp};
+ghost use Rattle.pw_model.specs.Changes.{OtherStartWindow};
+ghost use Rattle.pw_model.specs.Changes.{OneMoreAssignment};
+ghost use Rattle.pw_model.specs.Changes.{OneMorePayment};
+ghost use Rattle.pw_model.specs.Changes.{OneMoreRecord};
+ghost use Rattle.pw_model.specs.Changes.{OneMoreReading};
 ghost use Rattle.pw_model.specs.Office.{SoundOfficeIsOffice};
 ghost use Rattle.pw_model.specs.Shelf.{EmptyIsTrue, TrueContentsAreAlike, TrueTotalsAreBounded};
 
@@ -20,8 +25,8 @@ pub fn order_counts_nothing()
 {}
 
 /// A set has at most one list of falls, one of disputes, and one of the readings of a register.
-pub fn lists_are_one()
-    ensures { ListsAreOne }
+pub fn lists_are_at_most_one()
+    ensures { ListsAreAtMostOne }
 {}
 
 /// A set has a list of falls, one of disputes, and one of the readings of each register.
@@ -58,6 +63,18 @@ pub fn one_more_payment()
 /// What another assignment of a meter changes.
 pub fn one_more_assignment()
     ensures { OneMoreAssignment }
+{}
+
+/// Totals of what isn't the office's are 0: energies of an owner that is no account of it or in a band that is none of
+/// its bands, and top-ups of what is no account of it.
+pub fn foreign_totals_are_none()
+    ensures { ForeignTotalsAreNone }
+{}
+
+/// What is topped up for an account is the sum of the cents of its counting top-ups, in whatever order they are listed,
+/// each once; and there is such a list.
+pub fn top_ups_add_up()
+    ensures { TopUpsAddUp }
 {}
 
 /// Totals are bounded: an energy by 99,999,999,999 Wh for each record, what is topped up by 100,000,000 cents for each.

@@ -1,7 +1,8 @@
 //! The meaning of a list of records, computed straight from the definitions.
 //!
-//! It is slow, looks at each second by itself, and is meant for few records over short spans: the book's bodies are
-//! compared with it.
+//! The book's bodies are compared with it. It goes over the records in passes, and stands 100,000 of them; energies and
+//! balances look at each second by itself, and pass over the records for each, so they are meant for short spans. What
+//! is topped up passes over the records for each top-up of the account.
 
 mod balances;
 mod dispute_list;

@@ -31,7 +31,7 @@ impl Model for Reference {
 
     ghost inverse = { λ text. record { text = padded text; size = length text } };
 
-    ghost use Rattle.pw_model.specs.Inverse.{inverse-padded};
+    ghost use Rattle.pw_model.specs.lemmas.Inverse.{inverse-padded};
 
     ghost inverse_ok = { inverse-padded };
 }

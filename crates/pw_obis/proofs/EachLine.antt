@@ -5,7 +5,7 @@ use Rattle.std.proofs.lemmas.List.{get_or_past}
 use Rattle.pw_obis.specs.Line.{SetText, SetsAt}
 use Rattle.pw_obis.specs.Block.{StopsAt, LinesAt, HasSets}
 use Rattle.pw_obis.specs.Laws.{ExactlyOne, IsOutcome}
-use Rattle.pw_obis.specs.Places.{no_set, one_set, one_mid, sets_rise, values_rise}
+use Rattle.pw_obis.specs.lemmas.Places.{no_set, one_set, one_mid, sets_rise, values_rise}
 
 -- a line has one end and one list of sets
 pub one_line : (b : List ℕ) (p e f : ℕ) (ss ts : List SetText) → SetsAt b p e ss → SetsAt b p f ts → (e ≡ f) × (ss ≡ ts)

@@ -2,7 +2,7 @@
 use Rattle.std.proofs.Common.{zero, suc, ◌≡◌, ℕ, ◌+◌, ◌<◌, List, [], ◌∷◌, ◌++◌, length, take, refl, arith, get_or, add-one}
 use Rattle.std.specs.Char.{digit_value}
 use Rattle.std.specs.Str.Parse.{AllDigits}
-use Rattle.pw_obis.specs.Groups.{StartsWithDigit}
+use Rattle.pw_obis.specs.inner.Groups.{StartsWithDigit}
 
 digits_suc : (xs : List ℕ) (i : ℕ) → i < length xs → AllDigits 10 (take i xs) → digit_value (get_or xs i 0) < 10 → AllDigits 10 (take (suc i) xs)
 digits_suc [] i l d h = absurd (omega (arith, l))

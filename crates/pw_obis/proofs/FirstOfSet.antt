@@ -3,7 +3,7 @@ use Rattle.std.proofs.Common.{suc, ◌≡◌, ℕ, ◌+◌, ◌-◌, ◌<◌, �
 use Rattle.std.specs.Prelude.{slice_index, slice_range}
 use Rattle.std.proofs.lemmas.List.{drop_more, get_or-take, get_or-drop, length-take, length-drop}
 use Rattle.pw_obis.specs.Line.{ValueAt, SetAt}
-use Rattle.pw_obis.specs.Places.{values_rise}
+use Rattle.pw_obis.specs.lemmas.Places.{values_rise}
 use Rattle.pw_obis.specs.FirstValue.{FirstValue}
 use Rattle.pw_obis.proofs.FirstMark.{first_is}
 

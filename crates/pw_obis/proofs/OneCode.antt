@@ -2,8 +2,8 @@
 use Rattle.std.proofs.Common.{◌≡◌, ℕ, ◌<◌, List, ◌∷◌, ◌++◌, Option, Some, None, refl, sym, ap, ◌∙◌, subst, arith}
 use Rattle.std.specs.Char.{digit_value}
 use Rattle.pw_obis.specs.declared.reference.Code.{Code}
-use Rattle.pw_obis.specs.Address.{Before, Behind, Storage, Ending, Spells, IsCodeOf}
-use Rattle.pw_obis.specs.Groups.{FirstGroup, GroupWith, ReadsBefore, ReadsBehind, Unreadable}
+use Rattle.pw_obis.specs.Address.{Before, Behind, Storage, AddressEnding, Spells, IsCodeOf}
+use Rattle.pw_obis.specs.inner.Groups.{FirstGroup, GroupWith, ReadsBefore, ReadsBehind, Unreadable}
 use Rattle.pw_obis.proofs.Decimals.{digit_in}
 use Rattle.pw_obis.proofs.OnePart.{one_group, group_first, group_with, absent_is, one_before, first_behind, one_behind, one_storage, no_digit_in_storage, no_point_in_storage, ending_d, ending_e}
 
@@ -62,7 +62,7 @@ pub record SameParts (address : List ℕ) (code : Code) (a b c : Option ℕ) (re
   pub a_same : a ≡ code.a
   pub b_same : b ≡ code.b
   pub c_same : c ≡ Some code.c
-  pub rest_is : Ending rest code.d code.e code.f
+  pub rest_is : AddressEnding rest code.d code.e code.f
 
 pub same_parts : (address : List ℕ) (code : Code) (a b c : Option ℕ) (behind_a behind_b behind_c : List ℕ)
     → ReadsBefore 45 address a behind_a → ReadsBefore 58 behind_a b behind_b → ReadsBefore 46 behind_b c behind_c → Spells address code → SameParts address code a b c behind_c
@@ -75,7 +75,7 @@ same_parts address code a b c behind_a behind_b behind_c ra rb rc x =
     let ec : (c ≡ Some code.c) × (behind_c ≡ x.ending) =
     one_before 46 (x.c_text ++ x.ending) c (Some code.c) behind_c x.ending point_is_no_digit
     (subst (λ (t : List ℕ). ReadsBefore 46 t c behind_c) eb.1 rc) (spells_c address code x) in
-    record { a_same = ea.0; b_same = eb.0; c_same = ec.0; rest_is = subst (λ (t : List ℕ). Ending t code.d code.e code.f) (sym ec.1) x.rest_is }
+    record { a_same = ea.0; b_same = eb.0; c_same = ec.0; rest_is = subst (λ (t : List ℕ). AddressEnding t code.d code.e code.f) (sym ec.1) x.rest_is }
 
 -- what is read of an ending is what it spells
 pub record SameEnding (d v : ℕ) (e w f : Option ℕ) (rest : List ℕ) : Type 0 where
@@ -83,10 +83,10 @@ pub record SameEnding (d v : ℕ) (e w f : Option ℕ) (rest : List ℕ) : Type 
   pub e_same : w ≡ e
   pub f_is : Storage rest f
 
-pub same_e : (text : List ℕ) (d v : ℕ) (e f : Option ℕ) (behind : List ℕ) → FirstGroup text v behind → (x : Ending text d e f) → (v ≡ d) × (behind ≡ x.e_text ++ x.f_text)
+pub same_e : (text : List ℕ) (d v : ℕ) (e f : Option ℕ) (behind : List ℕ) → FirstGroup text v behind → (x : AddressEnding text d e f) → (v ≡ d) × (behind ≡ x.e_text ++ x.f_text)
 same_e text d v e f behind r x = one_group text v d behind (x.e_text ++ x.f_text) r (ending_d text d e f x)
 
-pub same_ending : (text : List ℕ) (d v : ℕ) (e w f : Option ℕ) (behind rest : List ℕ) → FirstGroup text v behind → ReadsBehind 46 behind w rest → Ending text d e f → SameEnding d v e w f rest
+pub same_ending : (text : List ℕ) (d v : ℕ) (e w f : Option ℕ) (behind rest : List ℕ) → FirstGroup text v behind → ReadsBehind 46 behind w rest → AddressEnding text d e f → SameEnding d v e w f rest
 same_ending text d v e w f behind rest rd re x =
     let ed : (v ≡ d) × (behind ≡ x.e_text ++ x.f_text) = same_e text d v e f behind rd x in
     let ee : (w ≡ e) × (rest ≡ x.f_text) =
@@ -101,7 +101,7 @@ stuck_at_e text f_text e_text (Some e) f u x y t =
     let behind : b.0 ≡ u.behind = cc in
     u.none e f_text (subst (λ (k : List ℕ). FirstGroup k e f_text) behind b.2)
 
-pub unreadable : (text : List ℕ) (d v : ℕ) (e f : Option ℕ) (behind : List ℕ) → FirstGroup text v behind → Unreadable 46 behind → Ending text d e f → ⊥
+pub unreadable : (text : List ℕ) (d v : ℕ) (e f : Option ℕ) (behind : List ℕ) → FirstGroup text v behind → Unreadable 46 behind → AddressEnding text d e f → ⊥
 unreadable text d v e f behind rd u x =
     stuck_at_e (x.e_text ++ x.f_text) x.f_text x.e_text e f (subst (Unreadable 46) (same_e text d v e f behind rd x).1 u) x.e_is x.f_is refl
 
@@ -120,7 +120,7 @@ one_code address code other x y =
     let p : SameParts address other code.a code.b (Some code.c) x.ending =
     same_parts address other code.a code.b (Some code.c) (x.b_text ++ (x.c_text ++ x.ending)) (x.c_text ++ x.ending) x.ending
     (spells_a address code x) (spells_b address code x) (spells_c address code x) y in
-    let z : Ending x.ending code.d code.e code.f = x.rest_is in
+    let z : AddressEnding x.ending code.d code.e code.f = x.rest_is in
     let q : SameEnding other.d code.d other.e code.e other.f z.f_text =
     same_ending x.ending other.d code.d other.e code.e other.f (z.e_text ++ z.f_text) z.f_text
     (ending_d x.ending code.d code.e code.f z) (ending_e x.ending code.d code.e code.f z) p.rest_is in

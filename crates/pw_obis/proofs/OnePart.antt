@@ -4,8 +4,8 @@ use Rattle.std.specs.Prelude.{slice_index}
 use Rattle.std.specs.Char.{digit_value}
 use Rattle.std.specs.Str.Parse.{AllDigits, digits_value}
 use Rattle.std.proofs.lemmas.List.{take-append-drop, get_or-drop}
-use Rattle.pw_obis.specs.Address.{Group, Before, Behind, Storage, Ending}
-use Rattle.pw_obis.specs.Groups.{StartsWithDigit, FirstGroup, GroupWith, ReadsBefore, ReadsBehind}
+use Rattle.pw_obis.specs.Address.{Group, Before, Behind, Storage, AddressEnding}
+use Rattle.pw_obis.specs.inner.Groups.{StartsWithDigit, FirstGroup, GroupWith, ReadsBefore, ReadsBehind}
 use Rattle.pw_obis.proofs.Decimals.{digit_in}
 use Rattle.pw_obis.proofs.FirstDigits.{one_run}
 
@@ -165,10 +165,10 @@ no_digit_in_rest e_text f_text None f x y h = no_digit_in_storage f_text f y (su
 no_digit_in_rest e_text f_text (Some e) f x y h =
     (let m : StartsWithDigit ((46 ∷ x.0) ++ f_text) = subst (λ (t : List ℕ). StartsWithDigit (t ++ f_text)) x.2 h in absurd (omega (arith, (digit_in 46 m).0)))
 
-pub ending_d : (text : List ℕ) (d : ℕ) (e f : Option ℕ) → (x : Ending text d e f) → FirstGroup text d (x.e_text ++ x.f_text)
+pub ending_d : (text : List ℕ) (d : ℕ) (e f : Option ℕ) → (x : AddressEnding text d e f) → FirstGroup text d (x.e_text ++ x.f_text)
 ending_d text d e f x = record { digits = x.d_text; group = x.d_is; spelled = x.spelled; stops = no_digit_in_rest x.e_text x.f_text e f x.e_is x.f_is }
 
-pub ending_e : (text : List ℕ) (d : ℕ) (e f : Option ℕ) → (x : Ending text d e f) → ReadsBehind 46 (x.e_text ++ x.f_text) e x.f_text
+pub ending_e : (text : List ℕ) (d : ℕ) (e f : Option ℕ) → (x : AddressEnding text d e f) → ReadsBehind 46 (x.e_text ++ x.f_text) e x.f_text
 ending_e text d e f x = record {
   part = x.e_text;
   is = x.e_is;

@@ -10,7 +10,8 @@ use Rattle.pw_obis.specs.declared.value.ValueFault.{ValueFault}
 use Rattle.pw_obis.specs.declared.value.ValueFault.TheVariants.{Digits, Unit as UnitFault, TooLarge}
 use Rattle.std.specs.Str.Parse.{AllDigits}
 use Rattle.pw_obis.proofs.Decimals.{no_point}
-use Rattle.pw_obis.specs.Value.{InUnit, Decimal, thousandths, Means, unit_text, States, HasUnit, IsCounted, IsEnergy}
+use Rattle.pw_obis.specs.Value.{InUnit, Decimal, thousandths, IsNumberOf, unit_text, StatesWattHours, HasUnit, IsEnergy}
+use Rattle.pw_obis.specs.inner.Numbers.{IsCounted}
 
 -- the number before the first `*` is as long as the place of the first `*`
 number_length : (text number unit : List ℕ) (star : ℕ) → InUnit text number unit
@@ -44,10 +45,10 @@ same_unit KilowattHour WattHour e = absurd cc
 same_unit WattHour KilowattHour e = absurd cc
 same_unit WattHour WattHour e = refl
 
-meant : (text number other : List ℕ) (unit u : EnergyUnit) (wh : ℕ) → InUnit text number (unit_text unit) → InUnit text other (unit_text u) → Means u other wh → Means unit number wh
+meant : (text number other : List ℕ) (unit u : EnergyUnit) (wh : ℕ) → InUnit text number (unit_text unit) → InUnit text other (unit_text u) → IsNumberOf u other wh → IsNumberOf unit number wh
 meant text number other unit u wh x y m =
     let w : (other ≡ number) × (unit_text u ≡ unit_text unit) = one_mark 42 other number (unit_text u) (unit_text unit) y.first x.first (sym y.spelled ∙ x.spelled) in
-    subst (λ (k : EnergyUnit). Means k number wh) (same_unit u unit w.1) (subst (λ (t : List ℕ). Means u t wh) w.0 m)
+    subst (λ (k : EnergyUnit). IsNumberOf k number wh) (same_unit u unit w.1) (subst (λ (t : List ℕ). IsNumberOf u t wh) w.0 m)
 
 -- what a text states is what its number means in its unit
 pub energy_is : (text number : List ℕ) (unit : EnergyUnit) (r : Result ℕ ValueFault) → InUnit text number (unit_text unit) → IsCounted unit number r → IsEnergy text r
@@ -78,16 +79,16 @@ both_decimals number whole decimals other more x y (inr s) (inr t) =
 one_decimal : (number whole decimals other more : List ℕ) → Decimal number whole decimals → Decimal number other more → (whole ≡ other) × (decimals ≡ more)
 one_decimal number whole decimals other more x y = both_decimals number whole decimals other more x y x.spelled y.spelled
 
-same_energy : (unit : EnergyUnit) (number : List ℕ) (wh other : ℕ) → Means unit number wh → Means unit number other → wh ≡ other
+same_energy : (unit : EnergyUnit) (number : List ℕ) (wh other : ℕ) → IsNumberOf unit number wh → IsNumberOf unit number other → wh ≡ other
 same_energy WattHour number wh other x y = x.1 ∙ sym y.1
 same_energy KilowattHour number wh other x y =
     let e : (x.0 ≡ y.0) × (x.1 ≡ y.1) = one_decimal number x.0 x.1 y.0 y.1 x.2 y.2 in
     x.3 ∙ ap (λ (t : List ℕ). thousandths t x.1) e.0 ∙ ap (λ (t : List ℕ). thousandths y.0 t) e.1 ∙ sym y.3
 
-one_energy : (text : List ℕ) (wh other : ℕ) → States text wh → States text other → wh ≡ other
+one_energy : (text : List ℕ) (wh other : ℕ) → StatesWattHours text wh → StatesWattHours text other → wh ≡ other
 one_energy text wh other x y = same_energy x.0 x.1 wh other x.3 (meant text x.1 y.1 x.0 y.0 other x.2 y.2 y.3)
 
-has_unit : (text : List ℕ) (wh : ℕ) → States text wh → HasUnit text
+has_unit : (text : List ℕ) (wh : ℕ) → StatesWattHours text wh → HasUnit text
 has_unit text wh x = (x.0, x.1, x.2)
 
 pub one_answer : (text : List ℕ) (r q : Result ℕ ValueFault) → IsEnergy text r → IsEnergy text q → r ≡ q

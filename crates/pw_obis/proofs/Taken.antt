@@ -4,8 +4,8 @@ use Rattle.std.specs.Prelude.{slice_range}
 use Rattle.std.proofs.lemmas.Bool.{cases_lt}
 use Rattle.pw_obis.specs.Line.{SetText, SetAt, SetsAt}
 use Rattle.pw_obis.specs.Block.{LinesAt}
-use Rattle.pw_obis.specs.Places.{one_mid, one_set, sets_rise, line_within}
-use Rattle.pw_obis.specs.Found.{FromPlace, found}
+use Rattle.pw_obis.specs.lemmas.Places.{one_mid, one_set, sets_rise, line_within}
+use Rattle.pw_obis.specs.lemmas.Found.{FromPlace, found}
 use Rattle.pw_obis.specs.Coming.{Coming, nothing, from_choice, from_place}
 use Rattle.pw_obis.proofs.EachLine.{one_reading, no_sets}
 

@@ -4,6 +4,7 @@
 use Rattle.std.specs.Prelude.{◌≡◌, ℕ, ◌<◌, ◌≤◌, ◌⊎◌, List, [], ◌∷◌, ◌++◌, length, Option, Some, None}
 use Rattle.std.specs.Str.Parse.{digits_value, AllDigits}
 use Rattle.pw_obis.specs.declared.reference.Code.{Code}
+use Rattle.pw_obis.specs.Bytes.{AMPERSAND, STAR, DASH, DOT, COLON}
 
 -- one to three digits, of a value up to 255
 pub record Group (text : List ℕ) (value : ℕ) : Type 0 where
@@ -25,15 +26,15 @@ Behind mark text (Some value) = (digits : List ℕ) × Group digits value × (te
 
 -- an optional `*F` or `&F`
 abbrev pub Storage : List ℕ → Option ℕ → Type 0
-Storage text f = Behind 42 text f ⊎ Behind 38 text f
+Storage text f = Behind STAR text f ⊎ Behind AMPERSAND text f
 
 -- `D`, an optional `.E`, an optional `*F` or `&F`
-pub record Ending (text : List ℕ) (value : ℕ) (e f : Option ℕ) : Type 0 where
+pub record AddressEnding (text : List ℕ) (value : ℕ) (e f : Option ℕ) : Type 0 where
   pub d_text : List ℕ
   pub e_text : List ℕ
   pub f_text : List ℕ
   pub d_is : Group d_text value
-  pub e_is : Behind 46 e_text e
+  pub e_is : Behind DOT e_text e
   pub f_is : Storage f_text f
   pub spelled : text ≡ d_text ++ (e_text ++ f_text)
 
@@ -43,10 +44,10 @@ pub record Spells (address : List ℕ) (code : Code) : Type 0 where
   pub b_text : List ℕ
   pub c_text : List ℕ
   pub ending : List ℕ
-  pub a_is : Before 45 a_text code.a
-  pub b_is : Before 58 b_text code.b
-  pub c_is : Before 46 c_text (Some code.c)
-  pub rest_is : Ending ending code.d code.e code.f
+  pub a_is : Before DASH a_text code.a
+  pub b_is : Before COLON b_text code.b
+  pub c_is : Before DOT c_text (Some code.c)
+  pub rest_is : AddressEnding ending code.d code.e code.f
   pub spelled : address ≡ a_text ++ (b_text ++ (c_text ++ ending))
 
 -- the code of an address, or none

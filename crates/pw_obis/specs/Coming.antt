@@ -3,7 +3,7 @@ use Rattle.std.specs.Prelude.{ℕ, ◌<◌, ◌≤◌, ◌⊎◌, Bool, true, fa
 use Rattle.std.proofs.Common.{inl, inr, arith}
 use Rattle.std.proofs.lemmas.Bool.{cases_lt}
 use Rattle.pw_obis.specs.Line.{SetText}
-use Rattle.pw_obis.specs.Found.{found, FromPlace}
+use Rattle.pw_obis.specs.lemmas.Found.{found, FromPlace}
 
 -- the sets still to come, and the refusal behind them, if any
 pub record Coming : Type 0 where

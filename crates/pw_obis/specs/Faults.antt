@@ -9,12 +9,12 @@ line_fault_number = 20
 abbrev pub line_fault_name : List ℕ
 line_fault_name = codes "Line"
 
-abbrev pub number_of : ValueFault → ℕ
-number_of Digits = 21
-number_of UnitFault = 22
-number_of TooLarge = 23
+abbrev pub value_fault_number : ValueFault → ℕ
+value_fault_number Digits = 21
+value_fault_number UnitFault = 22
+value_fault_number TooLarge = 23
 
-abbrev pub name_of : ValueFault → List ℕ
-name_of Digits = codes "Digits"
-name_of UnitFault = codes "Unit"
-name_of TooLarge = codes "TooLarge"
+abbrev pub value_fault_name : ValueFault → List ℕ
+value_fault_name Digits = codes "Digits"
+value_fault_name UnitFault = codes "Unit"
+value_fault_name TooLarge = codes "TooLarge"

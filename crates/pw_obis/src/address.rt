@@ -3,8 +3,8 @@
 ghost use Rattle.std.specs.Prelude.{◌≡◌, ℕ, ◌∷◌, ◌<◌, ◌≤◌, List, Option, Some, None, length, take, drop, slice_index, IfSome, IfNone, MatchOption};
 ghost use Rattle.std.specs.Char.{digit_value};
 ghost use Rattle.std.specs.Str.Parse.{AllDigits};
-ghost use Rattle.pw_obis.specs.Address.{Group, Storage, Ending, IsCodeOf};
-ghost use Rattle.pw_obis.specs.Groups.{FirstGroup, ReadsBefore, ReadsBehind, Unreadable};
+ghost use Rattle.pw_obis.specs.Address.{Group, Storage, AddressEnding, IsCodeOf};
+ghost use Rattle.pw_obis.specs.inner.Groups.{FirstGroup, ReadsBefore, ReadsBehind, Unreadable};
 
 use crate::reference::Code;
 use crate::texts::{behind_mark, is_numeral, with_digits};
@@ -96,8 +96,8 @@ fn storage(text: &[u8]) -> Option<Option<u8>>
 
 /// The groups D, E and F that an address ends with.
 fn ending(text: &[u8]) -> Option<(u8, Option<u8>, Option<u8>)>
-    ensures some { IfSome result (λ groups. Ending text.now groups.0 groups.1 groups.2) }
-    ensures none { IfNone result ((d : ℕ) (e f : Option ℕ) → Ending text.now d e f → ⊥) }
+    ensures some { IfSome result (λ groups. AddressEnding text.now groups.0 groups.1 groups.2) }
+    ensures none { IfNone result ((d : ℕ) (e f : Option ℕ) → AddressEnding text.now d e f → ⊥) }
 {
     let Some((d, behind)) = first_group(text) else {
         return None;

@@ -1,7 +1,7 @@
 //! How faults are reported.
 
 ghost use Rattle.std.specs.Prelude.{◌≡◌};
-ghost use Rattle.pw_obis.specs.Faults.{line_fault_name, line_fault_number, name_of, number_of};
+ghost use Rattle.pw_obis.specs.Faults.{line_fault_name, line_fault_number, value_fault_name, value_fault_number};
 
 use crate::reader::LineFault;
 use crate::value::ValueFault;
@@ -25,7 +25,7 @@ impl LineFault {
 impl ValueFault {
     /// The number under which the fault is reported, from 21 to 23.
     pub fn number(self) -> u8
-        ensures { result ≡ number_of self }
+        ensures { result ≡ value_fault_number self }
     {
         match self {
             ValueFault::Digits => 21,
@@ -36,7 +36,7 @@ impl ValueFault {
 
     /// The name under which the fault is reported: that of the variant.
     pub fn name(self) -> &'static str
-        ensures { result.now ≡ name_of self }
+        ensures { result.now ≡ value_fault_name self }
     {
         match self {
             ValueFault::Digits => "Digits",

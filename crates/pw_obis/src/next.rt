@@ -1,7 +1,7 @@
 //! The next line of a block that has data sets.
 
 ghost use Rattle.std.specs.Prelude.{◌≤◌, length};
-ghost use Rattle.pw_obis.specs.Answers.{IsNext};
+ghost use Rattle.pw_obis.specs.inner.Lines.{IsNext};
 
 use crate::line::{byte_at, line_end};
 

@@ -2,7 +2,9 @@
 
 ghost use Rattle.std.specs.Prelude.{◌<◌, ◌≤◌, length};
 ghost use Rattle.pw_obis.specs.Block.{HasSets};
-ghost use Rattle.pw_obis.specs.Answers.{HasLine, Answers, Takes};
+ghost use Rattle.pw_obis.specs.Answers.{Answers};
+ghost use Rattle.pw_obis.specs.inner.Lines.{Takes};
+ghost use Rattle.pw_obis.specs.inner.Lines.{HasLine};
 
 use crate::address::code;
 use crate::data_set::Set;

@@ -2,7 +2,8 @@
 
 ghost use Rattle.std.specs.Prelude.{◌≡◌, ℕ, ◌-◌, ◌^◌, ◌<◌, ◌≤◌, List, IfSome, IfNone};
 ghost use Rattle.std.specs.Str.Parse.{AllDigits};
-ghost use Rattle.pw_obis.specs.Value.{InUnit, unit_text, HasUnit, Decimal, thousandths, IsCounted, IsEnergy};
+ghost use Rattle.pw_obis.specs.Value.{InUnit, unit_text, HasUnit, Decimal, thousandths, IsEnergy};
+ghost use Rattle.pw_obis.specs.inner.Numbers.{IsCounted};
 
 use crate::energy::{LARGEST_WATT_HOURS, WattHours};
 use crate::texts::{find, is_numeral, with_digits};

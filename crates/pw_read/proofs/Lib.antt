@@ -1,3 +1,5 @@
+pub mod Runs
 pub mod Shown
 pub mod Unread
 pub mod Told
+pub mod Written

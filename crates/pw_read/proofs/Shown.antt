@@ -13,7 +13,8 @@ use Rattle.pw_obis.specs.Answers.{IsGiven}
 use Rattle.pw_obis.specs.Block.{HasSets}
 use Rattle.pw_obis.specs.Line.{SetText}
 use Rattle.pw_obis.proofs.EachLine.{one_list}
-use Rattle.pw_read.specs.Lines.{text_of, SetShows, SetsShow}
+use Rattle.pw_read.specs.Lines.{SetShows, SetsShow}
+use Rattle.pw_read.specs.inner.Sets.{set_text}
 use Rattle.pw_read.specs.Text.{FirstWrong, FrameShows, FramesShow, FrameRefused, Stops}
 
 pub sets_more : (kind : Kind) (sets : List SetText) (set : SetText) (lines line : List ℕ) → SetsShow kind sets lines → SetShows kind set (Ok line)
@@ -29,11 +30,11 @@ frames_more clock (f ∷ frames) frame text shown x y =
     (x.0, x.1 ++ shown, x.2, frames_more clock frames frame x.1 shown x.3 y, ap (λ l. l ++ shown) x.4 ∙ append_assoc x.0 x.1 shown)
 
 -- a set that is given is the block's
-abbrev set_text : List ℕ → List ℕ → SetText
-set_text address values = record { address = address; values = values }
+abbrev set_of : List ℕ → List ℕ → SetText
+set_of address values = record { address = address; values = values }
 
-pub given_text : (first : SetText) (set : Set) → IsGiven first set → first ≡ text_of set
-given_text first set x = ap (λ a. set_text a first.values) x.address_is ∙ ap (set_text set.address.now) x.values_are
+pub given_text : (first : SetText) (set : Set) → IsGiven first set → first ≡ set_text set
+given_text first set x = ap (λ a. set_of a first.values) x.address_is ∙ ap (set_of set.address.now) x.values_are
 
 -- where a block has one list of sets without a refusal, no list of it has one
 pub no_refusal : (block : List ℕ) (sets : List SetText) (refusal : Option ℕ) → (other : List SetText) × HasSets block other None → HasSets block sets refusal → HasSets block sets None
@@ -41,10 +42,10 @@ no_refusal block sets refusal x y = subst (HasSets block sets) (one_list block s
 
 -- a set whose value is wrong, behind sets whose lines are shown
 pub wrong_behind : (kind : Kind) (all done behind : List SetText) (first : SetText) (lines : List ℕ) (set : Set) (fault : ValueFault) → IsGiven first set
-    → all ≡ done ++ first ∷ behind → SetsShow kind done lines → SetShows kind (text_of set) (Err fault) → FirstWrong kind all fault
+    → all ≡ done ++ first ∷ behind → SetsShow kind done lines → SetShows kind (set_text set) (Err fault) → FirstWrong kind all fault
 wrong_behind kind all done behind first lines set fault g e s f = record {
   before = done;
-  wrong = text_of set;
+  wrong = set_text set;
   behind = behind;
   shown = lines;
   sets_are = e ∙ ap (λ (x : SetText). done ++ x ∷ behind) (given_text first set g);
@@ -54,9 +55,9 @@ wrong_behind kind all done behind first lines set fault g e s f = record {
 
 -- a set that is shown, behind sets that are
 pub shown_behind : (kind : Kind) (all done behind : List SetText) (first : SetText) (set : Set) → IsGiven first set
-    → all ≡ done ++ first ∷ behind → all ≡ (done ++ text_of set ∷ []) ++ behind
+    → all ≡ done ++ first ∷ behind → all ≡ (done ++ set_text set ∷ []) ++ behind
 shown_behind kind all done behind first set g e =
-    e ∙ ap (λ (x : SetText). done ++ x ∷ behind) (given_text first set g) ∙ sym (append_assoc done (text_of set ∷ []) behind)
+    e ∙ ap (λ (x : SetText). done ++ x ∷ behind) (given_text first set g) ∙ sym (append_assoc done (set_text set ∷ []) behind)
 
 -- the sets that are shown are all of a block where none is to come
 pub all_shown : (block : List ℕ) (sets done left : List SetText) (refusal : Option ℕ) → (other : List SetText) × HasSets block other None → HasSets block sets refusal

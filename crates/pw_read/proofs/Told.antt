@@ -11,7 +11,7 @@ use Rattle.pw_obis.specs.Line.{SetText}
 use Rattle.pw_obis.proofs.EachLine.{one_list}
 use Rattle.pw_obis.proofs.OneCode.{one_code}
 use Rattle.pw_read.specs.declared.moment.Moment.{Moment}
-use Rattle.pw_read.specs.Instant.{Means, TellsNo, FirstTold}
+use Rattle.pw_read.specs.Instant.{IsCodeOfMoment, TellsNo, FirstTold}
 
 -- a set that is given and has no code tells nothing
 pub no_code_tells : (moment : Moment) (first : SetText) (set : Set) → IsGiven first set → set.code ≡ None → TellsNo moment first
@@ -20,15 +20,15 @@ no_code_tells moment first set g e = λ code x m.
     none code (subst (λ (a : List ℕ). IsCodeOf a (Some code)) g.address_is x)
 
 -- nor one whose code means something else
-pub other_code_tells : (moment : Moment) (first : SetText) (set : Set) (code : Code) → IsGiven first set → set.code ≡ Some code → (Means moment code → ⊥) → TellsNo moment first
+pub other_code_tells : (moment : Moment) (first : SetText) (set : Set) (code : Code) → IsGiven first set → set.code ≡ Some code → (IsCodeOfMoment moment code → ⊥) → TellsNo moment first
 other_code_tells moment first set code g e n = λ other x m.
     let some : IsCodeOf set.address.now (Some code) = subst (IsCodeOf set.address.now) e g.code_is in
     let same : other ≡ code = one_code set.address.now other code (subst (λ (a : List ℕ). IsCodeOf a (Some other)) g.address_is x) some in
-    n (subst (Means moment) same m)
+    n (subst (IsCodeOfMoment moment) same m)
 
 -- the first set of a block that tells a moment
 pub first_is_told : (block : List ℕ) (moment : Moment) (all done behind : List SetText) (refusal : Option ℕ) (first : SetText) (set : Set) (code : Code) (value : List ℕ)
-    → HasSets block all refusal → all ≡ done ++ first ∷ behind → All (TellsNo moment) done → IsGiven first set → set.code ≡ Some code → Means moment code
+    → HasSets block all refusal → all ≡ done ++ first ∷ behind → All (TellsNo moment) done → IsGiven first set → set.code ≡ Some code → IsCodeOfMoment moment code
     → IsFirstValue set.values.now value → (sets : List SetText) → HasSets block sets None → FirstTold moment sets value
 first_is_told block moment all done behind refusal first set code value h e n g c m v sets x = record {
   before = done;

@@ -8,13 +8,14 @@ use Rattle.pw_obis.specs.declared.reference.Register.{Register}
 use Rattle.pw_obis.specs.Address.{IsCodeOf}
 use Rattle.pw_obis.specs.References.{IsCodeOfRegister}
 use Rattle.pw_obis.proofs.OneCode.{one_code}
-use Rattle.pw_read.specs.Lines.{text_of, IsTextName, SetShows, Unread}
+use Rattle.pw_read.specs.Lines.{IsTextName, SetShows, Unread}
+use Rattle.pw_read.specs.inner.Sets.{set_text}
 
 -- nothing is written
 abbrev Nothing : Kind → Set → List ℕ → Type 0
-Nothing kind set text = (line : List ℕ) × SetShows kind (text_of set) (Ok line) × (text ≡ text ++ line)
+Nothing kind set text = (line : List ℕ) × SetShows kind (set_text set) (Ok line) × (text ≡ text ++ line)
 
-unread : (kind : Kind) (set : Set) (text : List ℕ) → Unread kind (text_of set) [] → Nothing kind set text
+unread : (kind : Kind) (set : Set) (text : List ℕ) → Unread kind (set_text set) [] → Nothing kind set text
 unread kind set text x = ([], inr (inr x), sym (append-nil text))
 
 pub no_code : (kind : Kind) (set : Set) (text : List ℕ) → IsCodeOf set.address.now set.code → set.code ≡ None → Nothing kind set text

@@ -9,20 +9,20 @@ use Rattle.pw_read.specs.declared.fault.Cause.TheVariants.{Frame, Line, Value, I
 use Rattle.pw_read.specs.declared.fault.Refusal.{Refusal}
 
 abbrev pub cause_number : Cause → ℕ
-cause_number (Frame fault) = frame_fault.number_of fault
+cause_number (Frame fault) = frame_fault.frame_fault_number fault
 cause_number Line = obis_fault.line_fault_number
-cause_number (Value fault) = obis_fault.number_of fault
-cause_number (Instant fault) = stamp_fault.number_of fault
+cause_number (Value fault) = obis_fault.value_fault_number fault
+cause_number (Instant fault) = stamp_fault.stamp_fault_number fault
 
 abbrev pub cause_name : Cause → List ℕ
-cause_name (Frame fault) = frame_fault.name_of fault
+cause_name (Frame fault) = frame_fault.frame_fault_name fault
 cause_name Line = obis_fault.line_fault_name
-cause_name (Value fault) = obis_fault.name_of fault
-cause_name (Instant fault) = stamp_fault.name_of fault
+cause_name (Value fault) = obis_fault.value_fault_name fault
+cause_name (Instant fault) = stamp_fault.stamp_fault_name fault
 
 -- what stands behind the part's number
 abbrev pub cause_details : Cause → List ℕ
-cause_details (Frame fault) = codes " " ++ frame_fault.details_of fault
+cause_details (Frame fault) = codes " " ++ frame_fault.frame_fault_details fault
 cause_details Line = []
 cause_details (Value fault) = []
 cause_details (Instant fault) = []

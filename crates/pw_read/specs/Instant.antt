@@ -14,14 +14,14 @@ use Rattle.pw_read.specs.declared.moment.Moment.{Moment}
 use Rattle.pw_read.specs.declared.moment.Moment.TheVariants.{Stamp, Time, Date}
 
 -- what a code stands for, of those that tell an instant
-abbrev pub Means : Moment → Code → Type 0
-Means Stamp code = IsStamp code
-Means Time code = IsTime code
-Means Date code = IsDate code
+abbrev pub IsCodeOfMoment : Moment → Code → Type 0
+IsCodeOfMoment Stamp code = IsStamp code
+IsCodeOfMoment Time code = IsTime code
+IsCodeOfMoment Date code = IsDate code
 
 -- the set tells no such thing
 abbrev pub TellsNo : Moment → SetText → Type 0
-TellsNo moment set = (code : Code) → IsCodeOf set.address (Some code) → Means moment code → ⊥
+TellsNo moment set = (code : Code) → IsCodeOf set.address (Some code) → IsCodeOfMoment moment code → ⊥
 
 -- the first set that tells it has this first value
 pub record FirstTold (moment : Moment) (sets : List SetText) (value : List ℕ) : Type 0 where
@@ -32,7 +32,7 @@ pub record FirstTold (moment : Moment) (sets : List SetText) (value : List ℕ) 
   pub sets_are : sets ≡ before ++ set ∷ behind
   pub none : All (TellsNo moment) before
   pub code_is : IsCodeOf set.address (Some code)
-  pub means : Means moment code
+  pub means : IsCodeOfMoment moment code
   pub value_is : IsFirstValue set.values value
 
 -- the first value that tells it, or nothing where no set does

@@ -5,17 +5,12 @@ use Rattle.pw_frame.specs.declared.frame.Kind.TheVariants.{Telegram, Readout}
 use Rattle.pw_obis.specs.declared.reference.Code.{Code}
 use Rattle.pw_obis.specs.declared.reference.Register.{Register}
 use Rattle.pw_obis.specs.declared.value.ValueFault.{ValueFault}
-use Rattle.pw_obis.specs.declared.data_set.Set.{Set}
 use Rattle.pw_obis.specs.Address.{IsCodeOf}
 use Rattle.pw_obis.specs.FirstValue.{IsFirstValue}
 use Rattle.pw_obis.specs.Line.{SetText}
 use Rattle.pw_obis.specs.References.{IsCodeOfRegister, IsIdentifier, IsStamp, IsTime, IsDate}
 use Rattle.pw_obis.specs.Registers.{register_name}
 use Rattle.pw_obis.specs.Value.{IsEnergy}
-
--- a set without where it lies in memory
-abbrev pub text_of : Set → SetText
-text_of set = record { address = set.address.now; values = set.values.now }
 
 -- a name, a space, a value and LF
 abbrev pub line_of : List ℕ → List ℕ → List ℕ

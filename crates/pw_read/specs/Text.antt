@@ -3,7 +3,7 @@ use Rattle.std.specs.Prelude.{◌≡◌, ℕ, ◌+◌, List, [], ◌∷◌, ◌+
 use Rattle.pw_frame.specs.declared.frame.Kind.{Kind}
 use Rattle.pw_frame.specs.declared.frame.Kind.TheVariants.{Telegram, Readout}
 use Rattle.pw_frame.specs.Frame.{FrameText}
-use Rattle.pw_frame.specs.Body.{Front, Reading, Fault}
+use Rattle.pw_frame.specs.Body.{Front, BodyReading, BodyFault}
 use Rattle.pw_obis.specs.Line.{SetText}
 use Rattle.pw_obis.specs.Block.{HasSets}
 use Rattle.pw_time.specs.declared.zone.Clock.{Clock}
@@ -74,7 +74,7 @@ pub record NextRefused (clock : Clock) (body : List ℕ) (frames : List FrameTex
 
 -- behind the frames stands no frame, or one that is refused
 abbrev pub Stops : Clock → List ℕ → List FrameText → Cause → Type 0
-Stops clock body frames (FrameCause fault) = Fault body frames fault
+Stops clock body frames (FrameCause fault) = BodyFault body frames fault
 Stops clock body frames Line = NextRefused clock body frames Line
 Stops clock body frames (Value fault) = NextRefused clock body frames (Value fault)
 Stops clock body frames (Instant fault) = NextRefused clock body frames (Instant fault)
@@ -89,7 +89,7 @@ pub record BodyRefused (clock : Clock) (body : List ℕ) (part : ℕ) (cause : C
 
 pub record BodyShows (clock : Clock) (body text : List ℕ) : Type 0 where
   pub frames : List FrameText
-  pub reading : Reading body frames
+  pub reading : BodyReading body frames
   pub shown : FramesShow clock frames text
 
 -- want of memory says nothing of the body

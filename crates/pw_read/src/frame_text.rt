@@ -1,5 +1,5 @@
 ghost use Rattle.std.specs.Prelude.{◌≡◌, ℕ, ◌++◌, List, Option, Some, None, Err, IfOk, OnOk, IfErr};
-ghost use Rattle.pw_frame.specs.Frame.{text_of};
+ghost use Rattle.pw_frame.specs.Frame.{frame_text};
 ghost use Rattle.pw_obis.specs.Line.{SetText};
 ghost use Rattle.pw_obis.specs.Block.{HasSets};
 ghost use Rattle.pw_read.specs.Lines.{SetsShow};
@@ -55,8 +55,8 @@ fn put_frame(
     zone: &Zone,
     frame: &Frame,
 ) -> Result<(), Halt>
-    ensures ok { OnOk result ((shown : List ℕ) × FrameShows clock (text_of frame.now) shown × (text.new.items ≡ text.old.items ++ shown)) }
-    ensures err { (cause : Cause) → result ≡ Err (Halt.Refused cause) → FrameRefused clock (text_of frame.now) cause }
+    ensures ok { OnOk result ((shown : List ℕ) × FrameShows clock (frame_text frame.now) shown × (text.new.items ≡ text.old.items ++ shown)) }
+    ensures err { (cause : Cause) → result ≡ Err (Halt.Refused cause) → FrameRefused clock (frame_text frame.now) cause }
 {
     let Ok(()) = check_lines(frame.block) else {
         return Err(Halt::Refused(Cause::Line));
@@ -107,7 +107,7 @@ fn kind_name(kind: Kind) -> &'static [u8]
 }
 
 fn put_heading(text: &mut Vec<u8>, frame: &Frame) -> Result<(), AllocError>
-    ensures { OnOk result (text.new.items ≡ text.old.items ++ heading (text_of frame.now)) }
+    ensures { OnOk result (text.new.items ≡ text.old.items ++ heading (frame_text frame.now)) }
 {
     text.extend_from_slice(kind_name(frame.kind))?;
     text.extend_from_slice(frame.header)?;

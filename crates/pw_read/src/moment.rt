@@ -1,7 +1,7 @@
 ghost use Rattle.std.specs.Prelude.{◌≡◌, ◌↔◌, List, Option, Some, None, IsTrue, MatchOption};
 ghost use Rattle.pw_obis.specs.Line.{SetText};
 ghost use Rattle.pw_obis.specs.Block.{HasSets};
-ghost use Rattle.pw_read.specs.Instant.{Means, IsTold, IsFrameInstant};
+ghost use Rattle.pw_read.specs.Instant.{IsCodeOfMoment, IsTold, IsFrameInstant};
 ghost use Rattle.pw_frame.specs.declared.frame.Kind.TheVariants.{Telegram, Readout};
 ghost use Rattle.pw_time.specs.declared.zone.Clock.{Clock};
 
@@ -19,7 +19,7 @@ pub enum Moment {
 
 impl Moment {
     fn is_meant_by(self, code: &Code) -> bool
-        ensures { IsTrue result ↔ Means self code.now }
+        ensures { IsTrue result ↔ IsCodeOfMoment self code.now }
     {
         match self {
             Moment::Stamp => is_stamp(code),

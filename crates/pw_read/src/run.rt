@@ -1,7 +1,9 @@
-ghost use Rattle.std.specs.Prelude.{◌≡◌, ◌⊎◌, ℕ, ◌<◌, ◌≤◌, List, Some, length, OnOk, MatchResult};
-ghost use Rattle.std.specs.Io.KnownBytes.{Appends};
+ghost use Rattle.std.specs.Prelude.{◌≡◌, ◌⊎◌, ℕ, ◌<◌, ◌≤◌, List, Some, length, MatchResult};
 ghost use Rattle.pw_read.specs.Text.{BodyShows};
-ghost use Rattle.pw_read.specs.Run.{IsFailure, failure_line, failure_status, Tells, IsRun};
+ghost use Rattle.pw_read.specs.Run.{IsFailure, failure_status, IsRun};
+ghost use Rattle.pw_read.specs.inner.Run.{Tells};
+ghost use Rattle.pw_read.specs.inner.Run.{TellsLine};
+ghost use Rattle.pw_read.specs.inner.Run.{Writes};
 ghost use Rattle.pw_time.specs.declared.zone.Clock.{Clock};
 
 use crate::fault::ReadFault;
@@ -13,6 +15,9 @@ use std::io::{ErrorKind, Read, Write};
 
 /// The longest body, in bytes.
 const LONGEST_BODY: usize = 262_144;
+
+/// The line of a run for which memory is refused.
+const OUT_OF_MEMORY: &[u8] = b"refused 62 Memory\n";
 
 /// What came of a run, beside the text of a body.
 #[derive(Drop)]
@@ -27,7 +32,8 @@ enum Failure {
 /// `clock` is the one of readouts. A telegram's stamp has its own mark.
 ///
 /// Answers the exit status: 0, 1 for a body that is refused or longer than 262,144 bytes, 3 for a reader or writer that
-/// fails or for want of memory. At most 262,145 bytes are read.
+/// fails or for want of memory. At most 262,145 bytes are read. With 3, `out` has a front of the body's
+/// text, or nothing, and `err` a front of the line of one failure, or all of it.
 pub fn read_run<R: Read, O: Write, E: Write>(
     alloc: Global,
     clock: Clock,
@@ -41,11 +47,11 @@ pub fn read_run<R: Read, O: Write, E: Write>(
 {
     let text = match text_of(alloc, clock, reader) {
         Ok(text) => text,
-        Err(failure) => return tell(failure, err),
+        Err(failure) => return tell(alloc, &failure, err),
     };
-    match written(out, text.as_slice()) {
+    match write(out, text.as_slice()) {
         Ok(()) => 0,
-        Err(_) => tell(Failure::Device, err),
+        Err(_) => tell(alloc, &Failure::Device, err),
     }
 }
 
@@ -78,34 +84,42 @@ fn reading_failed(kind: ErrorKind) -> Failure
     }
 }
 
-fn written<O: Write>(out: &mut O, text: &[u8]) -> io::Result<()>
-    ensures { OnOk result (Appends (O.contents out.old) (O.contents out.new) text.now) }
+/// Writes bytes by as many calls as it takes, and flushes. After an error a front of them is written.
+fn write<W: Write>(writer: &mut W, bytes: &[u8]) -> io::Result<()>
+    ensures { Writes (W.contents writer.old) (W.contents writer.new) bytes.now result }
 {
-    out.write_all(text)?;
-    out.flush()
-}
-
-/// Writes the line of a failure, and answers its exit status.
-fn tell<E: Write>(failure: Failure, err: &mut E) -> u8
-    ensures { Tells failure (E.contents err.old) (E.contents err.new) result }
-{
-    let status = status_of(&failure);
-    match write_line(&failure, err) {
-        Ok(()) => status,
-        Err(_) => 3,
+    let mut at = 0;
+    'calls: for _ in 0..u64::MAX {
+        if at == bytes.len() {
+            return writer.flush();
+        }
+        match writer.write(&bytes[at..]) {
+            Ok(0) => return Err(io::Error::from(ErrorKind::WriteZero)),
+            Ok(n) => at += n,
+            Err(error) => {
+                if error.kind() != ErrorKind::Interrupted {
+                    return Err(error);
+                }
+            }
+        }
     }
+    Err(io::Error::from(ErrorKind::TimedOut))
 }
 
-fn write_line<E: Write>(failure: &Failure, err: &mut E) -> io::Result<()>
-    ensures { OnOk result (Appends (E.contents err.old) (E.contents err.new) (failure_line failure.now)) }
+/// Writes the line of a failure, and answers its exit status. Where memory for a refusal's line is refused, tells that.
+fn tell<E: Write>(alloc: Global, failure: &Failure, err: &mut E) -> u8
+    ensures { Tells failure.now (E.contents err.old) (E.contents err.new) result }
 {
+    let status = status_of(failure);
     match failure {
-        Failure::Body(ReadFault::Refused(refusal)) => writeln!(err, "{refusal}")?,
-        Failure::Body(ReadFault::Memory) => err.write_all(b"refused 62 Memory\n")?,
-        Failure::TooLarge => err.write_all(b"body too large\n")?,
-        Failure::Device => err.write_all(b"device failed\n")?,
+        Failure::Body(ReadFault::Refused(refusal)) => match format!(in alloc; "{refusal}\n") {
+            Ok(line) => tell_line(line.as_bytes(), status, err),
+            Err(_) => tell_line(OUT_OF_MEMORY, 3, err),
+        },
+        Failure::Body(ReadFault::Memory) => tell_line(OUT_OF_MEMORY, status, err),
+        Failure::TooLarge => tell_line(b"body too large\n", status, err),
+        Failure::Device => tell_line(b"device failed\n", status, err),
     }
-    err.flush()
 }
 
 fn status_of(failure: &Failure) -> u8
@@ -114,5 +128,15 @@ fn status_of(failure: &Failure) -> u8
     match failure {
         Failure::Body(ReadFault::Refused(_)) | Failure::TooLarge => 1,
         Failure::Body(ReadFault::Memory) | Failure::Device => 3,
+    }
+}
+
+/// Writes a line, and answers `status`, or 3 where the writer fails.
+fn tell_line<E: Write>(line: &[u8], status: u8, err: &mut E) -> u8
+    ensures { TellsLine line.now status (E.contents err.old) (E.contents err.new) result }
+{
+    match write(err, line) {
+        Ok(()) => status,
+        Err(_) => 3,
     }
 }

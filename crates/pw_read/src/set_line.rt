@@ -1,6 +1,7 @@
 ghost use Rattle.std.specs.Prelude.{◌≡◌, ℕ, ◌++◌, List, IfSome, IfNone, IfOk, IfErr, OnOk, Ok, Err, codes};
 ghost use Rattle.pw_obis.specs.Address.{IsCodeOf};
-ghost use Rattle.pw_read.specs.Lines.{text_of, IsTextName, line_of, SetShows};
+ghost use Rattle.pw_read.specs.Lines.{IsTextName, line_of, SetShows};
+ghost use Rattle.pw_read.specs.inner.Sets.{set_text};
 
 use pw_frame::Kind;
 use pw_obis::{
@@ -45,8 +46,8 @@ fn text_name(kind: Kind, code: &Code) -> Option<&'static str>
 /// Writes the line of a set behind the text, where its code has one.
 pub fn put_set(text: &mut Vec<u8>, alloc: Global, kind: Kind, set: &Set) -> Result<(), SetHalt>
     requires { IsCodeOf set.now.address.now set.now.code }
-    ensures ok { OnOk result ((line : List ℕ) × SetShows kind (text_of set.now) (Ok line) × (text.new.items ≡ text.old.items ++ line)) }
-    ensures err { (fault : ValueFault) → result ≡ Err (SetHalt.Value fault) → SetShows kind (text_of set.now) (Err fault) }
+    ensures ok { OnOk result ((line : List ℕ) × SetShows kind (set_text set.now) (Ok line) × (text.new.items ≡ text.old.items ++ line)) }
+    ensures err { (fault : ValueFault) → result ≡ Err (SetHalt.Value fault) → SetShows kind (set_text set.now) (Err fault) }
 {
     let Some(code) = set.code else {
         return Ok(());

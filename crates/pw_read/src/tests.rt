@@ -71,6 +71,38 @@ impl Write for BrokenWriter {
     }
 }
 
+/// A writer that fails once it holds so many bytes, and takes at most seven at a time.
+#[derive(Drop)]
+struct NarrowWriter {
+    held: Vec<u8>,
+    room: usize,
+}
+
+impl NarrowWriter {
+    fn new(rt: &HostRuntime, room: usize) -> NarrowWriter {
+        NarrowWriter {
+            held: Vec::new(rt.alloc()),
+            room,
+        }
+    }
+}
+
+impl Write for NarrowWriter {
+    fn write(&mut self, buf: &[u8]) -> io::Result<usize> {
+        let count = buf.len().min(self.room).min(7);
+        if count == 0 {
+            return Err(io::Error::from(ErrorKind::StorageFull));
+        }
+        self.held.extend_from_slice(&buf[..count])?;
+        self.room -= count;
+        Ok(count)
+    }
+
+    fn flush(&mut self) -> io::Result<()> {
+        Ok(())
+    }
+}
+
 /// Whether a body gives this status and these bytes on both streams.
 fn gives(
     rt: &HostRuntime,
@@ -177,6 +209,10 @@ fn refused_bodies(rt: HostRuntime) {
         (
             b"/\x80WB5X\r\n\r\n!36D6\r\n".as_slice(),
             b"refused 15 HighBit part 1 at 1\n".as_slice(),
+        ),
+        (
+            b"/PWB5Z7\r\n\x020.9.1(060000)\r\n0.9.2(240102)\r\n1.8.0(1000.000*kWh)\r\n!\r\n\x03z".as_slice(),
+            b"refused 14 BlockCheck part 1 at 0 stated 7A computed 7B\n".as_slice(),
         ),
         (
             b"/PWB5X\r\n\r\n!36D6\r\n/PWB5Z7\r\n\x020.9.1(060000)\r\n0.9.2(240102)\r\n1.8.0(1000.000*kWh)\r\n!\r\n\x03z".as_slice(),
@@ -306,4 +342,29 @@ fn broken_streams(rt: HostRuntime) {
         3
     );
     assert!(rt; out.is_empty());
+}
+
+#[test]
+fn narrow_streams(rt: HostRuntime) {
+    let text =
+        b"telegram /PWB5X\nstamp 240102060000W\nmeter 4D31\nI1 1000000\ninstant 2024-01-02T05:00:00Z\n";
+    for room in 0..text.len() {
+        let mut out = NarrowWriter::new(&rt, room);
+        let mut err = Vec::new(rt.alloc());
+        let mut whole = FIRST;
+        let status = read_run(rt.alloc(), Clock::Winter, &mut whole, &mut out, &mut err);
+        assert_eq!(rt; status, 3);
+        assert!(rt; out.held.as_slice() == &text[..room], "room {room}");
+        assert!(rt; err.as_slice() == b"device failed\n".as_slice());
+    }
+    let line = b"refused 11 NoEnd part 1 at 0\n";
+    for room in 0..line.len() {
+        let mut out = Vec::new(rt.alloc());
+        let mut err = NarrowWriter::new(&rt, room);
+        let mut cut = &FIRST[..81];
+        let status = read_run(rt.alloc(), Clock::Winter, &mut cut, &mut out, &mut err);
+        assert_eq!(rt; status, 3);
+        assert!(rt; out.is_empty());
+        assert!(rt; err.held.as_slice() == &line[..room], "room {room}");
+    }
 }

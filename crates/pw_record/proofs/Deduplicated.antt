@@ -7,7 +7,7 @@ use Rattle.std.specs.List.Sorted.{IsSorted, IsPermutation}
 use Rattle.std.specs.List.Retain.{ReturnsInTurn, IsFiltered, DiffersFromLast}
 use Rattle.std.proofs.lemmas.List.Sorted.{Contains-permutation, IsPermutation-sym}
 use Rattle.pw_model.specs.Counting.{Member, SameMembers}
-use Rattle.pw_model.specs.Lists.{IsBeforeAll, IsRising}
+use Rattle.pw_model.specs.Lists.{IsBeforeAll, IsInOrder}
 
 -- ---- members by place
 pub member-at : {X : Type 0} (x : X) (xs : List X) (k : ℕ) → k < length xs → get_or xs k x ≡ x → Member x xs
@@ -56,7 +56,7 @@ module _ {X : Type 0} (R : X → X → Ordering) (E : X → X → Bool) (o : IsT
   -- behind the last one kept, which is y
   pub record Kept (y : X) (xs zs : List X) : Type 0 where
     pub before : IsBeforeAll R y zs
-    pub rising : IsRising R zs
+    pub rising : IsInOrder R zs
     pub from : (e : X) → Member e zs → Member e xs
     pub all : (e : X) → Member e xs → (e ≡ y) ⊎ Member e zs
 
@@ -89,7 +89,7 @@ module _ {X : Type 0} (R : X → X → Ordering) (E : X → X → Bool) (o : IsT
       kept-same y x xs (items_where_true bs xs) i (kept y xs bs q (subst (λ (z : X). Climbs z xs) i c.1) (omega (arith, n)) t)
 
   pub record Deduplicated (xs zs : List X) : Type 0 where
-    pub rising : IsRising R zs
+    pub rising : IsInOrder R zs
     pub same : SameMembers xs zs
 
   filtered : (xs : List X) (bs : List Bool) (q : List X) → IsSorted R xs → length bs ≡ length xs → ReturnsInTurn (DiffersFromLast E) [] bs xs q → Deduplicated xs (items_where_true bs xs)

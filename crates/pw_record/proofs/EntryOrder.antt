@@ -9,12 +9,14 @@ use Rattle.pw_model.specs.contracts.records.EntryOrd.TheImpl as derived_entry
 use Rattle.pw_model.specs.contracts.records.EntryOrd.TheImpl.Laws as total_laws
 use Rattle.pw_model.specs.contracts.records.EntryPartialEq.TheImpl as derived_test
 use Rattle.pw_model.specs.contracts.records.EntryPartialOrd.TheImpl.Laws as partial_laws
-use Rattle.pw_model.specs.Lists.{IsBeforeAll, IsRising}
-use Rattle.pw_model.specs.Same.{HasReference, entry_order}
+use Rattle.pw_model.specs.Lists.{IsBeforeAll, IsInOrder}
+use Rattle.pw_model.specs.Same.{entry_order}
+use Rattle.pw_model.specs.inner.Keys.{HasReference}
 use Rattle.pw_model.proofs.Same.{same_entry-decides}
 use Rattle.pw_model.proofs.Alike.{entries-alike}
 use Rattle.pw_model.proofs.InKeyOrder.{entries-ordered}
-use Rattle.pw_record.specs.Listed.{AreListed, HaveReferences}
+use Rattle.pw_record.specs.Listed.{AreListed}
+use Rattle.pw_record.specs.inner.Steps.{HaveReferences}
 use Rattle.pw_record.proofs.Deduplicated.{Deduplicated, deduplicated}
 
 entry-total : IsTotalOrder derived_entry.ghosts.cmp
@@ -30,7 +32,7 @@ before-all : (x : Entry) (ys : List Entry) → HasReference x.key → HaveRefere
 before-all x [] h g b = tt
 before-all x (y ∷ ys) h g b = (sym (entries-ordered x y h (g y (inl refl))) ∙ b.0, before-all x ys h (λ e m. g e (inr m)) b.1)
 
-rising : (xs : List Entry) → HaveReferences xs → IsRising derived_entry.ghosts.cmp xs → IsRising entry_order xs
+rising : (xs : List Entry) → HaveReferences xs → IsInOrder derived_entry.ghosts.cmp xs → IsInOrder entry_order xs
 rising [] g r = tt
 rising (x ∷ xs) g r = (before-all x xs (g x (inl refl)) (λ e m. g e (inr m)) r.0, rising xs (λ e m. g e (inr m)) r.1)
 

@@ -4,8 +4,8 @@ use Rattle.std.proofs.lemmas.List.{append-nil}
 use Rattle.std.specs.List.{flat_map}
 use Rattle.pw_frame.specs.declared.frame.Frame.{Frame}
 use Rattle.pw_frame.specs.declared.frame.FrameFault.{FrameFault}
-use Rattle.pw_frame.specs.Frame.{FrameText, text_of}
-use Rattle.pw_frame.specs.Body.{Front, Reading, Fault}
+use Rattle.pw_frame.specs.Frame.{FrameText, frame_text}
+use Rattle.pw_frame.specs.Body.{Front, BodyReading, BodyFault}
 use Rattle.pw_frame.proofs.Fronts.{front_more_rises}
 use Rattle.pw_obis.specs.declared.reference.Register.{Register}
 use Rattle.pw_obis.specs.Line.{SetText}
@@ -18,8 +18,10 @@ use Rattle.pw_model.specs.Lists.{reading_entry}
 use Rattle.pw_model.specs.Office.{AllOfOffice}
 use Rattle.pw_record.specs.declared.origin.Source.{Source}
 use Rattle.pw_record.specs.declared.origin.Source.TheVariants.{Telegrams, Readouts}
-use Rattle.pw_record.specs.Origin.{HasOrigin, IsSourceOf}
-use Rattle.pw_record.specs.Shown.{ShowOne, IsShown, registers, reading_of}
+use Rattle.pw_record.specs.Origin.{HasOrigin}
+use Rattle.pw_record.specs.inner.Steps.{IsSourceOf}
+use Rattle.pw_record.specs.Shown.{ShowOne, IsShown, reading_of}
+use Rattle.pw_obis.specs.Registers.{registers}
 use Rattle.pw_record.specs.Frames.{FrameGives, FramesGive}
 use Rattle.pw_record.proofs.OfOffice.{within, given-by}
 
@@ -30,7 +32,7 @@ frames-more file source (f ∷ frames) frame given more x y =
     (x.0, x.1 ++ more, x.2, frames-more file source frames frame x.1 more x.3 y, ap (λ l. l ++ more) x.4 ∙ append_assoc x.0 x.1 more)
 
 -- more frames stand behind these, so they don't reach to the body's end
-pub no-reading : (body : List ℕ) (frames : List FrameText) (frame : FrameText) (place : ℕ) → Front body (frames ++ frame ∷ []) place → place ≤ length body → Reading body frames → ⊥
+pub no-reading : (body : List ℕ) (frames : List FrameText) (frame : FrameText) (place : ℕ) → Front body (frames ++ frame ∷ []) place → place ≤ length body → BodyReading body frames → ⊥
 no-reading body frames frame place f l r =
     let rises : length body < place = front_more_rises body frames frame (length body) place r.front f in
     omega (arith, rises, l)
@@ -82,9 +84,9 @@ frames-of-office file source (frame ∷ frames) given s x e n = ⊎_elim
 
 -- whatever stands behind frames, they aren't all of the body
 pub more-behind : (body : List ℕ) (frames : List FrameText) (place : ℕ) (ended : Bool) (next : Result Frame FrameFault)
-    → MatchResult next (λ frame. Front body (frames ++ text_of frame ∷ []) place × (ended ≡ false)) (λ fault. Fault body frames fault × (ended ≡ true))
-    → place ≤ length body → Reading body frames → ⊥
-more-behind body frames place ended (Ok frame) h l r = no-reading body frames (text_of frame) place h.0 l r
+    → MatchResult next (λ frame. Front body (frames ++ frame_text frame ∷ []) place × (ended ≡ false)) (λ fault. BodyFault body frames fault × (ended ≡ true))
+    → place ≤ length body → BodyReading body frames → ⊥
+more-behind body frames place ended (Ok frame) h l r = no-reading body frames (frame_text frame) place h.0 l r
 more-behind body frames place ended (Err fault) h l r = h.0.no_reading r
 
 -- six lists put behind one another

@@ -7,7 +7,7 @@ use Rattle.pw_obis.specs.Block.{HasSets}
 use Rattle.pw_obis.specs.Line.{SetText}
 use Rattle.pw_obis.proofs.EachLine.{one_list}
 use Rattle.pw_model.specs.Counting.{Member}
-use Rattle.pw_record.specs.Told.{text_of}
+use Rattle.pw_record.specs.inner.Told.{told_text}
 
 pub member-left : {X : Type 0} (x : X) (xs ys : List X) → Member x xs → Member x (xs ++ ys)
 member-left x [] ys m = absurd m
@@ -28,15 +28,15 @@ member-split x y (z ∷ zs) m = ⊎_elim
 abbrev set_text : List ℕ → List ℕ → SetText
 set_text address values = record { address = address; values = values }
 
-pub given_text : (first : SetText) (set : Set) → IsGiven first set → first ≡ text_of set
+pub given_text : (first : SetText) (set : Set) → IsGiven first set → first ≡ told_text set
 given_text first set x = ap (λ a. set_text a first.values) x.address_is ∙ ap (set_text set.address.now) x.values_are
 
 -- the sets that are done, with the one that is given
-pub given_behind : (all done left behind : List SetText) (first : SetText) (set : Set) → IsGiven first set → all ≡ done ++ left → left ≡ first ∷ behind → all ≡ (done ++ text_of set ∷ []) ++ behind
+pub given_behind : (all done left behind : List SetText) (first : SetText) (set : Set) → IsGiven first set → all ≡ done ++ left → left ≡ first ∷ behind → all ≡ (done ++ told_text set ∷ []) ++ behind
 given_behind all done left behind first set g e l =
-    e ∙ ap (λ (x : List SetText). done ++ x) l ∙ ap (λ (x : SetText). done ++ x ∷ behind) (given_text first set g) ∙ sym (append_assoc done (text_of set ∷ []) behind)
+    e ∙ ap (λ (x : List SetText). done ++ x) l ∙ ap (λ (x : SetText). done ++ x ∷ behind) (given_text first set g) ∙ sym (append_assoc done (told_text set ∷ []) behind)
 
-pub given_here : (all done left behind : List SetText) (first : SetText) (set : Set) → IsGiven first set → all ≡ done ++ left → left ≡ first ∷ behind → all ≡ done ++ text_of set ∷ behind
+pub given_here : (all done left behind : List SetText) (first : SetText) (set : Set) → IsGiven first set → all ≡ done ++ left → left ≡ first ∷ behind → all ≡ done ++ told_text set ∷ behind
 given_here all done left behind first set g e l =
     e ∙ ap (λ (x : List SetText). done ++ x) l ∙ ap (λ (x : SetText). done ++ x ∷ behind) (given_text first set g)
 

@@ -12,10 +12,11 @@ use Rattle.pw_model.specs.declared.records.Content.TheVariants as content
 use Rattle.pw_model.specs.declared.records.Entry.{Entry}
 use Rattle.pw_model.specs.Counting.{Member, assignment_key}
 use Rattle.pw_model.specs.Office.{IsOf, IsOfOffice, AllOfOffice, HasOwner}
-use Rattle.pw_model.specs.Same.{HasReference}
+use Rattle.pw_model.specs.inner.Keys.{HasReference}
 use Rattle.pw_record.specs.declared.row.RowKind.{RowKind}
 use Rattle.pw_record.specs.declared.row.RowKind.TheVariants.{Assignment, TopUp}
-use Rattle.pw_record.specs.Listed.{AreListed, HaveReferences}
+use Rattle.pw_record.specs.Listed.{AreListed}
+use Rattle.pw_record.specs.inner.Steps.{HaveReferences}
 use Rattle.pw_record.specs.Names.{IsOwner}
 use Rattle.pw_record.specs.Row.{Row, GivesEntry}
 use Rattle.pw_record.specs.Rows.{GiveEntries}

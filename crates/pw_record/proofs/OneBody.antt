@@ -2,7 +2,7 @@
 use Rattle.std.proofs.Common.{◌≡◌, ℕ, ◌+◌, List, [], ◌∷◌, ◌++◌, length, sym, ap, subst, ◌∙◌, append_assoc, inl, inr, ⊎_elim, arith}
 use Rattle.std.proofs.lemmas.List.{length-append}
 use Rattle.pw_frame.specs.Frame.{FrameText}
-use Rattle.pw_frame.specs.Body.{Reading}
+use Rattle.pw_frame.specs.Body.{BodyReading}
 use Rattle.pw_tariff.specs.Office.{OfficeFile, AreNamed}
 use Rattle.pw_time.specs.declared.zone.Clock.{Clock}
 use Rattle.pw_time.specs.declared.zone.Clock.TheVariants.{Marked}
@@ -64,7 +64,7 @@ given-or-behind : (file : OfficeFile) → AreNamed file → (source : Source) (b
 given-or-behind file named source body entries before cause x (inl y) =
     let p : (rest : List FrameText) × (x.frames ≡ before ++ rest) = front-behind body x.frames before (length body) y.place x.reading.front (stops-at-end body) y.front in
     let same : x.frames ≡ before = nothing-behind x.frames before p.0 p.1 (omega (arith, x.few, y.many)) in
-    y.more (subst (Reading body) same x.reading)
+    y.more (subst (BodyReading body) same x.reading)
 given-or-behind file named source body entries before cause x (inr (inl y)) = reading-or-fault body x.frames before y.fault x.reading y.stops
 given-or-behind file named source body entries before cause x (inr (inr y)) =
     let p : (rest : List FrameText) × (x.frames ≡ (before ++ y.frame ∷ []) ++ rest) =

@@ -3,7 +3,7 @@ use Rattle.std.proofs.Common.{◌≡◌, ℕ, List, [], ◌∷◌, ◌++◌, Res
 use Rattle.std.proofs.lemmas.List.{append-nil, drop_all}
 use Rattle.pw_frame.specs.declared.frame.FrameFault.{FrameFault}
 use Rattle.pw_frame.specs.Frame.{FrameText, Whole}
-use Rattle.pw_frame.specs.Body.{FramesFrom, Front, Reading, Fault}
+use Rattle.pw_frame.specs.Body.{FramesFrom, Front, BodyReading, BodyFault}
 use Rattle.pw_frame.proofs.Unique.{one_text}
 use Rattle.pw_frame.proofs.Fronts.{one_gap, one_next}
 use Rattle.pw_frame.proofs.OneOutcome.{one_outcome}
@@ -79,11 +79,11 @@ same-refused fs gs f g e = (ap frames_of e, ap (fault_of f) e)
 read-or-refused : (fs gs : List FrameText) (g : FrameFault) → read fs ≡ refused gs g → ⊥
 read-or-refused fs gs g e = cc
 
-pub one-reading : (body : List ℕ) (fs gs : List FrameText) → Reading body fs → Reading body gs → fs ≡ gs
+pub one-reading : (body : List ℕ) (fs gs : List FrameText) → BodyReading body fs → BodyReading body gs → fs ≡ gs
 one-reading body fs gs x y = ap frames_of (one_outcome body (read fs) (read gs) x y)
 
-pub reading-or-fault : (body : List ℕ) (fs gs : List FrameText) (g : FrameFault) → Reading body fs → Fault body gs g → ⊥
+pub reading-or-fault : (body : List ℕ) (fs gs : List FrameText) (g : FrameFault) → BodyReading body fs → BodyFault body gs g → ⊥
 reading-or-fault body fs gs g x y = read-or-refused fs gs g (one_outcome body (read fs) (refused gs g) x y)
 
-pub one-fault : (body : List ℕ) (fs gs : List FrameText) (f g : FrameFault) → Fault body fs f → Fault body gs g → (fs ≡ gs) × (f ≡ g)
+pub one-fault : (body : List ℕ) (fs gs : List FrameText) (f g : FrameFault) → BodyFault body fs f → BodyFault body gs g → (fs ≡ gs) × (f ≡ g)
 one-fault body fs gs f g x y = same-refused fs gs f g (one_outcome body (refused fs f) (refused gs g) x y)

@@ -8,7 +8,8 @@ use Rattle.pw_model.specs.Counting.{Member}
 use Rattle.pw_record.specs.declared.row.RowKind.{RowKind}
 use Rattle.pw_record.specs.Listed.{AreListed}
 use Rattle.pw_record.specs.Row.{Row, GivesEntry}
-use Rattle.pw_record.specs.Rows.{AreRows, GiveEntries, AreGoodRecords, RowsGive, TakesRecord}
+use Rattle.pw_record.specs.Rows.{AreRows, GiveEntries, AreGoodRecords, RowsGive}
+use Rattle.pw_record.specs.inner.Steps.{TakesRecord}
 use Rattle.pw_record.proofs.OfOffice.{all-of-office}
 
 give-more : (file : OfficeFile) (kind : RowKind) (rows : List Row) (row : Row) (given : List Entry) (e : Entry) → GiveEntries file kind rows given → GivesEntry file kind row e

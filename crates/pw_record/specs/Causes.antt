@@ -9,10 +9,10 @@ use Rattle.pw_record.specs.declared.fault.Cause.TheVariants.{Stamp, Frame, Line,
 use Rattle.pw_record.specs.declared.fault.UploadFault.{UploadFault}
 
 abbrev pub cause_number : Cause → ℕ
-cause_number (Stamp fault) = stamp_fault.number_of fault
-cause_number (Frame fault) = frame_fault.number_of fault
+cause_number (Stamp fault) = stamp_fault.stamp_fault_number fault
+cause_number (Frame fault) = frame_fault.frame_fault_number fault
 cause_number (Line fault) = obis_fault.line_fault_number
-cause_number (Value fault) = obis_fault.number_of fault
+cause_number (Value fault) = obis_fault.value_fault_number fault
 cause_number NoMeter = 40
 cause_number UnknownMeter = 41
 cause_number WrongKind = 42
@@ -29,10 +29,10 @@ cause_number TwiceGiven = 52
 cause_number Memory = 62
 
 abbrev pub cause_name : Cause → List ℕ
-cause_name (Stamp fault) = stamp_fault.name_of fault
-cause_name (Frame fault) = frame_fault.name_of fault
+cause_name (Stamp fault) = stamp_fault.stamp_fault_name fault
+cause_name (Frame fault) = frame_fault.frame_fault_name fault
 cause_name (Line fault) = obis_fault.line_fault_name
-cause_name (Value fault) = obis_fault.name_of fault
+cause_name (Value fault) = obis_fault.value_fault_name fault
 cause_name NoMeter = codes "NoMeter"
 cause_name UnknownMeter = codes "UnknownMeter"
 cause_name WrongKind = codes "WrongKind"
@@ -50,7 +50,7 @@ cause_name Memory = codes "Memory"
 
 -- what stands behind the part's number
 abbrev pub cause_details : Cause → List ℕ
-cause_details (Frame fault) = codes " " ++ frame_fault.details_of fault
+cause_details (Frame fault) = codes " " ++ frame_fault.frame_fault_details fault
 cause_details _ = []
 
 abbrev pub fault_line : UploadFault → List ℕ

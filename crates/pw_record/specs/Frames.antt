@@ -3,7 +3,7 @@
 use Rattle.std.specs.Prelude.{◌≡◌, ℕ, ◌+◌, ◌<◌, ◌≤◌, ◌⊎◌, Option, Some, None, List, [], ◌∷◌, ◌++◌, length}
 use Rattle.pw_frame.specs.declared.frame.FrameFault.{FrameFault}
 use Rattle.pw_frame.specs.Frame.{FrameText}
-use Rattle.pw_frame.specs.Body.{Front, Reading, Fault}
+use Rattle.pw_frame.specs.Body.{Front, BodyReading, BodyFault}
 use Rattle.pw_obis.specs.declared.reader.LineFault.{LineFault}
 use Rattle.pw_obis.specs.declared.reference.Register.{Register}
 use Rattle.pw_obis.specs.Block.{HasSets}
@@ -82,7 +82,7 @@ FramesGive file source (frame ∷ frames) given =
 pub record BodyGives (file : OfficeFile) (source : Source) (body : List ℕ) (entries : List Entry) : Type 0 where
   pub frames : List FrameText
   pub given : List Entry
-  pub reading : Reading body frames
+  pub reading : BodyReading body frames
   pub few : length frames ≤ MOST_FRAMES
   pub each : FramesGive file source frames given
   pub listed : AreListed given entries
@@ -93,14 +93,14 @@ pub record HasMoreFrames (body : List ℕ) (frames : List FrameText) (cause : Ca
   pub place : ℕ
   pub many : length frames ≡ MOST_FRAMES
   pub front : Front body frames place
-  pub more : Reading body frames → ⊥
+  pub more : BodyReading body frames → ⊥
   pub cause_is : cause ≡ TooManyParts
 
 -- no frame stands behind them
 pub record HasNoFrame (body : List ℕ) (frames : List FrameText) (cause : Cause) : Type 0 where
   pub fault : FrameFault
   pub few : length frames < MOST_FRAMES
-  pub stops : Fault body frames fault
+  pub stops : BodyFault body frames fault
   pub cause_is : cause ≡ Frame fault
 
 -- a frame stands behind them that is refused, whatever stands behind it

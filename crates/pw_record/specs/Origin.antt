@@ -1,6 +1,6 @@
 -- The meter and the instant of a frame, or why it has none.
 -- (DSMR P1 Companion Standard 5.0.2 and IEC 62056-6-1; the order in which faults are told is this project's.)
-use Rattle.std.specs.Prelude.{◌≡◌, ℕ, ◌<◌, ◌⊎◌, List, length, Ok, Err}
+use Rattle.std.specs.Prelude.{◌≡◌, ℕ, ◌⊎◌, List, Ok, Err}
 use Rattle.pw_frame.specs.declared.frame.Kind.{Kind}
 use Rattle.pw_frame.specs.declared.frame.Kind.TheVariants.{Telegram, Readout}
 use Rattle.pw_obis.specs.Line.{SetText}
@@ -19,11 +19,6 @@ use Rattle.pw_record.specs.Told.{IsTold, TellNothing, TellOne, TellUnlike}
 abbrev pub kind_of : Source → Kind
 kind_of Telegrams = Telegram
 kind_of (Readouts meter clock) = Readout
-
--- the source's meter is one of the office's
-abbrev pub IsSourceOf : OfficeFile → Source → Type 0
-IsSourceOf file Telegrams = Unit {0}
-IsSourceOf file (Readouts meter clock) = meter.0 < length file.meters
 
 -- ---- the meter of a telegram: all its identifiers are alike, and are the id of a meter whose clock marks its times
 pub record HasMeter (file : OfficeFile) (sets : List SetText) (meter : ℕ) : Type 0 where

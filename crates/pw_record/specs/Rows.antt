@@ -102,7 +102,3 @@ abbrev pub TopUpsRefused : OfficeFile → List ℕ → UploadFault → Type 0
 TopUpsRefused file body fault = RowsRefused file TopUp body fault
 
 -- ---- what one more record does to the entries
-abbrev pub TakesRecord : OfficeFile → RowKind → ℕ → Row → List Entry → List Entry → Type 0
-TakesRecord file kind part row old new =
-    ((part ≡ 0) × (row ≡ header_of kind) × (new ≡ old))
-    ⊎ ((1 ≤ part) × (part ≤ MOST_ROWS) × ((entry : Entry) × GivesEntry file kind row entry × (new ≡ old ++ entry ∷ [])))

@@ -1,17 +1,17 @@
 -- What the sets of a frame show of the registers that count for a meter, or what is wrong with them.
 -- (IEC 62056-6-1; that a register which stands twice must show the same is this project's profile.)
-use Rattle.std.specs.Prelude.{◌≡◌, ℕ, ◌⊎◌, true, Option, Some, None, List, [], ◌∷◌, ◌++◌, Result, Ok, Err, slice_index_or}
+use Rattle.std.specs.Prelude.{◌≡◌, ℕ, true, Option, Some, None, List, [], ◌∷◌, ◌++◌, Result, Ok, Err}
 use Rattle.std.specs.List.{flat_map}
 use Rattle.pw_obis.specs.declared.reference.Code.{Code}
 use Rattle.pw_obis.specs.declared.reference.Register.{Register}
-use Rattle.pw_obis.specs.declared.reference.Register.TheVariants.{I0, I1, I2, E0, E1, E2}
 use Rattle.pw_obis.specs.declared.value.ValueFault.{ValueFault}
 use Rattle.pw_obis.specs.Address.{IsCodeOf}
 use Rattle.pw_obis.specs.FirstValue.{IsFirstValue}
 use Rattle.pw_obis.specs.Line.{SetText}
 use Rattle.pw_obis.specs.References.{IsCodeOfRegister}
+use Rattle.pw_obis.specs.Registers.{registers}
 use Rattle.pw_obis.specs.Value.{IsEnergy}
-use Rattle.pw_tariff.specs.Office.{OfficeFile, counts_at, register_place}
+use Rattle.pw_tariff.specs.Office.{OfficeFile, counts_at}
 use Rattle.pw_model.specs.declared.records.Entry.{Entry}
 use Rattle.pw_model.specs.Counting.{Member}
 use Rattle.pw_model.specs.Lists.{reading_entry}
@@ -27,10 +27,6 @@ pub record Measures (file : OfficeFile) (meter : ℕ) (set : SetText) (register 
   pub counts : counts_at file meter register ≡ true
   pub value_is : IsFirstValue set.values value
   pub energy_is : IsEnergy value energy
-
--- the set is of no register that counts
-abbrev pub MeasuresNothing : OfficeFile → ℕ → SetText → Type 0
-MeasuresNothing file meter set = (register : Register) (energy : Result ℕ ValueFault) → Measures file meter set register energy → ⊥
 
 -- so many Wh are shown: some set is of the register, and all that are show so many
 pub record ShowOne (file : OfficeFile) (meter : ℕ) (sets : List SetText) (register : Register) (wh : ℕ) : Type 0 where
@@ -67,26 +63,9 @@ pub record HasWrongSet (file : OfficeFile) (meter : ℕ) (sets : List SetText) (
   pub wrong : IsWrongSet file meter shown set cause
 
 -- ---- the readings of a frame: one of each register that is shown
-abbrev pub registers : List Register
-registers = I0 ∷ I1 ∷ I2 ∷ E0 ∷ E1 ∷ E2 ∷ []
-
 abbrev pub reading_of : ℕ → ℕ → Register → Option ℕ → List Entry
 reading_of meter instant register None = []
 reading_of meter instant register (Some wh) = reading_entry meter register instant wh ∷ []
 
 abbrev pub readings_of : ℕ → ℕ → (Register → Option ℕ) → List Entry
 readings_of meter instant shown = flat_map (λ r. reading_of meter instant r (shown r)) registers
-
--- six numbers, by the places of the registers
-abbrev pub shown_in : List (Option ℕ) → Register → Option ℕ
-shown_in row register = slice_index_or row (register_place register) None
-
--- one register more is noted: it wasn't shown, or showed the same
-pub record IsNoted (old new : List (Option ℕ)) (register : Register) (wh : ℕ) : Type 0 where
-  pub before : (shown_in old register ≡ None) ⊎ (shown_in old register ≡ Some wh)
-  pub here : shown_in new register ≡ Some wh
-  pub others : (other : Register) → (other ≡ register → ⊥) → shown_in new other ≡ shown_in old other
-
--- the register shows another number already
-abbrev pub IsUnlike : List (Option ℕ) → Register → ℕ → Type 0
-IsUnlike row register wh = (other : ℕ) × (shown_in row register ≡ Some other) × (wh ≡ other → ⊥)

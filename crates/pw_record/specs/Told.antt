@@ -3,7 +3,6 @@
 -- which tell the same thing must agree is this project's profile.)
 use Rattle.std.specs.Prelude.{◌≡◌, ℕ, ◌-◌, ◌&&◌, nat_le, Some, List, map, if◌then◌else◌}
 use Rattle.pw_obis.specs.declared.reference.Code.{Code}
-use Rattle.pw_obis.specs.declared.data_set.Set.{Set}
 use Rattle.pw_obis.specs.Address.{IsCodeOf}
 use Rattle.pw_obis.specs.FirstValue.{IsFirstValue}
 use Rattle.pw_obis.specs.Line.{SetText}
@@ -11,15 +10,13 @@ use Rattle.pw_obis.specs.References.{IsIdentifier, IsStamp, IsTime, IsDate}
 use Rattle.pw_model.specs.Counting.{Member}
 use Rattle.pw_record.specs.declared.told.Meaning.{Meaning}
 use Rattle.pw_record.specs.declared.told.Meaning.TheVariants.{Identifier, Stamp, Time, Date}
-use Rattle.pw_record.specs.declared.told.Told.{Told}
-use Rattle.pw_record.specs.declared.told.Told.TheVariants.{Nothing, One, Unlike}
 
 -- what a code stands for
-abbrev pub Means : Meaning → Code → Type 0
-Means Identifier code = IsIdentifier code
-Means Stamp code = IsStamp code
-Means Time code = IsTime code
-Means Date code = IsDate code
+abbrev pub IsCodeOfMeaning : Meaning → Code → Type 0
+IsCodeOfMeaning Identifier code = IsIdentifier code
+IsCodeOfMeaning Stamp code = IsStamp code
+IsCodeOfMeaning Time code = IsTime code
+IsCodeOfMeaning Date code = IsDate code
 
 -- the letters a to f are read as capitals
 abbrev pub capital : ℕ → ℕ
@@ -33,16 +30,12 @@ abbrev pub read_as : Meaning → List ℕ → List ℕ
 read_as Identifier text = capitals text
 read_as _ text = text
 
--- a set without where it lies in memory
-abbrev pub text_of : Set → SetText
-text_of set = record { address = set.address.now; values = set.values.now }
-
 -- the set tells this value
 pub record Tells (meaning : Meaning) (set : SetText) (value : List ℕ) : Type 0 where
   pub code : Code
   pub text : List ℕ
   pub code_is : IsCodeOf set.address (Some code)
-  pub means : Means meaning code
+  pub means : IsCodeOfMeaning meaning code
   pub text_is : IsFirstValue set.values text
   pub value_is : value ≡ read_as meaning text
 
@@ -66,9 +59,3 @@ pub record TellUnlike (meaning : Meaning) (sets : List SetText) : Type 0 where
   pub one_told : IsTold meaning sets one
   pub other_told : IsTold meaning sets other
   pub unlike : one ≡ other → ⊥
-
--- what the sets tell
-abbrev pub AreTelling : Meaning → List SetText → Told → Type 0
-AreTelling meaning sets Nothing = TellNothing meaning sets
-AreTelling meaning sets (One text) = TellOne meaning sets (read_as meaning text.now)
-AreTelling meaning sets Unlike = TellUnlike meaning sets

@@ -1,12 +1,12 @@
 //! Bodies of telegrams and of readouts.
 
 ghost use Rattle.std.specs.Prelude.{◌≡◌, ◌<◌, ◌++◌, List, Option, Some, None, IfOk, IfErr, OnOk, Err, length};
-ghost use Rattle.pw_frame.specs.Frame.{text_of};
+ghost use Rattle.pw_frame.specs.Frame.{frame_text};
 ghost use Rattle.pw_obis.specs.Block.{HasSets};
 ghost use Rattle.pw_obis.specs.Line.{SetText};
 ghost use Rattle.pw_tariff.specs.Office.{office_of};
 ghost use Rattle.pw_model.specs.Office.{AllOfOffice};
-ghost use Rattle.pw_record.specs.Origin.{IsSourceOf};
+ghost use Rattle.pw_record.specs.inner.Steps.{IsSourceOf};
 ghost use Rattle.pw_record.specs.Frames.{BodyGives, BodyRefused, FrameGives, ReadoutsGive, ReadoutsRefused, RefusesFrame, TelegramsGive, TelegramsRefused};
 
 use crate::fault::{Cause, Halt, MEMORY_FAULT, UploadFault};
@@ -115,8 +115,8 @@ fn put_frame(
     frame: &Frame,
 ) -> Result<(), Halt>
     requires { IsSourceOf office.now source }
-    ensures ok { OnOk result ((more : List Entry) × FrameGives office.now source (text_of frame.now) more × (given.new.items ≡ given.old.items ++ more)) }
-    ensures err { (cause : Cause) → result ≡ Err (Halt.Refused cause) → RefusesFrame office.now source (text_of frame.now) cause }
+    ensures ok { OnOk result ((more : List Entry) × FrameGives office.now source (frame_text frame.now) more × (given.new.items ≡ given.old.items ++ more)) }
+    ensures err { (cause : Cause) → result ≡ Err (Halt.Refused cause) → RefusesFrame office.now source (frame_text frame.now) cause }
 {
     if frame.kind != source.kind() {
         return Err(Halt::Refused(Cause::WrongKind));

@@ -7,8 +7,8 @@ ghost use Rattle.pw_record.specs.Uploads.{Upload};
 
 use pw_tariff::Office;
 
-/// No upload has two outcomes: by the office file, where it is sent, and its bytes it gives one list of entries at most, or is refused for one
-/// content fault in one part at most, and not both.
+/// No upload has two outcomes: by the office file, where it is sent, and its bytes it gives one list of entries at most,
+/// or is refused for one content fault in one part at most, and not both.
 pub fn no_upload_has_two_outcomes(office: &Office)
     ensures { (upload : Upload) → HasNoTwoOutcomes office.now upload }
 {

@@ -1,7 +1,8 @@
 //! The entries of an upload, and their order.
 
 ghost use Rattle.std.specs.Prelude.{◌≡◌, ◌∷◌, [], ◌++◌, OnOk};
-ghost use Rattle.pw_record.specs.Listed.{AreListed, HaveReferences};
+ghost use Rattle.pw_record.specs.Listed.{AreListed};
+ghost use Rattle.pw_record.specs.inner.Steps.{HaveReferences};
 
 use pw_model::{Content, Entry, Key};
 use std::alloc::AllocError;

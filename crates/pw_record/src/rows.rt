@@ -5,7 +5,8 @@ ghost use Rattle.csv.specs.Records.{fields_of};
 ghost use Rattle.pw_tariff.specs.Office.{office_of};
 ghost use Rattle.pw_model.specs.Office.{AllOfOffice};
 ghost use Rattle.pw_record.specs.Row.{header_of};
-ghost use Rattle.pw_record.specs.Rows.{AssignmentsGive, AssignmentsRefused, RefusesRecord, RowsGive, RowsRefused, TakesRecord, TopUpsGive, TopUpsRefused};
+ghost use Rattle.pw_record.specs.Rows.{AssignmentsGive, AssignmentsRefused, RefusesRecord, RowsGive, RowsRefused, TopUpsGive, TopUpsRefused};
+ghost use Rattle.pw_record.specs.inner.Steps.{TakesRecord};
 
 use crate::fault::{Cause, Halt, MEMORY_FAULT, UploadFault};
 use crate::order::{in_order, put};

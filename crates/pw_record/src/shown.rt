@@ -6,8 +6,12 @@ ghost use Rattle.pw_obis.specs.Address.{IsCodeOf};
 ghost use Rattle.pw_obis.specs.Block.{HasSets};
 ghost use Rattle.pw_obis.specs.Line.{SetText};
 ghost use Rattle.pw_tariff.specs.Office.{register_place as place_of};
-ghost use Rattle.pw_record.specs.Shown.{AreShown, HasWrongSet, IsNoted, IsUnlike, Measures, MeasuresNothing, reading_of, readings_of, shown_in};
-ghost use Rattle.pw_record.specs.Told.{text_of};
+ghost use Rattle.pw_record.specs.Shown.{AreShown, HasWrongSet, Measures, reading_of, readings_of};
+ghost use Rattle.pw_record.specs.inner.Shown.{IsUnlike};
+ghost use Rattle.pw_record.specs.inner.Shown.{IsNoted};
+ghost use Rattle.pw_record.specs.inner.Shown.{shown_in};
+ghost use Rattle.pw_record.specs.inner.Shown.{MeasuresNothing};
+ghost use Rattle.pw_record.specs.inner.Told.{told_text};
 
 use crate::fault::Cause;
 use crate::order::put;
@@ -16,16 +20,6 @@ use pw_model::{Content, Entry, Key};
 use pw_obis::{Register, Set, Sets, ValueFault, WattHours, first_value, register, watt_hours};
 use pw_tariff::{MeterId, Office};
 use std::alloc::AllocError;
-
-/// The registers, in their order.
-pub const REGISTERS: [Register; 6] = [
-    Register::I0,
-    Register::I1,
-    Register::I2,
-    Register::E0,
-    Register::E1,
-    Register::E2,
-];
 
 /// What is shown of each register, by its place.
 pub type Shown = [Option<WattHours>; 6];
@@ -67,9 +61,9 @@ fn measured(office: &Office, meter: MeterId, set: &Set) -> Result<Option<Reading
     requires meter { meter.0 < length office.now.meters }
     requires code { IsCodeOf set.now.address.now set.now.code }
     ensures ok { IfOk result (λ reading. MatchOption reading
-        (MeasuresNothing office.now meter.0 (text_of set.now))
-        (λ r. Measures office.now meter.0 (text_of set.now) r.register (Ok r.wh))) }
-    ensures err { IfErr result (λ fault. (r : Register) × Measures office.now meter.0 (text_of set.now) r (Err fault)) }
+        (MeasuresNothing office.now meter.0 (told_text set.now))
+        (λ r. Measures office.now meter.0 (told_text set.now) r.register (Ok r.wh))) }
+    ensures err { IfErr result (λ fault. (r : Register) × Measures office.now meter.0 (told_text set.now) r (Err fault)) }
 {
     let Some(code) = set.code else {
         return Ok(None);
@@ -120,7 +114,7 @@ pub fn is_nothing_shown(shown: &Shown) -> bool
     ensures nothing { OnTrue result ((r : Register) → shown_in shown.now r ≡ None) }
     ensures some { OnFalse result ((r : Register) × (wh : ℕ) × (shown_in shown.now r ≡ Some wh)) }
 {
-    for register in REGISTERS {
+    for register in Register::ALL {
         if shown[register_place(register)].is_some() {
             return false;
         }

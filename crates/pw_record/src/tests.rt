@@ -3,6 +3,7 @@
 mod bodies;
 mod frames;
 mod memory;
+mod refusals;
 mod rows;
 mod sample;
 mod telegrams;

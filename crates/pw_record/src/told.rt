@@ -4,7 +4,9 @@ ghost use Rattle.std.specs.Prelude.{◌≡◌, ◌↔◌, ◌∷◌, ◌++◌, [
 ghost use Rattle.pw_obis.specs.Address.{IsCodeOf};
 ghost use Rattle.pw_obis.specs.Block.{HasSets};
 ghost use Rattle.pw_obis.specs.Line.{SetText};
-ghost use Rattle.pw_record.specs.Told.{AreTelling, Means, capital as capital_of, capitals, read_as, text_of};
+ghost use Rattle.pw_record.specs.Told.{IsCodeOfMeaning, capital as capital_of, capitals, read_as};
+ghost use Rattle.pw_record.specs.inner.Told.{AreTelling};
+ghost use Rattle.pw_record.specs.inner.Told.{told_text};
 
 use pw_obis::{Code, Set, Sets, first_value, is_date, is_identifier, is_stamp, is_time};
 
@@ -30,7 +32,7 @@ pub enum Told<'a> {
 
 impl Meaning {
     fn is_meant_by(self, code: &Code) -> bool
-        ensures { IsTrue result ↔ Means self code.now }
+        ensures { IsTrue result ↔ IsCodeOfMeaning self code.now }
     {
         match self {
             Meaning::Identifier => is_identifier(code),
@@ -59,7 +61,7 @@ pub fn all_told<'a>(block: &'a [u8], meaning: Meaning) -> Told<'a>
 /// What sets tell with one set more.
 fn joined<'a>(told: Told<'a>, meaning: Meaning, set: &Set<'a>) -> Told<'a>
     requires { IsCodeOf set.now.address.now set.now.code }
-    ensures { (sets : List SetText) → AreTelling meaning sets told.entry → AreTelling meaning (sets ++ text_of set.now ∷ []) result }
+    ensures { (sets : List SetText) → AreTelling meaning sets told.entry → AreTelling meaning (sets ++ told_text set.now ∷ []) result }
 {
     let Some(code) = set.code else {
         return told;

@@ -23,7 +23,7 @@ use Rattle.pw_model.specs.Counting.{Member, contents_at}
 use Rattle.pw_model.proofs.Alike.{keys-alike}
 use Rattle.pw_model.proofs.Same.{same_key-decides}
 use Rattle.pw_model.proofs.Counting.{entry, Tells, tells, tells-one}
-use Rattle.pw_shelf.specs.Kinds.{lowest}
+use Rattle.pw_shelf.specs.inner.Kinds.{lowest}
 use Rattle.pw_shelf.proofs.InOrder.{order, order_total}
 
 abbrev pub key_order : Key → Key → Ordering

@@ -12,10 +12,11 @@ use Rattle.pw_model.specs.declared.records.Key.{Key}
 use Rattle.pw_model.specs.declared.records.Key.TheVariants as key
 use Rattle.pw_model.specs.declared.records.Entry.{Entry}
 use Rattle.pw_model.specs.Counting.{Member}
-use Rattle.pw_model.specs.Lists.{IsBeforeAll, IsRising}
-use Rattle.pw_model.specs.Same.{HasReference, entry_order}
+use Rattle.pw_model.specs.Lists.{IsBeforeAll, IsInOrder}
+use Rattle.pw_model.specs.Same.{entry_order}
+use Rattle.pw_model.specs.inner.Keys.{HasReference}
 use Rattle.pw_model.proofs.InKeyOrder.{entries-ordered}
-use Rattle.pw_shelf.specs.Held.{AreNamed, IsNamed}
+use Rattle.pw_shelf.specs.inner.Held.{AreNamed, IsNamed}
 use Rattle.pw_shelf.specs.Rows.{ListsHeld}
 use Rattle.pw_shelf.proofs.InOrder.{order}
 
@@ -29,7 +30,7 @@ before-all : (x : Entry) (xs : List Entry) → IsNamed x.key → ((e : Entry) �
 before-all x [] n m h = tt
 before-all x (y ∷ ys) n m h = (sym (entries-ordered x y (reference x.key n) (reference y.key (m y (inl refl)))) ∙ h.0, before-all x ys n (λ e i. m e (inr i)) h.1)
 
-pub rising : (xs : List Entry) → AreNamed xs → IsStrictlySortedBy order xs → IsRising entry_order xs
+pub rising : (xs : List Entry) → AreNamed xs → IsStrictlySortedBy order xs → IsInOrder entry_order xs
 unfolding IsStrictlySortedBy
 rising [] n h = tt
 rising (x ∷ xs) n h = (before-all x xs (n x (inl refl)) (λ e i. n e (inr i)) h.0, rising xs (λ e i. n e (inr i)) h.1)
@@ -41,7 +42,7 @@ module _ {X : Type 0} (o : X → X → Ordering) where
   before-behind x e (z ∷ xs) ys h = before-behind x e xs ys h.1
 
   -- in a rising list each stands before what stands behind it
-  pub split-before : (x e : X) (xs ys : List X) → IsRising o (xs ++ e ∷ ys) → Member x xs → o x e ≡ Less
+  pub split-before : (x e : X) (xs ys : List X) → IsInOrder o (xs ++ e ∷ ys) → Member x xs → o x e ≡ Less
   split-before x e [] ys h m = absurd m
   split-before x e (z ∷ xs) ys h m =
       elim m [
@@ -53,7 +54,7 @@ module _ {X : Type 0} (o : X → X → Ordering) where
   before-push x e [] h l = (l, tt)
   before-push x e (z ∷ xs) h l = (h.0, before-push x e xs h.1 l)
 
-  rising-push : (e : X) (xs : List X) → IsRising o xs → ((x : X) → Member x xs → o x e ≡ Less) → IsRising o (xs ++ e ∷ [])
+  rising-push : (e : X) (xs : List X) → IsInOrder o xs → ((x : X) → Member x xs → o x e ≡ Less) → IsInOrder o (xs ++ e ∷ [])
   rising-push e [] h l = (tt, tt)
   rising-push e (z ∷ xs) h l = (before-push z e xs h.0 (l z (inl refl)), rising-push e xs h.1 (λ x m. l x (inr m)))
 
@@ -111,7 +112,7 @@ module _ (Of : Key → Type 0) (keys : List Entry) (named : AreNamed keys) (sort
   split = sym start ∙ rest_so_far deref xs s t y ∙ ap (λ l. map deref xs ++ l) step
 
   earlier : (e : Entry) → Member e (map deref xs) → entry_order e x.now ≡ Less
-  earlier e m = split-before entry_order e x.now (map deref xs) u (subst (IsRising entry_order) split (rising keys named sorted)) m
+  earlier e m = split-before entry_order e x.now (map deref xs) u (subst (IsInOrder entry_order) split (rising keys named sorted)) m
 
   pub turn-skip : (found : List Entry) → ListsHeld Of (map deref xs) found → (Of x.now.key → ⊥) → ListsHeld Of (map deref (xs ++ x ∷ [])) found
   turn-skip found h n = let e : map deref (xs ++ x ∷ []) ≡ map deref xs ++ x.now ∷ [] = map-append deref xs (x ∷ []) in

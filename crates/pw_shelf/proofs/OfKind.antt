@@ -16,14 +16,15 @@ use Rattle.pw_model.specs.declared.records.Key.{Key}
 use Rattle.pw_model.specs.declared.records.Key.TheVariants as key
 use Rattle.pw_model.specs.declared.records.Entry.{Entry}
 use Rattle.pw_model.specs.References.{IsReference, is_reference_byte}
-use Rattle.pw_model.specs.Same.{HasReference, key_numbers, key_order as listed_order}
+use Rattle.pw_model.specs.Same.{key_numbers, key_order as listed_order}
+use Rattle.pw_model.specs.inner.Keys.{HasReference}
 use Rattle.pw_model.specs.Counting.{Member}
 use Rattle.pw_model.proofs.InKeyOrder.{keys-ordered}
 use Rattle.pw_model.proofs.Same.{register-one}
 use Rattle.pw_shelf.specs.declared.lists.Kind.{Kind}
 use Rattle.pw_shelf.specs.declared.lists.Kind.TheVariants.{Readings, Assignments, TopUps}
-use Rattle.pw_shelf.specs.Held.{IsNamed, AreNamed}
-use Rattle.pw_shelf.specs.Kinds.{IsOfKind, lowest, lowest_key}
+use Rattle.pw_shelf.specs.inner.Held.{IsNamed, AreNamed}
+use Rattle.pw_shelf.specs.inner.Kinds.{IsOfKind, lowest, lowest_key}
 use Rattle.pw_shelf.specs.Rows.{ListsHeld}
 use Rattle.pw_shelf.proofs.InOrder.{order}
 use Rattle.pw_shelf.proofs.AtKey.{key_order, content-lowest, from, and-both, from-le, kept-member, member-kept, sorted-kept, all-member}

@@ -5,8 +5,6 @@ use Rattle.pw_model.specs.declared.records.Entry.{Entry}
 use Rattle.pw_model.specs.Counting.{Member}
 use Rattle.pw_model.specs.Shelf.{ShelfContent}
 use Rattle.pw_shelf.specs.State.{IsWithRecord}
-use Rattle.pw_shelf.specs.declared.fault.ShelfFault.{ShelfFault}
-use Rattle.pw_shelf.specs.declared.fault.ShelfFault.TheVariants as shelf
 use Rattle.pw_shelf.specs.declared.once.AddFault.{AddFault}
 use Rattle.pw_shelf.specs.declared.once.AddFault.TheVariants.{Memory, Device, Reopen}
 
@@ -20,9 +18,6 @@ abbrev pub LeavesBeforeOrAfter : ShelfContent → Entry → (ShelfContent → Ty
 LeavesBeforeOrAfter content e old new = (c : ShelfContent) → new c → old c ⊎ ((fresh : Bool) × IsAfter content e fresh c)
 
 -- ---- faults
-abbrev pub add_fault : ShelfFault → AddFault
-add_fault shelf.Memory = Memory
-add_fault shelf.Device = Device
 
 -- how many failures of the device are counted: one where it answers Device, else none; with Reopen none is forgotten
 abbrev pub FailuresAdded : Result Bool AddFault → ℕ → ℕ → Type 0

@@ -4,7 +4,7 @@ ghost use Rattle.std.specs.Prelude.{◌≡◌, ◌<◌, ◌≤◌, [], IfOk, IfE
 ghost use Rattle.pw_model.specs.Office.{most_records};
 ghost use Rattle.pw_model.specs.Counting.{Member, IsInserted};
 ghost use Rattle.pw_model.specs.Counting.{EachOnce};
-ghost use Rattle.pw_shelf.specs.Held.{AreNamed, AreNamed-prop, EachOnce-prop, IsNamed};
+ghost use Rattle.pw_shelf.specs.inner.Held.{AreNamed, AreNamed-prop, EachOnce-prop, IsNamed};
 ghost use Rattle.pw_shelf.specs.declared.fault.ShelfFault.TheVariants.{Memory};
 
 use crate::fault::ShelfFault;

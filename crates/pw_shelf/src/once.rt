@@ -4,7 +4,8 @@ ghost use Rattle.std.specs.Prelude.{◌≡◌, ◌+◌, ◌<◌, ◌≤◌, None
 ghost use Rattle.pw_model.specs.Office.{most_records};
 ghost use Rattle.pw_shelf.specs.Left.{LeavesOnly};
 ghost use Rattle.pw_shelf.specs.Calls.{failures_told};
-ghost use Rattle.pw_shelf.specs.Once.{FailuresAdded, IsAfter, LeavesBeforeOrAfter, add_fault};
+ghost use Rattle.pw_shelf.specs.Once.{FailuresAdded, IsAfter, LeavesBeforeOrAfter};
+ghost use Rattle.pw_shelf.specs.inner.Adding.{add_fault};
 ghost use Rattle.pw_shelf.specs.State.{CountsFailures};
 ghost use Rattle.pw_shelf.specs.declared.once.AddFault.TheVariants.{Reopen};
 

@@ -5,7 +5,8 @@ use Rattle.std.proofs.lemmas.Bool.{cases_lt, cases_eq, eq-eqb, ne_eqb}
 use Rattle.pw_tariff.specs.declared.ids.AccountId.{AccountId}
 use Rattle.pw_tariff.specs.declared.cells.Cell.{Cell}
 use Rattle.pw_tariff.specs.Owners.{same_owner}
-use Rattle.pw_tariff.specs.Cells.{owner_place, IsBeforeClass, AreInOrder, AreAboveZero, is_of, energy_in, energy_of_all, IsAdded}
+use Rattle.pw_tariff.specs.Cells.{owner_place, IsBeforeClass, AreInOrder, AreAboveZero, is_of, energy_in, energy_of_all}
+use Rattle.pw_tariff.specs.inner.Shares.{IsAdded}
 
 -- ---- whose cell it is
 same-place : (a b : Option AccountId) → same_owner a b ≡ (owner_place a == owner_place b)

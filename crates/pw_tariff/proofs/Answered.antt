@@ -1,16 +1,22 @@
 -- One answer for each text, one band for each second.
-use Rattle.std.proofs.Common.{◌≡◌, ℕ, pos, ◌/◌, ◌%◌, ◌<◌, get_or, Some, None, List, [], Result, Ok, Err, refl, sym, ◌∙◌, ap, arith}
-use Rattle.std.proofs.lemmas.Option.{same_Some}
+use Rattle.std.proofs.Common.{◌≡◌, ℕ, pos, ◌/◌, ◌%◌, ◌<◌, get_or, Option, Some, None, List, [], ◌++◌, Result, Ok, Err, Bool, true, false, refl, sym, ◌∙◌, ap, arith}
+use Rattle.std.specs.Str.{IsUtf8, is_utf8}
+use Rattle.std.proofs.lemmas.Option.{none-some, same_Some}
+use Rattle.std.proofs.lemmas.Str.{IsUtf8-from_is_utf8, is_utf8-from_IsUtf8}
 use Rattle.jiff_core.proofs.CalendarLemmas.{weekday_number_bound}
 use Rattle.toml.specs.Data.{Members}
+use Rattle.toml.specs.Parse.{parse_document}
 use Rattle.pw_time.specs.Summer.{local_weekday, local_hour, local_second}
 use Rattle.pw_time.proofs.SummerFacts.{local_same}
 use Rattle.pw_tariff.specs.declared.fault.OfficeFault.{OfficeFault}
 use Rattle.pw_tariff.specs.declared.fault.OfficeFault.TheVariants.{Toml, MissingField, BadName, TwiceNamed, Week, Price, RegistersOverlap, Empty, TooMany, Memory}
 use Rattle.pw_tariff.specs.Office.{OfficeFile, IsDay, band_at}
 use Rattle.pw_tariff.specs.Checks.{first_refusal}
-use Rattle.pw_tariff.specs.Text.{IsTable, office_checks, file_of_table}
-use Rattle.pw_tariff.specs.Laws.{IsAnswer, TextHasOneAnswer, BandIsConstantWithinAnHour, BandsAreOfTheOffice}
+use Rattle.pw_tariff.specs.Text.{IsTable, office_checks, file_of_table, accounts_checks, bands_checks, meters_checks, week_checks}
+use Rattle.pw_tariff.specs.Laws.{IsAnswer, TextHasOneAnswer, OfficeOfTextIsSound, BandIsConstantWithinAnHour, BandsAreOfTheOffice}
+use Rattle.pw_tariff.proofs.Behind.{left, right}
+use Rattle.pw_tariff.proofs.Refusing.{IsOfTable, first-of-table, office-of-table}
+use Rattle.pw_tariff.proofs.Sound.{sound}
 
 -- ---- bands
 pub same-band : BandIsConstantWithinAnHour
@@ -29,6 +35,9 @@ bands-of file s t =
     d.1 (local_hour t) 0 (let n = d.0 in omega (arith, n, h))
 
 -- ---- answers
+no-truth : false ≡ true → ⊥
+no-truth h = cc
+
 data Judged (text : List ℕ) (r : Result OfficeFile OfficeFault) : Type 0 where
   untold : ((t : Members) → IsTable text t → ⊥) → r ≡ Err Toml → Judged text r
   passed : (t : Members) → IsTable text t → first_refusal (office_checks t) ≡ None → r ≡ Ok (file_of_table t) → Judged text r
@@ -65,5 +74,52 @@ same-judged text a b (refused t h d f p) (passed u k g q) = absurd (no-refusal d
 same-judged text a b (refused t h d f p) (refused u k e g q) =
     p ∙ ap Err (same_Some d e (sym f ∙ ap (λ z. first_refusal (office_checks z)) (one-table text t u h k) ∙ g)) ∙ sym q
 
+same-answer : (text : List ℕ) (a b : Result OfficeFile OfficeFault) → IsAnswer text a → IsAnswer text b → a ≡ b
+same-answer text a b h k = same-judged text a b (judged text a h) (judged text b k)
+
+abbrev AnAnswer : List ℕ → Type 0
+AnAnswer text = (a : Result OfficeFile OfficeFault) × IsAnswer text a
+
+refusal-of : (text : List ℕ) (t : Members) → IsTable text t → (e : OfficeFault) → IsOfTable e →
+    first_refusal (office_checks t) ≡ Some e → IsAnswer text (Err e)
+refusal-of text t h Toml d p = absurd d
+refusal-of text t h Memory d p = absurd d
+refusal-of text t h MissingField d p = (t, h, p)
+refusal-of text t h BadName d p = (t, h, p)
+refusal-of text t h TwiceNamed d p = (t, h, p)
+refusal-of text t h Week d p = (t, h, p)
+refusal-of text t h Price d p = (t, h, p)
+refusal-of text t h RegistersOverlap d p = (t, h, p)
+refusal-of text t h Empty d p = (t, h, p)
+refusal-of text t h TooMany d p = (t, h, p)
+
+of-table : (text : List ℕ) (t : Members) → IsTable text t → (r : Option OfficeFault) →
+    first_refusal (office_checks t) ≡ r → AnAnswer text
+of-table text t h None p = (Ok (file_of_table t), (t, h, p, refl))
+of-table text t h (Some e) p =
+    (Err e, refusal-of text t h e (first-of-table (office_checks t) (office-of-table t) e p) p)
+
+of-parsed : (text : List ℕ) → IsUtf8 text → (r : Option Members) → parse_document text ≡ r → AnAnswer text
+of-parsed text u None p = (Err Toml, λ t h. none-some t (sym p ∙ h.1))
+of-parsed text u (Some t) p = of-table text t (u, p) (first_refusal (office_checks t)) refl
+
+of-bytes : (text : List ℕ) (b : Bool) → is_utf8 text ≡ b → AnAnswer text
+of-bytes text true p = of-parsed text (IsUtf8-from_is_utf8 text p) (parse_document text) refl
+of-bytes text false p = (Err Toml, λ t h. no-truth (sym p ∙ is_utf8-from_IsUtf8 text h.0))
+
 pub one-answer : TextHasOneAnswer
-one-answer text a b h k = same-judged text a b (judged text a h) (judged text b k)
+one-answer text =
+    let a = of-bytes text (is_utf8 text) refl in
+    record { answer = a.0; is_answer = a.1; only = λ other h. same-answer text other a.0 h a.1 }
+
+-- ---- offices
+pub office-sound : OfficeOfTextIsSound
+office-sound text file h =
+    let t = h.0 in
+    let two = accounts_checks t ++ bands_checks t in
+    let three = two ++ meters_checks t in
+    let first_three = left three (week_checks t) h.2 in
+    let first_two = left two (meters_checks t) first_three in
+    rw h.3 (sound t (left (accounts_checks t) (bands_checks t) first_two)
+    (right (accounts_checks t) (bands_checks t) first_two) (right two (meters_checks t) first_three)
+    (right three (week_checks t) h.2))

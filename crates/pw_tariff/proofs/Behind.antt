@@ -1,7 +1,8 @@
 -- What passes, part by part.
 use Rattle.std.proofs.Common.{◌≡◌, Option, Some, None, List, [], ◌∷◌, ◌++◌, Bool, true, false, cond, refl, sym, ◌∙◌}
 use Rattle.pw_tariff.specs.declared.fault.OfficeFault.{OfficeFault}
-use Rattle.pw_tariff.specs.Checks.{Check, first_refusal, Passes}
+use Rattle.pw_tariff.specs.Checks.{Check, first_refusal}
+use Rattle.pw_tariff.specs.inner.Checks.{Passes}
 use Rattle.pw_tariff.proofs.Order.{first-passes}
 
 no-refusal : {A : Type 0} (x : A) → Some x ≡ None → ⊥

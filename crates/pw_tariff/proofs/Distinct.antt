@@ -1,7 +1,8 @@
 -- No two names of a list are the same where each was new behind those before it.
-use Rattle.std.proofs.Common.{◌≡◌, ◌==◌, ◌||◌, ℕ, zero, suc, Some, None, slice_get, List, [], ◌∷◌, ◌++◌, length, map, not, Bool, true, false, refl, ap}
+use Rattle.std.proofs.Common.{◌≡◌, ◌||◌, ℕ, zero, suc, Some, slice_get, List, [], ◌∷◌, ◌++◌, length, map, not, Bool, true, false, refl, ap}
 use Rattle.std.proofs.lemmas.Option.{none-some, same_Some}
-use Rattle.pw_tariff.specs.Checks.{Check, Passes, each_in_turn}
+use Rattle.pw_tariff.specs.Checks.{Check, each_in_turn}
+use Rattle.pw_tariff.specs.inner.Checks.{Passes}
 use Rattle.pw_tariff.specs.Office.{AreDistinct}
 use Rattle.pw_tariff.specs.Words.{same_text, is_new}
 use Rattle.pw_tariff.proofs.Named.{own-text}

@@ -8,5 +8,6 @@ pub mod Parts
 pub mod Behind
 pub mod Distinct
 pub mod Sound
+pub mod Refusing
 pub mod Answered
 pub mod OneWay

@@ -6,10 +6,10 @@ use Rattle.toml.specs.Data.{Members, as_str, as_table}
 use Rattle.toml.specs.View.{view, items_view}
 use Rattle.toml.specs.declared.value.Value.{Value}
 use Rattle.toml.proofs.Views.{items_view-drop}
-use Rattle.pw_tariff.specs.Held.{table_in}
-use Rattle.pw_tariff.specs.Text.{texts_of, tables_of, before}
+use Rattle.pw_tariff.specs.inner.Held.{table_in}
+use Rattle.pw_tariff.specs.Text.{texts_of, tables_of, put_before}
 
--- these before the others
+-- these put_before the others
 abbrev pub after : {A : Type 0} → List A → Option (List A) → Option (List A)
 after found rest = option_map (λ ts. found ++ ts) rest
 
@@ -17,17 +17,17 @@ pub after-none : {A : Type 0} (r : Option (List A)) → after [] r ≡ r
 after-none None = refl
 after-none (Some ts) = refl
 
-pub after-text : {A : Type 0} (found : List A) (t : A) (r : Option (List A)) → after found (before (Some t) r) ≡ after (found ++ t ∷ []) r
+pub after-text : {A : Type 0} (found : List A) (t : A) (r : Option (List A)) → after found (put_before (Some t) r) ≡ after (found ++ t ∷ []) r
 after-text found t None = refl
 after-text found t (Some ts) = ap Some (sym (append_assoc found (t ∷ []) ts))
 
-pub texts-step : (vs : List Value) (i : ℕ) (d : Value) → i < length vs → texts_of (items_view (drop i vs)) ≡ before (as_str (view (get_or vs i d))) (texts_of (items_view (drop (i + 1) vs)))
+pub texts-step : (vs : List Value) (i : ℕ) (d : Value) → i < length vs → texts_of (items_view (drop i vs)) ≡ put_before (as_str (view (get_or vs i d))) (texts_of (items_view (drop (i + 1) vs)))
 texts-step vs i d h = rw (items_view-drop vs i d h) refl
 
-pub tables-step : (vs : List Value) (i : ℕ) (d : Value) → i < length vs → tables_of (items_view (drop i vs)) ≡ before (as_table (view (get_or vs i d))) (tables_of (items_view (drop (i + 1) vs)))
+pub tables-step : (vs : List Value) (i : ℕ) (d : Value) → i < length vs → tables_of (items_view (drop i vs)) ≡ put_before (as_table (view (get_or vs i d))) (tables_of (items_view (drop (i + 1) vs)))
 tables-step vs i d h = rw (items_view-drop vs i d h) refl
 
-no-list : {A : Type 0} (o : Option A) → before o None ≡ None
+no-list : {A : Type 0} (o : Option A) → put_before o None ≡ None
 no-list None = refl
 no-list (Some x) = refl
 

@@ -4,7 +4,10 @@ use Rattle.std.proofs.lemmas.List.{drop_more, map-append}
 use Rattle.std.proofs.Math.ListN.{drop_of_length-le}
 use Rattle.pw_tariff.specs.declared.fault.OfficeFault.{OfficeFault}
 use Rattle.pw_tariff.specs.declared.fault.OfficeFault.TheVariants.{Toml, MissingField, BadName, TwiceNamed, Week, Price, RegistersOverlap, Empty, TooMany, Memory}
-use Rattle.pw_tariff.specs.Checks.{Check, first_refusal, Passes, IsRefusal, IsListFault, each_in_turn, length_checks, list_checks}
+use Rattle.pw_tariff.specs.Checks.{Check, first_refusal, each_in_turn, length_checks, list_checks}
+use Rattle.pw_tariff.specs.inner.Checks.{IsListFault}
+use Rattle.pw_tariff.specs.inner.Checks.{IsRefusal}
+use Rattle.pw_tariff.specs.inner.Checks.{Passes}
 
 no-refusal : {A : Type 0} (x : A) → Some x ≡ None → ⊥
 no-refusal x h = cc

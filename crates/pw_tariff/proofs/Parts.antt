@@ -9,8 +9,11 @@ use Rattle.pw_tariff.specs.declared.fault.OfficeFault.{OfficeFault}
 use Rattle.pw_tariff.specs.declared.fault.OfficeFault.TheVariants.{Toml, MissingField, BadName, TwiceNamed, Week, Price, RegistersOverlap, Empty, TooMany, Memory}
 use Rattle.pw_tariff.specs.Office.{band_named, overlap}
 use Rattle.pw_tariff.specs.Held.{bands_of, band_of}
-use Rattle.pw_tariff.specs.Checks.{Check, check, first_refusal, Passes, IsRefusal}
-use Rattle.pw_tariff.specs.Text.{registers_in_turn, registers_checks, registers_of, accounts_checks, bands_checks, meters_checks, week_checks, office_checks, IsTable, IsRefused, IsNoTable}
+use Rattle.pw_tariff.specs.Checks.{Check, check, first_refusal}
+use Rattle.pw_tariff.specs.inner.Checks.{IsRefusal}
+use Rattle.pw_tariff.specs.inner.Checks.{Passes}
+use Rattle.pw_tariff.specs.Text.{registers_in_turn, registers_checks, registers_of, accounts_checks, bands_checks, meters_checks, week_checks, office_checks, IsTable, IsRefused}
+use Rattle.pw_tariff.specs.inner.Checks.{IsNoTable}
 use Rattle.pw_tariff.proofs.Order.{first-passes, refusal-front, refusal-behind}
 
 no-truth : false ≡ true → ⊥

@@ -9,14 +9,16 @@ use Rattle.pw_flow.proofs.Turns.{sum-from_start}
 use Rattle.pw_tariff.specs.declared.ids.AccountId.{AccountId}
 use Rattle.pw_tariff.specs.declared.cells.Cell.{Cell}
 use Rattle.pw_tariff.specs.Office.{OfficeFile}
-use Rattle.pw_tariff.specs.Cells.{is_of, energy_in, energy_of_all, IsAdded, AreInOrder, AreAboveZero}
-use Rattle.pw_tariff.specs.Shares.{seconds_of, IsShareAt, AreShares}
+use Rattle.pw_tariff.specs.Cells.{is_of, energy_in, energy_of_all, AreInOrder, AreAboveZero}
+use Rattle.pw_tariff.specs.inner.Shares.{IsAdded}
+use Rattle.pw_tariff.specs.Shares.{class_seconds, AreShares}
+use Rattle.pw_tariff.specs.inner.Shares.{IsShareAt}
 use Rattle.pw_tariff.specs.declared.spread.Span.{Span}
 
 -- the cells as far as the seconds before t
 pub record SoFar (office : OfficeFile) (owners : List (ℕ × Option AccountId)) (x w y v t : ℕ) (cells : List Cell) : Type 0 where
   pub shares : (owner : Option AccountId) (band : ℕ) →
-      energy_in cells owner band ≡ sum_over (kept (seconds_of office owners owner band) (pair_flow (x, w) (y, v))) x (t - x)
+      energy_in cells owner band ≡ sum_over (kept (class_seconds office owners owner band) (pair_flow (x, w) (y, v))) x (t - x)
   pub above_zero : AreAboveZero cells
   pub in_order : AreInOrder cells
   pub whole : energy_of_all cells + w ≡ level x w y v t
@@ -35,9 +37,9 @@ pub nothing-more : (office : OfficeFile) (owners : List (ℕ × Option AccountId
     l ≡ level x w y v t → n ≡ level x w y v (t + 1) → n - l ≤ 0 → l ≤ n → SoFar office owners x w y v t cells → SoFar office owners x w y v (t + 1) cells
 nothing-more office owners x w y v t l n cells r a e f z u s = record {
   shares = λ o b.
-      let m = sum-more (kept (seconds_of office owners o b) (pair_flow (x, w) (y, v))) x t a in
+      let m = sum-more (kept (class_seconds office owners o b) (pair_flow (x, w) (y, v))) x t a in
       let p : pair_flow (x, w) (y, v) t ≡ level x w y v (t + 1) - level x w y v t = pair_flow-is x w y v t r in
-      let k : kept (seconds_of office owners o b) (pair_flow (x, w) (y, v)) t ≡ 0 = kept-nothing (seconds_of office owners o b t) _ (omega arith) in
+      let k : kept (class_seconds office owners o b) (pair_flow (x, w) (y, v)) t ≡ 0 = kept-nothing (class_seconds office owners o b t) _ (omega arith) in
       let g = s.shares o b in
       omega (arith, m, k, g);
   above_zero = s.above_zero;
@@ -51,11 +53,11 @@ pub share-more : (office : OfficeFile) (owners : List (ℕ × Option AccountId))
     SoFar office owners x w y v t old → SoFar office owners x w y v (t + 1) new
 share-more office owners x w y v t l n share old new r a e f u i d s = record {
   shares = λ o b.
-      let m = sum-more (kept (seconds_of office owners o b) (pair_flow (x, w) (y, v))) x t a in
+      let m = sum-more (kept (class_seconds office owners o b) (pair_flow (x, w) (y, v))) x t a in
       let p : pair_flow (x, w) (y, v) t ≡ level x w y v (t + 1) - level x w y v t = pair_flow-is x w y v t r in
       let q : share.wh ≡ pair_flow (x, w) (y, v) t = let j = i.energy in omega (arith, j) in
-      let k : is_of o b share ≡ seconds_of office owners o b t = rw (i.owner, i.band) in
-      let c : cond (is_of o b share) share.wh 0 ≡ kept (seconds_of office owners o b) (pair_flow (x, w) (y, v)) t = rw (k, q) in
+      let k : is_of o b share ≡ class_seconds office owners o b t = rw (i.owner, i.band) in
+      let c : cond (is_of o b share) share.wh 0 ≡ kept (class_seconds office owners o b) (pair_flow (x, w) (y, v)) t = rw (k, q) in
       let g = s.shares o b in
       let h = d.energy o b in
       omega (arith, m, c, g, h);

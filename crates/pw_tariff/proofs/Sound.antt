@@ -1,18 +1,18 @@
 -- What holds of an office whose file passes all checks.
-use Rattle.std.proofs.Common.{◌≡◌, ◌==◌, ◌&&◌, ℕ, zero, suc, ◌<◌, ◌≤◌, ℤ, pos, negsuc, Option, Some, None, is_some, unwrap_or, slice_get, List, [], ◌∷◌, ◌++◌, length, map, All, nat_le, nat_lt, not, codes, Bool, true, false, cond, refl, sym, ◌∙◌, arith, eqb-true}
+use Rattle.std.proofs.Common.{◌≡◌, ◌==◌, ◌&&◌, ℕ, zero, suc, ◌<◌, ◌≤◌, ℤ, pos, negsuc, Option, Some, is_some, unwrap_or, slice_get, List, [], ◌∷◌, ◌++◌, length, map, All, nat_le, nat_lt, not, codes, Bool, true, false, refl, arith, eqb-true}
 use Rattle.std.specs.List.{list_all}
 use Rattle.std.proofs.lemmas.List.{length-map, map-id}
 use Rattle.std.proofs.lemmas.Option.{none-some, same_Some}
 use Rattle.std.proofs.lemmas.Simd.{map-map}
 use Rattle.std.proofs.lemmas.Bool.{leb-true, ltb-true}
 use Rattle.toml.specs.Data.{Members}
-use Rattle.pw_tariff.specs.declared.fault.OfficeFault.{OfficeFault}
 use Rattle.pw_tariff.specs.declared.limits.TheConstants.{MOST_PRICE, MOST_ACCOUNTS, MOST_BANDS, MOST_METERS, LONGEST_ACCOUNT_NAME, LONGEST_METER_ID}
 use Rattle.pw_tariff.specs.Office.{IsSound, AreDistinct, IsDay, BandText, MeterText, band_named, overlap}
 use Rattle.pw_tariff.specs.Words.{is_price, is_name, is_capital, is_band_name, is_new, clock_named}
 use Rattle.pw_tariff.specs.declared.fault.OfficeFault.TheVariants.{MissingField, BadName, TwiceNamed, Week, Price, RegistersOverlap, Empty, TooMany}
-use Rattle.pw_tariff.specs.Checks.{Check, check, first_refusal, Passes, each_in_turn, length_checks, list_checks}
-use Rattle.pw_tariff.specs.Text.{has_band_keys, has_meter_keys, clock_of, texts_at, tables_at, accounts_checks, account_checks, bands_checks, meters_checks, week_checks, file_of_table, band_of_table, meter_of_table, whole_of, price_at, name_of, id_of, register_texts, register_of, registers_of, registers_in_turn, registers_checks, letter_of, is_day, is_week, week_of, bands_of_table, band_checks, meter_checks}
+use Rattle.pw_tariff.specs.Checks.{Check, check, each_in_turn, length_checks, list_checks}
+use Rattle.pw_tariff.specs.inner.Checks.{Passes}
+use Rattle.pw_tariff.specs.Text.{has_band_keys, has_meter_keys, clock_of, texts_at, tables_at, accounts_checks, account_checks, bands_checks, meters_checks, week_checks, file_of_table, band_of_table, meter_of_table, whole_of, whole_number_of, band_name_of, id_of, register_texts, register_of, registers_of, registers_in_turn, registers_checks, letter_of, is_day, is_week, week_of, bands_of_table, band_checks, meter_checks}
 use Rattle.pw_tariff.proofs.Behind.{left, right, first-of}
 use Rattle.pw_tariff.proofs.Distinct.{distinct}
 
@@ -69,9 +69,9 @@ behind-five a b c d e cs p = (first-of e cs (behind-four a b c d (e ∷ cs) p)).
 
 band-prices : (earlier : List (List ℕ)) (b : Members) → Passes (band_checks earlier b) → ((band_of_table b).import_price ≤ MOST_PRICE) × ((band_of_table b).export_price ≤ MOST_PRICE)
 band-prices earlier b p =
-    let i = last-two (check MissingField (has_band_keys b)) (check BadName (is_band_name (name_of b))) (check TwiceNamed (is_new (name_of b) earlier))
-    (check Price (is_price (price_at (codes "import") b))) (check Price (is_price (price_at (codes "export") b))) p in
-    (price-bound (price_at (codes "import") b) i.0, price-bound (price_at (codes "export") b) i.1)
+    let i = last-two (check MissingField (has_band_keys b)) (check BadName (is_band_name (band_name_of b))) (check TwiceNamed (is_new (band_name_of b) earlier))
+    (check Price (is_price (whole_number_of (codes "import") b))) (check Price (is_price (whole_number_of (codes "export") b))) p in
+    (price-bound (whole_number_of (codes "import") b) i.0, price-bound (whole_number_of (codes "export") b) i.1)
 
 negated : (b : Bool) → not b ≡ true → b ≡ false
 negated true h = absurd (no-truth h)
@@ -111,9 +111,9 @@ word-and-new a b c cs p =
     let m = first-of b (c ∷ cs) k.1 in
     (m.0, (first-of c cs m.1).0)
 
-band-named : (earlier : List (List ℕ)) (b : Members) → Passes (band_checks earlier b) → (is_band_name (name_of b) ≡ true) × (is_new (name_of b) earlier ≡ true)
-band-named earlier b p = word-and-new (check MissingField (has_band_keys b)) (check BadName (is_band_name (name_of b))) (check TwiceNamed (is_new (name_of b) earlier))
-    (check Price (is_price (price_at (codes "import") b)) ∷ check Price (is_price (price_at (codes "export") b)) ∷ []) p
+band-named : (earlier : List (List ℕ)) (b : Members) → Passes (band_checks earlier b) → (is_band_name (band_name_of b) ≡ true) × (is_new (band_name_of b) earlier ≡ true)
+band-named earlier b p = word-and-new (check MissingField (has_band_keys b)) (check BadName (is_band_name (band_name_of b))) (check TwiceNamed (is_new (band_name_of b) earlier))
+    (check Price (is_price (whole_number_of (codes "import") b)) ∷ check Price (is_price (whole_number_of (codes "export") b)) ∷ []) p
 
 meter-named : (earlier : List (List ℕ)) (m : Members) → Passes (meter_checks earlier m) → (is_name LONGEST_METER_ID (id_of m) ≡ true) × (is_new (id_of m) earlier ≡ true)
 meter-named earlier m p = word-and-new (check MissingField (has_meter_keys m)) (check BadName (is_name LONGEST_METER_ID (id_of m))) (check TwiceNamed (is_new (id_of m) earlier))
@@ -125,7 +125,7 @@ one-letter (c ∷ []) h = (h, refl)
 one-letter (c ∷ d ∷ name) h = absurd (no-truth h)
 
 band-letter : (earlier : List (List ℕ)) (b : Members) → Passes (band_checks earlier b) → is_capital (band_of_table b).name ≡ true
-band-letter earlier b p = (one-letter (name_of b) (band-named earlier b p).0).0
+band-letter earlier b p = (one-letter (band_name_of b) (band-named earlier b p).0).0
 
 -- bands whose names are distinct have distinct letters
 letter-text : (names : List (List ℕ)) → All (λ name. is_band_name name ≡ true) names → (i c : ℕ) → slice_get (map letter_of names) i ≡ Some c → slice_get names i ≡ Some (c ∷ [])
@@ -148,7 +148,7 @@ meter-registers earlier m p =
 pub sound : (t : Members) → Passes (accounts_checks t) → Passes (bands_checks t) → Passes (meters_checks t) → Passes (week_checks t) → IsSound (file_of_table t)
 sound t p q m w =
     let a = listed MOST_ACCOUNTS (λ (name : List ℕ). name) account_checks (texts_at (codes "accounts") t) p in
-    let b = listed MOST_BANDS name_of band_checks (tables_at (codes "band") t) q in
+    let b = listed MOST_BANDS band_name_of band_checks (tables_at (codes "band") t) q in
     let n = listed MOST_METERS id_of meter_checks (tables_at (codes "meter") t) m in
     let there = first-of (check MissingField (is_some (texts_at (codes "week") t))) (check Week (is_week (bands_of_table t) (week_of t)) ∷ []) w in
     let week = first-of (check Week (is_week (bands_of_table t) (week_of t))) [] there.1 in
@@ -159,26 +159,26 @@ sound t p q m w =
     let bands = unwrap_or (tables_at (codes "band") t) [] in
     let meters = unwrap_or (tables_at (codes "meter") t) [] in
     let all_names = each-all (λ (n : List ℕ). is_name LONGEST_ACCOUNT_NAME n ≡ true) (λ (n : List ℕ). n) (λ (n : List ℕ). n) account_checks account-word [] names a.each in
-    let all_letters = each-all (λ (n : List ℕ). is_band_name n ≡ true) name_of name_of band_checks (λ e x p. (band-named e x p).0) [] bands b.each in
+    let all_letters = each-all (λ (n : List ℕ). is_band_name n ≡ true) band_name_of band_name_of band_checks (λ e x p. (band-named e x p).0) [] bands b.each in
     let apart_names = distinct (λ (n : List ℕ). n) account_checks account-new names a.each in
-    let apart_bands = distinct name_of band_checks (λ e x p. (band-named e x p).1) bands b.each in
+    let apart_bands = distinct band_name_of band_checks (λ e x p. (band-named e x p).1) bands b.each in
     let apart_meters = distinct id_of meter_checks (λ e x p. (meter-named e x p).1) meters n.each in
     record {
       named = record {
         accounts = rw (map-id names) at apart_names;
         meters = rw (map-map (λ (x : MeterText). x.id) meter_of_table meters) apart_meters;
-        bands = rw (map-map (λ (x : BandText). x.name) band_of_table bands, ← (map-map letter_of name_of bands)) (letters-distinct (map name_of bands) all_letters apart_bands);
+        bands = rw (map-map (λ (x : BandText). x.name) band_of_table bands, ← (map-map letter_of band_name_of bands)) (letters-distinct (map band_name_of bands) all_letters apart_bands);
       };
       written = record {
         accounts = rw (map-id names) at all_names;
         meters = each-all (λ (x : MeterText). is_name LONGEST_METER_ID x.id ≡ true) meter_of_table id_of meter_checks (λ e x p. (meter-named e x p).0) [] meters n.each;
-        bands = each-all (λ (x : BandText). is_capital x.name ≡ true) band_of_table name_of band_checks band-letter [] bands b.each;
+        bands = each-all (λ (x : BandText). is_capital x.name ≡ true) band_of_table band_name_of band_checks band-letter [] bands b.each;
         registers = each-all (λ (x : MeterText). 1 ≤ length x.registers) meter_of_table id_of meter_checks meter-registers [] meters n.each;
       };
       accounts = (a.some, a.few);
       bands = rw bl (b.some, b.few);
       meters = rw ml (n.some, n.few);
-      prices = each-all (λ (x : BandText). (x.import_price ≤ MOST_PRICE) × (x.export_price ≤ MOST_PRICE)) band_of_table name_of band_checks band-prices [] _ b.each;
+      prices = each-all (λ (x : BandText). (x.import_price ≤ MOST_PRICE) × (x.export_price ≤ MOST_PRICE)) band_of_table band_name_of band_checks band-prices [] _ b.each;
       totals = each-all (λ (x : MeterText). overlap x.registers ≡ false) meter_of_table id_of meter_checks meter-totals [] _ n.each;
       days = eqb-true (length (week_of t)) 7 days.0;
       hours = all-of (is_day (bands_of_table t)) (IsDay (bands_of_table t)) (day-of (bands_of_table t)) (week_of t) days.1;

@@ -3,7 +3,7 @@ use Rattle.std.proofs.Common.{◌≡◌, ℕ, suc, ◌+◌, ◌<◌, ◌≤◌, 
 use Rattle.std.proofs.lemmas.List.{get_or-map, length-map}
 use Rattle.std.proofs.lemmas.Bool.{cases_lt, eq-eqb, ne_eqb, le-leb, lt-leb}
 use Rattle.pw_tariff.specs.declared.ids.AccountId.{AccountId}
-use Rattle.pw_tariff.specs.Owners.{Rises, start_at, owner_from, owner_at}
+use Rattle.pw_tariff.specs.Owners.{StartsIncrease, start_at, owner_from, owner_by_starts}
 use Rattle.pw_flow.specs.Time.{last}
 use Rattle.pw_flow.proofs.Points.{last-is, last-none, last-cases, last-same}
 
@@ -15,17 +15,17 @@ abbrev pub latest_or : ℕ → Option AccountId → List Start → Option Accoun
 latest_or t owner [] = owner
 latest_or t owner (s ∷ ss) = latest_or t (cond (nat_le s.0 t) s.1 owner) ss
 
-rising-first : (a b : Start) (ss : List Start) → Rises (a ∷ b ∷ ss) → a.0 < b.0
+rising-first : (a b : Start) (ss : List Start) → StartsIncrease (a ∷ b ∷ ss) → a.0 < b.0
 rising-first a b ss h = h 0 (omega arith)
 
-rising-rest : (a : Start) (ss : List Start) → Rises (a ∷ ss) → Rises ss
+rising-rest : (a : Start) (ss : List Start) → StartsIncrease (a ∷ ss) → StartsIncrease ss
 rising-rest a ss h k l =
     let e : suc k + 1 ≡ suc (k + 1) = omega arith in
     let P : ℕ → Type 0 = λ n. get_or (map (λ (s : Start). s.0) ss) k 0 < get_or (map (λ (s : Start). s.0) (a ∷ ss)) n 0 in
     subst P e (h (suc k) (omega arith))
 
 -- nothing begins before the first start
-none-before : (ss : List Start) (a : Start) (t : ℕ) → Rises (a ∷ ss) → t < a.0 → start_at (a ∷ ss) t ≡ None
+none-before : (ss : List Start) (a : Start) (t : ℕ) → StartsIncrease (a ∷ ss) → t < a.0 → start_at (a ∷ ss) t ≡ None
 unfolding start_at
 none-before [] a t h l = rw (ne_eqb a.0 t (λ e. absurd (omega arith)))
 none-before (b ∷ ss) a t h l =
@@ -34,7 +34,7 @@ none-before (b ∷ ss) a t h l =
     rw (ne_eqb a.0 t (λ e. absurd (omega arith))) r
 
 -- nor up to the first start in the rest
-none-rest : (a : Start) (ss : List Start) (t : ℕ) → Rises (a ∷ ss) → t ≤ a.0 → start_at ss t ≡ None
+none-rest : (a : Start) (ss : List Start) (t : ℕ) → StartsIncrease (a ∷ ss) → t ≤ a.0 → start_at ss t ≡ None
 unfolding start_at
 none-rest a [] t h l = refl
 none-rest a (b ∷ ss) t h l = let m : a.0 < b.0 = rising-first a b ss h in none-before ss b t (rising-rest a (b ∷ ss) h) (omega arith)
@@ -55,7 +55,7 @@ some-none : {A : Type 0} (a : A) → Some a ≡ None → ⊥
 some-none a h = cc
 
 -- the latest start of a list that rises is the last that isn't later
-pub latest-is : (ss : List Start) (t : ℕ) (owner : Option AccountId) → Rises ss → latest_or t owner ss ≡ owner_or owner (last (start_at ss) t)
+pub latest-is : (ss : List Start) (t : ℕ) (owner : Option AccountId) → StartsIncrease ss → latest_or t owner ss ≡ owner_or owner (last (start_at ss) t)
 latest-is [] t owner h =
     let n : last (start_at []) t ≡ None = last-none (start_at []) t (λ s l. unfold start_at in refl) in
     rw n
@@ -92,15 +92,15 @@ or-nobody : (o : Option Start) → owner_or None o ≡ owner_from o
 or-nobody None = refl
 or-nobody (Some s) = refl
 
-pub owner-is : (ss : List Start) (t : ℕ) → Rises ss → latest_or t None ss ≡ owner_at ss t
-unfolding owner_at
+pub owner-is : (ss : List Start) (t : ℕ) → StartsIncrease ss → latest_or t None ss ≡ owner_by_starts ss t
+unfolding owner_by_starts
 owner-is ss t h = latest-is ss t None h ∙ or-nobody (last (start_at ss) t)
 
 start-read : (ss : List Start) (i : ℕ) (d : Start) → i < length ss → get_or (map (λ (a : Start). a.0) ss) i 0 ≡ (get_or ss i d).0
 start-read ss i d l = get_or-map (λ (a : Start). a.0) ss i d 0 l
 
 -- a list with a start that isn't later than the one before it
-pub not-rising : (ss : List Start) (i x y : ℕ) (s r : Start) → 1 ≤ i → i < length ss → x ≡ (get_or ss i s).0 → y ≡ (get_or ss (i - 1) r).0 → x ≤ y → Rises ss → ⊥
+pub not-rising : (ss : List Start) (i x y : ℕ) (s r : Start) → 1 ≤ i → i < length ss → x ≡ (get_or ss i s).0 → y ≡ (get_or ss (i - 1) r).0 → x ≤ y → StartsIncrease ss → ⊥
 not-rising ss i x y s r o l e f g h =
     let n : i - 1 + 1 ≡ i = omega arith in
     let m : length (map (λ (a : Start). a.0) ss) ≡ length ss = length-map ss (λ (a : Start). a.0) in

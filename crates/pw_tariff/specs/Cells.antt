@@ -39,11 +39,3 @@ energy_in (c ∷ cells) owner band = cond (is_of owner band c) c.wh (energy_in c
 unfoldable pub energy_of_all : List Cell → ℕ
 energy_of_all [] = 0
 energy_of_all (c ∷ cells) = c.wh + energy_of_all cells
-
--- the cells of new are those of old with one share more
-pub record IsAdded (old new : List Cell) (share : Cell) : Type 0 where
-  pub in_order : AreInOrder new
-  pub above_zero : AreAboveZero new
-  pub energy : (owner : Option AccountId) (band : ℕ) →
-      energy_in new owner band ≡ energy_in old owner band + cond (is_of owner band share) share.wh 0
-  pub whole : energy_of_all new ≡ energy_of_all old + share.wh

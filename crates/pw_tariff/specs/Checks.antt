@@ -1,8 +1,8 @@
 -- Checks in an order, and the first that fails.
 -- (Definitions of this project.)
-use Rattle.std.specs.Prelude.{◌≡◌, ℕ, Option, Some, None, List, [], ◌∷◌, ◌++◌, length, nat_le, is_some, unwrap_or, Bool, cond}
+use Rattle.std.specs.Prelude.{ℕ, Option, Some, None, List, [], ◌∷◌, ◌++◌, length, nat_le, is_some, unwrap_or, Bool, cond}
 use Rattle.pw_tariff.specs.declared.fault.OfficeFault.{OfficeFault}
-use Rattle.pw_tariff.specs.declared.fault.OfficeFault.TheVariants.{Toml, MissingField, Empty, TooMany, Memory}
+use Rattle.pw_tariff.specs.declared.fault.OfficeFault.TheVariants.{MissingField, Empty, TooMany}
 
 -- what is refused where it doesn't pass
 pub record Check : Type 0 where
@@ -17,10 +17,6 @@ abbrev pub first_refusal : List Check → Option OfficeFault
 first_refusal [] = None
 first_refusal (c ∷ checks) = cond c.passes (first_refusal checks) (Some c.fault)
 
--- none fails
-abbrev pub Passes : List Check → Type 0
-Passes checks = first_refusal checks ≡ None
-
 -- the checks of each element in turn, with the names of those before it
 unfoldable pub each_in_turn : {A : Type 0} → (A → List ℕ) → (List (List ℕ) → A → List Check) → List (List ℕ) → List A → List Check
 each_in_turn name checks earlier [] = []
@@ -34,15 +30,3 @@ length_checks n most = check Empty (nat_le 1 n) ∷ check TooMany (nat_le n most
 abbrev pub list_checks : {A : Type 0} → ℕ → (A → List ℕ) → (List (List ℕ) → A → List Check) → Option (List A) → List Check
 list_checks most name checks list = let xs = unwrap_or list [] in
     check MissingField (is_some list) ∷ (length_checks (length xs) most ++ each_in_turn name checks [] xs)
-
--- the refusal is that of the first check that fails; want of memory says nothing of the checks
-abbrev pub IsRefusal : List Check → OfficeFault → Type 0
-IsRefusal checks Toml = ⊥
-IsRefusal checks Memory = Unit {0}
-IsRefusal checks fault = first_refusal checks ≡ Some fault
-
--- a list that isn't there, or want of memory
-abbrev pub IsListFault : {A : Type 0} → Option A → OfficeFault → Type 0
-IsListFault list MissingField = list ≡ None
-IsListFault list Memory = Unit {0}
-IsListFault list _ = ⊥

@@ -1,28 +1,32 @@
--- The numbers and names under which refusals of an office file are reported.
-use Rattle.std.specs.Prelude.{ℕ, List, codes}
+-- The numbers and names under which refusals of an office file are reported, and the line that tells one.
+use Rattle.std.specs.Prelude.{ℕ, List, ◌++◌, codes, decimal}
 use Rattle.pw_tariff.specs.declared.fault.OfficeFault.{OfficeFault}
 use Rattle.pw_tariff.specs.declared.fault.OfficeFault.TheVariants.{Toml, MissingField, BadName, TwiceNamed, Week, Price, RegistersOverlap, Empty, TooMany, Memory}
 
-abbrev pub number_of : OfficeFault → ℕ
-number_of Toml = 30
-number_of MissingField = 31
-number_of BadName = 32
-number_of TwiceNamed = 33
-number_of Week = 34
-number_of Price = 35
-number_of RegistersOverlap = 36
-number_of Empty = 37
-number_of TooMany = 38
-number_of Memory = 62
+abbrev pub office_fault_number : OfficeFault → ℕ
+office_fault_number Toml = 30
+office_fault_number MissingField = 31
+office_fault_number BadName = 32
+office_fault_number TwiceNamed = 33
+office_fault_number Week = 34
+office_fault_number Price = 35
+office_fault_number RegistersOverlap = 36
+office_fault_number Empty = 37
+office_fault_number TooMany = 38
+office_fault_number Memory = 62
 
-abbrev pub name_of : OfficeFault → List ℕ
-name_of Toml = codes "Toml"
-name_of MissingField = codes "MissingField"
-name_of BadName = codes "BadName"
-name_of TwiceNamed = codes "TwiceNamed"
-name_of Week = codes "Week"
-name_of Price = codes "Price"
-name_of RegistersOverlap = codes "RegistersOverlap"
-name_of Empty = codes "Empty"
-name_of TooMany = codes "TooMany"
-name_of Memory = codes "Memory"
+abbrev pub office_fault_name : OfficeFault → List ℕ
+office_fault_name Toml = codes "Toml"
+office_fault_name MissingField = codes "MissingField"
+office_fault_name BadName = codes "BadName"
+office_fault_name TwiceNamed = codes "TwiceNamed"
+office_fault_name Week = codes "Week"
+office_fault_name Price = codes "Price"
+office_fault_name RegistersOverlap = codes "RegistersOverlap"
+office_fault_name Empty = codes "Empty"
+office_fault_name TooMany = codes "TooMany"
+office_fault_name Memory = codes "Memory"
+
+-- `refused`, the number, the name; single spaces stand between
+abbrev pub office_fault_line : OfficeFault → List ℕ
+office_fault_line fault = codes "refused " ++ (decimal (office_fault_number fault) ++ (codes " " ++ office_fault_name fault))

@@ -23,11 +23,21 @@ IsAnswer text (Ok file) = IsOfficeOf text file
 IsAnswer text (Err Memory) = ⊥
 IsAnswer text (Err fault) = IsRefused text fault
 
--- a text has one answer: the office, or one refusal
-abbrev pub TextHasOneAnswer : Type 0
-TextHasOneAnswer = (text : List ℕ) (a b : Result OfficeFile OfficeFault) → IsAnswer text a → IsAnswer text b → a ≡ b
+-- a text has an answer, the office or a refusal, and no other one
+pub record HasOneAnswer (text : List ℕ) : Type 0 where
+  pub answer : Result OfficeFile OfficeFault
+  pub is_answer : IsAnswer text answer
+  pub only : (other : Result OfficeFile OfficeFault) → IsAnswer text other → other ≡ answer
 
--- a difference is shared out in one way
+-- so has each text
+abbrev pub TextHasOneAnswer : Type 0
+TextHasOneAnswer = (text : List ℕ) → HasOneAnswer text
+
+-- the office of a text is sound
+abbrev pub OfficeOfTextIsSound : Type 0
+OfficeOfTextIsSound = (text : List ℕ) (file : OfficeFile) → IsOfficeOf text file → IsSound file
+
+-- a difference isn't shared out in two ways
 abbrev pub SharesAreUnique : Type 0
 SharesAreUnique =
     (file : OfficeFile) (owners : List (ℕ × Option AccountId)) (span : Span) (a b : List Cell)

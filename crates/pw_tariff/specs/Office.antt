@@ -67,23 +67,23 @@ abbrev pub same_register : Register → Register → Bool
 same_register a b = register_place a == register_place b
 
 -- the register is one of the list
-abbrev pub lists : List Register → Register → Bool
-lists registers r = list_any (same_register r) registers
+abbrev pub has_register : List Register → Register → Bool
+has_register registers r = list_any (same_register r) registers
 
 abbrev pub counts_for : Option MeterText → Register → Bool
 counts_for None r = false
-counts_for (Some m) r = lists m.registers r
+counts_for (Some m) r = has_register m.registers r
 
 abbrev pub counts_at : OfficeFile → ℕ → Register → Bool
 counts_at file meter r = counts_for (slice_get file.meters meter) r
 
 -- a total beside one of its rates would count energy twice
 abbrev pub overlap : List Register → Bool
-overlap registers = (lists registers I0 && (lists registers I1 || lists registers I2))
-    || (lists registers E0 && (lists registers E1 || lists registers E2))
+overlap registers = (has_register registers I0 && (has_register registers I1 || has_register registers I2))
+    || (has_register registers E0 && (has_register registers E1 || has_register registers E2))
 
 -- ---- the office, as records are judged and energy is shared out by it
-pub record Office : Type 0 where
+pub record OfficeRules : Type 0 where
   pub accounts : ℕ
   pub meters : ℕ
   pub bands : ℕ
@@ -96,7 +96,7 @@ pub record Office : Type 0 where
   -- in nano-euro per watt-hour
   pub price : ℕ → Direction → ℕ
 
-abbrev pub office_of : OfficeFile → Office
+abbrev pub office_of : OfficeFile → OfficeRules
 office_of file = record {
   accounts = length file.accounts;
   meters = length file.meters;

@@ -6,8 +6,8 @@ use Rattle.pw_tariff.specs.declared.ids.AccountId.{AccountId}
 use Rattle.pw_flow.specs.Time.{last}
 
 -- each start is later than the one before it
-abbrev pub Rises : List (ℕ × Option AccountId) → Type 0
-Rises starts = IsStrictlyIncreasing (map (λ s. s.0) starts)
+abbrev pub StartsIncrease : List (ℕ × Option AccountId) → Type 0
+StartsIncrease starts = IsStrictlyIncreasing (map (λ s. s.0) starts)
 
 -- the owner who begins at a second, where one begins there
 unfoldable pub start_at : List (ℕ × Option AccountId) → ℕ → Option (Option AccountId)
@@ -20,8 +20,8 @@ owner_from None = None
 owner_from (Some s) = s.1
 
 -- the owner at a second: that of the latest start that isn't later
-unfoldable pub owner_at : List (ℕ × Option AccountId) → ℕ → Option AccountId
-owner_at starts t = owner_from (last (start_at starts) t)
+unfoldable pub owner_by_starts : List (ℕ × Option AccountId) → ℕ → Option AccountId
+owner_by_starts starts t = owner_from (last (start_at starts) t)
 
 -- the same owner
 abbrev pub same_owner : Option AccountId → Option AccountId → Bool

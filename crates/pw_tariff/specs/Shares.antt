@@ -5,18 +5,18 @@ use Rattle.pw_flow.specs.Energy.{cell}
 use Rattle.pw_tariff.specs.declared.ids.AccountId.{AccountId}
 use Rattle.pw_tariff.specs.declared.cells.Cell.{Cell}
 use Rattle.pw_tariff.specs.declared.spread.Span.{Span}
-use Rattle.pw_tariff.specs.Owners.{owner_at, same_owner}
+use Rattle.pw_tariff.specs.Owners.{owner_by_starts, same_owner}
 use Rattle.pw_tariff.specs.Office.{OfficeFile, band_at}
 use Rattle.pw_tariff.specs.Cells.{AreInOrder, AreAboveZero, energy_in, energy_of_all}
 
 -- the seconds of an owner and a band
-abbrev pub seconds_of : OfficeFile → List (ℕ × Option AccountId) → Option AccountId → ℕ → ℕ → Bool
-seconds_of office owners owner band t = same_owner (owner_at owners t) owner && (band_at office t == band)
+abbrev pub class_seconds : OfficeFile → List (ℕ × Option AccountId) → Option AccountId → ℕ → ℕ → Bool
+class_seconds office owners owner band t = same_owner (owner_by_starts owners t) owner && (band_at office t == band)
 
 -- the share of an owner and a band: the flows of their seconds, added up
 abbrev pub share : OfficeFile → List (ℕ × Option AccountId) → Span → Option AccountId → ℕ → ℕ
 share office owners span owner band =
-    cell (seconds_of office owners owner band) (span.from, span.low) (span.to, span.high)
+    cell (class_seconds office owners owner band) (span.from, span.low) (span.to, span.high)
 
 -- the cells are the shares that are above zero, each once, nobody first, then by account, then by band
 pub record AreShares (office : OfficeFile) (owners : List (ℕ × Option AccountId)) (span : Span) (cells : List Cell) : Type 0 where
@@ -24,9 +24,3 @@ pub record AreShares (office : OfficeFile) (owners : List (ℕ × Option Account
   pub above_zero : AreAboveZero cells
   pub in_order : AreInOrder cells
   pub whole : energy_of_all cells ≡ span.high - span.low
-
--- a cell of one second's energy
-pub record IsShareAt (office : OfficeFile) (owners : List (ℕ × Option AccountId)) (t wh : ℕ) (c : Cell) : Type 0 where
-  pub owner : c.owner ≡ owner_at owners t
-  pub band : c.band.0 ≡ band_at office t
-  pub energy : c.wh ≡ wh

@@ -4,7 +4,6 @@
 use Rattle.std.specs.Prelude.{◌≡◌, ◌==◌, ◌&&◌, ℕ, ℤ, pos, Option, Some, None, List, [], ◌∷◌, ◌++◌, length, map, option_and_then, is_some, unwrap_or, codes, nat_le, nat_lt, not, Bool, IsUtf8}
 use Rattle.std.specs.List.{list_all}
 use Rattle.toml.specs.Parse.{parse_document}
-use Rattle.toml.specs.Errors.{IsBlank}
 use Rattle.toml.specs.Data.{Items, no_items, item, Members, get_member, as_str, as_integer, as_array, as_table}
 use Rattle.pw_obis.specs.declared.reference.Register.{Register}
 use Rattle.pw_obis.specs.declared.reference.Register.TheVariants.{I0}
@@ -26,20 +25,20 @@ integer_at key t = option_and_then as_integer (get_member key t)
 abbrev pub list_at : List ℕ → Members → Option Items
 list_at key t = option_and_then as_array (get_member key t)
 
-abbrev pub before : {A : Type 0} → Option A → Option (List A) → Option (List A)
-before (Some x) (Some xs) = Some (x ∷ xs)
-before None xs = None
-before (Some x) None = None
+abbrev pub put_before : {A : Type 0} → Option A → Option (List A) → Option (List A)
+put_before (Some x) (Some xs) = Some (x ∷ xs)
+put_before None xs = None
+put_before (Some x) None = None
 
 -- the texts of a list, if each of its elements is one
 abbrev pub texts_of : Items → Option (List (List ℕ))
 texts_of no_items = Some []
-texts_of (item d ds) = before (as_str d) (texts_of ds)
+texts_of (item d ds) = put_before (as_str d) (texts_of ds)
 
 -- its tables, likewise
 abbrev pub tables_of : Items → Option (List Members)
 tables_of no_items = Some []
-tables_of (item d ds) = before (as_table d) (tables_of ds)
+tables_of (item d ds) = put_before (as_table d) (tables_of ds)
 
 abbrev pub texts_at : List ℕ → Members → Option (List (List ℕ))
 texts_at key t = option_and_then texts_of (list_at key t)
@@ -52,9 +51,6 @@ abbrev pub account_checks : List (List ℕ) → List ℕ → List Check
 account_checks earlier name =
     check BadName (is_name LONGEST_ACCOUNT_NAME name) ∷ check TwiceNamed (is_new name earlier) ∷ []
 
-abbrev pub accounts_in_turn : List (List ℕ) → List Check
-accounts_in_turn names = each_in_turn (λ name. name) account_checks [] names
-
 abbrev pub accounts_checks : Members → List Check
 accounts_checks t = list_checks MOST_ACCOUNTS (λ name. name) account_checks (texts_at (codes "accounts") t)
 
@@ -62,11 +58,11 @@ abbrev pub accounts_of : Members → List (List ℕ)
 accounts_of t = unwrap_or (texts_at (codes "accounts") t) []
 
 -- ---- bands
-abbrev pub name_of : Members → List ℕ
-name_of b = unwrap_or (text_at (codes "name") b) []
+abbrev pub band_name_of : Members → List ℕ
+band_name_of b = unwrap_or (text_at (codes "name") b) []
 
-abbrev pub price_at : List ℕ → Members → ℤ
-price_at key b = unwrap_or (integer_at key b) (pos 0)
+abbrev pub whole_number_of : List ℕ → Members → ℤ
+whole_number_of key b = unwrap_or (integer_at key b) (pos 0)
 
 abbrev pub has_band_keys : Members → Bool
 has_band_keys b = (is_some (text_at (codes "name") b) && is_some (integer_at (codes "import") b)) && is_some (integer_at (codes "export") b)
@@ -74,17 +70,14 @@ has_band_keys b = (is_some (text_at (codes "name") b) && is_some (integer_at (co
 abbrev pub band_checks : List (List ℕ) → Members → List Check
 band_checks earlier b =
     check MissingField (has_band_keys b)
-    ∷ check BadName (is_band_name (name_of b))
-    ∷ check TwiceNamed (is_new (name_of b) earlier)
-    ∷ check Price (is_price (price_at (codes "import") b))
-    ∷ check Price (is_price (price_at (codes "export") b))
+    ∷ check BadName (is_band_name (band_name_of b))
+    ∷ check TwiceNamed (is_new (band_name_of b) earlier)
+    ∷ check Price (is_price (whole_number_of (codes "import") b))
+    ∷ check Price (is_price (whole_number_of (codes "export") b))
     ∷ []
 
-abbrev pub bands_in_turn : List Members → List Check
-bands_in_turn bands = each_in_turn name_of band_checks [] bands
-
 abbrev pub bands_checks : Members → List Check
-bands_checks t = list_checks MOST_BANDS name_of band_checks (tables_at (codes "band") t)
+bands_checks t = list_checks MOST_BANDS band_name_of band_checks (tables_at (codes "band") t)
 
 abbrev pub letter_of : List ℕ → ℕ
 letter_of [] = 0
@@ -96,9 +89,9 @@ whole_of _ = 0
 
 abbrev pub band_of_table : Members → BandText
 band_of_table b = record {
-  name = letter_of (name_of b);
-  import_price = whole_of (price_at (codes "import") b);
-  export_price = whole_of (price_at (codes "export") b);
+  name = letter_of (band_name_of b);
+  import_price = whole_of (whole_number_of (codes "import") b);
+  export_price = whole_of (whole_number_of (codes "export") b);
 }
 
 abbrev pub bands_of_table : Members → List BandText
@@ -142,9 +135,6 @@ meter_checks earlier m =
     ∷ check TwiceNamed (is_new (id_of m) earlier)
     ∷ check BadName (is_some (clock_named (clock_of m)))
     ∷ registers_checks (register_texts m)
-
-abbrev pub meters_in_turn : List Members → List Check
-meters_in_turn meters = each_in_turn id_of meter_checks [] meters
 
 abbrev pub meters_checks : Members → List Check
 meters_checks t = list_checks MOST_METERS id_of meter_checks (tables_at (codes "meter") t)
@@ -201,9 +191,3 @@ abbrev pub IsRefused : List ℕ → OfficeFault → Type 0
 IsRefused text Toml = (t : Members) → ¬ (IsTable text t)
 IsRefused text Memory = Unit {0}
 IsRefused text fault = (t : Members) × IsTable text t × (first_refusal (office_checks t) ≡ Some fault)
-
--- why a text has no table
-abbrev pub IsNoTable : List ℕ → OfficeFault → Type 0
-IsNoTable text Toml = (t : Members) → ¬ (IsTable text t)
-IsNoTable text Memory = ¬ (IsBlank text)
-IsNoTable text _ = ⊥

@@ -1,10 +1,10 @@
 -- The words of an office file: names, clocks, registers, prices.
 -- (Definitions of this project. Bytes are ASCII codes: 45 is '-', 48 to 57 the digits, 65 to 90 A to Z, 95 '_', 97 to 122 a to z.)
-use Rattle.std.specs.Prelude.{◌==◌, ◌&&◌, ◌||◌, ℕ, ℤ, pos, negsuc, Option, Some, None, List, [], ◌∷◌, length, codes, nat_le, not, Bool, false, cond}
+use Rattle.std.specs.Prelude.{◌==◌, ◌&&◌, ◌||◌, ℕ, ℤ, pos, negsuc, Option, Some, None, List, [], ◌∷◌, length, codes, nat_le, not, find, Bool, false, cond}
 use Rattle.std.specs.List.{list_all, list_any}
 use Rattle.std.specs.Cmp.Lexicographic.{pointwise}
 use Rattle.pw_obis.specs.declared.reference.Register.{Register}
-use Rattle.pw_obis.specs.declared.reference.Register.TheVariants.{I0, I1, I2, E0, E1, E2}
+use Rattle.pw_obis.specs.Registers.{registers, register_name}
 use Rattle.pw_time.specs.declared.zone.Clock.{Clock}
 use Rattle.pw_time.specs.declared.zone.Clock.TheVariants.{Marked, Winter, Local}
 use Rattle.pw_tariff.specs.declared.limits.TheConstants.{MOST_PRICE}
@@ -41,12 +41,7 @@ clock_named text = cond (same_text text (codes "marked")) (Some Marked)
     (cond (same_text text (codes "local")) (Some Local) None))
 
 abbrev pub register_named : List ℕ → Option Register
-register_named text = cond (same_text text (codes "I0")) (Some I0)
-    (cond (same_text text (codes "I1")) (Some I1)
-    (cond (same_text text (codes "I2")) (Some I2)
-    (cond (same_text text (codes "E0")) (Some E0)
-    (cond (same_text text (codes "E1")) (Some E1)
-    (cond (same_text text (codes "E2")) (Some E2) None)))))
+register_named text = find (λ r. same_text text (register_name r)) registers
 
 -- nano-euro per watt-hour
 abbrev pub is_price : ℤ → Bool

@@ -2,8 +2,10 @@
 
 ghost use Rattle.std.specs.Prelude.{◌≡◌, MatchResult, map, string_bytes};
 ghost use Rattle.toml.specs.View.{table_view};
-ghost use Rattle.pw_tariff.specs.Checks.{IsRefusal, Passes};
-ghost use Rattle.pw_tariff.specs.Text.{account_checks, accounts_checks, accounts_in_turn, accounts_of};
+ghost use Rattle.pw_tariff.specs.inner.Checks.{IsRefusal};
+ghost use Rattle.pw_tariff.specs.inner.Checks.{Passes};
+ghost use Rattle.pw_tariff.specs.Text.{account_checks, accounts_checks, accounts_of};
+ghost use Rattle.pw_tariff.specs.inner.Checks.{accounts_in_turn};
 
 use crate::OfficeFault;
 use crate::limits::{LONGEST_ACCOUNT_NAME, MOST_ACCOUNTS};

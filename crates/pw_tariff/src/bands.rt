@@ -2,9 +2,13 @@
 
 ghost use Rattle.std.specs.Prelude.{◌≡◌, [], ◌∷◌, MatchOption, MatchResult, Some, map, true, false};
 ghost use Rattle.toml.specs.View.{array_view, table_view};
-ghost use Rattle.pw_tariff.specs.Checks.{IsRefusal, Passes};
-ghost use Rattle.pw_tariff.specs.Held.{band_of, bands_of, letters_of, table_in};
-ghost use Rattle.pw_tariff.specs.Text.{band_checks, band_of_table, bands_checks, bands_in_turn, bands_of_table, name_of, tables_of, whole_of};
+ghost use Rattle.pw_tariff.specs.inner.Checks.{IsRefusal};
+ghost use Rattle.pw_tariff.specs.inner.Checks.{Passes};
+ghost use Rattle.pw_tariff.specs.Held.{band_of, bands_of};
+ghost use Rattle.pw_tariff.specs.inner.Held.{table_in};
+ghost use Rattle.pw_tariff.specs.inner.Held.{letters_of};
+ghost use Rattle.pw_tariff.specs.Text.{band_checks, band_of_table, bands_checks, bands_of_table, band_name_of, tables_of, whole_of};
+ghost use Rattle.pw_tariff.specs.inner.Checks.{bands_in_turn};
 ghost use Rattle.pw_tariff.specs.Words.{is_band_name, is_new, is_price};
 
 use crate::OfficeFault;
@@ -61,7 +65,7 @@ fn read_each(alloc: Global, array: &Array) -> Result<Vec<Band>, OfficeFault>
 fn read_band(table: &Table, earlier: &[Band]) -> Result<Band, OfficeFault>
     ensures { MatchResult result
         (λ b. Passes (band_checks (letters_of earlier.now) (table_view table.now))
-        × (band_of b ≡ band_of_table (table_view table.now)) × (name_of (table_view table.now) ≡ b.name ∷ []))
+        × (band_of b ≡ band_of_table (table_view table.now)) × (band_name_of (table_view table.now) ≡ b.name ∷ []))
         (λ e. IsRefusal (band_checks (letters_of earlier.now) (table_view table.now)) e) }
 {
     let Some(name) = text_at(table, "name") else {

@@ -1,7 +1,8 @@
 //! Shares of energy by owner and band.
 
 ghost use Rattle.std.specs.Prelude.{◌≡◌, ◌+◌, ◌^◌, ◌<◌, ◌≤◌, ◌↔◌, ℕ, length, slice_index_or, IfOk, IsTrue};
-ghost use Rattle.pw_tariff.specs.Cells.{AreAboveZero, AreInOrder, IsAdded, IsBeforeClass, energy_of_all, owner_place};
+ghost use Rattle.pw_tariff.specs.Cells.{AreAboveZero, AreInOrder, IsBeforeClass, energy_of_all, owner_place};
+ghost use Rattle.pw_tariff.specs.inner.Shares.{IsAdded};
 
 use crate::{BandId, Owner};
 use std::alloc::AllocError;

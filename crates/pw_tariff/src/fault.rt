@@ -1,3 +1,7 @@
+//! Why an office file is refused.
+
+use std::fmt;
+
 /// Why a text is no office file.
 #[derive(Clone, Copy, Debug, Drop, PartialEq, Eq)]
 pub enum OfficeFault {
@@ -25,11 +29,11 @@ pub enum OfficeFault {
 
 impl OfficeFault {
     ghost use Rattle.std.specs.Prelude.{◌≡◌};
-    ghost use Rattle.pw_tariff.specs.Faults.{name_of, number_of};
+    ghost use Rattle.pw_tariff.specs.Faults.{office_fault_name, office_fault_number};
 
     /// The number under which the fault is reported: 30 to 38, and 62.
     pub fn number(self) -> u8
-        ensures { result ≡ number_of self }
+        ensures { result ≡ office_fault_number self }
     {
         match self {
             OfficeFault::Toml => 30,
@@ -47,7 +51,7 @@ impl OfficeFault {
 
     /// The name under which the fault is reported: that of the variant.
     pub fn name(self) -> &'static str
-        ensures { result.now ≡ name_of self }
+        ensures { result.now ≡ office_fault_name self }
     {
         match self {
             OfficeFault::Toml => "Toml",
@@ -61,5 +65,19 @@ impl OfficeFault {
             OfficeFault::TooMany => "TooMany",
             OfficeFault::Memory => "Memory",
         }
+    }
+}
+
+/// The fault line without its end: `refused`, the number, the name.
+impl fmt::Display for OfficeFault {
+    ghost use Rattle.std.specs.Prelude.{Some};
+    ghost use Rattle.pw_tariff.specs.Faults.{office_fault_line};
+
+    ghost output = { λ fault. Some (office_fault_line fault) };
+
+    fn fmt<W: fmt::Write>(&self, f: &mut fmt::Formatter<W>) -> fmt::Result {
+        let number = self.number();
+        let name = self.name();
+        write!(f, "refused {number} {name}")
     }
 }

@@ -23,3 +23,18 @@ pub enum Direction {
     /// Delivered by the client.
     Export,
 }
+
+impl Direction {
+    ghost use Rattle.std.specs.Prelude.{◌≡◌};
+    ghost use Rattle.pw_tariff.specs.Ids.{direction_name};
+
+    /// The name of a direction: `import` or `export`.
+    pub fn name(self) -> &'static str
+        ensures { result.now ≡ direction_name self }
+    {
+        match self {
+            Direction::Import => "import",
+            Direction::Export => "export",
+        }
+    }
+}

@@ -2,7 +2,7 @@
 //!
 //! Each function does nothing. What counts is its contract, a law of the definitions in `specs/`.
 
-ghost use Rattle.pw_tariff.specs.Laws.{BandIsConstantWithinAnHour, BandsAreOfTheOffice, SharesAreUnique, TextHasOneAnswer};
+ghost use Rattle.pw_tariff.specs.Laws.{BandIsConstantWithinAnHour, BandsAreOfTheOffice, OfficeOfTextIsSound, SharesAreUnique, TextHasOneAnswer};
 
 pub use pw_flow::laws::{
     classes_add_up, flow_is_level_rise, flows_of_a_piece_add_up, piece_of_one_kind,
@@ -18,12 +18,17 @@ pub fn bands_are_of_the_office()
     ensures { BandsAreOfTheOffice }
 {}
 
-/// A text has one answer: its office, or one refusal.
+/// Each text has one answer, its office or a refusal, and no other one.
 pub fn text_has_one_answer()
     ensures { TextHasOneAnswer }
 {}
 
-/// A difference is shared out in one way.
+/// The office of a text is sound: its limits, names, prices, registers and week are as those of every office.
+pub fn office_of_text_is_sound()
+    ensures { OfficeOfTextIsSound }
+{}
+
+/// There are no two ways to share out a difference.
 pub fn shares_are_unique()
     ensures { SharesAreUnique }
 {}

@@ -14,6 +14,7 @@ mod owners;
 mod read;
 mod spread;
 mod table;
+mod walks;
 mod week;
 mod words;
 
@@ -26,6 +27,7 @@ pub use limits::{
 pub use office::Office;
 pub use owners::Owners;
 pub use spread::{Span, apportion};
+pub use walks::{AccountIds, BandIds, MeterIds};
 
 #[cfg(test)]
 mod tests;

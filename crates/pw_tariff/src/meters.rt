@@ -2,10 +2,14 @@
 
 ghost use Rattle.std.specs.Prelude.{◌≡◌, ◌&&◌, ◌||◌, MatchResult, Some, map, string_bytes};
 ghost use Rattle.toml.specs.View.{array_view, table_view};
-ghost use Rattle.pw_tariff.specs.Checks.{IsRefusal, Passes};
-ghost use Rattle.pw_tariff.specs.Held.{ids_of, meter_of, table_in};
-ghost use Rattle.pw_tariff.specs.Office.{lists, overlap};
-ghost use Rattle.pw_tariff.specs.Text.{id_of, meter_checks, meter_of_table, meters_checks, meters_in_turn, meters_of_table, register_checks, register_of, registers_checks, registers_in_turn, registers_of, tables_of};
+ghost use Rattle.pw_tariff.specs.inner.Checks.{IsRefusal};
+ghost use Rattle.pw_tariff.specs.inner.Checks.{Passes};
+ghost use Rattle.pw_tariff.specs.Held.{meter_of};
+ghost use Rattle.pw_tariff.specs.inner.Held.{table_in};
+ghost use Rattle.pw_tariff.specs.inner.Held.{ids_of};
+ghost use Rattle.pw_tariff.specs.Office.{has_register, overlap};
+ghost use Rattle.pw_tariff.specs.Text.{id_of, meter_checks, meter_of_table, meters_checks, meters_of_table, register_checks, register_of, registers_checks, registers_in_turn, registers_of, tables_of};
+ghost use Rattle.pw_tariff.specs.inner.Checks.{meters_in_turn};
 ghost use Rattle.pw_tariff.specs.Words.{is_new};
 
 use crate::OfficeFault;
@@ -174,7 +178,7 @@ fn overlap(registers: &[Register]) -> bool
 }
 
 fn has_both(registers: &[Register], total: Register, first: Register, second: Register) -> bool
-    ensures { result ≡ (lists registers.now total && (lists registers.now first || lists registers.now second)) }
+    ensures { result ≡ (has_register registers.now total && (has_register registers.now first || has_register registers.now second)) }
 {
     let total = holds(registers, total);
     let first = holds(registers, first);

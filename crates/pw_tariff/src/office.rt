@@ -1,10 +1,12 @@
 //! An office: its accounts, meters and bands, its prices, and its week.
 
 ghost use Rattle.std.specs.Prelude.{◌≡◌, ◌≢◌, ◌<◌, ◌≤◌, ℕ, length, slice_get, option_map, IfSome, IfNone};
-ghost use Rattle.pw_tariff.specs.Office.{IsSound, band_at, band_named, counts_at, lists, price_at};
+ghost use Rattle.pw_tariff.specs.Office.{IsSound, band_at, band_named, counts_at, has_register, price_at};
 ghost use Rattle.pw_tariff.specs.Held.{bands_of};
+ghost use Rattle.pw_tariff.specs.Ids.{ids_below};
 
 use crate::limits::MOST_PRICE;
+use crate::walks::{AccountIds, BandIds, MeterIds};
 use crate::{AccountId, BandId, Direction, MeterId};
 use pw_obis::Register;
 use pw_time::{Clock, Instant, Zone, week_hour};
@@ -70,6 +72,27 @@ impl Office {
         ensures sound { IsSound self.now }
     {
         self.bands.len() as u8
+    }
+
+    /// The accounts as ids, in the file's order.
+    pub fn account_ids(&self) -> AccountIds
+        ensures { result ≡ ids_below (length self.now.accounts) }
+    {
+        AccountIds::below(self.accounts())
+    }
+
+    /// The meters as ids, in the file's order.
+    pub fn meter_ids(&self) -> MeterIds
+        ensures { result ≡ ids_below (length self.now.meters) }
+    {
+        MeterIds::below(self.meters())
+    }
+
+    /// The tariff bands as ids, in the file's order.
+    pub fn band_ids(&self) -> BandIds
+        ensures { result ≡ ids_below (length self.now.bands) }
+    {
+        BandIds::below(self.bands())
     }
 
     /// The name of an account.
@@ -178,7 +201,7 @@ pub(crate) fn named(bands: &[Band], letter: u8) -> usize
 
 // Whether the register is one of the list.
 pub(crate) fn holds(registers: &[Register], register: Register) -> bool
-    ensures { result ≡ lists registers.now register }
+    ensures { result ≡ has_register registers.now register }
 {
     registers.contains(&register)
 }

@@ -1,7 +1,7 @@
 //! The owners of a meter over time.
 
 ghost use Rattle.std.specs.Prelude.{◌≡◌, ◌<◌, IfSome, IfNone};
-ghost use Rattle.pw_tariff.specs.Owners.{Rises, owner_at};
+ghost use Rattle.pw_tariff.specs.Owners.{StartsIncrease, owner_by_starts};
 
 use crate::Owner;
 use pw_time::Instant;
@@ -19,20 +19,20 @@ pub struct Owners<'a> {
 impl<'a> Model for Owners<'a> {
     ghost use Rattle.std.specs.Prelude.{ℕ, List, Option};
     ghost use Rattle.pw_tariff.specs.declared.ids.AccountId.{AccountId};
-    ghost use Rattle.pw_tariff.specs.Owners.{Rises};
+    ghost use Rattle.pw_tariff.specs.Owners.{StartsIncrease};
 
     ghost Value = { List (ℕ × Option AccountId) };
 
     ghost view = { λ o. o.starts.now };
 
-    ghost invariant = { λ o. Rises o.starts.now };
+    ghost invariant = { λ o. StartsIncrease o.starts.now };
 }
 
 impl<'a> Owners<'a> {
     /// The owners with these starts, or `None` where the starts don't rise strictly.
     pub fn of(starts: &'a [(Instant, Owner)]) -> Option<Owners<'a>>
-        ensures some { IfSome result (λ owners. (owners ≡ starts.now) × Rises starts.now) }
-        ensures none { IfNone result (¬ (Rises starts.now)) }
+        ensures some { IfSome result (λ owners. (owners ≡ starts.now) × StartsIncrease starts.now) }
+        ensures none { IfNone result (¬ (StartsIncrease starts.now)) }
     {
         for i in 1..starts.len() {
             if starts[i].0.seconds() <= starts[i - 1].0.seconds() {
@@ -44,7 +44,7 @@ impl<'a> Owners<'a> {
 
     // Who owns the meter at a second.
     pub(crate) fn at(&self, second: u32) -> Owner
-        ensures { result ≡ owner_at self.now second }
+        ensures { result ≡ owner_by_starts self.now second }
     {
         let mut owner = None;
         for (start, next) in self.starts {

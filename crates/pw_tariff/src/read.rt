@@ -2,8 +2,10 @@
 
 ghost use Rattle.std.specs.Prelude.{◌≡◌, IsUtf8, MatchResult, Some};
 ghost use Rattle.toml.specs.View.{table_view};
-ghost use Rattle.pw_tariff.specs.Checks.{IsRefusal, Passes};
-ghost use Rattle.pw_tariff.specs.Text.{IsNoTable, IsOfficeOf, IsRefused, IsTable, file_of_table, office_checks};
+ghost use Rattle.pw_tariff.specs.inner.Checks.{IsRefusal};
+ghost use Rattle.pw_tariff.specs.inner.Checks.{Passes};
+ghost use Rattle.pw_tariff.specs.Text.{IsOfficeOf, IsRefused, IsTable, file_of_table, office_checks};
+ghost use Rattle.pw_tariff.specs.inner.Checks.{IsNoTable};
 
 use crate::accounts::read_accounts;
 use crate::bands::read_bands;

@@ -2,7 +2,8 @@
 
 ghost use Rattle.std.specs.Prelude.{◌≡◌, ◌-◌, ◌<◌, ◌≤◌, IfOk};
 ghost use Rattle.pw_time.specs.Instants.{IsInstant};
-ghost use Rattle.pw_tariff.specs.Shares.{AreShares, IsShareAt};
+ghost use Rattle.pw_tariff.specs.Shares.{AreShares};
+ghost use Rattle.pw_tariff.specs.inner.Shares.{IsShareAt};
 
 use crate::cells::add;
 use crate::{Cell, Office, Owners};

@@ -3,8 +3,11 @@
 ghost use Rattle.std.specs.Prelude.{◌≡◌, IsTrue, false, None, Some, MatchResult, map, option_copied, option_map, string_bytes};
 ghost use Rattle.toml.specs.View.{array_view, table_view};
 ghost use Rattle.pw_tariff.specs.Text.{integer_at, list_at, tables_of, text_at, texts_at, texts_of};
-ghost use Rattle.pw_tariff.specs.Held.{table_in};
-ghost use Rattle.pw_tariff.specs.Checks.{IsListFault, IsRefusal, Passes, length_checks};
+ghost use Rattle.pw_tariff.specs.inner.Held.{table_in};
+ghost use Rattle.pw_tariff.specs.Checks.{length_checks};
+ghost use Rattle.pw_tariff.specs.inner.Checks.{IsListFault};
+ghost use Rattle.pw_tariff.specs.inner.Checks.{IsRefusal};
+ghost use Rattle.pw_tariff.specs.inner.Checks.{Passes};
 
 use crate::OfficeFault;
 use std::alloc::Global;

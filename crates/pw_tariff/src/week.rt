@@ -3,7 +3,8 @@
 ghost use Rattle.std.specs.Prelude.{◌≡◌, ◌&&◌, ◌==◌, MatchResult, length, map, nat_lt, string_bytes};
 ghost use Rattle.std.specs.List.{list_all};
 ghost use Rattle.toml.specs.View.{table_view};
-ghost use Rattle.pw_tariff.specs.Checks.{IsRefusal, Passes};
+ghost use Rattle.pw_tariff.specs.inner.Checks.{IsRefusal};
+ghost use Rattle.pw_tariff.specs.inner.Checks.{Passes};
 ghost use Rattle.pw_tariff.specs.Held.{bands_of};
 ghost use Rattle.pw_tariff.specs.Office.{band_named};
 ghost use Rattle.pw_tariff.specs.Text.{bands_of_table, is_day, is_week, week_checks, week_of};

@@ -79,19 +79,8 @@ pub(crate) fn clock_named(text: &[u8]) -> Option<Clock>
 pub(crate) fn register_named(text: &[u8]) -> Option<Register>
     ensures { result ≡ register_named text.now }
 {
-    if text == b"I0".as_slice() {
-        Some(Register::I0)
-    } else if text == b"I1".as_slice() {
-        Some(Register::I1)
-    } else if text == b"I2".as_slice() {
-        Some(Register::I2)
-    } else if text == b"E0".as_slice() {
-        Some(Register::E0)
-    } else if text == b"E1".as_slice() {
-        Some(Register::E1)
-    } else if text == b"E2".as_slice() {
-        Some(Register::E2)
-    } else {
-        None
-    }
+    Register::ALL
+        .iter()
+        .copied()
+        .find(|register| text == register.name().as_bytes())
 }

@@ -1,7 +1,7 @@
 -- A text in its form tells one date and time.
 use Rattle.std.proofs.Common.{◌≡◌, ◌+◌, ◌/◌, ◌%◌, ◌≤◌, ◌<◌, ◌⊎◌, inl, inr, ℕ, List, length, get_or, arith, ap, sym, ◌∙◌}
 use Rattle.pw_time.specs.declared.civil.CivilTime.{CivilTime}
-use Rattle.pw_time.specs.Texts.{joined, separated, IsStampText, IsUtcText, AreReadoutTexts}
+use Rattle.pw_time.specs.Texts.{run_together, separated, IsStampText, IsUtcText, AreReadoutTexts}
 
 -- the same byte stands in the same place
 at : (k : ℕ) (xs ys : List ℕ) → xs ≡ ys → get_or xs k 0 ≡ get_or ys k 0
@@ -49,7 +49,7 @@ one_utc_text text c d a b =
 
 -- either form of three numbers tells them
 one_triple : (byte : ℕ) (text : List ℕ) (a b c x y z : ℕ)
-    → (text ≡ joined a b c) ⊎ (text ≡ separated byte a b c) → (text ≡ joined x y z) ⊎ (text ≡ separated byte x y z)
+    → (text ≡ run_together a b c) ⊎ (text ≡ separated byte a b c) → (text ≡ run_together x y z) ⊎ (text ≡ separated byte x y z)
     → (a ≡ x) × (b ≡ y) × (c ≡ z)
 one_triple byte text a b c x y z (inl p) (inl q) =
     let e = sym p ∙ q in

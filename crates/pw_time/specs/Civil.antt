@@ -1,6 +1,6 @@
 -- Dates and times of day as a clock shows them.
-use Rattle.std.specs.Prelude.{ℤ, pos, neg_ℤ, ◌+◌, ◌*◌, ◌<◌, ◌+ℤ◌, ◌*ℤ◌}
-use Rattle.jiff_core.specs.Calendar.{IsBetween, IsDate, days_from_civil}
+use Rattle.std.specs.Prelude.{ℤ, pos, ◌+◌, ◌*◌, ◌<◌, ◌+ℤ◌, ◌*ℤ◌}
+use Rattle.jiff_core.specs.Calendar.{IsDate, days_from_civil}
 use Rattle.pw_time.specs.declared.civil.CivilTime.{CivilTime}
 
 -- the Gregorian calendar, carried back before its adoption, has the date; the year 0000 is a leap year
@@ -16,7 +16,3 @@ abbrev pub civil_second : CivilTime → ℤ
 civil_second c =
     days_from_civil (pos c.year) c.month c.day *ℤ pos 86_400
     +ℤ pos (c.hour * 3600 + c.minute * 60 + c.second)
-
--- the seconds of the days that the calendar has
-abbrev pub IsCivilSecond : ℤ → Type 0
-IsCivilSecond n = IsBetween (neg_ℤ (pos 377_705_116_800)) (pos 253_402_300_799) n

@@ -3,20 +3,20 @@ use Rattle.std.specs.Prelude.{ℕ, List, codes}
 use Rattle.pw_time.specs.declared.fault.StampFault.{StampFault}
 use Rattle.pw_time.specs.declared.fault.StampFault.TheVariants.{Form, NoSuchDate, NoSuchTime, Mark, Range, Gap, Fold}
 
-abbrev pub number_of : StampFault → ℕ
-number_of Form = 1
-number_of NoSuchDate = 2
-number_of NoSuchTime = 3
-number_of Mark = 4
-number_of Range = 5
-number_of Gap = 6
-number_of Fold = 7
+abbrev pub stamp_fault_number : StampFault → ℕ
+stamp_fault_number Form = 1
+stamp_fault_number NoSuchDate = 2
+stamp_fault_number NoSuchTime = 3
+stamp_fault_number Mark = 4
+stamp_fault_number Range = 5
+stamp_fault_number Gap = 6
+stamp_fault_number Fold = 7
 
-abbrev pub name_of : StampFault → List ℕ
-name_of Form = codes "Form"
-name_of NoSuchDate = codes "NoSuchDate"
-name_of NoSuchTime = codes "NoSuchTime"
-name_of Mark = codes "Mark"
-name_of Range = codes "Range"
-name_of Gap = codes "Gap"
-name_of Fold = codes "Fold"
+abbrev pub stamp_fault_name : StampFault → List ℕ
+stamp_fault_name Form = codes "Form"
+stamp_fault_name NoSuchDate = codes "NoSuchDate"
+stamp_fault_name NoSuchTime = codes "NoSuchTime"
+stamp_fault_name Mark = codes "Mark"
+stamp_fault_name Range = codes "Range"
+stamp_fault_name Gap = codes "Gap"
+stamp_fault_name Fold = codes "Fold"

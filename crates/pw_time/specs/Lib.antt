@@ -1,8 +1,22 @@
-pub mod Faults
+-- Read these, in this order:
+-- Instants: which seconds are instants
+-- Civil: dates and times that exist, and the second that they are
+-- Texts: the forms of dates and times
+-- Summer: summer time, local weekday and hour
+-- Outcomes: what a text is answered
+-- Written: the text of an instant
+-- Laws: each text has one answer
 pub mod Instants
 pub mod Civil
 pub mod Texts
-pub mod Written
 pub mod Summer
 pub mod Outcomes
+pub mod Written
 pub mod Laws
+
+-- and where they are named:
+-- Faults: numbers and names of refusals
+pub mod Faults
+
+-- named by private functions, tests and proofs alone
+pub mod inner

@@ -1,6 +1,5 @@
 -- The forms of dates and times as text. A byte is its ASCII code: 45 is '-', 58 ':', 84 'T', 90 'Z'.
 use Rattle.std.specs.Prelude.{◌≡◌, ℕ, ◌+◌, ◌/◌, ◌%◌, ◌<◌, ◌≤◌, ◌⊎◌, List, [], ◌∷◌, ◌++◌}
-use Rattle.std.specs.Int.{IsInRange}
 use Rattle.pw_time.specs.declared.civil.CivilTime.{CivilTime}
 
 -- a number below 100 in two decimal digits
@@ -8,20 +7,12 @@ abbrev pub two_digits : ℕ → List ℕ
 two_digits n = (48 + n / 10) ∷ (48 + n % 10) ∷ []
 
 -- three such numbers, one directly after the other: 'YYMMDD' and 'hhmmss'
-abbrev pub joined : ℕ → ℕ → ℕ → List ℕ
-joined a b c = two_digits a ++ two_digits b ++ two_digits c
+abbrev pub run_together : ℕ → ℕ → ℕ → List ℕ
+run_together a b c = two_digits a ++ two_digits b ++ two_digits c
 
 -- three such numbers with a byte between them: 'YY-MM-DD' and 'hh:mm:ss'
 abbrev pub separated : ℕ → ℕ → ℕ → ℕ → List ℕ
 separated byte a b c = two_digits a ++ (byte ∷ two_digits b) ++ (byte ∷ two_digits c)
-
--- three numbers of two digits each
-abbrev pub AreTwoDigits : ℕ → ℕ → ℕ → Type 0
-AreTwoDigits a b c = (a < 100) × (b < 100) × (c < 100)
-
--- a byte that is a decimal digit
-abbrev pub IsDigit : ℕ → Type 0
-IsDigit byte = IsInRange 48 57 byte
 
 -- a year of four digits, the others of two; the calendar isn't asked
 pub record HasDigits (c : CivilTime) : Type 0 where
@@ -41,7 +32,7 @@ IsShortYear year = (2000 ≤ year) × (year < 2100)
 pub record IsStampText (text : List ℕ) (c : CivilTime) (mark : ℕ) : Type 0 where
   pub year : IsShortYear c.year
   pub parts : HasDigits c
-  pub bytes : text ≡ joined (c.year % 100) c.month c.day ++ joined c.hour c.minute c.second ++ (mark ∷ [])
+  pub bytes : text ≡ run_together (c.year % 100) c.month c.day ++ run_together c.hour c.minute c.second ++ (mark ∷ [])
 
 -- The extended format of ISO 8601 in UTC: 'YYYY-MM-DDThh:mm:ssZ'.
 pub record IsUtcText (text : List ℕ) (c : CivilTime) : Type 0 where
@@ -54,5 +45,5 @@ pub record IsUtcText (text : List ℕ) (c : CivilTime) : Type 0 where
 pub record AreReadoutTexts (date time : List ℕ) (c : CivilTime) : Type 0 where
   pub year : IsShortYear c.year
   pub parts : HasDigits c
-  pub date_bytes : (date ≡ joined (c.year % 100) c.month c.day) ⊎ (date ≡ separated 45 (c.year % 100) c.month c.day)
-  pub time_bytes : (time ≡ joined c.hour c.minute c.second) ⊎ (time ≡ separated 58 c.hour c.minute c.second)
+  pub date_bytes : (date ≡ run_together (c.year % 100) c.month c.day) ⊎ (date ≡ separated 45 (c.year % 100) c.month c.day)
+  pub time_bytes : (time ≡ run_together c.hour c.minute c.second) ⊎ (time ≡ separated 58 c.hour c.minute c.second)

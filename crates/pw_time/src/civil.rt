@@ -1,7 +1,8 @@
 ghost use Rattle.std.specs.Prelude.{ℕ, ◌≡◌, ◌≢◌, ◌+◌, ◌*◌, ◌<◌, ◌↔◌, pos, IsSome, IfSome, IfOk, IfErr, OnOk, Err};
 ghost use Rattle.jiff_core.specs.Calendar.{IsEpochDay, days_from_civil};
 ghost use Rattle.jiff_core.specs.Date.{epoch_day};
-ghost use Rattle.pw_time.specs.Civil.{HasDate, HasTime, IsCivilSecond, civil_second};
+ghost use Rattle.pw_time.specs.Civil.{HasDate, HasTime, civil_second};
+ghost use Rattle.pw_time.specs.inner.Civil.{IsCivilSecond};
 ghost use Rattle.pw_time.specs.Outcomes.{Exists, IsMissing, IsCivilOutcome, always, central};
 ghost use Rattle.pw_time.specs.Texts.{HasDigits, IsShortYear};
 ghost use Rattle.pw_time.specs.Instants.{IsInstant};

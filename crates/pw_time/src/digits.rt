@@ -1,9 +1,11 @@
 ghost use Rattle.std.specs.Prelude.{ℕ, ◌≡◌, ◌≢◌, ◌+◌, ◌/◌, ◌%◌, ◌<◌, MatchOption};
-ghost use Rattle.pw_time.specs.Texts.{AreTwoDigits, IsDigit, joined, separated, two_digits};
+ghost use Rattle.pw_time.specs.Texts.{run_together, separated, two_digits};
+ghost use Rattle.pw_time.specs.inner.Texts.{IsDecimalDigit};
+ghost use Rattle.pw_time.specs.inner.Texts.{AreTwoDigits};
 
 /// The number of two digits.
 pub(crate) fn two_digits(tens: u8, ones: u8) -> Option<u8>
-    ensures { MatchOption result (¬ (IsDigit tens × IsDigit ones)) (λ n. (n < 100) × (tens ≡ 48 + n / 10) × (ones ≡ 48 + n % 10)) }
+    ensures { MatchOption result (¬ (IsDecimalDigit tens × IsDecimalDigit ones)) (λ n. (n < 100) × (tens ≡ 48 + n / 10) × (ones ≡ 48 + n % 10)) }
 {
     match (tens, ones) {
         (b'0'..=b'9', b'0'..=b'9') => Some((tens - b'0') * 10 + (ones - b'0')),
@@ -13,7 +15,7 @@ pub(crate) fn two_digits(tens: u8, ones: u8) -> Option<u8>
 
 /// Three numbers of two digits each, one directly after the other.
 pub(crate) fn joined(text: &[u8]) -> Option<(u8, u8, u8)>
-    ensures { MatchOption result ((a b c : ℕ) → AreTwoDigits a b c → text.now ≢ joined a b c) (λ n. AreTwoDigits n.0 n.1 n.2 × (text.now ≡ joined n.0 n.1 n.2)) }
+    ensures { MatchOption result ((a b c : ℕ) → AreTwoDigits a b c → text.now ≢ run_together a b c) (λ n. AreTwoDigits n.0 n.1 n.2 × (text.now ≡ run_together n.0 n.1 n.2)) }
 {
     let [a, b, c, d, e, f] = *text else {
         return None;

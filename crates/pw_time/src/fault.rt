@@ -20,11 +20,11 @@ pub enum StampFault {
 
 impl StampFault {
     ghost use Rattle.std.specs.Prelude.{◌≡◌};
-    ghost use Rattle.pw_time.specs.Faults.{name_of, number_of};
+    ghost use Rattle.pw_time.specs.Faults.{stamp_fault_name, stamp_fault_number};
 
     /// The number under which the fault is reported, from 1 to 7.
     pub fn number(self) -> u8
-        ensures { result ≡ number_of self }
+        ensures { result ≡ stamp_fault_number self }
     {
         match self {
             StampFault::Form => 1,
@@ -39,7 +39,7 @@ impl StampFault {
 
     /// The name under which the fault is reported: that of the variant.
     pub fn name(self) -> &'static str
-        ensures { result.now ≡ name_of self }
+        ensures { result.now ≡ stamp_fault_name self }
     {
         match self {
             StampFault::Form => "Form",

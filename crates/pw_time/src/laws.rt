@@ -1,6 +1,7 @@
 //! Laws: each contract is a theorem. A body is empty, or makes the calls that its theorem is about.
 
-ghost use Rattle.std.specs.Prelude.{◌≡◌, Ok};
+ghost use Rattle.std.specs.Prelude.{◌≡◌, ◌+◌, Ok, codes};
+ghost use Rattle.pw_time.specs.declared.instant.TheConstants.{END_SECOND, FIRST_SECOND, LAST_SECOND};
 ghost use Rattle.pw_time.specs.Outcomes.{IsReadoutOutcome, IsStampOutcome, IsUtcOutcome};
 ghost use Rattle.pw_time.specs.Laws.{ExactlyOne, InstantHasOneText, IsTextOf, LastSundayIsLast, LocalHourIsConstantWithinAnHour, ReadoutHasOneOutcome, StampHasOneOutcome, SummerIsOfSomeYear, UtcHasOneOutcome};
 
@@ -44,6 +45,13 @@ pub fn written_is_read_back(instant: Instant) -> Result<Instant, StampFault>
 {
     utc(&write_utc(instant))
 }
+
+/// The first and the last second that are instants are those of the years 2000 to 2099, and the end lies behind the last.
+pub fn instants_are_of_the_century()
+    ensures first { IsTextOf FIRST_SECOND (codes "2000-01-01T00:00:00Z") }
+    ensures last { IsTextOf LAST_SECOND (codes "2099-12-31T23:59:59Z") }
+    ensures end { END_SECOND ≡ LAST_SECOND + 1 }
+{}
 
 /// The last Sunday of a month of 31 days is a Sunday, and one of the days 25 to 31.
 pub fn last_sunday_is_last()

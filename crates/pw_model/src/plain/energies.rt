@@ -3,11 +3,11 @@
 ghost use Rattle.std.specs.Prelude.{◌≡◌, ◌<◌, ◌≤◌, All, IfOk, length};
 ghost use Rattle.std.specs.List.Sorted.{IsStrictlyIncreasing};
 ghost use Rattle.pw_flow.specs.Energy.{register_energy};
-ghost use Rattle.pw_flow.specs.Plain.{seconds_of as times_of, value_at};
+ghost use Rattle.pw_flow.specs.Plain.{times_of, value_at};
 ghost use Rattle.pw_model.specs.Counting.{contents_at as told_at};
-ghost use Rattle.pw_model.specs.Energy.{energy as energy_of, meter_share, of_band, seconds_of, share_of};
+ghost use Rattle.pw_model.specs.Energy.{energy as energy_of, meter_share, of_band, asked_seconds, share_of};
 ghost use Rattle.pw_model.specs.Office.{AllOfOffice, IsOffice, most_records};
-ghost use Rattle.pw_model.specs.Search.{at_instants};
+ghost use Rattle.pw_model.specs.inner.Search.{at_instants};
 ghost use Rattle.pw_tariff.specs.Owners.{same_owner};
 ghost use Rattle.pw_time.specs.Instants.{IsInstant};
 ghost use Rattle.pw_time.specs.declared.instant.TheConstants.{END_SECOND as the_end};
@@ -111,12 +111,12 @@ fn points_energy<T: Terms>(
 ) -> u128
     requires rising { IsStrictlyIncreasing (times_of points.now) }
     requires instants { All (λ p. IsInstant p.at) points.now }
-    ensures { result ≡ register_energy (seconds_of (told_at entries.now) (of_band (T.office terms.now) owner band.0) meter.0) (value_at points.now) the_end }
+    ensures { result ≡ register_energy (asked_seconds (told_at entries.now) (of_band (T.office terms.now) owner band.0) meter.0) (value_at points.now) the_end }
 {
     pw_flow::plain::energy(
         points,
         |second: u32| -> bool
-            ensures { result ≡ at_instants (seconds_of (told_at entries.entry.now) (of_band (T.office terms.entry.now) owner band.0) meter.0) second }
+            ensures { result ≡ at_instants (asked_seconds (told_at entries.entry.now) (of_band (T.office terms.entry.now) owner band.0) meter.0) second }
         { is_of(terms, entries, meter, owner, band, second) },
     )
 }
@@ -130,7 +130,7 @@ fn is_of<T: Terms>(
     band: BandId,
     second: u32,
 ) -> bool
-    ensures { result ≡ at_instants (seconds_of (told_at entries.now) (of_band (T.office terms.now) owner band.0) meter.0) second }
+    ensures { result ≡ at_instants (asked_seconds (told_at entries.now) (of_band (T.office terms.now) owner band.0) meter.0) second }
 {
     let Some(instant) = Instant::of(second) else {
         return false;

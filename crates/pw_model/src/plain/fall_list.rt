@@ -1,15 +1,20 @@
 //! The falls of a list of records.
 
-ghost use Rattle.std.specs.Prelude.{◌≡◌, IfOk, IfSome, IfNone};
-ghost use Rattle.pw_model.specs.Counting.{contents_at as told_at};
-ghost use Rattle.pw_model.specs.Lists.{AreFalls, IsFall, IsRising};
+ghost use Rattle.std.specs.Prelude.{◌≡◌, ℕ, ◌+◌, ◌<◌, ◌≤◌, IfOk, IfSome, IfNone, length};
+ghost use Rattle.pw_time.specs.declared.instant.TheConstants.{END_SECOND as the_end};
+ghost use Rattle.pw_model.specs.Counting.{contents_at as told_at, reading_key};
+ghost use Rattle.pw_model.specs.Lists.{AreFalls, IsFall, IsInOrder};
 ghost use Rattle.pw_model.specs.Same.{entry_order};
-ghost use Rattle.pw_model.specs.Search.{FallsFrom, high_reading};
+ghost use Rattle.pw_model.specs.inner.Search.{IsAt, IsEarliestAmong, high_reading};
+ghost use Rattle.pw_model.specs.declared.records.Entry.{Entry};
 ghost use Rattle.pw_model.specs.declared.records.Fall.{Fall};
 
-use super::search::{counts, earliest_point};
-use super::sorted::sorted;
+use super::search::instant_of;
+use super::sorted::{sorted, stands_alone};
 use crate::records::{Content, Entry, Fall, Key};
+use pw_obis::{Register, WattHours};
+use pw_tariff::MeterId;
+use pw_time::Instant;
 use std::alloc::{AllocError, Global};
 
 /// The falls, by meter, register and instant.
@@ -17,32 +22,31 @@ pub fn falls(alloc: Global, entries: &[Entry]) -> Result<Vec<Fall>, AllocError>
     ensures { IfOk result (λ falls. AreFalls entries.now falls.items) }
 {
     let in_order = sorted(alloc, entries)?;
-    falls_from(alloc, entries, &in_order)
+    falls_among(alloc, &in_order)
 }
 
-// The falls whose earlier reading is one of some records in order.
-fn falls_from(alloc: Global, all: &[Entry], some: &[Entry]) -> Result<Vec<Fall>, AllocError>
-    requires { IsRising entry_order some.now }
-    ensures { IfOk result (λ falls. FallsFrom all.now some.now falls.items) }
+// The falls of some records in order.
+fn falls_among(alloc: Global, in_order: &[Entry]) -> Result<Vec<Fall>, AllocError>
+    requires { IsInOrder entry_order in_order.now }
+    ensures { IfOk result (λ falls. AreFalls in_order.now falls.items) }
 {
-    match some {
-        [] => Ok(Vec::new(alloc)),
-        [entry, others @ ..] => {
-            let mut falls = falls_from(alloc, all, others)?;
-            let Some(fall) = fall_from(all, entry) else {
-                return Ok(falls);
-            };
-            falls.insert(0, fall)?;
-            Ok(falls)
+    let mut falls = Vec::new(alloc);
+    for index in 0..in_order.len() {
+        if let Some(fall) = fall_from(in_order, index) {
+            falls.push(fall)?;
         }
     }
+    Ok(falls)
 }
 
-// The fall whose earlier reading is this record.
-fn fall_from(all: &[Entry], entry: &Entry) -> Option<Fall>
-    ensures some { IfSome result (λ f. IsFall (told_at all.now) f × (entry.now ≡ high_reading f)) }
-    ensures none { IfNone result ((f : Fall) → IsFall (told_at all.now) f → entry.now ≡ high_reading f → ⊥) }
+// The fall whose earlier reading is the record at this place.
+fn fall_from(in_order: &[Entry], index: usize) -> Option<Fall>
+    requires rising { IsInOrder entry_order in_order.now }
+    requires within { index < length in_order.now }
+    ensures some { IfSome result (λ f. IsFall (told_at in_order.now) f × IsAt in_order.now index (high_reading f)) }
+    ensures none { IfNone result ((f : Fall) → IsFall (told_at in_order.now) f → IsAt in_order.now index (high_reading f) → ⊥) }
 {
+    let entry = &in_order[index];
     let Key::Reading {
         meter,
         register,
@@ -54,11 +58,10 @@ fn fall_from(all: &[Entry], entry: &Entry) -> Option<Fall>
     let Content::Reading { wh } = &entry.content else {
         return None;
     };
-    if !counts(all, entry) {
+    if !stands_alone(in_order, index) {
         return None;
     }
-    let behind = instant.seconds() + 1;
-    let Some(next) = earliest_point(all, all, *meter, *register, behind) else {
+    let Some(next) = next_point(in_order, index, *meter, *register, *instant) else {
         return None;
     };
     if next.1.get() >= wh.get() {
@@ -72,4 +75,33 @@ fn fall_from(all: &[Entry], entry: &Entry) -> Option<Fall>
         to: next.0,
         low: next.1,
     })
+}
+
+// The next counting reading of a register behind the reading at this place.
+fn next_point(
+    in_order: &[Entry],
+    index: usize,
+    meter: MeterId,
+    register: Register,
+    instant: Instant,
+) -> Option<(Instant, WattHours)>
+    requires rising { IsInOrder entry_order in_order.now }
+    requires within { index < length in_order.now }
+    requires reading { (e : Entry) → IsAt in_order.now index e → e.key ≡ reading_key meter.0 register instant }
+    ensures { (y : ℕ) → the_end ≤ y → IsEarliestAmong (told_at in_order.now) meter.0 register (instant + 1) y in_order.now result }
+{
+    for place in index + 1..in_order.len() {
+        let entry = &in_order[place];
+        let Some(instant) = instant_of(&entry.key, meter, register) else {
+            return None;
+        };
+        let Content::Reading { wh } = &entry.content else {
+            continue;
+        };
+        if stands_alone(in_order, place) {
+            let _second = instant.seconds();
+            return Some((instant, *wh));
+        }
+    }
+    None
 }

@@ -51,10 +51,12 @@ pub fn is_entry_of_office<T: Terms>(terms: &T, entry: &Entry) -> bool
 pub fn are_of_office<T: Terms>(terms: &T, entries: &[Entry]) -> bool
     ensures { IsTrue result ↔ AllOfOffice (T.office terms.now) entries.now }
 {
-    match entries {
-        [] => true,
-        [entry, others @ ..] => is_entry_of_office(terms, entry) && are_of_office(terms, others),
+    for entry in entries {
+        if !is_entry_of_office(terms, entry) {
+            return false;
+        }
     }
+    true
 }
 
 fn has_owner<T: Terms>(terms: &T, owner: Owner) -> bool

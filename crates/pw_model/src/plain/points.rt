@@ -2,12 +2,12 @@
 
 ghost use Rattle.std.specs.Prelude.{◌≡◌, ℕ, ◌<◌, All, IfOk};
 ghost use Rattle.std.specs.List.Sorted.{IsStrictlyIncreasing};
-ghost use Rattle.pw_flow.specs.Plain.{seconds_of, value_at};
+ghost use Rattle.pw_flow.specs.Plain.{times_of, value_at};
 ghost use Rattle.pw_time.specs.Instants.{IsInstant};
 ghost use Rattle.pw_time.specs.declared.instant.TheConstants.{END_SECOND as the_end};
 ghost use Rattle.pw_model.specs.Counting.{contents_at as told_at, point};
 
-use super::search::earliest_point;
+use super::reading_list::readings;
 use crate::records::Entry;
 use pw_flow::plain::Point;
 use pw_obis::Register;
@@ -21,17 +21,19 @@ pub fn points_of(
     meter: MeterId,
     register: Register,
 ) -> Result<Vec<Point>, AllocError>
-    ensures rising { IfOk result (λ points. IsStrictlyIncreasing (seconds_of points.items)) }
+    ensures rising { IfOk result (λ points. IsStrictlyIncreasing (times_of points.items)) }
     ensures instants { IfOk result (λ points. All (λ p. IsInstant p.at) points.items) }
     ensures values { IfOk result (λ points. (t : ℕ) → t < the_end → value_at points.items t ≡ point (told_at entries.now) meter.0 register t) }
 {
+    let rows = readings(alloc, entries, meter, register)?;
     let mut points = Vec::new(alloc);
-    let mut from = 0;
-    while let Some(next) = earliest_point(entries, entries, meter, register, from) {
-        let at = next.0.seconds();
-        let watt_hours = next.1.get();
-        points.push(Point { at, watt_hours })?;
-        from = at + 1;
+    for row in &rows {
+        if row.counted {
+            points.push(Point {
+                at: row.instant.seconds(),
+                watt_hours: row.wh.get(),
+            })?;
+        }
     }
     Ok(points)
 }

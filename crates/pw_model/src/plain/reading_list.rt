@@ -1,12 +1,11 @@
 //! The readings of a register that a list of records holds.
 
 ghost use Rattle.std.specs.Prelude.{◌≡◌, ℕ, IfOk, IfSome, IfNone};
-ghost use Rattle.pw_model.specs.Lists.{AreReadings, IsRising, reading_entry};
+ghost use Rattle.pw_model.specs.Lists.{AreReadings, IsInOrder, reading_entry};
 ghost use Rattle.pw_model.specs.Same.{entry_order};
-ghost use Rattle.pw_model.specs.Search.{IsRowOf, RowsOf};
 
-use super::search::{counts, instant_of};
-use super::sorted::sorted;
+use super::search::instant_of;
+use super::sorted::{sorted, stands_alone};
 use crate::records::{Content, Entry, ReadingRow};
 use pw_obis::Register;
 use pw_tariff::MeterId;
@@ -22,36 +21,32 @@ pub fn readings(
     ensures { IfOk result (λ rows. AreReadings entries.now meter.0 register rows.items) }
 {
     let in_order = sorted(alloc, entries)?;
-    rows_of(alloc, entries, &in_order, meter, register)
+    rows_among(alloc, &in_order, meter, register)
 }
 
 // The rows of some records in order.
-fn rows_of(
+fn rows_among(
     alloc: Global,
-    all: &[Entry],
-    some: &[Entry],
+    in_order: &[Entry],
     meter: MeterId,
     register: Register,
 ) -> Result<Vec<ReadingRow>, AllocError>
-    requires { IsRising entry_order some.now }
-    ensures { IfOk result (λ rows. RowsOf all.now meter.0 register some.now rows.items) }
+    requires { IsInOrder entry_order in_order.now }
+    ensures { IfOk result (λ rows. AreReadings in_order.now meter.0 register rows.items) }
 {
-    match some {
-        [] => Ok(Vec::new(alloc)),
-        [entry, others @ ..] => {
-            let mut rows = rows_of(alloc, all, others, meter, register)?;
-            let Some(row) = row_of(all, entry, meter, register) else {
-                return Ok(rows);
-            };
-            rows.insert(0, row)?;
-            Ok(rows)
+    let mut rows = Vec::new(alloc);
+    for (index, entry) in in_order.iter().enumerate() {
+        let counted = stands_alone(in_order, index);
+        if let Some(row) = row_of(entry, meter, register, counted) {
+            rows.push(row)?;
         }
     }
+    Ok(rows)
 }
 
 // The row of a record, where it is a reading of the register.
-fn row_of(all: &[Entry], entry: &Entry, meter: MeterId, register: Register) -> Option<ReadingRow>
-    ensures some { IfSome result (λ row. IsRowOf all.now meter.0 register entry.now row) }
+fn row_of(entry: &Entry, meter: MeterId, register: Register, counted: bool) -> Option<ReadingRow>
+    ensures some { IfSome result (λ row. (entry.now ≡ reading_entry meter.0 register row.instant row.wh) × (row.counted ≡ counted)) }
     ensures none { IfNone result ((t w : ℕ) → entry.now ≡ reading_entry meter.0 register t w → ⊥) }
 {
     let Some(instant) = instant_of(&entry.key, meter, register) else {
@@ -63,6 +58,6 @@ fn row_of(all: &[Entry], entry: &Entry, meter: MeterId, register: Register) -> O
     Some(ReadingRow {
         instant,
         wh: *wh,
-        counted: counts(all, entry),
+        counted,
     })
 }

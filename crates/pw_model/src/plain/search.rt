@@ -1,33 +1,27 @@
-//! What counts at a key, the owner of a meter at a second, and the next point of a register.
+//! What counts at a key, and the owner of a meter at a second.
 
-ghost use Rattle.std.specs.Prelude.{◌≡◌, ◌≤◌, ◌↔◌, ℕ, IfSome, IfNone, IsTrue};
-ghost use Rattle.pw_time.specs.declared.instant.TheConstants.{END_SECOND as the_end};
-ghost use Rattle.pw_model.specs.Counting.{Counts, contents_at as told_at, joined as one_more, reading_key, wh_of};
+ghost use Rattle.std.specs.Prelude.{◌≡◌, ◌↔◌, ℕ, IfSome, IfNone, IsTrue};
+ghost use Rattle.pw_model.specs.Counting.{Counts, contents_at as told_at, joined as one_more, owner_of, reading_key};
 ghost use Rattle.pw_model.specs.Energy.{owner_at as owner_of_second};
-ghost use Rattle.pw_model.specs.Search.{IsEarliestAmong, IsLatestAmong, IsPointIn, IsStartIn, earlier_of, later_of};
+ghost use Rattle.pw_model.specs.inner.Search.{IsLatestAmong, IsStartIn, later_of};
 
 use crate::compare::{is_same_content, is_same_key};
 use crate::records::{Content, Contents, Entry, Key};
-use pw_obis::{Register, WattHours};
+use pw_obis::Register;
 use pw_tariff::{MeterId, Owner};
 use pw_time::Instant;
 
 /// What the records say of a key: whether none has it, one, or several.
-#[tactic(auto, unfolding(crate::specs::Counting::contents_at, crate::specs::Counting::contents_among))]
 pub fn contents_at(entries: &[Entry], key: &Key) -> Contents
     ensures { result ≡ told_at entries.now key.now }
 {
-    match entries {
-        [] => Contents::Nothing,
-        [entry, others @ ..] => {
-            let behind = contents_at(others, key);
-            if is_same_key(&entry.key, key) {
-                joined(entry.content, behind)
-            } else {
-                behind
-            }
+    let mut contents = Contents::Nothing;
+    for entry in entries {
+        if is_same_key(&entry.key, key) {
+            contents = joined(entry.content, contents);
         }
     }
+    contents
 }
 
 fn joined(content: Content, behind: Contents) -> Contents
@@ -60,27 +54,43 @@ pub(crate) fn counts(entries: &[Entry], entry: &Entry) -> bool
 pub fn owner_at(entries: &[Entry], meter: MeterId, second: u32) -> Owner
     ensures { result ≡ owner_of_second (told_at entries.now) meter.0 second }
 {
-    match latest_start(entries, entries, meter, second) {
-        None => None,
-        Some((_, owner)) => owner,
-    }
-}
-
-// The latest counting start of a meter up to a second that some of the records have, and the owner from it on.
-fn latest_start(all: &[Entry], some: &[Entry], meter: MeterId, second: u32) -> Option<(u32, Owner)>
-    ensures { IsLatestAmong (told_at all.now) meter.0 second some.now result }
-{
-    match some {
-        [] => None,
-        [entry, others @ ..] => {
-            let found = latest_start(all, others, meter, second);
-            later(found, start_in(all, entry, meter, second))
+    let mut until = second;
+    while let Some(start) = latest_start(entries, meter, until) {
+        let contents = contents_at(entries, &Key::Assignment { meter, start });
+        if let Some(owner) = owner_in(&contents) {
+            return owner;
         }
+        until = start.seconds() - 1;
+    }
+    None
+}
+
+fn owner_in(contents: &Contents) -> Option<Owner>
+    ensures { result ≡ owner_of contents.now }
+{
+    let Contents::One(content) = contents else {
+        return None;
+    };
+    match content {
+        Content::Assignment { owner } => Some(*owner),
+        _ => None,
     }
 }
 
-fn start_in(all: &[Entry], entry: &Entry, meter: MeterId, second: u32) -> Option<(u32, Owner)>
-    ensures { IsStartIn (told_at all.now) meter.0 second entry.now result }
+// The latest second up to this one from which a record assigns the meter, whether it counts or not.
+fn latest_start(entries: &[Entry], meter: MeterId, until: u32) -> Option<Instant>
+    ensures { IsLatestAmong meter.0 until entries.now result }
+{
+    let mut latest = None;
+    for entry in entries {
+        latest = later(latest, start_in(entry, meter, until));
+    }
+    latest
+}
+
+// The second from which a record assigns the meter, where that isn't behind this one.
+fn start_in(entry: &Entry, meter: MeterId, until: u32) -> Option<Instant>
+    ensures { IsStartIn meter.0 until entry.now result }
 {
     let Key::Assignment {
         meter: other,
@@ -89,16 +99,13 @@ fn start_in(all: &[Entry], entry: &Entry, meter: MeterId, second: u32) -> Option
     else {
         return None;
     };
-    if other.0 != meter.0 || start.seconds() > second {
+    if other.0 != meter.0 || start.seconds() > until {
         return None;
     }
-    match contents_at(all, &entry.key) {
-        Contents::One(Content::Assignment { owner }) => Some((start.seconds(), owner)),
-        _ => None,
-    }
+    Some(start)
 }
 
-fn later(found: Option<(u32, Owner)>, here: Option<(u32, Owner)>) -> Option<(u32, Owner)>
+fn later(found: Option<Instant>, here: Option<Instant>) -> Option<Instant>
     ensures { result ≡ later_of found here }
 {
     let Some(a) = found else {
@@ -107,56 +114,10 @@ fn later(found: Option<(u32, Owner)>, here: Option<(u32, Owner)>) -> Option<(u32
     let Some(b) = here else {
         return Some(a);
     };
-    if a.0 <= b.0 { Some(b) } else { Some(a) }
-}
-
-// The earliest counting reading of a register from a second on that some of the records have.
-pub(crate) fn earliest_point(
-    all: &[Entry],
-    some: &[Entry],
-    meter: MeterId,
-    register: Register,
-    from: u32,
-) -> Option<(Instant, WattHours)>
-    ensures { (y : ℕ) → the_end ≤ y → IsEarliestAmong (told_at all.now) meter.0 register from y some.now result }
-{
-    match some {
-        [] => None,
-        [entry, others @ ..] => {
-            let found = earliest_point(all, others, meter, register, from);
-            earlier(found, point_in(all, entry, meter, register, from))
-        }
-    }
-}
-
-fn point_in(
-    all: &[Entry],
-    entry: &Entry,
-    meter: MeterId,
-    register: Register,
-    from: u32,
-) -> Option<(Instant, WattHours)>
-    ensures { (y : ℕ) → the_end ≤ y → IsPointIn (told_at all.now) meter.0 register from y entry.now result }
-{
-    let Some(instant) = instant_of(&entry.key, meter, register) else {
-        return None;
-    };
-    if instant.seconds() < from {
-        return None;
-    }
-    let wh = wh_in(&contents_at(all, &entry.key))?;
-    Some((instant, wh))
-}
-
-fn wh_in(contents: &Contents) -> Option<WattHours>
-    ensures { result ≡ wh_of contents.now }
-{
-    let Contents::One(content) = contents else {
-        return None;
-    };
-    match content {
-        Content::Reading { wh } => Some(*wh),
-        _ => None,
+    if a.seconds() <= b.seconds() {
+        Some(b)
+    } else {
+        Some(a)
     }
 }
 
@@ -178,24 +139,5 @@ pub(crate) fn instant_of(key: &Key, meter: MeterId, register: Register) -> Optio
             }
         }
         _ => None,
-    }
-}
-
-fn earlier(
-    found: Option<(Instant, WattHours)>,
-    here: Option<(Instant, WattHours)>,
-) -> Option<(Instant, WattHours)>
-    ensures { result ≡ earlier_of found here }
-{
-    let Some(a) = found else {
-        return here;
-    };
-    let Some(b) = here else {
-        return Some(a);
-    };
-    if a.0.seconds() <= b.0.seconds() {
-        Some(a)
-    } else {
-        Some(b)
     }
 }

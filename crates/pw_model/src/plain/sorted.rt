@@ -1,46 +1,44 @@
 //! The records of a list in their order.
 
-ghost use Rattle.std.specs.Prelude.{IfOk};
-ghost use Rattle.pw_model.specs.Search.{AreSorted, IsWith};
+ghost use Rattle.std.specs.Prelude.{◌<◌, ◌≤◌, ◌↔◌, IfOk, IsTrue, length};
+ghost use Rattle.pw_model.specs.Counting.{Counts};
+ghost use Rattle.pw_model.specs.Lists.{IsInOrder};
+ghost use Rattle.pw_model.specs.Same.{entry_order};
+ghost use Rattle.pw_model.specs.inner.Search.{AreSorted, IsAt, IsKeyBehind};
+ghost use Rattle.pw_model.specs.declared.records.Entry.{Entry};
 
-use crate::compare::compare_entries;
+use crate::compare::{compare_entries, is_same_key};
 use crate::records::Entry;
 use std::alloc::{AllocError, Global};
-use std::cmp::Ordering;
 
 // The records of a list in the order of their keys, then of their contents, each once.
 pub(crate) fn sorted(alloc: Global, entries: &[Entry]) -> Result<Vec<Entry>, AllocError>
-    ensures { IfOk result (λ all. AreSorted entries.now all.items) }
+    ensures sorted { IfOk result (λ all. AreSorted entries.now all.items) }
+    ensures few { IfOk result (λ all. length all.items ≤ length entries.now) }
 {
-    match entries {
-        [] => Ok(Vec::new(alloc)),
-        [entry, others @ ..] => {
-            let others = sorted(alloc, others)?;
-            with_entry(alloc, &others, entry)
-        }
-    }
+    let mut all = Vec::from_slice(alloc, entries)?;
+    all.sort_unstable_by(|a, b| compare_entries(a, b));
+    all.dedup();
+    Ok(all)
 }
 
-// The records with one more, which is put before the first that is later, unless it is there.
-fn with_entry(alloc: Global, entries: &[Entry], entry: &Entry) -> Result<Vec<Entry>, AllocError>
-    ensures { IfOk result (λ all. IsWith entry.now entries.now all.items) }
+// Whether a record of some in order counts among them: neither of its neighbours has its key.
+pub(crate) fn stands_alone(in_order: &[Entry], index: usize) -> bool
+    requires rising { IsInOrder entry_order in_order.now }
+    requires within { index < length in_order.now }
+    ensures { (e : Entry) → IsAt in_order.now index e → IsTrue result ↔ Counts in_order.now e }
 {
-    match entries {
-        [] => Vec::from_slice(alloc, &[*entry]),
-        [first, others @ ..] => {
-            match compare_entries(entry, first) {
-                Ordering::Less => {
-                    let mut all = Vec::from_slice(alloc, entries)?;
-                    all.insert(0, *entry)?;
-                    Ok(all)
-                }
-                Ordering::Equal => Vec::from_slice(alloc, entries),
-                Ordering::Greater => {
-                    let mut all = with_entry(alloc, others, entry)?;
-                    all.insert(0, *first)?;
-                    Ok(all)
-                }
-            }
-        }
+    if index > 0 && has_key_behind(in_order, index - 1) {
+        return false;
     }
+    !has_key_behind(in_order, index)
+}
+
+// Whether the record behind this one has its key.
+pub(crate) fn has_key_behind(in_order: &[Entry], index: usize) -> bool
+    requires { index < length in_order.now }
+    ensures { IsTrue result ↔ IsKeyBehind in_order.now index }
+{
+    let behind = index + 1;
+    behind < in_order.len() && is_same_key(&in_order[index].key, &in_order[behind].key)
 }

@@ -1,7 +1,7 @@
 //! What is fixed before any record comes.
 
 ghost use Rattle.std.specs.Prelude.{◌≡◌};
-ghost use Rattle.pw_tariff.specs.Office.{Office, office_of};
+ghost use Rattle.pw_tariff.specs.Office.{OfficeRules, office_of};
 ghost use Rattle.pw_model.specs.Office.{IsOffice};
 
 use pw_obis::Register;
@@ -12,7 +12,7 @@ use std::marker::Model;
 /// An office: its meters and the registers that count for them, its bands and prices.
 pub trait Terms {
     // the office in the words of the definitions
-    ghost office: { Self → Office };
+    ghost office: { Self → OfficeRules };
 
     /// How many accounts there are.
     fn accounts(&self) -> u16

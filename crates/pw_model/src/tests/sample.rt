@@ -2,7 +2,7 @@
 
 ghost use Rattle.std.specs.Prelude.{◌≡◌, ◌≤◌, IsTrue, length};
 ghost use Rattle.pw_model.specs.Office.{AllOfOffice, IsOffice, most_records};
-ghost use Rattle.pw_model.specs.Sample.{sample};
+ghost use Rattle.pw_model.specs.inner.Sample.{sample};
 
 use crate::plain::{Terms, are_of_office, balance, energy};
 use crate::records::{Content, Entry, Key};
@@ -135,7 +135,7 @@ pub fn require_sound<T: Terms>(rt: &impl Abort, terms: &T, entries: &[Entry])
 {
     let of_office = are_of_office(terms, entries);
     assert!(rt; of_office);
-    assert!(rt; entries.len() <= 100);
+    assert!(rt; entries.len() <= 10_000_000);
 }
 
 fn office()

@@ -56,6 +56,16 @@ fn refused_assignments(rt: HostRuntime) -> Result<(), Fail> {
             b"4D31,2024-01-01T00:00:00Z,\xFF\n",
             "refused 46 UnknownAccount part 1",
         ),
+        (b"4D31,2024-01-01,A1\n", "refused 1 Form part 1"),
+        (
+            b"4D31,2024-01-01T24:00:00Z,A1\n",
+            "refused 3 NoSuchTime part 1",
+        ),
+        (b"4D31,1999-12-31T23:59:59Z,A1\n", "refused 5 Range part 1"),
+        (
+            b"4D31,2024-01-01T00:00:00Z,A1\nZ7,2024-01-01T00:00:00Z,A1,\n",
+            "refused 47 CsvForm part 2",
+        ),
     ];
     for (rows, line) in cases {
         let body = joined(rt.alloc(), ASSIGNMENTS, rows)?;
@@ -129,11 +139,34 @@ fn refused_top_ups(rt: HostRuntime) -> Result<(), Fail> {
             b"P2,A1,100,2024-01-01T00:00:00Z\nP3,A1,0,2024-01-01T00:00:00Z\n",
             "refused 49 Cents part 2",
         ),
+        (b"P1,A1,5,2024-01-01\n", "refused 1 Form part 1"),
+        (
+            b"P1,A1,5,2024-02-30T00:00:00Z\n",
+            "refused 2 NoSuchDate part 1",
+        ),
+        (
+            b"P1,A1,5,2024-01-01T24:00:00Z\n",
+            "refused 3 NoSuchTime part 1",
+        ),
+        (b"P1,A1\n", "refused 47 CsvForm part 1"),
+        (
+            b"012345678901234567890123456789012,A1,5,2024-01-01T00:00:00Z\n",
+            "refused 50 Reference part 1",
+        ),
+        (
+            b",A1,5,2024-01-01T00:00:00Z\n",
+            "refused 50 Reference part 1",
+        ),
+        (b"P1,A1,,2024-01-01T00:00:00Z\n", "refused 49 Cents part 1"),
     ];
     for (rows, line) in cases {
         let body = joined(rt.alloc(), TOP_UPS, rows)?;
         assert_eq!(rt; line_of(rt.alloc(), Path::TopUps, &body)?.as_str(), line);
     }
+    assert_eq!(rt;
+        line_of(rt.alloc(), Path::TopUps, ASSIGNMENTS)?.as_str(),
+        "refused 48 Header part 0"
+    );
     Ok(())
 }
 

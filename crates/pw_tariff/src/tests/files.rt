@@ -98,6 +98,37 @@ fn sample_office(rt: HostRuntime) -> Result<(), Fail> {
     Ok(())
 }
 
+// All accounts, meters and bands by their names, each with a space behind it.
+fn all_names(alloc: Global, office: &Office) -> Result<String, AllocError> {
+    let mut names = String::new(alloc);
+    for account in office.account_ids() {
+        names.push_str(office.account_name(account))?;
+        names.push(' ')?;
+    }
+    for meter in office.meter_ids() {
+        names.push_str(office.meter_name(meter))?;
+        names.push(' ')?;
+    }
+    for band in office.band_ids() {
+        names.push(office.band_name(band))?;
+        names.push(' ')?;
+    }
+    Ok(names)
+}
+
+#[test]
+fn ids_of_an_office(rt: HostRuntime) -> Result<(), Fail> {
+    let text = sample(rt.alloc())?;
+    let Ok(office) = Office::read(rt.alloc(), text.as_bytes()) else {
+        return Ok(());
+    };
+    assert_eq!(rt;
+        all_names(rt.alloc(), &office)?.as_str(),
+        "A1 A2 4D31 Z7 Z8 L H "
+    );
+    Ok(())
+}
+
 #[test]
 fn refused_lists(rt: HostRuntime) -> Result<(), Fail> {
     let alloc = rt.alloc();
@@ -146,6 +177,85 @@ fn refused_lists(rt: HostRuntime) -> Result<(), Fail> {
         refusal(alloc, ["", "", "", ""])?,
         Some(OfficeFault::MissingField)
     );
+    Ok(())
+}
+
+// A meter list that isn't one stands before the bands, where the file itself has its keys.
+const METER_TEXT: &str = "accounts = [\"A1\"]\nmeter = \"x\"\n";
+
+const METER_NUMBERS: &str = "accounts = [\"A1\"]\nmeter = [1]\n";
+
+const NO_METERS: &str = "accounts = [\"A1\"]\nmeter = []\n";
+
+// A list that isn't there, isn't one of its kind, or is empty, each list before the next.
+#[test]
+fn refused_forms_of_lists(rt: HostRuntime) -> Result<(), Fail> {
+    let cases = [
+        (
+            ["accounts = [\"A1\", 5]\n", "", "", ""],
+            OfficeFault::MissingField,
+        ),
+        (["accounts = []\n", "", "", ""], OfficeFault::Empty),
+        (
+            [ACCOUNTS, "week = []\n", "band = 5\n", METERS],
+            OfficeFault::MissingField,
+        ),
+        (
+            [ACCOUNTS, WEEK, "band = [1]\n", METERS],
+            OfficeFault::MissingField,
+        ),
+        ([ACCOUNTS, WEEK, "band = []\n", ""], OfficeFault::Empty),
+        ([METER_TEXT, WEEK, "band = []\n", ""], OfficeFault::Empty),
+        ([METER_TEXT, WEEK, BANDS, ""], OfficeFault::MissingField),
+        ([METER_NUMBERS, WEEK, BANDS, ""], OfficeFault::MissingField),
+        ([NO_METERS, "", BANDS, ""], OfficeFault::Empty),
+        (
+            [ACCOUNTS, "week = 5\n", BANDS, METERS],
+            OfficeFault::MissingField,
+        ),
+        (
+            [ACCOUNTS, "week = [\"L\", 5]\n", BANDS, METERS],
+            OfficeFault::MissingField,
+        ),
+        ([ACCOUNTS, "week = []\n", BANDS, METERS], OfficeFault::Week),
+    ];
+    for (parts, fault) in cases {
+        assert_eq!(rt; refusal(rt.alloc(), parts)?, Some(fault));
+    }
+    Ok(())
+}
+
+// A key that isn't there, or is of another kind.
+#[test]
+fn refused_keys(rt: HostRuntime) -> Result<(), Fail> {
+    let bands = [
+        "[[band]]\nimport = 1\nexport = 1\n",
+        "[[band]]\nname = 5\nimport = 1\nexport = 1\n",
+        "[[band]]\nname = \"L\"\nexport = 1\n",
+        "[[band]]\nname = \"L\"\nimport = \"1\"\nexport = 1\n",
+        "[[band]]\nname = \"L\"\nimport = 1\n",
+        "[[band]]\nname = \"L\"\nimport = 1\nexport = 1.0\n",
+    ];
+    for text in bands {
+        assert_eq!(rt;
+            refusal(rt.alloc(), [ACCOUNTS, WEEK, text, METERS])?,
+            Some(OfficeFault::MissingField)
+        );
+    }
+    let meters = [
+        "[[meter]]\nclock = \"local\"\nregisters = [\"I0\"]\n",
+        "[[meter]]\nid = 5\nclock = \"local\"\nregisters = [\"I0\"]\n",
+        "[[meter]]\nid = \"Q\"\nregisters = [\"I0\"]\n",
+        "[[meter]]\nid = \"Q\"\nclock = 5\nregisters = [\"I0\"]\n",
+        "[[meter]]\nid = \"Q\"\nclock = \"local\"\n",
+        "[[meter]]\nid = \"Q\"\nclock = \"local\"\nregisters = \"I0\"\n",
+    ];
+    for text in meters {
+        assert_eq!(rt;
+            refusal(rt.alloc(), [ACCOUNTS, WEEK, BANDS, text])?,
+            Some(OfficeFault::MissingField)
+        );
+    }
     Ok(())
 }
 
@@ -297,5 +407,11 @@ fn other_bytes(rt: HostRuntime) -> Result<(), Fail> {
     assert_eq!(rt; OfficeFault::RegistersOverlap.number(), 36);
     assert_eq!(rt; OfficeFault::Memory.number(), 62);
     assert_eq!(rt; OfficeFault::TwiceNamed.name(), "TwiceNamed");
+    let line = format!(in rt.alloc(); "{}", OfficeFault::TwiceNamed)?;
+    assert_eq!(rt; line.as_str(), "refused 33 TwiceNamed");
+    let line = format!(in rt.alloc(); "{}", OfficeFault::Memory)?;
+    assert_eq!(rt; line.as_str(), "refused 62 Memory");
+    assert_eq!(rt; Direction::Import.name(), "import");
+    assert_eq!(rt; Direction::Export.name(), "export");
     Ok(())
 }

@@ -10,5 +10,5 @@ abbrev pub invariant-loop-band : goal.invariant-loop-band
 invariant-loop-band g l = record {
   sum : g.S.Shelf.clean l.shelf → l.nano ≡ sum_over (λ b. (office_of l.office).price b l.direction * energy_where (office_of l.office) (contents_at (g.S.Shelf.state l.initial.shelf).content.records) l.direction (of_band (office_of l.office) (Some l.account) b)) 0 l.band;
   few : l.nano ≤ l.band * 2 ^ 96;
-  asked : IsOnlyAsked g.S.Shelf.state g.S.Shelf.left g.S.Shelf.clean 0 l.initial.shelf l.shelf;
+  asked : IsOnlyAsked g.S.Shelf 0 l.initial.shelf l.shelf;
 }

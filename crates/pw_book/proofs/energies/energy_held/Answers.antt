@@ -12,7 +12,7 @@ use Rattle.pw_book.proofs.energies.energy_held.Goals as goal
 
 pub loop-meter-init : goal.loop-meter-init
 unfolding sum_over
-loop-meter-init g c = record { sum = λ k. refl; few = omega arith; asked = asked-none _ _ _ _ }
+loop-meter-init g c = record { sum = λ k. refl; few = omega arith; asked = asked-none _ _ }
 
 pub loop-meter-preserved : goal.loop-meter-preserved
 loop-meter-preserved g c = record {
@@ -28,7 +28,7 @@ loop-meter-preserved g c = record {
       let next = sum-next f c.loop-meter.meter in
       omega (arith, here, so_far, next);
   few = let a = c.loop-meter.invariant.few in let b = c.in_ok-total.ensures.bound in omega (arith, a, b);
-  asked = asked-then _ _ _ _ _ _ _ c.loop-meter.invariant.asked c.in_ok-total.ensures.asked;
+  asked = asked-then _ _ _ _ _ c.loop-meter.invariant.asked c.in_ok-total.ensures.asked;
 }
 
 pub returns-clause-energy : goal.returns-clause-energy

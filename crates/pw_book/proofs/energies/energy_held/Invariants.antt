@@ -10,5 +10,5 @@ abbrev pub invariant-loop-meter : goal.invariant-loop-meter
 invariant-loop-meter g l = record {
   sum : g.S.Shelf.clean l.shelf → l.total ≡ sum_over (meter_share (office_of l.office) (contents_at (g.S.Shelf.state l.initial.shelf).content.records) l.direction (of_band (office_of l.office) l.class.owner l.class.band.0)) 0 l.meter;
   few : l.total ≤ l.meter * 2 ^ 103;
-  asked : IsOnlyAsked g.S.Shelf.state g.S.Shelf.left g.S.Shelf.clean 0 l.initial.shelf l.shelf;
+  asked : IsOnlyAsked g.S.Shelf 0 l.initial.shelf l.shelf;
 }

@@ -1,7 +1,7 @@
 use Rattle.std.proofs.Common.{◌≡◌, ℕ, List, Option, sym, ◌∙◌, subst}
 use Rattle.pw_tariff.specs.declared.ids.AccountId.{AccountId}
 use Rattle.pw_tariff.specs.Office.{office_of}
-use Rattle.pw_tariff.specs.Owners.{Rises}
+use Rattle.pw_tariff.specs.Owners.{StartsIncrease}
 use Rattle.pw_model.specs.declared.records.Entry.{Entry}
 use Rattle.pw_model.specs.Counting.{contents_at}
 use Rattle.pw_model.specs.Energy.{of_band}
@@ -15,7 +15,7 @@ returns-in_default-clause-share g c = λ k.
     let records = (g.S.Shelf.state c.args.shelf.now).content.records in
     let R : List Entry → Type 0 = λ found. ListsAssignments records c.args.meter found in
     let starts = c.in_ok-starts.ensures records c.args.meter (subst R (sym c.deref.ensures.value) (c.in_ok-assignments.ensures.rows k)) in
-    let P : List (ℕ × Option AccountId) → Type 0 = λ items. Rises items in
+    let P : List (ℕ × Option AccountId) → Type 0 = λ items. StartsIncrease items in
     absurd (c.in_default.ensures.none (subst P (sym c.deref-2.ensures.value) (starts-rise c.in_ok-starts.starts.items starts.rising)))
 
 pub returns-clause-share : goal.returns-clause-share

@@ -4,7 +4,7 @@ use Rattle.pw_tariff.specs.Office.{office_of}
 use Rattle.pw_model.specs.declared.records.Entry.{Entry}
 use Rattle.pw_model.specs.Counting.{contents_at, point}
 use Rattle.pw_shelf.specs.Rows.{ListsReadings}
-use Rattle.pw_book.specs.Counted.{ListsSeconds}
+use Rattle.pw_book.specs.inner.Counted.{ListsSeconds}
 use Rattle.pw_book.proofs.Sharing.{counted-share, points-end}
 use Rattle.pw_book.proofs.energies.register_share.Goals as goal
 

@@ -5,8 +5,8 @@ use Rattle.pw_model.specs.declared.records.Entry.{Entry}
 use Rattle.pw_model.specs.declared.records.Fall.{Fall}
 use Rattle.pw_model.specs.Counting.{contents_at, point}
 use Rattle.pw_shelf.specs.Rows.{ListsReadings}
-use Rattle.pw_book.specs.Counted.{ListsSeconds}
-use Rattle.pw_book.specs.Places.{FallsBefore}
+use Rattle.pw_book.specs.inner.Counted.{ListsSeconds}
+use Rattle.pw_book.specs.inner.Places.{FallsBefore}
 use Rattle.pw_book.proofs.Fallen.{falls-more}
 use Rattle.pw_book.proofs.Sharing.{points-end}
 use Rattle.pw_book.proofs.falls.add_register.Goals as goal

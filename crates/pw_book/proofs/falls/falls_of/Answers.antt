@@ -3,7 +3,7 @@ use Rattle.std.proofs.lemmas.List.{append-nil}
 use Rattle.std.specs.Slice.Iter.{windows_rest}
 use Rattle.pw_model.specs.declared.records.Fall.{Fall}
 use Rattle.pw_model.specs.Lists.{Lists, fall_order}
-use Rattle.pw_book.specs.Counted.{IsFallOf}
+use Rattle.pw_book.specs.inner.Counted.{IsFallOf}
 use Rattle.pw_book.proofs.Falling.{falls_in, falls-ended, lists-falls}
 use Rattle.pw_book.proofs.falls.falls_of.Goals as goal
 

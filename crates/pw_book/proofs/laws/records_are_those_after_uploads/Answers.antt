@@ -1,4 +1,3 @@
-use Rattle.std.proofs.Common.{subst}
 use Rattle.pw_tariff.specs.Office.{IsSound}
 use Rattle.pw_record.proofs.OneOutcome.{one-outcome}
 use Rattle.pw_book.proofs.Order.{leaves-after}

@@ -22,5 +22,5 @@ loop-entry-preserved g c =
         | then-branch w ↦ omega arith
         | else-branch w ↦ omega arith
       ];
-      asked = asked-then _ _ _ _ _ _ _ c.loop-entry.invariant.asked c.in_ok-is_held.ensures.asked;
+      asked = asked-then _ _ _ _ _ c.loop-entry.invariant.asked c.in_ok-is_held.ensures.asked;
     }

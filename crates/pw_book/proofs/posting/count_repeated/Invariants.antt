@@ -7,5 +7,5 @@ abbrev pub invariant-loop-entry : goal.invariant-loop-entry
 invariant-loop-entry g l = record {
   repeated : g.S.Shelf.clean l.shelf → l.repeated ≡ repeated_in (g.S.Shelf.state l.initial.shelf).content.records (take l.entry-index l.distinct);
   within : l.repeated ≤ l.entry-index;
-  asked : IsOnlyAsked g.S.Shelf.state g.S.Shelf.left g.S.Shelf.clean 0 l.initial.shelf l.shelf;
+  asked : IsOnlyAsked g.S.Shelf 0 l.initial.shelf l.shelf;
 }

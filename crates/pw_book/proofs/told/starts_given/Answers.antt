@@ -1,6 +1,6 @@
 use Rattle.std.proofs.Common.{ℕ, Option, Vec, Global, sym, ◌∙◌, ap}
 use Rattle.pw_tariff.specs.declared.ids.AccountId.{AccountId}
-use Rattle.pw_book.specs.Counted.{given}
+use Rattle.pw_book.specs.inner.Counted.{given}
 use Rattle.pw_book.proofs.Telling.{told-some, told-none}
 use Rattle.pw_book.proofs.told.starts_given.Goals as goal
 use Rattle.pw_book.proofs.told.starts_given.Goals.{in-Some+in_ok-push, in_default}

@@ -1,6 +1,6 @@
 use Rattle.std.proofs.Common.{◌≡◌, take}
 use Rattle.std.specs.List.{filter_map}
-use Rattle.pw_book.specs.Counted.{given}
+use Rattle.pw_book.specs.inner.Counted.{given}
 use Rattle.pw_book.proofs.told.starts_given.Given as goal
 
 abbrev pub invariant-loop-entry : goal.invariant-loop-entry

@@ -4,7 +4,7 @@ use Rattle.std.specs.List.{filter_map}
 use Rattle.pw_tariff.specs.declared.ids.AccountId.{AccountId}
 use Rattle.pw_model.specs.Counting.{contents_at, start}
 use Rattle.pw_shelf.specs.Rows.{IsAssignmentOf}
-use Rattle.pw_book.specs.Counted.{ListsSeconds, given}
+use Rattle.pw_book.specs.inner.Counted.{ListsSeconds, given}
 use Rattle.pw_book.proofs.Seconds.{lists-counting, seconds-given}
 use Rattle.pw_book.proofs.told.starts_of.Goals as goal
 

@@ -1,6 +1,6 @@
 use Rattle.std.proofs.Common.{◌≡◌, arith}
 use Rattle.std.specs.Slice.Iter.{windows_rest}
-use Rattle.pw_flow.specs.Energy.{pairs_sum}
+use Rattle.pw_flow.specs.Pairs.{pairs_sum}
 use Rattle.pw_flow.proofs.Listed.{pairs_of, energy-points, windows-ended}
 use Rattle.pw_flow.proofs.plain.energy.Goals as goal
 

@@ -1,6 +1,6 @@
 use Rattle.std.proofs.Common.{◌≡◌, ℕ, ◌+◌, ◌*◌, ◌^◌, ◌≤◌, Bool, length}
 use Rattle.std.specs.Slice.Iter.{windows_rest, windows_size}
-use Rattle.pw_flow.specs.Energy.{pairs_sum}
+use Rattle.pw_flow.specs.Pairs.{pairs_sum}
 use Rattle.pw_flow.specs.Plain.{AnswersBy}
 use Rattle.pw_flow.proofs.Listed.{pairs_of}
 use Rattle.pw_flow.proofs.plain.energy.Given as goal

@@ -1,5 +1,5 @@
 use Rattle.std.proofs.Common.{◌∙◌, sym, arith}
-use Rattle.pw_obis.specs.Places.{ahead_more, ahead_end, ahead_stuck, ahead_no_line}
+use Rattle.pw_obis.specs.lemmas.Places.{ahead_more, ahead_end, ahead_stuck, ahead_no_line}
 use Rattle.pw_obis.proofs.line.line_end.Goals as goal
 
 pub returns-in_default-clause-none : goal.returns-in_default-clause-none

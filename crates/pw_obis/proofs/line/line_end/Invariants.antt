@@ -1,5 +1,5 @@
 use Rattle.std.proofs.Common.{◌-◌, ◌≤◌, length}
-use Rattle.pw_obis.specs.Places.{Ahead}
+use Rattle.pw_obis.specs.lemmas.Places.{Ahead}
 use Rattle.pw_obis.proofs.line.line_end.Given as goal
 
 abbrev pub invariant-loop-at : goal.invariant-loop-at

@@ -1,6 +1,6 @@
 use Rattle.std.proofs.Common.{ℕ, subst}
 use Rattle.pw_obis.specs.Line.{ValuesAt}
-use Rattle.pw_obis.specs.Places.{one_text}
+use Rattle.pw_obis.specs.lemmas.Places.{one_text}
 use Rattle.std.proofs.Common.{suc}
 use Rattle.pw_obis.proofs.line.set_end.Goals as goal
 

@@ -1,5 +1,5 @@
 use Rattle.std.proofs.Common.{◌∙◌, sym, arith}
-use Rattle.pw_obis.specs.Places.{along_more, along_end, along_stuck}
+use Rattle.pw_obis.specs.lemmas.Places.{along_more, along_end, along_stuck}
 use Rattle.pw_obis.proofs.line.values_end.Goals as goal
 
 pub returns-in_default-clause-none : goal.returns-in_default-clause-none

@@ -1,5 +1,5 @@
 use Rattle.std.proofs.Common.{◌-◌, ◌<◌, ◌≤◌, length}
-use Rattle.pw_obis.specs.Places.{Along}
+use Rattle.pw_obis.specs.lemmas.Places.{Along}
 use Rattle.pw_obis.proofs.line.values_end.Given as goal
 
 abbrev pub invariant-loop-to : goal.invariant-loop-to

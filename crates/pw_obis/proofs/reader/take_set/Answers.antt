@@ -1,5 +1,5 @@
 use Rattle.std.proofs.Common.{refl, arith}
-use Rattle.pw_obis.specs.Places.{line_within}
+use Rattle.pw_obis.specs.lemmas.Places.{line_within}
 use Rattle.pw_obis.proofs.FirstOfSet.{first_of_set}
 use Rattle.pw_obis.proofs.Taken.{no_set_left, left_in_line, left_behind}
 use Rattle.pw_obis.proofs.reader.take_set.Goals as goal

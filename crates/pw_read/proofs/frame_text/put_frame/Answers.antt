@@ -1,5 +1,5 @@
 use Rattle.std.proofs.Common.{◌≡◌, ◌++◌, refl, subst, ap, ◌∙◌, append_assoc}
-use Rattle.pw_frame.specs.Frame.{text_of}
+use Rattle.pw_frame.specs.Frame.{frame_text}
 use Rattle.pw_read.specs.Text.{heading, FrameRefused}
 use Rattle.pw_read.specs.declared.fault.Cause.TheVariants.{Instant}
 use Rattle.pw_read.proofs.frame_text.put_frame.Goals as goal
@@ -10,7 +10,7 @@ returns-in_ok-put_instant-in-Ok-frame_instant-clause-ok c =
     let i = c.in-Ok-frame_instant.ensures s.0 s.2 in
     let l = c.in_ok-put_instant-in-Ok-frame_instant.ensures in
     let text = c.args.text.now.items in
-    let head = heading (text_of c.args.frame.now) in (
+    let head = heading (frame_text c.args.frame.now) in (
       (head ++ s.1) ++ l.0,
       record {
         sets = s.0;
@@ -30,4 +30,4 @@ pub returns-in-Err-clause-err : goal.returns-in-Err-clause-err
 returns-in-Err-clause-err c = λ cause e.
     let s = c.in-Ok-put_sets.ensures.ok in
     let same : Instant c.in-Err.fault ≡ cause = cc in
-    subst (FrameRefused c.args.clock (text_of c.args.frame.now)) same (s.0, s.1, s.2, s.3, c.in-Err.ensures s.0 s.2)
+    subst (FrameRefused c.args.clock (frame_text c.args.frame.now)) same (s.0, s.1, s.2, s.3, c.in-Err.ensures s.0 s.2)

@@ -1,6 +1,6 @@
 use Rattle.std.proofs.Common.{◌++◌, ◌∷◌, [], List, ap, sym, ◌∙◌, append_assoc}
 use Rattle.pw_obis.specs.Line.{SetText}
-use Rattle.pw_read.specs.Lines.{text_of}
+use Rattle.pw_read.specs.inner.Sets.{set_text}
 use Rattle.pw_read.proofs.Shown.{sets_more, no_refusal, wrong_behind, shown_behind, all_shown}
 use Rattle.pw_read.proofs.frame_text.put_sets.Goals as goal
 
@@ -19,11 +19,11 @@ sets-preserved c =
     let i = c.sets.invariant in
     let h = rw c.in-Ok.is at c.in-Some.ensures in
     let o = c.in-Ok-put_set.ensures.ok in (
-      i.0 ++ text_of c.in-Ok.set ∷ [],
+      i.0 ++ set_text c.in-Ok.set ∷ [],
       i.1 ++ o.0,
       shown_behind c.args.frame.now.kind c.new-sets.result.sets i.0 c.next_set.new.self.sets h.0 c.in-Ok.set h.1 (i.2 ∙ ap (λ (x : List SetText). i.0 ++ x) h.2),
       sym h.3 ∙ i.3,
-      sets_more c.args.frame.now.kind i.0 (text_of c.in-Ok.set) i.1 o.0 i.4 o.1,
+      sets_more c.args.frame.now.kind i.0 (set_text c.in-Ok.set) i.1 o.0 i.4 o.1,
       o.2 ∙ ap (λ l. l ++ o.0) i.5 ∙ append_assoc c.args.text.now.items i.1 o.0,
     )
 

@@ -1,7 +1,7 @@
 use Rattle.std.proofs.Common.{Err, ◌≡◌, ℕ, List, ◌≤◌, ◌++◌, ◌∷◌, [], length, arith, refl, subst, ap, sym, ◌∙◌, inl, inr}
 use Rattle.std.proofs.lemmas.List.{length-append}
-use Rattle.pw_frame.specs.Frame.{text_of}
-use Rattle.pw_frame.specs.Body.{Front, Fault, Reading}
+use Rattle.pw_frame.specs.Frame.{frame_text}
+use Rattle.pw_frame.specs.Body.{Front, BodyFault, BodyReading}
 use Rattle.pw_record.specs.Frames.{FramesGive}
 use Rattle.pw_record.proofs.FrameFacts.{frames-more, frames-of-office, more-behind}
 use Rattle.pw_record.proofs.OfOffice.{have-references, listed-of-office}
@@ -19,7 +19,7 @@ returns-in-Err-clause-refused c =
       refused = inr (inl (record {
         fault = c.in-Err.fault;
         few = omega (arith, i.5, c.if-part-gt-MOST_FRAMES.false);
-        stops = subst (λ (b : List ℕ). Fault b i.0 c.in-Err.fault) i.3 h.0;
+        stops = subst (λ (b : List ℕ). BodyFault b i.0 c.in-Err.fault) i.3 h.0;
         cause_is = refl;
       }));
     })
@@ -28,14 +28,14 @@ pub returns-in-Err-Refused-clause-refused : goal.returns-in-Err-Refused-clause-r
 returns-in-Err-Refused-clause-refused c =
     let i = c.frames.invariant in
     let h = rw c.in-Ok.is at (c.in-Some.ensures.next i.2 i.0 i.1) in
-    let front = subst (λ (b : List ℕ). Front b (i.0 ++ text_of c.in-Ok.frame ∷ []) c.next_frame.new.self.place) i.3 h.0 in
+    let front = subst (λ (b : List ℕ). Front b (i.0 ++ frame_text c.in-Ok.frame ∷ []) c.next_frame.new.self.place) i.3 h.0 in
     rw c.in-Err-Refused.field-0-is (inr (record {
       before = i.0;
       given = c.frames.given.items;
       good = i.4;
       part_is = i.5;
       refused = inr (inr (record {
-        frame = text_of c.in-Ok.frame;
+        frame = frame_text c.in-Ok.frame;
         place = c.next_frame.new.self.place;
         few = omega (arith, i.5, c.if-part-gt-MOST_FRAMES.false);
         front = front;
@@ -49,12 +49,12 @@ frames-preserved c =
     let h = rw c.in-Ok.is at (c.in-Some.ensures.next i.2 i.0 i.1) in
     let body : c.next_frame.new.self.body ≡ c.frames.frames.body = c.in-Some.ensures.body in
     let o = c.in-Ok-put_frame.ensures.ok in (
-      i.0 ++ text_of c.in-Ok.frame ∷ [],
+      i.0 ++ frame_text c.in-Ok.frame ∷ [],
       rw body h.0,
       h.1,
       body ∙ i.3,
-      subst (FramesGive c.args.office.now c.args.source (i.0 ++ text_of c.in-Ok.frame ∷ [])) (sym o.2)
-          (frames-more c.args.office.now c.args.source i.0 (text_of c.in-Ok.frame) c.frames.given.items o.0 i.4 o.1),
+      subst (FramesGive c.args.office.now c.args.source (i.0 ++ frame_text c.in-Ok.frame ∷ [])) (sym o.2)
+          (frames-more c.args.office.now c.args.source i.0 (frame_text c.in-Ok.frame) c.frames.given.items o.0 i.4 o.1),
       simp length-append (omega (arith, i.5)),
       omega (arith, i.6, c.if-part-gt-MOST_FRAMES.false),
     )
@@ -76,7 +76,7 @@ returns-clause-entries c =
     record {
       frames = i.0;
       given = c.frames.given.items;
-      reading = subst (λ (b : List ℕ). Reading b i.0) i.3 (c.in_default.ensures.next i.2 i.0 i.1).0;
+      reading = subst (λ (b : List ℕ). BodyReading b i.0) i.3 (c.in_default.ensures.next i.2 i.0 i.1).0;
       few = omega (arith, i.5, i.6);
       each = i.4;
       listed = c.in_order.ensures;
@@ -87,7 +87,7 @@ returns-then-part-gt-MOST_FRAMES-clause-refused c =
     let i = c.frames.invariant in
     let body : c.next_frame.new.self.body ≡ c.frames.frames.body = c.in-Some.ensures.body in
     let low : c.next_frame.new.self.place ≤ length c.frames.frames.body = omega (arith, c.in-Some.ensures.within, ap length body) in
-    let more : Reading c.frames.frames.body i.0 → ⊥ =
+    let more : BodyReading c.frames.frames.body i.0 → ⊥ =
     more-behind c.frames.frames.body i.0 c.next_frame.new.self.place c.next_frame.new.self.ended c.in-Some.next (c.in-Some.ensures.next i.2 i.0 i.1) low in
     inr (record {
       before = i.0;
@@ -98,7 +98,7 @@ returns-then-part-gt-MOST_FRAMES-clause-refused c =
         place = c.frames.frames.place;
         many = omega (arith, i.5, i.6, c.if-part-gt-MOST_FRAMES.true);
         front = subst (λ (b : List ℕ). Front b i.0 c.frames.frames.place) i.3 i.1;
-        more = subst (λ (b : List ℕ). Reading b i.0 → ⊥) i.3 more;
+        more = subst (λ (b : List ℕ). BodyReading b i.0 → ⊥) i.3 more;
         cause_is = refl;
       });
     })

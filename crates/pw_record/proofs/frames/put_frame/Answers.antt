@@ -1,9 +1,10 @@
 use Rattle.std.proofs.Common.{◌≡◌, refl, subst, inl, inr, rules}
-use Rattle.pw_frame.specs.Frame.{text_of}
+use Rattle.pw_frame.specs.Frame.{frame_text}
 use Rattle.pw_obis.specs.declared.reference.Register.{Register}
 use Rattle.pw_record.specs.declared.fault.Cause.TheVariants.{NoRegister}
 use Rattle.pw_record.specs.Origin.{kind_of}
-use Rattle.pw_record.specs.Shown.{IsShown, readings_of, shown_in}
+use Rattle.pw_record.specs.Shown.{IsShown, readings_of}
+use Rattle.pw_record.specs.inner.Shown.{shown_in}
 use Rattle.pw_record.specs.Frames.{RefusesFrame}
 use Rattle.pw_record.proofs.FrameFacts.{origin-within}
 use Rattle.pw_record.proofs.frames.put_frame.Goals as goal
@@ -18,7 +19,7 @@ returns-in-Err-all_shown-clause-err c = λ cause e.
     let s = c.in_default.ensures.ok in
     let same : c.in-Err-all_shown.cause ≡ cause = cc in
     let kind : c.args.frame.now.kind ≡ kind_of c.args.source = search rules in
-    subst (RefusesFrame c.args.office.now c.args.source (text_of c.args.frame.now)) same (inr (inr (inr (record {
+    subst (RefusesFrame c.args.office.now c.args.source (frame_text c.args.frame.now)) same (inr (inr (inr (record {
       sets = s.0;
       meter = c.in-Ok.origin.meter.0;
       instant = c.in-Ok.origin.instant;
@@ -34,7 +35,7 @@ returns-then-is_nothing_shown-clause-err c = λ cause e.
     let same : NoRegister ≡ cause = cc in
     let kind : c.args.frame.now.kind ≡ kind_of c.args.source = search rules in
     let nothing = λ (r : Register). subst (IsShown c.args.office.now c.in-Ok.origin.meter.0 s.0 r) (c.if-is_nothing_shown.ensures.nothing r) (c.in-Ok-all_shown.ensures.ok s.0 s.1 r) in
-    subst (RefusesFrame c.args.office.now c.args.source (text_of c.args.frame.now)) same (inr (inr (inr (record {
+    subst (RefusesFrame c.args.office.now c.args.source (frame_text c.args.frame.now)) same (inr (inr (inr (record {
       sets = s.0;
       meter = c.in-Ok.origin.meter.0;
       instant = c.in-Ok.origin.instant;

@@ -1,7 +1,8 @@
 use Rattle.std.proofs.Common.{◌++◌, ◌∷◌, [], List, subst, sym, ap, ◌∙◌, Ok}
 use Rattle.pw_obis.specs.Line.{SetText}
-use Rattle.pw_record.specs.Told.{text_of}
-use Rattle.pw_record.specs.Shown.{AreShown, Measures, shown_in}
+use Rattle.pw_record.specs.inner.Told.{told_text}
+use Rattle.pw_record.specs.Shown.{AreShown, Measures}
+use Rattle.pw_record.specs.inner.Shown.{shown_in}
 use Rattle.pw_record.proofs.Members.{given_behind, given_here, all_done, all_sets}
 use Rattle.pw_record.proofs.Measuring.{still-shown, now-shown}
 use Rattle.pw_record.proofs.shown.all_shown.Goals as goal
@@ -17,10 +18,10 @@ pub sets-preserved-in-Ok-None : goal.sets-preserved-in-Ok-None
 sets-preserved-in-Ok-None c =
     let i = c.sets.invariant in
     let h = rw c.in-Ok.is at c.in-Some.ensures in (
-      i.0 ++ text_of c.in-Ok.set ∷ [],
+      i.0 ++ told_text c.in-Ok.set ∷ [],
       given_behind c.new-sets.result.sets i.0 c.sets.sets.sets c.next_set.new.self.sets h.0 c.in-Ok.set h.1 i.1 h.2,
       sym h.3 ∙ i.2,
-      still-shown c.args.office.now c.args.meter.0 i.0 (text_of c.in-Ok.set) (shown_in c.sets.shown) (rw c.in-Ok-None.field-0-is at c.in-Ok-None.ensures.ok) i.3,
+      still-shown c.args.office.now c.args.meter.0 i.0 (told_text c.in-Ok.set) (shown_in c.sets.shown) (rw c.in-Ok-None.field-0-is at c.in-Ok-None.ensures.ok) i.3,
     )
 
 pub returns-in-Err-clause-err : goal.returns-in-Err-clause-err
@@ -29,7 +30,7 @@ returns-in-Err-clause-err c = λ sets x.
     let h = rw c.in-Ok.is at c.in-Some.ensures in
     record {
       before = i.0;
-      set = text_of c.in-Ok.set;
+      set = told_text c.in-Ok.set;
       behind = c.next_set.new.self.sets;
       shown = shown_in c.sets.shown;
       sets_are = all_sets c.args.block.now c.new-sets.result.sets c.new-sets.result.refusal c.new-sets.ensures sets x
@@ -42,11 +43,11 @@ pub returns-then-not-note-clause-err : goal.returns-then-not-note-clause-err
 returns-then-not-note-clause-err c = λ sets x.
     let i = c.sets.invariant in
     let h = rw c.in-Ok.is at c.in-Some.ensures in
-    let measures : Measures c.args.office.now c.args.meter.0 (text_of c.in-Ok.set) c.in-Ok-Some.reading.register (Ok c.in-Ok-Some.reading.wh) = rw c.in-Ok-Some.field-0-is at c.in-Ok-Some.ensures.ok in
+    let measures : Measures c.args.office.now c.args.meter.0 (told_text c.in-Ok.set) c.in-Ok-Some.reading.register (Ok c.in-Ok-Some.reading.wh) = rw c.in-Ok-Some.field-0-is at c.in-Ok-Some.ensures.ok in
     let unlike = c.if-not-note.ensures.unlike in
     record {
       before = i.0;
-      set = text_of c.in-Ok.set;
+      set = told_text c.in-Ok.set;
       behind = c.next_set.new.self.sets;
       shown = shown_in c.sets.shown;
       sets_are = all_sets c.args.block.now c.new-sets.result.sets c.new-sets.result.refusal c.new-sets.ensures sets x
@@ -59,11 +60,11 @@ pub sets-preserved : goal.sets-preserved
 sets-preserved c =
     let i = c.sets.invariant in
     let h = rw c.in-Ok.is at c.in-Some.ensures in
-    let measures : Measures c.args.office.now c.args.meter.0 (text_of c.in-Ok.set) c.in-Ok-Some.reading.register (Ok c.in-Ok-Some.reading.wh) = rw c.in-Ok-Some.field-0-is at c.in-Ok-Some.ensures.ok in (
-      i.0 ++ text_of c.in-Ok.set ∷ [],
+    let measures : Measures c.args.office.now c.args.meter.0 (told_text c.in-Ok.set) c.in-Ok-Some.reading.register (Ok c.in-Ok-Some.reading.wh) = rw c.in-Ok-Some.field-0-is at c.in-Ok-Some.ensures.ok in (
+      i.0 ++ told_text c.in-Ok.set ∷ [],
       given_behind c.new-sets.result.sets i.0 c.sets.sets.sets c.next_set.new.self.sets h.0 c.in-Ok.set h.1 i.1 h.2,
       sym h.3 ∙ i.2,
-      now-shown c.args.office.now c.args.meter.0 i.0 (text_of c.in-Ok.set) c.sets.shown c.note.new.shown c.in-Ok-Some.reading.register c.in-Ok-Some.reading.wh c.if-not-note.ensures.noted measures i.3,
+      now-shown c.args.office.now c.args.meter.0 i.0 (told_text c.in-Ok.set) c.sets.shown c.note.new.shown c.in-Ok-Some.reading.register c.in-Ok-Some.reading.wh c.if-not-note.ensures.noted measures i.3,
     )
 
 pub returns-clause-ok : goal.returns-clause-ok

@@ -1,6 +1,7 @@
 use Rattle.std.proofs.Common.{◌≡◌, ◌++◌, List, length}
 use Rattle.pw_obis.specs.Line.{SetText}
-use Rattle.pw_record.specs.Shown.{AreShown, shown_in}
+use Rattle.pw_record.specs.Shown.{AreShown}
+use Rattle.pw_record.specs.inner.Shown.{shown_in}
 use Rattle.pw_record.proofs.shown.all_shown.Given as goal
 
 abbrev pub invariant-sets : goal.invariant-sets

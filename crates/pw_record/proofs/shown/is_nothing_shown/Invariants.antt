@@ -1,6 +1,7 @@
 use Rattle.std.proofs.Common.{◌≡◌, ◌<◌, ℕ, None, get_or}
 use Rattle.pw_obis.specs.declared.reference.Register.TheVariants.{I0}
-use Rattle.pw_record.specs.Shown.{registers, shown_in}
+use Rattle.pw_obis.specs.Registers.{registers}
+use Rattle.pw_record.specs.inner.Shown.{shown_in}
 use Rattle.pw_record.proofs.shown.is_nothing_shown.Given as goal
 
 abbrev pub invariant-loop-register : goal.invariant-loop-register

@@ -1,6 +1,7 @@
 use Rattle.std.proofs.Common.{◌++◌, ◌∷◌, [], List, subst, sym, ap, ◌∙◌}
 use Rattle.pw_obis.specs.Line.{SetText}
-use Rattle.pw_record.specs.Told.{AreTelling, text_of}
+use Rattle.pw_record.specs.inner.Told.{AreTelling}
+use Rattle.pw_record.specs.inner.Told.{told_text}
 use Rattle.pw_record.proofs.Members.{given_behind, all_done}
 use Rattle.pw_record.proofs.told.all_told.Goals as goal
 
@@ -15,7 +16,7 @@ pub sets-preserved : goal.sets-preserved
 sets-preserved c =
     let i = c.sets.invariant in
     let h = rw c.in-Ok.is at c.in-Some.ensures in (
-      i.0 ++ text_of c.in-Ok.set ∷ [],
+      i.0 ++ told_text c.in-Ok.set ∷ [],
       given_behind c.new-sets.result.sets i.0 c.sets.sets.sets c.next_set.new.self.sets h.0 c.in-Ok.set h.1 i.1 h.2,
       sym h.3 ∙ i.2,
       c.joined-told.ensures i.0 i.3,

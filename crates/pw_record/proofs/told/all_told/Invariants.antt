@@ -1,6 +1,6 @@
 use Rattle.std.proofs.Common.{◌≡◌, ◌++◌, List, length}
 use Rattle.pw_obis.specs.Line.{SetText}
-use Rattle.pw_record.specs.Told.{AreTelling}
+use Rattle.pw_record.specs.inner.Told.{AreTelling}
 use Rattle.pw_record.proofs.told.all_told.Given as goal
 
 abbrev pub invariant-sets : goal.invariant-sets

@@ -1,5 +1,6 @@
 use Rattle.std.proofs.Common.{◌+◌, map, string_bytes, take, List, ℕ, arith}
-use Rattle.pw_tariff.specs.Text.{account_checks, accounts_in_turn}
+use Rattle.pw_tariff.specs.Text.{account_checks}
+use Rattle.pw_tariff.specs.inner.Checks.{accounts_in_turn}
 use Rattle.pw_tariff.proofs.Order.{turn-refused, turn-passed, turn-ended, names-more}
 use Rattle.pw_tariff.proofs.accounts.check_accounts.Goals as goal
 

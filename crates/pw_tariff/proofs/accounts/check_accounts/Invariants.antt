@@ -1,5 +1,6 @@
 use Rattle.std.proofs.Common.{map, string_bytes, take}
-use Rattle.pw_tariff.specs.Text.{account_checks, accounts_in_turn}
+use Rattle.pw_tariff.specs.Text.{account_checks}
+use Rattle.pw_tariff.specs.inner.Checks.{accounts_in_turn}
 use Rattle.pw_tariff.proofs.Order.{ComesTo}
 use Rattle.pw_tariff.proofs.accounts.check_accounts.Given as goal
 

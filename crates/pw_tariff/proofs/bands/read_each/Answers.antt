@@ -1,8 +1,11 @@
 use Rattle.std.proofs.Common.{◌++◌, [], ◌∷◌, ◌∙◌, sym, ap, map}
 use Rattle.toml.specs.View.{table_view}
 use Rattle.pw_tariff.specs.declared.office.Band.{Band}
-use Rattle.pw_tariff.specs.Held.{band_of, letters_of, table_in}
-use Rattle.pw_tariff.specs.Text.{bands_in_turn, band_checks, band_of_table, name_of}
+use Rattle.pw_tariff.specs.Held.{band_of}
+use Rattle.pw_tariff.specs.inner.Held.{table_in}
+use Rattle.pw_tariff.specs.inner.Held.{letters_of}
+use Rattle.pw_tariff.specs.Text.{band_checks, band_of_table, band_name_of}
+use Rattle.pw_tariff.specs.inner.Checks.{bands_in_turn}
 use Rattle.pw_tariff.proofs.Listed.{one-table, table-read}
 use Rattle.pw_tariff.proofs.Order.{turn-refused, turn-passed, turn-ended, all-taken, held-more, held-names}
 use Rattle.pw_tariff.proofs.bands.read_each.Goals as goal
@@ -18,7 +21,7 @@ returns-in-Err c =
     let r = rw c.deref.ensures.value at c.in-Err.ensures in
     let t = table-read c.value-item.result (table_view c.in-Some.table.now) c.in-Some.ensures in
     let r2 = rw (← t) at r in
-    rw (← c.deref-value-items.ensures.value) (turn-refused (bands_in_turn (map table_in c.deref-value-items.result.now)) name_of band_checks table_in (letters_of c.loop-value.bands.items) c.deref-value-items.result.now c.loop-value.value-index c.value-item.result c.in-Err.fault
+    rw (← c.deref-value-items.ensures.value) (turn-refused (bands_in_turn (map table_in c.deref-value-items.result.now)) band_name_of band_checks table_in (letters_of c.loop-value.bands.items) c.deref-value-items.result.now c.loop-value.value-index c.value-item.result c.in-Err.fault
     c.loop-value-test.true c.value-item.is c.loop-value.invariant.checks r2)
 
 pub loop-value-preserved : goal.loop-value-preserved
@@ -29,8 +32,8 @@ loop-value-preserved c =
     let passed = k.0 in
     let passed2 = rw (← t) at passed in
     record {
-      checks = rw pushed (turn-passed (bands_in_turn (map table_in c.deref-value-items.result.now)) name_of band_checks table_in (letters_of c.loop-value.bands.items) (letters_of (c.loop-value.bands.items ++ c.in-Ok.band ∷ [])) c.deref-value-items.result.now c.loop-value.value-index c.value-item.result
-          c.loop-value-test.true c.value-item.is (held-names (λ (b : Band). b.name ∷ []) name_of table_in c.loop-value.bands.items c.in-Ok.band c.value-item.result (table_view c.in-Some.table.now) t k.2) c.loop-value.invariant.checks passed2);
+      checks = rw pushed (turn-passed (bands_in_turn (map table_in c.deref-value-items.result.now)) band_name_of band_checks table_in (letters_of c.loop-value.bands.items) (letters_of (c.loop-value.bands.items ++ c.in-Ok.band ∷ [])) c.deref-value-items.result.now c.loop-value.value-index c.value-item.result
+          c.loop-value-test.true c.value-item.is (held-names (λ (b : Band). b.name ∷ []) band_name_of table_in c.loop-value.bands.items c.in-Ok.band c.value-item.result (table_view c.in-Some.table.now) t k.2) c.loop-value.invariant.checks passed2);
       bands = rw pushed (held-more band_of band_of_table table_in c.loop-value.bands.items c.in-Ok.band c.deref-value-items.result.now c.loop-value.value-index c.value-item.result
           c.loop-value-test.true c.value-item.is c.loop-value.invariant.bands (k.1 ∙ ap band_of_table (sym t)));
     }
@@ -40,6 +43,6 @@ returns c =
     let whole = all-taken c.deref-value-items.result.now c.loop-value.value-index c.loop-value-test.false in
     let same = rw whole at c.loop-value.invariant.bands in
     rw (← c.deref-value-items.ensures.value) (
-      turn-ended (bands_in_turn (map table_in c.deref-value-items.result.now)) name_of band_checks table_in (letters_of c.loop-value.bands.items) c.deref-value-items.result.now c.loop-value.value-index c.loop-value-test.false c.loop-value.invariant.checks,
+      turn-ended (bands_in_turn (map table_in c.deref-value-items.result.now)) band_name_of band_checks table_in (letters_of c.loop-value.bands.items) c.deref-value-items.result.now c.loop-value.value-index c.loop-value-test.false c.loop-value.invariant.checks,
       same,
     )

@@ -1,6 +1,6 @@
 use Rattle.std.proofs.Common.{◌≡◌, drop}
 use Rattle.pw_tariff.specs.Words.{is_new}
-use Rattle.pw_tariff.specs.Held.{ids_of}
+use Rattle.pw_tariff.specs.inner.Held.{ids_of}
 use Rattle.pw_tariff.proofs.meters.is_new_id.Given as goal
 
 abbrev pub invariant-loop-other : goal.invariant-loop-other

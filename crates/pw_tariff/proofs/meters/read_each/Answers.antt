@@ -1,8 +1,11 @@
 use Rattle.std.proofs.Common.{◌++◌, [], ◌∷◌, ◌∙◌, sym, ap, map, string_bytes}
 use Rattle.toml.specs.View.{table_view}
 use Rattle.pw_tariff.specs.declared.office.Meter.{Meter}
-use Rattle.pw_tariff.specs.Held.{meter_of, ids_of, table_in}
-use Rattle.pw_tariff.specs.Text.{meters_in_turn, meter_checks, meter_of_table, id_of}
+use Rattle.pw_tariff.specs.Held.{meter_of}
+use Rattle.pw_tariff.specs.inner.Held.{table_in}
+use Rattle.pw_tariff.specs.inner.Held.{ids_of}
+use Rattle.pw_tariff.specs.Text.{meter_checks, meter_of_table, id_of}
+use Rattle.pw_tariff.specs.inner.Checks.{meters_in_turn}
 use Rattle.pw_tariff.proofs.Listed.{one-table, table-read}
 use Rattle.pw_tariff.proofs.Order.{turn-refused, turn-passed, turn-ended, all-taken, held-more, held-names}
 use Rattle.pw_tariff.proofs.meters.read_each.Goals as goal

@@ -1,6 +1,9 @@
 use Rattle.std.proofs.Common.{◌≡◌, map, take}
-use Rattle.pw_tariff.specs.Held.{meter_of, ids_of, table_in}
-use Rattle.pw_tariff.specs.Text.{meters_in_turn, meter_checks, meter_of_table, id_of}
+use Rattle.pw_tariff.specs.Held.{meter_of}
+use Rattle.pw_tariff.specs.inner.Held.{table_in}
+use Rattle.pw_tariff.specs.inner.Held.{ids_of}
+use Rattle.pw_tariff.specs.Text.{meter_checks, meter_of_table, id_of}
+use Rattle.pw_tariff.specs.inner.Checks.{meters_in_turn}
 use Rattle.pw_tariff.proofs.Order.{ComesTo}
 use Rattle.pw_tariff.proofs.meters.read_each.Given as goal
 

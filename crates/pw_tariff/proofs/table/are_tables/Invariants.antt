@@ -1,7 +1,7 @@
 use Rattle.std.proofs.Common.{◌≡◌, map, take, drop}
 use Rattle.toml.specs.View.{items_view}
 use Rattle.pw_tariff.specs.Text.{tables_of}
-use Rattle.pw_tariff.specs.Held.{table_in}
+use Rattle.pw_tariff.specs.inner.Held.{table_in}
 use Rattle.pw_tariff.proofs.Listed.{after}
 use Rattle.pw_tariff.proofs.table.are_tables.Given as goal
 

@@ -1,15 +1,15 @@
 use Rattle.std.proofs.Common.{ℕ, List, refl, subst}
 use Rattle.std.proofs.lemmas.List.{take_rest}
-use Rattle.pw_frame.specs.Frame.{Whole, text_of}
-use Rattle.pw_frame.specs.Fault.{IsFault}
+use Rattle.pw_frame.specs.Frame.{Whole, frame_text}
+use Rattle.pw_frame.specs.FirstFault.{IsFault}
 use Rattle.pw_frame.proofs.Fronts.{front_push, front_fault}
 use Rattle.pw_frame.proofs.frames.Frames.next_frame.Goals.{else-self-2-via-then-self-2+else-self-3, else-self-2-via-else-self-2}
 use Rattle.pw_frame.proofs.frames.Frames.next_frame.Goals as goal
 
 pub returns-in-Ok-clause-next : goal.returns-in-Ok-clause-next
 returns-in-Ok-clause-next c = rw (← c.self.view_is) (λ o fs x. (
-  front_push c.self.inside.body.now fs (text_of c.in-Ok.frame) c.self.inside.place _ c.in-Ok.size x
-      (subst (λ (r : List ℕ). Whole r (text_of c.in-Ok.frame) c.in-Ok.size) (take_rest c.self.inside.body.now c.self.inside.place) c.in-Ok.ensures.whole.0)
+  front_push c.self.inside.body.now fs (frame_text c.in-Ok.frame) c.self.inside.place _ c.in-Ok.size x
+      (subst (λ (r : List ℕ). Whole r (frame_text c.in-Ok.frame) c.in-Ok.size) (take_rest c.self.inside.body.now c.self.inside.place) c.in-Ok.ensures.whole.0)
       c.skip_line_ends-self-inside.ensures.gap,
   c.if-self.false,
 ))

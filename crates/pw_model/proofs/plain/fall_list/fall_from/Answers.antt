@@ -1,27 +1,35 @@
-use Rattle.std.proofs.Common.{None, Some, arith}
+use Rattle.std.proofs.Common.{arith}
 use Rattle.pw_time.specs.declared.instant.TheConstants.{END_SECOND}
-use Rattle.pw_model.proofs.PlainFalls.{next-at, fall-not_counting, none-behind, no-fall, fall-found}
+use Rattle.pw_model.specs.inner.Search.{high_reading}
+use Rattle.pw_model.proofs.Places.{at-told, at-one}
+use Rattle.pw_model.proofs.PlainFalls.{fall-not_counting, none-behind, no-fall, fall-found, fall-at}
 use Rattle.pw_model.proofs.plain.fall_list.fall_from.Goals as goal
 
-pub returns-then-not-counts-clause-none : goal.returns-then-not-counts-clause-none
-returns-then-not-counts-clause-none c = fall-not_counting c.args.all.now c.args.entry.now c.counts.result c.counts.ensures c.if-not-counts.true
+pub returns-then-not-stands_alone-clause-none : goal.returns-then-not-stands_alone-clause-none
+returns-then-not-stands_alone-clause-none c =
+    let at = at-told c.args.in_order.now c.args.index c.index-in_order-index.result c.requires.within c.index-in_order-index.is in
+    λ f a h. fall-not_counting c.args.in_order.now c.index-in_order-index.result c.stands_alone.result (c.stands_alone.ensures c.index-in_order-index.result at) c.if-not-stands_alone.true f a
+    (at-one c.args.in_order.now c.args.index c.index-in_order-index.result (high_reading f) at h)
 
-pub returns-in_default-earliest_point-clause-none : goal.returns-in_default-earliest_point-clause-none
-returns-in_default-earliest_point-clause-none c =
-    none-behind END_SECOND c.args.all.now c.args.entry.now c.in-Reading.meter c.in-Reading.register c.in-Reading.instant c.in-Reading-content.wh
-    (record { key = c.in-Reading.is; content = c.in-Reading-content.is })
-    (next-at END_SECOND c.args.all.now c.in-Reading.meter c.in-Reading.register c.seconds-behind.result c.in-Reading.instant None c.seconds-behind.ensures.value c.in_default-earliest_point.ensures)
+pub returns-in_default-next_point-clause-none : goal.returns-in_default-next_point-clause-none
+returns-in_default-next_point-clause-none c =
+    let at = at-told c.args.in_order.now c.args.index c.index-in_order-index.result c.requires.within c.index-in_order-index.is in
+    λ f a h. none-behind END_SECOND c.args.in_order.now c.index-in_order-index.result c.in-Reading.meter c.in-Reading.register c.in-Reading.instant c.in-Reading-content.wh
+    (record { key = c.in-Reading.is; content = c.in-Reading-content.is }) c.in_default-next_point.ensures f a
+    (at-one c.args.in_order.now c.args.index c.index-in_order-index.result (high_reading f) at h)
 
 pub returns-then-get-clause-none : goal.returns-then-get-clause-none
 returns-then-get-clause-none c =
-    no-fall END_SECOND c.args.all.now c.args.entry.now c.in-Reading.meter c.in-Reading.register c.in-Reading.instant c.in-Reading-content.wh c.in-Some.next.0 c.in-Some.next.1
-    (record { key = c.in-Reading.is; content = c.in-Reading-content.is }) (c.counts.ensures.0 c.if-not-counts.false)
-    (next-at END_SECOND c.args.all.now c.in-Reading.meter c.in-Reading.register c.seconds-behind.result c.in-Reading.instant (Some c.in-Some.next) c.seconds-behind.ensures.value c.in-Some.ensures)
-    (omega (arith, c.get.ensures.value, c.get-2.ensures.value, c.if-get.true))
+    let at = at-told c.args.in_order.now c.args.index c.index-in_order-index.result c.requires.within c.index-in_order-index.is in
+    λ f a h. no-fall END_SECOND c.args.in_order.now c.index-in_order-index.result c.in-Reading.meter c.in-Reading.register c.in-Reading.instant c.in-Reading-content.wh c.in-Some.next.0 c.in-Some.next.1
+    (record { key = c.in-Reading.is; content = c.in-Reading-content.is }) ((c.stands_alone.ensures c.index-in_order-index.result at).0 c.if-not-stands_alone.false) c.in-Some.ensures
+    (omega (arith, c.get.ensures.value, c.get-2.ensures.value, c.if-get.true)) f a
+    (at-one c.args.in_order.now c.args.index c.index-in_order-index.result (high_reading f) at h)
 
 pub returns-clause-some : goal.returns-clause-some
 returns-clause-some c =
-    fall-found END_SECOND c.args.all.now c.args.entry.now c.in-Reading.meter c.in-Reading.register c.in-Reading.instant c.in-Reading-content.wh c.in-Some.next.0 c.in-Some.next.1
-    (record { key = c.in-Reading.is; content = c.in-Reading-content.is }) (c.counts.ensures.0 c.if-not-counts.false)
-    (next-at END_SECOND c.args.all.now c.in-Reading.meter c.in-Reading.register c.seconds-behind.result c.in-Reading.instant (Some c.in-Some.next) c.seconds-behind.ensures.value c.in-Some.ensures)
-    (omega (arith, c.get.ensures.value, c.get-2.ensures.value, c.if-get.false))
+    let at = at-told c.args.in_order.now c.args.index c.index-in_order-index.result c.requires.within c.index-in_order-index.is in
+    let found = fall-found END_SECOND c.args.in_order.now c.index-in_order-index.result c.in-Reading.meter c.in-Reading.register c.in-Reading.instant c.in-Reading-content.wh c.in-Some.next.0 c.in-Some.next.1
+    (record { key = c.in-Reading.is; content = c.in-Reading-content.is }) ((c.stands_alone.ensures c.index-in_order-index.result at).0 c.if-not-stands_alone.false) c.in-Some.ensures
+    (omega (arith, c.get.ensures.value, c.get-2.ensures.value, c.if-get.false)) in
+    fall-at c.args.in_order.now c.args.index c.index-in_order-index.result _ at found

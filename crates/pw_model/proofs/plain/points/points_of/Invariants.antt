@@ -1,10 +1,10 @@
-use Rattle.std.proofs.Common.{◌-◌}
-use Rattle.pw_time.specs.declared.instant.TheConstants.{END_SECOND}
-use Rattle.pw_model.proofs.Pushed.{IsListed}
+use Rattle.std.proofs.Common.{◌≡◌, All, take}
+use Rattle.pw_time.specs.Instants.{IsInstant}
+use Rattle.pw_model.proofs.PlainPoints.{counted}
 use Rattle.pw_model.proofs.plain.points.points_of.Given as goal
 
-abbrev pub invariant-loop-next : goal.invariant-loop-next
-invariant-loop-next l = IsListed l.entries l.meter.0 l.register l.from l.points.items
-
-abbrev pub decreases-loop-next : goal.decreases-loop-next
-decreases-loop-next l = END_SECOND - l.from
+abbrev pub invariant-loop-row : goal.invariant-loop-row
+invariant-loop-row l = record {
+  points : l.points.items ≡ counted (take l.row-index l.row-items);
+  instants : All (λ p. IsInstant p.at) l.points.items;
+}

@@ -3,7 +3,7 @@ use Rattle.std.proofs.lemmas.List.Elements.{same_from_all_zip}
 use Rattle.pw_model.specs.declared.records.Entry.{Entry}
 use Rattle.pw_model.specs.Counting.{EachOnce}
 use Rattle.pw_model.specs.Office.{most_records}
-use Rattle.pw_shelf.specs.Held.{AreNamed}
+use Rattle.pw_shelf.specs.inner.Held.{AreNamed}
 use Rattle.pw_shelf.proofs.held.Held.copy.Goals as goal
 
 pub returns-clause-copy : goal.returns-clause-copy

@@ -3,7 +3,7 @@ use Rattle.std.specs.BTreeSet.{insert_key}
 use Rattle.pw_model.specs.declared.records.Entry.{Entry}
 use Rattle.pw_model.specs.Counting.{IsInserted, EachOnce}
 use Rattle.pw_model.specs.Office.{most_records}
-use Rattle.pw_shelf.specs.Held.{AreNamed, IsNamed}
+use Rattle.pw_shelf.specs.inner.Held.{AreNamed, IsNamed}
 use Rattle.pw_shelf.proofs.InOrder.{order, insert-inserts, inserted-once, inserted-all, inserted-length, either}
 use Rattle.pw_shelf.proofs.held.Held.insert.Goals as goal
 

@@ -1,0 +1,4 @@
+pub mod Groups
+pub mod Places
+pub mod Counted
+pub mod Failures

@@ -1,0 +1,42 @@
+-- Falls and disputes, as far as registers, meters and kinds were looked through.
+-- It serves `src/falls.rt` and `src/disputes.rt`.
+-- (Definitions of this project.)
+use Rattle.std.specs.Prelude.{ℕ, ◌+◌, ◌*◌, ◌<◌, ◌≤◌, List, length}
+use Rattle.pw_model.specs.declared.records.Key.{Key}
+use Rattle.pw_model.specs.declared.records.Key.TheVariants as key
+use Rattle.pw_model.specs.declared.records.Entry.{Entry}
+use Rattle.pw_model.specs.declared.records.Fall.{Fall}
+use Rattle.pw_model.specs.declared.records.Dispute.{Dispute}
+use Rattle.pw_model.specs.Counting.{Member, contents_at}
+use Rattle.pw_model.specs.Lists.{Lists, IsFall, fall_order, IsDispute, dispute_order}
+use Rattle.pw_model.specs.Office.{most_records}
+use Rattle.pw_tariff.specs.Office.{register_place}
+
+-- the place of a fall's register among the six of each meter
+abbrev pub fall_place : Fall → ℕ
+fall_place f = 6 * f.meter.0 + register_place f.register
+
+-- the falls of the registers before a place
+abbrev pub FallsBefore : List Entry → ℕ → List Fall → Type 0
+FallsBefore s n = Lists fall_order (λ f. IsFall (contents_at s) f × (fall_place f < n))
+
+-- the registers of all meters first, then the meters, then the top-ups
+abbrev pub key_place : ℕ → Key → ℕ
+key_place meters (key.Reading m r t) = 6 * m.0 + register_place r
+key_place meters (key.Assignment m t) = 6 * meters + m.0
+key_place meters (key.TopUp r) = 7 * meters
+
+-- the disputes of the keys before a place
+abbrev pub DisputesBefore : ℕ → List Entry → ℕ → List Dispute → Type 0
+DisputesBefore meters s n = Lists dispute_order (λ d. IsDispute s d × (key_place meters d.key < n))
+
+-- a key of one of so many meters, or of a top-up
+abbrev pub IsWithin : ℕ → Key → Type 0
+IsWithin meters (key.Reading m r t) = m.0 < meters
+IsWithin meters (key.Assignment m t) = m.0 < meters
+IsWithin meters (key.TopUp r) = Unit {0}
+
+-- not too many records, all of so many meters
+pub record AreWithin (meters : ℕ) (s : List Entry) : Type 0 where
+  pub few : length s ≤ most_records
+  pub keys : (e : Entry) → Member e s → IsWithin meters e.key

@@ -1,0 +1,137 @@
+//! The questions to a book.
+
+ghost use Rattle.std.specs.Prelude.{◌≡◌, ◌<◌, IfOk, MatchResult, true, false, length};
+ghost use Rattle.pw_tariff.specs.Office.{office_of};
+ghost use Rattle.pw_model.specs.Energy.{energy as energy_of};
+ghost use Rattle.pw_model.specs.Lists.{AreDisputes, AreFalls, AreReadings, record_count};
+ghost use Rattle.pw_model.specs.Office.{HasOwner};
+ghost use Rattle.pw_model.specs.Payments.{balance as balance_of, topped_up as cents_of};
+ghost use Rattle.pw_book.specs.Questions.{IsQuestion};
+
+use super::Book;
+use crate::asked::count_held;
+use crate::balances::{balance_held, topped_up_held};
+use crate::disputes::disputes_held;
+use crate::energies::energy_held;
+use crate::energy::Class;
+use crate::falls::falls_held;
+use crate::fault::BookFault;
+use crate::rows::rows_held;
+use pw_model::{Dispute, Fall, ReadingRow};
+use pw_obis::Register;
+use pw_shelf::Shelf;
+use pw_tariff::{AccountId, BandId, Direction, MeterId, Owner};
+use std::alloc::Global;
+
+impl<S: Shelf> Book<S> {
+    /// The energy of an owner in a band, in Wh, of the direction, by the records held. It asks for an account and a band of the
+    /// office; the owner may be nobody.
+    ///
+    /// As with each question, `Device`, `Memory` and `Reopen` (of a shut book) leave the records as they are.
+    pub fn energy(
+        &mut self,
+        alloc: Global,
+        owner: Owner,
+        band: BandId,
+        direction: Direction,
+    ) -> Result<u64, BookFault>
+        requires owner { HasOwner (office_of self.old.office) owner }
+        requires band { band.0 < length self.old.office.bands }
+        ensures energy { S.clean self.new.shelf → IfOk result (λ wh. wh ≡ energy_of (office_of self.old.office) (S.state self.old.shelf).content.records owner band.0 direction) }
+        ensures question { IsQuestion S.Shelf result self.old self.new }
+    {
+        self.still_open()?;
+        let class = Class { owner, band };
+        let wh = energy_held(
+            &mut self.shelf,
+            alloc,
+            &self.office,
+            &self.zone,
+            direction,
+            class,
+        )?;
+        Ok(wh)
+    }
+
+    /// What was topped up for an account, in cents, by the records held. It asks for an account of the office.
+    pub fn topped_up(&mut self, alloc: Global, account: AccountId) -> Result<u64, BookFault>
+        requires { account.0 < length self.old.office.accounts }
+        ensures topped_up { S.clean self.new.shelf → IfOk result (λ cents. cents ≡ cents_of (S.state self.old.shelf).content.records account.0) }
+        ensures question { IsQuestion S.Shelf result self.old self.new }
+    {
+        self.still_open()?;
+        let cents = topped_up_held(&mut self.shelf, alloc, account)?;
+        Ok(cents)
+    }
+
+    /// The balance of an account, in nano-euro, by the records held: what was topped up, less the price of its imported energy,
+    /// plus the price of its exported energy. It asks for an account of the office.
+    pub fn balance(&mut self, alloc: Global, account: AccountId) -> Result<i128, BookFault>
+        requires { account.0 < length self.old.office.accounts }
+        ensures balance { S.clean self.new.shelf → IfOk result (λ nano. nano ≡ balance_of (office_of self.old.office) (S.state self.old.shelf).content.records account.0) }
+        ensures question { IsQuestion S.Shelf result self.old self.new }
+    {
+        self.still_open()?;
+        let nano = balance_held(&mut self.shelf, alloc, &self.office, &self.zone, account)?;
+        Ok(nano)
+    }
+
+    /// The readings held of a register, by instant and then by Wh, each with whether it counts. It asks for a meter of the
+    /// office.
+    pub fn readings(
+        &mut self,
+        alloc: Global,
+        meter: MeterId,
+        register: Register,
+    ) -> Result<Vec<ReadingRow>, BookFault>
+        requires { meter.0 < length self.old.office.meters }
+        ensures readings { S.clean self.new.shelf → IfOk result (λ rows. AreReadings (S.state self.old.shelf).content.records meter.0 register rows.items) }
+        ensures question { IsQuestion S.Shelf result self.old self.new }
+    {
+        self.still_open()?;
+        let rows = rows_held(&mut self.shelf, alloc, meter, register)?;
+        Ok(rows)
+    }
+
+    /// The falls of all registers, by the records held: neighbouring readings of which the later shows less. By meter, register
+    /// and instant.
+    pub fn falls(&mut self, alloc: Global) -> Result<Vec<Fall>, BookFault>
+        ensures falls { S.clean self.new.shelf → IfOk result (λ falls. AreFalls (S.state self.old.shelf).content.records falls.items) }
+        ensures question { IsQuestion S.Shelf result self.old self.new }
+    {
+        self.still_open()?;
+        let falls = falls_held(&mut self.shelf, alloc, &self.office)?;
+        Ok(falls)
+    }
+
+    /// The disputes: the keys that two or more of the records held have, and how many. Readings first, then assignments, then
+    /// top-ups; each by its key.
+    pub fn disputes(&mut self, alloc: Global) -> Result<Vec<Dispute>, BookFault>
+        ensures disputes { S.clean self.new.shelf → IfOk result (λ disputes. AreDisputes (S.state self.old.shelf).content.records disputes.items) }
+        ensures question { IsQuestion S.Shelf result self.old self.new }
+    {
+        self.still_open()?;
+        let disputes = disputes_held(&mut self.shelf, alloc, &self.office)?;
+        Ok(disputes)
+    }
+
+    /// The number of records held, each counted once.
+    pub fn count(&mut self) -> Result<u32, BookFault>
+        ensures count { S.clean self.new.shelf → IfOk result (λ held. held ≡ record_count (S.state self.old.shelf).content.records) }
+        ensures question { IsQuestion S.Shelf result self.old self.new }
+    {
+        self.still_open()?;
+        Ok(count_held(&mut self.shelf)?)
+    }
+
+    // A shut book answers no question.
+    fn still_open(&self) -> Result<(), BookFault>
+        ensures { MatchResult result (λ _. self.now.shut ≡ false) (λ fault. (self.now.shut ≡ true) × (fault ≡ BookFault.Reopen)) }
+    {
+        if self.shut {
+            Err(BookFault::Reopen)
+        } else {
+            Ok(())
+        }
+    }
+}

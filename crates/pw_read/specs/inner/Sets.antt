@@ -1,0 +1,7 @@
+-- A set without where it lies in memory. It serves `src/set_line.rt` and `src/moment.rt`.
+use Rattle.pw_obis.specs.declared.data_set.Set.{Set}
+use Rattle.pw_obis.specs.Line.{SetText}
+
+-- a set without where it lies in memory
+abbrev pub set_text : Set → SetText
+set_text set = record { address = set.address.now; values = set.values.now }

@@ -1,0 +1,2 @@
+pub mod Civil
+pub mod Texts
