@@ -12,7 +12,12 @@ const SIX: u32 = FIVE + 3_600;
 
 /// Whether each answers what it should.
 pub(crate) fn is_right(office: &Office) -> bool {
-    is_named(office) && is_metered(office) && is_priced(office) && is_owned() && is_referred_to()
+    is_named(office)
+        && is_walked(office)
+        && is_metered(office)
+        && is_priced(office)
+        && is_owned()
+        && is_referred_to()
 }
 
 fn is_named(office: &Office) -> bool {
@@ -25,6 +30,13 @@ fn is_named(office: &Office) -> bool {
         && office.account_name(AccountId(1)) == "A2"
         && office.meter_name(MeterId(0)) == "4D31"
         && office.band_name(BandId(1)) == 'H'
+}
+
+fn is_walked(office: &Office) -> bool {
+    office.account_ids().count() == 2
+        && office.meter_ids().last() == Some(MeterId(1))
+        && office.band_ids().last() == Some(BandId(1))
+        && Direction::Export.name() == "export"
 }
 
 fn is_metered(office: &Office) -> bool {

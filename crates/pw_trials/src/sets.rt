@@ -16,7 +16,8 @@ fn is_read() -> bool {
         return false;
     };
     first_value(&set) == b"001000.000*kWh".as_slice()
-        && register(&found) == Some(Register::I1)
+        && register(&found) == Some(Register::ALL[1])
+        && Register::I1.name() == "I1"
         && !is_stamp(&found)
         && sets.next_set().is_none()
 }
