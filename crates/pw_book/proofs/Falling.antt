@@ -4,7 +4,7 @@ use Rattle.std.specs.Cmp.{nat_cmp_is}
 use Rattle.std.specs.Ordering.{nat_cmp}
 use Rattle.std.proofs.lemmas.Bool.{cases_lt, cases_Bool, lt-ltb, ltb-true}
 use Rattle.std.proofs.lemmas.Option.{none-some, same_Some}
-use Rattle.pw_flow.specs.Energy as flow
+use Rattle.pw_flow.specs.Pairs as flow
 use Rattle.pw_obis.specs.declared.reference.Register.{Register}
 use Rattle.pw_tariff.specs.declared.ids.MeterId.{MeterId}
 use Rattle.pw_tariff.specs.Office.{register_place}
