@@ -1,4 +1,5 @@
 pub mod Register
+pub mod SingleBytes
 pub mod BlockChecks
 pub mod Unique
 pub mod NoFault

@@ -13,12 +13,10 @@ pub mod Frame
 pub mod FirstFault
 pub mod Body
 pub mod Laws
-
 -- and where they are named:
 -- Hexadecimal: numbers in hexadecimal digits
 -- Faults: numbers, names and texts of faults
 pub mod Hexadecimal
 pub mod Faults
-
 -- named by private functions, tests and proofs alone
 pub mod inner

@@ -16,8 +16,10 @@ mod search;
 #[cfg(test)]
 mod tests;
 mod whole;
+mod words;
 
 pub use crc::{crc_update, crc16};
 pub use frame::{Frame, FrameFault, Kind};
 pub use frames::Frames;
 pub use parity::block_check;
+pub use words::CRC_WORDS;
