@@ -1,8 +1,12 @@
 pub mod State
+pub mod Changes
 pub mod Left
 pub mod Rows
+pub mod Seconds
 pub mod Calls
 pub mod Once
 pub mod Kinds
 pub mod Held
+pub mod Orders
+pub mod Standing
 pub mod Memory
