@@ -29,7 +29,7 @@ use Rattle.pw_shelf.proofs.InOrder.{order, order_total}
 abbrev pub key_order : Key → Key → Ordering
 key_order = derived_key.ghosts.cmp
 
-key_exact : (a b : Key) → key_order a b ≡ Equal → a ≡ b
+pub key_exact : (a b : Key) → key_order a b ≡ Equal → a ≡ b
 key_exact a b h = (same_key-decides a b).0 (sym (keys-alike a b) ∙ key_laws.matches_eq-law a b ∙ ap is_eq h)
 
 -- what stands between two records with one key has it

@@ -3,3 +3,8 @@ pub mod InOrder
 pub mod Listing
 pub mod AtKey
 pub mod OfKind
+pub mod RowKeys
+pub mod RowChanges
+pub mod Beside
+pub mod Stretches
+pub mod Within

@@ -1,6 +1,6 @@
 -- The rows that an answer gives.
 -- (Definitions of this project.)
-use Rattle.std.specs.Prelude.{◌≡◌, ℕ, List, Vec, Result, Ok, Err, vec_len}
+use Rattle.std.specs.Prelude.{◌≡◌, ℕ, zero, suc, List, Option, Some, None, Vec, Result, Ok, Err, vec_len}
 use Rattle.std.specs.Global.{Global}
 use Rattle.pw_obis.specs.declared.reference.Register.{Register}
 use Rattle.pw_tariff.specs.declared.ids.MeterId.{MeterId}
@@ -54,6 +54,15 @@ abbrev pub rows_at : Contents → ℕ
 rows_at Nothing = 0
 rows_at (One c) = 1
 rows_at Several = 2
+
+abbrev pub rows_found : {T : Type 0} → Option T → ℕ
+rows_found None = 0
+rows_found (Some row) = 1
+
+-- an absent total and one of 0 answer alike, and give none
+abbrev pub rows_total : ℕ → ℕ
+rows_total zero = 0
+rows_total (suc amount) = 1
 
 -- none with a fault
 abbrev pub rows_given : {T : Type 0} → (T → ℕ) → Result T ShelfFault → ℕ

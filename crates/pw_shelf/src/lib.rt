@@ -4,12 +4,16 @@
 mod calls;
 mod fault;
 mod held;
+mod kept;
 pub mod laws;
 mod lists;
 mod memory;
 mod once;
+mod points;
 mod shelf;
+mod starts;
 mod tally;
+mod totals;
 
 pub use fault::ShelfFault;
 pub use memory::MemoryShelf;

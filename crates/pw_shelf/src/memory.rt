@@ -5,17 +5,17 @@ ghost use Rattle.pw_model.specs.Shelf.{no_content};
 ghost use Rattle.pw_shelf.specs.Left.{LeavesOnly};
 ghost use Rattle.pw_shelf.specs.Memory.{left_of, state_of};
 
-use crate::held::Held;
+use crate::kept::Kept;
 use crate::tally::Tally;
 use std::alloc::Global;
 
-/// A store in memory: sets in order, and a copy of them while an upload is begun.
+/// A store in memory: a set and maps in order, and a copy of them while an upload is begun.
 ///
-/// Of its calls only `begin`, `add` and those that answer a list take memory; `abandon` always succeeds.
+/// Of its calls only `begin`, `add`, those that put and those that answer a list take memory; `abandon` always succeeds.
 #[derive(Drop)]
 pub struct MemoryShelf {
-    pub(crate) held: Held,
-    pub(crate) begun: Option<Held>,
+    pub(crate) kept: Kept,
+    pub(crate) begun: Option<Kept>,
     pub(crate) tally: Tally,
 }
 
@@ -28,7 +28,7 @@ impl MemoryShelf {
         ensures left { LeavesOnly no_content (left_of result) }
     {
         MemoryShelf {
-            held: Held::new(alloc),
+            kept: Kept::new(alloc),
             begun: None,
             tally: Tally::new(),
         }

@@ -2,19 +2,23 @@
 //!
 //! One call at a time; an upload is what stands between `begin` and `commit` or `abandon`.
 
-ghost use Rattle.std.specs.Prelude.{◌≡◌, ◌+◌, ◌<◌, Some, None, IfOk, OnOk, OnErr, IsSome, IsTrue, ◌↔◌, length};
+ghost use Rattle.std.specs.Prelude.{◌≡◌, ◌+◌, ◌*◌, ◌<◌, ◌≤◌, Some, None, IfOk, OnOk, OnErr, IsSome, IsTrue, ◌↔◌, length};
+ghost use Rattle.pw_obis.specs.declared.energy.TheConstants.{LARGEST_WATT_HOURS};
 ghost use Rattle.pw_model.specs.Shelf.{ShelfContent};
 ghost use Rattle.pw_model.specs.Office.{most_records};
 ghost use Rattle.pw_model.specs.Counting.{EachOnce, Member, contents_at as told_at};
 ghost use Rattle.pw_shelf.specs.Calls.{IsAsking, IsWriting, failures_told};
+ghost use Rattle.pw_shelf.specs.Changes.{with_point, with_start, with_total};
 ghost use Rattle.pw_shelf.specs.State.{State, CountsFailures, IsWithRecord};
 ghost use Rattle.pw_shelf.specs.Left.{LeavesNoMore, LeavesNoMoreOr, LeavesOnly};
-ghost use Rattle.pw_shelf.specs.Rows.{ListsAssignments, ListsReadings, ListsTopUps, no_rows, rows_at, rows_listed};
+ghost use Rattle.pw_shelf.specs.Rows.{ListsAssignments, ListsReadings, ListsTopUps, no_rows, rows_at, rows_found, rows_listed, rows_total};
+ghost use Rattle.pw_shelf.specs.Seconds.{IsBefore, IsBehind, ListsSeconds, ListsSecondsWithin};
 
 use crate::fault::ShelfFault;
-use pw_model::{Contents, Entry, Key};
-use pw_obis::Register;
-use pw_tariff::MeterId;
+use pw_model::{Contents, Entry, Key, TotalKey};
+use pw_obis::{Register, WattHours};
+use pw_tariff::{MeterId, Owner};
+use pw_time::Instant;
 use std::alloc::Global;
 
 /// A store of records, with the points, starts and totals that are kept beside them.
@@ -115,6 +119,97 @@ pub trait Shelf {
     fn count(&mut self) -> Result<u32, ShelfFault>
         ensures number { clean self.new → IfOk result (λ held. held ≡ length (state self.old).content.records) }
         ensures asked { IsAsking state left clean no_rows result self.old self.new };
+
+    /// Keeps the value of a register at an instant, in place of the one that is kept there, and changes nothing else.
+    fn point_put(
+        &mut self,
+        meter: MeterId,
+        register: Register,
+        instant: Instant,
+        wh: WattHours,
+    ) -> Result<(), ShelfFault>
+        requires { IsSome (state self.old).begun }
+        ensures put { clean self.new → OnOk result ((state self.new).content ≡ with_point (state self.old).content meter.0 register instant (Some wh)) }
+        ensures written { IsWriting state left clean result self.old self.new };
+
+    /// Takes the point of a register at an instant away, if one is kept, and changes nothing else.
+    fn point_del(
+        &mut self,
+        meter: MeterId,
+        register: Register,
+        instant: Instant,
+    ) -> Result<(), ShelfFault>
+        requires { IsSome (state self.old).begun }
+        ensures deleted { clean self.new → OnOk result ((state self.new).content ≡ with_point (state self.old).content meter.0 register instant None) }
+        ensures written { IsWriting state left clean result self.old self.new };
+
+    /// The latest point kept of a register strictly before an instant, if there is one. The tally rises by a row where
+    /// one is found.
+    fn point_before(
+        &mut self,
+        meter: MeterId,
+        register: Register,
+        instant: Instant,
+    ) -> Result<Option<(Instant, WattHours)>, ShelfFault>
+        ensures row { clean self.new → IfOk result (λ found. IsBefore ((state self.old).content.point meter.0 register) instant found) }
+        ensures asked { IsAsking state left clean rows_found result self.old self.new };
+
+    /// The earliest point kept of a register strictly behind an instant, if there is one. The tally rises by a row where
+    /// one is found.
+    fn point_after(
+        &mut self,
+        meter: MeterId,
+        register: Register,
+        instant: Instant,
+    ) -> Result<Option<(Instant, WattHours)>, ShelfFault>
+        ensures row { clean self.new → IfOk result (λ found. IsBehind ((state self.old).content.point meter.0 register) instant found) }
+        ensures asked { IsAsking state left clean rows_found result self.old self.new };
+
+    /// The points kept of a register from one instant to another, both included, in order; none where the second is
+    /// before the first.
+    fn points_between(
+        &mut self,
+        alloc: Global,
+        meter: MeterId,
+        register: Register,
+        from: Instant,
+        to: Instant,
+    ) -> Result<Vec<(Instant, WattHours)>, ShelfFault>
+        ensures rows { clean self.new → IfOk result (λ found. ListsSecondsWithin from to ((state self.old).content.point meter.0 register) found.items) }
+        ensures asked { IsAsking state left clean rows_listed result self.old self.new };
+
+    /// Keeps the owner of a meter from an instant on, in place of the one that is kept there, and changes nothing else.
+    fn start_put(&mut self, meter: MeterId, start: Instant, owner: Owner) -> Result<(), ShelfFault>
+        requires { IsSome (state self.old).begun }
+        ensures put { clean self.new → OnOk result ((state self.new).content ≡ with_start (state self.old).content meter.0 start (Some owner)) }
+        ensures written { IsWriting state left clean result self.old self.new };
+
+    /// Takes the start of a meter at an instant away, if one is kept, and changes nothing else.
+    fn start_del(&mut self, meter: MeterId, start: Instant) -> Result<(), ShelfFault>
+        requires { IsSome (state self.old).begun }
+        ensures deleted { clean self.new → OnOk result ((state self.new).content ≡ with_start (state self.old).content meter.0 start None) }
+        ensures written { IsWriting state left clean result self.old self.new };
+
+    /// All starts kept of a meter, in order.
+    fn starts_of(
+        &mut self,
+        alloc: Global,
+        meter: MeterId,
+    ) -> Result<Vec<(Instant, Owner)>, ShelfFault>
+        ensures rows { clean self.new → IfOk result (λ found. ListsSeconds ((state self.old).content.start meter.0) found.items) }
+        ensures asked { IsAsking state left clean rows_listed result self.old self.new };
+
+    /// The total kept at a key; 0 where none is. The tally rises by a row where it is above 0.
+    fn total(&mut self, key: &TotalKey) -> Result<u64, ShelfFault>
+        ensures amount { clean self.new → IfOk result (λ amount. amount ≡ (state self.old).content.total key.now) }
+        ensures asked { IsAsking state left clean rows_total result self.old self.new };
+
+    /// Keeps a total at a key, in place of the one that is kept there, and changes nothing else.
+    fn total_put(&mut self, key: &TotalKey, amount: u64) -> Result<(), ShelfFault>
+        requires begun { IsSome (state self.old).begun }
+        requires bounded { amount ≤ most_records * LARGEST_WATT_HOURS }
+        ensures put { clean self.new → OnOk result ((state self.new).content ≡ with_total (state self.old).content key.now amount) }
+        ensures written { IsWriting state left clean result self.old self.new };
 
     /// Each record is held once.
     ghost once: { (s : Self) → clean s → EachOnce (state s).content.records };
