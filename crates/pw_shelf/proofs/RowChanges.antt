@@ -14,8 +14,9 @@ use Rattle.pw_tariff.specs.declared.ids.MeterId.{MeterId}
 use Rattle.pw_time.specs.Instants.{IsInstant}
 use Rattle.pw_model.specs.declared.records.TotalKey.{TotalKey}
 use Rattle.pw_shelf.specs.Changes.{points_with, starts_with, totals_with}
-use Rattle.pw_shelf.specs.Orders.{key_order, point_order, start_order}
-use Rattle.pw_shelf.specs.Standing.{AreDated, meter_id, point_in, start_in, total_in}
+use Rattle.pw_shelf.specs.Orders.{total_key_order, point_order, start_order}
+use Rattle.pw_shelf.specs.Standing.{meter_id, point_in, start_in, total_in}
+use Rattle.pw_shelf.specs.inner.Held.{AreDated}
 use Rattle.pw_shelf.proofs.RowKeys.{point-tested, start-tested, total-tested, starts-exact}
 
 pub points-change : (old new : BTreeMap (MeterId × Register × ℕ) ℕ) (m : MeterId) (r : Register) (t : ℕ) (w : Option ℕ) → Updates point_order old new (m, r, t) w → point_in new ≡ points_with (point_in old) m.0 r t w
@@ -28,8 +29,8 @@ chosen : (b : Bool) (a : ℕ) (o : Option ℕ) → unwrap_or (cond b (Some a) o)
 chosen true a o = refl
 chosen false a o = refl
 
-pub totals-change : (old new : BTreeMap TotalKey ℕ) (k : TotalKey) (a : ℕ) → Updates key_order old new k (Some a) → total_in new ≡ totals_with (total_in old) k a
-totals-change old new k a h = λ i l. (ap (λ (o : Option ℕ). unwrap_or o 0) (h.0 l) ∙ chosen (is_eq (key_order k l)) a (get key_order old l) ∙ ap (λ (b : Bool). cond b a (total_in old l)) (total-tested k l)) i
+pub totals-change : (old new : BTreeMap TotalKey ℕ) (k : TotalKey) (a : ℕ) → Updates total_key_order old new k (Some a) → total_in new ≡ totals_with (total_in old) k a
+totals-change old new k a h = λ i l. (ap (λ (o : Option ℕ). unwrap_or o 0) (h.0 l) ∙ chosen (is_eq (total_key_order k l)) a (get total_key_order old l) ∙ ap (λ (b : Bool). cond b a (total_in old l)) (total-tested k l)) i
 
 -- ---- each start stands at an instant
 tied : (o : Ordering) → is_eq o ≡ true → o ≡ Equal

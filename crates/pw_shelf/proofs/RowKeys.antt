@@ -18,7 +18,7 @@ use Rattle.pw_model.specs.Same.{same_key, total_numbers}
 use Rattle.pw_model.proofs.Alike.{keys-alike}
 use Rattle.pw_model.proofs.InKeyOrder.{totals-ordered}
 use Rattle.pw_shelf.specs.Changes.{same_total}
-use Rattle.pw_shelf.specs.Orders.{key_order, point_order, start_order}
+use Rattle.pw_shelf.specs.Orders.{total_key_order, point_order, start_order}
 use Rattle.pw_shelf.specs.Standing.{meter_id}
 use Rattle.pw_shelf.proofs.AtKey.{key_exact}
 
@@ -36,7 +36,7 @@ point-tested m r t n s u =
 pub start-tested : (m t n u : ℕ) → is_eq (start_order (meter_id m, t) (meter_id n, u)) ≡ same_key (assignment_key m t) (assignment_key n u)
 start-tested m t n u = sym (key_laws.matches_eq-law (assignment_key m t) (assignment_key n u)) ∙ keys-alike (assignment_key m t) (assignment_key n u)
 
-pub total-tested : (k l : TotalKey) → is_eq (key_order k l) ≡ same_total k l
+pub total-tested : (k l : TotalKey) → is_eq (total_key_order k l) ≡ same_total k l
 total-tested k l = ap is_eq (totals-ordered k l) ∙ sym (texts_ties (total_numbers k) (total_numbers l))
 
 -- ---- the orders' laws

@@ -11,7 +11,7 @@ use Rattle.std.specs.declared.cmp.Ordering.TheVariants.{Less, Equal, Greater}
 use Rattle.std.proofs.lemmas.Bool.{cases_Bool, true≢false}
 use Rattle.std.proofs.lemmas.Cmp.{tied_itself}
 use Rattle.pw_model.specs.Counting.{Member}
-use Rattle.pw_model.specs.Lists.{IsBeforeAll, IsRising, Lists}
+use Rattle.pw_model.specs.Lists.{IsBeforeAll, IsInOrder, Lists}
 use Rattle.pw_shelf.specs.Seconds.{by_second}
 
 tied : (o : Ordering) → is_eq o ≡ true → o ≡ Equal
@@ -89,7 +89,7 @@ module _ {K X : Type 0} (order : K → K → Ordering) (total : IsTotalOrder ord
   before-all e (f ∷ es) h l =
       elim (cases_Bool (p f.0)) [ inl t ↦ rw t (earlier order p second at inside by e.0 f.0 h t l.0, before-all e es h l.1) | inr g ↦ rw g (before-all e es h l.1) ]
 
-  rising : (es : List (K × X)) → IsStrictlySortedBy order (keys_of es) → IsRising by_second (map told (kept es))
+  rising : (es : List (K × X)) → IsStrictlySortedBy order (keys_of es) → IsInOrder by_second (map told (kept es))
   unfolding IsStrictlySortedBy
   rising [] s = tt
   rising (e ∷ es) s =

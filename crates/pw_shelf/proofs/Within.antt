@@ -15,7 +15,8 @@ use Rattle.pw_time.specs.Instants.{IsInstant}
 use Rattle.pw_time.specs.declared.instant.TheConstants.{FIRST_SECOND, LAST_SECOND}
 use Rattle.pw_shelf.specs.Orders.{point_order, start_order}
 use Rattle.pw_shelf.specs.Seconds.{ListsSeconds, ListsSecondsWithin}
-use Rattle.pw_shelf.specs.Standing.{AreDated, point_in, start_in}
+use Rattle.pw_shelf.specs.Standing.{point_in, start_in}
+use Rattle.pw_shelf.specs.inner.Held.{AreDated}
 use Rattle.pw_shelf.proofs.RowKeys.{meter-seconds, one-register, points-exact, points-total, register_order, register-seconds, starts-exact, starts-total}
 use Rattle.pw_shelf.proofs.Stretches.{lists-alike, stretch}
 

@@ -17,5 +17,5 @@ point_order a b = ordering_then (ordering_then (nat_cmp a.0.0 b.0.0) (register.g
 abbrev pub start_order : MeterId × ℕ → MeterId × ℕ → Ordering
 start_order a b = ordering_then (nat_cmp a.0.0 b.0.0) (nat_cmp a.1 b.1)
 
-abbrev pub key_order : TotalKey → TotalKey → Ordering
-key_order = total_key.ghosts.cmp
+abbrev pub total_key_order : TotalKey → TotalKey → Ordering
+total_key_order = total_key.ghosts.cmp

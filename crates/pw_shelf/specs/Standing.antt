@@ -1,13 +1,12 @@
 -- What the ordered maps of a store in memory tell.
 -- (Definitions of this project.)
-use Rattle.std.specs.Prelude.{ℕ, Option, IsSome, unwrap_or}
+use Rattle.std.specs.Prelude.{ℕ, Option, unwrap_or}
 use Rattle.std.specs.BTreeMap.{BTreeMap, get}
 use Rattle.pw_obis.specs.declared.reference.Register.{Register}
 use Rattle.pw_tariff.specs.declared.ids.AccountId.{AccountId}
 use Rattle.pw_tariff.specs.declared.ids.MeterId.{MeterId}
-use Rattle.pw_time.specs.Instants.{IsInstant}
 use Rattle.pw_model.specs.declared.records.TotalKey.{TotalKey}
-use Rattle.pw_shelf.specs.Orders.{key_order, point_order, start_order}
+use Rattle.pw_shelf.specs.Orders.{total_key_order, point_order, start_order}
 
 abbrev pub meter_id : ℕ → MeterId
 meter_id m = record { 0 = m }
@@ -20,8 +19,4 @@ start_in rows m t = get start_order rows (meter_id m, t)
 
 -- absent is 0
 abbrev pub total_in : BTreeMap TotalKey ℕ → TotalKey → ℕ
-total_in rows k = unwrap_or (get key_order rows k) 0
-
--- each start stands at an instant
-abbrev pub AreDated : BTreeMap (MeterId × ℕ) (Option AccountId) → Type 0
-AreDated rows = (m t : ℕ) → IsSome (start_in rows m t) → IsInstant t
+total_in rows k = unwrap_or (get total_key_order rows k) 0

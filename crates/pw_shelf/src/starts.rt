@@ -7,7 +7,8 @@ ghost use Rattle.std.specs.declared.ops.Bound.TheVariants.{Included};
 ghost use Rattle.pw_shelf.specs.Changes.{starts_with};
 ghost use Rattle.pw_shelf.specs.Orders.{start_order};
 ghost use Rattle.pw_shelf.specs.Seconds.{ListsSeconds};
-ghost use Rattle.pw_shelf.specs.Standing.{AreDated, start_in};
+ghost use Rattle.pw_shelf.specs.Standing.{start_in};
+ghost use Rattle.pw_shelf.specs.inner.Held.{AreDated};
 ghost use Rattle.pw_shelf.specs.declared.fault.ShelfFault.TheVariants.{Memory};
 
 use crate::fault::ShelfFault;
