@@ -1,10 +1,22 @@
 //! The calls on data sets.
 
-use pw_obis::{Register, Sets, WattHours, code, first_value, is_stamp, register, watt_hours};
+use pw_obis::{
+    Register, Sets, WattHours, code, first_value, is_date, is_identifier, is_stamp, is_time,
+    register, watt_hours,
+};
 
 /// Whether each answers what it should.
 pub(crate) fn are_right() -> bool {
-    is_read() && is_stated() && is_refused()
+    is_read() && is_named() && is_stated() && is_refused()
+}
+
+fn is_named() -> bool {
+    let (Some(meter), Some(time), Some(date)) =
+        (code(b"0-0:96.1.1"), code(b"0.9.1"), code(b"0.9.2"))
+    else {
+        return false;
+    };
+    is_identifier(&meter) && is_time(&time) && is_date(&date) && !is_stamp(&date)
 }
 
 fn is_read() -> bool {
