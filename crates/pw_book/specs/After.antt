@@ -67,7 +67,8 @@ pub record AreAccepted (file : OfficeFile) (run : List (Upload × Outcome)) (upl
       Member upload (accepted_in run) ⊎ ((fault : UploadFault) × RefusesContent file upload fault)
 
 -- behind any run the records are those before it, and those after the uploads that it accepted; uploads that are refused
--- for their content bring nothing; runs that accept the same uploads have the same records, and the same answers
+-- for their content bring nothing; runs that begin with the same records and accept the same uploads end
+-- with the same records, and the same answers
 pub record RunsLeaveAfter (file : OfficeFile) : Type 0 where
   pub after : (limit : ℕ) (run : List (Upload × Outcome)) (old new : ShelfContent) →
       IsRun file limit run old new → After file old.records (accepted_in run) new.records

@@ -5,17 +5,14 @@
 pub mod Posting
 pub mod Questions
 pub mod After
-
--- and where they are named:
+-- and these where a file above names them:
 -- Asking: what asking a shelf leaves as it is
 -- Acceptance: the line of an accepted upload
 -- Faults: numbers, names and lines of faults
 pub mod Asking
 pub mod Acceptance
 pub mod Faults
-
 -- named by private functions, tests and proofs alone
 pub mod inner
-
 -- lemmas that stand here since a model or a kept fact names them
 pub mod lemmas

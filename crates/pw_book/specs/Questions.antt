@@ -15,8 +15,8 @@ failures_asked (Err Memory) = 0
 failures_asked (Err Reopen) = 0
 
 module _ {S : Type 0} (shelf : Ghosts S) where
-  -- the shelf is only asked, and nothing else is touched; a shut book answers Reopen and leaves the shelf alone, no other
-  -- does
+  -- the shelf is only asked, and nothing else is touched; a shut book answers Reopen and leaves the shelf alone, and no
+  -- other book answers Reopen
   pub record IsQuestion {T : Type 0} (answer : Result T BookFault) (old new : Book S shelf) : Type 0 where
     pub asked : IsOnlyAsked shelf (failures_asked answer) old.shelf new.shelf
     pub reopen : IsErrOf answer Reopen ↔ (old.shut ≡ true)

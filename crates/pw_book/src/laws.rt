@@ -13,8 +13,9 @@ use crate::book::Book;
 use pw_shelf::Shelf;
 use pw_tariff::Office;
 
-/// Conservation of energy: in a book that isn't shut, over a store that returned what was written, over all owners with nobody and all bands, the energies of a
-/// direction, which `energy` answers, add up to the rises of all neighbouring readings that don't fall.
+/// Conservation of energy: in a book that isn't shut, over a store that returned what was written, over all owners with
+/// nobody and all bands, the energies of a direction, which `energy` answers, add up to the rises of all neighbouring
+/// readings that don't fall.
 pub fn conservation_of_energy<S: Shelf>(book: &Book<S>)
     ensures { book.now.shut ≡ false → S.clean book.now.shelf → (d : Direction) → over_owners (office_of book.now.office) (λ o. over_bands (office_of book.now.office) (λ b. energy (office_of book.now.office) (S.state book.now.shelf).content.records o b d)) ≡ all_rises (office_of book.now.office) (contents_at (S.state book.now.shelf).content.records) d }
 {
@@ -23,18 +24,18 @@ pub fn conservation_of_energy<S: Shelf>(book: &Book<S>)
 
 /// The records that a book holds are those after the uploads that it was sent: one upload more that it takes adds what the
 /// upload gives, and one that is refused for its content adds nothing. Uploads that are answered `Full`, `Device` or
-/// `Memory` are none of them, and leave what is held as it was.
+/// `Memory` are none of them: `post` says that they leave what is held as it was.
 pub fn records_are_those_after_uploads(office: &Office)
     ensures { LeavesAfter office.now }
 {
     let _ = office.bands();
 }
 
-/// After any list of uploads to a book, over a store that returned what was written, each accepted, refused for its body,
-/// or answered `Full`, `Device` or `Memory`: the records held at the end are those at the beginning, and all that the
+/// After any list of uploads to a book, over a store that returned what was written, each accepted, refused in
+/// reading it, or answered `Full`, `Device` or `Memory`: the records held at the end are those at the beginning, and all that the
 /// accepted uploads give. An upload that is refused for its content may be counted in or left out: it brings nothing. Two
-/// such lists that accept the same uploads, in whatever order and however often, end with the same records, and the same
-/// answers to every question.
+/// such lists that begin with the same records and accept the same uploads, in whatever order and however often, end with
+/// the same records, and the same answers to every question.
 ///
 /// (An upload that is answered `Reopen` ends such a list: what is held behind it is known when the store is opened again.)
 pub fn records_are_those_after_runs(office: &Office)

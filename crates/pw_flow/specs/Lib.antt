@@ -7,8 +7,7 @@ pub mod Time
 pub mod Flow
 pub mod Energy
 pub mod Laws
-
--- and where they are named:
+-- and these where a file above names them:
 -- Pairs: the pairs of a list of points
 -- Changes: laws on pairs, and on what one more point or another owner changes
 -- Plain: what the plain program is given

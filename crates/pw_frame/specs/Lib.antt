@@ -13,7 +13,7 @@ pub mod Frame
 pub mod FirstFault
 pub mod Body
 pub mod Laws
--- and where they are named:
+-- and these where a file above names them:
 -- Hexadecimal: numbers in hexadecimal digits
 -- Faults: numbers, names and texts of faults
 pub mod Hexadecimal

@@ -39,8 +39,8 @@ pub fn count_is_length()
     ensures { CountIsLength }
 {}
 
-/// Conservation of energy: over all owners with nobody and all bands, the energies of a direction add up to the rises
-/// of all its neighbours that don't fall.
+/// Conservation of energy: where each second has one of the office's bands and all records are of the office, over all
+/// owners with nobody and all bands, the energies of a direction add up to the rises of all its neighbours that don't fall.
 pub fn conservation_of_energy()
     ensures { NothingIsLost }
 {}
@@ -65,8 +65,8 @@ pub fn one_more_assignment()
     ensures { OneMoreAssignment }
 {}
 
-/// Totals of what isn't the office's are 0: energies of an owner that is no account of it or in a band that is none of
-/// its bands, and top-ups of what is no account of it.
+/// Totals of what isn't the office's are 0: where all records are of the office, energies of an owner that is no account
+/// of it and top-ups of what is no account of it; where each second has one of its bands, energies in another band.
 pub fn foreign_totals_are_none()
     ensures { ForeignTotalsAreNone }
 {}

@@ -15,8 +15,7 @@ pub mod References
 pub mod FirstValue
 pub mod Value
 pub mod Laws
-
--- and where they are named:
+-- and these where a file above names them:
 -- Registers: the registers in their order, and their names
 -- Coming: what a reader of a block has still to give
 -- Answers: what each of its calls answers
@@ -25,9 +24,7 @@ pub mod Registers
 pub mod Coming
 pub mod Answers
 pub mod Faults
-
 -- named by private functions, tests and proofs alone
 pub mod inner
-
 -- lemmas that stand here since a model or a kept fact names them
 pub mod lemmas

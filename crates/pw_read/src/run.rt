@@ -33,7 +33,8 @@ enum Failure {
 ///
 /// Answers the exit status: 0, 1 for a body that is refused or longer than 262,144 bytes, 3 for a reader or writer that
 /// fails or for want of memory. At most 262,145 bytes are read. With 3, `out` has a front of the body's
-/// text, or nothing, and `err` a front of the line of one failure, or all of it.
+/// text, or nothing, and `err` a front of the line of one failure, or all of it. (What the streams are given is said of a
+/// reader whose bytes are known. That 3 comes only where something failed, no contract can say: a stream doesn't tell.)
 pub fn read_run<R: Read, O: Write, E: Write>(
     alloc: Global,
     clock: Clock,

@@ -1,6 +1,6 @@
 -- Read these, in this order:
 -- State: what is known of a shelf
--- Changes: what a call that writes changes
+-- Changes: a content with one point, start or total changed
 -- Left: what a crash may leave
 -- Seconds: what a function of the second tells, before, behind and within
 -- Rows: what calls answer, and how many rows that is
@@ -13,14 +13,12 @@ pub mod Seconds
 pub mod Rows
 pub mod Calls
 pub mod Memory
-
--- and where they are named:
+-- and these where a file above names them:
 -- Once: adding a record in an upload of its own
 -- Orders: the orders of the maps that a store in memory keeps
 -- Standing: what stands in them
 pub mod Once
 pub mod Orders
 pub mod Standing
-
 -- named by private functions, tests and proofs alone
 pub mod inner

@@ -19,7 +19,7 @@ LeavesBeforeOrAfter content e old new = (c : ShelfContent) → new c → old c �
 
 -- ---- faults
 
--- how many failures of the device are counted: one where it answers Device, else none; with Reopen none is forgotten
+-- how many failures of the device are counted: one where it answers Device, else none; with Reopen at most two
 abbrev pub FailuresAdded : Result Bool AddFault → ℕ → ℕ → Type 0
 FailuresAdded (Ok fresh) old new = new ≡ old
 FailuresAdded (Err Memory) old new = new ≡ old

@@ -16,15 +16,16 @@ use pw_model::Entry;
 /// Why a record wasn't added.
 #[derive(Clone, Copy, Debug, PartialEq, Eq)]
 pub enum AddFault {
-    /// Memory was refused, and nothing is changed.
+    /// Memory was refused, and the content is as before.
     Memory,
-    /// The device of the store failed, and nothing is changed.
+    /// The device of the store failed, and the content is as before.
     Device,
     /// The upload couldn't be abandoned: the store has to be opened again.
     Reopen,
 }
 
-/// Adds a record in an upload of its own, unless it is held, and answers whether it is new.
+/// Adds a record in an upload of its own, unless it is held, and answers whether it is new. It asks that no upload is begun,
+/// and for fewer than 10,000,000 records held.
 ///
 /// After `Memory` and `Device` the content is as before. What a crash leaves is what it could leave before, or the
 /// content with the record; after Ok the latter alone.

@@ -23,8 +23,8 @@ use std::alloc::Global;
 
 /// A store of records, with the points, starts and totals that are kept beside them.
 ///
-/// What is promised of contents (those held, begun with, answered, and left by a crash) holds where the store has
-/// returned what was written; counts, the tally and whether an upload is begun hold always. A failure of the device is
+/// What is promised of contents (those held, answered, given back, and left by a crash) holds where the store has
+/// returned what was written; counts, the tally, whether an upload is begun and what it began with hold always. A failure of the device is
 /// counted where a call answers `Device`, and nowhere else.
 ///
 /// Within an upload nothing is promised of the content after a fault, until `abandon` answers Ok: after a fault only
@@ -81,8 +81,7 @@ pub trait Shelf {
         ensures held { clean self.new → IfOk result (λ held. IsTrue held ↔ Member entry.now (state self.old).content.records) }
         ensures asked { IsAsking state left clean no_rows result self.old self.new };
 
-    /// What the records held say of a key: whether none has it, one, or several. The tally rises by none, one or two
-    /// rows.
+    /// What the records held say of a key: whether none has it, one, or several: no row, one, or two.
     fn contents_at(&mut self, key: &Key) -> Result<Contents, ShelfFault>
         ensures rows { clean self.new → IfOk result (λ found. found ≡ told_at (state self.old).content.records key.now) }
         ensures asked { IsAsking state left clean rows_at result self.old self.new };
@@ -143,8 +142,7 @@ pub trait Shelf {
         ensures deleted { clean self.new → OnOk result ((state self.new).content ≡ with_point (state self.old).content meter.0 register instant None) }
         ensures written { IsWriting state left clean result self.old self.new };
 
-    /// The latest point kept of a register strictly before an instant, if there is one. The tally rises by a row where
-    /// one is found.
+    /// The latest point kept of a register strictly before an instant, if there is one: then it is one row.
     fn point_before(
         &mut self,
         meter: MeterId,
@@ -154,8 +152,7 @@ pub trait Shelf {
         ensures row { clean self.new → IfOk result (λ found. IsBefore ((state self.old).content.point meter.0 register) instant found) }
         ensures asked { IsAsking state left clean rows_found result self.old self.new };
 
-    /// The earliest point kept of a register strictly behind an instant, if there is one. The tally rises by a row where
-    /// one is found.
+    /// The earliest point kept of a register strictly behind an instant, if there is one: then it is one row.
     fn point_after(
         &mut self,
         meter: MeterId,
@@ -199,7 +196,7 @@ pub trait Shelf {
         ensures rows { clean self.new → IfOk result (λ found. ListsSeconds ((state self.old).content.start meter.0) found.items) }
         ensures asked { IsAsking state left clean rows_listed result self.old self.new };
 
-    /// The total kept at a key; 0 where none is. The tally rises by a row where it is above 0.
+    /// The total kept at a key; 0 where none is. It is one row where it is above 0.
     fn total(&mut self, key: &TotalKey) -> Result<u64, ShelfFault>
         ensures amount { clean self.new → IfOk result (λ amount. amount ≡ (state self.old).content.total key.now) }
         ensures asked { IsAsking state left clean rows_total result self.old self.new };

@@ -15,14 +15,12 @@ pub mod Owners
 pub mod Cells
 pub mod Shares
 pub mod Laws
-
--- and where they are named:
+-- and these where a file above names them:
 -- Ids: ids in the file's order, and names of directions
 -- Held: what a contract sees of an office
 -- Faults: numbers, names and lines of refusals
 pub mod Ids
 pub mod Held
 pub mod Faults
-
 -- named by private functions, tests and proofs alone
 pub mod inner

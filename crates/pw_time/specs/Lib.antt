@@ -13,10 +13,8 @@ pub mod Summer
 pub mod Outcomes
 pub mod Written
 pub mod Laws
-
--- and where they are named:
+-- and these where a file above names them:
 -- Faults: numbers and names of refusals
 pub mod Faults
-
 -- named by private functions, tests and proofs alone
 pub mod inner

@@ -18,7 +18,7 @@ use Rattle.pw_time.specs.Summer.{civil_offset}
 abbrev pub always : ℕ → ℤ → ℕ
 always seconds t = seconds
 
--- the local clock of Central Europe; before 1970 it counts as one hour ahead
+-- the local clock of Central Europe; outside the years 2000 to 2099 it counts as one hour ahead
 abbrev pub central : ℤ → ℕ
 central (pos t) = civil_offset t
 central (negsuc _) = 3600

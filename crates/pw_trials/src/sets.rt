@@ -11,9 +11,11 @@ pub(crate) fn are_right() -> bool {
 }
 
 fn is_named() -> bool {
-    let (Some(meter), Some(time), Some(date)) =
-        (code(b"0-0:96.1.1"), code(b"0.9.1"), code(b"0.9.2"))
-    else {
+    let (Some(meter), Some(time), Some(date)) = (
+        code(b"0-0:96.1.1"),
+        code(b"0.9.1"),
+        code(b"0.9.2"),
+    ) else {
         return false;
     };
     is_identifier(&meter) && is_time(&time) && is_date(&date) && !is_stamp(&date)
