@@ -7,7 +7,8 @@ use Rattle.pw_flow.specs.declared.plain.Point.{Point}
 use Rattle.pw_flow.specs.Energy.{register_energy}
 use Rattle.pw_flow.specs.Pairs.{ListsPoints}
 use Rattle.pw_flow.specs.Pairs.{pairs_sum}
-use Rattle.pw_flow.specs.Plain.{value_at, times_of}
+use Rattle.pw_flow.specs.Plain.{value_at}
+use Rattle.pw_flow.specs.inner.Plain.{times_of}
 use Rattle.pw_flow.proofs.Pairs.{energy-pairs}
 
 abbrev pub pair_of : Point → ℕ × ℕ

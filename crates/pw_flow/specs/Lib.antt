@@ -14,3 +14,5 @@ pub mod Laws
 pub mod Pairs
 pub mod Changes
 pub mod Plain
+-- named by private functions, tests and proofs alone
+pub mod inner

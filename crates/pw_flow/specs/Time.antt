@@ -1,6 +1,7 @@
 -- What stands at seconds, as a function of the second, and sums over seconds.
 -- (Definitions of this project, for readings, which stand at an instant, and for owners, who begin at one.)
-use Rattle.std.specs.Prelude.{◌≡◌, ℕ, zero, suc, ◌+◌, ◌<◌, ◌≤◌, Option, Some, None}
+use Rattle.std.specs.Prelude.{◌≡◌, ℕ, zero, suc, ◌+◌, ◌<◌, ◌≤◌, Option, Some, None, List, map}
+use Rattle.std.specs.List.Sorted.{IsStrictlyIncreasing}
 
 -- what stands at second t, before what was found elsewhere
 abbrev pub found : {A : Type 0} → ℕ → Option A → Option (ℕ × A) → Option (ℕ × A)
@@ -29,6 +30,10 @@ pub record IsNext {A : Type 0} (p : ℕ → Option A) (t n y : ℕ) (a : A) : Ty
   pub late : t < y
   pub early : y ≤ t + n
   pub none : (s : ℕ) → t < s → s < y → p s ≡ None
+
+-- each stands later than the one before it; `second` tells when
+abbrev pub AreInTime : {A : Type 0} → (A → ℕ) → List A → Type 0
+AreInTime second xs = IsStrictlyIncreasing (map second xs)
 
 -- f over the n seconds from x on, added up
 unfoldable pub sum_over : (ℕ → ℕ) → ℕ → ℕ → ℕ

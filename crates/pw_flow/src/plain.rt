@@ -3,10 +3,10 @@
 //! It is slow, and meant for short spans: bodies that work by longer pieces are compared with it.
 
 ghost use Rattle.std.specs.Prelude.{◌≡◌, ℕ, ◌+◌, ◌-◌, ◌<◌, ◌≤◌, All, Bool};
-ghost use Rattle.std.specs.List.Sorted.{IsStrictlyIncreasing};
 ghost use Rattle.pw_flow.specs.Energy.{cell, register_energy};
 ghost use Rattle.pw_flow.specs.Flow.{level, pair_flow};
-ghost use Rattle.pw_flow.specs.Plain.{AnswersBy, times_of, value_at};
+ghost use Rattle.pw_flow.specs.Plain.{AnswersBy, value_at};
+ghost use Rattle.pw_flow.specs.Time.{AreInTime};
 
 /// A reading of a register: its second, counted from 1970-01-01T00:00:00Z, and its value in watt-hours.
 #[derive(Clone, Copy, Debug, PartialEq, Eq)]
@@ -68,7 +68,7 @@ fn pair_energy<F: Fn(u32) -> bool>(from: Point, to: Point, keeps: &F) -> u64
 /// that don't fall carries what the level rises by from it to the next second, and any other second carries nothing.
 /// Nothing is said of a predicate that answers by more than the second.
 pub fn energy<F: Fn(u32) -> bool>(points: &[Point], keeps: F) -> u128
-    requires rising { IsStrictlyIncreasing (times_of points.now) }
+    requires rising { AreInTime (λ p. p.at) points.now }
     requires callable { F.IsAlwaysCallable keeps }
     ensures { (asked : ℕ → Bool) (end : ℕ) → AnswersBy (F.post keeps) asked → All (λ p. p.at < end) points.now →
         result ≡ register_energy asked (value_at points.now) end }

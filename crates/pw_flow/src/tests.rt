@@ -1,9 +1,9 @@
 //! Worked spans. The expected values are counted by hand.
 
 ghost use Rattle.std.specs.Prelude.{◌≡◌, ◌<◌, ◌≤◌, ◌^◌, ◌&&◌, All, nat_le, nat_lt};
-ghost use Rattle.std.specs.List.Sorted.{IsStrictlyIncreasing};
 ghost use Rattle.pw_flow.specs.Energy.{register_energy};
-ghost use Rattle.pw_flow.specs.Plain.{times_of, value_at};
+ghost use Rattle.pw_flow.specs.Plain.{value_at};
+ghost use Rattle.pw_flow.specs.Time.{AreInTime};
 
 use super::laws::{earliest_behind_is_found, latest_is_found};
 use super::plain::{Point, energy, level_at};
@@ -30,7 +30,7 @@ fn reading(at: u32, watt_hours: u64) -> Point
 
 // The energy from a second up to another. Its contract shows what a caller knows of a predicate that is a closure.
 fn energy_within(points: &[Point], from: u32, until: u32) -> u128
-    requires rising { IsStrictlyIncreasing (times_of points.now) }
+    requires rising { AreInTime (λ p. p.at) points.now }
     requires early { All (λ p. p.at < 2 ^ 31) points.now }
     ensures { result ≡ register_energy (λ t. nat_le from t && nat_lt t until) (value_at points.now) (2 ^ 31) }
 {

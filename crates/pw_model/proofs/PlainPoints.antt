@@ -10,7 +10,8 @@ use Rattle.std.specs.declared.cmp.Ordering.TheVariants.{Less, Greater}
 use Rattle.pw_obis.specs.declared.reference.Register.{Register}
 use Rattle.pw_time.specs.Instants.{IsInstant}
 use Rattle.pw_flow.specs.declared.plain.Point.{Point}
-use Rattle.pw_flow.specs.Plain.{times_of, value_at}
+use Rattle.pw_flow.specs.Plain.{value_at}
+use Rattle.pw_flow.specs.inner.Plain.{times_of}
 use Rattle.pw_flow.proofs.Points.{option-cases}
 use Rattle.pw_model.specs.declared.records.Entry.{Entry}
 use Rattle.pw_model.specs.declared.records.ReadingRow.{ReadingRow}

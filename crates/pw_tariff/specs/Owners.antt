@@ -1,13 +1,12 @@
 -- The owner of a meter at a second.
 -- (Definitions of this project.)
-use Rattle.std.specs.Prelude.{◌==◌, ℕ, Option, Some, None, List, [], ◌∷◌, Bool, true, false, cond, map}
-use Rattle.std.specs.List.Sorted.{IsStrictlyIncreasing}
+use Rattle.std.specs.Prelude.{◌==◌, ℕ, Option, Some, None, List, [], ◌∷◌, Bool, true, false, cond}
 use Rattle.pw_tariff.specs.declared.ids.AccountId.{AccountId}
-use Rattle.pw_flow.specs.Time.{last}
+use Rattle.pw_flow.specs.Time.{AreInTime, last}
 
 -- each start is later than the one before it
 abbrev pub StartsIncrease : List (ℕ × Option AccountId) → Type 0
-StartsIncrease starts = IsStrictlyIncreasing (map (λ s. s.0) starts)
+StartsIncrease starts = AreInTime (λ s. s.0) starts
 
 -- the owner who begins at a second, where one begins there
 unfoldable pub start_at : List (ℕ × Option AccountId) → ℕ → Option (Option AccountId)

@@ -1,9 +1,9 @@
 //! The energy of an owner in a band.
 
 ghost use Rattle.std.specs.Prelude.{◌≡◌, ◌<◌, ◌≤◌, All, IfOk, length};
-ghost use Rattle.std.specs.List.Sorted.{IsStrictlyIncreasing};
 ghost use Rattle.pw_flow.specs.Energy.{register_energy};
-ghost use Rattle.pw_flow.specs.Plain.{times_of, value_at};
+ghost use Rattle.pw_flow.specs.Plain.{value_at};
+ghost use Rattle.pw_flow.specs.Time.{AreInTime};
 ghost use Rattle.pw_model.specs.Counting.{contents_at as told_at};
 ghost use Rattle.pw_model.specs.Energy.{energy as energy_of, meter_share, of_band, asked_seconds, share_of};
 ghost use Rattle.pw_model.specs.Office.{AllOfOffice, IsOffice, most_records};
@@ -109,7 +109,7 @@ fn points_energy<T: Terms>(
     band: BandId,
     points: &[Point],
 ) -> u128
-    requires rising { IsStrictlyIncreasing (times_of points.now) }
+    requires rising { AreInTime (λ p. p.at) points.now }
     requires instants { All (λ p. IsInstant p.at) points.now }
     ensures { result ≡ register_energy (asked_seconds (told_at entries.now) (of_band (T.office terms.now) owner band.0) meter.0) (value_at points.now) the_end }
 {

@@ -1,8 +1,8 @@
 //! The counting readings of a register, in order.
 
 ghost use Rattle.std.specs.Prelude.{◌≡◌, ℕ, ◌<◌, All, IfOk};
-ghost use Rattle.std.specs.List.Sorted.{IsStrictlyIncreasing};
-ghost use Rattle.pw_flow.specs.Plain.{times_of, value_at};
+ghost use Rattle.pw_flow.specs.Plain.{value_at};
+ghost use Rattle.pw_flow.specs.Time.{AreInTime};
 ghost use Rattle.pw_time.specs.Instants.{IsInstant};
 ghost use Rattle.pw_time.specs.declared.instant.TheConstants.{END_SECOND as the_end};
 ghost use Rattle.pw_model.specs.Counting.{contents_at as told_at, point};
@@ -21,7 +21,7 @@ pub fn points_of(
     meter: MeterId,
     register: Register,
 ) -> Result<Vec<Point>, AllocError>
-    ensures rising { IfOk result (λ points. IsStrictlyIncreasing (times_of points.items)) }
+    ensures rising { IfOk result (λ points. AreInTime (λ p. p.at) points.items) }
     ensures instants { IfOk result (λ points. All (λ p. IsInstant p.at) points.items) }
     ensures values { IfOk result (λ points. (t : ℕ) → t < the_end → value_at points.items t ≡ point (told_at entries.now) meter.0 register t) }
 {

@@ -2,7 +2,8 @@ use Rattle.std.proofs.Common.{◌≡◌, All, List, [], ◌∷◌, ◌++◌, ap,
 use Rattle.std.specs.List.Sorted.{IsStrictlyIncreasing}
 use Rattle.pw_time.specs.Instants.{IsInstant}
 use Rattle.pw_flow.specs.declared.plain.Point.{Point}
-use Rattle.pw_flow.specs.Plain.{times_of, value_at}
+use Rattle.pw_flow.specs.Plain.{value_at}
+use Rattle.pw_flow.specs.inner.Plain.{times_of}
 use Rattle.pw_model.proofs.Places.{at-told, take-all}
 use Rattle.pw_model.proofs.PlainPoints.{point_of, counted, counted-next, counted-pass, instants-more, points-rise, points-told}
 use Rattle.pw_model.proofs.plain.points.points_of.Goals as goal
