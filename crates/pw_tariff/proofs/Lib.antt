@@ -1,7 +1,7 @@
 pub mod Starts
 pub mod Adding
 pub mod Named
-pub mod Seconds
+pub mod Runs
 pub mod Listed
 pub mod Order
 pub mod Parts

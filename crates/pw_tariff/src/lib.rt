@@ -11,6 +11,7 @@ mod limits;
 mod meters;
 mod office;
 mod owners;
+mod pieces;
 mod read;
 mod spread;
 mod table;

@@ -2,6 +2,7 @@
 
 ghost use Rattle.std.specs.Prelude.{◌≡◌, ◌<◌, IfSome, IfNone};
 ghost use Rattle.pw_tariff.specs.Owners.{StartsIncrease, owner_by_starts};
+ghost use Rattle.pw_tariff.specs.inner.Starts.{AreBegun, IsNextStart};
 
 use crate::Owner;
 use pw_time::Instant;
@@ -46,12 +47,30 @@ impl<'a> Owners<'a> {
     pub(crate) fn at(&self, second: u32) -> Owner
         ensures { result ≡ owner_by_starts self.now second }
     {
-        let mut owner = None;
-        for (start, next) in self.starts {
-            if start.seconds() <= second {
-                owner = *next;
-            }
+        let begun = begun(self.starts, second);
+        if begun == 0 {
+            return None;
         }
-        owner
+        self.starts[begun - 1].1
     }
+
+    // The first start behind a second and before an end, or that end.
+    pub(crate) fn next_start(&self, second: u32, end: u32) -> u32
+        requires { second < end }
+        ensures { IsNextStart self.now second end result }
+    {
+        let begun = begun(self.starts, second);
+        if begun == self.starts.len() {
+            return end;
+        }
+        self.starts[begun].0.seconds().min(end)
+    }
+}
+
+// How many starts aren't later than a second.
+fn begun(starts: &[(Instant, Owner)], second: u32) -> usize
+    requires { StartsIncrease starts.now }
+    ensures { AreBegun starts.now second result }
+{
+    starts.partition_point(|(start, _)| start.seconds() <= second)
 }

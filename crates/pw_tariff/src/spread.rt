@@ -1,11 +1,10 @@
 //! The difference between two readings, shared out over owners and bands.
 
 ghost use Rattle.std.specs.Prelude.{◌≡◌, ◌-◌, ◌<◌, ◌≤◌, IfOk};
-ghost use Rattle.pw_time.specs.Instants.{IsInstant};
 ghost use Rattle.pw_tariff.specs.Shares.{AreShares};
-ghost use Rattle.pw_tariff.specs.inner.Shares.{IsShareAt};
 
 use crate::cells::add;
+use crate::pieces::{Class, run_at};
 use crate::{Cell, Office, Owners};
 use pw_flow::plain::{Point, level_at};
 use pw_obis::WattHours;
@@ -26,6 +25,7 @@ pub struct Span {
 ///
 /// A cell stands for each owner and band with energy above 0, nobody first, then by account, then by band. It fails
 /// only where memory is refused.
+#[tactic(auto, using(crate::proofs::Runs::rising))]
 pub fn apportion(
     alloc: Global,
     office: &Office,
@@ -46,30 +46,18 @@ pub fn apportion(
         watt_hours: span.high.get(),
     };
     let mut cells = Vec::new(alloc);
+    let mut at = from.at;
     let mut level = from.watt_hours;
-    for second in from.at..to.at {
-        let next = level_at(from, to, second + 1);
+    while at < to.at {
+        let run = run_at(office, zone, owners, at, to.at);
+        let next = level_at(from, to, run.until);
         let wh = next - level;
-        level = next;
         if wh > 0 {
-            let share = share_at(office, zone, owners, second, wh);
-            add(&mut cells, share)?;
+            let Class { owner, band } = run.class;
+            add(&mut cells, Cell { owner, band, wh })?;
         }
+        at = run.until;
+        level = next;
     }
     Ok(cells)
-}
-
-// What flows at a second, with its owner and band.
-fn share_at(office: &Office, zone: &Zone, owners: &Owners, second: u32, wh: u64) -> Cell
-    requires { IsInstant second }
-    ensures { IsShareAt office.now owners.now second wh result }
-{
-    let Some(instant) = Instant::of(second) else {
-        unreachable!();
-    };
-    Cell {
-        owner: owners.at(second),
-        band: office.band(instant, zone),
-        wh,
-    }
 }

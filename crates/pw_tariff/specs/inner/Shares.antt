@@ -3,8 +3,6 @@ use Rattle.std.specs.Prelude.{◌≡◌, ℕ, ◌+◌, Option, List, cond}
 use Rattle.pw_tariff.specs.declared.ids.AccountId.{AccountId}
 use Rattle.pw_tariff.specs.declared.cells.Cell.{Cell}
 use Rattle.pw_tariff.specs.Cells.{AreInOrder, AreAboveZero, is_of, energy_in, energy_of_all}
-use Rattle.pw_tariff.specs.Owners.{owner_by_starts}
-use Rattle.pw_tariff.specs.Office.{OfficeFile, band_at}
 
 -- the cells of new are those of old with one share more
 pub record IsAdded (old new : List Cell) (share : Cell) : Type 0 where
@@ -13,9 +11,3 @@ pub record IsAdded (old new : List Cell) (share : Cell) : Type 0 where
   pub energy : (owner : Option AccountId) (band : ℕ) →
       energy_in new owner band ≡ energy_in old owner band + cond (is_of owner band share) share.wh 0
   pub whole : energy_of_all new ≡ energy_of_all old + share.wh
-
--- a cell of one second's energy
-pub record IsShareAt (office : OfficeFile) (owners : List (ℕ × Option AccountId)) (t wh : ℕ) (c : Cell) : Type 0 where
-  pub owner : c.owner ≡ owner_by_starts owners t
-  pub band : c.band.0 ≡ band_at office t
-  pub energy : c.wh ≡ wh

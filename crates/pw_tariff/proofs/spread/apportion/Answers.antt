@@ -1,42 +1,37 @@
-use Rattle.std.proofs.Common.{◌≤◌, ◌+◌, sym, arith}
-use Rattle.pw_flow.specs.Flow.{level}
-use Rattle.pw_flow.proofs.Level.{level-start, level-up}
-use Rattle.pw_tariff.proofs.Seconds.{nothing-yet, nothing-more, share-more, all-shared}
-use Rattle.pw_tariff.proofs.spread.apportion.Goals.{then-wh-gt0+in_ok-add, else-wh-gt0}
+use Rattle.std.proofs.Common.{sym, arith}
+use Rattle.pw_flow.proofs.Level.{level-start}
+use Rattle.pw_tariff.proofs.Runs.{nothing-yet, nothing-more, share-more, all-shared}
 use Rattle.pw_tariff.proofs.spread.apportion.Goals as goal
 
-pub loop-second-init : goal.loop-second-init
-loop-second-init c = record {
+pub loop-at-init : goal.loop-at-init
+loop-at-init c = record {
+  begun = omega arith;
+  within = omega arith;
   level = sym (level-start _ _ _ _);
   so_far = rw c.new-cells.ensures.items (nothing-yet c.args.office.now c.args.owners.now c.seconds.result c.get.result c.seconds-2.result c.get-2.result);
 }
 
-pub overflow_sub-wh : goal.overflow_sub-wh
-overflow_sub-wh c =
-    let u : level c.seconds.result c.get.result c.seconds-2.result c.get-2.result c.loop-second.second ≤ level c.seconds.result c.get.result c.seconds-2.result c.get-2.result (c.loop-second.second + 1) =
-    level-up c.seconds.result c.get.result c.seconds-2.result c.get-2.result c.loop-second.second (c.loop-second.second + 1) (omega arith) (omega arith) in
-    omega (arith, u, c.level_at-next.ensures.level, c.loop-second.invariant.level)
+pub loop-at-preserved-in_ok-add : goal.loop-at-preserved-in_ok-add
+loop-at-preserved-in_ok-add c = record {
+  begun = omega (arith, c.run_at-run.ensures.begun);
+  within = c.run_at-run.ensures.within;
+  level = c.level_at-next.ensures.level;
+  so_far = share-more c.args.office.now c.args.owners.now c.seconds.result c.get.result c.seconds-2.result c.get-2.result c.loop-at.at c.run_at-run.result.until
+      c.loop-at.level c.level_at-next.result c.run_at-run.result.class c.loop-at.cells.items c.add.new.cells.items (omega arith) (omega arith) (omega arith)
+      (omega (arith, c.run_at-run.ensures.begun)) c.loop-at.invariant.level c.level_at-next.ensures.level c.run_at-run.ensures.same c.in_ok-add.ensures c.loop-at.invariant.so_far;
+}
 
-pub loop-second-preserved : goal.loop-second-preserved
-loop-second-preserved c =
-    let u : level c.seconds.result c.get.result c.seconds-2.result c.get-2.result c.loop-second.second ≤ level c.seconds.result c.get.result c.seconds-2.result c.get-2.result (c.loop-second.second + 1) =
-    level-up c.seconds.result c.get.result c.seconds-2.result c.get-2.result c.loop-second.second (c.loop-second.second + 1) (omega arith) (omega arith) in
-    let rising : c.get.result ≤ c.get-2.result = omega arith in
-    let begun : c.seconds.result ≤ c.loop-second.second = omega arith in
-    let up : c.loop-second.level ≤ c.level_at-next.result = omega (arith, u, c.level_at-next.ensures.level, c.loop-second.invariant.level) in
-    record {
-      level = c.level_at-next.ensures.level;
-      so_far = elim c.if-wh-gt0.branch [
-        | then-wh-gt0+in_ok-add w ↦ rw w.cells-is (share-more c.args.office.now c.args.owners.now c.seconds.result c.get.result c.seconds-2.result c.get-2.result c.loop-second.second
-            c.loop-second.level c.level_at-next.result w.share_at-share.result c.loop-second.cells.items w.add.new.cells.items rising begun
-            c.loop-second.invariant.level c.level_at-next.ensures.level up w.share_at-share.ensures w.in_ok-add.ensures c.loop-second.invariant.so_far)
-        | else-wh-gt0 w ↦ rw w.cells-is (nothing-more c.args.office.now c.args.owners.now c.seconds.result c.get.result c.seconds-2.result c.get-2.result c.loop-second.second
-            c.loop-second.level c.level_at-next.result c.loop-second.cells.items rising begun
-            c.loop-second.invariant.level c.level_at-next.ensures.level w.if-wh-gt0.false up c.loop-second.invariant.so_far)
-      ];
-    }
+pub loop-at-preserved : goal.loop-at-preserved
+loop-at-preserved c = record {
+  begun = omega (arith, c.run_at-run.ensures.begun);
+  within = c.run_at-run.ensures.within;
+  level = c.level_at-next.ensures.level;
+  so_far = nothing-more c.args.office.now c.args.owners.now c.seconds.result c.get.result c.seconds-2.result c.get-2.result c.loop-at.at c.run_at-run.result.until
+      c.loop-at.level c.level_at-next.result c.run_at-run.result.class c.loop-at.cells.items (omega arith) (omega arith) (omega arith)
+      (omega (arith, c.run_at-run.ensures.begun)) c.loop-at.invariant.level c.level_at-next.ensures.level c.run_at-run.ensures.same c.if-wh-gt0.false c.loop-at.invariant.so_far;
+}
 
 pub returns : goal.returns
 returns c =
-    all-shared c.args.office.now c.args.owners.now c.args.span c.seconds.result c.get.result c.seconds-2.result c.get-2.result c.loop-second.second c.loop-second.cells.items
-    c.seconds.ensures.value c.get.ensures.value c.seconds-2.ensures.value c.get-2.ensures.value (omega arith) (omega arith) (omega arith) c.loop-second.invariant.so_far
+    all-shared c.args.office.now c.args.owners.now c.args.span c.seconds.result c.get.result c.seconds-2.result c.get-2.result c.loop-at.at c.loop-at.cells.items
+    c.seconds.ensures.value c.get.ensures.value c.seconds-2.ensures.value c.get-2.ensures.value (omega arith) (omega arith) (omega arith) c.loop-at.invariant.so_far

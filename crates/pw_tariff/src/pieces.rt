@@ -1,0 +1,67 @@
+//! Pieces of a span, one behind another, each of one owner and one band.
+
+ghost use Rattle.std.specs.Prelude.{◌<◌};
+ghost use Rattle.pw_time.specs.Instants.{IsInstant};
+ghost use Rattle.pw_tariff.specs.inner.Pieces.{IsClassAt, IsPiece, IsRun};
+
+use crate::{BandId, Office, Owner, Owners};
+use pw_time::{Instant, Zone};
+
+const HOUR: u32 = 3_600;
+
+// The owner and the band of a second.
+#[derive(Clone, Copy, PartialEq, Eq)]
+pub(crate) struct Class {
+    pub(crate) owner: Owner,
+    pub(crate) band: BandId,
+}
+
+// Seconds of one class, one behind another, and the first second behind them.
+#[derive(Clone, Copy)]
+pub(crate) struct Run {
+    pub(crate) class: Class,
+    pub(crate) until: u32,
+}
+
+// The owner and the band of a second.
+pub(crate) fn class_at(office: &Office, zone: &Zone, owners: &Owners, second: u32) -> Class
+    requires { IsInstant second }
+    ensures { IsClassAt office.now owners.now second result }
+{
+    let Some(instant) = Instant::of(second) else {
+        unreachable!();
+    };
+    Class {
+        owner: owners.at(second),
+        band: office.band(instant, zone),
+    }
+}
+
+// Where the piece from a second on ends: at the next hour of UTC, at the next start of an owner, or at the end.
+fn piece_end(owners: &Owners, second: u32, end: u32) -> u32
+    requires { second < end }
+    ensures { IsPiece owners.now second end result }
+{
+    let left_of_hour = HOUR - second % HOUR;
+    let hour = second + left_of_hour.min(end - second);
+    owners.next_start(second, hour)
+}
+
+// The run of the seconds of one class that begins at a second: pieces of that class, joined.
+pub(crate) fn run_at(office: &Office, zone: &Zone, owners: &Owners, second: u32, end: u32) -> Run
+    requires begun { IsInstant second }
+    requires ended { IsInstant end }
+    requires under_way { second < end }
+    ensures { IsRun office.now owners.now second end result }
+{
+    let class = class_at(office, zone, owners, second);
+    let mut until = piece_end(owners, second, end);
+    while until < end {
+        let next = class_at(office, zone, owners, until);
+        if next != class {
+            return Run { class, until };
+        }
+        until = piece_end(owners, until, end);
+    }
+    Run { class, until }
+}
