@@ -17,8 +17,12 @@ pub mod Memory
 -- Once: adding a record in an upload of its own
 -- Orders: the orders of the maps that a store in memory keeps
 -- Standing: what stands in them
+-- Count: what a shelf that counts its calls knows
+-- Plan: when such a shelf fails
 pub mod Once
 pub mod Orders
 pub mod Standing
+pub mod Count
+pub mod Plan
 -- named by private functions, tests and proofs alone
 pub mod inner

@@ -1,17 +1,17 @@
 //! The calls of a store in memory.
 
-ghost use Rattle.std.specs.Prelude.{◌≡◌, ◌+◌, IfOk, refl};
+ghost use Rattle.std.specs.Prelude.{IfOk, refl};
 ghost use Rattle.pw_shelf.specs.Calls.{IsAsking};
 ghost use Rattle.pw_shelf.specs.inner.Kinds.{IsOfKind};
-ghost use Rattle.pw_shelf.specs.Rows.{ListsHeld, rows_given, rows_listed};
+ghost use Rattle.pw_shelf.specs.Rows.{ListsHeld, rows_listed};
 ghost use Rattle.pw_shelf.specs.Memory.{state_of, left_of, clean_of};
 ghost use Rattle.pw_shelf.specs.State.{committed};
 
 use crate::fault::ShelfFault;
 use crate::lists::Kind;
 use crate::memory::MemoryShelf;
+use crate::rows;
 use crate::shelf::Shelf;
-use crate::tally::Tally;
 use pw_model::{Contents, Entry, Key, TotalKey};
 use pw_obis::{Register, WattHours};
 use pw_tariff::{MeterId, Owner};
@@ -52,13 +52,9 @@ impl Shelf for MemoryShelf {
     }
 
     fn contents_at(&mut self, key: &Key) -> Result<Contents, ShelfFault> {
-        let found = self.kept.records.contents_at(key);
-        match found {
-            Contents::Nothing => self.tally.tick(0),
-            Contents::One(_) => self.tally.tick(1),
-            Contents::Several => self.tally.tick(2),
-        }
-        Ok(found)
+        let found = Ok(self.kept.records.contents_at(key));
+        self.tally.tick(rows::of_contents(&found));
+        found
     }
 
     fn add(&mut self, entry: &Entry) -> Result<(), ShelfFault> {
@@ -116,12 +112,9 @@ impl Shelf for MemoryShelf {
         register: Register,
         instant: Instant,
     ) -> Result<Option<(Instant, WattHours)>, ShelfFault> {
-        let found = self.kept.points.before(meter, register, instant);
-        match found {
-            None => self.tally.tick(0),
-            Some(_) => self.tally.tick(1),
-        }
-        Ok(found)
+        let found = Ok(self.kept.points.before(meter, register, instant));
+        self.tally.tick(rows::of_option(&found));
+        found
     }
 
     fn point_after(
@@ -130,12 +123,9 @@ impl Shelf for MemoryShelf {
         register: Register,
         instant: Instant,
     ) -> Result<Option<(Instant, WattHours)>, ShelfFault> {
-        let found = self.kept.points.behind(meter, register, instant);
-        match found {
-            None => self.tally.tick(0),
-            Some(_) => self.tally.tick(1),
-        }
-        Ok(found)
+        let found = Ok(self.kept.points.behind(meter, register, instant));
+        self.tally.tick(rows::of_option(&found));
+        found
     }
 
     fn points_between(
@@ -147,7 +137,7 @@ impl Shelf for MemoryShelf {
         to: Instant,
     ) -> Result<Vec<(Instant, WattHours)>, ShelfFault> {
         let found = self.kept.points.within(alloc, meter, register, from, to);
-        tick_listed(&mut self.tally, &found);
+        self.tally.tick(rows::of_list(&found));
         found
     }
 
@@ -173,18 +163,14 @@ impl Shelf for MemoryShelf {
         meter: MeterId,
     ) -> Result<Vec<(Instant, Owner)>, ShelfFault> {
         let found = self.kept.starts.of(alloc, meter);
-        tick_listed(&mut self.tally, &found);
+        self.tally.tick(rows::of_list(&found));
         found
     }
 
     fn total(&mut self, key: &TotalKey) -> Result<u64, ShelfFault> {
-        let amount = self.kept.totals.at(key);
-        if amount == 0 {
-            self.tally.tick(0);
-        } else {
-            self.tally.tick(1);
-        }
-        Ok(amount)
+        let amount = Ok(self.kept.totals.at(key));
+        self.tally.tick(rows::of_total(&amount));
+        amount
     }
 
     fn total_put(&mut self, key: &TotalKey, amount: u64) -> Result<(), ShelfFault> {
@@ -204,17 +190,7 @@ impl MemoryShelf {
         ensures asked { IsAsking state_of left_of clean_of rows_listed result self.old self.new }
     {
         let found = self.kept.records.all_of(alloc, kind);
-        tick_listed(&mut self.tally, &found);
+        self.tally.tick(rows::of_list(&found));
         found
-    }
-}
-
-// One call more, and the rows of the list that it answers.
-fn tick_listed<T>(tally: &mut Tally, found: &Result<Vec<T>, ShelfFault>)
-    ensures { tally.new.count ≡ tally.old.count + 1 + rows_given rows_listed found.now }
-{
-    match found {
-        Ok(found) => tally.tick(found.len() as u64),
-        Err(_) => tally.tick(0),
     }
 }

@@ -2,6 +2,9 @@
 #![tactic(auto)]
 
 mod calls;
+mod count;
+mod counted_calls;
+mod counter;
 mod fault;
 mod held;
 mod kept;
@@ -9,12 +12,15 @@ pub mod laws;
 mod lists;
 mod memory;
 mod once;
+mod plan;
 mod points;
+mod rows;
 mod shelf;
 mod starts;
 mod tally;
 mod totals;
 
+pub use count::CountShelf;
 pub use fault::ShelfFault;
 pub use memory::MemoryShelf;
 pub use once::{AddFault, add_once};

@@ -3,7 +3,7 @@
 ghost use Rattle.std.specs.Prelude.{◌≡◌, None, IsSome, OnOk};
 
 use crate::laws::memory_abandons;
-use crate::{AddFault, Contents, MemoryShelf, Shelf, ShelfFault, add_once};
+use crate::{AddFault, Contents, CountShelf, MemoryShelf, Shelf, ShelfFault, TotalKey, add_once};
 use pw_model::{Content, Entry, Key, Reference};
 use pw_obis::{Register, WattHours};
 use pw_tariff::{AccountId, MeterId};
@@ -18,6 +18,10 @@ const FIVE: u32 = 1_704_171_600;
 const SIX: u32 = FIVE + 3_600;
 
 const METER: MeterId = MeterId(0);
+
+const TOPUPS: TotalKey = TotalKey::TopUps {
+    account: AccountId(0),
+};
 
 fn at(rt: &impl Abort, second: u32) -> Instant {
     Instant::of(second).expect(rt, "an instant")
@@ -230,5 +234,122 @@ fn refused_memory_changes_nothing(rt: HostRuntime) -> Result<(), Fail> {
     one_or_refused(&rt, shelf.readings_of(rt.alloc(), METER, Register::I1));
     one_or_refused(&rt, shelf.assignments_of(rt.alloc(), METER));
     assert_eq!(rt; shelf.count()?, before);
+    Ok(())
+}
+
+fn watt_hours(rt: &impl Abort, value: u64) -> WattHours {
+    WattHours::of(value).expect(rt, "watt-hours")
+}
+
+// Two points of a register, two starts of a meter and a total, in an upload of their own.
+fn kept<S: Shelf>(rt: &impl Abort, shelf: &mut S) -> Result<(), ShelfFault>
+    requires { (S.state shelf.old).begun ≡ None }
+    ensures { OnOk result ((S.state shelf.new).begun ≡ None) }
+{
+    shelf.begin()?;
+    shelf.point_put(METER, Register::I1, at(rt, FIVE), watt_hours(rt, 7))?;
+    shelf.point_put(METER, Register::I1, at(rt, SIX), watt_hours(rt, 9))?;
+    shelf.point_put(METER, Register::I1, at(rt, FIVE), watt_hours(rt, 8))?;
+    shelf.point_put(METER, Register::I2, at(rt, FIVE), watt_hours(rt, 1))?;
+    shelf.start_put(METER, at(rt, FIVE), Some(AccountId(1)))?;
+    shelf.start_put(METER, at(rt, SIX), None)?;
+    shelf.total_put(&TOPUPS, 2_000)?;
+    shelf.commit()
+}
+
+// Changes each part in an upload, and gives it up.
+fn given_up<S: Shelf>(rt: &impl Abort, shelf: &mut S) -> Result<(), ShelfFault>
+    requires { (S.state shelf.old).begun ≡ None }
+    ensures { OnOk result ((S.state shelf.new).begun ≡ None) }
+{
+    shelf.begin()?;
+    shelf.point_del(METER, Register::I1, at(rt, FIVE))?;
+    shelf.point_del(METER, Register::I1, at(rt, FIVE))?;
+    shelf.start_del(METER, at(rt, SIX))?;
+    shelf.total_put(&TOPUPS, 0)?;
+    assert_eq!(rt; shelf.point_before(METER, Register::I1, at(rt, SIX))?, None);
+    assert_eq!(rt; shelf.total(&TOPUPS)?, 0);
+    shelf.abandon()
+}
+
+fn points_there<S: Shelf>(rt: &impl Abort, alloc: Global, shelf: &mut S) -> Result<(), ShelfFault> {
+    let first = (at(rt, FIVE), watt_hours(rt, 8));
+    let second = (at(rt, SIX), watt_hours(rt, 9));
+    assert_eq!(rt;
+        shelf.point_before(METER, Register::I1, at(rt, SIX))?,
+        Some(first)
+    );
+    assert_eq!(rt;
+        shelf.point_before(METER, Register::I1, at(rt, FIVE))?,
+        None
+    );
+    assert_eq!(rt;
+        shelf.point_after(METER, Register::I1, at(rt, FIVE))?,
+        Some(second)
+    );
+    assert_eq!(rt; shelf.point_after(METER, Register::I1, at(rt, SIX))?, None);
+    let both = shelf.points_between(alloc, METER, Register::I1, at(rt, FIVE), at(rt, SIX))?;
+    assert!(rt; both.as_slice() == [first, second].as_slice());
+    let none = shelf.points_between(alloc, METER, Register::I1, at(rt, SIX), at(rt, FIVE))?;
+    assert!(rt; none.is_empty());
+    Ok(())
+}
+
+fn starts_there<S: Shelf>(rt: &impl Abort, alloc: Global, shelf: &mut S) -> Result<(), ShelfFault> {
+    let starts = [(at(rt, FIVE), Some(AccountId(1))), (at(rt, SIX), None)];
+    assert!(rt; shelf.starts_of(alloc, METER)?.as_slice() == starts.as_slice());
+    assert!(rt; shelf.starts_of(alloc, MeterId(1))?.is_empty());
+    assert_eq!(rt; shelf.total(&TOPUPS)?, 2_000);
+    Ok(())
+}
+
+#[test]
+fn each_part_kept_and_given_back(rt: HostRuntime) -> Result<(), Fail> {
+    let mut shelf = MemoryShelf::new(rt.alloc());
+    kept(&rt, &mut shelf)?;
+    given_up(&rt, &mut shelf)?;
+    points_there(&rt, rt.alloc(), &mut shelf)?;
+    starts_there(&rt, rt.alloc(), &mut shelf)?;
+    Ok(())
+}
+
+#[test]
+fn calls_and_rows_counted(rt: HostRuntime) -> Result<(), Fail> {
+    let mut shelf = CountShelf::new(MemoryShelf::new(rt.alloc()));
+    kept(&rt, &mut shelf)?;
+    assert_eq!(rt; shelf.seen(), 9);
+    // two calls that find a row, two that don't, a list of two and an empty one
+    points_there(&rt, rt.alloc(), &mut shelf)?;
+    assert_eq!(rt; shelf.seen(), 9 + 2 * 2 + 2 + 3 + 1);
+    let mut inner = shelf.into_inner();
+    starts_there(&rt, rt.alloc(), &mut inner)?;
+    Ok(())
+}
+
+// The second call fails, and the third where it is to.
+fn failed_at_second<S: Shelf>(
+    rt: &impl Abort,
+    shelf: &mut S,
+    abandons: bool,
+) -> Result<(), ShelfFault>
+    requires { (S.state shelf.old).begun ≡ None }
+{
+    shelf.begin()?;
+    assert_eq!(rt;
+        shelf.point_del(METER, Register::I1, at(rt, FIVE)),
+        Err(ShelfFault::Device)
+    );
+    assert_eq!(rt; shelf.abandon().is_ok(), abandons);
+    Ok(())
+}
+
+#[test]
+fn fails_where_it_is_told_to(rt: HostRuntime) -> Result<(), Fail> {
+    let mut shelf = CountShelf::failing(MemoryShelf::new(rt.alloc()), 2, false);
+    failed_at_second(&rt, &mut shelf, true)?;
+    assert_eq!(rt; shelf.seen(), 3);
+    let mut shelf = CountShelf::failing(MemoryShelf::new(rt.alloc()), 2, true);
+    failed_at_second(&rt, &mut shelf, false)?;
+    assert_eq!(rt; shelf.seen(), 3);
     Ok(())
 }
