@@ -1,12 +1,8 @@
 -- When a counting shelf fails.
 -- (Definitions of this project.)
-use Rattle.std.specs.Prelude.{ℕ, ◌-◌, ◌==◌, ◌||◌, Bool, false}
+use Rattle.std.specs.Prelude.{ℕ, Bool, false}
 use Rattle.pw_shelf.specs.declared.plan.Plan.{Plan}
 
 -- at its so manieth call, counted from 1, and behind it at each `abandon`, if told so; never at 0
 abbrev pub plan_of : ℕ → Bool → Plan
 plan_of fail_at abandon_fails = record { until = fail_at; failed = false; abandon_fails = abandon_fails }
-
--- one call later
-abbrev pub plan_behind : Plan → Plan
-plan_behind p = record p { until = p.until - 1; failed = p.failed || (p.until == 1) }

@@ -1,7 +1,8 @@
 //! At which call a counting shelf fails.
 
 ghost use Rattle.std.specs.Prelude.{◌≡◌, ◌↔◌, ◌⊎◌, IsTrue};
-ghost use Rattle.pw_shelf.specs.Plan.{plan_behind, plan_of};
+ghost use Rattle.pw_shelf.specs.Plan.{plan_of};
+ghost use Rattle.pw_shelf.specs.inner.Plan.{plan_behind};
 
 /// At which call a shelf fails.
 #[derive(Drop)]
