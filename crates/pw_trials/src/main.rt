@@ -56,6 +56,10 @@ fn main(rt: HostRuntime) -> ExitCode {
     );
     tell(
         &mut out,
+        line(shelves::is_counted(rt.alloc()), b"calls counted\n"),
+    );
+    tell(
+        &mut out,
         line(shelves::is_kept(rt.alloc(), office), b"book right\n"),
     );
     tell(&mut out, b"memory again\n");

@@ -5,7 +5,7 @@ ghost use Rattle.pw_shelf.specs.Memory.{state_of};
 
 use pw_book::Book;
 use pw_model::{Content, Entry, Key, Reference};
-use pw_shelf::{MemoryShelf, Shelf};
+use pw_shelf::{CountShelf, MemoryShelf, Shelf};
 use pw_tariff::{AccountId, Office};
 use pw_time::{FIRST_SECOND, Instant, Zone};
 use std::alloc::Global;
@@ -52,4 +52,12 @@ pub(crate) fn is_kept(alloc: Global, office: Office) -> bool {
     let accounts = book.office().accounts();
     let mut shelf = book.into_shelf();
     accounts == 2 && shelf.count() == Ok(0)
+}
+
+/// Whether calls are counted, and one fails where it is told to.
+pub(crate) fn is_counted(alloc: Global) -> bool {
+    let mut counted = CountShelf::new(MemoryShelf::new(alloc));
+    let is_first = counted.count() == Ok(0) && counted.seen() == 1;
+    let mut failing = CountShelf::failing(MemoryShelf::new(alloc), 2, false);
+    is_first && failing.count().is_ok() && failing.count().is_err() && failing.seen() == 2
 }
