@@ -54,8 +54,10 @@ module _ (rows : BTreeMap (MeterId × Register × ℕ) ℕ) (m : MeterId) (r : R
 
   -- e is the last row before it
   module _ (e : Key) (before : point_order e (here t) ≡ Less)
-      (last : (q : Key) → IsInRange point_order Unbounded (Excluded (here t)) q → IsSome (get point_order rows q) → is_lt (point_order e q) ≡ false) where
-    pub latest-of-register : (w : ℕ) → get point_order rows e ≡ Some w → e.0 ≡ m → e.1 ≡ r → IsLatest (point_in rows m.0 r) t e.2 w
+      (last : (q : Key) → IsInRange point_order Unbounded (Excluded (here t)) q → IsSome (get point_order rows q) →
+      is_lt (point_order e q) ≡ false) where
+    pub latest-of-register : (w : ℕ) → get point_order rows e ≡ Some w → e.0 ≡ m → e.1 ≡ r →
+        IsLatest (point_in rows m.0 r) t e.2 w
     latest-of-register w h i j =
         let same : e ≡ here e.2 = λ k. (i k, j k, e.2) in
         let P : Key → Type 0 = λ k. get point_order rows k ≡ Some w in
@@ -66,27 +68,34 @@ module _ (rows : BTreeMap (MeterId × Register × ℕ) ℕ) (m : MeterId) (r : R
           before = early;
           between = λ s l g. none-unless (point_in rows m.0 r s) (λ some.
               let R : Key → Type 0 = λ k. is_lt (point_order k (here s)) ≡ false in
-              let f : is_lt (point_order (here e.2) (here s)) ≡ false = subst R same (last (here s) (tt, register-seconds m r s t ∙ is-less s t g) some) in
+              let f : is_lt (point_order (here e.2) (here s)) ≡ false =
+              subst R same (last (here s) (tt, register-seconds m r s t ∙ is-less s t g) some) in
               let n : s ≤ e.2 = not-less e.2 s (ap is_lt (sym (register-seconds m r e.2 s)) ∙ f) in
               omega arith);
         }
 
     pub none-of-register : ((e.0 ≡ m) × (e.1 ≡ r) → ⊥) → (s : ℕ) → s < t → point_in rows m.0 r s ≡ None
     none-of-register n s l = none-unless (point_in rows m.0 r s) (λ some.
-        let f : is_lt (point_order e (here s)) ≡ false = last (here s) (tt, register-seconds m r s t ∙ is-less s t l) some in
+        let f : is_lt (point_order e (here s)) ≡ false =
+        last (here s) (tt, register-seconds m r s t ∙ is-less s t l) some in
         n (one-register e (here 0) (squeezed (register_order e (here 0)) (nat_cmp e.2 s) (nat_cmp e.2 t) f before)))
 
-  pub none-before : ((q : Key) → IsInRange point_order Unbounded (Excluded (here t)) q → get point_order rows q ≡ None) → (s : ℕ) → s < t → point_in rows m.0 r s ≡ None
+  pub none-before : ((q : Key) → IsInRange point_order Unbounded (Excluded (here t)) q →
+      get point_order rows q ≡ None) → (s : ℕ) → s < t → point_in rows m.0 r s ≡ None
   none-before h s l = h (here s) (tt, register-seconds m r s t ∙ is-less s t l)
 
   -- e is the first row behind it
-  module _ (e : Key) (w : ℕ) (others : List (Key × ℕ)) (found : List (Key × ℕ)) (is : found ≡ (e, w) ∷ others) (range : IsRangeOf point_order (Excluded (here t)) Unbounded rows found) where
+  module _ (e : Key) (w : ℕ) (others : List (Key × ℕ)) (found : List (Key × ℕ)) (is : found ≡ (e, w) ∷ others)
+      (range : IsRangeOf point_order (Excluded (here t)) Unbounded rows found) where
     abbrev entry : IsEntryInRange point_order (Excluded (here t)) Unbounded rows (e, w)
-    entry = let P : List (Key × ℕ) → Type 0 = λ l. IfSome (slice_get l 0) (IsEntryInRange point_order (Excluded (here t)) Unbounded rows) in subst P is range.1
+    entry = let P : List (Key × ℕ) → Type 0 =
+        λ l. IfSome (slice_get l 0) (IsEntryInRange point_order (Excluded (here t)) Unbounded rows) in
+        subst P is range.1
 
     first : (s : ℕ) → t < s → IsSome (point_in rows m.0 r s) → is_gt (point_order e (here s)) ≡ false
     first s l some =
-        let P : List (Key × ℕ) → Type 0 = λ l. IfSome (slice_get l 0) (λ (a : Key × ℕ). IsLeBy point_order a.0 (here s)) in
+        let P : List (Key × ℕ) → Type 0 =
+        λ l. IfSome (slice_get l 0) (λ (a : Key × ℕ). IsLeBy point_order a.0 (here s)) in
         subst P is (range.2 (here s) (register-seconds m r t s ∙ is-less t s l, tt) some)
 
     pub earliest-of-register : e.0 ≡ m → e.1 ≡ r → IsEarliest (point_in rows m.0 r) t e.2 w
@@ -99,15 +108,19 @@ module _ (rows : BTreeMap (MeterId × Register × ℕ) ℕ) (m : MeterId) (r : R
           behind = less-is t e.2 (sym (register-seconds m r t e.2) ∙ subst Q same entry.0.0);
           between = λ s l g. none-unless (point_in rows m.0 r s) (λ some.
               let R : Key → Type 0 = λ k. is_gt (point_order k (here s)) ≡ false in
-              let n : e.2 ≤ s = not-greater e.2 s (ap is_gt (sym (register-seconds m r e.2 s)) ∙ subst R same (first s l some)) in
+              let n : e.2 ≤ s = not-greater e.2 s (ap is_gt (sym (register-seconds m r e.2 s))
+              ∙ subst R same (first s l some)) in
               omega arith);
         }
 
     pub none-of-register-behind : ((e.0 ≡ m) × (e.1 ≡ r) → ⊥) → (s : ℕ) → t < s → point_in rows m.0 r s ≡ None
     none-of-register-behind n s l = none-unless (point_in rows m.0 r s) (λ some.
-        let f : is_lt (point_order (here s) e) ≡ false = turned _ (point_order e (here s)) (points-total.antisymm (here s) e) (first s l some) in
-        let o : (m ≡ e.0) × (r ≡ e.1) = one-register (here 0) e (squeezed (register_order (here 0) e) (nat_cmp s e.2) (nat_cmp t e.2) f entry.0.0) in
+        let f : is_lt (point_order (here s) e) ≡ false =
+        turned _ (point_order e (here s)) (points-total.antisymm (here s) e) (first s l some) in
+        let o : (m ≡ e.0) × (r ≡ e.1) = one-register (here 0) e
+        (squeezed (register_order (here 0) e) (nat_cmp s e.2) (nat_cmp t e.2) f entry.0.0) in
         n (sym o.0, sym o.1))
 
-  pub none-behind : ((q : Key) → IsInRange point_order (Excluded (here t)) Unbounded q → get point_order rows q ≡ None) → (s : ℕ) → t < s → point_in rows m.0 r s ≡ None
+  pub none-behind : ((q : Key) → IsInRange point_order (Excluded (here t)) Unbounded q →
+      get point_order rows q ≡ None) → (s : ℕ) → t < s → point_in rows m.0 r s ≡ None
   none-behind h s l = h (here s) (register-seconds m r t s ∙ is-less t s l, tt)

@@ -26,7 +26,7 @@ order_total = total-law
 pub order_exact : (a b : Entry) → order a b ≡ Equal → a ≡ b
 order_exact a b h = (same_entry-decides a b).0 (sym (entries-alike a b) ∙ matches_eq-law a b ∙ ap is_eq h)
 
-at-is : (o : Ordering) → is_eq o ≡ true → o ≡ Equal
+pub at-is : (o : Ordering) → is_eq o ≡ true → o ≡ Equal
 at-is Less h = cc
 at-is Equal h = refl
 at-is Greater h = cc

@@ -48,16 +48,20 @@ module _ (m : MeterId) (r : Register) (from to : ℕ) where
   of-register : (k : MeterId × Register × ℕ) → points-between k ≡ true → k ≡ (m, r, k.2)
   unfolding points-between
   of-register k h =
-      let o : (m ≡ k.0) × (r ≡ k.1) = one-register (m, r, 0) k (squeezed (register_order (m, r, 0) k) (nat_cmp from k.2) (nat_cmp to k.2) h) in
+      let o : (m ≡ k.0) × (r ≡ k.1) = one-register (m, r, 0) k
+      (squeezed (register_order (m, r, 0) k) (nat_cmp from k.2) (nat_cmp to k.2) h) in
       λ i. (sym o.0 i, sym o.1 i, k.2)
 
   pub points-within : (rows : BTreeMap (MeterId × Register × ℕ) ℕ) → IsOrdered point_order rows →
-      ListsSecondsWithin from to (point_in rows m.0 r) (map (λ (e : (MeterId × Register × ℕ) × ℕ). (e.0.2, e.1)) (entries_between point_order (Included (m, r, from)) (Included (m, r, to)) rows.entries))
+      ListsSecondsWithin from to (point_in rows m.0 r)
+      (map (λ (e : (MeterId × Register × ℕ) × ℕ). (e.0.2, e.1))
+      (entries_between point_order (Included (m, r, from)) (Included (m, r, to)) rows.entries))
   unfolding points-between
   points-within rows s = lists-alike _ (λ a. (
     λ f. (let b = between-is from to a.0 (sym (at-instant a.0) ∙ f.0) in (b.0, b.1, f.1)),
     λ f. (at-instant a.0 ∙ is-between from to a.0 f.0 f.1, f.2),
-  )) (stretch point_order points-total points-exact points-between (λ k. k.2) (λ t. (m, r, t)) of-register (λ t. refl) (register-seconds m r) rows s)
+  )) (stretch point_order points-total points-exact points-between (λ k. k.2) (λ t. (m, r, t)) of-register (λ t. refl)
+      (register-seconds m r) rows s)
 
 -- ---- starts of a meter
 module _ (m : MeterId) where
@@ -71,17 +75,21 @@ module _ (m : MeterId) where
   of-meter : (k : MeterId × ℕ) → starts-between k ≡ true → k ≡ (m, k.1)
   unfolding starts-between
   of-meter k h =
-      let o : (m, 0) ≡ (k.0, 0) = starts-exact (m, 0) (k.0, 0) (squeezed-equal m k.0 (squeezed (nat_cmp m.0 k.0.0) (nat_cmp FIRST_SECOND k.1) (nat_cmp LAST_SECOND k.1) h)) in
+      let o : (m, 0) ≡ (k.0, 0) = starts-exact (m, 0) (k.0, 0)
+      (squeezed-equal m k.0 (squeezed (nat_cmp m.0 k.0.0) (nat_cmp FIRST_SECOND k.1)
+      (nat_cmp LAST_SECOND k.1) h)) in
       λ i. ((sym o i).0, k.1)
     where
       squeezed-equal : (a b : MeterId) → nat_cmp a.0 b.0 ≡ Equal → start_order (a, 0) (b, 0) ≡ Equal
       squeezed-equal a b e = rw e refl
 
   pub starts-all : (rows : BTreeMap (MeterId × ℕ) (Option AccountId)) → IsOrdered start_order rows → AreDated rows →
-      ListsSeconds (start_in rows m.0) (map (λ (e : (MeterId × ℕ) × Option AccountId). (e.0.1, e.1)) (entries_between start_order (Included (m, FIRST_SECOND)) (Included (m, LAST_SECOND)) rows.entries))
+      ListsSeconds (start_in rows m.0) (map (λ (e : (MeterId × ℕ) × Option AccountId). (e.0.1, e.1))
+      (entries_between start_order (Included (m, FIRST_SECOND)) (Included (m, LAST_SECOND)) rows.entries))
   unfolding starts-between
   starts-all rows s d = lists-alike _ (λ a. (
     λ f. f.1,
     λ f. (let n : IsInstant a.0 = d m.0 a.0 (some-is (start_in rows m.0 a.0) a.1 f) in
         (at-start a.0 ∙ is-between FIRST_SECOND LAST_SECOND a.0 n.0 n.1, f)),
-  )) (stretch start_order starts-total starts-exact starts-between (λ k. k.1) (λ t. (m, t)) of-meter (λ t. refl) (meter-seconds m) rows s)
+  )) (stretch start_order starts-total starts-exact starts-between (λ k. k.1) (λ t. (m, t)) of-meter (λ t. refl)
+      (meter-seconds m) rows s)

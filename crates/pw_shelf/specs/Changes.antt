@@ -17,7 +17,8 @@ same_total k l = pointwise ◌==◌ (total_numbers k) (total_numbers l)
 abbrev pub points_with : (ℕ → Register → ℕ → Option ℕ) → ℕ → Register → ℕ → Option ℕ → ℕ → Register → ℕ → Option ℕ
 points_with points m r t w n s u = cond (same_key (reading_key m r t) (reading_key n s u)) w (points n s u)
 
-abbrev pub starts_with : (ℕ → ℕ → Option (Option AccountId)) → ℕ → ℕ → Option (Option AccountId) → ℕ → ℕ → Option (Option AccountId)
+abbrev pub starts_with : (ℕ → ℕ → Option (Option AccountId)) → ℕ → ℕ → Option (Option AccountId) → ℕ → ℕ →
+    Option (Option AccountId)
 starts_with starts m t o n u = cond (same_key (assignment_key m t) (assignment_key n u)) o (starts n u)
 
 abbrev pub totals_with : (TotalKey → ℕ) → TotalKey → ℕ → TotalKey → ℕ

@@ -21,7 +21,13 @@ begun_of (Some k) = Some (content_of k)
 
 -- no device and no `abandon` fails
 abbrev pub state_of : MemoryShelf → State
-state_of m = record { content = content_of m.kept; begun = begun_of m.begun; failures = 0; failed_abandons = 0; tally = m.tally.count }
+state_of m = record {
+  content = content_of m.kept;
+  begun = begun_of m.begun;
+  failures = 0;
+  failed_abandons = 0;
+  tally = m.tally.count;
+}
 
 -- a crash leaves what was committed last, and this alone
 abbrev pub left_of : MemoryShelf → ShelfContent → Type 0

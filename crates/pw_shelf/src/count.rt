@@ -39,8 +39,8 @@ impl<S: Shelf> CountShelf<S> {
         CountShelf::failing(inner, 0, false)
     }
 
-    /// Around a shelf, with nothing counted yet; its call number `fail_at`, counted from 1, answers `Device` and isn't
-    /// passed on (none does at 0). Where `abandon_fails`, each `abandon` behind that call answers `Device` too. It takes
+    /// Around a shelf, with nothing counted yet. Its call number `fail_at`, counted from 1, answers `Device` and isn't
+    /// passed on; none does at 0. Where `abandon_fails`, each `abandon` behind that call answers `Device` too. It takes
     /// no memory.
     pub fn failing(inner: S, fail_at: u32, abandon_fails: bool) -> CountShelf<S>
         ensures plan { result.plan ≡ plan_of fail_at abandon_fails }

@@ -11,7 +11,8 @@ use std::alloc::Global;
 
 /// A store in memory: a set and maps in order, and a copy of them while an upload is begun.
 ///
-/// Of its calls only `begin`, `add`, those that put and those that answer a list take memory; `abandon` always succeeds.
+/// Of its calls only `begin`, `add`, those that put and those that answer a list take memory; `abandon` always
+/// succeeds.
 #[derive(Drop)]
 pub struct MemoryShelf {
     pub(crate) kept: Kept,

@@ -6,4 +6,7 @@ pub returns : goal.returns
 returns c = starts-change c.args.self.now.rows c.remove.new.self c.args.meter c.args.start None c.remove.ensures.updates
 
 pub invariant_of-self : goal.invariant_of-self
-invariant_of-self c = record { dated = dated-less c.args.self.now.rows c.remove.new.self c.args.meter c.args.start c.remove.ensures.updates c.args.self.now.dated }
+invariant_of-self c = record {
+  dated = dated-less c.args.self.now.rows c.remove.new.self c.args.meter c.args.start
+      c.remove.ensures.updates c.args.self.now.dated;
+}

@@ -12,8 +12,12 @@ use Rattle.pw_shelf.proofs.starts.Starts.of.Goals as goal
 
 pub returns-clause-rows : goal.returns-clause-rows
 returns-clause-rows c =
-    let told : ℕ → ℕ → List (ℕ × Option AccountId) = λ from to. map (λ (e : (MeterId × ℕ) × Option AccountId). (e.0.1, e.1)) (entries_between start_order (Included (c.args.meter, from)) (Included (c.args.meter, to)) c.args.self.now.rows.entries) in
+    let told : ℕ → ℕ → List (ℕ × Option AccountId) =
+    λ from to. map (λ (e : (MeterId × ℕ) × Option AccountId). (e.0.1, e.1))
+    (entries_between start_order (Included (c.args.meter, from))
+    (Included (c.args.meter, to)) c.args.self.now.rows.entries) in
     let first : c.in-Some.first ≡ FIRST_SECOND = c.in-Some.ensures.value in
     let last : c.in-Some-of.last ≡ LAST_SECOND = c.in-Some-of.ensures.value in
     let P : List (ℕ × Option AccountId) → Type 0 = ListsSeconds (start_in c.args.self.now.rows c.args.meter.0) in
-    subst P (sym (c.in_ok-found.ensures.starts ∙ (λ i. told (first i) (last i)))) (starts-all c.args.meter c.args.self.now.rows c.in_ok-found.ensures.ordered c.args.self.now.dated)
+    subst P (sym (c.in_ok-found.ensures.starts ∙ (λ i. told (first i) (last i))))
+    (starts-all c.args.meter c.args.self.now.rows c.in_ok-found.ensures.ordered c.args.self.now.dated)
