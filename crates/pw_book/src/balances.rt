@@ -1,7 +1,7 @@
 //! What an account paid, and its balance, of the records that a shelf holds.
 
 ghost use Rattle.std.specs.Prelude.{◌≡◌, ◌*◌, ◌<◌, ◌≤◌, ◌^◌, Some, IfOk, IsNone, length, pos, ◌+ℤ◌, ◌-ℤ◌};
-ghost use Rattle.pw_model.specs.Counting.{contents_at as told_at};
+ghost use Rattle.pw_model.specs.Counting.{contents_at as held_at};
 ghost use Rattle.pw_model.specs.Energy.{cost as cost_of};
 ghost use Rattle.pw_model.specs.Office.{AllOfOffice, most_records};
 ghost use Rattle.pw_model.specs.Payments.{balance as balance_of, topped_up as cents_of};
@@ -80,7 +80,7 @@ fn cost_held<S: Shelf>(
     requires idle { IsNone (S.state shelf.old).begun }
     requires few { S.clean shelf.old → length (S.state shelf.old).content.records ≤ most_records }
     requires of_office { S.clean shelf.old → AllOfOffice (office_of office.now) (S.state shelf.old).content.records }
-    ensures cost { S.clean shelf.new → IfOk result (λ nano. nano ≡ cost_of (office_of office.now) (told_at (S.state shelf.old).content.records) (Some account) direction) }
+    ensures cost { S.clean shelf.new → IfOk result (λ nano. nano ≡ cost_of (office_of office.now) (held_at (S.state shelf.old).content.records) (Some account) direction) }
     ensures bound { IfOk result (λ nano. nano < 2 ^ 120) }
     ensures asked { IsOnlyAsked S.Shelf (failures_told result) shelf.old shelf.new }
 {

@@ -1,7 +1,7 @@
 //! The energy of an owner in a band, of the records that a shelf holds.
 
 ghost use Rattle.std.specs.Prelude.{◌≡◌, ℕ, ◌+◌, ◌<◌, ◌≤◌, ◌^◌, ◌*◌, IfOk, IsNone, length};
-ghost use Rattle.pw_model.specs.Counting.{contents_at as told_at};
+ghost use Rattle.pw_model.specs.Counting.{contents_at as held_at};
 ghost use Rattle.pw_model.specs.Energy.{energy as energy_of, meter_share as share_of_meter, of_band, over_registers, owner_at as owner_told, share_of};
 ghost use Rattle.pw_model.specs.Office.{AllOfOffice, most_records};
 ghost use Rattle.pw_shelf.specs.Calls.{failures_told};
@@ -55,7 +55,7 @@ fn register_share<S: Shelf>(
     requires idle { IsNone (S.state shelf.old).begun }
     requires of_office { S.clean shelf.old → AllOfOffice (office_of office.now) (S.state shelf.old).content.records }
     requires meter { meter.0 < length office.now.meters }
-    ensures share { S.clean shelf.new → ((t : ℕ) → owner_by_starts owners.now t ≡ owner_told (told_at (S.state shelf.old).content.records) meter.0 t) → IfOk result (λ wh. wh ≡ share_of (office_of office.now) (told_at (S.state shelf.old).content.records) (of_band (office_of office.now) class.owner class.band.0) meter.0 register) }
+    ensures share { S.clean shelf.new → ((t : ℕ) → owner_by_starts owners.now t ≡ owner_told (held_at (S.state shelf.old).content.records) meter.0 t) → IfOk result (λ wh. wh ≡ share_of (office_of office.now) (held_at (S.state shelf.old).content.records) (of_band (office_of office.now) class.owner class.band.0) meter.0 register) }
     ensures bound { IfOk result (λ wh. wh < 2 ^ 101) }
     ensures asked { IsOnlyAsked S.Shelf (failures_told result) shelf.old shelf.new }
 {
@@ -81,7 +81,7 @@ fn meter_share<S: Shelf>(
     requires idle { IsNone (S.state shelf.old).begun }
     requires of_office { S.clean shelf.old → AllOfOffice (office_of office.now) (S.state shelf.old).content.records }
     requires meter { meter.0 < length office.now.meters }
-    ensures share { S.clean shelf.new → IfOk result (λ wh. wh ≡ share_of_meter (office_of office.now) (told_at (S.state shelf.old).content.records) direction (of_band (office_of office.now) class.owner class.band.0) meter.0) }
+    ensures share { S.clean shelf.new → IfOk result (λ wh. wh ≡ share_of_meter (office_of office.now) (held_at (S.state shelf.old).content.records) direction (of_band (office_of office.now) class.owner class.band.0) meter.0) }
     ensures bound { IfOk result (λ wh. wh < 2 ^ 103) }
     ensures asked { IsOnlyAsked S.Shelf (failures_told result) shelf.old shelf.new }
 {

@@ -11,7 +11,7 @@ use Rattle.pw_model.specs.declared.records.Entry.{Entry}
 use Rattle.pw_model.specs.Counting.{assignment_key}
 use Rattle.pw_model.specs.References.{IsReference}
 use Rattle.pw_record.specs.declared.fault.Cause.{Cause}
-use Rattle.pw_record.specs.declared.fault.Cause.TheVariants.{Stamp, UnknownMeter, UnknownAccount, CsvForm, Cents, Reference}
+use Rattle.pw_record.specs.declared.fault.Cause.TheVariants.{Instant, UnknownMeter, UnknownAccount, CsvForm, Cents, Reference}
 use Rattle.pw_record.specs.declared.row.RowKind.{RowKind}
 use Rattle.pw_record.specs.declared.row.RowKind.TheVariants.{Assignment, TopUp}
 use Rattle.pw_record.specs.Names.{HasId, IsUnknownId, HasName, IsUnknownName, IsOwner, IsUnknownOwner}
@@ -54,7 +54,7 @@ one_for Why cause r s a b = a.1 ∙ sym b.1
 
 -- ---- an instant in UTC
 abbrev WrongStamp : List ℕ → Outcome → Type 0
-WrongStamp text r = (fault : StampFault) × IsUtcOutcome text (Err fault) × (r ≡ Err (Stamp fault))
+WrongStamp text r = (fault : StampFault) × IsUtcOutcome text (Err fault) × (r ≡ Err (Instant fault))
 
 same_fault : (a b : StampFault) → ◌≡◌ {A = Result ℕ StampFault} (Err a) (Err b) → a ≡ b
 same_fault a b e = cc
@@ -68,7 +68,7 @@ not_both_told a b e = cc
 one_wrong_stamp : (text : List ℕ) (r s : Outcome) → WrongStamp text r → WrongStamp text s → r ≡ s
 one_wrong_stamp text r s a b =
     let same : a.0 ≡ b.0 = same_fault a.0 b.0 (one_utc_outcome text (Err a.0) (Err b.0) a.1 b.1) in
-    let told : ◌≡◌ {A = Outcome} (Err (Stamp a.0)) (Err (Stamp b.0)) = ap (λ (f : StampFault). Err (Stamp f)) same in
+    let told : ◌≡◌ {A = Outcome} (Err (Instant a.0)) (Err (Instant b.0)) = ap (λ (f : StampFault). Err (Instant f)) same in
     a.2 ∙ told ∙ sym b.2
 
 right_stamp : (text : List ℕ) (r : Outcome) (t : ℕ) → WrongStamp text r → IsUtcOutcome text (Ok t) → ⊥
@@ -144,7 +144,7 @@ assignment_given file row e x =
 assignment_refused : (file : OfficeFile) (row : Row) (c : Cause) → RefusesAssignment file row c → AssignmentTold file row (Err c)
 assignment_refused file row CsvForm x = inl (x, refl)
 assignment_refused file row UnknownMeter x = inr ((x.0, x.1, x.2), x.3, inl (x.4, refl))
-assignment_refused file row (Stamp fault) x = inr ((x.0, x.1, x.2), x.3, inr (x.4.0.0, x.4.0.1, inl (fault, x.4.1, refl)))
+assignment_refused file row (Instant fault) x = inr ((x.0, x.1, x.2), x.3, inr (x.4.0.0, x.4.0.1, inl (fault, x.4.1, refl)))
 assignment_refused file row UnknownAccount x =
     inr ((x.0, x.1, x.2), x.3, inr (x.4.0.0, x.4.0.1, inr (x.4.1.0, x.4.1.1, inl (x.4.2, refl))))
 assignment_refused file row _ x = absurd x.4
@@ -233,7 +233,7 @@ top_up_refused file row CsvForm x = inl (x, refl)
 top_up_refused file row Reference x = inr ((x.0, x.1, x.2, x.3), x.4, inl (x.5, refl))
 top_up_refused file row UnknownAccount x = inr ((x.0, x.1, x.2, x.3), x.4, inr (tt, x.5.0, inl (x.5.1, refl)))
 top_up_refused file row Cents x = inr ((x.0, x.1, x.2, x.3), x.4, inr (tt, x.5.0, inr (x.5.1.0, x.5.1.1, inl (x.5.2, refl))))
-top_up_refused file row (Stamp fault) x =
+top_up_refused file row (Instant fault) x =
     inr ((x.0, x.1, x.2, x.3), x.4, inr (tt, x.5.0, inr (x.5.1.0, x.5.1.1, inr (x.5.2.0, x.5.2.1, inl (fault, x.5.3, refl)))))
 top_up_refused file row _ x = absurd x.5
 

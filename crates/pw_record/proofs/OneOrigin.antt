@@ -8,7 +8,7 @@ use Rattle.pw_time.specs.declared.zone.Clock.TheVariants.{Marked}
 use Rattle.pw_time.specs.Outcomes.{IsStampOutcome, IsReadoutOutcome}
 use Rattle.pw_time.proofs.UniqueOutcomes.{one_stamp_outcome, one_readout_outcome}
 use Rattle.pw_record.specs.declared.fault.Cause.{Cause}
-use Rattle.pw_record.specs.declared.fault.Cause.TheVariants.{Stamp as StampCause, NoMeter, UnknownMeter, WrongKind, NoInstant, TwiceGiven}
+use Rattle.pw_record.specs.declared.fault.Cause.TheVariants.{Instant as InstantCause, NoMeter, UnknownMeter, WrongKind, NoInstant, TwiceGiven}
 use Rattle.pw_record.specs.declared.told.Meaning.{Meaning}
 use Rattle.pw_record.specs.declared.told.Meaning.TheVariants.{Identifier, Stamp, Time, Date}
 use Rattle.pw_record.specs.declared.origin.Source.{Source}
@@ -103,7 +103,7 @@ meter-refused file sets _ x = absurd x
 -- ---- the instant of a telegram
 abbrev as_answer : Result ℕ StampFault → Answer
 as_answer (Ok instant) = Ok instant
-as_answer (Err fault) = Err (StampCause fault)
+as_answer (Err fault) = Err (InstantCause fault)
 
 abbrev StampTextAnswer : List ℕ → Answer → Type 0
 StampTextAnswer text answer = (outcome : Result ℕ StampFault) × IsStampOutcome text outcome × (answer ≡ as_answer outcome)
@@ -123,7 +123,7 @@ stamp-had sets instant x = inr (inr (x.0, x.1, (Ok instant, x.2, refl)))
 stamp-refused : (sets : List SetText) (cause : Cause) → RefusesStamp sets cause → StampAnswer sets (Err cause)
 stamp-refused sets NoInstant x = inl (x, refl)
 stamp-refused sets TwiceGiven x = inr (inl (x, refl))
-stamp-refused sets (StampCause fault) x = inr (inr (x.0, x.1, (Err fault, x.2, refl)))
+stamp-refused sets (InstantCause fault) x = inr (inr (x.0, x.1, (Err fault, x.2, refl)))
 stamp-refused sets _ x = absurd x
 
 -- ---- the instant of a readout
@@ -174,7 +174,7 @@ date-and-time-had clock sets instant x = inr (inr (x.0, x.1, Ok instant, x.2, x.
 date-and-time-refused : (clock : Clock) (sets : List SetText) (cause : Cause) → RefusesDateAndTime clock sets cause → DateAndTimeAnswer clock sets (Err cause)
 date-and-time-refused clock sets NoInstant x = inl (x, refl)
 date-and-time-refused clock sets TwiceGiven x = inr (inl (x, refl))
-date-and-time-refused clock sets (StampCause fault) x = inr (inr (x.0, x.1, Err fault, x.2, x.3, x.4, refl))
+date-and-time-refused clock sets (InstantCause fault) x = inr (inr (x.0, x.1, Err fault, x.2, x.3, x.4, refl))
 date-and-time-refused clock sets _ x = absurd x
 
 -- ---- the meter and the instant

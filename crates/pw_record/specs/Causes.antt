@@ -5,11 +5,11 @@ use Rattle.pw_frame.specs.Faults as frame_fault
 use Rattle.pw_obis.specs.Faults as obis_fault
 use Rattle.pw_time.specs.Faults as stamp_fault
 use Rattle.pw_record.specs.declared.fault.Cause.{Cause}
-use Rattle.pw_record.specs.declared.fault.Cause.TheVariants.{Stamp, Frame, Line, Value, NoMeter, UnknownMeter, WrongKind, NoInstant, RegisterTwice, NoRegister, UnknownAccount, CsvForm, Header, Cents, Reference, TooManyParts, TwiceGiven, Memory}
+use Rattle.pw_record.specs.declared.fault.Cause.TheVariants.{Instant, Frame, Line, Value, NoMeter, UnknownMeter, WrongKind, NoInstant, RegisterTwice, NoRegister, UnknownAccount, CsvForm, Header, Cents, Reference, TooManyParts, TwiceGiven, Memory}
 use Rattle.pw_record.specs.declared.fault.UploadFault.{UploadFault}
 
 abbrev pub cause_number : Cause → ℕ
-cause_number (Stamp fault) = stamp_fault.stamp_fault_number fault
+cause_number (Instant fault) = stamp_fault.stamp_fault_number fault
 cause_number (Frame fault) = frame_fault.frame_fault_number fault
 cause_number (Line fault) = obis_fault.line_fault_number
 cause_number (Value fault) = obis_fault.value_fault_number fault
@@ -29,7 +29,7 @@ cause_number TwiceGiven = 52
 cause_number Memory = 62
 
 abbrev pub cause_name : Cause → List ℕ
-cause_name (Stamp fault) = stamp_fault.stamp_fault_name fault
+cause_name (Instant fault) = stamp_fault.stamp_fault_name fault
 cause_name (Frame fault) = frame_fault.frame_fault_name fault
 cause_name (Line fault) = obis_fault.line_fault_name
 cause_name (Value fault) = obis_fault.value_fault_name fault

@@ -9,7 +9,7 @@ use Rattle.pw_time.specs.declared.zone.Clock.{Clock}
 use Rattle.pw_time.specs.declared.zone.Clock.TheVariants.{Marked}
 use Rattle.pw_time.specs.Outcomes.{IsStampOutcome, IsReadoutOutcome}
 use Rattle.pw_record.specs.declared.fault.Cause.{Cause}
-use Rattle.pw_record.specs.declared.fault.Cause.TheVariants.{Stamp as StampCause, NoMeter, UnknownMeter, WrongKind, NoInstant, TwiceGiven}
+use Rattle.pw_record.specs.declared.fault.Cause.TheVariants.{Instant as InstantCause, NoMeter, UnknownMeter, WrongKind, NoInstant, TwiceGiven}
 use Rattle.pw_record.specs.declared.told.Meaning.TheVariants.{Identifier, Stamp, Time, Date}
 use Rattle.pw_record.specs.declared.origin.Source.{Source}
 use Rattle.pw_record.specs.declared.origin.Source.TheVariants.{Telegrams, Readouts}
@@ -51,7 +51,7 @@ HasStamp sets instant = (text : List ℕ) × TellOne Stamp sets text × IsStampO
 abbrev pub RefusesStamp : List SetText → Cause → Type 0
 RefusesStamp sets NoInstant = TellNothing Stamp sets
 RefusesStamp sets TwiceGiven = TellUnlike Stamp sets
-RefusesStamp sets (StampCause fault) = (text : List ℕ) × TellOne Stamp sets text × IsStampOutcome text (Err fault)
+RefusesStamp sets (InstantCause fault) = (text : List ℕ) × TellOne Stamp sets text × IsStampOutcome text (Err fault)
 RefusesStamp sets _ = ⊥
 
 -- ---- the instant of a readout: that of its dates and its times, by the meter's clock
@@ -70,7 +70,7 @@ pub record TellTwice (sets : List SetText) : Type 0 where
 abbrev pub RefusesDateAndTime : Clock → List SetText → Cause → Type 0
 RefusesDateAndTime clock sets NoInstant = TellNothing Date sets ⊎ TellNothing Time sets
 RefusesDateAndTime clock sets TwiceGiven = TellTwice sets
-RefusesDateAndTime clock sets (StampCause fault) =
+RefusesDateAndTime clock sets (InstantCause fault) =
     (date : List ℕ) × (time : List ℕ) × TellOne Date sets date × TellOne Time sets time × IsReadoutOutcome date time clock (Err fault)
 RefusesDateAndTime clock sets _ = ⊥
 

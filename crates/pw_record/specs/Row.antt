@@ -10,7 +10,7 @@ use Rattle.pw_model.specs.declared.records.Entry.{Entry}
 use Rattle.pw_model.specs.Counting.{assignment_key}
 use Rattle.pw_model.specs.References.{IsReference}
 use Rattle.pw_record.specs.declared.fault.Cause.{Cause}
-use Rattle.pw_record.specs.declared.fault.Cause.TheVariants.{Stamp, UnknownMeter, UnknownAccount, CsvForm, Cents, Reference}
+use Rattle.pw_record.specs.declared.fault.Cause.TheVariants.{Instant, UnknownMeter, UnknownAccount, CsvForm, Cents, Reference}
 use Rattle.pw_record.specs.declared.row.RowKind.{RowKind}
 use Rattle.pw_record.specs.declared.row.RowKind.TheVariants.{Assignment, TopUp}
 use Rattle.pw_record.specs.Names.{HasId, IsUnknownId, HasName, IsUnknownName, IsOwner, IsUnknownOwner}
@@ -41,7 +41,7 @@ pub record GivesAssignment (file : OfficeFile) (row : Row) (entry : Entry) : Typ
 -- what is wrong with the three fields: the meter is told before the start, and the start before the account
 abbrev pub IsWrongAssignment : OfficeFile → List ℕ → List ℕ → List ℕ → Cause → Type 0
 IsWrongAssignment file id start account UnknownMeter = IsUnknownId file id
-IsWrongAssignment file id start account (Stamp fault) = ((meter : ℕ) × HasId file id meter) × IsUtcOutcome start (Err fault)
+IsWrongAssignment file id start account (Instant fault) = ((meter : ℕ) × HasId file id meter) × IsUtcOutcome start (Err fault)
 IsWrongAssignment file id start account UnknownAccount =
     ((meter : ℕ) × HasId file id meter) × ((instant : ℕ) × IsUtcOutcome start (Ok instant)) × IsUnknownOwner file account
 IsWrongAssignment file id start account _ = ⊥
@@ -74,7 +74,7 @@ IsWrongTopUp file reference name amount when Reference = IsReference reference �
 IsWrongTopUp file reference name amount when UnknownAccount = IsReference reference × IsUnknownName file name
 IsWrongTopUp file reference name amount when Cents =
     IsReference reference × ((account : ℕ) × HasName file name account) × ((cents : ℕ) → IsCents amount cents → ⊥)
-IsWrongTopUp file reference name amount when (Stamp fault) =
+IsWrongTopUp file reference name amount when (Instant fault) =
     IsReference reference × ((account : ℕ) × HasName file name account) × ((cents : ℕ) × IsCents amount cents) × IsUtcOutcome when (Err fault)
 IsWrongTopUp file reference name amount when _ = ⊥
 

@@ -12,7 +12,7 @@ use std::fmt;
 #[derive(Clone, Copy, Debug, PartialEq, Eq)]
 pub enum Cause {
     /// 1 to 7: a stamp, a date and a time, or an instant of a row.
-    Stamp(StampFault),
+    Instant(StampFault),
     /// 10 to 15: no frame stands there.
     Frame(FrameFault),
     /// 20: a line of the frame's block isn't in the grammar of data sets.
@@ -79,7 +79,7 @@ impl Cause {
         ensures { result ≡ cause_number self }
     {
         match self {
-            Cause::Stamp(fault) => fault.number(),
+            Cause::Instant(fault) => fault.number(),
             Cause::Frame(fault) => fault.number(),
             Cause::Line(fault) => fault.number(),
             Cause::Value(fault) => fault.number(),
@@ -105,7 +105,7 @@ impl Cause {
         ensures { result.now ≡ cause_name self }
     {
         match self {
-            Cause::Stamp(fault) => fault.name(),
+            Cause::Instant(fault) => fault.name(),
             Cause::Frame(fault) => fault.name(),
             Cause::Line(fault) => fault.name(),
             Cause::Value(fault) => fault.name(),

@@ -119,7 +119,7 @@ fn telegram_instant(block: &[u8]) -> Result<Instant, Cause>
     };
     match stamp(text) {
         Ok(instant) => Ok(instant),
-        Err(fault) => Err(Cause::Stamp(fault)),
+        Err(fault) => Err(Cause::Instant(fault)),
     }
 }
 
@@ -135,7 +135,7 @@ fn date_and_time(block: &[u8], clock: Clock, zone: &Zone) -> Result<Instant, Cau
             Told::Nothing => Err(Cause::NoInstant),
             Told::One(time) => match readout_instant(date, time, clock, zone) {
                 Ok(instant) => Ok(instant),
-                Err(fault) => Err(Cause::Stamp(fault)),
+                Err(fault) => Err(Cause::Instant(fault)),
             },
             Told::Unlike => Err(Cause::TwiceGiven),
         },

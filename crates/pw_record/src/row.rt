@@ -67,7 +67,7 @@ fn assignment(office: &Office, row: &ByteRecord) -> Result<Entry, Cause>
     };
     let start = match utc(start) {
         Ok(start) => start,
-        Err(fault) => return Err(Cause::Stamp(fault)),
+        Err(fault) => return Err(Cause::Instant(fault)),
     };
     let Some(owner) = owner(office, account) else {
         return Err(Cause::UnknownAccount);
@@ -110,7 +110,7 @@ fn top_up(office: &Office, row: &ByteRecord) -> Result<Entry, Cause>
     };
     let instant = match utc(when) {
         Ok(instant) => instant,
-        Err(fault) => return Err(Cause::Stamp(fault)),
+        Err(fault) => return Err(Cause::Instant(fault)),
     };
     Ok(Entry {
         key: Key::TopUp { reference },

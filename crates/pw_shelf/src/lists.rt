@@ -1,7 +1,7 @@
 //! What is found among the records of a store in memory.
 
 ghost use Rattle.std.specs.Prelude.{◌≡◌, IfOk, IfErr, IsTrue, ◌↔◌};
-ghost use Rattle.pw_model.specs.Counting.{contents_at as told_at};
+ghost use Rattle.pw_model.specs.Counting.{contents_at as held_at};
 ghost use Rattle.pw_shelf.specs.Rows.{IsAssignmentOf, IsReadingOf, ListsHeld};
 ghost use Rattle.pw_shelf.specs.inner.Kinds.{IsOfKind, lowest, lowest_key};
 ghost use Rattle.pw_shelf.specs.declared.fault.ShelfFault.TheVariants.{Memory};
@@ -17,7 +17,7 @@ use std::alloc::Global;
 impl Held {
     /// What the records say of a key.
     pub(crate) fn contents_at(&self, key: &Key) -> Contents
-        ensures { result ≡ told_at self.now.records.keys key.now }
+        ensures { result ≡ held_at self.now.records.keys key.now }
     {
         let mut rows = self.records.range(lowest_at(*key)..);
         let first = match rows.next() {

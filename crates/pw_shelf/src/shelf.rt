@@ -6,7 +6,7 @@ ghost use Rattle.std.specs.Prelude.{◌≡◌, ◌+◌, ◌*◌, ◌<◌, ◌≤
 ghost use Rattle.pw_obis.specs.declared.energy.TheConstants.{LARGEST_WATT_HOURS};
 ghost use Rattle.pw_model.specs.Shelf.{ShelfContent};
 ghost use Rattle.pw_model.specs.Office.{most_records};
-ghost use Rattle.pw_model.specs.Counting.{EachOnce, Member, contents_at as told_at};
+ghost use Rattle.pw_model.specs.Counting.{EachOnce, Member, contents_at as held_at};
 ghost use Rattle.pw_shelf.specs.Calls.{IsAsking, IsWriting, failures_told};
 ghost use Rattle.pw_shelf.specs.Changes.{with_point, with_start, with_total};
 ghost use Rattle.pw_shelf.specs.State.{State, CountsFailures, IsWithRecord};
@@ -83,7 +83,7 @@ pub trait Shelf {
 
     /// What the records held say of a key: whether none has it, one, or several: no row, one, or two.
     fn contents_at(&mut self, key: &Key) -> Result<Contents, ShelfFault>
-        ensures rows { clean self.new → IfOk result (λ found. found ≡ told_at (state self.old).content.records key.now) }
+        ensures rows { clean self.new → IfOk result (λ found. found ≡ held_at (state self.old).content.records key.now) }
         ensures asked { IsAsking state left clean rows_at result self.old self.new };
 
     /// Adds a record that isn't held, and changes nothing else.

@@ -1,7 +1,7 @@
 //! The balance of an account.
 
 ghost use Rattle.std.specs.Prelude.{◌≡◌, ◌<◌, ◌≤◌, ◌^◌, IfOk, Some, length, pos, ◌+ℤ◌, ◌-ℤ◌};
-ghost use Rattle.pw_model.specs.Counting.{contents_at as told_at};
+ghost use Rattle.pw_model.specs.Counting.{contents_at as held_at};
 ghost use Rattle.pw_model.specs.Energy.{cost as cost_of};
 ghost use Rattle.pw_model.specs.Office.{AllOfOffice, IsOffice, most_records};
 ghost use Rattle.pw_model.specs.Payments.{balance as balance_of};
@@ -51,7 +51,7 @@ fn cost<T: Terms>(
     requires office { IsOffice (T.office terms.now) }
     requires entries { AllOfOffice (T.office terms.now) entries.now }
     requires few { length entries.now ≤ most_records }
-    ensures cost { IfOk result (λ nano. nano ≡ cost_of (T.office terms.now) (told_at entries.now) (Some account) direction) }
+    ensures cost { IfOk result (λ nano. nano ≡ cost_of (T.office terms.now) (held_at entries.now) (Some account) direction) }
     ensures bound { IfOk result (λ nano. nano ≤ 7999999999920000000000000000) }
 {
     let mut nano = 0;

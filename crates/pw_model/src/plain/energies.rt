@@ -4,7 +4,7 @@ ghost use Rattle.std.specs.Prelude.{◌≡◌, ◌<◌, ◌≤◌, All, IfOk, le
 ghost use Rattle.pw_flow.specs.Energy.{register_energy};
 ghost use Rattle.pw_flow.specs.Plain.{value_at};
 ghost use Rattle.pw_flow.specs.Time.{AreInTime};
-ghost use Rattle.pw_model.specs.Counting.{contents_at as told_at};
+ghost use Rattle.pw_model.specs.Counting.{contents_at as held_at};
 ghost use Rattle.pw_model.specs.Energy.{energy as energy_of, meter_share, of_band, asked_seconds, share_of};
 ghost use Rattle.pw_model.specs.Office.{AllOfOffice, IsOffice, most_records};
 ghost use Rattle.pw_model.specs.inner.Search.{at_instants};
@@ -64,7 +64,7 @@ fn meter_energy<T: Terms>(
     requires entries { AllOfOffice (T.office terms.now) entries.now }
     requires few { length entries.now ≤ most_records }
     requires meter { meter.0 < (T.office terms.now).meters }
-    ensures { IfOk result (λ wh. wh ≡ meter_share (T.office terms.now) (told_at entries.now) direction (of_band (T.office terms.now) owner band.0) meter.0) }
+    ensures { IfOk result (λ wh. wh ≡ meter_share (T.office terms.now) (held_at entries.now) direction (of_band (T.office terms.now) owner band.0) meter.0) }
 {
     let [total, first, second] = match direction {
         Direction::Import => [Register::I0, Register::I1, Register::I2],
@@ -89,7 +89,7 @@ fn register_share<T: Terms>(
     requires entries { AllOfOffice (T.office terms.now) entries.now }
     requires few { length entries.now ≤ most_records }
     requires meter { meter.0 < (T.office terms.now).meters }
-    ensures share { IfOk result (λ wh. wh ≡ share_of (T.office terms.now) (told_at entries.now) (of_band (T.office terms.now) owner band.0) meter.0 register) }
+    ensures share { IfOk result (λ wh. wh ≡ share_of (T.office terms.now) (held_at entries.now) (of_band (T.office terms.now) owner band.0) meter.0 register) }
     ensures bound { IfOk result (λ wh. wh ≤ 999999999990000000) }
 {
     if !terms.counts(meter, register) {
@@ -111,12 +111,12 @@ fn points_energy<T: Terms>(
 ) -> u128
     requires rising { AreInTime (λ p. p.at) points.now }
     requires instants { All (λ p. IsInstant p.at) points.now }
-    ensures { result ≡ register_energy (asked_seconds (told_at entries.now) (of_band (T.office terms.now) owner band.0) meter.0) (value_at points.now) the_end }
+    ensures { result ≡ register_energy (asked_seconds (held_at entries.now) (of_band (T.office terms.now) owner band.0) meter.0) (value_at points.now) the_end }
 {
     pw_flow::plain::energy(
         points,
         |second: u32| -> bool
-            ensures { result ≡ at_instants (asked_seconds (told_at entries.entry.now) (of_band (T.office terms.entry.now) owner band.0) meter.0) second }
+            ensures { result ≡ at_instants (asked_seconds (held_at entries.entry.now) (of_band (T.office terms.entry.now) owner band.0) meter.0) second }
         { is_of(terms, entries, meter, owner, band, second) },
     )
 }
@@ -130,7 +130,7 @@ fn is_of<T: Terms>(
     band: BandId,
     second: u32,
 ) -> bool
-    ensures { result ≡ at_instants (asked_seconds (told_at entries.now) (of_band (T.office terms.now) owner band.0) meter.0) second }
+    ensures { result ≡ at_instants (asked_seconds (held_at entries.now) (of_band (T.office terms.now) owner band.0) meter.0) second }
 {
     let Some(instant) = Instant::of(second) else {
         return false;

@@ -2,7 +2,7 @@
 
 ghost use Rattle.std.specs.Prelude.{◌≡◌, ℕ, ◌+◌, ◌<◌, ◌≤◌, IfOk, IfSome, IfNone, length};
 ghost use Rattle.pw_time.specs.declared.instant.TheConstants.{END_SECOND as the_end};
-ghost use Rattle.pw_model.specs.Counting.{contents_at as told_at, reading_key};
+ghost use Rattle.pw_model.specs.Counting.{contents_at as held_at, reading_key};
 ghost use Rattle.pw_model.specs.Lists.{AreFalls, IsFall, IsInOrder};
 ghost use Rattle.pw_model.specs.Same.{entry_order};
 ghost use Rattle.pw_model.specs.inner.Search.{IsAt, IsEarliestAmong, high_reading};
@@ -43,8 +43,8 @@ fn falls_among(alloc: Global, in_order: &[Entry]) -> Result<Vec<Fall>, AllocErro
 fn fall_from(in_order: &[Entry], index: usize) -> Option<Fall>
     requires rising { IsInOrder entry_order in_order.now }
     requires within { index < length in_order.now }
-    ensures some { IfSome result (λ f. IsFall (told_at in_order.now) f × IsAt in_order.now index (high_reading f)) }
-    ensures none { IfNone result ((f : Fall) → IsFall (told_at in_order.now) f → IsAt in_order.now index (high_reading f) → ⊥) }
+    ensures some { IfSome result (λ f. IsFall (held_at in_order.now) f × IsAt in_order.now index (high_reading f)) }
+    ensures none { IfNone result ((f : Fall) → IsFall (held_at in_order.now) f → IsAt in_order.now index (high_reading f) → ⊥) }
 {
     let entry = &in_order[index];
     let Key::Reading {
@@ -88,7 +88,7 @@ fn next_point(
     requires rising { IsInOrder entry_order in_order.now }
     requires within { index < length in_order.now }
     requires reading { (e : Entry) → IsAt in_order.now index e → e.key ≡ reading_key meter.0 register instant }
-    ensures { (y : ℕ) → the_end ≤ y → IsEarliestAmong (told_at in_order.now) meter.0 register (instant + 1) y in_order.now result }
+    ensures { (y : ℕ) → the_end ≤ y → IsEarliestAmong (held_at in_order.now) meter.0 register (instant + 1) y in_order.now result }
 {
     for place in index + 1..in_order.len() {
         let entry = &in_order[place];

@@ -5,7 +5,7 @@ ghost use Rattle.pw_flow.specs.Plain.{value_at};
 ghost use Rattle.pw_flow.specs.Time.{AreInTime};
 ghost use Rattle.pw_time.specs.Instants.{IsInstant};
 ghost use Rattle.pw_time.specs.declared.instant.TheConstants.{END_SECOND as the_end};
-ghost use Rattle.pw_model.specs.Counting.{contents_at as told_at, point};
+ghost use Rattle.pw_model.specs.Counting.{contents_at as held_at, point};
 
 use super::reading_list::readings;
 use crate::records::Entry;
@@ -23,7 +23,7 @@ pub fn points_of(
 ) -> Result<Vec<Point>, AllocError>
     ensures rising { IfOk result (λ points. AreInTime (λ p. p.at) points.items) }
     ensures instants { IfOk result (λ points. All (λ p. IsInstant p.at) points.items) }
-    ensures values { IfOk result (λ points. (t : ℕ) → t < the_end → value_at points.items t ≡ point (told_at entries.now) meter.0 register t) }
+    ensures values { IfOk result (λ points. (t : ℕ) → t < the_end → value_at points.items t ≡ point (held_at entries.now) meter.0 register t) }
 {
     let rows = readings(alloc, entries, meter, register)?;
     let mut points = Vec::new(alloc);

@@ -1,7 +1,7 @@
 //! What counts at a key, and the owner of a meter at a second.
 
 ghost use Rattle.std.specs.Prelude.{◌≡◌, ◌↔◌, ℕ, IfSome, IfNone, IsTrue};
-ghost use Rattle.pw_model.specs.Counting.{Counts, contents_at as told_at, joined as one_more, owner_of, reading_key};
+ghost use Rattle.pw_model.specs.Counting.{Counts, contents_at as held_at, joined as one_more, owner_of, reading_key};
 ghost use Rattle.pw_model.specs.Energy.{owner_at as owner_of_second};
 ghost use Rattle.pw_model.specs.inner.Search.{IsLatestAmong, IsStartIn, later_of};
 
@@ -13,7 +13,7 @@ use pw_time::Instant;
 
 /// What the records say of a key: whether none has it, one, or several.
 pub fn contents_at(entries: &[Entry], key: &Key) -> Contents
-    ensures { result ≡ told_at entries.now key.now }
+    ensures { result ≡ held_at entries.now key.now }
 {
     let mut contents = Contents::Nothing;
     for entry in entries {
@@ -52,7 +52,7 @@ pub(crate) fn counts(entries: &[Entry], entry: &Entry) -> bool
 
 /// The owner of a meter at a second: that of the latest counting assignment from then or before.
 pub fn owner_at(entries: &[Entry], meter: MeterId, second: u32) -> Owner
-    ensures { result ≡ owner_of_second (told_at entries.now) meter.0 second }
+    ensures { result ≡ owner_of_second (held_at entries.now) meter.0 second }
 {
     let mut until = second;
     while let Some(start) = latest_start(entries, meter, until) {
