@@ -1,5 +1,6 @@
 //! Worked rows.
 
 mod files;
+mod hours;
 mod limits;
 mod shares;

@@ -20,6 +20,19 @@ const WEEK: &str = r#"week = [
 
 "#;
 
+// The band changes with each hour.
+const HOURLY_WEEK: &str = r#"week = [
+  "LHLHLHLHLHLHLHLHLHLHLHLH",
+  "LHLHLHLHLHLHLHLHLHLHLHLH",
+  "LHLHLHLHLHLHLHLHLHLHLHLH",
+  "LHLHLHLHLHLHLHLHLHLHLHLH",
+  "LHLHLHLHLHLHLHLHLHLHLHLH",
+  "LHLHLHLHLHLHLHLHLHLHLHLH",
+  "LHLHLHLHLHLHLHLHLHLHLHLH",
+]
+
+"#;
+
 const BANDS: &str = r#"[[band]]
 name = "L"
 import = 200000
@@ -50,6 +63,11 @@ registers = ["I0"]
 
 pub(super) fn sample(alloc: Global) -> Result<String, AllocError> {
     Ok(format!(in alloc; "{ACCOUNTS}{WEEK}{BANDS}{METERS}")?)
+}
+
+// The sample office with a band for each odd hour, and another for each even one.
+pub(super) fn hourly(alloc: Global) -> Result<String, AllocError> {
+    Ok(format!(in alloc; "{ACCOUNTS}{HOURLY_WEEK}{BANDS}{METERS}")?)
 }
 
 // The refusal of a file in four parts.

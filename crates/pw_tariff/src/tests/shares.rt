@@ -7,8 +7,8 @@ use pw_time::{Instant, Zone, utc};
 use std::alloc::Global;
 use std::test::Fail;
 
-// A span between two instants of 2024-01-02 in UTC.
-fn span(from: &[u8], to: &[u8], low: u64, high: u64) -> Option<Span> {
+// A span between two instants in UTC.
+pub(super) fn span(from: &[u8], to: &[u8], low: u64, high: u64) -> Option<Span> {
     Some(Span {
         from: utc(from).ok()?,
         to: utc(to).ok()?,
@@ -36,7 +36,7 @@ fn cells(
     Ok(Some(apportion(alloc, &office, &Zone::central(), &owners, span)?))
 }
 
-fn cell(owner: Option<u16>, band: u8, wh: u64) -> Cell {
+pub(super) fn cell(owner: Option<u16>, band: u8, wh: u64) -> Cell {
     Cell {
         owner: owner.map(AccountId),
         band: BandId(band),
@@ -77,13 +77,6 @@ fn nobody_and_single_seconds(rt: HostRuntime) -> Result<(), Fail> {
     let shared = cells(
         rt.alloc(),
         &[],
-        span(b"2024-01-02T05:00:00Z", b"2024-01-02T07:00:00Z", 0, 1),
-    )?
-    .expect(&rt, "cells");
-    assert_eq!(rt; shared.as_slice(), [cell(None, 1, 1)].as_slice());
-    let shared = cells(
-        rt.alloc(),
-        &[],
         span(
             b"2024-01-02T05:00:00Z",
             b"2024-01-02T05:00:01Z",
@@ -103,6 +96,34 @@ fn nobody_and_single_seconds(rt: HostRuntime) -> Result<(), Fail> {
     )?
     .expect(&rt, "cells");
     assert_eq!(rt; shared.len(), 0);
+    Ok(())
+}
+
+// All instants there are, nearly a hundred years: the two cells are the whole difference.
+#[test]
+fn century_span(rt: HostRuntime) -> Result<(), Fail> {
+    let shared = cells(
+        rt.alloc(),
+        &[],
+        span(
+            b"2000-01-01T00:00:00Z",
+            b"2099-12-31T23:59:59Z",
+            0,
+            99_999_999_999,
+        ),
+    )?
+    .expect(&rt, "cells");
+    assert_eq!(rt;
+        shared.as_slice(),
+        [cell(None, 0, 52_381_473_861), cell(None, 1, 47_618_526_138)].as_slice()
+    );
+    let shared = cells(
+        rt.alloc(),
+        &[],
+        span(b"2024-01-02T05:00:00Z", b"2024-01-02T07:00:00Z", 0, 1),
+    )?
+    .expect(&rt, "cells");
+    assert_eq!(rt; shared.as_slice(), [cell(None, 1, 1)].as_slice());
     Ok(())
 }
 
