@@ -10,6 +10,7 @@ mod offices;
 mod sets;
 mod shelves;
 
+use pw_shelf::MemoryShelf;
 use pw_tariff::Office;
 use std::io::Write;
 use std::process::ExitCode;
@@ -38,9 +39,10 @@ fn main(rt: HostRuntime) -> ExitCode {
     let Ok(office) = Office::read(rt.alloc(), OFFICE.as_bytes()) else {
         return ExitCode::from(NO_MEMORY);
     };
-    let Some(mut shelf) = shelves::with_upload(rt.alloc()) else {
+    let mut shelf = MemoryShelf::new(rt.alloc());
+    if !shelves::is_begun(&mut shelf) {
         return ExitCode::from(NO_MEMORY);
-    };
+    }
     let mut out = rt.stdout();
     tell(&mut out, b"no memory\n");
     tell(&mut out, line(instants::are_right(), b"instants right\n"));

@@ -1,6 +1,7 @@
 //! The calls on a store in memory, and on a book over it.
 
-ghost use Rattle.std.specs.Prelude.{◌≡◌, IfSome, IsSome, None};
+ghost use Rattle.std.specs.Prelude.{◌≡◌, IsSome, None, true};
+ghost use Rattle.pw_model.specs.Shelf.{no_content};
 ghost use Rattle.pw_shelf.specs.Memory.{state_of};
 
 use pw_book::Book;
@@ -10,19 +11,19 @@ use pw_tariff::{AccountId, Office};
 use pw_time::{FIRST_SECOND, Instant, Zone};
 use std::alloc::Global;
 
-/// A store with an upload of one record, which is neither ended nor taken back.
-pub(crate) fn with_upload(alloc: Global) -> Option<MemoryShelf>
-    ensures { IfSome result (λ shelf. IsSome (state_of shelf).begun) }
+/// Begins an upload of one record, which is neither ended nor taken back; whether that was done.
+pub(crate) fn is_begun(shelf: &mut MemoryShelf) -> bool
+    requires empty { (state_of shelf.old).content ≡ no_content }
+    requires idle { (state_of shelf.old).begun ≡ None }
+    ensures { result ≡ true → IsSome (state_of shelf.new).begun }
 {
-    let mut shelf = MemoryShelf::new(alloc);
-    let entry = payment()?;
+    let Some(entry) = payment() else {
+        return false;
+    };
     if shelf.begin().is_err() {
-        return None;
+        return false;
     }
-    if shelf.add(&entry).is_err() {
-        return None;
-    }
-    Some(shelf)
+    shelf.add(&entry).is_ok()
 }
 
 fn payment() -> Option<Entry> {
