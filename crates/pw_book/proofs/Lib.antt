@@ -22,3 +22,6 @@ pub mod Fallen
 pub mod Contested
 pub mod Order
 pub mod Running
+pub mod TotalKeys
+pub mod Gathering
+pub mod Changing

@@ -12,9 +12,12 @@ mod energy;
 mod falls;
 mod fault;
 pub mod laws;
+mod moving;
+mod pairs;
 mod payments;
 mod posting;
 mod rows;
+mod sums;
 mod told;
 mod upload;
 

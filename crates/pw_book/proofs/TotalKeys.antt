@@ -1,0 +1,57 @@
+-- The test on keys of totals decides whether two are equal.
+use Rattle.std.proofs.Common.{◌≡◌, ℕ, ◌+◌, Some, None, true, false, refl, ap, sym, ◌∙◌, Decides, arith, inl, inr}
+use Rattle.std.specs.Cmp.Lexicographic.{bytes_decides}
+use Rattle.std.proofs.lemmas.Bool.{cases_Bool, true≢false}
+use Rattle.std.proofs.lemmas.Bool.Decides.{Decides-like}
+use Rattle.pw_tariff.specs.declared.ids.AccountId.{AccountId}
+use Rattle.pw_tariff.specs.declared.ids.BandId.{BandId}
+use Rattle.pw_tariff.specs.declared.ids.Direction.{Direction}
+use Rattle.pw_tariff.specs.declared.ids.Direction.TheVariants.{Import, Export}
+use Rattle.pw_model.specs.declared.records.TotalKey.{TotalKey}
+use Rattle.pw_model.specs.declared.records.TotalKey.TheVariants.{Energy, TopUps}
+use Rattle.pw_model.specs.Same.{total_numbers, direction_place, same_direction}
+use Rattle.pw_shelf.specs.Changes.{same_total}
+
+abbrev account : ℕ → AccountId
+account n = record { 0 = n }
+
+abbrev band : ℕ → BandId
+band n = record { 0 = n }
+
+direction-one : (d e : Direction) → direction_place d ≡ direction_place e → d ≡ e
+direction-one Import Import h = refl
+direction-one Export Export h = refl
+direction-one Import Export h = absurd (omega (arith, h))
+direction-one Export Import h = absurd (omega (arith, h))
+
+pub same-direction : (d : Direction) → same_direction d d ≡ true
+same-direction Import = refl
+same-direction Export = refl
+
+total-numbers-one : (k l : TotalKey) → total_numbers k ≡ total_numbers l → k ≡ l
+unfolding total_numbers
+total-numbers-one (Energy None b d) (Energy None c e) h =
+    let q : b ≡ c = ap band (cc) in
+    let r : d ≡ e = direction-one d e (cc) in
+    cc
+total-numbers-one (Energy (Some x) b d) (Energy (Some y) c e) h =
+    let n : x.0 + 1 ≡ y.0 + 1 = cc in
+    let m : x.0 ≡ y.0 = omega (arith, n) in
+    let p : x ≡ y = ap account m in
+    let q : b ≡ c = ap band (cc) in
+    let r : d ≡ e = direction-one d e (cc) in
+    cc
+total-numbers-one (Energy None b d) (Energy (Some y) c e) h = let n : 0 ≡ y.0 + 1 = cc in absurd (omega (arith, n))
+total-numbers-one (Energy (Some x) b d) (Energy None c e) h = let n : x.0 + 1 ≡ 0 = cc in absurd (omega (arith, n))
+total-numbers-one (TopUps x) (TopUps y) h = let p : x ≡ y = ap account (cc) in cc
+total-numbers-one (Energy o b d) (TopUps y) h = cc
+total-numbers-one (TopUps x) (Energy o b d) h = cc
+
+pub same_total-decides : (k l : TotalKey) → Decides (same_total k l) (k ≡ l)
+same_total-decides k l = Decides-like (same_total k l) (total-numbers-one k l) (λ e. ap total_numbers e) (bytes_decides (total_numbers k) (total_numbers l))
+
+pub total-apart : (k l : TotalKey) → (k ≡ l → ⊥) → same_total k l ≡ false
+total-apart k l n = elim (cases_Bool (same_total k l)) [ inl y ↦ absurd (n ((same_total-decides k l).0 y)) | inr f ↦ f ]
+
+pub total-itself : (k : TotalKey) → same_total k k ≡ true
+total-itself k = (same_total-decides k k).1 refl

@@ -1,0 +1,44 @@
+-- What follows in points, starts and totals where one record more is held. It serves `src/around.rt`, `src/window.rt` and
+-- `src/settling.rt`.
+-- (Definitions of this project.)
+use Rattle.std.specs.Prelude.{◌≡◌, ℕ, ◌+◌, ◌<◌, ◌≤◌, Option, None, Some, List, length}
+use Rattle.pw_obis.specs.declared.reference.Register.{Register}
+use Rattle.pw_tariff.specs.declared.ids.AccountId.{AccountId}
+use Rattle.pw_tariff.specs.Office.{OfficeRules}
+use Rattle.pw_model.specs.declared.records.Key.{Key}
+use Rattle.pw_model.specs.declared.records.Contents.{Contents}
+use Rattle.pw_model.specs.declared.records.TotalKey.{TotalKey}
+use Rattle.pw_model.specs.Counting.{point, start}
+use Rattle.pw_model.specs.Lists.{Lists}
+use Rattle.pw_model.specs.Shelf.{ShelfContent}
+use Rattle.pw_shelf.specs.Seconds.{by_second, ListsSeconds}
+use Rattle.pw_book.specs.inner.Moves.{OfOwners, most_total}
+use Rattle.pw_book.specs.inner.Sums.{energy_told}
+
+-- the energies that were those of the one are those of the other, and no records and no other totals are changed
+pub record IsSettled (office : OfficeRules) (was is : Key → Contents) (old new : ShelfContent) : Type 0 where
+  pub records : new.records ≡ old.records
+  pub energies : (k : TotalKey) → OfOwners office.bands office.accounts k → old.total k ≡ energy_told office was k → energy_told office is k ≤ most_total →
+      new.total k ≡ energy_told office is k
+  pub elsewhere : (k : TotalKey) → (OfOwners office.bands office.accounts k → ⊥) → new.total k ≡ old.total k
+
+-- the points of a register all lie before the end of all instants
+abbrev pub EndsBefore : ℕ → (ℕ → Option ℕ) → Type 0
+EndsBefore end told = (t w : ℕ) → told t ≡ Some w → t < end
+
+-- ---- how much is read
+-- a meter has so many starts at most
+abbrev pub HasStarts : ShelfContent → ℕ → ℕ → Type 0
+HasStarts c m most = (starts : List (ℕ × Option AccountId)) → ListsSeconds (c.start m) starts → length starts ≤ most
+
+-- from one second on, and before each start behind it
+abbrev pub IsBeforeNextStart : ShelfContent → ℕ → ℕ → ℕ → Type 0
+IsBeforeNextStart c m from t = (s : ℕ) → from < s → s ≤ t → c.start m s ≡ None
+
+-- the points of a register from a second up to the meter's next start
+abbrev pub ListsUpToNextStart : ShelfContent → ℕ → Register → ℕ → List (ℕ × ℕ) → Type 0
+ListsUpToNextStart c m r from = Lists by_second (λ a. (from ≤ a.0) × IsBeforeNextStart c m from a.0 × (c.point m r a.0 ≡ Some a.1))
+
+-- each register of a meter has so many points at most from a second up to the meter's next start
+abbrev pub HavePoints : ShelfContent → ℕ → ℕ → (Register → ℕ) → Type 0
+HavePoints c m from most = (r : Register) (points : List (ℕ × ℕ)) → ListsUpToNextStart c m r from points → length points ≤ most r

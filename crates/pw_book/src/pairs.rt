@@ -1,0 +1,71 @@
+//! The energy that pairs of readings give to owners and bands.
+
+ghost use Rattle.std.specs.Prelude.{◌≡◌, ℕ, ◌+◌, ◌*◌, ◌<◌, ◌≤◌, ◌^◌, Option, IfOk, length};
+ghost use Rattle.pw_flow.specs.Energy.{cell};
+ghost use Rattle.pw_model.specs.declared.records.TotalKey.{TotalKey as AnyTotal};
+ghost use Rattle.pw_model.specs.Lists.{IsInOrder};
+ghost use Rattle.pw_obis.specs.declared.energy.TheConstants.{LARGEST_WATT_HOURS};
+ghost use Rattle.pw_tariff.specs.declared.ids.AccountId.{AccountId as AnAccount};
+ghost use Rattle.pw_tariff.specs.Cells.{AreInOrder, energy_in, energy_of_all};
+ghost use Rattle.pw_tariff.specs.Shares.{class_seconds};
+ghost use Rattle.pw_book.specs.inner.Counted.{by_second};
+ghost use Rattle.pw_book.specs.inner.Sums.{gathered, gathered_in_all, pairs_for};
+
+use crate::sums::{Sum, add_cells};
+use pw_obis::WattHours;
+use pw_tariff::{Cell, Direction, Office, Owners, Span, apportion};
+use pw_time::{Instant, Zone};
+use std::alloc::{AllocError, Global};
+
+// When a reading was taken, and what it shows.
+pub(crate) type Point = (Instant, WattHours);
+
+// Gathers what the neighbouring pairs of a list of points give, of a register of the direction and a meter with these
+// owners.
+pub(crate) fn add_pairs(
+    alloc: Global,
+    office: &Office,
+    zone: &Zone,
+    owners: &Owners,
+    direction: Direction,
+    points: &[Point],
+    sums: &mut Vec<Sum>,
+) -> Result<(), AllocError>
+    requires few { gathered_in_all sums.old.items < 2 ^ 120 }
+    ensures gathered { IsInOrder by_second points.now → IfOk result (λ _. (k : AnyTotal) → gathered sums.new.items k ≡ gathered sums.old.items k + pairs_for office.now owners.now direction points.now k) }
+    ensures all { IfOk result (λ _. gathered_in_all sums.new.items ≤ gathered_in_all sums.old.items + length points.now * LARGEST_WATT_HOURS) }
+{
+    for pair in points.windows(2) {
+        let cells = cells_of_pair(alloc, office, zone, owners, pair[0], pair[1])?;
+        add_cells(sums, direction, &cells)?;
+    }
+    Ok(())
+}
+
+// What each owner gets in each band of what flows between two readings: nothing where the later shows less.
+fn cells_of_pair(
+    alloc: Global,
+    office: &Office,
+    zone: &Zone,
+    owners: &Owners,
+    from: Point,
+    to: Point,
+) -> Result<Vec<Cell>, AllocError>
+    ensures cells { from.0 < to.0 → IfOk result (λ cells. (o : Option AnAccount) (b : ℕ) → energy_in cells.items o b ≡ cell (class_seconds office.now owners.now o b) from to) }
+    ensures in_order { IfOk result (λ cells. AreInOrder cells.items) }
+    ensures bound { IfOk result (λ cells. energy_of_all cells.items ≤ LARGEST_WATT_HOURS) }
+{
+    if to.0 <= from.0 {
+        return Ok(Vec::new(alloc));
+    }
+    if to.1.get() < from.1.get() {
+        return Ok(Vec::new(alloc));
+    }
+    let span = Span {
+        from: from.0,
+        to: to.0,
+        low: from.1,
+        high: to.1,
+    };
+    apportion(alloc, office, zone, owners, span)
+}
