@@ -25,3 +25,5 @@ pub mod Running
 pub mod TotalKeys
 pub mod Gathering
 pub mod Changing
+pub mod Neighbouring
+pub mod Following

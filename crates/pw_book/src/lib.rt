@@ -1,6 +1,7 @@
 //! The book: it takes uploads' records, and answers what the records held mean.
 #![tactic(auto)]
 
+mod around;
 mod asked;
 mod balances;
 mod book;

@@ -1,0 +1,166 @@
+//! A reading that begins or ceases to count, and the energies of the pairs round it.
+
+ghost use Rattle.std.specs.Prelude.{◌≡◌, ℕ, ◌+◌, ◌*◌, ◌<◌, ◌≤◌, ◌^◌, ◌++◌, [], ◌∷◌, Some, None, OnOk, IfOk, IsSome, true, length};
+ghost use Rattle.pw_model.specs.declared.records.Key.{Key as AnyKey};
+ghost use Rattle.pw_model.specs.declared.records.Contents.{Contents as AnyContents};
+ghost use Rattle.pw_model.specs.declared.records.TotalKey.{TotalKey as AnyTotal};
+ghost use Rattle.pw_model.specs.Lists.{IsInOrder};
+ghost use Rattle.pw_model.specs.Changes.{IsOneMoreReading};
+ghost use Rattle.pw_model.specs.Counting.{point as point_told, start as start_told};
+ghost use Rattle.pw_model.specs.Same.{direction_of as direction_told};
+ghost use Rattle.pw_shelf.specs.Calls.{GoesOn, failures_told};
+ghost use Rattle.pw_shelf.specs.Changes.{points_with};
+ghost use Rattle.pw_tariff.specs.Office.{counts_at, office_of};
+ghost use Rattle.pw_tariff.specs.Owners.{StartsIncrease};
+ghost use Rattle.pw_book.specs.inner.Counted.{by_second};
+ghost use Rattle.pw_book.specs.inner.Settling.{EndsBefore, HasStarts, IsSettled};
+ghost use Rattle.pw_book.specs.inner.Sums.{AreDifferences, gathered, gathered_in_all, pairs_for, point_listed};
+
+use crate::moving::move_energies;
+use crate::pairs::{Point, add_pairs};
+use crate::sums::Sum;
+use pw_obis::{Register, WattHours};
+use pw_shelf::{Shelf, ShelfFault};
+use pw_tariff::{Direction, MeterId, Office, Owner, Owners};
+use pw_time::{Instant, Zone};
+use std::alloc::{AllocError, Global};
+
+// A reading of a register that begins or ceases to count.
+#[derive(Clone, Copy)]
+pub(crate) struct Counted {
+    pub(crate) meter: MeterId,
+    pub(crate) register: Register,
+    pub(crate) instant: Instant,
+    pub(crate) wh: WattHours,
+}
+
+// Keeps a reading that begins to count, and the energies with it.
+pub(crate) fn begin_to_count<S: Shelf>(
+    shelf: &mut S,
+    alloc: Global,
+    office: &Office,
+    zone: &Zone,
+    reading: &Counted,
+) -> Result<(), ShelfFault>
+    requires begun { IsSome (S.state shelf.old).begun }
+    requires meter { reading.now.meter.0 < length office.now.meters }
+    requires counts { counts_at office.now reading.now.meter.0 reading.now.register ≡ true }
+    ensures settled { S.clean shelf.new → (was is : AnyKey → AnyContents) → (S.state shelf.old).content.point ≡ point_told was → (S.state shelf.old).content.start ≡ start_told was → IsOneMoreReading was is reading.now.meter.0 reading.now.register reading.now.instant reading.now.wh → EndsBefore (office_of office.now).end (point_told is reading.now.meter.0 reading.now.register) → OnOk result (IsSettled (office_of office.now) was is (S.state shelf.old).content (S.state shelf.new).content) }
+    ensures point { S.clean shelf.new → OnOk result ((S.state shelf.new).content.point ≡ points_with (S.state shelf.old).content.point reading.now.meter.0 reading.now.register reading.now.instant (Some reading.now.wh)) }
+    ensures start { S.clean shelf.new → OnOk result ((S.state shelf.new).content.start ≡ (S.state shelf.old).content.start) }
+    ensures tally { S.clean shelf.new → (starts : ℕ) → HasStarts (S.state shelf.old).content reading.now.meter.0 starts → (S.state shelf.new).tally ≤ (S.state shelf.old).tally + (6 + starts) + 6 * length office.now.bands * (length office.now.accounts + 1) }
+    ensures kept { GoesOn S.state S.left S.clean (failures_told result) shelf.old shelf.new }
+{
+    let (without, with) = weigh_around(shelf, alloc, office, zone, reading)?;
+    move_energies(shelf, office, &without, &with)?;
+    shelf.point_put(reading.meter, reading.register, reading.instant, reading.wh)
+}
+
+// Takes a reading that ceases to count away, and the energies with it.
+pub(crate) fn cease_to_count<S: Shelf>(
+    shelf: &mut S,
+    alloc: Global,
+    office: &Office,
+    zone: &Zone,
+    reading: &Counted,
+) -> Result<(), ShelfFault>
+    requires begun { IsSome (S.state shelf.old).begun }
+    requires meter { reading.now.meter.0 < length office.now.meters }
+    requires counts { counts_at office.now reading.now.meter.0 reading.now.register ≡ true }
+    ensures settled { S.clean shelf.new → (was is : AnyKey → AnyContents) → (S.state shelf.old).content.point ≡ point_told was → (S.state shelf.old).content.start ≡ start_told was → IsOneMoreReading is was reading.now.meter.0 reading.now.register reading.now.instant reading.now.wh → EndsBefore (office_of office.now).end (point_told was reading.now.meter.0 reading.now.register) → OnOk result (IsSettled (office_of office.now) was is (S.state shelf.old).content (S.state shelf.new).content) }
+    ensures point { S.clean shelf.new → OnOk result ((S.state shelf.new).content.point ≡ points_with (S.state shelf.old).content.point reading.now.meter.0 reading.now.register reading.now.instant None) }
+    ensures start { S.clean shelf.new → OnOk result ((S.state shelf.new).content.start ≡ (S.state shelf.old).content.start) }
+    ensures tally { S.clean shelf.new → (starts : ℕ) → HasStarts (S.state shelf.old).content reading.now.meter.0 starts → (S.state shelf.new).tally ≤ (S.state shelf.old).tally + (6 + starts) + 6 * length office.now.bands * (length office.now.accounts + 1) }
+    ensures kept { GoesOn S.state S.left S.clean (failures_told result) shelf.old shelf.new }
+{
+    let (without, with) = weigh_around(shelf, alloc, office, zone, reading)?;
+    move_energies(shelf, office, &with, &without)?;
+    shelf.point_del(reading.meter, reading.register, reading.instant)
+}
+
+// What the pairs of a register round an instant give to each total, without a reading there and with it.
+fn weigh_around<S: Shelf>(
+    shelf: &mut S,
+    alloc: Global,
+    office: &Office,
+    zone: &Zone,
+    reading: &Counted,
+) -> Result<(Vec<Sum>, Vec<Sum>), ShelfFault>
+    requires begun { IsSome (S.state shelf.old).begun }
+    requires meter { reading.now.meter.0 < length office.now.meters }
+    requires counts { counts_at office.now reading.now.meter.0 reading.now.register ≡ true }
+    ensures without { IfOk result (λ around. gathered_in_all around.0.items < 2 ^ 127) }
+    ensures with_it { IfOk result (λ around. gathered_in_all around.1.items < 2 ^ 127) }
+    ensures around { S.clean shelf.new → (free is : AnyKey → AnyContents) → ((u : ℕ) → (u ≡ reading.now.instant → ⊥) → (S.state shelf.old).content.point reading.now.meter.0 reading.now.register u ≡ point_told free reading.now.meter.0 reading.now.register u) → (S.state shelf.old).content.start reading.now.meter.0 ≡ start_told free reading.now.meter.0 → IsOneMoreReading free is reading.now.meter.0 reading.now.register reading.now.instant reading.now.wh → EndsBefore (office_of office.now).end (point_told is reading.now.meter.0 reading.now.register) → IfOk result (λ around. AreDifferences (office_of office.now) free is around.0.items around.1.items) }
+    ensures same { S.clean shelf.new → OnOk result ((S.state shelf.new).content ≡ (S.state shelf.old).content) }
+    ensures tally { S.clean shelf.new → (starts : ℕ) → HasStarts (S.state shelf.old).content reading.now.meter.0 starts → (S.state shelf.new).tally ≤ (S.state shelf.old).tally + (5 + starts) }
+    ensures kept { GoesOn S.state S.left S.clean (failures_told result) shelf.old shelf.new }
+{
+    let starts = shelf.starts_of(alloc, reading.meter)?;
+    let below = shelf.point_before(reading.meter, reading.register, reading.instant)?;
+    let above = shelf.point_after(reading.meter, reading.register, reading.instant)?;
+    let direction = direction_of(reading.register);
+    let apart = listed(alloc, &below, &None, &above)?;
+    let here = Some((reading.instant, reading.wh));
+    let joined = listed(alloc, &below, &here, &above)?;
+    let without = sums_of(alloc, office, zone, &starts, direction, &apart)?;
+    let with = sums_of(alloc, office, zone, &starts, direction, &joined)?;
+    Ok((without, with))
+}
+
+// The direction of a register.
+fn direction_of(register: Register) -> Direction
+    ensures { result ≡ direction_told register }
+{
+    match register {
+        Register::I0 | Register::I1 | Register::I2 => Direction::Import,
+        Register::E0 | Register::E1 | Register::E2 => Direction::Export,
+    }
+}
+
+// The points that are there, one behind another.
+fn listed(
+    alloc: Global,
+    below: &Option<Point>,
+    here: &Option<Point>,
+    above: &Option<Point>,
+) -> Result<Vec<Point>, AllocError>
+    ensures { IfOk result (λ points. points.items ≡ point_listed below.now (point_listed here.now (point_listed above.now []))) }
+{
+    let mut points = Vec::new(alloc);
+    add_if_there(&mut points, below)?;
+    add_if_there(&mut points, here)?;
+    add_if_there(&mut points, above)?;
+    Ok(points)
+}
+
+fn add_if_there(points: &mut Vec<Point>, point: &Option<Point>) -> Result<(), AllocError>
+    ensures { IfOk result (λ _. points.new.items ≡ points.old.items ++ point_listed point.now []) }
+{
+    if let Some(point) = point {
+        points.push(*point)?;
+    }
+    Ok(())
+}
+
+// What the neighbouring pairs of a short list of points give to each total, of a register of the direction and a meter
+// with these starts.
+fn sums_of(
+    alloc: Global,
+    office: &Office,
+    zone: &Zone,
+    starts: &[(Instant, Owner)],
+    direction: Direction,
+    points: &[Point],
+) -> Result<Vec<Sum>, AllocError>
+    requires short { length points.now ≤ 3 }
+    ensures gathered { StartsIncrease starts.now → IsInOrder by_second points.now → IfOk result (λ sums. (k : AnyTotal) → gathered sums.items k ≡ pairs_for office.now starts.now direction points.now k) }
+    ensures few { IfOk result (λ sums. gathered_in_all sums.items < 2 ^ 127) }
+{
+    let mut sums = Vec::new(alloc);
+    let Some(owners) = Owners::of(starts) else {
+        return Ok(sums);
+    };
+    add_pairs(alloc, office, zone, &owners, direction, points, &mut sums)?;
+    Ok(sums)
+}
