@@ -19,6 +19,11 @@ module _ {S : Type 0} (state : S → State) (leaves : S → ShelfContent → Typ
     clean = λ k. f.clean (g.clean k);
   }
 
+-- no call at all
+module _ {S : Type 0} (state : S → State) (leaves : S → ShelfContent → Type 0) (is_clean : S → Type 0) (a : S) where
+  pub kept-none : GoesOn state leaves is_clean 0 a a
+  kept-none = record { upload = refl; counts = record { failures = omega arith; failed_abandons = refl }; left = λ k c l. l; clean = λ k. k }
+
 pub asked-then : {S : Type 0} (shelf : Ghosts S) (told : ℕ) (a b c : S) → IsOnlyAsked shelf 0 a b → IsOnlyAsked shelf told b c → IsOnlyAsked shelf told a c
 asked-then shelf told a b c f g = record {
   content = λ k. g.content k ∙ f.content (g.kept.clean k);
@@ -28,5 +33,5 @@ asked-then shelf told a b c f g = record {
 pub asked-none : {S : Type 0} (shelf : Ghosts S) (a : S) → IsOnlyAsked shelf 0 a a
 asked-none shelf a = record {
   content = λ k. refl;
-  kept = record { upload = refl; counts = record { failures = omega arith; failed_abandons = refl }; left = λ k c l. l; clean = λ k. k };
+  kept = kept-none shelf.state shelf.left shelf.clean a;
 }

@@ -27,3 +27,4 @@ pub mod Gathering
 pub mod Changing
 pub mod Neighbouring
 pub mod Following
+pub mod Truthful

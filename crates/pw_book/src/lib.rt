@@ -18,6 +18,7 @@ mod pairs;
 mod payments;
 mod posting;
 mod rows;
+mod settling;
 mod sums;
 mod told;
 mod upload;

@@ -105,7 +105,7 @@ pub(crate) fn move_energies<S: Shelf>(
     requires taken { gathered_in_all taken.now < 2 ^ 127 }
     requires given { gathered_in_all given.now < 2 ^ 127 }
     ensures moved { S.clean shelf.new → OnOk result (MovesTotals (OfOwners (length office.now.bands) (length office.now.accounts)) (gathered given.now) (gathered taken.now) (S.state shelf.old).content (S.state shelf.new).content) }
-    ensures tally { (S.state shelf.new).tally ≤ (S.state shelf.old).tally + 6 * length office.now.bands * (length office.now.accounts + 1) }
+    ensures tally { (S.state shelf.new).tally ≤ (S.state shelf.old).tally + 6 * (length office.now.bands * (length office.now.accounts + 1)) }
     ensures kept { GoesOn S.state S.left S.clean (failures_told result) shelf.old shelf.new }
 {
     move_owner(shelf, office, None, taken, given)?;

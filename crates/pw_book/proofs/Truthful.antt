@@ -1,0 +1,255 @@
+-- Points, starts and totals stay those of the records.
+use Rattle.std.proofs.Common.{◌≡◌, ◌==◌, ℕ, ◌+◌, ◌*◌, ◌<◌, ◌≤◌, ◌⊎◌, Bool, true, false, cond, Option, Some, None, List, [], ◌∷◌, length, Result, Ok, Err, OnOk, refl, ap, sym, subst, ◌∙◌, arith, inl, inr}
+use Rattle.std.proofs.lemmas.Bool.{cases_Bool, cases_lt, true≢false}
+use Rattle.pw_obis.specs.declared.reference.Register.{Register}
+use Rattle.pw_obis.specs.declared.energy.TheConstants.{LARGEST_WATT_HOURS}
+use Rattle.pw_tariff.specs.declared.ids.AccountId.{AccountId}
+use Rattle.pw_tariff.specs.declared.ids.BandId.{BandId}
+use Rattle.pw_tariff.specs.declared.ids.Direction.{Direction}
+use Rattle.pw_tariff.specs.declared.ids.Direction.TheVariants.{Import, Export}
+use Rattle.pw_tariff.specs.Office.{OfficeRules}
+use Rattle.pw_model.specs.declared.records.Key.{Key}
+use Rattle.pw_model.specs.declared.records.Key.TheVariants as key
+use Rattle.pw_model.specs.declared.records.Content.{Content}
+use Rattle.pw_model.specs.declared.records.Content.TheVariants as content
+use Rattle.pw_model.specs.declared.records.Contents.{Contents}
+use Rattle.pw_model.specs.declared.records.Contents.TheVariants.{Nothing, One, Several}
+use Rattle.pw_model.specs.declared.records.Entry.{Entry}
+use Rattle.pw_model.specs.declared.records.TotalKey.{TotalKey}
+use Rattle.pw_model.specs.declared.records.TotalKey.TheVariants.{Energy, TopUps}
+use Rattle.pw_model.specs.Changes.{ChangesAtOneKey, IsOneMoreReading, IsOtherStart}
+use Rattle.pw_model.specs.Counting.{IsInserted, Member, SameMembers, contents_at, joined, point, start, wh_of, owner_of, reading_key, assignment_key}
+use Rattle.pw_model.specs.Energy.{energy_where, of_band}
+use Rattle.pw_model.specs.Office.{AllOfOffice, HasOwner, IsOf, IsOffice, most_records}
+use Rattle.pw_model.specs.Payments.{cents_for, topped_up}
+use Rattle.pw_model.specs.Same.{same_key, same_content}
+use Rattle.pw_model.specs.Shelf.{IsTrueContent, ShelfContent, total_among}
+use Rattle.pw_model.proofs.Bounded.{ToldOf, contents-of}
+use Rattle.pw_model.proofs.Counting.{entry, inserted-same, one-is_counting, one-more_record}
+use Rattle.pw_model.proofs.Foreign.{foreign-totals_are_none}
+use Rattle.pw_model.proofs.Payments.{one-more_payment}
+use Rattle.pw_model.proofs.Same.{same_key-decides, same_content-decides}
+use Rattle.pw_model.proofs.Truth.{true-bounded}
+use Rattle.pw_shelf.specs.Changes.{points_with, starts_with}
+use Rattle.pw_book.specs.inner.Moves.{MovesTotals, OfOwner, OfOwners, InDirection, most_total}
+use Rattle.pw_book.specs.declared.around.Counted.{Counted}
+use Rattle.pw_book.specs.inner.Settling.{EndsBefore, IsJustAdded, IsSettled, IsTrueOf, reading_of}
+use Rattle.pw_book.proofs.Sharing.{points-end}
+
+-- ---- the records before
+pub of-office-before : (office : OfficeRules) (s t : List Entry) (e : Entry) → IsInserted e s t → AllOfOffice office t → AllOfOffice office s
+of-office-before office s t e i h = λ x m. h x ((inserted-same s t e i x).1 (inr m))
+
+-- a content of its own that counted was another
+pub apart-before : (s : List Entry) (e : Entry) (d : Content) → (Member e s → ⊥) → contents_at s e.key ≡ One d → joined e.content (One d) ≡ Several
+apart-before s e d n h = elim (cases_Bool (same_content e.content d)) [
+  | inl y ↦ (
+      let q : e.content ≡ d = (same_content-decides e.content d).0 y in
+      let c : contents_at s e.key ≡ One e.content = h ∙ ap One (sym q) in
+      absurd (n ((one-is_counting s e).0 c).0))
+  | inr f ↦ ap (λ b. cond b (One d) Several) f
+]
+
+-- ---- totals that may be asked of the office
+in-office : (office : OfficeRules) (o : Option AccountId) (b : BandId) (d : Direction) → HasOwner office o → b.0 < office.bands → OfOwners office.bands office.accounts (Energy o b d)
+in-office office None b Import h l = inl (inl (b, l, refl))
+in-office office None b Export h l = inl (inr (b, l, refl))
+in-office office (Some a) b Import h l = inr (a, h, inl (b, l, refl))
+in-office office (Some a) b Export h l = inr (a, h, inr (b, l, refl))
+
+owner-known : (office : OfficeRules) (o : Option AccountId) → HasOwner office o ⊎ (HasOwner office o → ⊥)
+owner-known office None = inl tt
+owner-known office (Some a) = elim (cases_lt a.0 office.accounts) [ inl l ↦ inl l | inr m ↦ inr (λ l. absurd (omega (arith, l, m))) ]
+
+-- an energy key that moves is one of the office
+abbrev is-energy : TotalKey → ℕ
+is-energy (Energy o b d) = 1
+is-energy (TopUps a) = 0
+
+abbrev band_in : TotalKey → ℕ
+band_in (Energy o b d) = b.0
+band_in (TopUps a) = 0
+
+abbrev owner_in : TotalKey → Option AccountId
+owner_in (Energy o b d) = o
+owner_in (TopUps a) = None
+
+owner-direction : (bands : ℕ) (o : Option AccountId) (d : Direction) (k : TotalKey) → InDirection o d bands k → (is-energy k ≡ 1) × (band_in k < bands) × (owner_in k ≡ o)
+owner-direction bands o d k i = (ap is-energy i.2, (let e = ap band_in i.2 in let l = i.1 in omega (arith, e, l)), ap owner_in i.2)
+
+of-owner : (bands : ℕ) (o : Option AccountId) (k : TotalKey) → OfOwner bands o k → (is-energy k ≡ 1) × (band_in k < bands) × (owner_in k ≡ o)
+of-owner bands o k (inl i) = owner-direction bands o Import k i
+of-owner bands o k (inr i) = owner-direction bands o Export k i
+
+of-owners : (office : OfficeRules) (k : TotalKey) → OfOwners office.bands office.accounts k → (is-energy k ≡ 1) × (band_in k < office.bands) × HasOwner office (owner_in k)
+of-owners office k (inl i) = (let r = of-owner office.bands None k i in (r.0, r.1, subst (HasOwner office) (sym r.2) tt))
+of-owners office k (inr i) = (let r = of-owner office.bands (Some i.0) k i.2 in (r.0, r.1, subst (HasOwner office) (sym r.2) i.1))
+
+-- ---- truth
+-- totals among a list fit
+pub total-fits : (office : OfficeRules) (s : List Entry) → IsOffice office → AllOfOffice office s → length s ≤ most_records → (k : TotalKey) → total_among office s k ≤ most_total
+total-fits office s o h few k =
+    let c : ShelfContent = record { records = s; point = point (contents_at s); start = start (contents_at s); total = total_among office s } in
+    true-bounded office c o h few (record { points = refl; starts = refl; totals = λ l. refl }) k
+
+-- where the energies followed, and points, starts and top-ups too, all is true
+pub true-after : (office : OfficeRules) (s : List Entry) (e : Entry) (before : Contents) (old new : ShelfContent) → IsOffice office → IsJustAdded office s e before old →
+    IsSettled office (contents_at s) (contents_at old.records) old new → new.point ≡ point (contents_at old.records) → new.start ≡ start (contents_at old.records) →
+    ((a : ℕ) → topped_up old.records a ≡ topped_up s a) → IsTrueContent office new
+true-after office s e before old new o j m p q t = record {
+  points = p ∙ ap (λ (r : List Entry). point (contents_at r)) (sym m.records);
+  starts = q ∙ ap (λ (r : List Entry). start (contents_at r)) (sym m.records);
+  totals = λ k. total k ∙ ap (λ (r : List Entry). total_among office r k) (sym m.records);
+}
+  where
+    small : AllOfOffice office s
+    small = of-office-before office s old.records e j.inserted j.of_office
+
+    energy-other : (owner : Option AccountId) (b : BandId) (d : Direction) → (OfOwners office.bands office.accounts (Energy owner b d) → ⊥) → total_among office s (Energy owner b d) ≡ total_among office old.records (Energy owner b d)
+    energy-other owner b d n = elim (cases_lt b.0 office.bands) [
+      | inl l ↦ elim (owner-known office owner) [
+        | inl h ↦ absurd (n (in-office office owner b d h l))
+        | inr h ↦ (foreign-totals_are_none office s).owners small owner b d h ∙ sym ((foreign-totals_are_none office old.records).owners j.of_office owner b d h)
+      ]
+      | inr g ↦ (foreign-totals_are_none office s).bands o.band owner b d g ∙ sym ((foreign-totals_are_none office old.records).bands o.band owner b d g)
+    ]
+
+    total : (k : TotalKey) → new.total k ≡ total_among office old.records k
+    total (TopUps a) =
+        m.elsewhere (TopUps a) (λ i. let r = of-owners office (TopUps a) i in let z : 0 ≡ 1 = r.0 in absurd (omega (arith, z)))
+        ∙ j.still.totals (TopUps a) ∙ sym (t a.0)
+    total (Energy owner b d) = elim (cases_lt b.0 office.bands) [
+      | inl l ↦ elim (owner-known office owner) [
+        | inl h ↦ m.energies (Energy owner b d) (in-office office owner b d h l) (j.still.totals (Energy owner b d)) (total-fits office old.records o j.of_office j.few (Energy owner b d))
+        | inr h ↦ (
+            let n : OfOwners office.bands office.accounts (Energy owner b d) → ⊥ = λ i. h (of-owners office (Energy owner b d) i).2 in
+            m.elsewhere (Energy owner b d) n ∙ j.still.totals (Energy owner b d) ∙ energy-other owner b d n)
+      ]
+      | inr g ↦ (
+          let n : OfOwners office.bands office.accounts (Energy owner b d) → ⊥ = λ i. let l = (of-owners office (Energy owner b d) i).1 in absurd (omega (arith, l, g)) in
+          m.elsewhere (Energy owner b d) n ∙ j.still.totals (Energy owner b d) ∙ energy-other owner b d n)
+    ]
+
+-- ---- what one entry more changes, at its key
+module _ (office : OfficeRules) (s : List Entry) (e : Entry) (before : Contents) (c : ShelfContent) (j : IsJustAdded office s e before c) where
+  abbrev now-at : Key → Contents
+  now-at = contents_at c.records
+
+  changed : ChangesAtOneKey s c.records e
+  changed = one-more_record s c.records e j.inserted
+
+  told-before : (b : Contents) → before ≡ b → contents_at s e.key ≡ b
+  told-before b q = sym j.before_is ∙ q
+
+  told-now : (b : Contents) → before ≡ b → now-at e.key ≡ joined e.content b
+  told-now b q = changed.here ∙ ap (joined e.content) (told-before b q)
+
+  told-several : (d : Content) → before ≡ One d → now-at e.key ≡ Several
+  told-several d q = told-now (One d) q ∙ apart-before s e d j.fresh (told-before (One d) q)
+
+  -- what was told at the key is of the office
+  told-fits : (b : Contents) → before ≡ b → ToldOf office e.key b
+  told-fits b q = subst (ToldOf office e.key) (told-before b q) (contents-of office s e.key (of-office-before office s c.records e j.inserted j.of_office))
+
+  own-fits : IsOf office e.key e.content
+  own-fits = j.of_office e ((inserted-same s c.records e j.inserted e).1 (inl refl))
+
+  -- top-ups change by what counts at the key
+  paid-more : (a : ℕ) → topped_up c.records a + cents_for a (contents_at s e.key) ≡ topped_up s a + cents_for a (now-at e.key)
+  paid-more a = one-more_payment s c.records e j.inserted a
+
+  -- several stay several: nothing changes
+  several-same : before ≡ Several → (k : Key) → contents_at s k ≡ now-at k
+  several-same q k = elim (cases_Bool (same_key e.key k)) [
+    | inl y ↦ (let i : e.key ≡ k = (same_key-decides e.key k).0 y in
+        let P : Key → Type 0 = λ l. contents_at s l ≡ now-at l in
+        subst P i (told-before Several q ∙ sym (told-now Several q)))
+    | inr f ↦ sym (changed.elsewhere k (λ i. true≢false (sym ((same_key-decides e.key k).1 (sym i)) ∙ f)))
+  ]
+
+  several-totals : before ≡ Several → (k : TotalKey) → total_among office s k ≡ total_among office c.records k
+  several-totals q (Energy o b d) = let at : contents_at s ≡ now-at = λ i k. several-same q k i in ap (λ (at : Key → Contents). energy_where office at d (of_band office o b.0)) at
+  several-totals q (TopUps a) =
+      let p = paid-more a.0 in
+      let same : cents_for a.0 (contents_at s e.key) ≡ cents_for a.0 (now-at e.key) = ap (cents_for a.0) (several-same q e.key) in
+      omega (arith, p, same)
+
+  pub several-true : before ≡ Several → IsTrueContent office c
+  several-true q =
+      let at : contents_at s ≡ now-at = λ i k. several-same q k i in
+      record {
+        points = j.still.points ∙ ap (λ (at : Key → Contents). point at) at;
+        starts = j.still.starts ∙ ap (λ (at : Key → Contents). start at) at;
+        totals = λ k. j.still.totals k ∙ several-totals q k;
+      }
+
+-- ---- a reading
+-- at the key of a reading no cents are told
+no-cents : (office : OfficeRules) (m : ℕ) (r : Register) (t a : ℕ) (b : Contents) → ToldOf office (reading_key m r t) b → cents_for a b ≡ 0
+no-cents office m r t a Nothing h = refl
+no-cents office m r t a Several h = refl
+no-cents office m r t a (One (content.Reading w)) h = refl
+no-cents office m r t a (One (content.Assignment o)) h = refl
+no-cents office m r t a (One (content.TopUp b c i)) h = absurd h
+
+module _ (office : OfficeRules) (o : IsOffice office) (s : List Entry) (c : Counted) (before : Contents) (old : ShelfContent) (j : IsJustAdded office s (reading_of c) before old) where
+  abbrev e : Entry
+  e = reading_of c
+
+  pub reading-topped : (a : ℕ) → topped_up old.records a ≡ topped_up s a
+  reading-topped a =
+      let p = paid-more office s (reading_of c) before old j a in
+      let was = no-cents office c.meter.0 c.register c.instant a (contents_at s e.key) (contents-of office s e.key (of-office-before office s old.records e j.inserted j.of_office)) in
+      let is = no-cents office c.meter.0 c.register c.instant a (contents_at old.records e.key) (contents-of office old.records e.key j.of_office) in
+      omega (arith, p, was, is)
+
+  pub reading-ends : EndsBefore office.end (point (contents_at old.records) c.meter.0 c.register)
+  reading-ends t w h = rw o.end (points-end office old.records c.meter.0 c.register j.of_office t w h)
+
+  pub reading-ended : EndsBefore office.end (point (contents_at s) c.meter.0 c.register)
+  reading-ended t w h = rw o.end (points-end office s c.meter.0 c.register (of-office-before office s old.records e j.inserted j.of_office) t w h)
+
+  pub reading-begins : before ≡ Nothing → IsOneMoreReading (contents_at s) (contents_at old.records) c.meter.0 c.register c.instant c.wh
+  reading-begins q = record {
+    free = ap wh_of (told-before office s e before old j Nothing q);
+    here = ap wh_of (told-now office s e before old j Nothing q);
+    elsewhere = λ k n. sym ((changed office s e before old j).elsewhere k n);
+  }
+
+  pub reading-ceases : (v : ℕ) → before ≡ One (content.Reading v) → IsOneMoreReading (contents_at old.records) (contents_at s) c.meter.0 c.register c.instant v
+  reading-ceases v q = record {
+    free = ap wh_of (told-several office s e before old j (content.Reading v) q);
+    here = ap wh_of (told-before office s e before old j (One (content.Reading v)) q);
+    elsewhere = λ k n. (changed office s e before old j).elsewhere k n;
+  }
+
+  point-at : (w : Option ℕ) → wh_of (contents_at old.records e.key) ≡ w → (n : ℕ) (q : Register) (u : ℕ) → points_with old.point c.meter.0 c.register c.instant w n q u ≡ point (contents_at old.records) n q u
+  point-at w h n q u = elim (cases_Bool (same_key e.key (reading_key n q u))) [
+    | inl y ↦ (let i : e.key ≡ reading_key n q u = (same_key-decides e.key (reading_key n q u)).0 y in
+        ap (λ b. cond b w (old.point n q u)) y ∙ sym h ∙ ap (λ k. wh_of (contents_at old.records k)) i)
+    | inr f ↦ ap (λ b. cond b w (old.point n q u)) f ∙ ap (λ p. p n q u) j.still.points
+        ∙ ap wh_of (sym ((changed office s e before old j).elsewhere (reading_key n q u) (λ i. true≢false (sym ((same_key-decides e.key (reading_key n q u)).1 (sym i)) ∙ f))))
+  ]
+
+  point-told : (w : Option ℕ) → wh_of (contents_at old.records e.key) ≡ w → points_with old.point c.meter.0 c.register c.instant w ≡ point (contents_at old.records)
+  point-told w h = λ i n q u. point-at w h n q u i
+
+  starts-told : old.start ≡ start (contents_at old.records)
+  starts-told = j.still.starts ∙ (λ i m t. owner_of (sym ((changed office s e before old j).elsewhere (assignment_key m t) (λ p. cc)) i))
+
+  pub begun-true : before ≡ Nothing → (new : ShelfContent) → IsSettled office (contents_at s) (contents_at old.records) old new → new.point ≡ points_with old.point c.meter.0 c.register c.instant (Some c.wh) → new.start ≡ old.start → IsTrueContent office new
+  begun-true q new m p t = true-after office s e before old new o j m (p ∙ point-told (Some c.wh) (reading-begins q).here) (t ∙ starts-told) reading-topped
+
+  pub ceased-true : (v : ℕ) → before ≡ One (content.Reading v) → (new : ShelfContent) → IsSettled office (contents_at s) (contents_at old.records) old new → new.point ≡ points_with old.point c.meter.0 c.register c.instant None → new.start ≡ old.start → IsTrueContent office new
+  ceased-true v q new m p t = true-after office s e before old new o j m (p ∙ point-told None (reading-ceases v q).free) (t ∙ starts-told) reading-topped
+
+  -- no other content is told at the key of a reading
+  pub never-other : (d : Content) → before ≡ One d → ((x : ℕ) → d ≡ content.Reading x → ⊥) → ⊥
+  never-other (content.Reading w) q n = n w refl
+  never-other (content.Assignment p) q n = told-fits office s e before old j (One (content.Assignment p)) q
+  never-other (content.TopUp a m t) q n = told-fits office s e before old j (One (content.TopUp a m t)) q
+
+-- ---- three facts of one answer
+pub on-ok-three : {T E P Q R W : Type 0} (r : Result T E) → (P → Q → R → W) → OnOk r P → OnOk r Q → OnOk r R → OnOk r W
+on-ok-three (Ok a) f p q t = f p q t
+on-ok-three (Err a) f p q t = tt

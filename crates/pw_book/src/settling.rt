@@ -1,0 +1,79 @@
+//! Points, starts and totals that follow an entry which was added.
+
+ghost use Rattle.std.specs.Prelude.{◌≡◌, ℕ, ◌+◌, ◌*◌, ◌<◌, ◌≤◌, ◌^◌, List, OnOk, IsSome, true, length};
+ghost use Rattle.pw_model.specs.declared.records.Content.TheVariants as content;
+ghost use Rattle.pw_model.specs.declared.records.Entry.{Entry as AnEntry};
+ghost use Rattle.pw_model.specs.declared.records.Key.TheVariants as key;
+ghost use Rattle.pw_model.specs.Office.{IsOfOffice};
+ghost use Rattle.pw_model.specs.Shelf.{IsTrueContent};
+ghost use Rattle.pw_shelf.specs.Calls.{GoesOn, failures_told};
+ghost use Rattle.pw_shelf.specs.Rows.{IsTopUp};
+ghost use Rattle.pw_tariff.specs.Office.{IsSound, counts_at, office_of};
+ghost use Rattle.pw_book.specs.inner.Settling.{HasStarts, IsJustAdded, IsPaid, classes_of, reading_of};
+
+use crate::around::{Counted, begin_to_count, cease_to_count};
+use crate::moving::change_total;
+use pw_model::{Content, Contents, Entry, TotalKey};
+use pw_shelf::{Shelf, ShelfFault};
+use pw_tariff::{AccountId, Office};
+use pw_time::Zone;
+use std::alloc::Global;
+
+// Keeps the point and the energies that follow a reading: it begins to count where nothing had its key, and what counted
+// there ceases to.
+pub(crate) fn reading_added<S: Shelf>(
+    shelf: &mut S,
+    alloc: Global,
+    office: &Office,
+    zone: &Zone,
+    reading: &Counted,
+    before: &Contents,
+) -> Result<(), ShelfFault>
+    requires begun { IsSome (S.state shelf.old).begun }
+    requires sound { IsSound office.now }
+    requires meter { reading.now.meter.0 < length office.now.meters }
+    requires counts { counts_at office.now reading.now.meter.0 reading.now.register ≡ true }
+    ensures truth { S.clean shelf.new → (s : List AnEntry) → IsJustAdded (office_of office.now) s (reading_of reading.now) before.now (S.state shelf.old).content → OnOk result (IsTrueContent (office_of office.now) (S.state shelf.new).content) }
+    ensures records { S.clean shelf.new → (s : List AnEntry) → IsJustAdded (office_of office.now) s (reading_of reading.now) before.now (S.state shelf.old).content → OnOk result ((S.state shelf.new).content.records ≡ (S.state shelf.old).content.records) }
+    ensures start { S.clean shelf.new → OnOk result ((S.state shelf.new).content.start ≡ (S.state shelf.old).content.start) }
+    ensures tally { S.clean shelf.new → (starts : ℕ) → HasStarts (S.state shelf.old).content reading.now.meter.0 starts → (S.state shelf.new).tally ≤ (S.state shelf.old).tally + (6 + starts) + 6 * classes_of (office_of office.now) }
+    ensures kept { GoesOn S.state S.left S.clean (failures_told result) shelf.old shelf.new }
+{
+    match before {
+        Contents::Nothing => begin_to_count(shelf, alloc, office, zone, reading),
+        Contents::One(counted) => {
+            let Content::Reading { wh } = counted else {
+                return Ok(());
+            };
+            let counted = Counted { wh: *wh, ..*reading };
+            cease_to_count(shelf, alloc, office, zone, &counted)
+        }
+        Contents::Several => Ok(()),
+    }
+}
+
+// Keeps the total that follows a top-up: it begins to count where nothing had its reference, and what counted there ceases
+// to.
+pub(crate) fn top_up_added<S: Shelf>(
+    shelf: &mut S,
+    account: AccountId,
+    cents: u32,
+    before: &Contents,
+) -> Result<(), ShelfFault>
+    requires begun { IsSome (S.state shelf.old).begun }
+    ensures moved { S.clean shelf.new → OnOk result (IsPaid account cents before.now (S.state shelf.old).content (S.state shelf.new).content) }
+    ensures tally { (S.state shelf.new).tally ≤ (S.state shelf.old).tally + 3 }
+    ensures kept { GoesOn S.state S.left S.clean (failures_told result) shelf.old shelf.new }
+{
+    match before {
+        Contents::Nothing => change_total(shelf, &TotalKey::TopUps { account }, u128::from(cents), 0),
+        Contents::One(counted) => {
+            let Content::TopUp { account, cents, .. } = counted else {
+                return Ok(());
+            };
+            let key = TotalKey::TopUps { account: *account };
+            change_total(shelf, &key, 0, u128::from(*cents))
+        }
+        Contents::Several => Ok(()),
+    }
+}
