@@ -1,6 +1,6 @@
 -- Points, starts and totals stay those of the records.
 use Rattle.std.proofs.Common.{◌≡◌, ◌==◌, ℕ, ◌+◌, ◌*◌, ◌<◌, ◌≤◌, ◌⊎◌, Bool, true, false, cond, Option, Some, None, List, [], ◌∷◌, length, Result, Ok, Err, OnOk, refl, ap, sym, subst, ◌∙◌, arith, inl, inr}
-use Rattle.std.proofs.lemmas.Bool.{cases_Bool, cases_lt, true≢false}
+use Rattle.std.proofs.lemmas.Bool.{cases_Bool, cases_lt, cases_eq, eq-eqb, ne_eqb, true≢false}
 use Rattle.pw_obis.specs.declared.reference.Register.{Register}
 use Rattle.pw_obis.specs.declared.energy.TheConstants.{LARGEST_WATT_HOURS}
 use Rattle.pw_tariff.specs.declared.ids.AccountId.{AccountId}
@@ -19,7 +19,10 @@ use Rattle.pw_model.specs.declared.records.TotalKey.{TotalKey}
 use Rattle.pw_model.specs.declared.records.TotalKey.TheVariants.{Energy, TopUps}
 use Rattle.pw_model.specs.Changes.{ChangesAtOneKey, IsOneMoreReading, IsOtherStart}
 use Rattle.pw_model.specs.Counting.{IsInserted, Member, SameMembers, contents_at, joined, point, start, wh_of, owner_of, reading_key, assignment_key}
-use Rattle.pw_model.specs.Energy.{energy_where, of_band}
+use Rattle.pw_flow.specs.Energy.{register_energy}
+use Rattle.pw_flow.specs.Time.{last, sum_over}
+use Rattle.pw_tariff.specs.Owners.{owner_from}
+use Rattle.pw_model.specs.Energy.{Asked, energy_where, of_band, over_registers, owner_at}
 use Rattle.pw_model.specs.Office.{AllOfOffice, HasOwner, IsOf, IsOffice, most_records}
 use Rattle.pw_model.specs.Payments.{cents_for, topped_up}
 use Rattle.pw_model.specs.Same.{same_key, same_content}
@@ -33,7 +36,7 @@ use Rattle.pw_model.proofs.Truth.{true-bounded}
 use Rattle.pw_shelf.specs.Changes.{points_with, starts_with}
 use Rattle.pw_book.specs.inner.Moves.{MovesTotals, OfOwner, OfOwners, InDirection, most_total}
 use Rattle.pw_book.specs.declared.around.Counted.{Counted}
-use Rattle.pw_book.specs.inner.Settling.{EndsBefore, IsJustAdded, IsSettled, IsTrueOf, reading_of}
+use Rattle.pw_book.specs.inner.Settling.{EndsBefore, IsJustAdded, IsPaid, IsSettled, IsTrueOf, reading_of}
 use Rattle.pw_book.proofs.Sharing.{points-end}
 
 -- ---- the records before
@@ -253,3 +256,101 @@ module _ (office : OfficeRules) (o : IsOffice office) (s : List Entry) (c : Coun
 pub on-ok-three : {T E P Q R W : Type 0} (r : Result T E) → (P → Q → R → W) → OnOk r P → OnOk r Q → OnOk r R → OnOk r W
 on-ok-three (Ok a) f p q t = f p q t
 on-ok-three (Err a) f p q t = tt
+
+-- ---- a top-up
+none-of : (b : Bool) → let n : ℕ = cond b 0 0 in n ≡ 0
+none-of true = refl
+none-of false = refl
+
+abbrev account-in : TotalKey → ℕ
+account-in (Energy o b d) = 0
+account-in (TopUps a) = a.0
+
+-- energies go by points and starts alone
+energy-by : OfficeRules → (ℕ → Register → ℕ → Option ℕ) → (ℕ → ℕ → Option (Option AccountId)) → Direction → Asked → ℕ
+energy-by office p q d asked =
+    sum_over (λ m. over_registers d (λ r. cond (office.counts m r) (register_energy (λ t. asked (owner_from (last (q m) t)) t) (p m r) office.end) 0)) 0 office.meters
+
+energy-is : (office : OfficeRules) (at : Key → Contents) (d : Direction) (asked : Asked) → energy_where office at d asked ≡ energy-by office (point at) (start at) d asked
+unfolding energy_where owner_at energy-by
+energy-is office at d asked = refl
+
+pub energy-alike : (office : OfficeRules) (at bt : Key → Contents) (d : Direction) (asked : Asked) → point at ≡ point bt → start at ≡ start bt → energy_where office at d asked ≡ energy_where office bt d asked
+energy-alike office at bt d asked p q = energy-is office at d asked ∙ (λ i. energy-by office (p i) (q i) d asked) ∙ sym (energy-is office bt d asked)
+
+module _ (office : OfficeRules) (o : IsOffice office) (s : List Entry) (r : List ℕ) (account : AccountId) (cents instant : ℕ) (before : Contents) (old : ShelfContent)
+    (j : IsJustAdded office s (entry (key.TopUp r) (content.TopUp account cents instant)) before old) where
+  abbrev paid : Entry
+  paid = entry (key.TopUp r) (content.TopUp account cents instant)
+
+  others : ChangesAtOneKey s old.records paid
+  others = changed office s paid before old j
+
+  points-stay : point (contents_at s) ≡ point (contents_at old.records)
+  points-stay = λ i m q t. wh_of (sym (others.elsewhere (reading_key m q t) (λ p. cc)) i)
+
+  starts-stay : start (contents_at s) ≡ start (contents_at old.records)
+  starts-stay = λ i m t. owner_of (sym (others.elsewhere (assignment_key m t) (λ p. cc)) i)
+
+  energy-stays : (q : Option AccountId) (b : BandId) (d : Direction) → total_among office s (Energy q b d) ≡ total_among office old.records (Energy q b d)
+  energy-stays q b d = energy-alike office (contents_at s) (contents_at old.records) d (of_band office q b.0) points-stay starts-stay
+
+  -- one total moved
+  moved-true : (a : AccountId) (more less : ℕ) (new : ShelfContent) → MovesTotals (λ k. k ≡ TopUps a) (λ k. more) (λ k. less) old new →
+      ((x : ℕ) → topped_up s x + cond (a.0 == x) more 0 ≡ topped_up old.records x + cond (a.0 == x) less 0) → IsTrueContent office new
+  moved-true a more less new m h = record {
+    points = m.point ∙ j.still.points ∙ points-stay ∙ ap (λ (t : List Entry). point (contents_at t)) (sym m.records);
+    starts = m.start ∙ j.still.starts ∙ starts-stay ∙ ap (λ (t : List Entry). start (contents_at t)) (sym m.records);
+    totals = λ k. total k ∙ ap (λ (t : List Entry). total_among office t k) (sym m.records);
+  }
+    where
+      total : (k : TotalKey) → new.total k ≡ total_among office old.records k
+      total (Energy q b d) = m.elsewhere (Energy q b d) (λ i. let e = ap is-energy i in absurd (omega (arith, e))) ∙ j.still.totals (Energy q b d) ∙ energy-stays q b d
+      total (TopUps x) = elim (cases_eq a.0 x.0) [
+        | inl e ↦ (
+            let i : TopUps x ≡ TopUps a = ap (λ n. let y : AccountId = record { 0 = n } in TopUps y) (sym e) in
+            let w = j.still.totals (TopUps x) in
+            let q = h x.0 in
+            let c : a.0 == x.0 ≡ true = eq-eqb a.0 x.0 e in
+            let u : cond (a.0 == x.0) more 0 ≡ more = ap (λ t. cond t more 0) c in
+            let v : cond (a.0 == x.0) less 0 ≡ less = ap (λ t. cond t less 0) c in
+            m.here (TopUps x) i (topped_up old.records x.0) (omega (arith, w, q, u, v)) (total-fits office old.records o j.of_office j.few (TopUps x)))
+        | inr n ↦ (
+            let w = j.still.totals (TopUps x) in
+            let q = h x.0 in
+            let c : a.0 == x.0 ≡ false = ne_eqb a.0 x.0 n in
+            let u : cond (a.0 == x.0) more 0 ≡ 0 = ap (λ t. cond t more 0) c in
+            let v : cond (a.0 == x.0) less 0 ≡ 0 = ap (λ t. cond t less 0) c in
+            let f = m.elsewhere (TopUps x) (λ i. n (sym (ap account-in i))) in
+            omega (arith, w, q, u, v, f))
+      ]
+
+  paid-by : (b : Contents) → before ≡ b → (new : ShelfContent) → IsPaid account cents b old new → IsTrueContent office new
+  paid-by Nothing q new m = moved-true account cents 0 new m (λ x.
+      let p = paid-more office s paid before old j x in
+      let w : cents_for x (contents_at s paid.key) ≡ 0 = ap (cents_for x) (told-before office s paid before old j Nothing q) in
+      let i : cents_for x (contents_at old.records paid.key) ≡ cond (account.0 == x) cents 0 = ap (cents_for x) (told-now office s paid before old j Nothing q) in
+      let z = none-of (account.0 == x) in
+      omega (arith, p, w, i, z))
+  paid-by (One (content.TopUp a c t)) q new m = moved-true a 0 c new m (λ x.
+      let p = paid-more office s paid before old j x in
+      let w : cents_for x (contents_at s paid.key) ≡ cond (a.0 == x) c 0 = ap (cents_for x) (told-before office s paid before old j (One (content.TopUp a c t)) q) in
+      let i : cents_for x (contents_at old.records paid.key) ≡ 0 = ap (cents_for x) (told-several office s paid before old j (content.TopUp a c t) q) in
+      let z = none-of (a.0 == x) in
+      omega (arith, p, w, i, z))
+  paid-by (One (content.Reading w)) q new m = absurd (told-fits office s paid before old j (One (content.Reading w)) q)
+  paid-by (One (content.Assignment p)) q new m = absurd (told-fits office s paid before old j (One (content.Assignment p)) q)
+  paid-by Several q new m = subst (IsTrueContent office) (sym m) (several-true office s paid before old j q)
+
+  pub paid-true : (new : ShelfContent) → IsPaid account cents before old new → IsTrueContent office new
+  paid-true new m = paid-by before refl new m
+
+  paid-kept : (b : Contents) (new : ShelfContent) → IsPaid account cents b old new → new.records ≡ old.records
+  paid-kept Nothing new m = m.records
+  paid-kept (One (content.TopUp a c t)) new m = m.records
+  paid-kept (One (content.Reading w)) new m = ap (λ (c : ShelfContent). c.records) m
+  paid-kept (One (content.Assignment p)) new m = ap (λ (c : ShelfContent). c.records) m
+  paid-kept Several new m = ap (λ (c : ShelfContent). c.records) m
+
+  pub paid-records : (new : ShelfContent) → IsPaid account cents before old new → new.records ≡ old.records
+  paid-records new m = paid-kept before new m

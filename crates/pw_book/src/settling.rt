@@ -7,21 +7,29 @@ ghost use Rattle.pw_model.specs.declared.records.Key.TheVariants as key;
 ghost use Rattle.pw_model.specs.Office.{IsOfOffice};
 ghost use Rattle.pw_model.specs.Shelf.{IsTrueContent};
 ghost use Rattle.pw_shelf.specs.Calls.{GoesOn, failures_told};
-ghost use Rattle.pw_shelf.specs.Rows.{IsTopUp};
 ghost use Rattle.pw_tariff.specs.Office.{IsSound, counts_at, office_of};
-ghost use Rattle.pw_book.specs.inner.Settling.{HasStarts, IsJustAdded, IsPaid, classes_of, reading_of};
+ghost use Rattle.pw_book.specs.inner.Settling.{HasStarts, IsJustAdded, IsPaid, IsReading, TakesAtMost, assignment_of, classes_of, reading_of};
 
 use crate::around::{Counted, begin_to_count, cease_to_count};
 use crate::moving::change_total;
-use pw_model::{Content, Contents, Entry, TotalKey};
+use crate::window::change_start;
+use pw_model::{Content, Contents, Entry, Key, TotalKey};
 use pw_shelf::{Shelf, ShelfFault};
-use pw_tariff::{AccountId, Office};
-use pw_time::Zone;
+use pw_tariff::{AccountId, MeterId, Office, Owner};
+use pw_time::{Instant, Zone};
 use std::alloc::Global;
+
+// An assignment of a meter that begins or ceases to count.
+#[derive(Clone, Copy)]
+pub(crate) struct Given {
+    pub(crate) meter: MeterId,
+    pub(crate) start: Instant,
+    pub(crate) owner: Owner,
+}
 
 // Keeps the point and the energies that follow a reading: it begins to count where nothing had its key, and what counted
 // there ceases to.
-pub(crate) fn reading_added<S: Shelf>(
+fn reading_added<S: Shelf>(
     shelf: &mut S,
     alloc: Global,
     office: &Office,
@@ -52,9 +60,44 @@ pub(crate) fn reading_added<S: Shelf>(
     }
 }
 
+// Keeps the start and the energies that follow an assignment: it begins to count where nothing had its key, and what counted
+// there ceases to.
+fn assignment_added<S: Shelf>(
+    shelf: &mut S,
+    alloc: Global,
+    office: &Office,
+    zone: &Zone,
+    given: &Given,
+    before: &Contents,
+) -> Result<(), ShelfFault>
+    requires begun { IsSome (S.state shelf.old).begun }
+    requires sound { IsSound office.now }
+    requires meter { given.now.meter.0 < length office.now.meters }
+    ensures truth { S.clean shelf.new → (s : List AnEntry) → IsJustAdded (office_of office.now) s (assignment_of given.now) before.now (S.state shelf.old).content → OnOk result (IsTrueContent (office_of office.now) (S.state shelf.new).content) }
+    ensures records { S.clean shelf.new → (s : List AnEntry) → IsJustAdded (office_of office.now) s (assignment_of given.now) before.now (S.state shelf.old).content → OnOk result ((S.state shelf.new).content.records ≡ (S.state shelf.old).content.records) }
+    ensures tally { S.clean shelf.new → TakesAtMost 0 (office_of office.now) (S.state shelf.old).content (key.Assignment given.now.meter given.now.start) (S.state shelf.old).tally (S.state shelf.new).tally }
+    ensures kept { GoesOn S.state S.left S.clean (failures_told result) shelf.old shelf.new }
+{
+    match before {
+        Contents::Nothing => change_start(
+            shelf,
+            alloc,
+            office,
+            zone,
+            given.meter,
+            given.start,
+            Some(given.owner),
+        ),
+        Contents::One(_) => {
+            change_start(shelf, alloc, office, zone, given.meter, given.start, None)
+        }
+        Contents::Several => Ok(()),
+    }
+}
+
 // Keeps the total that follows a top-up: it begins to count where nothing had its reference, and what counted there ceases
 // to.
-pub(crate) fn top_up_added<S: Shelf>(
+fn top_up_added<S: Shelf>(
     shelf: &mut S,
     account: AccountId,
     cents: u32,
@@ -75,5 +118,48 @@ pub(crate) fn top_up_added<S: Shelf>(
             change_total(shelf, &key, 0, u128::from(*cents))
         }
         Contents::Several => Ok(()),
+    }
+}
+
+// Keeps points, starts and totals true where an entry was added, with what was told of its key before.
+pub(crate) fn settle<S: Shelf>(
+    shelf: &mut S,
+    alloc: Global,
+    office: &Office,
+    zone: &Zone,
+    entry: &Entry,
+    before: &Contents,
+) -> Result<(), ShelfFault>
+    requires begun { IsSome (S.state shelf.old).begun }
+    requires sound { IsSound office.now }
+    requires of_office { IsOfOffice (office_of office.now) entry.now }
+    ensures truth { S.clean shelf.new → (s : List AnEntry) → IsJustAdded (office_of office.now) s entry.now before.now (S.state shelf.old).content → OnOk result (IsTrueContent (office_of office.now) (S.state shelf.new).content) }
+    ensures records { S.clean shelf.new → (s : List AnEntry) → IsJustAdded (office_of office.now) s entry.now before.now (S.state shelf.old).content → OnOk result ((S.state shelf.new).content.records ≡ (S.state shelf.old).content.records) }
+    ensures start { S.clean shelf.new → IsReading entry.now.key → OnOk result ((S.state shelf.new).content.start ≡ (S.state shelf.old).content.start) }
+    ensures tally { S.clean shelf.new → TakesAtMost 0 (office_of office.now) (S.state shelf.old).content entry.now.key (S.state shelf.old).tally (S.state shelf.new).tally }
+    ensures kept { GoesOn S.state S.left S.clean (failures_told result) shelf.old shelf.new }
+{
+    match (entry.key, entry.content) {
+        (Key::Reading { meter, register, instant }, Content::Reading { wh }) => {
+            let reading = Counted {
+                meter,
+                register,
+                instant,
+                wh,
+            };
+            reading_added(shelf, alloc, office, zone, &reading, before)
+        }
+        (Key::Assignment { meter, start }, Content::Assignment { owner }) => {
+            let given = Given {
+                meter,
+                start,
+                owner,
+            };
+            assignment_added(shelf, alloc, office, zone, &given, before)
+        }
+        (Key::TopUp { .. }, Content::TopUp { account, cents, .. }) => {
+            top_up_added(shelf, account, cents, before)
+        }
+        _ => Ok(()),
     }
 }

@@ -21,6 +21,7 @@ use Rattle.pw_model.specs.Office.{AllOfOffice, most_records}
 use Rattle.pw_model.specs.Shelf.{ShelfContent, total_among}
 use Rattle.pw_shelf.specs.Seconds.{by_second, ListsSeconds}
 use Rattle.pw_book.specs.declared.around.Counted.{Counted}
+use Rattle.pw_book.specs.declared.settling.Given.{Given}
 use Rattle.pw_book.specs.inner.Moves.{MovesTotals, OfOwners, most_total}
 use Rattle.pw_book.specs.inner.Sums.{energy_told}
 
@@ -55,6 +56,10 @@ pub record IsJustAdded (office : OfficeRules) (s : List Entry) (e : Entry) (befo
 abbrev pub reading_of : Counted → Entry
 reading_of c = record { key = key.Reading c.meter c.register c.instant; content = content.Reading c.wh }
 
+-- the entry of an assignment
+abbrev pub assignment_of : Given → Entry
+assignment_of g = record { key = key.Assignment g.meter g.start; content = content.Assignment g.owner }
+
 -- the total that follows a top-up of so many cents for an account, behind what was told at its reference
 abbrev pub IsPaid : AccountId → ℕ → Contents → ShelfContent → ShelfContent → Type 0
 IsPaid account cents Nothing old new = MovesTotals (λ k. k ≡ TopUps account) (λ k. cents) (λ k. 0) old new
@@ -79,6 +84,12 @@ ListsUpToNextStart c m r from = Lists by_second (λ a. (from ≤ a.0) × IsBefor
 -- each register of a meter has so many points at most from a second up to the meter's next start
 abbrev pub HavePoints : ShelfContent → ℕ → ℕ → (Register → ℕ) → Type 0
 HavePoints c m from most = (r : Register) (points : List (ℕ × ℕ)) → ListsUpToNextStart c m r from points → length points ≤ most r
+
+-- the key of a reading
+abbrev pub IsReading : Key → Type 0
+IsReading (key.Reading m r t) = Unit {0}
+IsReading (key.Assignment m t) = ⊥
+IsReading (key.TopUp r) = ⊥
 
 -- ---- how many calls and rows an entry takes, beside so many
 abbrev pub classes_of : OfficeRules → ℕ
