@@ -25,3 +25,4 @@ pub mod Running
 pub mod TotalKeys
 pub mod Gathering
 pub mod Changing
+pub mod NewStarts

@@ -17,9 +17,11 @@ mod pairs;
 mod payments;
 mod posting;
 mod rows;
+mod starts;
 mod sums;
 mod told;
 mod upload;
+mod window;
 
 pub use book::{Accepted, Book};
 pub use fault::{BookFault, PostFault};

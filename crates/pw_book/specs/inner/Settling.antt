@@ -1,14 +1,19 @@
 -- What follows in points, starts and totals where one record more is held. It serves `src/around.rt`, `src/window.rt` and
 -- `src/settling.rt`.
 -- (Definitions of this project.)
-use Rattle.std.specs.Prelude.{◌≡◌, ℕ, ◌+◌, ◌<◌, ◌≤◌, Option, None, Some, List, length}
+use Rattle.std.specs.Prelude.{◌≡◌, ℕ, ◌+◌, ◌<◌, ◌≤◌, ◌⊎◌, Option, None, Some, List, length}
 use Rattle.pw_obis.specs.declared.reference.Register.{Register}
 use Rattle.pw_tariff.specs.declared.ids.AccountId.{AccountId}
 use Rattle.pw_tariff.specs.Office.{OfficeRules}
+use Rattle.pw_tariff.specs.Owners.{owner_by_starts}
+use Rattle.pw_time.specs.declared.instant.TheConstants.{END_SECOND, LAST_SECOND}
 use Rattle.pw_model.specs.declared.records.Key.{Key}
 use Rattle.pw_model.specs.declared.records.Contents.{Contents}
 use Rattle.pw_model.specs.declared.records.TotalKey.{TotalKey}
+use Rattle.pw_model.specs.declared.records.TotalKey.TheVariants.{Energy, TopUps}
+use Rattle.pw_model.specs.Changes.{IsOtherStart, in_direction}
 use Rattle.pw_model.specs.Counting.{point, start}
+use Rattle.pw_model.specs.Energy.{of_band, owner_at, share_of}
 use Rattle.pw_model.specs.Lists.{Lists}
 use Rattle.pw_model.specs.Shelf.{ShelfContent}
 use Rattle.pw_shelf.specs.Seconds.{by_second, ListsSeconds}
@@ -42,3 +47,24 @@ ListsUpToNextStart c m r from = Lists by_second (λ a. (from ≤ a.0) × IsBefor
 -- each register of a meter has so many points at most from a second up to the meter's next start
 abbrev pub HavePoints : ShelfContent → ℕ → ℕ → (Register → ℕ) → Type 0
 HavePoints c m from most = (r : Register) (points : List (ℕ × ℕ)) → ListsUpToNextStart c m r from points → length points ≤ most r
+
+-- ---- the time that a start decides on
+-- the last second before the next start behind a second: the last instant where none stands behind it
+pub record EndsBeforeNext {X : Type 0} (told : ℕ → Option X) (from until : ℕ) : Type 0 where
+  pub rises : from ≤ until
+  pub none : (s : ℕ) → from < s → s ≤ until → told s ≡ None
+  pub next : ((a : X) × (told (until + 1) ≡ Some a)) ⊎ (until ≡ LAST_SECOND)
+
+-- a meter has another start at from, and these owners before and after; its points, all before the end, are those kept
+pub record IsStartChanged (c : ShelfContent) (was is : Key → Contents) (m from until : ℕ) (owners others : List (ℕ × Option AccountId)) : Type 0 where
+  pub other : IsOtherStart was is m from
+  pub window : EndsBeforeNext (start was m) from until
+  pub before : (t : ℕ) → owner_by_starts owners t ≡ owner_at was m t
+  pub after : (t : ℕ) → owner_by_starts others t ≡ owner_at is m t
+  pub points : (r : Register) → c.point m r ≡ point was m r
+  pub ended : (r : Register) → EndsBefore END_SECOND (point was m r)
+
+-- what a register gives to a total, where what counts is told by keys
+abbrev pub register_told : OfficeRules → (Key → Contents) → ℕ → TotalKey → Register → ℕ
+register_told office at m (Energy o b d) r = in_direction d r (share_of office at (of_band office o b.0) m r)
+register_told office at m (TopUps a) r = 0
