@@ -26,3 +26,4 @@ pub mod TotalKeys
 pub mod Gathering
 pub mod Changing
 pub mod NewStarts
+pub mod WindowPairs
