@@ -1,7 +1,8 @@
 -- The pairs of a register that overlap the time from a start up to the next.
-use Rattle.std.proofs.Common.{◌≡◌, ℕ, suc, ◌+◌, ◌<◌, ◌≤◌, ◌⊎◌, Bool, true, false, cond, ◌==◌, ◌&&◌, Option, Some, None, List, [], ◌∷◌, ◌++◌, refl, ap, sym, subst, ◌∙◌, inl, inr, arith, Less}
+use Rattle.std.proofs.Common.{◌≡◌, ℕ, suc, ◌+◌, ◌<◌, ◌≤◌, ◌⊎◌, Bool, true, false, cond, ◌==◌, ◌&&◌, Option, Some, None, List, [], ◌∷◌, ◌++◌, length, refl, ap, sym, subst, ◌∙◌, inl, inr, arith, Less}
 use Rattle.std.specs.Cmp.{nat_cmp_is}
 use Rattle.std.proofs.lemmas.Bool.{cases_Bool, cases_lt}
+use Rattle.std.proofs.lemmas.Option.{none-some}
 use Rattle.pw_obis.specs.declared.reference.Register.{Register}
 use Rattle.pw_time.specs.declared.instant.TheConstants.{END_SECOND, LAST_SECOND}
 use Rattle.pw_flow.specs.Energy.{register_energy}
@@ -9,6 +10,7 @@ use Rattle.pw_flow.specs.Pairs.{Chain, last_of, pairs_sum}
 use Rattle.pw_flow.proofs.Pairs.{energy-pairs}
 use Rattle.pw_flow.proofs.Points.{option-cases}
 use Rattle.pw_tariff.specs.declared.ids.AccountId.{AccountId}
+use Rattle.pw_tariff.specs.declared.ids.Direction.{Direction}
 use Rattle.pw_tariff.specs.Office.{OfficeFile, OfficeRules, band_at, counts_at, office_of}
 use Rattle.pw_tariff.specs.Owners.{owner_by_starts, same_owner}
 use Rattle.pw_tariff.specs.Shares.{class_seconds}
@@ -24,10 +26,12 @@ use Rattle.pw_model.specs.Same.{direction_of, same_direction}
 use Rattle.pw_model.specs.Shelf.{ShelfContent}
 use Rattle.pw_model.proofs.Assignments.{points-same}
 use Rattle.pw_model.proofs.Windows.{other-window}
+use Rattle.pw_shelf.specs.Rows.{rows_found}
 use Rattle.pw_shelf.specs.Seconds.{IsBefore, IsBehind, ListsSecondsWithin}
 use Rattle.pw_book.specs.inner.Counted.{by_second}
-use Rattle.pw_book.specs.inner.Settling.{EndsBefore, EndsBeforeNext, IsStartChanged, register_told}
-use Rattle.pw_book.specs.inner.Sums.{pairs_for, point_listed}
+use Rattle.pw_book.specs.inner.Settling.{EndsBefore, EndsBeforeNext, IsStartChanged, ListsUpToNextStart, register_told}
+use Rattle.pw_book.specs.inner.Sums.{gathered, pairs_for, point_listed}
+use Rattle.pw_book.specs.declared.sums.Sum.{Sum}
 use Rattle.pw_book.proofs.Chart.{less-is}
 use Rattle.pw_book.proofs.Groups.{before-all, before-member}
 
@@ -217,3 +221,77 @@ register-moved file c was is m z until owners others r ps y h t (Energy o b e) =
       rw (d, y) (omega (arith, p, q, s)))
   | inr n ↦ rw n refl
 ]
+
+-- the same, with the energies that it is gathered to
+pub register-gathered : (file : OfficeFile) (c d e : ShelfContent) (was is : Key → Contents) (m z until : ℕ) (owners others : List (ℕ × Option AccountId)) (r : Register) (way : Direction)
+    (before : Option (ℕ × ℕ)) (within lent : List (ℕ × ℕ)) (after : Option (ℕ × ℕ)) (points first second : List (ℕ × ℕ)) (was_taken now_taken was_given now_given : List Sum) → counts_at file m r ≡ true →
+    d ≡ c → e ≡ d → IsStartChanged c was is m z until owners others →
+    IsBefore (c.point m r) z before → IsBehind (d.point m r) until after → ListsSecondsWithin z until (e.point m r) within → lent ≡ within →
+    points ≡ point_listed before (lent ++ point_listed after []) → first ≡ points → second ≡ points → way ≡ direction_of r →
+    (IsInOrder by_second first → (k : TotalKey) → gathered now_taken k ≡ gathered was_taken k + pairs_for file owners way first k) →
+    (IsInOrder by_second second → (k : TotalKey) → gathered now_given k ≡ gathered was_given k + pairs_for file others way second k) → (k : TotalKey) →
+    gathered now_given k + gathered was_taken k + register_told (office_of file) was m k r ≡ gathered now_taken k + gathered was_given k + register_told (office_of file) is m k r
+register-gathered file c d e was is m z until owners others r way before within lent after points first second was_taken now_taken was_given now_given y p q h b a l x v f s w t g k =
+    let told = point was m r in
+    let P : (ℕ → Option ℕ) → Type 0 = λ u. IsBefore u z before in
+    let Q : (ℕ → Option ℕ) → Type 0 = λ u. IsBehind u until after in
+    let R : (ℕ → Option ℕ) → Type 0 = λ u. ListsSecondsWithin z until u within in
+    let dp : d.point m r ≡ told = ap (λ (o : ShelfContent). o.point m r) p ∙ h.points r in
+    let ep : e.point m r ≡ told = ap (λ (o : ShelfContent). o.point m r) q ∙ dp in
+    let full : List (ℕ × ℕ) = point_listed before (within ++ point_listed after []) in
+    let all = taken was m r z until before within after h.window (h.ended r) (subst P (h.points r) b) (subst R ep l) (subst Q dp a) in
+    let rises = taken-rises was m r z full all in
+    let whole : points ≡ full = v ∙ ap (λ (xs : List (ℕ × ℕ)). point_listed before (xs ++ point_listed after [])) x in
+    let O : List (ℕ × ℕ) → Type 0 = λ xs. IsInOrder by_second xs in
+    let one : pairs_for file owners way first k ≡ pairs_for file owners (direction_of r) full k = λ i. pairs_for file owners (w i) ((f ∙ whole) i) k in
+    let two : pairs_for file others way second k ≡ pairs_for file others (direction_of r) full k = λ i. pairs_for file others (w i) ((s ∙ whole) i) k in
+    let lost = t (subst O (sym (f ∙ whole)) rises) k in
+    let won = g (subst O (sym (s ∙ whole)) rises) k in
+    let moved = register-moved file c was is m z until owners others r full y h all k in
+    omega (arith, one, two, lost, won, moved)
+
+-- ---- how many points are read
+none-last : (told : ℕ → Option ℕ) (until : ℕ) (after : Option (ℕ × ℕ)) (x : ℕ × ℕ) → IsBehind told until after → ((b : ℕ × ℕ) → after ≡ Some b → b.0 ≤ LAST_SECOND) → until ≡ LAST_SECOND → until < x.0 → told x.0 ≡ Some x.1 → ⊥
+none-last told until None x a f u b t = none-some x.1 (sym (a x.0 b) ∙ t)
+none-last told until (Some y) x a f u b t = let g = f y refl in let k = a.behind in omega (arith, g, k, u)
+
+up-to : (starts : ℕ → Option (Option AccountId)) (told : ℕ → Option ℕ) (z until : ℕ) (after : Option (ℕ × ℕ)) (x : ℕ × ℕ) → EndsBeforeNext starts z until → IsBehind told until after → ((b : ℕ × ℕ) → after ≡ Some b → b.0 ≤ LAST_SECOND) →
+    ((s : ℕ) → z < s → s ≤ x.0 → starts s ≡ None) → told x.0 ≡ Some x.1 → x.0 ≤ until
+up-to starts told z until after x w a f n t = elim (cases_lt until x.0) [
+  | inl b ↦ absurd (elim w.next [
+    | inl o ↦ none-some o.0 (sym (n (until + 1) (let g = w.rises in omega (arith, g)) (omega (arith, b))) ∙ o.1)
+    | inr u ↦ none-last told until after x a f u b t
+  ])
+  | inr b ↦ b
+]
+
+pub within-counted : (c d e : ShelfContent) (m : ℕ) (r : Register) (z until most : ℕ) (within : List (ℕ × ℕ)) (after : Option (ℕ × ℕ)) → d ≡ c → e ≡ d → EndsBeforeNext (c.start m) z until →
+    IsBehind (d.point m r) until after → ((b : ℕ × ℕ) → after ≡ Some b → b.0 ≤ LAST_SECOND) → ListsSecondsWithin z until (e.point m r) within →
+    ((points : List (ℕ × ℕ)) → ListsUpToNextStart c m r z points → length points ≤ most) → length within ≤ most
+within-counted c d e m r z until most within after p q w a f l h =
+    let told = c.point m r in
+    let Q : (ℕ → Option ℕ) → Type 0 = λ u. IsBehind u until after in
+    let R : (ℕ → Option ℕ) → Type 0 = λ u. ListsSecondsWithin z until u within in
+    let dp : d.point m r ≡ told = ap (λ (o : ShelfContent). o.point m r) p in
+    let ep : e.point m r ≡ told = ap (λ (o : ShelfContent). o.point m r) q ∙ dp in
+    let behind = subst Q dp a in
+    let listed = subst R ep l in
+    h within (record {
+      rising = listed.rising;
+      members = λ x. (
+        λ k. (let n = (listed.members x).0 k in (n.0, λ s b g. w.none s b (let u = n.1 in omega (arith, g, u)), n.2)),
+        λ k. (listed.members x).1 (k.0, up-to (c.start m) told z until after x w behind f k.1 k.2, k.2),
+      );
+    })
+
+found-one : {X : Type 0} (found : Option X) → rows_found found ≤ 1
+found-one None = omega arith
+found-one (Some row) = omega arith
+
+-- three calls that ask: two that give a row at most, and one that gives those listed
+pub tally-five : {X Y : Type 0} (was first second third : ℕ) (before : Option X) (after : Option Y) (listed n most : ℕ) → first ≡ was + 1 + rows_found before → second ≡ first + 1 + rows_found after → third ≡ second + 1 + listed →
+    listed ≡ n → n ≤ most → third ≤ was + 5 + most
+tally-five was first second third before after listed n most a b d e f =
+    let x = found-one before in
+    let y = found-one after in
+    omega (arith, a, b, d, e, f, x, y)
