@@ -28,3 +28,5 @@ pub mod Changing
 pub mod Neighbouring
 pub mod Following
 pub mod Truthful
+pub mod NewStarts
+pub mod WindowPairs

@@ -36,7 +36,8 @@ use Rattle.pw_model.proofs.Truth.{true-bounded}
 use Rattle.pw_shelf.specs.Changes.{points_with, starts_with}
 use Rattle.pw_book.specs.inner.Moves.{MovesTotals, OfOwner, OfOwners, InDirection, most_total}
 use Rattle.pw_book.specs.declared.around.Counted.{Counted}
-use Rattle.pw_book.specs.inner.Settling.{EndsBefore, IsJustAdded, IsPaid, IsSettled, IsTrueOf, reading_of}
+use Rattle.pw_book.specs.inner.Added.{IsJustAdded, IsPaid, IsTrueOf, reading_of}
+use Rattle.pw_book.specs.inner.Settling.{EndsBefore, IsSettled}
 use Rattle.pw_book.proofs.Sharing.{points-end}
 
 -- ---- the records before

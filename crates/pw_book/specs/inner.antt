@@ -5,3 +5,4 @@ pub mod Failures
 pub mod Sums
 pub mod Moves
 pub mod Settling
+pub mod Added

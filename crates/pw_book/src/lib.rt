@@ -19,9 +19,11 @@ mod payments;
 mod posting;
 mod rows;
 mod settling;
+mod starts;
 mod sums;
 mod told;
 mod upload;
+mod window;
 
 pub use book::{Accepted, Book};
 pub use fault::{BookFault, PostFault};

@@ -8,7 +8,8 @@ ghost use Rattle.pw_model.specs.Office.{IsOfOffice};
 ghost use Rattle.pw_model.specs.Shelf.{IsTrueContent};
 ghost use Rattle.pw_shelf.specs.Calls.{GoesOn, failures_told};
 ghost use Rattle.pw_tariff.specs.Office.{IsSound, counts_at, office_of};
-ghost use Rattle.pw_book.specs.inner.Settling.{HasStarts, IsJustAdded, IsPaid, IsReading, TakesAtMost, assignment_of, classes_of, reading_of};
+ghost use Rattle.pw_book.specs.inner.Added.{IsJustAdded, IsPaid, IsReading, TakesAtMost, assignment_of, classes_of, reading_of};
+ghost use Rattle.pw_book.specs.inner.Settling.{HasStarts};
 
 use crate::around::{Counted, begin_to_count, cease_to_count};
 use crate::moving::change_total;

@@ -1,0 +1,187 @@
+//! A start of a meter that begins or ceases to count, and the energies of the pairs from it up to the next.
+
+ghost use Rattle.std.specs.Prelude.{◌≡◌, ℕ, ◌+◌, ◌*◌, ◌<◌, ◌≤◌, ◌^◌, ◌++◌, [], OnOk, IfOk, IsSome, List, length};
+ghost use Rattle.pw_obis.specs.declared.reference.Register.{Register as AnyRegister};
+ghost use Rattle.pw_tariff.specs.declared.ids.Direction.TheVariants.{Import, Export};
+ghost use Rattle.pw_tariff.specs.Office.{office_of};
+ghost use Rattle.pw_model.specs.declared.records.Contents.{Contents as AnyContents};
+ghost use Rattle.pw_model.specs.declared.records.Key.{Key as AnyKey};
+ghost use Rattle.pw_model.specs.declared.records.TotalKey.{TotalKey as AnyTotal};
+ghost use Rattle.pw_model.specs.Changes.{IsOtherStart};
+ghost use Rattle.pw_model.specs.Counting.{point as point_told, start as start_told};
+ghost use Rattle.pw_model.specs.Energy.{over_registers};
+ghost use Rattle.pw_model.specs.Same.{direction_of as direction_told};
+ghost use Rattle.pw_shelf.specs.Calls.{GoesOn, failures_told};
+ghost use Rattle.pw_shelf.specs.Changes.{starts_with, with_start as with_start_of};
+ghost use Rattle.pw_book.specs.inner.Settling.{EndsBefore, EndsBeforeNext, HasStarts, HavePoints, IsSettled, IsStartChanged, ListsUpToNextStart, register_told};
+ghost use Rattle.pw_book.specs.inner.Sums.{AreDifferences, gathered, gathered_in_all, point_listed};
+
+use crate::moving::move_energies;
+use crate::pairs::{Point, add_pairs};
+use crate::starts::{owners_of, until_next, with_start};
+use crate::sums::Sum;
+use pw_obis::Register;
+use pw_shelf::{Shelf, ShelfFault};
+use pw_tariff::{Direction, MeterId, Office, Owner, Owners};
+use pw_time::{Instant, Zone};
+use std::alloc::{AllocError, Global};
+
+// The time that a start of a meter decides on: from it up to the last instant before the next. And the meter's owners
+// before and after a change there.
+#[derive(Drop)]
+struct Window<'a> {
+    meter: MeterId,
+    from: Instant,
+    until: Instant,
+    before: Owners<'a>,
+    after: Owners<'a>,
+}
+
+// What the pairs that overlap a window gave to each total before the change, and what they give after it.
+#[derive(Drop)]
+struct Moved {
+    taken: Vec<Sum>,
+    given: Vec<Sum>,
+}
+
+// Keeps the start of a meter at an instant as this owner's, or takes it away, and changes the energies of the pairs that
+// overlap the time from it up to the next start.
+pub(crate) fn change_start<S: Shelf>(
+    shelf: &mut S,
+    alloc: Global,
+    office: &Office,
+    zone: &Zone,
+    meter: MeterId,
+    start: Instant,
+    owner: Option<Owner>,
+) -> Result<(), ShelfFault>
+    requires begun { IsSome (S.state shelf.old).begun }
+    requires meter { meter.0 < length office.now.meters }
+    ensures settled { S.clean shelf.new → (was is : AnyKey → AnyContents) → (S.state shelf.old).content.point ≡ point_told was → (S.state shelf.old).content.start ≡ start_told was → IsOtherStart was is meter.0 start → start_told is meter.0 start ≡ owner → ((r : AnyRegister) → EndsBefore (office_of office.now).end (point_told was meter.0 r)) → OnOk result (IsSettled (office_of office.now) was is (S.state shelf.old).content (S.state shelf.new).content) }
+    ensures point { S.clean shelf.new → OnOk result ((S.state shelf.new).content.point ≡ (S.state shelf.old).content.point) }
+    ensures start { S.clean shelf.new → OnOk result ((S.state shelf.new).content.start ≡ starts_with (S.state shelf.old).content.start meter.0 start owner) }
+    ensures tally { S.clean shelf.new → (starts : ℕ) (points : AnyRegister → ℕ) → HasStarts (S.state shelf.old).content meter.0 starts → HavePoints (S.state shelf.old).content meter.0 start points → (S.state shelf.new).tally ≤ (S.state shelf.old).tally + (32 + starts) + (over_registers Import points + over_registers Export points) + 6 * length office.now.bands * (length office.now.accounts + 1) }
+    ensures kept { GoesOn S.state S.left S.clean (failures_told result) shelf.old shelf.new }
+{
+    let old = shelf.starts_of(alloc, meter)?;
+    let new = with_start(alloc, &old, start, owner)?;
+    let window = Window {
+        meter,
+        from: start,
+        until: until_next(&old, start),
+        before: owners_of(&old),
+        after: owners_of(&new),
+    };
+    let moved = weigh_window(shelf, alloc, office, zone, &window)?;
+    move_energies(shelf, office, &moved.taken, &moved.given)?;
+    keep_start(shelf, meter, start, owner)
+}
+
+// Keeps the start of a meter at an instant as this owner's, or takes it away.
+fn keep_start<S: Shelf>(
+    shelf: &mut S,
+    meter: MeterId,
+    start: Instant,
+    owner: Option<Owner>,
+) -> Result<(), ShelfFault>
+    requires { IsSome (S.state shelf.old).begun }
+    ensures kept_start { S.clean shelf.new → OnOk result ((S.state shelf.new).content ≡ with_start_of (S.state shelf.old).content meter.0 start owner) }
+    ensures tally { (S.state shelf.new).tally ≡ (S.state shelf.old).tally + 1 }
+    ensures kept { GoesOn S.state S.left S.clean (failures_told result) shelf.old shelf.new }
+{
+    match owner {
+        Some(owner) => shelf.start_put(meter, start, owner),
+        None => shelf.start_del(meter, start),
+    }
+}
+
+// What the pairs that overlap a window gave to each total, and what they give.
+fn weigh_window<S: Shelf>(
+    shelf: &mut S,
+    alloc: Global,
+    office: &Office,
+    zone: &Zone,
+    window: &Window,
+) -> Result<Moved, ShelfFault>
+    requires begun { IsSome (S.state shelf.old).begun }
+    requires meter { window.now.meter.0 < length office.now.meters }
+    ensures taken { IfOk result (λ moved. gathered_in_all moved.taken.items < 2 ^ 127) }
+    ensures given { IfOk result (λ moved. gathered_in_all moved.given.items < 2 ^ 127) }
+    ensures moved { S.clean shelf.new → (was is : AnyKey → AnyContents) → IsStartChanged (S.state shelf.old).content was is window.now.meter.0 window.now.from window.now.until window.now.before window.now.after → IfOk result (λ moved. AreDifferences (office_of office.now) was is moved.taken.items moved.given.items) }
+    ensures same { S.clean shelf.new → OnOk result ((S.state shelf.new).content ≡ (S.state shelf.old).content) }
+    ensures tally { S.clean shelf.new → (points : AnyRegister → ℕ) → EndsBeforeNext ((S.state shelf.old).content.start window.now.meter.0) window.now.from window.now.until → HavePoints (S.state shelf.old).content window.now.meter.0 window.now.from points → (S.state shelf.new).tally ≤ (S.state shelf.old).tally + 30 + (over_registers Import points + over_registers Export points) }
+    ensures kept { GoesOn S.state S.left S.clean (failures_told result) shelf.old shelf.new }
+{
+    let mut taken = Vec::new(alloc);
+    let mut given = Vec::new(alloc);
+    for register in &Register::ALL {
+        add_register(shelf, alloc, office, zone, window, *register, &mut taken, &mut given)?;
+    }
+    Ok(Moved { taken, given })
+}
+
+// Gathers what the pairs of a register that overlap a window gave, and what they give: nothing where the register
+// doesn't count.
+fn add_register<S: Shelf>(
+    shelf: &mut S,
+    alloc: Global,
+    office: &Office,
+    zone: &Zone,
+    window: &Window,
+    register: Register,
+    taken: &mut Vec<Sum>,
+    given: &mut Vec<Sum>,
+) -> Result<(), ShelfFault>
+    requires begun { IsSome (S.state shelf.old).begun }
+    requires meter { window.now.meter.0 < length office.now.meters }
+    requires taken { gathered_in_all taken.old.items < 2 ^ 120 }
+    requires given { gathered_in_all given.old.items < 2 ^ 120 }
+    ensures taken { OnOk result (gathered_in_all taken.new.items ≤ gathered_in_all taken.old.items + 2 ^ 110) }
+    ensures given { OnOk result (gathered_in_all given.new.items ≤ gathered_in_all given.old.items + 2 ^ 110) }
+    ensures moved { S.clean shelf.new → (was is : AnyKey → AnyContents) → IsStartChanged (S.state shelf.old).content was is window.now.meter.0 window.now.from window.now.until window.now.before window.now.after → OnOk result ((k : AnyTotal) → gathered given.new.items k + gathered taken.old.items k + register_told (office_of office.now) was window.now.meter.0 k register ≡ gathered taken.new.items k + gathered given.old.items k + register_told (office_of office.now) is window.now.meter.0 k register) }
+    ensures same { S.clean shelf.new → OnOk result ((S.state shelf.new).content ≡ (S.state shelf.old).content) }
+    ensures tally { S.clean shelf.new → (most : ℕ) → EndsBeforeNext ((S.state shelf.old).content.start window.now.meter.0) window.now.from window.now.until → ((points : List (ℕ × ℕ)) → ListsUpToNextStart (S.state shelf.old).content window.now.meter.0 register window.now.from points → length points ≤ most) → (S.state shelf.new).tally ≤ (S.state shelf.old).tally + 5 + most }
+    ensures kept { GoesOn S.state S.left S.clean (failures_told result) shelf.old shelf.new }
+{
+    if !office.counts(window.meter, register) {
+        return Ok(());
+    }
+    let before = shelf.point_before(window.meter, register, window.from)?;
+    let after = shelf.point_after(window.meter, register, window.until)?;
+    let within = shelf.points_between(alloc, window.meter, register, window.from, window.until)?;
+    let points = joined(alloc, before, &within, after)?;
+    let direction = direction_of(register);
+    add_pairs(alloc, office, zone, &window.before, direction, &points, taken)?;
+    add_pairs(alloc, office, zone, &window.after, direction, &points, given)?;
+    Ok(())
+}
+
+// The direction of a register.
+fn direction_of(register: Register) -> Direction
+    ensures { result ≡ direction_told register }
+{
+    match register {
+        Register::I0 | Register::I1 | Register::I2 => Direction::Import,
+        Register::E0 | Register::E1 | Register::E2 => Direction::Export,
+    }
+}
+
+// A list of points, with the one before them and the one behind them, where there is one.
+fn joined(
+    alloc: Global,
+    before: Option<Point>,
+    within: &[Point],
+    after: Option<Point>,
+) -> Result<Vec<Point>, AllocError>
+    ensures { IfOk result (λ points. points.items ≡ point_listed before (within.now ++ point_listed after [])) }
+{
+    let mut points = Vec::new(alloc);
+    if let Some(point) = before {
+        points.push(point)?;
+    }
+    points.extend_from_slice(within)?;
+    if let Some(point) = after {
+        points.push(point)?;
+    }
+    Ok(points)
+}
