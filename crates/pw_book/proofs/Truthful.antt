@@ -36,7 +36,8 @@ use Rattle.pw_model.proofs.Truth.{true-bounded}
 use Rattle.pw_shelf.specs.Changes.{points_with, starts_with}
 use Rattle.pw_book.specs.inner.Moves.{MovesTotals, OfOwner, OfOwners, InDirection, most_total}
 use Rattle.pw_book.specs.declared.around.Counted.{Counted}
-use Rattle.pw_book.specs.inner.Added.{IsJustAdded, IsPaid, IsTrueOf, reading_of}
+use Rattle.pw_book.specs.declared.settling.Given.{Given}
+use Rattle.pw_book.specs.inner.Added.{IsJustAdded, IsPaid, IsTrueOf, assignment_of, reading_of}
 use Rattle.pw_book.specs.inner.Settling.{EndsBefore, IsSettled}
 use Rattle.pw_book.proofs.Sharing.{points-end}
 
@@ -355,3 +356,58 @@ module _ (office : OfficeRules) (o : IsOffice office) (s : List Entry) (r : List
 
   pub paid-records : (new : ShelfContent) → IsPaid account cents before old new → new.records ≡ old.records
   paid-records new m = paid-kept before new m
+
+-- ---- an assignment
+module _ (office : OfficeRules) (o : IsOffice office) (s : List Entry) (g : Given) (before : Contents) (old : ShelfContent) (j : IsJustAdded office s (assignment_of g) before old) where
+  abbrev assigned : Entry
+  assigned = assignment_of g
+
+  pub other-start : IsOtherStart (contents_at s) (contents_at old.records) g.meter.0 g.start
+  other-start = record { elsewhere = λ k n. sym ((changed office s assigned before old j).elsewhere k n) }
+
+  pub start-begins : before ≡ Nothing → start (contents_at old.records) g.meter.0 g.start ≡ Some g.owner
+  start-begins q = ap owner_of (told-now office s assigned before old j Nothing q)
+
+  ceases : (d : Content) → before ≡ One d → start (contents_at old.records) g.meter.0 g.start ≡ None
+  ceases d q = ap owner_of (told-several office s assigned before old j d q)
+
+  pub start-ceases : (d : Content) → before ≡ One d → start (contents_at old.records) g.meter.0 g.start ≡ None
+  start-ceases d q = ceases d q
+
+  pub start-ends : (r : Register) → EndsBefore office.end (point (contents_at s) g.meter.0 r)
+  start-ends r t w h = rw o.end (points-end office s g.meter.0 r (of-office-before office s old.records assigned j.inserted j.of_office) t w h)
+
+  no-cents-told : (a : ℕ) (b : Contents) → ToldOf office assigned.key b → cents_for a b ≡ 0
+  no-cents-told a Nothing h = refl
+  no-cents-told a Several h = refl
+  no-cents-told a (One (content.Reading w)) h = refl
+  no-cents-told a (One (content.Assignment p)) h = refl
+  no-cents-told a (One (content.TopUp b c i)) h = absurd h
+
+  start-topped : (a : ℕ) → topped_up old.records a ≡ topped_up s a
+  start-topped a =
+      let p = paid-more office s assigned before old j a in
+      let was = no-cents-told a (contents_at s assigned.key) (contents-of office s assigned.key (of-office-before office s old.records assigned j.inserted j.of_office)) in
+      let is = no-cents-told a (contents_at old.records assigned.key) (contents-of office old.records assigned.key j.of_office) in
+      omega (arith, p, was, is)
+
+  start-at : (w : Option (Option AccountId)) → owner_of (contents_at old.records assigned.key) ≡ w → (n u : ℕ) → starts_with old.start g.meter.0 g.start w n u ≡ start (contents_at old.records) n u
+  start-at w h n u = elim (cases_Bool (same_key assigned.key (assignment_key n u))) [
+    | inl y ↦ (let i : assigned.key ≡ assignment_key n u = (same_key-decides assigned.key (assignment_key n u)).0 y in
+        ap (λ b. cond b w (old.start n u)) y ∙ sym h ∙ ap (λ k. owner_of (contents_at old.records k)) i)
+    | inr f ↦ ap (λ b. cond b w (old.start n u)) f ∙ ap (λ p. p n u) j.still.starts
+        ∙ ap owner_of (sym ((changed office s assigned before old j).elsewhere (assignment_key n u) (λ i. true≢false (sym ((same_key-decides assigned.key (assignment_key n u)).1 (sym i)) ∙ f))))
+  ]
+
+  points-told : old.point ≡ point (contents_at old.records)
+  points-told = j.still.points ∙ (λ i m q t. wh_of (sym ((changed office s assigned before old j).elsewhere (reading_key m q t) (λ p. cc)) i))
+
+  pub start-true : (w : Option (Option AccountId)) → start (contents_at old.records) g.meter.0 g.start ≡ w → (new : ShelfContent) → IsSettled office (contents_at s) (contents_at old.records) old new → new.point ≡ old.point → new.start ≡ starts_with old.start g.meter.0 g.start w → IsTrueContent office new
+  start-true w h new m p t = true-after office s assigned before old new o j m (p ∙ points-told) (t ∙ (λ i n u. start-at w h n u i)) start-topped
+
+-- of an entry whose key and content are a top-up's
+pub paid-entry : (office : OfficeRules) → IsOffice office → (s : List Entry) (e : Entry) (r : List ℕ) (account : AccountId) (cents instant : ℕ) (before : Contents) (old new : ShelfContent) →
+    e.key ≡ key.TopUp r → e.content ≡ content.TopUp account cents instant → IsJustAdded office s e before old → IsPaid account cents before old new → IsTrueContent office new
+paid-entry office o s e r account cents instant before old new k c j m =
+    let P : Entry → Type 0 = λ x. IsJustAdded office s x before old in
+    paid-true office o s r account cents instant before old (subst P (λ i. entry (k i) (c i)) j) new m

@@ -26,7 +26,7 @@ After file before uploads records =
 -- content, they are as they were
 pub record LeavesAfter (file : OfficeFile) : Type 0 where
   pub taken : (before : List Entry) (uploads : List Upload) (upload : Upload) (entries : List Entry) (limit : ℕ) (old new : ShelfContent) (accepted : Accepted) →
-      After file before uploads old.records → Gives file upload entries → IsAccepted limit entries old new accepted →
+      After file before uploads old.records → Gives file upload entries → IsAccepted (office_of file) limit entries old new accepted →
       After file before (uploads ++ upload ∷ []) new.records
   pub refused : (before : List Entry) (uploads : List Upload) (upload : Upload) (fault : UploadFault) (records : List Entry) →
       After file before uploads records → RefusesContent file upload fault → After file before (uploads ++ upload ∷ []) records
@@ -41,7 +41,7 @@ pub data Outcome : Type 0 where
 abbrev pub LeadsTo : OfficeFile → ℕ → Upload → Outcome → ShelfContent → ShelfContent → Type 0
 LeadsTo file limit upload (Refused fault) old new = Refuses file upload fault × (new ≡ old)
 LeadsTo file limit upload (Posted answer) old new =
-    (entries : List Entry) × Gives file upload entries × IsPosted limit entries old new answer × (IsErrOf answer Reopen → ⊥)
+    (entries : List Entry) × Gives file upload entries × IsPosted (office_of file) limit entries old new answer × (IsErrOf answer Reopen → ⊥)
 
 -- uploads behind one another, each with what came of it
 abbrev pub IsRun : OfficeFile → ℕ → List (Upload × Outcome) → ShelfContent → ShelfContent → Type 0

@@ -1,8 +1,10 @@
 -- Read these, in this order:
 -- Posting: what an upload does, and what it is answered
+-- Cost: how many calls of the store and rows an upload takes
 -- Questions: what a question leaves as it is
 -- After: the records after uploads, and runs of them
 pub mod Posting
+pub mod Cost
 pub mod Questions
 pub mod After
 -- and these where a file above names them:

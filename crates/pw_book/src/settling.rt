@@ -8,8 +8,8 @@ ghost use Rattle.pw_model.specs.Office.{IsOfOffice};
 ghost use Rattle.pw_model.specs.Shelf.{IsTrueContent};
 ghost use Rattle.pw_shelf.specs.Calls.{GoesOn, failures_told};
 ghost use Rattle.pw_tariff.specs.Office.{IsSound, counts_at, office_of};
-ghost use Rattle.pw_book.specs.inner.Added.{IsJustAdded, IsPaid, IsReading, TakesAtMost, assignment_of, classes_of, reading_of};
-ghost use Rattle.pw_book.specs.inner.Settling.{HasStarts};
+ghost use Rattle.pw_book.specs.inner.Added.{IsJustAdded, IsPaid, TakesAtMost, assignment_of, reading_of};
+ghost use Rattle.pw_book.specs.Cost.{HasStarts, IsReading, classes_of};
 
 use crate::around::{Counted, begin_to_count, cease_to_count};
 use crate::moving::change_total;
@@ -140,27 +140,35 @@ pub(crate) fn settle<S: Shelf>(
     ensures tally { S.clean shelf.new → TakesAtMost 0 (office_of office.now) (S.state shelf.old).content entry.now.key (S.state shelf.old).tally (S.state shelf.new).tally }
     ensures kept { GoesOn S.state S.left S.clean (failures_told result) shelf.old shelf.new }
 {
-    match (entry.key, entry.content) {
-        (Key::Reading { meter, register, instant }, Content::Reading { wh }) => {
+    match &entry.key {
+        Key::Reading { meter, register, instant } => {
+            let Content::Reading { wh } = &entry.content else {
+                return Ok(());
+            };
             let reading = Counted {
-                meter,
-                register,
-                instant,
-                wh,
+                meter: *meter,
+                register: *register,
+                instant: *instant,
+                wh: *wh,
             };
             reading_added(shelf, alloc, office, zone, &reading, before)
         }
-        (Key::Assignment { meter, start }, Content::Assignment { owner }) => {
+        Key::Assignment { meter, start } => {
+            let Content::Assignment { owner } = &entry.content else {
+                return Ok(());
+            };
             let given = Given {
-                meter,
-                start,
-                owner,
+                meter: *meter,
+                start: *start,
+                owner: *owner,
             };
             assignment_added(shelf, alloc, office, zone, &given, before)
         }
-        (Key::TopUp { .. }, Content::TopUp { account, cents, .. }) => {
-            top_up_added(shelf, account, cents, before)
+        Key::TopUp { .. } => {
+            let Content::TopUp { account, cents, .. } = &entry.content else {
+                return Ok(());
+            };
+            top_up_added(shelf, *account, *cents, before)
         }
-        _ => Ok(()),
     }
 }

@@ -1,6 +1,6 @@
 -- An entry that was added, and what follows of it. It serves `src/settling.rt` and `src/upload.rt`.
 -- (Definitions of this project.)
-use Rattle.std.specs.Prelude.{◌≡◌, ℕ, ◌+◌, ◌*◌, ◌≤◌, List, length}
+use Rattle.std.specs.Prelude.{◌≡◌, ℕ, ◌+◌, ◌*◌, ◌≤◌, List, ◌++◌, length}
 use Rattle.pw_obis.specs.declared.reference.Register.{Register}
 use Rattle.pw_tariff.specs.declared.ids.AccountId.{AccountId}
 use Rattle.pw_tariff.specs.declared.ids.Direction.TheVariants.{Import, Export}
@@ -13,14 +13,15 @@ use Rattle.pw_model.specs.declared.records.Contents.TheVariants.{Nothing, One, S
 use Rattle.pw_model.specs.declared.records.Entry.{Entry}
 use Rattle.pw_model.specs.declared.records.TotalKey.{TotalKey}
 use Rattle.pw_model.specs.declared.records.TotalKey.TheVariants.{TopUps}
-use Rattle.pw_model.specs.Counting.{IsInserted, Member, contents_at, point, start}
+use Rattle.pw_model.specs.Counting.{IsInserted, Member, SameMembers, contents_at, point, start}
 use Rattle.pw_model.specs.Energy.{over_registers}
 use Rattle.pw_model.specs.Office.{AllOfOffice, most_records}
-use Rattle.pw_model.specs.Shelf.{ShelfContent, total_among}
+use Rattle.pw_model.specs.Shelf.{IsTrueContent, ShelfContent, total_among}
 use Rattle.pw_book.specs.declared.around.Counted.{Counted}
 use Rattle.pw_book.specs.declared.settling.Given.{Given}
+use Rattle.pw_book.specs.Cost.{HasStarts, classes_of}
 use Rattle.pw_book.specs.inner.Moves.{MovesTotals}
-use Rattle.pw_book.specs.inner.Settling.{HavePoints, HasStarts}
+use Rattle.pw_book.specs.inner.Settling.{HavePoints}
 
 -- ---- one record more
 -- points, starts and totals are those of a list of records
@@ -54,16 +55,12 @@ IsPaid account cents (One (content.Reading w)) old new = new ≡ old
 IsPaid account cents (One (content.Assignment o)) old new = new ≡ old
 IsPaid account cents Several old new = new ≡ old
 
--- the key of a reading
-abbrev pub IsReading : Key → Type 0
-IsReading (key.Reading m r t) = Unit {0}
-IsReading (key.Assignment m t) = ⊥
-IsReading (key.TopUp r) = ⊥
+-- the records with an entry, and all that follows
+pub record IsPut (office : OfficeRules) (entries : List Entry) (old new : ShelfContent) : Type 0 where
+  pub records : SameMembers new.records (old.records ++ entries)
+  pub truth : IsTrueContent office new
 
 -- ---- how many calls and rows an entry takes, beside so many
-abbrev pub classes_of : OfficeRules → ℕ
-classes_of office = office.bands * (office.accounts + 1)
-
 abbrev pub TakesAtMost : ℕ → OfficeRules → ShelfContent → Key → ℕ → ℕ → Type 0
 TakesAtMost beside office c (key.Reading m r t) old new = (starts : ℕ) → HasStarts c m.0 starts → new ≤ old + beside + (6 + starts) + 6 * classes_of office
 TakesAtMost beside office c (key.Assignment m t) old new = (starts : ℕ) (points : Register → ℕ) → HasStarts c m.0 starts → HavePoints c m.0 t points →
