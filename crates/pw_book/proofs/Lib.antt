@@ -27,3 +27,4 @@ pub mod Gathering
 pub mod Changing
 pub mod NewStarts
 pub mod WindowPairs
+pub mod StartChanged
