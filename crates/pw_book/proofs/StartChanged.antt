@@ -172,16 +172,15 @@ start-kept these more less b c d e f m z owner x y moves q =
 
 -- ---- how much is read
 -- the starts, and the points up to the next
-pub starts-counted : (c : ShelfContent) (m most rows : ℕ) (lent xs : List (ℕ × Option AccountId)) → HasStarts c m most → ListsSeconds (c.start m) xs → length lent ≡ rows → lent ≡ xs → rows ≤ most
-starts-counted c m most rows lent xs h l n e =
-    let f = h xs l in
-    let p = ap (λ (ys : List (ℕ × Option AccountId)). length ys) e in
-    omega (arith, f, n, p)
-
-pub points-counted : (c d : ShelfContent) (m z until : ℕ) (points : Register → ℕ) (was now : ℕ) → d ≡ c →
-    ((most : Register → ℕ) → EndsBeforeNext (d.start m) z until → HavePoints d m z most → now ≤ was + 30 + (over_registers Import most + over_registers Export most)) →
-    EndsBeforeNext (c.start m) z until → HavePoints c m z points → now ≤ was + 30 + (over_registers Import points + over_registers Export points)
-points-counted c d m z until points was now e t w h =
+pub window-counted : (c d : ShelfContent) (m z until starts rows : ℕ) (points : Register → ℕ) (lent again xs : List (ℕ × Option AccountId)) (was mid now : ℕ) → d ≡ c → ListsSeconds (c.start m) xs → length lent ≡ rows → lent ≡ xs → again ≡ xs →
+    ((told : ℕ → Option (Option AccountId)) → ListsSeconds told again → EndsBeforeNext told z until) → mid ≡ was + 1 + rows →
+    ((most : Register → ℕ) → EndsBeforeNext (d.start m) z until → HavePoints d m z most → now ≤ mid + 30 + (over_registers Import most + over_registers Export most)) →
+    HasStarts c m starts → HavePoints c m z points → now ≤ was + (31 + starts) + (over_registers Import points + over_registers Export points)
+window-counted c d m z until starts rows points lent again xs was mid now e l n f a u t w h p =
+    let R : List (ℕ × Option AccountId) → Type 0 = λ ys. ListsSeconds (c.start m) ys in
     let P : ShelfContent → Type 0 = λ x. EndsBeforeNext (x.start m) z until in
     let Q : ShelfContent → Type 0 = λ x. HavePoints x m z points in
-    t points (subst P (sym e) w) (subst Q (sym e) h)
+    let read = w points (subst P (sym e) (u (c.start m) (subst R (sym a) l))) (subst Q (sym e) p) in
+    let few = h xs l in
+    let same = ap (λ (ys : List (ℕ × Option AccountId)). length ys) f in
+    omega (arith, t, read, few, n, same)
