@@ -1,5 +1,5 @@
 -- Energies where another start of a meter counts.
-use Rattle.std.proofs.Common.{◌≡◌, ◌==◌, ℕ, zero, suc, ◌+◌, ◌*◌, ◌<◌, ◌≤◌, cond, Option, None, Some, List, length, take, get_or, refl, ap, sym, subst, ◌∙◌, inl, inr, arith}
+use Rattle.std.proofs.Common.{◌≡◌, ◌==◌, ℕ, zero, suc, ◌+◌, ◌*◌, ◌<◌, ◌≤◌, cond, Option, List, length, take, get_or, refl, ap, sym, subst, ◌∙◌, inl, inr, arith}
 use Rattle.std.specs.List.{sum_by}
 use Rattle.std.proofs.lemmas.Bool.{cases_eq, eq-eqb, ne_eqb}
 use Rattle.pw_obis.specs.Registers.{registers}
@@ -24,7 +24,7 @@ use Rattle.pw_model.proofs.Assignments.{one-more_assignment}
 use Rattle.pw_shelf.specs.Changes.{starts_with, with_start}
 use Rattle.pw_book.specs.declared.sums.Sum.{Sum}
 use Rattle.pw_book.specs.inner.Counted.{ListsSeconds}
-use Rattle.pw_book.specs.inner.Moves.{MovesTotals, OfOwners, most_total}
+use Rattle.pw_book.specs.inner.Moves.{MovesTotals, OfOwners}
 use Rattle.pw_book.specs.inner.Settling.{EndsBefore, EndsBeforeNext, HasStarts, HavePoints, IsSettled, IsStartChanged, ListsUpToNextStart, register_told}
 use Rattle.pw_book.specs.inner.Sums.{AreDifferences, energy_told, gathered}
 use Rattle.pw_book.proofs.Owning.{owners-told, starts-rise}
