@@ -30,3 +30,4 @@ pub mod Following
 pub mod Truthful
 pub mod NewStarts
 pub mod WindowPairs
+pub mod StartChanged

@@ -1,8 +1,8 @@
 -- A meter's starts with another one, and the time up to the next.
-use Rattle.std.proofs.Common.{◌≡◌, ◌==◌, ℕ, zero, suc, ◌+◌, ◌-◌, ◌<◌, ◌≤◌, ◌⊎◌, Bool, true, false, cond, nat_lt, Option, Some, None, List, [], ◌∷◌, ◌++◌, length, take, drop, get_or, refl, ap, sym, subst, ◌∙◌, inl, inr, arith, Less}
+use Rattle.std.proofs.Common.{◌≡◌, ◌==◌, ℕ, suc, ◌+◌, ◌-◌, ◌<◌, ◌≤◌, ◌⊎◌, Bool, true, cond, nat_lt, Option, Some, None, List, [], ◌∷◌, ◌++◌, length, take, drop, get_or, refl, ap, sym, subst, ◌∙◌, inl, inr, arith, Less}
 use Rattle.std.specs.Cmp.{nat_cmp_is}
 use Rattle.std.specs.List.{filter}
-use Rattle.std.proofs.lemmas.Bool.{cases_Bool, cases_eq, cases_lt, true≢false, eq-eqb, ne_eqb, lt-ltb, ltb-true}
+use Rattle.std.proofs.lemmas.Bool.{cases_Bool, cases_eq, cases_lt, eq-eqb, ne_eqb, lt-ltb, ltb-true}
 use Rattle.std.proofs.Math.Seq.{drop-cons}
 use Rattle.std.proofs.lemmas.List.{append_assoc, take-append-drop, take_all, take_more}
 use Rattle.std.proofs.lemmas.Option.{none-some, same_Some}
@@ -97,11 +97,11 @@ pub started : (told : ℕ → Option (Option AccountId)) (z : ℕ) (owner : Opti
 started told z owner xs l = record {
   rising = joined-rises (filter (early z) xs) (start_listed z owner (filter (late z) xs)) (part-rises (early z) xs l.rising) (late-rises z owner xs l.rising)
       (λ x y m n. (
-        let a = ltb-true x.0 z (part-member (early z) xs x m).1 in
-        elim (late-member z owner xs y n) [
-          | inl b ↦ (let e = b.0 in omega (arith, a, e))
-          | inr b ↦ (let e = b.1 in omega (arith, a, e))
-        ]));
+      let a = ltb-true x.0 z (part-member (early z) xs x m).1 in
+      elim (late-member z owner xs y n) [
+        | inl b ↦ (let e = b.0 in omega (arith, a, e))
+        | inr b ↦ (let e = b.1 in omega (arith, a, e))
+      ]));
   members = λ x. (
     λ m. elim (member-split x (filter (early z) xs) (start_listed z owner (filter (late z) xs)) m) [
       | inl a ↦ (
@@ -168,9 +168,9 @@ until-found told xs i from until x l k e g h u = record {
         ]))
   ];
   next = (
-    let m : Member x xs = let n : Member x (take i xs ++ x ∷ drop (i + 1) xs) = member-right x (take i xs) (x ∷ drop (i + 1) xs) (inl refl) in rw (sym (parted xs i x k e)) at n in
-    let q : until + 1 ≡ x.0 = omega (arith, u, g) in
-    inl (x.1, ap told q ∙ (l.members x).0 m));
+      let m : Member x xs = let n : Member x (take i xs ++ x ∷ drop (i + 1) xs) = member-right x (take i xs) (x ∷ drop (i + 1) xs) (inl refl) in rw (sym (parted xs i x k e)) at n in
+      let q : until + 1 ≡ x.0 = omega (arith, u, g) in
+      inl (x.1, ap told q ∙ (l.members x).0 m));
 }
 
 pub until-last : (told : ℕ → Option (Option AccountId)) (xs : List Start) (i from until : ℕ) → ListsSeconds told xs → length xs ≤ i → ((y : Start) → Member y (take i xs) → y.0 ≤ from) →

@@ -115,7 +115,9 @@ fn weigh_window<S: Shelf>(
     let mut taken = Vec::new(alloc);
     let mut given = Vec::new(alloc);
     for register in &Register::ALL {
-        add_register(shelf, alloc, office, zone, window, *register, &mut taken, &mut given)?;
+        add_register(
+            shelf, alloc, office, zone, window, *register, &mut taken, &mut given,
+        )?;
     }
     Ok(Moved { taken, given })
 }
@@ -151,8 +153,24 @@ fn add_register<S: Shelf>(
     let within = shelf.points_between(alloc, window.meter, register, window.from, window.until)?;
     let points = joined(alloc, before, &within, after)?;
     let direction = direction_of(register);
-    add_pairs(alloc, office, zone, &window.before, direction, &points, taken)?;
-    add_pairs(alloc, office, zone, &window.after, direction, &points, given)?;
+    add_pairs(
+        alloc,
+        office,
+        zone,
+        &window.before,
+        direction,
+        &points,
+        taken,
+    )?;
+    add_pairs(
+        alloc,
+        office,
+        zone,
+        &window.after,
+        direction,
+        &points,
+        given,
+    )?;
     Ok(())
 }
 

@@ -1,4 +1,4 @@
-use Rattle.std.proofs.Common.{◌≡◌, ◌-◌, ◌<◌, ◌≤◌, arith, rules, sym, ◌∙◌}
+use Rattle.std.proofs.Common.{◌≡◌, ◌-◌, ◌<◌, ◌≤◌, rules}
 use Rattle.pw_time.specs.declared.instant.TheConstants.{LAST_SECOND}
 use Rattle.pw_book.proofs.NewStarts.{behind-more, until-found, until-last}
 use Rattle.pw_book.proofs.starts.until_next.Goals as goal

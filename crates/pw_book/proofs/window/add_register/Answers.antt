@@ -1,4 +1,4 @@
-use Rattle.std.proofs.Common.{◌≡◌, ℕ, ◌+◌, ◌≤◌, Option, Some, List, length, ap, sym, ◌∙◌, arith, rules}
+use Rattle.std.proofs.Common.{◌≡◌, ℕ, ◌≤◌, Some, List, length, ap, sym, ◌∙◌, rules}
 use Rattle.pw_time.specs.declared.instant.TheConstants.{LAST_SECOND}
 use Rattle.pw_book.proofs.WindowPairs.{register-gathered, tally-five, within-counted}
 use Rattle.pw_book.proofs.window.add_register.Goals as goal
