@@ -5,6 +5,8 @@ use Rattle.pw_model.specs.Counting.{EachOnce, SameMembers}
 use Rattle.pw_model.specs.Lists.{record_count}
 use Rattle.pw_model.specs.Office.{most_records}
 use Rattle.pw_model.specs.Shelf.{ShelfContent}
+use Rattle.pw_tariff.specs.Office.{OfficeRules}
+use Rattle.pw_book.specs.inner.Added.{LeavesWithUpload}
 use Rattle.pw_shelf.specs.Left.{LeavesNoMore}
 use Rattle.pw_book.specs.declared.book.Accepted.{Accepted}
 use Rattle.pw_book.specs.declared.fault.PostFault.{PostFault}
@@ -12,7 +14,7 @@ use Rattle.pw_book.specs.declared.fault.PostFault.TheVariants.{Full}
 use Rattle.pw_book.specs.declared.fault.BookFault.{BookFault}
 use Rattle.pw_book.specs.declared.fault.BookFault.TheVariants.{Device, Memory, Reopen}
 use Rattle.pw_book.specs.Faults.{post_fault_of}
-use Rattle.pw_book.specs.Posting.{IsJoined, IsWithUpload, IsAccepted, IsFull, IsPosted, LeavesUpload, LeavesPosted, fresh_in, repeated_in}
+use Rattle.pw_book.specs.Posting.{HasRoom, IsWithUpload, IsAccepted, IsFull, IsPosted, LeavesUpload, LeavesPosted, fresh_in, repeated_in}
 use Rattle.pw_book.proofs.Groups.{member-left, member-right, member-split}
 use Rattle.pw_book.proofs.EachOne.{fresh-is, joined-fits, record-count, repeated-held, repeated-same}
 
@@ -25,7 +27,7 @@ pub record IsWeighed (held entries distinct : List Entry) (count n repeated : �
   pub length_is : n ≡ length distinct
   pub repeated_is : repeated ≡ repeated_in held distinct
 
-module _ (entries distinct : List Entry) (old : ShelfContent) (count n repeated limit : ℕ) (w : IsWeighed old.records entries distinct count n repeated) where
+module _ (office : OfficeRules) (entries distinct : List Entry) (old : ShelfContent) (count n repeated limit : ℕ) (w : IsWeighed old.records entries distinct count n repeated) where
   fresh : n - repeated ≡ fresh_in old.records entries
   fresh = fresh-is old.records entries distinct n repeated w.length_is w.repeated_is w.once w.members
 
@@ -43,8 +45,8 @@ module _ (entries distinct : List Entry) (old : ShelfContent) (count n repeated 
         content = s;
       }
 
-  pub accepted-is : (new : ShelfContent) (a : Accepted) → limit ≤ most_records → count + (n - repeated) ≤ limit → a.fresh ≡ n - repeated → (repeated < 2 ^ 32 → a.repeated ≡ repeated) → IsWithUpload entries old new →
-      IsAccepted limit entries old new a
+  pub accepted-is : (new : ShelfContent) (a : Accepted) → limit ≤ most_records → count + (n - repeated) ≤ limit → a.fresh ≡ n - repeated → (repeated < 2 ^ 32 → a.repeated ≡ repeated) → IsWithUpload office entries old new →
+      IsAccepted office limit entries old new a
   accepted-is new a m h f r u =
       let e = fresh in
       let g = held in
@@ -57,35 +59,34 @@ module _ (entries distinct : List Entry) (old : ShelfContent) (count n repeated 
         content = u;
       }
 
+  pub room-is : count + (n - repeated) ≤ limit → HasRoom limit entries old
+  room-is h = let e = fresh in let g = held in omega (arith, e, g, h)
+
 -- ---- the distinct entries are the upload's
-joined-same : (entries distinct : List Entry) (old new : ShelfContent) → SameMembers distinct entries → IsJoined distinct old new → IsJoined entries old new
-joined-same entries distinct old new h j = record {
-  records = λ x. (
-    λ m. elim (member-split x old.records distinct ((j.records x).0 m)) [ inl k ↦ member-left x old.records entries k | inr d ↦ member-right x old.records entries ((h x).0 d) ],
-    λ m. (j.records x).1 (elim (member-split x old.records entries m) [ inl k ↦ member-left x old.records distinct k | inr d ↦ member-right x old.records distinct ((h x).1 d) ]),
-  );
-  point = j.point;
-  start = j.start;
-  total = j.total;
-}
+pub upload-same : (office : OfficeRules) (entries distinct : List Entry) (old mid new : ShelfContent) → SameMembers distinct entries → mid ≡ old → IsWithUpload office distinct mid new → IsWithUpload office entries old new
+upload-same office entries distinct old mid new h s u =
+    let P : ShelfContent → Type 0 = λ c. IsWithUpload office entries c new in
+    subst P s (record {
+      once = u.once;
+      records = λ x. (
+        λ m. elim (member-split x mid.records distinct ((u.records x).0 m)) [ inl k ↦ member-left x mid.records entries k | inr d ↦ member-right x mid.records entries ((h x).0 d) ],
+        λ m. (u.records x).1 (elim (member-split x mid.records entries m) [ inl k ↦ member-left x mid.records distinct k | inr d ↦ member-right x mid.records distinct ((h x).1 d) ]),
+      );
+      truth = u.truth;
+    })
 
-pub upload-same : (entries distinct : List Entry) (old mid new : ShelfContent) → SameMembers distinct entries → mid ≡ old → IsWithUpload distinct mid new → IsWithUpload entries old new
-upload-same entries distinct old mid new h s u =
-    let P : ShelfContent → Type 0 = λ c. IsWithUpload entries c new in
-    subst P s (record { once = u.once; joined = joined-same entries distinct mid new h u.joined })
-
-pub leaves-same : (entries distinct : List Entry) (old mid : ShelfContent) (left_old left_mid left_new : ShelfContent → Type 0) → SameMembers distinct entries → mid ≡ old → LeavesNoMore left_old left_mid →
-    LeavesUpload distinct mid left_mid left_new → LeavesUpload entries old left_old left_new
-leaves-same entries distinct old mid left_old left_mid left_new h s l u = λ c k. elim (u c k) [
+pub leaves-same : (office : OfficeRules) (limit : ℕ) (entries distinct : List Entry) (old mid : ShelfContent) (left_old left_mid left_new : ShelfContent → Type 0) → HasRoom limit entries old → SameMembers distinct entries → mid ≡ old → LeavesNoMore left_old left_mid →
+    LeavesWithUpload office distinct mid left_mid left_new → LeavesUpload office limit entries old left_old left_new
+leaves-same office limit entries distinct old mid left_old left_mid left_new r h s l u = λ c k. elim (u c k) [
   | inl a ↦ inl (l c a)
-  | inr b ↦ inr (upload-same entries distinct old mid c h s b)
+  | inr b ↦ inr (r, upload-same office entries distinct old mid c h s b)
 ]
 
-pub leaves-posted : (entries : List Entry) (old new : ShelfContent) (left_old left_new : ShelfContent → Type 0) (fault : BookFault) (answered : PostFault) (answer : Result Accepted PostFault) → answer ≡ Err answered → answered ≡ post_fault_of fault →
-    LeavesUpload entries old left_old left_new → LeavesPosted entries old new left_old left_new answer
-leaves-posted entries old new left_old left_new fault answered answer e a u = rw (e, a) (by-fault fault)
+pub leaves-posted : (office : OfficeRules) (limit : ℕ) (entries : List Entry) (old new : ShelfContent) (left_old left_new : ShelfContent → Type 0) (fault : BookFault) (answered : PostFault) (answer : Result Accepted PostFault) → answer ≡ Err answered → answered ≡ post_fault_of fault →
+    LeavesUpload office limit entries old left_old left_new → LeavesPosted office limit entries old new left_old left_new answer
+leaves-posted office limit entries old new left_old left_new fault answered answer e a u = rw (e, a) (by-fault fault)
   where
-    by-fault : (f : BookFault) → LeavesPosted entries old new left_old left_new (Err (post_fault_of f))
+    by-fault : (f : BookFault) → LeavesPosted office limit entries old new left_old left_new (Err (post_fault_of f))
     by-fault Device = u
     by-fault Memory = u
     by-fault Reopen = u
@@ -115,8 +116,8 @@ pub members-lent : (entries distinct lent : List Entry) → SameMembers distinct
 members-lent entries distinct lent m l = let P : List Entry → Type 0 = λ xs. SameMembers xs entries in subst P (sym l) m
 
 -- what a refusal for want of room says
-pub posted-full : (limit : ℕ) (entries : List Entry) (old new : ShelfContent) (count : ℕ) (fault : PostFault) (answer : Result Accepted PostFault) → answer ≡ Err fault → fault ≡ Full count limit → IsFull limit entries old new count limit →
-    IsPosted limit entries old new answer
-posted-full limit entries old new count fault answer e f h =
-    let P : Result Accepted PostFault → Type 0 = λ r. IsPosted limit entries old new r in
+pub posted-full : (office : OfficeRules) (limit : ℕ) (entries : List Entry) (old new : ShelfContent) (count : ℕ) (fault : PostFault) (answer : Result Accepted PostFault) → answer ≡ Err fault → fault ≡ Full count limit → IsFull limit entries old new count limit →
+    IsPosted office limit entries old new answer
+posted-full office limit entries old new count fault answer e f h =
+    let P : Result Accepted PostFault → Type 0 = λ r. IsPosted office limit entries old new r in
     subst P (sym (e ∙ ap (λ (x : PostFault). Err x) f)) h

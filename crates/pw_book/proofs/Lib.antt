@@ -31,3 +31,5 @@ pub mod Truthful
 pub mod NewStarts
 pub mod WindowPairs
 pub mod StartChanged
+pub mod Putting
+pub mod Spending

@@ -25,7 +25,8 @@ use Rattle.pw_shelf.specs.Changes.{starts_with, with_start}
 use Rattle.pw_book.specs.declared.sums.Sum.{Sum}
 use Rattle.pw_book.specs.inner.Counted.{ListsSeconds}
 use Rattle.pw_book.specs.inner.Moves.{MovesTotals, OfOwners}
-use Rattle.pw_book.specs.inner.Settling.{EndsBefore, EndsBeforeNext, HasStarts, HavePoints, IsSettled, IsStartChanged, ListsUpToNextStart, register_told}
+use Rattle.pw_book.specs.Cost.{HasStarts}
+use Rattle.pw_book.specs.inner.Settling.{EndsBefore, EndsBeforeNext, HavePoints, IsSettled, IsStartChanged, ListsUpToNextStart, register_told}
 use Rattle.pw_book.specs.inner.Sums.{AreDifferences, energy_told, gathered}
 use Rattle.pw_book.proofs.Owning.{owners-told, starts-rise}
 

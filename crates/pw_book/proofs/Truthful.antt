@@ -411,3 +411,7 @@ pub paid-entry : (office : OfficeRules) → IsOffice office → (s : List Entry)
 paid-entry office o s e r account cents instant before old new k c j m =
     let P : Entry → Type 0 = λ x. IsJustAdded office s x before old in
     paid-true office o s r account cents instant before old (subst P (λ i. entry (k i) (c i)) j) new m
+
+pub on-ok-two : {T E P Q W : Type 0} (r : Result T E) → (P → Q → W) → OnOk r P → OnOk r Q → OnOk r W
+on-ok-two (Ok a) f p q = f p q
+on-ok-two (Err a) f p q = tt

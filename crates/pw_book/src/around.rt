@@ -13,7 +13,8 @@ ghost use Rattle.pw_shelf.specs.Changes.{points_with};
 ghost use Rattle.pw_tariff.specs.Office.{counts_at, office_of};
 ghost use Rattle.pw_tariff.specs.Owners.{StartsIncrease};
 ghost use Rattle.pw_book.specs.inner.Counted.{by_second};
-ghost use Rattle.pw_book.specs.inner.Settling.{EndsBefore, HasStarts, IsSettled};
+ghost use Rattle.pw_book.specs.Cost.{HasStarts};
+ghost use Rattle.pw_book.specs.inner.Settling.{EndsBefore, IsSettled};
 ghost use Rattle.pw_book.specs.inner.Sums.{AreDifferences, gathered, gathered_in_all, pairs_for, point_listed};
 
 use crate::moving::move_energies;

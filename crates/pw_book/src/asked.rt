@@ -1,6 +1,6 @@
 //! The shelf's reading calls outside an upload.
 
-ghost use Rattle.std.specs.Prelude.{◌≡◌, IfOk, IsNone, length};
+ghost use Rattle.std.specs.Prelude.{◌≡◌, ◌+◌, IfOk, IsNone, length};
 ghost use Rattle.pw_model.specs.Payments.{stands_in};
 ghost use Rattle.pw_model.specs.Same.{same_entry};
 ghost use Rattle.pw_shelf.specs.Rows.{ListsAssignments, ListsReadings, ListsTopUps};
@@ -16,6 +16,7 @@ use std::alloc::Global;
 pub(crate) fn count_held<S: Shelf>(shelf: &mut S) -> Result<u32, ShelfFault>
     requires { IsNone (S.state shelf.old).begun }
     ensures number { S.clean shelf.new → IfOk result (λ held. held ≡ length (S.state shelf.old).content.records) }
+    ensures tally { (S.state shelf.new).tally ≡ (S.state shelf.old).tally + 1 }
     ensures asked { IsOnlyAsked S.Shelf (failures_told result) shelf.old shelf.new }
 {
     shelf.count()
@@ -37,6 +38,7 @@ pub(crate) fn readings_held<S: Shelf>(
 pub(crate) fn is_held<S: Shelf>(shelf: &mut S, entry: &Entry) -> Result<bool, ShelfFault>
     requires { IsNone (S.state shelf.old).begun }
     ensures held { S.clean shelf.new → IfOk result (λ held. held ≡ stands_in same_entry entry.now (S.state shelf.old).content.records) }
+    ensures tally { (S.state shelf.new).tally ≡ (S.state shelf.old).tally + 1 }
     ensures asked { IsOnlyAsked S.Shelf (failures_told result) shelf.old shelf.new }
 {
     shelf.holds(entry)

@@ -5,8 +5,11 @@ ghost use Rattle.std.proofs.Props.{props};
 ghost use mathlib.Core.HLevel.{Π_prop};
 ghost use Rattle.pw_tariff.specs.Office.{office_of};
 ghost use Rattle.pw_model.specs.Office.{AllOfOffice, most_records};
-ghost use Rattle.pw_book.specs.Posting.{FailuresPosted, IsPosted, LeavesPosted, failed_in};
-ghost use Rattle.pw_book.specs.lemmas.Kept.{AllOfOffice-prop};
+ghost use Rattle.pw_model.specs.Shelf.{IsTrueContent};
+ghost use Rattle.pw_tariff.specs.Office.{IsSound};
+ghost use Rattle.pw_book.specs.Cost.{IsCheap};
+ghost use Rattle.pw_book.specs.Posting.{FailuresPosted, IsPosted, LeavesPosted, LeavesSound, failed_in};
+ghost use Rattle.pw_book.specs.lemmas.Kept.{AllOfOffice-prop, IsTrueContent-prop};
 
 mod questions;
 
@@ -50,6 +53,8 @@ pub struct Book<S: Shelf> {
     ghost limited: { (1 ≤ limit) × (limit ≤ most_records) },
     ghost few: { shut ≡ false → S.clean shelf → length (S.state shelf).content.records ≤ most_records },
     ghost of_office: { shut ≡ false → S.clean shelf → AllOfOffice (office_of office) (S.state shelf).content.records } by { Π_prop λ _. Π_prop λ _. AllOfOffice-prop (office_of office) (S.state shelf).content.records },
+    ghost truth: { shut ≡ false → S.clean shelf → IsTrueContent (office_of office) (S.state shelf).content } by { Π_prop λ _. Π_prop λ _. IsTrueContent-prop (office_of office) (S.state shelf).content },
+    ghost sound: { IsSound office },
     ghost idle: { shut ≡ false → IsNone (S.state shelf).begun } by { Π_prop λ _. Prim.hlevel props },
 }
 
@@ -58,12 +63,13 @@ impl<S: Shelf> Book<S> {
     /// memory, and leaves the store as it is.
     ///
     /// It asks for a limit of 1 to 10,000,000, and for a store with no upload begun, which holds at most 10,000,000 records,
-    /// all of the office. (A store may hold more than the limit: then each upload is answered `Full`.)
+    /// all of the office, with the points, starts and totals that are theirs. (A store may hold more than the limit: then each upload is answered `Full`.)
     pub fn new(office: Office, zone: Zone, shelf: S, limit: u32) -> Book<S>
         requires least { 1 ≤ limit }
         requires most { limit ≤ most_records }
         requires few { S.clean shelf → length (S.state shelf).content.records ≤ most_records }
         requires of_office { S.clean shelf → AllOfOffice (office_of office) (S.state shelf).content.records }
+        requires truth { S.clean shelf → IsTrueContent (office_of office) (S.state shelf).content }
         requires idle { (S.state shelf).begun ≡ None }
         ensures office { result.office ≡ office }
         ensures zone { result.zone ≡ zone }
@@ -117,8 +123,10 @@ impl<S: Shelf> Book<S> {
     /// the former alone.
     pub fn post(&mut self, alloc: Global, entries: &[Entry]) -> Result<Accepted, PostFault>
         requires { AllOfOffice (office_of self.old.office) entries.now }
-        ensures posted { S.clean self.new.shelf → IsPosted self.old.limit entries.now (S.state self.old.shelf).content (S.state self.new.shelf).content result }
-        ensures left { S.clean self.new.shelf → LeavesPosted entries.now (S.state self.old.shelf).content (S.state self.new.shelf).content (S.left self.old.shelf) (S.left self.new.shelf) result }
+        ensures posted { S.clean self.new.shelf → IsPosted (office_of self.old.office) self.old.limit entries.now (S.state self.old.shelf).content (S.state self.new.shelf).content result }
+        ensures left { S.clean self.new.shelf → LeavesPosted (office_of self.old.office) self.old.limit entries.now (S.state self.old.shelf).content (S.state self.new.shelf).content (S.left self.old.shelf) (S.left self.new.shelf) result }
+        ensures sound { S.clean self.new.shelf → LeavesSound (office_of self.old.office) (S.left self.old.shelf) (S.left self.new.shelf) }
+        ensures cost { S.clean self.new.shelf → IsCheap (office_of self.old.office) entries.now (S.state self.old.shelf).content (S.state self.old.shelf).tally (S.state self.new.shelf).tally }
         ensures reopen { IsErrOf result PostFault.Reopen ↔ ((self.old.shut ≡ true) ⊎ ((S.state self.old.shelf).failed_abandons < (S.state self.new.shelf).failed_abandons)) }
         ensures abandons { (S.state self.new.shelf).failed_abandons ≡ (S.state self.old.shelf).failed_abandons + failed_in self.old.shut result }
         ensures untouched { self.old.shut ≡ true → self.new.shelf ≡ self.old.shelf }
@@ -130,7 +138,7 @@ impl<S: Shelf> Book<S> {
         if self.shut {
             return Err(PostFault::Reopen);
         }
-        let answer = post_to(&mut self.shelf, alloc, self.limit, entries);
+        let answer = post_to(&mut self.shelf, alloc, &self.office, &self.zone, self.limit, entries);
         self.shut = is_reopen(&answer);
         answer
     }

@@ -3,7 +3,10 @@
 ghost use Rattle.std.specs.Prelude.{◌≡◌, ◌+◌, ◌<◌, ◌≤◌, ◌^◌, IfOk, IsErrOf, IsNone, MatchResult, length};
 ghost use Rattle.pw_model.specs.Counting.{EachOnce};
 ghost use Rattle.pw_model.specs.Lists.{record_count};
-ghost use Rattle.pw_model.specs.Office.{most_records};
+ghost use Rattle.pw_model.specs.Office.{AllOfOffice, most_records};
+ghost use Rattle.pw_model.specs.Shelf.{IsTrueContent};
+ghost use Rattle.pw_tariff.specs.Office.{IsSound, office_of};
+ghost use Rattle.pw_book.specs.Cost.{IsCheap};
 ghost use Rattle.pw_shelf.specs.Calls.{failures_told};
 ghost use Rattle.pw_book.specs.Asking.{IsOnlyAsked};
 ghost use Rattle.pw_book.specs.Posting.{FailuresPosted, IsPosted, LeavesPosted, repeated_in};
@@ -16,19 +19,28 @@ use crate::fault::PostFault;
 use crate::upload::upload;
 use pw_model::Entry;
 use pw_shelf::{Shelf, ShelfFault};
+use pw_tariff::Office;
+use pw_time::Zone;
 use std::alloc::Global;
 
 // Adds the entries to a shelf in an upload of their own, unless there is no room.
 pub(crate) fn post_to<S: Shelf>(
     shelf: &mut S,
     alloc: Global,
+    office: &Office,
+    zone: &Zone,
     limit: u32,
     entries: &[Entry],
 ) -> Result<Accepted, PostFault>
     requires idle { IsNone (S.state shelf.old).begun }
     requires most { limit ≤ most_records }
-    ensures posted { S.clean shelf.new → IsPosted limit entries.now (S.state shelf.old).content (S.state shelf.new).content result }
-    ensures left { S.clean shelf.new → LeavesPosted entries.now (S.state shelf.old).content (S.state shelf.new).content (S.left shelf.old) (S.left shelf.new) result }
+    requires sound { IsSound office.now }
+    requires of_office { AllOfOffice (office_of office.now) entries.now }
+    requires truth { S.clean shelf.old → IsTrueContent (office_of office.now) (S.state shelf.old).content }
+    requires held { S.clean shelf.old → AllOfOffice (office_of office.now) (S.state shelf.old).content.records }
+    ensures posted { S.clean shelf.new → IsPosted (office_of office.now) limit entries.now (S.state shelf.old).content (S.state shelf.new).content result }
+    ensures left { S.clean shelf.new → LeavesPosted (office_of office.now) limit entries.now (S.state shelf.old).content (S.state shelf.new).content (S.left shelf.old) (S.left shelf.new) result }
+    ensures cost { S.clean shelf.new → IsCheap (office_of office.now) entries.now (S.state shelf.old).content (S.state shelf.old).tally (S.state shelf.new).tally }
     ensures idle { (IsErrOf result Reopen → ⊥) → IsNone (S.state shelf.new).begun }
     ensures undone { (IsErrOf result Reopen → ⊥) → (S.state shelf.new).failed_abandons ≡ (S.state shelf.old).failed_abandons }
     ensures reopen { IsErrOf result Reopen → (S.state shelf.new).failed_abandons ≡ (S.state shelf.old).failed_abandons + 1 }
@@ -38,7 +50,7 @@ pub(crate) fn post_to<S: Shelf>(
     let distinct = distinct(alloc, entries)?;
     let (held, repeated) = weigh(shelf, &distinct)?;
     let accepted = admitted(held, distinct.len() - repeated, repeated, limit)?;
-    upload(shelf, &distinct)?;
+    upload(shelf, alloc, office, zone, &distinct)?;
     Ok(accepted)
 }
 
@@ -62,6 +74,7 @@ fn weigh<S: Shelf>(shelf: &mut S, distinct: &[Entry]) -> Result<(u32, usize), Sh
     ensures held { S.clean shelf.new → IfOk result (λ w. w.0 ≡ length (S.state shelf.old).content.records) }
     ensures repeated { S.clean shelf.new → IfOk result (λ w. w.1 ≡ repeated_in (S.state shelf.old).content.records distinct.now) }
     ensures within { IfOk result (λ w. w.1 ≤ length distinct.now) }
+    ensures tally { (S.state shelf.new).tally ≤ (S.state shelf.old).tally + 1 + length distinct.now }
     ensures asked { IsOnlyAsked S.Shelf (failures_told result) shelf.old shelf.new }
 {
     let held = count_held(shelf)?;
@@ -75,6 +88,7 @@ fn count_repeated<S: Shelf>(shelf: &mut S, distinct: &[Entry]) -> Result<usize, 
     requires once { EachOnce distinct.now }
     ensures repeated { S.clean shelf.new → IfOk result (λ repeated. repeated ≡ repeated_in (S.state shelf.old).content.records distinct.now) }
     ensures within { IfOk result (λ repeated. repeated ≤ length distinct.now) }
+    ensures tally { (S.state shelf.new).tally ≤ (S.state shelf.old).tally + length distinct.now }
     ensures asked { IsOnlyAsked S.Shelf (failures_told result) shelf.old shelf.new }
 {
     let mut repeated = 0;

@@ -1,38 +1,57 @@
 //! One upload to a shelf, written and committed, or taken back.
 
-ghost use Rattle.std.specs.Prelude.{◌≡◌, ◌+◌, ◌<◌, ◌≤◌, ◌++◌, [], ◌∷◌, None, OnOk, OnErr, IsErrOf, IsNone, IsSome, length};
+ghost use Rattle.std.specs.Prelude.{◌≡◌, ℕ, ◌+◌, ◌*◌, ◌<◌, ◌≤◌, ◌++◌, [], ◌∷◌, None, OnOk, OnErr, IsErrOf, IsNone, IsSome, length};
 ghost use Rattle.pw_model.specs.Counting.{Member};
 ghost use Rattle.pw_model.specs.Lists.{record_count};
-ghost use Rattle.pw_model.specs.Office.{most_records};
+ghost use Rattle.pw_model.specs.Office.{AllOfOffice, IsOfOffice, most_records};
+ghost use Rattle.pw_model.specs.Shelf.{IsTrueContent};
 ghost use Rattle.pw_shelf.specs.Left.{LeavesOnly};
 ghost use Rattle.pw_shelf.specs.Calls.{GoesOn, failures_told};
 ghost use Rattle.pw_shelf.specs.State.{CountsFailures};
-ghost use Rattle.pw_book.specs.Posting.{IsJoined, IsWithUpload, LeavesUpload};
+ghost use Rattle.pw_tariff.specs.Office.{IsSound, office_of};
+ghost use Rattle.pw_book.specs.Cost.{IsReading};
+ghost use Rattle.pw_book.specs.Posting.{IsWithUpload};
+ghost use Rattle.pw_book.specs.inner.Added.{CostsAtMost, IsPut, LeavesWithUpload, TakesAtMost};
 ghost use Rattle.pw_book.specs.inner.Failures.{FailuresUploaded};
 ghost use Rattle.pw_book.specs.declared.fault.BookFault.TheVariants.{Reopen};
 
 use crate::fault::BookFault;
+use crate::settling::settle;
 use pw_model::Entry;
 use pw_shelf::{Shelf, ShelfFault};
+use pw_tariff::Office;
+use pw_time::Zone;
+use std::alloc::Global;
 
-// Adds the entries that aren't held in an upload of their own.
-pub(crate) fn upload<S: Shelf>(shelf: &mut S, entries: &[Entry]) -> Result<(), BookFault>
+// Adds the entries that aren't held in an upload of their own, and keeps points, starts and totals true.
+pub(crate) fn upload<S: Shelf>(
+    shelf: &mut S,
+    alloc: Global,
+    office: &Office,
+    zone: &Zone,
+    entries: &[Entry],
+) -> Result<(), BookFault>
     requires idle { IsNone (S.state shelf.old).begun }
+    requires sound { IsSound office.now }
+    requires of_office { AllOfOffice (office_of office.now) entries.now }
     requires room { S.clean shelf.old → record_count ((S.state shelf.old).content.records ++ entries.now) ≤ most_records }
-    ensures posted { S.clean shelf.new → OnOk result (IsWithUpload entries.now (S.state shelf.old).content (S.state shelf.new).content) }
+    requires truth { S.clean shelf.old → IsTrueContent (office_of office.now) (S.state shelf.old).content }
+    requires held { S.clean shelf.old → AllOfOffice (office_of office.now) (S.state shelf.old).content.records }
+    ensures posted { S.clean shelf.new → OnOk result (IsWithUpload (office_of office.now) entries.now (S.state shelf.old).content (S.state shelf.new).content) }
     ensures back { S.clean shelf.new → OnErr result ((IsErrOf result Reopen → ⊥) → (S.state shelf.new).content ≡ (S.state shelf.old).content) }
     ensures idle { (IsErrOf result Reopen → ⊥) → IsNone (S.state shelf.new).begun }
     ensures undone { (IsErrOf result Reopen → ⊥) → (S.state shelf.new).failed_abandons ≡ (S.state shelf.old).failed_abandons }
     ensures reopen { IsErrOf result Reopen → (S.state shelf.new).failed_abandons ≡ (S.state shelf.old).failed_abandons + 1 }
     ensures failures { FailuresUploaded result (S.state shelf.old).failures (S.state shelf.new).failures }
     ensures kept { S.clean shelf.new → OnOk result (LeavesOnly (S.state shelf.new).content (S.left shelf.new)) }
-    ensures left { S.clean shelf.new → OnErr result (LeavesUpload entries.now (S.state shelf.old).content (S.left shelf.old) (S.left shelf.new)) }
+    ensures left { S.clean shelf.new → OnErr result (LeavesWithUpload (office_of office.now) entries.now (S.state shelf.old).content (S.left shelf.old) (S.left shelf.new)) }
+    ensures tally { S.clean shelf.new → CostsAtMost 3 (office_of office.now) entries.now (S.state shelf.old).content (S.state shelf.old).tally (S.state shelf.new).tally }
     ensures cleanness { S.clean shelf.new → S.clean shelf.old }
 {
     if let Err(fault) = shelf.begin() {
         return Err(BookFault::from(fault));
     }
-    match write(shelf, entries) {
+    match write(shelf, alloc, office, zone, entries) {
         Ok(()) => Ok(()),
         Err(fault) => match shelf.abandon() {
             Ok(()) => Err(BookFault::from(fault)),
@@ -42,32 +61,55 @@ pub(crate) fn upload<S: Shelf>(shelf: &mut S, entries: &[Entry]) -> Result<(), B
 }
 
 // Adds the entries that aren't held to the upload that is begun, and commits.
-fn write<S: Shelf>(shelf: &mut S, entries: &[Entry]) -> Result<(), ShelfFault>
+fn write<S: Shelf>(
+    shelf: &mut S,
+    alloc: Global,
+    office: &Office,
+    zone: &Zone,
+    entries: &[Entry],
+) -> Result<(), ShelfFault>
     requires begun { IsSome (S.state shelf.old).begun }
+    requires sound { IsSound office.now }
+    requires of_office { AllOfOffice (office_of office.now) entries.now }
     requires room { S.clean shelf.old → record_count ((S.state shelf.old).content.records ++ entries.now) ≤ most_records }
-    ensures posted { S.clean shelf.new → OnOk result (IsWithUpload entries.now (S.state shelf.old).content (S.state shelf.new).content) }
+    requires truth { S.clean shelf.old → IsTrueContent (office_of office.now) (S.state shelf.old).content }
+    requires held { S.clean shelf.old → AllOfOffice (office_of office.now) (S.state shelf.old).content.records }
+    ensures posted { S.clean shelf.new → OnOk result (IsWithUpload (office_of office.now) entries.now (S.state shelf.old).content (S.state shelf.new).content) }
     ensures ended { OnOk result ((S.state shelf.new).begun ≡ None) }
     ensures begun { OnErr result ((S.state shelf.new).begun ≡ (S.state shelf.old).begun) }
     ensures counts { CountsFailures (failures_told result) (S.state shelf.old) (S.state shelf.new) }
     ensures kept { S.clean shelf.new → OnOk result (LeavesOnly (S.state shelf.new).content (S.left shelf.new)) }
-    ensures left { S.clean shelf.new → OnErr result (LeavesUpload entries.now (S.state shelf.old).content (S.left shelf.old) (S.left shelf.new)) }
+    ensures left { S.clean shelf.new → OnErr result (LeavesWithUpload (office_of office.now) entries.now (S.state shelf.old).content (S.left shelf.old) (S.left shelf.new)) }
+    ensures tally { S.clean shelf.new → CostsAtMost 1 (office_of office.now) entries.now (S.state shelf.old).content (S.state shelf.old).tally (S.state shelf.new).tally }
     ensures cleanness { S.clean shelf.new → S.clean shelf.old }
 {
     for entry in entries {
-        put(shelf, entry)?;
+        put(shelf, alloc, office, zone, entry)?;
     }
     shelf.commit()
 }
 
-// Adds an entry to the upload that is begun, unless it is held.
-fn put<S: Shelf>(shelf: &mut S, entry: &Entry) -> Result<(), ShelfFault>
+// Adds an entry to the upload that is begun, unless it is held, with all that follows.
+fn put<S: Shelf>(
+    shelf: &mut S,
+    alloc: Global,
+    office: &Office,
+    zone: &Zone,
+    entry: &Entry,
+) -> Result<(), ShelfFault>
     requires begun { IsSome (S.state shelf.old).begun }
+    requires sound { IsSound office.now }
+    requires of_office { IsOfOffice (office_of office.now) entry.now }
     requires room { S.clean shelf.old → (Member entry.now (S.state shelf.old).content.records → ⊥) → length (S.state shelf.old).content.records < most_records }
-    ensures put { S.clean shelf.new → OnOk result (IsJoined (entry.now ∷ []) (S.state shelf.old).content (S.state shelf.new).content) }
+    ensures put { S.clean shelf.new → IsTrueContent (office_of office.now) (S.state shelf.old).content → AllOfOffice (office_of office.now) (S.state shelf.old).content.records → OnOk result (IsPut (office_of office.now) (entry.now ∷ []) (S.state shelf.old).content (S.state shelf.new).content) }
+    ensures start { S.clean shelf.new → IsReading entry.now.key → OnOk result ((S.state shelf.new).content.start ≡ (S.state shelf.old).content.start) }
+    ensures tally { S.clean shelf.new → TakesAtMost 5 (office_of office.now) (S.state shelf.old).content entry.now.key (S.state shelf.old).tally (S.state shelf.new).tally }
     ensures kept { GoesOn S.state S.left S.clean (failures_told result) shelf.old shelf.new }
 {
-    if !shelf.holds(entry)? {
-        shelf.add(entry)?;
+    if shelf.holds(entry)? {
+        return Ok(());
     }
-    Ok(())
+    let before = shelf.contents_at(&entry.key)?;
+    shelf.add(entry)?;
+    settle(shelf, alloc, office, zone, entry, &before)
 }

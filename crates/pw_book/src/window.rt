@@ -13,7 +13,8 @@ ghost use Rattle.pw_model.specs.Energy.{over_registers};
 ghost use Rattle.pw_model.specs.Same.{direction_of as direction_told};
 ghost use Rattle.pw_shelf.specs.Calls.{GoesOn, failures_told};
 ghost use Rattle.pw_shelf.specs.Changes.{starts_with, with_start as with_start_of};
-ghost use Rattle.pw_book.specs.inner.Settling.{EndsBefore, EndsBeforeNext, HasStarts, HavePoints, IsSettled, IsStartChanged, ListsUpToNextStart, register_told};
+ghost use Rattle.pw_book.specs.Cost.{HasStarts};
+ghost use Rattle.pw_book.specs.inner.Settling.{EndsBefore, EndsBeforeNext, HavePoints, IsSettled, IsStartChanged, ListsUpToNextStart, register_told};
 ghost use Rattle.pw_book.specs.inner.Sums.{AreDifferences, gathered, gathered_in_all, point_listed};
 
 use crate::moving::move_energies;
@@ -60,7 +61,7 @@ pub(crate) fn change_start<S: Shelf>(
     ensures settled { S.clean shelf.new → (was is : AnyKey → AnyContents) → (S.state shelf.old).content.point ≡ point_told was → (S.state shelf.old).content.start ≡ start_told was → IsOtherStart was is meter.0 start → start_told is meter.0 start ≡ owner → ((r : AnyRegister) → EndsBefore (office_of office.now).end (point_told was meter.0 r)) → OnOk result (IsSettled (office_of office.now) was is (S.state shelf.old).content (S.state shelf.new).content) }
     ensures point { S.clean shelf.new → OnOk result ((S.state shelf.new).content.point ≡ (S.state shelf.old).content.point) }
     ensures start { S.clean shelf.new → OnOk result ((S.state shelf.new).content.start ≡ starts_with (S.state shelf.old).content.start meter.0 start owner) }
-    ensures tally { S.clean shelf.new → (starts : ℕ) (points : AnyRegister → ℕ) → HasStarts (S.state shelf.old).content meter.0 starts → HavePoints (S.state shelf.old).content meter.0 start points → (S.state shelf.new).tally ≤ (S.state shelf.old).tally + (32 + starts) + (over_registers Import points + over_registers Export points) + 6 * length office.now.bands * (length office.now.accounts + 1) }
+    ensures tally { S.clean shelf.new → (starts : ℕ) (points : AnyRegister → ℕ) → HasStarts (S.state shelf.old).content meter.0 starts → HavePoints (S.state shelf.old).content meter.0 start points → (S.state shelf.new).tally ≤ (S.state shelf.old).tally + (32 + starts) + (over_registers Import points + over_registers Export points) + 6 * (length office.now.bands * (length office.now.accounts + 1)) }
     ensures kept { GoesOn S.state S.left S.clean (failures_told result) shelf.old shelf.new }
 {
     let old = shelf.starts_of(alloc, meter)?;

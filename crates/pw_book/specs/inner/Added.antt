@@ -1,6 +1,6 @@
 -- An entry that was added, and what follows of it. It serves `src/settling.rt` and `src/upload.rt`.
 -- (Definitions of this project.)
-use Rattle.std.specs.Prelude.{◌≡◌, ℕ, ◌+◌, ◌*◌, ◌≤◌, List, ◌++◌, length}
+use Rattle.std.specs.Prelude.{◌≡◌, ℕ, ◌+◌, ◌*◌, ◌≤◌, ◌⊎◌, List, [], ◌++◌, length}
 use Rattle.pw_obis.specs.declared.reference.Register.{Register}
 use Rattle.pw_tariff.specs.declared.ids.AccountId.{AccountId}
 use Rattle.pw_tariff.specs.declared.ids.Direction.TheVariants.{Import, Export}
@@ -19,7 +19,8 @@ use Rattle.pw_model.specs.Office.{AllOfOffice, most_records}
 use Rattle.pw_model.specs.Shelf.{IsTrueContent, ShelfContent, total_among}
 use Rattle.pw_book.specs.declared.around.Counted.{Counted}
 use Rattle.pw_book.specs.declared.settling.Given.{Given}
-use Rattle.pw_book.specs.Cost.{HasStarts, classes_of}
+use Rattle.pw_book.specs.Cost.{AreReadingsWith, AreTopUps, HasStarts, classes_of}
+use Rattle.pw_book.specs.Posting.{IsWithUpload}
 use Rattle.pw_book.specs.inner.Moves.{MovesTotals}
 use Rattle.pw_book.specs.inner.Settling.{HavePoints}
 
@@ -66,3 +67,14 @@ TakesAtMost beside office c (key.Reading m r t) old new = (starts : ℕ) → Has
 TakesAtMost beside office c (key.Assignment m t) old new = (starts : ℕ) (points : Register → ℕ) → HasStarts c m.0 starts → HavePoints c m.0 t points →
     new ≤ old + beside + (32 + starts) + (over_registers Import points + over_registers Export points) + 6 * classes_of office
 TakesAtMost beside office c (key.TopUp r) old new = new ≤ old + beside + 3
+
+-- ---- an upload within a call
+-- what could be left before, or the content with the whole upload
+abbrev pub LeavesWithUpload : OfficeRules → List Entry → ShelfContent → (ShelfContent → Type 0) → (ShelfContent → Type 0) → Type 0
+LeavesWithUpload office entries content old new = (c : ShelfContent) → new c → old c ⊎ IsWithUpload office entries content c
+
+-- how many calls and rows the entries of an upload take, each looked up, added and settled, beside so many
+pub record CostsAtMost (beside : ℕ) (office : OfficeRules) (entries : List Entry) (c : ShelfContent) (old new : ℕ) : Type 0 where
+  pub readings : (starts : ℕ) → AreReadingsWith c starts entries → new ≤ old + beside + length entries * (11 + starts + 6 * classes_of office)
+  pub top_ups : AreTopUps entries → new ≤ old + beside + length entries * 8
+  pub nothing : entries ≡ [] → new ≤ old + beside

@@ -32,10 +32,6 @@ abbrev pub EndsBefore : ℕ → (ℕ → Option ℕ) → Type 0
 EndsBefore end told = (t w : ℕ) → told t ≡ Some w → t < end
 
 -- ---- how much is read
--- a meter has so many starts at most
-abbrev pub HasStarts : ShelfContent → ℕ → ℕ → Type 0
-HasStarts c m most = (starts : List (ℕ × Option AccountId)) → ListsSeconds (c.start m) starts → length starts ≤ most
-
 -- from one second on, and before each start behind it
 abbrev pub IsBeforeNextStart : ShelfContent → ℕ → ℕ → ℕ → Type 0
 IsBeforeNextStart c m from t = (s : ℕ) → from < s → s ≤ t → c.start m s ≡ None

@@ -9,6 +9,7 @@ use Rattle.pw_model.specs.declared.records.Content.{Content}
 use Rattle.pw_model.specs.declared.records.Content.TheVariants as content
 use Rattle.pw_model.specs.declared.records.Entry.{Entry}
 use Rattle.pw_model.specs.Office.{AllOfOffice, IsOf}
+use Rattle.pw_model.specs.Shelf.{IsTrueContent, ShelfContent}
 
 IsOf-prop : (office : OfficeRules) (k : Key) (c : Content) → IsProp (IsOf office k c)
 IsOf-prop office (key.Reading m r t) (content.Reading w) = Prim.hlevel props
@@ -24,3 +25,6 @@ IsOf-prop office (key.TopUp r) (content.TopUp a c u) = Prim.hlevel props
 
 pub AllOfOffice-prop : (office : OfficeRules) (records : List Entry) → IsProp (AllOfOffice office records)
 AllOfOffice-prop office records = Π_prop λ e. Π_prop λ m. IsOf-prop office e.key e.content
+
+pub IsTrueContent-prop : (office : OfficeRules) (c : ShelfContent) → IsProp (IsTrueContent office c)
+IsTrueContent-prop office c = Prim.hlevel props

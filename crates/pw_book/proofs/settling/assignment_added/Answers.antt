@@ -39,3 +39,9 @@ returns-in-One-clause-records g c = λ k s j.
     let office = office_of file in
     let o = office-is file c.requires.sound in
     on_ok_weaker c.change_start-in-One.result (λ m. m.records) (c.change_start-in-One.ensures.settled k _ _ j.still.points j.still.starts (other-start office o s c.args.given.now _ _ j) (start-ceases office o s c.args.given.now _ _ j _ c.in-One.is) (start-ends office o s c.args.given.now _ _ j))
+
+pub returns-in-Nothing-clause-tally : goal.returns-in-Nothing-clause-tally
+returns-in-Nothing-clause-tally g c = λ k starts points s p. let x = c.change_start.ensures.tally k starts points s p in omega (arith, x)
+
+pub returns-in-One-clause-tally : goal.returns-in-One-clause-tally
+returns-in-One-clause-tally g c = λ k starts points s p. let x = c.change_start-in-One.ensures.tally k starts points s p in omega (arith, x)

@@ -1,14 +1,63 @@
-use Rattle.pw_book.proofs.Joining.{joined-room, joined-next}
-use Rattle.pw_book.proofs.Chains.{kept-then}
+use Rattle.std.proofs.Common.{◌≤◌, length, refl, arith, ◌∙◌, inl, inr, sym}
+use Rattle.std.proofs.lemmas.Result.{on_ok_weaker, on_err_weaker}
+use Rattle.pw_tariff.specs.Office.{office_of}
+use Rattle.pw_book.proofs.Chains.{kept-then, kept-none}
+use Rattle.pw_book.proofs.Joining.{joined-none, joined-next, joined-room, joined-of_office, got-of_office, got-member, with-upload, subst-once}
+use Rattle.pw_book.proofs.Spending.{readings-next, top-ups-next, costs-so-far, costs-next}
 use Rattle.pw_book.proofs.upload.write.Goals as goal
+
+pub put-requires-clause-of_office : goal.put-requires-clause-of_office
+put-requires-clause-of_office g c = got-of_office (office_of c.args.office.now) c.args.entries.now c.loop-entry.entry-index c.entry-item.result c.loop-entry-test.true c.entry-item.is c.requires.of_office
 
 pub put-requires-clause-room : goal.put-requires-clause-room
 put-requires-clause-room g c = λ k n.
-    joined-room c.args.entries.now c.loop-entry.entry-index c.entry-item.result _ _ c.loop-entry-test.true c.entry-item.is (c.loop-entry.invariant.joined k) (g.met.S.Shelf.once c.loop-entry.shelf k)
+    joined-room (office_of c.args.office.now) c.args.entries.now c.loop-entry.entry-index c.entry-item.result _ _ c.loop-entry-test.true c.entry-item.is (c.loop-entry.invariant.put k) (g.met.S.Shelf.once c.loop-entry.shelf k)
     (c.requires.room (c.loop-entry.invariant.kept.clean k)) n
 
+pub returns-in_err-put-clause-tally : goal.returns-in_err-put-clause-tally
+returns-in_err-put-clause-tally g c = λ k.
+    let before = c.put.ensures.kept.clean k in
+    let m = got-member (office_of c.args.office.now) c.args.entries.now c.loop-entry.entry-index c.entry-item.result c.loop-entry-test.true c.entry-item.is in
+    costs-next (office_of c.args.office.now) c.args.entries.now c.entry-item.result c.loop-entry.entry-index (g.S.Shelf.state c.args.shelf.now).content (g.S.Shelf.state c.loop-entry.shelf).content _ _ _ c.loop-entry-test.true m (c.loop-entry.invariant.start before) (c.loop-entry.invariant.readings before) (c.loop-entry.invariant.top_ups before) (c.put.ensures.tally k)
+
 pub loop-entry-preserved : goal.loop-entry-preserved
-loop-entry-preserved g c = record {
-  joined = λ k. joined-next c.args.entries.now c.loop-entry.entry-index c.entry-item.result _ _ _ c.loop-entry-test.true c.entry-item.is (c.loop-entry.invariant.joined (c.put.ensures.kept.clean k)) (c.in_ok-put.ensures.put k);
-  kept = kept-then _ _ _ _ _ _ _ c.loop-entry.invariant.kept c.in_ok-put.ensures.kept;
-}
+loop-entry-preserved g c =
+    let office = office_of c.args.office.now in
+    let m = got-member office c.args.entries.now c.loop-entry.entry-index c.entry-item.result c.loop-entry-test.true c.entry-item.is in
+    record {
+      put = λ k.
+          let before = c.put.ensures.kept.clean k in
+          let start = c.loop-entry.invariant.kept.clean before in
+          let so_far = c.loop-entry.invariant.put before in
+          joined-next office c.args.entries.now c.loop-entry.entry-index c.entry-item.result _ _ _ c.loop-entry-test.true c.entry-item.is so_far
+          (c.in_ok-put.ensures.put k so_far.truth (joined-of_office office c.args.entries.now c.loop-entry.entry-index _ _ c.requires.of_office (c.requires.held start) so_far));
+      start = λ k starts a. c.in_ok-put.ensures.start k (a c.entry-item.result m).0 ∙ c.loop-entry.invariant.start (c.put.ensures.kept.clean k) starts a;
+      readings = λ k starts a.
+          let before = c.put.ensures.kept.clean k in
+          readings-next office c.args.entries.now c.entry-item.result c.loop-entry.entry-index (g.S.Shelf.state c.args.shelf.now).content (g.S.Shelf.state c.loop-entry.shelf).content starts _ _ _ m a (c.loop-entry.invariant.start before starts a) (c.loop-entry.invariant.readings before starts a) (c.put.ensures.tally k);
+      top_ups = λ k a.
+          let before = c.put.ensures.kept.clean k in
+          top-ups-next office c.args.entries.now c.entry-item.result c.loop-entry.entry-index (g.S.Shelf.state c.loop-entry.shelf).content _ _ _ m a (c.loop-entry.invariant.top_ups before a) (c.put.ensures.tally k);
+      kept = kept-then _ _ _ _ _ _ _ c.loop-entry.invariant.kept c.in_ok-put.ensures.kept;
+    }
+
+pub returns-clause-posted : goal.returns-clause-posted
+returns-clause-posted g c = λ k.
+    let before = c.commit.ensures.cleanness k in
+    let l = c.loop-entry-test.false in
+    on_ok_weaker c.commit.result (λ same. with-upload (office_of c.args.office.now) c.args.entries.now c.loop-entry.entry-index _ _ _ l c.loop-entry.auto.entry-index-end same (g.met.S.Shelf.once _ k) (c.loop-entry.invariant.put before)) (c.commit.ensures.same k)
+
+pub returns-clause-left : goal.returns-clause-left
+returns-clause-left g c = λ k.
+    let before = c.commit.ensures.cleanness k in
+    let l = c.loop-entry-test.false in
+    on_err_weaker c.commit.result (λ left d now. elim (left d now) [
+      | inl old ↦ inl (c.loop-entry.invariant.kept.left before d old)
+      | inr same ↦ inr (with-upload (office_of c.args.office.now) c.args.entries.now c.loop-entry.entry-index _ _ d l c.loop-entry.auto.entry-index-end same (subst-once same (g.met.S.Shelf.once _ before)) (c.loop-entry.invariant.put before))
+    ]) (c.commit.ensures.left k)
+
+pub returns-clause-tally : goal.returns-clause-tally
+returns-clause-tally g c = λ k.
+    let before = c.commit.ensures.cleanness k in
+    let t = c.commit.ensures.tally in
+    costs-so-far (office_of c.args.office.now) c.args.entries.now c.loop-entry.entry-index _ _ _ _ c.loop-entry.auto.entry-index-end (c.loop-entry.invariant.readings before) (c.loop-entry.invariant.top_ups before) (omega (arith, t))

@@ -1,10 +1,17 @@
-use Rattle.std.proofs.Common.{take}
-use Rattle.pw_book.specs.Posting.{IsJoined}
+use Rattle.std.proofs.Common.{◌≡◌, ℕ, ◌+◌, ◌*◌, ◌≤◌, length, take}
+use Rattle.pw_tariff.specs.Office.{office_of}
 use Rattle.pw_shelf.specs.Calls.{GoesOn}
+use Rattle.pw_book.specs.Cost.{AreReadingsWith, AreTopUps, classes_of}
+use Rattle.pw_book.specs.inner.Added.{IsPut}
 use Rattle.pw_book.proofs.upload.write.Given as goal
 
 abbrev pub invariant-loop-entry : goal.invariant-loop-entry
 invariant-loop-entry g l = record {
-  joined : g.S.Shelf.clean l.shelf → IsJoined (take l.entry-index l.entries) (g.S.Shelf.state l.initial.shelf).content (g.S.Shelf.state l.shelf).content;
+  put : g.S.Shelf.clean l.shelf → IsPut (office_of l.office) (take l.entry-index l.entries) (g.S.Shelf.state l.initial.shelf).content (g.S.Shelf.state l.shelf).content;
+  start : g.S.Shelf.clean l.shelf → (starts : ℕ) → AreReadingsWith (g.S.Shelf.state l.initial.shelf).content starts l.entries →
+      (g.S.Shelf.state l.shelf).content.start ≡ (g.S.Shelf.state l.initial.shelf).content.start;
+  readings : g.S.Shelf.clean l.shelf → (starts : ℕ) → AreReadingsWith (g.S.Shelf.state l.initial.shelf).content starts l.entries →
+      (g.S.Shelf.state l.shelf).tally ≤ (g.S.Shelf.state l.initial.shelf).tally + l.entry-index * (11 + starts + 6 * classes_of (office_of l.office));
+  top_ups : g.S.Shelf.clean l.shelf → AreTopUps l.entries → (g.S.Shelf.state l.shelf).tally ≤ (g.S.Shelf.state l.initial.shelf).tally + l.entry-index * 8;
   kept : GoesOn g.S.Shelf.state g.S.Shelf.left g.S.Shelf.clean 0 l.initial.shelf l.shelf;
 }

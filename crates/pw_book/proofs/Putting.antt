@@ -1,0 +1,100 @@
+-- An entry that is added to a true content.
+use Rattle.std.proofs.Common.{◌≡◌, ℕ, ◌+◌, ◌*◌, ◌<◌, ◌≤◌, ◌⊎◌, List, [], ◌∷◌, ◌++◌, length, refl, ap, sym, subst, ◌∙◌, arith, inl, inr}
+use Rattle.pw_obis.specs.declared.reference.Register.{Register}
+use Rattle.pw_tariff.specs.Office.{OfficeRules}
+use Rattle.pw_model.specs.declared.records.Key.{Key}
+use Rattle.pw_model.specs.declared.records.Key.TheVariants as key
+use Rattle.pw_model.specs.declared.records.Contents.{Contents}
+use Rattle.pw_model.specs.declared.records.Contents.TheVariants.{Nothing, One, Several}
+use Rattle.pw_model.specs.declared.records.Entry.{Entry}
+use Rattle.pw_model.specs.Counting.{IsInserted, Member, SameMembers, contents_at}
+use Rattle.pw_model.specs.Office.{AllOfOffice, IsOfOffice, most_records}
+use Rattle.pw_model.specs.Shelf.{IsTrueContent, ShelfContent}
+use Rattle.pw_model.proofs.Counting.{inserted-same}
+use Rattle.pw_shelf.specs.Rows.{rows_at}
+use Rattle.pw_shelf.specs.State.{IsWithRecord}
+use Rattle.pw_book.specs.Cost.{HasStarts, classes_of}
+use Rattle.pw_book.specs.inner.Added.{IsJustAdded, IsPut, TakesAtMost}
+use Rattle.pw_book.specs.inner.Settling.{HavePoints}
+use Rattle.pw_book.proofs.Groups.{member-left, member-right, member-split}
+
+-- one that is held
+pub put-held : (office : OfficeRules) (e : Entry) (old new : ShelfContent) → new ≡ old → Member e old.records → IsTrueContent office old → IsPut office (e ∷ []) old new
+put-held office e old new same h t =
+    let P : ShelfContent → Type 0 = λ c. IsPut office (e ∷ []) old c in
+    let Q : Entry → Type 0 = λ x. Member x old.records in
+    subst P (sym same) (record {
+      records = λ x. (
+        λ m. member-left x old.records (e ∷ []) m,
+        λ m. elim (member-split x old.records (e ∷ []) m) [ inl k ↦ k | inr v ↦ elim v [ inl i ↦ subst Q (sym i) h | inr b ↦ absurd b ] ],
+      );
+      truth = t;
+    })
+
+-- one that isn't
+inserted-length : (s t : List Entry) (e : Entry) → IsInserted e s t → length t ≡ length s + 1
+inserted-length s t e h =
+    let xs = h.0 in let ys = h.1 in
+    ap (λ (l : List Entry). length l) h.3 ∙ more xs ys e ∙ ap (λ (l : List Entry). length l + 1) (sym h.2)
+  where
+    more : (xs ys : List Entry) (e : Entry) → length (xs ++ e ∷ ys) ≡ length (xs ++ ys) + 1
+    more [] ys e = omega arith
+    more (x ∷ xs) ys e = let r = more xs ys e in omega (arith, r)
+
+pub just-added : (office : OfficeRules) (e : Entry) (before : Contents) (old one two new : ShelfContent) → one ≡ old → two ≡ one → IsWithRecord two e new → before ≡ contents_at one.records e.key → (Member e old.records → ⊥) →
+    IsOfOffice office e → AllOfOffice office old.records → length old.records < most_records → IsTrueContent office old → IsJustAdded office old.records e before new
+just-added office e before old one two new p q w b n o h l t =
+    let P : ShelfContent → Type 0 = λ c. IsWithRecord c e new in
+    let v : IsWithRecord old e new = subst P (q ∙ p) w in
+    let m : SameMembers new.records (e ∷ old.records) = inserted-same old.records new.records e v.records in
+    let Q : Entry → Type 0 = λ x. IsOfOffice office x in
+    record {
+      inserted = v.records;
+      before_is = b ∙ ap (λ (c : ShelfContent). contents_at c.records e.key) p;
+      fresh = n;
+      of_office = λ x i. elim ((m x).0 i) [ inl y ↦ subst Q (sym y) o | inr k ↦ h x k ];
+      few = let f = inserted-length old.records new.records e v.records in omega (arith, f, l);
+      still = record { points = v.point ∙ t.points; starts = v.start ∙ t.starts; totals = λ k. ap (λ f. f k) v.total ∙ t.totals k };
+    }
+
+pub put-added : (office : OfficeRules) (s : List Entry) (e : Entry) (before : Contents) (old mid new : ShelfContent) → s ≡ old.records → IsJustAdded office s e before mid → new.records ≡ mid.records → IsTrueContent office new → IsPut office (e ∷ []) old new
+put-added office s e before old mid new q j r t =
+    let m : SameMembers mid.records (e ∷ s) = inserted-same s mid.records e j.inserted in
+    let P : List Entry → Type 0 = λ l. SameMembers l (e ∷ s) in
+    let n : SameMembers new.records (e ∷ s) = subst P (sym r) m in
+    let L : List Entry → Type 0 = λ l. SameMembers new.records (l ++ e ∷ []) in
+    record {
+      records = subst L q (λ x. (
+        λ i. elim ((n x).0 i) [ inl y ↦ member-right x s (e ∷ []) (inl y) | inr k ↦ member-left x s (e ∷ []) k ],
+        λ i. (n x).1 (elim (member-split x s (e ∷ []) i) [ inl k ↦ inr k | inr v ↦ elim v [ inl y ↦ inl y | inr b ↦ absurd b ] ]),
+      ));
+      truth = t;
+    }
+
+-- ---- how much it takes
+rows-few : (c : Contents) → rows_at c ≤ 2
+rows-few Nothing = omega arith
+rows-few (One d) = omega arith
+rows-few Several = omega arith
+
+pub starts-same : (old new : ShelfContent) (m most : ℕ) → new.start ≡ old.start → HasStarts old m most → HasStarts new m most
+starts-same old new m most p h = subst (λ f. HasStarts (record old { start = f }) m most) (sym p) h
+
+points-same : (old new : ShelfContent) (m t : ℕ) (most : Register → ℕ) → new.start ≡ old.start → new.point ≡ old.point → HavePoints old m t most → HavePoints new m t most
+points-same old new m t most p q h =
+    let one : HavePoints (record old { start = new.start }) m t most = subst (λ f. HavePoints (record old { start = f }) m t most) (sym p) h in
+    subst (λ f. HavePoints (record old { start = new.start; point = f }) m t most) (sym q) one
+
+takes-on : (office : OfficeRules) (k : Key) (old new : ShelfContent) (a b d : ℕ) → new.start ≡ old.start → new.point ≡ old.point → b ≤ a + 5 → TakesAtMost 0 office new k b d → TakesAtMost 5 office old k a d
+takes-on office (key.Reading m r t) old new a b d p q l h = λ starts s. let x = h starts (starts-same old new m.0 starts p s) in omega (arith, x, l)
+takes-on office (key.Assignment m t) old new a b d p q l h = λ starts points s v.
+    let x = h starts points (starts-same old new m.0 starts p s) (points-same old new m.0 t points p q v) in omega (arith, x, l)
+takes-on office (key.TopUp r) old new a b d p q l h = omega (arith, h, l)
+
+pub takes-more : (office : OfficeRules) (k : Key) (e : Entry) (old one two new : ShelfContent) (a b c d f : ℕ) (before : Contents) → one ≡ old → two ≡ one → IsWithRecord two e new →
+    b ≡ a + 1 + 0 → c ≡ b + 1 + rows_at before → d ≡ c + 1 → TakesAtMost 0 office new k d f → TakesAtMost 5 office old k a f
+takes-more office k e old one two new a b c d f before p q w x y z h =
+    let r = rows-few before in
+    let P : ShelfContent → Type 0 = λ c. IsWithRecord c e new in
+    let v : IsWithRecord old e new = subst P (q ∙ p) w in
+    takes-on office k old new a d f v.start v.point (omega (arith, x, y, z, r)) h
