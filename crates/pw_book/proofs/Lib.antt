@@ -11,7 +11,6 @@ pub mod Keeping
 pub mod Alone
 pub mod Disputed
 pub mod Falling
-pub mod Paid
 pub mod RowFacts
 pub mod Offices
 pub mod Owning

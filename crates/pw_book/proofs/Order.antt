@@ -68,7 +68,7 @@ refused-after file one s us v fault t a r x = (
 
 pub leaves-after : (file : OfficeFile) → AreOne file → LeavesAfter file
 leaves-after file one = record {
-  taken = λ s us v entries limit old new accepted a g x. taken-after file one s us v entries old.records new.records a g x.content.joined.records;
+  taken = λ s us v entries limit old new accepted a g x. taken-after file one s us v entries old.records new.records a g x.content.records;
   refused = λ s us v fault t a r. refused-after file one s us v fault t a r;
 }
 

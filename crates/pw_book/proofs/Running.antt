@@ -34,7 +34,7 @@ accepted-first file one v entries old mid t us g same a x = (
 one-step : (file : OfficeFile) → AreOne file → (limit : ℕ) (v : Upload) (outcome : Outcome) (old mid : ShelfContent) (us : List Upload) (t : List Entry) → LeadsTo file limit v outcome old mid → After file mid.records us t →
     After file old.records (if_accepted outcome v ++ us) t
 one-step file one limit v (Refused fault) old mid us t s a = refused-same file old mid us t s.1 a
-one-step file one limit v (Posted (Ok accepted)) old mid us t s a = accepted-first file one v s.0 old.records mid.records t us s.1 s.2.content.joined.records a
+one-step file one limit v (Posted (Ok accepted)) old mid us t s a = accepted-first file one v s.0 old.records mid.records t us s.1 s.2.content.records a
 one-step file one limit v (Posted (Err (Full held stated))) old mid us t s a = refused-same file old mid us t s.2.content a
 one-step file one limit v (Posted (Err Device)) old mid us t s a = refused-same file old mid us t s.2 a
 one-step file one limit v (Posted (Err Memory)) old mid us t s a = refused-same file old mid us t s.2 a

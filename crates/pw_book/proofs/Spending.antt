@@ -120,3 +120,16 @@ cheap-whole office entries distinct c d old mid new o m q h t =
     none-distinct : (entries distinct : List Entry) → SameMembers distinct entries → entries ≡ [] → (length distinct ≡ 0) × (distinct ≡ [])
     none-distinct entries [] m e = (refl, refl)
     none-distinct entries (x ∷ xs) m e = absurd (let P : List Entry → Type 0 = λ ys. Member x ys in subst P e ((m x).0 (inl refl)))
+
+-- ---- a list as it was lent
+pub lent-tally : {xs ys : List Entry} (old new : ℕ) → ys ≡ xs → new ≤ old + 1 + length ys → new ≤ old + 1 + length xs
+lent-tally {xs} {ys} old new e h = let n : length ys ≡ length xs = ap (λ (zs : List Entry). length zs) e in omega (arith, n, h)
+
+pub lents-tally : {xs ys zs : List Entry} (old new : ℕ) → ys ≡ xs → zs ≡ xs → new ≤ old + 1 + length ys → new ≤ old + 1 + length zs
+lents-tally {xs} {ys} {zs} old new e f h =
+    let n : length ys ≡ length xs = ap (λ (l : List Entry). length l) e in
+    let m : length zs ≡ length xs = ap (λ (l : List Entry). length l) f in
+    omega (arith, n, m, h)
+
+pub once-lent : {xs ys : List Entry} → ys ≡ xs → EachOnce xs → EachOnce ys
+once-lent {xs} {ys} e o = let P : List Entry → Type 0 = λ l. EachOnce l in subst P (sym e) o

@@ -1,13 +1,13 @@
 //! The shelf's reading calls outside an upload.
 
-ghost use Rattle.std.specs.Prelude.{◌≡◌, ◌+◌, IfOk, IsNone, length};
+ghost use Rattle.std.specs.Prelude.{◌≡◌, ◌+◌, ◌≤◌, IfOk, IsNone, length};
 ghost use Rattle.pw_model.specs.Payments.{stands_in};
 ghost use Rattle.pw_model.specs.Same.{same_entry};
 ghost use Rattle.pw_shelf.specs.Rows.{ListsAssignments, ListsReadings, ListsTopUps};
 ghost use Rattle.pw_shelf.specs.Calls.{failures_told};
 ghost use Rattle.pw_book.specs.Asking.{IsOnlyAsked};
 
-use pw_model::Entry;
+use pw_model::{Entry, TotalKey};
 use pw_obis::Register;
 use pw_shelf::{Shelf, ShelfFault};
 use pw_tariff::MeterId;
@@ -62,4 +62,13 @@ pub(crate) fn topups_held<S: Shelf>(shelf: &mut S, alloc: Global) -> Result<Vec<
     ensures asked { IsOnlyAsked S.Shelf (failures_told result) shelf.old shelf.new }
 {
     shelf.topups(alloc)
+}
+
+pub(crate) fn total_held<S: Shelf>(shelf: &mut S, key: &TotalKey) -> Result<u64, ShelfFault>
+    requires { IsNone (S.state shelf.old).begun }
+    ensures total { S.clean shelf.new → IfOk result (λ amount. amount ≡ (S.state shelf.old).content.total key.now) }
+    ensures tally { (S.state shelf.new).tally ≤ (S.state shelf.old).tally + 2 }
+    ensures asked { IsOnlyAsked S.Shelf (failures_told result) shelf.old shelf.new }
+{
+    shelf.total(key)
 }

@@ -1,60 +1,41 @@
-//! What an account paid, and its balance, of the records that a shelf holds.
+//! An account's balance, of the totals that a shelf keeps.
 
-ghost use Rattle.std.specs.Prelude.{◌≡◌, ◌*◌, ◌<◌, ◌≤◌, ◌^◌, Some, IfOk, IsNone, length, pos, ◌+ℤ◌, ◌-ℤ◌};
+ghost use Rattle.std.specs.Prelude.{◌≡◌, ◌+◌, ◌*◌, ◌<◌, ◌≤◌, ◌^◌, Some, IfOk, IsNone, length, pos, ◌+ℤ◌, ◌-ℤ◌};
 ghost use Rattle.pw_model.specs.Counting.{contents_at as held_at};
 ghost use Rattle.pw_model.specs.Energy.{cost as cost_of};
 ghost use Rattle.pw_model.specs.Office.{AllOfOffice, most_records};
-ghost use Rattle.pw_model.specs.Payments.{balance as balance_of, topped_up as cents_of};
+ghost use Rattle.pw_model.specs.Payments.{balance as balance_of};
+ghost use Rattle.pw_model.specs.Shelf.{IsTrueContent};
 ghost use Rattle.pw_shelf.specs.Calls.{failures_told};
-ghost use Rattle.pw_tariff.specs.Office.{OfficeRules as AnOffice, office_of};
+ghost use Rattle.pw_tariff.specs.Office.{office_of};
 ghost use Rattle.pw_book.specs.Asking.{IsOnlyAsked};
 
-use crate::asked::topups_held;
-use crate::energies::energy_held;
-use crate::energy::Class;
-use crate::payments::topped_up_of;
+use crate::asked::total_held;
+use pw_model::TotalKey;
 use pw_shelf::{Shelf, ShelfFault};
 use pw_tariff::{AccountId, BandId, Direction, Office};
-use pw_time::Zone;
-use std::alloc::Global;
 
 // Nano-euro in a cent.
 const NANO_IN_CENT: u128 = 10_000_000;
-
-// What the top-ups that count give an account, in cents.
-pub(crate) fn topped_up_held<S: Shelf>(
-    shelf: &mut S,
-    alloc: Global,
-    account: AccountId,
-) -> Result<u64, ShelfFault>
-    requires idle { IsNone (S.state shelf.old).begun }
-    requires few { S.clean shelf.old → length (S.state shelf.old).content.records ≤ most_records }
-    ensures cents { S.clean shelf.new → (office : AnOffice) → AllOfOffice office (S.state shelf.old).content.records → IfOk result (λ cents. cents ≡ cents_of (S.state shelf.old).content.records account.0) }
-    ensures asked { IsOnlyAsked S.Shelf (failures_told result) shelf.old shelf.new }
-{
-    let topups = topups_held(shelf, alloc)?;
-    let cents = topped_up_of(alloc, &topups, account)?;
-    Ok(cents.min(u128::from(u64::MAX)) as u64)
-}
 
 // The balance of an account, in nano-euro: what was topped up, less what its imported energy costs, plus what its exported
 // energy does.
 pub(crate) fn balance_held<S: Shelf>(
     shelf: &mut S,
-    alloc: Global,
     office: &Office,
-    zone: &Zone,
     account: AccountId,
 ) -> Result<i128, ShelfFault>
     requires idle { IsNone (S.state shelf.old).begun }
     requires few { S.clean shelf.old → length (S.state shelf.old).content.records ≤ most_records }
     requires of_office { S.clean shelf.old → AllOfOffice (office_of office.now) (S.state shelf.old).content.records }
+    requires truth { S.clean shelf.old → IsTrueContent (office_of office.now) (S.state shelf.old).content }
     ensures balance { S.clean shelf.new → IfOk result (λ nano. nano ≡ balance_of (office_of office.now) (S.state shelf.old).content.records account.0) }
+    ensures tally { (S.state shelf.new).tally ≤ (S.state shelf.old).tally + 2 * (2 * length office.now.bands + 1) }
     ensures asked { IsOnlyAsked S.Shelf (failures_told result) shelf.old shelf.new }
 {
-    let imported = cost_held(shelf, alloc, office, zone, account, Direction::Import)?;
-    let exported = cost_held(shelf, alloc, office, zone, account, Direction::Export)?;
-    let cents = topped_up_held(shelf, alloc, account)?;
+    let imported = cost_held(shelf, office, account, Direction::Import)?;
+    let exported = cost_held(shelf, office, account, Direction::Export)?;
+    let cents = total_held(shelf, &TotalKey::TopUps { account })?;
     let paid = NANO_IN_CENT * u128::from(cents);
     Ok(difference(paid, imported, exported))
 }
@@ -71,26 +52,25 @@ fn difference(paid: u128, imported: u128, exported: u128) -> i128
 // What an account's energy of a direction costs, in nano-euro.
 fn cost_held<S: Shelf>(
     shelf: &mut S,
-    alloc: Global,
     office: &Office,
-    zone: &Zone,
     account: AccountId,
     direction: Direction,
 ) -> Result<u128, ShelfFault>
     requires idle { IsNone (S.state shelf.old).begun }
-    requires few { S.clean shelf.old → length (S.state shelf.old).content.records ≤ most_records }
-    requires of_office { S.clean shelf.old → AllOfOffice (office_of office.now) (S.state shelf.old).content.records }
+    requires truth { S.clean shelf.old → IsTrueContent (office_of office.now) (S.state shelf.old).content }
     ensures cost { S.clean shelf.new → IfOk result (λ nano. nano ≡ cost_of (office_of office.now) (held_at (S.state shelf.old).content.records) (Some account) direction) }
     ensures bound { IfOk result (λ nano. nano < 2 ^ 120) }
+    ensures tally { (S.state shelf.new).tally ≤ (S.state shelf.old).tally + 2 * length office.now.bands }
     ensures asked { IsOnlyAsked S.Shelf (failures_told result) shelf.old shelf.new }
 {
     let mut nano: u128 = 0;
     for band in 0..office.bands() {
-        let class = Class {
+        let key = TotalKey::Energy {
             owner: Some(account),
             band: BandId(band),
+            direction,
         };
-        let wh = energy_held(shelf, alloc, office, zone, direction, class)?;
+        let wh = total_held(shelf, &key)?;
         nano += price_of(wh, office.price(BandId(band), direction));
     }
     Ok(nano)

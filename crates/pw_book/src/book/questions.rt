@@ -1,23 +1,22 @@
 //! The questions to a book.
 
-ghost use Rattle.std.specs.Prelude.{◌≡◌, ◌<◌, IfOk, MatchResult, true, false, length};
+ghost use Rattle.std.specs.Prelude.{◌≡◌, ◌+◌, ◌*◌, ◌<◌, IfOk, MatchResult, true, false, length};
 ghost use Rattle.pw_tariff.specs.Office.{office_of};
 ghost use Rattle.pw_model.specs.Energy.{energy as energy_of};
 ghost use Rattle.pw_model.specs.Lists.{AreDisputes, AreFalls, AreReadings, record_count};
 ghost use Rattle.pw_model.specs.Office.{HasOwner};
 ghost use Rattle.pw_model.specs.Payments.{balance as balance_of, topped_up as cents_of};
+ghost use Rattle.pw_book.specs.Cost.{RisesAtMost};
 ghost use Rattle.pw_book.specs.Questions.{IsQuestion};
 
 use super::Book;
-use crate::asked::count_held;
-use crate::balances::{balance_held, topped_up_held};
+use crate::asked::{count_held, total_held};
+use crate::balances::balance_held;
 use crate::disputes::disputes_held;
-use crate::energies::energy_held;
-use crate::energy::Class;
 use crate::falls::falls_held;
 use crate::fault::BookFault;
 use crate::rows::rows_held;
-use pw_model::{Dispute, Fall, ReadingRow};
+use pw_model::{Dispute, Fall, ReadingRow, TotalKey};
 use pw_obis::Register;
 use pw_shelf::Shelf;
 use pw_tariff::{AccountId, BandId, Direction, MeterId, Owner};
@@ -30,7 +29,6 @@ impl<S: Shelf> Book<S> {
     /// As with each question, `Device`, `Memory` and `Reopen` (of a shut book) leave the records as they are.
     pub fn energy(
         &mut self,
-        alloc: Global,
         owner: Owner,
         band: BandId,
         direction: Direction,
@@ -38,41 +36,39 @@ impl<S: Shelf> Book<S> {
         requires owner { HasOwner (office_of self.old.office) owner }
         requires band { band.0 < length self.old.office.bands }
         ensures energy { S.clean self.new.shelf → IfOk result (λ wh. wh ≡ energy_of (office_of self.old.office) (S.state self.old.shelf).content.records owner band.0 direction) }
+        ensures cost { RisesAtMost 2 (S.state self.old.shelf).tally (S.state self.new.shelf).tally }
         ensures question { IsQuestion S.Shelf result self.old self.new }
     {
         self.still_open()?;
-        let class = Class { owner, band };
-        let wh = energy_held(
-            &mut self.shelf,
-            alloc,
-            &self.office,
-            &self.zone,
+        let key = TotalKey::Energy {
+            owner,
+            band,
             direction,
-            class,
-        )?;
-        Ok(wh)
+        };
+        Ok(total_held(&mut self.shelf, &key)?)
     }
 
     /// What was topped up for an account, in cents, by the records held. It asks for an account of the office.
-    pub fn topped_up(&mut self, alloc: Global, account: AccountId) -> Result<u64, BookFault>
+    pub fn topped_up(&mut self, account: AccountId) -> Result<u64, BookFault>
         requires { account.0 < length self.old.office.accounts }
         ensures topped_up { S.clean self.new.shelf → IfOk result (λ cents. cents ≡ cents_of (S.state self.old.shelf).content.records account.0) }
+        ensures cost { RisesAtMost 2 (S.state self.old.shelf).tally (S.state self.new.shelf).tally }
         ensures question { IsQuestion S.Shelf result self.old self.new }
     {
         self.still_open()?;
-        let cents = topped_up_held(&mut self.shelf, alloc, account)?;
-        Ok(cents)
+        Ok(total_held(&mut self.shelf, &TotalKey::TopUps { account })?)
     }
 
     /// The balance of an account, in nano-euro, by the records held: what was topped up, less the price of its imported energy,
     /// plus the price of its exported energy. It asks for an account of the office.
-    pub fn balance(&mut self, alloc: Global, account: AccountId) -> Result<i128, BookFault>
+    pub fn balance(&mut self, account: AccountId) -> Result<i128, BookFault>
         requires { account.0 < length self.old.office.accounts }
         ensures balance { S.clean self.new.shelf → IfOk result (λ nano. nano ≡ balance_of (office_of self.old.office) (S.state self.old.shelf).content.records account.0) }
+        ensures cost { RisesAtMost (2 * (2 * length self.old.office.bands + 1)) (S.state self.old.shelf).tally (S.state self.new.shelf).tally }
         ensures question { IsQuestion S.Shelf result self.old self.new }
     {
         self.still_open()?;
-        let nano = balance_held(&mut self.shelf, alloc, &self.office, &self.zone, account)?;
+        let nano = balance_held(&mut self.shelf, &self.office, account)?;
         Ok(nano)
     }
 

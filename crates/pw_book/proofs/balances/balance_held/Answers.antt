@@ -4,8 +4,8 @@ use Rattle.std.proofs.lemmas.Int.{to_z-of_z}
 use Rattle.pw_tariff.specs.declared.ids.Direction.TheVariants.{Export}
 use Rattle.pw_tariff.specs.Office.{office_of}
 use Rattle.pw_model.specs.Counting.{contents_at}
+use Rattle.pw_model.specs.declared.records.TotalKey.TheVariants.{TopUps}
 use Rattle.pw_model.specs.Energy.{cost}
-use Rattle.pw_model.specs.Office.{AllOfOffice}
 use Rattle.pw_model.specs.Payments.{balance, topped_up}
 use Rattle.pw_model.specs.Shelf.{ShelfContent}
 use Rattle.pw_book.proofs.Capped.{difference-fits}
@@ -13,17 +13,16 @@ use Rattle.pw_book.proofs.balances.balance_held.Goals as goal
 
 pub returns-clause-balance : goal.returns-clause-balance
 returns-clause-balance g c = λ k.
-    let second = c.topped_up_held.ensures.asked.kept.clean k in
+    let second = c.total_held.ensures.asked.kept.clean k in
     let first = c.cost_held-2.ensures.asked.kept.clean second in
     let before = c.cost_held.ensures.asked.kept.clean first in
     let office = office_of c.args.office.now in
     let was = (g.S.Shelf.state c.args.shelf.now).content in
     let a = c.cost_held.ensures.asked.content first in
     let b = c.cost_held-2.ensures.asked.content second ∙ a in
-    let A : ShelfContent → Type 0 = λ d. AllOfOffice office d.records in
     let imported = c.in_ok-imported.ensures.cost first in
     let exported = c.in_ok-exported.ensures.cost second ∙ ap (λ (d : ShelfContent). cost office (contents_at d.records) (Some c.args.account) Export) a in
-    let cents = c.from-paid.ensures ∙ c.in_ok-cents.ensures.cents k office (subst A (sym b) (c.requires.of_office before)) ∙ ap (λ (d : ShelfContent). topped_up d.records c.args.account.0) b in
+    let cents = c.from-paid.ensures ∙ c.in_ok-cents.ensures.total k ∙ ap (λ (d : ShelfContent). d.total (TopUps c.args.account)) b ∙ (c.requires.truth before).totals (TopUps c.args.account) in
     let e : c.difference.result ≡ balance office was.records c.args.account.0 =
     c.difference.ensures ∙ (λ i. (pos (10_000_000 * cents i) -ℤ pos (imported i)) +ℤ pos (exported i)) in
     let paid : 10_000_000 * c.from-paid.result < 2 ^ 120 = omega arith in

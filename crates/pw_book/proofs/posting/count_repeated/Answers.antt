@@ -22,5 +22,12 @@ loop-entry-preserved g c =
         | then-branch w ↦ omega arith
         | else-branch w ↦ omega arith
       ];
+      tally = let a = c.loop-entry.invariant.tally in let b = c.is_held.ensures.tally in omega (arith, a, b);
       asked = asked-then _ _ _ _ _ c.loop-entry.invariant.asked c.in_ok-is_held.ensures.asked;
     }
+
+pub returns-in_err-is_held-clause-tally : goal.returns-in_err-is_held-clause-tally
+returns-in_err-is_held-clause-tally g c = let a = c.loop-entry.invariant.tally in let b = c.is_held.ensures.tally in let l = c.loop-entry-test.true in omega (arith, a, b, l)
+
+pub returns-clause-tally : goal.returns-clause-tally
+returns-clause-tally g c = let a = c.loop-entry.invariant.tally in let l = c.loop-entry.auto.entry-index-end in omega (arith, a, l)
