@@ -1,0 +1,5 @@
+pub mod Kinds
+pub mod Counted
+pub mod Groups
+pub mod Places
+pub mod Rows

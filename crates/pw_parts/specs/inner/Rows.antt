@@ -1,0 +1,2 @@
+-- What the totals that are kept tell.
+use Rattle.std.specs.Prelude.{◌≡◌}
