@@ -6,3 +6,5 @@ pub mod Chart
 pub mod Owning
 pub mod Paid
 pub mod Parted
+pub mod Kept
+pub mod Spread

@@ -1,5 +1,5 @@
 -- Records in order stand by their places.
-use Rattle.std.proofs.Common.{◌≡◌, ℕ, ◌+◌, ◌*◌, ◌<◌, ◌≤◌, true, false, ltb, List, [], ◌∷◌, ◌++◌, length, get_or, take, drop, ◌↔◌, refl, sym, ap, subst, ◌∙◌, inl, inr, ◌⊎◌, arith, Ordering, Less, Equal}
+use Rattle.std.proofs.Common.{◌≡◌, ℕ, zero, suc, ◌+◌, ◌*◌, ◌<◌, ◌≤◌, true, false, ltb, List, [], ◌∷◌, ◌++◌, length, get_or, take, drop, ◌↔◌, refl, sym, ap, subst, ◌∙◌, inl, inr, ◌⊎◌, arith, Ordering, Less, Equal}
 use Rattle.std.specs.Cmp.{nat_cmp_is}
 use Rattle.std.specs.Cmp.Lexicographic.{slice_cmp}
 use Rattle.std.specs.Ordering.{nat_cmp}
@@ -9,8 +9,15 @@ use Rattle.std.proofs.lemmas.List.{take-append-drop}
 use Rattle.pw_obis.specs.declared.reference.Register.{Register}
 use Rattle.pw_obis.specs.declared.reference.Register.TheVariants.{I0, I1, I2, E0, E1, E2}
 use Rattle.pw_tariff.specs.Office.{register_place}
+use Rattle.pw_tariff.specs.Office.{OfficeRules}
+use Rattle.pw_tariff.specs.declared.ids.MeterId.{MeterId}
 use Rattle.pw_model.specs.declared.records.Key.{Key}
 use Rattle.pw_model.specs.declared.records.Key.TheVariants as key
+use Rattle.pw_model.specs.declared.records.Content.{Content}
+use Rattle.pw_model.specs.declared.records.Content.TheVariants as content
+use Rattle.pw_model.specs.Office.{AllOfOffice, IsOf}
+use Rattle.pw_parts.specs.Parts.{IsReading, IsAssignment}
+use Rattle.pw_parts.specs.inner.Kinds.{IsReadingOf, IsAssignmentOf, IsTopUp, ListsHeld}
 use Rattle.pw_model.specs.declared.records.Entry.{Entry}
 use Rattle.pw_model.specs.Counting.{Member}
 use Rattle.pw_model.specs.Lists.{IsBeforeAll, IsInOrder, Lists}
@@ -158,3 +165,87 @@ between-both meters from to xs ys zs f g = record {
     λ h. (g.members x).1 ((f.members x).1 (h.0, h.1), h.2),
   );
 }
+
+-- ---- which keys stand between two places
+pub kind-between : (Of : Key → Type 0) (meters from to p q : ℕ) (xs ys : List Entry) → AreWithin meters xs → p ≡ from → q ≡ to → ListsBetween meters p q xs ys →
+    ((k : Key) → IsWithin meters k → Of k ↔ ((from ≤ key_place meters k) × (key_place meters k < to))) → ListsHeld Of xs ys
+kind-between Of meters from to p q xs ys w i j l h = record {
+  rising = l.rising;
+  members = λ e. (
+    λ m. (let a = (l.members e).0 m in let b = a.1 in let c = a.2 in (a.0, (h e.key (w e a.0)).1 (omega (arith, b, i), omega (arith, c, j)))),
+    λ a. (let b = (h e.key (w e a.0)).0 a.1 in let c = b.0 in let d = b.1 in (l.members e).1 (a.0, omega (arith, c, i), omega (arith, d, j))),
+  );
+}
+
+pub readings-between : (meters : ℕ) (k : Key) → IsWithin meters k → IsReading k ↔ ((0 ≤ key_place meters k) × (key_place meters k < 6 * meters))
+readings-between meters (key.Reading m r t) w = (λ o. (omega arith, let f = place-few r in omega (arith, f, w)), λ h. tt)
+readings-between meters (key.Assignment m t) w = (λ o. absurd o, λ h. absurd (let l = h.1 in omega (arith, l)))
+readings-between meters (key.TopUp q) w = (λ o. absurd o, λ h. absurd (let l = h.1 in omega (arith, l)))
+
+register_at : ℕ → Register
+register_at zero = I0
+register_at (suc zero) = I1
+register_at (suc (suc zero)) = I2
+register_at (suc (suc (suc zero))) = E0
+register_at (suc (suc (suc (suc zero)))) = E1
+register_at (suc (suc (suc (suc (suc i))))) = E2
+
+register-back : (r : Register) → register_at (register_place r) ≡ r
+unfolding register_at
+register-back I0 = refl
+register-back I1 = refl
+register-back I2 = refl
+register-back E0 = refl
+register-back E1 = refl
+register-back E2 = refl
+
+register-one : (r s : Register) → register_place r ≡ register_place s → r ≡ s
+register-one r s e = sym (register-back r) ∙ ap register_at e ∙ register-back s
+
+pub register-between : (meters : ℕ) (m : MeterId) (r : Register) → m.0 < meters → (k : Key) → IsWithin meters k →
+    IsReadingOf m r k ↔ ((6 * m.0 + register_place r ≤ key_place meters k) × (key_place meters k < 6 * m.0 + register_place r + 1))
+register-between meters m r l (key.Reading n s t) w = (
+  λ o. (
+      let e : 6 * n.0 + register_place s ≡ 6 * m.0 + register_place r = λ i. 6 * (o.0 i).0 + register_place (o.1 i) in
+      (omega (arith, e), omega (arith, e))),
+  λ h. (
+      let a = h.0 in
+      let b = h.1 in
+      let p = places-same n.0 m.0 (register_place s) (register_place r) (place-few s) (place-few r) (omega (arith, a, b)) in
+      let q = p.0 in
+      ((λ i. record { 0 = q i }), register-one s r p.1)),
+)
+register-between meters m r l (key.Assignment n t) w = (λ o. absurd o, λ h. absurd (let a = h.1 in let f = place-few r in omega (arith, a, f, l)))
+register-between meters m r l (key.TopUp q) w = (λ o. absurd o, λ h. absurd (let a = h.1 in let f = place-few r in omega (arith, a, f, l)))
+
+pub assignments-between : (meters : ℕ) (k : Key) → IsWithin meters k → IsAssignment k ↔ ((6 * meters ≤ key_place meters k) × (key_place meters k < 7 * meters))
+assignments-between meters (key.Reading m r t) w = (λ o. absurd o, λ h. absurd (let a = h.0 in let f = place-few r in omega (arith, a, f, w)))
+assignments-between meters (key.Assignment m t) w = (λ o. (omega arith, omega (arith, w)), λ h. tt)
+assignments-between meters (key.TopUp q) w = (λ o. absurd o, λ h. absurd (let a = h.1 in omega (arith, a)))
+
+pub meter-between : (meters : ℕ) (m : MeterId) → m.0 < meters → (k : Key) → IsWithin meters k →
+    IsAssignmentOf m k ↔ ((6 * meters + m.0 ≤ key_place meters k) × (key_place meters k < 6 * meters + m.0 + 1))
+meter-between meters m l (key.Reading n s t) w = (λ o. absurd o, λ h. absurd (let a = h.0 in let f = place-few s in omega (arith, a, f, w)))
+meter-between meters m l (key.Assignment n t) w = (
+  λ o. (let e : n.0 ≡ m.0 = ap (λ (x : MeterId). x.0) o in (omega (arith, e), omega (arith, e))),
+  λ h. (let a = h.0 in let b = h.1 in let q : n.0 ≡ m.0 = omega (arith, a, b) in λ i. record { 0 = q i }),
+)
+meter-between meters m l (key.TopUp q) w = (λ o. absurd o, λ h. absurd (let a = h.1 in omega (arith, a, l)))
+
+pub top-ups-between : (meters : ℕ) (k : Key) → IsWithin meters k → IsTopUp k ↔ ((7 * meters ≤ key_place meters k) × (key_place meters k < 7 * meters + 1))
+top-ups-between meters (key.Reading m r t) w = (λ o. absurd o, λ h. absurd (let a = h.0 in let f = place-few r in omega (arith, a, f, w)))
+top-ups-between meters (key.Assignment m t) w = (λ o. absurd o, λ h. absurd (let a = h.0 in omega (arith, a, w)))
+top-ups-between meters (key.TopUp q) w = (λ o. (omega arith, omega arith), λ h. tt)
+
+-- records of the office are of its meters
+of-meters : (office : OfficeRules) (k : Key) (c : Content) → IsOf office k c → IsWithin office.meters k
+of-meters office (key.Reading m r t) (content.Reading w) h = h.0
+of-meters office (key.Reading m r t) (content.Assignment o) h = absurd h
+of-meters office (key.Reading m r t) (content.TopUp a c u) h = absurd h
+of-meters office (key.Assignment m t) (content.Assignment o) h = h.0
+of-meters office (key.Assignment m t) (content.Reading w) h = absurd h
+of-meters office (key.Assignment m t) (content.TopUp a c u) h = absurd h
+of-meters office (key.TopUp q) c h = tt
+
+pub within-office : (office : OfficeRules) (meters : ℕ) (s : List Entry) → meters ≡ office.meters → AllOfOffice office s → AreWithin meters s
+within-office office meters s e h x m = let P : ℕ → Type 0 = λ n. IsWithin n x.key in subst P (sym e) (of-meters office x.key x.content (h x m))

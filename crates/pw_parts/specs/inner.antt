@@ -2,4 +2,5 @@ pub mod Kinds
 pub mod Counted
 pub mod Groups
 pub mod Places
-pub mod Rows
+pub mod Totals
+pub mod Given

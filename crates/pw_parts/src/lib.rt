@@ -2,8 +2,12 @@
 #![tactic(auto)]
 
 mod counting;
+mod energies;
+mod energy;
 mod parts;
+mod payments;
 mod places;
 mod told;
+mod totals;
 
 pub use parts::Parts;

@@ -1,2 +1,0 @@
--- What the totals that are kept tell.
-use Rattle.std.specs.Prelude.{◌≡◌}
