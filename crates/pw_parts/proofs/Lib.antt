@@ -8,3 +8,5 @@ pub mod Paid
 pub mod Parted
 pub mod Kept
 pub mod Spread
+pub mod Sharing
+pub mod Meters

@@ -1,25 +1,25 @@
-use Rattle.std.proofs.Common.{rules, ◌≡◌, ℕ, ◌<◌, OnOk, length, ◌+◌, ◌-◌, ◌*◌, ◌≤◌, ◌/◌, ◌%◌, Bool, true, false, nat_eq, nat_lt, List, [], ◌∷◌, ◌++◌, slice_index_or, slice_set, bit_and, bit_or, Fits, w8, w32, w64, Bor, MutBor}
-use Rattle.pw_model.specs.Counting.{contents_at as held_at}
-use Rattle.pw_model.specs.Energy.{owner_at as owner_told}
-use Rattle.pw_model.specs.Same.{direction_of as direction_told}
+use Rattle.std.proofs.Common.{◌≡◌, ◌+◌, ap, ◌∙◌, arith}
 use Rattle.pw_tariff.specs.Office.{office_of}
-use Rattle.pw_tariff.specs.Owners.{owner_by_starts}
-use Rattle.pw_parts.specs.inner.Given.{AreCounted, energies_given, meter_given, register_given}
-use Rattle.pw_parts.specs.inner.Totals.{HasRoom, IsGiven}
+use Rattle.pw_parts.specs.inner.Totals.{total_in}
+use Rattle.pw_parts.proofs.Meters.{meters-all, meters-none, meter-room, meter-next}
 use Rattle.pw_parts.proofs.energies.add_meters.Goals as goal
 
--- src/energies.rt:34:5
 pub loop-meter-init : goal.loop-meter-init
-loop-meter-init c = ?
+loop-meter-init c = λ k. meters-none (office_of c.args.office.now) c.args.records.now k (total_in c.args.totals.now.rows k)
 
--- src/energies.rt:35:9
 pub add_meter-requires-clause-room : goal.add_meter-requires-clause-room
-add_meter-requires-clause-room c = ?
+add_meter-requires-clause-room c = λ k.
+    let l = c.loop-meter-test.true in
+    let e = c.meters-meter-end.ensures.count in
+    meter-room (office_of c.args.office.now) c.args.records.now c.loop-meter.meter k (total_in c.args.totals.now.rows k) (total_in c.loop-meter.totals.rows k) (omega (arith, l, e)) (c.loop-meter.invariant k) (c.requires.room k)
 
--- src/energies.rt:34:5
 pub loop-meter-preserved : goal.loop-meter-preserved
-loop-meter-preserved c = ?
+loop-meter-preserved c = λ k.
+    meter-next (office_of c.args.office.now) c.args.records.now c.loop-meter.meter k (total_in c.args.totals.now.rows k) (total_in c.loop-meter.totals.rows k) (total_in c.add_meter.new.totals.rows k)
+    (c.loop-meter.invariant k) (c.in_ok-add_meter.ensures k)
 
--- src/energies.rt:23:1
 pub returns : goal.returns
-returns c = ?
+returns c = λ k.
+    let office = office_of c.args.office.now in
+    let all : c.loop-meter.meter ≡ office.meters = omega (arith, c.meters-meter-end.ensures.count, c.loop-meter.auto.meter-end, c.loop-meter-test.false) in
+    c.loop-meter.invariant k ∙ ap (λ n. total_in c.args.totals.now.rows k + n) (meters-all office c.args.records.now c.loop-meter.meter k all)

@@ -1,25 +1,43 @@
-use Rattle.std.proofs.Common.{rules, ◌≡◌, ℕ, ◌<◌, OnOk, length, ◌+◌, ◌-◌, ◌*◌, ◌≤◌, ◌/◌, ◌%◌, Bool, true, false, nat_eq, nat_lt, List, [], ◌∷◌, ◌++◌, slice_index_or, slice_set, bit_and, bit_or, Fits, w8, w32, w64, Bor, MutBor}
-use Rattle.pw_model.specs.Counting.{contents_at as held_at}
-use Rattle.pw_model.specs.Energy.{owner_at as owner_told}
-use Rattle.pw_model.specs.Same.{direction_of as direction_told}
+use Rattle.std.proofs.Common.{◌≡◌, ℕ, ◌+◌, ◌^◌, ◌<◌, Option, List, sym, ap, ◌∙◌, subst, arith}
+use Rattle.std.proofs.lemmas.Result.{on_ok_weaker}
 use Rattle.pw_tariff.specs.Office.{office_of}
-use Rattle.pw_tariff.specs.Owners.{owner_by_starts}
-use Rattle.pw_parts.specs.inner.Given.{AreCounted, energies_given, meter_given, register_given}
-use Rattle.pw_parts.specs.inner.Totals.{HasRoom, IsGiven}
+use Rattle.pw_model.specs.declared.records.TotalKey.{TotalKey}
+use Rattle.pw_model.specs.Counting.{contents_at, point}
+use Rattle.pw_parts.specs.inner.Counted.{ListsSeconds}
+use Rattle.pw_parts.specs.inner.Given.{pairs_given, register_given}
+use Rattle.pw_parts.specs.inner.Kinds.{IsReadingOf}
+use Rattle.pw_parts.specs.inner.Totals.{total_in}
+use Rattle.pw_parts.proofs.Meters.{points-told, register-is, register-none}
+use Rattle.pw_parts.proofs.Parted.{within-office}
+use Rattle.pw_parts.proofs.Seconds.{seconds-shown}
 use Rattle.pw_parts.proofs.energies.add_register.Goals as goal
 
--- src/energies.rt:88:9
+pub returns-then-not-counts : goal.returns-then-not-counts
+returns-then-not-counts c = λ k.
+    let z = register-none c.args.office.now c.args.records.now c.args.meter.0 c.args.register (sym c.counts.ensures ∙ c.if-not-counts.true) k in
+    omega (arith, z)
+
 pub readings_of-readings-requires-clause-within : goal.readings_of-readings-requires-clause-within
-readings_of-readings-requires-clause-within c = ?
+readings_of-readings-requires-clause-within c = within-office (office_of c.args.office.now) c.meters.result c.args.records.now c.meters.ensures.count c.requires.counted.of_office
 
--- src/energies.rt:91:5
 pub add_points-requires-clause-rising : goal.add_points-requires-clause-rising
-add_points-requires-clause-rising c = ?
+add_points-requires-clause-rising c =
+    (points-told (office_of c.args.office.now) c.args.records.now c.readings_of-readings.result.now c.args.meter c.args.register c.in_ok-points.points.items c.deref.result.now
+    c.requires.counted c.readings_of-readings.ensures c.in_ok-points.ensures c.deref.ensures.value).rising
 
--- src/energies.rt:91:5
 pub add_points-requires-clause-room : goal.add_points-requires-clause-room
-add_points-requires-clause-room c = ?
+add_points-requires-clause-room c = λ k.
+    let told = points-told (office_of c.args.office.now) c.args.records.now c.readings_of-readings.result.now c.args.meter c.args.register c.in_ok-points.points.items c.deref.result.now
+    c.requires.counted c.readings_of-readings.ensures c.in_ok-points.ensures c.deref.ensures.value in
+    let g = register-is c.args.office.now c.args.records.now c.args.meter.0 c.args.register c.args.owners.now c.direction_of-direction.result c.deref.result.now c.direction_of-direction.ensures
+    c.requires.counted.of_office c.requires.owners (sym c.counts.ensures ∙ c.if-not-counts.false) told k in
+    let h = c.requires.room k in
+    omega (arith, g, h)
 
--- src/energies.rt:69:1
 pub returns : goal.returns
-returns c = ?
+returns c =
+    let told = points-told (office_of c.args.office.now) c.args.records.now c.readings_of-readings.result.now c.args.meter c.args.register c.in_ok-points.points.items c.deref.result.now
+    c.requires.counted c.readings_of-readings.ensures c.in_ok-points.ensures c.deref.ensures.value in
+    let g = register-is c.args.office.now c.args.records.now c.args.meter.0 c.args.register c.args.owners.now c.direction_of-direction.result c.deref.result.now c.direction_of-direction.ensures
+    c.requires.counted.of_office c.requires.owners (sym c.counts.ensures ∙ c.if-not-counts.false) told in
+    on_ok_weaker c.add_points.result (λ h k. h k ∙ ap (λ n. total_in c.args.totals.now.rows k + n) (g k)) c.add_points.ensures

@@ -1,8 +1,8 @@
-use Rattle.std.proofs.Common.{rules, OnOk, ◌≡◌, ℕ, ◌+◌, ◌-◌, ◌*◌, ◌<◌, ◌≤◌, length, ◌/◌, ◌%◌, Bool, true, false, nat_eq, nat_lt, List, [], ◌∷◌, ◌++◌, slice_index_or, slice_set, bit_and, bit_or, Fits, w8, w32, w64, Bor, MutBor}
-use Rattle.pw_parts.specs.inner.Given.{payment_given, payments_given}
-use Rattle.pw_parts.specs.inner.Totals.{HasRoom, IsGiven}
+use Rattle.std.proofs.Common.{◌+◌, ap, ◌∙◌}
+use Rattle.std.proofs.lemmas.Result.{on_ok_weaker}
+use Rattle.pw_parts.specs.inner.Totals.{total_in}
+use Rattle.pw_parts.proofs.Meters.{paid-is}
 use Rattle.pw_parts.proofs.payments.add_payment.Goals as goal
 
--- src/payments.rt:23:1
 pub returns : goal.returns
-returns c = ?
+returns c = on_ok_weaker c.add.result (λ h k. h k ∙ ap (λ n. total_in c.args.totals.now.rows k + n) (paid-is c.args.entry.now c.in-TopUp.account c.in-TopUp.cents c.from.result c.in-TopUp.instant k c.in-TopUp.is c.from.ensures)) c.add.ensures
