@@ -1,11 +1,11 @@
 -- Records of one key stand together, and which of them count.
-use Rattle.std.proofs.Common.{◌≡◌, ℕ, zero, suc, ◌+◌, ◌-◌, ◌<◌, ◌≤◌, List, [], ◌∷◌, ◌++◌, length, take, drop, get_or, refl, ap, sym, subst, ◌∙◌, arith, inl, inr, ◌⊎◌, Ordering, Less, true, false}
+use Rattle.std.proofs.Common.{◌≡◌, ℕ, zero, suc, ◌+◌, ◌-◌, ◌<◌, ◌≤◌, List, [], ◌∷◌, ◌++◌, length, take, drop, get_or, length-take, length-drop, length-append, refl, ap, sym, subst, ◌∙◌, arith, inl, inr, ◌⊎◌, Ordering, Less, true, false}
 use Rattle.std.proofs.lemmas.List.{take_more, drop_more, take_all, take-append-drop, take_rest, append-nil, append_assoc}
 use Rattle.std.proofs.Math.Seq.{take-length}
 use Rattle.std.proofs.Math.ListN.{drop_of_length-le}
 use Rattle.std.proofs.lemmas.Bool.{true≢false}
 use Rattle.pw_model.specs.declared.records.Entry.{Entry}
-use Rattle.pw_model.specs.Counting.{Member, Counts}
+use Rattle.pw_model.specs.Counting.{Member, SameMembers, Counts}
 use Rattle.pw_model.specs.Lists.{IsBeforeAll, IsInOrder, Lists}
 use Rattle.pw_model.specs.Same.{same_key, entry_order}
 use Rattle.pw_model.proofs.Same.{same_key-decides}
@@ -242,3 +242,34 @@ step-many all rest others counted new first (suc count) r e s h z n = rw (take_r
 pub no-rest : (all rest counted : List Entry) → length rest ≡ 0 → SoFar all rest counted → Lists entry_order (Counts all) counted
 no-rest all [] counted l s = none-left all counted s
 no-rest all (e ∷ rest) counted l s = absurd (omega arith)
+
+-- ---- how many there are
+few-rest : (others : List Entry) (n : ℕ) → n ≤ length others → length (take (length others - n) (drop n others)) ≤ length others
+few-rest others n l = let a = length-take (length others - n) (drop n others) in let b = length-drop n others in omega (arith, a, b)
+
+pub few-push : (records rest others counted new : List Entry) (first : Entry) (n : ℕ) → rest ≡ first ∷ others → n ≤ length others → length counted + length rest ≤ length records → new ≡ counted ++ first ∷ [] →
+    length new + length (take (length others - n) (drop n others)) ≤ length records
+few-push records rest others counted new first n e l h i =
+    let a : length rest ≡ suc (length others) = ap length e in
+    let b : length new ≡ length (counted ++ first ∷ []) = ap length i in
+    let d = length-append counted (first ∷ []) in
+    let f = few-rest others n l in
+    omega (arith, a, b, d, f, h)
+
+pub few-skip : (records rest others counted new : List Entry) (first : Entry) (n : ℕ) → rest ≡ first ∷ others → n ≤ length others → length counted + length rest ≤ length records → new ≡ counted →
+    length new + length (take (length others - n) (drop n others)) ≤ length records
+few-skip records rest others counted new first n e l h i =
+    let a : length rest ≡ suc (length others) = ap length e in
+    let b : length new ≡ length counted = ap length i in
+    let f = few-rest others n l in
+    omega (arith, a, b, f, h)
+
+-- ---- of a list of the same members
+counts-among : (s t : List Entry) (e : Entry) → SameMembers s t → Counts s e → Counts t e
+counts-among s t e h c = ((h e).0 c.0, λ f m k. c.1 f ((h f).1 m) k)
+
+pub counts-sorted : (s t : List Entry) (counted : List Entry) → SameMembers t s → Lists entry_order (Counts t) counted → Lists entry_order (Counts s) counted
+counts-sorted s t counted h l = record {
+  rising = l.rising;
+  members = λ e. (λ m. counts-among t s e h ((l.members e).0 m), λ c. (l.members e).1 (counts-among s t e (λ f. ((h f).1, (h f).0)) c));
+}

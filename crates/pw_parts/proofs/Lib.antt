@@ -10,3 +10,4 @@ pub mod Kept
 pub mod Spread
 pub mod Sharing
 pub mod Meters
+pub mod Whole

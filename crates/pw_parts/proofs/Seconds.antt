@@ -92,7 +92,7 @@ shown-of m r (key.Reading n s t) (content.TopUp b c u) a h e = absurd (none-some
 shown-of m r (key.Assignment n t) c a h e = absurd h
 shown-of m r (key.TopUp f) c a h e = absurd h
 
-wh-one : (c : Contents) (w : ℕ) → wh_of c ≡ Some w → c ≡ One (content.Reading w)
+pub wh-one : (c : Contents) (w : ℕ) → wh_of c ≡ Some w → c ≡ One (content.Reading w)
 wh-one Nothing w e = absurd (none-some w e)
 wh-one Several w e = absurd (none-some w e)
 wh-one (One (content.Reading v)) w e = ap (λ x. One (content.Reading x)) (same_Some v w e)
@@ -136,7 +136,7 @@ given-of m (key.Assignment n t) (content.TopUp b c u) a h e = absurd (none-some 
 given-of m (key.Reading n s t) c a h e = absurd h
 given-of m (key.TopUp f) c a h e = absurd h
 
-owner-one : (c : Contents) (o : Option AccountId) → owner_of c ≡ Some o → c ≡ One (content.Assignment o)
+pub owner-one : (c : Contents) (o : Option AccountId) → owner_of c ≡ Some o → c ≡ One (content.Assignment o)
 owner-one Nothing o e = absurd (none-some o e)
 owner-one Several o e = absurd (none-some o e)
 owner-one (One (content.Reading v)) o e = absurd (none-some o e)

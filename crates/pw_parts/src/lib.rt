@@ -10,4 +10,4 @@ mod places;
 mod told;
 mod totals;
 
-pub use parts::Parts;
+pub use parts::{Parts, true_parts};

@@ -1,10 +1,12 @@
-use Rattle.std.proofs.Common.{rules, ◌≤◌, ◌∷◌, IfOk, length, ◌≡◌, ℕ, ◌+◌, ◌-◌, ◌*◌, ◌<◌, ◌/◌, ◌%◌, Bool, true, false, nat_eq, nat_lt, List, [], ◌++◌, slice_index_or, slice_set, bit_and, bit_or, Fits, w8, w32, w64, Bor, MutBor}
-use Rattle.pw_model.specs.Counting.{Counts, Member}
-use Rattle.pw_model.specs.Lists.{IsInOrder, Lists}
+use Rattle.std.proofs.Common.{List, subst}
+use Rattle.pw_model.specs.declared.records.Entry.{Entry}
+use Rattle.pw_model.specs.Counting.{Counts, SameMembers, Member}
+use Rattle.pw_model.specs.Lists.{Lists, IsInOrder}
 use Rattle.pw_model.specs.Same.{entry_order}
-use Rattle.pw_parts.specs.inner.Groups.{HasSameKey}
+use Rattle.pw_parts.proofs.Groups.{counts-sorted}
 use Rattle.pw_parts.proofs.counting.counting.Goals as goal
 
--- src/counting.rt:13:1
 pub returns-clause-counting : goal.returns-clause-counting
-returns-clause-counting c = ?
+returns-clause-counting c =
+    let sorted : Lists entry_order (λ (e : Entry). Member e c.args.entries.now) c.deref.result.now = rw c.deref.ensures.value c.in_ok-in_order.ensures.sorted in
+    counts-sorted c.args.entries.now c.deref.result.now c.in_ok-counted.counted.items sorted.members (c.in_ok-counted.ensures.counting sorted.rising)
