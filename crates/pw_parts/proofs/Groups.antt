@@ -265,7 +265,7 @@ few-skip records rest others counted new first n e l h i =
     omega (arith, a, b, f, h)
 
 -- ---- of a list of the same members
-counts-among : (s t : List Entry) (e : Entry) → SameMembers s t → Counts s e → Counts t e
+pub counts-among : (s t : List Entry) (e : Entry) → SameMembers s t → Counts s e → Counts t e
 counts-among s t e h c = ((h e).0 c.0, λ f m k. c.1 f ((h f).1 m) k)
 
 pub counts-sorted : (s t : List Entry) (counted : List Entry) → SameMembers t s → Lists entry_order (Counts t) counted → Lists entry_order (Counts s) counted

@@ -11,3 +11,4 @@ pub mod Spread
 pub mod Sharing
 pub mod Meters
 pub mod Whole
+pub mod Truth

@@ -46,6 +46,12 @@ lists-alike order P Q xs h l = record {
   members = λ x. (λ m. (h x).0 ((l.members x).0 m), λ q. (l.members x).1 ((h x).1 q));
 }
 
+-- what is there in one exactly where it is in the other
+pub options-same : {X : Type 0} (a b : Option X) → ((x : X) → a ≡ Some x ↔ b ≡ Some x) → a ≡ b
+options-same None None h = refl
+options-same None (Some x) h = (h x).1 refl
+options-same (Some x) b h = sym ((h x).0 refl)
+
 -- ---- records that count stand in the order of their keys
 keys-before : (s : List Entry) (x : Entry) (xs : List Entry) → Counts s x → ((e : Entry) → Member e xs → Counts s e) → IsBeforeAll entry_order x xs → IsBeforeAll by_key x xs
 keys-before s x [] c h b = tt
@@ -89,28 +95,18 @@ module _ (s counted : List Entry) (l : Lists entry_order (Counts s) counted) whe
   points-same : (m : ℕ) (r : Register) (t : ℕ) → point (contents_at counted) m r t ≡ point (contents_at s) m r t
   points-same m r t =
       let there : (w : ℕ) → point (contents_at counted) m r t ≡ Some w ↔ point (contents_at s) m r t ≡ Some w = λ w. (
-      λ q. (let o : contents_at s (reading_key m r t) ≡ One (content.Reading w) = (one-same (entry (reading_key m r t) (content.Reading w))).0 (wh-one (contents_at counted (reading_key m r t)) w q) in rw o refl),
-      λ q. (let o : contents_at counted (reading_key m r t) ≡ One (content.Reading w) = (one-same (entry (reading_key m r t) (content.Reading w))).1 (wh-one (contents_at s (reading_key m r t)) w q) in rw o refl),
+        λ q. (let o : contents_at s (reading_key m r t) ≡ One (content.Reading w) = (one-same (entry (reading_key m r t) (content.Reading w))).0 (wh-one (contents_at counted (reading_key m r t)) w q) in rw o refl),
+        λ q. (let o : contents_at counted (reading_key m r t) ≡ One (content.Reading w) = (one-same (entry (reading_key m r t) (content.Reading w))).1 (wh-one (contents_at s (reading_key m r t)) w q) in rw o refl),
       ) in
       options-same (point (contents_at counted) m r t) (point (contents_at s) m r t) there
-    where
-      options-same : (a b : Option ℕ) → ((w : ℕ) → a ≡ Some w ↔ b ≡ Some w) → a ≡ b
-      options-same None None h = refl
-      options-same None (Some w) h = (h w).1 refl
-      options-same (Some w) b h = sym ((h w).0 refl)
 
   starts-same : (m t : ℕ) → start (contents_at counted) m t ≡ start (contents_at s) m t
   starts-same m t =
       let there : (o : Option AccountId) → start (contents_at counted) m t ≡ Some o ↔ start (contents_at s) m t ≡ Some o = λ o. (
-      λ q. (let i : contents_at s (assignment_key m t) ≡ One (content.Assignment o) = (one-same (entry (assignment_key m t) (content.Assignment o))).0 (owner-one (contents_at counted (assignment_key m t)) o q) in rw i refl),
-      λ q. (let i : contents_at counted (assignment_key m t) ≡ One (content.Assignment o) = (one-same (entry (assignment_key m t) (content.Assignment o))).1 (owner-one (contents_at s (assignment_key m t)) o q) in rw i refl),
+        λ q. (let i : contents_at s (assignment_key m t) ≡ One (content.Assignment o) = (one-same (entry (assignment_key m t) (content.Assignment o))).0 (owner-one (contents_at counted (assignment_key m t)) o q) in rw i refl),
+        λ q. (let i : contents_at counted (assignment_key m t) ≡ One (content.Assignment o) = (one-same (entry (assignment_key m t) (content.Assignment o))).1 (owner-one (contents_at s (assignment_key m t)) o q) in rw i refl),
       ) in
       options-same (start (contents_at counted) m t) (start (contents_at s) m t) there
-    where
-      options-same : (a b : Option (Option AccountId)) → ((w : Option AccountId) → a ≡ Some w ↔ b ≡ Some w) → a ≡ b
-      options-same None None h = refl
-      options-same None (Some w) h = (h w).1 refl
-      options-same (Some w) b h = sym ((h w).0 refl)
 
   -- ---- totals
   energies-same : (office : OfficeRules) (d : Direction) (asked : Asked) → energy_where office (contents_at counted) d asked ≡ energy_where office (contents_at s) d asked

@@ -4,6 +4,7 @@
 mod counting;
 mod energies;
 mod energy;
+pub mod laws;
 mod parts;
 mod payments;
 mod places;
@@ -11,3 +12,6 @@ mod told;
 mod totals;
 
 pub use parts::{Parts, true_parts};
+
+#[cfg(test)]
+mod tests;

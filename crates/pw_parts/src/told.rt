@@ -11,7 +11,10 @@ use pw_time::Instant;
 use std::alloc::{AllocError, Global};
 
 // When and what the readings among records show.
-pub(crate) fn readings_shown(alloc: Global, records: &[Entry]) -> Result<Vec<(Instant, WattHours)>, AllocError>
+pub(crate) fn readings_shown(
+    alloc: Global,
+    records: &[Entry],
+) -> Result<Vec<(Instant, WattHours)>, AllocError>
     ensures { IfOk result (λ told. told.items ≡ filter_map shown records.now) }
 {
     let mut told = Vec::new(alloc);
@@ -36,7 +39,10 @@ fn reading_shown(entry: &Entry) -> Option<(Instant, WattHours)>
 }
 
 // From when on the assignments among records give their meter to whom.
-pub(crate) fn starts_given(alloc: Global, records: &[Entry]) -> Result<Vec<(Instant, Owner)>, AllocError>
+pub(crate) fn starts_given(
+    alloc: Global,
+    records: &[Entry],
+) -> Result<Vec<(Instant, Owner)>, AllocError>
     ensures { IfOk result (λ told. told.items ≡ filter_map given records.now) }
 {
     let mut told = Vec::new(alloc);

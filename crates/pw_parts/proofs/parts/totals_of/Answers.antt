@@ -35,10 +35,10 @@ returns c =
     let rows = c.add_payments.new.totals.rows in
     let same : (k : TotalKey) → total_in rows k ≡ total_among office c.args.records.now k = λ k.
     (let z = c.new-totals.ensures k in
-        let a = c.in_ok-add_meters.ensures k in
-        let b = c.in_ok-add_payments.ensures k in
-        let w = totals-whole office c.args.records.now c.top_ups_among.result.now k c.requires.counted c.top_ups_among.ensures in
-        omega (arith, z, a, b, w)) in
+    let a = c.in_ok-add_meters.ensures k in
+    let b = c.in_ok-add_payments.ensures k in
+    let w = totals-whole office c.args.records.now c.top_ups_among.result.now k c.requires.counted c.top_ups_among.ensures in
+    omega (arith, z, a, b, w)) in
     if-ok c.listed.result _ _
     (λ totals l. lists-alike by_total (λ (t : TotalKey × ℕ). (t.1 ≡ total_in rows t.0) × (0 < t.1)) (λ (t : TotalKey × ℕ). (t.1 ≡ total_among office c.args.records.now t.0) × (0 < t.1)) totals.items
     (λ t. (λ h. (h.0 ∙ same t.0, h.1), λ h. (h.0 ∙ sym (same t.0), h.1))) l)

@@ -1,0 +1,183 @@
+//! The parts of records, row by row.
+
+use super::{
+    FIRST, FIVE, HIGH, LOW, NEW_YEAR, SECOND, SEVEN, SIX, all_agree, assigned, imported, paid,
+    parts_of, reading, sample, shown, topped_up,
+};
+use crate::Parts;
+use pw_model::{Entry, TotalKey};
+use pw_obis::Register;
+use pw_tariff::{Direction, MeterId};
+use std::alloc::Global;
+use std::process::Abort;
+use std::test::Fail;
+
+// The parts of the records, after a comparison of all totals with the plain program.
+fn told(rt: &impl Abort, alloc: Global, entries: &[Entry]) -> Result<Parts, Fail> {
+    let (office, zone) = sample(alloc)?;
+    let parts = parts_of(rt, alloc, &office, &zone, entries)?;
+    all_agree(rt, alloc, &office, &zone, entries, &parts)?;
+    Ok(parts)
+}
+
+#[test]
+fn no_records(rt: HostRuntime) -> Result<(), Fail> {
+    let parts = told(&rt, rt.alloc(), &[])?;
+    assert!(rt; parts.points.is_empty());
+    assert!(rt; parts.starts.is_empty());
+    assert!(rt; parts.totals.is_empty());
+    Ok(())
+}
+
+#[test]
+fn two_readings_one_topup(rt: HostRuntime) -> Result<(), Fail> {
+    let owner = assigned(&rt, NEW_YEAR, Some(FIRST));
+    let from = reading(&rt, FIVE, 1_000_000);
+    let to = reading(&rt, SEVEN, 1_003_001);
+    let top_up = paid(&rt, b"P1", FIRST, 5_000);
+    for entries in [
+        [top_up, to, owner, from],
+        [from, to, owner, top_up],
+        [to, top_up, from, owner],
+    ] {
+        let parts = told(&rt, rt.alloc(), &entries)?;
+        assert_eq!(rt; parts.points.as_slice(), [from, to].as_slice());
+        assert_eq!(rt; parts.starts.as_slice(), [owner].as_slice());
+        let totals = [
+            imported(Some(FIRST), LOW, 1_500),
+            imported(Some(FIRST), HIGH, 1_501),
+            topped_up(FIRST, 5_000),
+        ];
+        assert_eq!(rt; parts.totals.as_slice(), totals.as_slice());
+    }
+    Ok(())
+}
+
+#[test]
+fn late_reading(rt: HostRuntime) -> Result<(), Fail> {
+    let owner = assigned(&rt, NEW_YEAR, Some(FIRST));
+    let from = reading(&rt, FIVE, 1_000_000);
+    let to = reading(&rt, SEVEN, 1_003_001);
+    let late = reading(&rt, SIX, 1_001_000);
+    let parts = told(&rt, rt.alloc(), &[owner, from, to, late])?;
+    assert_eq!(rt; parts.points.as_slice(), [from, late, to].as_slice());
+    let totals = [
+        imported(Some(FIRST), LOW, 1_000),
+        imported(Some(FIRST), HIGH, 2_001),
+    ];
+    assert_eq!(rt; parts.totals.as_slice(), totals.as_slice());
+    Ok(())
+}
+
+#[test]
+fn disputed_reading(rt: HostRuntime) -> Result<(), Fail> {
+    let owner = assigned(&rt, NEW_YEAR, Some(FIRST));
+    let from = reading(&rt, FIVE, 1_000_000);
+    let to = reading(&rt, SEVEN, 1_003_001);
+    let late = reading(&rt, SIX, 1_001_000);
+    let other = reading(&rt, SIX, 1_001_500);
+    let third = reading(&rt, SIX, 1_001_200);
+    let parts = told(&rt, rt.alloc(), &[owner, from, to, late, other, third])?;
+    assert_eq!(rt; parts.points.as_slice(), [from, to].as_slice());
+    let totals = [
+        imported(Some(FIRST), LOW, 1_500),
+        imported(Some(FIRST), HIGH, 1_501),
+    ];
+    assert_eq!(rt; parts.totals.as_slice(), totals.as_slice());
+    Ok(())
+}
+
+#[test]
+fn assignment_mid_pair(rt: HostRuntime) -> Result<(), Fail> {
+    let owner = assigned(&rt, NEW_YEAR, Some(FIRST));
+    let from = reading(&rt, FIVE, 1_000_000);
+    let to = reading(&rt, SEVEN, 1_003_001);
+    let top_up = paid(&rt, b"P1", FIRST, 5_000);
+    let moved = assigned(&rt, FIVE + 1_800, Some(SECOND));
+    let parts = told(&rt, rt.alloc(), &[owner, from, to, top_up, moved])?;
+    assert_eq!(rt; parts.starts.as_slice(), [owner, moved].as_slice());
+    let totals = [
+        imported(Some(FIRST), LOW, 750),
+        imported(Some(SECOND), LOW, 750),
+        imported(Some(SECOND), HIGH, 1_501),
+        topped_up(FIRST, 5_000),
+    ];
+    assert_eq!(rt; parts.totals.as_slice(), totals.as_slice());
+    let ended = assigned(&rt, FIVE + 1_800, None);
+    let parts = told(&rt, rt.alloc(), &[owner, from, to, top_up, ended])?;
+    let totals = [
+        imported(None, LOW, 750),
+        imported(None, HIGH, 1_501),
+        imported(Some(FIRST), LOW, 750),
+        topped_up(FIRST, 5_000),
+    ];
+    assert_eq!(rt; parts.totals.as_slice(), totals.as_slice());
+    Ok(())
+}
+
+#[test]
+fn fall_and_recovery(rt: HostRuntime) -> Result<(), Fail> {
+    let owner = assigned(&rt, NEW_YEAR, Some(FIRST));
+    let high = reading(&rt, FIVE, 100_000);
+    let low = reading(&rt, SIX, 50_000);
+    let last = reading(&rt, SEVEN, 120_000);
+    let parts = told(&rt, rt.alloc(), &[owner, high, low, last])?;
+    assert_eq!(rt; parts.points.as_slice(), [high, low, last].as_slice());
+    assert_eq!(rt;
+        parts.totals.as_slice(),
+        [imported(Some(FIRST), HIGH, 70_000)].as_slice()
+    );
+    let other = reading(&rt, SIX, 60_000);
+    let parts = told(&rt, rt.alloc(), &[owner, high, low, last, other])?;
+    assert_eq!(rt; parts.points.as_slice(), [high, last].as_slice());
+    let totals = [
+        imported(Some(FIRST), LOW, 10_000),
+        imported(Some(FIRST), HIGH, 10_000),
+    ];
+    assert_eq!(rt; parts.totals.as_slice(), totals.as_slice());
+    Ok(())
+}
+
+#[test]
+fn disputed_payment(rt: HostRuntime) -> Result<(), Fail> {
+    let one = paid(&rt, b"P1", FIRST, 2_000);
+    let other = paid(&rt, b"P1", FIRST, 3_000);
+    let sound = paid(&rt, b"P2", SECOND, 100);
+    for entries in [[one, other, sound], [sound, other, one]] {
+        let parts = told(&rt, rt.alloc(), &entries)?;
+        assert_eq!(rt;
+            parts.totals.as_slice(),
+            [topped_up(SECOND, 100)].as_slice()
+        );
+    }
+    Ok(())
+}
+
+#[test]
+fn registers_and_meters_apart(rt: HostRuntime) -> Result<(), Fail> {
+    let (one, two) = (MeterId(0), MeterId(1));
+    let entries = [
+        assigned(&rt, NEW_YEAR, Some(FIRST)),
+        shown(&rt, one, Register::I1, FIVE, 10),
+        shown(&rt, one, Register::I2, SIX, 70),
+        shown(&rt, one, Register::I2, SEVEN, 75),
+        shown(&rt, one, Register::E1, SIX, 20),
+        shown(&rt, one, Register::E1, SEVEN, 23),
+        shown(&rt, two, Register::I0, SIX, 0),
+        shown(&rt, two, Register::I0, SEVEN, 9),
+    ];
+    let parts = told(&rt, rt.alloc(), &entries)?;
+    assert_eq!(rt; parts.points.len(), 7);
+    let exported = TotalKey::Energy {
+        owner: Some(FIRST),
+        band: HIGH,
+        direction: Direction::Export,
+    };
+    let totals = [
+        imported(None, HIGH, 9),
+        imported(Some(FIRST), HIGH, 5),
+        (exported, 3),
+    ];
+    assert_eq!(rt; parts.totals.as_slice(), totals.as_slice());
+    Ok(())
+}
