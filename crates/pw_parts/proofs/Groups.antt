@@ -96,9 +96,6 @@ all-alike others i l first h e m =
     let P : List Entry → Type 0 = λ xs. Member e xs in
     h e (subst P (take-length others ∙ sym (take_all i others l)) m)
 
-pub none-first : (e : Entry) → Member e [] → ⊥
-none-first e m = m
-
 -- ---- which of the records so far count
 -- no key stands in both lists
 abbrev pub AreApart : List Entry → List Entry → Type 0
@@ -202,9 +199,6 @@ all-done all done counted e l = record {
 -- all is what is done and the rest, with no key in both, and the records that count are known of what is done
 abbrev pub SoFar : List Entry → List Entry → List Entry → Type 0
 SoFar all rest counted = (done : List Entry) × (all ≡ done ++ rest) × AreApart done rest × Lists entry_order (CountsSoFar all done) counted
-
-pub none-yet : (all : List Entry) → SoFar all all []
-none-yet all = ([], refl, (λ x y m n k. absurd m), record { rising = tt; members = λ x. ((λ m. absurd m), (λ p. absurd p.0)) })
 
 pub rest-rises : (all rest counted : List Entry) → IsInOrder entry_order all → SoFar all rest counted → IsInOrder entry_order rest
 rest-rises all rest counted r s = rising-right entry_order s.0 rest (rw s.1 at r)

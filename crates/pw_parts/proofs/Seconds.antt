@@ -24,21 +24,6 @@ use Rattle.pw_flow.proofs.Points.{option-cases}
 use Rattle.pw_parts.proofs.Keys.{keys-apart, key-less}
 use Rattle.pw_parts.proofs.Groups.{before-member, before-all}
 
--- ---- which of the records with such keys count
-pub counts-held : (Of : Key → Type 0) (s records : List Entry) → ListsHeld Of s records → (e : Entry) → Counts records e ↔ (Counts s e × Of e.key)
-counts-held Of s records h e = (
-  λ c.
-      let held = (h.members e).0 c.0 in
-      ((held.0, λ f m k. c.1 f ((h.members f).1 (m, subst Of (sym k) held.1)) k), held.1),
-  λ c. ((h.members e).1 (c.0.0, c.1), λ f m k. c.0.1 f ((h.members f).0 m).0 k),
-)
-
-pub lists-counting : (Of : Key → Type 0) (s records counted : List Entry) → ListsHeld Of s records → Lists entry_order (Counts records) counted → ListsCounting Of s counted
-lists-counting Of s records counted h l = record {
-  rising = l.rising;
-  members = λ e. (λ m. (counts-held Of s records h e).0 ((l.members e).0 m), λ c. (l.members e).1 ((counts-held Of s records h e).1 c));
-}
-
 -- ---- what a list tells
 module _ {X Y : Type 0} (h : X → Option Y) where
   pub told-from : (xs : List X) (y : Y) → Member y (filter_map h xs) → (x : X) × Member x xs × (h x ≡ Some y)

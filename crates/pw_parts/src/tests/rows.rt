@@ -29,25 +29,40 @@ fn no_records(rt: HostRuntime) -> Result<(), Fail> {
     Ok(())
 }
 
+// The readings of two hours, and the account that the meter is assigned to.
+fn owned(rt: &impl Abort) -> Entry {
+    assigned(rt, NEW_YEAR, Some(FIRST))
+}
+
+fn earlier(rt: &impl Abort) -> Entry {
+    reading(rt, FIVE, 1_000_000)
+}
+
+fn later(rt: &impl Abort) -> Entry {
+    reading(rt, SEVEN, 1_003_001)
+}
+
+fn top_up(rt: &impl Abort) -> Entry {
+    paid(rt, b"P1", FIRST, 5_000)
+}
+
 #[test]
 fn two_readings_one_topup(rt: HostRuntime) -> Result<(), Fail> {
-    let owner = assigned(&rt, NEW_YEAR, Some(FIRST));
-    let from = reading(&rt, FIVE, 1_000_000);
-    let to = reading(&rt, SEVEN, 1_003_001);
-    let top_up = paid(&rt, b"P1", FIRST, 5_000);
+    let points = [earlier(&rt), later(&rt)];
+    let starts = [owned(&rt)];
+    let totals = [
+        imported(Some(FIRST), LOW, 1_500),
+        imported(Some(FIRST), HIGH, 1_501),
+        topped_up(FIRST, 5_000),
+    ];
     for entries in [
-        [top_up, to, owner, from],
-        [from, to, owner, top_up],
-        [to, top_up, from, owner],
+        [top_up(&rt), later(&rt), owned(&rt), earlier(&rt)],
+        [earlier(&rt), later(&rt), owned(&rt), top_up(&rt)],
+        [later(&rt), top_up(&rt), earlier(&rt), owned(&rt)],
     ] {
         let parts = told(&rt, rt.alloc(), &entries)?;
-        assert_eq!(rt; parts.points.as_slice(), [from, to].as_slice());
-        assert_eq!(rt; parts.starts.as_slice(), [owner].as_slice());
-        let totals = [
-            imported(Some(FIRST), LOW, 1_500),
-            imported(Some(FIRST), HIGH, 1_501),
-            topped_up(FIRST, 5_000),
-        ];
+        assert_eq!(rt; parts.points.as_slice(), points.as_slice());
+        assert_eq!(rt; parts.starts.as_slice(), starts.as_slice());
         assert_eq!(rt; parts.totals.as_slice(), totals.as_slice());
     }
     Ok(())
@@ -55,12 +70,11 @@ fn two_readings_one_topup(rt: HostRuntime) -> Result<(), Fail> {
 
 #[test]
 fn late_reading(rt: HostRuntime) -> Result<(), Fail> {
-    let owner = assigned(&rt, NEW_YEAR, Some(FIRST));
-    let from = reading(&rt, FIVE, 1_000_000);
-    let to = reading(&rt, SEVEN, 1_003_001);
     let late = reading(&rt, SIX, 1_001_000);
-    let parts = told(&rt, rt.alloc(), &[owner, from, to, late])?;
-    assert_eq!(rt; parts.points.as_slice(), [from, late, to].as_slice());
+    let entries = [owned(&rt), earlier(&rt), later(&rt), late];
+    let parts = told(&rt, rt.alloc(), &entries)?;
+    let points = [entries[1], entries[3], entries[2]];
+    assert_eq!(rt; parts.points.as_slice(), points.as_slice());
     let totals = [
         imported(Some(FIRST), LOW, 1_000),
         imported(Some(FIRST), HIGH, 2_001),
@@ -71,14 +85,17 @@ fn late_reading(rt: HostRuntime) -> Result<(), Fail> {
 
 #[test]
 fn disputed_reading(rt: HostRuntime) -> Result<(), Fail> {
-    let owner = assigned(&rt, NEW_YEAR, Some(FIRST));
-    let from = reading(&rt, FIVE, 1_000_000);
-    let to = reading(&rt, SEVEN, 1_003_001);
-    let late = reading(&rt, SIX, 1_001_000);
-    let other = reading(&rt, SIX, 1_001_500);
-    let third = reading(&rt, SIX, 1_001_200);
-    let parts = told(&rt, rt.alloc(), &[owner, from, to, late, other, third])?;
-    assert_eq!(rt; parts.points.as_slice(), [from, to].as_slice());
+    let entries = [
+        owned(&rt),
+        earlier(&rt),
+        later(&rt),
+        reading(&rt, SIX, 1_001_000),
+        reading(&rt, SIX, 1_001_500),
+        reading(&rt, SIX, 1_001_200),
+    ];
+    let parts = told(&rt, rt.alloc(), &entries)?;
+    let points = [earlier(&rt), later(&rt)];
+    assert_eq!(rt; parts.points.as_slice(), points.as_slice());
     let totals = [
         imported(Some(FIRST), LOW, 1_500),
         imported(Some(FIRST), HIGH, 1_501),
@@ -89,13 +106,11 @@ fn disputed_reading(rt: HostRuntime) -> Result<(), Fail> {
 
 #[test]
 fn assignment_mid_pair(rt: HostRuntime) -> Result<(), Fail> {
-    let owner = assigned(&rt, NEW_YEAR, Some(FIRST));
-    let from = reading(&rt, FIVE, 1_000_000);
-    let to = reading(&rt, SEVEN, 1_003_001);
-    let top_up = paid(&rt, b"P1", FIRST, 5_000);
     let moved = assigned(&rt, FIVE + 1_800, Some(SECOND));
-    let parts = told(&rt, rt.alloc(), &[owner, from, to, top_up, moved])?;
-    assert_eq!(rt; parts.starts.as_slice(), [owner, moved].as_slice());
+    let entries = [owned(&rt), earlier(&rt), later(&rt), top_up(&rt), moved];
+    let parts = told(&rt, rt.alloc(), &entries)?;
+    let starts = [entries[0], entries[4]];
+    assert_eq!(rt; parts.starts.as_slice(), starts.as_slice());
     let totals = [
         imported(Some(FIRST), LOW, 750),
         imported(Some(SECOND), LOW, 750),
@@ -103,8 +118,14 @@ fn assignment_mid_pair(rt: HostRuntime) -> Result<(), Fail> {
         topped_up(FIRST, 5_000),
     ];
     assert_eq!(rt; parts.totals.as_slice(), totals.as_slice());
+    Ok(())
+}
+
+#[test]
+fn assignment_to_nobody(rt: HostRuntime) -> Result<(), Fail> {
     let ended = assigned(&rt, FIVE + 1_800, None);
-    let parts = told(&rt, rt.alloc(), &[owner, from, to, top_up, ended])?;
+    let entries = [owned(&rt), earlier(&rt), later(&rt), top_up(&rt), ended];
+    let parts = told(&rt, rt.alloc(), &entries)?;
     let totals = [
         imported(None, LOW, 750),
         imported(None, HIGH, 1_501),
@@ -117,19 +138,27 @@ fn assignment_mid_pair(rt: HostRuntime) -> Result<(), Fail> {
 
 #[test]
 fn fall_and_recovery(rt: HostRuntime) -> Result<(), Fail> {
-    let owner = assigned(&rt, NEW_YEAR, Some(FIRST));
-    let high = reading(&rt, FIVE, 100_000);
-    let low = reading(&rt, SIX, 50_000);
-    let last = reading(&rt, SEVEN, 120_000);
-    let parts = told(&rt, rt.alloc(), &[owner, high, low, last])?;
-    assert_eq!(rt; parts.points.as_slice(), [high, low, last].as_slice());
-    assert_eq!(rt;
-        parts.totals.as_slice(),
-        [imported(Some(FIRST), HIGH, 70_000)].as_slice()
-    );
-    let other = reading(&rt, SIX, 60_000);
-    let parts = told(&rt, rt.alloc(), &[owner, high, low, last, other])?;
-    assert_eq!(rt; parts.points.as_slice(), [high, last].as_slice());
+    let falling = [
+        owned(&rt),
+        reading(&rt, FIVE, 100_000),
+        reading(&rt, SIX, 50_000),
+        reading(&rt, SEVEN, 120_000),
+    ];
+    let parts = told(&rt, rt.alloc(), &falling)?;
+    let points = [falling[1], falling[2], falling[3]];
+    assert_eq!(rt; parts.points.as_slice(), points.as_slice());
+    let totals = [imported(Some(FIRST), HIGH, 70_000)];
+    assert_eq!(rt; parts.totals.as_slice(), totals.as_slice());
+    let disputed = [
+        falling[0],
+        falling[1],
+        falling[2],
+        falling[3],
+        reading(&rt, SIX, 60_000),
+    ];
+    let parts = told(&rt, rt.alloc(), &disputed)?;
+    let points = [falling[1], falling[3]];
+    assert_eq!(rt; parts.points.as_slice(), points.as_slice());
     let totals = [
         imported(Some(FIRST), LOW, 10_000),
         imported(Some(FIRST), HIGH, 10_000),
@@ -140,16 +169,17 @@ fn fall_and_recovery(rt: HostRuntime) -> Result<(), Fail> {
 
 #[test]
 fn disputed_payment(rt: HostRuntime) -> Result<(), Fail> {
-    let one = paid(&rt, b"P1", FIRST, 2_000);
-    let other = paid(&rt, b"P1", FIRST, 3_000);
-    let sound = paid(&rt, b"P2", SECOND, 100);
-    for entries in [[one, other, sound], [sound, other, one]] {
-        let parts = told(&rt, rt.alloc(), &entries)?;
-        assert_eq!(rt;
-            parts.totals.as_slice(),
-            [topped_up(SECOND, 100)].as_slice()
-        );
-    }
+    let entries = [
+        paid(&rt, b"P1", FIRST, 2_000),
+        paid(&rt, b"P2", SECOND, 100),
+        paid(&rt, b"P1", FIRST, 3_000),
+    ];
+    let totals = [topped_up(SECOND, 100)];
+    let parts = told(&rt, rt.alloc(), &entries)?;
+    assert_eq!(rt; parts.totals.as_slice(), totals.as_slice());
+    let turned = [entries[2], entries[1], entries[0]];
+    let parts = told(&rt, rt.alloc(), &turned)?;
+    assert_eq!(rt; parts.totals.as_slice(), totals.as_slice());
     Ok(())
 }
 
