@@ -55,12 +55,13 @@ fn two_readings_one_topup(rt: HostRuntime) -> Result<(), Fail> {
         imported(Some(FIRST), HIGH, 1_501),
         topped_up(FIRST, 5_000),
     ];
-    for entries in [
+    let orders = [
         [top_up(&rt), later(&rt), owned(&rt), earlier(&rt)],
         [earlier(&rt), later(&rt), owned(&rt), top_up(&rt)],
         [later(&rt), top_up(&rt), earlier(&rt), owned(&rt)],
-    ] {
-        let parts = told(&rt, rt.alloc(), &entries)?;
+    ];
+    for entries in &orders {
+        let parts = told(&rt, rt.alloc(), entries.as_slice())?;
         assert_eq!(rt; parts.points.as_slice(), points.as_slice());
         assert_eq!(rt; parts.starts.as_slice(), starts.as_slice());
         assert_eq!(rt; parts.totals.as_slice(), totals.as_slice());
