@@ -1,21 +1,19 @@
 -- What a map of totals tells.
-use Rattle.std.proofs.Common.{◌≡◌, ◌==◌, ℕ, zero, suc, ◌+◌, ◌<◌, Bool, true, false, cond, Option, Some, None, Result, Ok, Err, List, [], ◌∷◌, map, refl, sym, ap, subst, ◌∙◌, inl, inr, arith}
+use Rattle.std.proofs.Common.{◌≡◌, ℕ, ◌+◌, ◌<◌, Bool, true, false, cond, Option, Some, None, Result, Ok, Err, List, [], ◌∷◌, map, refl, sym, ap, subst, ◌∙◌, inl, inr, arith}
 use Rattle.std.specs.Option.{unwrap_or}
 use Rattle.std.specs.List.{AllByRecursion}
 use Rattle.std.specs.List.Sorted.{IsStrictlySortedBy}
 use Rattle.std.specs.Map.{keys_of, lookup}
 use Rattle.std.specs.BTreeMap.{BTreeMap, IsOrdered, IsUnchanged, Updates, get, is_at}
-use Rattle.std.specs.Cmp.Lexicographic.{pointwise, bytes_decides, texts_ties}
+use Rattle.std.specs.Cmp.Lexicographic.{bytes_decides, texts_ties}
 use Rattle.std.specs.Result.{OnOk, OnErr}
-use Rattle.std.specs.Cmp.{IsTotalOrder}
 use Rattle.std.specs.Ordering.{is_eq, ordering_reverse}
 use Rattle.std.specs.declared.cmp.Ordering.{Ordering}
 use Rattle.std.specs.declared.cmp.Ordering.TheVariants.{Less, Equal, Greater}
 use Rattle.std.proofs.lemmas.Bool.{cases_Bool}
-use Rattle.std.proofs.lemmas.Cmp.{tied_itself, on_total, nat_list_cmp_total}
-use Rattle.std.proofs.lemmas.Option.{same_Some, none-some}
+use Rattle.std.proofs.lemmas.Cmp.{tied_itself}
+use Rattle.std.proofs.lemmas.Option.{same_Some}
 use Rattle.pw_tariff.specs.declared.ids.AccountId.{AccountId}
-use Rattle.pw_tariff.specs.declared.ids.BandId.{BandId}
 use Rattle.pw_tariff.specs.declared.ids.Direction.{Direction}
 use Rattle.pw_tariff.specs.declared.ids.Direction.TheVariants.{Import, Export}
 use Rattle.pw_tariff.specs.Cells.{owner_place}
@@ -24,7 +22,7 @@ use Rattle.pw_model.specs.declared.records.TotalKey.TheVariants.{Energy, TopUps}
 use Rattle.pw_model.specs.contracts.records.TotalKeyOrd.TheImpl.Laws as total_laws
 use Rattle.pw_model.specs.Counting.{Member}
 use Rattle.pw_model.specs.Lists.{IsBeforeAll, IsInOrder, Lists}
-use Rattle.pw_model.specs.Same.{total_numbers, direction_place, total_order}
+use Rattle.pw_model.specs.Same.{total_numbers, direction_place}
 use Rattle.pw_model.proofs.InKeyOrder.{totals-ordered}
 use Rattle.pw_parts.specs.Parts.{by_total}
 use Rattle.pw_parts.specs.inner.Totals.{total_key_order, same_total, total_in, AreAboveZero, given_at, IsGiven}

@@ -1,6 +1,6 @@
 -- What registers, meters and top-ups give to each total.
-use Rattle.std.proofs.Common.{◌≡◌, ◌==◌, ◌&&◌, ℕ, zero, suc, ◌+◌, ◌^◌, ◌<◌, ◌≤◌, Bool, true, false, cond, Option, Some, List, [], ◌∷◌, length, drop, get_or, refl, sym, ap, subst, ◌∙◌, arith}
-use Rattle.std.specs.List.{filter_map, sum_by}
+use Rattle.std.proofs.Common.{◌≡◌, ◌==◌, ◌&&◌, ℕ, ◌+◌, ◌^◌, ◌<◌, Bool, true, false, cond, Option, List, length, drop, get_or, refl, sym, ap, subst, ◌∙◌, arith}
+use Rattle.std.specs.List.{filter_map}
 use Rattle.std.proofs.lemmas.List.Sums.{sum_by-drop_more}
 use Rattle.pw_flow.specs.Energy.{register_energy}
 use Rattle.pw_flow.specs.Pairs.{pairs_sum}
@@ -22,12 +22,11 @@ use Rattle.pw_model.specs.declared.records.TotalKey.{TotalKey}
 use Rattle.pw_model.specs.declared.records.TotalKey.TheVariants.{Energy, TopUps}
 use Rattle.pw_model.specs.Counting.{Counts, Member, contents_at, point, start}
 use Rattle.pw_model.specs.Energy.{owner_at as owner_told, energy_where, of_band, share_of}
-use Rattle.pw_model.specs.Lists.{Lists}
 use Rattle.pw_model.specs.Office.{AllOfOffice}
-use Rattle.pw_model.specs.Same.{direction_of, entry_order, total_numbers}
+use Rattle.pw_model.specs.Same.{direction_of, total_numbers}
 use Rattle.pw_model.proofs.PlainEnergy.{sum-next, sum-to}
 use Rattle.pw_parts.specs.inner.Counted.{ListsCounting, ListsSeconds, given, shown}
-use Rattle.pw_parts.specs.inner.Given.{to_energies, in_way, pairs_given, register_given, registers_given, meter_given, energies_given, payment_given, AreCounted}
+use Rattle.pw_parts.specs.inner.Given.{in_way, pairs_given, register_given, registers_given, meter_given, energies_given, payment_given, AreCounted}
 use Rattle.pw_parts.specs.inner.Kinds.{ListsHeld, IsReadingOf, IsAssignmentOf}
 use Rattle.pw_parts.specs.inner.Totals.{given_at}
 use Rattle.pw_parts.proofs.Chart.{listed}

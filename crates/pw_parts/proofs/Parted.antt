@@ -1,5 +1,5 @@
 -- Records in order stand by their places.
-use Rattle.std.proofs.Common.{◌≡◌, ℕ, zero, suc, ◌+◌, ◌*◌, ◌<◌, ◌≤◌, true, false, ltb, List, [], ◌∷◌, ◌++◌, length, get_or, take, drop, ◌↔◌, refl, sym, ap, subst, ◌∙◌, inl, inr, ◌⊎◌, arith, Ordering, Less, Equal}
+use Rattle.std.proofs.Common.{◌≡◌, ℕ, zero, suc, ◌+◌, ◌*◌, ◌<◌, ◌≤◌, true, false, ltb, List, [], ◌∷◌, ◌++◌, get_or, take, drop, ◌↔◌, refl, sym, ap, subst, ◌∙◌, inl, inr, ◌⊎◌, arith, Ordering, Less, Equal}
 use Rattle.std.specs.Cmp.{nat_cmp_is}
 use Rattle.std.specs.Cmp.Lexicographic.{slice_cmp}
 use Rattle.std.specs.Ordering.{nat_cmp}
@@ -20,10 +20,10 @@ use Rattle.pw_parts.specs.Parts.{IsReading, IsAssignment}
 use Rattle.pw_parts.specs.inner.Kinds.{IsReadingOf, IsAssignmentOf, IsTopUp, ListsHeld}
 use Rattle.pw_model.specs.declared.records.Entry.{Entry}
 use Rattle.pw_model.specs.Counting.{Member}
-use Rattle.pw_model.specs.Lists.{IsBeforeAll, IsInOrder, Lists}
+use Rattle.pw_model.specs.Lists.{IsInOrder, Lists}
 use Rattle.pw_model.specs.Same.{key_numbers, key_order, entry_order}
 use Rattle.pw_model.specs.inner.Search.{IsAt}
-use Rattle.pw_model.proofs.Places.{at-member, member-at, at-some, at-told, taken-at, at-taken, dropped-at, at-dropped, rising-at, rising-drop, entry-up_to}
+use Rattle.pw_model.proofs.Places.{at-member, member-at, at-some, taken-at, at-taken, dropped-at, at-dropped, rising-at, rising-drop, entry-up_to}
 use Rattle.pw_parts.specs.inner.Places.{key_place, IsWithin, AreWithin, ListsBefore, ListsFrom, ListsBetween}
 use Rattle.pw_parts.proofs.Keys.{not-both}
 use Rattle.pw_parts.proofs.Groups.{before-member, before-all, member-left}

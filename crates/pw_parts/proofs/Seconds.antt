@@ -1,5 +1,5 @@
 -- The readings and assignments that count, by the second.
-use Rattle.std.proofs.Common.{◌≡◌, ℕ, Option, Some, List, [], ◌∷◌, ◌↔◌, refl, ap, sym, ◌∙◌, subst, inl, inr, Ordering, Less}
+use Rattle.std.proofs.Common.{◌≡◌, ℕ, Option, Some, List, [], ◌∷◌, refl, ap, sym, ◌∙◌, inl, inr, Ordering, Less}
 use Rattle.std.specs.List.{filter_map}
 use Rattle.std.specs.Ordering.{nat_cmp}
 use Rattle.std.proofs.lemmas.Option.{none-some, same_Some}
@@ -14,11 +14,11 @@ use Rattle.pw_model.specs.declared.records.Content.TheVariants as content
 use Rattle.pw_model.specs.declared.records.Entry.{Entry}
 use Rattle.pw_model.specs.declared.records.Contents.{Contents}
 use Rattle.pw_model.specs.declared.records.Contents.TheVariants.{Nothing, One, Several}
-use Rattle.pw_model.specs.Counting.{Member, Counts, contents_at, point, start, wh_of, owner_of, reading_key, assignment_key}
-use Rattle.pw_model.specs.Lists.{IsInOrder, Lists}
+use Rattle.pw_model.specs.Counting.{Member, contents_at, point, start, wh_of, owner_of, reading_key, assignment_key}
+use Rattle.pw_model.specs.Lists.{IsInOrder}
 use Rattle.pw_model.specs.Same.{key_order, key_numbers, entry_order}
 use Rattle.pw_model.proofs.Counting.{entry, one-is_counting}
-use Rattle.pw_parts.specs.inner.Kinds.{ListsHeld, IsReadingOf, IsAssignmentOf}
+use Rattle.pw_parts.specs.inner.Kinds.{IsReadingOf, IsAssignmentOf}
 use Rattle.pw_parts.specs.inner.Counted.{ListsCounting, ListsSeconds, by_second, shown, shown_at, given, given_at}
 use Rattle.pw_flow.proofs.Points.{option-cases}
 use Rattle.pw_parts.proofs.Keys.{keys-apart, key-less}

@@ -1,18 +1,16 @@
 -- What cells and pairs of readings give to each total.
 use Rattle.std.proofs.Common.{◌≡◌, ◌==◌, ◌&&◌, ℕ, ◌+◌, ◌^◌, ◌<◌, ◌≤◌, Bool, true, false, cond, Option, List, [], ◌∷◌, length, take, drop, get_or, refl, sym, ap, subst, ◌∙◌, inl, inr, arith}
 use Rattle.std.proofs.lemmas.Bool.{cases_Bool, eq-eqb, eqb-true}
-use Rattle.pw_flow.specs.Energy.{cell}
-use Rattle.pw_flow.specs.Pairs.{pairs_sum}
 use Rattle.pw_flow.proofs.Level.{cell-fall}
 use Rattle.pw_tariff.specs.declared.ids.AccountId.{AccountId}
 use Rattle.pw_tariff.specs.declared.ids.Direction.{Direction}
 use Rattle.pw_tariff.specs.declared.ids.Direction.TheVariants.{Import, Export}
 use Rattle.pw_tariff.specs.declared.cells.Cell.{Cell}
 use Rattle.pw_tariff.specs.declared.spread.Span.{Span}
-use Rattle.pw_tariff.specs.Cells.{AreInOrder, energy_in, is_of, owner_place}
+use Rattle.pw_tariff.specs.Cells.{AreInOrder, energy_in, owner_place}
 use Rattle.pw_tariff.specs.Office.{OfficeFile}
 use Rattle.pw_tariff.specs.Shares.{AreShares, class_seconds}
-use Rattle.pw_tariff.proofs.Adding.{IsOf, whose, none-behind, order-rest}
+use Rattle.pw_tariff.proofs.Adding.{whose, none-behind}
 use Rattle.pw_tariff.proofs.Adding.IsOf.{here, other}
 use Rattle.pw_model.specs.declared.records.TotalKey.{TotalKey}
 use Rattle.pw_model.specs.declared.records.TotalKey.TheVariants.{Energy, TopUps}
@@ -20,7 +18,7 @@ use Rattle.pw_model.specs.Lists.{IsInOrder}
 use Rattle.pw_model.specs.Same.{same_direction, direction_place, total_numbers}
 use Rattle.pw_parts.specs.inner.Counted.{by_second}
 use Rattle.pw_parts.specs.inner.Given.{to_energies, in_way, cells_given, pair_given, pairs_given}
-use Rattle.pw_parts.specs.inner.Totals.{given_at, same_total}
+use Rattle.pw_parts.specs.inner.Totals.{given_at}
 use Rattle.pw_parts.proofs.Chart.{less-is}
 use Rattle.pw_parts.proofs.Kept.{given-here}
 

@@ -1,5 +1,5 @@
 -- The parts of a set are one, and a content is true exactly where they tell it.
-use Rattle.std.proofs.Common.{◌≡◌, ℕ, ◌<◌, ◌≤◌, Option, Some, None, List, ◌↔◌, refl, sym, ap, subst, ◌∙◌, inl, inr, arith}
+use Rattle.std.proofs.Common.{◌≡◌, ℕ, ◌<◌, Option, Some, List, ◌↔◌, refl, sym, ap, ◌∙◌, inl, inr, arith}
 use Rattle.std.proofs.lemmas.Bool.{cases_lt}
 use Rattle.pw_obis.specs.declared.reference.Register.{Register}
 use Rattle.pw_tariff.specs.declared.ids.AccountId.{AccountId}
@@ -12,13 +12,13 @@ use Rattle.pw_model.specs.declared.records.TotalKey.TheVariants.{Energy, TopUps}
 use Rattle.pw_model.specs.Counting.{Member, SameMembers, Counts, contents_at, point, start, reading_key, assignment_key}
 use Rattle.pw_model.specs.Lists.{reading_entry}
 use Rattle.pw_model.specs.Same.{key_numbers, total_numbers}
-use Rattle.pw_model.specs.Shelf.{ShelfContent, IsTrueContent, total_among}
+use Rattle.pw_model.specs.Shelf.{total_among}
 use Rattle.pw_model.proofs.Answers.{energy-same, topped-same}
 use Rattle.pw_model.proofs.Counting.{one-is_counting}
 use Rattle.pw_model.proofs.InOrder.{by-numbers, lists-one}
 use Rattle.pw_parts.specs.declared.parts.Parts.{Parts}
 use Rattle.pw_parts.specs.Parts.{IsPartsOf, IsReading, IsAssignment, by_key, by_total}
-use Rattle.pw_parts.specs.Laws.{AreSameParts, PartsAreAtMostOne, IsToldBy, TrueExactlyWhereTold, assignment_entry}
+use Rattle.pw_parts.specs.Laws.{PartsAreAtMostOne, TrueExactlyWhereTold, assignment_entry}
 use Rattle.pw_parts.proofs.Groups.{counts-among}
 use Rattle.pw_parts.proofs.Seconds.{wh-one, owner-one}
 use Rattle.pw_parts.proofs.Whole.{options-same}

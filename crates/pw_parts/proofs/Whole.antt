@@ -1,37 +1,30 @@
 -- The records of a set that count tell all of its points, starts and totals.
-use Rattle.std.proofs.Common.{◌≡◌, ℕ, ◌+◌, ◌*◌, ◌^◌, ◌<◌, ◌≤◌, cond, Option, Some, None, List, [], ◌∷◌, length, ◌↔◌, refl, sym, ap, subst, ◌∙◌, inl, inr, arith, Ordering, Less}
-use Rattle.std.specs.List.{sum_by}
-use Rattle.std.proofs.lemmas.Option.{none-some}
-use Rattle.pw_obis.specs.declared.energy.TheConstants.{LARGEST_WATT_HOURS}
+use Rattle.std.proofs.Common.{◌≡◌, ℕ, ◌+◌, ◌^◌, ◌<◌, ◌≤◌, cond, Option, Some, None, List, [], ◌∷◌, length, ◌↔◌, refl, sym, ◌∙◌, inl, inr, arith, Ordering}
 use Rattle.pw_obis.specs.declared.reference.Register.{Register}
 use Rattle.pw_flow.specs.Energy.{register_energy}
 use Rattle.pw_flow.specs.Time.{last, sum_over}
-use Rattle.pw_flow.proofs.Points.{option-cases}
 use Rattle.pw_tariff.specs.declared.ids.AccountId.{AccountId}
 use Rattle.pw_tariff.specs.declared.ids.Direction.{Direction}
 use Rattle.pw_tariff.specs.Office.{OfficeRules}
 use Rattle.pw_tariff.specs.Owners.{owner_from}
 use Rattle.pw_model.specs.declared.records.Key.{Key}
-use Rattle.pw_model.specs.declared.records.Content.{Content}
 use Rattle.pw_model.specs.declared.records.Content.TheVariants as content
-use Rattle.pw_model.specs.declared.records.Contents.{Contents}
 use Rattle.pw_model.specs.declared.records.Contents.TheVariants.{One}
 use Rattle.pw_model.specs.declared.records.Entry.{Entry}
 use Rattle.pw_model.specs.declared.records.TotalKey.{TotalKey}
 use Rattle.pw_model.specs.declared.records.TotalKey.TheVariants.{Energy, TopUps}
 use Rattle.pw_model.specs.Counting.{Member, Counts, contents_at, point, start, reading_key, assignment_key}
-use Rattle.pw_model.specs.Energy.{Asked, energy, energy_where, of_band, over_registers, owner_at}
+use Rattle.pw_model.specs.Energy.{Asked, energy_where, of_band, over_registers, owner_at}
 use Rattle.pw_model.specs.Laws.{AreTopUps}
 use Rattle.pw_model.specs.Lists.{IsBeforeAll, IsInOrder, Lists}
 use Rattle.pw_model.specs.Office.{AllOfOffice, IsOffice, most_records}
-use Rattle.pw_model.specs.Payments.{cents_for, topped_up}
+use Rattle.pw_model.specs.Payments.{topped_up}
 use Rattle.pw_model.specs.Same.{entry_order}
 use Rattle.pw_model.specs.Shelf.{total_among}
 use Rattle.pw_model.proofs.Counting.{entry, one-is_counting}
 use Rattle.pw_model.proofs.PlainEnergy.{energy-fits, topped-fits}
 use Rattle.pw_model.proofs.TopUps.{top-ups_add_up}
 use Rattle.pw_parts.specs.Parts.{by_key}
-use Rattle.pw_parts.specs.inner.Counted.{ListsCounting}
 use Rattle.pw_parts.specs.inner.Given.{AreCounted, energies_given, payments_given}
 use Rattle.pw_parts.specs.inner.Kinds.{IsTopUp, ListsHeld}
 use Rattle.pw_parts.proofs.Keys.{keys-apart}

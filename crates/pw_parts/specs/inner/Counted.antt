@@ -9,7 +9,7 @@ use Rattle.pw_model.specs.declared.records.Key.TheVariants as key
 use Rattle.pw_model.specs.declared.records.Content.{Content}
 use Rattle.pw_model.specs.declared.records.Content.TheVariants as content
 use Rattle.pw_model.specs.declared.records.Entry.{Entry}
-use Rattle.pw_model.specs.Counting.{Member, Counts}
+use Rattle.pw_model.specs.Counting.{Counts}
 use Rattle.pw_model.specs.Lists.{Lists}
 use Rattle.pw_model.specs.Same.{entry_order}
 

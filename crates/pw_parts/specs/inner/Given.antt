@@ -1,7 +1,7 @@
 -- What pairs of readings, registers, meters and top-ups give to each total. It serves `src/energy.rt`, `src/energies.rt` and
 -- `src/payments.rt`.
 -- (Definitions of this project.)
-use Rattle.std.specs.Prelude.{◌≡◌, ℕ, cond, Option, List}
+use Rattle.std.specs.Prelude.{ℕ, cond, Option, List}
 use Rattle.std.specs.List.{sum_by}
 use Rattle.pw_flow.specs.Energy.{cell}
 use Rattle.pw_flow.specs.Pairs.{pairs_sum}
@@ -12,8 +12,6 @@ use Rattle.pw_tariff.specs.declared.cells.Cell.{Cell}
 use Rattle.pw_tariff.specs.Cells.{energy_in}
 use Rattle.pw_tariff.specs.Office.{OfficeRules, OfficeFile}
 use Rattle.pw_tariff.specs.Shares.{class_seconds}
-use Rattle.pw_model.specs.declared.records.Key.{Key}
-use Rattle.pw_model.specs.declared.records.Contents.{Contents}
 use Rattle.pw_model.specs.declared.records.Contents.TheVariants.{One}
 use Rattle.pw_model.specs.declared.records.Entry.{Entry}
 use Rattle.pw_model.specs.declared.records.TotalKey.{TotalKey}

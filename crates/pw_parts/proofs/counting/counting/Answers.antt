@@ -1,7 +1,6 @@
-use Rattle.std.proofs.Common.{List, subst}
 use Rattle.pw_model.specs.declared.records.Entry.{Entry}
-use Rattle.pw_model.specs.Counting.{Counts, SameMembers, Member}
-use Rattle.pw_model.specs.Lists.{Lists, IsInOrder}
+use Rattle.pw_model.specs.Counting.{Member}
+use Rattle.pw_model.specs.Lists.{Lists}
 use Rattle.pw_model.specs.Same.{entry_order}
 use Rattle.pw_parts.proofs.Groups.{counts-sorted}
 use Rattle.pw_parts.proofs.counting.counting.Goals as goal

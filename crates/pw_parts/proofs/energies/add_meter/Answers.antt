@@ -1,13 +1,11 @@
-use Rattle.std.proofs.Common.{◌≡◌, ℕ, ◌+◌, Option, List, drop, sym, ◌∙◌, subst, arith}
+use Rattle.std.proofs.Common.{◌≡◌, ℕ, Option, List, sym, ◌∙◌, subst, arith}
 use Rattle.pw_obis.specs.Registers.{registers}
 use Rattle.pw_obis.specs.declared.reference.Register.TheVariants.{I0}
 use Rattle.pw_tariff.specs.declared.ids.AccountId.{AccountId}
 use Rattle.pw_tariff.specs.Office.{office_of}
 use Rattle.pw_tariff.specs.Owners.{StartsIncrease, owner_by_starts}
-use Rattle.pw_model.specs.Counting.{contents_at, start}
+use Rattle.pw_model.specs.Counting.{contents_at}
 use Rattle.pw_model.specs.Energy.{owner_at as owner_told}
-use Rattle.pw_parts.specs.inner.Counted.{ListsSeconds}
-use Rattle.pw_parts.specs.inner.Kinds.{IsAssignmentOf}
 use Rattle.pw_parts.proofs.Meters.{registers-more, starts-told}
 use Rattle.pw_parts.proofs.Owning.{owners-told, starts-rise}
 use Rattle.pw_parts.proofs.Parted.{within-office}

@@ -1,15 +1,9 @@
-use Rattle.std.proofs.Common.{◌≡◌, ℕ, ◌+◌, ◌^◌, ◌<◌, Option, List, sym, ap, ◌∙◌, subst, arith}
+use Rattle.std.proofs.Common.{◌+◌, sym, ap, ◌∙◌, arith}
 use Rattle.std.proofs.lemmas.Result.{on_ok_weaker}
 use Rattle.pw_tariff.specs.Office.{office_of}
-use Rattle.pw_model.specs.declared.records.TotalKey.{TotalKey}
-use Rattle.pw_model.specs.Counting.{contents_at, point}
-use Rattle.pw_parts.specs.inner.Counted.{ListsSeconds}
-use Rattle.pw_parts.specs.inner.Given.{pairs_given, register_given}
-use Rattle.pw_parts.specs.inner.Kinds.{IsReadingOf}
 use Rattle.pw_parts.specs.inner.Totals.{total_in}
 use Rattle.pw_parts.proofs.Meters.{points-told, register-is, register-none}
 use Rattle.pw_parts.proofs.Parted.{within-office}
-use Rattle.pw_parts.proofs.Seconds.{seconds-shown}
 use Rattle.pw_parts.proofs.energies.add_register.Goals as goal
 
 pub returns-then-not-counts : goal.returns-then-not-counts

@@ -1,6 +1,4 @@
-use Rattle.std.proofs.Common.{◌≡◌, ◌+◌, ◌<◌, sym, ap, ◌∙◌, arith}
-use Rattle.pw_parts.specs.inner.Given.{cells_given, pair_given}
-use Rattle.pw_parts.specs.inner.Totals.{total_in}
+use Rattle.std.proofs.Common.{◌<◌, arith}
 use Rattle.pw_parts.proofs.Spread.{pair-falls}
 use Rattle.pw_parts.proofs.energy.add_pair.Goals as goal
 

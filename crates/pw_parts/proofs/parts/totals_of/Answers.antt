@@ -1,6 +1,5 @@
-use Rattle.std.proofs.Common.{◌≡◌, ℕ, ◌+◌, ◌<◌, ◌∙◌, sym, arith}
+use Rattle.std.proofs.Common.{◌≡◌, ℕ, ◌<◌, ◌∙◌, sym, arith}
 use Rattle.pw_model.specs.declared.records.TotalKey.{TotalKey}
-use Rattle.pw_model.specs.Lists.{Lists}
 use Rattle.pw_model.specs.Shelf.{total_among}
 use Rattle.pw_model.proofs.EntryOrder.{if-ok}
 use Rattle.pw_model.proofs.SoundOffice.{sound-office}
