@@ -1,0 +1,14 @@
+pub mod Keys
+pub mod Groups
+pub mod Telling
+pub mod Seconds
+pub mod Chart
+pub mod Owning
+pub mod Paid
+pub mod Parted
+pub mod Kept
+pub mod Spread
+pub mod Sharing
+pub mod Meters
+pub mod Whole
+pub mod Truth

@@ -1,0 +1,37 @@
+use Rattle.std.proofs.Common.{◌+◌, sym, ap, ◌∙◌, arith}
+use Rattle.std.proofs.lemmas.Result.{on_ok_weaker}
+use Rattle.pw_tariff.specs.Office.{office_of}
+use Rattle.pw_parts.specs.inner.Totals.{total_in}
+use Rattle.pw_parts.proofs.Meters.{points-told, register-is, register-none}
+use Rattle.pw_parts.proofs.Parted.{within-office}
+use Rattle.pw_parts.proofs.energies.add_register.Goals as goal
+
+pub returns-then-not-counts : goal.returns-then-not-counts
+returns-then-not-counts c = λ k.
+    let z = register-none c.args.office.now c.args.records.now c.args.meter.0 c.args.register (sym c.counts.ensures ∙ c.if-not-counts.true) k in
+    omega (arith, z)
+
+pub readings_of-readings-requires-clause-within : goal.readings_of-readings-requires-clause-within
+readings_of-readings-requires-clause-within c = within-office (office_of c.args.office.now) c.meters.result c.args.records.now c.meters.ensures.count c.requires.counted.of_office
+
+pub add_points-requires-clause-rising : goal.add_points-requires-clause-rising
+add_points-requires-clause-rising c =
+    (points-told (office_of c.args.office.now) c.args.records.now c.readings_of-readings.result.now c.args.meter c.args.register c.in_ok-points.points.items c.deref.result.now
+    c.requires.counted c.readings_of-readings.ensures c.in_ok-points.ensures c.deref.ensures.value).rising
+
+pub add_points-requires-clause-room : goal.add_points-requires-clause-room
+add_points-requires-clause-room c = λ k.
+    let told = points-told (office_of c.args.office.now) c.args.records.now c.readings_of-readings.result.now c.args.meter c.args.register c.in_ok-points.points.items c.deref.result.now
+    c.requires.counted c.readings_of-readings.ensures c.in_ok-points.ensures c.deref.ensures.value in
+    let g = register-is c.args.office.now c.args.records.now c.args.meter.0 c.args.register c.args.owners.now c.direction_of-direction.result c.deref.result.now c.direction_of-direction.ensures
+    c.requires.counted.of_office c.requires.owners (sym c.counts.ensures ∙ c.if-not-counts.false) told k in
+    let h = c.requires.room k in
+    omega (arith, g, h)
+
+pub returns : goal.returns
+returns c =
+    let told = points-told (office_of c.args.office.now) c.args.records.now c.readings_of-readings.result.now c.args.meter c.args.register c.in_ok-points.points.items c.deref.result.now
+    c.requires.counted c.readings_of-readings.ensures c.in_ok-points.ensures c.deref.ensures.value in
+    let g = register-is c.args.office.now c.args.records.now c.args.meter.0 c.args.register c.args.owners.now c.direction_of-direction.result c.deref.result.now c.direction_of-direction.ensures
+    c.requires.counted.of_office c.requires.owners (sym c.counts.ensures ∙ c.if-not-counts.false) told in
+    on_ok_weaker c.add_points.result (λ h k. h k ∙ ap (λ n. total_in c.args.totals.now.rows k + n) (g k)) c.add_points.ensures

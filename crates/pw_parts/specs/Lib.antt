@@ -1,0 +1,7 @@
+-- Read these, in this order:
+-- Parts: the points, starts and totals of a set of records, as lists
+-- Laws: a set has no two such lists, and a shelf's content is true exactly where it is told by them
+pub mod Parts
+pub mod Laws
+-- named by private functions, tests and proofs alone
+pub mod inner

@@ -1,0 +1,43 @@
+-- The records that count, and what they tell by the second. It serves `src/told.rt` and `src/energy.rt`.
+-- (Definitions of this project.)
+use Rattle.std.specs.Prelude.{◌≡◌, ℕ, Option, Some, None, List}
+use Rattle.std.specs.Ordering.{nat_cmp}
+use Rattle.std.specs.declared.cmp.Ordering.{Ordering}
+use Rattle.pw_tariff.specs.declared.ids.AccountId.{AccountId}
+use Rattle.pw_model.specs.declared.records.Key.{Key}
+use Rattle.pw_model.specs.declared.records.Key.TheVariants as key
+use Rattle.pw_model.specs.declared.records.Content.{Content}
+use Rattle.pw_model.specs.declared.records.Content.TheVariants as content
+use Rattle.pw_model.specs.declared.records.Entry.{Entry}
+use Rattle.pw_model.specs.Counting.{Counts}
+use Rattle.pw_model.specs.Lists.{Lists}
+use Rattle.pw_model.specs.Same.{entry_order}
+
+-- the records of a set that count and have such a key, in order
+abbrev pub ListsCounting : (Key → Type 0) → List Entry → List Entry → Type 0
+ListsCounting Of s = Lists entry_order (λ e. Counts s e × Of e.key)
+
+-- ---- what is told by the second
+-- by the second
+abbrev pub by_second : {X : Type 0} → ℕ × X → ℕ × X → Ordering
+by_second a b = nat_cmp a.0 b.0
+
+-- each second at which a function tells something, with what it tells, in order
+abbrev pub ListsSeconds : {X : Type 0} → (ℕ → Option X) → List (ℕ × X) → Type 0
+ListsSeconds told = Lists by_second (λ a. told a.0 ≡ Some a.1)
+
+-- when and what a reading shows
+abbrev pub shown_at : Key → Content → Option (ℕ × ℕ)
+shown_at (key.Reading m r t) (content.Reading w) = Some (t, w)
+shown_at _ _ = None
+
+abbrev pub shown : Entry → Option (ℕ × ℕ)
+shown e = shown_at e.key e.content
+
+-- from when on an assignment gives a meter to whom
+abbrev pub given_at : Key → Content → Option (ℕ × Option AccountId)
+given_at (key.Assignment m t) (content.Assignment o) = Some (t, o)
+given_at _ _ = None
+
+abbrev pub given : Entry → Option (ℕ × Option AccountId)
+given e = given_at e.key e.content

@@ -1,0 +1,101 @@
+//! What the meters of an office give to the totals.
+
+ghost use Rattle.std.specs.Prelude.{◌≡◌, ℕ, ◌<◌, OnOk, length};
+ghost use Rattle.pw_model.specs.Counting.{contents_at as held_at};
+ghost use Rattle.pw_model.specs.Energy.{owner_at as owner_told};
+ghost use Rattle.pw_model.specs.Same.{direction_of as direction_told};
+ghost use Rattle.pw_tariff.specs.Office.{office_of};
+ghost use Rattle.pw_tariff.specs.Owners.{owner_by_starts};
+ghost use Rattle.pw_parts.specs.inner.Given.{AreCounted, energies_given, meter_given, register_given};
+ghost use Rattle.pw_parts.specs.inner.Totals.{HasRoom, IsGiven};
+
+use crate::energy::add_points;
+use crate::places::{assignments_of, readings_of};
+use crate::told::{readings_shown, starts_given};
+use crate::totals::Totals;
+use pw_model::Entry;
+use pw_obis::Register;
+use pw_tariff::{Direction, MeterId, Office, Owners};
+use pw_time::Zone;
+use std::alloc::{AllocError, Global};
+
+// Gives each owner and band what flows for them through all meters, told by records in order that all count.
+pub(crate) fn add_meters(
+    totals: &mut Totals,
+    alloc: Global,
+    office: &Office,
+    zone: &Zone,
+    records: &[Entry],
+) -> Result<(), AllocError>
+    requires counted { AreCounted (office_of office.now) records.now }
+    requires room { HasRoom (energies_given (office_of office.now) records.now) totals.old.rows }
+    ensures { OnOk result (IsGiven (energies_given (office_of office.now) records.now) totals.old.rows totals.new.rows) }
+{
+    for meter in 0..office.meters() {
+        add_meter(totals, alloc, office, zone, records, MeterId(meter))?;
+    }
+    Ok(())
+}
+
+// Gives each owner and band what flows for them through a meter.
+fn add_meter(
+    totals: &mut Totals,
+    alloc: Global,
+    office: &Office,
+    zone: &Zone,
+    records: &[Entry],
+    meter: MeterId,
+) -> Result<(), AllocError>
+    requires counted { AreCounted (office_of office.now) records.now }
+    requires meter { meter.0 < length office.now.meters }
+    requires room { HasRoom (meter_given (office_of office.now) records.now meter.0) totals.old.rows }
+    ensures { OnOk result (IsGiven (meter_given (office_of office.now) records.now meter.0) totals.old.rows totals.new.rows) }
+{
+    let assignments = assignments_of(records, office.meters(), meter);
+    let starts = starts_given(alloc, assignments)?;
+    let Some(owners) = Owners::of(&starts) else {
+        unreachable!();
+    };
+    for register in &Register::ALL {
+        add_register(
+            totals, alloc, office, zone, &owners, records, meter, *register,
+        )?;
+    }
+    Ok(())
+}
+
+// Gives each owner and band what flows for them in a register of a meter with these owners: nothing where the register
+// doesn't count.
+fn add_register(
+    totals: &mut Totals,
+    alloc: Global,
+    office: &Office,
+    zone: &Zone,
+    owners: &Owners,
+    records: &[Entry],
+    meter: MeterId,
+    register: Register,
+) -> Result<(), AllocError>
+    requires counted { AreCounted (office_of office.now) records.now }
+    requires meter { meter.0 < length office.now.meters }
+    requires owners { (t : ℕ) → owner_by_starts owners.now t ≡ owner_told (held_at records.now) meter.0 t }
+    requires room { HasRoom (register_given (office_of office.now) records.now meter.0 register) totals.old.rows }
+    ensures { OnOk result (IsGiven (register_given (office_of office.now) records.now meter.0 register) totals.old.rows totals.new.rows) }
+{
+    if !office.counts(meter, register) {
+        return Ok(());
+    }
+    let readings = readings_of(records, office.meters(), meter, register);
+    let points = readings_shown(alloc, readings)?;
+    let direction = direction_of(register);
+    add_points(totals, alloc, office, zone, owners, direction, &points)
+}
+
+fn direction_of(register: Register) -> Direction
+    ensures { result ≡ direction_told register }
+{
+    match register {
+        Register::I0 | Register::I1 | Register::I2 => Direction::Import,
+        Register::E0 | Register::E1 | Register::E2 => Direction::Export,
+    }
+}
