@@ -117,11 +117,11 @@ moves-band o d more less n a b was mid now f p q g =
       ],
     ))
     (moves-then (InDirection o d n) (λ k. k ≡ key) more less was mid now
-      (λ k i e. (
-        let s : i.0.0 ≡ n = ap band_in (sym i.2 ∙ e) in
-        let l = i.1 in
-        absurd (omega (arith, s, l))))
-      f (moves-at key more less a b mid now p q g))
+    (λ k i e. (
+    let s : i.0.0 ≡ n = ap band_in (sym i.2 ∙ e) in
+    let l = i.1 in
+    absurd (omega (arith, s, l))))
+    f (moves-at key more less a b mid now p q g))
 
 -- ---- both directions
 pub moves-both : (o : Option AccountId) (more less : TotalKey → ℕ) (n : ℕ) (was mid now : ShelfContent) →
@@ -163,10 +163,10 @@ moves-account more less n a was mid now f g =
       ],
     ))
     (moves-then (OfOwners n a) (OfOwner n (Some last)) more less was mid now
-      (λ k i j. (
-        let p = owner-place n (Some last) k j in
-        elim i [
-          | inl x ↦ (let q = owner-place n None k x in absurd (omega (arith, p, q)))
-          | inr y ↦ (let q = owner-place n (Some y.0) k y.2 in let l = y.1 in absurd (omega (arith, p, q, l)))
-        ]))
-      f g)
+    (λ k i j. (
+    let p = owner-place n (Some last) k j in
+    elim i [
+      | inl x ↦ (let q = owner-place n None k x in absurd (omega (arith, p, q)))
+      | inr y ↦ (let q = owner-place n (Some y.0) k y.2 in let l = y.1 in absurd (omega (arith, p, q, l)))
+    ]))
+    f g)

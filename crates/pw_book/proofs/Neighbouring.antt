@@ -118,7 +118,7 @@ around-differ file free is m r z w p owners below above without with (Energy own
     let t : keeps ≡ asked_seconds free asked m = seconds-told file owners free m owner band.0 h in
     let one : pairs_sum keeps without ≡ cell_between (asked_seconds free asked m) below above = ap (pairs_sum keeps) g ∙ pairs-without keeps below above ∙ ap (λ (q : ℕ → Bool). cell_between q below above) t in
     let two : pairs_sum keeps with ≡ cell_between (asked_seconds free asked m) below (Some (z, w)) + cell_between (asked_seconds free asked m) (Some (z, w)) above =
-        ap (pairs_sum keeps) j ∙ pairs-with keeps below above (z, w) ∙ ap (λ (q : ℕ → Bool). cell_between q below (Some (z, w)) + cell_between q (Some (z, w)) above) t in
+    ap (pairs_sum keeps) j ∙ pairs-with keeps below above (z, w) ∙ ap (λ (q : ℕ → Bool). cell_between q below (Some (z, w)) + cell_between q (Some (z, w)) above) t in
     let x : cond (same_direction (direction_of r) d) (pairs_sum keeps without) 0 ≡ in_direction d r (cell_between (asked_seconds free asked m) below above) = ap (λ n. cond (same_direction (direction_of r) d) n 0) one in
     let y : cond (same_direction (direction_of r) d) (pairs_sum keeps with) 0 ≡ in_direction d r (cell_between (asked_seconds free asked m) below (Some (z, w)) + cell_between (asked_seconds free asked m) (Some (z, w)) above) = ap (λ n. cond (same_direction (direction_of r) d) n 0) two in
     omega (arith, law, x, y)

@@ -138,7 +138,14 @@ impl<S: Shelf> Book<S> {
         if self.shut {
             return Err(PostFault::Reopen);
         }
-        let answer = post_to(&mut self.shelf, alloc, &self.office, &self.zone, self.limit, entries);
+        let answer = post_to(
+            &mut self.shelf,
+            alloc,
+            &self.office,
+            &self.zone,
+            self.limit,
+            entries,
+        );
         self.shut = is_reopen(&answer);
         answer
     }

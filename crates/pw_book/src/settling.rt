@@ -54,7 +54,10 @@ fn reading_added<S: Shelf>(
             let Content::Reading { wh } = counted else {
                 return Ok(());
             };
-            let counted = Counted { wh: *wh, ..*reading };
+            let counted = Counted {
+                wh: *wh,
+                ..*reading
+            };
             cease_to_count(shelf, alloc, office, zone, &counted)
         }
         Contents::Several => Ok(()),
@@ -110,7 +113,12 @@ fn top_up_added<S: Shelf>(
     ensures kept { GoesOn S.state S.left S.clean (failures_told result) shelf.old shelf.new }
 {
     match before {
-        Contents::Nothing => change_total(shelf, &TotalKey::TopUps { account }, u128::from(cents), 0),
+        Contents::Nothing => change_total(
+            shelf,
+            &TotalKey::TopUps { account },
+            u128::from(cents),
+            0,
+        ),
         Contents::One(counted) => {
             let Content::TopUp { account, cents, .. } = counted else {
                 return Ok(());
@@ -141,7 +149,11 @@ pub(crate) fn settle<S: Shelf>(
     ensures kept { GoesOn S.state S.left S.clean (failures_told result) shelf.old shelf.new }
 {
     match &entry.key {
-        Key::Reading { meter, register, instant } => {
+        Key::Reading {
+            meter,
+            register,
+            instant,
+        } => {
             let Content::Reading { wh } = &entry.content else {
                 return Ok(());
             };

@@ -106,8 +106,8 @@ fn energies<S: Shelf>(
         assert!(rt; account.0 < book.office().accounts());
     }
     assert!(rt; 1 < book.office().bands());
-    let low = book.energy(alloc, owner, BandId(0), direction)?;
-    let high = book.energy(alloc, owner, BandId(1), direction)?;
+    let low = book.energy(owner, BandId(0), direction)?;
+    let high = book.energy(owner, BandId(1), direction)?;
     Ok((low, high))
 }
 
@@ -127,8 +127,8 @@ fn money<S: Shelf>(
     account: AccountId,
 ) -> Result<(u64, i128), BookFault> {
     assert!(rt; account.0 < book.office().accounts());
-    let cents = book.topped_up(alloc, account)?;
-    let nano = book.balance(alloc, account)?;
+    let cents = book.topped_up(account)?;
+    let nano = book.balance(account)?;
     Ok((cents, nano))
 }
 

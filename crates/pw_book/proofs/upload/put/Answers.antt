@@ -19,7 +19,7 @@ returns-clause-put g c = λ k t h.
     let s = (g.S.Shelf.state c.args.shelf.now).content in
     let not_held : Member c.args.entry.now s.records → ⊥ = λ m. true≢false (sym ((c.in_ok-holds.ensures.held first).1 m) ∙ c.if-branch.false) in
     let j = just-added (office_of c.args.office.now) c.args.entry.now c.in_ok-before.before s _ _ _ (c.in_ok-holds.ensures.asked.same first) (c.in_ok-before.ensures.asked.same second) (c.in_ok-add.ensures.added third) (c.in_ok-before.ensures.rows second) not_held
-        c.requires.of_office h (c.requires.room start not_held) t in
+    c.requires.of_office h (c.requires.room start not_held) t in
     on-ok-two c.settle.result (λ u r. put-added (office_of c.args.office.now) s.records c.args.entry.now _ s _ _ refl j r u) (c.settle.ensures.truth k s.records j) (c.settle.ensures.records k s.records j)
 
 pub returns-clause-tally : goal.returns-clause-tally
