@@ -1,0 +1,4 @@
+pub mod Asks
+pub mod HeadLemmas
+pub mod Numbers
+pub mod Unique
