@@ -1,5 +1,5 @@
 -- What a look at the first bytes received says of all that is left.
-use Rattle.std.proofs.Common.{inl, inr, ◌≡◌, ◌≢◌, ◌<◌, ◌≤◌, ◌⊎◌, ℕ, ◌+◌, ◌-◌, List, [], ◌∷◌, ◌++◌, length, take, drop, map, codes, Option, Some, None, Bool, true, false, refl, sym, ap, ◌∙◌, append_assoc, arith, length-append, length-drop, min, subst}
+use Rattle.std.proofs.Common.{inl, inr, ◌≡◌, ◌≢◌, ◌<◌, ◌≤◌, ℕ, ◌+◌, ◌-◌, List, [], ◌++◌, length, take, drop, map, codes, Option, Some, None, Bool, true, false, refl, sym, ap, ◌∙◌, append_assoc, arith, length-append, length-drop, min, subst}
 use Rattle.std.specs.List.{slice_range, list_any}
 use Rattle.std.proofs.lemmas.List.{take-append-le, drop-append-le, length-take, nil_from_length, take_all}
 use Rattle.std.proofs.lemmas.List.Folds.{drop_split}
@@ -11,11 +11,10 @@ use Rattle.httparse.specs.Spans.{header_bytes, span_bytes, IsWithin}
 use Rattle.httparse.proofs.GrammarLemmas.{request_unique, ReadsRequest-append}
 use Rattle.httparse.proofs.RunLemmas.{length-slice_range}
 use Rattle.pw_http.specs.Heads.{IsHead, HasNoHead}
-use Rattle.pw_http.specs.inner.Received.{IsHeadAt, IsWholeAt, MayHaveHead, Waits, WaitsForBody}
+use Rattle.pw_http.specs.inner.Received.{IsHeadAt, IsWholeAt, MayHaveHead, Waits}
 use Rattle.pw_http.specs.Heads.{longest_head}
 use Rattle.pw_http.specs.declared.requests.TheConstants.{ROOM}
-use Rattle.pw_http.specs.Requests.{Request, Asked, Faulty, Stands, IsWhole, HasNoWhole, request_bytes, is_coded, body_length, headers_of, closes, is_named, asks_close, length_said, values_of, longest_body}
-use Rattle.pw_http.specs.declared.requests.Places.{Places}
+use Rattle.pw_http.specs.Requests.{Request, Faulty, Stands, IsWhole, HasNoWhole, request_bytes, is_coded, body_length, headers_of, closes, is_named, asks_close, length_said, values_of, longest_body}
 use Rattle.pw_http.specs.declared.requests.Refusal.TheVariants.{BadHead, NotSupported, BodyTooLarge, BadBody}
 
 -- a head has bytes

@@ -1,10 +1,10 @@
 -- A stream has one list of requests, however it is read.
-use Rattle.std.proofs.Common.{◌≡◌, ◌≢◌, ◌<◌, ◌≤◌, ◌⊎◌, ℕ, ◌+◌, List, [], ◌∷◌, ◌++◌, length, Option, Some, None, Bool, true, false, All, refl, sym, ap, ◌∙◌, append_assoc, arith, length-append, inl, inr}
+use Rattle.std.proofs.Common.{◌≡◌, ◌≢◌, ◌<◌, ◌≤◌, ◌⊎◌, ℕ, List, [], ◌∷◌, ◌++◌, length, Option, Some, None, Bool, true, false, All, refl, sym, ap, ◌∙◌, append_assoc, arith, length-append, inl, inr}
 use Rattle.std.specs.List.{flat_map}
-use Rattle.httparse.specs.Grammar.{RequestHead, ReadsRequest, print_request}
+use Rattle.httparse.specs.Grammar.{RequestHead, print_request}
 use Rattle.httparse.proofs.GrammarLemmas.{request_unique}
 use Rattle.pw_http.specs.Heads.{IsHead, HasNoHead}
-use Rattle.pw_http.specs.Requests.{Request, Asked, Whole, Faulty, Stands, is_last, Begins, Ends, Requests, GoesOn, IsWhole, Refuses, request_bytes, is_coded, body_length, closes, longest_body}
+use Rattle.pw_http.specs.Requests.{Request, Asked, Whole, Faulty, Stands, is_last, Ends, Requests, GoesOn, IsWhole, Refuses, request_bytes, is_coded, body_length, longest_body}
 use Rattle.std.specs.Prelude.{if◌then◌else◌, nat_lt}
 use Rattle.std.proofs.lemmas.List.Elements.{All-head, All-tail}
 use Rattle.pw_http.specs.declared.requests.Refusal.{Refusal}

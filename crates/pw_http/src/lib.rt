@@ -1,10 +1,17 @@
-//! Requests of a stream: heads, bodies, and what is no request.
+//! Requests and replies: what a stream of bytes asks, where each request goes, and the bytes of a reply.
 #![tactic(auto)]
 
+mod fault;
 mod heads;
 mod inbox;
 pub mod laws;
+mod replies;
 mod requests;
+mod routes;
+mod send;
 
+pub use fault::WireFault;
 pub use heads::{LONGEST_HEAD, MOST_FIELDS};
+pub use replies::{ContentType, Status};
 pub use requests::{LONGEST_BODY, ROOM, Refusal};
+pub use routes::{Place, Route};

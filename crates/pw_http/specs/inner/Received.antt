@@ -6,7 +6,7 @@ use Rattle.httparse.specs.Spans.{IsRequestAt, IsRequestWithin, IsWithin, span_by
 use Rattle.httparse.specs.declared.spans.HeaderSpan.{HeaderSpan}
 use Rattle.httparse.specs.declared.spans.RequestSpans.{RequestSpans}
 use Rattle.pw_http.specs.Heads.{IsHead, HasNoHead, longest_head}
-use Rattle.pw_http.specs.Requests.{Request, Asked, Faulty, IsWhole, Stands, body_length, closes, is_coded, longest_body, request_bytes}
+use Rattle.pw_http.specs.Requests.{Request, Faulty, IsWhole, Stands, body_length, closes, is_coded, longest_body, request_bytes}
 use Rattle.pw_http.specs.declared.heads.Outcome.{Outcome}
 use Rattle.pw_http.specs.declared.heads.Outcome.TheVariants as head
 use Rattle.pw_http.specs.declared.requests.Next.{Next}

@@ -1,7 +1,6 @@
-use Rattle.std.proofs.Common.{◌≡◌, ◌≢◌, ◌<◌, ℕ, List, [], ◌++◌, length, take, drop, sym, ap, ◌∙◌, arith, true, false}
+use Rattle.std.proofs.Common.{◌≡◌, ◌≢◌, ◌<◌, ℕ, List, length, take, drop, sym, ◌∙◌, arith, false}
 use Rattle.std.specs.Prelude.{◌==◌}
 use Rattle.std.proofs.lemmas.List.{take-append-drop}
-use Rattle.pw_http.specs.Requests.{closes}
 use Rattle.pw_http.proofs.Asks.{coded_is, close_is, length_is, ready, stands_coded, stands_unsaid, stands_large, stands_short, stands_bad, waits_for_body, nothing_yet}
 use Rattle.pw_http.proofs.requests.ask_next.Goals as goal
 
