@@ -2,5 +2,8 @@ pub mod Asks
 pub mod HeadLemmas
 pub mod KnownLemmas
 pub mod Numbers
+pub mod Streaming
+pub mod Talks
+pub mod Turns
 pub mod Unique
 pub mod Written

@@ -3,11 +3,13 @@
 -- Requests: what a stream of bytes asks
 -- Routes: where a request goes
 -- Replies: the bytes of a reply
+-- Runs: what a service answers, and what a conversation is
 -- Laws: a stream has one list of requests
 pub mod Heads
 pub mod Requests
 pub mod Routes
 pub mod Replies
+pub mod Runs
 pub mod Laws
 -- and these where a file above names them:
 -- Writing: what is written of a text
