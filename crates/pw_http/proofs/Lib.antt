@@ -1,0 +1,9 @@
+pub mod Asks
+pub mod HeadLemmas
+pub mod KnownLemmas
+pub mod Numbers
+pub mod Streaming
+pub mod Talks
+pub mod Turns
+pub mod Unique
+pub mod Written

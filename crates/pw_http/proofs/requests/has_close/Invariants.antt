@@ -1,0 +1,8 @@
+use Rattle.std.proofs.Common.{◌≡◌, map, take}
+use Rattle.std.specs.List.{list_any}
+use Rattle.httparse.specs.Spans.{header_bytes}
+use Rattle.pw_http.specs.Requests.{asks_close}
+use Rattle.pw_http.proofs.requests.has_close.Given as goal
+
+abbrev pub invariant-loop-span : goal.invariant-loop-span
+invariant-loop-span l = l.found ≡ list_any asks_close (map (header_bytes l.buf) (take l.span-index l.spans))

@@ -1,0 +1,19 @@
+use Rattle.std.proofs.Common.{refl}
+use Rattle.pw_http.specs.Routes.{route_table}
+use Rattle.matchit.proofs.OnLiterals.{matchit_on_literals}
+use Rattle.pw_http.proofs.routes.routes.Goals as goal
+
+pub returns : goal.returns
+unfolding route_table matchit_on_literals
+returns c =
+    let a1 = c.in_ok-insert.ensures in
+    let a2 = c.in_ok-insert-2.ensures in
+    let a3 = c.in_ok-insert-3.ensures in
+    let a4 = c.in_ok-insert-4.ensures in
+    let a5 = c.in_ok-insert-5.ensures in
+    let a6 = c.in_ok-insert-6.ensures in
+    let a7 = c.in_ok-insert-7.ensures in
+    let a8 = c.in_ok-insert-8.ensures in
+    let a9 = c.in_ok-insert-9.ensures in
+    let a10 = c.in_ok-insert-10.ensures in
+    rw (a10.1, a9.1, a8.1, a7.1, a6.1, a5.1, a4.1, a3.1, a2.1, a1.1, c.new-router.ensures) refl

@@ -1,0 +1,20 @@
+-- Read these, in this order:
+-- Heads: the head of a request
+-- Requests: what a stream of bytes asks
+-- Routes: where a request goes
+-- Replies: the bytes of a reply
+-- Runs: what a service answers, and what a conversation is
+-- Laws: a stream has one list of requests
+pub mod Heads
+pub mod Requests
+pub mod Routes
+pub mod Replies
+pub mod Runs
+pub mod Laws
+-- and these where a file above names them:
+-- Writing: what is written of a text
+-- Faults: numbers, names and lines of the faults of a stream
+pub mod Writing
+pub mod Faults
+-- named by private functions, tests and proofs alone
+pub mod inner

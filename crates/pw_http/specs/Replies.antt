@@ -1,0 +1,69 @@
+-- The bytes of a reply. (RFC 9112; the phrases are those of RFC 9110, but 413, which `http` calls by its older name.)
+use Rattle.std.specs.Prelude.{ℕ, List, Bool, [], ◌++◌, length, codes, decimal, if◌then◌else◌}
+use Rattle.pw_http.specs.declared.replies.ContentType.{ContentType}
+use Rattle.pw_http.specs.declared.replies.ContentType.TheVariants.{Plain, Csv}
+use Rattle.pw_http.specs.declared.replies.Status.{Status}
+use Rattle.pw_http.specs.declared.replies.Status.TheVariants.{Fine, BadRequest, NotFound, MethodNotAllowed, PayloadTooLarge, NotImplemented, Unavailable, InsufficientStorage}
+use Rattle.pw_http.specs.declared.requests.Refusal.{Refusal}
+use Rattle.pw_http.specs.declared.requests.Refusal.TheVariants.{BadHead, NotSupported, BodyTooLarge, BadBody}
+
+-- ---- the status
+abbrev pub status_number : Status → ℕ
+status_number Fine = 200
+status_number BadRequest = 400
+status_number NotFound = 404
+status_number MethodNotAllowed = 405
+status_number PayloadTooLarge = 413
+status_number NotImplemented = 501
+status_number Unavailable = 503
+status_number InsufficientStorage = 507
+
+abbrev pub status_phrase : Status → List ℕ
+status_phrase Fine = codes "OK"
+status_phrase BadRequest = codes "Bad Request"
+status_phrase NotFound = codes "Not Found"
+status_phrase MethodNotAllowed = codes "Method Not Allowed"
+status_phrase PayloadTooLarge = codes "Payload Too Large"
+status_phrase NotImplemented = codes "Not Implemented"
+status_phrase Unavailable = codes "Service Unavailable"
+status_phrase InsufficientStorage = codes "Insufficient Storage"
+
+-- ---- the reply
+abbrev pub content_name : ContentType → List ℕ
+content_name Plain = codes "text/plain"
+content_name Csv = codes "text/csv"
+
+pub record Reply : Type 0 where
+  pub status : Status
+  pub content : ContentType
+  pub body : List ℕ
+
+abbrev pub close_line : Bool → List ℕ
+close_line closing = if closing then codes "Connection: close\r\n" else []
+
+-- with the length of the body; the conversation may end after it
+unfoldable pub reply_head : Status → ContentType → ℕ → Bool → List ℕ
+reply_head status content size closing =
+    codes "HTTP/1.1 " ++ decimal (status_number status) ++ codes " " ++ status_phrase status
+    ++ codes "\r\nContent-Type: " ++ content_name content
+    ++ codes "\r\nContent-Length: " ++ decimal size
+    ++ codes "\r\n" ++ close_line closing ++ codes "\r\n"
+
+abbrev pub reply_bytes : Bool → Reply → List ℕ
+reply_bytes closing r = reply_head r.status r.content (length r.body) closing ++ r.body
+
+-- ---- the reply to what is no whole request
+abbrev pub refusal_status : Refusal → Status
+refusal_status BadHead = BadRequest
+refusal_status NotSupported = NotImplemented
+refusal_status BodyTooLarge = PayloadTooLarge
+refusal_status BadBody = BadRequest
+
+abbrev pub refusal_line : Refusal → List ℕ
+refusal_line BadHead = codes "bad head\n"
+refusal_line NotSupported = codes "not supported\n"
+refusal_line BodyTooLarge = codes "body too large\n"
+refusal_line BadBody = codes "bad body\n"
+
+abbrev pub refusal_reply : Refusal → Reply
+refusal_reply why = record { status = refusal_status why; content = Plain; body = refusal_line why }

@@ -1,0 +1,67 @@
+-- The routes: what stands where, and by which method. A word in braces stands for one byte or more without `/`.
+-- (Definitions of this project, over the routes of `matchit`.)
+use Rattle.std.specs.Prelude.{ℕ, Option, Some, None, List, [], codes, bytes_eq, option_map, Result, Ok, Err, if◌then◌else◌}
+use Rattle.matchit.specs.Rows.{RowsOf}
+use Rattle.matchit.specs.Order.{placed}
+use Rattle.matchit.specs.Seek.{first}
+use Rattle.matchit.specs.Route.{Scan, parse_route}
+use Rattle.matchit.specs.Router.{RouteOf, route_from}
+use Rattle.matchit.specs.declared.error.InsertError.{InsertError}
+use Rattle.pw_http.specs.declared.routes.Route.{Route}
+use Rattle.pw_http.specs.declared.routes.Route.TheVariants.{Telegrams, Readouts, Assignments, TopUps, Accounts, Account, Falls, Disputes, ReadingsExport, EnergyExport}
+use Rattle.pw_http.specs.declared.routes.Place.{Place}
+use Rattle.pw_http.specs.declared.routes.Place.TheVariants.{NoPage, NoMethod, At}
+
+-- ---- the table
+abbrev pub method_name : Route → List ℕ
+method_name Telegrams = codes "POST"
+method_name Readouts = codes "POST"
+method_name Assignments = codes "POST"
+method_name TopUps = codes "POST"
+method_name Accounts = codes "GET"
+method_name Account = codes "GET"
+method_name Falls = codes "GET"
+method_name Disputes = codes "GET"
+method_name ReadingsExport = codes "GET"
+method_name EnergyExport = codes "GET"
+
+abbrev pub route_text : Route → List ℕ
+route_text Telegrams = codes "/telegrams"
+route_text Readouts = codes "/meters/{meter}/readouts"
+route_text Assignments = codes "/assignments"
+route_text TopUps = codes "/topups"
+route_text Accounts = codes "/accounts"
+route_text Account = codes "/accounts/{account}"
+route_text Falls = codes "/falls"
+route_text Disputes = codes "/disputes"
+route_text ReadingsExport = codes "/export/readings"
+route_text EnergyExport = codes "/export/energy"
+
+-- ---- as `matchit` keeps it
+-- the rows with one more route, where its text reads as a route
+abbrev pub added_read : Result Scan InsertError → Route → RowsOf (RouteOf Route) → RowsOf (RouteOf Route)
+added_read (Ok s) route rows = placed (s.pattern, route_from s route) rows
+added_read (Err e) route rows = rows
+
+abbrev pub added : RowsOf (RouteOf Route) → Route → RowsOf (RouteOf Route)
+added rows route = added_read (parse_route (route_text route)) route rows
+
+unfoldable pub route_table : RowsOf (RouteOf Route)
+route_table =
+    added (added (added (added (added (added (added (added (added (added [] Telegrams) Readouts) Assignments) TopUps) Accounts) Falls) Disputes) Account) ReadingsExport) EnergyExport
+
+abbrev pub row_value : RouteOf Route → Route
+row_value r = r.value
+
+-- the route of a path
+abbrev pub route_at : List ℕ → Option Route
+route_at path = option_map row_value (first route_table path)
+
+-- ---- the place of a request
+abbrev pub by_method : List ℕ → Option Route → Place
+by_method method None = NoPage
+by_method method (Some route) = if bytes_eq method (method_name route) then At route else NoMethod
+
+-- a path without a route, a route that has another method, or a route
+abbrev pub place_of : List ℕ → List ℕ → Place
+place_of method path = by_method method (route_at path)

@@ -1,0 +1,175 @@
+//! A conversation.
+
+ghost use Rattle.std.specs.Prelude.{◌≡◌, ◌≤◌, ◌+◌, length, IfOk};
+ghost use Rattle.pw_http.specs.Heads.{most_fields};
+ghost use Rattle.pw_http.specs.Runs.{IsTalk};
+ghost use Rattle.pw_http.specs.inner.Turns.{IsBatch, IsTurn};
+
+use crate::fault::WireFault;
+use crate::heads::MOST_FIELDS;
+use crate::inbox::Inbox;
+use crate::replies::{ContentType, line_of, status_of};
+use crate::requests::{Next, ROOM, ask_next};
+use crate::send::send_reply;
+use crate::served::Served;
+use crate::service::Service;
+use httparse::spans::{EMPTY_HEADER_SPAN, HeaderSpan};
+use std::alloc::Global;
+use std::io::{Read, Write};
+
+/// The most calls of `read` in a conversation.
+pub const MOST_TURNS: u32 = 16_777_216;
+
+/// What one look at the bytes received led to.
+#[derive(Clone, Copy, Debug, PartialEq, Eq)]
+pub(crate) enum Turn {
+    /// More bytes are needed.
+    Waits,
+    /// The stream ended where a request would begin.
+    Over,
+    /// A request was answered.
+    Replied,
+    /// A request was answered, and the conversation ends.
+    Last,
+}
+
+#[derive(Clone, Copy, Debug)]
+pub(crate) struct Batch {
+    pub(crate) replies: u64,
+    pub(crate) is_over: bool,
+}
+
+/// Answers the next request, where it was wholly received.
+fn take_turn<S: Service, W: Write>(
+    alloc: Global,
+    service: &mut S,
+    inbox: &mut Inbox,
+    ended: bool,
+    writer: &mut W,
+    headers: &mut [HeaderSpan],
+) -> Result<Turn, WireFault>
+    requires room { length headers.old ≡ most_fields }
+    ensures turn { IsTurn S.serves service.old inbox.old ended (W.contents writer.old) (W.contents writer.new) service.new inbox.new result }
+    ensures room { length headers.new ≡ most_fields }
+{
+    let whole = match ask_next(inbox.unread(), ended, headers) {
+        Next::Nothing => return Ok(Turn::Over),
+        Next::More => return Ok(Turn::Waits),
+        Next::Refused(why) => {
+            let line = line_of(why).as_bytes();
+            return match send_reply(writer, status_of(why), ContentType::Plain, true, line) {
+                Ok(()) => Ok(Turn::Last),
+                Err(_) => Err(WireFault::Write),
+            };
+        }
+        Next::Ready(whole) => whole,
+    };
+    let bytes = inbox.unread();
+    let method = whole.method.of(bytes);
+    let target = whole.target.of(bytes);
+    let body = &bytes[whole.start..whole.len];
+    match service.serve(alloc, method, target, body, whole.closes, writer) {
+        Err(_) => Err(WireFault::Write),
+        Ok(()) => {
+            inbox.consume(whole.len);
+            if whole.closes {
+                Ok(Turn::Last)
+            } else {
+                Ok(Turn::Replied)
+            }
+        }
+    }
+}
+
+/// Answers each request that was wholly received.
+fn answer_all<S: Service, W: Write>(
+    alloc: Global,
+    service: &mut S,
+    inbox: &mut Inbox,
+    ended: bool,
+    writer: &mut W,
+    headers: &mut [HeaderSpan],
+) -> Result<Batch, WireFault>
+    requires room { length headers.old ≡ most_fields }
+    requires fits { length inbox.old ≤ ROOM }
+    ensures batch { IsBatch S.serves service.old inbox.old ended (W.contents writer.old) (W.contents writer.new) service.new inbox.new result }
+    ensures room { length headers.new ≡ most_fields }
+    ensures few { IfOk result (λ b. b.replies ≤ ROOM + 1) }
+{
+    let mut replies = 0;
+    loop {
+        let turn = match take_turn(alloc, service, inbox, ended, writer, headers) {
+            Ok(turn) => turn,
+            Err(_) => return Err(WireFault::Write),
+        };
+        match turn {
+            Turn::Waits => {
+                return Ok(Batch {
+                    replies,
+                    is_over: false,
+                });
+            }
+            Turn::Over => {
+                return Ok(Batch {
+                    replies,
+                    is_over: true,
+                });
+            }
+            Turn::Last => {
+                return Ok(Batch {
+                    replies: replies + 1,
+                    is_over: true,
+                });
+            }
+            Turn::Replied => replies += 1,
+        }
+    }
+}
+
+/// Reads requests and writes replies, by at most `turns` calls of `read`, until the stream or the conversation ends.
+///
+/// `Memory` is answered only before anything is read. Behind `Read` and `TooManyTurns` each request that was wholly read is
+/// answered, behind `Write` the last reply may be lost.
+pub fn converse_within<S: Service, R: Read, W: Write>(
+    alloc: Global,
+    service: &mut S,
+    reader: &mut R,
+    writer: &mut W,
+    turns: u32,
+) -> Result<Served, WireFault>
+    ensures talk { IsTalk S.serves (R.remaining reader.old) (R.remaining reader.new) (W.contents writer.old) (W.contents writer.new) service.old service.new turns result }
+{
+    let mut inbox = match Inbox::new(alloc) {
+        Ok(inbox) => inbox,
+        Err(_) => return Err(WireFault::Memory),
+    };
+    let mut headers = [EMPTY_HEADER_SPAN; MOST_FIELDS];
+    let mut requests = 0;
+    for _ in 0..turns {
+        let count = match inbox.fill(reader) {
+            Ok(count) => count,
+            Err(_) => return Err(WireFault::Read),
+        };
+        let batch = match answer_all(alloc, service, &mut inbox, count == 0, writer, &mut headers) {
+            Ok(batch) => batch,
+            Err(_) => return Err(WireFault::Write),
+        };
+        requests += batch.replies;
+        if batch.is_over {
+            return Ok(Served { requests });
+        }
+    }
+    Err(WireFault::TooManyTurns)
+}
+
+/// Reads requests and writes replies, by at most 16,777,216 calls of `read`, until the stream or the conversation ends.
+pub fn converse<S: Service, R: Read, W: Write>(
+    alloc: Global,
+    service: &mut S,
+    reader: &mut R,
+    writer: &mut W,
+) -> Result<Served, WireFault>
+    ensures { IsTalk S.serves (R.remaining reader.old) (R.remaining reader.new) (W.contents writer.old) (W.contents writer.new) service.old service.new MOST_TURNS result }
+{
+    converse_within(alloc, service, reader, writer, MOST_TURNS)
+}

@@ -1,0 +1,44 @@
+//! Replies are written whole, or cut at an error.
+
+ghost use Rattle.std.specs.Prelude.{◌≡◌, IfErr};
+ghost use Rattle.pw_http.specs.Replies.{reply_bytes};
+ghost use Rattle.pw_http.specs.Writing.{Writes};
+ghost use Rattle.pw_http.specs.declared.fault.WireFault.TheVariants.{Write as WriteFault};
+
+use crate::fault::WireFault;
+use crate::replies::{ContentType, Status, head};
+use std::io::Write;
+
+/// Writes the bytes, by as many calls as it takes.
+pub(crate) fn send<W: Write>(writer: &mut W, bytes: &[u8]) -> Result<(), WireFault>
+    ensures written { Writes (W.contents writer.old) (W.contents writer.new) bytes.now result }
+    ensures fault { IfErr result (λ e. e ≡ WriteFault) }
+{
+    let mut at = 0;
+    while at < bytes.len() {
+        match writer.write(&bytes[at..]) {
+            Ok(0) => return Err(WireFault::Write),
+            Ok(n) => at += n,
+            Err(_) => return Err(WireFault::Write),
+        }
+    }
+    Ok(())
+}
+
+/// Writes a reply. It takes no memory.
+pub(crate) fn send_reply<W: Write>(
+    writer: &mut W,
+    status: Status,
+    content: ContentType,
+    closing: bool,
+    body: &[u8],
+) -> Result<(), WireFault>
+    ensures written { Writes (W.contents writer.old) (W.contents writer.new) (reply_bytes closing (record { status = status; content = content; body = body.now })) result }
+    ensures fault { IfErr result (λ e. e ≡ WriteFault) }
+{
+    let text = head(status, content, body.len(), closing);
+    match send(writer, text.as_bytes()) {
+        Ok(()) => send(writer, body),
+        Err(_) => Err(WireFault::Write),
+    }
+}

@@ -1,0 +1,87 @@
+-- Rows of CSV by their fields, and rows behind rows.
+use Rattle.std.proofs.Common.{◌≡◌, ◌∙◌, ◌<◌, ◌+◌, ℕ, List, [], ◌∷◌, ◌++◌, Result, Ok, Err, OnOk, IfOk, Vec, Global, length, get_or, take, ap, append_assoc, subst, sym}
+use Rattle.std.specs.List.{flat_map}
+use Rattle.std.proofs.lemmas.Grind.{flat_map-append}
+use Rattle.std.proofs.lemmas.List.{append-nil, flat_map_more, get_or_default, take_more}
+use Rattle.pw_obis.specs.declared.reference.Register.{Register}
+use Rattle.pw_obis.specs.Registers.{registers}
+use Rattle.pw_tariff.specs.Office.{OfficeFile}
+use Rattle.pw_model.specs.declared.records.Entry.{Entry}
+use Rattle.pw_model.specs.declared.records.ReadingRow.{ReadingRow}
+use Rattle.pw_model.specs.Lists.{AreReadings}
+use Rattle.pw_model.specs.Shelf.{ShelfContent}
+use Rattle.pw_report.specs.Exports.{csv_line, meter_lines, reading_line, readings_header, readings_text}
+use Rattle.pw_report.specs.Layout.{listed_below}
+use Rattle.pw_report.specs.Names.{meter_name}
+use Rattle.pw_report.specs.Pages.{IsReadingsText}
+use Rattle.pw_report.specs.declared.rows.Rows.{Rows}
+use Rattle.pw_report.specs.inner.Rows.{HasText}
+use Rattle.pw_report.proofs.Listed.{listed-next}
+
+-- ---- a text under another name
+pub text-is : (rows : Rows) (a b : List ℕ) → a ≡ b → HasText rows a [] → HasText rows b []
+text-is rows a b e h = subst (λ (t : List ℕ). HasText rows t []) e h
+
+pub written-is : {T E : Type 0} (result : Result T E) (rows : Rows) (a b : List ℕ) → a ≡ b → OnOk result (HasText rows a []) → OnOk result (HasText rows b [])
+written-is result rows a b e h = subst (λ (t : List ℕ). OnOk result (HasText rows t [])) e h
+
+pub row-of : {T E : Type 0} (result : Result T E) (rows : Rows) (before : List ℕ) (fields others : List (List ℕ)) → fields ≡ others →
+    OnOk result (HasText rows (before ++ csv_line fields) []) → OnOk result (HasText rows (before ++ csv_line others) [])
+row-of result rows before fields others e h = subst (λ (xs : List (List ℕ)). OnOk result (HasText rows (before ++ csv_line xs) [])) e h
+
+-- ---- texts of the members of a list, one more
+pub each-next : {X : Type 0} (f : X → List ℕ) (before : List ℕ) (xs : List X) (i : ℕ) (x : X) → i < length xs → x ≡ get_or xs i x →
+    (before ++ flat_map f (take i xs)) ++ f x ≡ before ++ flat_map f (take (i + 1) xs)
+each-next f before xs i x within is =
+    flat_map_more f before (take i xs) x ∙ ap (λ y. before ++ flat_map f (take i xs ++ y ∷ [])) is ∙ ap (λ ys. before ++ flat_map f ys) (sym (take_more xs i x within))
+
+-- two more, of the next number
+pub two-next : {X : Type 0} (f : X → List ℕ) (before : List ℕ) (g : ℕ → List X) (n : ℕ) (x y : X) → (x ∷ y ∷ []) ≡ g n →
+    ((before ++ flat_map f (listed_below n g)) ++ f x) ++ f y ≡ before ++ flat_map f (listed_below (n + 1) g)
+two-next f before g n x y e =
+    let xs = listed_below n g in
+    ap (λ t. t ++ f y) (flat_map_more f before xs x) ∙ flat_map_more f before (xs ++ x ∷ []) y
+    ∙ ap (λ ys. before ++ flat_map f ys) (append_assoc xs (x ∷ []) (y ∷ []) ∙ ap (λ ys. xs ++ ys) e ∙ listed-next g n)
+
+-- all of the next number
+pub all-next : {X : Type 0} (f : X → List ℕ) (before : List ℕ) (first : List X) (g : ℕ → List X) (n : ℕ) →
+    (before ++ flat_map f (first ++ listed_below n g)) ++ flat_map f (g n) ≡ before ++ flat_map f (first ++ listed_below (n + 1) g)
+all-next f before first g n =
+    append_assoc before (flat_map f (first ++ listed_below n g)) (flat_map f (g n))
+    ∙ ap (λ t. before ++ t) (sym (flat_map-append f (first ++ listed_below n g) (g n)))
+    ∙ ap (λ ys. before ++ flat_map f ys) (append_assoc first (listed_below n g) (g n) ∙ ap (λ ys. first ++ ys) (listed-next g n))
+
+-- none yet
+pub flat-none : {X : Type 0} (f : X → List ℕ) (before : List ℕ) (g : ℕ → List X) → before ≡ before ++ flat_map f (listed_below 0 g)
+unfolding listed_below
+flat-none f before g = sym (append-nil before)
+
+-- ---- the registers of a meter, one more
+register-more : (rows : Rows) (now name : List ℕ) (readings : Register → List ReadingRow) (before : List ℕ) (i : ℕ) (d : Register) → now ≡ name → i < 6 →
+    HasText rows ((before ++ flat_map (λ r. flat_map (reading_line name r) (readings r)) (take i registers)) ++ flat_map (reading_line now (get_or registers i d)) (readings (get_or registers i d))) [] →
+    HasText rows (before ++ flat_map (λ r. flat_map (reading_line name r) (readings r)) (take (i + 1) registers)) []
+register-more rows now name readings before i d e within h =
+    let f : Register → List ℕ = λ r. flat_map (reading_line name r) (readings r) in
+    let r = get_or registers i d in
+    text-is rows _ _ ((λ j. (before ++ flat_map f (take i registers)) ++ flat_map (reading_line (e j) r) (readings r)) ∙ each-next f before registers i r within (get_or_default registers i d r within)) h
+
+pub register-next : (new old : Rows) (content was : ShelfContent) (now name : List ℕ) (m : ℕ) (readings : Register → List ReadingRow) (before : List ℕ) (i : ℕ) (d : Register) → content ≡ was → now ≡ name → i < 6 →
+    ((r : Register) → AreReadings was.records m r (readings r)) →
+    HasText old (before ++ flat_map (λ r. flat_map (reading_line name r) (readings r)) (take i registers)) [] →
+    ((rows : List ReadingRow) → AreReadings content.records m (get_or registers i d) rows → (text : List ℕ) → HasText old text [] → HasText new (text ++ flat_map (reading_line now (get_or registers i d)) rows) []) →
+    HasText new (before ++ flat_map (λ r. flat_map (reading_line name r) (readings r)) (take (i + 1) registers)) []
+register-next new old content was now name m readings before i d c e within are h put =
+    let r = get_or registers i d in
+    let here : AreReadings content.records m r (readings r) = subst (λ (k : ShelfContent). AreReadings k.records m r (readings r)) (sym c) (are r) in
+    register-more new now name readings before i d e within (put (readings r) here _ h)
+
+-- ---- what the rows end with
+pub ended-is : {E : Type 0} (result : Result (Vec ℕ Global) E) (a b : List ℕ) → a ≡ b → IfOk result (λ v. v.items ≡ a) → IfOk result (λ v. v.items ≡ b)
+ended-is result a b e h = subst (λ (t : List ℕ). IfOk result (λ v. v.items ≡ t)) e h
+
+pub readings-told : {E : Type 0} (result : Result (Vec ℕ Global) E) (file : OfficeFile) (s : List Entry) (readings : ℕ → Register → List ReadingRow) (n : ℕ) → n ≡ length file.meters →
+    ((m : ℕ) (r : Register) → AreReadings s m r (readings m r)) →
+    IfOk result (λ v. v.items ≡ csv_line readings_header ++ listed_below n (λ m. meter_lines (meter_name file m) (readings m))) → IfOk result (λ v. IsReadingsText file s v.items)
+unfolding readings_text
+readings-told (Ok v) file s readings n e are h = (readings, are, h ∙ ap (λ k. csv_line readings_header ++ listed_below k (λ m. meter_lines (meter_name file m) (readings m))) e)
+readings-told (Err fault) file s readings n e are h = tt

@@ -1,0 +1,75 @@
+-- The exports of readings and energies as CSV (RFC 4180, but that a line ends with LF).
+-- (Formats of this project.)
+use Rattle.std.specs.Prelude.{ℕ, ◌*◌, Bool, true, false, Option, Some, None, List, [], ◌∷◌, ◌++◌, length, codes, decimal}
+use Rattle.std.specs.List.{flat_map}
+use Rattle.csv.specs.Writing.{default_writer, row_text}
+use Rattle.pw_obis.specs.declared.reference.Register.{Register}
+use Rattle.pw_obis.specs.Registers.{register_name, registers}
+use Rattle.pw_tariff.specs.declared.ids.AccountId.{AccountId}
+use Rattle.pw_tariff.specs.declared.ids.Direction.{Direction}
+use Rattle.pw_tariff.specs.declared.ids.Direction.TheVariants.{Import, Export}
+use Rattle.pw_tariff.specs.Ids.{direction_name}
+use Rattle.pw_tariff.specs.Office.{OfficeFile, office_of, price_at}
+use Rattle.pw_model.specs.declared.records.Entry.{Entry}
+use Rattle.pw_model.specs.declared.records.ReadingRow.{ReadingRow}
+use Rattle.pw_model.specs.Energy.{account, energy}
+use Rattle.pw_report.specs.Layout.{instant_text, listed_below}
+use Rattle.pw_report.specs.Names.{band_name, meter_name, owner_name}
+
+-- fields with commas between them, quoted where they call for it, and LF
+unfoldable pub csv_line : List (List ℕ) → List ℕ
+csv_line fields = row_text default_writer fields
+
+-- ---- readings
+-- 1 where the reading counts
+abbrev pub mark : Bool → List ℕ
+mark true = codes "1"
+mark false = codes "0"
+
+abbrev pub readings_header : List (List ℕ)
+readings_header = codes "meter" ∷ codes "register" ∷ codes "instant" ∷ codes "wh" ∷ codes "counted" ∷ []
+
+-- of a reading, with its meter's name
+abbrev pub reading_line : List ℕ → Register → ReadingRow → List ℕ
+reading_line meter register row =
+    csv_line (meter ∷ register_name register ∷ instant_text row.instant ∷ decimal row.wh ∷ mark row.counted ∷ [])
+
+-- the readings of a meter's registers, which are given by register
+abbrev pub meter_lines : List ℕ → (Register → List ReadingRow) → List ℕ
+meter_lines meter rows = flat_map (λ register. flat_map (reading_line meter register) (rows register)) registers
+
+-- the readings are given by meter and register
+unfoldable pub readings_text : OfficeFile → (ℕ → Register → List ReadingRow) → List ℕ
+readings_text file rows =
+    csv_line readings_header ++ listed_below (length file.meters) (λ m. meter_lines (meter_name file m) (rows m))
+
+-- ---- energies
+-- the energy of an owner in a band and a direction, in Wh
+pub record EnergyRow : Type 0 where
+  pub owner : Option AccountId
+  pub band : ℕ
+  pub direction : Direction
+  pub wh : ℕ
+
+abbrev pub energy_row : OfficeFile → List Entry → Option AccountId → ℕ → Direction → EnergyRow
+energy_row file s o b d = record { owner = o; band = b; direction = d; wh = energy (office_of file) s o b d }
+
+-- of an owner, band by band
+unfoldable pub owner_rows : OfficeFile → List Entry → Option AccountId → List EnergyRow
+owner_rows file s o = listed_below (length file.bands) (λ b. energy_row file s o b Import ∷ energy_row file s o b Export ∷ [])
+
+-- of nobody, then of each account
+unfoldable pub energy_rows : OfficeFile → List Entry → List EnergyRow
+energy_rows file s = owner_rows file s None ++ listed_below (length file.accounts) (λ a. owner_rows file s (Some (account a)))
+
+abbrev pub energies_header : List (List ℕ)
+energies_header = codes "owner" ∷ codes "band" ∷ codes "direction" ∷ codes "wh" ∷ codes "nano" ∷ []
+
+-- with what the energy costs in nano-euro, by the price of its band and direction
+abbrev pub energy_row_line : OfficeFile → EnergyRow → List ℕ
+energy_row_line file row =
+    csv_line (owner_name file row.owner ∷ band_name file row.band ∷ direction_name row.direction ∷ decimal row.wh ∷ decimal (price_at file row.band row.direction * row.wh) ∷ [])
+
+unfoldable pub energies_text : OfficeFile → List Entry → List ℕ
+energies_text file s =
+    csv_line energies_header ++ flat_map (energy_row_line file) (energy_rows file s)

@@ -1,0 +1,40 @@
+-- The laws of these texts. Each is the contract of a function of the module `laws`.
+use Rattle.std.specs.Prelude.{◌≡◌, ℕ, cond, List, ◌↔◌, ℤ, pos, ◌*ℤ◌, ◌+ℤ◌, ◌≤ℤ◌, ◌<ℤ◌}
+use Rattle.std.specs.List.{sum_by}
+use Rattle.pw_tariff.specs.declared.ids.Direction.{Direction}
+use Rattle.pw_tariff.specs.Office.{IsSound, OfficeFile, office_of}
+use Rattle.pw_model.specs.declared.records.Entry.{Entry}
+use Rattle.pw_model.specs.Counting.{SameMembers, contents_at}
+use Rattle.pw_model.specs.Energy.{all_rises}
+use Rattle.pw_model.specs.Office.{AllOfOffice}
+use Rattle.pw_model.specs.Payments.{nano_in_cent}
+use Rattle.pw_model.specs.Same.{same_direction}
+use Rattle.pw_report.specs.declared.page.Page.{Page}
+use Rattle.pw_report.specs.Amounts.{cents_below}
+use Rattle.pw_report.specs.Exports.{energy_rows}
+use Rattle.pw_report.specs.Pages.{IsAnswer}
+
+-- ---- amounts
+-- so many cents aren't above the amount, and one more would be
+pub record AreGreatestCents (nano cents : ℤ) : Type 0 where
+  pub within : (pos nano_in_cent *ℤ cents) ≤ℤ nano
+  pub next_above : nano <ℤ (pos nano_in_cent *ℤ (cents +ℤ pos 1))
+
+abbrev pub CentsAreGreatest : Type 0
+CentsAreGreatest = (nano : ℤ) → AreGreatestCents nano (cents_below nano)
+
+-- ---- pages
+-- a set of records has one text of a page, and no other; it is that of each list of the same records
+pub record HasOneText (page : Page) (file : OfficeFile) (s : List Entry) : Type 0 where
+  pub exists : (text : List ℕ) × IsAnswer page file s text
+  pub only : (text other : List ℕ) → IsAnswer page file s text → IsAnswer page file s other → text ≡ other
+  pub same : (t : List Entry) (text : List ℕ) → SameMembers s t → IsAnswer page file s text ↔ IsAnswer page file t text
+
+abbrev pub EachPageHasOneText : Type 0
+EachPageHasOneText = (page : Page) (file : OfficeFile) (s : List Entry) → HasOneText page file s
+
+-- ---- conservation
+-- the energies of a direction that are exported add up to all that its neighbours rise by
+abbrev pub NothingIsLostInExport : Type 0
+NothingIsLostInExport = (file : OfficeFile) (s : List Entry) (d : Direction) → IsSound file → AllOfOffice (office_of file) s →
+    sum_by (λ row. cond (same_direction row.direction d) row.wh 0) (energy_rows file s) ≡ all_rises (office_of file) (contents_at s) d

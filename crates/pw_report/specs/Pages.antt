@@ -1,0 +1,43 @@
+-- What each page says of a set of records.
+-- (Definitions of this project.)
+use Rattle.std.specs.Prelude.{◌≡◌, ℕ, ◌<◌, List, length}
+use Rattle.pw_obis.specs.declared.reference.Register.{Register}
+use Rattle.pw_tariff.specs.Office.{OfficeFile}
+use Rattle.pw_model.specs.declared.records.Entry.{Entry}
+use Rattle.pw_model.specs.declared.records.Fall.{Fall}
+use Rattle.pw_model.specs.declared.records.Dispute.{Dispute}
+use Rattle.pw_model.specs.declared.records.ReadingRow.{ReadingRow}
+use Rattle.pw_model.specs.Lists.{AreDisputes, AreFalls, AreReadings}
+use Rattle.pw_report.specs.declared.page.Page.{Page}
+use Rattle.pw_report.specs.declared.page.Page.TheVariants.{Statement, Accounts, Falls, Disputes, Readings, Energies}
+use Rattle.pw_report.specs.Exports.{energies_text, readings_text}
+use Rattle.pw_report.specs.Tables.{accounts_text, disputes_text, falls_text, statement_text}
+
+-- the page is one of the office's
+abbrev pub IsPageOf : OfficeFile → Page → Type 0
+IsPageOf file (Statement a) = a.0 < length file.accounts
+IsPageOf file Accounts = Unit {0}
+IsPageOf file Falls = Unit {0}
+IsPageOf file Disputes = Unit {0}
+IsPageOf file Readings = Unit {0}
+IsPageOf file Energies = Unit {0}
+
+-- the text of the falls, of the disputes, of the readings that a set of records has
+abbrev pub IsFallsText : OfficeFile → List Entry → List ℕ → Type 0
+IsFallsText file s text = (falls : List Fall) × AreFalls s falls × (text ≡ falls_text file falls)
+
+abbrev pub IsDisputesText : OfficeFile → List Entry → List ℕ → Type 0
+IsDisputesText file s text = (disputes : List Dispute) × AreDisputes s disputes × (text ≡ disputes_text file disputes)
+
+abbrev pub IsReadingsText : OfficeFile → List Entry → List ℕ → Type 0
+IsReadingsText file s text =
+    (rows : ℕ → Register → List ReadingRow) × ((m : ℕ) (r : Register) → AreReadings s m r (rows m r)) × (text ≡ readings_text file rows)
+
+-- the text of a page
+abbrev pub IsAnswer : Page → OfficeFile → List Entry → List ℕ → Type 0
+IsAnswer (Statement a) file s text = text ≡ statement_text file s a.0
+IsAnswer Accounts file s text = text ≡ accounts_text file s
+IsAnswer Falls file s text = IsFallsText file s text
+IsAnswer Disputes file s text = IsDisputesText file s text
+IsAnswer Readings file s text = IsReadingsText file s text
+IsAnswer Energies file s text = text ≡ energies_text file s

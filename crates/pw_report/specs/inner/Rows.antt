@@ -1,0 +1,14 @@
+-- A CSV writer and the row that is being made. It serves `src/rows.rt`.
+use Rattle.std.specs.Prelude.{◌≡◌, ℕ, false, List, [], ◌++◌}
+use Rattle.csv.specs.Records.{fields_of, partial_of}
+use Rattle.csv.specs.Writing.{default_writer, fields_written, has_written, writer_pending, writer_setup, writer_under}
+use Rattle.pw_report.specs.declared.rows.Rows.{Rows}
+
+-- this text is written, and the row has these fields so far
+pub record HasText (rows : Rows) (text : List ℕ) (fields : List (List ℕ)) : Type 0 where
+  pub setup : writer_setup rows.writer ≡ default_writer
+  pub none : fields_written rows.writer ≡ 0
+  pub ended : has_written rows.writer ≡ false
+  pub text_is : (writer_under rows.writer).items ++ writer_pending rows.writer ≡ text
+  pub fields_are : fields_of rows.row ≡ fields
+  pub whole : partial_of rows.row ≡ []

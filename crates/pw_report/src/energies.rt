@@ -1,0 +1,120 @@
+//! The export of energies.
+
+ghost use Rattle.std.specs.Prelude.{◌≡◌, ◌++◌, ◌<◌, ℕ, List, [], IfErr, IfOk, OnOk, false, length};
+ghost use Rattle.std.specs.List.{flat_map};
+ghost use Rattle.pw_book.specs.declared.fault.BookFault.TheVariants.{Memory};
+ghost use Rattle.pw_model.specs.Office.{HasOwner};
+ghost use Rattle.pw_report.specs.Exports.{csv_line, energies_header, energies_text, energy_row_line, owner_rows};
+ghost use Rattle.pw_report.specs.Names.{owner_name as name_of_owner};
+ghost use Rattle.pw_report.specs.Reports.{IsReport};
+ghost use Rattle.pw_report.specs.inner.Rows.{HasText};
+ghost use Rattle.pw_tariff.specs.Office.{office_of};
+
+use crate::asked::still_open;
+use crate::names::{account_name, band_letter};
+use crate::rows::Rows;
+use itoa::Buffer;
+use pw_book::{Book, BookFault};
+use pw_shelf::Shelf;
+use pw_tariff::{AccountId, BandId, Direction, Office, Owner};
+use std::alloc::Global;
+
+/// The energies of nobody and of each account, band by band, as CSV: imported and exported Wh, and what they cost in
+/// nano-euro.
+///
+/// `Device`, `Memory` and `Reopen` (of a shut book) leave the records as they are.
+pub fn export_energy<S: Shelf>(book: &mut Book<S>, alloc: Global) -> Result<Vec<u8>, BookFault>
+    ensures text { S.clean book.new.shelf → IfOk result (λ text. text.items ≡ energies_text book.old.office (S.state book.old.shelf).content.records) }
+    ensures report { IsReport S.Shelf result book.old book.new }
+{
+    still_open(book)?;
+    let mut rows = Rows::new(alloc);
+    put_header(&mut rows)?;
+    put_owner(book, alloc, None, &mut rows)?;
+    for account in 0..book.office().accounts() {
+        put_owner(book, alloc, Some(AccountId(account)), &mut rows)?;
+    }
+    rows.finish()
+}
+
+fn put_header(rows: &mut Rows) -> Result<(), BookFault>
+    ensures text { (before : List ℕ) → HasText rows.old before [] → OnOk result (HasText rows.new (before ++ csv_line energies_header) []) }
+    ensures fault { IfErr result (λ fault. fault ≡ Memory) }
+{
+    rows.put(b"owner")?;
+    rows.put(b"band")?;
+    rows.put(b"direction")?;
+    rows.put(b"wh")?;
+    rows.put(b"nano")?;
+    rows.end()
+}
+
+// The energies of an owner, band by band.
+fn put_owner<S: Shelf>(
+    book: &mut Book<S>,
+    alloc: Global,
+    owner: Owner,
+    rows: &mut Rows,
+) -> Result<(), BookFault>
+    requires owner { HasOwner (office_of book.old.office) owner }
+    requires open_yet { book.old.shut ≡ false }
+    ensures text { S.clean book.new.shelf → (before : List ℕ) → HasText rows.old before [] → OnOk result (HasText rows.new (before ++ flat_map (energy_row_line book.old.office) (owner_rows book.old.office (S.state book.old.shelf).content.records owner)) []) }
+    ensures report { IsReport S.Shelf result book.old book.new }
+{
+    for band in 0..book.office().bands() {
+        let band = BandId(band);
+        let imported = book.energy(alloc, owner, band, Direction::Import)?;
+        put_energy(
+            rows,
+            book.office(),
+            owner,
+            band,
+            Direction::Import,
+            imported,
+        )?;
+        let exported = book.energy(alloc, owner, band, Direction::Export)?;
+        put_energy(
+            rows,
+            book.office(),
+            owner,
+            band,
+            Direction::Export,
+            exported,
+        )?;
+    }
+    Ok(())
+}
+
+// The energy of an owner in a band and a direction, with what it costs.
+fn put_energy(
+    rows: &mut Rows,
+    office: &Office,
+    owner: Owner,
+    band: BandId,
+    direction: Direction,
+    wh: u64,
+) -> Result<(), BookFault>
+    requires owner { HasOwner (office_of office.now) owner }
+    requires band { band.0 < length office.now.bands }
+    ensures text { (before : List ℕ) → HasText rows.old before [] → OnOk result (HasText rows.new (before ++ energy_row_line office.now (record { owner = owner; band = band.0; direction = direction; wh = wh })) []) }
+    ensures fault { IfErr result (λ fault. fault ≡ Memory) }
+{
+    let nano = u128::from(office.price(band, direction)) * u128::from(wh);
+    rows.put(owner_name(office, owner))?;
+    rows.put(&[band_letter(office, band)])?;
+    rows.put(direction.name().as_bytes())?;
+    rows.put(Buffer::new().format(wh).as_bytes())?;
+    rows.put(Buffer::new().format(nano).as_bytes())?;
+    rows.end()
+}
+
+// An account's name, `-` for nobody.
+fn owner_name(office: &Office, owner: Owner) -> &[u8]
+    requires { HasOwner (office_of office.now) owner }
+    ensures { result.now ≡ name_of_owner office.now owner }
+{
+    match owner {
+        None => b"-",
+        Some(account) => account_name(office, account),
+    }
+}

@@ -1,0 +1,22 @@
+//! The laws of the texts.
+//!
+//! Each function does nothing. What counts is its contract, a law of the definitions in `specs/`, which is proved for
+//! all sets of records.
+
+ghost use Rattle.pw_report.specs.Laws.{CentsAreGreatest, EachPageHasOneText, NothingIsLostInExport};
+
+/// The cents of an amount are the greatest whole number of them that isn't above it.
+pub fn cents_are_greatest()
+    ensures { CentsAreGreatest }
+{}
+
+/// A set of records has one text of each page, whatever the order in which its records are listed.
+pub fn each_page_has_one_text()
+    ensures { EachPageHasOneText }
+{}
+
+/// Conservation of energy: over all owners with nobody and all bands, the energies of a direction that are exported add up
+/// to the rises of all its neighbours that don't fall, where all records are of a sound office file.
+pub fn nothing_is_lost_in_the_export()
+    ensures { NothingIsLostInExport }
+{}

@@ -1,0 +1,26 @@
+//! The pages of a book as text: the statement of an account, the tables, the exports.
+#![tactic(auto)]
+
+mod accounts;
+mod asked;
+mod disputes;
+mod energies;
+mod falls;
+pub mod laws;
+mod names;
+mod page;
+mod put;
+mod readings;
+mod rows;
+mod statements;
+
+pub use accounts::accounts_table;
+pub use disputes::disputes_table;
+pub use energies::export_energy;
+pub use falls::falls_table;
+pub use page::{Page, page_text};
+pub use readings::export_readings;
+pub use statements::statement;
+
+#[cfg(test)]
+mod tests;

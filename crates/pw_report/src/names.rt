@@ -1,0 +1,34 @@
+//! The names of an office, for texts.
+
+ghost use Rattle.std.specs.Prelude.{◌≡◌, ◌<◌, ◌∷◌, [], length};
+ghost use Rattle.pw_report.specs.Names.{account_name as name_of_account, band_name, meter_name as name_of_meter};
+
+use pw_tariff::{AccountId, BandId, MeterId, Office};
+
+/// The name of an account.
+pub(crate) fn account_name(office: &Office, account: AccountId) -> &[u8]
+    requires { account.0 < length office.now.accounts }
+    ensures { result.now ≡ name_of_account office.now account.0 }
+{
+    office.account_name(account).as_bytes()
+}
+
+/// The id of a meter, nothing where the office has no such.
+pub(crate) fn meter_name(office: &Office, meter: MeterId) -> &[u8]
+    ensures { result.now ≡ name_of_meter office.now meter.0 }
+{
+    if meter.0 < office.meters() {
+        office.meter_name(meter).as_bytes()
+    } else {
+        b""
+    }
+}
+
+/// The letter of a band.
+pub(crate) fn band_letter(office: &Office, band: BandId) -> u8
+    requires { band.0 < length office.now.bands }
+    ensures { result ∷ [] ≡ band_name office.now band.0 }
+{
+    prove!(band.0 < office.bands());
+    office.band_name(band) as u8
+}

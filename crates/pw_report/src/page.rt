@@ -1,0 +1,55 @@
+//! The pages of a book.
+
+ghost use Rattle.std.specs.Prelude.{IfOk};
+ghost use Rattle.pw_report.specs.Pages.{IsAnswer, IsPageOf};
+ghost use Rattle.pw_report.specs.Reports.{IsReport};
+
+use crate::accounts::accounts_table;
+use crate::disputes::disputes_table;
+use crate::energies::export_energy;
+use crate::falls::falls_table;
+use crate::readings::export_readings;
+use crate::statements::statement;
+use pw_book::{Book, BookFault};
+use pw_shelf::Shelf;
+use pw_tariff::AccountId;
+use std::alloc::Global;
+
+/// A page of a book.
+#[derive(Clone, Copy, Debug, PartialEq, Eq)]
+pub enum Page {
+    /// The statement of an account.
+    Statement(AccountId),
+    /// The accounts with their balances.
+    Accounts,
+    /// The falls.
+    Falls,
+    /// The disputes.
+    Disputes,
+    /// The export of readings, as CSV.
+    Readings,
+    /// The export of energies, as CSV.
+    Energies,
+}
+
+/// The text of a page, by the records held. It asks for a page of the office: a statement of one of its accounts.
+///
+/// `Device`, `Memory` and `Reopen` (of a shut book) leave the records as they are.
+pub fn page_text<S: Shelf>(
+    book: &mut Book<S>,
+    alloc: Global,
+    page: Page,
+) -> Result<Vec<u8>, BookFault>
+    requires { IsPageOf book.old.office page }
+    ensures text { S.clean book.new.shelf → IfOk result (λ text. IsAnswer page book.old.office (S.state book.old.shelf).content.records text.items) }
+    ensures report { IsReport S.Shelf result book.old book.new }
+{
+    match page {
+        Page::Statement(account) => statement(book, alloc, account),
+        Page::Accounts => accounts_table(book, alloc),
+        Page::Falls => falls_table(book, alloc),
+        Page::Disputes => disputes_table(book, alloc),
+        Page::Readings => export_readings(book, alloc),
+        Page::Energies => export_energy(book, alloc),
+    }
+}

@@ -1,0 +1,126 @@
+//! The export of readings.
+
+ghost use Rattle.std.specs.Prelude.{◌≡◌, ◌++◌, ◌<◌, ℕ, List, [], IfErr, IfOk, OnOk, false, length};
+ghost use Rattle.std.specs.List.{flat_map};
+ghost use Rattle.pw_book.specs.declared.fault.BookFault.TheVariants.{Memory};
+ghost use Rattle.pw_model.specs.Lists.{AreReadings};
+ghost use Rattle.pw_model.specs.declared.records.ReadingRow.{ReadingRow as AReading};
+ghost use Rattle.pw_obis.specs.declared.reference.Register.{Register as ARegister};
+ghost use Rattle.pw_report.specs.Exports.{csv_line, mark, meter_lines, reading_line, readings_header};
+ghost use Rattle.pw_report.specs.Names.{meter_name as name_of_meter};
+ghost use Rattle.pw_report.specs.Pages.{IsReadingsText};
+ghost use Rattle.pw_report.specs.Reports.{IsReport};
+ghost use Rattle.pw_report.specs.inner.Rows.{HasText};
+
+use crate::asked::still_open;
+use crate::names::meter_name;
+use crate::put::instant_text;
+use crate::rows::Rows;
+use itoa::Buffer;
+use pw_book::{Book, BookFault};
+use pw_model::ReadingRow;
+use pw_obis::Register;
+use pw_shelf::Shelf;
+use pw_tariff::MeterId;
+use std::alloc::Global;
+
+/// All readings held, as CSV, each with whether it counts. By meter, register, instant and Wh.
+///
+/// `Device`, `Memory` and `Reopen` (of a shut book) leave the records as they are.
+pub fn export_readings<S: Shelf>(book: &mut Book<S>, alloc: Global) -> Result<Vec<u8>, BookFault>
+    ensures text { S.clean book.new.shelf → IfOk result (λ text. IsReadingsText book.old.office (S.state book.old.shelf).content.records text.items) }
+    ensures report { IsReport S.Shelf result book.old book.new }
+{
+    still_open(book)?;
+    let mut rows = Rows::new(alloc);
+    put_header(&mut rows)?;
+    for meter in 0..book.office().meters() {
+        put_meter(book, alloc, MeterId(meter), &mut rows)?;
+    }
+    rows.finish()
+}
+
+fn put_header(rows: &mut Rows) -> Result<(), BookFault>
+    ensures text { (before : List ℕ) → HasText rows.old before [] → OnOk result (HasText rows.new (before ++ csv_line readings_header) []) }
+    ensures fault { IfErr result (λ fault. fault ≡ Memory) }
+{
+    rows.put(b"meter")?;
+    rows.put(b"register")?;
+    rows.put(b"instant")?;
+    rows.put(b"wh")?;
+    rows.put(b"counted")?;
+    rows.end()
+}
+
+// The readings of a meter, register by register.
+fn put_meter<S: Shelf>(
+    book: &mut Book<S>,
+    alloc: Global,
+    meter: MeterId,
+    rows: &mut Rows,
+) -> Result<(), BookFault>
+    requires meter { meter.0 < length book.old.office.meters }
+    requires open_yet { book.old.shut ≡ false }
+    ensures text { S.clean book.new.shelf → (readings : ARegister → List AReading) → ((r : ARegister) → AreReadings (S.state book.old.shelf).content.records meter.0 r (readings r)) → (before : List ℕ) → HasText rows.old before [] → OnOk result (HasText rows.new (before ++ meter_lines (name_of_meter book.old.office meter.0) readings) []) }
+    ensures report { IsReport S.Shelf result book.old book.new }
+{
+    for register in &Register::ALL {
+        put_register(book, alloc, meter, *register, rows)?;
+    }
+    Ok(())
+}
+
+// The readings of a register.
+fn put_register<S: Shelf>(
+    book: &mut Book<S>,
+    alloc: Global,
+    meter: MeterId,
+    register: Register,
+    rows: &mut Rows,
+) -> Result<(), BookFault>
+    requires meter { meter.0 < length book.old.office.meters }
+    requires open_yet { book.old.shut ≡ false }
+    ensures text { S.clean book.new.shelf → (readings : List AReading) → AreReadings (S.state book.old.shelf).content.records meter.0 register readings → (before : List ℕ) → HasText rows.old before [] → OnOk result (HasText rows.new (before ++ flat_map (reading_line (name_of_meter book.old.office meter.0) register) readings) []) }
+    ensures report { IsReport S.Shelf result book.old book.new }
+{
+    let readings = book.readings(alloc, meter, register)?;
+    put_readings(rows, meter_name(book.office(), meter), register, &readings)
+}
+
+fn put_readings(
+    rows: &mut Rows,
+    meter: &[u8],
+    register: Register,
+    readings: &[ReadingRow],
+) -> Result<(), BookFault>
+    ensures text { (before : List ℕ) → HasText rows.old before [] → OnOk result (HasText rows.new (before ++ flat_map (reading_line meter.now register) readings.now) []) }
+    ensures fault { IfErr result (λ fault. fault ≡ Memory) }
+{
+    for reading in readings {
+        put_reading(rows, meter, register, reading)?;
+    }
+    Ok(())
+}
+
+fn put_reading(
+    rows: &mut Rows,
+    meter: &[u8],
+    register: Register,
+    reading: &ReadingRow,
+) -> Result<(), BookFault>
+    ensures text { (before : List ℕ) → HasText rows.old before [] → OnOk result (HasText rows.new (before ++ reading_line meter.now register reading.now) []) }
+    ensures fault { IfErr result (λ fault. fault ≡ Memory) }
+{
+    rows.put(meter)?;
+    rows.put(register.name().as_bytes())?;
+    rows.put(&instant_text(reading.instant))?;
+    rows.put(Buffer::new().format(reading.wh.get()).as_bytes())?;
+    rows.put(mark_of(reading.counted))?;
+    rows.end()
+}
+
+fn mark_of(counted: bool) -> &'static [u8]
+    ensures { result.now ≡ mark counted }
+{
+    if counted { b"1" } else { b"0" }
+}

@@ -1,0 +1,62 @@
+//! Rows of CSV, written by `csv` to memory.
+
+ghost use Rattle.std.specs.Prelude.{◌≡◌, ◌∷◌, ◌++◌, ℕ, List, [], IfErr, IfOk, OnOk};
+ghost use Rattle.pw_book.specs.declared.fault.BookFault.TheVariants.{Memory};
+ghost use Rattle.pw_report.specs.Exports.{csv_line};
+ghost use Rattle.pw_report.specs.inner.Rows.{HasText};
+
+use csv::{ByteRecord, Writer, WriterBuilder};
+use pw_book::BookFault;
+use std::alloc::Global;
+
+/// Rows of CSV, each ended by LF, and the fields of the row that is being made.
+#[derive(Drop)]
+pub(crate) struct Rows {
+    writer: Writer<Vec<u8>>,
+    row: ByteRecord,
+}
+
+impl Rows {
+    /// No row yet. It takes no memory.
+    pub(crate) fn new(alloc: Global) -> Rows
+        ensures { HasText result [] [] }
+    {
+        Rows {
+            writer: WriterBuilder::new().from_writer(Vec::new(alloc)),
+            row: ByteRecord::new(alloc),
+        }
+    }
+
+    /// One field more of the row.
+    pub(crate) fn put(&mut self, field: &[u8]) -> Result<(), BookFault>
+        ensures text { (text : List ℕ) (fields : List (List ℕ)) → HasText self.old text fields → OnOk result (HasText self.new text (fields ++ (field.now ∷ []))) }
+        ensures fault { IfErr result (λ fault. fault ≡ Memory) }
+    {
+        self.row.push_field(field)?;
+        Ok(())
+    }
+
+    /// Ends the row, and begins the next one. (What `csv` could refuse beside want of memory, a row with another number of
+    /// fields than the first, doesn't come: each export's rows have five.)
+    pub(crate) fn end(&mut self) -> Result<(), BookFault>
+        ensures text { (text : List ℕ) (fields : List (List ℕ)) → HasText self.old text fields → OnOk result (HasText self.new (text ++ csv_line fields) []) }
+        ensures fault { IfErr result (λ fault. fault ≡ Memory) }
+    {
+        let Ok(()) = self.writer.write_byte_record(&self.row) else {
+            return Err(BookFault::Memory);
+        };
+        self.row.clear();
+        Ok(())
+    }
+
+    /// The text of the rows.
+    pub(crate) fn finish(self) -> Result<Vec<u8>, BookFault>
+        ensures text { (text : List ℕ) (fields : List (List ℕ)) → HasText self text fields → IfOk result (λ bytes. bytes.items ≡ text) }
+        ensures fault { IfErr result (λ fault. fault ≡ Memory) }
+    {
+        match self.writer.into_inner() {
+            Ok(text) => Ok(text),
+            Err(_) => Err(BookFault::Memory),
+        }
+    }
+}
