@@ -24,7 +24,7 @@ pub fn accounts_table<S: Shelf>(book: &mut Book<S>, alloc: Global) -> Result<Vec
     put_account(&mut text, b"account", b"balance EUR")?;
     for account in 0..book.office().accounts() {
         let account = AccountId(account);
-        let nano = book.balance(alloc, account)?;
+        let nano = book.balance(account)?;
         let balance = balance_text(alloc, nano)?;
         put_account(&mut text, account_name(book.office(), account), &balance)?;
     }

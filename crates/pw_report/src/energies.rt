@@ -63,7 +63,7 @@ fn put_owner<S: Shelf>(
 {
     for band in 0..book.office().bands() {
         let band = BandId(band);
-        let imported = book.energy(alloc, owner, band, Direction::Import)?;
+        let imported = book.energy(owner, band, Direction::Import)?;
         put_energy(
             rows,
             book.office(),
@@ -72,7 +72,7 @@ fn put_owner<S: Shelf>(
             Direction::Import,
             imported,
         )?;
-        let exported = book.energy(alloc, owner, band, Direction::Export)?;
+        let exported = book.energy(owner, band, Direction::Export)?;
         put_energy(
             rows,
             book.office(),

@@ -26,8 +26,8 @@ pub fn statement<S: Shelf>(
     ensures text { S.clean book.new.shelf → IfOk result (λ text. text.items ≡ statement_text book.old.office (S.state book.old.shelf).content.records account.0) }
     ensures report { IsReport S.Shelf result book.old book.new }
 {
-    let cents = book.topped_up(alloc, account)?;
-    let nano = book.balance(alloc, account)?;
+    let cents = book.topped_up(account)?;
+    let nano = book.balance(account)?;
     let balance = balance_text(alloc, nano)?;
     let mut text = Vec::new(alloc);
     text.extend_from_slice(b"account ")?;
@@ -58,8 +58,8 @@ fn put_energies<S: Shelf>(
 {
     for band in 0..book.office().bands() {
         let band = BandId(band);
-        let imported = book.energy(alloc, Some(account), band, Direction::Import)?;
-        let exported = book.energy(alloc, Some(account), band, Direction::Export)?;
+        let imported = book.energy(Some(account), band, Direction::Import)?;
+        let exported = book.energy(Some(account), band, Direction::Export)?;
         let name = [band_letter(book.office(), band)];
         put_energy(text, &name, imported, exported)?;
     }
