@@ -1,0 +1,19 @@
+//! The store of records over SQL.
+#![tactic(auto)]
+
+mod asking;
+mod calls;
+mod counting;
+mod door;
+mod entries;
+mod fault;
+mod keys;
+mod meters;
+mod opening;
+mod shelf;
+mod tables;
+mod topups;
+mod waking;
+
+pub use opening::OpenFault;
+pub use shelf::SqlShelf;
