@@ -11,6 +11,7 @@ pub mod Lists
 pub mod OneKind
 pub mod Inside
 pub mod Sound
+pub mod Refusals
 pub mod Fresh
 pub mod Finding
 pub mod Telling

@@ -17,8 +17,11 @@ use Rattle.pw_model.specs.declared.records.Entry.{Entry}
 use Rattle.pw_model.specs.Office.{AllOfOffice}
 use Rattle.pw_model.specs.Counting.{EachOnce}
 use Rattle.pw_schema.specs.declared.kind.RecordKind.{RecordKind}
-use Rattle.pw_schema.specs.Judging.{KeepsOffice}
-use Rattle.pw_schema.specs.Tables.{no_schema}
+use Rattle.pw_schema.specs.declared.kind.RecordKind.TheVariants.{Readings, Assignments, TopUps}
+use Rattle.pw_schema.specs.Judging.{HasOtherText, HasOtherVersion, KeepsOffice}
+use Rattle.pw_schema.specs.Tables.{IsOurs, no_schema}
+use Rattle.pw_store.specs.declared.fault.OpenFault.{OpenFault}
+use Rattle.pw_store.specs.declared.fault.OpenFault.TheVariants.{Store, Memory, OfficeDiffers, Version, Unclean}
 use Rattle.pw_model.specs.Shelf.{no_content}
 use Rattle.pw_store.specs.Content.{content_of, records_of}
 use Rattle.pw_store.specs.Kept.{IsStore}
@@ -61,3 +64,54 @@ pub record IsOpened (office : OfficeRules) (body : List ℕ) (before : Database)
   pub settled : s.now ≡ s.committed
   pub may_open : MayOpen office body s.now
   pub found : (s.now ≡ before) ⊎ ((before.schema ≡ no_schema) × (content_of s.now.trees ≡ no_content))
+
+-- ---- why it is refused
+abbrev pub HasNoRow : List Row → Type 0
+HasNoRow rows = (row : Row) → rows ≡ row ∷ [] → ⊥
+
+-- the three tables hold records of the office, each once
+pub record HoldsAllRecords (office : OfficeRules) (db : Trees) : Type 0 where
+  pub readings : HoldsRecords office Readings db
+  pub assignments : HoldsRecords office Assignments db
+  pub topups : HoldsRecords office TopUps db
+
+-- what is known of the row of `office` where it refuses an opening
+abbrev pub RowRefuses : List ℕ → Trees → OpenFault → Type 0
+RowRefuses body db Store = Unit {0}
+RowRefuses body db Memory = Unit {0}
+RowRefuses body db OfficeDiffers = KeepsText (HasOtherText body) db
+RowRefuses body db Version = KeepsText HasOtherVersion db
+RowRefuses body db Unclean = KeepsText HasNoRow db
+
+-- of the records of a table
+abbrev pub TableRefuses : OfficeRules → RecordKind → Trees → OpenFault → Type 0
+TableRefuses office k db Store = Unit {0}
+TableRefuses office k db Memory = Unit {0}
+TableRefuses office k db OfficeDiffers = ⊥
+TableRefuses office k db Version = ⊥
+TableRefuses office k db Unclean = HoldsRecords office k db → ⊥
+
+-- of the records
+abbrev pub RecordsRefuse : OfficeRules → Trees → OpenFault → Type 0
+RecordsRefuse office db Store = Unit {0}
+RecordsRefuse office db Memory = Unit {0}
+RecordsRefuse office db OfficeDiffers = ⊥
+RecordsRefuse office db Version = ⊥
+RecordsRefuse office db Unclean = HoldsAllRecords office db → ⊥
+
+-- of a database whose tables are ours
+abbrev pub OursRefuses : OfficeRules → List ℕ → Trees → OpenFault → Type 0
+OursRefuses office body db Store = Unit {0}
+OursRefuses office body db Memory = Unit {0}
+OursRefuses office body db OfficeDiffers = KeepsText (HasOtherText body) db
+OursRefuses office body db Version = KeepsText HasOtherVersion db
+OursRefuses office body db Unclean = KeepsText HasNoRow db ⊎ (HoldsAllRecords office db → ⊥)
+
+-- of any database: there is something else than our tables, or they are ours and what they hold refuses
+abbrev pub Refuses : OfficeRules → List ℕ → Database → OpenFault → Type 0
+Refuses office body db Store = Unit {0}
+Refuses office body db Memory = Unit {0}
+Refuses office body db OfficeDiffers = IsOurs db.schema × OursRefuses office body db.trees OfficeDiffers
+Refuses office body db Version = IsOurs db.schema × OursRefuses office body db.trees Version
+Refuses office body db Unclean =
+    (((db.schema ≡ no_schema) → ⊥) × (IsOurs db.schema → ⊥)) ⊎ (IsOurs db.schema × OursRefuses office body db.trees Unclean)

@@ -1,4 +1,4 @@
-//! What a refusal of `sqlite` is to a shelf.
+//! Why calls and openings are refused.
 
 ghost use Rattle.std.specs.Prelude.{◌≡◌, ◌+◌};
 ghost use Rattle.pw_shelf.specs.Calls.{failures_in};
@@ -45,4 +45,19 @@ pub(crate) fn fault_of_ask(fault: AskFault, failures: &mut Tally) -> ShelfFault
         AskFault::Memory => ShelfFault::Memory,
         AskFault::Unreadable => device_fault(failures),
     }
+}
+
+/// Why a connection isn't opened.
+#[derive(Clone, Copy, Debug, PartialEq, Eq)]
+pub enum OpenFault {
+    /// `sqlite` refused for another cause than memory.
+    Store,
+    /// Memory was refused.
+    Memory,
+    /// The kept office text isn't this one.
+    OfficeDiffers,
+    /// Another schema version.
+    Version,
+    /// The tables aren't those of a store, or a row is no record of the office.
+    Unclean,
 }

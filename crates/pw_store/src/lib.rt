@@ -15,5 +15,8 @@ mod tables;
 mod topups;
 mod waking;
 
-pub use opening::OpenFault;
+pub use fault::OpenFault;
 pub use shelf::SqlShelf;
+
+#[cfg(test)]
+mod tests;

@@ -1,17 +1,18 @@
 //! Making a connection ready to be a store, or finding why it can't be one.
 
-ghost use Rattle.std.specs.Prelude.{◌≡◌, ◌⊎◌, OnOk, OnErr, IsTrue, Err};
+ghost use Rattle.std.specs.Prelude.{◌≡◌, ◌⊎◌, Err, IfErr, IsTrue, OnErr, OnOk};
 ghost use Rattle.sqlite.specs.Held.{state};
 ghost use Rattle.sqlite.specs.State.{HasCleanDisk, IsUnchanged, KeepsCommit, Survives};
 ghost use Rattle.pw_tariff.specs.Office.{office_of};
 ghost use Rattle.pw_model.specs.Office.{AllOfOffice};
 ghost use Rattle.pw_schema.specs.Fresh.{IsIdleAt};
-ghost use Rattle.pw_schema.specs.Judging.{AreRecords, HasOtherText, HasOtherVersion, KeepsOffice};
+ghost use Rattle.pw_schema.specs.Judging.{AreRecords, KeepsOffice};
 ghost use Rattle.pw_schema.specs.Tables.{IsOurs, no_schema};
 ghost use Rattle.pw_store.specs.Content.{records_of};
 ghost use Rattle.pw_store.specs.Kept.{IsStore};
-ghost use Rattle.pw_store.specs.Opening.{HoldsRecords, IsOpened, IsSettled, KeepsText, MayOpen};
+ghost use Rattle.pw_store.specs.Opening.{HoldsRecords, IsOpened, IsSettled, KeepsText, MayOpen, OursRefuses, RecordsRefuse, Refuses, RowRefuses, TableRefuses};
 
+use crate::fault::OpenFault;
 use crate::tables::{all_assignments, all_readings, office_rows};
 use crate::topups::topup_rows;
 use crate::waking::wake;
@@ -22,21 +23,6 @@ use pw_schema::{
 use pw_tariff::Office;
 use sqlite::{Alter, Connection, Error, ErrorCode, Row};
 use std::alloc::Global;
-
-/// Why a connection isn't opened.
-#[derive(Clone, Copy, Debug, PartialEq, Eq)]
-pub enum OpenFault {
-    /// `sqlite` refused for another cause than memory.
-    Store,
-    /// Memory was refused.
-    Memory,
-    /// The kept office text isn't this one.
-    OfficeDiffers,
-    /// Another schema version.
-    Version,
-    /// The tables aren't those of a store, or a row is no record of the office.
-    Unclean,
-}
 
 fn fault_in(error: Error) -> OpenFault
     ensures { (result ≡ OpenFault.Memory) ⊎ (result ≡ OpenFault.Store) }
@@ -94,12 +80,17 @@ fn check_records<S: Alter>(
 ) -> Result<(), OpenFault>
     requires ours { HasCleanDisk (state S.Store conn.old) → IsOurs (state S.Store conn.old).now.schema }
     ensures sound { HasCleanDisk (state S.Store conn.new) → OnOk result (IsStore (state S.Store conn.new).now × AllOfOffice (office_of office.now) (records_of (state S.Store conn.new).now.trees)) }
+    ensures cause { HasCleanDisk (state S.Store conn.new) → IfErr result (RecordsRefuse (office_of office.now) (state S.Store conn.old).now.trees) }
     ensures same { HasCleanDisk (state S.Store conn.new) → OnOk result (IsUnchanged (state S.Store conn.old) (state S.Store conn.new)) }
     ensures kept { HasCleanDisk (state S.Store conn.new) → KeepsCommit (state S.Store conn.old) (state S.Store conn.new) }
     ensures crash { Survives (state S.Store conn.old) (state S.Store conn.new) (λ _. ⊥) }
 {
-    check_readings(alloc, conn, office)?;
-    check_assignments(alloc, conn, office)?;
+    if let Err(fault) = check_readings(alloc, conn, office) {
+        return Err(fault);
+    }
+    if let Err(fault) = check_assignments(alloc, conn, office) {
+        return Err(fault);
+    }
     check_topups(alloc, conn, office)
 }
 
@@ -110,6 +101,7 @@ fn check_readings<S: Alter>(
 ) -> Result<(), OpenFault>
     requires ours { HasCleanDisk (state S.Store conn.old) → IsOurs (state S.Store conn.old).now.schema }
     ensures good { HasCleanDisk (state S.Store conn.new) → OnOk result (HoldsRecords (office_of office.now) RecordKind.Readings (state S.Store conn.new).now.trees) }
+    ensures cause { HasCleanDisk (state S.Store conn.new) → IfErr result (TableRefuses (office_of office.now) RecordKind.Readings (state S.Store conn.old).now.trees) }
     ensures same { HasCleanDisk (state S.Store conn.new) → OnOk result (IsUnchanged (state S.Store conn.old) (state S.Store conn.new)) }
     ensures kept { HasCleanDisk (state S.Store conn.new) → KeepsCommit (state S.Store conn.old) (state S.Store conn.new) }
     ensures crash { Survives (state S.Store conn.old) (state S.Store conn.new) (λ _. ⊥) }
@@ -128,6 +120,7 @@ fn check_assignments<S: Alter>(
 ) -> Result<(), OpenFault>
     requires ours { HasCleanDisk (state S.Store conn.old) → IsOurs (state S.Store conn.old).now.schema }
     ensures good { HasCleanDisk (state S.Store conn.new) → OnOk result (HoldsRecords (office_of office.now) RecordKind.Assignments (state S.Store conn.new).now.trees) }
+    ensures cause { HasCleanDisk (state S.Store conn.new) → IfErr result (TableRefuses (office_of office.now) RecordKind.Assignments (state S.Store conn.old).now.trees) }
     ensures same { HasCleanDisk (state S.Store conn.new) → OnOk result (IsUnchanged (state S.Store conn.old) (state S.Store conn.new)) }
     ensures kept { HasCleanDisk (state S.Store conn.new) → KeepsCommit (state S.Store conn.old) (state S.Store conn.new) }
     ensures crash { Survives (state S.Store conn.old) (state S.Store conn.new) (λ _. ⊥) }
@@ -146,6 +139,7 @@ fn check_topups<S: Alter>(
 ) -> Result<(), OpenFault>
     requires ours { HasCleanDisk (state S.Store conn.old) → IsOurs (state S.Store conn.old).now.schema }
     ensures good { HasCleanDisk (state S.Store conn.new) → OnOk result (HoldsRecords (office_of office.now) RecordKind.TopUps (state S.Store conn.new).now.trees) }
+    ensures cause { HasCleanDisk (state S.Store conn.new) → IfErr result (TableRefuses (office_of office.now) RecordKind.TopUps (state S.Store conn.old).now.trees) }
     ensures same { HasCleanDisk (state S.Store conn.new) → OnOk result (IsUnchanged (state S.Store conn.old) (state S.Store conn.new)) }
     ensures kept { HasCleanDisk (state S.Store conn.new) → KeepsCommit (state S.Store conn.old) (state S.Store conn.new) }
     ensures crash { Survives (state S.Store conn.old) (state S.Store conn.new) (λ _. ⊥) }
@@ -161,8 +155,7 @@ fn check_topups<S: Alter>(
 fn check_office<S: Alter>(conn: &mut Connection<S>, text: &[u8]) -> Result<(), OpenFault>
     requires ours { HasCleanDisk (state S.Store conn.old) → IsOurs (state S.Store conn.old).now.schema }
     ensures kept_text { HasCleanDisk (state S.Store conn.new) → OnOk result (KeepsText (KeepsOffice text.now) (state S.Store conn.new).now.trees) }
-    ensures version { HasCleanDisk (state S.Store conn.new) → result ≡ Err OpenFault.Version → KeepsText HasOtherVersion (state S.Store conn.old).now.trees }
-    ensures text { HasCleanDisk (state S.Store conn.new) → result ≡ Err OpenFault.OfficeDiffers → KeepsText (HasOtherText text.now) (state S.Store conn.old).now.trees }
+    ensures cause { HasCleanDisk (state S.Store conn.new) → IfErr result (RowRefuses text.now (state S.Store conn.old).now.trees) }
     ensures same { HasCleanDisk (state S.Store conn.new) → OnOk result (IsUnchanged (state S.Store conn.old) (state S.Store conn.new)) }
     ensures kept { HasCleanDisk (state S.Store conn.new) → KeepsCommit (state S.Store conn.old) (state S.Store conn.new) }
     ensures crash { Survives (state S.Store conn.old) (state S.Store conn.new) (λ _. ⊥) }
@@ -186,11 +179,14 @@ fn check<S: Alter>(
 ) -> Result<(), OpenFault>
     requires ours { HasCleanDisk (state S.Store conn.old) → IsOurs (state S.Store conn.old).now.schema }
     ensures may_open { HasCleanDisk (state S.Store conn.new) → OnOk result (MayOpen (office_of office.now) text.now (state S.Store conn.new).now) }
+    ensures cause { HasCleanDisk (state S.Store conn.new) → IfErr result (OursRefuses (office_of office.now) text.now (state S.Store conn.old).now.trees) }
     ensures same { HasCleanDisk (state S.Store conn.new) → OnOk result (IsUnchanged (state S.Store conn.old) (state S.Store conn.new)) }
     ensures kept { HasCleanDisk (state S.Store conn.new) → KeepsCommit (state S.Store conn.old) (state S.Store conn.new) }
     ensures crash { Survives (state S.Store conn.old) (state S.Store conn.new) (λ _. ⊥) }
 {
-    check_office(conn, text)?;
+    if let Err(fault) = check_office(conn, text) {
+        return Err(fault);
+    }
     check_records(alloc, conn, office)
 }
 
@@ -203,6 +199,7 @@ fn make_or_check<S: Alter>(
 ) -> Result<(), OpenFault>
     requires { HasCleanDisk (state S.Store conn.old) → IsIdleAt (state S.Store conn.old) }
     ensures opened { HasCleanDisk (state S.Store conn.new) → OnOk result (IsOpened (office_of office.now) text.now (state S.Store conn.old).committed (state S.Store conn.new)) }
+    ensures cause { HasCleanDisk (state S.Store conn.new) → IfErr result (Refuses (office_of office.now) text.now (state S.Store conn.old).committed) }
     ensures kept { HasCleanDisk (state S.Store conn.new) → OnErr result (KeepsCommit (state S.Store conn.old) (state S.Store conn.new)) }
     ensures clean { HasCleanDisk (state S.Store conn.new) → HasCleanDisk (state S.Store conn.old) }
 {
@@ -248,6 +245,7 @@ pub(crate) fn prepare<S: Alter>(
     text: &[u8],
 ) -> Result<(), OpenFault>
     ensures opened { HasCleanDisk (state S.Store conn.new) → OnOk result (IsOpened (office_of office.now) text.now (state S.Store conn.old).committed (state S.Store conn.new)) }
+    ensures cause { HasCleanDisk (state S.Store conn.new) → IfErr result (Refuses (office_of office.now) text.now (state S.Store conn.old).committed) }
     ensures kept { HasCleanDisk (state S.Store conn.new) → OnErr result (KeepsCommit (state S.Store conn.old) (state S.Store conn.new)) }
 {
     if let Err(error) = settle(conn) {

@@ -1,7 +1,7 @@
 use Rattle.sqlite.specs.Held.{state}
 use Rattle.pw_tariff.specs.Office.{office_of}
 use Rattle.pw_store.proofs.Fresh.{left_alone, open_content}
-use Rattle.pw_store.proofs.shelf.SqlShelf.open.Goals as goal
+use Rattle.pw_store.proofs.shelf.SqlShelf.open_for.Goals as goal
 
 pub returns-in-Ok-clause-left : goal.returns-in-Ok-clause-left
 returns-in-Ok-clause-left g c clean =
