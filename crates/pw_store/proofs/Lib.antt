@@ -10,6 +10,8 @@ pub mod Querying
 pub mod Lists
 pub mod OneKind
 pub mod Inside
+pub mod KeptTexts
+pub mod PointRows
 pub mod Sound
 pub mod Refusals
 pub mod Fresh

@@ -31,7 +31,7 @@ eq at param = op2 (Compare Eq Binary) (col 1 at) (col 0 param)
 abbrev by : Key
 by = record { collation = Binary; descending = false }
 
-abbrev plain_query : ℕ → List Term → List Term → Query
+abbrev pub plain_query : ℕ → List Term → List Term → Query
 plain_query tree filter project = record {
   from = inner tree end;
   filter = filter;
