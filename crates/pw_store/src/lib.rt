@@ -8,6 +8,7 @@ mod door;
 mod entries;
 mod fault;
 mod keys;
+pub mod laws;
 mod meters;
 mod opening;
 mod shelf;
