@@ -1,0 +1,9 @@
+pub mod Outcomes
+pub mod ThreeTexts
+pub mod Steps
+pub mod InTurn
+pub mod Judged
+pub mod Creating
+pub mod Making
+pub mod OfficeRow
+pub mod Shapes

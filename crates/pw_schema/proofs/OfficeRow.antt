@@ -1,0 +1,102 @@
+-- What the row of `office` makes of the empty tables.
+use Rattle.std.proofs.Common.{◌≡◌, ℕ, pos, List, [], ◌∷◌, codes, Bool, true, false, cond, None, Ok, Err, Result, OnOk, IsTrue, refl, subst, ◌∙◌, arith}
+use Rattle.std.specs.List.{AllByRecursion}
+use Rattle.sqlite.specs.declared.types.Value.{Value}
+use Rattle.sqlite.specs.declared.types.Value.TheVariants.{Null, Int, Blob}
+use Rattle.sqlite.specs.declared.error.Error.{Error}
+use Rattle.sqlite.specs.Ops.{unary}
+use Rattle.sqlite.specs.Term.{Term, lit, col}
+use Rattle.sqlite.specs.Table.{Table}
+use Rattle.sqlite.specs.Kind.TheVariants.{Integer}
+use Rattle.sqlite.specs.Source.TheVariants.{Values}
+use Rattle.sqlite.specs.Command.TheVariants.{Insert}
+use Rattle.sqlite.specs.Edit.{Applies, edit_of}
+use Rattle.sqlite.specs.Cast.{cast}
+use Rattle.sqlite.specs.Rowids.TheVariants.{Chosen}
+use Rattle.sqlite.specs.Does.{Does}
+use Rattle.sqlite.specs.State.{State, mode_of, Executes, Shows, KeepsCommit}
+use Rattle.sqlite.specs.Listing.{understood}
+use Rattle.sqlite_tied.specs.Compute.{everything}
+use Rattle.sqlite.proofs.Callers.{runs_as, statement_of, command_of, IsPlain}
+use Rattle.pw_schema.specs.Tables.{ours_with, only_one, office_at}
+use Rattle.pw_schema.specs.Fresh.{office_row, IsFresh}
+use Rattle.pw_schema.specs.inner.Stages.{IsBlank, IsMaking, stage8}
+use Rattle.pw_schema.proofs.Steps.{one_insert, uncounted}
+use Rattle.pw_schema.proofs.Making.{stages}
+use Rattle.pw_schema.proofs.Outcomes.{fails}
+use Rattle.sqlite.proofs.InsideLemmas.{unchanged_keeps}
+
+abbrev pub put_office_text : List ℕ
+put_office_text = codes "INSERT INTO office (id, version, body) VALUES (1, 1, ?1)"
+
+abbrev terms : List Term
+terms = lit (Int (pos 1)) ∷ lit Null ∷ lit (Int (pos 1)) ∷ col 0 0 ∷ []
+
+pub put_office_is : command_of (understood (ours_with only_one) put_office_text) ≡ Insert 0 (Values terms 4)
+unfolding understood everything
+put_office_is = refl
+
+pub put_office_plain : IsPlain (understood (ours_with only_one) put_office_text)
+unfolding understood everything
+put_office_plain = (refl, refl)
+
+either : (b : Bool) (x : Value) → cond b x x ≡ x
+either true x = refl
+either false x = refl
+
+cast_null : cast Integer Null ≡ Null
+unfolding unary
+cast_null = either _ Null
+
+cast_int : (n : ℕ) → cast Integer (Int (pos n)) ≡ Int (pos n)
+unfolding unary
+cast_int n = either _ (Int (pos n))
+
+abbrev ours : Table
+ours = office_at 0 only_one
+
+module _ (old new : State) (body : List ℕ) (count : ℕ) (blank : IsBlank stage8 old.now) (h : Executes put_office_text (Blob body ∷ []) old new (Ok count)) where
+  has : old.now.schema ≡ ours_with only_one
+  has = blank.schema_is ∙ stages
+
+  empty : AllByRecursion (λ t. old.now.trees t.tree ≡ []) (ours_with only_one).tables
+  empty = subst (λ s. AllByRecursion (λ t. old.now.trees t.tree ≡ []) s.tables) stages blank.empty
+
+  applied : (new.now.schema ≡ ours_with only_one) × Applies (ours_with only_one) (mode_of old).keys old.now.trees (edit_of old.now.trees (uncounted ours) [] Chosen 0 (office_row body ∷ [])) new.now.trees
+  applied =
+      let w = runs_as put_office_text (Blob body ∷ []) old new (ours_with only_one) has (Insert 0 (Values terms 4)) put_office_is put_office_plain count h in
+      let text = statement_of put_office_text (understood (ours_with only_one) put_office_text) in
+      one_insert old.step_limit (mode_of old).keys (ours_with only_one) ours (Blob body ∷ []) (mode_of old) old.now.trees 0 4 terms (office_row body ∷ []) w.tally new.now refl (λ _. refl)
+      (subst (λ s. Does old.step_limit (mode_of old) (Blob body ∷ []) (record old.now { schema = s }) text None (Insert 0 (Values terms 4)) (Ok (w.tally, new.now))) has w.changed)
+
+  pub fresh : IsFresh body new.now
+  fresh =
+      let it = applied.1 in
+      let t = it.tables in
+      record {
+        schema_is = applied.0;
+        office = it.rows ∙ rw (cast_null, cast_int 1, empty.0) refl;
+        reading = t.1.0 (λ e. absurd (omega (arith, e))) ∙ empty.1.0;
+        assignment = t.1.1.0 (λ e. absurd (omega (arith, e))) ∙ empty.1.1.0;
+        topup = t.1.1.1.0 (λ e. absurd (omega (arith, e))) ∙ empty.1.1.1.0;
+        point = t.1.1.1.1.0 (λ e. absurd (omega (arith, e))) ∙ empty.1.1.1.1.0;
+        start = t.1.1.1.1.1.0 (λ e. absurd (omega (arith, e))) ∙ empty.1.1.1.1.1.0;
+        total = t.1.1.1.1.1.1.0 (λ e. absurd (omega (arith, e))) ∙ empty.1.1.1.1.1.1.0;
+        total_topup = t.1.1.1.1.1.1.1.0 (λ e. absurd (omega (arith, e))) ∙ empty.1.1.1.1.1.1.1.0;
+      }
+
+  pub shown : Shows old new new.now (cond old.in_transaction old.committed new.now) old.in_transaction
+  shown = (runs_as put_office_text (Blob body ∷ []) old new (ours_with only_one) has (Insert 0 (Values terms 4)) put_office_is put_office_plain count h).shown
+
+pub open_if : (old new : State) (body : List ℕ) (out : Result ℕ Error) → IsMaking stage8 old → Executes put_office_text (Blob body ∷ []) old new out → OnOk out (IsTrue new.is_open)
+open_if old new body (Ok n) making h = (shown old new body n making.blank h).is_open
+open_if old new body (Err e) making h = tt
+
+pub office_kept : (old new : State) (body : List ℕ) (out : Result ℕ Error) → IsMaking stage8 old → Executes put_office_text (Blob body ∷ []) old new out → KeepsCommit old new
+office_kept old new body (Ok n) making h =
+    let s = subst (λ b. Shows old new new.now (cond b old.committed new.now) b) making.inside (shown old new body n making.blank h) in record { was_open = λ _. s.was_open; committed = λ _. s.committed_is }
+office_kept old new body (Err e) making h = unchanged_keeps old new (fails old new put_office_text (Blob body ∷ []) e h)
+
+pub fresh_if : (old new : State) (body : List ℕ) (out : Result ℕ Error) → IsMaking stage8 old → Executes put_office_text (Blob body ∷ []) old new out → OnOk out (IsFresh body new.now)
+fresh_if old new body (Ok n) making h = fresh old new body n making.blank h
+fresh_if old new body (Err e) making h = tt

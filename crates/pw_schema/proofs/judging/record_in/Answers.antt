@@ -1,0 +1,6 @@
+use Rattle.pw_tariff.specs.Office.{office_of}
+use Rattle.pw_model.proofs.SoundOffice.{sound-office}
+use Rattle.pw_schema.proofs.judging.record_in.Goals as goal
+
+pub returns-in_default-clause-none : goal.returns-in_default-clause-none
+returns-in_default-clause-none c = c.in_default.ensures.none (office_of c.args.office.now) (sound-office c.args.office.now c.accounts-accounts.ensures.sound)

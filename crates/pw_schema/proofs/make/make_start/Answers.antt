@@ -1,0 +1,16 @@
+use Rattle.sqlite.specs.Held.{state}
+use Rattle.pw_schema.proofs.Outcomes.{early}
+use Rattle.pw_schema.proofs.Making.{makes_start}
+use Rattle.pw_schema.proofs.Creating.{makes_more, makes_kept, makes_survives}
+use Rattle.pw_schema.proofs.make.make_start.Goals as goal
+
+pub returns-clause-made : goal.returns-clause-made
+returns-clause-made g c clean =
+    makes_more (state g.S.Store c.args.conn.now) (state g.S.Store c.execute.new.self) _ _ _ makes_start (c.requires (early (state g.S.Store c.args.conn.now) (state g.S.Store c.execute.new.self) c.execute.ensures.survives clean)) c.execute.result (c.execute.ensures.runs clean)
+
+pub returns-clause-kept : goal.returns-clause-kept
+returns-clause-kept g c clean =
+    makes_kept (state g.S.Store c.args.conn.now) (state g.S.Store c.execute.new.self) _ _ _ makes_start (c.requires (early (state g.S.Store c.args.conn.now) (state g.S.Store c.execute.new.self) c.execute.ensures.survives clean)) c.execute.result (c.execute.ensures.runs clean)
+
+pub returns-clause-crash : goal.returns-clause-crash
+returns-clause-crash g c = makes_survives (state g.S.Store c.args.conn.now) (state g.S.Store c.execute.new.self) _ _ _ makes_start c.requires c.execute.ensures.survives

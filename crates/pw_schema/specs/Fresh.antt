@@ -1,0 +1,30 @@
+-- What a new store holds.
+-- (A format of this project.)
+use Rattle.std.specs.Prelude.{◌≡◌, ℕ, pos, false, [], ◌∷◌, List, IsTrue}
+use Rattle.sqlite.specs.declared.types.Value.TheVariants.{Null, Int, Blob}
+use Rattle.sqlite.specs.Order.{Row}
+use Rattle.sqlite.specs.Effect.{Database}
+use Rattle.sqlite.specs.State.{State}
+use Rattle.pw_schema.specs.Tables.{ours_with, only_one}
+
+-- the one row of `office`: its id, which is the rowid and kept as NULL, version 1, and the office file's bytes
+abbrev pub office_row : List ℕ → Row
+office_row body = Int (pos 1) ∷ Null ∷ Int (pos 1) ∷ Blob body ∷ []
+
+-- the eight tables, with the office alone
+pub record IsFresh (body : List ℕ) (db : Database) : Type 0 where
+  pub schema_is : db.schema ≡ ours_with only_one
+  pub office : db.trees 0 ≡ office_row body ∷ []
+  pub reading : db.trees 1 ≡ []
+  pub assignment : db.trees 3 ≡ []
+  pub topup : db.trees 5 ≡ []
+  pub point : db.trees 7 ≡ []
+  pub start : db.trees 9 ≡ []
+  pub total : db.trees 11 ≡ []
+  pub total_topup : db.trees 13 ≡ []
+
+-- a connection that is open, outside of a transaction, with nothing that waits to be committed
+pub record IsIdleAt (s : State) : Type 0 where
+  pub is_open : IsTrue s.is_open
+  pub outside : s.in_transaction ≡ false
+  pub settled : s.now ≡ s.committed

@@ -1,0 +1,47 @@
+-- Which rows are of an office, and what the row of `office` says.
+-- (Definitions of this project.)
+use Rattle.std.specs.Prelude.{◌≡◌, ℕ, ◌<◌, pos, List, [], ◌∷◌, map}
+use Rattle.std.specs.List.{AllByRecursion}
+use Rattle.sqlite.specs.declared.types.Value.TheVariants.{Int, Blob}
+use Rattle.sqlite.specs.Order.{Row, column}
+use Rattle.pw_tariff.specs.Office.{OfficeRules}
+use Rattle.pw_model.specs.declared.records.TotalKey.{TotalKey}
+use Rattle.pw_model.specs.declared.records.TotalKey.TheVariants.{Energy, TopUps}
+use Rattle.pw_model.specs.Counting.{EachOnce}
+use Rattle.pw_model.specs.Office.{HasOwner, IsOfOffice}
+use Rattle.pw_schema.specs.declared.kind.RecordKind.{RecordKind}
+use Rattle.pw_schema.specs.declared.kind.TotalKind.{TotalKind}
+use Rattle.pw_schema.specs.Rows.{told, Tells, told_key, TellsTotal}
+
+-- ---- records
+-- the row is a record of the office
+abbrev pub IsRecord : OfficeRules → RecordKind → Row → Type 0
+IsRecord office k r = Tells k r × IsOfOffice office (told k r)
+
+-- the rows are records of the office, each once
+pub record AreRecords (office : OfficeRules) (k : RecordKind) (rows : List Row) : Type 0 where
+  pub each : AllByRecursion (IsRecord office k) rows
+  pub once : EachOnce (map (told k) rows)
+
+-- ---- totals
+-- the key of a total names an owner and a band, or an account, of the office
+abbrev pub IsTotalOf : OfficeRules → TotalKey → Type 0
+IsTotalOf office (Energy o b d) = HasOwner office o × (b.0 < office.bands)
+IsTotalOf office (TopUps a) = a.0 < office.accounts
+
+abbrev pub IsTotal : OfficeRules → TotalKind → Row → Type 0
+IsTotal office k r = TellsTotal k r × IsTotalOf office (told_key k r)
+
+-- ---- the row of `office`, as a query shows it: version and text
+-- version 1 and this text are kept, and nothing else
+abbrev pub KeepsOffice : List ℕ → List Row → Type 0
+KeepsOffice body rows = (row : Row) × (rows ≡ row ∷ []) × (column row 0 ≡ Int (pos 1)) × (column row 1 ≡ Blob body)
+
+-- there is a row, of another version
+abbrev pub HasOtherVersion : List Row → Type 0
+HasOtherVersion rows = (row : Row) × (rows ≡ row ∷ []) × ((column row 0 ≡ Int (pos 1)) → ⊥)
+
+-- there is a row of this version, with another text
+abbrev pub HasOtherText : List ℕ → List Row → Type 0
+HasOtherText body rows =
+    (row : Row) × (rows ≡ row ∷ []) × (column row 0 ≡ Int (pos 1)) × ((column row 1 ≡ Blob body) → ⊥)

@@ -1,0 +1,31 @@
+//! The tables of a store over SQL: making them, and judging those of a found file and their rows.
+#![tactic(auto)]
+
+mod cells;
+mod columns;
+mod indexes;
+mod judging;
+mod keys;
+mod kind;
+mod make;
+mod office;
+mod reading;
+mod shape;
+mod tables;
+mod totals;
+mod transactions;
+mod values;
+
+pub use cells::number_at;
+pub use judging::{JudgeFault, judge_rows, record_in, total_in};
+pub use kind::{RecordKind, TotalKind};
+pub use make::create;
+pub use office::{OfficeFault, judge_office};
+pub use reading::{ReadFault, contents_in, entry_of, read_rows};
+pub use shape::{is_nothing, is_ours};
+pub use totals::total_of;
+pub use transactions::{begin, commit, roll_back};
+pub use values::{direction_place, integer, owner_place, register_place, wide, words};
+
+#[cfg(test)]
+mod tests;

@@ -1,0 +1,172 @@
+//! Records from the rows that a query shows.
+
+ghost use Rattle.std.specs.Prelude.{◌≡◌, IfNone, IfOk, IfSome, IsTrue, map};
+ghost use Rattle.std.specs.declared.cmp.Ordering.TheVariants.{Less};
+ghost use Rattle.pw_tariff.specs.Office.{OfficeRules};
+ghost use Rattle.pw_model.specs.Office.{IsOffice};
+ghost use Rattle.pw_model.specs.Same.{entry_order};
+ghost use Rattle.pw_schema.specs.Judging.{IsRecord};
+ghost use Rattle.pw_schema.specs.Rows.{ReadsRows, Tells, contents_of, told, told_content};
+
+use crate::cells::{
+    account_at, instant_at, meter_at, number_at, owner_at, reference_at, register_at, wh_at,
+};
+use crate::kind::RecordKind;
+use pw_model::{Content, Contents, Entry, Key, compare_entries};
+use sqlite::Row;
+use std::alloc::{AllocError, AllocFailed, Global};
+use std::cmp::Ordering;
+
+/// Why rows aren't read as records.
+#[derive(Clone, Copy, Debug, PartialEq, Eq)]
+pub enum ReadFault {
+    /// Memory was refused.
+    Memory,
+    /// A row is no record, or stands where it may not.
+    Wrong,
+}
+
+impl From<AllocError> for ReadFault {
+    fn from(_: AllocError) -> Self {
+        ReadFault::Memory
+    }
+}
+
+impl<T: Drop> From<AllocFailed<T>> for ReadFault {
+    fn from(_: AllocFailed<T>) -> Self {
+        ReadFault::Memory
+    }
+}
+
+fn reading_of(row: &Row) -> Option<Entry>
+    ensures told { IfSome result (λ entry. entry ≡ told RecordKind.Readings row.now) }
+    ensures kinds { IfSome result (λ entry. Tells RecordKind.Readings row.now) }
+    ensures none { IfNone result ((office : OfficeRules) → IsOffice office → IsRecord office RecordKind.Readings row.now → ⊥) }
+{
+    let meter = meter_at(row, 0)?;
+    let register = register_at(row, 1)?;
+    let instant = instant_at(row, 2)?;
+    let wh = wh_at(row, 3)?;
+    Some(Entry {
+        key: Key::Reading {
+            meter,
+            register,
+            instant,
+        },
+        content: Content::Reading { wh },
+    })
+}
+
+fn assignment_of(row: &Row) -> Option<Entry>
+    ensures told { IfSome result (λ entry. entry ≡ told RecordKind.Assignments row.now) }
+    ensures kinds { IfSome result (λ entry. Tells RecordKind.Assignments row.now) }
+    ensures none { IfNone result ((office : OfficeRules) → IsOffice office → IsRecord office RecordKind.Assignments row.now → ⊥) }
+{
+    let meter = meter_at(row, 0)?;
+    let start = instant_at(row, 1)?;
+    let owner = owner_at(row, 2)?;
+    Some(Entry {
+        key: Key::Assignment { meter, start },
+        content: Content::Assignment { owner },
+    })
+}
+
+fn topup_of(row: &Row) -> Option<Entry>
+    ensures told { IfSome result (λ entry. entry ≡ told RecordKind.TopUps row.now) }
+    ensures kinds { IfSome result (λ entry. Tells RecordKind.TopUps row.now) }
+    ensures none { IfNone result ((office : OfficeRules) → IsOffice office → IsRecord office RecordKind.TopUps row.now → ⊥) }
+{
+    let reference = reference_at(row, 0)?;
+    let account = account_at(row, 1)?;
+    let cents = number_at(row, 2)?;
+    let instant = instant_at(row, 3)?;
+    Some(Entry {
+        key: Key::TopUp { reference },
+        content: Content::TopUp {
+            account,
+            cents,
+            instant,
+        },
+    })
+}
+
+/// The record of a kind that a row tells. Where it answers none, the row is no record of any office.
+pub fn entry_of(kind: RecordKind, row: &Row) -> Option<Entry>
+    ensures told { IfSome result (λ entry. entry ≡ told kind row.now) }
+    ensures kinds { IfSome result (λ entry. Tells kind row.now) }
+    ensures none { IfNone result ((office : OfficeRules) → IsOffice office → IsRecord office kind row.now → ⊥) }
+{
+    match kind {
+        RecordKind::Readings => reading_of(row),
+        RecordKind::Assignments => assignment_of(row),
+        RecordKind::TopUps => topup_of(row),
+    }
+}
+
+// Whether the entry stands behind the last one.
+fn is_behind(last: &Option<Entry>, entry: &Entry) -> bool
+    ensures { IsTrue result → IfSome last.now (λ l. entry_order l entry.now ≡ Less) }
+{
+    match last {
+        Some(last) => matches!(compare_entries(last, entry), Ordering::Less),
+        None => true,
+    }
+}
+
+/// The records that the rows tell, if each tells one and stands behind the one before.
+pub fn read_rows(alloc: Global, kind: RecordKind, rows: &[Row]) -> Result<Vec<Entry>, ReadFault>
+    ensures { IfOk result (λ found. ReadsRows kind rows.now found.items) }
+{
+    let mut found = Vec::new(alloc);
+    let mut last = None;
+    for row in rows {
+        let Some(entry) = entry_of(kind, row) else {
+            return Err(ReadFault::Wrong);
+        };
+        if !is_behind(&last, &entry) {
+            return Err(ReadFault::Wrong);
+        }
+        found.push(entry)?;
+        last = Some(entry);
+    }
+    Ok(found)
+}
+
+/// What rows that show the contents at a key tell of it, if they tell it: two rows suffice for several.
+pub fn contents_in(kind: RecordKind, rows: &[Row]) -> Option<Contents>
+    ensures { IfSome result (λ found. found ≡ contents_of (map (told_content kind) rows.now)) }
+{
+    match rows {
+        [] => Some(Contents::Nothing),
+        [row] => {
+            let content = content_of(kind, row)?;
+            Some(Contents::One(content))
+        }
+        _ => Some(Contents::Several),
+    }
+}
+
+fn content_of(kind: RecordKind, row: &Row) -> Option<Content>
+    ensures { IfSome result (λ found. found ≡ told_content kind row.now) }
+{
+    match kind {
+        RecordKind::Readings => {
+            let wh = wh_at(row, 0)?;
+            Some(Content::Reading { wh })
+        }
+        RecordKind::Assignments => {
+            let owner = owner_at(row, 0)?;
+            Some(Content::Assignment { owner })
+        }
+        RecordKind::TopUps => {
+            let account = account_at(row, 0)?;
+            let cents = number_at(row, 1)?;
+            let instant = instant_at(row, 2)?;
+            Some(Content::TopUp {
+                account,
+                cents,
+                instant,
+            })
+        }
+    }
+}

@@ -1,0 +1,24 @@
+//! Whether a file holds the tables of a store, or nothing.
+
+ghost use Rattle.std.specs.Prelude.{◌≡◌, ◌↔◌, IsTrue};
+ghost use Rattle.pw_schema.specs.Tables.{IsOurs, no_schema};
+
+use crate::indexes::are_indexes;
+use crate::tables::are_tables;
+use sqlite_schema::schema::Schema;
+
+/// Whether these are the tables that `open` makes, and nothing else.
+pub fn is_ours(schema: &Schema) -> bool
+    ensures { IsTrue result ↔ IsOurs schema.now }
+{
+    schema.views.is_empty()
+        && are_tables(schema.tables.as_slice())
+        && are_indexes(schema.indexes.as_slice())
+}
+
+/// Whether there is nothing at all.
+pub fn is_nothing(schema: &Schema) -> bool
+    ensures { IsTrue result ↔ (schema.now ≡ no_schema) }
+{
+    schema.tables.is_empty() && schema.indexes.is_empty() && schema.views.is_empty()
+}
