@@ -21,3 +21,6 @@ pub use requests::{LONGEST_BODY, ROOM, Refusal};
 pub use routes::{Place, Route};
 pub use served::Served;
 pub use service::Service;
+
+#[cfg(test)]
+mod tests;

@@ -1,0 +1,124 @@
+//! Conversations with a service that gives one answer to all.
+
+use crate::fault::WireFault;
+use crate::replies::{ContentType, Status};
+use crate::send::send_reply;
+use crate::service::Service;
+use crate::{Served, converse, converse_within};
+use std::alloc::Global;
+use std::io::{self, Read, Write};
+use std::test::Fail;
+
+// It says yes.
+#[derive(Drop)]
+struct Yes;
+
+impl Service for Yes {
+    ghost use Rattle.std.specs.Prelude.{◌≡◌, codes};
+    ghost use Rattle.pw_http.specs.declared.replies.ContentType.TheVariants.{Plain};
+    ghost use Rattle.pw_http.specs.declared.replies.Status.TheVariants.{Fine};
+
+    ghost serves = { λ old _ reply new. (reply ≡ record { status = Fine; content = Plain; body = codes "yes\n" }) × (new ≡ old) };
+
+    fn serve<W: Write>(
+        &mut self,
+        _alloc: Global,
+        _method: &[u8],
+        _target: &[u8],
+        _body: &[u8],
+        closing: bool,
+        writer: &mut W,
+    ) -> Result<(), WireFault> {
+        send_reply(writer, Status::Fine, ContentType::Plain, closing, b"yes\n")
+    }
+}
+
+const YES: &[u8] = b"HTTP/1.1 200 OK\r\nContent-Type: text/plain\r\nContent-Length: 4\r\n\r\nyes\n";
+
+fn said(alloc: Global, stream: &[u8], turns: u32) -> (Result<Served, WireFault>, Vec<u8>) {
+    let mut reader = stream;
+    let mut text = Vec::new(alloc);
+    let served = converse_within(alloc, &mut Yes, &mut reader, &mut text, turns);
+    (served, text)
+}
+
+#[test]
+fn empty_stream(rt: HostRuntime) -> Result<(), Fail> {
+    let (served, text) = said(rt.alloc(), b"", 10);
+    assert_eq!(rt; served, Ok(Served { requests: 0 }));
+    assert!(rt; text.is_empty());
+    Ok(())
+}
+
+#[test]
+fn one_request(rt: HostRuntime) -> Result<(), Fail> {
+    let (served, text) = said(rt.alloc(), PAGE, 10);
+    assert_eq!(rt; served, Ok(Served { requests: 1 }));
+    assert!(rt; text.as_slice() == YES);
+    Ok(())
+}
+
+#[test]
+fn body_cut_short(rt: HostRuntime) -> Result<(), Fail> {
+    let (served, text) = said(
+        rt.alloc(),
+        b"POST /topups HTTP/1.1\r\nContent-Length: 64\r\n\r\n0123456789",
+        10,
+    );
+    assert_eq!(rt; served, Ok(Served { requests: 1 }));
+    let expected: &[u8] =
+        b"HTTP/1.1 400 Bad Request\r\nContent-Type: text/plain\r\nContent-Length: 9\r\nConnection: close\r\n\r\nbad body\n";
+    assert!(rt; text.as_slice() == expected);
+    Ok(())
+}
+
+#[test]
+fn body_too_large(rt: HostRuntime) -> Result<(), Fail> {
+    let (served, text) = said(
+        rt.alloc(),
+        b"POST /topups HTTP/1.1\r\nContent-Length: 262145\r\n\r\n",
+        10,
+    );
+    assert_eq!(rt; served, Ok(Served { requests: 1 }));
+    let expected: &[u8] =
+        b"HTTP/1.1 413 Payload Too Large\r\nContent-Type: text/plain\r\nContent-Length: 15\r\nConnection: close\r\n\r\nbody too large\n";
+    assert!(rt; text.as_slice() == expected);
+    Ok(())
+}
+
+// Gives one byte a call.
+#[derive(Drop)]
+struct OneByOne<'a> {
+    bytes: &'a [u8],
+}
+
+impl<'a> Read for OneByOne<'a> {
+    fn read(&mut self, buf: &mut [u8]) -> io::Result<usize> {
+        let most = buf.len().min(1);
+        self.bytes.read(&mut buf[..most])
+    }
+}
+
+const PAGE: &[u8] = b"GET /accounts/A1 HTTP/1.1\r\n\r\n";
+
+#[test]
+fn too_many_turns(rt: HostRuntime) -> Result<(), Fail> {
+    let alloc = rt.alloc();
+    let mut reader = OneByOne { bytes: PAGE };
+    let mut text = Vec::new(alloc);
+    let served = converse_within(alloc, &mut Yes, &mut reader, &mut text, 3);
+    assert_eq!(rt; served, Err(WireFault::TooManyTurns));
+    assert!(rt; text.is_empty());
+    Ok(())
+}
+
+#[test]
+fn one_byte_a_call(rt: HostRuntime) -> Result<(), Fail> {
+    let alloc = rt.alloc();
+    let mut reader = OneByOne { bytes: PAGE };
+    let mut text = Vec::new(alloc);
+    let served = converse(alloc, &mut Yes, &mut reader, &mut text);
+    assert_eq!(rt; served, Ok(Served { requests: 1 }));
+    assert!(rt; text.as_slice() == YES);
+    Ok(())
+}
