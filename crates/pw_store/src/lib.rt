@@ -19,5 +19,3 @@ mod waking;
 pub use fault::OpenFault;
 pub use shelf::SqlShelf;
 
-#[cfg(test)]
-mod tests;
