@@ -78,8 +78,12 @@ fn are_of_office(office: &Office, zone: &Zone, entries: &[Entry]) -> bool
 
 fn empty_book(rt: &impl Abort, alloc: Global, limit: u32) -> Result<Book<MemoryShelf>, Fail> {
     let office = Office::read(alloc, OFFICE.as_bytes())?;
+    Ok(book_of(rt, alloc, office, limit))
+}
+
+fn book_of(rt: &impl Abort, alloc: Global, office: Office, limit: u32) -> Book<MemoryShelf> {
     assert!(rt; 1 <= limit && limit <= 100);
-    Ok(Book::new(office, Zone::central(), MemoryShelf::new(alloc), limit))
+    Book::new(office, Zone::central(), MemoryShelf::new(alloc), limit)
 }
 
 fn post<S: Shelf>(

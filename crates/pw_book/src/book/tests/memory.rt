@@ -2,14 +2,13 @@
 //! first allocation refused, with the second, and so on.)
 
 use super::{
-    FIRST, FIVE, NEW_YEAR, OFFICE, SEVEN, SIX, all_agree, assigned, imported, lengths, money, paid,
-    post, reading,
+    FIRST, FIVE, NEW_YEAR, OFFICE, SEVEN, SIX, all_agree, assigned, book_of, imported, lengths,
+    money, paid, post, reading,
 };
 use crate::{Book, BookFault, PostFault};
 use pw_model::Entry;
-use pw_shelf::{MemoryShelf, Shelf};
+use pw_shelf::Shelf;
 use pw_tariff::Office;
-use pw_time::Zone;
 use std::alloc::Global;
 use std::process::Abort;
 use std::test::Fail;
@@ -49,7 +48,7 @@ fn memory_refused(rt: HostRuntime) -> Result<(), Fail> {
     let Ok(office) = Office::read(alloc, OFFICE.as_bytes()) else {
         return Ok(());
     };
-    let mut book = Book::new(office, Zone::central(), MemoryShelf::new(alloc), 100);
+    let mut book = book_of(&rt, alloc, office, 100);
     let entries = [
         reading(&rt, FIVE, 100_000),
         reading(&rt, SIX, 50_000),
