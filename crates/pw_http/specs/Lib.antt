@@ -1,13 +1,11 @@
 -- Read these, in this order:
 -- Heads: the head of a request
 -- Requests: what a stream of bytes asks
--- Routes: where a request goes
 -- Replies: the bytes of a reply
 -- Runs: what a service answers, and what a conversation is
 -- Laws: a stream has one list of requests
 pub mod Heads
 pub mod Requests
-pub mod Routes
 pub mod Replies
 pub mod Runs
 pub mod Laws

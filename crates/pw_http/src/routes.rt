@@ -1,7 +1,7 @@
 //! The routes.
 
 ghost use Rattle.std.specs.Prelude.{◌≡◌, ◌≢◌, ◌++◌, ℕ, List, IfOk, IfSome, IfNone, MatchOption, codes};
-ghost use Rattle.pw_http.specs.Routes.{by_method, method_name, place_of, route_at, route_table};
+ghost use Rattle.pw_http.specs.inner.Routes.{by_method, method_name, place_of, route_at, route_table};
 
 use matchit::{InsertError, Router};
 use std::alloc::Global;

@@ -1,5 +1,5 @@
 use Rattle.std.proofs.Common.{refl}
-use Rattle.pw_http.specs.Routes.{route_table}
+use Rattle.pw_http.specs.inner.Routes.{route_table}
 use Rattle.matchit.proofs.OnLiterals.{matchit_on_literals}
 use Rattle.pw_http.proofs.routes.routes.Goals as goal
 

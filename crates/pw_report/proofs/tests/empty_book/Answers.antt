@@ -4,5 +4,5 @@ use Rattle.pw_model.specs.Shelf.{IsTrueContent}
 use Rattle.pw_model.proofs.Truth.{empty-true}
 use Rattle.pw_report.proofs.tests.empty_book.Goals as goal
 
-pub new-book-requires-clause-truth : goal.new-book-requires-clause-truth
-new-book-requires-clause-truth c = λ k. subst (IsTrueContent (office_of c.args.office)) (sym c.new.ensures.content) (empty-true (office_of c.args.office))
+pub new-requires-2-clause-truth : goal.new-requires-2-clause-truth
+new-requires-2-clause-truth c = λ k. subst (IsTrueContent (office_of _)) (sym c.new.ensures.content) (empty-true (office_of _))
