@@ -110,7 +110,7 @@ fn weigh_around<S: Shelf>(
 }
 
 // The direction of a register.
-fn direction_of(register: Register) -> Direction
+pub(crate) fn direction_of(register: Register) -> Direction
     ensures { result ≡ direction_told register }
 {
     match register {

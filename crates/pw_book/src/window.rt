@@ -10,13 +10,13 @@ ghost use Rattle.pw_model.specs.declared.records.TotalKey.{TotalKey as AnyTotal}
 ghost use Rattle.pw_model.specs.Changes.{IsOtherStart};
 ghost use Rattle.pw_model.specs.Counting.{point as point_told, start as start_told};
 ghost use Rattle.pw_model.specs.Energy.{over_registers};
-ghost use Rattle.pw_model.specs.Same.{direction_of as direction_told};
 ghost use Rattle.pw_shelf.specs.Calls.{GoesOn, failures_told};
 ghost use Rattle.pw_shelf.specs.Changes.{starts_with, with_start as with_start_of};
 ghost use Rattle.pw_book.specs.Cost.{HasStarts};
 ghost use Rattle.pw_book.specs.inner.Settling.{EndsBefore, EndsBeforeNext, HavePoints, IsSettled, IsStartChanged, ListsUpToNextStart, register_told};
 ghost use Rattle.pw_book.specs.inner.Sums.{AreDifferences, gathered, gathered_in_all, point_listed};
 
+use crate::around::direction_of;
 use crate::moving::move_energies;
 use crate::pairs::{Point, add_pairs};
 use crate::starts::{owners_of, until_next, with_start};
@@ -173,16 +173,6 @@ fn add_register<S: Shelf>(
         given,
     )?;
     Ok(())
-}
-
-// The direction of a register.
-fn direction_of(register: Register) -> Direction
-    ensures { result ≡ direction_told register }
-{
-    match register {
-        Register::I0 | Register::I1 | Register::I2 => Direction::Import,
-        Register::E0 | Register::E1 | Register::E2 => Direction::Export,
-    }
 }
 
 // A list of points, with the one before them and the one behind them, where there is one.

@@ -102,7 +102,10 @@ fn a_table_less_or_a_column_less_is_not_ours(rt: HostRuntime) -> Result<(), Fail
     let mut conn = new_store(&rt, alloc);
     conn.execute("DROP TABLE total_topup", &[])?;
     assert!(rt; !is_ours(conn.schema()));
-    conn.execute("CREATE TABLE total_topup (account INTEGER PRIMARY KEY) STRICT", &[])?;
+    conn.execute(
+        "CREATE TABLE total_topup (account INTEGER PRIMARY KEY) STRICT",
+        &[],
+    )?;
     assert!(rt; !is_ours(conn.schema()));
     conn.execute("DROP TABLE total_topup", &[])?;
     conn.execute(
@@ -118,11 +121,17 @@ fn an_upload_is_rolled_back_or_committed(rt: HostRuntime) -> Result<(), Fail> {
     let alloc = rt.alloc();
     let mut conn = new_store(&rt, alloc);
     begin(&mut conn)?;
-    conn.execute("INSERT INTO start (meter, start, owner) VALUES (0, 1, 2)", &[])?;
+    conn.execute(
+        "INSERT INTO start (meter, start, owner) VALUES (0, 1, 2)",
+        &[],
+    )?;
     roll_back(&mut conn)?;
     assert!(rt; conn.query_all("SELECT meter FROM start", &[])?.is_empty());
     begin(&mut conn)?;
-    conn.execute("INSERT INTO start (meter, start, owner) VALUES (0, 1, 2)", &[])?;
+    conn.execute(
+        "INSERT INTO start (meter, start, owner) VALUES (0, 1, 2)",
+        &[],
+    )?;
     commit(&mut conn)?;
     assert!(rt; conn.query_all("SELECT meter FROM start", &[])?.len() == 1);
     Ok(())
@@ -133,15 +142,36 @@ fn rows_tell_records(rt: HostRuntime) -> Result<(), Fail> {
     let alloc = rt.alloc();
     let text = "SELECT 0, 5, 1704067200, 99999999999";
     let shown = rows(&rt, alloc, text);
-    assert_eq!(rt; entry_of(RecordKind::Readings, &shown[0]), Some(reading(&rt)));
-    assert_eq!(rt; record_in(&office(&rt, alloc), RecordKind::Readings, &shown[0]), Some(reading(&rt)));
-    assert!(rt; read_rows(alloc, RecordKind::Readings, shown.as_slice()).expect(&rt, "rows").as_slice() == [reading(&rt)].as_slice());
-    assert!(rt; judged(&rt, alloc, RecordKind::Readings, text)?.as_slice() == [reading(&rt)].as_slice());
+    assert_eq!(rt;
+        entry_of(RecordKind::Readings, &shown[0]),
+        Some(reading(&rt))
+    );
+    assert_eq!(rt;
+        record_in(&office(&rt, alloc), RecordKind::Readings, &shown[0]),
+        Some(reading(&rt))
+    );
+    assert!(rt;
+        read_rows(alloc, RecordKind::Readings, shown.as_slice())
+            .expect(&rt, "rows")
+            .as_slice()
+            == [reading(&rt)].as_slice()
+    );
+    assert!(rt;
+        judged(&rt, alloc, RecordKind::Readings, text)?.as_slice() == [reading(&rt)].as_slice()
+    );
     assert_eq!(rt; number_at(&shown[0], 1), Some(5));
     assert_eq!(rt; number_at(&shown[0], 4), None);
     let held = rows(&rt, alloc, "SELECT 7");
-    assert_eq!(rt; contents_in(RecordKind::Readings, held.as_slice()), Some(Contents::One(Content::Reading { wh: WattHours::of(7).expect(&rt, "7") })));
-    assert_eq!(rt; contents_in(RecordKind::Readings, [].as_slice()), Some(Contents::Nothing));
+    assert_eq!(rt;
+        contents_in(RecordKind::Readings, held.as_slice()),
+        Some(Contents::One(Content::Reading {
+            wh: WattHours::of(7).expect(&rt, "7")
+        }))
+    );
+    assert_eq!(rt;
+        contents_in(RecordKind::Readings, [].as_slice()),
+        Some(Contents::Nothing)
+    );
     Ok(())
 }
 
@@ -158,10 +188,20 @@ fn rows_that_are_no_records_of_the_office_are_foreign(rt: HostRuntime) -> Result
         "SELECT 0, 5, 1704067200, 'x'",
         "SELECT 0, 5, 1704067200, 1 UNION ALL SELECT 0, 5, 1704067200, 1",
     ] {
-        assert_eq!(rt; judged(&rt, alloc, RecordKind::Readings, text).err(), Some(JudgeFault::Foreign));
+        assert_eq!(rt;
+            judged(&rt, alloc, RecordKind::Readings, text).err(),
+            Some(JudgeFault::Foreign)
+        );
     }
-    for text in ["SELECT 0, 1704067200, 3", "SELECT 0, 1704067200, -1", "SELECT 0, 5, 0"] {
-        assert_eq!(rt; judged(&rt, alloc, RecordKind::Assignments, text).err(), Some(JudgeFault::Foreign));
+    for text in [
+        "SELECT 0, 1704067200, 3",
+        "SELECT 0, 1704067200, -1",
+        "SELECT 0, 5, 0",
+    ] {
+        assert_eq!(rt;
+            judged(&rt, alloc, RecordKind::Assignments, text).err(),
+            Some(JudgeFault::Foreign)
+        );
     }
     for text in [
         "SELECT 'P/1', 0, 1, 1704067200",
@@ -171,11 +211,30 @@ fn rows_that_are_no_records_of_the_office_are_foreign(rt: HostRuntime) -> Result
         "SELECT 'P1', 0, 100000001, 1704067200",
         "SELECT 'P1', 0, 1, 4102444800",
     ] {
-        assert_eq!(rt; judged(&rt, alloc, RecordKind::TopUps, text).err(), Some(JudgeFault::Foreign));
+        assert_eq!(rt;
+            judged(&rt, alloc, RecordKind::TopUps, text).err(),
+            Some(JudgeFault::Foreign)
+        );
     }
-    let twisted = rows(&rt, alloc, "SELECT 0, 5, 1704067200, 2 UNION ALL SELECT 0, 5, 1704067200, 1");
-    assert_eq!(rt; read_rows(alloc, RecordKind::Readings, twisted.as_slice()).err(), Some(ReadFault::Wrong));
-    assert_eq!(rt; judge_rows(alloc, &office(&rt, alloc), RecordKind::Readings, twisted.as_slice()).err(), Some(JudgeFault::Unordered));
+    let twisted = rows(
+        &rt,
+        alloc,
+        "SELECT 0, 5, 1704067200, 2 UNION ALL SELECT 0, 5, 1704067200, 1",
+    );
+    assert_eq!(rt;
+        read_rows(alloc, RecordKind::Readings, twisted.as_slice()).err(),
+        Some(ReadFault::Wrong)
+    );
+    assert_eq!(rt;
+        judge_rows(
+            alloc,
+            &office(&rt, alloc),
+            RecordKind::Readings,
+            twisted.as_slice()
+        )
+        .err(),
+        Some(JudgeFault::Unordered)
+    );
     Ok(())
 }
 
@@ -188,14 +247,30 @@ fn rows_tell_totals(rt: HostRuntime) -> Result<(), Fail> {
         band: BandId(1),
         direction: Direction::Export,
     };
-    let shown = rows(&rt, alloc, "SELECT 2, 1, 1, 0 UNION ALL SELECT 3, 1, 1, 5 UNION ALL SELECT 2, 2, 1, 5 UNION ALL SELECT 2, 1, 2, 5");
+    let shown = rows(
+        &rt,
+        alloc,
+        "SELECT 2, 1, 1, 0 UNION ALL SELECT 3, 1, 1, 5 UNION ALL SELECT 2, 2, 1, 5 UNION ALL SELECT 2, 1, 2, 5",
+    );
     assert!(rt; total_of(TotalKind::Energies, &shown[0]) == Some((key, 0)));
     assert!(rt; total_in(&office, TotalKind::Energies, &shown[0]) == Some((key, 0)));
     assert!(rt; total_in(&office, TotalKind::Energies, &shown[1]).is_none());
     assert!(rt; total_in(&office, TotalKind::Energies, &shown[2]).is_none());
     assert!(rt; total_in(&office, TotalKind::Energies, &shown[3]).is_none());
-    let paid = rows(&rt, alloc, "SELECT 1, 5000 UNION ALL SELECT 2, 1 UNION ALL SELECT 1, -1");
-    assert!(rt; total_in(&office, TotalKind::Payments, &paid[0]) == Some((TotalKey::TopUps { account: AccountId(1) }, 5_000)));
+    let paid = rows(
+        &rt,
+        alloc,
+        "SELECT 1, 5000 UNION ALL SELECT 2, 1 UNION ALL SELECT 1, -1",
+    );
+    assert!(rt;
+        total_in(&office, TotalKind::Payments, &paid[0])
+            == Some((
+                TotalKey::TopUps {
+                    account: AccountId(1)
+                },
+                5_000
+            ))
+    );
     assert!(rt; total_in(&office, TotalKind::Payments, &paid[1]).is_none());
     assert!(rt; total_in(&office, TotalKind::Payments, &paid[2]).is_none());
     Ok(())
@@ -205,12 +280,27 @@ fn rows_tell_totals(rt: HostRuntime) -> Result<(), Fail> {
 fn the_row_of_the_office_is_judged(rt: HostRuntime) -> Result<(), Fail> {
     let alloc = rt.alloc();
     let own = b"ab".as_slice();
-    assert_eq!(rt; judge_office(rows(&rt, alloc, "SELECT 1, x'6162'").as_slice(), own), Ok(()));
+    assert_eq!(rt;
+        judge_office(rows(&rt, alloc, "SELECT 1, x'6162'").as_slice(), own),
+        Ok(())
+    );
     assert_eq!(rt; judge_office([].as_slice(), own), Err(OfficeFault::Missing));
-    assert_eq!(rt; judge_office(rows(&rt, alloc, "SELECT 9, x'6162'").as_slice(), own), Err(OfficeFault::Version));
-    assert_eq!(rt; judge_office(rows(&rt, alloc, "SELECT 9, x'61'").as_slice(), own), Err(OfficeFault::Version));
-    assert_eq!(rt; judge_office(rows(&rt, alloc, "SELECT 1, x'61'").as_slice(), own), Err(OfficeFault::Text));
-    assert_eq!(rt; judge_office(rows(&rt, alloc, "SELECT 1, 'ab'").as_slice(), own), Err(OfficeFault::Text));
+    assert_eq!(rt;
+        judge_office(rows(&rt, alloc, "SELECT 9, x'6162'").as_slice(), own),
+        Err(OfficeFault::Version)
+    );
+    assert_eq!(rt;
+        judge_office(rows(&rt, alloc, "SELECT 9, x'61'").as_slice(), own),
+        Err(OfficeFault::Version)
+    );
+    assert_eq!(rt;
+        judge_office(rows(&rt, alloc, "SELECT 1, x'61'").as_slice(), own),
+        Err(OfficeFault::Text)
+    );
+    assert_eq!(rt;
+        judge_office(rows(&rt, alloc, "SELECT 1, 'ab'").as_slice(), own),
+        Err(OfficeFault::Text)
+    );
     Ok(())
 }
 
