@@ -1,14 +1,11 @@
 //! Tables made in memory, and rows of tables judged.
 
 use crate::{
-    JudgeFault, OfficeFault, ReadFault, RecordKind, TotalKind, begin, commit, contents_in, create,
-    direction_place, entry_of, integer, is_nothing, is_ours, judge_office, judge_rows, number_at,
-    owner_place, read_rows, record_in, register_place, roll_back, total_in, total_of, wide, words,
+    JudgeFault, ReadFault, RecordKind, begin, commit, create, is_nothing, is_ours, judge_office,
+    judge_rows, read_rows, roll_back,
 };
-use pw_model::{Content, Contents, Entry, Key, Reference, TotalKey};
-use pw_obis::{Register, WattHours};
-use pw_tariff::{AccountId, BandId, Direction, MeterId, Office};
-use pw_time::Instant;
+use pw_model::Entry;
+use pw_tariff::Office;
 use sqlite::{Connection, MemStore, Row};
 use std::alloc::Global;
 use std::process::Abort;
@@ -48,19 +45,6 @@ fn office(rt: &impl Abort, alloc: Global) -> Office {
 fn rows(rt: &impl Abort, alloc: Global, text: &str) -> Vec<Row> {
     let mut conn = Connection::open_in_memory(alloc).expect(rt, "a connection");
     conn.query_all(text, &[]).expect(rt, "rows")
-}
-
-fn reading(rt: &impl Abort) -> Entry {
-    Entry {
-        key: Key::Reading {
-            meter: MeterId(0),
-            register: Register::E2,
-            instant: Instant::of(1_704_067_200).expect(rt, "an instant"),
-        },
-        content: Content::Reading {
-            wh: WattHours::of(99_999_999_999).expect(rt, "watt-hours"),
-        },
-    }
 }
 
 // Whether the rows that a text shows are records of the office.
@@ -138,44 +122,6 @@ fn an_upload_is_rolled_back_or_committed(rt: HostRuntime) -> Result<(), Fail> {
 }
 
 #[test]
-fn rows_tell_records(rt: HostRuntime) -> Result<(), Fail> {
-    let alloc = rt.alloc();
-    let text = "SELECT 0, 5, 1704067200, 99999999999";
-    let shown = rows(&rt, alloc, text);
-    assert_eq!(rt;
-        entry_of(RecordKind::Readings, &shown[0]),
-        Some(reading(&rt))
-    );
-    assert_eq!(rt;
-        record_in(&office(&rt, alloc), RecordKind::Readings, &shown[0]),
-        Some(reading(&rt))
-    );
-    assert!(rt;
-        read_rows(alloc, RecordKind::Readings, shown.as_slice())
-            .expect(&rt, "rows")
-            .as_slice()
-            == [reading(&rt)].as_slice()
-    );
-    assert!(rt;
-        judged(&rt, alloc, RecordKind::Readings, text)?.as_slice() == [reading(&rt)].as_slice()
-    );
-    assert_eq!(rt; number_at(&shown[0], 1), Some(5));
-    assert_eq!(rt; number_at(&shown[0], 4), None);
-    let held = rows(&rt, alloc, "SELECT 7");
-    assert_eq!(rt;
-        contents_in(RecordKind::Readings, held.as_slice()),
-        Some(Contents::One(Content::Reading {
-            wh: WattHours::of(7).expect(&rt, "7")
-        }))
-    );
-    assert_eq!(rt;
-        contents_in(RecordKind::Readings, [].as_slice()),
-        Some(Contents::Nothing)
-    );
-    Ok(())
-}
-
-#[test]
 fn rows_that_are_no_records_of_the_office_are_foreign(rt: HostRuntime) -> Result<(), Fail> {
     let alloc = rt.alloc();
     for text in [
@@ -235,99 +181,5 @@ fn rows_that_are_no_records_of_the_office_are_foreign(rt: HostRuntime) -> Result
         .err(),
         Some(JudgeFault::Unordered)
     );
-    Ok(())
-}
-
-#[test]
-fn rows_tell_totals(rt: HostRuntime) -> Result<(), Fail> {
-    let alloc = rt.alloc();
-    let office = office(&rt, alloc);
-    let key = TotalKey::Energy {
-        owner: Some(AccountId(1)),
-        band: BandId(1),
-        direction: Direction::Export,
-    };
-    let shown = rows(
-        &rt,
-        alloc,
-        "SELECT 2, 1, 1, 0 UNION ALL SELECT 3, 1, 1, 5 UNION ALL SELECT 2, 2, 1, 5 UNION ALL SELECT 2, 1, 2, 5",
-    );
-    assert!(rt; total_of(TotalKind::Energies, &shown[0]) == Some((key, 0)));
-    assert!(rt; total_in(&office, TotalKind::Energies, &shown[0]) == Some((key, 0)));
-    assert!(rt; total_in(&office, TotalKind::Energies, &shown[1]).is_none());
-    assert!(rt; total_in(&office, TotalKind::Energies, &shown[2]).is_none());
-    assert!(rt; total_in(&office, TotalKind::Energies, &shown[3]).is_none());
-    let paid = rows(
-        &rt,
-        alloc,
-        "SELECT 1, 5000 UNION ALL SELECT 2, 1 UNION ALL SELECT 1, -1",
-    );
-    assert!(rt;
-        total_in(&office, TotalKind::Payments, &paid[0])
-            == Some((
-                TotalKey::TopUps {
-                    account: AccountId(1)
-                },
-                5_000
-            ))
-    );
-    assert!(rt; total_in(&office, TotalKind::Payments, &paid[1]).is_none());
-    assert!(rt; total_in(&office, TotalKind::Payments, &paid[2]).is_none());
-    Ok(())
-}
-
-#[test]
-fn the_row_of_the_office_is_judged(rt: HostRuntime) -> Result<(), Fail> {
-    let alloc = rt.alloc();
-    let own = b"ab".as_slice();
-    assert_eq!(rt;
-        judge_office(rows(&rt, alloc, "SELECT 1, x'6162'").as_slice(), own),
-        Ok(())
-    );
-    assert_eq!(rt; judge_office([].as_slice(), own), Err(OfficeFault::Missing));
-    assert_eq!(rt;
-        judge_office(rows(&rt, alloc, "SELECT 9, x'6162'").as_slice(), own),
-        Err(OfficeFault::Version)
-    );
-    assert_eq!(rt;
-        judge_office(rows(&rt, alloc, "SELECT 9, x'61'").as_slice(), own),
-        Err(OfficeFault::Version)
-    );
-    assert_eq!(rt;
-        judge_office(rows(&rt, alloc, "SELECT 1, x'61'").as_slice(), own),
-        Err(OfficeFault::Text)
-    );
-    assert_eq!(rt;
-        judge_office(rows(&rt, alloc, "SELECT 1, 'ab'").as_slice(), own),
-        Err(OfficeFault::Text)
-    );
-    Ok(())
-}
-
-#[test]
-fn values_are_given_as_they_are_told(rt: HostRuntime) -> Result<(), Fail> {
-    let alloc = rt.alloc();
-    let reference = Reference::of(b"P1".as_slice()).expect(&rt, "a reference");
-    let mut conn = Connection::open_in_memory(alloc)?;
-    let shown = conn.query_all(
-        "SELECT ?1, ?2, ?3, ?4, ?5, ?6",
-        &[
-            integer(4_294_967_295),
-            wide(999_999_999_990_000_000),
-            integer(register_place(Register::E0)),
-            integer(owner_place(Some(AccountId(0)))),
-            integer(direction_place(Direction::Export)),
-            words(&reference),
-        ],
-    )?;
-    let wide_told: i64 = shown[0].get(1)?;
-    let text: String = shown[0].get(5)?;
-    assert_eq!(rt; number_at(&shown[0], 0), Some(4_294_967_295));
-    assert_eq!(rt; wide_told, 999_999_999_990_000_000);
-    assert_eq!(rt; number_at(&shown[0], 2), Some(3));
-    assert_eq!(rt; number_at(&shown[0], 3), Some(1));
-    assert_eq!(rt; number_at(&shown[0], 4), Some(1));
-    assert_eq!(rt; text.as_str(), "P1");
-    assert_eq!(rt; owner_place(None), 0);
     Ok(())
 }
