@@ -1,10 +1,13 @@
 //! The book over a store in memory, on rows worked out by hand.
 
-ghost use Rattle.std.specs.Prelude.{◌≤◌, IsTrue, ◌↔◌, length};
+ghost use Rattle.std.specs.Prelude.{◌≡◌, ◌≤◌, None, IsTrue, ◌↔◌, length};
+ghost use Rattle.pw_model.specs.Shelf.{no_content};
 ghost use Rattle.pw_model.specs.Office.{AllOfOffice, most_records};
 ghost use Rattle.pw_tariff.specs.Office.{office_of};
 
 mod bodies;
+mod counted;
+mod kept;
 mod memory;
 
 use super::Book;
@@ -77,13 +80,29 @@ fn are_of_office(office: &Office, zone: &Zone, entries: &[Entry]) -> bool
 }
 
 fn empty_book(rt: &impl Abort, alloc: Global, limit: u32) -> Result<Book<MemoryShelf>, Fail> {
-    let office = Office::read(alloc, OFFICE.as_bytes())?;
-    Ok(book_of(rt, alloc, office, limit))
+    book_over(rt, alloc, MemoryShelf::new(alloc), limit)
 }
 
-fn book_of(rt: &impl Abort, alloc: Global, office: Office, limit: u32) -> Book<MemoryShelf> {
-    assert!(rt; 1 <= limit && limit <= 100);
-    Book::new(office, Zone::central(), MemoryShelf::new(alloc), limit)
+// A book over a store that holds nothing.
+fn book_over<S: Shelf + Drop>(
+    rt: &impl Abort,
+    alloc: Global,
+    shelf: S,
+    limit: u32,
+) -> Result<Book<S>, Fail>
+    requires empty { (S.state shelf).content ≡ no_content }
+    requires idle { (S.state shelf).begun ≡ None }
+{
+    let office = Office::read(alloc, OFFICE.as_bytes())?;
+    Ok(book_of(rt, office, shelf, limit))
+}
+
+fn book_of<S: Shelf>(rt: &impl Abort, office: Office, shelf: S, limit: u32) -> Book<S>
+    requires empty { (S.state shelf).content ≡ no_content }
+    requires idle { (S.state shelf).begun ≡ None }
+{
+    assert!(rt; 1 <= limit && limit <= 2_000);
+    Book::new(office, Zone::central(), shelf, limit)
 }
 
 fn post<S: Shelf>(

@@ -7,7 +7,7 @@ use super::{
 };
 use crate::{Book, BookFault, PostFault};
 use pw_model::Entry;
-use pw_shelf::Shelf;
+use pw_shelf::{MemoryShelf, Shelf};
 use pw_tariff::Office;
 use std::alloc::Global;
 use std::process::Abort;
@@ -48,7 +48,7 @@ fn memory_refused(rt: HostRuntime) -> Result<(), Fail> {
     let Ok(office) = Office::read(alloc, OFFICE.as_bytes()) else {
         return Ok(());
     };
-    let mut book = book_of(&rt, alloc, office, 100);
+    let mut book = book_of(&rt, office, MemoryShelf::new(alloc), 100);
     let entries = [
         reading(&rt, FIVE, 100_000),
         reading(&rt, SIX, 50_000),

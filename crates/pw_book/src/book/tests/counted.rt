@@ -1,0 +1,144 @@
+//! The book over a store that counts its calls and rows, and over one whose device fails.
+
+use super::{
+    FIRST, FIVE, NEW_YEAR, SECOND, SEVEN, all_agree, assigned, book_over, imported, paid, post,
+    reading, two_readings_told,
+};
+use crate::{BookFault, PostFault};
+use pw_model::Entry;
+use pw_shelf::{CountShelf, MemoryShelf};
+use std::alloc::{AllocError, Global};
+use std::process::Abort;
+use std::test::Fail;
+
+// Ten days behind the new year, 2024-01-11T05:00:00Z: an hour of one band, and no change of it near.
+const MIDDLE: u32 = FIVE + 777_600;
+
+// An owner, and readings five minutes apart from an instant on.
+fn rising(
+    rt: &impl Abort,
+    alloc: Global,
+    from: u32,
+    number: u32,
+) -> Result<Vec<Entry>, AllocError> {
+    let mut entries = Vec::new(alloc);
+    entries.push(assigned(rt, NEW_YEAR, Some(FIRST)))?;
+    let mut second = from;
+    let mut watt_hours = 1_000u64;
+    for _ in 0..number {
+        entries.push(reading(rt, second, watt_hours))?;
+        second = second.saturating_add(300);
+        watt_hours = watt_hours.saturating_add(100);
+    }
+    Ok(entries)
+}
+
+// The calls and rows that one more record takes over those held.
+fn cost_of(rt: &impl Abort, alloc: Global, held: &[Entry], fresh: Entry) -> Result<u64, Fail> {
+    let shelf = CountShelf::new(MemoryShelf::new(alloc));
+    let mut book = book_over(rt, alloc, shelf, 2_000)?;
+    let (taken, repeated) = post(rt, alloc, &mut book, held)?;
+    assert!(rt; held.len() <= 2_000);
+    assert_eq!(rt; (taken, repeated), (held.len() as u32, 0));
+    let before = book.shelf.seen();
+    assert_eq!(rt; post(rt, alloc, &mut book, &[fresh])?, (1, 0));
+    Ok(book.shelf.seen().saturating_sub(before))
+}
+
+// The cost of a reading in the middle of so many.
+fn reading_cost(rt: &impl Abort, alloc: Global, number: u32) -> Result<u64, Fail> {
+    let half = number / 2;
+    let from = MIDDLE.saturating_sub(half.saturating_mul(300));
+    let held = rising(rt, alloc, from, number)?;
+    let watt_hours = u64::from(half).saturating_mul(100).saturating_add(1_050);
+    cost_of(rt, alloc, &held, reading(rt, MIDDLE + 150, watt_hours))
+}
+
+// The cost of an assignment with so many readings behind the next one.
+fn assignment_cost(rt: &impl Abort, alloc: Global, number: u32) -> Result<u64, Fail> {
+    let mut held = rising(rt, alloc, MIDDLE, number.saturating_add(6))?;
+    held.push(assigned(rt, MIDDLE + 1_700, Some(FIRST)))?;
+    cost_of(rt, alloc, &held, assigned(rt, MIDDLE + 400, Some(SECOND)))
+}
+
+#[test]
+fn same_count_among_few_and_many(rt: HostRuntime) -> Result<(), Fail> {
+    let alloc = rt.alloc();
+    let few = reading_cost(&rt, alloc, 10)?;
+    assert!(rt; 0 < few);
+    assert_eq!(rt; reading_cost(&rt, alloc, 1_000)?, few);
+    let few = assignment_cost(&rt, alloc, 10)?;
+    assert!(rt; 0 < few);
+    assert_eq!(rt; assignment_cost(&rt, alloc, 1_000)?, few);
+    Ok(())
+}
+
+// Takes one upload over a device that fails at a call, and again where nothing was begun: what it was first answered.
+fn taken_failing(
+    rt: &impl Abort,
+    alloc: Global,
+    fail_at: u32,
+    abandon_fails: bool,
+) -> Result<Option<PostFault>, Fail> {
+    let shelf = CountShelf::failing(MemoryShelf::new(alloc), fail_at, abandon_fails);
+    let mut book = book_over(rt, alloc, shelf, 100)?;
+    let entries = [
+        assigned(rt, NEW_YEAR, Some(FIRST)),
+        reading(rt, FIVE, 1_000_000),
+        reading(rt, SEVEN, 1_003_001),
+        paid(rt, b"P1", 5_000),
+    ];
+    let fault = match post(rt, alloc, &mut book, &entries) {
+        Ok(accepted) => {
+            assert_eq!(rt; accepted, (4, 0));
+            return Ok(None);
+        }
+        Err(fault) => fault,
+    };
+    if fault == PostFault::Reopen {
+        assert_eq!(rt;
+            post(rt, alloc, &mut book, &entries),
+            Err(PostFault::Reopen)
+        );
+        assert_eq!(rt; book.count(), Err(BookFault::Reopen));
+        assert_eq!(rt; imported(rt, alloc, &mut book), Err(BookFault::Reopen));
+        return Ok(Some(fault));
+    }
+    all_agree(rt, alloc, &mut book, &[], 0)?;
+    assert_eq!(rt; post(rt, alloc, &mut book, &entries)?, (4, 0));
+    two_readings_told(rt, alloc, &mut book)?;
+    Ok(Some(fault))
+}
+
+#[test]
+fn failing_device(rt: HostRuntime) -> Result<(), Fail> {
+    let alloc = rt.alloc();
+    for fail_at in 1..200 {
+        let Some(fault) = taken_failing(&rt, alloc, fail_at, false)? else {
+            assert!(rt; fail_at > 20);
+            return Ok(());
+        };
+        assert_eq!(rt; fault, PostFault::Device);
+    }
+    panic!(rt; "an upload takes fewer calls")
+}
+
+#[test]
+fn failing_device_and_abandon(rt: HostRuntime) -> Result<(), Fail> {
+    let alloc = rt.alloc();
+    let mut begun = false;
+    for fail_at in 1..200 {
+        let Some(fault) = taken_failing(&rt, alloc, fail_at, true)? else {
+            assert!(rt; begun);
+            return Ok(());
+        };
+        begun = begun || fault == PostFault::Reopen;
+        let expected = if begun {
+            PostFault::Reopen
+        } else {
+            PostFault::Device
+        };
+        assert_eq!(rt; fault, expected);
+    }
+    panic!(rt; "an upload takes fewer calls")
+}
