@@ -4,5 +4,5 @@ use Rattle.pw_model.proofs.Truth.{empty-true}
 use Rattle.pw_tariff.specs.Office.{office_of}
 use Rattle.pw_book.proofs.book.tests.book_of.Goals as goal
 
-pub new-requires-2-clause-truth : goal.new-requires-2-clause-truth
-new-requires-2-clause-truth g c = λ k. subst (IsTrueContent (office_of c.args.office)) (sym g.met.empty) (empty-true (office_of c.args.office))
+pub new-requires-clause-truth : goal.new-requires-clause-truth
+new-requires-clause-truth g c = λ k. subst (IsTrueContent (office_of c.args.office)) (sym c.requires.empty) (empty-true (office_of c.args.office))
