@@ -2,9 +2,9 @@
 use Rattle.std.proofs.Common.{◌≡◌, ◌==◌, ℕ, suc, ◌+◌, ◌-◌, ◌<◌, ◌≤◌, ◌⊎◌, Bool, true, cond, nat_lt, Option, Some, None, List, [], ◌∷◌, ◌++◌, length, take, drop, get_or, refl, ap, sym, subst, ◌∙◌, inl, inr, arith, Less}
 use Rattle.std.specs.Cmp.{nat_cmp_is}
 use Rattle.std.specs.List.{filter}
-use Rattle.std.proofs.lemmas.Bool.{cases_Bool, cases_eq, cases_lt, eq-eqb, ne_eqb, lt-ltb, ltb-true}
+use Rattle.std.proofs.lemmas.Bool.{cases_Bool, cases_eq, cases_lt, eq-eqb, le-ltb, ne_eqb, lt-ltb, ltb-true}
 use Rattle.std.proofs.Math.Seq.{drop-cons}
-use Rattle.std.proofs.lemmas.List.{append_assoc, take-append-drop, take_all, take_more}
+use Rattle.std.proofs.lemmas.List.{append_assoc, length-append, take-append-drop, take_all, take_more}
 use Rattle.std.proofs.lemmas.Option.{none-some, same_Some}
 use Rattle.pw_flow.proofs.Points.{option-cases}
 use Rattle.pw_time.specs.declared.instant.TheConstants.{LAST_SECOND}
@@ -201,3 +201,52 @@ started-none told z owner xs first mid all l f w m a =
     let q : all ≡ filter (early z) xs ++ start_listed z owner (filter (late z) xs) = rw (a, m, f, w) refl in
     let P : List Start → Type 0 = λ ys. ListsSeconds (λ t. cond (t == z) owner (told t)) ys in
     subst P (sym q) (started told z owner xs l)
+
+-- ---- how many
+-- all that stands behind the first of a list, where that isn't before the second
+late-all : (z : ℕ) (x : Start) (xs : List Start) → z ≤ x.0 → IsInOrder by_second (x ∷ xs) → length (filter (late z) xs) ≡ length xs
+late-all z x [] l r = refl
+late-all z x (y ∷ ys) l r =
+    let a = less-is x.0 y.0 (before-member by_second x y (y ∷ ys) r.0 (inl refl)) in
+    let b : z < y.0 = omega (arith, a, l) in
+    rw (lt-ltb z y.0 b) (ap suc (late-all z y ys (omega (arith, b)) r.1))
+
+-- all but one stand before a second or behind it
+parts-few : (z : ℕ) (xs : List Start) → IsInOrder by_second xs → length xs ≤ length (filter (early z) xs) + length (filter (late z) xs) + 1
+parts-few z [] r = omega arith
+parts-few z (x ∷ xs) r =
+    let rest = parts-few z xs r.1 in
+    elim (cases_lt x.0 z) [
+      | inl a ↦ rw (lt-ltb x.0 z a, le-ltb z x.0 (omega (arith, a))) (omega (arith, rest))
+      | inr a ↦ elim (cases_lt z x.0) [
+        | inl b ↦ rw (lt-ltb z x.0 b, le-ltb x.0 z a) (omega (arith, rest))
+        | inr b ↦ (let c = late-all z x xs a r in rw (le-ltb z x.0 b, le-ltb x.0 z a) (omega (arith, c)))
+      ]
+    ]
+
+listed-more : (o : Option (Option AccountId)) (z : ℕ) (xs : List Start) → length xs ≤ length (start_listed z o xs)
+listed-more None z xs = omega arith
+listed-more (Some a) z xs = omega arith
+
+told-alike : (told other : ℕ → Option (Option AccountId)) (xs : List Start) → ((t : ℕ) → told t ≡ other t) → ListsSeconds told xs → ListsSeconds other xs
+told-alike told other xs e l = record {
+  rising = l.rising;
+  members = λ x. (λ m. sym (e x.0) ∙ (l.members x).0 m, λ p. (l.members x).1 (e x.0 ∙ p));
+}
+
+-- where other starts are told at one second alone, there is one more at most
+pub starts-more : (told other : ℕ → Option (Option AccountId)) (z most : ℕ) → ((t : ℕ) → (t ≡ z → ⊥) → other t ≡ told t) →
+    ((xs : List Start) → ListsSeconds told xs → length xs ≤ most) → (xs : List Start) → ListsSeconds other xs → length xs ≤ most + 1
+starts-more told other z most same few xs l =
+    let first = filter (early z) xs in
+    let second = filter (late z) xs in
+    let ys = first ++ start_listed z (told z) second in
+    let e : (t : ℕ) → cond (t == z) (told z) (other t) ≡ told t = λ t. elim (cases_eq t z) [
+      | inl q ↦ rw (eq-eqb t z q) (ap told (sym q))
+      | inr n ↦ rw (ne_eqb t z n) (same t n)
+    ] in
+    let f = few ys (told-alike (λ t. cond (t == z) (told z) (other t)) told ys e (started other z (told z) xs l)) in
+    let a = parts-few z xs l.rising in
+    let b = listed-more (told z) z second in
+    let c = length-append first (start_listed z (told z) second) in
+    omega (arith, a, b, c, f)

@@ -1,20 +1,26 @@
 -- An entry that is added to a true content.
-use Rattle.std.proofs.Common.{◌≡◌, ℕ, ◌+◌, ◌*◌, ◌<◌, ◌≤◌, ◌⊎◌, List, [], ◌∷◌, ◌++◌, length, refl, ap, sym, subst, ◌∙◌, arith, inl, inr}
+use Rattle.std.proofs.Common.{◌≡◌, ℕ, ◌+◌, ◌*◌, ◌<◌, ◌≤◌, ◌⊎◌, Option, cond, List, [], ◌∷◌, ◌++◌, length, refl, ap, sym, subst, ◌∙◌, arith, inl, inr}
+use Rattle.std.proofs.lemmas.Bool.{cases_Bool}
 use Rattle.pw_obis.specs.declared.reference.Register.{Register}
+use Rattle.pw_tariff.specs.declared.ids.AccountId.{AccountId}
+use Rattle.pw_tariff.specs.declared.ids.MeterId.{MeterId}
 use Rattle.pw_tariff.specs.Office.{OfficeRules}
 use Rattle.pw_model.specs.declared.records.Key.{Key}
 use Rattle.pw_model.specs.declared.records.Key.TheVariants as key
 use Rattle.pw_model.specs.declared.records.Contents.{Contents}
 use Rattle.pw_model.specs.declared.records.Contents.TheVariants.{Nothing, One, Several}
 use Rattle.pw_model.specs.declared.records.Entry.{Entry}
-use Rattle.pw_model.specs.Counting.{IsInserted, Member, SameMembers, contents_at}
+use Rattle.pw_model.specs.Counting.{IsInserted, Member, SameMembers, assignment_key, contents_at}
 use Rattle.pw_model.specs.Office.{AllOfOffice, IsOfOffice, most_records}
+use Rattle.pw_model.specs.Same.{same_key}
 use Rattle.pw_model.specs.Shelf.{IsTrueContent, ShelfContent}
 use Rattle.pw_model.proofs.Counting.{inserted-same}
+use Rattle.pw_model.proofs.Same.{same_key-decides}
+use Rattle.pw_shelf.specs.Changes.{starts_with}
 use Rattle.pw_shelf.specs.Rows.{rows_at}
 use Rattle.pw_shelf.specs.State.{IsWithRecord}
 use Rattle.pw_book.specs.Cost.{HasStarts, classes_of}
-use Rattle.pw_book.specs.inner.Added.{IsJustAdded, IsPut, TakesAtMost}
+use Rattle.pw_book.specs.inner.Added.{ChangesOneStart, IsJustAdded, IsPut, TakesAtMost}
 use Rattle.pw_book.specs.inner.Settling.{HavePoints}
 use Rattle.pw_book.proofs.Groups.{member-left, member-right, member-split}
 
@@ -90,6 +96,39 @@ takes-on office (key.Reading m r t) old new a b d p q l h = λ starts s. let x =
 takes-on office (key.Assignment m t) old new a b d p q l h = λ starts points s v.
     let x = h starts points (starts-same old new m.0 starts p s) (points-same old new m.0 t points p q v) in omega (arith, x, l)
 takes-on office (key.TopUp r) old new a b d p q l h = omega (arith, h, l)
+
+-- ---- the start of one key alone
+abbrev meter_in : Key → ℕ
+meter_in (key.Assignment m t) = m.0
+meter_in _ = 0
+
+abbrev second_in : Key → ℕ
+second_in (key.Assignment m t) = t
+second_in _ = 0
+
+pub one-start : (m : MeterId) (t : ℕ) (owner : Option (Option AccountId)) (old new : ShelfContent) → new.point ≡ old.point → new.start ≡ starts_with old.start m.0 t owner → ChangesOneStart (key.Assignment m t) old new
+one-start m t owner old new p s = (
+  p,
+  λ n u h. ap (λ (f : ℕ → ℕ → Option (Option AccountId)). f n u) s ∙ elim (cases_Bool (same_key (assignment_key m.0 t) (assignment_key n u))) [
+    | inl y ↦ (let i : assignment_key m.0 t ≡ assignment_key n u = (same_key-decides (assignment_key m.0 t) (assignment_key n u)).0 y in
+        absurd (h (sym (ap meter_in i), sym (ap second_in i))))
+    | inr f ↦ ap (λ b. cond b owner (old.start n u)) f
+  ],
+)
+
+pub starts-kept : (k : Key) (c : ShelfContent) → ChangesOneStart k c c
+starts-kept (key.Reading m r t) c = tt
+starts-kept (key.Assignment m t) c = (refl, λ n u h. refl)
+starts-kept (key.TopUp r) c = tt
+
+-- behind a record that was added first
+pub added-then : (k : Key) (e : Entry) (old one two mid new : ShelfContent) → one ≡ old → two ≡ one → IsWithRecord two e mid → ChangesOneStart k mid new → ChangesOneStart k old new
+added-then (key.Reading m r t) e old one two mid new p q w h = tt
+added-then (key.Assignment m t) e old one two mid new p q w h =
+    let P : ShelfContent → Type 0 = λ c. IsWithRecord c e mid in
+    let v : IsWithRecord old e mid = subst P (q ∙ p) w in
+    (h.0 ∙ v.point, λ n u d. h.1 n u d ∙ ap (λ (f : ℕ → ℕ → Option (Option AccountId)). f n u) v.start)
+added-then (key.TopUp r) e old one two mid new p q w h = tt
 
 pub takes-more : (office : OfficeRules) (k : Key) (e : Entry) (old one two new : ShelfContent) (a b c d f : ℕ) (before : Contents) → one ≡ old → two ≡ one → IsWithRecord two e new →
     b ≡ a + 1 + 0 → c ≡ b + 1 + rows_at before → d ≡ c + 1 → TakesAtMost 0 office new k d f → TakesAtMost 5 office old k a f

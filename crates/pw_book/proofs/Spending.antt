@@ -1,5 +1,7 @@
 -- How many calls and rows the entries of an upload take together.
-use Rattle.std.proofs.Common.{◌≡◌, ℕ, zero, ◌+◌, ◌*◌, ◌<◌, ◌≤◌, List, [], ◌∷◌, length, get_or, take, mul-le-mul_right, mul-le-mul_left, refl, inl, ap, sym, subst, ◌∙◌, arith}
+use Rattle.std.proofs.Common.{◌≡◌, ℕ, zero, ◌+◌, ◌*◌, ◌<◌, ◌≤◌, Option, List, [], ◌∷◌, length, get_or, take, mul-le-mul_right, mul-le-mul_left, refl, inl, inr, ap, sym, subst, ◌∙◌, arith}
+use Rattle.pw_obis.specs.declared.reference.Register.{Register}
+use Rattle.pw_tariff.specs.declared.ids.AccountId.{AccountId}
 use Rattle.pw_tariff.specs.Office.{OfficeRules}
 use Rattle.pw_model.specs.declared.records.Key.{Key}
 use Rattle.pw_model.specs.declared.records.Key.TheVariants as key
@@ -7,8 +9,10 @@ use Rattle.pw_model.specs.declared.records.Entry.{Entry}
 use Rattle.pw_model.specs.Counting.{Member, EachOnce, SameMembers}
 use Rattle.pw_model.specs.Lists.{record_count}
 use Rattle.pw_model.specs.Shelf.{ShelfContent}
-use Rattle.pw_book.specs.Cost.{AreReadingsWith, AreTopUps, HasStarts, HasStartsOf, IsCheap, IsReading, IsTopUp, classes_of}
-use Rattle.pw_book.specs.inner.Added.{CostsAtMost, TakesAtMost}
+use Rattle.pw_book.specs.Cost.{AreAssignmentsWith, AreReadingsWith, AreTopUps, HasPoints, HasStarts, HasStartsOf, IsAssignment, IsAssignmentUpToNext, IsAssignmentWith, IsCheap, IsReading, IsTopUp, IsUpToNextStart, classes_of}
+use Rattle.pw_book.specs.inner.Added.{ChangesOneStart, CostsAtMost, TakesAtMost}
+use Rattle.pw_book.specs.inner.Settling.{HavePoints}
+use Rattle.pw_book.proofs.NewStarts.{starts-more}
 use Rattle.pw_book.proofs.Putting.{starts-same}
 use Rattle.pw_book.proofs.EachOne.{record-count, record-count_same}
 
@@ -23,6 +27,92 @@ top-up-takes office (key.Reading m r t) c old new i x = absurd i
 top-up-takes office (key.Assignment m t) c old new i x = absurd i
 top-up-takes office (key.TopUp r) c old new i x = omega (arith, x)
 
+-- the points from an assignment's start up to the next, or all of them
+have-up-to : (c : ShelfContent) (m t points : ℕ) (h : HasPoints (IsUpToNextStart c m t) c m points) → HavePoints c m t h.each
+have-up-to c m t points h = λ r ps l. h.few r ps l.rising (λ a k. let x = (l.members a).0 k in ((x.0, x.1), x.2))
+
+have-all : (c d : ShelfContent) (m t points : ℕ) (h : HasPoints (λ t. Unit {0}) c m points) → d.point ≡ c.point → HavePoints d m t h.each
+have-all c d m t points h p = λ r ps l. h.few r ps l.rising (λ a k. let x = (l.members a).0 k in (tt, ap (λ (f : ℕ → Register → ℕ → Option ℕ). f m r a.0) (sym p) ∙ x.2))
+
+assignment-takes : (office : OfficeRules) (k : Key) (c : ShelfContent) (starts points old new : ℕ) → IsAssignmentUpToNext c starts points k → TakesAtMost 5 office c k old new → new ≤ old + (37 + starts + points + 6 * classes_of office)
+assignment-takes office (key.Reading m r t) c starts points old new i x = absurd i
+assignment-takes office (key.Assignment m t) c starts points old new i x =
+    let y = x starts i.1.each i.0 (have-up-to c m.0 t points i.1) in
+    let z = i.1.all in
+    omega (arith, y, z)
+assignment-takes office (key.TopUp r) c starts points old new i x = absurd i
+
+-- the meter of an assignment has so many starts
+abbrev pub HasStartsFor : ShelfContent → ℕ → Key → Type 0
+HasStartsFor c most (key.Assignment m t) = HasStarts c m.0 most
+HasStartsFor c most _ = Unit {0}
+
+assignment-takes-later : (office : OfficeRules) (k : Key) (was c : ShelfContent) (starts more points old new : ℕ) → IsAssignmentWith was starts points k → c.point ≡ was.point → HasStartsFor c more k → TakesAtMost 5 office c k old new →
+    new ≤ old + (37 + more + points + 6 * classes_of office)
+assignment-takes-later office (key.Reading m r t) was c starts more points old new i p h x = absurd i
+assignment-takes-later office (key.Assignment m t) was c starts more points old new i p h x =
+    let y = x more i.1.each h (have-all was c m.0 t points i.1 p) in
+    let z = i.1.all in
+    omega (arith, y, z)
+assignment-takes-later office (key.TopUp r) was c starts more points old new i p h x = absurd i
+
+-- one start more at most behind an assignment
+starts-later : (k l : Key) (c d : ShelfContent) (most : ℕ) → ChangesOneStart k c d → IsAssignment k → HasStartsFor c most l → HasStartsFor d (most + 1) l
+starts-later (key.Assignment m t) (key.Assignment n u) c d most h a s = starts-more (c.start n.0) (d.start n.0) t most (λ v q. h.1 n.0 v (λ b. q b.1)) s
+starts-later (key.Assignment m t) (key.Reading n r u) c d most h a s = tt
+starts-later (key.Assignment m t) (key.TopUp r) c d most h a s = tt
+starts-later (key.Reading m r t) l c d most h a s = absurd a
+starts-later (key.TopUp r) l c d most h a s = absurd a
+
+is-assignment : (k : Key) (c : ShelfContent) (starts points : ℕ) → IsAssignmentWith c starts points k → IsAssignment k
+is-assignment (key.Reading m r t) c starts points i = absurd i
+is-assignment (key.Assignment m t) c starts points i = tt
+is-assignment (key.TopUp r) c starts points i = absurd i
+
+starts-at-first : (k : Key) (c : ShelfContent) (starts points : ℕ) → IsAssignmentWith c starts points k → HasStartsFor c starts k
+starts-at-first (key.Reading m r t) c starts points i = absurd i
+starts-at-first (key.Assignment m t) c starts points i = i.0
+starts-at-first (key.TopUp r) c starts points i = absurd i
+
+-- what holds of the points and starts behind so many assignments of an upload
+pub record IsBehind (entries : List Entry) (i : ℕ) (was c : ShelfContent) (starts : ℕ) : Type 0 where
+  pub points : c.point ≡ was.point
+  pub starts_are : (f : Entry) → Member f entries → HasStartsFor c (starts + i) f.key
+
+pub behind-none : (entries : List Entry) (was c : ShelfContent) (starts points : ℕ) → c ≡ was → AreAssignmentsWith was starts points entries → IsBehind entries 0 was c starts
+behind-none entries was c starts points q a = record {
+  points = ap (λ (x : ShelfContent). x.point) q;
+  starts_are = λ f m.
+      let h = starts-at-first f.key was starts points (a f m) in
+      let z : starts + 0 ≡ starts = omega arith in
+      let P : ShelfContent → Type 0 = λ x. HasStartsFor x starts f.key in
+      rw z (subst P (sym q) h);
+}
+
+pub behind-next : (entries : List Entry) (e : Entry) (i : ℕ) (was c d : ShelfContent) (starts points : ℕ) → Member e entries → AreAssignmentsWith was starts points entries → IsBehind entries i was c starts → ChangesOneStart e.key c d →
+    IsBehind entries (i + 1) was d starts
+behind-next entries e i was c d starts points m a b h =
+    let k = is-assignment e.key was starts points (a e m) in
+    record {
+      points = points-kept e.key c d k h ∙ b.points;
+      starts_are = λ f n.
+          let z : starts + (i + 1) ≡ starts + i + 1 = omega arith in
+          let s = starts-later e.key f.key c d (starts + i) h k (b.starts_are f n) in
+          rw z s;
+    }
+  where
+    points-kept : (k : Key) (c d : ShelfContent) → IsAssignment k → ChangesOneStart k c d → d.point ≡ c.point
+    points-kept (key.Reading m r t) c d a h = absurd a
+    points-kept (key.Assignment m t) c d a h = h.0
+    points-kept (key.TopUp r) c d a h = absurd a
+
+pub assignments-next : (office : OfficeRules) (entries : List Entry) (e : Entry) (i : ℕ) (was c : ShelfContent) (starts points first old new : ℕ) → i < length entries → Member e entries → AreAssignmentsWith was starts points entries →
+    IsBehind entries i was c starts → old ≤ first + i * (37 + (starts + length entries) + points + 6 * classes_of office) → TakesAtMost 5 office c e.key old new →
+    new ≤ first + (i + 1) * (37 + (starts + length entries) + points + 6 * classes_of office)
+assignments-next office entries e i was c starts points first old new j m a b l t =
+    let x = assignment-takes-later office e.key was c starts (starts + i) points old new (a e m) b.points (b.starts_are e m) t in
+    omega (arith, l, x, j)
+
 pub readings-next : (office : OfficeRules) (entries : List Entry) (e : Entry) (i : ℕ) (was c : ShelfContent) (starts first old new : ℕ) → Member e entries → AreReadingsWith was starts entries → c.start ≡ was.start →
     old ≤ first + i * (11 + starts + 6 * classes_of office) → TakesAtMost 5 office c e.key old new → new ≤ first + (i + 1) * (11 + starts + 6 * classes_of office)
 readings-next office entries e i was c starts first old new m a p l t =
@@ -36,14 +126,38 @@ top-ups-next office entries e i c first old new m a l t =
     let x = top-up-takes office e.key c old new (a e m) t in
     omega (arith, l, x)
 
+-- the one assignment of an upload
+pub only-next : (office : OfficeRules) (entries : List Entry) (e f : Entry) (i : ℕ) (was c : ShelfContent) (starts points first old new : ℕ) → entries ≡ f ∷ [] → i < length entries → Member e entries → IsAssignmentUpToNext was starts points f.key →
+    (i ≡ 0 → (c ≡ was) × (old ≡ first)) → TakesAtMost 5 office c e.key old new → new ≤ first + (37 + starts + points + 6 * classes_of office)
+only-next office entries e f i was c starts points first old new q l m a z t =
+    let n : length entries ≡ 1 = ap (λ (xs : List Entry). length xs) q in
+    let z = z (omega (arith, n, l)) in
+    let P : List Entry → Type 0 = λ xs. Member e xs in
+    let same : e ≡ f = elim (subst P q m) [ inl k ↦ k | inr k ↦ absurd k ] in
+    let Q : Entry → Type 0 = λ x. IsAssignmentUpToNext was starts points x.key in
+    let R : ShelfContent → Type 0 = λ x. TakesAtMost 5 office x e.key old new in
+    let x = assignment-takes office e.key was starts points old new (subst Q (sym same) a) (subst R z.0 t) in
+    let w = z.1 in
+    omega (arith, x, w)
+
 -- ---- as far as an upload came
 within : (i n a : ℕ) → i ≤ n → i * a ≤ n * a
 within i n a l = mul-le-mul_right a l
 
 pub costs-so-far : (office : OfficeRules) (entries : List Entry) (i : ℕ) (was : ShelfContent) (first now last : ℕ) → i ≤ length entries →
-    ((starts : ℕ) → AreReadingsWith was starts entries → now ≤ first + i * (11 + starts + 6 * classes_of office)) → (AreTopUps entries → now ≤ first + i * 8) → last ≤ now + 1 →
+    ((starts : ℕ) → AreReadingsWith was starts entries → now ≤ first + i * (11 + starts + 6 * classes_of office)) →
+    ((e : Entry) (starts points : ℕ) → entries ≡ e ∷ [] → IsAssignmentUpToNext was starts points e.key → now ≤ first + i * (37 + starts + points + 6 * classes_of office)) →
+    ((starts points : ℕ) → AreAssignmentsWith was starts points entries → now ≤ first + i * (37 + (starts + length entries) + points + 6 * classes_of office)) →
+    (AreTopUps entries → now ≤ first + i * 8) → last ≤ now + 1 →
     CostsAtMost 1 office entries was first last
-costs-so-far office entries i was first now last l r t h = record {
+costs-so-far office entries i was first now last l r one several t h = record {
+  assignment = λ e starts points q a.
+      let x = one e starts points q a in
+      let n : length entries ≡ 1 = ap (λ (xs : List Entry). length xs) q in
+      let y = within i (length entries) (37 + starts + points + 6 * classes_of office) l in
+      let z : length entries * (37 + starts + points + 6 * classes_of office) ≡ 37 + starts + points + 6 * classes_of office = rw n (omega arith) in
+      omega (arith, x, y, z, h);
+  assignments = λ starts points a. let x = several starts points a in let y = within i (length entries) (37 + (starts + length entries) + points + 6 * classes_of office) l in omega (arith, x, y, h);
   readings = λ starts a. let x = r starts a in let y = within i (length entries) (11 + starts + 6 * classes_of office) l in omega (arith, x, y, h);
   top_ups = λ a. let x = t a in omega (arith, x, l, h);
   nothing = λ e.
@@ -55,9 +169,20 @@ costs-so-far office entries i was first now last l r t h = record {
 -- one that failed on its way
 pub costs-next : (office : OfficeRules) (entries : List Entry) (e : Entry) (i : ℕ) (was c : ShelfContent) (first now last : ℕ) → i < length entries → Member e entries →
     ((starts : ℕ) → AreReadingsWith was starts entries → c.start ≡ was.start) →
-    ((starts : ℕ) → AreReadingsWith was starts entries → now ≤ first + i * (11 + starts + 6 * classes_of office)) → (AreTopUps entries → now ≤ first + i * 8) → TakesAtMost 5 office c e.key now last →
+    ((starts : ℕ) → AreReadingsWith was starts entries → now ≤ first + i * (11 + starts + 6 * classes_of office)) →
+    (i ≡ 0 → (c ≡ was) × (now ≡ first)) →
+    ((starts points : ℕ) → AreAssignmentsWith was starts points entries → IsBehind entries i was c starts) →
+    ((starts points : ℕ) → AreAssignmentsWith was starts points entries → now ≤ first + i * (37 + (starts + length entries) + points + 6 * classes_of office)) →
+    (AreTopUps entries → now ≤ first + i * 8) → TakesAtMost 5 office c e.key now last →
     CostsAtMost 1 office entries was first last
-costs-next office entries e i was c first now last l m p r t h = record {
+costs-next office entries e i was c first now last l m p r z b several t h = record {
+  assignment = λ f starts points q a.
+      let x = only-next office entries e f i was c starts points first now last q l m a z h in
+      omega (arith, x);
+  assignments = λ starts points a.
+      let x = assignments-next office entries e i was c starts points first now last l m a (b starts points a) (several starts points a) h in
+      let y = within (i + 1) (length entries) (37 + (starts + length entries) + points + 6 * classes_of office) (omega (arith, l)) in
+      omega (arith, x, y);
   readings = λ starts a.
       let x = readings-next office entries e i was c starts first now last m a (p starts a) (r starts a) h in
       let y = within (i + 1) (length entries) (11 + starts + 6 * classes_of office) (omega (arith, l)) in
@@ -73,6 +198,14 @@ costs-more office entries c d old mid now new q b t h = record {
       let P : ShelfContent → Type 0 = λ x. AreReadingsWith x starts entries in
       let x = t.readings starts (subst P (sym q) a) in
       omega (arith, x, b, h);
+  assignment = λ e starts points k a.
+      let P : ShelfContent → Type 0 = λ x. IsAssignmentUpToNext x starts points e.key in
+      let x = t.assignment e starts points k (subst P (sym q) a) in
+      omega (arith, x, b, h);
+  assignments = λ starts points a.
+      let P : ShelfContent → Type 0 = λ x. AreAssignmentsWith x starts points entries in
+      let x = t.assignments starts points (subst P (sym q) a) in
+      omega (arith, x, b, h);
   top_ups = λ a. let x = t.top_ups a in omega (arith, x, b, h);
   nothing = λ e. let x = t.nothing e in omega (arith, x, b, h);
 }
@@ -80,6 +213,22 @@ costs-more office entries c d old mid now new q b t h = record {
 -- ---- an upload
 products : (n s c : ℕ) → 1 ≤ n → 1 + n + 3 + n * (11 + s + 6 * c) ≤ n * (24 + 4 * (s + 1) + 6 * c)
 products n s c l = let x : 16 + s + 6 * c ≤ 24 + 4 * (s + 1) + 6 * c = omega arith in let y = mul-le-mul_left n x in omega (arith, y, l)
+
+products-of-assignments : (n s p c : ℕ) → 1 ≤ n → 1 + n + 3 + n * (37 + (s + n) + p + 6 * c) ≤ n * (56 + 4 * (s + n + 1) + 2 * p + 12 * c)
+products-of-assignments n s p c l =
+    let x : 42 + (s + n) + p + 6 * c ≤ 56 + 4 * (s + n + 1) + 2 * p + 12 * c = omega arith in
+    let y = mul-le-mul_left n x in
+    omega (arith, y, l)
+
+-- the distinct entries of an upload of one entry
+one-distinct : (e : Entry) (entries distinct : List Entry) → EachOnce distinct → SameMembers distinct entries → SameMembers entries (e ∷ []) → distinct ≡ e ∷ []
+one-distinct e entries distinct o m a =
+    alone distinct o ((m e).1 ((a e).1 (inl refl))) (λ f k. elim ((a f).0 ((m f).0 k)) [ inl q ↦ q | inr b ↦ absurd b ])
+  where
+    alone : (xs : List Entry) → EachOnce xs → Member e xs → ((f : Entry) → Member f xs → f ≡ e) → xs ≡ e ∷ []
+    alone [] o m a = absurd m
+    alone (x ∷ []) o m a = ap (λ y. y ∷ []) (a x (inl refl))
+    alone (x ∷ y ∷ ys) o m a = absurd (o.0 (inl (a x (inl refl) ∙ sym (a y (inr (inl refl))))))
 
 same-count : (entries distinct : List Entry) → EachOnce distinct → SameMembers distinct entries → record_count entries ≡ length distinct
 same-count entries distinct o m = sym (record-count_same distinct entries m) ∙ record-count distinct o
@@ -89,6 +238,10 @@ cheap-so-far office entries distinct c old new o m h =
     let n = same-count entries distinct o m in
     record {
       readings = λ starts l a. let p = products (record_count entries) starts (classes_of office) l in omega (arith, h, n, p);
+      assignment = λ e starts points a i.
+          let k : length distinct ≡ 1 = ap (λ (xs : List Entry). length xs) (one-distinct e entries distinct o m a) in
+          omega (arith, h, k);
+      assignments = λ starts points l a. let p = products-of-assignments (record_count entries) starts points (classes_of office) l in omega (arith, h, n, p);
       top_ups = λ l a. omega (arith, h, n, l);
       nothing = λ e. let z = none-distinct entries distinct m e in omega (arith, h, z);
     }
@@ -108,6 +261,20 @@ cheap-whole office entries distinct c d old mid new o m q h t =
           let b : AreReadingsWith d starts distinct = subst P (sym q) (λ e k. a e ((m e).0 k)) in
           let x = t.readings starts b in
           let y : length distinct * (11 + starts + 6 * classes_of office) ≡ record_count entries * (11 + starts + 6 * classes_of office) = ap (λ k. k * (11 + starts + 6 * classes_of office)) (sym n) in
+          omega (arith, h, n, p, x, y);
+      assignment = λ e starts points a i.
+          let only = one-distinct e entries distinct o m a in
+          let k : length distinct ≡ 1 = ap (λ (xs : List Entry). length xs) only in
+          let P : ShelfContent → Type 0 = λ x. IsAssignmentUpToNext x starts points e.key in
+          let x = t.assignment e starts points only (subst P (sym q) i) in
+          omega (arith, h, k, x);
+      assignments = λ starts points l a.
+          let p = products-of-assignments (record_count entries) starts points (classes_of office) l in
+          let P : ShelfContent → Type 0 = λ x. AreAssignmentsWith x starts points distinct in
+          let b : AreAssignmentsWith d starts points distinct = subst P (sym q) (λ e k. a e ((m e).0 k)) in
+          let x = t.assignments starts points b in
+          let y : length distinct * (37 + (starts + length distinct) + points + 6 * classes_of office) ≡ record_count entries * (37 + (starts + record_count entries) + points + 6 * classes_of office) =
+          ap (λ k. k * (37 + (starts + k) + points + 6 * classes_of office)) (sym n) in
           omega (arith, h, n, p, x, y);
       top_ups = λ l a. let x = t.top_ups (λ e k. a e ((m e).0 k)) in omega (arith, h, n, l, x);
       nothing = λ e.

@@ -1,15 +1,18 @@
 -- How many calls of the store and rows an upload takes.
 -- (A promise of this project: whatever the number of records.)
-use Rattle.std.specs.Prelude.{◌≡◌, ℕ, ◌+◌, ◌*◌, ◌≤◌, Option, List, [], length}
+use Rattle.std.specs.Prelude.{◌≡◌, ℕ, ◌+◌, ◌*◌, ◌<◌, ◌≤◌, Option, None, Some, List, [], ◌∷◌, length}
+use Rattle.pw_obis.specs.declared.reference.Register.{Register}
 use Rattle.pw_tariff.specs.declared.ids.AccountId.{AccountId}
+use Rattle.pw_tariff.specs.declared.ids.Direction.TheVariants.{Import, Export}
 use Rattle.pw_tariff.specs.Office.{OfficeRules}
 use Rattle.pw_model.specs.declared.records.Key.{Key}
 use Rattle.pw_model.specs.declared.records.Key.TheVariants as key
 use Rattle.pw_model.specs.declared.records.Entry.{Entry}
-use Rattle.pw_model.specs.Counting.{Member}
-use Rattle.pw_model.specs.Lists.{record_count}
+use Rattle.pw_model.specs.Counting.{Member, SameMembers}
+use Rattle.pw_model.specs.Energy.{over_registers}
+use Rattle.pw_model.specs.Lists.{IsInOrder, record_count}
 use Rattle.pw_model.specs.Shelf.{ShelfContent}
-use Rattle.pw_shelf.specs.Seconds.{ListsSeconds}
+use Rattle.pw_shelf.specs.Seconds.{ListsSeconds, by_second}
 
 -- the totals of energy of a direction: one for each band, of nobody and of each account
 abbrev pub classes_of : OfficeRules → ℕ
@@ -45,11 +48,52 @@ IsTopUp _ = ⊥
 abbrev pub AreTopUps : List Entry → Type 0
 AreTopUps entries = (e : Entry) → Member e entries → IsTopUp e.key
 
+-- ---- assignments
+abbrev pub IsAssignment : Key → Type 0
+IsAssignment (key.Assignment m t) = Unit {0}
+IsAssignment _ = ⊥
+
+-- from one second on, and before each counting start of the meter behind it
+abbrev pub IsBeforeNextStart : ShelfContent → ℕ → ℕ → ℕ → Type 0
+IsBeforeNextStart c m from t = (s : ℕ) → from < s → s ≤ t → c.start m s ≡ None
+
+abbrev pub IsUpToNextStart : ShelfContent → ℕ → ℕ → ℕ → Type 0
+IsUpToNextStart c m from t = (from ≤ t) × IsBeforeNextStart c m from t
+
+-- a register has so many points at most at the seconds asked for: no list of them is longer
+abbrev pub HasPointsAt : (ℕ → Type 0) → (ℕ → Option ℕ) → ℕ → Type 0
+HasPointsAt asked told most = (points : List (ℕ × ℕ)) → IsInOrder by_second points →
+    ((a : ℕ × ℕ) → Member a points → asked a.0 × (told a.0 ≡ Some a.1)) → length points ≤ most
+
+-- so has a meter, over its six registers
+pub record HasPoints (asked : ℕ → Type 0) (c : ShelfContent) (m most : ℕ) : Type 0 where
+  pub each : Register → ℕ
+  pub few : (r : Register) → HasPointsAt asked (c.point m r) (each r)
+  pub all : over_registers Import each + over_registers Export each ≤ most
+
+-- the meter of an assignment has so many counting starts at most, and so many points from the assignment's start up to the
+-- next counting start
+abbrev pub IsAssignmentUpToNext : ShelfContent → ℕ → ℕ → Key → Type 0
+IsAssignmentUpToNext c starts points (key.Assignment m t) = HasStarts c m.0 starts × HasPoints (IsUpToNextStart c m.0 t) c m.0 points
+IsAssignmentUpToNext c starts points _ = ⊥
+
+-- the meter of an assignment has so many counting starts at most, and so many points at any time
+abbrev pub IsAssignmentWith : ShelfContent → ℕ → ℕ → Key → Type 0
+IsAssignmentWith c starts points (key.Assignment m t) = HasStarts c m.0 starts × HasPoints (λ t. Unit {0}) c m.0 points
+IsAssignmentWith c starts points _ = ⊥
+
+abbrev pub AreAssignmentsWith : ShelfContent → ℕ → ℕ → List Entry → Type 0
+AreAssignmentsWith c starts points entries = (e : Entry) → Member e entries → IsAssignmentWith c starts points e.key
+
 -- ---- an upload
--- of so many entries, counted once each: readings by the starts and the totals of a direction, top-ups by their number; an
--- empty upload by a constant
+-- of so many entries, counted once each: readings by the starts and the totals of a direction; one assignment by these and
+-- the points of its time, several by these and all points of a meter; top-ups by their number; an empty upload by a constant
 pub record IsCheap (office : OfficeRules) (entries : List Entry) (c : ShelfContent) (old new : ℕ) : Type 0 where
   pub readings : (starts : ℕ) → 1 ≤ record_count entries → AreReadingsWith c starts entries →
       RisesAtMost (record_count entries * (24 + 4 * (starts + 1) + 6 * classes_of office)) old new
+  pub assignment : (e : Entry) (starts points : ℕ) → SameMembers entries (e ∷ []) → IsAssignmentUpToNext c starts points e.key →
+      RisesAtMost (56 + 4 * (starts + 1) + 2 * points + 12 * classes_of office) old new
+  pub assignments : (starts points : ℕ) → 1 ≤ record_count entries → AreAssignmentsWith c starts points entries →
+      RisesAtMost (record_count entries * (56 + 4 * (starts + record_count entries + 1) + 2 * points + 12 * classes_of office)) old new
   pub top_ups : 1 ≤ record_count entries → AreTopUps entries → RisesAtMost (record_count entries * 24) old new
   pub nothing : entries ≡ [] → RisesAtMost 24 old new

@@ -8,7 +8,7 @@ ghost use Rattle.pw_model.specs.Office.{IsOfOffice};
 ghost use Rattle.pw_model.specs.Shelf.{IsTrueContent};
 ghost use Rattle.pw_shelf.specs.Calls.{GoesOn, failures_told};
 ghost use Rattle.pw_tariff.specs.Office.{IsSound, counts_at, office_of};
-ghost use Rattle.pw_book.specs.inner.Added.{IsJustAdded, IsPaid, TakesAtMost, assignment_of, reading_of};
+ghost use Rattle.pw_book.specs.inner.Added.{ChangesOneStart, IsJustAdded, IsPaid, TakesAtMost, assignment_of, reading_of};
 ghost use Rattle.pw_book.specs.Cost.{HasStarts, IsReading, classes_of};
 
 use crate::around::{Counted, begin_to_count, cease_to_count};
@@ -79,6 +79,7 @@ fn assignment_added<S: Shelf>(
     requires meter { given.now.meter.0 < length office.now.meters }
     ensures truth { S.clean shelf.new → (s : List AnEntry) → IsJustAdded (office_of office.now) s (assignment_of given.now) before.now (S.state shelf.old).content → OnOk result (IsTrueContent (office_of office.now) (S.state shelf.new).content) }
     ensures records { S.clean shelf.new → (s : List AnEntry) → IsJustAdded (office_of office.now) s (assignment_of given.now) before.now (S.state shelf.old).content → OnOk result ((S.state shelf.new).content.records ≡ (S.state shelf.old).content.records) }
+    ensures alone { S.clean shelf.new → OnOk result (ChangesOneStart (key.Assignment given.now.meter given.now.start) (S.state shelf.old).content (S.state shelf.new).content) }
     ensures tally { S.clean shelf.new → TakesAtMost 0 (office_of office.now) (S.state shelf.old).content (key.Assignment given.now.meter given.now.start) (S.state shelf.old).tally (S.state shelf.new).tally }
     ensures kept { GoesOn S.state S.left S.clean (failures_told result) shelf.old shelf.new }
 {
@@ -145,6 +146,7 @@ pub(crate) fn settle<S: Shelf>(
     ensures truth { S.clean shelf.new → (s : List AnEntry) → IsJustAdded (office_of office.now) s entry.now before.now (S.state shelf.old).content → OnOk result (IsTrueContent (office_of office.now) (S.state shelf.new).content) }
     ensures records { S.clean shelf.new → (s : List AnEntry) → IsJustAdded (office_of office.now) s entry.now before.now (S.state shelf.old).content → OnOk result ((S.state shelf.new).content.records ≡ (S.state shelf.old).content.records) }
     ensures start { S.clean shelf.new → IsReading entry.now.key → OnOk result ((S.state shelf.new).content.start ≡ (S.state shelf.old).content.start) }
+    ensures alone { S.clean shelf.new → OnOk result (ChangesOneStart entry.now.key (S.state shelf.old).content (S.state shelf.new).content) }
     ensures tally { S.clean shelf.new → TakesAtMost 0 (office_of office.now) (S.state shelf.old).content entry.now.key (S.state shelf.old).tally (S.state shelf.new).tally }
     ensures kept { GoesOn S.state S.left S.clean (failures_told result) shelf.old shelf.new }
 {

@@ -11,7 +11,7 @@ ghost use Rattle.pw_shelf.specs.State.{CountsFailures};
 ghost use Rattle.pw_tariff.specs.Office.{IsSound, office_of};
 ghost use Rattle.pw_book.specs.Cost.{IsReading};
 ghost use Rattle.pw_book.specs.Posting.{IsWithUpload};
-ghost use Rattle.pw_book.specs.inner.Added.{CostsAtMost, IsPut, LeavesWithUpload, TakesAtMost};
+ghost use Rattle.pw_book.specs.inner.Added.{ChangesOneStart, CostsAtMost, IsPut, LeavesWithUpload, TakesAtMost};
 ghost use Rattle.pw_book.specs.inner.Failures.{FailuresUploaded};
 ghost use Rattle.pw_book.specs.declared.fault.BookFault.TheVariants.{Reopen};
 
@@ -103,6 +103,7 @@ fn put<S: Shelf>(
     requires room { S.clean shelf.old → (Member entry.now (S.state shelf.old).content.records → ⊥) → length (S.state shelf.old).content.records < most_records }
     ensures put { S.clean shelf.new → IsTrueContent (office_of office.now) (S.state shelf.old).content → AllOfOffice (office_of office.now) (S.state shelf.old).content.records → OnOk result (IsPut (office_of office.now) (entry.now ∷ []) (S.state shelf.old).content (S.state shelf.new).content) }
     ensures start { S.clean shelf.new → IsReading entry.now.key → OnOk result ((S.state shelf.new).content.start ≡ (S.state shelf.old).content.start) }
+    ensures alone { S.clean shelf.new → OnOk result (ChangesOneStart entry.now.key (S.state shelf.old).content (S.state shelf.new).content) }
     ensures tally { S.clean shelf.new → TakesAtMost 5 (office_of office.now) (S.state shelf.old).content entry.now.key (S.state shelf.old).tally (S.state shelf.new).tally }
     ensures kept { GoesOn S.state S.left S.clean (failures_told result) shelf.old shelf.new }
 {

@@ -1,6 +1,6 @@
 -- An entry that was added, and what follows of it. It serves `src/settling.rt` and `src/upload.rt`.
 -- (Definitions of this project.)
-use Rattle.std.specs.Prelude.{◌≡◌, ℕ, ◌+◌, ◌*◌, ◌≤◌, ◌⊎◌, List, [], ◌++◌, length}
+use Rattle.std.specs.Prelude.{◌≡◌, ℕ, ◌+◌, ◌*◌, ◌≤◌, ◌⊎◌, List, [], ◌∷◌, ◌++◌, length}
 use Rattle.pw_obis.specs.declared.reference.Register.{Register}
 use Rattle.pw_tariff.specs.declared.ids.AccountId.{AccountId}
 use Rattle.pw_tariff.specs.declared.ids.Direction.TheVariants.{Import, Export}
@@ -19,7 +19,7 @@ use Rattle.pw_model.specs.Office.{AllOfOffice, most_records}
 use Rattle.pw_model.specs.Shelf.{IsTrueContent, ShelfContent, total_among}
 use Rattle.pw_book.specs.declared.around.Counted.{Counted}
 use Rattle.pw_book.specs.declared.settling.Given.{Given}
-use Rattle.pw_book.specs.Cost.{AreReadingsWith, AreTopUps, HasStarts, classes_of}
+use Rattle.pw_book.specs.Cost.{AreAssignmentsWith, AreReadingsWith, AreTopUps, HasStarts, IsAssignmentUpToNext, classes_of}
 use Rattle.pw_book.specs.Posting.{IsWithUpload}
 use Rattle.pw_book.specs.inner.Moves.{MovesTotals}
 use Rattle.pw_book.specs.inner.Settling.{HavePoints}
@@ -68,6 +68,11 @@ TakesAtMost beside office c (key.Assignment m t) old new = (starts : ℕ) (point
     new ≤ old + beside + (32 + starts) + (over_registers Import points + over_registers Export points) + 6 * classes_of office
 TakesAtMost beside office c (key.TopUp r) old new = new ≤ old + beside + 3
 
+-- behind an assignment the points are as before, and the starts at each other key
+abbrev pub ChangesOneStart : Key → ShelfContent → ShelfContent → Type 0
+ChangesOneStart (key.Assignment m t) old new = (new.point ≡ old.point) × ((n s : ℕ) → ((n ≡ m.0) × (s ≡ t) → ⊥) → new.start n s ≡ old.start n s)
+ChangesOneStart _ old new = Unit {0}
+
 -- ---- an upload within a call
 -- what could be left before, or the content with the whole upload
 abbrev pub LeavesWithUpload : OfficeRules → List Entry → ShelfContent → (ShelfContent → Type 0) → (ShelfContent → Type 0) → Type 0
@@ -76,5 +81,9 @@ LeavesWithUpload office entries content old new = (c : ShelfContent) → new c �
 -- how many calls and rows the entries of an upload take, each looked up, added and settled, beside so many
 pub record CostsAtMost (beside : ℕ) (office : OfficeRules) (entries : List Entry) (c : ShelfContent) (old new : ℕ) : Type 0 where
   pub readings : (starts : ℕ) → AreReadingsWith c starts entries → new ≤ old + beside + length entries * (11 + starts + 6 * classes_of office)
+  pub assignment : (e : Entry) (starts points : ℕ) → entries ≡ e ∷ [] → IsAssignmentUpToNext c starts points e.key →
+      new ≤ old + beside + (37 + starts + points + 6 * classes_of office)
+  pub assignments : (starts points : ℕ) → AreAssignmentsWith c starts points entries →
+      new ≤ old + beside + length entries * (37 + (starts + length entries) + points + 6 * classes_of office)
   pub top_ups : AreTopUps entries → new ≤ old + beside + length entries * 8
   pub nothing : entries ≡ [] → new ≤ old + beside

@@ -17,6 +17,7 @@ use Rattle.pw_model.specs.Energy.{of_band, owner_at, share_of}
 use Rattle.pw_model.specs.Lists.{Lists}
 use Rattle.pw_model.specs.Shelf.{ShelfContent}
 use Rattle.pw_shelf.specs.Seconds.{by_second, ListsSeconds}
+use Rattle.pw_book.specs.Cost.{IsBeforeNextStart}
 use Rattle.pw_book.specs.inner.Moves.{OfOwners, most_total}
 use Rattle.pw_book.specs.inner.Sums.{energy_told}
 
@@ -32,10 +33,6 @@ abbrev pub EndsBefore : ℕ → (ℕ → Option ℕ) → Type 0
 EndsBefore end told = (t w : ℕ) → told t ≡ Some w → t < end
 
 -- ---- how much is read
--- from one second on, and before each start behind it
-abbrev pub IsBeforeNextStart : ShelfContent → ℕ → ℕ → ℕ → Type 0
-IsBeforeNextStart c m from t = (s : ℕ) → from < s → s ≤ t → c.start m s ≡ None
-
 -- the points of a register from a second up to the meter's next start
 abbrev pub ListsUpToNextStart : ShelfContent → ℕ → Register → ℕ → List (ℕ × ℕ) → Type 0
 ListsUpToNextStart c m r from = Lists by_second (λ a. (from ≤ a.0) × IsBeforeNextStart c m from a.0 × (c.point m r a.0 ≡ Some a.1))

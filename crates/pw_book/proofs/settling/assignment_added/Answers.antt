@@ -2,7 +2,8 @@ use Rattle.std.proofs.Common.{arith}
 use Rattle.std.proofs.lemmas.Result.{on_ok_weaker}
 use Rattle.pw_tariff.specs.Office.{office_of}
 use Rattle.pw_book.proofs.Offices.{office-is}
-use Rattle.pw_book.proofs.Truthful.{several-true, other-start, start-begins, start-ceases, start-ends, start-true, on-ok-three}
+use Rattle.pw_book.proofs.Truthful.{several-true, other-start, start-begins, start-ceases, start-ends, start-true, on-ok-three, on-ok-two}
+use Rattle.pw_book.proofs.Putting.{one-start}
 use Rattle.pw_book.proofs.settling.assignment_added.Goals as goal
 
 pub returns-in-Nothing-clause-truth : goal.returns-in-Nothing-clause-truth
@@ -45,3 +46,11 @@ returns-in-Nothing-clause-tally g c = λ k starts points s p. let x = c.change_s
 
 pub returns-in-One-clause-tally : goal.returns-in-One-clause-tally
 returns-in-One-clause-tally g c = λ k starts points s p. let x = c.change_start-in-One.ensures.tally k starts points s p in omega (arith, x)
+
+pub returns-in-Nothing-clause-alone : goal.returns-in-Nothing-clause-alone
+returns-in-Nothing-clause-alone g c = λ k.
+    on-ok-two c.change_start.result (λ p t. one-start c.args.given.now.meter c.args.given.now.start _ (g.S.Shelf.state c.args.shelf.now).content (g.S.Shelf.state c.change_start.new.shelf).content p t) (c.change_start.ensures.point k) (c.change_start.ensures.start k)
+
+pub returns-in-One-clause-alone : goal.returns-in-One-clause-alone
+returns-in-One-clause-alone g c = λ k.
+    on-ok-two c.change_start-in-One.result (λ p t. one-start c.args.given.now.meter c.args.given.now.start _ (g.S.Shelf.state c.args.shelf.now).content (g.S.Shelf.state c.change_start-in-One.new.shelf).content p t) (c.change_start-in-One.ensures.point k) (c.change_start-in-One.ensures.start k)

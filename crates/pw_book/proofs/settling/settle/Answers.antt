@@ -2,7 +2,7 @@ use Rattle.std.proofs.Common.{ℕ, sym, subst, ap}
 use Rattle.std.proofs.lemmas.Result.{on_ok_weaker}
 use Rattle.pw_tariff.specs.Office.{office_of}
 use Rattle.pw_model.specs.declared.records.Key.{Key}
-use Rattle.pw_book.specs.inner.Added.{TakesAtMost}
+use Rattle.pw_book.specs.inner.Added.{ChangesOneStart, TakesAtMost}
 use Rattle.pw_book.proofs.Offices.{office-is}
 use Rattle.pw_book.proofs.Truthful.{paid-entry}
 use Rattle.pw_book.proofs.settling.settle.Goals as goal
@@ -15,3 +15,8 @@ returns-in-Assignment-content-clause-tally g c = λ k.
 pub returns-in-TopUp-content-clause-truth : goal.returns-in-TopUp-content-clause-truth
 returns-in-TopUp-content-clause-truth g c = λ k s j.
     on_ok_weaker c.top_up_added.result (λ m. paid-entry (office_of c.args.office.now) (office-is c.args.office.now c.requires.sound) s c.args.entry.now c.in-TopUp.reference c.in-TopUp-content.account c.in-TopUp-content.cents c.in-TopUp-content.instant _ _ _ c.in-TopUp.is c.in-TopUp-content.is j m) (c.top_up_added.ensures.moved k)
+
+pub returns-in-Assignment-content-clause-alone : goal.returns-in-Assignment-content-clause-alone
+returns-in-Assignment-content-clause-alone g c = λ k.
+    let P : Key → Type 0 = λ l. ChangesOneStart l (g.S.Shelf.state c.args.shelf.now).content (g.S.Shelf.state c.assignment_added.new.shelf).content in
+    on_ok_weaker c.assignment_added.result (λ h. subst P (sym c.in-Assignment.is) h) (c.assignment_added.ensures.alone k)

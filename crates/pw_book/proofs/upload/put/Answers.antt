@@ -2,8 +2,11 @@ use Rattle.std.proofs.Common.{◌≡◌, ◌+◌, ◌≤◌, List, ◌∷◌, []
 use Rattle.pw_tariff.specs.Office.{office_of}
 use Rattle.pw_model.specs.Counting.{Member}
 use Rattle.std.proofs.lemmas.Bool.{true≢false}
+use Rattle.std.proofs.lemmas.Result.{on_ok_weaker}
+use Rattle.pw_model.specs.Shelf.{ShelfContent}
+use Rattle.pw_book.specs.inner.Added.{ChangesOneStart}
 use Rattle.pw_book.proofs.Truthful.{on-ok-two}
-use Rattle.pw_book.proofs.Putting.{put-held, put-added, just-added, takes-more}
+use Rattle.pw_book.proofs.Putting.{added-then, put-held, put-added, just-added, starts-kept, takes-more}
 use Rattle.pw_book.proofs.upload.put.Goals as goal
 
 pub returns-then-branch-clause-put : goal.returns-then-branch-clause-put
@@ -29,3 +32,16 @@ returns-clause-tally g c = λ k.
     let first = c.contents_at.ensures.asked.kept.clean second in
     takes-more (office_of c.args.office.now) c.args.entry.now.key c.args.entry.now _ _ _ _ _ _ _ _ _ c.in_ok-before.before (c.in_ok-holds.ensures.asked.same first) (c.in_ok-before.ensures.asked.same second) (c.in_ok-add.ensures.added third)
     (c.in_ok-holds.ensures.asked.tally) (c.in_ok-before.ensures.asked.tally) (c.add.ensures.written.tally) (c.settle.ensures.tally k)
+
+pub returns-then-branch-clause-alone : goal.returns-then-branch-clause-alone
+returns-then-branch-clause-alone g c = λ k.
+    let s = (g.S.Shelf.state c.args.shelf.now).content in
+    let P : ShelfContent → Type 0 = λ d. ChangesOneStart c.args.entry.now.key s d in
+    subst P (sym (c.in_ok-holds.ensures.asked.same k)) (starts-kept c.args.entry.now.key s)
+
+pub returns-clause-alone : goal.returns-clause-alone
+returns-clause-alone g c = λ k.
+    let third = c.settle.ensures.kept.clean k in
+    let second = c.add.ensures.written.kept.clean third in
+    let first = c.contents_at.ensures.asked.kept.clean second in
+    on_ok_weaker c.settle.result (λ h. added-then c.args.entry.now.key c.args.entry.now _ _ _ _ _ (c.in_ok-holds.ensures.asked.same first) (c.in_ok-before.ensures.asked.same second) (c.in_ok-add.ensures.added third) h) (c.settle.ensures.alone k)

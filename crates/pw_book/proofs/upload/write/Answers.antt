@@ -3,7 +3,7 @@ use Rattle.std.proofs.lemmas.Result.{on_ok_weaker, on_err_weaker}
 use Rattle.pw_tariff.specs.Office.{office_of}
 use Rattle.pw_book.proofs.Chains.{kept-then, kept-none}
 use Rattle.pw_book.proofs.Joining.{joined-none, joined-next, joined-room, joined-of_office, got-of_office, got-member, with-upload, subst-once}
-use Rattle.pw_book.proofs.Spending.{readings-next, top-ups-next, costs-so-far, costs-next}
+use Rattle.pw_book.proofs.Spending.{assignments-next, behind-next, behind-none, only-next, readings-next, top-ups-next, costs-so-far, costs-next}
 use Rattle.pw_book.proofs.upload.write.Goals as goal
 
 pub put-requires-clause-of_office : goal.put-requires-clause-of_office
@@ -18,7 +18,20 @@ pub returns-in_err-put-clause-tally : goal.returns-in_err-put-clause-tally
 returns-in_err-put-clause-tally g c = λ k.
     let before = c.put.ensures.kept.clean k in
     let m = got-member (office_of c.args.office.now) c.args.entries.now c.loop-entry.entry-index c.entry-item.result c.loop-entry-test.true c.entry-item.is in
-    costs-next (office_of c.args.office.now) c.args.entries.now c.entry-item.result c.loop-entry.entry-index (g.S.Shelf.state c.args.shelf.now).content (g.S.Shelf.state c.loop-entry.shelf).content _ _ _ c.loop-entry-test.true m (c.loop-entry.invariant.start before) (c.loop-entry.invariant.readings before) (c.loop-entry.invariant.top_ups before) (c.put.ensures.tally k)
+    costs-next (office_of c.args.office.now) c.args.entries.now c.entry-item.result c.loop-entry.entry-index (g.S.Shelf.state c.args.shelf.now).content (g.S.Shelf.state c.loop-entry.shelf).content _ _ _ c.loop-entry-test.true m (c.loop-entry.invariant.start before) (c.loop-entry.invariant.readings before) (c.loop-entry.invariant.first before) (c.loop-entry.invariant.behind before) (c.loop-entry.invariant.assignments before) (c.loop-entry.invariant.top_ups before) (c.put.ensures.tally k)
+
+pub loop-entry-init : goal.loop-entry-init
+loop-entry-init g c = record {
+  put = λ k. joined-none (office_of c.args.office.now) _ _ refl (c.requires.truth k);
+  start = λ k starts a. refl;
+  readings = λ k starts a. omega arith;
+  first = λ k z. (refl, refl);
+  behind = λ k starts points a. behind-none c.args.entries.now _ _ starts points refl a;
+  assignment = λ k e starts points q a. omega arith;
+  assignments = λ k starts points a. omega arith;
+  top_ups = λ k a. omega arith;
+  kept = kept-none g.S.Shelf.state g.S.Shelf.left g.S.Shelf.clean c.args.shelf.now;
+}
 
 pub loop-entry-preserved : goal.loop-entry-preserved
 loop-entry-preserved g c =
@@ -35,6 +48,17 @@ loop-entry-preserved g c =
       readings = λ k starts a.
           let before = c.put.ensures.kept.clean k in
           readings-next office c.args.entries.now c.entry-item.result c.loop-entry.entry-index (g.S.Shelf.state c.args.shelf.now).content (g.S.Shelf.state c.loop-entry.shelf).content starts _ _ _ m a (c.loop-entry.invariant.start before starts a) (c.loop-entry.invariant.readings before starts a) (c.put.ensures.tally k);
+      first = λ k z. absurd (omega (arith, z));
+      behind = λ k starts points a.
+          let before = c.put.ensures.kept.clean k in
+          behind-next c.args.entries.now c.entry-item.result c.loop-entry.entry-index (g.S.Shelf.state c.args.shelf.now).content (g.S.Shelf.state c.loop-entry.shelf).content _ starts points m a (c.loop-entry.invariant.behind before starts points a) (c.in_ok-put.ensures.alone k);
+      assignment = λ k e starts points q a.
+          let before = c.put.ensures.kept.clean k in
+          let x = only-next office c.args.entries.now c.entry-item.result e c.loop-entry.entry-index (g.S.Shelf.state c.args.shelf.now).content (g.S.Shelf.state c.loop-entry.shelf).content starts points _ _ _ q c.loop-entry-test.true m a (c.loop-entry.invariant.first before) (c.put.ensures.tally k) in
+          omega (arith, x);
+      assignments = λ k starts points a.
+          let before = c.put.ensures.kept.clean k in
+          assignments-next office c.args.entries.now c.entry-item.result c.loop-entry.entry-index (g.S.Shelf.state c.args.shelf.now).content (g.S.Shelf.state c.loop-entry.shelf).content starts points _ _ _ c.loop-entry-test.true m a (c.loop-entry.invariant.behind before starts points a) (c.loop-entry.invariant.assignments before starts points a) (c.put.ensures.tally k);
       top_ups = λ k a.
           let before = c.put.ensures.kept.clean k in
           top-ups-next office c.args.entries.now c.entry-item.result c.loop-entry.entry-index (g.S.Shelf.state c.loop-entry.shelf).content _ _ _ m a (c.loop-entry.invariant.top_ups before a) (c.put.ensures.tally k);
@@ -60,4 +84,4 @@ pub returns-clause-tally : goal.returns-clause-tally
 returns-clause-tally g c = λ k.
     let before = c.commit.ensures.cleanness k in
     let t = c.commit.ensures.tally in
-    costs-so-far (office_of c.args.office.now) c.args.entries.now c.loop-entry.entry-index _ _ _ _ c.loop-entry.auto.entry-index-end (c.loop-entry.invariant.readings before) (c.loop-entry.invariant.top_ups before) (omega (arith, t))
+    costs-so-far (office_of c.args.office.now) c.args.entries.now c.loop-entry.entry-index _ _ _ _ c.loop-entry.auto.entry-index-end (c.loop-entry.invariant.readings before) (c.loop-entry.invariant.assignment before) (c.loop-entry.invariant.assignments before) (c.loop-entry.invariant.top_ups before) (omega (arith, t))

@@ -1,8 +1,10 @@
-use Rattle.std.proofs.Common.{◌≡◌, ℕ, ◌+◌, ◌*◌, ◌≤◌, length, take}
+use Rattle.std.proofs.Common.{◌≡◌, ℕ, ◌+◌, ◌*◌, ◌≤◌, [], ◌∷◌, length, take}
 use Rattle.pw_tariff.specs.Office.{office_of}
+use Rattle.pw_model.specs.declared.records.Entry.{Entry}
 use Rattle.pw_shelf.specs.Calls.{GoesOn}
-use Rattle.pw_book.specs.Cost.{AreReadingsWith, AreTopUps, classes_of}
+use Rattle.pw_book.specs.Cost.{AreAssignmentsWith, AreReadingsWith, AreTopUps, IsAssignmentUpToNext, classes_of}
 use Rattle.pw_book.specs.inner.Added.{IsPut}
+use Rattle.pw_book.proofs.Spending.{IsBehind}
 use Rattle.pw_book.proofs.upload.write.Given as goal
 
 abbrev pub invariant-loop-entry : goal.invariant-loop-entry
@@ -12,6 +14,13 @@ invariant-loop-entry g l = record {
       (g.S.Shelf.state l.shelf).content.start ≡ (g.S.Shelf.state l.initial.shelf).content.start;
   readings : g.S.Shelf.clean l.shelf → (starts : ℕ) → AreReadingsWith (g.S.Shelf.state l.initial.shelf).content starts l.entries →
       (g.S.Shelf.state l.shelf).tally ≤ (g.S.Shelf.state l.initial.shelf).tally + l.entry-index * (11 + starts + 6 * classes_of (office_of l.office));
+  first : g.S.Shelf.clean l.shelf → l.entry-index ≡ 0 → ((g.S.Shelf.state l.shelf).content ≡ (g.S.Shelf.state l.initial.shelf).content) × ((g.S.Shelf.state l.shelf).tally ≡ (g.S.Shelf.state l.initial.shelf).tally);
+  behind : g.S.Shelf.clean l.shelf → (starts points : ℕ) → AreAssignmentsWith (g.S.Shelf.state l.initial.shelf).content starts points l.entries →
+      IsBehind l.entries l.entry-index (g.S.Shelf.state l.initial.shelf).content (g.S.Shelf.state l.shelf).content starts;
+  assignment : g.S.Shelf.clean l.shelf → (e : Entry) (starts points : ℕ) → l.entries ≡ e ∷ [] → IsAssignmentUpToNext (g.S.Shelf.state l.initial.shelf).content starts points e.key →
+      (g.S.Shelf.state l.shelf).tally ≤ (g.S.Shelf.state l.initial.shelf).tally + l.entry-index * (37 + starts + points + 6 * classes_of (office_of l.office));
+  assignments : g.S.Shelf.clean l.shelf → (starts points : ℕ) → AreAssignmentsWith (g.S.Shelf.state l.initial.shelf).content starts points l.entries →
+      (g.S.Shelf.state l.shelf).tally ≤ (g.S.Shelf.state l.initial.shelf).tally + l.entry-index * (37 + (starts + length l.entries) + points + 6 * classes_of (office_of l.office));
   top_ups : g.S.Shelf.clean l.shelf → AreTopUps l.entries → (g.S.Shelf.state l.shelf).tally ≤ (g.S.Shelf.state l.initial.shelf).tally + l.entry-index * 8;
   kept : GoesOn g.S.Shelf.state g.S.Shelf.left g.S.Shelf.clean 0 l.initial.shelf l.shelf;
 }
