@@ -1,11 +1,14 @@
-/* An allocator that refuses each request for memory between two lines of a program's output, and tells of it.
+/* An allocator that refuses requests for memory between two lines of a program's output, and tells of it.
  *
- * Preloaded (LD_PRELOAD) into a program that writes the lines `no memory` and `memory again`. A request between them is
- * refused and counted; at the second line the program ends with status 9 where any was made. */
+ * Preloaded (LD_PRELOAD) into a program that writes the lines `no memory` and `memory again`: a request between them is
+ * refused and counted, and at the second line the program ends with status 9 where any was made. Between the lines `one may
+ * be refused` and `all is given` the request of the number that REFUSED_REQUEST names is refused, counted from 1; at the
+ * second line the program ends with status 8 where fewer were made. */
 #define _GNU_SOURCE
 #include <dlfcn.h>
 #include <errno.h>
 #include <stddef.h>
+#include <stdlib.h>
 #include <string.h>
 #include <sys/syscall.h>
 #include <unistd.h>
@@ -16,11 +19,15 @@ extern void *__libc_realloc(void *, size_t);
 extern void *__libc_memalign(size_t, size_t);
 
 static int refusing;
+static int counting;
 static unsigned long asked;
+static unsigned long counted;
+static unsigned long wanted;
 
 static int refused(void) {
-    if (!refusing) return 0;
-    asked++;
+    if (refusing) asked++;
+    if (counting) counted++;
+    if (!refusing && !(counting && counted == wanted)) return 0;
     errno = ENOMEM;
     return 1;
 }
@@ -47,6 +54,15 @@ static int begins(const void *text, size_t length, const char *line) {
 static void watch(const void *text, size_t length) {
     static const char told[] = "memory was asked for\n";
     if (begins(text, length, "no memory\n")) refusing = 1;
+    if (begins(text, length, "one may be refused\n")) {
+        const char *number = getenv("REFUSED_REQUEST");
+        wanted = number ? strtoul(number, NULL, 10) : 0;
+        counting = 1;
+    }
+    if (begins(text, length, "all is given\n")) {
+        counting = 0;
+        if (counted < wanted) _exit(8);
+    }
     if (!begins(text, length, "memory again\n")) return;
     refusing = 0;
     if (asked) {

@@ -9,8 +9,8 @@ use Rattle.pw_model.specs.declared.records.Entry.{Entry}
 use Rattle.pw_model.specs.Counting.{Member, EachOnce, SameMembers}
 use Rattle.pw_model.specs.Lists.{record_count}
 use Rattle.pw_model.specs.Shelf.{ShelfContent}
-use Rattle.pw_book.specs.Cost.{AreAssignmentsWith, AreReadingsWith, AreTopUps, HasPoints, HasStarts, HasStartsOf, IsAssignment, IsAssignmentUpToNext, IsAssignmentWith, IsCheap, IsReading, IsTopUp, IsUpToNextStart, classes_of}
-use Rattle.pw_book.specs.inner.Added.{ChangesOneStart, CostsAtMost, TakesAtMost}
+use Rattle.pw_book.specs.Cost.{AreAssignmentsWith, AreReadingsWith, AreTopUps, HasPoints, HasStarts, HasStartsOf, IsAssignmentUpToNext, IsAssignmentWith, IsCheap, IsReading, IsTopUp, IsUpToNextStart, classes_of}
+use Rattle.pw_book.specs.inner.Added.{ChangesOneStart, CostsAtMost, IsAssignment, TakesAtMost}
 use Rattle.pw_book.specs.inner.Settling.{HavePoints}
 use Rattle.pw_book.proofs.NewStarts.{starts-more}
 use Rattle.pw_book.proofs.Putting.{starts-same}

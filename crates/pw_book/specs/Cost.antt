@@ -49,10 +49,6 @@ abbrev pub AreTopUps : List Entry → Type 0
 AreTopUps entries = (e : Entry) → Member e entries → IsTopUp e.key
 
 -- ---- assignments
-abbrev pub IsAssignment : Key → Type 0
-IsAssignment (key.Assignment m t) = Unit {0}
-IsAssignment _ = ⊥
-
 -- from one second on, and before each counting start of the meter behind it
 abbrev pub IsBeforeNextStart : ShelfContent → ℕ → ℕ → ℕ → Type 0
 IsBeforeNextStart c m from t = (s : ℕ) → from < s → s ≤ t → c.start m s ≡ None

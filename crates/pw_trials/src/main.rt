@@ -1,17 +1,24 @@
 //! A program of trials: each call that takes no memory, made while none is given.
 //!
-//! Between the lines `no memory` and `memory again` nothing may ask for memory. The script `tests/no_memory` runs it with an
-//! allocator that refuses each request there, and counts them; in the gate it runs as it is.
+//! Between the lines `no memory` and `memory again` nothing may ask for memory. Between `one may be refused` and `all is
+//! given` a call answers that memory was refused, and is right when it is made again. The script `tests/no_memory` runs it
+//! with an allocator that refuses each request there, and here one in each run; in the gate it runs as it is.
 #![tactic(auto)]
 
 mod frames;
 mod instants;
 mod offices;
+mod refused;
 mod sets;
 mod shelves;
 
+ghost use Rattle.std.specs.Prelude.{IsSome};
+ghost use Rattle.pw_shelf.specs.Memory.{state_of};
+
+use pw_book::Book;
 use pw_shelf::MemoryShelf;
 use pw_tariff::Office;
+use std::alloc::Global;
 use std::io::Write;
 use std::process::ExitCode;
 
@@ -36,36 +43,48 @@ meter = [
 const NO_MEMORY: u8 = 3;
 
 fn main(rt: HostRuntime) -> ExitCode {
-    let Ok(office) = Office::read(rt.alloc(), OFFICE.as_bytes()) else {
+    let (Ok(office), Ok(other)) = (
+        Office::read(rt.alloc(), OFFICE.as_bytes()),
+        Office::read(rt.alloc(), OFFICE.as_bytes()),
+    ) else {
         return ExitCode::from(NO_MEMORY);
     };
     let mut shelf = MemoryShelf::new(rt.alloc());
     if !shelves::is_begun(&mut shelf) {
         return ExitCode::from(NO_MEMORY);
     }
+    let Some(mut book) = refused::filled(rt.alloc(), other) else {
+        return ExitCode::from(NO_MEMORY);
+    };
     let mut out = rt.stdout();
-    tell(&mut out, b"no memory\n");
-    tell(&mut out, line(instants::are_right(), b"instants right\n"));
-    tell(&mut out, line(frames::are_right(), b"frames right\n"));
-    tell(&mut out, line(sets::are_right(), b"data sets right\n"));
-    tell(
-        &mut out,
-        line(offices::is_right(&office), b"office right\n"),
-    );
-    tell(
-        &mut out,
-        line(shelves::is_taken_back(&mut shelf), b"upload taken back\n"),
-    );
-    tell(
-        &mut out,
-        line(shelves::is_counted(rt.alloc()), b"calls counted\n"),
-    );
-    tell(
-        &mut out,
-        line(shelves::is_kept(rt.alloc(), office), b"book right\n"),
-    );
-    tell(&mut out, b"memory again\n");
+    without_memory(&mut out, rt.alloc(), &mut shelf, office);
+    with_one_refused(&mut out, rt.alloc(), &mut book);
     ExitCode::from(0)
+}
+
+/// The calls that take no memory.
+fn without_memory<O: Write>(out: &mut O, alloc: Global, shelf: &mut MemoryShelf, office: Office)
+    requires { IsSome (state_of shelf.old).begun }
+{
+    tell(out, b"no memory\n");
+    tell(out, line(instants::are_right(), b"instants right\n"));
+    tell(out, line(frames::are_right(), b"frames right\n"));
+    tell(out, line(sets::are_right(), b"data sets right\n"));
+    tell(out, line(offices::is_right(&office), b"office right\n"));
+    let is_taken_back = shelves::is_taken_back(shelf);
+    tell(out, line(is_taken_back, b"upload taken back\n"));
+    tell(out, line(shelves::is_counted(alloc), b"calls counted\n"));
+    tell(out, line(shelves::is_kept(alloc, office), b"book right\n"));
+    tell(out, b"memory again\n");
+}
+
+/// The calls that answer that memory was refused, and are right when they are made again.
+fn with_one_refused<O: Write>(out: &mut O, alloc: Global, book: &mut Book<MemoryShelf>) {
+    tell(out, b"one may be refused\n");
+    let are_told = refused::are_told(alloc, book.office(), book.zone());
+    tell(out, line(are_told, b"parts right\n"));
+    tell(out, line(refused::is_taken(alloc, book), b"upload right\n"));
+    tell(out, b"all is given\n");
 }
 
 /// The line of a trial.
