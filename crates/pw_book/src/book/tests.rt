@@ -12,10 +12,11 @@ mod memory;
 
 use super::Book;
 use crate::{Accepted, BookFault, Fall, PostFault};
+use kept::parts_agree;
 use pw_model::plain::{self, OfficeTerms};
 use pw_model::{Content, Entry, Key, Reference};
 use pw_obis::{Register, WattHours};
-use pw_shelf::{MemoryShelf, Shelf};
+use pw_shelf::{CountShelf, MemoryShelf, Shelf};
 use pw_tariff::{AccountId, BandId, Direction, MeterId, Office, Owner};
 use pw_time::{Instant, Zone};
 use std::alloc::{AllocError, Global};
@@ -81,6 +82,15 @@ fn are_of_office(office: &Office, zone: &Zone, entries: &[Entry]) -> bool
 
 fn empty_book(rt: &impl Abort, alloc: Global, limit: u32) -> Result<Book<MemoryShelf>, Fail> {
     book_over(rt, alloc, MemoryShelf::new(alloc), limit)
+}
+
+// The same over a store that counts its calls.
+fn counted_book(
+    rt: &impl Abort,
+    alloc: Global,
+    limit: u32,
+) -> Result<Book<CountShelf<MemoryShelf>>, Fail> {
+    book_over(rt, alloc, CountShelf::new(MemoryShelf::new(alloc)), limit)
 }
 
 // A book over a store that holds nothing.
@@ -433,40 +443,57 @@ fn lists<S: Shelf>(rt: &impl Abort, alloc: Global, book: &mut Book<S>) -> Result
     Ok(())
 }
 
+fn late_and_disputed<S: Shelf + Drop>(
+    rt: &impl Abort,
+    alloc: Global,
+    mut book: Book<S>,
+) -> Result<(), Fail> {
+    let mut taken = Vec::new(alloc);
+    let steps = [
+        expecting(assigned(rt, NEW_YEAR, Some(FIRST)), 0, 0),
+        expecting(reading(rt, SEVEN, 1_003_001), 0, 0),
+        expecting(reading(rt, FIVE, 1_000_000), 1_500, 1_501),
+        expecting(reading(rt, SIX, 1_001_000), 1_000, 2_001),
+        expecting(reading(rt, SIX, 1_001_500), 1_500, 1_501),
+        repeating(reading(rt, SIX, 1_001_000), 1_500, 1_501),
+        expecting(reading(rt, SIX, 1_001_200), 1_500, 1_501),
+    ];
+    run(rt, alloc, &mut book, &mut taken, &steps)?;
+    lists(rt, alloc, &mut book)?;
+    parts_agree(rt, alloc, book, &taken)
+}
+
 #[test]
 fn late_and_disputed_readings(rt: HostRuntime) -> Result<(), Fail> {
-    let mut book = empty_book(&rt, rt.alloc(), 100)?;
-    let mut taken = Vec::new(rt.alloc());
+    let alloc = rt.alloc();
+    late_and_disputed(&rt, alloc, empty_book(&rt, alloc, 100)?)?;
+    late_and_disputed(&rt, alloc, counted_book(&rt, alloc, 100)?)
+}
+
+fn payment_before_readings<S: Shelf + Drop>(
+    rt: &impl Abort,
+    alloc: Global,
+    mut book: Book<S>,
+) -> Result<(), Fail> {
+    let mut taken = Vec::new(alloc);
     let steps = [
-        expecting(assigned(&rt, NEW_YEAR, Some(FIRST)), 0, 0),
-        expecting(reading(&rt, SEVEN, 1_003_001), 0, 0),
-        expecting(reading(&rt, FIVE, 1_000_000), 1_500, 1_501),
-        expecting(reading(&rt, SIX, 1_001_000), 1_000, 2_001),
-        expecting(reading(&rt, SIX, 1_001_500), 1_500, 1_501),
-        repeating(reading(&rt, SIX, 1_001_000), 1_500, 1_501),
-        expecting(reading(&rt, SIX, 1_001_200), 1_500, 1_501),
+        expecting(reading(rt, SEVEN, 1_003_001), 0, 0),
+        expecting(paid(rt, b"P1", 5_000), 0, 0),
+        expecting(reading(rt, FIVE, 1_000_000), 0, 0),
+        expecting(assigned(rt, NEW_YEAR, Some(FIRST)), 1_500, 1_501),
+        repeating(paid(rt, b"P1", 5_000), 1_500, 1_501),
     ];
-    run(&rt, rt.alloc(), &mut book, &mut taken, &steps)?;
-    lists(&rt, rt.alloc(), &mut book)?;
-    Ok(())
+    run(rt, alloc, &mut book, &mut taken, &steps)?;
+    let both = money(rt, alloc, &mut book, FIRST)?;
+    assert_eq!(rt; both, (5_000, 49_249_700_000));
+    parts_agree(rt, alloc, book, &taken)
 }
 
 #[test]
 fn two_readings_one_topup(rt: HostRuntime) -> Result<(), Fail> {
     let alloc = rt.alloc();
-    let mut book = empty_book(&rt, alloc, 100)?;
-    let mut taken = Vec::new(alloc);
-    let steps = [
-        expecting(reading(&rt, SEVEN, 1_003_001), 0, 0),
-        expecting(paid(&rt, b"P1", 5_000), 0, 0),
-        expecting(reading(&rt, FIVE, 1_000_000), 0, 0),
-        expecting(assigned(&rt, NEW_YEAR, Some(FIRST)), 1_500, 1_501),
-        repeating(paid(&rt, b"P1", 5_000), 1_500, 1_501),
-    ];
-    run(&rt, alloc, &mut book, &mut taken, &steps)?;
-    let both = money(&rt, alloc, &mut book, FIRST)?;
-    assert_eq!(rt; both, (5_000, 49_249_700_000));
-    Ok(())
+    payment_before_readings(&rt, alloc, empty_book(&rt, alloc, 100)?)?;
+    payment_before_readings(&rt, alloc, counted_book(&rt, alloc, 100)?)
 }
 
 #[test]
@@ -510,8 +537,29 @@ fn upload_at(rt: &impl Abort, place: u8) -> [Entry; 2] {
     }
 }
 
+// The three uploads in an order, each sent twice.
+fn in_order<S: Shelf + Drop>(
+    rt: &impl Abort,
+    alloc: Global,
+    mut book: Book<S>,
+    order: [u8; 3],
+) -> Result<(), Fail> {
+    let [first, second] = upload_at(rt, 1);
+    let entries = [first, second, upload_at(rt, 0)[0], upload_at(rt, 2)[0]];
+    for place in order {
+        let upload = upload_at(rt, place);
+        let distinct = if place == 1 { 2 } else { 1 };
+        assert_eq!(rt; post(rt, alloc, &mut book, &upload)?, (distinct, 0));
+        assert_eq!(rt; post(rt, alloc, &mut book, &upload)?, (0, distinct));
+    }
+    two_readings_told(rt, alloc, &mut book)?;
+    all_agree(rt, alloc, &mut book, &entries, 4)?;
+    parts_agree(rt, alloc, book, &entries)
+}
+
 #[test]
 fn all_six_orders(rt: HostRuntime) -> Result<(), Fail> {
+    let alloc = rt.alloc();
     let orders = [
         [0, 1, 2],
         [0, 2, 1],
@@ -520,29 +568,20 @@ fn all_six_orders(rt: HostRuntime) -> Result<(), Fail> {
         [2, 0, 1],
         [2, 1, 0],
     ];
-    let [first, second] = upload_at(&rt, 1);
-    let entries = [first, second, upload_at(&rt, 0)[0], upload_at(&rt, 2)[0]];
     for order in orders {
-        let mut book = empty_book(&rt, rt.alloc(), 100)?;
-        for place in order {
-            let upload = upload_at(&rt, place);
-            let distinct = if place == 1 { 2 } else { 1 };
-            assert_eq!(rt; post(&rt, rt.alloc(), &mut book, &upload)?, (distinct, 0));
-            assert_eq!(rt; post(&rt, rt.alloc(), &mut book, &upload)?, (0, distinct));
-        }
-        two_readings_told(&rt, rt.alloc(), &mut book)?;
-        all_agree(&rt, rt.alloc(), &mut book, &entries, 4)?;
+        in_order(&rt, alloc, empty_book(&rt, alloc, 100)?, order)?;
+        in_order(&rt, alloc, counted_book(&rt, alloc, 100)?, order)?;
     }
     Ok(())
 }
 
-// A meter that passes from the first account to another owner between two readings.
-fn mid_pair<S: Shelf>(
+// A meter that passes from the first account to another owner between two readings: the balance of the second account.
+fn mid_pair<S: Shelf + Drop>(
     rt: &impl Abort,
     alloc: Global,
-    book: &mut Book<S>,
+    mut book: Book<S>,
     next: Owner,
-) -> Result<(), Fail> {
+) -> Result<i128, Fail> {
     let mut taken = Vec::new(alloc);
     if let Some(account) = next {
         assert!(rt; account.0 < book.office().accounts());
@@ -554,31 +593,33 @@ fn mid_pair<S: Shelf>(
         expecting(reading(rt, FIVE, 1_000_000), 1_500, 1_501),
         expecting(assigned(rt, FIVE + 1_800, next), 750, 0),
     ];
-    run(rt, alloc, book, &mut taken, &steps)?;
-    let both = energies(rt, alloc, book, next, Direction::Import)?;
+    run(rt, alloc, &mut book, &mut taken, &steps)?;
+    let both = energies(rt, alloc, &mut book, next, Direction::Import)?;
     assert_eq!(rt; both, (750, 1_501));
-    let both = money(rt, alloc, book, FIRST)?;
+    let both = money(rt, alloc, &mut book, FIRST)?;
     assert_eq!(rt; both, (5_000, 49_850_000_000));
-    Ok(())
+    let (_, nano) = money(rt, alloc, &mut book, SECOND)?;
+    parts_agree(rt, alloc, book, &taken)?;
+    Ok(nano)
 }
 
 #[test]
 fn assignment_mid_pair(rt: HostRuntime) -> Result<(), Fail> {
     let alloc = rt.alloc();
-    let mut book = empty_book(&rt, alloc, 100)?;
-    mid_pair(&rt, alloc, &mut book, Some(SECOND))?;
-    let both = money(&rt, alloc, &mut book, SECOND)?;
-    assert_eq!(rt; both, (0, -600_300_000));
+    let nano = mid_pair(&rt, alloc, empty_book(&rt, alloc, 100)?, Some(SECOND))?;
+    assert_eq!(rt; nano, -600_300_000);
+    let nano = mid_pair(&rt, alloc, counted_book(&rt, alloc, 100)?, Some(SECOND))?;
+    assert_eq!(rt; nano, -600_300_000);
     Ok(())
 }
 
 #[test]
 fn assignment_to_nobody(rt: HostRuntime) -> Result<(), Fail> {
     let alloc = rt.alloc();
-    let mut book = empty_book(&rt, alloc, 100)?;
-    mid_pair(&rt, alloc, &mut book, None)?;
-    let both = money(&rt, alloc, &mut book, SECOND)?;
-    assert_eq!(rt; both, (0, 0));
+    let nano = mid_pair(&rt, alloc, empty_book(&rt, alloc, 100)?, None)?;
+    assert_eq!(rt; nano, 0);
+    let nano = mid_pair(&rt, alloc, counted_book(&rt, alloc, 100)?, None)?;
+    assert_eq!(rt; nano, 0);
     Ok(())
 }
 
@@ -597,22 +638,31 @@ fn falls<S: Shelf>(rt: &impl Abort, alloc: Global, book: &mut Book<S>) -> Result
     Ok(())
 }
 
+fn falls_and_recovers<S: Shelf + Drop>(
+    rt: &impl Abort,
+    alloc: Global,
+    mut book: Book<S>,
+) -> Result<(), Fail> {
+    let mut taken = Vec::new(alloc);
+    let steps = [
+        expecting(assigned(rt, NEW_YEAR, Some(FIRST)), 0, 0),
+        expecting(reading(rt, FIVE, 100_000), 0, 0),
+        expecting(reading(rt, SIX, 50_000), 0, 0),
+        expecting(reading(rt, SEVEN, 120_000), 0, 70_000),
+    ];
+    run(rt, alloc, &mut book, &mut taken, &steps)?;
+    falls(rt, alloc, &mut book)?;
+    let steps = [expecting(reading(rt, SIX, 60_000), 10_000, 10_000)];
+    run(rt, alloc, &mut book, &mut taken, &steps)?;
+    assert_eq!(rt; lengths(rt, alloc, &mut book)?, (0, 1, 4));
+    parts_agree(rt, alloc, book, &taken)
+}
+
 #[test]
 fn fall_and_recovery(rt: HostRuntime) -> Result<(), Fail> {
-    let mut book = empty_book(&rt, rt.alloc(), 100)?;
-    let mut taken = Vec::new(rt.alloc());
-    let steps = [
-        expecting(assigned(&rt, NEW_YEAR, Some(FIRST)), 0, 0),
-        expecting(reading(&rt, FIVE, 100_000), 0, 0),
-        expecting(reading(&rt, SIX, 50_000), 0, 0),
-        expecting(reading(&rt, SEVEN, 120_000), 0, 70_000),
-    ];
-    run(&rt, rt.alloc(), &mut book, &mut taken, &steps)?;
-    falls(&rt, rt.alloc(), &mut book)?;
-    let steps = [expecting(reading(&rt, SIX, 60_000), 10_000, 10_000)];
-    run(&rt, rt.alloc(), &mut book, &mut taken, &steps)?;
-    assert_eq!(rt; lengths(&rt, rt.alloc(), &mut book)?, (0, 1, 4));
-    Ok(())
+    let alloc = rt.alloc();
+    falls_and_recovers(&rt, alloc, empty_book(&rt, alloc, 100)?)?;
+    falls_and_recovers(&rt, alloc, counted_book(&rt, alloc, 100)?)
 }
 
 // Three falls and five disputes, over both meters and of all kinds, uploaded from the last to the first.
@@ -644,31 +694,34 @@ fn lists_in_their_order(rt: HostRuntime) -> Result<(), Fail> {
 }
 
 // Two payments of one reference, in this order.
-fn disputed<S: Shelf>(
+fn disputed<S: Shelf + Drop>(
     rt: &impl Abort,
     alloc: Global,
-    book: &mut Book<S>,
+    mut book: Book<S>,
     first: u32,
     other: u32,
 ) -> Result<(), Fail> {
     let pair = [paid(rt, b"P1", first), paid(rt, b"P1", other)];
-    assert_eq!(rt; post(rt, alloc, book, &[pair[0]])?, (1, 0));
-    assert_eq!(rt; money(rt, alloc, book, FIRST)?.0, u64::from(first));
-    assert_eq!(rt; post(rt, alloc, book, &[pair[1]])?, (1, 0));
-    assert_eq!(rt; money(rt, alloc, book, FIRST)?, (0, 0));
+    assert_eq!(rt; post(rt, alloc, &mut book, &[pair[0]])?, (1, 0));
+    assert_eq!(rt; money(rt, alloc, &mut book, FIRST)?.0, u64::from(first));
+    assert_eq!(rt; post(rt, alloc, &mut book, &[pair[1]])?, (1, 0));
+    assert_eq!(rt; money(rt, alloc, &mut book, FIRST)?, (0, 0));
     let disputes = book.disputes(alloc)?;
     assert_eq!(rt; disputes.len(), 1);
     assert_eq!(rt; disputes[0].key, pair[0].key);
     assert_eq!(rt; disputes[0].contents, 2);
-    all_agree(rt, alloc, book, &pair, 2)
+    all_agree(rt, alloc, &mut book, &pair, 2)?;
+    parts_agree(rt, alloc, book, &pair)
 }
 
 #[test]
 fn disputed_payment(rt: HostRuntime) -> Result<(), Fail> {
-    let mut book = empty_book(&rt, rt.alloc(), 100)?;
-    disputed(&rt, rt.alloc(), &mut book, 2_000, 3_000)?;
-    let mut book = empty_book(&rt, rt.alloc(), 100)?;
-    disputed(&rt, rt.alloc(), &mut book, 3_000, 2_000)
+    let alloc = rt.alloc();
+    for (first, other) in [(2_000, 3_000), (3_000, 2_000)] {
+        disputed(&rt, alloc, empty_book(&rt, alloc, 100)?, first, other)?;
+        disputed(&rt, alloc, counted_book(&rt, alloc, 100)?, first, other)?;
+    }
+    Ok(())
 }
 
 #[test]

@@ -4,6 +4,7 @@ use super::{
     FIRST, FIVE, METER, NEW_YEAR, OTHER, SECOND, SEVEN, SIX, are_of_office, assigned, at,
     empty_book, energies, expecting, paid, post, reading, run,
 };
+use crate::Book;
 use pw_model::{Content, Entry, Key, TotalKey};
 use pw_obis::Register;
 use pw_parts::true_parts;
@@ -84,12 +85,13 @@ fn totals_kept<S: Shelf>(alloc: Global, shelf: &mut S) -> Result<Vec<(TotalKey, 
     Ok(totals)
 }
 
-// What a store keeps behind uploads of one entry each are the parts of these entries.
-fn parts_agree(rt: &impl Abort, alloc: Global, entries: &[Entry]) -> Result<(), Fail> {
-    let mut book = empty_book(rt, alloc, 100)?;
-    for entry in entries {
-        post(rt, alloc, &mut book, &[*entry])?;
-    }
+// What the store of a book keeps are the parts of all the entries that the book took.
+pub(super) fn parts_agree<S: Shelf + Drop>(
+    rt: &impl Abort,
+    alloc: Global,
+    book: Book<S>,
+    entries: &[Entry],
+) -> Result<(), Fail> {
     let of_office = are_of_office(book.office(), book.zone(), entries);
     assert!(rt; of_office && entries.len() <= 100);
     let parts = true_parts(alloc, book.office(), book.zone(), entries)?;
@@ -103,13 +105,22 @@ fn parts_agree(rt: &impl Abort, alloc: Global, entries: &[Entry]) -> Result<(), 
     Ok(())
 }
 
+// So are they behind uploads of one entry each.
+fn parts_agree_behind(rt: &impl Abort, alloc: Global, entries: &[Entry]) -> Result<(), Fail> {
+    let mut book = empty_book(rt, alloc, 100)?;
+    for entry in entries {
+        post(rt, alloc, &mut book, &[*entry])?;
+    }
+    parts_agree(rt, alloc, book, entries)
+}
+
 // The same behind each of them.
 fn parts_agree_behind_each(rt: &impl Abort, alloc: Global, entries: &[Entry]) -> Result<(), Fail> {
     for number in 0..entries.len() {
         let (first, _) = entries.split_at(number);
-        parts_agree(rt, alloc, first)?;
+        parts_agree_behind(rt, alloc, first)?;
     }
-    parts_agree(rt, alloc, entries)
+    parts_agree_behind(rt, alloc, entries)
 }
 
 #[test]
