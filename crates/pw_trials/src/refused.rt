@@ -1,9 +1,10 @@
 //! An upload, and the parts of records, while one request for memory is refused.
 
-ghost use Rattle.std.specs.Prelude.{◌≡◌, IsTrue, ◌↔◌, ◌≤◌, None, length};
-ghost use Rattle.pw_model.specs.Office.{AllOfOffice, most_records};
+ghost use Rattle.std.specs.Prelude.{IsTrue, ◌↔◌};
+ghost use Rattle.pw_model.specs.Office.{AllOfOffice};
 ghost use Rattle.pw_tariff.specs.Office.{office_of};
 
+use crate::shelves::empty_book;
 use pw_book::{Accepted, Book, Parts, PostFault, true_parts};
 use pw_model::plain::{self, OfficeTerms};
 use pw_model::{Content, Entry, Key};
@@ -27,7 +28,7 @@ const BEHIND: [u64; 4] = [1_333, 333, 0, 1_335];
 
 /// A book that holds an assignment and three readings.
 pub(crate) fn filled(alloc: Global, office: Office) -> Option<Book<MemoryShelf>> {
-    let mut book = Book::new(office, Zone::central(), MemoryShelf::new(alloc), 100);
+    let mut book = empty_book(alloc, office, 100);
     let entries = [
         assigned(FIVE - 3_600, AccountId(0))?,
         reading(FIVE, 1_000_000)?,

@@ -1,6 +1,7 @@
 //! The calls on a store in memory, and on a book over it.
 
-ghost use Rattle.std.specs.Prelude.{◌≡◌, IsSome, None, true};
+ghost use Rattle.std.specs.Prelude.{◌≡◌, ◌≤◌, IsSome, None, true};
+ghost use Rattle.pw_model.specs.Office.{most_records};
 ghost use Rattle.pw_model.specs.Shelf.{no_content};
 ghost use Rattle.pw_shelf.specs.Memory.{state_of};
 
@@ -46,9 +47,18 @@ pub(crate) fn is_taken_back(shelf: &mut MemoryShelf) -> bool
     shelf.abandon().is_ok() && shelf.count() == Ok(0)
 }
 
+/// A book over a store in memory that holds nothing.
+pub(crate) fn empty_book(alloc: Global, office: Office, limit: u32) -> Book<MemoryShelf>
+    requires least { 1 ≤ limit }
+    requires most { limit ≤ most_records }
+{
+    let shelf = MemoryShelf::new(alloc);
+    Book::new(office, Zone::central(), shelf, limit)
+}
+
 /// Whether a book is made, tells its office, and gives its store back.
 pub(crate) fn is_kept(alloc: Global, office: Office) -> bool {
-    let book = Book::new(office, Zone::central(), MemoryShelf::new(alloc), 1);
+    let book = empty_book(alloc, office, 1);
     let _ = book.zone();
     let accounts = book.office().accounts();
     let mut shelf = book.into_shelf();

@@ -1,8 +1,0 @@
-use Rattle.std.proofs.Common.{sym, subst}
-use Rattle.pw_tariff.specs.Office.{office_of}
-use Rattle.pw_model.specs.Shelf.{IsTrueContent}
-use Rattle.pw_model.proofs.Truth.{empty-true}
-use Rattle.pw_trials.proofs.shelves.is_kept.Goals as goal
-
-pub new-book-requires-clause-truth : goal.new-book-requires-clause-truth
-new-book-requires-clause-truth c = λ k. subst (IsTrueContent (office_of c.args.office)) (sym c.new.ensures.content) (empty-true (office_of c.args.office))
