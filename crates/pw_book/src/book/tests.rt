@@ -127,6 +127,32 @@ fn post<S: Shelf>(
     Ok((fresh, repeated))
 }
 
+// An upload is taken, with so many fresh and repeated entries.
+fn takes<S: Shelf>(
+    rt: &impl Abort,
+    alloc: Global,
+    book: &mut Book<S>,
+    entries: &[Entry],
+    counts: (u32, u32),
+) -> Result<(), Fail> {
+    let told = post(rt, alloc, book, entries)?;
+    assert_eq!(rt; told, counts);
+    Ok(())
+}
+
+// What was topped up for the first account, in cents, and its balance, in nano-euro.
+fn has_money<S: Shelf>(
+    rt: &impl Abort,
+    alloc: Global,
+    book: &mut Book<S>,
+    cents: u64,
+    nano: i128,
+) -> Result<(), Fail> {
+    let told = money(rt, alloc, book, FIRST)?;
+    assert_eq!(rt; told, (cents, nano));
+    Ok(())
+}
+
 // What an owner has of a direction in both bands.
 fn energies<S: Shelf>(
     rt: &impl Abort,
@@ -399,9 +425,9 @@ fn run<S: Shelf>(
 fn empty_book_answers(rt: HostRuntime) -> Result<(), Fail> {
     let alloc = rt.alloc();
     let mut book = empty_book(&rt, alloc, 1)?;
-    assert_eq!(rt; post(&rt, alloc, &mut book, &[])?, (0, 0));
-    assert_eq!(rt; imported(&rt, alloc, &mut book)?, (0, 0));
-    assert_eq!(rt; money(&rt, alloc, &mut book, SECOND)?, (0, 0));
+    takes(&rt, alloc, &mut book, &[], (0, 0))?;
+    has_imported(&rt, alloc, &mut book, Some(FIRST), (0, 0))?;
+    has_money(&rt, alloc, &mut book, 0, 0)?;
     assert_eq!(rt; lengths(&rt, alloc, &mut book)?, (0, 0, 0));
     all_agree(&rt, alloc, &mut book, &[], 0)
 }
@@ -484,8 +510,7 @@ fn payment_before_readings<S: Shelf + Drop>(
         repeating(paid(rt, b"P1", 5_000), 1_500, 1_501),
     ];
     run(rt, alloc, &mut book, &mut taken, &steps)?;
-    let both = money(rt, alloc, &mut book, FIRST)?;
-    assert_eq!(rt; both, (5_000, 49_249_700_000));
+    has_money(rt, alloc, &mut book, 5_000, 49_249_700_000)?;
     parts_agree(rt, alloc, book, &taken)
 }
 
@@ -509,9 +534,7 @@ fn exported_energy(rt: HostRuntime) -> Result<(), Fail> {
     run(&rt, alloc, &mut book, &mut taken, &steps)?;
     let both = energies(&rt, alloc, &mut book, Some(FIRST), Direction::Export)?;
     assert_eq!(rt; both, (1_500, 1_501));
-    let both = money(&rt, alloc, &mut book, FIRST)?;
-    assert_eq!(rt; both, (0, 150_050_000));
-    Ok(())
+    has_money(&rt, alloc, &mut book, 0, 150_050_000)
 }
 
 // What the questions are answered behind two readings and a top-up.
@@ -549,8 +572,8 @@ fn in_order<S: Shelf + Drop>(
     for place in order {
         let upload = upload_at(rt, place);
         let distinct = if place == 1 { 2 } else { 1 };
-        assert_eq!(rt; post(rt, alloc, &mut book, &upload)?, (distinct, 0));
-        assert_eq!(rt; post(rt, alloc, &mut book, &upload)?, (0, distinct));
+        takes(rt, alloc, &mut book, &upload, (distinct, 0))?;
+        takes(rt, alloc, &mut book, &upload, (0, distinct))?;
     }
     two_readings_told(rt, alloc, &mut book)?;
     all_agree(rt, alloc, &mut book, &entries, 4)?;
@@ -575,6 +598,22 @@ fn all_six_orders(rt: HostRuntime) -> Result<(), Fail> {
     Ok(())
 }
 
+// An owner imported so much in both bands.
+fn has_imported<S: Shelf>(
+    rt: &impl Abort,
+    alloc: Global,
+    book: &mut Book<S>,
+    owner: Owner,
+    both: (u64, u64),
+) -> Result<(), Fail> {
+    if let Some(account) = owner {
+        assert!(rt; account.0 < book.office().accounts());
+    }
+    let told = energies(rt, alloc, book, owner, Direction::Import)?;
+    assert_eq!(rt; told, both);
+    Ok(())
+}
+
 // A meter that passes from the first account to another owner between two readings: the balance of the second account.
 fn mid_pair<S: Shelf + Drop>(
     rt: &impl Abort,
@@ -583,9 +622,6 @@ fn mid_pair<S: Shelf + Drop>(
     next: Owner,
 ) -> Result<i128, Fail> {
     let mut taken = Vec::new(alloc);
-    if let Some(account) = next {
-        assert!(rt; account.0 < book.office().accounts());
-    }
     let steps = [
         expecting(assigned(rt, NEW_YEAR, Some(FIRST)), 0, 0),
         expecting(paid(rt, b"P1", 5_000), 0, 0),
@@ -594,10 +630,8 @@ fn mid_pair<S: Shelf + Drop>(
         expecting(assigned(rt, FIVE + 1_800, next), 750, 0),
     ];
     run(rt, alloc, &mut book, &mut taken, &steps)?;
-    let both = energies(rt, alloc, &mut book, next, Direction::Import)?;
-    assert_eq!(rt; both, (750, 1_501));
-    let both = money(rt, alloc, &mut book, FIRST)?;
-    assert_eq!(rt; both, (5_000, 49_850_000_000));
+    has_imported(rt, alloc, &mut book, next, (750, 1_501))?;
+    has_money(rt, alloc, &mut book, 5_000, 49_850_000_000)?;
     let (_, nano) = money(rt, alloc, &mut book, SECOND)?;
     parts_agree(rt, alloc, book, &taken)?;
     Ok(nano)
@@ -688,9 +722,22 @@ fn lists_in_their_order(rt: HostRuntime) -> Result<(), Fail> {
         reading(&rt, SIX, 10),
         reading(&rt, FIVE, 20),
     ];
-    assert_eq!(rt; post(&rt, alloc, &mut book, &entries)?, (16, 0));
+    takes(&rt, alloc, &mut book, &entries, (16, 0))?;
     assert_eq!(rt; lengths(&rt, alloc, &mut book)?, (3, 5, 4));
     all_agree(&rt, alloc, &mut book, &entries, 16)
+}
+
+// There is one dispute, of two contents at the reference.
+fn disputes_payment<S: Shelf>(
+    rt: &impl Abort,
+    alloc: Global,
+    book: &mut Book<S>,
+) -> Result<(), Fail> {
+    let disputes = book.disputes(alloc)?;
+    assert_eq!(rt; disputes.len(), 1);
+    let key = paid(rt, b"P1", 0).key;
+    assert!(rt; disputes[0].key == key && disputes[0].contents == 2);
+    Ok(())
 }
 
 // Two payments of one reference, in this order.
@@ -702,14 +749,12 @@ fn disputed<S: Shelf + Drop>(
     other: u32,
 ) -> Result<(), Fail> {
     let pair = [paid(rt, b"P1", first), paid(rt, b"P1", other)];
-    assert_eq!(rt; post(rt, alloc, &mut book, &[pair[0]])?, (1, 0));
-    assert_eq!(rt; money(rt, alloc, &mut book, FIRST)?.0, u64::from(first));
-    assert_eq!(rt; post(rt, alloc, &mut book, &[pair[1]])?, (1, 0));
-    assert_eq!(rt; money(rt, alloc, &mut book, FIRST)?, (0, 0));
-    let disputes = book.disputes(alloc)?;
-    assert_eq!(rt; disputes.len(), 1);
-    assert_eq!(rt; disputes[0].key, pair[0].key);
-    assert_eq!(rt; disputes[0].contents, 2);
+    let nano = i128::from(first) * 10_000_000;
+    takes(rt, alloc, &mut book, &[pair[0]], (1, 0))?;
+    has_money(rt, alloc, &mut book, u64::from(first), nano)?;
+    takes(rt, alloc, &mut book, &[pair[1]], (1, 0))?;
+    has_money(rt, alloc, &mut book, 0, 0)?;
+    disputes_payment(rt, alloc, &mut book)?;
     all_agree(rt, alloc, &mut book, &pair, 2)?;
     parts_agree(rt, alloc, book, &pair)
 }
@@ -729,38 +774,52 @@ fn room_for_one(rt: HostRuntime) -> Result<(), Fail> {
     let alloc = rt.alloc();
     let mut book = empty_book(&rt, alloc, 1)?;
     let twice = [paid(&rt, b"P1", 2_000); 2];
-    assert_eq!(rt; post(&rt, alloc, &mut book, &twice)?, (1, 0));
-    assert_eq!(rt; post(&rt, alloc, &mut book, &twice)?, (0, 1));
+    takes(&rt, alloc, &mut book, &twice, (1, 0))?;
+    takes(&rt, alloc, &mut book, &twice, (0, 1))?;
     all_agree(&rt, alloc, &mut book, &twice, 1)
+}
+
+// Three payments in a book that has room for no more.
+fn three_paid(rt: &impl Abort) -> [Entry; 3] {
+    [paid(rt, b"P1", 1), paid(rt, b"P2", 2), paid(rt, b"P3", 3)]
 }
 
 #[test]
 fn full_book(rt: HostRuntime) -> Result<(), Fail> {
     let alloc = rt.alloc();
     let mut book = empty_book(&rt, alloc, 3)?;
-    let held = [
-        paid(&rt, b"P1", 1),
-        paid(&rt, b"P2", 2),
-        paid(&rt, b"P3", 3),
-    ];
+    let held = three_paid(&rt);
     let fourth = paid(&rt, b"P4", 4);
-    let full = PostFault::Full { held: 3, limit: 3 };
-    assert_eq!(rt; post(&rt, alloc, &mut book, &held)?, (3, 0));
-    assert_eq!(rt; post(&rt, alloc, &mut book, &[held[1]])?, (0, 1));
+    let full = Err(PostFault::Full { held: 3, limit: 3 });
+    takes(&rt, alloc, &mut book, &held, (3, 0))?;
+    takes(&rt, alloc, &mut book, &[held[1]], (0, 1))?;
+    assert_eq!(rt; post(&rt, alloc, &mut book, &[fourth]), full);
+    assert_eq!(rt; post(&rt, alloc, &mut book, &[held[1], fourth]), full);
+    has_money(&rt, alloc, &mut book, 6, 60_000_000)?;
+    all_agree(&rt, alloc, &mut book, &held, 3)
+}
+
+#[test]
+fn store_given_back(rt: HostRuntime) -> Result<(), Fail> {
+    let alloc = rt.alloc();
+    let mut book = empty_book(&rt, alloc, 3)?;
+    takes(&rt, alloc, &mut book, &three_paid(&rt), (3, 0))?;
+    let shelf = &mut book.into_shelf();
+    assert_eq!(rt; shelf.count()?, 3);
+    Ok(())
+}
+
+#[test]
+fn lines_of_an_upload(rt: HostRuntime) -> Result<(), Fail> {
+    let alloc = rt.alloc();
     let accepted = Accepted {
         fresh: 0,
         repeated: 1,
     };
     let line = format!(in alloc; "{accepted}")?;
     assert_eq!(rt; line.as_str(), "accepted fresh 0 repeated 1");
-    assert_eq!(rt; post(&rt, alloc, &mut book, &[fourth]), Err(full));
-    assert_eq!(rt; post(&rt, alloc, &mut book, &[held[1], fourth]), Err(full));
-    let line = format!(in alloc; "{full}")?;
+    let line = format!(in alloc; "{}", PostFault::Full { held: 3, limit: 3 })?;
     assert_eq!(rt; line.as_str(), "refused 60 Full held 3 limit 3");
-    assert_eq!(rt; money(&rt, alloc, &mut book, FIRST)?, (6, 60_000_000));
-    all_agree(&rt, alloc, &mut book, &held, 3)?;
-    let shelf = &mut book.into_shelf();
-    assert_eq!(rt; shelf.count()?, 3);
     Ok(())
 }
 
@@ -782,7 +841,7 @@ fn over_its_limit(rt: HostRuntime) -> Result<(), Fail> {
     let alloc = rt.alloc();
     let mut book = empty_book(&rt, alloc, 2)?;
     let two = [paid(&rt, b"P1", 1), paid(&rt, b"P2", 1)];
-    assert_eq!(rt; post(&rt, alloc, &mut book, &two)?, (2, 0));
+    takes(&rt, alloc, &mut book, &two, (2, 0))?;
     let mut book = with_limit(&rt, book, 1);
     let full = PostFault::Full { held: 2, limit: 1 };
     assert_eq!(rt; post(&rt, alloc, &mut book, &[]), Err(full));

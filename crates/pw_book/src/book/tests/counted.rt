@@ -2,11 +2,11 @@
 
 use super::{
     FIRST, FIVE, NEW_YEAR, SECOND, SEVEN, all_agree, assigned, book_over, imported, paid, post,
-    reading, two_readings_told,
+    reading, takes, two_readings_told,
 };
-use crate::{BookFault, PostFault};
+use crate::{Book, BookFault, PostFault};
 use pw_model::Entry;
-use pw_shelf::{CountShelf, MemoryShelf};
+use pw_shelf::{CountShelf, MemoryShelf, Shelf};
 use std::alloc::{AllocError, Global};
 use std::process::Abort;
 use std::test::Fail;
@@ -73,6 +73,33 @@ fn same_count_among_few_and_many(rt: HostRuntime) -> Result<(), Fail> {
     Ok(())
 }
 
+// The upload that fails: an owner, two readings and a payment.
+fn upload(rt: &impl Abort) -> [Entry; 4] {
+    [
+        assigned(rt, NEW_YEAR, Some(FIRST)),
+        reading(rt, FIVE, 1_000_000),
+        reading(rt, SEVEN, 1_003_001),
+        paid(rt, b"P1", 5_000),
+    ]
+}
+
+// A book that has to be opened again answers nothing else.
+fn is_shut<S: Shelf>(rt: &impl Abort, alloc: Global, book: &mut Book<S>) -> Result<(), Fail> {
+    let again = post(rt, alloc, book, &upload(rt));
+    assert_eq!(rt; again, Err(PostFault::Reopen));
+    assert_eq!(rt; book.count(), Err(BookFault::Reopen));
+    assert_eq!(rt; imported(rt, alloc, book), Err(BookFault::Reopen));
+    Ok(())
+}
+
+// An upload that was taken back left nothing, and is taken the next time.
+fn is_as_before<S: Shelf>(rt: &impl Abort, alloc: Global, book: &mut Book<S>) -> Result<(), Fail> {
+    all_agree(rt, alloc, book, &[], 0)?;
+    takes(rt, alloc, book, &upload(rt), (4, 0))?;
+    two_readings_told(rt, alloc, book)?;
+    Ok(())
+}
+
 // Takes one upload over a device that fails at a call, and again where nothing was begun: what it was first answered.
 fn taken_failing(
     rt: &impl Abort,
@@ -82,32 +109,20 @@ fn taken_failing(
 ) -> Result<Option<PostFault>, Fail> {
     let shelf = CountShelf::failing(MemoryShelf::new(alloc), fail_at, abandon_fails);
     let mut book = book_over(rt, alloc, shelf, 100)?;
-    let entries = [
-        assigned(rt, NEW_YEAR, Some(FIRST)),
-        reading(rt, FIVE, 1_000_000),
-        reading(rt, SEVEN, 1_003_001),
-        paid(rt, b"P1", 5_000),
-    ];
-    let fault = match post(rt, alloc, &mut book, &entries) {
+    match post(rt, alloc, &mut book, &upload(rt)) {
         Ok(accepted) => {
             assert_eq!(rt; accepted, (4, 0));
-            return Ok(None);
+            Ok(None)
         }
-        Err(fault) => fault,
-    };
-    if fault == PostFault::Reopen {
-        assert_eq!(rt;
-            post(rt, alloc, &mut book, &entries),
-            Err(PostFault::Reopen)
-        );
-        assert_eq!(rt; book.count(), Err(BookFault::Reopen));
-        assert_eq!(rt; imported(rt, alloc, &mut book), Err(BookFault::Reopen));
-        return Ok(Some(fault));
+        Err(fault) => {
+            if fault == PostFault::Reopen {
+                is_shut(rt, alloc, &mut book)?;
+            } else {
+                is_as_before(rt, alloc, &mut book)?;
+            }
+            Ok(Some(fault))
+        }
     }
-    all_agree(rt, alloc, &mut book, &[], 0)?;
-    assert_eq!(rt; post(rt, alloc, &mut book, &entries)?, (4, 0));
-    two_readings_told(rt, alloc, &mut book)?;
-    Ok(Some(fault))
 }
 
 #[test]

@@ -7,7 +7,7 @@ use super::{
 use crate::Book;
 use pw_model::{Content, Entry, Key, TotalKey};
 use pw_obis::Register;
-use pw_parts::true_parts;
+use pw_parts::{Parts, true_parts};
 use pw_shelf::{Shelf, ShelfFault};
 use pw_tariff::{BandId, Direction};
 use pw_time::{FIRST_SECOND, LAST_SECOND};
@@ -85,6 +85,19 @@ fn totals_kept<S: Shelf>(alloc: Global, shelf: &mut S) -> Result<Vec<(TotalKey, 
     Ok(totals)
 }
 
+// The parts of all the entries that a book took.
+fn parts_of<S: Shelf>(
+    rt: &impl Abort,
+    alloc: Global,
+    book: &Book<S>,
+    entries: &[Entry],
+) -> Result<Parts, Fail> {
+    let of_office = are_of_office(book.office(), book.zone(), entries);
+    assert!(rt; of_office && entries.len() <= 100);
+    let parts = true_parts(alloc, book.office(), book.zone(), entries)?;
+    Ok(parts)
+}
+
 // What the store of a book keeps are the parts of all the entries that the book took.
 pub(super) fn parts_agree<S: Shelf + Drop>(
     rt: &impl Abort,
@@ -92,15 +105,21 @@ pub(super) fn parts_agree<S: Shelf + Drop>(
     book: Book<S>,
     entries: &[Entry],
 ) -> Result<(), Fail> {
-    let of_office = are_of_office(book.office(), book.zone(), entries);
-    assert!(rt; of_office && entries.len() <= 100);
-    let parts = true_parts(alloc, book.office(), book.zone(), entries)?;
-    let mut shelf = book.into_shelf();
-    let points = points_kept(rt, alloc, &mut shelf)?;
+    let parts = parts_of(rt, alloc, &book, entries)?;
+    are_kept(rt, alloc, &mut book.into_shelf(), &parts)
+}
+
+fn are_kept<S: Shelf>(
+    rt: &impl Abort,
+    alloc: Global,
+    shelf: &mut S,
+    parts: &Parts,
+) -> Result<(), Fail> {
+    let points = points_kept(rt, alloc, shelf)?;
+    let starts = starts_kept(alloc, shelf)?;
+    let totals = totals_kept(alloc, shelf)?;
     assert!(rt; points.as_slice() == parts.points.as_slice());
-    let starts = starts_kept(alloc, &mut shelf)?;
     assert!(rt; starts.as_slice() == parts.starts.as_slice());
-    let totals = totals_kept(alloc, &mut shelf)?;
     assert!(rt; totals.as_slice() == parts.totals.as_slice());
     Ok(())
 }
