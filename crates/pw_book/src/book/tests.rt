@@ -789,12 +789,12 @@ fn full_book(rt: HostRuntime) -> Result<(), Fail> {
     let alloc = rt.alloc();
     let mut book = empty_book(&rt, alloc, 3)?;
     let held = three_paid(&rt);
-    let fourth = paid(&rt, b"P4", 4);
     let full = Err(PostFault::Full { held: 3, limit: 3 });
     takes(&rt, alloc, &mut book, &held, (3, 0))?;
     takes(&rt, alloc, &mut book, &[held[1]], (0, 1))?;
-    assert_eq!(rt; post(&rt, alloc, &mut book, &[fourth]), full);
-    assert_eq!(rt; post(&rt, alloc, &mut book, &[held[1], fourth]), full);
+    assert_eq!(rt; post(&rt, alloc, &mut book, &[paid(&rt, b"P4", 4)]), full);
+    let more = [paid(&rt, b"P2", 2), paid(&rt, b"P4", 4)];
+    assert_eq!(rt; post(&rt, alloc, &mut book, &more), full);
     has_money(&rt, alloc, &mut book, 6, 60_000_000)?;
     all_agree(&rt, alloc, &mut book, &held, 3)
 }
