@@ -1,4 +1,4 @@
-use Rattle.std.proofs.Common.{◌≡◌, ℕ, length}
+use Rattle.std.proofs.Common.{◌≡◌, length}
 use Rattle.pw_shelf.specs.Added.{without}
 use Rattle.pw_shelf.proofs.held.Held.go_back.Given as goal
 

@@ -1,4 +1,4 @@
-use Rattle.std.proofs.Common.{◌≡◌, ℕ, length}
+use Rattle.std.proofs.Common.{◌≡◌, length}
 use Rattle.std.specs.declared.ops.Bound.TheVariants.{Excluded, Unbounded}
 use Rattle.pw_shelf.specs.inner.Table.{left_of, rows_between}
 use Rattle.pw_shelf.proofs.table.Table.first_behind.Given as goal

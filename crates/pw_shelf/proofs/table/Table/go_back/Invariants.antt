@@ -1,4 +1,4 @@
-use Rattle.std.proofs.Common.{◌≡◌, ℕ, length}
+use Rattle.std.proofs.Common.{◌≡◌, length}
 use Rattle.pw_shelf.specs.Table.{at_begin}
 use Rattle.pw_shelf.specs.inner.Table.{CanGoBack}
 use Rattle.pw_shelf.proofs.table.Table.go_back.Given as goal
