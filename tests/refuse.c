@@ -1,7 +1,8 @@
-/* An allocator that refuses each request for memory between two lines of a program's output, and tells of it.
+/* An allocator that refuses requests for memory between two lines of a program's output, and tells of it.
  *
  * Preloaded (LD_PRELOAD) into a program that writes the lines `no memory` and `memory again`. A request between them is
- * refused and counted; at the second line the program ends with status 9 where any was made. */
+ * refused and counted; at the second line the program ends with status 9 where any was made.
+ * Between the nth line `refuse in turn` and `memory again` the nth request alone is refused, and that is told. */
 #define _GNU_SOURCE
 #include <dlfcn.h>
 #include <errno.h>
@@ -17,8 +18,17 @@ extern void *__libc_memalign(size_t, size_t);
 
 static int refusing;
 static unsigned long asked;
+static unsigned long turn;
+static unsigned long next;
+
+static void say(const char *text) { syscall(SYS_write, 2, text, strlen(text)); }
 
 static int refused(void) {
+    if (next && --next == 0) {
+        say("a request was refused\n");
+        errno = ENOMEM;
+        return 1;
+    }
     if (!refusing) return 0;
     asked++;
     errno = ENOMEM;
@@ -45,12 +55,13 @@ static int begins(const void *text, size_t length, const char *line) {
 }
 
 static void watch(const void *text, size_t length) {
-    static const char told[] = "memory was asked for\n";
     if (begins(text, length, "no memory\n")) refusing = 1;
+    if (begins(text, length, "refuse in turn\n")) next = ++turn;
     if (!begins(text, length, "memory again\n")) return;
     refusing = 0;
+    next = 0;
     if (asked) {
-        syscall(SYS_write, 2, told, sizeof told - 1);
+        say("memory was asked for\n");
         _exit(9);
     }
 }

@@ -1,12 +1,14 @@
 //! A program of trials: each call that takes no memory, made while none is given.
 //!
 //! Between the lines `no memory` and `memory again` nothing may ask for memory. The script `tests/no_memory` runs it with an
-//! allocator that refuses each request there, and counts them; in the gate it runs as it is.
+//! allocator that refuses each request there, and counts them; in the gate it runs as it is. Behind them uploads are made,
+//! in each of which one request is refused.
 #![tactic(auto)]
 
 mod frames;
 mod instants;
 mod offices;
+mod refusals;
 mod sets;
 mod shelves;
 
@@ -43,6 +45,12 @@ fn main(rt: HostRuntime) -> ExitCode {
     if !shelves::is_begun(&mut shelf) {
         return ExitCode::from(NO_MEMORY);
     }
+    let Some(rows) = refusals::rows_put() else {
+        return ExitCode::from(NO_MEMORY);
+    };
+    let Some(mut store) = refusals::begun(rt.alloc(), &rows) else {
+        return ExitCode::from(NO_MEMORY);
+    };
     let mut out = rt.stdout();
     tell(&mut out, b"no memory\n");
     tell(&mut out, line(instants::are_right(), b"instants right\n"));
@@ -58,6 +66,10 @@ fn main(rt: HostRuntime) -> ExitCode {
     );
     tell(
         &mut out,
+        line(refusals::is_kept(&mut store, &rows), b"upload kept\n"),
+    );
+    tell(
+        &mut out,
         line(shelves::is_counted(rt.alloc()), b"calls counted\n"),
     );
     tell(
@@ -65,6 +77,11 @@ fn main(rt: HostRuntime) -> ExitCode {
         line(shelves::is_kept(rt.alloc(), office), b"book right\n"),
     );
     tell(&mut out, b"memory again\n");
+    let taken_back = refusals::are_taken_back(rt.alloc(), &mut out, &rows);
+    tell(
+        &mut out,
+        line(taken_back == Some(true), b"uploads taken back\n"),
+    );
     ExitCode::from(0)
 }
 
