@@ -45,10 +45,7 @@ fn main(rt: HostRuntime) -> ExitCode {
     if !shelves::is_begun(&mut shelf) {
         return ExitCode::from(NO_MEMORY);
     }
-    let Some(rows) = refusals::rows_put() else {
-        return ExitCode::from(NO_MEMORY);
-    };
-    let Some(mut store) = refusals::begun(rt.alloc(), &rows) else {
+    let Some(mut store) = refusals::begun(rt.alloc()) else {
         return ExitCode::from(NO_MEMORY);
     };
     let mut out = rt.stdout();
@@ -66,7 +63,7 @@ fn main(rt: HostRuntime) -> ExitCode {
     );
     tell(
         &mut out,
-        line(refusals::is_kept(&mut store, &rows), b"upload kept\n"),
+        line(refusals::is_kept(&mut store), b"upload kept\n"),
     );
     tell(
         &mut out,
@@ -77,10 +74,10 @@ fn main(rt: HostRuntime) -> ExitCode {
         line(shelves::is_kept(rt.alloc(), office), b"book right\n"),
     );
     tell(&mut out, b"memory again\n");
-    let taken_back = refusals::are_taken_back(rt.alloc(), &mut out, &rows);
+    let taken_back = refusals::are_taken_back(rt.alloc(), &mut out);
     tell(
         &mut out,
-        line(taken_back == Some(true), b"uploads taken back\n"),
+        line(taken_back == Ok(true), b"uploads taken back\n"),
     );
     ExitCode::from(0)
 }

@@ -19,27 +19,15 @@ const REQUESTS: u8 = 32;
 // The rows of each part that are held before: as many as a node of a map has room for, so that one more asks for memory.
 const HELD: u8 = 15;
 
+// The rows that an upload changes and takes away.
+const CHANGED: u8 = 3;
+
+const TAKEN: u8 = 5;
+
 // The most records that a store holds.
 const MOST: u32 = 10_000_000;
 
 const METER: MeterId = MeterId(0);
-
-// A row of each part.
-#[derive(Clone, Copy)]
-struct Row {
-    entry: Entry,
-    instant: Instant,
-    wh: WattHours,
-    key: TotalKey,
-}
-
-/// What an upload adds, what it changes, and what it takes away.
-#[derive(Clone, Copy)]
-pub(crate) struct Rows {
-    added: Row,
-    changed: Row,
-    taken: Row,
-}
 
 // All that a store holds.
 #[derive(Drop)]
@@ -50,58 +38,80 @@ struct Listed {
     totals: [u64; 3],
 }
 
-fn row_of(number: u8) -> Option<Row> {
-    let instant = Instant::of(FIRST_SECOND.checked_add(u32::from(number))?)?;
-    let account = AccountId(u16::from(number));
-    Some(Row {
-        entry: Entry {
-            key: Key::TopUp {
-                reference: Reference::of(&[b'A'.checked_add(number)?])?,
-            },
-            content: Content::TopUp {
-                account,
-                cents: 1,
-                instant,
-            },
-        },
-        instant,
-        wh: WattHours::of(u64::from(number))?,
-        key: TotalKey::TopUps { account },
-    })
+// What can't be made is told as a device's failure, which the trial refuses.
+fn second(number: u8) -> Result<Instant, ShelfFault> {
+    Instant::of(FIRST_SECOND + u32::from(number)).ok_or(ShelfFault::Device)
 }
 
-/// What the uploads put.
-pub(crate) fn rows_put() -> Option<Rows> {
-    Some(Rows {
-        added: row_of(HELD)?,
-        changed: row_of(3)?,
-        taken: row_of(5)?,
-    })
+fn watt_hours(number: u8) -> Result<WattHours, ShelfFault> {
+    WattHours::of(u64::from(number)).ok_or(ShelfFault::Device)
 }
 
-fn put(shelf: &mut MemoryShelf, row: &Row) -> Result<(), ShelfFault>
-    requires { IsSome (state_of shelf.old).begun }
-    ensures { (state_of shelf.new).begun ≡ (state_of shelf.old).begun }
-{
-    if shelf.holds(&row.entry)? || MOST <= shelf.count()? {
-        return Ok(());
+fn total_key(number: u8) -> TotalKey {
+    TotalKey::TopUps {
+        account: AccountId(u16::from(number)),
     }
-    shelf.add(&row.entry)?;
-    shelf.point_put(METER, Register::I1, row.instant, row.wh)?;
-    shelf.start_put(METER, row.instant, Some(AccountId(1)))?;
-    shelf.total_put(&row.key, 7)
 }
 
-fn change(shelf: &mut MemoryShelf, rows: &Rows) -> Result<(), ShelfFault>
+fn payment(number: u8) -> Option<Entry> {
+    let reference = Reference::of(&[b'A'.saturating_add(number)])?;
+    let instant = second(number).ok()?;
+    Some(Entry {
+        key: Key::TopUp { reference },
+        content: Content::TopUp {
+            account: AccountId(u16::from(number)),
+            cents: 1,
+            instant,
+        },
+    })
+}
+
+fn add(shelf: &mut MemoryShelf, number: u8) -> Result<(), ShelfFault>
     requires { IsSome (state_of shelf.old).begun }
     ensures { (state_of shelf.new).begun ≡ (state_of shelf.old).begun }
 {
-    put(shelf, &rows.added)?;
-    shelf.point_put(METER, Register::I1, rows.changed.instant, rows.added.wh)?;
-    shelf.start_put(METER, rows.changed.instant, None)?;
-    shelf.total_put(&rows.changed.key, 0)?;
-    shelf.point_del(METER, Register::I1, rows.taken.instant)?;
-    shelf.start_del(METER, rows.taken.instant)
+    let Some(entry) = payment(number) else {
+        return Err(ShelfFault::Device);
+    };
+    if shelf.holds(&entry)? || MOST <= shelf.count()? {
+        return Err(ShelfFault::Device);
+    }
+    shelf.add(&entry)
+}
+
+// Puts a row of each part.
+fn put(shelf: &mut MemoryShelf, number: u8) -> Result<(), ShelfFault>
+    requires { IsSome (state_of shelf.old).begun }
+    ensures { (state_of shelf.new).begun ≡ (state_of shelf.old).begun }
+{
+    let instant = second(number)?;
+    add(shelf, number)?;
+    shelf.point_put(METER, Register::I1, instant, watt_hours(number)?)?;
+    shelf.start_put(METER, instant, Some(AccountId(1)))?;
+    shelf.total_put(&total_key(number), 7)
+}
+
+// Adds a row of each part, changes one and takes one away.
+fn change(shelf: &mut MemoryShelf) -> Result<(), ShelfFault>
+    requires { IsSome (state_of shelf.old).begun }
+    ensures { (state_of shelf.new).begun ≡ (state_of shelf.old).begun }
+{
+    put(shelf, HELD)?;
+    shelf.point_put(METER, Register::I1, second(CHANGED)?, watt_hours(HELD)?)?;
+    shelf.start_put(METER, second(CHANGED)?, None)?;
+    shelf.total_put(&total_key(CHANGED), 0)?;
+    shelf.point_del(METER, Register::I1, second(TAKEN)?)?;
+    shelf.start_del(METER, second(TAKEN)?)
+}
+
+fn fill(shelf: &mut MemoryShelf) -> Result<(), ShelfFault>
+    requires { IsSome (state_of shelf.old).begun }
+    ensures { (state_of shelf.new).begun ≡ (state_of shelf.old).begun }
+{
+    for number in 0..HELD {
+        put(shelf, number)?;
+    }
+    Ok(())
 }
 
 fn filled(alloc: Global) -> Option<MemoryShelf>
@@ -109,61 +119,58 @@ fn filled(alloc: Global) -> Option<MemoryShelf>
 {
     let mut shelf = MemoryShelf::new(alloc);
     shelf.begin().ok()?;
-    for number in 0..HELD {
-        put(&mut shelf, &row_of(number)?).ok()?;
-    }
+    fill(&mut shelf).ok()?;
     shelf.commit().ok()?;
     Some(shelf)
 }
 
 /// A store with some rows, and an upload that is begun and has changed some.
-pub(crate) fn begun(alloc: Global, rows: &Rows) -> Option<MemoryShelf>
+pub(crate) fn begun(alloc: Global) -> Option<MemoryShelf>
     ensures { IfSome result (λ shelf. IsSome (state_of shelf).begun) }
 {
     let mut shelf = filled(alloc)?;
     shelf.begin().ok()?;
-    change(&mut shelf, rows).ok()?;
+    change(&mut shelf).ok()?;
     Some(shelf)
 }
 
 /// Whether an upload is kept, and another one begun and given up.
-pub(crate) fn is_kept(shelf: &mut MemoryShelf, rows: &Rows) -> bool
+pub(crate) fn is_kept(shelf: &mut MemoryShelf) -> bool
     requires { IsSome (state_of shelf.old).begun }
 {
     shelf.commit().is_ok()
         && shelf.begin().is_ok()
         && shelf.abandon().is_ok()
         && shelf.count() == Ok(16)
-        && shelf.total(&rows.changed.key) == Ok(0)
-        && is_behind(shelf, rows)
+        && shelf.total(&total_key(CHANGED)) == Ok(0)
+        && is_passed_over(shelf) == Ok(true)
 }
 
-// Whether the point behind the one that is changed isn't the one that is taken away.
-fn is_behind(shelf: &mut MemoryShelf, rows: &Rows) -> bool {
-    let Ok(Some(fourth)) = shelf.point_after(METER, Register::I1, rows.changed.instant) else {
-        return false;
-    };
-    let Ok(Some(sixth)) = shelf.point_after(METER, Register::I1, fourth.0) else {
-        return false;
-    };
-    fourth.1.get() == 4 && sixth.1.get() == 6
+// Whether the point that was taken away is passed over.
+fn is_passed_over(shelf: &mut MemoryShelf) -> Result<bool, ShelfFault> {
+    let before = shelf.point_before(METER, Register::I1, second(TAKEN + 1)?)?;
+    let behind = shelf.point_after(METER, Register::I1, second(TAKEN - 1)?)?;
+    let fourth = (second(TAKEN - 1)?, watt_hours(TAKEN - 1)?);
+    let sixth = (second(TAKEN + 1)?, watt_hours(TAKEN + 1)?);
+    Ok(before == Some(fourth) && behind == Some(sixth))
 }
 
-fn told(alloc: Global, shelf: &mut MemoryShelf, rows: &Rows) -> Option<Listed>
+fn told(alloc: Global, shelf: &mut MemoryShelf) -> Result<Listed, ShelfFault>
     ensures { (state_of shelf.new).begun ≡ (state_of shelf.old).begun }
 {
-    let first = Instant::of(FIRST_SECOND)?;
-    let last = Instant::of(LAST_SECOND)?;
-    let topups = shelf.topups(alloc).ok()?;
-    let points = shelf.points_between(alloc, METER, Register::I1, first, last);
-    let starts = shelf.starts_of(alloc, METER);
-    let added = shelf.total(&rows.added.key).ok()?;
-    let changed = shelf.total(&rows.changed.key).ok()?;
-    let taken = shelf.total(&rows.taken.key).ok()?;
-    Some(Listed {
+    let Some(last) = Instant::of(LAST_SECOND) else {
+        return Err(ShelfFault::Device);
+    };
+    let topups = shelf.topups(alloc)?;
+    let points = shelf.points_between(alloc, METER, Register::I1, second(0)?, last)?;
+    let starts = shelf.starts_of(alloc, METER)?;
+    let added = shelf.total(&total_key(HELD))?;
+    let changed = shelf.total(&total_key(CHANGED))?;
+    let taken = shelf.total(&total_key(TAKEN))?;
+    Ok(Listed {
         topups,
-        points: points.ok()?,
-        starts: starts.ok()?,
+        points,
+        starts,
         totals: [added, changed, taken],
     })
 }
@@ -175,31 +182,32 @@ fn is_same(a: &Listed, b: &Listed) -> bool {
         && a.totals == b.totals
 }
 
-// Makes an upload and gives it up; whether it failed for want of memory alone.
-fn is_given_up(shelf: &mut MemoryShelf, rows: &Rows) -> bool
+// Makes an upload and gives it up; whether it failed for want of memory, or not at all.
+fn is_given_up(shelf: &mut MemoryShelf) -> bool
     requires { (state_of shelf.old).begun ≡ None }
     ensures { (state_of shelf.new).begun ≡ None }
 {
     if shelf.begin().is_err() {
         return false;
     }
-    let changed = change(shelf, rows);
+    let changed = change(shelf);
     memory_abandons(shelf).is_ok() && changed != Err(ShelfFault::Device)
 }
 
-/// Whether a store holds what it held before, each time when an upload was given up whose next request was refused.
-///
-/// Behind each line `refuse in turn` the request of that line's number is refused, as far as `memory again`.
-pub(crate) fn are_taken_back<O: Write>(alloc: Global, out: &mut O, rows: &Rows) -> Option<bool> {
-    let mut shelf = filled(alloc)?;
-    let before = told(alloc, &mut shelf, rows)?;
+/// Whether a store holds what it held before, each time when an upload was given up one of whose requests was refused:
+/// behind the first line `refuse in turn` the first, and so on.
+pub(crate) fn are_taken_back<O: Write>(alloc: Global, out: &mut O) -> Result<bool, ShelfFault> {
+    let Some(mut shelf) = filled(alloc) else {
+        return Ok(false);
+    };
+    let before = told(alloc, &mut shelf)?;
     let mut right = before.points.len() == 15 && before.starts.len() == 15;
     for _ in 0..REQUESTS {
         tell(out, b"refuse in turn\n");
-        let is_given_up = is_given_up(&mut shelf, rows);
+        let is_given_up = is_given_up(&mut shelf);
         tell(out, b"memory again\n");
-        let now = told(alloc, &mut shelf, rows)?;
+        let now = told(alloc, &mut shelf)?;
         right = right && is_given_up && is_same(&before, &now);
     }
-    Some(right)
+    Ok(right)
 }

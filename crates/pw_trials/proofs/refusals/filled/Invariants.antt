@@ -1,6 +1,0 @@
-use Rattle.std.proofs.Common.{IsSome}
-use Rattle.pw_shelf.specs.Memory.{state_of}
-use Rattle.pw_trials.proofs.refusals.filled.Given as goal
-
-abbrev pub invariant-loop-number : goal.invariant-loop-number
-invariant-loop-number l = IsSome (state_of l.shelf).begun
