@@ -1,9 +1,9 @@
 /* An allocator that refuses requests for memory between two lines of a program's output, and tells of it.
  *
  * Preloaded (LD_PRELOAD) into a program that writes the lines `no memory` and `memory again`: a request between them is
- * refused and counted, and at the second line the program ends with status 9 where any was made. Between the lines `one may
- * be refused` and `all is given` the request of the number that REFUSED_REQUEST names is refused, counted from 1; at the
- * second line the program ends with status 8 where fewer were made. */
+ * refused and counted, and at the second line the program ends with status 9 where any was made. Between lines `one may be
+ * refused` and `all is given` the request of the number that REFUSED_REQUEST names is refused, counted from 1 over all of
+ * them; at the line `done` the program ends with status 8 where fewer were made. */
 #define _GNU_SOURCE
 #include <dlfcn.h>
 #include <errno.h>
@@ -59,10 +59,8 @@ static void watch(const void *text, size_t length) {
         wanted = number ? strtoul(number, NULL, 10) : 0;
         counting = 1;
     }
-    if (begins(text, length, "all is given\n")) {
-        counting = 0;
-        if (counted < wanted) _exit(8);
-    }
+    if (begins(text, length, "all is given\n")) counting = 0;
+    if (begins(text, length, "done\n") && counted < wanted) _exit(8);
     if (!begins(text, length, "memory again\n")) return;
     refusing = 0;
     if (asked) {

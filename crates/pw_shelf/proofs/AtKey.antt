@@ -71,8 +71,8 @@ pub from-le : (k : Key) (e : Entry) → from k e ≡ true → is_le (order (lowe
 from-le k e h = and-left (is_le (order (lowest k) e)) h
 
 -- ---- what a filter keeps
-module _ (p : Entry → Bool) where
-  pub kept-member : (xs : List Entry) (e : Entry) → Member e xs → p e ≡ true → Member e (filter p xs)
+module _ {X : Type 0} (p : X → Bool) where
+  pub kept-member : (xs : List X) (e : X) → Member e xs → p e ≡ true → Member e (filter p xs)
   kept-member [] e m h = absurd m
   kept-member (x ∷ xs) e m h =
       elim (cases_Bool (p x)) [
@@ -80,16 +80,17 @@ module _ (p : Entry → Bool) where
         | inr f ↦ rw f (elim m [ inl i ↦ absurd (true≢false (sym h ∙ ap p i ∙ f)) | inr j ↦ kept-member xs e j h ])
       ]
 
-  pub member-kept : (xs : List Entry) (e : Entry) → Member e (filter p xs) → Member e xs × (p e ≡ true)
+  pub member-kept : (xs : List X) (e : X) → Member e (filter p xs) → Member e xs × (p e ≡ true)
   member-kept [] e m = absurd m
   member-kept (x ∷ xs) e m =
       elim (cases_Bool (p x)) [
-        | inl t ↦ (let P : List Entry → Type 0 = Member e in
+        | inl t ↦ (let P : List X → Type 0 = Member e in
             let n : Member e (x ∷ filter p xs) = rw t at m in
             elim n [ inl i ↦ (inl i, ap p i ∙ t) | inr j ↦ (let q = member-kept xs e j in (inr q.0, q.1)) ])
         | inr f ↦ (let n : Member e (filter p xs) = rw f at m in let q = member-kept xs e n in (inr q.0, q.1))
       ]
 
+module _ (p : Entry → Bool) where
   all-kept : (P : Entry → Type 0) (xs : List Entry) → AllByRecursion P xs → AllByRecursion P (filter p xs)
   all-kept P [] h = tt
   all-kept P (x ∷ xs) h =

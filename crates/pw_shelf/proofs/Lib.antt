@@ -1,5 +1,6 @@
 pub mod Walks
 pub mod InOrder
+pub mod Removed
 pub mod Listing
 pub mod AtKey
 pub mod OfKind

@@ -1,8 +1,8 @@
--- The points of a register between two instants, and the starts of a meter, as stretches of their maps.
+-- The points of a register between two instants, and the starts of a meter, as stretches of their tables.
 use Rattle.std.proofs.Common.{◌≡◌, ◌≤◌, ℕ, Bool, true, not, ◌&&◌, Option, Some, None, map, refl, sym, ◌∙◌, arith}
 use Rattle.std.specs.Option.{IsSome}
-use Rattle.std.specs.BTreeMap.{BTreeMap, IsOrdered}
-use Rattle.std.specs.BTreeMap.Range.{entries_between, range_contains}
+use Rattle.std.specs.BTreeMap.{IsOrdered}
+use Rattle.std.specs.BTreeMap.Range.{range_contains}
 use Rattle.std.specs.declared.ops.Bound.TheVariants.{Included}
 use Rattle.std.specs.Ordering.{is_le, is_lt, nat_cmp, ordering_then}
 use Rattle.std.specs.declared.cmp.Ordering.{Ordering}
@@ -13,10 +13,12 @@ use Rattle.pw_tariff.specs.declared.ids.AccountId.{AccountId}
 use Rattle.pw_tariff.specs.declared.ids.MeterId.{MeterId}
 use Rattle.pw_time.specs.Instants.{IsInstant}
 use Rattle.pw_time.specs.declared.instant.TheConstants.{FIRST_SECOND, LAST_SECOND}
+use Rattle.pw_shelf.specs.declared.table.Table.{Table}
 use Rattle.pw_shelf.specs.Orders.{point_order, start_order}
 use Rattle.pw_shelf.specs.Seconds.{ListsSeconds, ListsSecondsWithin}
-use Rattle.pw_shelf.specs.Standing.{point_in, start_in}
+use Rattle.pw_shelf.specs.Standing.{point_now, start_now}
 use Rattle.pw_shelf.specs.inner.Held.{AreDated}
+use Rattle.pw_shelf.specs.inner.Table.{rows_between}
 use Rattle.pw_shelf.proofs.RowKeys.{meter-seconds, one-register, points-exact, points-total, register_order, register-seconds, starts-exact, starts-total}
 use Rattle.pw_shelf.proofs.Stretches.{lists-alike, stretch}
 
@@ -52,16 +54,16 @@ module _ (m : MeterId) (r : Register) (from to : ℕ) where
       (squeezed (register_order (m, r, 0) k) (nat_cmp from k.2) (nat_cmp to k.2) h) in
       λ i. (sym o.0 i, sym o.1 i, k.2)
 
-  pub points-within : (rows : BTreeMap (MeterId × Register × ℕ) ℕ) → IsOrdered point_order rows →
-      ListsSecondsWithin from to (point_in rows m.0 r)
+  pub points-within : (rows : Table (MeterId × Register × ℕ) ℕ) → IsOrdered point_order rows.rows →
+      ListsSecondsWithin from to (point_now rows m.0 r)
       (map (λ (e : (MeterId × Register × ℕ) × ℕ). (e.0.2, e.1))
-      (entries_between point_order (Included (m, r, from)) (Included (m, r, to)) rows.entries))
+      (rows_between point_order (Included (m, r, from)) (Included (m, r, to)) rows))
   unfolding points-between
   points-within rows s = lists-alike _ (λ a. (
     λ f. (let b = between-is from to a.0 (sym (at-instant a.0) ∙ f.0) in (b.0, b.1, f.1)),
     λ f. (at-instant a.0 ∙ is-between from to a.0 f.0 f.1, f.2),
-  )) (stretch point_order points-total points-exact points-between (λ k. k.2) (λ t. (m, r, t)) of-register (λ t. refl)
-      (register-seconds m r) rows s)
+  )) (stretch point_order points-total points-exact rows s (Included (m, r, from)) (Included (m, r, to)) (λ k. k.2)
+      (λ t. (m, r, t)) (λ t. refl) of-register (register-seconds m r))
 
 -- ---- starts of a meter
 module _ (m : MeterId) where
@@ -83,13 +85,14 @@ module _ (m : MeterId) where
       squeezed-equal : (a b : MeterId) → nat_cmp a.0 b.0 ≡ Equal → start_order (a, 0) (b, 0) ≡ Equal
       squeezed-equal a b e = rw e refl
 
-  pub starts-all : (rows : BTreeMap (MeterId × ℕ) (Option AccountId)) → IsOrdered start_order rows → AreDated rows →
-      ListsSeconds (start_in rows m.0) (map (λ (e : (MeterId × ℕ) × Option AccountId). (e.0.1, e.1))
-      (entries_between start_order (Included (m, FIRST_SECOND)) (Included (m, LAST_SECOND)) rows.entries))
+  pub starts-all : (rows : Table (MeterId × ℕ) (Option AccountId)) → IsOrdered start_order rows.rows →
+      AreDated (start_now rows) →
+      ListsSeconds (start_now rows m.0) (map (λ (e : (MeterId × ℕ) × Option AccountId). (e.0.1, e.1))
+      (rows_between start_order (Included (m, FIRST_SECOND)) (Included (m, LAST_SECOND)) rows))
   unfolding starts-between
   starts-all rows s d = lists-alike _ (λ a. (
     λ f. f.1,
-    λ f. (let n : IsInstant a.0 = d m.0 a.0 (some-is (start_in rows m.0 a.0) a.1 f) in
+    λ f. (let n : IsInstant a.0 = d m.0 a.0 (some-is (start_now rows m.0 a.0) a.1 f) in
         (at-start a.0 ∙ is-between FIRST_SECOND LAST_SECOND a.0 n.0 n.1, f)),
-  )) (stretch start_order starts-total starts-exact starts-between (λ k. k.1) (λ t. (m, t)) of-meter (λ t. refl)
-      (meter-seconds m) rows s)
+  )) (stretch start_order starts-total starts-exact rows s (Included (m, FIRST_SECOND)) (Included (m, LAST_SECOND))
+      (λ k. k.1) (λ t. (m, t)) (λ t. refl) of-meter (meter-seconds m))

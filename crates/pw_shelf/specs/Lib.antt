@@ -16,12 +16,18 @@ pub mod Memory
 -- and these where a file above names them:
 -- Once: adding a record in an upload of its own
 -- Orders: the orders of the maps that a store in memory keeps
--- Standing: what stands in them
+-- Content: what a store in memory keeps, now, and when its upload began
+-- Standing: what its parts tell
+-- Added: what its records were before some were added
+-- Table: what a map tells, some of whose keys an upload has changed
 -- Count: what a shelf that counts its calls knows
 -- Plan: when such a shelf fails
 pub mod Once
 pub mod Orders
+pub mod Content
 pub mod Standing
+pub mod Added
+pub mod Table
 pub mod Count
 pub mod Plan
 -- named by private functions, tests and proofs alone

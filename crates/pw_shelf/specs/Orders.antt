@@ -1,4 +1,4 @@
--- The orders in which a store in memory keeps points, starts and totals, as those of their keys in the program.
+-- The orders in which a store in memory keeps records, points, starts and totals, as those of their keys in the program.
 -- (Definitions of this project.)
 use Rattle.std.specs.Prelude.{ℕ}
 use Rattle.std.specs.Ordering.{nat_cmp, ordering_then}
@@ -6,7 +6,9 @@ use Rattle.std.specs.declared.cmp.Ordering.{Ordering}
 use Rattle.pw_obis.specs.declared.reference.Register.{Register}
 use Rattle.pw_obis.specs.contracts.reference.RegisterOrd.TheImpl as register
 use Rattle.pw_tariff.specs.declared.ids.MeterId.{MeterId}
+use Rattle.pw_model.specs.declared.records.Entry.{Entry}
 use Rattle.pw_model.specs.declared.records.TotalKey.{TotalKey}
+use Rattle.pw_model.specs.contracts.records.EntryOrd.TheImpl as entry
 use Rattle.pw_model.specs.contracts.records.TotalKeyOrd.TheImpl as total_key
 
 -- by meter, register and second
@@ -19,3 +21,6 @@ start_order a b = ordering_then (nat_cmp a.0.0 b.0.0) (nat_cmp a.1 b.1)
 
 abbrev pub total_key_order : TotalKey → TotalKey → Ordering
 total_key_order = total_key.ghosts.cmp
+
+abbrev pub record_order : Entry → Entry → Ordering
+record_order = entry.ghosts.cmp

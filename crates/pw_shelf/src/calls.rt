@@ -27,22 +27,21 @@ impl Shelf for MemoryShelf {
 
     fn begin(&mut self) -> Result<(), ShelfFault> {
         self.tally.tick(0);
-        let copy = self.kept.copy()?;
-        self.begun = Some(copy);
+        self.begun = true;
         Ok(())
     }
 
     fn commit(&mut self) -> Result<(), ShelfFault> {
         self.tally.tick(0);
-        self.begun = None;
+        self.kept.keep();
+        self.begun = false;
         Ok(())
     }
 
     fn abandon(&mut self) -> Result<(), ShelfFault> {
         self.tally.tick(0);
-        if let Some(kept) = self.begun.take() {
-            self.kept = kept;
-        }
+        self.kept.go_back();
+        self.begun = false;
         Ok(())
     }
 
@@ -102,8 +101,7 @@ impl Shelf for MemoryShelf {
         instant: Instant,
     ) -> Result<(), ShelfFault> {
         self.tally.tick(0);
-        self.kept.points.delete(meter, register, instant);
-        Ok(())
+        self.kept.points.delete(meter, register, instant)
     }
 
     fn point_before(
@@ -153,8 +151,7 @@ impl Shelf for MemoryShelf {
 
     fn start_del(&mut self, meter: MeterId, start: Instant) -> Result<(), ShelfFault> {
         self.tally.tick(0);
-        self.kept.starts.delete(meter, start);
-        Ok(())
+        self.kept.starts.delete(meter, start)
     }
 
     fn starts_of(

@@ -4,6 +4,7 @@ ghost use Rattle.std.specs.Prelude.{◌≡◌, ◌<◌, ◌≤◌, [], IfOk, IfE
 ghost use Rattle.pw_model.specs.Office.{most_records};
 ghost use Rattle.pw_model.specs.Counting.{Member, IsInserted};
 ghost use Rattle.pw_model.specs.Counting.{EachOnce};
+ghost use Rattle.pw_shelf.specs.Added.{without};
 ghost use Rattle.pw_shelf.specs.inner.Held.{AreNamed, AreNamed-prop, EachOnce-prop, IsNamed};
 ghost use Rattle.pw_shelf.specs.declared.fault.ShelfFault.TheVariants.{Memory};
 
@@ -16,6 +17,8 @@ use std::collections::BTreeSet;
 #[derive(Drop)]
 pub struct Held {
     pub(crate) records: BTreeSet<Entry>,
+    // those that the upload added, in its order
+    pub(crate) added: Vec<Entry>,
     ghost once: { EachOnce records.keys } by { EachOnce-prop records.keys },
     ghost few: { length records.keys ≤ most_records },
     ghost named: { AreNamed records.keys } by { AreNamed-prop records.keys },
@@ -24,20 +27,13 @@ pub struct Held {
 impl Held {
     /// Nothing.
     pub(crate) fn new(alloc: Global) -> Held
-        ensures { result.records.keys ≡ [] }
+        ensures records { result.records.keys ≡ [] }
+        ensures added { result.added.items ≡ [] }
     {
         Held {
             records: BTreeSet::new(alloc),
+            added: Vec::new(alloc),
         }
-    }
-
-    /// The same once more.
-    pub(crate) fn copy(&self) -> Result<Held, ShelfFault>
-        ensures copy { IfOk result (λ copy. copy.records.keys ≡ self.now.records.keys) }
-        ensures memory { IfErr result (λ e. e ≡ Memory) }
-    {
-        let records = self.records.clone()?;
-        Ok(Held { records })
     }
 
     /// Whether a record is held.
@@ -53,11 +49,31 @@ impl Held {
         requires room { length self.old.records.keys < most_records }
         ensures added { OnOk result (IsInserted entry self.old.records.keys self.new.records.keys) }
         ensures same { OnErr result (self.new.records.keys ≡ self.old.records.keys) }
+        ensures begin { without self.new.added.items self.new.records.keys ≡ without self.old.added.items self.old.records.keys }
         ensures memory { IfErr result (λ e. e ≡ Memory) }
     {
         name_of(&entry.key);
+        self.added.push(entry)?;
         self.records.insert(entry)?;
         Ok(())
+    }
+
+    /// Keeps what was added. It takes no memory.
+    pub(crate) fn keep(&mut self)
+        ensures same { self.new.records.keys ≡ self.old.records.keys }
+        ensures done { self.new.added.items ≡ [] }
+    {
+        self.added.clear();
+    }
+
+    /// Goes back to what was held when the upload began. It takes no memory.
+    pub(crate) fn go_back(&mut self)
+        ensures back { self.new.records.keys ≡ without self.old.added.items self.old.records.keys }
+        ensures done { self.new.added.items ≡ [] }
+    {
+        while let Some(entry) = self.added.pop() {
+            self.records.remove(&entry);
+        }
     }
 
     /// How many records are held.

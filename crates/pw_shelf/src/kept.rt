@@ -1,18 +1,16 @@
 //! All that a store in memory keeps.
 
-ghost use Rattle.std.specs.Prelude.{◌≡◌, IfOk, IfErr};
+ghost use Rattle.std.specs.Prelude.{◌≡◌};
 ghost use Rattle.pw_model.specs.Shelf.{no_content};
-ghost use Rattle.pw_shelf.specs.Memory.{content_of};
-ghost use Rattle.pw_shelf.specs.declared.fault.ShelfFault.TheVariants.{Memory};
+ghost use Rattle.pw_shelf.specs.Content.{content_now, content_then};
 
-use crate::fault::ShelfFault;
 use crate::held::Held;
 use crate::points::Points;
 use crate::starts::Starts;
 use crate::totals::Totals;
 use std::alloc::Global;
 
-/// Records, points, starts and totals.
+/// Records, points, starts and totals, each with what an upload changed.
 #[derive(Drop)]
 pub struct Kept {
     pub(crate) records: Held,
@@ -24,7 +22,8 @@ pub struct Kept {
 impl Kept {
     /// Nothing.
     pub(crate) fn new(alloc: Global) -> Kept
-        ensures { content_of result ≡ no_content }
+        ensures now { content_now result ≡ no_content }
+        ensures begin { content_then result ≡ no_content }
     {
         Kept {
             records: Held::new(alloc),
@@ -34,20 +33,25 @@ impl Kept {
         }
     }
 
-    /// The same once more.
-    pub(crate) fn copy(&self) -> Result<Kept, ShelfFault>
-        ensures copy { IfOk result (λ copy. content_of copy ≡ content_of self.now) }
-        ensures memory { IfErr result (λ e. e ≡ Memory) }
+    /// Keeps what the upload changed. It takes no memory.
+    pub(crate) fn keep(&mut self)
+        ensures same { content_now self.new ≡ content_now self.old }
+        ensures begin { content_then self.new ≡ content_now self.old }
     {
-        let records = self.records.copy()?;
-        let points = self.points.copy()?;
-        let starts = self.starts.copy()?;
-        let totals = self.totals.copy()?;
-        Ok(Kept {
-            records,
-            points,
-            starts,
-            totals,
-        })
+        self.records.keep();
+        self.points.keep();
+        self.starts.keep();
+        self.totals.keep();
+    }
+
+    /// Goes back to what was kept when the upload began. It takes no memory.
+    pub(crate) fn go_back(&mut self)
+        ensures back { content_now self.new ≡ content_then self.old }
+        ensures begin { content_then self.new ≡ content_then self.old }
+    {
+        self.records.go_back();
+        self.points.go_back();
+        self.starts.go_back();
+        self.totals.go_back();
     }
 }

@@ -17,6 +17,7 @@ mod points;
 mod rows;
 mod shelf;
 mod starts;
+mod table;
 mod tally;
 mod totals;
 

@@ -1,46 +1,40 @@
 //! The points of a store in memory, in order.
 
-ghost use Rattle.std.specs.Prelude.{◌≡◌, ◌↔◌, [], None, Some, IfOk, IfErr, IsTrue, OnOk, map};
+ghost use Rattle.std.specs.Prelude.{◌≡◌, ◌↔◌, None, Some, IfOk, IfErr, IsTrue, OnOk, map};
 ghost use Rattle.std.specs.BTreeMap.{IsOrdered};
-ghost use Rattle.std.specs.BTreeMap.Range.{IsLeBy, entries_between};
+ghost use Rattle.std.specs.BTreeMap.Range.{IsLeBy};
 ghost use Rattle.std.specs.declared.ops.Bound.TheVariants.{Included};
 ghost use Rattle.pw_shelf.specs.Changes.{points_with};
 ghost use Rattle.pw_shelf.specs.Orders.{point_order};
 ghost use Rattle.pw_shelf.specs.Seconds.{IsBefore, IsBehind, ListsSecondsWithin};
-ghost use Rattle.pw_shelf.specs.Standing.{point_in};
+ghost use Rattle.pw_shelf.specs.Standing.{point_now, point_then};
+ghost use Rattle.pw_shelf.specs.inner.Table.{CanGoBack, rows_between};
 ghost use Rattle.pw_shelf.specs.declared.fault.ShelfFault.TheVariants.{Memory};
 
 use crate::fault::ShelfFault;
+use crate::table::Table;
 use pw_obis::{Register, WattHours};
 use pw_tariff::MeterId;
 use pw_time::Instant;
 use std::alloc::{AllocError, Global};
-use std::collections::BTreeMap;
 use std::ops::Bound;
 
 /// What is kept as the values of counting readings.
 #[derive(Drop)]
 pub struct Points {
-    pub(crate) rows: BTreeMap<(MeterId, Register, Instant), WattHours>,
+    pub(crate) table: Table<(MeterId, Register, Instant), WattHours>,
+    ghost back: { CanGoBack point_order table },
 }
 
 impl Points {
     /// None.
     pub(crate) fn new(alloc: Global) -> Points
-        ensures { result.rows.entries ≡ [] }
+        ensures now { point_now result.table ≡ (λ m r t. None) }
+        ensures begin { point_then result.table ≡ (λ m r t. None) }
     {
         Points {
-            rows: BTreeMap::new(alloc),
+            table: Table::new(alloc),
         }
-    }
-
-    /// The same once more.
-    pub(crate) fn copy(&self) -> Result<Points, ShelfFault>
-        ensures copy { IfOk result (λ copy. copy.rows.entries ≡ self.now.rows.entries) }
-        ensures memory { IfErr result (λ e. e ≡ Memory) }
-    {
-        let rows = self.rows.clone()?;
-        Ok(Points { rows })
     }
 
     /// Sets the point of a register at an instant.
@@ -51,18 +45,41 @@ impl Points {
         instant: Instant,
         wh: WattHours,
     ) -> Result<(), ShelfFault>
-        ensures put { OnOk result (point_in self.new.rows ≡ points_with (point_in self.old.rows) meter.0 register instant (Some wh)) }
+        ensures put { OnOk result (point_now self.new.table ≡ points_with (point_now self.old.table) meter.0 register instant (Some wh)) }
+        ensures begin { point_then self.new.table ≡ point_then self.old.table }
         ensures memory { IfErr result (λ e. e ≡ Memory) }
     {
-        self.rows.insert((meter, register, instant), wh)?;
-        Ok(())
+        self.table.put((meter, register, instant), wh)
     }
 
     /// Takes the point of a register at an instant away, if there is one.
-    pub(crate) fn delete(&mut self, meter: MeterId, register: Register, instant: Instant)
-        ensures { point_in self.new.rows ≡ points_with (point_in self.old.rows) meter.0 register instant None }
+    pub(crate) fn delete(
+        &mut self,
+        meter: MeterId,
+        register: Register,
+        instant: Instant,
+    ) -> Result<(), ShelfFault>
+        ensures deleted { OnOk result (point_now self.new.table ≡ points_with (point_now self.old.table) meter.0 register instant None) }
+        ensures begin { point_then self.new.table ≡ point_then self.old.table }
+        ensures memory { IfErr result (λ e. e ≡ Memory) }
     {
-        self.rows.remove(&(meter, register, instant));
+        self.table.delete((meter, register, instant))
+    }
+
+    /// Keeps what the upload changed. It takes no memory.
+    pub(crate) fn keep(&mut self)
+        ensures same { point_now self.new.table ≡ point_now self.old.table }
+        ensures begin { point_then self.new.table ≡ point_now self.old.table }
+    {
+        self.table.keep();
+    }
+
+    /// Goes back to what stood when the upload began. It takes no memory.
+    pub(crate) fn go_back(&mut self)
+        ensures back { point_now self.new.table ≡ point_then self.old.table }
+        ensures begin { point_then self.new.table ≡ point_then self.old.table }
+    {
+        self.table.go_back();
     }
 
     /// The latest point of a register strictly before an instant.
@@ -72,12 +89,12 @@ impl Points {
         register: Register,
         instant: Instant,
     ) -> Option<(Instant, WattHours)>
-        ensures { IsBefore (point_in self.now.rows meter.0 register) instant result }
+        ensures { IsBefore (point_now self.now.table meter.0 register) instant result }
     {
-        match self.rows.range(..(meter, register, instant)).next_back() {
+        match self.table.last_before((meter, register, instant)) {
             Some((key, wh)) => {
-                if is_of_register(key, meter, register) {
-                    Some((key.2, *wh))
+                if is_of_register(&key, meter, register) {
+                    Some((key.2, wh))
                 } else {
                     None
                 }
@@ -93,13 +110,12 @@ impl Points {
         register: Register,
         instant: Instant,
     ) -> Option<(Instant, WattHours)>
-        ensures { IsBehind (point_in self.now.rows meter.0 register) instant result }
+        ensures { IsBehind (point_now self.now.table meter.0 register) instant result }
     {
-        let from = Bound::Excluded((meter, register, instant));
-        match self.rows.range((from, Bound::Unbounded)).next() {
+        match self.table.first_behind((meter, register, instant)) {
             Some((key, wh)) => {
-                if is_of_register(key, meter, register) {
-                    Some((key.2, *wh))
+                if is_of_register(&key, meter, register) {
+                    Some((key.2, wh))
                 } else {
                     None
                 }
@@ -117,7 +133,7 @@ impl Points {
         from: Instant,
         to: Instant,
     ) -> Result<Vec<(Instant, WattHours)>, ShelfFault>
-        ensures rows { IfOk result (λ found. ListsSecondsWithin from to (point_in self.now.rows meter.0 register) found.items) }
+        ensures rows { IfOk result (λ found. ListsSecondsWithin from to (point_now self.now.table meter.0 register) found.items) }
         ensures memory { IfErr result (λ e. e ≡ Memory) }
     {
         if to < from {
@@ -135,13 +151,20 @@ impl Points {
         to: (MeterId, Register, Instant),
     ) -> Result<Vec<(Instant, WattHours)>, AllocError>
         requires { IsLeBy point_order from to }
-        ensures ordered { IsOrdered point_order self.now.rows }
-        ensures points { IfOk result (λ found. found.items ≡ map (λ e. (e.0.2, e.1)) (entries_between point_order (Included from) (Included to) self.now.rows.entries)) }
+        ensures ordered { IsOrdered point_order self.now.table.rows }
+        ensures points { IfOk result (λ found. found.items ≡ map (λ e. (e.0.2, e.1)) (rows_between point_order (Included from) (Included to) self.now.table)) }
     {
-        self.rows
-            .range((Bound::Included(from), Bound::Included(to)))
-            .map(|(key, wh)| (key.2, *wh))
-            .collect(alloc)
+        let mut rows = self
+            .table
+            .rows
+            .range((Bound::Included(from), Bound::Included(to)));
+        let mut found = Vec::new(alloc);
+        while let Some((key, wh)) = rows.next() {
+            if !self.table.is_taken(key) {
+                found.push((key.2, *wh))?;
+            }
+        }
+        Ok(found)
     }
 }
 

@@ -12,10 +12,12 @@ use std::alloc::Global;
 use std::process::Abort;
 use std::test::Fail;
 
-// 2024-01-02T05:00:00Z and 06:00:00Z
+// 2024-01-02T05:00:00Z, 06:00:00Z and 07:00:00Z
 const FIVE: u32 = 1_704_171_600;
 
 const SIX: u32 = FIVE + 3_600;
+
+const SEVEN: u32 = SIX + 3_600;
 
 const METER: MeterId = MeterId(0);
 
@@ -272,7 +274,9 @@ fn given_up<S: Shelf>(rt: &impl Abort, shelf: &mut S) -> Result<(), ShelfFault>
     shelf.abandon()
 }
 
-fn points_there<S: Shelf>(rt: &impl Abort, alloc: Global, shelf: &mut S) -> Result<(), ShelfFault> {
+fn points_there<S: Shelf>(rt: &impl Abort, alloc: Global, shelf: &mut S) -> Result<(), ShelfFault>
+    ensures { (S.state shelf.new).begun ≡ (S.state shelf.old).begun }
+{
     let first = (at(rt, FIVE), watt_hours(rt, 8));
     let second = (at(rt, SIX), watt_hours(rt, 9));
     assert_eq!(rt;
@@ -295,7 +299,9 @@ fn points_there<S: Shelf>(rt: &impl Abort, alloc: Global, shelf: &mut S) -> Resu
     Ok(())
 }
 
-fn starts_there<S: Shelf>(rt: &impl Abort, alloc: Global, shelf: &mut S) -> Result<(), ShelfFault> {
+fn starts_there<S: Shelf>(rt: &impl Abort, alloc: Global, shelf: &mut S) -> Result<(), ShelfFault>
+    ensures { (S.state shelf.new).begun ≡ (S.state shelf.old).begun }
+{
     let starts = [(at(rt, FIVE), Some(AccountId(1))), (at(rt, SIX), None)];
     assert!(rt; shelf.starts_of(alloc, METER)?.as_slice() == starts.as_slice());
     assert!(rt; shelf.starts_of(alloc, MeterId(1))?.is_empty());
@@ -310,6 +316,60 @@ fn each_part_kept_and_given_back(rt: HostRuntime) -> Result<(), Fail> {
     given_up(&rt, &mut shelf)?;
     points_there(&rt, rt.alloc(), &mut shelf)?;
     starts_there(&rt, rt.alloc(), &mut shelf)?;
+    Ok(())
+}
+
+// Takes the first point and the first start away, each behind another change of it, and a point that is new.
+fn taken_away<S: Shelf>(rt: &impl Abort, shelf: &mut S) -> Result<(), ShelfFault>
+    requires { IsSome (S.state shelf.old).begun }
+    ensures { (S.state shelf.new).begun ≡ (S.state shelf.old).begun }
+{
+    shelf.point_del(METER, Register::I1, at(rt, FIVE))?;
+    shelf.point_put(METER, Register::I1, at(rt, FIVE), watt_hours(rt, 7))?;
+    shelf.point_del(METER, Register::I1, at(rt, FIVE))?;
+    shelf.point_put(METER, Register::I1, at(rt, SEVEN), watt_hours(rt, 10))?;
+    shelf.point_del(METER, Register::I1, at(rt, SEVEN))?;
+    shelf.start_put(METER, at(rt, FIVE), None)?;
+    shelf.start_del(METER, at(rt, FIVE))?;
+    shelf.total_put(&TOPUPS, 0)
+}
+
+// The second point and the second start alone.
+fn later_there<S: Shelf>(rt: &impl Abort, alloc: Global, shelf: &mut S) -> Result<(), ShelfFault>
+    ensures { (S.state shelf.new).begun ≡ (S.state shelf.old).begun }
+{
+    let second = (at(rt, SIX), watt_hours(rt, 9));
+    assert_eq!(rt; shelf.point_before(METER, Register::I1, at(rt, SIX))?, None);
+    assert_eq!(rt;
+        shelf.point_after(METER, Register::I1, at(rt, FIVE))?,
+        Some(second)
+    );
+    assert_eq!(rt; shelf.point_after(METER, Register::I1, at(rt, SIX))?, None);
+    let points = shelf.points_between(alloc, METER, Register::I1, at(rt, FIVE), at(rt, SEVEN))?;
+    assert!(rt; points.as_slice() == [second].as_slice());
+    let start = (at(rt, SIX), None);
+    assert!(rt; shelf.starts_of(alloc, METER)?.as_slice() == [start].as_slice());
+    assert_eq!(rt; shelf.total(&TOPUPS)?, 0);
+    Ok(())
+}
+
+#[test]
+fn removals_hold_where_they_are_committed(rt: HostRuntime) -> Result<(), Fail> {
+    let mut shelf = MemoryShelf::new(rt.alloc());
+    kept(&rt, &mut shelf)?;
+    shelf.begin()?;
+    taken_away(&rt, &mut shelf)?;
+    later_there(&rt, rt.alloc(), &mut shelf)?;
+    shelf.abandon()?;
+    points_there(&rt, rt.alloc(), &mut shelf)?;
+    starts_there(&rt, rt.alloc(), &mut shelf)?;
+    shelf.begin()?;
+    taken_away(&rt, &mut shelf)?;
+    shelf.commit()?;
+    later_there(&rt, rt.alloc(), &mut shelf)?;
+    shelf.begin()?;
+    shelf.abandon()?;
+    later_there(&rt, rt.alloc(), &mut shelf)?;
     Ok(())
 }
 

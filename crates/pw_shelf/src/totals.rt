@@ -1,56 +1,64 @@
 //! The totals of a store in memory, in order.
 
-ghost use Rattle.std.specs.Prelude.{◌≡◌, [], IfOk, IfErr, OnErr, OnOk};
+ghost use Rattle.std.specs.Prelude.{◌≡◌, IfErr, OnOk};
 ghost use Rattle.pw_shelf.specs.Changes.{totals_with};
-ghost use Rattle.pw_shelf.specs.Standing.{total_in};
+ghost use Rattle.pw_shelf.specs.Standing.{total_now, total_then};
+ghost use Rattle.pw_shelf.specs.Orders.{total_key_order};
+ghost use Rattle.pw_shelf.specs.inner.Table.{CanGoBack};
 ghost use Rattle.pw_shelf.specs.declared.fault.ShelfFault.TheVariants.{Memory};
 
 use crate::fault::ShelfFault;
+use crate::table::Table;
 use pw_model::TotalKey;
 use std::alloc::Global;
-use std::collections::BTreeMap;
 
 /// What is kept as totals; one that isn't there is 0.
 #[derive(Drop)]
 pub struct Totals {
-    pub(crate) rows: BTreeMap<TotalKey, u64>,
+    pub(crate) table: Table<TotalKey, u64>,
+    ghost back: { CanGoBack total_key_order table },
 }
 
 impl Totals {
     /// None.
     pub(crate) fn new(alloc: Global) -> Totals
-        ensures { result.rows.entries ≡ [] }
+        ensures now { total_now result.table ≡ (λ k. 0) }
+        ensures begin { total_then result.table ≡ (λ k. 0) }
     {
         Totals {
-            rows: BTreeMap::new(alloc),
+            table: Table::new(alloc),
         }
-    }
-
-    /// The same once more.
-    pub(crate) fn copy(&self) -> Result<Totals, ShelfFault>
-        ensures copy { IfOk result (λ copy. copy.rows.entries ≡ self.now.rows.entries) }
-        ensures memory { IfErr result (λ e. e ≡ Memory) }
-    {
-        let rows = self.rows.clone()?;
-        Ok(Totals { rows })
     }
 
     /// The total at a key.
     pub(crate) fn at(&self, key: &TotalKey) -> u64
-        ensures { result ≡ total_in self.now.rows key.now }
+        ensures { result ≡ total_now self.now.table key.now }
     {
-        match self.rows.get(key) {
-            Some(amount) => *amount,
-            None => 0,
-        }
+        self.table.at(key).unwrap_or(0)
     }
 
     /// Sets the total at a key.
     pub(crate) fn put(&mut self, key: &TotalKey, amount: u64) -> Result<(), ShelfFault>
-        ensures put { OnOk result (total_in self.new.rows ≡ totals_with (total_in self.old.rows) key.now amount) }
+        ensures put { OnOk result (total_now self.new.table ≡ totals_with (total_now self.old.table) key.now amount) }
+        ensures begin { total_then self.new.table ≡ total_then self.old.table }
         ensures memory { IfErr result (λ e. e ≡ Memory) }
     {
-        self.rows.insert(*key, amount)?;
-        Ok(())
+        self.table.put(*key, amount)
+    }
+
+    /// Keeps what the upload changed. It takes no memory.
+    pub(crate) fn keep(&mut self)
+        ensures same { total_now self.new.table ≡ total_now self.old.table }
+        ensures begin { total_then self.new.table ≡ total_now self.old.table }
+    {
+        self.table.keep();
+    }
+
+    /// Goes back to what stood when the upload began. It takes no memory.
+    pub(crate) fn go_back(&mut self)
+        ensures back { total_now self.new.table ≡ total_then self.old.table }
+        ensures begin { total_then self.new.table ≡ total_then self.old.table }
+    {
+        self.table.go_back();
     }
 }

@@ -8,9 +8,10 @@
 mod frames;
 mod instants;
 mod offices;
-mod refused;
+mod posts;
 mod sets;
 mod shelves;
+mod uploads;
 
 ghost use Rattle.std.specs.Prelude.{IsSome};
 ghost use Rattle.pw_shelf.specs.Memory.{state_of};
@@ -53,18 +54,28 @@ fn main(rt: HostRuntime) -> ExitCode {
     if !shelves::is_begun(&mut shelf) {
         return ExitCode::from(NO_MEMORY);
     }
-    let Some(mut book) = refused::filled(rt.alloc(), other) else {
+    let Some(mut book) = posts::filled(rt.alloc(), other) else {
+        return ExitCode::from(NO_MEMORY);
+    };
+    let Some(mut store) = uploads::begun(rt.alloc()) else {
         return ExitCode::from(NO_MEMORY);
     };
     let mut out = rt.stdout();
-    without_memory(&mut out, rt.alloc(), &mut shelf, office);
+    without_memory(&mut out, rt.alloc(), &mut shelf, &mut store, office);
     with_one_refused(&mut out, rt.alloc(), &mut book);
     ExitCode::from(0)
 }
 
 /// The calls that take no memory.
-fn without_memory<O: Write>(out: &mut O, alloc: Global, shelf: &mut MemoryShelf, office: Office)
-    requires { IsSome (state_of shelf.old).begun }
+fn without_memory<O: Write>(
+    out: &mut O,
+    alloc: Global,
+    shelf: &mut MemoryShelf,
+    store: &mut MemoryShelf,
+    office: Office,
+)
+    requires shelf { IsSome (state_of shelf.old).begun }
+    requires store { IsSome (state_of store.old).begun }
 {
     tell(out, b"no memory\n");
     tell(out, line(instants::are_right(), b"instants right\n"));
@@ -73,6 +84,7 @@ fn without_memory<O: Write>(out: &mut O, alloc: Global, shelf: &mut MemoryShelf,
     tell(out, line(offices::is_right(&office), b"office right\n"));
     let is_taken_back = shelves::is_taken_back(shelf);
     tell(out, line(is_taken_back, b"upload taken back\n"));
+    tell(out, line(uploads::is_kept(store), b"upload kept\n"));
     tell(out, line(shelves::is_counted(alloc), b"calls counted\n"));
     tell(out, line(shelves::is_kept(alloc, office), b"book right\n"));
     tell(out, b"memory again\n");
@@ -80,11 +92,14 @@ fn without_memory<O: Write>(out: &mut O, alloc: Global, shelf: &mut MemoryShelf,
 
 /// The calls that answer that memory was refused, and are right when they are made again.
 fn with_one_refused<O: Write>(out: &mut O, alloc: Global, book: &mut Book<MemoryShelf>) {
+    let is_taken_back = uploads::is_taken_back(alloc, out) == Ok(true);
+    tell(out, line(is_taken_back, b"upload given up\n"));
     tell(out, b"one may be refused\n");
-    let are_told = refused::are_told(alloc, book.office(), book.zone());
+    let are_told = posts::are_told(alloc, book.office(), book.zone());
     tell(out, line(are_told, b"parts right\n"));
-    tell(out, line(refused::is_taken(alloc, book), b"upload right\n"));
+    tell(out, line(posts::is_taken(alloc, book), b"upload right\n"));
     tell(out, b"all is given\n");
+    tell(out, b"done\n");
 }
 
 /// The line of a trial.

@@ -1,4 +1,5 @@
--- What a store in memory knows of the records that it keeps. It serves `src/held.rt`, which keeps these facts.
+-- What a store in memory knows of the records that it keeps. It serves `src/held.rt` and `src/starts.rt`, which keep
+-- these facts.
 -- (Definitions of this project.)
 use Rattle.std.specs.Prelude.{List, [], ◌∷◌, ℕ, Option, IsSome}
 use Rattle.std.proofs.Props.{props}
@@ -9,10 +10,7 @@ use Rattle.pw_model.specs.declared.records.Entry.{Entry}
 use Rattle.pw_model.specs.References.{IsReference}
 use Rattle.pw_time.specs.Instants.{IsInstant}
 use Rattle.pw_model.specs.Counting.{EachOnce, Member}
-use Rattle.std.specs.BTreeMap.{BTreeMap}
 use Rattle.pw_tariff.specs.declared.ids.AccountId.{AccountId}
-use Rattle.pw_tariff.specs.declared.ids.MeterId.{MeterId}
-use Rattle.pw_shelf.specs.Standing.{start_in}
 
 -- the instant that a key names is one, and the reference too
 abbrev pub IsNamed : Key → Type 0
@@ -37,5 +35,5 @@ pub AreNamed-prop : (records : List Entry) → IsProp (AreNamed records)
 AreNamed-prop records = Π_prop λ e. Π_prop λ m. IsNamed-prop e.key
 
 -- each start stands at an instant
-abbrev pub AreDated : BTreeMap (MeterId × ℕ) (Option AccountId) → Type 0
-AreDated rows = (m t : ℕ) → IsSome (start_in rows m t) → IsInstant t
+abbrev pub AreDated : (ℕ → ℕ → Option (Option AccountId)) → Type 0
+AreDated starts = (m t : ℕ) → IsSome (starts m t) → IsInstant t

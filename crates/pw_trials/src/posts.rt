@@ -1,4 +1,4 @@
-//! An upload, and the parts of records, while one request for memory is refused.
+//! An upload to a book, and the parts of records, while one request for memory is refused.
 
 ghost use Rattle.std.specs.Prelude.{IsTrue, ◌↔◌};
 ghost use Rattle.pw_model.specs.Office.{AllOfOffice};
