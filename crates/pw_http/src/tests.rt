@@ -23,6 +23,7 @@ impl Service for Yes {
     fn serve<W: Write>(
         &mut self,
         _alloc: Global,
+        _routes: &Routes,
         _method: &[u8],
         _target: &[u8],
         _body: &[u8],
