@@ -1,5 +1,5 @@
 -- What a conversation with a book comes to.
-use Rattle.std.proofs.Common.{◌≡◌, ◌∙◌, ℕ, List, [], ◌∷◌, ◌++◌, Option, Result, Ok, Err, refl, sym, subst, append_assoc, inl, inr}
+use Rattle.std.proofs.Common.{◌≡◌, ◌≤◌, ◌∙◌, ℕ, List, [], ◌∷◌, ◌++◌, Option, Result, Ok, Err, refl, sym, subst, append_assoc, arith, false, inl, inr}
 use Rattle.std.specs.Prelude.{IfOk}
 use Rattle.std.proofs.lemmas.List.{append-nil}
 use Rattle.pw_tariff.specs.Office.{OfficeFile, office_of}
@@ -64,6 +64,23 @@ module _ {S : Type 0} (shelf : Ghosts S) where
       let there : After b.office before ((us ++ if_fine e.1.status (sent_by e.0)) ++ accepted es) (held shelf c).records = after-chain b c es before (us ++ if_fine e.1.status (sent_by e.0)) more k here in
       subst Q (append_assoc us (if_fine e.1.status (sent_by e.0)) (accepted es)) (subst R y.office there)
 
+  rises-through : (a c : Book S shelf) (es : List (Asked × Reply)) → Chain Does a es c → (shelf.state a.shelf).failed_abandons ≤ (shelf.state c.shelf).failed_abandons
+  rises-through a c [] x = let P : Book S shelf → Type 0 = λ b. (shelf.state a.shelf).failed_abandons ≤ (shelf.state b.shelf).failed_abandons in subst P (sym x) (omega arith)
+  rises-through a c (e ∷ es) (b, x, more) =
+      let y : Comes shelf a (sent_by e.0) e.1 b = step-comes shelf a e.0 e.1 b x in
+      let r : (shelf.state b.shelf).failed_abandons ≤ (shelf.state c.shelf).failed_abandons = rises-through b c es more in
+      omega (arith, y.rises, r)
+
+  stays-open : (a c : Book S shelf) (es : List (Asked × Reply)) → Chain Does a es c → a.shut ≡ false → (shelf.state c.shelf).failed_abandons ≡ (shelf.state a.shelf).failed_abandons → c.shut ≡ false
+  stays-open a c [] x o f = let P : Book S shelf → Type 0 = λ b. b.shut ≡ false in subst P (sym x) o
+  stays-open a c (e ∷ es) (b, x, more) o f =
+      let y : Comes shelf a (sent_by e.0) e.1 b = step-comes shelf a e.0 e.1 b x in
+      let r : (shelf.state b.shelf).failed_abandons ≤ (shelf.state c.shelf).failed_abandons = rises-through b c es more in
+      let l : (shelf.state a.shelf).failed_abandons ≤ (shelf.state b.shelf).failed_abandons = y.rises in
+      let first : (shelf.state b.shelf).failed_abandons ≡ (shelf.state a.shelf).failed_abandons = omega (arith, f, r, l) in
+      let later : (shelf.state c.shelf).failed_abandons ≡ (shelf.state b.shelf).failed_abandons = omega (arith, f, r, l) in
+      stays-open b c es more (y.stays_open o first) later
+
   pub headline-of : (stream text : List ℕ) (count : ℕ) (a c : Book S shelf) → Conversation (Answers shelf) a stream text count c → Headline shelf stream text count a c
   headline-of stream text count a c talk =
       let es : List (Asked × Reply) = exchanges (Answers shelf) talk in
@@ -74,6 +91,7 @@ module _ {S : Type 0} (shelf : Ghosts S) where
         talk = talk;
         fair = chain-less Does (IsFair shelf) fair a c es chain;
         office = one-office a c es chain;
+        stays_open = stays-open a c es chain;
         after = after;
         figures = λ k records h. order_counts_nothing (office_of a.office) (held shelf c).records records (one-after a.office (held shelf a).records (accepted es) (held shelf c).records records (after k) h);
       }

@@ -1,5 +1,5 @@
 -- What a step of a book does with its records.
-use Rattle.std.proofs.Common.{◌≡◌, ◌⊎◌, ◌∙◌, ℕ, zero, suc, List, [], ◌++◌, Bool, Option, Some, None, Result, Ok, Err, refl, sym, ap, subst, inl, inr, true, false, true≢false, arith}
+use Rattle.std.proofs.Common.{◌≡◌, ◌≤◌, ◌⊎◌, ◌∙◌, ℕ, zero, suc, List, [], ◌++◌, Bool, Option, Some, None, Result, Ok, Err, refl, sym, ap, subst, inl, inr, true, false, true≢false, arith}
 use Rattle.std.specs.Prelude.{◌≢◌}
 use Rattle.std.proofs.lemmas.List.{append-nil}
 use Rattle.std.proofs.lemmas.Option.{none-some}
@@ -154,6 +154,8 @@ module _ {S : Type 0} (shelf : Ghosts S) where
     pub office : b.office ≡ a.office
     pub clean : shelf.clean b.shelf → shelf.clean a.shelf
     pub shut : b.shut ≡ false → a.shut ≡ false
+    pub rises : (shelf.state a.shelf).failed_abandons ≤ (shelf.state b.shelf).failed_abandons
+    pub stays_open : a.shut ≡ false → (shelf.state b.shelf).failed_abandons ≡ (shelf.state a.shelf).failed_abandons → b.shut ≡ false
     pub judged : (upload : Upload) → sent ≡ Some upload → IsJudged a.office upload reply
     pub kept : shelf.clean b.shelf → (shelf.state b.shelf).failed_abandons ≡ (shelf.state a.shelf).failed_abandons → reply.status ≢ Fine → held shelf b ≡ held shelf a
     pub taken : shelf.clean b.shelf → b.shut ≡ false → (before : List Entry) (us : List Upload) → After a.office before us (held shelf a).records → After a.office before (us ++ if_fine reply.status sent) (held shelf b).records
@@ -164,6 +166,8 @@ module _ {S : Type 0} (shelf : Ghosts S) where
     office = refl;
     clean = λ k. k;
     shut = λ k. k;
+    rises = omega arith;
+    stays_open = λ o f. o;
     judged = judged-other a.office reply;
     kept = λ k f n. refl;
     taken = λ k o before us h. after-none a.office before (held shelf a).records us (if_fine reply.status None) (if-nothing reply.status) h;
@@ -175,6 +179,8 @@ module _ {S : Type 0} (shelf : Ghosts S) where
     office = x.report.asked.office;
     clean = x.report.asked.kept.clean;
     shut = λ k. sym x.report.asked.shut ∙ k;
+    rises = omega (arith, x.report.asked.kept.counts.failed_abandons);
+    stays_open = λ o f. x.report.asked.shut ∙ o;
     judged = judged-other a.office reply;
     kept = λ k f n. x.report.asked.content k;
     taken = λ k o before us h. after-none a.office before (held shelf b).records us (if_fine reply.status None) (if-nothing reply.status) (after-same a.office before us (held shelf a) (held shelf b) (x.report.asked.content k) h);
@@ -189,6 +195,8 @@ module _ {S : Type 0} (shelf : Ghosts S) where
         office = refl;
         clean = λ k. k;
         shut = λ k. k;
+        rises = omega arith;
+        stays_open = λ o f. o;
         judged = λ u s. judged-it a.office upload u (upload_reply (Refused fault)) s (judged-refused a.office one upload fault r);
         kept = λ k f n. refl;
         taken = λ k o before us h. after-none a.office before (held shelf a).records us (if_fine (refused_status fault.cause) (Some upload)) (if-not-fine (refused_status fault.cause) (Some upload) (refused-not-fine fault.cause)) h;
@@ -222,6 +230,12 @@ module _ {S : Type 0} (shelf : Ghosts S) where
     | inr f ↦ f
   ]
 
+  posted-stays : (entries : List Entry) (answer : Result Accepted PostFault) (a b : Book S shelf) → ArePosted shelf entries answer a b → a.shut ≡ false → (shelf.state b.shelf).failed_abandons ≡ (shelf.state a.shelf).failed_abandons → b.shut ≡ false
+  posted-stays entries answer a b p o f = elim (shut-or-not b.shut) [
+    | inl t ↦ elim (p.reopen.0 (p.shut.0 t)) [ inl u ↦ absurd (true≢false (sym u ∙ o)) | inr l ↦ absurd (omega (arith, f, l)) ]
+    | inr k ↦ k
+  ]
+
   posted-comes : (upload : Upload) (entries : List Entry) (answer : Result Accepted PostFault) (a b : Book S shelf) → Gives a.office upload entries → ArePosted shelf entries answer a b → Comes a (Some upload) (posted_reply answer) b
   posted-comes upload entries answer a b g p =
       let one : AreOne a.office = one-outcome a.office a.sound.named in
@@ -229,6 +243,8 @@ module _ {S : Type 0} (shelf : Ghosts S) where
         office = p.office;
         clean = p.clean;
         shut = posted-open entries answer a b p;
+        rises = omega (arith, p.abandons);
+        stays_open = posted-stays entries answer a b p;
         judged = λ u s. judged-it a.office upload u (posted_reply answer) s (judged-posted a.office one upload entries answer g);
         kept = posted-kept entries answer a b p;
         taken = posted-taken upload entries answer a b g p;

@@ -68,6 +68,8 @@ module _ {S : Type 0} (shelf : Ghosts S) where
     pub talk : Conversation (Answers shelf) old stream text count new
     pub fair : Chain IsFair old (exchanges (Answers shelf) talk) new
     pub office : new.office ≡ old.office
+    -- a book that wasn't shut is shut only where an `abandon` failed
+    pub stays_open : old.shut ≡ false → (shelf.state new.shelf).failed_abandons ≡ (shelf.state old.shelf).failed_abandons → new.shut ≡ false
     pub after : IsKnown new → After old.office (held shelf old).records (accepted (exchanges (Answers shelf) talk)) (held shelf new).records
     pub figures : IsKnown new → (records : List Entry) → After old.office (held shelf old).records (accepted (exchanges (Answers shelf) talk)) records →
         HaveSameAnswers (office_of old.office) (held shelf new).records records
