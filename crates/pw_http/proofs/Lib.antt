@@ -5,6 +5,7 @@ pub mod Headlines
 pub mod Judged
 pub mod KnownLemmas
 pub mod Numbers
+pub mod Paths
 pub mod Shown
 pub mod Streaming
 pub mod Talks

@@ -3,7 +3,7 @@
 //! Each function changes nothing. What counts is its contract, a law of the definitions in `specs/`.
 
 ghost use Rattle.pw_http.specs.Headline.{EndTheSame};
-ghost use Rattle.pw_http.specs.Laws.{StreamsHaveOneReading};
+ghost use Rattle.pw_http.specs.Laws.{PathsReachRoutes, StreamsHaveOneReading};
 
 use pw_book::Book;
 use pw_shelf::Shelf;
@@ -21,3 +21,9 @@ pub fn order_counts_nothing<S: Shelf>(book: &Book<S>)
 {
     let _ = book.office();
 }
+
+/// Each route is reached by its path, where the word in braces is any text of one byte or more without a slash; and this
+/// text is what the path names.
+pub fn paths_reach_routes()
+    ensures { PathsReachRoutes }
+{}
