@@ -1,10 +1,14 @@
 //! The program `powerbook`: its words and its exit status.
 #![tactic(auto)]
 
+mod pipe;
+mod sample;
 #[cfg(test)]
 mod tests;
 mod words;
 
+use crate::pipe::pipe_run;
+use crate::words::{Command, command_of};
 use pw_read::read_run;
 use std::io::{ErrorKind, Write};
 use std::process::ExitCode;
@@ -19,10 +23,15 @@ const NO_MEMORY: u8 = 3;
 
 fn main(rt: HostRuntime) -> ExitCode {
     let status = match words_of(&rt) {
-        Ok(words) => match words::readout_clock(words.as_slice()) {
-            Some(clock) => {
+        Ok(words) => match command_of(words.as_slice()) {
+            Some(command) => {
                 let (mut input, mut out, mut err) = (rt.stdin(), rt.stdout(), rt.stderr());
-                read_run(rt.alloc(), clock, &mut input, &mut out, &mut err)
+                match command {
+                    Command::Pipe => pipe_run(rt.alloc(), &mut input, &mut out, &mut err),
+                    Command::Read(clock) => {
+                        read_run(rt.alloc(), clock, &mut input, &mut out, &mut err)
+                    }
+                }
             }
             None => WRONG_WORDS,
         },

@@ -1,30 +1,92 @@
-//! The words that the program knows.
+//! The words that the program knows, and what `pipe` answers.
 
-use crate::words::readout_clock;
+use crate::pipe::pipe_run;
+use crate::words::{Command, command_of};
 use pw_time::Clock;
+use std::io::{self, ErrorKind, Read, Write};
 use std::test::Fail;
 
 #[test]
-fn words_of_read(rt: HostRuntime) -> Result<(), Fail> {
+fn words_of_commands(rt: HostRuntime) -> Result<(), Fail> {
     let cases = [
-        ("", Some(Clock::Winter)),
-        ("read", Some(Clock::Winter)),
-        ("read --clock winter", Some(Clock::Winter)),
-        ("read --clock local", Some(Clock::Local)),
+        ("", Some(Command::Pipe)),
+        ("pipe", Some(Command::Pipe)),
+        ("read", Some(Command::Read(Clock::Winter))),
+        ("read --clock winter", Some(Command::Read(Clock::Winter))),
+        ("read --clock local", Some(Command::Read(Clock::Local))),
         ("read --clock marked", None),
         ("read --clock", None),
         ("read --clock local x", None),
         ("read --time local", None),
         ("read local", None),
-        ("pipe", None),
+        ("pipe pipe", None),
+        ("pipe --clock local", None),
         ("Read", None),
+        ("Pipe", None),
     ];
-    for (line, clock) in cases {
+    for (line, command) in cases {
         let mut words = Vec::new(rt.alloc());
         for word in line.split(' ').filter(|word| !word.is_empty()) {
             words.push(String::from_str(rt.alloc(), word)?)?;
         }
-        assert_eq!(rt; readout_clock(words.as_slice()), clock, "of {line}");
+        assert_eq!(rt; command_of(words.as_slice()), command, "of {line}");
     }
+    Ok(())
+}
+
+const ASKED: &[u8] = b"GET /accounts/A1 HTTP/1.1\r\n\r\n";
+
+const REPLIED: &[u8] =
+    b"HTTP/1.1 200 OK\r\nContent-Type: text/plain\r\nContent-Length: 158\r\n\r\naccount A1
+band       import Wh       export Wh
+L                  0               0
+H                  0               0
+topped up EUR 0.00
+balance EUR 0.00
+";
+
+// A stream that fails.
+#[derive(Drop)]
+struct Failing;
+
+impl Read for Failing {
+    fn read(&mut self, _buf: &mut [u8]) -> io::Result<usize> {
+        Err(io::Error::from(ErrorKind::Other))
+    }
+}
+
+impl Write for Failing {
+    fn write(&mut self, _bytes: &[u8]) -> io::Result<usize> {
+        Err(io::Error::from(ErrorKind::Other))
+    }
+
+    fn flush(&mut self) -> io::Result<()> {
+        Ok(())
+    }
+}
+
+#[test]
+fn requests_piped(rt: HostRuntime) -> Result<(), Fail> {
+    let mut reader = ASKED;
+    let (mut out, mut err) = (Vec::new(rt.alloc()), Vec::new(rt.alloc()));
+    assert_eq!(rt; pipe_run(rt.alloc(), &mut reader, &mut out, &mut err), 0);
+    assert!(rt; out.as_slice() == REPLIED);
+    assert!(rt; err.is_empty());
+    Ok(())
+}
+
+#[test]
+fn streams_that_fail(rt: HostRuntime) -> Result<(), Fail> {
+    let (mut out, mut err) = (Vec::new(rt.alloc()), Vec::new(rt.alloc()));
+    assert_eq!(rt; pipe_run(rt.alloc(), &mut Failing, &mut out, &mut err), 3);
+    assert!(rt; out.is_empty());
+    assert!(rt; err.as_slice() == b"refused 80 Read\n".as_slice());
+    let mut reader = ASKED;
+    let mut other = Vec::new(rt.alloc());
+    assert_eq!(rt;
+        pipe_run(rt.alloc(), &mut reader, &mut Failing, &mut other),
+        3
+    );
+    assert!(rt; other.as_slice() == b"refused 81 Write\n".as_slice());
     Ok(())
 }

@@ -1,17 +1,49 @@
 ghost use Rattle.std.specs.Prelude.{◌≡◌, ◌↔◌, IsTrue, IfSome, IfNone, map, string_bytes};
 ghost use Rattle.pw_time.specs.declared.zone.Clock.{Clock};
-ghost use Rattle.powerbook.specs.Words.{IsClockWord, StatesClock};
+ghost use Rattle.powerbook.specs.Words.{AsksFor, AsksToPipe, IsClockWord, StatesClock};
 
 use pw_time::Clock;
 
-/// The clock of readouts that the program's words state: no word, or `read`, means winter time; `read --clock` is
+/// What the program's words ask for.
+#[derive(Clone, Copy, Debug, PartialEq, Eq)]
+pub enum Command {
+    /// Requests are read, and replies written.
+    Pipe,
+    /// The frames of a body are printed, with the clock that readouts tell their time by.
+    Read(Clock),
+}
+
+/// The command that the program's words ask for: no word, or `pipe`; `read`, which means winter time; `read --clock`,
 /// followed by `winter` or `local`. `None` for other words.
-pub fn readout_clock(words: &[String]) -> Option<Clock>
+pub fn command_of(words: &[String]) -> Option<Command>
+    ensures some { IfSome result (λ command. AsksFor (map string_bytes words.now) command) }
+    ensures none { IfNone result ((command : Command) → AsksFor (map string_bytes words.now) command → ⊥) }
+{
+    if asks_to_pipe(words) {
+        return Some(Command::Pipe);
+    }
+    match readout_clock(words) {
+        Some(clock) => Some(Command::Read(clock)),
+        None => None,
+    }
+}
+
+fn asks_to_pipe(words: &[String]) -> bool
+    ensures { IsTrue result ↔ AsksToPipe (map string_bytes words.now) }
+{
+    match words {
+        [] => true,
+        [command] => is_word(command, "pipe"),
+        _ => false,
+    }
+}
+
+// The clock of readouts that the words of `read` state.
+fn readout_clock(words: &[String]) -> Option<Clock>
     ensures some { IfSome result (λ clock. StatesClock (map string_bytes words.now) clock) }
     ensures none { IfNone result ((clock : Clock) → StatesClock (map string_bytes words.now) clock → ⊥) }
 {
     match words {
-        [] => Some(Clock::Winter),
         [command] if is_word(command, "read") => Some(Clock::Winter),
         [command, flag, name] if is_word(command, "read") && is_word(flag, "--clock") => {
             clock_named(name.as_str())

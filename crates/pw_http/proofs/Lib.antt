@@ -1,7 +1,12 @@
 pub mod Asks
+pub mod Exchanges
 pub mod HeadLemmas
+pub mod Headlines
+pub mod Judged
 pub mod KnownLemmas
 pub mod Numbers
+pub mod Paths
+pub mod Shown
 pub mod Streaming
 pub mod Talks
 pub mod Turns

@@ -1,5 +1,5 @@
--- Request heads, as `httparse` defines them in its default configuration (RFC 9112), within the limits of this server: 8,192
--- bytes and 64 header fields.
+-- Request heads, as `httparse` defines them in its default configuration (RFC 9112), within the limits of this
+-- server: 8,192 bytes and 64 header fields.
 use Rattle.std.specs.Prelude.{◌≤◌, ℕ, List, Bool, length, map, bytes_eq}
 use Rattle.std.specs.Char.{to_ascii_lowercase}
 use Rattle.httparse.specs.Grammar.{RequestHead, ReadsRequest, print_request}

@@ -1,8 +1,27 @@
 -- The laws of these definitions. Each is the contract of a function of the module `laws`.
-use Rattle.std.specs.Prelude.{◌≡◌, ℕ, List, Option}
+use Rattle.std.specs.Prelude.{◌≡◌, ◌<◌, ℕ, false, List, ◌∷◌, ◌++◌, Option, Some, codes}
+use Rattle.matchit.specs.Seek.{has_slash}
+use Rattle.pw_http.specs.declared.routes.Route.TheVariants.{Telegrams, Readouts, Assignments, TopUps, Accounts, Account, Falls, Disputes, ReadingsExport, EnergyExport}
+use Rattle.pw_http.specs.Routes.{account_in, meter_in, route_at}
 use Rattle.pw_http.specs.Requests.{Request, Asked, Requests}
 
 -- a stream has one list of requests at most, and one end
 abbrev pub StreamsHaveOneReading : Type 0
 StreamsHaveOneReading = (stream : List ℕ) (requests others : List Request) (last end : Option Asked) →
     Requests stream requests last → Requests stream others end → (requests ≡ others) × (last ≡ end)
+
+-- each route is reached by its path, where the word in braces is any text of one byte or more without a slash; and this
+-- text is what the path names
+pub record PathsReachRoutes : Type 0 where
+  pub telegrams : route_at (codes "/telegrams") ≡ Some Telegrams
+  pub readouts : (b : ℕ) (rest : List ℕ) → b < 256 → has_slash (b ∷ rest) ≡ false →
+      (route_at (codes "/meters/" ++ b ∷ rest ++ codes "/readouts") ≡ Some Readouts) × (meter_in (codes "/meters/" ++ b ∷ rest ++ codes "/readouts") ≡ b ∷ rest)
+  pub assignments : route_at (codes "/assignments") ≡ Some Assignments
+  pub top_ups : route_at (codes "/topups") ≡ Some TopUps
+  pub accounts : route_at (codes "/accounts") ≡ Some Accounts
+  pub account : (b : ℕ) (rest : List ℕ) → b < 256 → has_slash (b ∷ rest) ≡ false →
+      (route_at (codes "/accounts/" ++ b ∷ rest) ≡ Some Account) × (account_in (codes "/accounts/" ++ b ∷ rest) ≡ b ∷ rest)
+  pub falls : route_at (codes "/falls") ≡ Some Falls
+  pub disputes : route_at (codes "/disputes") ≡ Some Disputes
+  pub readings : route_at (codes "/export/readings") ≡ Some ReadingsExport
+  pub energies : route_at (codes "/export/energy") ≡ Some EnergyExport

@@ -3,11 +3,17 @@
 -- Requests: what a stream of bytes asks
 -- Replies: the bytes of a reply
 -- Runs: what a service answers, and what a conversation is
+-- Routes: where a request goes
+-- Steps: what a book answers
+-- Headline: what a conversation with a book comes to
 -- Laws: a stream has one list of requests
 pub mod Heads
 pub mod Requests
 pub mod Replies
 pub mod Runs
+pub mod Routes
+pub mod Steps
+pub mod Headline
 pub mod Laws
 -- and these where a file above names them:
 -- Writing: what is written of a text

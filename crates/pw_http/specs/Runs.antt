@@ -1,6 +1,6 @@
--- What a service answers, step by step, and what a conversation is. A service is known by what it may answer to a request: a
--- relation between its state before, the request's method, target and body, the reply, and its state behind it.
--- (Definitions of this project.)
+-- What a service answers, step by step, and what a conversation is. A service is known by what it may answer to a
+-- request: a relation between its state before, the request's method, target and body, the reply, and its state
+-- behind it. (Definitions of this project.)
 use Rattle.std.specs.Prelude.{false, ◌≡◌, ◌+◌, ◌≤◌, ℕ, List, Bool, [], ◌∷◌, ◌++◌, length, take, Option, Some, None, Result, Ok, Err}
 use Rattle.std.specs.List.{flat_map}
 use Rattle.std.specs.Io.KnownBytes.{Appends, Consumes}
@@ -27,6 +27,17 @@ replies_text replies = flat_map (reply_bytes false) replies
 abbrev pub Tells : Option (List ℕ) → List ℕ → Type 0
 Tells None stream = Unit {0}
 Tells (Some bytes) stream = bytes ≡ stream
+
+-- exchanges one behind another, each of which does so much
+abbrev pub Chain : {S : Type 0} → (S → Asked → Reply → S → Type 0) → S → List (Asked × Reply) → S → Type 0
+Chain does old [] new = new ≡ old
+Chain {S} does old (e ∷ es) new = (mid : S) × does old e.0 e.1 mid × Chain does mid es new
+
+-- requests with their replies
+abbrev pub pairs : List Request → List Reply → List (Asked × Reply)
+pairs [] replies = []
+pairs (r ∷ requests) [] = []
+pairs (r ∷ requests) (reply ∷ replies) = (Whole r, reply) ∷ pairs requests replies
 
 module _ {S : Type 0} (serves : S → Asking → Reply → S → Type 0) where
   -- ---- runs
@@ -71,6 +82,14 @@ module _ {S : Type 0} (serves : S → Asking → Reply → S → Type 0) where
     pub text_is : text ≡ replies_text replies ++ end_text
     pub count_is : count ≡ length replies + end_count
 
+  -- each request with its reply, the last one too
+  abbrev pub last_pair : (mid new : S) (text : List ℕ) (count : ℕ) (last : Option Asked) → EndsWith mid last text count new → List (Asked × Reply)
+  last_pair mid new text count None ends = []
+  last_pair mid new text count (Some asked) ends = (asked, ends.0) ∷ []
+
+  abbrev pub exchanges : {old new : S} {stream text : List ℕ} {count : ℕ} → Conversation old stream text count new → List (Asked × Reply)
+  exchanges {new} c = pairs c.requests c.replies ++ last_pair c.mid new c.end_text c.end_count c.last c.ends
+
   -- a conversation cut within a reply: the replies to the first requests, and a front of the next reply
   pub record Cut (old : S) (stream text : List ℕ) (new : S) : Type 0 where
     pub before : List ℕ
@@ -97,8 +116,9 @@ module _ {S : Type 0} (serves : S → Asking → Reply → S → Type 0) where
     pub no_other : HasNoWhole rest
 
   -- ---- a conversation
-  -- what it reads, writes and leaves: with Ok the whole, by at most so many reads; where the reader fails, or is called too
-  -- often, the replies to all that was wholly read; where the writer fails, a front of the replies; nothing without memory
+  -- what it reads, writes and leaves: with Ok the whole, by at most so many reads; where the reader fails, or is
+  -- called too often, the replies to all that was wholly read; where the writer fails, a front of the replies;
+  -- nothing without memory
   abbrev pub IsTalk : Option (List ℕ) → Option (List ℕ) → Option (List ℕ) → Option (List ℕ) → S → S → ℕ → Result Served WireFault → Type 0
   IsTalk unread left known after old new turns (Ok s) = (stream : List ℕ) × (text : List ℕ) × Tells unread stream × Appends known after text × Conversation old stream text s.requests new
   IsTalk unread left known after old new turns (Err Read) = Interrupted unread left known after old new

@@ -1,3 +1,3 @@
 pub mod Received
 pub mod Turns
-pub mod Routes
+pub mod Answered

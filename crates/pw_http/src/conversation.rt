@@ -1,4 +1,4 @@
-//! A conversation.
+//! A conversation with any service.
 
 ghost use Rattle.std.specs.Prelude.{◌≡◌, ◌≤◌, ◌+◌, length, IfOk};
 ghost use Rattle.pw_http.specs.Heads.{most_fields};
@@ -10,15 +10,13 @@ use crate::heads::MOST_FIELDS;
 use crate::inbox::Inbox;
 use crate::replies::{ContentType, line_of, status_of};
 use crate::requests::{Next, ROOM, ask_next};
+use crate::routes::Routes;
 use crate::send::send_reply;
 use crate::served::Served;
 use crate::service::Service;
 use httparse::spans::{EMPTY_HEADER_SPAN, HeaderSpan};
 use std::alloc::Global;
 use std::io::{Read, Write};
-
-/// The most calls of `read` in a conversation.
-pub const MOST_TURNS: u32 = 16_777_216;
 
 /// What one look at the bytes received led to.
 #[derive(Clone, Copy, Debug, PartialEq, Eq)]
@@ -43,6 +41,7 @@ pub(crate) struct Batch {
 fn take_turn<S: Service, W: Write>(
     alloc: Global,
     service: &mut S,
+    routes: &Routes,
     inbox: &mut Inbox,
     ended: bool,
     writer: &mut W,
@@ -68,7 +67,7 @@ fn take_turn<S: Service, W: Write>(
     let method = whole.method.of(bytes);
     let target = whole.target.of(bytes);
     let body = &bytes[whole.start..whole.len];
-    match service.serve(alloc, method, target, body, whole.closes, writer) {
+    match service.serve(alloc, routes, method, target, body, whole.closes, writer) {
         Err(_) => Err(WireFault::Write),
         Ok(()) => {
             inbox.consume(whole.len);
@@ -85,6 +84,7 @@ fn take_turn<S: Service, W: Write>(
 fn answer_all<S: Service, W: Write>(
     alloc: Global,
     service: &mut S,
+    routes: &Routes,
     inbox: &mut Inbox,
     ended: bool,
     writer: &mut W,
@@ -98,7 +98,7 @@ fn answer_all<S: Service, W: Write>(
 {
     let mut replies = 0;
     loop {
-        let turn = match take_turn(alloc, service, inbox, ended, writer, headers) {
+        let turn = match take_turn(alloc, service, routes, inbox, ended, writer, headers) {
             Ok(turn) => turn,
             Err(_) => return Err(WireFault::Write),
         };
@@ -126,13 +126,15 @@ fn answer_all<S: Service, W: Write>(
     }
 }
 
-/// Reads requests and writes replies, by at most `turns` calls of `read`, until the stream or the conversation ends.
+/// Reads requests and writes what a service replies, by at most `turns` calls of `read`, until the stream or the
+/// conversation ends.
 ///
-/// `Memory` is answered only before anything is read. Behind `Read` and `TooManyTurns` each request that was wholly read is
-/// answered, behind `Write` the last reply may be lost.
-pub fn converse_within<S: Service, R: Read, W: Write>(
+/// `Memory` is answered only before anything is read. Behind `Read` and `TooManyTurns` each request that was wholly
+/// read is answered, behind `Write` the last reply may be lost.
+pub fn serve_within<S: Service, R: Read, W: Write>(
     alloc: Global,
     service: &mut S,
+    routes: &Routes,
     reader: &mut R,
     writer: &mut W,
     turns: u32,
@@ -150,7 +152,15 @@ pub fn converse_within<S: Service, R: Read, W: Write>(
             Ok(count) => count,
             Err(_) => return Err(WireFault::Read),
         };
-        let batch = match answer_all(alloc, service, &mut inbox, count == 0, writer, &mut headers) {
+        let batch = match answer_all(
+            alloc,
+            service,
+            routes,
+            &mut inbox,
+            count == 0,
+            writer,
+            &mut headers,
+        ) {
             Ok(batch) => batch,
             Err(_) => return Err(WireFault::Write),
         };
@@ -160,16 +170,4 @@ pub fn converse_within<S: Service, R: Read, W: Write>(
         }
     }
     Err(WireFault::TooManyTurns)
-}
-
-/// Reads requests and writes replies, by at most 16,777,216 calls of `read`, until the stream or the conversation ends.
-pub fn converse<S: Service, R: Read, W: Write>(
-    alloc: Global,
-    service: &mut S,
-    reader: &mut R,
-    writer: &mut W,
-) -> Result<Served, WireFault>
-    ensures { IsTalk S.serves (R.remaining reader.old) (R.remaining reader.new) (W.contents writer.old) (W.contents writer.new) service.old service.new MOST_TURNS result }
-{
-    converse_within(alloc, service, reader, writer, MOST_TURNS)
 }

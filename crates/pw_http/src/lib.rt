@@ -1,11 +1,15 @@
-//! Requests and replies: what a stream of bytes asks, where each request goes, and the bytes of a reply.
+//! Requests and replies: what a stream of bytes asks, what a book answers to each request, and the bytes that are
+//! replied.
 #![tactic(auto)]
 
+mod answers;
+mod books;
 mod conversation;
 mod fault;
 mod heads;
 mod inbox;
 pub mod laws;
+mod lines;
 mod replies;
 mod requests;
 mod routes;
@@ -13,12 +17,13 @@ mod send;
 mod served;
 mod service;
 
-pub use conversation::{MOST_TURNS, converse, converse_within};
+pub use books::{MOST_TURNS, converse, converse_within};
+pub use conversation::serve_within;
 pub use fault::WireFault;
 pub use heads::{LONGEST_HEAD, MOST_FIELDS};
 pub use replies::{ContentType, Status};
 pub use requests::{LONGEST_BODY, ROOM, Refusal};
-pub use routes::{Place, Route};
+pub use routes::{Place, Route, Routes};
 pub use served::Served;
 pub use service::Service;
 

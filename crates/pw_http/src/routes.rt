@@ -1,10 +1,11 @@
 //! The routes.
 
-ghost use Rattle.std.specs.Prelude.{◌≡◌, ◌≢◌, ◌++◌, ℕ, List, IfOk, IfSome, IfNone, MatchOption, codes};
-ghost use Rattle.pw_http.specs.inner.Routes.{by_method, method_name, place_of, route_at, route_table};
+ghost use Rattle.std.specs.Prelude.{◌≡◌, IfOk, drop};
+ghost use Rattle.pw_http.specs.Routes.{account_in as account_of, by_method, meter_in as meter_of, method_name, place_of, route_at, route_table};
 
 use matchit::{InsertError, Router};
 use std::alloc::Global;
+use std::str::from_utf8;
 
 /// What stands at a path.
 #[derive(Clone, Copy, Debug, PartialEq, Eq)]
@@ -41,8 +42,33 @@ pub enum Place {
     At(Route),
 }
 
+/// The routes, as a router keeps them.
+#[derive(Drop)]
+pub struct Routes {
+    router: Router<Route>,
+    ghost table: { router ≡ route_table },
+}
+
+impl Routes {
+    /// The ten routes. It takes all the memory that they need.
+    pub fn new(alloc: Global) -> Result<Routes, InsertError> {
+        let router = ten_routes(alloc)?;
+        Ok(Routes { router })
+    }
+
+    /// Where a request of a method goes that asks for a target. It takes no memory.
+    pub fn place(&self, method: &[u8], target: &[u8]) -> Place
+        ensures { result ≡ place_of method.now target.now }
+    {
+        match from_utf8(target) {
+            Ok(path) => find_place(&self.router, method, path),
+            Err(_) => Place::NoPage,
+        }
+    }
+}
+
 /// The router of the ten routes.
-pub(crate) fn routes(alloc: Global) -> Result<Router<Route>, InsertError>
+fn ten_routes(alloc: Global) -> Result<Router<Route>, InsertError>
     ensures { IfOk result (λ router. router ≡ route_table) }
 {
     let mut router = Router::new(alloc);
@@ -69,10 +95,9 @@ fn route_of(router: &Router<Route>, path: &str) -> Option<Route>
     }
 }
 
-/// Where a request of a method goes that asks for a path.
-pub(crate) fn find_place(router: &Router<Route>, method: &[u8], path: &str) -> Place
+fn find_place(router: &Router<Route>, method: &[u8], path: &str) -> Place
     requires { router.now ≡ route_table }
-    ensures { result ≡ place_of method.now path.now }
+    ensures { result ≡ by_method method.now (route_at path.now) }
 {
     match route_of(router, path) {
         None => Place::NoPage,
@@ -98,4 +123,26 @@ fn method_of(route: Route) -> &'static [u8]
         | Route::ReadingsExport
         | Route::EnergyExport => b"GET",
     }
+}
+
+/// What a target of an account names.
+pub(crate) fn account_in(target: &[u8]) -> &[u8]
+    ensures { result.now ≡ account_of target.now }
+{
+    behind(target, b"/accounts/".len())
+}
+
+/// What a target of a meter's readouts names.
+pub(crate) fn meter_in(target: &[u8]) -> &[u8]
+    ensures { result.now ≡ meter_of target.now }
+{
+    let end = target.len().saturating_sub(b"/readouts".len());
+    behind(&target[..end], b"/meters/".len())
+}
+
+// What stands behind the first `n` bytes.
+fn behind(text: &[u8], n: usize) -> &[u8]
+    ensures { result.now ≡ drop n text.now }
+{
+    if n < text.len() { &text[n..] } else { b"" }
 }

@@ -6,6 +6,7 @@ ghost use Rattle.pw_http.specs.Runs.{Asking, Serving};
 ghost use Rattle.pw_http.specs.declared.fault.WireFault.TheVariants.{Write as WriteFault};
 
 use crate::fault::WireFault;
+use crate::routes::Routes;
 use std::alloc::Global;
 use std::io::Write;
 
@@ -14,10 +15,11 @@ pub trait Service {
     /// What it may answer: its state before, what it is asked, the reply, its state behind it.
     ghost serves: { Self → Asking → Reply → Self → Type 0 };
 
-    /// Answers a request. `closing` tells that the conversation ends behind the reply.
+    /// Answers a request, which goes where the routes say. `closing` tells that the conversation ends behind the reply.
     fn serve<W: Write>(
         &mut self,
         alloc: Global,
+        routes: &Routes,
         method: &[u8],
         target: &[u8],
         body: &[u8],

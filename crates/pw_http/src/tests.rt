@@ -1,12 +1,19 @@
-//! Conversations with a service that gives one answer to all.
+//! Conversations: with a service that gives one answer to all, and with a book over a store in memory.
+
+mod books;
+mod outside;
+mod requests;
+mod rows;
+mod tables;
+mod wire;
 
 use crate::fault::WireFault;
 use crate::replies::{ContentType, Status};
 use crate::send::send_reply;
 use crate::service::Service;
-use crate::{Served, converse, converse_within};
+use crate::{Routes, Served, serve_within};
 use std::alloc::Global;
-use std::io::{self, Read, Write};
+use std::io::Write;
 use std::test::Fail;
 
 // It says yes.
@@ -23,6 +30,7 @@ impl Service for Yes {
     fn serve<W: Write>(
         &mut self,
         _alloc: Global,
+        _routes: &Routes,
         _method: &[u8],
         _target: &[u8],
         _body: &[u8],
@@ -38,7 +46,10 @@ const YES: &[u8] = b"HTTP/1.1 200 OK\r\nContent-Type: text/plain\r\nContent-Leng
 fn said(alloc: Global, stream: &[u8], turns: u32) -> (Result<Served, WireFault>, Vec<u8>) {
     let mut reader = stream;
     let mut text = Vec::new(alloc);
-    let served = converse_within(alloc, &mut Yes, &mut reader, &mut text, turns);
+    let Ok(routes) = Routes::new(alloc) else {
+        return (Err(WireFault::Memory), text);
+    };
+    let served = serve_within(alloc, &mut Yes, &routes, &mut reader, &mut text, turns);
     (served, text)
 }
 
@@ -86,39 +97,4 @@ fn body_too_large(rt: HostRuntime) -> Result<(), Fail> {
     Ok(())
 }
 
-// Gives one byte a call.
-#[derive(Drop)]
-struct OneByOne<'a> {
-    bytes: &'a [u8],
-}
-
-impl<'a> Read for OneByOne<'a> {
-    fn read(&mut self, buf: &mut [u8]) -> io::Result<usize> {
-        let most = buf.len().min(1);
-        self.bytes.read(&mut buf[..most])
-    }
-}
-
 const PAGE: &[u8] = b"GET /accounts/A1 HTTP/1.1\r\n\r\n";
-
-#[test]
-fn too_many_turns(rt: HostRuntime) -> Result<(), Fail> {
-    let alloc = rt.alloc();
-    let mut reader = OneByOne { bytes: PAGE };
-    let mut text = Vec::new(alloc);
-    let served = converse_within(alloc, &mut Yes, &mut reader, &mut text, 3);
-    assert_eq!(rt; served, Err(WireFault::TooManyTurns));
-    assert!(rt; text.is_empty());
-    Ok(())
-}
-
-#[test]
-fn one_byte_a_call(rt: HostRuntime) -> Result<(), Fail> {
-    let alloc = rt.alloc();
-    let mut reader = OneByOne { bytes: PAGE };
-    let mut text = Vec::new(alloc);
-    let served = converse(alloc, &mut Yes, &mut reader, &mut text);
-    assert_eq!(rt; served, Ok(Served { requests: 1 }));
-    assert!(rt; text.as_slice() == YES);
-    Ok(())
-}

@@ -3,7 +3,7 @@ use Rattle.pw_http.proofs.Asks.{none_in_nothing}
 use Rattle.pw_http.proofs.KnownLemmas.{Appends-then, Appends-nothing, Consumes-then, Consumes-nothing}
 use Rattle.pw_http.proofs.Talks.{Told-nothing, Told-then}
 use Rattle.pw_http.proofs.Streaming.{ends_here, cut_here, positive_if}
-use Rattle.pw_http.proofs.conversation.converse_within.Goals as goal
+use Rattle.pw_http.proofs.conversation.serve_within.Goals as goal
 
 pub loop-init : goal.loop-init
 loop-init g c = rw c.in-Ok.ensures (record {

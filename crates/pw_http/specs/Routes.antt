@@ -1,6 +1,7 @@
 -- The routes: what stands where, and by which method. A word in braces stands for one byte or more without `/`.
 -- (Definitions of this project, over the routes of `matchit`.)
-use Rattle.std.specs.Prelude.{ℕ, Option, Some, None, List, [], codes, bytes_eq, option_map, Result, Ok, Err, if◌then◌else◌}
+use Rattle.std.specs.Prelude.{ℕ, ◌-◌, Option, Some, None, List, [], length, take, drop, codes, bytes_eq, option_map, Result, Ok, Err, if◌then◌else◌}
+use Rattle.std.specs.Str.{is_utf8}
 use Rattle.matchit.specs.Rows.{RowsOf}
 use Rattle.matchit.specs.Order.{placed}
 use Rattle.matchit.specs.Seek.{first}
@@ -62,6 +63,15 @@ abbrev pub by_method : List ℕ → Option Route → Place
 by_method method None = NoPage
 by_method method (Some route) = if bytes_eq method (method_name route) then At route else NoMethod
 
--- a path without a route, a route that has another method, or a route
+-- a target without a route, or that isn't UTF-8; a route that has another method; or a route
 abbrev pub place_of : List ℕ → List ℕ → Place
-place_of method path = by_method method (route_at path)
+place_of method target = if is_utf8 target then by_method method (route_at target) else NoPage
+
+-- ---- the word in braces
+-- what stands in a target behind `/accounts/`
+abbrev pub account_in : List ℕ → List ℕ
+account_in target = drop (length (codes "/accounts/")) target
+
+-- what stands in a target between `/meters/` and `/readouts`
+abbrev pub meter_in : List ℕ → List ℕ
+meter_in target = drop (length (codes "/meters/")) (take (length target - length (codes "/readouts")) target)

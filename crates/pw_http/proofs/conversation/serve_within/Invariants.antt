@@ -4,7 +4,7 @@ use Rattle.pw_http.specs.Requests.{HasNoWhole}
 use Rattle.pw_http.specs.Runs.{Told}
 use Rattle.pw_http.specs.Heads.{most_fields}
 use Rattle.pw_http.specs.declared.requests.TheConstants.{ROOM}
-use Rattle.pw_http.proofs.conversation.converse_within.Given as goal
+use Rattle.pw_http.proofs.conversation.serve_within.Given as goal
 
 -- What was read so far is the requests that were answered and the bytes that wait, in which is no whole request.
 abbrev pub invariant-loop : goal.invariant-loop

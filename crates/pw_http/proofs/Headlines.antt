@@ -1,0 +1,112 @@
+-- What a conversation with a book comes to.
+use Rattle.std.proofs.Common.{◌≡◌, ◌≤◌, ◌∙◌, ℕ, List, [], ◌∷◌, ◌++◌, Option, Result, Ok, Err, refl, sym, subst, append_assoc, arith, false, inl, inr}
+use Rattle.std.specs.Prelude.{IfOk}
+use Rattle.std.proofs.lemmas.List.{append-nil}
+use Rattle.pw_tariff.specs.Office.{OfficeFile, office_of}
+use Rattle.pw_model.specs.declared.records.Entry.{Entry}
+use Rattle.pw_model.specs.Counting.{SameMembers}
+use Rattle.pw_model.proofs.Answers.{order_counts_nothing}
+use Rattle.pw_record.specs.Uploads.{Upload}
+use Rattle.pw_shelf.specs.declared.shelf.Shelf.{Ghosts}
+use Rattle.pw_book.specs.After.{After}
+use Rattle.pw_book.specs.declared.book.Book.{Book}
+use Rattle.pw_book.proofs.Order.{in-order, one-after}
+use Rattle.pw_http.specs.declared.fault.WireFault.{WireFault}
+use Rattle.pw_http.specs.declared.served.Served.{Served}
+use Rattle.pw_http.specs.Headline.{EndTheSame, Headline, IsFair, IsHeadline, IsKnown, accepted, if_fine, sent_by}
+use Rattle.pw_http.specs.Replies.{Reply}
+use Rattle.pw_http.specs.Requests.{Asked}
+use Rattle.pw_http.specs.Runs.{Chain, Conversation, IsTalk, Step, exchanges}
+use Rattle.pw_http.specs.Steps.{Answers, held}
+use Rattle.pw_http.proofs.Exchanges.{chain-less, chain-of}
+use Rattle.pw_http.proofs.Judged.{Comes, step-comes}
+
+behind-nothing : (file : OfficeFile) (s : List Entry) → After file s [] s
+behind-nothing file s x = (λ m. inl m, λ m. elim m [ inl b ↦ b | inr b ↦ absurd b.1 ])
+
+from-same : (file : OfficeFile) (s s' : List Entry) (us : List Upload) (t : List Entry) → SameMembers s s' → After file s us t → After file s' us t
+from-same file s s' us t h a x = (
+  λ m. elim ((a x).0 m) [ inl b ↦ inl ((h x).0 b) | inr b ↦ inr b ],
+  λ m. (a x).1 (elim m [ inl b ↦ inl ((h x).1 b) | inr b ↦ inr b ]),
+)
+
+module _ {S : Type 0} (shelf : Ghosts S) where
+  abbrev Does : Book S shelf → Asked → Reply → Book S shelf → Type 0
+  Does = Step (Answers shelf)
+
+  fair : (a : Book S shelf) (asked : Asked) (reply : Reply) (b : Book S shelf) → Does a asked reply b → IsFair shelf a asked reply b
+  fair a asked reply b x = let y : Comes shelf a (sent_by asked) reply b = step-comes shelf a asked reply b x in record { judged = y.judged; kept = y.kept }
+
+  known-before : (a c : Book S shelf) (es : List (Asked × Reply)) → Chain Does a es c → IsKnown shelf c → IsKnown shelf a
+  known-before a c [] x k = let P : Book S shelf → Type 0 = IsKnown shelf in subst P x k
+  known-before a c (e ∷ es) (b, x, more) k =
+      let y : Comes shelf a (sent_by e.0) e.1 b = step-comes shelf a e.0 e.1 b x in
+      let m : IsKnown shelf b = known-before b c es more k in
+      (y.clean m.0, y.shut m.1)
+
+  one-office : (a c : Book S shelf) (es : List (Asked × Reply)) → Chain Does a es c → c.office ≡ a.office
+  one-office a c [] x = let P : Book S shelf → Type 0 = λ b. b.office ≡ a.office in subst P (sym x) refl
+  one-office a c (e ∷ es) (b, x, more) = let y : Comes shelf a (sent_by e.0) e.1 b = step-comes shelf a e.0 e.1 b x in one-office b c es more ∙ y.office
+
+  after-chain : (a c : Book S shelf) (es : List (Asked × Reply)) (before : List Entry) (us : List Upload) → Chain Does a es c → IsKnown shelf c → After a.office before us (held shelf a).records →
+      After a.office before (us ++ accepted es) (held shelf c).records
+  after-chain a c [] before us x k h =
+      let P : Book S shelf → Type 0 = λ b. After a.office before us (held shelf b).records in
+      let Q : List Upload → Type 0 = λ vs. After a.office before vs (held shelf c).records in
+      subst Q (sym (append-nil us)) (subst P (sym x) h)
+  after-chain a c (e ∷ es) before us (b, x, more) k h =
+      let y : Comes shelf a (sent_by e.0) e.1 b = step-comes shelf a e.0 e.1 b x in
+      let m : IsKnown shelf b = known-before b c es more k in
+      let P : OfficeFile → Type 0 = λ file. After file before (us ++ if_fine e.1.status (sent_by e.0)) (held shelf b).records in
+      let R : OfficeFile → Type 0 = λ file. After file before ((us ++ if_fine e.1.status (sent_by e.0)) ++ accepted es) (held shelf c).records in
+      let Q : List Upload → Type 0 = λ vs. After a.office before vs (held shelf c).records in
+      let here : After b.office before (us ++ if_fine e.1.status (sent_by e.0)) (held shelf b).records = subst P (sym y.office) (y.taken m.0 m.1 before us h) in
+      let there : After b.office before ((us ++ if_fine e.1.status (sent_by e.0)) ++ accepted es) (held shelf c).records = after-chain b c es before (us ++ if_fine e.1.status (sent_by e.0)) more k here in
+      subst Q (append_assoc us (if_fine e.1.status (sent_by e.0)) (accepted es)) (subst R y.office there)
+
+  rises-through : (a c : Book S shelf) (es : List (Asked × Reply)) → Chain Does a es c → (shelf.state a.shelf).failed_abandons ≤ (shelf.state c.shelf).failed_abandons
+  rises-through a c [] x = let P : Book S shelf → Type 0 = λ b. (shelf.state a.shelf).failed_abandons ≤ (shelf.state b.shelf).failed_abandons in subst P (sym x) (omega arith)
+  rises-through a c (e ∷ es) (b, x, more) =
+      let y : Comes shelf a (sent_by e.0) e.1 b = step-comes shelf a e.0 e.1 b x in
+      let r : (shelf.state b.shelf).failed_abandons ≤ (shelf.state c.shelf).failed_abandons = rises-through b c es more in
+      omega (arith, y.rises, r)
+
+  stays-open : (a c : Book S shelf) (es : List (Asked × Reply)) → Chain Does a es c → a.shut ≡ false → (shelf.state c.shelf).failed_abandons ≡ (shelf.state a.shelf).failed_abandons → c.shut ≡ false
+  stays-open a c [] x o f = let P : Book S shelf → Type 0 = λ b. b.shut ≡ false in subst P (sym x) o
+  stays-open a c (e ∷ es) (b, x, more) o f =
+      let y : Comes shelf a (sent_by e.0) e.1 b = step-comes shelf a e.0 e.1 b x in
+      let r : (shelf.state b.shelf).failed_abandons ≤ (shelf.state c.shelf).failed_abandons = rises-through b c es more in
+      let l : (shelf.state a.shelf).failed_abandons ≤ (shelf.state b.shelf).failed_abandons = y.rises in
+      let first : (shelf.state b.shelf).failed_abandons ≡ (shelf.state a.shelf).failed_abandons = omega (arith, f, r, l) in
+      let later : (shelf.state c.shelf).failed_abandons ≡ (shelf.state b.shelf).failed_abandons = omega (arith, f, r, l) in
+      stays-open b c es more (y.stays_open o first) later
+
+  pub headline-of : (stream text : List ℕ) (count : ℕ) (a c : Book S shelf) → Conversation (Answers shelf) a stream text count c → Headline shelf stream text count a c
+  headline-of stream text count a c talk =
+      let es : List (Asked × Reply) = exchanges (Answers shelf) talk in
+      let chain : Chain Does a es c = chain-of (Answers shelf) a c stream text count talk in
+      let after : IsKnown shelf c → After a.office (held shelf a).records (accepted es) (held shelf c).records =
+      λ k. after-chain a c es (held shelf a).records [] chain k (behind-nothing a.office (held shelf a).records) in
+      record {
+        talk = talk;
+        fair = chain-less Does (IsFair shelf) fair a c es chain;
+        office = one-office a c es chain;
+        stays_open = stays-open a c es chain;
+        after = after;
+        figures = λ k records h. order_counts_nothing (office_of a.office) (held shelf c).records records (one-after a.office (held shelf a).records (accepted es) (held shelf c).records records (after k) h);
+      }
+
+  pub same-end : EndTheSame shelf
+  same-end stream text other more count number a b c d one two same k l =
+      let us : List Upload = accepted (exchanges (Answers shelf) one.talk) in
+      let vs : List Upload = accepted (exchanges (Answers shelf) two.talk) in
+      let P : OfficeFile → Type 0 = λ file. After file (held shelf c).records vs (held shelf d).records in
+      let x : After a.office (held shelf a).records vs (held shelf b).records = in-order a.office (held shelf a).records us vs (held shelf b).records same.uploads (one.after k) in
+      let y : After a.office (held shelf c).records vs (held shelf b).records = from-same a.office (held shelf a).records (held shelf c).records vs (held shelf b).records same.records x in
+      let z : After a.office (held shelf c).records vs (held shelf d).records = subst P (sym same.office) (two.after l) in
+      let members : SameMembers (held shelf b).records (held shelf d).records = one-after a.office (held shelf c).records vs (held shelf b).records (held shelf d).records y z in
+      (members, order_counts_nothing (office_of a.office) (held shelf b).records (held shelf d).records members)
+
+  pub talk-headline : (unread left known after : Option (List ℕ)) (a c : Book S shelf) (turns : ℕ) (r : Result Served WireFault) → IsTalk (Answers shelf) unread left known after a c turns r → IfOk r (λ served. IsHeadline shelf unread known after a c served.requests)
+  talk-headline unread left known after a c turns (Ok s) x = (x.0, x.1, x.2, x.3, headline-of x.0 x.1 s.requests a c x.4)
+  talk-headline unread left known after a c turns (Err e) x = tt

@@ -1,0 +1,5 @@
+use Rattle.pw_http.proofs.Headlines.{talk-headline}
+use Rattle.pw_http.proofs.books.converse_within.Goals as goal
+
+pub returns-clause-headline : goal.returns-clause-headline
+returns-clause-headline g c = talk-headline g.S.Shelf _ _ _ _ _ _ _ c.serve_within.result c.serve_within.ensures.talk

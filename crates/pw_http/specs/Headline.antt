@@ -1,0 +1,95 @@
+-- What a conversation with a book comes to, in words of uploads, records and figures.
+-- (Definitions of this project.)
+use Rattle.std.specs.Prelude.{◌≡◌, ◌≢◌, ◌⊎◌, false, ℕ, Option, Some, None, List, [], ◌∷◌, ◌++◌}
+use Rattle.std.specs.Io.KnownBytes.{Appends}
+use Rattle.pw_tariff.specs.Office.{OfficeFile, office_of}
+use Rattle.pw_model.specs.declared.records.Entry.{Entry}
+use Rattle.pw_model.specs.Counting.{SameMembers}
+use Rattle.pw_model.specs.Laws.{HaveSameAnswers}
+use Rattle.pw_record.specs.declared.fault.UploadFault.{UploadFault}
+use Rattle.pw_record.specs.Causes.{want_of_memory}
+use Rattle.pw_record.specs.Uploads.{Upload, RefusesContent}
+use Rattle.pw_shelf.specs.declared.shelf.Shelf.{Ghosts}
+use Rattle.pw_book.specs.After.{After, Refused}
+use Rattle.pw_book.specs.declared.book.Book.{Book}
+use Rattle.pw_http.specs.declared.replies.Status.{Status}
+use Rattle.pw_http.specs.declared.replies.Status.TheVariants.{Fine, BadRequest, NotFound, MethodNotAllowed, PayloadTooLarge, NotImplemented, Unavailable, InsufficientStorage}
+use Rattle.pw_http.specs.Replies.{Reply}
+use Rattle.pw_http.specs.Requests.{Asked, Whole, Faulty}
+use Rattle.pw_http.specs.Runs.{Chain, Conversation, Tells, asking_of, exchanges}
+use Rattle.pw_http.specs.Steps.{Answers, held, upload_of, upload_reply}
+
+-- ---- uploads
+-- what a request sends; nothing that is no whole request sends an upload
+abbrev pub sent_by : Asked → Option Upload
+sent_by (Whole request) = upload_of (asking_of request)
+sent_by (Faulty why) = None
+
+-- answered 200
+abbrev pub if_fine : Status → Option Upload → List Upload
+if_fine Fine (Some upload) = upload ∷ []
+if_fine Fine None = []
+if_fine BadRequest sent = []
+if_fine NotFound sent = []
+if_fine MethodNotAllowed sent = []
+if_fine PayloadTooLarge sent = []
+if_fine NotImplemented sent = []
+if_fine Unavailable sent = []
+if_fine InsufficientStorage sent = []
+
+-- the uploads that were answered 200
+abbrev pub accepted : List (Asked × Reply) → List Upload
+accepted [] = []
+accepted (e ∷ es) = if_fine e.1.status (sent_by e.0) ++ accepted es
+
+-- ---- one exchange
+-- an upload is answered 400 where the definition of records refuses its path and body for its content, and nowhere
+-- else, unless the line of want of memory stands in its place
+pub record IsJudged (file : OfficeFile) (upload : Upload) (reply : Reply) : Type 0 where
+  pub only : reply.status ≡ BadRequest → (fault : UploadFault) × RefusesContent file upload fault × (reply ≡ upload_reply (Refused fault))
+  pub each : (fault : UploadFault) → RefusesContent file upload fault → (reply ≡ upload_reply (Refused fault)) ⊎ (reply ≡ upload_reply (Refused want_of_memory))
+
+module _ {S : Type 0} (shelf : Ghosts S) where
+  pub record IsFair (old : Book S shelf) (asked : Asked) (reply : Reply) (new : Book S shelf) : Type 0 where
+    pub judged : (upload : Upload) → sent_by asked ≡ Some upload → IsJudged old.office upload reply
+    -- whatever isn't answered 200 leaves records, points, starts and totals as they were, unless the book couldn't
+    -- take an upload back: then an `abandon` failed in this exchange
+    pub kept : shelf.clean new.shelf → (shelf.state new.shelf).failed_abandons ≡ (shelf.state old.shelf).failed_abandons →
+        reply.status ≢ Fine → held shelf new ≡ held shelf old
+
+  -- ---- a conversation
+  -- a book that isn't shut, over a store that returned what was written
+  abbrev pub IsKnown : Book S shelf → Type 0
+  IsKnown book = shelf.clean book.shelf × (book.shut ≡ false)
+
+  -- the bytes written are the replies to the requests of the stream, each exchange is fair, and behind the last one
+  -- each figure is the definition's, for the records held before with those of the uploads that were answered 200
+  pub record Headline (stream text : List ℕ) (count : ℕ) (old new : Book S shelf) : Type 0 where
+    pub talk : Conversation (Answers shelf) old stream text count new
+    pub fair : Chain IsFair old (exchanges (Answers shelf) talk) new
+    pub office : new.office ≡ old.office
+    -- a book that wasn't shut is shut only where an `abandon` failed
+    pub stays_open : old.shut ≡ false → (shelf.state new.shelf).failed_abandons ≡ (shelf.state old.shelf).failed_abandons → new.shut ≡ false
+    pub after : IsKnown new → After old.office (held shelf old).records (accepted (exchanges (Answers shelf) talk)) (held shelf new).records
+    pub figures : IsKnown new → (records : List Entry) → After old.office (held shelf old).records (accepted (exchanges (Answers shelf) talk)) records →
+        HaveSameAnswers (office_of old.office) (held shelf new).records records
+
+  -- the same of what was read and written
+  abbrev pub IsHeadline : Option (List ℕ) → Option (List ℕ) → Option (List ℕ) → Book S shelf → Book S shelf → ℕ → Type 0
+  IsHeadline unread known after old new count =
+      (stream : List ℕ) × (text : List ℕ) × Tells unread stream × Appends known after text × Headline stream text count old new
+
+  -- ---- two conversations
+  -- from books with the same records; the uploads that were answered 200 are the same set, in whatever order and
+  -- however often
+  pub record AcceptTheSame {stream text other more : List ℕ} {count number : ℕ} {a b c d : Book S shelf}
+      (one : Headline stream text count a b) (two : Headline other more number c d) : Type 0 where
+    pub office : a.office ≡ c.office
+    pub records : SameMembers (held shelf a).records (held shelf c).records
+    pub uploads : SameMembers (accepted (exchanges (Answers shelf) one.talk)) (accepted (exchanges (Answers shelf) two.talk))
+
+  -- then they end with the same records, and with the same answers to every question
+  abbrev pub EndTheSame : Type 0
+  EndTheSame = (stream text other more : List ℕ) (count number : ℕ) (a b c d : Book S shelf)
+      (one : Headline stream text count a b) (two : Headline other more number c d) → AcceptTheSame one two → IsKnown b → IsKnown d →
+      SameMembers (held shelf b).records (held shelf d).records × HaveSameAnswers (office_of a.office) (held shelf b).records (held shelf d).records

@@ -1,0 +1,102 @@
+//! A book as a service, and conversations with it.
+
+ghost use Rattle.std.specs.Prelude.{IfOk};
+ghost use Rattle.pw_http.specs.Headline.{IsHeadline};
+ghost use Rattle.pw_http.specs.Runs.{IsTalk};
+ghost use Rattle.pw_http.specs.Steps.{Answers};
+ghost use Rattle.pw_http.specs.inner.Answered.{reply_of};
+
+use crate::answers::{Answer, answer_at, said};
+use crate::conversation::serve_within;
+use crate::fault::WireFault;
+use crate::replies::Status;
+use crate::routes::{Place, Routes};
+use crate::send::send_reply;
+use crate::served::Served;
+use crate::service::Service;
+use pw_book::Book;
+use pw_shelf::Shelf;
+use std::alloc::Global;
+use std::io::{Read, Write};
+
+/// The most calls of `read` in a conversation.
+pub const MOST_TURNS: u32 = 16_777_216;
+
+/// Uploads are posted, and pages are asked for, each by its route.
+impl<S: Shelf> Service for Book<S> {
+    ghost use Rattle.pw_http.specs.Steps.{Answers};
+
+    ghost serves = { Answers S.Shelf };
+
+    fn serve<W: Write>(
+        &mut self,
+        alloc: Global,
+        routes: &Routes,
+        method: &[u8],
+        target: &[u8],
+        body: &[u8],
+        closing: bool,
+        writer: &mut W,
+    ) -> Result<(), WireFault> {
+        let reply = reply_to(self, alloc, routes, method, target, body);
+        let bytes = reply.bytes();
+        send_reply(writer, reply.status, reply.content, closing, bytes)
+    }
+}
+
+fn reply_to<S: Shelf>(
+    book: &mut Book<S>,
+    alloc: Global,
+    routes: &Routes,
+    method: &[u8],
+    target: &[u8],
+    body: &[u8],
+) -> Answer
+    ensures { Answers S.Shelf book.old (record { method = method.now; target = target.now; body = body.now }) (reply_of result) book.new }
+{
+    match routes.place(method, target) {
+        Place::NoPage => said(Status::NotFound, b"no such page"),
+        Place::NoMethod => said(Status::MethodNotAllowed, b"no such method"),
+        Place::At(route) => answer_at(book, alloc, route, target, body),
+    }
+}
+
+/// Reads requests and writes what a book replies, by at most `turns` calls of `read`, until the stream or the
+/// conversation ends (RFC 9112, in this project's profile).
+///
+/// 62, `Memory`, is answered only before anything is read. Behind 80, `Read`, and 82, `TooManyTurns`, each request
+/// that was wholly read is answered, behind 81, `Write`, the last reply may be lost. The book is as after the uploads
+/// accepted so far.
+///
+/// After Ok, of a book that isn't shut and over a store that returned what was written: each figure that the book then
+/// answers is the definition's, for the records held before with those of the uploads that were answered 200. An
+/// upload is answered 400 where the office file, its path and its body alone refuse it, and nowhere else, unless 62
+/// stands in its place. Whatever wasn't answered 200 left records, points, starts and totals as they were.
+pub fn converse_within<S: Shelf, R: Read, W: Write>(
+    alloc: Global,
+    book: &mut Book<S>,
+    reader: &mut R,
+    writer: &mut W,
+    turns: u32,
+) -> Result<Served, WireFault>
+    ensures talk { IsTalk (Answers S.Shelf) (R.remaining reader.old) (R.remaining reader.new) (W.contents writer.old) (W.contents writer.new) book.old book.new turns result }
+    ensures headline { IfOk result (λ served. IsHeadline S.Shelf (R.remaining reader.old) (W.contents writer.old) (W.contents writer.new) book.old book.new served.requests) }
+{
+    let Ok(routes) = Routes::new(alloc) else {
+        return Err(WireFault::Memory);
+    };
+    serve_within(alloc, book, &routes, reader, writer, turns)
+}
+
+/// Reads requests and writes what a book replies, by at most 16,777,216 calls of `read`: [`converse_within`].
+pub fn converse<S: Shelf, R: Read, W: Write>(
+    alloc: Global,
+    book: &mut Book<S>,
+    reader: &mut R,
+    writer: &mut W,
+) -> Result<Served, WireFault>
+    ensures talk { IsTalk (Answers S.Shelf) (R.remaining reader.old) (R.remaining reader.new) (W.contents writer.old) (W.contents writer.new) book.old book.new MOST_TURNS result }
+    ensures headline { IfOk result (λ served. IsHeadline S.Shelf (R.remaining reader.old) (W.contents writer.old) (W.contents writer.new) book.old book.new served.requests) }
+{
+    converse_within(alloc, book, reader, writer, MOST_TURNS)
+}

@@ -1,0 +1,189 @@
+//! Streams in pieces, and readers and writers that fail.
+
+use super::books::{empty_book, replies};
+use super::rows::{FIRST, FIRST_REPLIES};
+use crate::{Served, WireFault, converse, converse_within};
+use pw_book::Book;
+use pw_shelf::Shelf;
+use std::alloc::Global;
+use std::io::{self, ErrorKind, Read, Write};
+use std::test::Fail;
+
+// A payment and a statement.
+const PAID: &[u8] =
+    b"POST /topups HTTP/1.1\r\nContent-Length: 64\r\n\r\nreference,account,cents,instant\nP1,A1,5000,2024-01-01T00:00:00Z\nGET /accounts/A1 HTTP/1.1\r\n\r\n";
+
+const PAID_REPLIES: &[u8] =
+    b"HTTP/1.1 200 OK\r\nContent-Type: text/plain\r\nContent-Length: 28\r\n\r\naccepted fresh 1 repeated 0\nHTTP/1.1 200 OK\r\nContent-Type: text/plain\r\nContent-Length: 160\r\n\r\naccount A1\nband       import Wh       export Wh\nL                  0               0\nH                  0               0\ntopped up EUR 50.00\nbalance EUR 50.00\n";
+
+// Gives a stream in two pieces.
+#[derive(Drop)]
+struct TwoPieces<'a> {
+    first: &'a [u8],
+    second: &'a [u8],
+}
+
+impl<'a> Read for TwoPieces<'a> {
+    fn read(&mut self, buf: &mut [u8]) -> io::Result<usize> {
+        if self.first.is_empty() {
+            self.second.read(buf)
+        } else {
+            self.first.read(buf)
+        }
+    }
+}
+
+// Gives one byte a call, and so many calls; then it fails. It counts its calls.
+#[derive(Drop)]
+struct ByteByByte<'a> {
+    bytes: &'a [u8],
+    left: u32,
+    calls: u32,
+}
+
+impl<'a> Read for ByteByByte<'a> {
+    fn read(&mut self, buf: &mut [u8]) -> io::Result<usize> {
+        self.calls = self.calls.saturating_add(1);
+        if self.left == 0 {
+            return Err(io::Error::from(ErrorKind::Other));
+        }
+        self.left -= 1;
+        let most = buf.len().min(1);
+        self.bytes.read(&mut buf[..most])
+    }
+}
+
+// Takes one byte a call, and so many calls; then it fails.
+#[derive(Drop)]
+struct Narrow {
+    text: Vec<u8>,
+    left: u32,
+}
+
+impl Write for Narrow {
+    fn write(&mut self, bytes: &[u8]) -> io::Result<usize> {
+        let Some(byte) = bytes.first() else {
+            return Ok(0);
+        };
+        if self.left == 0 || self.text.push(*byte).is_err() {
+            return Err(io::Error::from(ErrorKind::Other));
+        }
+        self.left -= 1;
+        Ok(1)
+    }
+
+    fn flush(&mut self) -> io::Result<()> {
+        Ok(())
+    }
+}
+
+// Whether a stream in two pieces is replied to as in one.
+fn is_same_in_pieces<S: Shelf>(
+    alloc: Global,
+    book: &mut Book<S>,
+    pieces: (&[u8], &[u8]),
+    expected: (&[u8], u64),
+) -> bool {
+    let mut reader = TwoPieces {
+        first: pieces.0,
+        second: pieces.1,
+    };
+    let mut text = Vec::new(alloc);
+    let served = converse(alloc, book, &mut reader, &mut text);
+    let requests = expected.1;
+    served == Ok(Served { requests }) && text.as_slice() == expected.0
+}
+
+#[test]
+fn cut_at_every_byte(rt: HostRuntime) -> Result<(), Fail> {
+    for place in 0..PAID.len() {
+        let mut book = empty_book(rt.alloc())?;
+        let pieces = PAID.split_at(place);
+        assert!(rt;
+            is_same_in_pieces(rt.alloc(), &mut book, pieces, (PAID_REPLIES, 2)),
+            "at {place}"
+        );
+    }
+    Ok(())
+}
+
+#[test]
+fn four_requests_cut_at_every_byte(rt: HostRuntime) -> Result<(), Fail> {
+    for place in 0..FIRST.len() {
+        let mut book = empty_book(rt.alloc())?;
+        let pieces = FIRST.split_at(place);
+        assert!(rt;
+            is_same_in_pieces(rt.alloc(), &mut book, pieces, (FIRST_REPLIES, 4)),
+            "at {place}"
+        );
+    }
+    Ok(())
+}
+
+// A reader that gives one byte a call, and fails behind so many.
+fn byte_by_byte(bytes: &[u8], left: u32) -> ByteByByte<'_> {
+    ByteByByte {
+        bytes,
+        left,
+        calls: 0,
+    }
+}
+
+#[test]
+fn one_byte_a_call(rt: HostRuntime) -> Result<(), Fail> {
+    let alloc = rt.alloc();
+    let mut book = empty_book(alloc)?;
+    let mut reader = byte_by_byte(FIRST, 10_000);
+    let mut text = Vec::new(alloc);
+    let served = converse(alloc, &mut book, &mut reader, &mut text);
+    assert_eq!(rt; served, Ok(Served { requests: 4 }));
+    assert!(rt; text.as_slice() == FIRST_REPLIES);
+    Ok(())
+}
+
+#[test]
+fn too_many_turns(rt: HostRuntime) -> Result<(), Fail> {
+    let alloc = rt.alloc();
+    let mut book = empty_book(alloc)?;
+    let mut reader = byte_by_byte(PAID, 10_000);
+    let mut text = Vec::new(alloc);
+    let served = converse_within(alloc, &mut book, &mut reader, &mut text, 3);
+    assert_eq!(rt; served, Err(WireFault::TooManyTurns));
+    assert!(rt; text.is_empty());
+    assert_eq!(rt; reader.calls, 3);
+    let (nothing, text) = replies(alloc, &mut book, b"");
+    assert_eq!(rt; nothing, Ok(Served { requests: 0 }));
+    assert!(rt; text.is_empty());
+    Ok(())
+}
+
+#[test]
+fn reader_failing_at_each_call(rt: HostRuntime) -> Result<(), Fail> {
+    let alloc = rt.alloc();
+    for left in 0..FIRST.len() as u32 {
+        let mut book = empty_book(alloc)?;
+        let mut reader = byte_by_byte(FIRST, left);
+        let mut text = Vec::new(alloc);
+        let served = converse(alloc, &mut book, &mut reader, &mut text);
+        assert_eq!(rt; served, Err(WireFault::Read));
+        assert!(rt; FIRST_REPLIES.starts_with(&text));
+    }
+    Ok(())
+}
+
+#[test]
+fn writer_failing_at_each_call(rt: HostRuntime) -> Result<(), Fail> {
+    let alloc = rt.alloc();
+    let whole = FIRST_REPLIES.len() as u32;
+    for left in 0..whole + 1 {
+        let mut book = empty_book(alloc)?;
+        let mut reader = FIRST;
+        let text = Vec::new(alloc);
+        let mut writer = Narrow { text, left };
+        let served = converse(alloc, &mut book, &mut reader, &mut writer);
+        assert_eq!(rt; served.is_ok(), left == whole);
+        assert_eq!(rt; writer.text.len(), left as usize);
+        assert!(rt; FIRST_REPLIES.starts_with(&writer.text));
+    }
+    Ok(())
+}
