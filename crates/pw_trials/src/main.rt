@@ -75,10 +75,7 @@ fn main(rt: HostRuntime) -> ExitCode {
     );
     tell(&mut out, b"memory again\n");
     let taken_back = refusals::are_taken_back(rt.alloc(), &mut out);
-    tell(
-        &mut out,
-        line(taken_back == Ok(true), b"uploads taken back\n"),
-    );
+    tell(&mut out, line(taken_back, b"uploads taken back\n"));
     ExitCode::from(0)
 }
 
