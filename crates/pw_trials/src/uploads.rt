@@ -16,7 +16,10 @@ use std::io::Write;
 // The rows of each part that are held before: as many as a node of a map has room for, so that one more asks for memory.
 const HELD: u8 = 15;
 
-// The rows that an upload changes and takes away.
+// The rows that an upload adds: more than there is room to note, so that one more asks for memory.
+const ADDED: u8 = 5;
+
+// The rows that it changes and takes away.
 const CHANGED: u8 = 3;
 
 const TAKEN: u8 = 5;
@@ -88,12 +91,14 @@ fn put(shelf: &mut MemoryShelf, number: u8) -> Result<(), ShelfFault>
     shelf.total_put(&total_key(number), 7)
 }
 
-// Adds a row of each part, changes one and takes one away.
+// Adds some rows of each part, changes one and takes one away.
 fn change(shelf: &mut MemoryShelf) -> Result<(), ShelfFault>
     requires { IsSome (state_of shelf.old).begun }
     ensures { (state_of shelf.new).begun ≡ (state_of shelf.old).begun }
 {
-    put(shelf, HELD)?;
+    for number in HELD..HELD + ADDED {
+        put(shelf, number)?;
+    }
     shelf.point_put(METER, Register::I1, second(CHANGED)?, watt_hours(HELD)?)?;
     shelf.start_put(METER, second(CHANGED)?, None)?;
     shelf.total_put(&total_key(CHANGED), 0)?;
@@ -101,23 +106,16 @@ fn change(shelf: &mut MemoryShelf) -> Result<(), ShelfFault>
     shelf.start_del(METER, second(TAKEN)?)
 }
 
-fn fill(shelf: &mut MemoryShelf) -> Result<(), ShelfFault>
-    requires { IsSome (state_of shelf.old).begun }
-    ensures { (state_of shelf.new).begun ≡ (state_of shelf.old).begun }
-{
-    for number in 0..HELD {
-        put(shelf, number)?;
-    }
-    Ok(())
-}
-
+// A store with some rows, each from an upload of its own.
 fn filled(alloc: Global) -> Option<MemoryShelf>
     ensures { IfSome result (λ shelf. (state_of shelf).begun ≡ None) }
 {
     let mut shelf = MemoryShelf::new(alloc);
-    shelf.begin().ok()?;
-    fill(&mut shelf).ok()?;
-    shelf.commit().ok()?;
+    for number in 0..HELD {
+        shelf.begin().ok()?;
+        put(&mut shelf, number).ok()?;
+        shelf.commit().ok()?;
+    }
     Some(shelf)
 }
 
@@ -138,7 +136,7 @@ pub(crate) fn is_kept(shelf: &mut MemoryShelf) -> bool
     shelf.commit().is_ok()
         && shelf.begin().is_ok()
         && shelf.abandon().is_ok()
-        && shelf.count() == Ok(16)
+        && shelf.count() == Ok(20)
         && shelf.total(&total_key(CHANGED)) == Ok(0)
         && is_passed_over(shelf) == Ok(true)
 }
@@ -191,7 +189,8 @@ fn is_given_up(shelf: &mut MemoryShelf) -> bool
     memory_abandons(shelf).is_ok() && changed != Err(ShelfFault::Device)
 }
 
-/// Whether a store holds what it held before when an upload was given up one of whose requests may have been refused.
+/// Whether a store holds what it held before when an upload was given up one of whose requests may have been refused, and
+/// the next upload is kept.
 pub(crate) fn is_taken_back<O: Write>(alloc: Global, out: &mut O) -> Result<bool, ShelfFault> {
     let Some(mut shelf) = filled(alloc) else {
         return Ok(false);
@@ -202,5 +201,12 @@ pub(crate) fn is_taken_back<O: Write>(alloc: Global, out: &mut O) -> Result<bool
     tell(out, b"all is given\n");
     let now = told(alloc, &mut shelf)?;
     let is_whole = before.points.len() == 15 && before.starts.len() == 15;
-    Ok(is_given_up && is_whole && is_same(&before, &now))
+    Ok(is_whole && is_given_up && is_same(&before, &now) && is_kept_then(&mut shelf))
+}
+
+// Whether the next upload is kept.
+fn is_kept_then(shelf: &mut MemoryShelf) -> bool
+    requires { (state_of shelf.old).begun ≡ None }
+{
+    shelf.begin().is_ok() && change(shelf).is_ok() && is_kept(shelf)
 }
