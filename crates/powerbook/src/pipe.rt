@@ -1,7 +1,7 @@
 //! The command `pipe`.
 
 ghost use Rattle.std.specs.Prelude.{◌≡◌, ◌⊎◌};
-ghost use Rattle.powerbook.specs.Pipe.{IsPiped};
+ghost use Rattle.powerbook.specs.Pipe.{IsPiped, RefusesOffice};
 
 use pw_book::Book;
 use pw_http::{WireFault, converse};
@@ -34,6 +34,7 @@ pub fn pipe_run<R: Read, O: Write, E: Write>(
     err: &mut E,
 ) -> u8
     ensures status { (result ≡ 0) ⊎ ((result ≡ 1) ⊎ (result ≡ 3)) }
+    ensures refused { result ≡ 1 → RefusesOffice office.now }
     ensures piped { result ≡ 0 → IsPiped ⟦<MemoryShelf as Shelf>⟧ office.now (R.remaining reader.old) (O.contents out.old) (O.contents out.new) }
 {
     let office = match Office::read(alloc, office) {
