@@ -8,6 +8,7 @@ mod tests;
 mod words;
 
 use crate::pipe::pipe_run;
+use crate::sample::SAMPLE;
 use crate::words::{Command, command_of};
 use pw_read::read_run;
 use std::io::{ErrorKind, Write};
@@ -27,7 +28,10 @@ fn main(rt: HostRuntime) -> ExitCode {
             Some(command) => {
                 let (mut input, mut out, mut err) = (rt.stdin(), rt.stdout(), rt.stderr());
                 match command {
-                    Command::Pipe => pipe_run(rt.alloc(), &mut input, &mut out, &mut err),
+                    Command::Pipe => {
+                        let office = SAMPLE.as_bytes();
+                        pipe_run(rt.alloc(), office, &mut input, &mut out, &mut err)
+                    }
                     Command::Read(clock) => {
                         read_run(rt.alloc(), clock, &mut input, &mut out, &mut err)
                     }

@@ -1,8 +1,10 @@
 //! The words that the program knows, and what `pipe` answers.
 
 use crate::pipe::pipe_run;
+use crate::sample::SAMPLE;
 use crate::words::{Command, command_of};
 use pw_time::Clock;
+use std::alloc::Global;
 use std::io::{self, ErrorKind, Read, Write};
 use std::test::Fail;
 
@@ -65,28 +67,46 @@ impl Write for Failing {
     }
 }
 
+fn piped<R: Read, O: Write, E: Write>(
+    alloc: Global,
+    reader: &mut R,
+    out: &mut O,
+    err: &mut E,
+) -> u8 {
+    pipe_run(alloc, SAMPLE.as_bytes(), reader, out, err)
+}
+
 #[test]
 fn requests_piped(rt: HostRuntime) -> Result<(), Fail> {
     let mut reader = ASKED;
     let (mut out, mut err) = (Vec::new(rt.alloc()), Vec::new(rt.alloc()));
-    assert_eq!(rt; pipe_run(rt.alloc(), &mut reader, &mut out, &mut err), 0);
+    assert_eq!(rt; piped(rt.alloc(), &mut reader, &mut out, &mut err), 0);
     assert!(rt; out.as_slice() == REPLIED);
     assert!(rt; err.is_empty());
     Ok(())
 }
 
 #[test]
-fn streams_that_fail(rt: HostRuntime) -> Result<(), Fail> {
+fn faults_told(rt: HostRuntime) -> Result<(), Fail> {
     let (mut out, mut err) = (Vec::new(rt.alloc()), Vec::new(rt.alloc()));
-    assert_eq!(rt; pipe_run(rt.alloc(), &mut Failing, &mut out, &mut err), 3);
+    assert_eq!(rt; piped(rt.alloc(), &mut Failing, &mut out, &mut err), 3);
     assert!(rt; out.is_empty());
     assert!(rt; err.as_slice() == b"refused 80 Read\n".as_slice());
     let mut reader = ASKED;
     let mut other = Vec::new(rt.alloc());
-    assert_eq!(rt;
-        pipe_run(rt.alloc(), &mut reader, &mut Failing, &mut other),
-        3
-    );
+    assert_eq!(rt; piped(rt.alloc(), &mut reader, &mut Failing, &mut other), 3);
     assert!(rt; other.as_slice() == b"refused 81 Write\n".as_slice());
+    let mut last = Vec::new(rt.alloc());
+    assert_eq!(rt;
+        pipe_run(
+            rt.alloc(),
+            b"accounts = []",
+            &mut reader,
+            &mut out,
+            &mut last
+        ),
+        1
+    );
+    assert!(rt; last.as_slice() == b"refused 37 Empty\n".as_slice());
     Ok(())
 }
