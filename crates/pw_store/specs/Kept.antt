@@ -1,0 +1,133 @@
+-- What is known of a store over SQL: of its connection, and of the connection as it was when the last upload ended.
+-- (Definitions of this project.)
+use Rattle.std.specs.Prelude.{◌≡◌, ℕ, Bool, true, false, cond, Option, Some, None, IsTrue, refl}
+use Rattle.std.proofs.Math.Logic.{∥∥₁_elim}
+use Rattle.std.specs.List.{AllByRecursion}
+use Rattle.std.specs.Coded.{×_prop, Π_prop, Coded-set}
+use mathlib.Core.Bool.{Bool-set}
+use mathlib.Core.HLevel.{⊥_prop}
+use Rattle.sqlite.specs.Order.{Row}
+use Rattle.sqlite.specs.Tree.{Trees}
+use Rattle.sqlite.specs.Effect.{Database}
+use Rattle.sqlite.specs.State.{State as Sql, HasCleanDisk}
+use Rattle.sqlite_trees.specs.Props.{Trees-set, AllByRecursion-prop}
+use Rattle.sqlite_value.specs.declared.value.Value.{Value}
+use Rattle.sqlite_value.specs.contracts.value.Value as value
+use Rattle.sqlite_schema.specs.contracts.schema.Schema as schema_row
+use Rattle.pw_model.specs.Counting.{EachOnce}
+use Rattle.pw_model.specs.Shelf.{ShelfContent}
+use Rattle.pw_shelf.specs.State.{State}
+use Rattle.pw_shelf.specs.inner.Held.{EachOnce-prop}
+use Rattle.pw_schema.specs.Tables.{IsOurs}
+use Rattle.pw_store.specs.Content.{content_of, IsReadingRow, IsAssignmentRow, IsTopupRow, reading_tree, assignment_tree, topup_tree, records_of}
+
+-- ---- a database that is a store: our tables, each row a record, each record once
+pub record IsStore (db : Database) : Type 0 where
+  pub ours : IsOurs db.schema
+  pub readings : AllByRecursion IsReadingRow (db.trees reading_tree)
+  pub assignments : AllByRecursion IsAssignmentRow (db.trees assignment_tree)
+  pub topups : AllByRecursion IsTopupRow (db.trees topup_tree)
+  pub once : EachOnce (records_of db.trees)
+
+-- ---- what the fields keep to
+-- what was committed last holds each record once, also when the connection is shut
+abbrev pub BaseIsOnce : Sql → Sql → Type 0
+BaseIsOnce s base = HasCleanDisk s → EachOnce (records_of base.committed.trees)
+
+abbrev pub NowIsStore : Sql → Type 0
+NowIsStore s = HasCleanDisk s → IsTrue s.is_open → IsStore s.now
+
+abbrev pub CommittedIsStore : Sql → Type 0
+CommittedIsStore s = HasCleanDisk s → IsTrue s.is_open → IsStore s.committed
+
+-- nothing was committed since
+abbrev pub IsSinceBase : Sql → Sql → Type 0
+IsSinceBase s base = HasCleanDisk s → IsTrue s.is_open → s.committed.trees ≡ base.committed.trees
+
+-- outside an upload nothing waits to be committed
+abbrev pub IsIdle : Sql → Bool → Type 0
+IsIdle s begun = HasCleanDisk s → IsTrue s.is_open → begun ≡ false → s.now.trees ≡ s.committed.trees
+
+-- a transaction stands on an open connection
+abbrev pub IsInside : Sql → Type 0
+IsInside s = HasCleanDisk s → s.in_transaction ≡ true → IsTrue s.is_open
+
+-- the connection is open, unless a statement has failed since it was last known to be
+abbrev pub IsAwake : Sql → Bool → Type 0
+IsAwake s doubtful = HasCleanDisk s → doubtful ≡ false → IsTrue s.is_open
+
+-- ---- the three members
+-- While the connection is open its tables are what is held. Once it is shut, that is what was committed last.
+abbrev pub held_of : Sql → Sql → ShelfContent
+held_of s base = content_of (cond s.is_open s.now.trees base.committed.trees)
+
+abbrev pub begun_of : Bool → ShelfContent → Option ShelfContent
+begun_of true c = Some c
+begun_of false c = None
+
+abbrev pub state_of : Sql → Sql → Bool → ℕ → ℕ → ℕ → State
+state_of s base begun failures failed_abandons tally = record {
+  content = held_of s base;
+  begun = begun_of begun (content_of base.committed.trees);
+  failures = failures;
+  failed_abandons = failed_abandons;
+  tally = tally;
+}
+
+-- some database that may be left has this content
+abbrev pub left_of : Sql → ShelfContent → Type 0
+left_of s c = (db : Trees) × s.may_leave db × (content_of db ≡ c)
+
+-- ---- a fact has one proof at most
+same_value : {a b : Value} → IsProp (a ≡ b)
+same_value {a} {b} = Coded-set value.the_row.coded a b
+
+IsReadingRow-prop : (r : Row) → IsProp (IsReadingRow r)
+IsReadingRow-prop r = ×_prop same_value (×_prop same_value (×_prop same_value same_value))
+
+IsAssignmentRow-prop : (r : Row) → IsProp (IsAssignmentRow r)
+IsAssignmentRow-prop r = ×_prop same_value (×_prop same_value same_value)
+
+IsTopupRow-prop : (r : Row) → IsProp (IsTopupRow r)
+IsTopupRow-prop r = ×_prop same_value (×_prop same_value (×_prop same_value same_value))
+
+pub IsStore-prop : (db : Database) → IsProp (IsStore db)
+IsStore-prop db a b = λ i. record {
+  ours = Coded-set schema_row.the_row.coded db.schema _ a.ours b.ours i;
+  readings = AllByRecursion-prop IsReadingRow IsReadingRow-prop (db.trees reading_tree) a.readings b.readings i;
+  assignments = AllByRecursion-prop IsAssignmentRow IsAssignmentRow-prop (db.trees assignment_tree) a.assignments b.assignments i;
+  topups = AllByRecursion-prop IsTopupRow IsTopupRow-prop (db.trees topup_tree) a.topups b.topups i;
+  once = EachOnce-prop (records_of db.trees) a.once b.once i;
+}
+
+pub BaseIsOnce-prop : (s base : Sql) → IsProp (BaseIsOnce s base)
+BaseIsOnce-prop s base = Π_prop λ _. EachOnce-prop (records_of base.committed.trees)
+
+pub NowIsStore-prop : (s : Sql) → IsProp (NowIsStore s)
+NowIsStore-prop s = Π_prop λ _. Π_prop λ _. IsStore-prop s.now
+
+pub CommittedIsStore-prop : (s : Sql) → IsProp (CommittedIsStore s)
+CommittedIsStore-prop s = Π_prop λ _. Π_prop λ _. IsStore-prop s.committed
+
+pub IsSinceBase-prop : (s base : Sql) → IsProp (IsSinceBase s base)
+IsSinceBase-prop s base = Π_prop λ _. Π_prop λ _. Trees-set s.committed.trees base.committed.trees
+
+pub IsIdle-prop : (s : Sql) (begun : Bool) → IsProp (IsIdle s begun)
+IsIdle-prop s begun = Π_prop λ _. Π_prop λ _. Π_prop λ _. Trees-set s.now.trees s.committed.trees
+
+pub IsInside-prop : (s : Sql) → IsProp (IsInside s)
+IsInside-prop s = Π_prop λ _. Π_prop λ _. Bool-set s.is_open true
+
+-- ---- the two laws
+pub once_held : (s base : Sql) → BaseIsOnce s base → NowIsStore s → HasCleanDisk s → EachOnce (held_of s base).records
+once_held s base before now clean = go s.is_open refl
+  where
+    go : (b : Bool) → s.is_open ≡ b → EachOnce (records_of (cond b s.now.trees base.committed.trees))
+    go true live = (now clean live).once
+    go false shut = before clean
+
+pub survives_left : (s : Sql) → ∥ ((db : Trees) × s.may_leave db) ∥₁ → ¬ ((c : ShelfContent) → ¬ (left_of s c))
+survives_left s some none = ∥∥₁_elim some ⊥_prop (λ it. none (content_of it.0) (it.0, it.1, refl))
+
+pub IsAwake-prop : (s : Sql) (doubtful : Bool) → IsProp (IsAwake s doubtful)
+IsAwake-prop s doubtful = Π_prop λ _. Π_prop λ _. Bool-set s.is_open true
