@@ -31,9 +31,10 @@ use Rattle.pw_model.specs.Counting.{Member, IsInserted}
 use Rattle.pw_shelf.proofs.InOrder.{inserted-once}
 use Rattle.pw_schema.specs.Tables.{ours_with, checks_of, IsOurs, topup_at, reading_at, assignment_at}
 use Rattle.pw_schema.specs.Rows.{register_at, owner_at}
-use Rattle.pw_store.specs.Content.{content_of, reading_row, assignment_row, reading_entry, assignment_entry, records_of, reading_in, assignment_in, topup_in, topup_row, topup_entry, IsReadingRow, IsAssignmentRow, IsTopupRow, reading_tree, assignment_tree, topup_tree}
+use Rattle.pw_store.specs.Content.{content_of, reading_row, assignment_row, reading_entry, assignment_entry, records_of, reading_in, assignment_in, topup_in, energy_in, payment_in, topup_row, topup_entry, IsReadingRow, IsAssignmentRow, IsTopupRow, reading_tree, assignment_tree, topup_tree}
 use Rattle.pw_shelf.specs.State.{IsWithRecord}
-use Rattle.pw_store.specs.Kept.{IsStore}
+use Rattle.pw_store.specs.Kept.{IsStore, key_in_point, key_in_start}
+use Rattle.pw_store.specs.Keyed.{AreKeyed, IsEnergyRow, IsPaymentRow}
 use Rattle.pw_store.proofs.Others.{SameSums, same_sums, with_record}
 use Rattle.pw_store.proofs.Texts.{IsInsert, add_topup_text, add_topup_is, four_terms, add_reading_text, add_reading_is, add_assignment_text, add_assignment_is, three_terms}
 use Rattle.pw_schema.proofs.Outcomes.{fails, keeps_commit}
@@ -131,6 +132,10 @@ module _ (old new : State) (t : List ℕ) (a c i count : ℕ) (store : IsStore o
     assignments = subst (AllByRecursion IsAssignmentRow) (sym assignments) store.assignments;
     topups = subst (AllByRecursion IsTopupRow) (sym rows) (all-put_row IsTopupRow row (old.now.trees topup_tree) (refl, (refl, (refl, refl))) store.topups);
     once = inserted-once (topup_in row) (records_of old.now.trees) (records_of new.now.trees) adds_topup fresh store.once;
+    points = subst (AreKeyed IsReadingRow key_in_point) (sym sums_topup.point) store.points;
+    starts = subst (AreKeyed IsAssignmentRow key_in_start) (sym sums_topup.start) store.starts;
+    energies = subst (AreKeyed IsEnergyRow energy_in) (sym sums_topup.total) store.energies;
+    payments = subst (AreKeyed IsPaymentRow payment_in) (sym sums_topup.payment) store.payments;
   }
 
 -- ---- places of registers and owners
@@ -198,6 +203,10 @@ module _ (old new : State) (m : MeterId) (r : Register) (t v : ℕ) (count : ℕ
     assignments = subst (AllByRecursion IsAssignmentRow) (sym assignments_reading) store.assignments;
     topups = subst (AllByRecursion IsTopupRow) (sym topups_reading) store.topups;
     once = inserted-once (reading_entry m r t v) (records_of old.now.trees) (records_of new.now.trees) adds_reading fresh store.once;
+    points = subst (AreKeyed IsReadingRow key_in_point) (sym sums_reading.point) store.points;
+    starts = subst (AreKeyed IsAssignmentRow key_in_start) (sym sums_reading.start) store.starts;
+    energies = subst (AreKeyed IsEnergyRow energy_in) (sym sums_reading.total) store.energies;
+    payments = subst (AreKeyed IsPaymentRow payment_in) (sym sums_reading.payment) store.payments;
   }
 
 -- ---- an assignment
@@ -252,6 +261,10 @@ module _ (old new : State) (m : MeterId) (t : ℕ) (o : Option AccountId) (count
     assignments = subst (AllByRecursion IsAssignmentRow) (sym rows_assignment) (all-put_row IsAssignmentRow row_assignment (old.now.trees assignment_tree) (refl, (refl, refl)) store.assignments);
     topups = subst (AllByRecursion IsTopupRow) (sym topups_assignment) store.topups;
     once = inserted-once (assignment_entry m t o) (records_of old.now.trees) (records_of new.now.trees) adds_assignment fresh store.once;
+    points = subst (AreKeyed IsReadingRow key_in_point) (sym sums_assignment.point) store.points;
+    starts = subst (AreKeyed IsAssignmentRow key_in_start) (sym sums_assignment.start) store.starts;
+    energies = subst (AreKeyed IsEnergyRow energy_in) (sym sums_assignment.total) store.energies;
+    payments = subst (AreKeyed IsPaymentRow payment_in) (sym sums_assignment.payment) store.payments;
   }
 
 -- ---- whether it answered Ok or not

@@ -248,10 +248,10 @@ finds_reading_if old new m g i v (Ok rows) store h = finds_reading old new m g i
 finds_reading_if old new m g i v (Err e) store h = tt
 
 -- ---- assignments
-owner_one : (n : ℕ) (o : Option AccountId) → n ≡ owner_place o → owner_at n ≡ o
+pub owner_one : (n : ℕ) (o : Option AccountId) → n ≡ owner_place o → owner_at n ≡ o
 owner_one n o e = ap owner_at e ∙ owner_back o
 
-place_one : (n : ℕ) (o : Option AccountId) → owner_at n ≡ o → n ≡ owner_place o
+pub place_one : (n : ℕ) (o : Option AccountId) → owner_at n ≡ o → n ≡ owner_place o
 place_one zero o e = ap owner_place e
 place_one (suc n) o e = sym (add-one n) ∙ ap owner_place e
 

@@ -10,14 +10,15 @@ use Rattle.pw_tariff.specs.Office.{OfficeRules}
 use Rattle.pw_model.specs.Counting.{EachOnce, Member}
 use Rattle.pw_schema.specs.Fresh.{IsFresh, office_row}
 use Rattle.pw_schema.specs.Tables.{no_schema, only_one}
-use Rattle.pw_store.specs.Content.{records_of, IsReadingRow, IsAssignmentRow, IsTopupRow}
+use Rattle.pw_store.specs.Content.{records_of, energy_in, payment_in, IsReadingRow, IsAssignmentRow, IsTopupRow}
 use Rattle.pw_shelf.specs.Left.{LeavesOnly}
 use Rattle.sqlite.specs.Order.{Row}
 use Rattle.pw_model.specs.declared.records.TotalKey.{TotalKey}
 use Rattle.pw_model.specs.declared.records.TotalKey.TheVariants as total
 use Rattle.pw_model.specs.Shelf.{no_content}
 use Rattle.pw_store.specs.Content.{content_of, point_in, start_in, total_in, energy_told, payment_told}
-use Rattle.pw_store.specs.Kept.{IsStore, held_of, left_of}
+use Rattle.pw_store.specs.Kept.{IsStore, key_in_point, key_in_start, held_of, left_of}
+use Rattle.pw_store.specs.Keyed.{AreKeyed, IsEnergyRow, IsPaymentRow}
 use Rattle.pw_store.specs.Content.{content_of}
 use Rattle.pw_store.specs.Opening.{offices, shown_office, MayOpen, IsOpened}
 use Rattle.pw_schema.specs.Fresh.{IsIdleAt}
@@ -50,6 +51,10 @@ module _ (body : List ℕ) (db : Database) (fresh : IsFresh body db) where
     assignments = subst (AllByRecursion IsAssignmentRow) (sym fresh.assignment) tt;
     topups = subst (AllByRecursion IsTopupRow) (sym fresh.topup) tt;
     once = subst EachOnce (sym fresh_records) tt;
+    points = subst (AreKeyed IsReadingRow key_in_point) (sym fresh.point) (record { each = tt; ids = tt; numbered = tt; once = tt });
+    starts = subst (AreKeyed IsAssignmentRow key_in_start) (sym fresh.start) (record { each = tt; ids = tt; numbered = tt; once = tt });
+    energies = subst (AreKeyed IsEnergyRow energy_in) (sym fresh.total) (record { each = tt; ids = tt; numbered = tt; once = tt });
+    payments = subst (AreKeyed IsPaymentRow payment_in) (sym fresh.total_topup) (record { each = tt; ids = tt; numbered = tt; once = tt });
   }
 
   fresh_offices : offices db.trees ≡ shown_office (office_row body) ∷ []

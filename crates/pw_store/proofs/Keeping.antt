@@ -10,6 +10,7 @@ use Rattle.pw_shelf.specs.State.{IsWithRecord, committed}
 use Rattle.pw_model.specs.Shelf.{ShelfContent}
 use Rattle.pw_store.specs.Kept.{IsSinceBase, IsIdle, held_of, begun_of, left_of, state_of}
 use Rattle.pw_store.specs.Content.{content_of}
+use Rattle.pw_store.specs.inner.Changing.{Makes}
 
 -- a connection that isn't clean shows as shut
 abbrev pub ShutIfDirty : State → Type 0
@@ -78,3 +79,6 @@ closed s base false f fa t since idle clean live = ap content_of (sym (idle clea
 -- ---- within an upload the tables are what is held
 pub with_held : (old new base : State) (e : Entry) → IsTrue old.is_open → IsTrue new.is_open → IsWithRecord (content_of old.now.trees) e (content_of new.now.trees) → IsWithRecord (held_of old base) e (held_of new base)
 with_held old new base e was live h = subst (λ c. IsWithRecord c e (held_of new base)) (sym (held_open old base was)) (subst (IsWithRecord (content_of old.now.trees) e) (sym (held_open new base live)) h)
+
+pub held_made : (old new base : State) (made : ShelfContent → ShelfContent) → Makes made old new → held_of new base ≡ made (held_of old base)
+held_made old new base made m = held_open new base m.shows.is_open ∙ m.content ∙ ap made (sym (held_open old base m.shows.was_open))

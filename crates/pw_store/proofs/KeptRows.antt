@@ -12,13 +12,12 @@ use Rattle.sqlite.specs.Order.{Row, value_cmp}
 use Rattle.sqlite.specs.Tree.{rowid, has_rowid, without_rowid, put_row}
 use Rattle.sqlite.specs.Edit.{without_all, id_in, is_taken}
 use Rattle.sqlite_value.proofs.OrderLemmas.{value_cmp_total, value_cmp-Int}
+use Rattle.sqlite_trees.proofs.TreeLemmas.{all-put_row}
 use Rattle.sqlite_trees.proofs.ListLemmas.{filter_same, filter_all, all_weaker, all_both, all-filter}
 use Rattle.pw_model.specs.Counting.{Member, EachOnce}
 use Rattle.pw_shelf.proofs.InOrder.{inserted-once}
+use Rattle.pw_store.specs.Keyed.{AreKeyed, HasRowid}
 use Rattle.pw_store.proofs.Placing.{put_inserts}
-
-abbrev pub HasInt : Row → Type 0
-HasInt r = rowid r ≡ Int (id_in (rowid r))
 
 abbrev pub ids : List Row → List ℤ
 ids = map (λ r. id_in (rowid r))
@@ -54,7 +53,7 @@ turned Greater e = absurd (let f : Greater ≡ Less = e in cc)
 pub tied_self : (v : Value) → is_eq (value_cmp v v) ≡ true
 tied_self v = turned _ (value_cmp_total.antisymm v v)
 
-itself : (r : Row) → HasInt r → has_rowid (id_in (rowid r)) r ≡ true
+itself : (r : Row) → HasRowid r → has_rowid (id_in (rowid r)) r ≡ true
 itself r h = subst (λ v. is_eq (value_cmp (rowid r) v) ≡ true) h (tied_self (rowid r))
 
 is_equal : (o : Ordering) → is_eq o ≡ true → o ≡ Equal
@@ -63,7 +62,7 @@ is_equal Equal e = refl
 is_equal Greater e = absurd (let f : false ≡ true = e in cc)
 
 -- two rows with other rowids
-other : (x r : Row) → HasInt x → HasInt r → (rowid x ≡ rowid r → ⊥) → has_rowid (id_in (rowid x)) r ≡ false
+other : (x r : Row) → HasRowid x → HasRowid r → (rowid x ≡ rowid r → ⊥) → has_rowid (id_in (rowid x)) r ≡ false
 other x r hx hr apart = elim (cases_Bool (has_rowid (id_in (rowid x)) r)) [
   | inl up ↦ (let tie : int_cmp (id_in (rowid r)) (id_in (rowid x)) ≡ Equal = is_equal _ (ap is_eq (sym (value_cmp-Int (id_in (rowid r)) (id_in (rowid x)))) ∙ ap (λ v. is_eq (value_cmp v (Int (id_in (rowid x))))) (sym hr) ∙ up) in
       let same : id_in (rowid r) ≡ id_in (rowid x) = int_ranked _ _ Equal (sym tie) in
@@ -79,7 +78,7 @@ none_has : (x : Row) (rows : List Row) → AllByRecursion (λ r. has_rowid (id_i
 none_has x [] all = refl
 none_has x (r ∷ rows) all = rw all.0 (none_has x rows all.1)
 
-picked : (p : Row → Bool) (rows : List Row) → EachOnce (map rowid rows) → AllByRecursion HasInt rows → AllByRecursion (λ r. list_any (λ id. has_rowid id r) (ids (filter p rows)) ≡ p r) rows
+picked : (p : Row → Bool) (rows : List Row) → EachOnce (map rowid rows) → AllByRecursion HasRowid rows → AllByRecursion (λ r. list_any (λ id. has_rowid id r) (ids (filter p rows)) ≡ p r) rows
 picked p [] once ints = tt
 picked p (x ∷ rows) once ints = (here (p x), later (picked p rows once.1 ints.1))
   where
@@ -88,21 +87,21 @@ picked p (x ∷ rows) once ints = (here (p x), later (picked p rows once.1 ints.
 
     here : (b : Bool) → list_any (λ id. has_rowid id x) (ids (cond b (x ∷ filter p rows) (filter p rows))) ≡ b
     here true = rw (itself x ints.0) refl
-    here false = none_has x (filter p rows) (all-filter (λ r. has_rowid (id_in (rowid r)) x ≡ false) p rows (all_both (λ r. rowid x ≡ rowid r → ⊥) HasInt (λ r. has_rowid (id_in (rowid r)) x ≡ false) (λ r apart h. other r x h ints.0 (λ e. apart (sym e))) rows far ints.1))
+    here false = none_has x (filter p rows) (all-filter (λ r. has_rowid (id_in (rowid r)) x ≡ false) p rows (all_both (λ r. rowid x ≡ rowid r → ⊥) HasRowid (λ r. has_rowid (id_in (rowid r)) x ≡ false) (λ r apart h. other r x h ints.0 (λ e. apart (sym e))) rows far ints.1))
 
-    skip : (b : Bool) (r : Row) → HasInt r → (rowid x ≡ rowid r → ⊥) → list_any (λ id. has_rowid id r) (ids (filter p rows)) ≡ p r
+    skip : (b : Bool) (r : Row) → HasRowid r → (rowid x ≡ rowid r → ⊥) → list_any (λ id. has_rowid id r) (ids (filter p rows)) ≡ p r
         → list_any (λ id. has_rowid id r) (ids (cond b (x ∷ filter p rows) (filter p rows))) ≡ p r
     skip true r h apart same = rw (other x r ints.0 h apart) same
     skip false r h apart same = same
 
-    step : AllByRecursion (λ r. HasInt r × (rowid x ≡ rowid r → ⊥)) rows
-    step = all_both HasInt (λ r. rowid x ≡ rowid r → ⊥) (λ r. HasInt r × (rowid x ≡ rowid r → ⊥)) (λ r h a. (h, a)) rows ints.1 far
+    step : AllByRecursion (λ r. HasRowid r × (rowid x ≡ rowid r → ⊥)) rows
+    step = all_both HasRowid (λ r. rowid x ≡ rowid r → ⊥) (λ r. HasRowid r × (rowid x ≡ rowid r → ⊥)) (λ r h a. (h, a)) rows ints.1 far
 
     later : AllByRecursion (λ r. list_any (λ id. has_rowid id r) (ids (filter p rows)) ≡ p r) rows → AllByRecursion (λ r. list_any (λ id. has_rowid id r) (ids (filter p (x ∷ rows))) ≡ p r) rows
-    later more = all_both (λ r. HasInt r × (rowid x ≡ rowid r → ⊥)) (λ r. list_any (λ id. has_rowid id r) (ids (filter p rows)) ≡ p r) (λ r. list_any (λ id. has_rowid id r) (ids (filter p (x ∷ rows))) ≡ p r) (λ r h same. skip (p x) r h.0 h.1 same) rows step more
+    later more = all_both (λ r. HasRowid r × (rowid x ≡ rowid r → ⊥)) (λ r. list_any (λ id. has_rowid id r) (ids (filter p rows)) ≡ p r) (λ r. list_any (λ id. has_rowid id r) (ids (filter p (x ∷ rows))) ≡ p r) (λ r h same. skip (p x) r h.0 h.1 same) rows step more
 
 -- the rows that match go, whatever the order that they were found in
-pub leaves : (p : Row → Bool) (rows : List Row) (gone : List ℤ) → EachOnce (map rowid rows) → AllByRecursion HasInt rows → IsPermutation (ids (filter p rows)) gone → without_all rows gone ≡ filter (λ r. not (p r)) rows
+pub leaves : (p : Row → Bool) (rows : List Row) (gone : List ℤ) → EachOnce (map rowid rows) → AllByRecursion HasRowid rows → IsPermutation (ids (filter p rows)) gone → without_all rows gone ≡ filter (λ r. not (p r)) rows
 leaves p rows gone once ints same =
     gone_all gone rows
     ∙ filter_same (λ r. not (list_any (λ id. has_rowid id r) gone)) (λ r. not (p r)) rows
@@ -220,3 +219,21 @@ module _ {K A : Type 0} (same : K → K → Bool) (decides : (k l : K) → (same
       go more true e n = let bad : Some r ≡ None = rw e at none in cc
       go more false e (inl i) = let bad : true ≡ false = sym ((decides k (key_in r)).1 i) ∙ e in cc
       go more false e (inr n) = more (rw e at none) n
+
+  -- ---- rows of a table with this key
+  module _ (IsRow : Row → Type 0) where
+    pub keyed_gone : (k : K) (rows : List Row) → AreKeyed IsRow key_in rows → AreKeyed IsRow key_in (filter (λ r. not (at_key k r)) rows)
+    keyed_gone k rows h = record {
+      each = all-filter IsRow (λ r. not (at_key k r)) rows h.each;
+      ids = all-filter HasRowid (λ r. not (at_key k r)) rows h.ids;
+      numbered = once_gone rowid (λ r. not (at_key k r)) rows h.numbered;
+      once = once_gone key_in (λ r. not (at_key k r)) rows h.once;
+    }
+
+    pub keyed_put : (k : K) (new : Row) (rows : List Row) → key_in new ≡ k → IsRow new → HasRowid new → is_taken rows new ≡ false → find (at_key k) rows ≡ None → AreKeyed IsRow key_in rows → AreKeyed IsRow key_in (put_row new rows)
+    keyed_put k new rows is one id free none h = record {
+      each = all-put_row IsRow new rows one h.each;
+      ids = all-put_row HasRowid new rows id h.ids;
+      numbered = numbered_put new rows free h.numbered;
+      once = once_put key_in new rows free (λ mem. absent k rows none (subst (λ j. Member j (map key_in rows)) is mem)) h.once;
+    }

@@ -162,3 +162,74 @@ payment_query = plain_query 13 (eq 0 0 ∷ []) (col 1 2 ∷ [])
 pub payment_is : IsQuery payment_text payment_query (codes "cents" ∷ [])
 unfolding understood everything
 payment_is = record { is = λ checks. refl; unlisted = λ checks. refl; plain = λ checks. (refl, refl) }
+
+-- ---- whole tables, and their rowids
+abbrev pub all_points_text : List ℕ
+all_points_text = codes "SELECT meter, register, instant, wh FROM point ORDER BY meter, register, instant"
+
+abbrev pub all_points_query : Query
+all_points_query = record (plain_query 7 [] (col 1 1 ∷ col 1 2 ∷ col 1 3 ∷ col 1 4 ∷ [])) { order = (col 1 1, up) ∷ (col 1 2, up) ∷ (col 1 3, up) ∷ [] }
+
+pub all_points_is : IsQuery all_points_text all_points_query (codes "meter" ∷ codes "register" ∷ codes "instant" ∷ codes "wh" ∷ [])
+unfolding understood everything
+all_points_is = record { is = λ checks. refl; unlisted = λ checks. refl; plain = λ checks. (refl, refl) }
+
+abbrev pub all_starts_text : List ℕ
+all_starts_text = codes "SELECT meter, start, owner FROM start ORDER BY meter, start"
+
+abbrev pub all_starts_query : Query
+all_starts_query = record (plain_query 9 [] (col 1 1 ∷ col 1 2 ∷ col 1 3 ∷ [])) { order = (col 1 1, up) ∷ (col 1 2, up) ∷ [] }
+
+pub all_starts_is : IsQuery all_starts_text all_starts_query (codes "meter" ∷ codes "start" ∷ codes "owner" ∷ [])
+unfolding understood everything
+all_starts_is = record { is = λ checks. refl; unlisted = λ checks. refl; plain = λ checks. (refl, refl) }
+
+abbrev pub all_energies_text : List ℕ
+all_energies_text = codes "SELECT owner, band, direction, wh FROM total ORDER BY owner, band, direction"
+
+abbrev pub all_energies_query : Query
+all_energies_query = record (plain_query 11 [] (col 1 1 ∷ col 1 2 ∷ col 1 3 ∷ col 1 4 ∷ [])) { order = (col 1 1, up) ∷ (col 1 2, up) ∷ (col 1 3, up) ∷ [] }
+
+pub all_energies_is : IsQuery all_energies_text all_energies_query (codes "owner" ∷ codes "band" ∷ codes "direction" ∷ codes "wh" ∷ [])
+unfolding understood everything
+all_energies_is = record { is = λ checks. refl; unlisted = λ checks. refl; plain = λ checks. (refl, refl) }
+
+abbrev pub all_payments_text : List ℕ
+all_payments_text = codes "SELECT account, cents FROM total_topup ORDER BY account"
+
+abbrev pub all_payments_query : Query
+all_payments_query = record (plain_query 13 [] (col 1 0 ∷ col 1 2 ∷ [])) { order = (col 1 0, up) ∷ [] }
+
+pub all_payments_is : IsQuery all_payments_text all_payments_query (codes "account" ∷ codes "cents" ∷ [])
+unfolding understood everything
+all_payments_is = record { is = λ checks. refl; unlisted = λ checks. refl; plain = λ checks. (refl, refl) }
+
+abbrev pub point_ids_text : List ℕ
+point_ids_text = codes "SELECT rowid FROM point ORDER BY rowid"
+
+abbrev pub point_ids_query : Query
+point_ids_query = record (plain_query 7 [] (col 1 0 ∷ [])) { order = (col 1 0, up) ∷ [] }
+
+pub point_ids_is : IsQuery point_ids_text point_ids_query (codes "rowid" ∷ [])
+unfolding understood everything
+point_ids_is = record { is = λ checks. refl; unlisted = λ checks. refl; plain = λ checks. (refl, refl) }
+
+abbrev pub start_ids_text : List ℕ
+start_ids_text = codes "SELECT rowid FROM start ORDER BY rowid"
+
+abbrev pub start_ids_query : Query
+start_ids_query = record (plain_query 9 [] (col 1 0 ∷ [])) { order = (col 1 0, up) ∷ [] }
+
+pub start_ids_is : IsQuery start_ids_text start_ids_query (codes "rowid" ∷ [])
+unfolding understood everything
+start_ids_is = record { is = λ checks. refl; unlisted = λ checks. refl; plain = λ checks. (refl, refl) }
+
+abbrev pub energy_ids_text : List ℕ
+energy_ids_text = codes "SELECT rowid FROM total ORDER BY rowid"
+
+abbrev pub energy_ids_query : Query
+energy_ids_query = record (plain_query 11 [] (col 1 0 ∷ [])) { order = (col 1 0, up) ∷ [] }
+
+pub energy_ids_is : IsQuery energy_ids_text energy_ids_query (codes "rowid" ∷ [])
+unfolding understood everything
+energy_ids_is = record { is = λ checks. refl; unlisted = λ checks. refl; plain = λ checks. (refl, refl) }

@@ -1,4 +1,5 @@
 pub mod Keeping
+pub mod Again
 pub mod Scans
 pub mod Texts
 pub mod Once
@@ -11,7 +12,14 @@ pub mod Lists
 pub mod OneKind
 pub mod Inside
 pub mod KeptTexts
+pub mod Taking
 pub mod PointRows
+pub mod StartRows
+pub mod EnergyRows
+pub mod PaymentRows
+pub mod InTurn
+pub mod Neighbours
+pub mod Amounts
 pub mod Sound
 pub mod Refusals
 pub mod Fresh
@@ -21,3 +29,5 @@ pub mod AtTopup
 pub mod AtMeter
 pub mod OfMeter
 pub mod Counts
+pub mod SumTables
+pub mod Checked

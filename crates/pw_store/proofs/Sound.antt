@@ -16,22 +16,25 @@ use Rattle.pw_model.specs.Office.{AllOfOffice, IsOfOffice}
 use Rattle.pw_schema.specs.declared.kind.RecordKind.{RecordKind}
 use Rattle.pw_schema.specs.declared.kind.RecordKind.TheVariants.{Readings, Assignments, TopUps}
 use Rattle.pw_schema.specs.Tables.{IsOurs}
-use Rattle.pw_store.specs.Content.{records_of}
+use Rattle.pw_store.specs.Content.{records_of, point_tree, start_tree, total_tree, payment_tree}
 use Rattle.pw_store.specs.Kept.{IsStore}
 use Rattle.pw_store.specs.Shown.{IsRowOf, ShowsAll, entries_of, entry_in, shown, tree_of}
 use Rattle.pw_schema.specs.Rows.{Tells, told}
-use Rattle.pw_schema.specs.Judging.{AreRecords, IsRecord}
-use Rattle.pw_store.specs.Opening.{HoldsRecords}
+use Rattle.pw_schema.specs.Judging.{AreRecords, IsRecord, IsTotalOf, KeepsOffice}
+use Rattle.pw_schema.specs.declared.kind.TotalKind.TheVariants.{Energies, Payments}
+use Rattle.pw_store.specs.Keyed.{IsEnergyRow, IsPaymentRow}
+use Rattle.pw_store.specs.inner.Sums.{AreAllNumbered}
+use Rattle.pw_store.specs.Opening.{HoldsRecords, HoldsAllRecords, HoldsSums, IsTotalRow, KeepsText, MayOpen, key_of_total}
 use Rattle.pw_store.proofs.Once.{once-permuted, permuted}
 use Rattle.pw_store.proofs.Lists.{told_permuted, member_in}
 
-of_shown : (k : RecordKind) (rows : List Row) → AllByRecursion (Tells k) (map (shown k) rows) → AllByRecursion (IsRowOf k) rows
+pub of_shown : (k : RecordKind) (rows : List Row) → AllByRecursion (Tells k) (map (shown k) rows) → AllByRecursion (IsRowOf k) rows
 of_shown k [] all = tt
 of_shown Readings (r ∷ rows) all = (all.0, of_shown Readings rows all.1)
 of_shown Assignments (r ∷ rows) all = (all.0, of_shown Assignments rows all.1)
 of_shown TopUps (r ∷ rows) all = (all.0, of_shown TopUps rows all.1)
 
-told_of_office : (office : OfficeRules) (k : RecordKind) (rows : List Row) → AllByRecursion (IsRecord office k) rows → AllOfOffice office (map (told k) rows)
+pub told_of_office : (office : OfficeRules) (k : RecordKind) (rows : List Row) → AllByRecursion (IsRecord office k) rows → AllOfOffice office (map (told k) rows)
 told_of_office office k [] all e m = absurd m
 told_of_office office k (r ∷ rows) all e (inl i) = subst (IsOfOffice office) (sym i) all.0.1
 told_of_office office k (r ∷ rows) all e (inr m) = told_of_office office k rows all.1 e m
@@ -48,7 +51,7 @@ good_records office k db rows shows good =
     }
 
 -- and back: where the table holds such records, so do the rows
-to_shown : (office : OfficeRules) (k : RecordKind) (rows : List Row) → AllByRecursion (IsRowOf k) rows → AllOfOffice office (map (entry_in k) rows) → AllByRecursion (IsRecord office k) (map (shown k) rows)
+pub to_shown : (office : OfficeRules) (k : RecordKind) (rows : List Row) → AllByRecursion (IsRowOf k) rows → AllOfOffice office (map (entry_in k) rows) → AllByRecursion (IsRecord office k) (map (shown k) rows)
 to_shown office k [] all of = tt
 to_shown office Readings (r ∷ rows) all of = ((all.0, of _ (inl refl)), to_shown office Readings rows all.1 (λ e m. of e (inr m)))
 to_shown office Assignments (r ∷ rows) all of = ((all.0, of _ (inl refl)), to_shown office Assignments rows all.1 (λ e m. of e (inr m)))
@@ -97,7 +100,7 @@ once_both (x ∷ xs) ys a b apart = (
 all_both : (office : OfficeRules) (xs ys : List Entry) → AllOfOffice office xs → AllOfOffice office ys → AllOfOffice office (xs ++ ys)
 all_both office xs ys a b e m = elim (member_in e xs ys m) [ inl i ↦ a e i | inr j ↦ b e j ]
 
-module _ (office : OfficeRules) (db : Database) (ours : IsOurs db.schema) (r : HoldsRecords office Readings db.trees) (a : HoldsRecords office Assignments db.trees) (t : HoldsRecords office TopUps db.trees) where
+module _ (office : OfficeRules) (db : Database) (ours : IsOurs db.schema) (r : HoldsRecords office Readings db.trees) (a : HoldsRecords office Assignments db.trees) (t : HoldsRecords office TopUps db.trees) (s : HoldsSums office db.trees) (n : AreAllNumbered db.trees) where
   pub sound_store : IsStore db
   sound_store = record {
     ours = ours;
@@ -110,6 +113,10 @@ module _ (office : OfficeRules) (db : Database) (ours : IsOurs db.schema) (r : H
           | inl i ↦ (one_kind x.key).0 (key_of Readings _ x m) (key_of Assignments _ x i)
           | inr j ↦ (one_kind x.key).1.0 (key_of Readings _ x m) (key_of TopUps _ x j)
         ]);
+    points = record { each = s.points.rows; ids = n.points.ids; numbered = n.points.numbered; once = s.points.once };
+    starts = record { each = s.starts.rows; ids = n.starts.ids; numbered = n.starts.numbered; once = s.starts.once };
+    energies = record { each = all_weaker (λ row. IsTotalRow Energies row × IsTotalOf office (key_of_total Energies row)) IsEnergyRow (λ row it. it.0) (db.trees total_tree) s.energies.rows; ids = n.energies.ids; numbered = n.energies.numbered; once = s.energies.once };
+    payments = record { each = all_weaker (λ row. IsTotalRow Payments row × IsTotalOf office (key_of_total Payments row)) IsPaymentRow (λ row it. it.0) (db.trees payment_tree) s.payments.rows; ids = n.payments.ids; numbered = n.payments.numbered; once = s.payments.once };
   }
 
   pub sound_office : AllOfOffice office (records_of db.trees)
@@ -122,12 +129,27 @@ good_if office k db db' rows (Err e) shows same good = tt
 trees_is : (old new : State) → IsUnchanged old new → new.now.trees ≡ old.now.trees
 trees_is old new u = ap (λ (d : Database). d.trees) u.0.now_is
 
-pub sound_if : {E : Type 0} (office : OfficeRules) (s0 s1 s2 s3 : State) (r : Result (Unit {0}) E) → IsOurs s0.now.schema → IsUnchanged s0 s1 → IsUnchanged s1 s2 → OnOk r (IsUnchanged s2 s3)
+pub records_if : {E : Type 0} (office : OfficeRules) (s0 s1 s2 s3 : State) (r : Result (Unit {0}) E) → IsUnchanged s1 s2 → OnOk r (IsUnchanged s2 s3)
     → HoldsRecords office Readings s1.now.trees → HoldsRecords office Assignments s2.now.trees → OnOk r (HoldsRecords office TopUps s3.now.trees)
-    → OnOk r (IsStore s3.now × AllOfOffice office (records_of s3.now.trees))
-sound_if office s0 s1 s2 s3 (Err e) ours a b c rs ss ts = tt
-sound_if office s0 s1 s2 s3 (Ok u) ours a b c rs ss ts =
+    → OnOk r (HoldsAllRecords office s3.now.trees)
+records_if office s0 s1 s2 s3 (Err e) b c rs ss ts = tt
+records_if office s0 s1 s2 s3 (Ok u) b c rs ss ts = record {
+  readings = subst (HoldsRecords office Readings) (sym (trees_is s2 s3 c ∙ trees_is s1 s2 b)) rs;
+  assignments = subst (HoldsRecords office Assignments) (sym (trees_is s2 s3 c)) ss;
+  topups = ts;
+}
+
+-- what was checked may be opened
+pub checked : {A E : Type 0} (office : OfficeRules) (body : List ℕ) (s0 s1 s2 s3 : State) (r : Result A E) → IsOurs s0.now.schema → IsUnchanged s0 s1 → IsUnchanged s1 s2 → OnOk r (IsUnchanged s2 s3)
+    → KeepsText (KeepsOffice body) s1.now.trees → HoldsAllRecords office s2.now.trees → OnOk r (HoldsSums office s2.now.trees) → OnOk r (AreAllNumbered s2.now.trees) → OnOk r (MayOpen office body s3.now)
+checked office body s0 s1 s2 s3 (Err e) ours a b c text records sums numbered = tt
+checked office body s0 s1 s2 s3 (Ok u) ours a b c text records sums numbered =
     let has : IsOurs s3.now.schema = subst IsOurs (sym (ap (λ (d : Database). d.schema) (c.0.now_is ∙ b.0.now_is ∙ a.0.now_is))) ours in
-    let rs' = subst (HoldsRecords office Readings) (sym (trees_is s2 s3 c ∙ trees_is s1 s2 b)) rs in
-    let ss' = subst (HoldsRecords office Assignments) (sym (trees_is s2 s3 c)) ss in
-    (sound_store office s3.now has rs' ss' ts, sound_office office s3.now has rs' ss' ts)
+    let rs = subst (HoldsAllRecords office) (sym (trees_is s2 s3 c)) records in
+    let ss = subst (HoldsSums office) (sym (trees_is s2 s3 c)) sums in
+    let ns = subst AreAllNumbered (sym (trees_is s2 s3 c)) numbered in
+    record {
+      store = sound_store office s3.now has rs.readings rs.assignments rs.topups ss ns;
+      kept = subst (KeepsText (KeepsOffice body)) (sym (trees_is s2 s3 c ∙ trees_is s1 s2 b)) text;
+      of_office = sound_office office s3.now has rs.readings rs.assignments rs.topups ss ns;
+    }

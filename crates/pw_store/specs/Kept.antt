@@ -1,13 +1,13 @@
 -- What is known of a store over SQL: of its connection, and of the connection as it was when the last upload ended.
 -- (Definitions of this project.)
-use Rattle.std.specs.Prelude.{◌≡◌, ℕ, Bool, true, false, cond, Option, Some, None, IsTrue, refl}
+use Rattle.std.specs.Prelude.{◌≡◌, ℕ, List, map, Bool, true, false, cond, Option, Some, None, IsTrue, refl}
 use Rattle.std.proofs.Math.Logic.{∥∥₁_elim}
 use Rattle.std.specs.List.{AllByRecursion}
 use Rattle.std.specs.Coded.{×_prop, Π_prop, Coded-set}
 use mathlib.Core.Bool.{Bool-set}
 use mathlib.Core.HLevel.{⊥_prop}
 use Rattle.sqlite.specs.Order.{Row}
-use Rattle.sqlite.specs.Tree.{Trees}
+use Rattle.sqlite.specs.Tree.{Trees, rowid}
 use Rattle.sqlite.specs.Effect.{Database}
 use Rattle.sqlite.specs.State.{State as Sql, HasCleanDisk}
 use Rattle.sqlite_trees.specs.Props.{Trees-set, AllByRecursion-prop}
@@ -15,19 +15,33 @@ use Rattle.sqlite_value.specs.declared.value.Value.{Value}
 use Rattle.sqlite_value.specs.contracts.value.Value as value
 use Rattle.sqlite_schema.specs.contracts.schema.Schema as schema_row
 use Rattle.pw_model.specs.Counting.{EachOnce}
+use Rattle.pw_model.specs.declared.records.Key.{Key}
+use Rattle.pw_model.specs.declared.records.TotalKey.{TotalKey}
 use Rattle.pw_model.specs.Shelf.{ShelfContent}
 use Rattle.pw_shelf.specs.State.{State}
 use Rattle.pw_shelf.specs.inner.Held.{EachOnce-prop}
 use Rattle.pw_schema.specs.Tables.{IsOurs}
-use Rattle.pw_store.specs.Content.{content_of, IsReadingRow, IsAssignmentRow, IsTopupRow, reading_tree, assignment_tree, topup_tree, records_of}
+use Rattle.pw_store.specs.Content.{content_of, IsReadingRow, IsAssignmentRow, IsTopupRow, reading_in, assignment_in, energy_in, payment_in, reading_tree, assignment_tree, topup_tree, point_tree, start_tree, total_tree, payment_tree, records_of}
+use Rattle.pw_store.specs.Keyed.{AreKeyed, HasRowid, IsEnergyRow, IsPaymentRow}
 
--- ---- a database that is a store: our tables, each row a record, each record once
+-- a point is kept as a reading is, a start as an assignment
+abbrev pub key_in_point : Row → Key
+key_in_point r = (reading_in r).key
+
+abbrev pub key_in_start : Row → Key
+key_in_start r = (assignment_in r).key
+
+-- ---- a database that is a store: our tables, each row a record, each record once; points, starts and totals by their keys
 pub record IsStore (db : Database) : Type 0 where
   pub ours : IsOurs db.schema
   pub readings : AllByRecursion IsReadingRow (db.trees reading_tree)
   pub assignments : AllByRecursion IsAssignmentRow (db.trees assignment_tree)
   pub topups : AllByRecursion IsTopupRow (db.trees topup_tree)
   pub once : EachOnce (records_of db.trees)
+  pub points : AreKeyed IsReadingRow key_in_point (db.trees point_tree)
+  pub starts : AreKeyed IsAssignmentRow key_in_start (db.trees start_tree)
+  pub energies : AreKeyed IsEnergyRow energy_in (db.trees total_tree)
+  pub payments : AreKeyed IsPaymentRow payment_in (db.trees payment_tree)
 
 -- ---- what the fields keep to
 -- what was committed last holds each record once, also when the connection is shut
@@ -91,6 +105,20 @@ IsAssignmentRow-prop r = ×_prop same_value (×_prop same_value same_value)
 IsTopupRow-prop : (r : Row) → IsProp (IsTopupRow r)
 IsTopupRow-prop r = ×_prop same_value (×_prop same_value (×_prop same_value same_value))
 
+IsEnergyRow-prop : (r : Row) → IsProp (IsEnergyRow r)
+IsEnergyRow-prop r = ×_prop same_value (×_prop same_value (×_prop same_value same_value))
+
+IsPaymentRow-prop : (r : Row) → IsProp (IsPaymentRow r)
+IsPaymentRow-prop r = ×_prop same_value same_value
+
+AreKeyed-prop : {K : Type 0} (IsRow : Row → Type 0) → ((r : Row) → IsProp (IsRow r)) → (key_in : Row → K) (rows : List Row) → IsProp (AreKeyed IsRow key_in rows)
+AreKeyed-prop IsRow prop key_in rows a b = λ i. record {
+  each = AllByRecursion-prop IsRow prop rows a.each b.each i;
+  ids = AllByRecursion-prop HasRowid (λ r. same_value) rows a.ids b.ids i;
+  numbered = EachOnce-prop (map rowid rows) a.numbered b.numbered i;
+  once = EachOnce-prop (map key_in rows) a.once b.once i;
+}
+
 pub IsStore-prop : (db : Database) → IsProp (IsStore db)
 IsStore-prop db a b = λ i. record {
   ours = Coded-set schema_row.the_row.coded db.schema _ a.ours b.ours i;
@@ -98,6 +126,10 @@ IsStore-prop db a b = λ i. record {
   assignments = AllByRecursion-prop IsAssignmentRow IsAssignmentRow-prop (db.trees assignment_tree) a.assignments b.assignments i;
   topups = AllByRecursion-prop IsTopupRow IsTopupRow-prop (db.trees topup_tree) a.topups b.topups i;
   once = EachOnce-prop (records_of db.trees) a.once b.once i;
+  points = AreKeyed-prop IsReadingRow IsReadingRow-prop key_in_point (db.trees point_tree) a.points b.points i;
+  starts = AreKeyed-prop IsAssignmentRow IsAssignmentRow-prop key_in_start (db.trees start_tree) a.starts b.starts i;
+  energies = AreKeyed-prop IsEnergyRow IsEnergyRow-prop energy_in (db.trees total_tree) a.energies b.energies i;
+  payments = AreKeyed-prop IsPaymentRow IsPaymentRow-prop payment_in (db.trees payment_tree) a.payments b.payments i;
 }
 
 pub BaseIsOnce-prop : (s base : Sql) → IsProp (BaseIsOnce s base)

@@ -3,12 +3,14 @@
 ghost use Rattle.std.specs.Prelude.{◌≡◌};
 ghost use Rattle.sqlite.specs.Held.{state};
 ghost use Rattle.sqlite.specs.State.{HasCleanDisk};
-ghost use Rattle.pw_shelf.specs.Rows.{rows_at};
+ghost use Rattle.pw_shelf.specs.Rows.{rows_at, rows_found, rows_total};
 ghost use Rattle.pw_store.specs.Kept.{left_of, once_held, state_of, survives_left};
 
 use crate::asking::{assignments, contents, count, has_entry, readings, topups};
+use crate::changes::Change;
 use crate::entries::add_entry;
 use crate::fault::{device_fault, fault_of, fault_of_ask};
+use crate::questions::{point_after, point_before, points_between, starts_of, total};
 use crate::shelf::SqlShelf;
 use pw_model::{Contents, Entry, Key, TotalKey};
 use pw_obis::{Register, WattHours};
@@ -198,11 +200,19 @@ impl<S: Alter> Shelf for SqlShelf<S> {
         wh: WattHours,
     ) -> Result<(), ShelfFault> {
         self.tally.tick(0);
-        let _meter = meter;
-        let _register = register;
-        let _instant = instant;
-        let _wh = wh;
-        Err(device_fault(&mut self.failures))
+        self.replace(
+            Change::TakePoint {
+                meter,
+                register,
+                instant,
+            },
+            Change::PutPoint {
+                meter,
+                register,
+                instant,
+                wh,
+            },
+        )
     }
 
     fn point_del(
@@ -212,10 +222,11 @@ impl<S: Alter> Shelf for SqlShelf<S> {
         instant: Instant,
     ) -> Result<(), ShelfFault> {
         self.tally.tick(0);
-        let _meter = meter;
-        let _register = register;
-        let _instant = instant;
-        Err(device_fault(&mut self.failures))
+        self.change(Change::TakePoint {
+            meter,
+            register,
+            instant,
+        })
     }
 
     fn point_before(
@@ -224,11 +235,18 @@ impl<S: Alter> Shelf for SqlShelf<S> {
         register: Register,
         instant: Instant,
     ) -> Result<Option<(Instant, WattHours)>, ShelfFault> {
-        self.tally.tick(0);
-        let _meter = meter;
-        let _register = register;
-        let _instant = instant;
-        Err(device_fault(&mut self.failures))
+        match point_before(&mut self.conn, self.doubtful, meter, register, instant) {
+            Ok(found) => {
+                self.tally.tick(rows_found(&found));
+                self.doubtful = false;
+                Ok(found)
+            }
+            Err(fault) => {
+                self.tally.tick(0);
+                self.doubtful = true;
+                Err(fault_of_ask(fault, &mut self.failures))
+            }
+        }
     }
 
     fn point_after(
@@ -237,11 +255,18 @@ impl<S: Alter> Shelf for SqlShelf<S> {
         register: Register,
         instant: Instant,
     ) -> Result<Option<(Instant, WattHours)>, ShelfFault> {
-        self.tally.tick(0);
-        let _meter = meter;
-        let _register = register;
-        let _instant = instant;
-        Err(device_fault(&mut self.failures))
+        match point_after(&mut self.conn, self.doubtful, meter, register, instant) {
+            Ok(found) => {
+                self.tally.tick(rows_found(&found));
+                self.doubtful = false;
+                Ok(found)
+            }
+            Err(fault) => {
+                self.tally.tick(0);
+                self.doubtful = true;
+                Err(fault_of_ask(fault, &mut self.failures))
+            }
+        }
     }
 
     fn points_between(
@@ -252,13 +277,26 @@ impl<S: Alter> Shelf for SqlShelf<S> {
         from: Instant,
         to: Instant,
     ) -> Result<Vec<(Instant, WattHours)>, ShelfFault> {
-        self.tally.tick(0);
-        let _alloc = alloc;
-        let _meter = meter;
-        let _register = register;
-        let _from = from;
-        let _to = to;
-        Err(device_fault(&mut self.failures))
+        match points_between(
+            &mut self.conn,
+            self.doubtful,
+            alloc,
+            meter,
+            register,
+            from,
+            to,
+        ) {
+            Ok(found) => {
+                self.tally.tick(found.len() as u64);
+                self.doubtful = false;
+                Ok(found)
+            }
+            Err(fault) => {
+                self.tally.tick(0);
+                self.doubtful = true;
+                Err(fault_of_ask(fault, &mut self.failures))
+            }
+        }
     }
 
     fn start_put(
@@ -268,17 +306,19 @@ impl<S: Alter> Shelf for SqlShelf<S> {
         owner: Owner,
     ) -> Result<(), ShelfFault> {
         self.tally.tick(0);
-        let _meter = meter;
-        let _start = start;
-        let _owner = owner;
-        Err(device_fault(&mut self.failures))
+        self.replace(
+            Change::TakeStart { meter, start },
+            Change::PutStart {
+                meter,
+                start,
+                owner,
+            },
+        )
     }
 
     fn start_del(&mut self, meter: MeterId, start: Instant) -> Result<(), ShelfFault> {
         self.tally.tick(0);
-        let _meter = meter;
-        let _start = start;
-        Err(device_fault(&mut self.failures))
+        self.change(Change::TakeStart { meter, start })
     }
 
     fn starts_of(
@@ -286,26 +326,85 @@ impl<S: Alter> Shelf for SqlShelf<S> {
         alloc: Global,
         meter: MeterId,
     ) -> Result<Vec<(Instant, Owner)>, ShelfFault> {
-        self.tally.tick(0);
-        let _alloc = alloc;
-        let _meter = meter;
-        Err(device_fault(&mut self.failures))
+        match starts_of(&mut self.conn, self.doubtful, alloc, meter) {
+            Ok(found) => {
+                self.tally.tick(found.len() as u64);
+                self.doubtful = false;
+                Ok(found)
+            }
+            Err(fault) => {
+                self.tally.tick(0);
+                self.doubtful = true;
+                Err(fault_of_ask(fault, &mut self.failures))
+            }
+        }
     }
 
     fn total(&mut self, key: &TotalKey) -> Result<u64, ShelfFault> {
-        self.tally.tick(0);
-        Err(device_fault(&mut self.failures))
+        match total(&mut self.conn, self.doubtful, key) {
+            Ok(amount) => {
+                self.tally.tick(rows_of_total(amount));
+                self.doubtful = false;
+                Ok(amount)
+            }
+            Err(fault) => {
+                self.tally.tick(0);
+                self.doubtful = true;
+                Err(fault_of_ask(fault, &mut self.failures))
+            }
+        }
     }
 
     fn total_put(&mut self, key: &TotalKey, amount: u64) -> Result<(), ShelfFault> {
         self.tally.tick(0);
-        let _amount = amount;
-        Err(device_fault(&mut self.failures))
+        match key {
+            TotalKey::Energy {
+                owner,
+                band,
+                direction,
+            } => self.replace(
+                Change::TakeEnergy {
+                    owner: *owner,
+                    band: *band,
+                    direction: *direction,
+                },
+                Change::PutEnergy {
+                    owner: *owner,
+                    band: *band,
+                    direction: *direction,
+                    wh: amount,
+                },
+            ),
+            TotalKey::TopUps { account } => self.replace(
+                Change::TakePayment { account: *account },
+                Change::PutPayment {
+                    account: *account,
+                    cents: amount,
+                },
+            ),
+        }
     }
 
     ghost once = { λ s clean. once_held (state S.Store.own s.conn) (state S.Store.own s.base.value) s.base_once s.now clean };
 
     ghost survives = { λ s clean none. survives_left (state S.Store.own s.conn) (S.Store.survives s.conn.store clean) none };
+}
+
+// How many rows an answer of one at most is.
+fn rows_found<T>(found: &Option<T>) -> u64
+    ensures { result ≡ rows_found found.now }
+{
+    match found {
+        Some(_) => 1,
+        None => 0,
+    }
+}
+
+// How many rows a total is: none where it is 0.
+fn rows_of_total(amount: u64) -> u64
+    ensures { result ≡ rows_total amount }
+{
+    if amount == 0 { 0 } else { 1 }
 }
 
 // How many rows the contents are.

@@ -1,6 +1,6 @@
 //! Why calls and openings are refused.
 
-ghost use Rattle.std.specs.Prelude.{◌≡◌, ◌+◌};
+ghost use Rattle.std.specs.Prelude.{◌≡◌, ◌+◌, ◌⊎◌};
 ghost use Rattle.pw_shelf.specs.Calls.{failures_in};
 ghost use Rattle.pw_shelf.specs.declared.fault.ShelfFault.TheVariants.{Device};
 
@@ -60,4 +60,14 @@ pub enum OpenFault {
     Version,
     /// The tables aren't those of a store, or a row is no record of the office.
     Unclean,
+}
+
+/// What a refused statement is to an opening.
+pub(crate) fn fault_in(error: Error) -> OpenFault
+    ensures { (result ≡ OpenFault.Memory) ⊎ (result ≡ OpenFault.Store) }
+{
+    match error {
+        Error::SqliteFailure(ErrorCode::OutOfMemory) => OpenFault::Memory,
+        _ => OpenFault::Store,
+    }
 }

@@ -3,6 +3,7 @@
 
 mod asking;
 mod calls;
+mod changes;
 mod counting;
 mod door;
 mod entries;
@@ -11,11 +12,18 @@ mod keys;
 pub mod laws;
 mod meters;
 mod opening;
+mod points;
+mod questions;
 mod shelf;
+mod starts;
+mod sum_tables;
+mod sums;
 mod tables;
+mod told;
 mod topups;
+mod totals;
+mod upload;
 mod waking;
 
 pub use fault::OpenFault;
 pub use shelf::SqlShelf;
-

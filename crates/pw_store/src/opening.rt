@@ -4,15 +4,13 @@ ghost use Rattle.std.specs.Prelude.{◌≡◌, ◌⊎◌, Err, IfErr, IsTrue, On
 ghost use Rattle.sqlite.specs.Held.{state};
 ghost use Rattle.sqlite.specs.State.{HasCleanDisk, IsUnchanged, KeepsCommit, Survives};
 ghost use Rattle.pw_tariff.specs.Office.{office_of};
-ghost use Rattle.pw_model.specs.Office.{AllOfOffice};
 ghost use Rattle.pw_schema.specs.Fresh.{IsIdleAt};
 ghost use Rattle.pw_schema.specs.Judging.{AreRecords, KeepsOffice};
 ghost use Rattle.pw_schema.specs.Tables.{IsOurs, no_schema};
-ghost use Rattle.pw_store.specs.Content.{records_of};
-ghost use Rattle.pw_store.specs.Kept.{IsStore};
-ghost use Rattle.pw_store.specs.Opening.{HoldsRecords, IsOpened, IsSettled, KeepsText, MayOpen, OursRefuses, RecordsRefuse, Refuses, RowRefuses, TableRefuses};
+ghost use Rattle.pw_store.specs.Opening.{HoldsAllRecords, HoldsRecords, IsOpened, IsSettled, KeepsText, MayOpen, OursRefuses, RecordsRefuse, Refuses, RowRefuses, TableRefuses};
 
-use crate::fault::OpenFault;
+use crate::fault::{OpenFault, fault_in};
+use crate::sums::read_sums;
 use crate::tables::{all_assignments, all_readings, office_rows};
 use crate::topups::topup_rows;
 use crate::waking::wake;
@@ -21,17 +19,8 @@ use pw_schema::{
     roll_back,
 };
 use pw_tariff::Office;
-use sqlite::{Alter, Connection, Error, ErrorCode, Row};
+use sqlite::{Alter, Connection, Error, Row};
 use std::alloc::Global;
-
-fn fault_in(error: Error) -> OpenFault
-    ensures { (result ≡ OpenFault.Memory) ⊎ (result ≡ OpenFault.Store) }
-{
-    match error {
-        Error::SqliteFailure(ErrorCode::OutOfMemory) => OpenFault::Memory,
-        _ => OpenFault::Store,
-    }
-}
 
 // Whether rows in order are records of the office, each once.
 fn judge(alloc: Global, office: &Office, kind: RecordKind, rows: &[Row]) -> Result<(), OpenFault>
@@ -79,7 +68,7 @@ fn check_records<S: Alter>(
     office: &Office,
 ) -> Result<(), OpenFault>
     requires ours { HasCleanDisk (state S.Store conn.old) → IsOurs (state S.Store conn.old).now.schema }
-    ensures sound { HasCleanDisk (state S.Store conn.new) → OnOk result (IsStore (state S.Store conn.new).now × AllOfOffice (office_of office.now) (records_of (state S.Store conn.new).now.trees)) }
+    ensures sound { HasCleanDisk (state S.Store conn.new) → OnOk result (HoldsAllRecords (office_of office.now) (state S.Store conn.new).now.trees) }
     ensures cause { HasCleanDisk (state S.Store conn.new) → IfErr result (RecordsRefuse (office_of office.now) (state S.Store conn.old).now.trees) }
     ensures same { HasCleanDisk (state S.Store conn.new) → OnOk result (IsUnchanged (state S.Store conn.old) (state S.Store conn.new)) }
     ensures kept { HasCleanDisk (state S.Store conn.new) → KeepsCommit (state S.Store conn.old) (state S.Store conn.new) }
@@ -187,7 +176,13 @@ fn check<S: Alter>(
     if let Err(fault) = check_office(conn, text) {
         return Err(fault);
     }
-    check_records(alloc, conn, office)
+    if let Err(fault) = check_records(alloc, conn, office) {
+        return Err(fault);
+    }
+    if let Err(fault) = read_sums(alloc, conn, office) {
+        return Err(fault);
+    }
+    Ok(())
 }
 
 // Makes the tables where nothing is there, else judges what is there.

@@ -1,0 +1,3 @@
+pub mod Changing
+pub mod Seconds
+pub mod Sums
