@@ -31,7 +31,8 @@ use Rattle.pw_model.specs.Counting.{Member, IsInserted}
 use Rattle.pw_shelf.proofs.InOrder.{inserted-once}
 use Rattle.pw_schema.specs.Tables.{ours_with, checks_of, IsOurs, topup_at, reading_at, assignment_at}
 use Rattle.pw_schema.specs.Rows.{register_at, owner_at}
-use Rattle.pw_store.specs.Content.{content_of, reading_row, assignment_row, reading_entry, assignment_entry, records_of, reading_in, assignment_in, topup_in, energy_in, payment_in, topup_row, topup_entry, IsReadingRow, IsAssignmentRow, IsTopupRow, reading_tree, assignment_tree, topup_tree}
+use Rattle.pw_store.specs.Content.{content_of, records_of, reading_in, assignment_in, topup_in, energy_in, payment_in, IsReadingRow, IsAssignmentRow, IsTopupRow, reading_tree, assignment_tree, topup_tree}
+use Rattle.pw_store.specs.inner.Records.{reading_row, assignment_row, reading_entry, assignment_entry, topup_row, topup_entry}
 use Rattle.pw_shelf.specs.State.{IsWithRecord}
 use Rattle.pw_store.specs.Kept.{IsStore, key_in_point, key_in_start}
 use Rattle.pw_store.specs.Keyed.{AreKeyed, IsEnergyRow, IsPaymentRow}

@@ -30,8 +30,10 @@ use Rattle.pw_store.specs.declared.fault.OpenFault.{OpenFault}
 use Rattle.pw_store.specs.declared.fault.OpenFault.TheVariants.{Store, Memory, OfficeDiffers, Version, Unclean}
 use Rattle.pw_store.specs.Content.{payment_in}
 use Rattle.pw_store.specs.Keyed.{HasRowid}
-use Rattle.pw_store.specs.Shown.{entry_in, shown, IsRowOf}
-use Rattle.pw_store.specs.Opening.{HoldsKept, HoldsTotals, IsTotalRow, KeptRefuses, TotalsRefuse, amount_of_total, key_of_total}
+use Rattle.pw_store.specs.Shown.{entry_in, IsRowOf}
+use Rattle.pw_store.specs.inner.Lists.{shown}
+use Rattle.pw_store.specs.Opening.{HoldsKept, HoldsTotals, IsTotalRow, key_of_total}
+use Rattle.pw_store.specs.inner.Opened.{KeptRefuses, TotalsRefuse, amount_of_total}
 use Rattle.pw_store.specs.inner.Sums.{AreNumbered, TellsKept, TellsTotals, shown_id, shown_total, total_in_row}
 use Rattle.pw_store.proofs.Others.{same_total-decides}
 use Rattle.pw_store.proofs.Lists.{told_permuted}

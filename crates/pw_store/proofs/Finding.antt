@@ -28,7 +28,8 @@ use Rattle.pw_model.specs.declared.records.Entry.{Entry}
 use Rattle.pw_model.specs.Counting.{Member}
 use Rattle.pw_model.proofs.EntryOrder.{numbers-tie}
 use Rattle.pw_schema.specs.Rows.{text, number, register_at, owner_at}
-use Rattle.pw_store.specs.Content.{topup_row, topup_entry, topup_in, reading_row, reading_entry, reading_in, assignment_row, assignment_entry, assignment_in, records_of, topup_tree, reading_tree, assignment_tree, IsTopupRow, IsReadingRow, IsAssignmentRow}
+use Rattle.pw_store.specs.inner.Records.{topup_row, topup_entry, reading_row, reading_entry, assignment_row, assignment_entry}
+use Rattle.pw_store.specs.Content.{topup_in, reading_in, assignment_in, records_of, topup_tree, reading_tree, assignment_tree, IsTopupRow, IsReadingRow, IsAssignmentRow}
 use Rattle.pw_store.specs.Kept.{IsStore}
 use Rattle.pw_store.proofs.Texts.{has_topup_text, has_topup_query, has_topup_is, has_reading_text, has_reading_query, has_reading_is, has_assignment_text, has_assignment_query, has_assignment_is}
 use Rattle.pw_store.proofs.Scans.{equal_ints, equal_texts, tied, scan_of, outputs, passing}

@@ -1,5 +1,5 @@
 -- What `open` makes where nothing was there may be opened.
-use Rattle.std.proofs.Common.{◌≡◌, ◌⊎◌, inl, inr, unwrap_or, ℕ, IsTrue, cond, List, [], ◌∷◌, refl, sym, ap, subst, ◌∙◌}
+use Rattle.std.proofs.Common.{◌≡◌, ◌⊎◌, inl, inr, unwrap_or, ℕ, IsTrue, cond, List, [], ◌∷◌, refl, sym, ap, subst, ◌∙◌, ◌≤◌, length, arith}
 use Rattle.std.specs.List.{AllByRecursion}
 use Rattle.std.specs.List.Sorted.{IsPermutation}
 use Rattle.std.proofs.lemmas.List.Sorted.{IsPermutation-refl}
@@ -7,6 +7,7 @@ use Rattle.sqlite.specs.Tree.{Trees}
 use Rattle.sqlite.specs.Effect.{Database}
 use Rattle.sqlite.specs.State.{State}
 use Rattle.pw_tariff.specs.Office.{OfficeRules}
+use Rattle.pw_model.specs.Office.{most_records}
 use Rattle.pw_model.specs.Counting.{EachOnce, Member}
 use Rattle.pw_schema.specs.Fresh.{IsFresh, office_row}
 use Rattle.pw_schema.specs.Tables.{no_schema, only_one}
@@ -20,7 +21,8 @@ use Rattle.pw_store.specs.Content.{content_of, point_in, start_in, total_in, ene
 use Rattle.pw_store.specs.Kept.{IsStore, key_in_point, key_in_start, held_of, left_of}
 use Rattle.pw_store.specs.Keyed.{AreKeyed, IsEnergyRow, IsPaymentRow}
 use Rattle.pw_store.specs.Content.{content_of}
-use Rattle.pw_store.specs.Opening.{offices, shown_office, MayOpen, IsOpened}
+use Rattle.pw_store.specs.Opening.{offices, shown_office}
+use Rattle.pw_store.specs.inner.Opened.{MayOpen, IsOpened}
 use Rattle.pw_schema.specs.Fresh.{IsIdleAt}
 use Rattle.pw_store.proofs.Adding.{ours_is}
 use Rattle.pw_store.proofs.Scans.{equal_ints}
@@ -65,6 +67,7 @@ module _ (body : List ℕ) (db : Database) (fresh : IsFresh body db) where
     store = fresh_store;
     kept = (shown_office (office_row body) ∷ [], (subst (IsPermutation (offices db.trees)) fresh_offices (IsPermutation-refl (offices db.trees)), (shown_office (office_row body), refl, refl, refl)));
     of_office = λ e m. absurd (subst (Member e) fresh_records m);
+    few = rw fresh_records (omega arith);
   }
 
 pub fresh_opened : (office : OfficeRules) (body : List ℕ) (old new : State) → IsIdleAt old → old.now.schema ≡ no_schema → IsFresh body new.now → IsIdleAt new → IsOpened office body old.committed new
@@ -89,3 +92,6 @@ open_content s base office body before it =
       | inl same ↦ inl (held ∙ ap (λ (d : Database). content_of d.trees) same)
       | inr none ↦ inr (none.0, held ∙ none.1)
     ]
+
+pub open_few : (s base : State) (office : OfficeRules) (body : List ℕ) (before : Database) → IsOpened office body before s → length (held_of s base).records ≤ most_records
+open_few s base office body before it = subst (λ b. length (records_of (cond b s.now.trees base.committed.trees)) ≤ most_records) (sym it.is_open) it.may_open.few

@@ -15,7 +15,8 @@ use Rattle.pw_shelf.specs.Rows.{IsTopUp, ListsTopUps}
 use Rattle.pw_store.specs.Content.{records_of, reading_in, assignment_in, topup_in, reading_tree, assignment_tree, topup_tree}
 use Rattle.pw_schema.specs.declared.kind.RecordKind.{RecordKind}
 use Rattle.pw_schema.specs.declared.kind.RecordKind.TheVariants.{Readings, Assignments, TopUps}
-use Rattle.pw_store.specs.Shown.{entry_in, entries_of, shown, ShowsAll}
+use Rattle.pw_store.specs.Shown.{entry_in, entries_of}
+use Rattle.pw_store.specs.inner.Lists.{shown, ShowsAll}
 use Rattle.pw_schema.specs.Rows.{told, ReadsRows}
 use Rattle.pw_store.specs.Opening.{offices, shown_office}
 use Rattle.pw_store.proofs.Once.{permuted}

@@ -23,7 +23,8 @@ use Rattle.pw_schema.specs.declared.kind.RecordKind.TheVariants.{Readings, Assig
 use Rattle.pw_schema.specs.Rows.{number, register_at}
 use Rattle.pw_store.specs.Content.{reading_in, assignment_in, reading_tree, assignment_tree, records_of, IsReadingRow, IsAssignmentRow}
 use Rattle.pw_store.specs.Kept.{IsStore}
-use Rattle.pw_store.specs.Shown.{entry_in, shown, ShowsKept}
+use Rattle.pw_store.specs.Shown.{entry_in}
+use Rattle.pw_store.specs.inner.Lists.{shown, ShowsKept}
 use Rattle.pw_schema.specs.Rows.{told, ReadsRows}
 use Rattle.pw_store.proofs.Texts.{list_readings_text, list_readings_query, list_readings_is, list_assignments_text, list_assignments_query, list_assignments_is}
 use Rattle.pw_store.proofs.Once.{permuted}

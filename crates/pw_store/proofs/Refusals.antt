@@ -5,11 +5,11 @@ use Rattle.sqlite.specs.Tree.{Trees}
 use Rattle.pw_tariff.specs.Office.{OfficeRules}
 use Rattle.pw_schema.specs.declared.kind.RecordKind.{RecordKind}
 use Rattle.pw_schema.specs.Judging.{AreRecords}
-use Rattle.pw_store.specs.Shown.{ShowsAll}
+use Rattle.pw_store.specs.inner.Lists.{ShowsAll}
 use Rattle.pw_store.proofs.Sound.{good_back}
 use Rattle.pw_store.specs.declared.fault.OpenFault.{OpenFault}
 use Rattle.pw_store.specs.declared.fault.OpenFault.TheVariants.{Store, Memory, OfficeDiffers, Version, Unclean}
-use Rattle.pw_store.specs.Opening.{TableRefuses}
+use Rattle.pw_store.specs.inner.Opened.{TableRefuses}
 
 -- the rows of a table were judged
 pub table_cause : (office : OfficeRules) (k : RecordKind) (db : Trees) (rows : List Row) (r : Result (Unit {0}) OpenFault) → ShowsAll k db rows → (r ≡ Err Unclean → AreRecords office k rows → ⊥)

@@ -1,5 +1,5 @@
 -- From rows that were read in order to the records of the tables, each once.
-use Rattle.std.proofs.Common.{◌≡◌, inl, inr, ℕ, ◌<◌, length, get_or, Result, Ok, Err, OnOk, List, [], ◌∷◌, ◌++◌, map, refl, sym, ap, subst, ◌∙◌}
+use Rattle.std.proofs.Common.{◌≡◌, inl, inr, ℕ, ◌<◌, length, get_or, Result, Ok, Err, OnOk, List, [], ◌∷◌, ◌++◌, map, refl, sym, ap, subst, ◌∙◌, ◌≤◌}
 use Rattle.std.specs.List.{AllByRecursion}
 use Rattle.std.proofs.lemmas.List.Sorted.{IsPermutation-sym}
 use Rattle.sqlite_trees.proofs.ListLemmas.{all_weaker, all-permutation}
@@ -12,19 +12,21 @@ use Rattle.pw_model.specs.declared.records.Key.{Key}
 use Rattle.pw_model.specs.declared.records.Key.TheVariants as key
 use Rattle.pw_model.specs.declared.records.Entry.{Entry}
 use Rattle.pw_model.specs.Counting.{Member, EachOnce}
-use Rattle.pw_model.specs.Office.{AllOfOffice, IsOfOffice}
+use Rattle.pw_model.specs.Office.{AllOfOffice, IsOfOffice, most_records}
 use Rattle.pw_schema.specs.declared.kind.RecordKind.{RecordKind}
 use Rattle.pw_schema.specs.declared.kind.RecordKind.TheVariants.{Readings, Assignments, TopUps}
 use Rattle.pw_schema.specs.Tables.{IsOurs}
 use Rattle.pw_store.specs.Content.{records_of, point_tree, start_tree, total_tree, payment_tree}
 use Rattle.pw_store.specs.Kept.{IsStore}
-use Rattle.pw_store.specs.Shown.{IsRowOf, ShowsAll, entries_of, entry_in, shown, tree_of}
+use Rattle.pw_store.specs.Shown.{IsRowOf, entries_of, entry_in, tree_of}
+use Rattle.pw_store.specs.inner.Lists.{ShowsAll, shown}
 use Rattle.pw_schema.specs.Rows.{Tells, told}
 use Rattle.pw_schema.specs.Judging.{AreRecords, IsRecord, IsTotalOf, KeepsOffice}
 use Rattle.pw_schema.specs.declared.kind.TotalKind.TheVariants.{Energies, Payments}
 use Rattle.pw_store.specs.Keyed.{IsEnergyRow, IsPaymentRow}
 use Rattle.pw_store.specs.inner.Sums.{AreAllNumbered}
-use Rattle.pw_store.specs.Opening.{HoldsRecords, HoldsAllRecords, HoldsSums, IsTotalRow, KeepsText, MayOpen, key_of_total}
+use Rattle.pw_store.specs.Opening.{HoldsRecords, HoldsAllRecords, HoldsSums, IsTotalRow, KeepsText, key_of_total}
+use Rattle.pw_store.specs.inner.Opened.{MayOpen}
 use Rattle.pw_store.proofs.Once.{once-permuted, permuted}
 use Rattle.pw_store.proofs.Lists.{told_permuted, member_in}
 
@@ -140,16 +142,17 @@ records_if office s0 s1 s2 s3 (Ok u) b c rs ss ts = record {
 }
 
 -- what was checked may be opened
-pub checked : {A E : Type 0} (office : OfficeRules) (body : List ℕ) (s0 s1 s2 s3 : State) (r : Result A E) → IsOurs s0.now.schema → IsUnchanged s0 s1 → IsUnchanged s1 s2 → OnOk r (IsUnchanged s2 s3)
-    → KeepsText (KeepsOffice body) s1.now.trees → HoldsAllRecords office s2.now.trees → OnOk r (HoldsSums office s2.now.trees) → OnOk r (AreAllNumbered s2.now.trees) → OnOk r (MayOpen office body s3.now)
-checked office body s0 s1 s2 s3 (Err e) ours a b c text records sums numbered = tt
-checked office body s0 s1 s2 s3 (Ok u) ours a b c text records sums numbered =
-    let has : IsOurs s3.now.schema = subst IsOurs (sym (ap (λ (d : Database). d.schema) (c.0.now_is ∙ b.0.now_is ∙ a.0.now_is))) ours in
-    let rs = subst (HoldsAllRecords office) (sym (trees_is s2 s3 c)) records in
-    let ss = subst (HoldsSums office) (sym (trees_is s2 s3 c)) sums in
-    let ns = subst AreAllNumbered (sym (trees_is s2 s3 c)) numbered in
+pub checked : (office : OfficeRules) (body : List ℕ) (s0 s1 s2 s3 s4 : State) → IsOurs s0.now.schema → IsUnchanged s0 s1 → IsUnchanged s1 s2 → IsUnchanged s2 s3 → IsUnchanged s3 s4
+    → KeepsText (KeepsOffice body) s1.now.trees → HoldsAllRecords office s2.now.trees → length (records_of s2.now.trees) ≤ most_records → HoldsSums office s3.now.trees → AreAllNumbered s3.now.trees → MayOpen office body s4.now
+checked office body s0 s1 s2 s3 s4 ours a b c d text records few sums numbered =
+    let has : IsOurs s4.now.schema = subst IsOurs (sym (ap (λ (d : Database). d.schema) (d.0.now_is ∙ c.0.now_is ∙ b.0.now_is ∙ a.0.now_is))) ours in
+    let late = trees_is s3 s4 d ∙ trees_is s2 s3 c in
+    let rs = subst (HoldsAllRecords office) (sym late) records in
+    let ss = subst (HoldsSums office) (sym (trees_is s3 s4 d)) sums in
+    let ns = subst AreAllNumbered (sym (trees_is s3 s4 d)) numbered in
     record {
-      store = sound_store office s3.now has rs.readings rs.assignments rs.topups ss ns;
-      kept = subst (KeepsText (KeepsOffice body)) (sym (trees_is s2 s3 c ∙ trees_is s1 s2 b)) text;
-      of_office = sound_office office s3.now has rs.readings rs.assignments rs.topups ss ns;
+      store = sound_store office s4.now has rs.readings rs.assignments rs.topups ss ns;
+      kept = subst (KeepsText (KeepsOffice body)) (sym (late ∙ trees_is s1 s2 b)) text;
+      of_office = sound_office office s4.now has rs.readings rs.assignments rs.topups ss ns;
+      few = subst (λ (db : Trees). length (records_of db) ≤ most_records) (sym late) few;
     }

@@ -41,7 +41,8 @@ use Rattle.pw_shelf.specs.Changes.{same_total, points_with, starts_with, totals_
 use Rattle.pw_schema.specs.Tables.{ours_with, checks_of, point_at, start_at, total_at, total_topup_at}
 use Rattle.pw_schema.specs.Rows.{number, register_at, owner_at, direction_at}
 use Rattle.pw_schema.proofs.Steps.{one_delete, one_insert, uncounted}
-use Rattle.pw_store.specs.Content.{reading_in, assignment_in, energy_in, payment_in, IsReadingRow, IsAssignmentRow, reading_row, assignment_row, point_in, start_in, total_in, energy_told, payment_told}
+use Rattle.pw_store.specs.Content.{reading_in, assignment_in, energy_in, payment_in, IsReadingRow, IsAssignmentRow, point_in, start_in, total_in, energy_told, payment_told}
+use Rattle.pw_store.specs.inner.Records.{reading_row, assignment_row}
 use Rattle.pw_store.specs.Keyed.{AreKeyed, HasRowid, IsEnergyRow, IsPaymentRow}
 use Rattle.pw_store.specs.Kept.{IsStore, key_in_point, key_in_start}
 use Rattle.pw_store.specs.inner.Changing.{Makes}

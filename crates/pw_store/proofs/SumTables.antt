@@ -8,7 +8,7 @@ use Rattle.sqlite.specs.State.{State, Shown}
 use Rattle.pw_schema.specs.Tables.{IsOurs}
 use Rattle.pw_schema.specs.declared.kind.RecordKind.TheVariants.{Readings, Assignments}
 use Rattle.pw_schema.specs.declared.kind.TotalKind.TheVariants.{Energies, Payments}
-use Rattle.pw_store.specs.Shown.{shown}
+use Rattle.pw_store.specs.inner.Lists.{shown}
 use Rattle.pw_store.specs.inner.Sums.{shown_id, shown_total}
 use Rattle.pw_store.proofs.KeptTexts.{all_points_text, all_points_query, all_points_is, all_starts_text, all_starts_query, all_starts_is, all_energies_text, all_energies_query, all_energies_is, all_payments_text, all_payments_query, all_payments_is, point_ids_text, point_ids_query, point_ids_is, start_ids_text, start_ids_query, start_ids_is, energy_ids_text, energy_ids_query, energy_ids_is}
 use Rattle.pw_store.proofs.Scans.{outputs}

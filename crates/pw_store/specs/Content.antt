@@ -43,16 +43,6 @@ total_tree = 11
 abbrev pub payment_tree : ℕ
 payment_tree = 13
 
--- ---- a row as it is given to INSERT
-abbrev pub reading_row : ℕ → ℕ → ℕ → ℕ → Row
-reading_row meter register instant wh = Int (pos meter) ∷ Int (pos register) ∷ Int (pos instant) ∷ Int (pos wh) ∷ []
-
-abbrev pub assignment_row : ℕ → ℕ → ℕ → Row
-assignment_row meter start owner = Int (pos meter) ∷ Int (pos start) ∷ Int (pos owner) ∷ []
-
-abbrev pub topup_row : List ℕ → ℕ → ℕ → ℕ → Row
-topup_row reference account cents instant = Text reference ∷ Int (pos account) ∷ Int (pos cents) ∷ Int (pos instant) ∷ []
-
 -- ---- the record of a row of a table, behind its rowid
 abbrev pub reading_in : Row → Entry
 reading_in r = record { key = key.Reading (record { 0 = number (column r 1) }) (register_at (number (column r 2))) (number (column r 3)); content = content.Reading (number (column r 4)) }
@@ -73,16 +63,6 @@ IsAssignmentRow r = (column r 1 ≡ Int (pos (number (column r 1)))) × ((column
 
 abbrev pub IsTopupRow : Row → Type 0
 IsTopupRow r = (column r 1 ≡ Text (text (column r 1))) × ((column r 2 ≡ Int (pos (number (column r 2)))) × ((column r 3 ≡ Int (pos (number (column r 3)))) × (column r 4 ≡ Int (pos (number (column r 4))))))
-
--- the records of the three kinds
-abbrev pub reading_entry : MeterId → Register → ℕ → ℕ → Entry
-reading_entry meter register instant wh = record { key = key.Reading meter register instant; content = content.Reading wh }
-
-abbrev pub assignment_entry : MeterId → ℕ → Option AccountId → Entry
-assignment_entry meter start owner = record { key = key.Assignment meter start; content = content.Assignment owner }
-
-abbrev pub topup_entry : List ℕ → AccountId → ℕ → ℕ → Entry
-topup_entry reference account cents instant = record { key = key.TopUp reference; content = content.TopUp account cents instant }
 
 -- ---- all of them
 abbrev pub records_of : Trees → List Entry

@@ -92,64 +92,6 @@ state_of s base begun failures failed_abandons tally = record {
 abbrev pub left_of : Sql → ShelfContent → Type 0
 left_of s c = (db : Trees) × s.may_leave db × (content_of db ≡ c)
 
--- ---- a fact has one proof at most
-same_value : {a b : Value} → IsProp (a ≡ b)
-same_value {a} {b} = Coded-set value.the_row.coded a b
-
-IsReadingRow-prop : (r : Row) → IsProp (IsReadingRow r)
-IsReadingRow-prop r = ×_prop same_value (×_prop same_value (×_prop same_value same_value))
-
-IsAssignmentRow-prop : (r : Row) → IsProp (IsAssignmentRow r)
-IsAssignmentRow-prop r = ×_prop same_value (×_prop same_value same_value)
-
-IsTopupRow-prop : (r : Row) → IsProp (IsTopupRow r)
-IsTopupRow-prop r = ×_prop same_value (×_prop same_value (×_prop same_value same_value))
-
-IsEnergyRow-prop : (r : Row) → IsProp (IsEnergyRow r)
-IsEnergyRow-prop r = ×_prop same_value (×_prop same_value (×_prop same_value same_value))
-
-IsPaymentRow-prop : (r : Row) → IsProp (IsPaymentRow r)
-IsPaymentRow-prop r = ×_prop same_value same_value
-
-AreKeyed-prop : {K : Type 0} (IsRow : Row → Type 0) → ((r : Row) → IsProp (IsRow r)) → (key_in : Row → K) (rows : List Row) → IsProp (AreKeyed IsRow key_in rows)
-AreKeyed-prop IsRow prop key_in rows a b = λ i. record {
-  each = AllByRecursion-prop IsRow prop rows a.each b.each i;
-  ids = AllByRecursion-prop HasRowid (λ r. same_value) rows a.ids b.ids i;
-  numbered = EachOnce-prop (map rowid rows) a.numbered b.numbered i;
-  once = EachOnce-prop (map key_in rows) a.once b.once i;
-}
-
-pub IsStore-prop : (db : Database) → IsProp (IsStore db)
-IsStore-prop db a b = λ i. record {
-  ours = Coded-set schema_row.the_row.coded db.schema _ a.ours b.ours i;
-  readings = AllByRecursion-prop IsReadingRow IsReadingRow-prop (db.trees reading_tree) a.readings b.readings i;
-  assignments = AllByRecursion-prop IsAssignmentRow IsAssignmentRow-prop (db.trees assignment_tree) a.assignments b.assignments i;
-  topups = AllByRecursion-prop IsTopupRow IsTopupRow-prop (db.trees topup_tree) a.topups b.topups i;
-  once = EachOnce-prop (records_of db.trees) a.once b.once i;
-  points = AreKeyed-prop IsReadingRow IsReadingRow-prop key_in_point (db.trees point_tree) a.points b.points i;
-  starts = AreKeyed-prop IsAssignmentRow IsAssignmentRow-prop key_in_start (db.trees start_tree) a.starts b.starts i;
-  energies = AreKeyed-prop IsEnergyRow IsEnergyRow-prop energy_in (db.trees total_tree) a.energies b.energies i;
-  payments = AreKeyed-prop IsPaymentRow IsPaymentRow-prop payment_in (db.trees payment_tree) a.payments b.payments i;
-}
-
-pub BaseIsOnce-prop : (s base : Sql) → IsProp (BaseIsOnce s base)
-BaseIsOnce-prop s base = Π_prop λ _. EachOnce-prop (records_of base.committed.trees)
-
-pub NowIsStore-prop : (s : Sql) → IsProp (NowIsStore s)
-NowIsStore-prop s = Π_prop λ _. Π_prop λ _. IsStore-prop s.now
-
-pub CommittedIsStore-prop : (s : Sql) → IsProp (CommittedIsStore s)
-CommittedIsStore-prop s = Π_prop λ _. Π_prop λ _. IsStore-prop s.committed
-
-pub IsSinceBase-prop : (s base : Sql) → IsProp (IsSinceBase s base)
-IsSinceBase-prop s base = Π_prop λ _. Π_prop λ _. Trees-set s.committed.trees base.committed.trees
-
-pub IsIdle-prop : (s : Sql) (begun : Bool) → IsProp (IsIdle s begun)
-IsIdle-prop s begun = Π_prop λ _. Π_prop λ _. Π_prop λ _. Trees-set s.now.trees s.committed.trees
-
-pub IsInside-prop : (s : Sql) → IsProp (IsInside s)
-IsInside-prop s = Π_prop λ _. Π_prop λ _. Bool-set s.is_open true
-
 -- ---- the two laws
 pub once_held : (s base : Sql) → BaseIsOnce s base → NowIsStore s → HasCleanDisk s → EachOnce (held_of s base).records
 once_held s base before now clean = go s.is_open refl
@@ -160,6 +102,3 @@ once_held s base before now clean = go s.is_open refl
 
 pub survives_left : (s : Sql) → ∥ ((db : Trees) × s.may_leave db) ∥₁ → ¬ ((c : ShelfContent) → ¬ (left_of s c))
 survives_left s some none = ∥∥₁_elim some ⊥_prop (λ it. none (content_of it.0) (it.0, it.1, refl))
-
-pub IsAwake-prop : (s : Sql) (doubtful : Bool) → IsProp (IsAwake s doubtful)
-IsAwake-prop s doubtful = Π_prop λ _. Π_prop λ _. Bool-set s.is_open true

@@ -30,17 +30,3 @@ IsRowOf TopUps r = IsTopupRow r
 
 abbrev pub entries_of : RecordKind → Trees → List Entry
 entries_of k db = map (entry_in k) (db (tree_of k))
-
--- ---- what is shown of a row: all but its rowid
-abbrev pub shown : RecordKind → Row → Row
-shown Readings r = column r 1 ∷ column r 2 ∷ column r 3 ∷ column r 4 ∷ []
-shown Assignments r = column r 1 ∷ column r 2 ∷ column r 3 ∷ []
-shown TopUps r = column r 1 ∷ column r 2 ∷ column r 3 ∷ column r 4 ∷ []
-
--- the rows shown are those of the table, in some order
-abbrev pub ShowsAll : RecordKind → Trees → List Row → Type 0
-ShowsAll k db rows = IsPermutation (map (shown k) (db (tree_of k))) rows
-
--- whatever records are read from the rows, they are those of the tables that have such a key
-abbrev pub ShowsKept : RecordKind → (Key → Type 0) → Trees → List Row → Type 0
-ShowsKept k Of db rows = (found : List Entry) → ReadsRows k rows found → ListsHeld Of (records_of db) found

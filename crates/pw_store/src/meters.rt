@@ -6,11 +6,12 @@ ghost use Rattle.sqlite.specs.State.{HasCleanDisk, IsUnchanged, IsRolledBack, Sh
 ghost use Rattle.pw_model.specs.Counting.{Member, contents_at};
 ghost use Rattle.pw_shelf.specs.Rows.{IsAssignmentOf, IsReadingOf};
 ghost use Rattle.pw_store.specs.Kept.{IsStore};
-ghost use Rattle.pw_store.specs.Shown.{ShowsKept};
+ghost use Rattle.pw_store.specs.inner.Lists.{ShowsKept};
 ghost use Rattle.pw_schema.specs.Rows.{contents_of, told_content};
 ghost use Rattle.pw_model.specs.declared.records.Key.TheVariants as key;
 ghost use Rattle.pw_shelf.specs.State.{IsWithRecord};
-ghost use Rattle.pw_store.specs.Content.{content_of, records_of, reading_entry, assignment_entry};
+ghost use Rattle.pw_store.specs.Content.{content_of, records_of};
+ghost use Rattle.pw_store.specs.inner.Records.{reading_entry, assignment_entry};
 
 use pw_obis::{Register, WattHours};
 use pw_schema::{RecordKind, integer, owner_place, register_place, wide};

@@ -1,14 +1,18 @@
 //! Making a connection ready to be a store, or finding why it can't be one.
 
-ghost use Rattle.std.specs.Prelude.{◌≡◌, ◌⊎◌, Err, IfErr, IsTrue, OnErr, OnOk};
+ghost use Rattle.std.specs.Prelude.{◌≡◌, ◌⊎◌, Err, IfErr, IsTrue, OnErr, OnOk, ◌≤◌, length};
 ghost use Rattle.sqlite.specs.Held.{state};
 ghost use Rattle.sqlite.specs.State.{HasCleanDisk, IsUnchanged, KeepsCommit, Survives};
 ghost use Rattle.pw_tariff.specs.Office.{office_of};
+ghost use Rattle.pw_model.specs.Office.{most_records};
 ghost use Rattle.pw_schema.specs.Fresh.{IsIdleAt};
+ghost use Rattle.pw_store.specs.Content.{records_of};
 ghost use Rattle.pw_schema.specs.Judging.{AreRecords, KeepsOffice};
 ghost use Rattle.pw_schema.specs.Tables.{IsOurs, no_schema};
-ghost use Rattle.pw_store.specs.Opening.{HoldsAllRecords, HoldsRecords, IsOpened, IsSettled, KeepsText, MayOpen, OursRefuses, RecordsRefuse, Refuses, RowRefuses, TableRefuses};
+ghost use Rattle.pw_store.specs.Opening.{HoldsAllRecords, HoldsRecords, KeepsText, OursRefuses, Refuses};
+ghost use Rattle.pw_store.specs.inner.Opened.{NumberRefuses, IsOpened, IsSettled, MayOpen, RecordsRefuse, RowRefuses, TableRefuses};
 
+use crate::counting::count_all;
 use crate::fault::{OpenFault, fault_in};
 use crate::sums::read_sums;
 use crate::tables::{all_assignments, all_readings, office_rows};
@@ -159,6 +163,28 @@ fn check_office<S: Alter>(conn: &mut Connection<S>, text: &[u8]) -> Result<(), O
     }
 }
 
+// The number of records, judged.
+fn check_number<S: Alter>(conn: &mut Connection<S>) -> Result<(), OpenFault>
+    requires ours { HasCleanDisk (state S.Store conn.old) → IsOurs (state S.Store conn.old).now.schema }
+    ensures few { HasCleanDisk (state S.Store conn.new) → OnOk result (length (records_of (state S.Store conn.old).now.trees) ≤ most_records) }
+    ensures cause { HasCleanDisk (state S.Store conn.new) → IfErr result (NumberRefuses (state S.Store conn.old).now.trees) }
+    ensures same { HasCleanDisk (state S.Store conn.new) → OnOk result (IsUnchanged (state S.Store conn.old) (state S.Store conn.new)) }
+    ensures kept { HasCleanDisk (state S.Store conn.new) → KeepsCommit (state S.Store conn.old) (state S.Store conn.new) }
+    ensures crash { Survives (state S.Store conn.old) (state S.Store conn.new) (λ _. ⊥) }
+{
+    match count_all(conn) {
+        Ok(Some(number)) => {
+            if number <= 10_000_000 {
+                Ok(())
+            } else {
+                Err(OpenFault::Unclean)
+            }
+        }
+        Ok(None) => Err(OpenFault::Store),
+        Err(error) => Err(fault_in(error)),
+    }
+}
+
 // What is there, judged.
 fn check<S: Alter>(
     alloc: Global,
@@ -177,6 +203,9 @@ fn check<S: Alter>(
         return Err(fault);
     }
     if let Err(fault) = check_records(alloc, conn, office) {
+        return Err(fault);
+    }
+    if let Err(fault) = check_number(conn) {
         return Err(fault);
     }
     if let Err(fault) = read_sums(alloc, conn, office) {

@@ -1,7 +1,8 @@
 //! The store over SQL, and what it keeps to.
 
 ghost use Rattle.sqlite.specs.Held.{state};
-ghost use Rattle.pw_store.specs.Kept.{BaseIsOnce, BaseIsOnce-prop, NowIsStore, NowIsStore-prop, CommittedIsStore, CommittedIsStore-prop, IsSinceBase, IsSinceBase-prop, IsIdle, IsIdle-prop, IsInside, IsInside-prop, IsAwake, IsAwake-prop};
+ghost use Rattle.pw_store.specs.Kept.{BaseIsOnce, NowIsStore, CommittedIsStore, IsSinceBase, IsIdle, IsInside, IsAwake};
+ghost use Rattle.pw_store.specs.lemmas.OneProof.{BaseIsOnce-prop, NowIsStore-prop, CommittedIsStore-prop, IsSinceBase-prop, IsIdle-prop, IsInside-prop, IsAwake-prop};
 
 use pw_shelf::Tally;
 use sqlite::{Alter, Connection};

@@ -6,7 +6,7 @@ ghost use Rattle.sqlite.specs.Held.{state};
 ghost use Rattle.sqlite.specs.State.{HasCleanDisk, IsRolledBack, IsUnchanged, Survives};
 ghost use Rattle.pw_schema.specs.Tables.{IsOurs};
 ghost use Rattle.pw_store.specs.Content.{payment_tree, point_tree, start_tree, total_tree};
-ghost use Rattle.pw_store.specs.Shown.{shown};
+ghost use Rattle.pw_store.specs.inner.Lists.{shown};
 ghost use Rattle.pw_store.specs.inner.Sums.{shown_id, shown_total};
 
 use pw_schema::{RecordKind, TotalKind};

@@ -9,7 +9,8 @@ ghost use Rattle.pw_schema.specs.Judging.{AreKept, AreRowids, AreTotals, by_key,
 ghost use Rattle.pw_schema.specs.Rows.{told};
 ghost use Rattle.pw_schema.specs.Tables.{IsOurs};
 ghost use Rattle.pw_store.specs.Content.{payment_tree, point_tree, start_tree, total_tree};
-ghost use Rattle.pw_store.specs.Opening.{HoldsKept, HoldsSums, HoldsTotals, KeptRefuses, SumsRefuse, TotalsRefuse};
+ghost use Rattle.pw_store.specs.Opening.{HoldsKept, HoldsSums, HoldsTotals};
+ghost use Rattle.pw_store.specs.inner.Opened.{KeptRefuses, SumsRefuse, TotalsRefuse};
 ghost use Rattle.pw_store.specs.inner.Sums.{AreAllNumbered, AreNumbered, TellsKept, TellsSums, TellsTotals};
 
 use crate::fault::{OpenFault, fault_in};

@@ -5,7 +5,7 @@ ghost use Rattle.std.specs.List.Sorted.{IsPermutation};
 ghost use Rattle.sqlite.specs.Held.{state};
 ghost use Rattle.sqlite.specs.State.{HasCleanDisk, IsUnchanged, IsRolledBack, Survives};
 ghost use Rattle.pw_schema.specs.Tables.{IsOurs};
-ghost use Rattle.pw_store.specs.Shown.{ShowsAll};
+ghost use Rattle.pw_store.specs.inner.Lists.{ShowsAll};
 ghost use Rattle.pw_store.specs.Opening.{offices};
 
 use pw_schema::RecordKind;

@@ -8,8 +8,9 @@ ghost use Rattle.pw_model.specs.declared.records.Key.TheVariants as key;
 ghost use Rattle.pw_store.specs.Kept.{IsStore};
 ghost use Rattle.pw_schema.specs.Tables.{IsOurs};
 ghost use Rattle.pw_shelf.specs.State.{IsWithRecord};
-ghost use Rattle.pw_store.specs.Content.{content_of, records_of, topup_entry};
-ghost use Rattle.pw_store.specs.Shown.{ShowsAll};
+ghost use Rattle.pw_store.specs.Content.{content_of, records_of};
+ghost use Rattle.pw_store.specs.inner.Records.{topup_entry};
+ghost use Rattle.pw_store.specs.inner.Lists.{ShowsAll};
 ghost use Rattle.pw_schema.specs.Rows.{contents_of, told_content};
 
 use pw_model::Reference;

@@ -18,7 +18,8 @@ use Rattle.pw_schema.specs.Judging.{by_key, by_total}
 use Rattle.pw_store.specs.declared.sums.Sums.{Sums}
 use Rattle.pw_store.specs.Content.{point_tree, start_tree, total_tree, payment_tree}
 use Rattle.pw_store.specs.Keyed.{HasRowid}
-use Rattle.pw_store.specs.Opening.{HoldsKept, HoldsTotals, key_of_total, amount_of_total}
+use Rattle.pw_store.specs.Opening.{HoldsKept, HoldsTotals, key_of_total}
+use Rattle.pw_store.specs.inner.Opened.{amount_of_total}
 use Rattle.pw_store.specs.Shown.{entry_in}
 
 -- all but the rowid; of a total of top-ups the account, which is the rowid

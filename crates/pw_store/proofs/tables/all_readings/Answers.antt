@@ -2,7 +2,7 @@ use Rattle.std.proofs.Common.{[]}
 use Rattle.sqlite.specs.Held.{state}
 use Rattle.sqlite.specs.State.{Shown}
 use Rattle.pw_schema.specs.declared.kind.RecordKind.TheVariants.{Readings}
-use Rattle.pw_store.specs.Shown.{ShowsAll}
+use Rattle.pw_store.specs.inner.Lists.{ShowsAll}
 use Rattle.pw_store.proofs.Texts.{all_readings_text, all_readings_is}
 use Rattle.pw_store.proofs.Querying.{ours_plain, stays_if, fails_if, survives_if}
 use Rattle.pw_store.proofs.Lists.{shows_readings, if_ok}
