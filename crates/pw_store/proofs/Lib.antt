@@ -31,3 +31,4 @@ pub mod OfMeter
 pub mod Counts
 pub mod SumTables
 pub mod Checked
+pub mod Openable

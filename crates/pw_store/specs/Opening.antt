@@ -107,3 +107,16 @@ Refuses office body db OfficeDiffers = IsOurs db.schema × OursRefuses office bo
 Refuses office body db Version = IsOurs db.schema × OursRefuses office body db.trees Version
 Refuses office body db Unclean =
     (((db.schema ≡ no_schema) → ⊥) × (IsOurs db.schema → ⊥)) ⊎ (IsOurs db.schema × OursRefuses office body db.trees Unclean)
+
+-- ---- what opens
+-- our tables, of this version and this text, with records, points, starts and totals of the office, and not too many
+pub record IsOpenable (office : OfficeRules) (body : List ℕ) (db : Database) : Type 0 where
+  pub ours : IsOurs db.schema
+  pub text : KeepsText (KeepsOffice body) db.trees
+  pub records : HoldsAllRecords office db.trees
+  pub few : HoldsTooMany db.trees → ⊥
+  pub sums : HoldsSums office db.trees
+
+-- what is found refuses such a store only for the engine's sake, or for memory
+abbrev pub OpenableOpens : Type 0
+OpenableOpens = (office : OfficeRules) (body : List ℕ) (db : Database) (fault : OpenFault) → IsOpenable office body db → Refuses office body db fault → (fault ≡ Store) ⊎ (fault ≡ Memory)

@@ -1,6 +1,6 @@
-//! The law that pins the store over SQL.
+//! The laws of the store over SQL.
 //!
-//! The function gives back what it takes. What counts is its contract.
+//! No function does anything. What counts is its contract.
 
 ghost use Rattle.std.specs.Prelude.{◌≡◌, ◌↔◌, IsTrue};
 ghost use Rattle.sqlite.specs.Held.{state};
@@ -8,6 +8,7 @@ ghost use Rattle.sqlite.specs.State.{HasCleanDisk};
 ghost use Rattle.sqlite.specs.Tree.{Trees};
 ghost use Rattle.pw_model.specs.Shelf.{ShelfContent};
 ghost use Rattle.pw_store.specs.Content.{content_of};
+ghost use Rattle.pw_store.specs.Opening.{OpenableOpens};
 
 use crate::shelf::SqlShelf;
 use pw_shelf::Shelf;
@@ -22,3 +23,9 @@ pub fn store_is_its_tables<S: Alter>(shelf: SqlShelf<S>) -> SqlShelf<S>
 {
     shelf
 }
+
+/// Where the tables are those of a store of this office, of this version and this text, `open` refuses them with `Store`
+/// or `Memory` alone: what it says of the cause of a refusal leaves no other.
+pub fn openable_stores_open()
+    ensures { OpenableOpens }
+{}
