@@ -7,3 +7,6 @@ pub mod Creating
 pub mod Making
 pub mod OfficeRow
 pub mod Shapes
+pub mod TotalKeys
+pub mod Keyed
+pub mod Rising

@@ -1,17 +1,21 @@
 -- Which rows are of an office, and what the row of `office` says.
 -- (Definitions of this project.)
-use Rattle.std.specs.Prelude.{◌≡◌, ℕ, ◌<◌, pos, List, [], ◌∷◌, map}
+use Rattle.std.specs.Prelude.{◌≡◌, ℕ, ℤ, ◌<◌, pos, List, [], ◌∷◌, map}
 use Rattle.std.specs.List.{AllByRecursion}
+use Rattle.sqlite.specs.declared.types.Value.{Value}
 use Rattle.sqlite.specs.declared.types.Value.TheVariants.{Int, Blob}
 use Rattle.sqlite.specs.Order.{Row, column}
 use Rattle.pw_tariff.specs.Office.{OfficeRules}
 use Rattle.pw_model.specs.declared.records.TotalKey.{TotalKey}
 use Rattle.pw_model.specs.declared.records.TotalKey.TheVariants.{Energy, TopUps}
+use Rattle.std.specs.declared.cmp.Ordering.{Ordering}
+use Rattle.pw_model.specs.declared.records.Entry.{Entry}
+use Rattle.pw_model.specs.Same.{key_order, total_order}
 use Rattle.pw_model.specs.Counting.{EachOnce}
 use Rattle.pw_model.specs.Office.{HasOwner, IsOfOffice}
 use Rattle.pw_schema.specs.declared.kind.RecordKind.{RecordKind}
 use Rattle.pw_schema.specs.declared.kind.TotalKind.{TotalKind}
-use Rattle.pw_schema.specs.Rows.{told, Tells, told_key, TellsTotal}
+use Rattle.pw_schema.specs.Rows.{told, Tells, told_key, told_amount, TellsTotal}
 
 -- ---- records
 -- the row is a record of the office
@@ -31,6 +35,38 @@ IsTotalOf office (TopUps a) = a.0 < office.accounts
 
 abbrev pub IsTotal : OfficeRules → TotalKind → Row → Type 0
 IsTotal office k r = TellsTotal k r × IsTotalOf office (told_key k r)
+
+abbrev pub told_total : TotalKind → Row → TotalKey × ℕ
+told_total k r = (told_key k r, told_amount k r)
+
+-- the rows are totals of the office, with no key twice
+pub record AreTotals (office : OfficeRules) (k : TotalKind) (rows : List Row) : Type 0 where
+  pub each : AllByRecursion (IsTotal office k) rows
+  pub once : EachOnce (map (told_key k) rows)
+
+-- ---- points and starts, each told as a record
+-- the rows are of the office, with no key twice
+pub record AreKept (office : OfficeRules) (k : RecordKind) (rows : List Row) : Type 0 where
+  pub each : AllByRecursion (IsRecord office k) rows
+  pub once : EachOnce (map (λ r. (told k r).key) rows)
+
+-- ---- in the order of their keys
+abbrev pub by_key : Entry → Entry → Ordering
+by_key e f = key_order e.key f.key
+
+abbrev pub by_total : TotalKey × ℕ → TotalKey × ℕ → Ordering
+by_total a b = total_order a.0 b.0
+
+-- ---- rowids, each the first column of a row
+-- the number that the value is; 0 where it is none
+abbrev pub id_of : Value → ℤ
+id_of (Int n) = n
+id_of _ = pos 0
+
+-- each row shows a rowid, and none stands there twice
+pub record AreRowids (rows : List Row) : Type 0 where
+  pub each : AllByRecursion (λ r. column r 0 ≡ Int (id_of (column r 0))) rows
+  pub once : EachOnce (map (λ r. id_of (column r 0)) rows)
 
 -- ---- the row of `office`, as a query shows it: version and text
 -- version 1 and this text are kept, and nothing else

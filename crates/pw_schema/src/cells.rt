@@ -30,7 +30,7 @@ pub fn number_at(row: &Row, at: usize) -> Option<u32>
 }
 
 /// The amount that stands at a place of a row, if one does: a number that isn't negative.
-pub(crate) fn amount_at(row: &Row, at: usize) -> Option<u64>
+pub fn amount_at(row: &Row, at: usize) -> Option<u64>
     ensures some { IfSome result (λ n. column row.now at ≡ Int (pos n)) }
     ensures none { IfNone result ((n : ℕ) → column row.now at ≡ Int (pos n) → ⊥) }
 {
@@ -41,7 +41,7 @@ pub(crate) fn amount_at(row: &Row, at: usize) -> Option<u64>
 }
 
 /// The watt-hours that stand at a place of a row, if they do.
-pub(crate) fn wh_at(row: &Row, at: usize) -> Option<WattHours>
+pub fn wh_at(row: &Row, at: usize) -> Option<WattHours>
     ensures some { IfSome result (λ wh. column row.now at ≡ Int (pos wh)) }
     ensures none { IfNone result ((n : ℕ) → n ≤ LARGEST_WATT_HOURS → column row.now at ≡ Int (pos n) → ⊥) }
 {
@@ -91,7 +91,7 @@ pub(crate) fn band_at(row: &Row, at: usize) -> Option<BandId>
 }
 
 /// The instant that stands at a place of a row, if one does.
-pub(crate) fn instant_at(row: &Row, at: usize) -> Option<Instant>
+pub fn instant_at(row: &Row, at: usize) -> Option<Instant>
     ensures some { IfSome result (λ instant. column row.now at ≡ Int (pos instant)) }
     ensures none { IfNone result ((n : ℕ) → IsInstant n → column row.now at ≡ Int (pos n) → ⊥) }
 {
@@ -124,7 +124,7 @@ fn register_of(place: u32) -> Option<Register>
 }
 
 /// The owner that stands at a place of a row, by its own place, if one does that fits.
-pub(crate) fn owner_at(row: &Row, at: usize) -> Option<Owner>
+pub fn owner_at(row: &Row, at: usize) -> Option<Owner>
     ensures some { IfSome result (λ owner. (owner ≡ owner_at (number (column row.now at))) × IsNumber (column row.now at)) }
     ensures none { IfNone result ((n : ℕ) → n ≤ 2 ^ 16 → column row.now at ≡ Int (pos n) → ⊥) }
 {

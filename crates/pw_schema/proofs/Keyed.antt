@@ -1,0 +1,97 @@
+-- Rows that are judged one by one, in the order of their keys.
+use Rattle.std.proofs.Common.{◌≡◌, ◌<◌, ◌≤◌, ◌+◌, ℕ, List, [], ◌∷◌, ◌++◌, map, length, take, get_or, Option, option_map, Some, None, IfSome, IfNone, refl, sym, ap, subst, ◌∙◌, inl, inr, nat_cmp, Ordering, Equal}
+use Rattle.std.proofs.lemmas.List.{map-append}
+use Rattle.std.specs.List.{AllByRecursion}
+use Rattle.std.specs.Cmp.Lexicographic.{slice_cmp, nat_list_cmp_total}
+use Rattle.std.proofs.lemmas.Cmp.{tied_itself}
+use Rattle.std.specs.declared.cmp.Ordering.TheVariants.{Less}
+use Rattle.sqlite.specs.Order.{Row}
+use Rattle.pw_model.specs.Counting.{Member, EachOnce}
+use Rattle.pw_model.specs.Lists.{IsInOrder, IsBeforeAll}
+use Rattle.pw_model.proofs.EntryOrder.{numbers-tie}
+use Rattle.pw_model.proofs.InOrder.{before-member}
+use Rattle.pw_schema.proofs.Judged.{once_at, all_push, take_end}
+
+module _ {X K : Type 0} (f : X → K) (num : K → List ℕ) (one : (k l : K) → num k ≡ num l → k ≡ l) where
+  abbrev order : X → X → Ordering
+  order x y = slice_cmp nat_cmp (num (f x)) (num (f y))
+
+  -- the key of the last of a list, if it has one
+  abbrev pub IsLastKey : Option K → List X → Type 0
+  IsLastKey None xs = xs ≡ []
+  IsLastKey (Some k) xs = (front : List X) × (x : X) × (f x ≡ k) × (xs ≡ front ++ x ∷ [])
+
+  apart : (x y : X) → order x y ≡ Less → f x ≡ f y → ⊥
+  apart x y less same = let tie : order x y ≡ Equal = ap (λ k. slice_cmp nat_cmp (num (f x)) (num k)) (sym same) ∙ tied_itself nat_list_cmp_total (num (f x)) in cc
+
+  ends : (z l : X) (front : List X) → IsBeforeAll order z (front ++ l ∷ []) → order z l ≡ Less
+  ends z l [] b = b.0
+  ends z l (y ∷ front) b = ends z l front b.1
+
+  all_before : (front : List X) (l e : X) → IsInOrder order (front ++ l ∷ []) → order l e ≡ Less → (x : X) → Member x (front ++ l ∷ []) → order x e ≡ Less
+  all_before [] l e r h x (inl i) = subst (λ y. order y e ≡ Less) (sym i) h
+  all_before [] l e r h x (inr n) = absurd n
+  all_before (z ∷ front) l e r h x (inl i) = subst (λ y. order y e ≡ Less) (sym i) (nat_list_cmp_total.trans (num (f z)) (num (f l)) (num (f e)) (ends z l front r.0) h)
+  all_before (z ∷ front) l e r h x (inr n) = all_before front l e r.1 h x n
+
+  before_push : (x e : X) (xs : List X) → IsBeforeAll order x xs → order x e ≡ Less → IsBeforeAll order x (xs ++ e ∷ [])
+  before_push x e [] h l = (l, tt)
+  before_push x e (z ∷ xs) h l = (h.0, before_push x e xs h.1 l)
+
+  rising_push : (e : X) (xs : List X) → IsInOrder order xs → ((x : X) → Member x xs → order x e ≡ Less) → IsInOrder order (xs ++ e ∷ [])
+  rising_push e [] h l = (tt, tt)
+  rising_push e (z ∷ xs) h l = (before_push z e xs h.0 (l z (inl refl)), rising_push e xs h.1 (λ x m. l x (inr m)))
+
+  pub key_push : (last : Option K) (found : List X) (e : X) → IsInOrder order found → IsLastKey last found → IfSome last (λ l. slice_cmp nat_cmp (num l) (num (f e)) ≡ Less) → IsInOrder order (found ++ e ∷ [])
+  key_push None found e rising is low = subst (λ xs. IsInOrder order (xs ++ e ∷ [])) (sym is) (tt, tt)
+  key_push (Some k) found e rising is low =
+      rising_push e found rising (λ x m. all_before is.0 is.1 e (subst (IsInOrder order) is.3 rising) (subst (λ j. slice_cmp nat_cmp (num j) (num (f e)) ≡ Less) (sym is.2) low) x (subst (Member x) is.3 m))
+
+  keys_member : (x : X) (xs : List X) → Member (f x) (map f xs) → (y : X) × Member y xs × (f x ≡ f y)
+  keys_member x [] m = absurd m
+  keys_member x (y ∷ xs) (inl e) = (y, inl refl, e)
+  keys_member x (y ∷ xs) (inr m) = let it = keys_member x xs m in (it.0, inr it.1, it.2)
+
+  pub keys_once : (xs : List X) → IsInOrder order xs → EachOnce (map f xs)
+  keys_once [] h = tt
+  keys_once (x ∷ xs) h = (
+    λ m. (let it = keys_member x xs m in apart x it.0 (before-member order x it.0 xs h.0 it.1) it.2),
+    keys_once xs h.1,
+  )
+
+  member_key : (front : List X) (x : X) → Member (f x) (map f (front ++ x ∷ []))
+  member_key [] x = inl refl
+  member_key (y ∷ front) x = inr (member_key front x)
+
+  -- the key of the last that was read stands there again
+  pub key_twice : (told : Row → X) (rows : List Row) (i : ℕ) (row : Row) (found : List X) (last : Option K) (e : X) → i < length rows → row ≡ get_or rows i row → found ≡ map told (take i rows) → IsLastKey last found → e ≡ told row
+      → IfSome last (λ l. slice_cmp nat_cmp (num l) (num (f e)) ≡ Equal) → IfNone last (Equal ≡ Less) → EachOnce (map (λ r. f (told r)) rows) → ⊥
+  key_twice told rows i row found None e lt is are ends_at one_row tie none once = cc
+  key_twice told rows i row found (Some k) e lt is are ends_at one_row tie none once =
+      let same : k ≡ f (told row) = one k (f e) (numbers-tie (num k) (num (f e)) tie) ∙ ap f one_row in
+      let there : Member (f ends_at.1) (map f found) = subst (λ xs. Member (f ends_at.1) (map f xs)) (sym ends_at.3) (member_key ends_at.0 ends_at.1) in
+      let here : Member (f (told row)) (map f (map told (take i rows))) = subst (λ j. Member j (map f (map told (take i rows)))) (ends_at.2 ∙ same) (subst (λ xs. Member (f ends_at.1) (map f xs)) are there) in
+      once_at (λ r. f (told r)) rows i row lt is once (subst (Member (f (told row))) (twice told (take i rows)) here)
+    where
+      twice : (told : Row → X) (rs : List Row) → map f (map told rs) ≡ map (λ r. f (told r)) rs
+      twice told [] = refl
+      twice told (r ∷ rs) = ap (λ xs. f (told r) ∷ xs) (twice told rs)
+
+  pub keys_told : (told : Row → X) (rows : List Row) (found : List X) → found ≡ map told rows → IsInOrder order found → EachOnce (map (λ r. f (told r)) rows)
+  keys_told told rows found are rising = subst EachOnce (ap (map f) are ∙ twice told rows) (keys_once found rising)
+    where
+      twice : (told : Row → X) (rs : List Row) → map f (map told rs) ≡ map (λ r. f (told r)) rs
+      twice told [] = refl
+      twice told (r ∷ rs) = ap (λ xs. f (told r) ∷ xs) (twice told rs)
+
+pub told_push : {X : Type 0} (told : Row → X) (rows more : List Row) (row : Row) (found new : List X) (e : X) → found ≡ map told rows → e ≡ told row → new ≡ found ++ e ∷ [] → more ≡ rows ++ row ∷ [] → new ≡ map told more
+told_push told rows more row found new e so one is more_is =
+    is ∙ ap (λ xs. xs ++ e ∷ []) so ∙ ap (λ x. map told rows ++ x ∷ []) one ∙ sym (map-append told rows (row ∷ [])) ∙ ap (map told) (sym more_is)
+
+pub some_mapped : {X K : Type 0} (f : X → K) (last : Option X) (P : K → Type 0) → IfSome last (λ x. P (f x)) → IfSome (option_map f last) P
+some_mapped f None P h = tt
+some_mapped f (Some x) P h = h
+
+pub none_mapped : {X K : Type 0} (f : X → K) (last : Option X) (P : Type 0) → IfNone last P → IfNone (option_map f last) P
+none_mapped f None P h = h
+none_mapped f (Some x) P h = tt

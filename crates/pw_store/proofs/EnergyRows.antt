@@ -1,0 +1,222 @@
+-- What DELETE and INSERT make of the totals of energy.
+use Rattle.std.proofs.Common.{◌≡◌, ℕ, ℤ, pos, List, [], ◌∷◌, ◌++◌, map, find, Bool, true, false, cond, not, ◌&&◌, Option, option_map, Some, None, Ok, Err, Result, OnOk, IsTrue, refl, sym, ap, subst, subst₂, ◌∙◌, nat_cmp, arith}
+use Rattle.std.specs.List.{AllByRecursion, list_all, filter}
+use Rattle.std.specs.List.Sorted.{IsPermutation}
+use Rattle.std.proofs.lemmas.List.Sorted.{IsPermutation-map}
+use Rattle.std.specs.Ordering.{is_eq}
+use Rattle.sqlite.specs.declared.types.Value.TheVariants.{Null, Int}
+use Rattle.sqlite.specs.declared.error.Error.{Error}
+use Rattle.sqlite.specs.Order.{Row, column}
+use Rattle.sqlite.specs.Term.{Term, holds}
+use Rattle.sqlite.specs.Table.{Table}
+use Rattle.sqlite.specs.Tree.{Trees, rowid, put_row}
+use Rattle.sqlite.specs.Edit.{Applies, edit_of, id_in, is_taken, next_rowid}
+use Rattle.sqlite.specs.Rowids.TheVariants.{Given, Chosen}
+use Rattle.sqlite.specs.Source.TheVariants.{Values}
+use Rattle.sqlite.specs.Command.TheVariants.{Delete, Insert}
+use Rattle.sqlite.specs.Query.{Output, output}
+use Rattle.sqlite.specs.Effect.{Answers}
+use Rattle.sqlite.specs.Does.{Does}
+use Rattle.sqlite.specs.State.{State, mode_of, Executes}
+use Rattle.sqlite.specs.Listing.{understood}
+use Rattle.sqlite.specs.Program.{overlay}
+use Rattle.sqlite.proofs.Callers.{runs_as, statement_of}
+use Rattle.sqlite_rules.specs.Calls.{ids_of}
+use Rattle.sqlite_trees.proofs.ListLemmas.{map-map, filter_same, all_weaker}
+use Rattle.pw_obis.specs.declared.reference.Register.{Register}
+use Rattle.pw_tariff.specs.declared.ids.AccountId.{AccountId}
+use Rattle.pw_tariff.specs.declared.ids.BandId.{BandId}
+use Rattle.pw_tariff.specs.declared.ids.Direction.{Direction}
+use Rattle.pw_tariff.specs.declared.ids.Direction.TheVariants.{Import, Export}
+use Rattle.pw_tariff.specs.Office.{register_place}
+use Rattle.pw_tariff.specs.Cells.{owner_place}
+use Rattle.pw_model.specs.declared.records.Key.{Key}
+use Rattle.pw_model.specs.declared.records.Key.TheVariants as key
+use Rattle.pw_model.specs.declared.records.TotalKey.{TotalKey}
+use Rattle.pw_model.specs.declared.records.TotalKey.TheVariants as total
+use Rattle.pw_model.specs.Counting.{reading_key, assignment_key}
+use Rattle.pw_model.specs.Same.{same_key, direction_place}
+use Rattle.pw_model.proofs.Same.{same_key-decides}
+use Rattle.pw_shelf.specs.Changes.{same_total, points_with, starts_with, totals_with, with_point, with_start, with_total}
+use Rattle.pw_schema.specs.Tables.{ours_with, checks_of, point_at, start_at, total_at, total_topup_at}
+use Rattle.pw_schema.specs.Rows.{number, register_at, owner_at, direction_at}
+use Rattle.pw_schema.proofs.Steps.{one_delete, one_insert, uncounted}
+use Rattle.pw_store.specs.Content.{reading_in, assignment_in, energy_in, payment_in, IsReadingRow, IsAssignmentRow, point_in, start_in, total_in, energy_told, payment_told}
+use Rattle.pw_store.specs.inner.Records.{reading_row, assignment_row}
+use Rattle.pw_store.specs.Keyed.{AreKeyed, HasRowid, IsEnergyRow, IsPaymentRow}
+use Rattle.pw_store.specs.Kept.{IsStore, key_in_point, key_in_start}
+use Rattle.pw_store.specs.inner.Changing.{Makes}
+use Rattle.pw_store.proofs.Texts.{four_terms, three_terms}
+use Rattle.pw_store.proofs.KeptTexts.{delete_total_text, delete_total_query, delete_total_is, insert_total_text, insert_total_is}
+use Rattle.pw_store.proofs.Scans.{equal_ints, tied, scans, scan_of, outputs, IsScan}
+use Rattle.pw_store.proofs.Finding.{first, second, same_number, meter_of, register_of, second_of, owner_one, place_one}
+use Rattle.pw_store.proofs.Adding.{cast_null, cast_int, register_back, owner_back, insert_inside}
+use Rattle.pw_store.proofs.Others.{AreElseSame, same_records, store_kept, same_total-decides, energies_with, payments_with, content_with_point, content_with_start, content_with_total}
+use Rattle.pw_store.proofs.KeptRows.{ids, leaves, find_gone, gone_told, put_told, keyed_gone, keyed_put}
+use Rattle.pw_store.proofs.Taking.{delete_inside, both_true, none_found}
+
+-- ---- parts of a key
+abbrev owner_of_total : TotalKey → Option AccountId
+owner_of_total (total.Energy o b d) = o
+owner_of_total (total.TopUps a) = None
+
+abbrev band_of_total : TotalKey → ℕ
+band_of_total (total.Energy o b d) = b.0
+band_of_total (total.TopUps a) = 0
+
+abbrev direction_of_total : TotalKey → Direction
+direction_of_total (total.Energy o b d) = d
+direction_of_total (total.TopUps a) = Import
+
+direction_back : (d : Direction) → direction_at (direction_place d) ≡ d
+direction_back Import = refl
+direction_back Export = refl
+
+abbrev pub at_key : Option AccountId → BandId → Direction → Row → Bool
+at_key o b d r = same_total (total.Energy o b d) (energy_in r)
+
+abbrev pub params : Option AccountId → BandId → Direction → Row
+params o b d = Int (pos (owner_place o)) ∷ Int (pos b.0) ∷ Int (pos (direction_place d)) ∷ []
+
+module _ (o : Option AccountId) (b : BandId) (d : Direction) where
+  abbrev pub passes : Row → Bool
+  passes r = list_all (holds (params o b d ∷ r ∷ [])) delete_total_query.filter
+
+  tests : (r : Row) → IsEnergyRow r → passes r ≡ (is_eq (nat_cmp (number (column r 1)) (owner_place o)) && (is_eq (nat_cmp (number (column r 2)) b.0) && (is_eq (nat_cmp (number (column r 3)) (direction_place d)) && true)))
+  tests r it = rw (it.0, it.1.0, it.1.1.0) (rw (equal_ints (number (column r 1)) (owner_place o), equal_ints (number (column r 2)) b.0, equal_ints (direction_place (direction_at (number (column r 3)))) (direction_place d)) refl)
+
+  hits : (r : Row) → IsEnergyRow r → passes r ≡ true → total.Energy o b d ≡ energy_in r
+  hits r it hit =
+      let h = sym (tests r it) ∙ hit in
+      let h1 = second (is_eq (nat_cmp (number (column r 1)) (owner_place o))) _ h in
+      let h2 = second (is_eq (nat_cmp (number (column r 2)) b.0)) _ h1 in
+      let eo = owner_one (number (column r 1)) o (tied (number (column r 1)) (owner_place o) (first _ _ h)) in
+      let eb = tied (number (column r 2)) b.0 (first _ _ h1) in
+      let ed = ap direction_at (tied (number (column r 3)) (direction_place d) (first _ _ h2)) ∙ direction_back d in
+      sym (λ j. total.Energy (eo j) (record { 0 = eb j }) (ed j))
+
+  misses : (r : Row) → IsEnergyRow r → total.Energy o b d ≡ energy_in r → passes r ≡ true
+  misses r it same =
+      let eo : number (column r 1) ≡ owner_place o = place_one (number (column r 1)) o (ap owner_of_total (sym same)) in
+      let eb : number (column r 2) ≡ b.0 = ap band_of_total (sym same) in
+      let ed : number (column r 3) ≡ direction_place d = ap number it.1.1.0 ∙ ap direction_place (ap direction_of_total (sym same)) in
+      tests r it ∙ rw (eo, eb, ed) (rw (same_number (owner_place o), same_number b.0, same_number (direction_place d)) refl)
+
+  pub passes_at : (r : Row) → IsEnergyRow r → passes r ≡ at_key o b d r
+  passes_at r it = both_true (passes r) (at_key o b d r) (λ hit. (same_total-decides (total.Energy o b d) (energy_in r)).1 (hits r it hit)) (λ same. misses r it ((same_total-decides (total.Energy o b d) (energy_in r)).0 same))
+
+  shown_ids : (rows : List Row) → map (λ (o : Output). id_in (rowid o.1)) (map (output (scan_of 11 delete_total_query)) (map (λ row. params o b d ∷ row ∷ []) rows)) ≡ ids rows
+  shown_ids [] = refl
+  shown_ids (row ∷ rows) = ap (λ more. id_in (rowid row) ∷ more) (shown_ids rows)
+
+  found : (table rows : List Row) → AllByRecursion IsEnergyRow table → IsScan (scan_of 11 delete_total_query) (params o b d) table rows → IsPermutation (ids (filter (at_key o b d) table)) (ids_of rows)
+  found table rows all s =
+      let same = filter_same passes (at_key o b d) table (all_weaker IsEnergyRow (λ row. passes row ≡ at_key o b d row) passes_at table all) in
+      let moved = IsPermutation-map (λ (o : Output). id_in (rowid o.1)) (outputs (scan_of 11 delete_total_query) (params o b d) table) s.ordered s.same in
+      let last : ids_of rows ≡ map (λ (o : Output). id_in (rowid o.1)) s.ordered = ap ids_of s.shown ∙ map-map (λ r. id_in (rowid r)) (λ (o : Output). o.1) s.ordered in
+      subst₂ IsPermutation (shown_ids (filter passes table) ∙ ap ids same) (sym last) moved
+
+abbrev table : Table
+table = total_at 11
+
+-- ---- DELETE
+module _ (old new : State) (o : Option AccountId) (b : BandId) (d : Direction) (count : ℕ) (store : IsStore old.now) (inside : IsTrue old.in_transaction) (h : Executes delete_total_text (params o b d) old new (Ok count)) where
+  abbrev own : List Term
+  own = checks_of old.now.schema
+
+  deleted : (new.now.schema ≡ ours_with own) × ((rows : List Row) × Answers (record { schema = ours_with own; trees = old.now.trees }) (record { lets = []; body = delete_total_query }) (params o b d) rows × Applies (ours_with own) (mode_of old).keys old.now.trees (edit_of old.now.trees (uncounted table) (ids_of rows) Given 0 []) new.now.trees)
+  deleted =
+      let w = runs_as delete_total_text (params o b d) old new (ours_with own) store.ours (Delete 6 (record { lets = []; body = delete_total_query })) (delete_total_is.is own) (delete_total_is.plain own) count h in
+      let text = statement_of delete_total_text (understood (ours_with own) delete_total_text) in
+      one_delete old.step_limit (mode_of old).keys (ours_with own) table (params o b d) (mode_of old) old.now.trees 6 (record { lets = []; body = delete_total_query }) w.tally new.now (λ _. refl)
+      (subst (λ s. Does old.step_limit (mode_of old) (params o b d) (record old.now { schema = s }) text None (Delete 6 (record { lets = []; body = delete_total_query })) (Ok (w.tally, new.now))) store.ours w.changed)
+
+  left : new.now.trees 11 ≡ filter (λ row. not (at_key o b d row)) (old.now.trees 11)
+  left =
+      let it = deleted.1 in
+      let scan = scans 11 delete_total_query (overlay old.now.trees []) (params o b d) it.0 (it.1.answer Null) in
+      it.2.rows ∙ leaves (at_key o b d) (old.now.trees 11) (ids_of it.0) store.energies.numbered store.energies.ids (found o b d (old.now.trees 11) it.0 store.energies.each scan)
+
+  others : AreElseSame own 11 old.now.trees new.now.trees
+  others = deleted.1.2.tables
+
+  told_left : total_in new.now.trees ≡ totals_with (total_in old.now.trees) (total.Energy o b d) 0
+  told_left = energies_with old.now.trees new.now.trees o b d None (others.1.1.1.1.1.1.1.0 (λ e. absurd (omega (arith, e)))) (λ l. ap (λ rows. energy_told rows l) left ∙ gone_told same_total same_total-decides energy_in (λ x. number (column x 4)) (total.Energy o b d) l (old.now.trees 11))
+
+  pub takes : Makes (λ c. with_total c (total.Energy o b d) 0) old new
+  takes = record {
+    store = store_kept own old.now new.now deleted.0 (same_records own 11 old.now.trees new.now.trees (omega arith) others) store
+        (subst (AreKeyed IsReadingRow key_in_point) (sym (others.1.1.1.1.0 (λ e. absurd (omega (arith, e))))) store.points)
+        (subst (AreKeyed IsAssignmentRow key_in_start) (sym (others.1.1.1.1.1.0 (λ e. absurd (omega (arith, e))))) store.starts)
+        (subst (AreKeyed IsEnergyRow energy_in) (sym left) (keyed_gone same_total same_total-decides energy_in (λ x. number (column x 4)) IsEnergyRow (total.Energy o b d) (old.now.trees 11) store.energies))
+        (subst (AreKeyed IsPaymentRow payment_in) (sym (others.1.1.1.1.1.1.1.0 (λ e. absurd (omega (arith, e))))) store.payments);
+    content = content_with_total old.now.trees new.now.trees (total.Energy o b d) 0 (same_records own 11 old.now.trees new.now.trees (omega arith) others) (others.1.1.1.1.0 (λ e. absurd (omega (arith, e)))) (others.1.1.1.1.1.0 (λ e. absurd (omega (arith, e)))) told_left;
+    shows = delete_inside delete_total_text 6 delete_total_query delete_total_is old new store.ours (params o b d) count h inside;
+  }
+
+  pub taken : energy_told (new.now.trees 11) (total.Energy o b d) ≡ None
+  taken = ap (option_map (λ x. number (column x 4))) (ap (find (at_key o b d)) left ∙ find_gone (at_key o b d) (old.now.trees 11))
+
+-- ---- INSERT
+module _ (old new : State) (o : Option AccountId) (b : BandId) (d : Direction) (v : ℕ) (count : ℕ) (store : IsStore old.now) (inside : IsTrue old.in_transaction) (none : energy_told (old.now.trees 11) (total.Energy o b d) ≡ None) (h : Executes insert_total_text (reading_row (owner_place o) b.0 (direction_place d) v) old new (Ok count)) where
+  abbrev checks : List Term
+  checks = checks_of old.now.schema
+
+  abbrev given : Row
+  given = reading_row (owner_place o) b.0 (direction_place d) v
+
+  inserted : (new.now.schema ≡ ours_with checks) × Applies (ours_with checks) (mode_of old).keys old.now.trees (edit_of old.now.trees (uncounted table) [] Chosen 0 ((Null ∷ reading_row (owner_place o) b.0 (direction_place d) v) ∷ [])) new.now.trees
+  inserted =
+      let w = runs_as insert_total_text given old new (ours_with checks) store.ours (Insert 6 (Values four_terms 5)) (insert_total_is.is checks) (insert_total_is.plain checks) count h in
+      let text = statement_of insert_total_text (understood (ours_with checks) insert_total_text) in
+      one_insert old.step_limit (mode_of old).keys (ours_with checks) table given (mode_of old) old.now.trees 6 5 four_terms ((Null ∷ reading_row (owner_place o) b.0 (direction_place d) v) ∷ []) w.tally new.now refl (λ _. refl)
+      (subst (λ s. Does old.step_limit (mode_of old) given (record old.now { schema = s }) text None (Insert 6 (Values four_terms 5)) (Ok (w.tally, new.now))) store.ours w.changed)
+
+  abbrev row : Row
+  row = Int (next_rowid (old.now.trees 11)) ∷ given
+
+  was_not : (b : Bool) → not b ≡ true → b ≡ false
+  was_not true e = absurd (let f : true ≡ false = sym e in cc)
+  was_not false e = refl
+
+  free : is_taken (old.now.trees 11) row ≡ false
+  free = let fresh = rw cast_null at inserted.1.fresh in was_not _ (first _ _ fresh)
+
+  put : new.now.trees 11 ≡ put_row row (old.now.trees 11)
+  put = inserted.1.rows ∙ rw (cast_null, cast_int (owner_place o), cast_int b.0, cast_int (direction_place d), cast_int v) refl
+
+  key_is : energy_in row ≡ total.Energy o b d
+  key_is = λ j. total.Energy (owner_back o j) b (direction_back d j)
+
+  unseen : find (at_key o b d) (old.now.trees 11) ≡ None
+  unseen = none_found (λ x. number (column x 4)) (find (at_key o b d) (old.now.trees 11)) none
+
+  elsewhere : AreElseSame checks 11 old.now.trees new.now.trees
+  elsewhere = inserted.1.tables
+
+  told_put : total_in new.now.trees ≡ totals_with (total_in old.now.trees) (total.Energy o b d) v
+  told_put = energies_with old.now.trees new.now.trees o b d (Some v) (elsewhere.1.1.1.1.1.1.1.0 (λ e. absurd (omega (arith, e)))) (λ l. ap (λ rows. energy_told rows l) put ∙ put_told same_total same_total-decides energy_in (λ x. number (column x 4)) (total.Energy o b d) l row (old.now.trees 11) key_is free unseen)
+
+  pub puts : Makes (λ c. with_total c (total.Energy o b d) v) old new
+  puts = record {
+    store = store_kept checks old.now new.now inserted.0 (same_records checks 11 old.now.trees new.now.trees (omega arith) elsewhere) store
+        (subst (AreKeyed IsReadingRow key_in_point) (sym (elsewhere.1.1.1.1.0 (λ e. absurd (omega (arith, e))))) store.points)
+        (subst (AreKeyed IsAssignmentRow key_in_start) (sym (elsewhere.1.1.1.1.1.0 (λ e. absurd (omega (arith, e))))) store.starts)
+        (subst (AreKeyed IsEnergyRow energy_in) (sym put) (keyed_put same_total same_total-decides energy_in (λ x. number (column x 4)) IsEnergyRow (total.Energy o b d) row (old.now.trees 11) key_is (refl, (refl, (ap (λ (e : Direction). Int (pos (direction_place e))) (sym (direction_back d)), refl))) refl free unseen store.energies))
+        (subst (AreKeyed IsPaymentRow payment_in) (sym (elsewhere.1.1.1.1.1.1.1.0 (λ e. absurd (omega (arith, e))))) store.payments);
+    content = content_with_total old.now.trees new.now.trees (total.Energy o b d) v (same_records checks 11 old.now.trees new.now.trees (omega arith) elsewhere) (elsewhere.1.1.1.1.0 (λ e. absurd (omega (arith, e)))) (elsewhere.1.1.1.1.1.0 (λ e. absurd (omega (arith, e)))) told_put;
+    shows = insert_inside insert_total_text 6 5 four_terms insert_total_is old new store.ours given count h inside;
+  }
+
+-- ---- whether it answered Ok or not
+pub takes_if : (old new : State) (o : Option AccountId) (b : BandId) (d : Direction) (r : Result ℕ Error) → IsStore old.now → IsTrue old.in_transaction → Executes delete_total_text (params o b d) old new r → OnOk r (Makes (λ c. with_total c (total.Energy o b d) 0) old new)
+takes_if old new o b d (Ok n) store inside h = takes old new o b d n store inside h
+takes_if old new o b d (Err e) store inside h = tt
+
+pub taken_if : (old new : State) (o : Option AccountId) (b : BandId) (d : Direction) (r : Result ℕ Error) → IsStore old.now → IsTrue old.in_transaction → Executes delete_total_text (params o b d) old new r → OnOk r (energy_told (new.now.trees 11) (total.Energy o b d) ≡ None)
+taken_if old new o b d (Ok n) store inside h = taken old new o b d n store inside h
+taken_if old new o b d (Err e) store inside h = tt
+
+pub puts_if : (old new : State) (o : Option AccountId) (b : BandId) (d : Direction) (v : ℕ) (r : Result ℕ Error) → IsStore old.now → IsTrue old.in_transaction → energy_told (old.now.trees 11) (total.Energy o b d) ≡ None → Executes insert_total_text (reading_row (owner_place o) b.0 (direction_place d) v) old new r → OnOk r (Makes (λ c. with_total c (total.Energy o b d) v) old new)
+puts_if old new o b d v (Ok n) store inside none h = puts old new o b d v n store inside none h
+puts_if old new o b d v (Err e) store inside none h = tt

@@ -1,0 +1,297 @@
+-- Whether a record is among the rows, by the test that a query makes.
+use Rattle.std.proofs.Common.{add-one, arith, ◌≡◌, inl, inr, ℕ, zero, suc, ◌<◌, List, [], ◌∷◌, ◌++◌, map, length, Bool, true, false, ◌&&◌, Vec, Result, Ok, Err, IfOk, refl, sym, ap, subst, ◌∙◌, Ordering, Less, Equal, Greater, nat_cmp, None, Option}
+use Rattle.std.specs.List.{AllByRecursion, filter, list_all}
+use Rattle.std.specs.Ordering.{is_eq}
+use Rattle.std.specs.Cmp.{nat_cmp_is}
+use Rattle.std.specs.Cmp.Lexicographic.{slice_cmp, nat_list_cmp_total}
+use Rattle.std.proofs.lemmas.Bool.{cases_Bool, true≢false}
+use Rattle.std.proofs.lemmas.List.{length-map}
+use Rattle.std.proofs.lemmas.List.Sorted.{length_permutation}
+use Rattle.std.proofs.lemmas.Cmp.{tied_itself}
+use Rattle.sqlite.specs.declared.error.Error.{Error}
+use Rattle.sqlite.specs.Order.{Row, column}
+use Rattle.sqlite.specs.Term.{holds}
+use Rattle.sqlite.specs.Tree.{Trees}
+use Rattle.sqlite.specs.Query.{Output, output}
+use Rattle.sqlite.specs.State.{State, Shown}
+use Rattle.pw_obis.specs.declared.reference.Register.{Register}
+use Rattle.pw_obis.specs.declared.reference.Register.TheVariants.{I0}
+use Rattle.pw_tariff.specs.declared.ids.AccountId.{AccountId}
+use Rattle.pw_tariff.specs.declared.ids.MeterId.{MeterId}
+use Rattle.pw_tariff.specs.Office.{register_place}
+use Rattle.pw_tariff.specs.Cells.{owner_place}
+use Rattle.pw_model.specs.declared.records.Key.{Key}
+use Rattle.pw_model.specs.declared.records.Key.TheVariants as key
+use Rattle.pw_model.specs.declared.records.Content.{Content}
+use Rattle.pw_model.specs.declared.records.Content.TheVariants as content
+use Rattle.pw_model.specs.declared.records.Entry.{Entry}
+use Rattle.pw_model.specs.Counting.{Member}
+use Rattle.pw_model.proofs.EntryOrder.{numbers-tie}
+use Rattle.pw_schema.specs.Rows.{text, number, register_at, owner_at}
+use Rattle.pw_store.specs.inner.Records.{topup_row, topup_entry, reading_row, reading_entry, assignment_row, assignment_entry}
+use Rattle.pw_store.specs.Content.{topup_in, reading_in, assignment_in, records_of, topup_tree, reading_tree, assignment_tree, IsTopupRow, IsReadingRow, IsAssignmentRow}
+use Rattle.pw_store.specs.Kept.{IsStore}
+use Rattle.pw_store.proofs.Texts.{has_topup_text, has_topup_query, has_topup_is, has_reading_text, has_reading_query, has_reading_is, has_assignment_text, has_assignment_query, has_assignment_is}
+use Rattle.pw_store.proofs.Scans.{equal_ints, equal_texts, tied, scan_of, outputs, passing}
+use Rattle.pw_store.proofs.Lists.{seen, member_in, member_behind, topup_records, records_topup}
+use Rattle.pw_store.proofs.Adding.{owner_back, register_back}
+
+-- ---- tests in a row
+pub first : (a b : Bool) → (a && b) ≡ true → a ≡ true
+first true b e = refl
+first false b e = e
+
+pub second : (a b : Bool) → (a && b) ≡ true → b ≡ true
+second true b e = e
+second false b e = absurd (let bad : true ≡ false = sym e in cc)
+
+pub same_number : (n : ℕ) → is_eq (nat_cmp n n) ≡ true
+same_number n = ap is_eq (sym (nat_cmp_is n n Equal refl))
+
+pub texts_tied : (s t : List ℕ) → is_eq (slice_cmp nat_cmp s t) ≡ true → s ≡ t
+texts_tied s t e = go (slice_cmp nat_cmp s t) refl e
+  where
+    go : (o : Ordering) → slice_cmp nat_cmp s t ≡ o → is_eq o ≡ true → s ≡ t
+    go Less i f = absurd (let bad : true ≡ false = sym f in cc)
+    go Equal i f = numbers-tie s t i
+    go Greater i f = absurd (let bad : true ≡ false = sym f in cc)
+
+pub same_text : (t : List ℕ) → is_eq (slice_cmp nat_cmp t t) ≡ true
+same_text t = ap is_eq (tied_itself nat_list_cmp_total t)
+
+-- ---- a test that finds a record
+module _ (f : Row → Entry) (p : Row → Bool) (IsRow : Row → Type 0) (e : Entry) (each : (r : Row) → IsRow r → (p r ≡ true → f r ≡ e) × (f r ≡ e → p r ≡ true)) where
+  pub some_member : (rows : List Row) → AllByRecursion IsRow rows → 0 < length (filter p rows) → Member e (map f rows)
+  some_member [] all lt = absurd (omega (arith, lt))
+  some_member (r ∷ rows) all lt = elim (cases_Bool (p r)) [
+    | inl hit ↦ inl (sym ((each r all.0).0 hit))
+    | inr miss ↦ inr (some_member rows all.1 (rw miss at lt))
+  ]
+
+  pub member_some : (rows : List Row) → AllByRecursion IsRow rows → Member e (map f rows) → 0 < length (filter p rows)
+  member_some [] all m = absurd m
+  member_some (r ∷ rows) all m = elim (cases_Bool (p r)) [
+    | inl hit ↦ rw hit (omega arith)
+    | inr miss ↦ rw miss (elim m [
+      | inl i ↦ absurd (true≢false (sym ((each r all.0).1 (sym i)) ∙ miss))
+      | inr j ↦ member_some rows all.1 j
+    ])
+  ]
+
+-- ---- parts of a record
+abbrev pub reference_of : Key → List ℕ
+reference_of (key.TopUp r) = r
+reference_of _ = []
+
+abbrev number_in : ℕ → Content → ℕ
+number_in zero (content.TopUp a c t) = a.0
+number_in (suc zero) (content.TopUp a c t) = c
+number_in _ (content.TopUp a c t) = t
+number_in _ _ = 0
+
+abbrev pub meter_of : Key → ℕ
+meter_of (key.Reading m r t) = m.0
+meter_of (key.Assignment m t) = m.0
+meter_of _ = 0
+
+abbrev pub register_of : Key → Register
+register_of (key.Reading m r t) = r
+register_of _ = I0
+
+abbrev pub second_of : Key → ℕ
+second_of (key.Reading m r t) = t
+second_of (key.Assignment m t) = t
+second_of _ = 0
+
+abbrev wh_in : Content → ℕ
+wh_in (content.Reading w) = w
+wh_in _ = 0
+
+abbrev owner_in : Content → Option AccountId
+owner_in (content.Assignment o) = o
+owner_in _ = None
+
+-- ---- top-ups
+module _ (t : List ℕ) (a c i : ℕ) where
+  abbrev passes : Row → Bool
+  passes r = list_all (holds (topup_row t a c i ∷ r ∷ [])) has_topup_query.filter
+
+  tests : (r : Row) → IsTopupRow r → passes r ≡ (is_eq (slice_cmp nat_cmp (text (column r 1)) t) && (is_eq (nat_cmp (number (column r 2)) a) && (is_eq (nat_cmp (number (column r 3)) c) && (is_eq (nat_cmp (number (column r 4)) i) && true))))
+  tests r it = rw (it.0, it.1.0, it.1.1.0, it.1.1.1) (rw (equal_texts (text (column r 1)) t, equal_ints (number (column r 2)) a, equal_ints (number (column r 3)) c, equal_ints (number (column r 4)) i) refl)
+
+  pub each_topup : (r : Row) → IsTopupRow r → (passes r ≡ true → topup_in r ≡ topup_entry t (record { 0 = a }) c i) × (topup_in r ≡ topup_entry t (record { 0 = a }) c i → passes r ≡ true)
+  each_topup r it = (
+    λ hit.
+        let h = sym (tests r it) ∙ hit in
+        let h1 = second (is_eq (slice_cmp nat_cmp (text (column r 1)) t)) _ h in
+        let h2 = second (is_eq (nat_cmp (number (column r 2)) a)) _ h1 in
+        let h3 = second (is_eq (nat_cmp (number (column r 3)) c)) _ h2 in
+        let et = texts_tied (text (column r 1)) t (first _ _ h) in
+        let ea = tied (number (column r 2)) a (first _ _ h1) in
+        let ec = tied (number (column r 3)) c (first _ _ h2) in
+        let ei = tied (number (column r 4)) i (first _ _ h3) in
+        λ j. topup_entry (et j) (record { 0 = ea j }) (ec j) (ei j),
+    λ same.
+        let et : text (column r 1) ≡ t = ap (λ (x : Entry). reference_of x.key) same in
+        let ea : number (column r 2) ≡ a = ap (λ (x : Entry). number_in 0 x.content) same in
+        let ec : number (column r 3) ≡ c = ap (λ (x : Entry). number_in 1 x.content) same in
+        let ei : number (column r 4) ≡ i = ap (λ (x : Entry). number_in 2 x.content) same in
+        tests r it ∙ rw (et, ea, ec, ei) (rw (same_text t, same_number a, same_number c, same_number i) refl),
+  )
+
+shown_many : (q : _) (tree : ℕ) (params : Row) (table : List Row) → length (map (λ (o : Output). o.1) (outputs (scan_of tree q) params table)) ≡ length (passing params q.filter table)
+shown_many q tree params table =
+    length-map (outputs (scan_of tree q) params table) (λ (o : Output). o.1)
+    ∙ length-map (map (λ r. params ∷ r ∷ []) (passing params q.filter table)) (output (scan_of tree q))
+    ∙ length-map (passing params q.filter table) (λ (r : Row). params ∷ r ∷ [])
+
+pub finds_topup : (old new : State) (t : List ℕ) (a c i : ℕ) (rows : List Row) → IsStore old.now → Shown has_topup_text (topup_row t a c i) old new rows
+    → (0 < length rows → Member (topup_entry t (record { 0 = a }) c i) (records_of old.now.trees)) × (Member (topup_entry t (record { 0 = a }) c i) (records_of old.now.trees) → 0 < length rows)
+finds_topup old new t a c i rows store h =
+    let table = old.now.trees topup_tree in
+    let e = topup_entry t (record { 0 = a }) c i in
+    let s = seen has_topup_text 5 has_topup_query _ has_topup_is (topup_row t a c i) old new rows store.ours h in
+    let many : length rows ≡ length (filter (passes t a c i) table) = ap length s.2 ∙ length_permutation _ _ s.1 ∙ shown_many has_topup_query 5 (topup_row t a c i) table in (
+      λ lt. records_topup old.now.trees e (some_member topup_in (passes t a c i) IsTopupRow e (each_topup t a c i) table store.topups (omega (arith, lt, many))),
+      λ m. (let lt = member_some topup_in (passes t a c i) IsTopupRow e (each_topup t a c i) table store.topups (topup_records old.now.trees e m tt) in omega (arith, lt, many)),
+    )
+
+pub finds_topup_if : {Z : Type 0} (old new : State) (t : List ℕ) (a c i : ℕ) (r : Result (Vec Row Z) Error) → IsStore old.now → IfOk r (λ rows. Shown has_topup_text (topup_row t a c i) old new rows.items)
+    → IfOk r (λ rows. (0 < length rows.items → Member (topup_entry t (record { 0 = a }) c i) (records_of old.now.trees)) × (Member (topup_entry t (record { 0 = a }) c i) (records_of old.now.trees) → 0 < length rows.items))
+finds_topup_if old new t a c i (Ok rows) store h = finds_topup old new t a c i rows.items store h
+finds_topup_if old new t a c i (Err e) store h = tt
+
+-- ---- kinds of keys
+abbrev pub IsReading : Key → Type 0
+IsReading (key.Reading m r t) = Unit {0}
+IsReading _ = ⊥
+
+abbrev pub IsAssignment : Key → Type 0
+IsAssignment (key.Assignment m t) = Unit {0}
+IsAssignment _ = ⊥
+
+none_in : (f : Row → Entry) (P : Key → Type 0) → ((r : Row) → P (f r).key → ⊥) → (rows : List Row) (x : Entry) → Member x (map f rows) → P x.key → ⊥
+none_in f P never [] x m is = m
+none_in f P never (r ∷ rows) x (inl i) is = never r (subst (λ (e : Entry). P e.key) i is)
+none_in f P never (r ∷ rows) x (inr m) is = none_in f P never rows x m is
+
+front : (x : Entry) (xs ys : List Entry) → Member x xs → Member x (xs ++ ys)
+front x [] ys m = absurd m
+front x (z ∷ xs) ys (inl i) = inl i
+front x (z ∷ xs) ys (inr m) = inr (front x xs ys m)
+
+pub reading_records : (db : Trees) (x : Entry) → Member x (records_of db) → IsReading x.key → Member x (map reading_in (db reading_tree))
+reading_records db x m is = elim (member_in x (map reading_in (db reading_tree)) _ m) [
+  | inl a ↦ a
+  | inr b ↦ elim (member_in x (map assignment_in (db assignment_tree)) _ b) [
+    | inl c ↦ absurd (none_in assignment_in IsReading (λ r k. k) (db assignment_tree) x c is)
+    | inr d ↦ absurd (none_in topup_in IsReading (λ r k. k) (db topup_tree) x d is)
+  ]
+]
+
+pub records_reading : (db : Trees) (x : Entry) → Member x (map reading_in (db reading_tree)) → Member x (records_of db)
+records_reading db x m = front x (map reading_in (db reading_tree)) _ m
+
+pub assignment_records : (db : Trees) (x : Entry) → Member x (records_of db) → IsAssignment x.key → Member x (map assignment_in (db assignment_tree))
+assignment_records db x m is = elim (member_in x (map reading_in (db reading_tree)) _ m) [
+  | inl a ↦ absurd (none_in reading_in IsAssignment (λ r k. k) (db reading_tree) x a is)
+  | inr b ↦ elim (member_in x (map assignment_in (db assignment_tree)) _ b) [
+    | inl c ↦ c
+    | inr d ↦ absurd (none_in topup_in IsAssignment (λ r k. k) (db topup_tree) x d is)
+  ]
+]
+
+pub records_assignment : (db : Trees) (x : Entry) → Member x (map assignment_in (db assignment_tree)) → Member x (records_of db)
+records_assignment db x m = member_behind x (map reading_in (db reading_tree)) _ (front x (map assignment_in (db assignment_tree)) _ m)
+
+-- ---- readings
+module _ (m : MeterId) (g : Register) (i v : ℕ) where
+  abbrev passes_reading : Row → Bool
+  passes_reading r = list_all (holds (reading_row m.0 (register_place g) i v ∷ r ∷ [])) has_reading_query.filter
+
+  tests_reading : (r : Row) → IsReadingRow r → passes_reading r ≡ (is_eq (nat_cmp (number (column r 1)) m.0) && (is_eq (nat_cmp (number (column r 2)) (register_place g)) && (is_eq (nat_cmp (number (column r 3)) i) && (is_eq (nat_cmp (number (column r 4)) v) && true))))
+  tests_reading r it = rw (it.0, it.1.0, it.1.1.0, it.1.1.1) (rw (equal_ints (number (column r 1)) m.0, equal_ints (register_place (register_at (number (column r 2)))) (register_place g), equal_ints (number (column r 3)) i, equal_ints (number (column r 4)) v) refl)
+
+  pub each_reading : (r : Row) → IsReadingRow r → (passes_reading r ≡ true → reading_in r ≡ reading_entry m g i v) × (reading_in r ≡ reading_entry m g i v → passes_reading r ≡ true)
+  each_reading r it = (
+    λ hit.
+        let h = sym (tests_reading r it) ∙ hit in
+        let h1 = second (is_eq (nat_cmp (number (column r 1)) m.0)) _ h in
+        let h2 = second (is_eq (nat_cmp (number (column r 2)) (register_place g))) _ h1 in
+        let h3 = second (is_eq (nat_cmp (number (column r 3)) i)) _ h2 in
+        let em = tied (number (column r 1)) m.0 (first _ _ h) in
+        let eg = ap register_at (tied (number (column r 2)) (register_place g) (first _ _ h1)) ∙ register_back g in
+        let ei = tied (number (column r 3)) i (first _ _ h2) in
+        let ev = tied (number (column r 4)) v (first _ _ h3) in
+        λ j. reading_entry (record { 0 = em j }) (eg j) (ei j) (ev j),
+    λ same.
+        let em : number (column r 1) ≡ m.0 = ap (λ (x : Entry). meter_of x.key) same in
+        let eg : number (column r 2) ≡ register_place g = ap number it.1.0 ∙ ap register_place (ap (λ (x : Entry). register_of x.key) same) in
+        let ei : number (column r 3) ≡ i = ap (λ (x : Entry). second_of x.key) same in
+        let ev : number (column r 4) ≡ v = ap (λ (x : Entry). wh_in x.content) same in
+        tests_reading r it ∙ rw (em, eg, ei, ev) (rw (same_number m.0, same_number (register_place g), same_number i, same_number v) refl),
+  )
+
+pub finds_reading : (old new : State) (m : MeterId) (g : Register) (i v : ℕ) (rows : List Row) → IsStore old.now → Shown has_reading_text (reading_row m.0 (register_place g) i v) old new rows
+    → (0 < length rows → Member (reading_entry m g i v) (records_of old.now.trees)) × (Member (reading_entry m g i v) (records_of old.now.trees) → 0 < length rows)
+finds_reading old new m g i v rows store h =
+    let table = old.now.trees reading_tree in
+    let e = reading_entry m g i v in
+    let s = seen has_reading_text 1 has_reading_query _ has_reading_is (reading_row m.0 (register_place g) i v) old new rows store.ours h in
+    let many : length rows ≡ length (filter (passes_reading m g i v) table) = ap length s.2 ∙ length_permutation _ _ s.1 ∙ shown_many has_reading_query 1 (reading_row m.0 (register_place g) i v) table in (
+      λ lt. records_reading old.now.trees e (some_member reading_in (passes_reading m g i v) IsReadingRow e (each_reading m g i v) table store.readings (omega (arith, lt, many))),
+      λ k. (let lt = member_some reading_in (passes_reading m g i v) IsReadingRow e (each_reading m g i v) table store.readings (reading_records old.now.trees e k tt) in omega (arith, lt, many)),
+    )
+
+pub finds_reading_if : {Z : Type 0} (old new : State) (m : MeterId) (g : Register) (i v : ℕ) (r : Result (Vec Row Z) Error) → IsStore old.now → IfOk r (λ rows. Shown has_reading_text (reading_row m.0 (register_place g) i v) old new rows.items)
+    → IfOk r (λ rows. (0 < length rows.items → Member (reading_entry m g i v) (records_of old.now.trees)) × (Member (reading_entry m g i v) (records_of old.now.trees) → 0 < length rows.items))
+finds_reading_if old new m g i v (Ok rows) store h = finds_reading old new m g i v rows.items store h
+finds_reading_if old new m g i v (Err e) store h = tt
+
+-- ---- assignments
+pub owner_one : (n : ℕ) (o : Option AccountId) → n ≡ owner_place o → owner_at n ≡ o
+owner_one n o e = ap owner_at e ∙ owner_back o
+
+pub place_one : (n : ℕ) (o : Option AccountId) → owner_at n ≡ o → n ≡ owner_place o
+place_one zero o e = ap owner_place e
+place_one (suc n) o e = sym (add-one n) ∙ ap owner_place e
+
+module _ (m : MeterId) (i : ℕ) (o : Option AccountId) where
+  abbrev passes_assignment : Row → Bool
+  passes_assignment r = list_all (holds (assignment_row m.0 i (owner_place o) ∷ r ∷ [])) has_assignment_query.filter
+
+  tests_assignment : (r : Row) → IsAssignmentRow r → passes_assignment r ≡ (is_eq (nat_cmp (number (column r 1)) m.0) && (is_eq (nat_cmp (number (column r 2)) i) && (is_eq (nat_cmp (number (column r 3)) (owner_place o)) && true)))
+  tests_assignment r it = rw (it.0, it.1.0, it.1.1) (rw (equal_ints (number (column r 1)) m.0, equal_ints (number (column r 2)) i, equal_ints (number (column r 3)) (owner_place o)) refl)
+
+  pub each_assignment : (r : Row) → IsAssignmentRow r → (passes_assignment r ≡ true → assignment_in r ≡ assignment_entry m i o) × (assignment_in r ≡ assignment_entry m i o → passes_assignment r ≡ true)
+  each_assignment r it = (
+    λ hit.
+        let h = sym (tests_assignment r it) ∙ hit in
+        let h1 = second (is_eq (nat_cmp (number (column r 1)) m.0)) _ h in
+        let h2 = second (is_eq (nat_cmp (number (column r 2)) i)) _ h1 in
+        let em = tied (number (column r 1)) m.0 (first _ _ h) in
+        let ei = tied (number (column r 2)) i (first _ _ h1) in
+        let eo = owner_one (number (column r 3)) o (tied (number (column r 3)) (owner_place o) (first _ _ h2)) in
+        λ j. assignment_entry (record { 0 = em j }) (ei j) (eo j),
+    λ same.
+        let em : number (column r 1) ≡ m.0 = ap (λ (x : Entry). meter_of x.key) same in
+        let ei : number (column r 2) ≡ i = ap (λ (x : Entry). second_of x.key) same in
+        let eo : number (column r 3) ≡ owner_place o = place_one (number (column r 3)) o (ap (λ (x : Entry). owner_in x.content) same) in
+        tests_assignment r it ∙ rw (em, ei, eo) (rw (same_number m.0, same_number i, same_number (owner_place o)) refl),
+  )
+
+pub finds_assignment : (old new : State) (m : MeterId) (i : ℕ) (o : Option AccountId) (rows : List Row) → IsStore old.now → Shown has_assignment_text (assignment_row m.0 i (owner_place o)) old new rows
+    → (0 < length rows → Member (assignment_entry m i o) (records_of old.now.trees)) × (Member (assignment_entry m i o) (records_of old.now.trees) → 0 < length rows)
+finds_assignment old new m i o rows store h =
+    let table = old.now.trees assignment_tree in
+    let e = assignment_entry m i o in
+    let s = seen has_assignment_text 3 has_assignment_query _ has_assignment_is (assignment_row m.0 i (owner_place o)) old new rows store.ours h in
+    let many : length rows ≡ length (filter (passes_assignment m i o) table) = ap length s.2 ∙ length_permutation _ _ s.1 ∙ shown_many has_assignment_query 3 (assignment_row m.0 i (owner_place o)) table in (
+      λ lt. records_assignment old.now.trees e (some_member assignment_in (passes_assignment m i o) IsAssignmentRow e (each_assignment m i o) table store.assignments (omega (arith, lt, many))),
+      λ k. (let lt = member_some assignment_in (passes_assignment m i o) IsAssignmentRow e (each_assignment m i o) table store.assignments (assignment_records old.now.trees e k tt) in omega (arith, lt, many)),
+    )
+
+pub finds_assignment_if : {Z : Type 0} (old new : State) (m : MeterId) (i : ℕ) (o : Option AccountId) (r : Result (Vec Row Z) Error) → IsStore old.now → IfOk r (λ rows. Shown has_assignment_text (assignment_row m.0 i (owner_place o)) old new rows.items)
+    → IfOk r (λ rows. (0 < length rows.items → Member (assignment_entry m i o) (records_of old.now.trees)) × (Member (assignment_entry m i o) (records_of old.now.trees) → 0 < length rows.items))
+finds_assignment_if old new m i o (Ok rows) store h = finds_assignment old new m i o rows.items store h
+finds_assignment_if old new m i o (Err e) store h = tt

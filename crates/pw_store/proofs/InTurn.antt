@@ -1,0 +1,87 @@
+-- Seconds that are read one by one, and what a question finds behind a statement that changes nothing.
+use Rattle.std.proofs.Common.{◌≡◌, ◌<◌, ◌≤◌, ◌↔◌, ℕ, List, [], ◌∷◌, ◌++◌, map, length, Option, Some, None, Vec, Result, Ok, Err, IfOk, IfSome, refl, sym, ap, subst, ◌∙◌, inl, inr, nat_cmp, arith}
+use Rattle.std.proofs.lemmas.List.{map-append}
+use Rattle.std.specs.Cmp.{ranked, nat_cmp_is}
+use Rattle.std.specs.declared.cmp.Ordering.TheVariants.{Less}
+use Rattle.sqlite.specs.Order.{Row}
+use Rattle.sqlite.specs.Tree.{Trees}
+use Rattle.sqlite.specs.Effect.{Database}
+use Rattle.sqlite.specs.State.{State, IsUnchanged}
+use Rattle.pw_model.specs.Counting.{Member}
+use Rattle.pw_model.specs.Lists.{IsInOrder, IsBeforeAll}
+use Rattle.pw_shelf.specs.Seconds.{by_second, IsBefore, IsBehind, ListsSeconds, ListsSecondsWithin}
+use Rattle.pw_store.specs.inner.Seconds.{first_amount, first_point}
+
+-- the last second of a list, if it has one
+abbrev pub IsLastSecond : {X : Type 0} → Option ℕ → List (ℕ × X) → Type 0
+IsLastSecond None xs = xs ≡ []
+IsLastSecond {X} (Some t) xs = (front : List (ℕ × X)) × (a : X) × (xs ≡ front ++ (t, a) ∷ [])
+
+module _ {X : Type 0} where
+  earlier : (x y : ℕ × X) → by_second x y ≡ Less → x.0 < y.0
+  earlier x y e = ranked x.0 y.0 Less (sym e)
+
+  in_time : (x y : ℕ × X) → x.0 < y.0 → by_second x y ≡ Less
+  in_time x y l = sym (nat_cmp_is x.0 y.0 Less l)
+
+  ends : (x y : ℕ × X) (front : List (ℕ × X)) → IsBeforeAll by_second x (front ++ y ∷ []) → x.0 < y.0
+  ends x y [] b = earlier x y b.0
+  ends x y (z ∷ front) b = ends x y front b.1
+
+  -- what stands behind the last stands behind all
+  all_before : (front : List (ℕ × X)) (l e : ℕ × X) → IsInOrder by_second (front ++ l ∷ []) → l.0 < e.0 → (x : ℕ × X) → Member x (front ++ l ∷ []) → by_second x e ≡ Less
+  all_before [] l e rising low x (inl i) = in_time x e (subst (λ (y : ℕ × X). y.0 < e.0) (sym i) low)
+  all_before [] l e rising low x (inr m) = absurd m
+  all_before (z ∷ front) l e rising low x (inl i) = in_time x e (subst (λ (y : ℕ × X). y.0 < e.0) (sym i) (let first = ends z l front rising.0 in omega (arith, first, low)))
+  all_before (z ∷ front) l e rising low x (inr m) = all_before front l e rising.1 low x m
+
+  before_push : (x e : ℕ × X) (xs : List (ℕ × X)) → IsBeforeAll by_second x xs → by_second x e ≡ Less → IsBeforeAll by_second x (xs ++ e ∷ [])
+  before_push x e [] h l = (l, tt)
+  before_push x e (z ∷ xs) h l = (h.0, before_push x e xs h.1 l)
+
+  rising_push : (e : ℕ × X) (xs : List (ℕ × X)) → IsInOrder by_second xs → ((x : ℕ × X) → Member x xs → by_second x e ≡ Less) → IsInOrder by_second (xs ++ e ∷ [])
+  rising_push e [] h l = (tt, tt)
+  rising_push e (z ∷ xs) h l = (before_push z e xs h.0 (l z (inl refl)), rising_push e xs h.1 (λ x m. l x (inr m)))
+
+  pub second_push : (last : Option ℕ) (found : List (ℕ × X)) (e : ℕ × X) → IsInOrder by_second found → IsLastSecond last found → IfSome last (λ l. l < e.0) → IsInOrder by_second (found ++ e ∷ [])
+  second_push None found e rising is low = subst (λ xs. IsInOrder by_second (xs ++ e ∷ [])) (sym is) (tt, tt)
+  second_push (Some t) found e rising is low =
+      rising_push e found rising (λ x m. all_before is.0 (t, is.1) e (subst (IsInOrder by_second) is.2 rising) low x (subst (Member x) is.2 m))
+
+  pub told_push : (told : Row → ℕ × X) (rows more : List Row) (row : Row) (found new : List (ℕ × X)) (e : ℕ × X) → found ≡ map told rows → e ≡ told row → new ≡ found ++ e ∷ [] → more ≡ rows ++ row ∷ [] → new ≡ map told more
+  told_push told rows more row found new e so one is more_is =
+      is ∙ ap (λ xs. xs ++ e ∷ []) so ∙ ap (λ x. map told rows ++ x ∷ []) one ∙ sym (map-append told rows (row ∷ [])) ∙ ap (map told) (sym more_is)
+
+-- ---- behind a statement that changes nothing
+pub trees_same : (old new : State) → IsUnchanged old new → new.now.trees ≡ old.now.trees
+trees_same old new u = ap (λ (d : Database). d.trees) u.0.now_is
+
+pub one_if : {F : Type 0} (r : Result (Option (ℕ × ℕ)) F) (P : Trees → Option (ℕ × ℕ) → Type 0) (before after : Trees) (shown rows : List Row) → shown ≡ rows → after ≡ before → P after (first_point rows)
+    → IfOk r (λ found. found ≡ first_point shown) → IfOk r (λ found. P before found)
+one_if (Err f) P before after shown rows is same h told = tt
+one_if (Ok found) P before after shown rows is same h told = subst (λ db. P db found) same (subst (P after) (sym (told ∙ ap first_point is)) h)
+
+pub amount_if : {F : Type 0} (r : Result ℕ F) (sum : Trees → ℕ) (before after : Trees) (shown rows : List Row) → shown ≡ rows → after ≡ before → (length rows ≤ 1 → first_amount rows ≡ sum after)
+    → IfOk r (λ n. length shown ≤ 1) → IfOk r (λ n. first_amount shown ≡ n) → IfOk r (λ n. n ≡ sum before)
+amount_if (Err f) sum before after shown rows is same h few told = tt
+amount_if (Ok n) sum before after shown rows is same h few told =
+    sym told ∙ ap first_amount is ∙ h (subst (λ xs. length xs ≤ 1) is few) ∙ ap sum same
+
+pub list_if : {X Z F : Type 0} (r : Result (Vec (ℕ × X) Z) F) (told : Row → ℕ × X) (P : Trees → ℕ × X → Type 0) (before after : Trees) (shown rows : List Row) → shown ≡ rows → after ≡ before
+    → ((x : ℕ × X) → Member x (map told rows) ↔ P after x)
+    → IfOk r (λ found. found.items ≡ map told shown) → IfOk r (λ found. IsInOrder by_second found.items) → IfOk r (λ found. IsInOrder by_second found.items × ((x : ℕ × X) → Member x found.items ↔ P before x))
+list_if (Err f) told P before after shown rows is same h told_is rising = tt
+list_if {X} (Ok found) told P before after shown rows is same h told_is rising = (
+  rising,
+  subst (λ db. (x : ℕ × X) → Member x found.items ↔ P db x) same (subst (λ xs. (x : ℕ × X) → Member x xs ↔ P after x) (sym (told_is ∙ ap (map told) is)) h),
+)
+
+pub lists_within : {Z F : Type 0} (r : Result (Vec (ℕ × ℕ) Z) F) (from to : ℕ) (told : ℕ → Option ℕ)
+    → IfOk r (λ found. IsInOrder by_second found.items × ((x : ℕ × ℕ) → Member x found.items ↔ ((from ≤ x.0) × (x.0 ≤ to) × (told x.0 ≡ Some x.1)))) → IfOk r (λ found. ListsSecondsWithin from to told found.items)
+lists_within (Err f) from to told h = tt
+lists_within (Ok found) from to told h = record { rising = h.0; members = h.1 }
+
+pub lists_seconds : {X Z F : Type 0} (r : Result (Vec (ℕ × X) Z) F) (told : ℕ → Option X)
+    → IfOk r (λ found. IsInOrder by_second found.items × ((x : ℕ × X) → Member x found.items ↔ (told x.0 ≡ Some x.1))) → IfOk r (λ found. ListsSeconds told found.items)
+lists_seconds (Err f) told h = tt
+lists_seconds (Ok found) told h = record { rising = h.0; members = h.1 }

@@ -1,0 +1,162 @@
+-- What a change of one table leaves of the others.
+use Rattle.std.proofs.Common.{◌≡◌, ◌≢◌, ◌<◌, ◌++◌, ℕ, Bool, true, false, cond, List, map, Option, Some, None, unwrap_or, refl, sym, subst, ap, ◌∙◌, inl, inr, Decides, arith}
+use Rattle.std.proofs.lemmas.Bool.{cases_Bool}
+use Rattle.std.specs.Cmp.Lexicographic.{bytes_decides}
+use Rattle.std.proofs.lemmas.Bool.Decides.{Decides-like}
+use Rattle.std.specs.List.{AllByRecursion}
+use Rattle.sqlite.specs.Tree.{Trees}
+use Rattle.sqlite.specs.Order.{Row}
+use Rattle.sqlite.specs.Term.{Term}
+use Rattle.sqlite.specs.Effect.{Database}
+use Rattle.pw_obis.specs.declared.reference.Register.{Register}
+use Rattle.pw_tariff.specs.declared.ids.AccountId.{AccountId}
+use Rattle.pw_tariff.specs.declared.ids.BandId.{BandId}
+use Rattle.pw_tariff.specs.declared.ids.Direction.{Direction}
+use Rattle.pw_model.specs.Same.{total_numbers}
+use Rattle.pw_shelf.specs.Changes.{same_total, totals_with, points_with, starts_with, with_point, with_start, with_total}
+use Rattle.pw_model.specs.Counting.{EachOnce}
+use Rattle.pw_store.specs.Keyed.{AreKeyed, IsEnergyRow, IsPaymentRow}
+use Rattle.pw_store.specs.Kept.{IsStore, key_in_point, key_in_start}
+use Rattle.pw_model.specs.declared.records.Entry.{Entry}
+use Rattle.pw_model.specs.declared.records.TotalKey.{TotalKey}
+use Rattle.pw_model.specs.declared.records.TotalKey.TheVariants as total
+use Rattle.pw_model.specs.Counting.{IsInserted}
+use Rattle.pw_shelf.specs.State.{IsWithRecord}
+use Rattle.pw_schema.proofs.TotalKeys.{totals_one}
+use Rattle.pw_schema.specs.Tables.{IsOurs, ours_with, checks_of}
+use Rattle.pw_store.specs.Content.{content_of, records_of, reading_in, assignment_in, topup_in, energy_in, payment_in, IsReadingRow, IsAssignmentRow, IsTopupRow, point_in, start_in, total_in, energy_told, payment_told, reading_tree, assignment_tree, topup_tree, point_tree, start_tree, total_tree, payment_tree}
+
+-- the trees of points, starts and totals are the same
+pub record SameSums (old new : Trees) : Type 0 where
+  pub point : new point_tree ≡ old point_tree
+  pub start : new start_tree ≡ old start_tree
+  pub total : new total_tree ≡ old total_tree
+  pub payment : new payment_tree ≡ old payment_tree
+
+-- those of the records are
+pub record SameRecords (old new : Trees) : Type 0 where
+  pub reading : new reading_tree ≡ old reading_tree
+  pub assignment : new assignment_tree ≡ old assignment_tree
+  pub topup : new topup_tree ≡ old topup_tree
+
+pub same_sums : (checks : List Term) (tree : ℕ) (old new : Trees) → tree < 7 → AllByRecursion (λ t. t.tree ≢ tree → new t.tree ≡ old t.tree) (ours_with checks).tables → SameSums old new
+same_sums checks tree old new low t = record {
+  point = t.1.1.1.1.0 (λ e. omega (arith, e, low));
+  start = t.1.1.1.1.1.0 (λ e. omega (arith, e, low));
+  total = t.1.1.1.1.1.1.0 (λ e. omega (arith, e, low));
+  payment = t.1.1.1.1.1.1.1.0 (λ e. omega (arith, e, low));
+}
+
+pub same_totals : (old new : Trees) → new total_tree ≡ old total_tree → new payment_tree ≡ old payment_tree → total_in new ≡ total_in old
+same_totals old new e p = λ i k. go k i
+  where
+    go : (k : TotalKey) → total_in new k ≡ total_in old k
+    go (total.Energy o b d) = ap (λ (rows : List Row). unwrap_or (energy_told rows (total.Energy o b d)) 0) e
+    go (total.TopUps a) = ap (λ (rows : List Row). unwrap_or (payment_told rows (total.TopUps a)) 0) p
+
+pub with_record : (e : Entry) (old new : Trees) → IsInserted e (records_of old) (records_of new) → SameSums old new → IsWithRecord (content_of old) e (content_of new)
+with_record e old new inserted same = record {
+  records = inserted;
+  point = ap point_in same.point;
+  start = ap start_in same.start;
+  total = same_totals old new same.total same.payment;
+}
+
+-- ---- a change of points, starts or totals leaves the records
+abbrev pub AreElseSame : List Term → ℕ → Trees → Trees → Type 0
+AreElseSame checks tree old new = AllByRecursion (λ t. t.tree ≢ tree → new t.tree ≡ old t.tree) (ours_with checks).tables
+
+pub same_records : (checks : List Term) (tree : ℕ) (old new : Trees) → 6 < tree → AreElseSame checks tree old new → SameRecords old new
+same_records checks tree old new high t = record {
+  reading = t.1.0 (λ e. omega (arith, e, high));
+  assignment = t.1.1.0 (λ e. omega (arith, e, high));
+  topup = t.1.1.1.0 (λ e. omega (arith, e, high));
+}
+
+pub records_kept : (old new : Trees) → SameRecords old new → records_of new ≡ records_of old
+records_kept old new same = rw (same.reading, same.assignment, same.topup) refl
+
+-- a schema that is that of our tables with some checks is ours
+ours_is : (schema : _) (checks : List Term) → schema ≡ ours_with checks → IsOurs schema
+ours_is schema checks e = e ∙ ap (λ t. ours_with (checks_of t)) (sym e)
+
+pub store_kept : (checks : List Term) (old new : Database) → new.schema ≡ ours_with checks → SameRecords old.trees new.trees → IsStore old
+    → AreKeyed IsReadingRow key_in_point (new.trees point_tree) → AreKeyed IsAssignmentRow key_in_start (new.trees start_tree)
+    → AreKeyed IsEnergyRow energy_in (new.trees total_tree) → AreKeyed IsPaymentRow payment_in (new.trees payment_tree) → IsStore new
+store_kept checks old new is same store p s e y = record {
+  ours = ours_is new.schema checks is;
+  readings = subst (AllByRecursion IsReadingRow) (sym same.reading) store.readings;
+  assignments = subst (AllByRecursion IsAssignmentRow) (sym same.assignment) store.assignments;
+  topups = subst (AllByRecursion IsTopupRow) (sym same.topup) store.topups;
+  once = subst EachOnce (sym (records_kept old.trees new.trees same)) store.once;
+  points = p;
+  starts = s;
+  energies = e;
+  payments = y;
+}
+
+-- ---- keys of totals
+pub same_total-decides : (k l : TotalKey) → Decides (same_total k l) (k ≡ l)
+same_total-decides k l = Decides-like (same_total k l) (totals_one k l) (λ e. ap total_numbers e) (bytes_decides (total_numbers k) (total_numbers l))
+
+pub energy_apart : (o : Option AccountId) (b : BandId) (d : Direction) (a : AccountId) → same_total (total.Energy o b d) (total.TopUps a) ≡ false
+energy_apart o b d a = elim (cases_Bool (same_total (total.Energy o b d) (total.TopUps a))) [
+  | inl up ↦ absurd (let e = (same_total-decides (total.Energy o b d) (total.TopUps a)).0 up in cc)
+  | inr down ↦ down
+]
+
+pub payment_apart : (o : Option AccountId) (b : BandId) (d : Direction) (a : AccountId) → same_total (total.TopUps a) (total.Energy o b d) ≡ false
+payment_apart o b d a = elim (cases_Bool (same_total (total.TopUps a) (total.Energy o b d))) [
+  | inl up ↦ absurd (let e = (same_total-decides (total.TopUps a) (total.Energy o b d)).0 up in cc)
+  | inr down ↦ down
+]
+
+or_none : (c : Bool) (v x : Option ℕ) → unwrap_or (cond c v x) 0 ≡ cond c (unwrap_or v 0) (unwrap_or x 0)
+or_none true v x = refl
+or_none false v x = refl
+
+pub energies_with : (old new : Trees) (o : Option AccountId) (b : BandId) (d : Direction) (v : Option ℕ) → new payment_tree ≡ old payment_tree
+    → ((l : TotalKey) → energy_told (new total_tree) l ≡ cond (same_total (total.Energy o b d) l) v (energy_told (old total_tree) l))
+    → total_in new ≡ totals_with (total_in old) (total.Energy o b d) (unwrap_or v 0)
+energies_with old new o b d v same told = λ i k. go k i
+  where
+    go : (k : TotalKey) → total_in new k ≡ totals_with (total_in old) (total.Energy o b d) (unwrap_or v 0) k
+    go (total.Energy p c e) = ap (λ x. unwrap_or x 0) (told (total.Energy p c e)) ∙ or_none (same_total (total.Energy o b d) (total.Energy p c e)) v (energy_told (old total_tree) (total.Energy p c e))
+    go (total.TopUps a) = ap (λ (rows : List Row). unwrap_or (payment_told rows (total.TopUps a)) 0) same ∙ sym (ap (λ c. cond c (unwrap_or v 0) (total_in old (total.TopUps a))) (energy_apart o b d a))
+
+pub payments_with : (old new : Trees) (a : AccountId) (v : Option ℕ) → new total_tree ≡ old total_tree
+    → ((l : TotalKey) → payment_told (new payment_tree) l ≡ cond (same_total (total.TopUps a) l) v (payment_told (old payment_tree) l))
+    → total_in new ≡ totals_with (total_in old) (total.TopUps a) (unwrap_or v 0)
+payments_with old new a v same told = λ i k. go k i
+  where
+    go : (k : TotalKey) → total_in new k ≡ totals_with (total_in old) (total.TopUps a) (unwrap_or v 0) k
+    go (total.TopUps c) = ap (λ x. unwrap_or x 0) (told (total.TopUps c)) ∙ or_none (same_total (total.TopUps a) (total.TopUps c)) v (payment_told (old payment_tree) (total.TopUps c))
+    go (total.Energy p c e) = ap (λ (rows : List Row). unwrap_or (energy_told rows (total.Energy p c e)) 0) same ∙ sym (ap (λ t. cond t (unwrap_or v 0) (total_in old (total.Energy p c e))) (payment_apart p c e a))
+
+-- ---- contents with one change
+pub content_with_point : (old new : Trees) (m : ℕ) (r : Register) (t : ℕ) (v : Option ℕ) → SameRecords old new → new start_tree ≡ old start_tree → new total_tree ≡ old total_tree → new payment_tree ≡ old payment_tree
+    → point_in (new point_tree) ≡ points_with (point_in (old point_tree)) m r t v → content_of new ≡ with_point (content_of old) m r t v
+content_with_point old new m r t v same s e y told = λ i. record {
+  records = records_kept old new same i;
+  point = told i;
+  start = ap start_in s i;
+  total = same_totals old new e y i;
+}
+
+pub content_with_start : (old new : Trees) (m t : ℕ) (v : Option (Option AccountId)) → SameRecords old new → new point_tree ≡ old point_tree → new total_tree ≡ old total_tree → new payment_tree ≡ old payment_tree
+    → start_in (new start_tree) ≡ starts_with (start_in (old start_tree)) m t v → content_of new ≡ with_start (content_of old) m t v
+content_with_start old new m t v same p e y told = λ i. record {
+  records = records_kept old new same i;
+  point = ap point_in p i;
+  start = told i;
+  total = same_totals old new e y i;
+}
+
+pub content_with_total : (old new : Trees) (k : TotalKey) (a : ℕ) → SameRecords old new → new point_tree ≡ old point_tree → new start_tree ≡ old start_tree
+    → total_in new ≡ totals_with (total_in old) k a → content_of new ≡ with_total (content_of old) k a
+content_with_total old new k a same p s told = λ i. record {
+  records = records_kept old new same i;
+  point = ap point_in p i;
+  start = ap start_in s i;
+  total = told i;
+}

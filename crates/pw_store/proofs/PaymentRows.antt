@@ -1,0 +1,203 @@
+-- What DELETE and INSERT make of the totals of top-ups.
+use Rattle.std.proofs.Common.{◌≡◌, ℕ, ℤ, pos, List, [], ◌∷◌, ◌++◌, map, find, Bool, true, false, cond, not, ◌&&◌, Option, option_map, Some, None, Ok, Err, Result, OnOk, IsTrue, refl, sym, ap, subst, subst₂, ◌∙◌, nat_cmp, arith}
+use Rattle.std.specs.List.{AllByRecursion, list_all, filter}
+use Rattle.std.specs.List.Sorted.{IsPermutation}
+use Rattle.std.proofs.lemmas.List.Sorted.{IsPermutation-map}
+use Rattle.std.specs.Ordering.{is_eq}
+use Rattle.sqlite.specs.declared.types.Value.TheVariants.{Null, Int}
+use Rattle.sqlite.specs.declared.error.Error.{Error}
+use Rattle.sqlite.specs.Order.{Row, column}
+use Rattle.sqlite.specs.Term.{Term, holds}
+use Rattle.sqlite.specs.Table.{Table}
+use Rattle.sqlite.specs.Tree.{Trees, rowid, put_row}
+use Rattle.sqlite.specs.Edit.{Applies, edit_of, id_in, is_taken, next_rowid}
+use Rattle.sqlite.specs.Rowids.TheVariants.{Given, Chosen}
+use Rattle.sqlite.specs.Source.TheVariants.{Values}
+use Rattle.sqlite.specs.Command.TheVariants.{Delete, Insert}
+use Rattle.sqlite.specs.Query.{Output, output}
+use Rattle.sqlite.specs.Effect.{Answers}
+use Rattle.sqlite.specs.Does.{Does}
+use Rattle.sqlite.specs.State.{State, mode_of, Executes}
+use Rattle.sqlite.specs.Listing.{understood}
+use Rattle.sqlite.specs.Program.{overlay}
+use Rattle.sqlite.proofs.Callers.{runs_as, statement_of}
+use Rattle.sqlite_rules.specs.Calls.{ids_of}
+use Rattle.sqlite_trees.proofs.ListLemmas.{map-map, filter_same, all_weaker}
+use Rattle.pw_obis.specs.declared.reference.Register.{Register}
+use Rattle.pw_tariff.specs.declared.ids.AccountId.{AccountId}
+use Rattle.pw_tariff.specs.declared.ids.BandId.{BandId}
+use Rattle.pw_tariff.specs.declared.ids.Direction.{Direction}
+use Rattle.pw_tariff.specs.declared.ids.Direction.TheVariants.{Import, Export}
+use Rattle.pw_tariff.specs.Office.{register_place}
+use Rattle.pw_tariff.specs.Cells.{owner_place}
+use Rattle.pw_model.specs.declared.records.Key.{Key}
+use Rattle.pw_model.specs.declared.records.Key.TheVariants as key
+use Rattle.pw_model.specs.declared.records.TotalKey.{TotalKey}
+use Rattle.pw_model.specs.declared.records.TotalKey.TheVariants as total
+use Rattle.pw_model.specs.Counting.{reading_key, assignment_key}
+use Rattle.pw_model.specs.Same.{same_key, direction_place}
+use Rattle.pw_model.proofs.Same.{same_key-decides}
+use Rattle.pw_shelf.specs.Changes.{same_total, points_with, starts_with, totals_with, with_point, with_start, with_total}
+use Rattle.pw_schema.specs.Tables.{ours_with, checks_of, point_at, start_at, total_at, total_topup_at}
+use Rattle.pw_schema.specs.Rows.{number, register_at, owner_at, direction_at}
+use Rattle.pw_schema.proofs.Steps.{one_delete, one_insert, uncounted}
+use Rattle.pw_store.specs.Content.{reading_in, assignment_in, energy_in, payment_in, IsReadingRow, IsAssignmentRow, point_in, start_in, total_in, energy_told, payment_told}
+use Rattle.pw_store.specs.inner.Records.{reading_row, assignment_row}
+use Rattle.pw_store.specs.Keyed.{AreKeyed, HasRowid, IsEnergyRow, IsPaymentRow}
+use Rattle.pw_store.specs.Kept.{IsStore, key_in_point, key_in_start}
+use Rattle.pw_store.specs.inner.Changing.{Makes}
+use Rattle.pw_store.proofs.Texts.{four_terms, three_terms}
+use Rattle.pw_store.proofs.KeptTexts.{delete_payment_text, delete_payment_query, delete_payment_is, insert_payment_text, insert_payment_is, payment_terms}
+use Rattle.pw_store.proofs.Scans.{equal_ints, tied, scans, scan_of, outputs, IsScan}
+use Rattle.pw_store.proofs.Finding.{first, second, same_number, meter_of, register_of, second_of, owner_one, place_one}
+use Rattle.pw_store.proofs.Adding.{cast_null, cast_int, register_back, owner_back, insert_inside}
+use Rattle.pw_store.proofs.Others.{AreElseSame, same_records, store_kept, same_total-decides, energies_with, payments_with, content_with_point, content_with_start, content_with_total}
+use Rattle.pw_store.proofs.KeptRows.{ids, leaves, find_gone, gone_told, put_told, keyed_gone, keyed_put}
+use Rattle.pw_store.proofs.Taking.{delete_inside, both_true, none_found}
+
+abbrev account_of_total : TotalKey → ℕ
+account_of_total (total.Energy o b d) = 0
+account_of_total (total.TopUps a) = a.0
+
+abbrev pub at_key : AccountId → Row → Bool
+at_key a r = same_total (total.TopUps a) (payment_in r)
+
+abbrev pub params : AccountId → Row
+params a = Int (pos a.0) ∷ []
+
+module _ (a : AccountId) where
+  abbrev pub passes : Row → Bool
+  passes r = list_all (holds (params a ∷ r ∷ [])) delete_payment_query.filter
+
+  tests : (r : Row) → IsPaymentRow r → passes r ≡ (is_eq (nat_cmp (number (column r 0)) a.0) && true)
+  tests r it = rw it.0 (rw (equal_ints (number (column r 0)) a.0) refl)
+
+  hits : (r : Row) → IsPaymentRow r → passes r ≡ true → total.TopUps a ≡ payment_in r
+  hits r it hit =
+      let h = sym (tests r it) ∙ hit in
+      let ea = tied (number (column r 0)) a.0 (first _ _ h) in
+      sym (λ j. total.TopUps (record { 0 = ea j }))
+
+  misses : (r : Row) → IsPaymentRow r → total.TopUps a ≡ payment_in r → passes r ≡ true
+  misses r it same =
+      let ea : number (column r 0) ≡ a.0 = ap account_of_total (sym same) in
+      tests r it ∙ rw ea (rw (same_number a.0) refl)
+
+  pub passes_at : (r : Row) → IsPaymentRow r → passes r ≡ at_key a r
+  passes_at r it = both_true (passes r) (at_key a r) (λ hit. (same_total-decides (total.TopUps a) (payment_in r)).1 (hits r it hit)) (λ same. misses r it ((same_total-decides (total.TopUps a) (payment_in r)).0 same))
+
+  shown_ids : (rows : List Row) → map (λ (o : Output). id_in (rowid o.1)) (map (output (scan_of 13 delete_payment_query)) (map (λ row. params a ∷ row ∷ []) rows)) ≡ ids rows
+  shown_ids [] = refl
+  shown_ids (row ∷ rows) = ap (λ more. id_in (rowid row) ∷ more) (shown_ids rows)
+
+  found : (table rows : List Row) → AllByRecursion IsPaymentRow table → IsScan (scan_of 13 delete_payment_query) (params a) table rows → IsPermutation (ids (filter (at_key a) table)) (ids_of rows)
+  found table rows all s =
+      let same = filter_same passes (at_key a) table (all_weaker IsPaymentRow (λ row. passes row ≡ at_key a row) passes_at table all) in
+      let moved = IsPermutation-map (λ (o : Output). id_in (rowid o.1)) (outputs (scan_of 13 delete_payment_query) (params a) table) s.ordered s.same in
+      let last : ids_of rows ≡ map (λ (o : Output). id_in (rowid o.1)) s.ordered = ap ids_of s.shown ∙ map-map (λ r. id_in (rowid r)) (λ (o : Output). o.1) s.ordered in
+      subst₂ IsPermutation (shown_ids (filter passes table) ∙ ap ids same) (sym last) moved
+
+abbrev table : Table
+table = total_topup_at 13
+
+-- ---- DELETE
+module _ (old new : State) (a : AccountId) (count : ℕ) (store : IsStore old.now) (inside : IsTrue old.in_transaction) (h : Executes delete_payment_text (params a) old new (Ok count)) where
+  abbrev own : List Term
+  own = checks_of old.now.schema
+
+  deleted : (new.now.schema ≡ ours_with own) × ((rows : List Row) × Answers (record { schema = ours_with own; trees = old.now.trees }) (record { lets = []; body = delete_payment_query }) (params a) rows × Applies (ours_with own) (mode_of old).keys old.now.trees (edit_of old.now.trees (uncounted table) (ids_of rows) Given 0 []) new.now.trees)
+  deleted =
+      let w = runs_as delete_payment_text (params a) old new (ours_with own) store.ours (Delete 7 (record { lets = []; body = delete_payment_query })) (delete_payment_is.is own) (delete_payment_is.plain own) count h in
+      let text = statement_of delete_payment_text (understood (ours_with own) delete_payment_text) in
+      one_delete old.step_limit (mode_of old).keys (ours_with own) table (params a) (mode_of old) old.now.trees 7 (record { lets = []; body = delete_payment_query }) w.tally new.now (λ _. refl)
+      (subst (λ s. Does old.step_limit (mode_of old) (params a) (record old.now { schema = s }) text None (Delete 7 (record { lets = []; body = delete_payment_query })) (Ok (w.tally, new.now))) store.ours w.changed)
+
+  left : new.now.trees 13 ≡ filter (λ row. not (at_key a row)) (old.now.trees 13)
+  left =
+      let it = deleted.1 in
+      let scan = scans 13 delete_payment_query (overlay old.now.trees []) (params a) it.0 (it.1.answer Null) in
+      it.2.rows ∙ leaves (at_key a) (old.now.trees 13) (ids_of it.0) store.payments.numbered store.payments.ids (found a (old.now.trees 13) it.0 store.payments.each scan)
+
+  others : AreElseSame own 13 old.now.trees new.now.trees
+  others = deleted.1.2.tables
+
+  told_left : total_in new.now.trees ≡ totals_with (total_in old.now.trees) (total.TopUps a) 0
+  told_left = payments_with old.now.trees new.now.trees a None (others.1.1.1.1.1.1.0 (λ e. absurd (omega (arith, e)))) (λ l. ap (λ rows. payment_told rows l) left ∙ gone_told same_total same_total-decides payment_in (λ x. number (column x 2)) (total.TopUps a) l (old.now.trees 13))
+
+  pub takes : Makes (λ c. with_total c (total.TopUps a) 0) old new
+  takes = record {
+    store = store_kept own old.now new.now deleted.0 (same_records own 13 old.now.trees new.now.trees (omega arith) others) store
+        (subst (AreKeyed IsReadingRow key_in_point) (sym (others.1.1.1.1.0 (λ e. absurd (omega (arith, e))))) store.points)
+        (subst (AreKeyed IsAssignmentRow key_in_start) (sym (others.1.1.1.1.1.0 (λ e. absurd (omega (arith, e))))) store.starts)
+        (subst (AreKeyed IsEnergyRow energy_in) (sym (others.1.1.1.1.1.1.0 (λ e. absurd (omega (arith, e))))) store.energies)
+        (subst (AreKeyed IsPaymentRow payment_in) (sym left) (keyed_gone same_total same_total-decides payment_in (λ x. number (column x 2)) IsPaymentRow (total.TopUps a) (old.now.trees 13) store.payments));
+    content = content_with_total old.now.trees new.now.trees (total.TopUps a) 0 (same_records own 13 old.now.trees new.now.trees (omega arith) others) (others.1.1.1.1.0 (λ e. absurd (omega (arith, e)))) (others.1.1.1.1.1.0 (λ e. absurd (omega (arith, e)))) told_left;
+    shows = delete_inside delete_payment_text 7 delete_payment_query delete_payment_is old new store.ours (params a) count h inside;
+  }
+
+  pub taken : payment_told (new.now.trees 13) (total.TopUps a) ≡ None
+  taken = ap (option_map (λ x. number (column x 2))) (ap (find (at_key a)) left ∙ find_gone (at_key a) (old.now.trees 13))
+
+-- ---- INSERT
+module _ (old new : State) (a : AccountId) (v : ℕ) (count : ℕ) (store : IsStore old.now) (inside : IsTrue old.in_transaction) (none : payment_told (old.now.trees 13) (total.TopUps a) ≡ None) (h : Executes insert_payment_text (Int (pos a.0) ∷ Int (pos v) ∷ []) old new (Ok count)) where
+  abbrev checks : List Term
+  checks = checks_of old.now.schema
+
+  abbrev given : Row
+  given = Int (pos a.0) ∷ Int (pos v) ∷ []
+
+  inserted : (new.now.schema ≡ ours_with checks) × Applies (ours_with checks) (mode_of old).keys old.now.trees (edit_of old.now.trees (uncounted table) [] Chosen 0 ((Int (pos a.0) ∷ Null ∷ Int (pos v) ∷ []) ∷ [])) new.now.trees
+  inserted =
+      let w = runs_as insert_payment_text given old new (ours_with checks) store.ours (Insert 7 (Values payment_terms 3)) (insert_payment_is.is checks) (insert_payment_is.plain checks) count h in
+      let text = statement_of insert_payment_text (understood (ours_with checks) insert_payment_text) in
+      one_insert old.step_limit (mode_of old).keys (ours_with checks) table given (mode_of old) old.now.trees 7 3 payment_terms ((Int (pos a.0) ∷ Null ∷ Int (pos v) ∷ []) ∷ []) w.tally new.now refl (λ _. refl)
+      (subst (λ s. Does old.step_limit (mode_of old) given (record old.now { schema = s }) text None (Insert 7 (Values payment_terms 3)) (Ok (w.tally, new.now))) store.ours w.changed)
+
+  abbrev row : Row
+  row = Int (pos a.0) ∷ Null ∷ Int (pos v) ∷ []
+
+  was_not : (b : Bool) → not b ≡ true → b ≡ false
+  was_not true e = absurd (let f : true ≡ false = sym e in cc)
+  was_not false e = refl
+
+  free : is_taken (old.now.trees 13) row ≡ false
+  free = let fresh = rw (cast_int a.0) at inserted.1.fresh in was_not _ (first _ _ fresh)
+
+  put : new.now.trees 13 ≡ put_row row (old.now.trees 13)
+  put = inserted.1.rows ∙ rw (cast_null, cast_int a.0, cast_int v) refl
+
+  key_is : payment_in row ≡ total.TopUps a
+  key_is = refl
+
+  unseen : find (at_key a) (old.now.trees 13) ≡ None
+  unseen = none_found (λ x. number (column x 2)) (find (at_key a) (old.now.trees 13)) none
+
+  elsewhere : AreElseSame checks 13 old.now.trees new.now.trees
+  elsewhere = inserted.1.tables
+
+  told_put : total_in new.now.trees ≡ totals_with (total_in old.now.trees) (total.TopUps a) v
+  told_put = payments_with old.now.trees new.now.trees a (Some v) (elsewhere.1.1.1.1.1.1.0 (λ e. absurd (omega (arith, e)))) (λ l. ap (λ rows. payment_told rows l) put ∙ put_told same_total same_total-decides payment_in (λ x. number (column x 2)) (total.TopUps a) l row (old.now.trees 13) key_is free unseen)
+
+  pub puts : Makes (λ c. with_total c (total.TopUps a) v) old new
+  puts = record {
+    store = store_kept checks old.now new.now inserted.0 (same_records checks 13 old.now.trees new.now.trees (omega arith) elsewhere) store
+        (subst (AreKeyed IsReadingRow key_in_point) (sym (elsewhere.1.1.1.1.0 (λ e. absurd (omega (arith, e))))) store.points)
+        (subst (AreKeyed IsAssignmentRow key_in_start) (sym (elsewhere.1.1.1.1.1.0 (λ e. absurd (omega (arith, e))))) store.starts)
+        (subst (AreKeyed IsEnergyRow energy_in) (sym (elsewhere.1.1.1.1.1.1.0 (λ e. absurd (omega (arith, e))))) store.energies)
+        (subst (AreKeyed IsPaymentRow payment_in) (sym put) (keyed_put same_total same_total-decides payment_in (λ x. number (column x 2)) IsPaymentRow (total.TopUps a) row (old.now.trees 13) key_is (refl, refl) refl free unseen store.payments));
+    content = content_with_total old.now.trees new.now.trees (total.TopUps a) v (same_records checks 13 old.now.trees new.now.trees (omega arith) elsewhere) (elsewhere.1.1.1.1.0 (λ e. absurd (omega (arith, e)))) (elsewhere.1.1.1.1.1.0 (λ e. absurd (omega (arith, e)))) told_put;
+    shows = insert_inside insert_payment_text 7 3 payment_terms insert_payment_is old new store.ours given count h inside;
+  }
+
+-- ---- whether it answered Ok or not
+pub takes_if : (old new : State) (a : AccountId) (r : Result ℕ Error) → IsStore old.now → IsTrue old.in_transaction → Executes delete_payment_text (params a) old new r → OnOk r (Makes (λ c. with_total c (total.TopUps a) 0) old new)
+takes_if old new a (Ok n) store inside h = takes old new a n store inside h
+takes_if old new a (Err e) store inside h = tt
+
+pub taken_if : (old new : State) (a : AccountId) (r : Result ℕ Error) → IsStore old.now → IsTrue old.in_transaction → Executes delete_payment_text (params a) old new r → OnOk r (payment_told (new.now.trees 13) (total.TopUps a) ≡ None)
+taken_if old new a (Ok n) store inside h = taken old new a n store inside h
+taken_if old new a (Err e) store inside h = tt
+
+pub puts_if : (old new : State) (a : AccountId) (v : ℕ) (r : Result ℕ Error) → IsStore old.now → IsTrue old.in_transaction → payment_told (old.now.trees 13) (total.TopUps a) ≡ None → Executes insert_payment_text (Int (pos a.0) ∷ Int (pos v) ∷ []) old new r → OnOk r (Makes (λ c. with_total c (total.TopUps a) v) old new)
+puts_if old new a v (Ok n) store inside none h = puts old new a v n store inside none h
+puts_if old new a v (Err e) store inside none h = tt

@@ -1,0 +1,158 @@
+-- From rows that were read in order to the records of the tables, each once.
+use Rattle.std.proofs.Common.{◌≡◌, inl, inr, ℕ, ◌<◌, length, get_or, Result, Ok, Err, OnOk, List, [], ◌∷◌, ◌++◌, map, refl, sym, ap, subst, ◌∙◌, ◌≤◌}
+use Rattle.std.specs.List.{AllByRecursion}
+use Rattle.std.proofs.lemmas.List.Sorted.{IsPermutation-sym}
+use Rattle.sqlite_trees.proofs.ListLemmas.{all_weaker, all-permutation}
+use Rattle.sqlite.specs.Order.{Row}
+use Rattle.sqlite.specs.Tree.{Trees}
+use Rattle.sqlite.specs.Effect.{Database}
+use Rattle.sqlite.specs.State.{State, IsUnchanged}
+use Rattle.pw_tariff.specs.Office.{OfficeRules}
+use Rattle.pw_model.specs.declared.records.Key.{Key}
+use Rattle.pw_model.specs.declared.records.Key.TheVariants as key
+use Rattle.pw_model.specs.declared.records.Entry.{Entry}
+use Rattle.pw_model.specs.Counting.{Member, EachOnce}
+use Rattle.pw_model.specs.Office.{AllOfOffice, IsOfOffice, most_records}
+use Rattle.pw_schema.specs.declared.kind.RecordKind.{RecordKind}
+use Rattle.pw_schema.specs.declared.kind.RecordKind.TheVariants.{Readings, Assignments, TopUps}
+use Rattle.pw_schema.specs.Tables.{IsOurs}
+use Rattle.pw_store.specs.Content.{records_of, point_tree, start_tree, total_tree, payment_tree}
+use Rattle.pw_store.specs.Kept.{IsStore}
+use Rattle.pw_store.specs.Shown.{IsRowOf, entries_of, entry_in, tree_of}
+use Rattle.pw_store.specs.inner.Lists.{ShowsAll, shown}
+use Rattle.pw_schema.specs.Rows.{Tells, told}
+use Rattle.pw_schema.specs.Judging.{AreRecords, IsRecord, IsTotalOf, KeepsOffice}
+use Rattle.pw_schema.specs.declared.kind.TotalKind.TheVariants.{Energies, Payments}
+use Rattle.pw_store.specs.Keyed.{IsEnergyRow, IsPaymentRow}
+use Rattle.pw_store.specs.inner.Sums.{AreAllNumbered}
+use Rattle.pw_store.specs.Opening.{HoldsRecords, HoldsAllRecords, HoldsSums, IsTotalRow, KeepsText, key_of_total}
+use Rattle.pw_store.specs.inner.Opened.{MayOpen}
+use Rattle.pw_store.proofs.Once.{once-permuted, permuted}
+use Rattle.pw_store.proofs.Lists.{told_permuted, member_in}
+
+pub of_shown : (k : RecordKind) (rows : List Row) → AllByRecursion (Tells k) (map (shown k) rows) → AllByRecursion (IsRowOf k) rows
+of_shown k [] all = tt
+of_shown Readings (r ∷ rows) all = (all.0, of_shown Readings rows all.1)
+of_shown Assignments (r ∷ rows) all = (all.0, of_shown Assignments rows all.1)
+of_shown TopUps (r ∷ rows) all = (all.0, of_shown TopUps rows all.1)
+
+pub told_of_office : (office : OfficeRules) (k : RecordKind) (rows : List Row) → AllByRecursion (IsRecord office k) rows → AllOfOffice office (map (told k) rows)
+told_of_office office k [] all e m = absurd m
+told_of_office office k (r ∷ rows) all e (inl i) = subst (IsOfOffice office) (sym i) all.0.1
+told_of_office office k (r ∷ rows) all e (inr m) = told_of_office office k rows all.1 e m
+
+pub good_records : (office : OfficeRules) (k : RecordKind) (db : Trees) (rows : List Row) → ShowsAll k db rows → AreRecords office k rows → HoldsRecords office k db
+good_records office k db rows shows good =
+    let same = told_permuted k (db (tree_of k)) rows shows in
+    let back = IsPermutation-sym (entries_of k db) (map (told k) rows) same in
+    let kinds = all_weaker (IsRecord office k) (Tells k) (λ r it. it.0) rows good.each in
+    record {
+      rows = of_shown k (db (tree_of k)) (all-permutation (Tells k) rows (map (shown k) (db (tree_of k))) (IsPermutation-sym (map (shown k) (db (tree_of k))) rows shows) kinds);
+      once = once-permuted (map (told k) rows) (entries_of k db) back good.once;
+      of_office = λ e m. told_of_office office k rows good.each e ((permuted (entries_of k db) (map (told k) rows) same e).0 m);
+    }
+
+-- and back: where the table holds such records, so do the rows
+pub to_shown : (office : OfficeRules) (k : RecordKind) (rows : List Row) → AllByRecursion (IsRowOf k) rows → AllOfOffice office (map (entry_in k) rows) → AllByRecursion (IsRecord office k) (map (shown k) rows)
+to_shown office k [] all of = tt
+to_shown office Readings (r ∷ rows) all of = ((all.0, of _ (inl refl)), to_shown office Readings rows all.1 (λ e m. of e (inr m)))
+to_shown office Assignments (r ∷ rows) all of = ((all.0, of _ (inl refl)), to_shown office Assignments rows all.1 (λ e m. of e (inr m)))
+to_shown office TopUps (r ∷ rows) all of = ((all.0, of _ (inl refl)), to_shown office TopUps rows all.1 (λ e m. of e (inr m)))
+
+pub good_back : (office : OfficeRules) (k : RecordKind) (db : Trees) (rows : List Row) → ShowsAll k db rows → HoldsRecords office k db → AreRecords office k rows
+good_back office k db rows shows held = record {
+  each = all-permutation (IsRecord office k) (map (shown k) (db (tree_of k))) rows shows (to_shown office k (db (tree_of k)) held.rows held.of_office);
+  once = once-permuted (entries_of k db) (map (told k) rows) (told_permuted k (db (tree_of k)) rows shows) held.once;
+}
+
+-- ---- all three together
+-- which kind the key of a record is of
+abbrev IsKeyOf : RecordKind → Key → Type 0
+IsKeyOf Readings (key.Reading m r t) = Unit {0}
+IsKeyOf Assignments (key.Assignment m t) = Unit {0}
+IsKeyOf TopUps (key.TopUp r) = Unit {0}
+IsKeyOf _ _ = ⊥
+
+key_of : (k : RecordKind) (rows : List Row) (x : Entry) → Member x (map (entry_in k) rows) → IsKeyOf k x.key
+key_of k [] x m = absurd m
+key_of Readings (r ∷ rows) x (inl i) = subst (λ (e : Entry). IsKeyOf Readings e.key) (sym i) tt
+key_of Assignments (r ∷ rows) x (inl i) = subst (λ (e : Entry). IsKeyOf Assignments e.key) (sym i) tt
+key_of TopUps (r ∷ rows) x (inl i) = subst (λ (e : Entry). IsKeyOf TopUps e.key) (sym i) tt
+key_of Readings (r ∷ rows) x (inr m) = key_of Readings rows x m
+key_of Assignments (r ∷ rows) x (inr m) = key_of Assignments rows x m
+key_of TopUps (r ∷ rows) x (inr m) = key_of TopUps rows x m
+
+one_kind : (k : Key) → (IsKeyOf Readings k → IsKeyOf Assignments k → ⊥) × ((IsKeyOf Readings k → IsKeyOf TopUps k → ⊥) × (IsKeyOf Assignments k → IsKeyOf TopUps k → ⊥))
+one_kind (key.Reading m r t) = (λ a b. b, (λ a b. b, λ a b. b))
+one_kind (key.Assignment m t) = (λ a b. a, (λ a b. a, λ a b. b))
+one_kind (key.TopUp r) = (λ a b. a, (λ a b. a, λ a b. a))
+
+member_front : {X : Type 0} (x : X) (xs ys : List X) → Member x xs → Member x (xs ++ ys)
+member_front x [] ys m = absurd m
+member_front x (z ∷ xs) ys (inl i) = inl i
+member_front x (z ∷ xs) ys (inr m) = inr (member_front x xs ys m)
+
+once_both : (xs ys : List Entry) → EachOnce xs → EachOnce ys → ((x : Entry) → Member x xs → Member x ys → ⊥) → EachOnce (xs ++ ys)
+once_both [] ys a b apart = b
+once_both (x ∷ xs) ys a b apart = (
+  λ m. elim (member_in x xs ys m) [ inl i ↦ a.0 i | inr j ↦ apart x (inl refl) j ],
+  once_both xs ys a.1 b (λ y m n. apart y (inr m) n),
+)
+
+all_both : (office : OfficeRules) (xs ys : List Entry) → AllOfOffice office xs → AllOfOffice office ys → AllOfOffice office (xs ++ ys)
+all_both office xs ys a b e m = elim (member_in e xs ys m) [ inl i ↦ a e i | inr j ↦ b e j ]
+
+module _ (office : OfficeRules) (db : Database) (ours : IsOurs db.schema) (r : HoldsRecords office Readings db.trees) (a : HoldsRecords office Assignments db.trees) (t : HoldsRecords office TopUps db.trees) (s : HoldsSums office db.trees) (n : AreAllNumbered db.trees) where
+  pub sound_store : IsStore db
+  sound_store = record {
+    ours = ours;
+    readings = r.rows;
+    assignments = a.rows;
+    topups = t.rows;
+    once = once_both (entries_of Readings db.trees) (entries_of Assignments db.trees ++ entries_of TopUps db.trees) r.once
+        (once_both (entries_of Assignments db.trees) (entries_of TopUps db.trees) a.once t.once (λ x m n. (one_kind x.key).1.1 (key_of Assignments _ x m) (key_of TopUps _ x n)))
+        (λ x m n. elim (member_in x (entries_of Assignments db.trees) (entries_of TopUps db.trees) n) [
+          | inl i ↦ (one_kind x.key).0 (key_of Readings _ x m) (key_of Assignments _ x i)
+          | inr j ↦ (one_kind x.key).1.0 (key_of Readings _ x m) (key_of TopUps _ x j)
+        ]);
+    points = record { each = s.points.rows; ids = n.points.ids; numbered = n.points.numbered; once = s.points.once };
+    starts = record { each = s.starts.rows; ids = n.starts.ids; numbered = n.starts.numbered; once = s.starts.once };
+    energies = record { each = all_weaker (λ row. IsTotalRow Energies row × IsTotalOf office (key_of_total Energies row)) IsEnergyRow (λ row it. it.0) (db.trees total_tree) s.energies.rows; ids = n.energies.ids; numbered = n.energies.numbered; once = s.energies.once };
+    payments = record { each = all_weaker (λ row. IsTotalRow Payments row × IsTotalOf office (key_of_total Payments row)) IsPaymentRow (λ row it. it.0) (db.trees payment_tree) s.payments.rows; ids = n.payments.ids; numbered = n.payments.numbered; once = s.payments.once };
+  }
+
+  pub sound_office : AllOfOffice office (records_of db.trees)
+  sound_office = all_both office (entries_of Readings db.trees) (entries_of Assignments db.trees ++ entries_of TopUps db.trees) r.of_office (all_both office (entries_of Assignments db.trees) (entries_of TopUps db.trees) a.of_office t.of_office)
+
+pub good_if : {E : Type 0} (office : OfficeRules) (k : RecordKind) (db db' : Trees) (rows : List Row) (r : Result (Unit {0}) E) → ShowsAll k db rows → db' ≡ db → OnOk r (AreRecords office k rows) → OnOk r (HoldsRecords office k db')
+good_if office k db db' rows (Ok u) shows same good = subst (HoldsRecords office k) (sym same) (good_records office k db rows shows good)
+good_if office k db db' rows (Err e) shows same good = tt
+
+trees_is : (old new : State) → IsUnchanged old new → new.now.trees ≡ old.now.trees
+trees_is old new u = ap (λ (d : Database). d.trees) u.0.now_is
+
+pub records_if : {E : Type 0} (office : OfficeRules) (s0 s1 s2 s3 : State) (r : Result (Unit {0}) E) → IsUnchanged s1 s2 → OnOk r (IsUnchanged s2 s3)
+    → HoldsRecords office Readings s1.now.trees → HoldsRecords office Assignments s2.now.trees → OnOk r (HoldsRecords office TopUps s3.now.trees)
+    → OnOk r (HoldsAllRecords office s3.now.trees)
+records_if office s0 s1 s2 s3 (Err e) b c rs ss ts = tt
+records_if office s0 s1 s2 s3 (Ok u) b c rs ss ts = record {
+  readings = subst (HoldsRecords office Readings) (sym (trees_is s2 s3 c ∙ trees_is s1 s2 b)) rs;
+  assignments = subst (HoldsRecords office Assignments) (sym (trees_is s2 s3 c)) ss;
+  topups = ts;
+}
+
+-- what was checked may be opened
+pub checked : (office : OfficeRules) (body : List ℕ) (s0 s1 s2 s3 s4 : State) → IsOurs s0.now.schema → IsUnchanged s0 s1 → IsUnchanged s1 s2 → IsUnchanged s2 s3 → IsUnchanged s3 s4
+    → KeepsText (KeepsOffice body) s1.now.trees → HoldsAllRecords office s2.now.trees → length (records_of s2.now.trees) ≤ most_records → HoldsSums office s3.now.trees → AreAllNumbered s3.now.trees → MayOpen office body s4.now
+checked office body s0 s1 s2 s3 s4 ours a b c d text records few sums numbered =
+    let has : IsOurs s4.now.schema = subst IsOurs (sym (ap (λ (d : Database). d.schema) (d.0.now_is ∙ c.0.now_is ∙ b.0.now_is ∙ a.0.now_is))) ours in
+    let late = trees_is s3 s4 d ∙ trees_is s2 s3 c in
+    let rs = subst (HoldsAllRecords office) (sym late) records in
+    let ss = subst (HoldsSums office) (sym (trees_is s3 s4 d)) sums in
+    let ns = subst AreAllNumbered (sym (trees_is s3 s4 d)) numbered in
+    record {
+      store = sound_store office s4.now has rs.readings rs.assignments rs.topups ss ns;
+      kept = subst (KeepsText (KeepsOffice body)) (sym (late ∙ trees_is s1 s2 b)) text;
+      of_office = sound_office office s4.now has rs.readings rs.assignments rs.topups ss ns;
+      few = subst (λ (db : Trees). length (records_of db) ≤ most_records) (sym late) few;
+    }

@@ -1,0 +1,202 @@
+-- What DELETE and INSERT make of the starts.
+use Rattle.std.proofs.Common.{◌≡◌, ℕ, ℤ, pos, List, [], ◌∷◌, ◌++◌, map, find, Bool, true, false, cond, not, ◌&&◌, Option, option_map, Some, None, Ok, Err, Result, OnOk, IsTrue, refl, sym, ap, subst, subst₂, ◌∙◌, nat_cmp, arith}
+use Rattle.std.specs.List.{AllByRecursion, list_all, filter}
+use Rattle.std.specs.List.Sorted.{IsPermutation}
+use Rattle.std.proofs.lemmas.List.Sorted.{IsPermutation-map}
+use Rattle.std.specs.Ordering.{is_eq}
+use Rattle.sqlite.specs.declared.types.Value.TheVariants.{Null, Int}
+use Rattle.sqlite.specs.declared.error.Error.{Error}
+use Rattle.sqlite.specs.Order.{Row, column}
+use Rattle.sqlite.specs.Term.{Term, holds}
+use Rattle.sqlite.specs.Table.{Table}
+use Rattle.sqlite.specs.Tree.{Trees, rowid, put_row}
+use Rattle.sqlite.specs.Edit.{Applies, edit_of, id_in, is_taken, next_rowid}
+use Rattle.sqlite.specs.Rowids.TheVariants.{Given, Chosen}
+use Rattle.sqlite.specs.Source.TheVariants.{Values}
+use Rattle.sqlite.specs.Command.TheVariants.{Delete, Insert}
+use Rattle.sqlite.specs.Query.{Output, output}
+use Rattle.sqlite.specs.Effect.{Answers}
+use Rattle.sqlite.specs.Does.{Does}
+use Rattle.sqlite.specs.State.{State, mode_of, Executes}
+use Rattle.sqlite.specs.Listing.{understood}
+use Rattle.sqlite.specs.Program.{overlay}
+use Rattle.sqlite.proofs.Callers.{runs_as, statement_of}
+use Rattle.sqlite_rules.specs.Calls.{ids_of}
+use Rattle.sqlite_trees.proofs.ListLemmas.{map-map, filter_same, all_weaker}
+use Rattle.pw_obis.specs.declared.reference.Register.{Register}
+use Rattle.pw_tariff.specs.declared.ids.AccountId.{AccountId}
+use Rattle.pw_tariff.specs.declared.ids.BandId.{BandId}
+use Rattle.pw_tariff.specs.declared.ids.Direction.{Direction}
+use Rattle.pw_tariff.specs.declared.ids.Direction.TheVariants.{Import, Export}
+use Rattle.pw_tariff.specs.Office.{register_place}
+use Rattle.pw_tariff.specs.Cells.{owner_place}
+use Rattle.pw_model.specs.declared.records.Key.{Key}
+use Rattle.pw_model.specs.declared.records.Key.TheVariants as key
+use Rattle.pw_model.specs.declared.records.TotalKey.{TotalKey}
+use Rattle.pw_model.specs.declared.records.TotalKey.TheVariants as total
+use Rattle.pw_model.specs.Counting.{reading_key, assignment_key}
+use Rattle.pw_model.specs.Same.{same_key, direction_place}
+use Rattle.pw_model.proofs.Same.{same_key-decides}
+use Rattle.pw_shelf.specs.Changes.{same_total, points_with, starts_with, totals_with, with_point, with_start, with_total}
+use Rattle.pw_schema.specs.Tables.{ours_with, checks_of, point_at, start_at, total_at, total_topup_at}
+use Rattle.pw_schema.specs.Rows.{number, register_at, owner_at, direction_at}
+use Rattle.pw_schema.proofs.Steps.{one_delete, one_insert, uncounted}
+use Rattle.pw_store.specs.Content.{reading_in, assignment_in, energy_in, payment_in, IsReadingRow, IsAssignmentRow, point_in, start_in, total_in, energy_told, payment_told}
+use Rattle.pw_store.specs.inner.Records.{reading_row, assignment_row}
+use Rattle.pw_store.specs.Keyed.{AreKeyed, HasRowid, IsEnergyRow, IsPaymentRow}
+use Rattle.pw_store.specs.Kept.{IsStore, key_in_point, key_in_start}
+use Rattle.pw_store.specs.inner.Changing.{Makes}
+use Rattle.pw_store.proofs.Texts.{four_terms, three_terms}
+use Rattle.pw_store.proofs.KeptTexts.{delete_start_text, delete_start_query, delete_start_is, insert_start_text, insert_start_is}
+use Rattle.pw_store.proofs.Scans.{equal_ints, tied, scans, scan_of, outputs, IsScan}
+use Rattle.pw_store.proofs.Finding.{first, second, same_number, meter_of, register_of, second_of, owner_one, place_one}
+use Rattle.pw_store.proofs.Adding.{cast_null, cast_int, register_back, owner_back, insert_inside}
+use Rattle.pw_store.proofs.Others.{AreElseSame, same_records, store_kept, same_total-decides, energies_with, payments_with, content_with_point, content_with_start, content_with_total}
+use Rattle.pw_store.proofs.KeptRows.{ids, leaves, find_gone, gone_told, put_told, keyed_gone, keyed_put}
+use Rattle.pw_store.proofs.Taking.{delete_inside, both_true, none_found}
+
+abbrev pub at_key : ℕ → ℕ → Row → Bool
+at_key m i r = same_key (assignment_key m i) (key_in_start r)
+
+abbrev pub params : ℕ → ℕ → Row
+params m i = Int (pos m) ∷ Int (pos i) ∷ []
+
+module _ (m i : ℕ) where
+  abbrev pub passes : Row → Bool
+  passes r = list_all (holds (params m i ∷ r ∷ [])) delete_start_query.filter
+
+  tests : (r : Row) → IsAssignmentRow r → passes r ≡ (is_eq (nat_cmp (number (column r 1)) m) && (is_eq (nat_cmp (number (column r 2)) i) && true))
+  tests r it = rw (it.0, it.1.0) (rw (equal_ints (number (column r 1)) m, equal_ints (number (column r 2)) i) refl)
+
+  hits : (r : Row) → IsAssignmentRow r → passes r ≡ true → assignment_key m i ≡ key_in_start r
+  hits r it hit =
+      let h = sym (tests r it) ∙ hit in
+      let h1 = second (is_eq (nat_cmp (number (column r 1)) m)) _ h in
+      let em = tied (number (column r 1)) m (first _ _ h) in
+      let ei = tied (number (column r 2)) i (first _ _ h1) in
+      sym (λ j. key.Assignment (record { 0 = em j }) (ei j))
+
+  misses : (r : Row) → IsAssignmentRow r → assignment_key m i ≡ key_in_start r → passes r ≡ true
+  misses r it same =
+      let em : number (column r 1) ≡ m = ap meter_of (sym same) in
+      let ei : number (column r 2) ≡ i = ap second_of (sym same) in
+      tests r it ∙ rw (em, ei) (rw (same_number m, same_number i) refl)
+
+  pub passes_at : (r : Row) → IsAssignmentRow r → passes r ≡ at_key m i r
+  passes_at r it = both_true (passes r) (at_key m i r) (λ hit. (same_key-decides (assignment_key m i) (key_in_start r)).1 (hits r it hit)) (λ same. misses r it ((same_key-decides (assignment_key m i) (key_in_start r)).0 same))
+
+  shown_ids : (rows : List Row) → map (λ (o : Output). id_in (rowid o.1)) (map (output (scan_of 9 delete_start_query)) (map (λ row. params m i ∷ row ∷ []) rows)) ≡ ids rows
+  shown_ids [] = refl
+  shown_ids (row ∷ rows) = ap (λ more. id_in (rowid row) ∷ more) (shown_ids rows)
+
+  found : (table rows : List Row) → AllByRecursion IsAssignmentRow table → IsScan (scan_of 9 delete_start_query) (params m i) table rows → IsPermutation (ids (filter (at_key m i) table)) (ids_of rows)
+  found table rows all s =
+      let same = filter_same passes (at_key m i) table (all_weaker IsAssignmentRow (λ row. passes row ≡ at_key m i row) passes_at table all) in
+      let moved = IsPermutation-map (λ (o : Output). id_in (rowid o.1)) (outputs (scan_of 9 delete_start_query) (params m i) table) s.ordered s.same in
+      let last : ids_of rows ≡ map (λ (o : Output). id_in (rowid o.1)) s.ordered = ap ids_of s.shown ∙ map-map (λ r. id_in (rowid r)) (λ (o : Output). o.1) s.ordered in
+      subst₂ IsPermutation (shown_ids (filter passes table) ∙ ap ids same) (sym last) moved
+
+abbrev table : Table
+table = start_at 9
+
+-- ---- DELETE
+module _ (old new : State) (m i : ℕ) (count : ℕ) (store : IsStore old.now) (inside : IsTrue old.in_transaction) (h : Executes delete_start_text (params m i) old new (Ok count)) where
+  abbrev own : List Term
+  own = checks_of old.now.schema
+
+  deleted : (new.now.schema ≡ ours_with own) × ((rows : List Row) × Answers (record { schema = ours_with own; trees = old.now.trees }) (record { lets = []; body = delete_start_query }) (params m i) rows × Applies (ours_with own) (mode_of old).keys old.now.trees (edit_of old.now.trees (uncounted table) (ids_of rows) Given 0 []) new.now.trees)
+  deleted =
+      let w = runs_as delete_start_text (params m i) old new (ours_with own) store.ours (Delete 5 (record { lets = []; body = delete_start_query })) (delete_start_is.is own) (delete_start_is.plain own) count h in
+      let text = statement_of delete_start_text (understood (ours_with own) delete_start_text) in
+      one_delete old.step_limit (mode_of old).keys (ours_with own) table (params m i) (mode_of old) old.now.trees 5 (record { lets = []; body = delete_start_query }) w.tally new.now (λ _. refl)
+      (subst (λ s. Does old.step_limit (mode_of old) (params m i) (record old.now { schema = s }) text None (Delete 5 (record { lets = []; body = delete_start_query })) (Ok (w.tally, new.now))) store.ours w.changed)
+
+  left : new.now.trees 9 ≡ filter (λ row. not (at_key m i row)) (old.now.trees 9)
+  left =
+      let it = deleted.1 in
+      let scan = scans 9 delete_start_query (overlay old.now.trees []) (params m i) it.0 (it.1.answer Null) in
+      it.2.rows ∙ leaves (at_key m i) (old.now.trees 9) (ids_of it.0) store.starts.numbered store.starts.ids (found m i (old.now.trees 9) it.0 store.starts.each scan)
+
+  others : AreElseSame own 9 old.now.trees new.now.trees
+  others = deleted.1.2.tables
+
+  told_left : start_in (new.now.trees 9) ≡ starts_with (start_in (old.now.trees 9)) m i None
+  told_left = λ j n u. (ap (λ rows. start_in rows n u) left ∙ gone_told same_key same_key-decides key_in_start (λ x. owner_at (number (column x 3))) (assignment_key m i) (assignment_key n u) (old.now.trees 9)) j
+
+  pub takes : Makes (λ c. with_start c m i None) old new
+  takes = record {
+    store = store_kept own old.now new.now deleted.0 (same_records own 9 old.now.trees new.now.trees (omega arith) others) store
+        (subst (AreKeyed IsReadingRow key_in_point) (sym (others.1.1.1.1.0 (λ e. absurd (omega (arith, e))))) store.points)
+        (subst (AreKeyed IsAssignmentRow key_in_start) (sym left) (keyed_gone same_key same_key-decides key_in_start (λ x. owner_at (number (column x 3))) IsAssignmentRow (assignment_key m i) (old.now.trees 9) store.starts))
+        (subst (AreKeyed IsEnergyRow energy_in) (sym (others.1.1.1.1.1.1.0 (λ e. absurd (omega (arith, e))))) store.energies)
+        (subst (AreKeyed IsPaymentRow payment_in) (sym (others.1.1.1.1.1.1.1.0 (λ e. absurd (omega (arith, e))))) store.payments);
+    content = content_with_start old.now.trees new.now.trees m i (None) (same_records own 9 old.now.trees new.now.trees (omega arith) others) (others.1.1.1.1.0 (λ e. absurd (omega (arith, e)))) (others.1.1.1.1.1.1.0 (λ e. absurd (omega (arith, e)))) (others.1.1.1.1.1.1.1.0 (λ e. absurd (omega (arith, e)))) told_left;
+    shows = delete_inside delete_start_text 5 delete_start_query delete_start_is old new store.ours (params m i) count h inside;
+  }
+
+  pub taken : start_in (new.now.trees 9) m i ≡ None
+  taken = ap (option_map (λ x. owner_at (number (column x 3)))) (ap (find (at_key m i)) left ∙ find_gone (at_key m i) (old.now.trees 9))
+
+-- ---- INSERT
+module _ (old new : State) (m i : ℕ) (o : Option AccountId) (count : ℕ) (store : IsStore old.now) (inside : IsTrue old.in_transaction) (none : start_in (old.now.trees 9) m i ≡ None) (h : Executes insert_start_text (assignment_row m i (owner_place o)) old new (Ok count)) where
+  abbrev checks : List Term
+  checks = checks_of old.now.schema
+
+  abbrev given : Row
+  given = assignment_row m i (owner_place o)
+
+  inserted : (new.now.schema ≡ ours_with checks) × Applies (ours_with checks) (mode_of old).keys old.now.trees (edit_of old.now.trees (uncounted table) [] Chosen 0 ((Null ∷ assignment_row m i (owner_place o)) ∷ [])) new.now.trees
+  inserted =
+      let w = runs_as insert_start_text given old new (ours_with checks) store.ours (Insert 5 (Values three_terms 4)) (insert_start_is.is checks) (insert_start_is.plain checks) count h in
+      let text = statement_of insert_start_text (understood (ours_with checks) insert_start_text) in
+      one_insert old.step_limit (mode_of old).keys (ours_with checks) table given (mode_of old) old.now.trees 5 4 three_terms ((Null ∷ assignment_row m i (owner_place o)) ∷ []) w.tally new.now refl (λ _. refl)
+      (subst (λ s. Does old.step_limit (mode_of old) given (record old.now { schema = s }) text None (Insert 5 (Values three_terms 4)) (Ok (w.tally, new.now))) store.ours w.changed)
+
+  abbrev row : Row
+  row = Int (next_rowid (old.now.trees 9)) ∷ given
+
+  was_not : (b : Bool) → not b ≡ true → b ≡ false
+  was_not true e = absurd (let f : true ≡ false = sym e in cc)
+  was_not false e = refl
+
+  free : is_taken (old.now.trees 9) row ≡ false
+  free = let fresh = rw cast_null at inserted.1.fresh in was_not _ (first _ _ fresh)
+
+  put : new.now.trees 9 ≡ put_row row (old.now.trees 9)
+  put = inserted.1.rows ∙ rw (cast_null, cast_int m, cast_int i, cast_int (owner_place o)) refl
+
+  key_is : key_in_start row ≡ assignment_key m i
+  key_is = refl
+
+  unseen : find (at_key m i) (old.now.trees 9) ≡ None
+  unseen = none_found (λ x. owner_at (number (column x 3))) (find (at_key m i) (old.now.trees 9)) none
+
+  elsewhere : AreElseSame checks 9 old.now.trees new.now.trees
+  elsewhere = inserted.1.tables
+
+  told_put : start_in (new.now.trees 9) ≡ starts_with (start_in (old.now.trees 9)) m i (Some o)
+  told_put = λ j n u. (ap (λ rows. start_in rows n u) put ∙ put_told same_key same_key-decides key_in_start (λ x. owner_at (number (column x 3))) (assignment_key m i) (assignment_key n u) row (old.now.trees 9) key_is free unseen ∙ ap (λ (p : Option AccountId). cond (same_key (assignment_key m i) (assignment_key n u)) (Some p) (start_in (old.now.trees 9) n u)) (owner_back o)) j
+
+  pub puts : Makes (λ c. with_start c m i (Some o)) old new
+  puts = record {
+    store = store_kept checks old.now new.now inserted.0 (same_records checks 9 old.now.trees new.now.trees (omega arith) elsewhere) store
+        (subst (AreKeyed IsReadingRow key_in_point) (sym (elsewhere.1.1.1.1.0 (λ e. absurd (omega (arith, e))))) store.points)
+        (subst (AreKeyed IsAssignmentRow key_in_start) (sym put) (keyed_put same_key same_key-decides key_in_start (λ x. owner_at (number (column x 3))) IsAssignmentRow (assignment_key m i) row (old.now.trees 9) key_is (refl, (refl, refl)) refl free unseen store.starts))
+        (subst (AreKeyed IsEnergyRow energy_in) (sym (elsewhere.1.1.1.1.1.1.0 (λ e. absurd (omega (arith, e))))) store.energies)
+        (subst (AreKeyed IsPaymentRow payment_in) (sym (elsewhere.1.1.1.1.1.1.1.0 (λ e. absurd (omega (arith, e))))) store.payments);
+    content = content_with_start old.now.trees new.now.trees m i (Some o) (same_records checks 9 old.now.trees new.now.trees (omega arith) elsewhere) (elsewhere.1.1.1.1.0 (λ e. absurd (omega (arith, e)))) (elsewhere.1.1.1.1.1.1.0 (λ e. absurd (omega (arith, e)))) (elsewhere.1.1.1.1.1.1.1.0 (λ e. absurd (omega (arith, e)))) told_put;
+    shows = insert_inside insert_start_text 5 4 three_terms insert_start_is old new store.ours given count h inside;
+  }
+
+-- ---- whether it answered Ok or not
+pub takes_if : (old new : State) (m i : ℕ) (r : Result ℕ Error) → IsStore old.now → IsTrue old.in_transaction → Executes delete_start_text (params m i) old new r → OnOk r (Makes (λ c. with_start c m i None) old new)
+takes_if old new m i (Ok n) store inside h = takes old new m i n store inside h
+takes_if old new m i (Err e) store inside h = tt
+
+pub taken_if : (old new : State) (m i : ℕ) (r : Result ℕ Error) → IsStore old.now → IsTrue old.in_transaction → Executes delete_start_text (params m i) old new r → OnOk r (start_in (new.now.trees 9) m i ≡ None)
+taken_if old new m i (Ok n) store inside h = taken old new m i n store inside h
+taken_if old new m i (Err e) store inside h = tt
+
+pub puts_if : (old new : State) (m i : ℕ) (o : Option AccountId) (r : Result ℕ Error) → IsStore old.now → IsTrue old.in_transaction → start_in (old.now.trees 9) m i ≡ None → Executes insert_start_text (assignment_row m i (owner_place o)) old new r → OnOk r (Makes (λ c. with_start c m i (Some o)) old new)
+puts_if old new m i o (Ok n) store inside none h = puts old new m i o n store inside none h
+puts_if old new m i o (Err e) store inside none h = tt

@@ -1,0 +1,22 @@
+use Rattle.std.proofs.Common.{refl}
+use Rattle.sqlite.specs.Held.{state}
+use Rattle.pw_schema.proofs.Outcomes.{early}
+use Rattle.pw_store.proofs.Keeping.{failed_same, left_no_more}
+use Rattle.pw_store.proofs.calls.SqlShelfShelf.total.Goals as goal
+
+pub returns-in-Err-clause-asked : goal.returns-in-Err-clause-asked
+returns-in-Err-clause-asked g c =
+    let self = c.args.self.now in
+    let old = state g.S.Store self.conn in
+    let new = state g.S.Store c.total.new.conn in
+    record {
+      same = λ clean. tt;
+      failed = λ clean none. failed_same old new (state g.S.Store self.base.value) self.begun 0 0 0 (g.met.S.Store.shut_if_dirty self.conn.store) self.since self.idle (c.in-Err.ensures.failed clean) none;
+      tally = c.tick-in-Err.ensures;
+      kept = record {
+        upload = refl;
+        counts = record { failures = c.fault_of_ask.ensures; failed_abandons = refl };
+        left = left_no_more old new c.in-Err.ensures.crash;
+        clean = early old new c.in-Err.ensures.crash;
+      };
+    }

@@ -1,0 +1,14 @@
+use Rattle.sqlite.specs.Held.{state}
+use Rattle.pw_tariff.specs.Office.{office_of}
+use Rattle.pw_store.proofs.Fresh.{left_alone, open_content, open_few}
+use Rattle.pw_store.proofs.shelf.SqlShelf.open_for.Goals as goal
+
+pub returns-in-Ok-clause-left : goal.returns-in-Ok-clause-left
+returns-in-Ok-clause-left g c clean =
+    left_alone (state g.S.Store c.prepare.new.conn) (state g.S.Store c.of-base.result.value) (office_of c.args.office.now) c.args.office_text.now (state g.S.Store c.args.connection).committed (c.in-Ok.ensures.opened clean) (λ db live may. g.met.S.Store.settled c.prepare.new.conn.store db live may)
+
+pub returns-in-Ok-clause-content : goal.returns-in-Ok-clause-content
+returns-in-Ok-clause-content g c clean = open_content (state g.S.Store c.prepare.new.conn) (state g.S.Store c.of-base.result.value) (office_of c.args.office.now) c.args.office_text.now (state g.S.Store c.args.connection).committed (c.in-Ok.ensures.opened clean)
+
+pub returns-in-Ok-clause-few : goal.returns-in-Ok-clause-few
+returns-in-Ok-clause-few g c clean = open_few (state g.S.Store c.prepare.new.conn) (state g.S.Store c.of-base.result.value) (office_of c.args.office.now) c.args.office_text.now (state g.S.Store c.args.connection).committed (c.in-Ok.ensures.opened clean)

@@ -1,0 +1,28 @@
+use Rattle.std.proofs.Common.{[]}
+use Rattle.sqlite.specs.Held.{state}
+use Rattle.sqlite.specs.State.{Shown}
+use Rattle.pw_schema.specs.declared.kind.RecordKind.TheVariants.{Assignments}
+use Rattle.pw_store.specs.inner.Lists.{ShowsAll}
+use Rattle.pw_store.proofs.Texts.{all_assignments_text, all_assignments_is}
+use Rattle.pw_store.proofs.Querying.{ours_plain, stays_if, fails_if, survives_if}
+use Rattle.pw_store.proofs.Lists.{shows_assignments, if_ok}
+use Rattle.pw_schema.proofs.Outcomes.{early}
+use Rattle.pw_store.proofs.tables.all_assignments.Goals as goal
+
+pub returns-clause-rows : goal.returns-clause-rows
+returns-clause-rows g c clean =
+    let before = early (state g.S.Store c.args.conn.now) (state g.S.Store c.query_all.new.self) c.query_all.ensures.survives clean in
+    if_ok (Shown all_assignments_text [] (state g.S.Store c.args.conn.now) (state g.S.Store c.query_all.new.self)) (ShowsAll Assignments (state g.S.Store c.args.conn.now).now.trees) (λ rows h. shows_assignments (state g.S.Store c.args.conn.now) (state g.S.Store c.query_all.new.self) rows (c.requires.ours before) h) c.query_all.result (c.query_all.ensures.ok clean)
+
+pub returns-clause-same : goal.returns-clause-same
+returns-clause-same g c clean =
+    let before = early (state g.S.Store c.args.conn.now) (state g.S.Store c.query_all.new.self) c.query_all.ensures.survives clean in
+    stays_if all_assignments_text [] (state g.S.Store c.args.conn.now) (state g.S.Store c.query_all.new.self) c.query_all.result (ours_plain all_assignments_is _ (c.requires.ours before)) (c.query_all.ensures.ok clean)
+
+pub returns-clause-failed : goal.returns-clause-failed
+returns-clause-failed g c clean =
+    let before = early (state g.S.Store c.args.conn.now) (state g.S.Store c.query_all.new.self) c.query_all.ensures.survives clean in
+    fails_if all_assignments_text [] (state g.S.Store c.args.conn.now) (state g.S.Store c.query_all.new.self) c.query_all.result (ours_plain all_assignments_is _ (c.requires.ours before)) (c.query_all.ensures.err clean)
+
+pub returns-clause-crash : goal.returns-clause-crash
+returns-clause-crash g c = survives_if all_assignments_text [] (state g.S.Store c.args.conn.now) (state g.S.Store c.query_all.new.self) (λ clean. ours_plain all_assignments_is _ (c.requires.ours clean)) c.query_all.ensures.survives

@@ -1,0 +1,106 @@
+-- What the tables hold.
+-- (A format of this project. Trees are numbered by the place of their object in the file's list of objects.)
+use Rattle.std.specs.Prelude.{◌≡◌, ℕ, pos, Bool, Option, Some, List, [], ◌∷◌, ◌++◌, map, find, option_map, unwrap_or}
+use Rattle.sqlite.specs.declared.types.Value.TheVariants.{Int, Text}
+use Rattle.sqlite.specs.Order.{Row, column}
+use Rattle.sqlite.specs.Tree.{Trees}
+use Rattle.pw_obis.specs.declared.reference.Register.{Register}
+use Rattle.pw_tariff.specs.declared.ids.AccountId.{AccountId}
+use Rattle.pw_tariff.specs.declared.ids.BandId.{BandId}
+use Rattle.pw_tariff.specs.declared.ids.MeterId.{MeterId}
+use Rattle.pw_tariff.specs.Office.{register_place}
+use Rattle.pw_model.specs.declared.records.Key.{Key}
+use Rattle.pw_model.specs.declared.records.Key.TheVariants as key
+use Rattle.pw_model.specs.declared.records.Content.TheVariants as content
+use Rattle.pw_model.specs.declared.records.Entry.{Entry}
+use Rattle.pw_model.specs.declared.records.TotalKey.{TotalKey}
+use Rattle.pw_model.specs.declared.records.TotalKey.TheVariants as total
+use Rattle.pw_model.specs.Counting.{assignment_key, reading_key}
+use Rattle.pw_model.specs.Same.{same_key}
+use Rattle.pw_model.specs.Shelf.{ShelfContent}
+use Rattle.pw_shelf.specs.Changes.{same_total}
+use Rattle.pw_schema.specs.Rows.{direction_at, natural, number, owner_at, register_at, text}
+
+-- where each table's rows are
+abbrev pub reading_tree : ℕ
+reading_tree = 1
+
+abbrev pub assignment_tree : ℕ
+assignment_tree = 3
+
+abbrev pub topup_tree : ℕ
+topup_tree = 5
+
+abbrev pub point_tree : ℕ
+point_tree = 7
+
+abbrev pub start_tree : ℕ
+start_tree = 9
+
+abbrev pub total_tree : ℕ
+total_tree = 11
+
+abbrev pub payment_tree : ℕ
+payment_tree = 13
+
+-- ---- the record of a row of a table, behind its rowid
+abbrev pub reading_in : Row → Entry
+reading_in r = record { key = key.Reading (record { 0 = number (column r 1) }) (register_at (number (column r 2))) (number (column r 3)); content = content.Reading (number (column r 4)) }
+
+abbrev pub assignment_in : Row → Entry
+assignment_in r = record { key = key.Assignment (record { 0 = number (column r 1) }) (number (column r 2)); content = content.Assignment (owner_at (number (column r 3))) }
+
+abbrev pub topup_in : Row → Entry
+topup_in r = record { key = key.TopUp (text (column r 1)); content = content.TopUp (record { 0 = number (column r 2) }) (number (column r 3)) (number (column r 4)) }
+
+-- the values of the row are of the kinds of that of a record
+abbrev pub IsReadingRow : Row → Type 0
+IsReadingRow r =
+    (column r 1 ≡ Int (pos (number (column r 1)))) × ((column r 2 ≡ Int (pos (register_place (register_at (number (column r 2)))))) × ((column r 3 ≡ Int (pos (number (column r 3)))) × (column r 4 ≡ Int (pos (number (column r 4))))))
+
+abbrev pub IsAssignmentRow : Row → Type 0
+IsAssignmentRow r = (column r 1 ≡ Int (pos (number (column r 1)))) × ((column r 2 ≡ Int (pos (number (column r 2)))) × (column r 3 ≡ Int (pos (number (column r 3)))))
+
+abbrev pub IsTopupRow : Row → Type 0
+IsTopupRow r = (column r 1 ≡ Text (text (column r 1))) × ((column r 2 ≡ Int (pos (number (column r 2)))) × ((column r 3 ≡ Int (pos (number (column r 3)))) × (column r 4 ≡ Int (pos (number (column r 4))))))
+
+-- ---- all of them
+abbrev pub records_of : Trees → List Entry
+records_of db = map reading_in (db reading_tree) ++ (map assignment_in (db assignment_tree) ++ map topup_in (db topup_tree))
+
+-- ---- points, starts and totals: a point is kept as a reading is, a start as an assignment
+-- the key of a total in a row of `total`, behind its rowid
+abbrev pub energy_in : Row → TotalKey
+energy_in r =
+    total.Energy (owner_at (number (column r 1))) (record { 0 = number (column r 2) }) (direction_at (number (column r 3)))
+
+-- the key of a total in a row of `total_topup`, whose account is the rowid
+abbrev pub payment_in : Row → TotalKey
+payment_in r = total.TopUps (record { 0 = number (column r 0) })
+
+-- the value of the first row with a key
+abbrev pub point_in : List Row → ℕ → Register → ℕ → Option ℕ
+point_in rows m r t = option_map (λ x. number (column x 4)) (find (λ x. same_key (reading_key m r t) (reading_in x).key) rows)
+
+abbrev pub start_in : List Row → ℕ → ℕ → Option (Option AccountId)
+start_in rows m t = option_map (λ x. owner_at (number (column x 3))) (find (λ x. same_key (assignment_key m t) (assignment_in x).key) rows)
+
+abbrev pub energy_told : List Row → TotalKey → Option ℕ
+energy_told rows k = option_map (λ x. number (column x 4)) (find (λ x. same_total k (energy_in x)) rows)
+
+abbrev pub payment_told : List Row → TotalKey → Option ℕ
+payment_told rows k = option_map (λ x. number (column x 2)) (find (λ x. same_total k (payment_in x)) rows)
+
+-- absent is 0
+abbrev pub total_in : Trees → TotalKey → ℕ
+total_in db (total.Energy o b d) = unwrap_or (energy_told (db total_tree) (total.Energy o b d)) 0
+total_in db (total.TopUps a) = unwrap_or (payment_told (db payment_tree) (total.TopUps a)) 0
+
+-- ---- the content
+abbrev pub content_of : Trees → ShelfContent
+content_of db = record {
+  records = records_of db;
+  point = point_in (db point_tree);
+  start = start_in (db start_tree);
+  total = total_in db;
+}

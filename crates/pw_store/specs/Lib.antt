@@ -1,0 +1,15 @@
+-- Read these, in this order:
+-- Content: what the tables hold
+-- Keyed: the rows of a table that has a key
+-- Kept: what is known of a store over SQL
+-- Shown: of a kind of records, where its rows are and what one of them is
+-- Opening: what an opening finds, and why it is refused
+pub mod Content
+pub mod Keyed
+pub mod Kept
+pub mod Shown
+pub mod Opening
+-- named by private functions, tests and proofs alone
+pub mod inner
+-- facts that kept data needs
+pub mod lemmas

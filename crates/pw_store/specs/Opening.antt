@@ -1,0 +1,122 @@
+-- What an opening finds, and why it is refused.
+-- (Definitions of this project.)
+use Rattle.std.specs.Prelude.{◌≡◌, ◌⊎◌, ℕ, pos, true, false, ◌&&◌, List, [], ◌∷◌, map, IsTrue, ◌<◌, length}
+use Rattle.std.specs.List.{AllByRecursion, filter}
+use Rattle.std.specs.List.Sorted.{IsPermutation}
+use Rattle.sqlite.specs.declared.types.Value.TheVariants.{Int}
+use Rattle.sqlite.specs.Order.{Row, column}
+use Rattle.sqlite.specs.Ops.{binary, is_true}
+use Rattle.sqlite.specs.Tree.{Trees}
+use Rattle.sqlite.specs.Effect.{Database}
+use Rattle.sqlite.specs.State.{State}
+use Rattle.sqlite_value.specs.declared.keys.Collation.TheVariants.{Binary}
+use Rattle.sqlite_sql.specs.declared.ops.BinaryOp.TheVariants.{Compare}
+use Rattle.sqlite_sql.specs.declared.ops.CompareOp.TheVariants.{Eq}
+use Rattle.pw_tariff.specs.Office.{OfficeRules}
+use Rattle.pw_model.specs.declared.records.Entry.{Entry}
+use Rattle.pw_model.specs.Office.{AllOfOffice, most_records}
+use Rattle.pw_model.specs.Counting.{EachOnce}
+use Rattle.pw_schema.specs.declared.kind.RecordKind.{RecordKind}
+use Rattle.pw_schema.specs.declared.kind.RecordKind.TheVariants.{Readings, Assignments, TopUps}
+use Rattle.pw_model.specs.declared.records.TotalKey.{TotalKey}
+use Rattle.pw_schema.specs.declared.kind.TotalKind.{TotalKind}
+use Rattle.pw_schema.specs.declared.kind.TotalKind.TheVariants.{Energies, Payments}
+use Rattle.pw_schema.specs.Rows.{number}
+use Rattle.pw_schema.specs.Judging.{HasOtherText, HasOtherVersion, IsTotalOf, KeepsOffice}
+use Rattle.pw_schema.specs.Tables.{IsOurs, no_schema}
+use Rattle.pw_store.specs.declared.fault.OpenFault.{OpenFault}
+use Rattle.pw_store.specs.declared.fault.OpenFault.TheVariants.{Store, Memory, OfficeDiffers, Version, Unclean}
+use Rattle.pw_model.specs.Shelf.{no_content}
+use Rattle.pw_store.specs.Content.{content_of, energy_in, payment_in, point_tree, records_of, start_tree, total_tree, payment_tree}
+use Rattle.pw_store.specs.Kept.{IsStore}
+use Rattle.pw_store.specs.Keyed.{IsEnergyRow, IsPaymentRow}
+use Rattle.pw_store.specs.Shown.{IsRowOf, entries_of, entry_in, tree_of}
+
+-- ---- the office's row: version and text
+abbrev pub shown_office : Row → Row
+shown_office r = column r 2 ∷ column r 3 ∷ []
+
+abbrev pub offices : Trees → List Row
+offices db = map shown_office (filter (λ r. is_true (binary (Compare Eq Binary) (column r 0) (Int (pos 1))) && true) (db 0))
+
+-- so it is of the rows of `office`, in some order
+abbrev pub KeepsText : (List Row → Type 0) → Trees → Type 0
+KeepsText Keeps db = (rows : List Row) × (IsPermutation (offices db) rows × Keeps rows)
+
+-- ---- the records of a kind: each row one of the office, each once
+pub record HoldsRecords (office : OfficeRules) (k : RecordKind) (db : Trees) : Type 0 where
+  pub rows : AllByRecursion (IsRowOf k) (db (tree_of k))
+  pub once : EachOnce (entries_of k db)
+  pub of_office : AllOfOffice office (entries_of k db)
+
+-- ---- points and starts, each kept as a record: each row one of the office, no key twice
+pub record HoldsKept (office : OfficeRules) (k : RecordKind) (table : List Row) : Type 0 where
+  pub rows : AllByRecursion (IsRowOf k) table
+  pub once : EachOnce (map (λ r. (entry_in k r).key) table)
+  pub of_office : AllOfOffice office (map (entry_in k) table)
+
+-- ---- totals of a kind
+abbrev pub IsTotalRow : TotalKind → Row → Type 0
+IsTotalRow Energies r = IsEnergyRow r
+IsTotalRow Payments r = IsPaymentRow r
+
+abbrev pub key_of_total : TotalKind → Row → TotalKey
+key_of_total Energies r = energy_in r
+key_of_total Payments r = payment_in r
+
+-- each row one of the office, no key twice
+pub record HoldsTotals (office : OfficeRules) (k : TotalKind) (table : List Row) : Type 0 where
+  pub rows : AllByRecursion (λ r. IsTotalRow k r × IsTotalOf office (key_of_total k r)) table
+  pub once : EachOnce (map (key_of_total k) table)
+
+-- points, starts and totals
+pub record HoldsSums (office : OfficeRules) (db : Trees) : Type 0 where
+  pub points : HoldsKept office Readings (db point_tree)
+  pub starts : HoldsKept office Assignments (db start_tree)
+  pub energies : HoldsTotals office Energies (db total_tree)
+  pub payments : HoldsTotals office Payments (db payment_tree)
+
+-- ---- why it is refused
+abbrev pub HasNoRow : List Row → Type 0
+HasNoRow rows = (row : Row) → rows ≡ row ∷ [] → ⊥
+
+-- there are more records than a store may hold
+abbrev pub HoldsTooMany : Trees → Type 0
+HoldsTooMany db = most_records < length (records_of db)
+
+-- the three tables hold records of the office, each once
+pub record HoldsAllRecords (office : OfficeRules) (db : Trees) : Type 0 where
+  pub readings : HoldsRecords office Readings db
+  pub assignments : HoldsRecords office Assignments db
+  pub topups : HoldsRecords office TopUps db
+
+-- of a database whose tables are ours
+abbrev pub OursRefuses : OfficeRules → List ℕ → Trees → OpenFault → Type 0
+OursRefuses office body db Store = Unit {0}
+OursRefuses office body db Memory = Unit {0}
+OursRefuses office body db OfficeDiffers = KeepsText (HasOtherText body) db
+OursRefuses office body db Version = KeepsText HasOtherVersion db
+OursRefuses office body db Unclean =
+    KeepsText HasNoRow db ⊎ ((HoldsAllRecords office db → ⊥) ⊎ (HoldsTooMany db ⊎ (HoldsSums office db → ⊥)))
+
+-- of any database: there is something else than our tables, or they are ours and what they hold refuses
+abbrev pub Refuses : OfficeRules → List ℕ → Database → OpenFault → Type 0
+Refuses office body db Store = Unit {0}
+Refuses office body db Memory = Unit {0}
+Refuses office body db OfficeDiffers = IsOurs db.schema × OursRefuses office body db.trees OfficeDiffers
+Refuses office body db Version = IsOurs db.schema × OursRefuses office body db.trees Version
+Refuses office body db Unclean =
+    (((db.schema ≡ no_schema) → ⊥) × (IsOurs db.schema → ⊥)) ⊎ (IsOurs db.schema × OursRefuses office body db.trees Unclean)
+
+-- ---- what opens
+-- our tables, of this version and this text, with records, points, starts and totals of the office, and not too many
+pub record IsOpenable (office : OfficeRules) (body : List ℕ) (db : Database) : Type 0 where
+  pub ours : IsOurs db.schema
+  pub text : KeepsText (KeepsOffice body) db.trees
+  pub records : HoldsAllRecords office db.trees
+  pub few : HoldsTooMany db.trees → ⊥
+  pub sums : HoldsSums office db.trees
+
+-- what is found refuses such a store only for the engine's sake, or for memory
+abbrev pub OpenableOpens : Type 0
+OpenableOpens = (office : OfficeRules) (body : List ℕ) (db : Database) (fault : OpenFault) → IsOpenable office body db → Refuses office body db fault → (fault ≡ Store) ⊎ (fault ≡ Memory)

@@ -1,0 +1,6 @@
+pub mod Records
+pub mod Lists
+pub mod Opened
+pub mod Changing
+pub mod Seconds
+pub mod Sums

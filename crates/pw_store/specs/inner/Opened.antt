@@ -1,0 +1,103 @@
+-- What private functions of an opening find. It serves `src/opening.rt` and `src/sums.rt`.
+-- (Definitions of this project.)
+use Rattle.std.specs.Prelude.{◌≡◌, ◌⊎◌, ◌≤◌, ℕ, false, List, length, IsTrue}
+use Rattle.sqlite.specs.Order.{Row, column}
+use Rattle.sqlite.specs.Tree.{Trees}
+use Rattle.sqlite.specs.Effect.{Database}
+use Rattle.sqlite.specs.State.{State}
+use Rattle.pw_tariff.specs.Office.{OfficeRules}
+use Rattle.pw_model.specs.Office.{AllOfOffice, most_records}
+use Rattle.pw_schema.specs.declared.kind.RecordKind.{RecordKind}
+use Rattle.pw_schema.specs.declared.kind.TotalKind.{TotalKind}
+use Rattle.pw_schema.specs.declared.kind.TotalKind.TheVariants.{Energies, Payments}
+use Rattle.pw_schema.specs.Rows.{number}
+use Rattle.pw_schema.specs.Judging.{HasOtherText, HasOtherVersion, KeepsOffice}
+use Rattle.pw_schema.specs.Tables.{no_schema}
+use Rattle.pw_store.specs.declared.fault.OpenFault.{OpenFault}
+use Rattle.pw_store.specs.declared.fault.OpenFault.TheVariants.{Store, Memory, OfficeDiffers, Version, Unclean}
+use Rattle.pw_model.specs.Shelf.{no_content}
+use Rattle.pw_store.specs.Content.{content_of, records_of}
+use Rattle.pw_store.specs.Kept.{IsStore}
+use Rattle.pw_store.specs.Opening.{KeepsText, HoldsRecords, HoldsKept, HoldsTotals, HoldsSums, HasNoRow, HoldsTooMany, HoldsAllRecords}
+
+-- a connection that is open, and inside of no transaction
+pub record IsSettled (old new : State) : Type 0 where
+  pub is_open : IsTrue new.is_open
+  pub outside : new.in_transaction ≡ false
+  pub now : new.now ≡ old.committed
+  pub committed : new.committed ≡ old.committed
+
+abbrev pub amount_of_total : TotalKind → Row → ℕ
+amount_of_total Energies r = number (column r 4)
+amount_of_total Payments r = number (column r 2)
+
+-- what a database has to be, to be opened
+pub record MayOpen (office : OfficeRules) (body : List ℕ) (db : Database) : Type 0 where
+  pub store : IsStore db
+  pub kept : KeepsText (KeepsOffice body) db.trees
+  pub of_office : AllOfOffice office (records_of db.trees)
+  pub few : length (records_of db.trees) ≤ most_records
+
+-- what an opened connection is: that of before, or where nothing was there, a store without records
+pub record IsOpened (office : OfficeRules) (body : List ℕ) (before : Database) (s : State) : Type 0 where
+  pub is_open : IsTrue s.is_open
+  pub outside : s.in_transaction ≡ false
+  pub settled : s.now ≡ s.committed
+  pub may_open : MayOpen office body s.now
+  pub found : (s.now ≡ before) ⊎ ((before.schema ≡ no_schema) × (content_of s.now.trees ≡ no_content))
+
+-- what is known of the row of `office` where it refuses an opening
+abbrev pub RowRefuses : List ℕ → Trees → OpenFault → Type 0
+RowRefuses body db Store = Unit {0}
+RowRefuses body db Memory = Unit {0}
+RowRefuses body db OfficeDiffers = KeepsText (HasOtherText body) db
+RowRefuses body db Version = KeepsText HasOtherVersion db
+RowRefuses body db Unclean = KeepsText HasNoRow db
+
+-- of the points or starts of a table
+abbrev pub KeptRefuses : OfficeRules → RecordKind → List Row → OpenFault → Type 0
+KeptRefuses office k table Store = Unit {0}
+KeptRefuses office k table Memory = Unit {0}
+KeptRefuses office k table OfficeDiffers = ⊥
+KeptRefuses office k table Version = ⊥
+KeptRefuses office k table Unclean = HoldsKept office k table → ⊥
+
+-- of the totals of a table
+abbrev pub TotalsRefuse : OfficeRules → TotalKind → List Row → OpenFault → Type 0
+TotalsRefuse office k table Store = Unit {0}
+TotalsRefuse office k table Memory = Unit {0}
+TotalsRefuse office k table OfficeDiffers = ⊥
+TotalsRefuse office k table Version = ⊥
+TotalsRefuse office k table Unclean = HoldsTotals office k table → ⊥
+
+-- of points, starts and totals
+abbrev pub SumsRefuse : OfficeRules → Trees → OpenFault → Type 0
+SumsRefuse office db Store = Unit {0}
+SumsRefuse office db Memory = Unit {0}
+SumsRefuse office db OfficeDiffers = ⊥
+SumsRefuse office db Version = ⊥
+SumsRefuse office db Unclean = HoldsSums office db → ⊥
+
+-- of the records of a table
+abbrev pub TableRefuses : OfficeRules → RecordKind → Trees → OpenFault → Type 0
+TableRefuses office k db Store = Unit {0}
+TableRefuses office k db Memory = Unit {0}
+TableRefuses office k db OfficeDiffers = ⊥
+TableRefuses office k db Version = ⊥
+TableRefuses office k db Unclean = HoldsRecords office k db → ⊥
+
+-- of the records
+abbrev pub RecordsRefuse : OfficeRules → Trees → OpenFault → Type 0
+RecordsRefuse office db Store = Unit {0}
+RecordsRefuse office db Memory = Unit {0}
+RecordsRefuse office db OfficeDiffers = ⊥
+RecordsRefuse office db Version = ⊥
+RecordsRefuse office db Unclean = HoldsAllRecords office db → ⊥
+
+-- of the number of records
+abbrev pub NumberRefuses : Trees → OpenFault → Type 0
+NumberRefuses db Store = Unit {0}
+NumberRefuses db Memory = Unit {0}
+NumberRefuses db OfficeDiffers = ⊥
+NumberRefuses db Version = ⊥
+NumberRefuses db Unclean = HoldsTooMany db

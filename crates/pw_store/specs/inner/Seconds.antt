@@ -1,0 +1,25 @@
+-- What rows tell by the second, as a query shows them: a second, and what is told at it. It serves `src/points.rt`,
+-- `src/starts.rt` and `src/told.rt`.
+-- (Definitions of this project.)
+use Rattle.std.specs.Prelude.{ℕ, Option, Some, None, List, [], ◌∷◌}
+use Rattle.sqlite.specs.Order.{Row, column}
+use Rattle.pw_tariff.specs.declared.ids.AccountId.{AccountId}
+use Rattle.pw_schema.specs.Rows.{number, owner_at}
+
+-- a second and watt-hours
+abbrev pub point_told : Row → ℕ × ℕ
+point_told r = (number (column r 0), number (column r 1))
+
+-- a second and an owner
+abbrev pub start_told : Row → ℕ × Option AccountId
+start_told r = (number (column r 0), owner_at (number (column r 1)))
+
+-- the first, if there is one
+abbrev pub first_point : List Row → Option (ℕ × ℕ)
+first_point [] = None
+first_point (r ∷ rows) = Some (point_told r)
+
+-- the amount in the only column of the first row; 0 where there is none
+abbrev pub first_amount : List Row → ℕ
+first_amount [] = 0
+first_amount (r ∷ rows) = number (column r 0)

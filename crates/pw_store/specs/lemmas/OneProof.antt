@@ -1,0 +1,79 @@
+-- What is kept of a store has one proof at most.
+use Rattle.std.specs.Prelude.{◌≡◌, List, map, Bool, true}
+use Rattle.std.specs.List.{AllByRecursion}
+use Rattle.std.specs.Coded.{×_prop, Π_prop, Coded-set}
+use mathlib.Core.Bool.{Bool-set}
+use Rattle.sqlite.specs.Order.{Row}
+use Rattle.sqlite.specs.Tree.{Trees, rowid}
+use Rattle.sqlite.specs.Effect.{Database}
+use Rattle.sqlite.specs.State.{State as Sql}
+use Rattle.sqlite_trees.specs.Props.{Trees-set, AllByRecursion-prop}
+use Rattle.sqlite_value.specs.declared.value.Value.{Value}
+use Rattle.sqlite_value.specs.contracts.value.Value as value
+use Rattle.sqlite_schema.specs.contracts.schema.Schema as schema_row
+use Rattle.pw_model.specs.Counting.{EachOnce}
+use Rattle.pw_shelf.specs.inner.Held.{EachOnce-prop}
+use Rattle.pw_store.specs.Content.{IsReadingRow, IsAssignmentRow, IsTopupRow, energy_in, payment_in, reading_tree, assignment_tree, topup_tree, point_tree, start_tree, total_tree, payment_tree, records_of}
+use Rattle.pw_store.specs.Keyed.{AreKeyed, HasRowid, IsEnergyRow, IsPaymentRow}
+use Rattle.pw_store.specs.Kept.{key_in_point, key_in_start, IsStore, BaseIsOnce, NowIsStore, CommittedIsStore, IsSinceBase, IsIdle, IsInside, IsAwake}
+
+-- ---- a fact has one proof at most
+same_value : {a b : Value} → IsProp (a ≡ b)
+same_value {a} {b} = Coded-set value.the_row.coded a b
+
+pub IsReadingRow-prop : (r : Row) → IsProp (IsReadingRow r)
+IsReadingRow-prop r = ×_prop same_value (×_prop same_value (×_prop same_value same_value))
+
+pub IsAssignmentRow-prop : (r : Row) → IsProp (IsAssignmentRow r)
+IsAssignmentRow-prop r = ×_prop same_value (×_prop same_value same_value)
+
+pub IsTopupRow-prop : (r : Row) → IsProp (IsTopupRow r)
+IsTopupRow-prop r = ×_prop same_value (×_prop same_value (×_prop same_value same_value))
+
+pub IsEnergyRow-prop : (r : Row) → IsProp (IsEnergyRow r)
+IsEnergyRow-prop r = ×_prop same_value (×_prop same_value (×_prop same_value same_value))
+
+pub IsPaymentRow-prop : (r : Row) → IsProp (IsPaymentRow r)
+IsPaymentRow-prop r = ×_prop same_value same_value
+
+pub AreKeyed-prop : {K : Type 0} (IsRow : Row → Type 0) → ((r : Row) → IsProp (IsRow r)) → (key_in : Row → K) (rows : List Row) → IsProp (AreKeyed IsRow key_in rows)
+AreKeyed-prop IsRow prop key_in rows a b = λ i. record {
+  each = AllByRecursion-prop IsRow prop rows a.each b.each i;
+  ids = AllByRecursion-prop HasRowid (λ r. same_value) rows a.ids b.ids i;
+  numbered = EachOnce-prop (map rowid rows) a.numbered b.numbered i;
+  once = EachOnce-prop (map key_in rows) a.once b.once i;
+}
+
+pub IsStore-prop : (db : Database) → IsProp (IsStore db)
+IsStore-prop db a b = λ i. record {
+  ours = Coded-set schema_row.the_row.coded db.schema _ a.ours b.ours i;
+  readings = AllByRecursion-prop IsReadingRow IsReadingRow-prop (db.trees reading_tree) a.readings b.readings i;
+  assignments = AllByRecursion-prop IsAssignmentRow IsAssignmentRow-prop (db.trees assignment_tree) a.assignments b.assignments i;
+  topups = AllByRecursion-prop IsTopupRow IsTopupRow-prop (db.trees topup_tree) a.topups b.topups i;
+  once = EachOnce-prop (records_of db.trees) a.once b.once i;
+  points = AreKeyed-prop IsReadingRow IsReadingRow-prop key_in_point (db.trees point_tree) a.points b.points i;
+  starts = AreKeyed-prop IsAssignmentRow IsAssignmentRow-prop key_in_start (db.trees start_tree) a.starts b.starts i;
+  energies = AreKeyed-prop IsEnergyRow IsEnergyRow-prop energy_in (db.trees total_tree) a.energies b.energies i;
+  payments = AreKeyed-prop IsPaymentRow IsPaymentRow-prop payment_in (db.trees payment_tree) a.payments b.payments i;
+}
+
+pub BaseIsOnce-prop : (s base : Sql) → IsProp (BaseIsOnce s base)
+BaseIsOnce-prop s base = Π_prop λ _. EachOnce-prop (records_of base.committed.trees)
+
+pub NowIsStore-prop : (s : Sql) → IsProp (NowIsStore s)
+NowIsStore-prop s = Π_prop λ _. Π_prop λ _. IsStore-prop s.now
+
+pub CommittedIsStore-prop : (s : Sql) → IsProp (CommittedIsStore s)
+CommittedIsStore-prop s = Π_prop λ _. Π_prop λ _. IsStore-prop s.committed
+
+pub IsSinceBase-prop : (s base : Sql) → IsProp (IsSinceBase s base)
+IsSinceBase-prop s base = Π_prop λ _. Π_prop λ _. Trees-set s.committed.trees base.committed.trees
+
+pub IsIdle-prop : (s : Sql) (begun : Bool) → IsProp (IsIdle s begun)
+IsIdle-prop s begun = Π_prop λ _. Π_prop λ _. Π_prop λ _. Trees-set s.now.trees s.committed.trees
+
+pub IsInside-prop : (s : Sql) → IsProp (IsInside s)
+IsInside-prop s = Π_prop λ _. Π_prop λ _. Bool-set s.is_open true
+
+pub IsAwake-prop : (s : Sql) (doubtful : Bool) → IsProp (IsAwake s doubtful)
+IsAwake-prop s doubtful = Π_prop λ _. Π_prop λ _. Bool-set s.is_open true

@@ -1,0 +1,183 @@
+//! Questions about records, each over statements that are run once the connection is known to be open.
+
+ghost use Rattle.std.specs.Prelude.{◌≡◌, ◌⊎◌, ◌↔◌, IfOk, OnErr, OnOk, IsTrue, length};
+ghost use Rattle.sqlite.specs.Held.{state};
+ghost use Rattle.sqlite.specs.State.{HasCleanDisk, IsRolledBack, IsUnchanged, Survives};
+ghost use Rattle.pw_model.specs.Counting.{Member, contents_at};
+ghost use Rattle.pw_shelf.specs.Rows.{ListsAssignments, ListsReadings, ListsTopUps};
+ghost use Rattle.pw_schema.specs.Rows.{ReadsRows};
+ghost use Rattle.pw_store.specs.Content.{records_of};
+ghost use Rattle.pw_store.specs.Kept.{IsAwake, NowIsStore};
+
+use crate::counting::count_all;
+use crate::fault::AskFault;
+use crate::keys::contents_of_key;
+use crate::meters::{assignment_rows, has_assignment, has_reading, reading_rows};
+use crate::topups::{has_topup, topup_rows};
+use crate::waking::wake;
+use pw_model::{Content, Contents, Entry, Key};
+use pw_obis::Register;
+use pw_schema::{ReadFault, RecordKind, read_rows};
+use pw_tariff::MeterId;
+use sqlite::{Alter, Connection, Error, Row};
+use std::alloc::Global;
+
+/// Whether a record is held.
+pub(crate) fn has_entry<S: Alter>(
+    conn: &mut Connection<S>,
+    doubtful: bool,
+    entry: &Entry,
+) -> Result<bool, Error>
+    requires awake { IsAwake (state S.Store conn.old) doubtful }
+    requires store { NowIsStore (state S.Store conn.old) }
+    ensures found { HasCleanDisk (state S.Store conn.new) → IfOk result (λ held. IsTrue held ↔ Member entry.now (records_of (state S.Store conn.old).now.trees)) }
+    ensures same { HasCleanDisk (state S.Store conn.new) → OnOk result (IsUnchanged (state S.Store conn.old) (state S.Store conn.new)) }
+    ensures failed { HasCleanDisk (state S.Store conn.new) → OnErr result (IsUnchanged (state S.Store conn.old) (state S.Store conn.new) ⊎ IsRolledBack (state S.Store conn.old) (state S.Store conn.new)) }
+    ensures crash { Survives (state S.Store conn.old) (state S.Store conn.new) (λ _. ⊥) }
+{
+    wake(conn, doubtful)?;
+    match &entry.key {
+        Key::Reading {
+            meter,
+            register,
+            instant,
+        } => match &entry.content {
+            Content::Reading { wh } => has_reading(conn, *meter, *register, *instant, *wh),
+            _ => Ok(false),
+        },
+        Key::Assignment { meter, start } => match &entry.content {
+            Content::Assignment { owner } => has_assignment(conn, *meter, *start, *owner),
+            _ => Ok(false),
+        },
+        Key::TopUp { reference } => match &entry.content {
+            Content::TopUp {
+                account,
+                cents,
+                instant,
+            } => has_topup(conn, reference, *account, *cents, *instant),
+            _ => Ok(false),
+        },
+    }
+}
+
+/// What the records held say of a key.
+pub(crate) fn contents<S: Alter>(
+    conn: &mut Connection<S>,
+    doubtful: bool,
+    key: &Key,
+) -> Result<Contents, AskFault>
+    requires awake { IsAwake (state S.Store conn.old) doubtful }
+    requires store { NowIsStore (state S.Store conn.old) }
+    ensures told { HasCleanDisk (state S.Store conn.new) → IfOk result (λ found. found ≡ contents_at (records_of (state S.Store conn.old).now.trees) key.now) }
+    ensures same { HasCleanDisk (state S.Store conn.new) → OnOk result (IsUnchanged (state S.Store conn.old) (state S.Store conn.new)) }
+    ensures failed { HasCleanDisk (state S.Store conn.new) → OnErr result (IsUnchanged (state S.Store conn.old) (state S.Store conn.new) ⊎ IsRolledBack (state S.Store conn.old) (state S.Store conn.new)) }
+    ensures crash { Survives (state S.Store conn.old) (state S.Store conn.new) (λ _. ⊥) }
+{
+    if let Err(error) = wake(conn, doubtful) {
+        return Err(AskFault::Statement(error));
+    }
+    match contents_of_key(conn, key) {
+        Ok(Some(found)) => Ok(found),
+        Ok(None) => Err(AskFault::Unreadable),
+        Err(error) => Err(AskFault::Statement(error)),
+    }
+}
+
+// The records that rows show.
+fn read(alloc: Global, kind: RecordKind, rows: &[Row]) -> Result<Vec<Entry>, AskFault>
+    ensures { IfOk result (λ found. ReadsRows kind rows.now found.items) }
+{
+    match read_rows(alloc, kind, rows) {
+        Ok(found) => Ok(found),
+        Err(ReadFault::Memory) => Err(AskFault::Memory),
+        Err(ReadFault::Wrong) => Err(AskFault::Unreadable),
+    }
+}
+
+/// All readings held of a register, sorted.
+pub(crate) fn readings<S: Alter>(
+    conn: &mut Connection<S>,
+    doubtful: bool,
+    alloc: Global,
+    meter: MeterId,
+    register: Register,
+) -> Result<Vec<Entry>, AskFault>
+    requires awake { IsAwake (state S.Store conn.old) doubtful }
+    requires store { NowIsStore (state S.Store conn.old) }
+    ensures rows { HasCleanDisk (state S.Store conn.new) → IfOk result (λ found. ListsReadings (records_of (state S.Store conn.old).now.trees) meter register found.items) }
+    ensures same { HasCleanDisk (state S.Store conn.new) → OnOk result (IsUnchanged (state S.Store conn.old) (state S.Store conn.new)) }
+    ensures failed { HasCleanDisk (state S.Store conn.new) → OnErr result (IsUnchanged (state S.Store conn.old) (state S.Store conn.new) ⊎ IsRolledBack (state S.Store conn.old) (state S.Store conn.new)) }
+    ensures crash { Survives (state S.Store conn.old) (state S.Store conn.new) (λ _. ⊥) }
+{
+    if let Err(error) = wake(conn, doubtful) {
+        return Err(AskFault::Statement(error));
+    }
+    match reading_rows(conn, meter, register) {
+        Ok(rows) => read(alloc, RecordKind::Readings, rows.as_slice()),
+        Err(error) => Err(AskFault::Statement(error)),
+    }
+}
+
+/// All assignments held of a meter, sorted.
+pub(crate) fn assignments<S: Alter>(
+    conn: &mut Connection<S>,
+    doubtful: bool,
+    alloc: Global,
+    meter: MeterId,
+) -> Result<Vec<Entry>, AskFault>
+    requires awake { IsAwake (state S.Store conn.old) doubtful }
+    requires store { NowIsStore (state S.Store conn.old) }
+    ensures rows { HasCleanDisk (state S.Store conn.new) → IfOk result (λ found. ListsAssignments (records_of (state S.Store conn.old).now.trees) meter found.items) }
+    ensures same { HasCleanDisk (state S.Store conn.new) → OnOk result (IsUnchanged (state S.Store conn.old) (state S.Store conn.new)) }
+    ensures failed { HasCleanDisk (state S.Store conn.new) → OnErr result (IsUnchanged (state S.Store conn.old) (state S.Store conn.new) ⊎ IsRolledBack (state S.Store conn.old) (state S.Store conn.new)) }
+    ensures crash { Survives (state S.Store conn.old) (state S.Store conn.new) (λ _. ⊥) }
+{
+    if let Err(error) = wake(conn, doubtful) {
+        return Err(AskFault::Statement(error));
+    }
+    match assignment_rows(conn, meter) {
+        Ok(rows) => read(alloc, RecordKind::Assignments, rows.as_slice()),
+        Err(error) => Err(AskFault::Statement(error)),
+    }
+}
+
+/// All top-ups held, sorted.
+pub(crate) fn topups<S: Alter>(
+    conn: &mut Connection<S>,
+    doubtful: bool,
+    alloc: Global,
+) -> Result<Vec<Entry>, AskFault>
+    requires awake { IsAwake (state S.Store conn.old) doubtful }
+    requires store { NowIsStore (state S.Store conn.old) }
+    ensures rows { HasCleanDisk (state S.Store conn.new) → IfOk result (λ found. ListsTopUps (records_of (state S.Store conn.old).now.trees) found.items) }
+    ensures same { HasCleanDisk (state S.Store conn.new) → OnOk result (IsUnchanged (state S.Store conn.old) (state S.Store conn.new)) }
+    ensures failed { HasCleanDisk (state S.Store conn.new) → OnErr result (IsUnchanged (state S.Store conn.old) (state S.Store conn.new) ⊎ IsRolledBack (state S.Store conn.old) (state S.Store conn.new)) }
+    ensures crash { Survives (state S.Store conn.old) (state S.Store conn.new) (λ _. ⊥) }
+{
+    if let Err(error) = wake(conn, doubtful) {
+        return Err(AskFault::Statement(error));
+    }
+    match topup_rows(conn) {
+        Ok(rows) => read(alloc, RecordKind::TopUps, rows.as_slice()),
+        Err(error) => Err(AskFault::Statement(error)),
+    }
+}
+
+/// How many records are held.
+pub(crate) fn count<S: Alter>(conn: &mut Connection<S>, doubtful: bool) -> Result<u32, AskFault>
+    requires awake { IsAwake (state S.Store conn.old) doubtful }
+    requires store { NowIsStore (state S.Store conn.old) }
+    ensures number { HasCleanDisk (state S.Store conn.new) → IfOk result (λ held. held ≡ length (records_of (state S.Store conn.old).now.trees)) }
+    ensures same { HasCleanDisk (state S.Store conn.new) → OnOk result (IsUnchanged (state S.Store conn.old) (state S.Store conn.new)) }
+    ensures failed { HasCleanDisk (state S.Store conn.new) → OnErr result (IsUnchanged (state S.Store conn.old) (state S.Store conn.new) ⊎ IsRolledBack (state S.Store conn.old) (state S.Store conn.new)) }
+    ensures crash { Survives (state S.Store conn.old) (state S.Store conn.new) (λ _. ⊥) }
+{
+    if let Err(error) = wake(conn, doubtful) {
+        return Err(AskFault::Statement(error));
+    }
+    match count_all(conn) {
+        Ok(Some(number)) => Ok(number),
+        Ok(None) => Err(AskFault::Unreadable),
+        Err(error) => Err(AskFault::Statement(error)),
+    }
+}

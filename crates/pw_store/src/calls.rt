@@ -1,0 +1,419 @@
+//! The calls of the store over SQL.
+
+ghost use Rattle.std.specs.Prelude.{◌≡◌};
+ghost use Rattle.sqlite.specs.Held.{state};
+ghost use Rattle.sqlite.specs.State.{HasCleanDisk};
+ghost use Rattle.pw_shelf.specs.Rows.{rows_at, rows_found, rows_total};
+ghost use Rattle.pw_store.specs.Kept.{left_of, once_held, state_of, survives_left};
+
+use crate::asking::{assignments, contents, count, has_entry, readings, topups};
+use crate::changes::Change;
+use crate::entries::add_entry;
+use crate::fault::{device_fault, fault_of, fault_of_ask};
+use crate::questions::{point_after, point_before, points_between, starts_of, total};
+use crate::shelf::SqlShelf;
+use pw_model::{Contents, Entry, Key, TotalKey};
+use pw_obis::{Register, WattHours};
+use pw_schema::{begin, commit, roll_back};
+use pw_shelf::{Shelf, ShelfFault};
+use pw_tariff::{MeterId, Owner};
+use pw_time::Instant;
+use sqlite::Alter;
+use std::alloc::Global;
+use std::snapshot::Snapshot;
+
+impl<S: Alter> Shelf for SqlShelf<S> {
+    ghost state = { λ s. state_of (state S.Store s.conn) (state S.Store s.base.value) s.begun s.failures.count s.failed_abandons.count s.tally.count };
+
+    ghost left = { λ s. left_of (state S.Store s.conn) };
+
+    ghost clean = { λ s. HasCleanDisk (state S.Store s.conn) };
+
+    fn begin(&mut self) -> Result<(), ShelfFault> {
+        self.tally.tick(0);
+        match begin(&mut self.conn) {
+            Ok(_) => {
+                self.begun = true;
+                self.doubtful = false;
+                Ok(())
+            }
+            Err(error) => {
+                self.doubtful = true;
+                Err(fault_of(error, &mut self.failures))
+            }
+        }
+    }
+
+    fn commit(&mut self) -> Result<(), ShelfFault> {
+        self.tally.tick(0);
+        if self.conn.is_autocommit() {
+            return Err(device_fault(&mut self.failures));
+        }
+        match commit(&mut self.conn) {
+            Ok(_) => {
+                self.base = Snapshot::of(&self.conn);
+                self.begun = false;
+                self.doubtful = false;
+                Ok(())
+            }
+            Err(error) => {
+                self.doubtful = true;
+                Err(fault_of(error, &mut self.failures))
+            }
+        }
+    }
+
+    fn abandon(&mut self) -> Result<(), ShelfFault> {
+        self.tally.tick(0);
+        if self.conn.is_autocommit() {
+            self.begun = false;
+            return Ok(());
+        }
+        match roll_back(&mut self.conn) {
+            Ok(_) => {
+                self.begun = false;
+                self.doubtful = true;
+                Ok(())
+            }
+            Err(error) => {
+                self.failed_abandons.tick(0);
+                self.doubtful = true;
+                Err(fault_of(error, &mut self.failures))
+            }
+        }
+    }
+
+    fn holds(&mut self, entry: &Entry) -> Result<bool, ShelfFault> {
+        self.tally.tick(0);
+        match has_entry(&mut self.conn, self.doubtful, entry) {
+            Ok(held) => {
+                self.doubtful = false;
+                Ok(held)
+            }
+            Err(error) => {
+                self.doubtful = true;
+                Err(fault_of(error, &mut self.failures))
+            }
+        }
+    }
+
+    fn contents_at(&mut self, key: &Key) -> Result<Contents, ShelfFault> {
+        match contents(&mut self.conn, self.doubtful, key) {
+            Ok(found) => {
+                self.tally.tick(rows_in(&found));
+                self.doubtful = false;
+                Ok(found)
+            }
+            Err(fault) => {
+                self.tally.tick(0);
+                self.doubtful = true;
+                Err(fault_of_ask(fault, &mut self.failures))
+            }
+        }
+    }
+
+    fn add(&mut self, entry: &Entry) -> Result<(), ShelfFault> {
+        self.tally.tick(0);
+        if self.conn.is_autocommit() {
+            return Err(device_fault(&mut self.failures));
+        }
+        match add_entry(&mut self.conn, entry) {
+            Ok(true) => Ok(()),
+            Ok(false) => Err(device_fault(&mut self.failures)),
+            Err(error) => {
+                self.doubtful = true;
+                Err(fault_of(error, &mut self.failures))
+            }
+        }
+    }
+
+    fn readings_of(
+        &mut self,
+        alloc: Global,
+        meter: MeterId,
+        register: Register,
+    ) -> Result<Vec<Entry>, ShelfFault> {
+        match readings(&mut self.conn, self.doubtful, alloc, meter, register) {
+            Ok(found) => {
+                self.tally.tick(found.len() as u64);
+                self.doubtful = false;
+                Ok(found)
+            }
+            Err(fault) => {
+                self.tally.tick(0);
+                self.doubtful = true;
+                Err(fault_of_ask(fault, &mut self.failures))
+            }
+        }
+    }
+
+    fn assignments_of(&mut self, alloc: Global, meter: MeterId) -> Result<Vec<Entry>, ShelfFault> {
+        match assignments(&mut self.conn, self.doubtful, alloc, meter) {
+            Ok(found) => {
+                self.tally.tick(found.len() as u64);
+                self.doubtful = false;
+                Ok(found)
+            }
+            Err(fault) => {
+                self.tally.tick(0);
+                self.doubtful = true;
+                Err(fault_of_ask(fault, &mut self.failures))
+            }
+        }
+    }
+
+    fn topups(&mut self, alloc: Global) -> Result<Vec<Entry>, ShelfFault> {
+        match topups(&mut self.conn, self.doubtful, alloc) {
+            Ok(found) => {
+                self.tally.tick(found.len() as u64);
+                self.doubtful = false;
+                Ok(found)
+            }
+            Err(fault) => {
+                self.tally.tick(0);
+                self.doubtful = true;
+                Err(fault_of_ask(fault, &mut self.failures))
+            }
+        }
+    }
+
+    fn count(&mut self) -> Result<u32, ShelfFault> {
+        match count(&mut self.conn, self.doubtful) {
+            Ok(found) => {
+                self.tally.tick(0);
+                self.doubtful = false;
+                Ok(found)
+            }
+            Err(fault) => {
+                self.tally.tick(0);
+                self.doubtful = true;
+                Err(fault_of_ask(fault, &mut self.failures))
+            }
+        }
+    }
+
+    fn point_put(
+        &mut self,
+        meter: MeterId,
+        register: Register,
+        instant: Instant,
+        wh: WattHours,
+    ) -> Result<(), ShelfFault> {
+        self.tally.tick(0);
+        self.replace(
+            Change::TakePoint {
+                meter,
+                register,
+                instant,
+            },
+            Change::PutPoint {
+                meter,
+                register,
+                instant,
+                wh,
+            },
+        )
+    }
+
+    fn point_del(
+        &mut self,
+        meter: MeterId,
+        register: Register,
+        instant: Instant,
+    ) -> Result<(), ShelfFault> {
+        self.tally.tick(0);
+        self.change(Change::TakePoint {
+            meter,
+            register,
+            instant,
+        })
+    }
+
+    fn point_before(
+        &mut self,
+        meter: MeterId,
+        register: Register,
+        instant: Instant,
+    ) -> Result<Option<(Instant, WattHours)>, ShelfFault> {
+        match point_before(&mut self.conn, self.doubtful, meter, register, instant) {
+            Ok(found) => {
+                self.tally.tick(rows_found(&found));
+                self.doubtful = false;
+                Ok(found)
+            }
+            Err(fault) => {
+                self.tally.tick(0);
+                self.doubtful = true;
+                Err(fault_of_ask(fault, &mut self.failures))
+            }
+        }
+    }
+
+    fn point_after(
+        &mut self,
+        meter: MeterId,
+        register: Register,
+        instant: Instant,
+    ) -> Result<Option<(Instant, WattHours)>, ShelfFault> {
+        match point_after(&mut self.conn, self.doubtful, meter, register, instant) {
+            Ok(found) => {
+                self.tally.tick(rows_found(&found));
+                self.doubtful = false;
+                Ok(found)
+            }
+            Err(fault) => {
+                self.tally.tick(0);
+                self.doubtful = true;
+                Err(fault_of_ask(fault, &mut self.failures))
+            }
+        }
+    }
+
+    fn points_between(
+        &mut self,
+        alloc: Global,
+        meter: MeterId,
+        register: Register,
+        from: Instant,
+        to: Instant,
+    ) -> Result<Vec<(Instant, WattHours)>, ShelfFault> {
+        match points_between(
+            &mut self.conn,
+            self.doubtful,
+            alloc,
+            meter,
+            register,
+            from,
+            to,
+        ) {
+            Ok(found) => {
+                self.tally.tick(found.len() as u64);
+                self.doubtful = false;
+                Ok(found)
+            }
+            Err(fault) => {
+                self.tally.tick(0);
+                self.doubtful = true;
+                Err(fault_of_ask(fault, &mut self.failures))
+            }
+        }
+    }
+
+    fn start_put(
+        &mut self,
+        meter: MeterId,
+        start: Instant,
+        owner: Owner,
+    ) -> Result<(), ShelfFault> {
+        self.tally.tick(0);
+        self.replace(
+            Change::TakeStart { meter, start },
+            Change::PutStart {
+                meter,
+                start,
+                owner,
+            },
+        )
+    }
+
+    fn start_del(&mut self, meter: MeterId, start: Instant) -> Result<(), ShelfFault> {
+        self.tally.tick(0);
+        self.change(Change::TakeStart { meter, start })
+    }
+
+    fn starts_of(
+        &mut self,
+        alloc: Global,
+        meter: MeterId,
+    ) -> Result<Vec<(Instant, Owner)>, ShelfFault> {
+        match starts_of(&mut self.conn, self.doubtful, alloc, meter) {
+            Ok(found) => {
+                self.tally.tick(found.len() as u64);
+                self.doubtful = false;
+                Ok(found)
+            }
+            Err(fault) => {
+                self.tally.tick(0);
+                self.doubtful = true;
+                Err(fault_of_ask(fault, &mut self.failures))
+            }
+        }
+    }
+
+    fn total(&mut self, key: &TotalKey) -> Result<u64, ShelfFault> {
+        match total(&mut self.conn, self.doubtful, key) {
+            Ok(amount) => {
+                self.tally.tick(rows_of_total(amount));
+                self.doubtful = false;
+                Ok(amount)
+            }
+            Err(fault) => {
+                self.tally.tick(0);
+                self.doubtful = true;
+                Err(fault_of_ask(fault, &mut self.failures))
+            }
+        }
+    }
+
+    fn total_put(&mut self, key: &TotalKey, amount: u64) -> Result<(), ShelfFault> {
+        self.tally.tick(0);
+        match key {
+            TotalKey::Energy {
+                owner,
+                band,
+                direction,
+            } => self.replace(
+                Change::TakeEnergy {
+                    owner: *owner,
+                    band: *band,
+                    direction: *direction,
+                },
+                Change::PutEnergy {
+                    owner: *owner,
+                    band: *band,
+                    direction: *direction,
+                    wh: amount,
+                },
+            ),
+            TotalKey::TopUps { account } => self.replace(
+                Change::TakePayment { account: *account },
+                Change::PutPayment {
+                    account: *account,
+                    cents: amount,
+                },
+            ),
+        }
+    }
+
+    ghost once = { λ s clean. once_held (state S.Store.own s.conn) (state S.Store.own s.base.value) s.base_once s.now clean };
+
+    ghost survives = { λ s clean none. survives_left (state S.Store.own s.conn) (S.Store.survives s.conn.store clean) none };
+}
+
+// How many rows an answer of one at most is.
+fn rows_found<T>(found: &Option<T>) -> u64
+    ensures { result ≡ rows_found found.now }
+{
+    match found {
+        Some(_) => 1,
+        None => 0,
+    }
+}
+
+// How many rows a total is: none where it is 0.
+fn rows_of_total(amount: u64) -> u64
+    ensures { result ≡ rows_total amount }
+{
+    if amount == 0 { 0 } else { 1 }
+}
+
+// How many rows the contents are.
+fn rows_in(found: &Contents) -> u64
+    ensures { result ≡ rows_at found.now }
+{
+    match found {
+        Contents::Nothing => 0,
+        Contents::One(_) => 1,
+        Contents::Several => 2,
+    }
+}

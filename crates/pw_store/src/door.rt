@@ -1,0 +1,106 @@
+//! Opening a connection as a store, and closing it.
+
+ghost use Rattle.std.specs.Prelude.{◌≡◌, ◌⊎◌, IfOk, IfErr, IsTrue, None, false, ◌≤◌, length};
+ghost use Rattle.sqlite.specs.Held.{state};
+ghost use Rattle.sqlite.specs.State.{HasCleanDisk, KeepsCommit};
+ghost use Rattle.pw_tariff.specs.Office.{OfficeFile, office_of};
+ghost use Rattle.pw_tariff.specs.Text.{IsOfficeOf};
+ghost use Rattle.pw_model.specs.Shelf.{no_content};
+ghost use Rattle.pw_model.specs.Office.{AllOfOffice, most_records};
+ghost use Rattle.pw_shelf.specs.State.{committed};
+ghost use Rattle.pw_shelf.specs.Left.{LeavesOnly};
+ghost use Rattle.pw_schema.specs.Tables.{IsOurs, no_schema};
+ghost use Rattle.pw_store.specs.Content.{content_of};
+ghost use Rattle.pw_store.specs.Kept.{held_of, left_of, state_of};
+ghost use Rattle.pw_store.specs.Opening.{Refuses};
+
+use crate::fault::OpenFault;
+use crate::opening::prepare;
+use crate::shelf::SqlShelf;
+use pw_shelf::Tally;
+use pw_tariff::Office;
+use sqlite::{Alter, Connection};
+use std::alloc::Global;
+use std::snapshot::Snapshot;
+
+impl<S: Alter> SqlShelf<S> {
+    /// Opens a connection as a store of the office of a text: rolls back a transaction that the connection is inside of,
+    /// makes the tables where nothing is there, and else judges what is there. A refused connection is given back, with
+    /// what was committed.
+    pub fn open(
+        alloc: Global,
+        connection: Connection<S>,
+        office_text: &[u8],
+    ) -> Result<SqlShelf<S>, (OpenFault, Connection<S>)>
+        requires { (office : OfficeFile) × IsOfficeOf office_text.now office }
+        ensures content { IfOk result (λ s. HasCleanDisk (state S.Store s.conn) → (held_of (state S.Store s.conn) (state S.Store s.base.value) ≡ content_of (state S.Store connection).committed.trees) ⊎ (((state S.Store connection).committed.schema ≡ no_schema) × (held_of (state S.Store s.conn) (state S.Store s.base.value) ≡ no_content))) }
+        ensures of_office { IfOk result (λ s. HasCleanDisk (state S.Store s.conn) → (office : OfficeFile) × IsOfficeOf office_text.now office × AllOfOffice (office_of office) (held_of (state S.Store s.conn) (state S.Store s.base.value)).records) }
+        ensures few { IfOk result (λ s. HasCleanDisk (state S.Store s.conn) → length (held_of (state S.Store s.conn) (state S.Store s.base.value)).records ≤ most_records) }
+        ensures idle { IfOk result (λ s. s.begun ≡ false) }
+        ensures counts { IfOk result (λ s. (s.failures.count ≡ 0) × (s.failed_abandons.count ≡ 0) × (s.tally.count ≡ 0)) }
+        ensures left { IfOk result (λ s. HasCleanDisk (state S.Store s.conn) → LeavesOnly (held_of (state S.Store s.conn) (state S.Store s.base.value)) (left_of (state S.Store s.conn))) }
+        ensures cause { IfErr result (λ e. HasCleanDisk (state S.Store e.1) → (office : OfficeFile) × IsOfficeOf office_text.now office × Refuses (office_of office) office_text.now (state S.Store connection).committed e.0) }
+        ensures refused { IfErr result (λ e. HasCleanDisk (state S.Store e.1) → KeepsCommit (state S.Store connection) (state S.Store e.1) ⊎ (e.1 ≡ connection)) }
+    {
+        match Office::read(alloc, office_text) {
+            Ok(office) => SqlShelf::open_for(alloc, connection, &office, office_text),
+            Err(_) => Err((OpenFault::Memory, connection)),
+        }
+    }
+
+    // Opens a connection as a store of an office, whose text is kept.
+    fn open_for(
+        alloc: Global,
+        mut connection: Connection<S>,
+        office: &Office,
+        office_text: &[u8],
+    ) -> Result<SqlShelf<S>, (OpenFault, Connection<S>)>
+        ensures content { IfOk result (λ s. HasCleanDisk (state S.Store s.conn) → (held_of (state S.Store s.conn) (state S.Store s.base.value) ≡ content_of (state S.Store connection).committed.trees) ⊎ (((state S.Store connection).committed.schema ≡ no_schema) × (held_of (state S.Store s.conn) (state S.Store s.base.value) ≡ no_content))) }
+        ensures of_office { IfOk result (λ s. HasCleanDisk (state S.Store s.conn) → AllOfOffice (office_of office.now) (held_of (state S.Store s.conn) (state S.Store s.base.value)).records) }
+        ensures few { IfOk result (λ s. HasCleanDisk (state S.Store s.conn) → length (held_of (state S.Store s.conn) (state S.Store s.base.value)).records ≤ most_records) }
+        ensures idle { IfOk result (λ s. s.begun ≡ false) }
+        ensures counts { IfOk result (λ s. (s.failures.count ≡ 0) × (s.failed_abandons.count ≡ 0) × (s.tally.count ≡ 0)) }
+        ensures left { IfOk result (λ s. HasCleanDisk (state S.Store s.conn) → LeavesOnly (held_of (state S.Store s.conn) (state S.Store s.base.value)) (left_of (state S.Store s.conn))) }
+        ensures cause { IfErr result (λ e. HasCleanDisk (state S.Store e.1) → Refuses (office_of office.now) office_text.now (state S.Store connection).committed e.0) }
+        ensures refused { IfErr result (λ e. HasCleanDisk (state S.Store e.1) → KeepsCommit (state S.Store connection) (state S.Store e.1)) }
+    {
+        match prepare(alloc, &mut connection, office, office_text) {
+            Ok(()) => {
+                let base = Snapshot::of(&connection);
+                Ok(SqlShelf {
+                    conn: connection,
+                    base,
+                    begun: false,
+                    doubtful: false,
+                    failures: zero(),
+                    failed_abandons: zero(),
+                    tally: zero(),
+                })
+            }
+            Err(fault) => Err((fault, connection)),
+        }
+    }
+
+    /// The connection, with what was committed: what an upload that is still begun has written isn't committed.
+    pub fn close(self) -> Connection<S>
+        ensures same { result ≡ self.conn }
+        ensures committed { HasCleanDisk (state S.Store result) → IsTrue (state S.Store result).is_open → content_of (state S.Store result).committed.trees ≡ committed (state_of (state S.Store self.conn) (state S.Store self.base.value) self.begun self.failures.count self.failed_abandons.count self.tally.count) }
+    {
+        let SqlShelf {
+            conn,
+            base: _,
+            begun: _,
+            doubtful: _,
+            failures: _,
+            failed_abandons: _,
+            tally: _,
+        } = self;
+        conn
+    }
+}
+
+fn zero() -> Tally
+    ensures { result.count ≡ 0 }
+{
+    Tally::new()
+}

@@ -1,0 +1,59 @@
+//! Adding a record of any kind.
+
+ghost use Rattle.std.specs.Prelude.{◌≡◌, ◌⊎◌, IfOk, OnErr, OnOk, IsTrue, false, true};
+ghost use Rattle.sqlite.specs.Held.{state};
+ghost use Rattle.sqlite.specs.State.{HasCleanDisk, IsRolledBack, IsUnchanged, Shows, Survives};
+ghost use Rattle.pw_model.specs.Counting.{Member};
+ghost use Rattle.pw_shelf.specs.State.{IsWithRecord};
+ghost use Rattle.pw_store.specs.Content.{content_of, records_of};
+ghost use Rattle.pw_store.specs.Kept.{IsStore};
+
+use crate::meters::{add_assignment, add_reading};
+use crate::topups::add_topup;
+use pw_model::{Content, Entry, Key};
+use sqlite::{Alter, Connection, Error};
+
+/// Adds a record that isn't held, if its content is of its key's kind; else no statement is run.
+pub(crate) fn add_entry<S: Alter>(conn: &mut Connection<S>, entry: &Entry) -> Result<bool, Error>
+    requires inside { HasCleanDisk (state S.Store conn.old) → IsTrue (state S.Store conn.old).in_transaction }
+    requires store { HasCleanDisk (state S.Store conn.old) → IsStore (state S.Store conn.old).now }
+    requires fresh { HasCleanDisk (state S.Store conn.old) → Member entry.now (records_of (state S.Store conn.old).now.trees) → ⊥ }
+    ensures store { HasCleanDisk (state S.Store conn.new) → OnOk result (IsStore (state S.Store conn.new).now) }
+    ensures added { HasCleanDisk (state S.Store conn.new) → IfOk result (λ added. IsTrue added → IsWithRecord (content_of (state S.Store conn.old).now.trees) entry.now (content_of (state S.Store conn.new).now.trees)) }
+    ensures inside { HasCleanDisk (state S.Store conn.new) → IfOk result (λ added. IsTrue added → Shows (state S.Store conn.old) (state S.Store conn.new) (state S.Store conn.new).now (state S.Store conn.old).committed true) }
+    ensures foreign { HasCleanDisk (state S.Store conn.new) → IfOk result (λ added. (added ≡ false) → conn.new ≡ conn.old) }
+    ensures failed { HasCleanDisk (state S.Store conn.new) → OnErr result (IsUnchanged (state S.Store conn.old) (state S.Store conn.new) ⊎ IsRolledBack (state S.Store conn.old) (state S.Store conn.new)) }
+    ensures crash { Survives (state S.Store conn.old) (state S.Store conn.new) (λ _. ⊥) }
+{
+    match (&entry.key, &entry.content) {
+        (
+            Key::Reading {
+                meter,
+                register,
+                instant,
+            },
+            Content::Reading { wh },
+        ) => match add_reading(conn, *meter, *register, *instant, *wh) {
+            Ok(_) => Ok(true),
+            Err(error) => Err(error),
+        },
+        (Key::Assignment { meter, start }, Content::Assignment { owner }) => match add_assignment(
+            conn, *meter, *start, *owner,
+        ) {
+            Ok(_) => Ok(true),
+            Err(error) => Err(error),
+        },
+        (
+            Key::TopUp { reference },
+            Content::TopUp {
+                account,
+                cents,
+                instant,
+            },
+        ) => match add_topup(conn, reference, *account, *cents, *instant) {
+            Ok(_) => Ok(true),
+            Err(error) => Err(error),
+        },
+        _ => Ok(false),
+    }
+}

@@ -1,0 +1,73 @@
+//! Why calls and openings are refused.
+
+ghost use Rattle.std.specs.Prelude.{◌≡◌, ◌+◌, ◌⊎◌};
+ghost use Rattle.pw_shelf.specs.Calls.{failures_in};
+ghost use Rattle.pw_shelf.specs.declared.fault.ShelfFault.TheVariants.{Device};
+
+use pw_shelf::{ShelfFault, Tally};
+use sqlite::{Error, ErrorCode};
+
+/// Why a question has no answer.
+pub(crate) enum AskFault {
+    /// A statement was refused.
+    Statement(Error),
+    /// Memory was refused for the answer.
+    Memory,
+    /// The rows shown aren't those of a store.
+    Unreadable,
+}
+
+/// Want of memory, or a failure of the device, which is counted.
+pub(crate) fn fault_of(error: Error, failures: &mut Tally) -> ShelfFault
+    ensures { failures.new.count ≡ failures.old.count + failures_in result }
+{
+    match error {
+        Error::SqliteFailure(ErrorCode::OutOfMemory) => ShelfFault::Memory,
+        _ => device_fault(failures),
+    }
+}
+
+/// A failure of the device, counted.
+pub(crate) fn device_fault(failures: &mut Tally) -> ShelfFault
+    ensures device { result ≡ Device }
+    ensures counted { failures.new.count ≡ failures.old.count + 1 }
+{
+    failures.tick(0);
+    ShelfFault::Device
+}
+
+/// What a question that has no answer is to a shelf: a failure of the device is counted.
+pub(crate) fn fault_of_ask(fault: AskFault, failures: &mut Tally) -> ShelfFault
+    ensures { failures.new.count ≡ failures.old.count + failures_in result }
+{
+    match fault {
+        AskFault::Statement(error) => fault_of(error, failures),
+        AskFault::Memory => ShelfFault::Memory,
+        AskFault::Unreadable => device_fault(failures),
+    }
+}
+
+/// Why a connection isn't opened.
+#[derive(Clone, Copy, Debug, PartialEq, Eq)]
+pub enum OpenFault {
+    /// `sqlite` refused for another cause than memory.
+    Store,
+    /// Memory was refused.
+    Memory,
+    /// The kept office text isn't this one.
+    OfficeDiffers,
+    /// Another schema version.
+    Version,
+    /// The tables aren't those of a store, or a row is no record of the office.
+    Unclean,
+}
+
+/// What a refused statement is to an opening.
+pub(crate) fn fault_in(error: Error) -> OpenFault
+    ensures { (result ≡ OpenFault.Memory) ⊎ (result ≡ OpenFault.Store) }
+{
+    match error {
+        Error::SqliteFailure(ErrorCode::OutOfMemory) => OpenFault::Memory,
+        _ => OpenFault::Store,
+    }
+}

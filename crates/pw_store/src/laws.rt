@@ -1,0 +1,31 @@
+//! The laws of the store over SQL.
+//!
+//! No function does anything. What counts is its contract.
+
+ghost use Rattle.std.specs.Prelude.{◌≡◌, ◌↔◌, IsTrue};
+ghost use Rattle.sqlite.specs.Held.{state};
+ghost use Rattle.sqlite.specs.State.{HasCleanDisk};
+ghost use Rattle.sqlite.specs.Tree.{Trees};
+ghost use Rattle.pw_model.specs.Shelf.{ShelfContent};
+ghost use Rattle.pw_store.specs.Content.{content_of};
+ghost use Rattle.pw_store.specs.Opening.{OpenableOpens};
+
+use crate::shelf::SqlShelf;
+use pw_shelf::Shelf;
+use sqlite::Alter;
+
+/// A store over SQL is clean exactly where the disk has returned what was written to it; while the connection is open its
+/// tables are what is held; and a crash leaves exactly the contents of the databases that sqlite may leave.
+pub fn store_is_its_tables<S: Alter>(shelf: SqlShelf<S>) -> SqlShelf<S>
+    ensures clean { ⟦<SqlShelf<S> as Shelf>⟧.clean result ↔ HasCleanDisk (state S.Store result.conn) }
+    ensures content { IsTrue (state S.Store result.conn).is_open → (⟦<SqlShelf<S> as Shelf>⟧.state result).content ≡ content_of (state S.Store result.conn).now.trees }
+    ensures left { (c : ShelfContent) → ⟦<SqlShelf<S> as Shelf>⟧.left result c ↔ ((db : Trees) × (state S.Store result.conn).may_leave db × (content_of db ≡ c)) }
+{
+    shelf
+}
+
+/// Where the tables are those of a store of this office, of this version and this text, `open` refuses them with `Store`
+/// or `Memory` alone: what it says of the cause of a refusal leaves no other.
+pub fn openable_stores_open()
+    ensures { OpenableOpens }
+{}

@@ -1,0 +1,29 @@
+//! The store of records over SQL.
+#![tactic(auto)]
+
+mod asking;
+mod calls;
+mod changes;
+mod counting;
+mod door;
+mod entries;
+mod fault;
+mod keys;
+pub mod laws;
+mod meters;
+mod opening;
+mod points;
+mod questions;
+mod shelf;
+mod starts;
+mod sum_tables;
+mod sums;
+mod tables;
+mod told;
+mod topups;
+mod totals;
+mod upload;
+mod waking;
+
+pub use fault::OpenFault;
+pub use shelf::SqlShelf;

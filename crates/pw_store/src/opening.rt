@@ -1,0 +1,279 @@
+//! Making a connection ready to be a store, or finding why it can't be one.
+
+ghost use Rattle.std.specs.Prelude.{◌≡◌, ◌⊎◌, Err, IfErr, IsTrue, OnErr, OnOk, ◌≤◌, length};
+ghost use Rattle.sqlite.specs.Held.{state};
+ghost use Rattle.sqlite.specs.State.{HasCleanDisk, IsUnchanged, KeepsCommit, Survives};
+ghost use Rattle.pw_tariff.specs.Office.{office_of};
+ghost use Rattle.pw_model.specs.Office.{most_records};
+ghost use Rattle.pw_schema.specs.Fresh.{IsIdleAt};
+ghost use Rattle.pw_store.specs.Content.{records_of};
+ghost use Rattle.pw_schema.specs.Judging.{AreRecords, KeepsOffice};
+ghost use Rattle.pw_schema.specs.Tables.{IsOurs, no_schema};
+ghost use Rattle.pw_store.specs.Opening.{HoldsAllRecords, HoldsRecords, KeepsText, OursRefuses, Refuses};
+ghost use Rattle.pw_store.specs.inner.Opened.{NumberRefuses, IsOpened, IsSettled, MayOpen, RecordsRefuse, RowRefuses, TableRefuses};
+
+use crate::counting::count_all;
+use crate::fault::{OpenFault, fault_in};
+use crate::sums::read_sums;
+use crate::tables::{all_assignments, all_readings, office_rows};
+use crate::topups::topup_rows;
+use crate::waking::wake;
+use pw_schema::{
+    JudgeFault, OfficeFault, RecordKind, create, is_nothing, is_ours, judge_office, judge_rows,
+    roll_back,
+};
+use pw_tariff::Office;
+use sqlite::{Alter, Connection, Error, Row};
+use std::alloc::Global;
+
+// Whether rows in order are records of the office, each once.
+fn judge(alloc: Global, office: &Office, kind: RecordKind, rows: &[Row]) -> Result<(), OpenFault>
+    ensures records { OnOk result (AreRecords (office_of office.now) kind rows.now) }
+    ensures foreign { result ≡ Err OpenFault.Unclean → AreRecords (office_of office.now) kind rows.now → ⊥ }
+    ensures others { OnErr result ((result ≡ Err OpenFault.Unclean) ⊎ ((result ≡ Err OpenFault.Memory) ⊎ (result ≡ Err OpenFault.Store))) }
+{
+    match judge_rows(alloc, office, kind, rows) {
+        Ok(_) => Ok(()),
+        Err(JudgeFault::Memory) => Err(OpenFault::Memory),
+        Err(JudgeFault::Foreign) => Err(OpenFault::Unclean),
+        Err(JudgeFault::Unordered) => Err(OpenFault::Store),
+    }
+}
+
+// Why the row of `office` refuses an opening.
+fn fault_of_office(fault: OfficeFault) -> OpenFault
+    ensures version { result ≡ OpenFault.Version → fault ≡ OfficeFault.Version }
+    ensures text { result ≡ OpenFault.OfficeDiffers → fault ≡ OfficeFault.Text }
+    ensures missing { result ≡ OpenFault.Unclean → fault ≡ OfficeFault.Missing }
+{
+    match fault {
+        OfficeFault::Missing => OpenFault::Unclean,
+        OfficeFault::Version => OpenFault::Version,
+        OfficeFault::Text => OpenFault::OfficeDiffers,
+    }
+}
+
+// Rolls back what the connection is inside of, and sees that it is open.
+fn settle<S: Alter>(conn: &mut Connection<S>) -> Result<(), Error>
+    ensures settled { HasCleanDisk (state S.Store conn.new) → OnOk result (IsSettled (state S.Store conn.old) (state S.Store conn.new)) }
+    ensures kept { HasCleanDisk (state S.Store conn.new) → KeepsCommit (state S.Store conn.old) (state S.Store conn.new) }
+    ensures crash { Survives (state S.Store conn.old) (state S.Store conn.new) (λ _. ⊥) }
+{
+    if !conn.is_autocommit() {
+        roll_back(conn)?;
+    }
+    wake(conn, true)
+}
+
+// The records of the three tables, judged.
+fn check_records<S: Alter>(
+    alloc: Global,
+    conn: &mut Connection<S>,
+    office: &Office,
+) -> Result<(), OpenFault>
+    requires ours { HasCleanDisk (state S.Store conn.old) → IsOurs (state S.Store conn.old).now.schema }
+    ensures sound { HasCleanDisk (state S.Store conn.new) → OnOk result (HoldsAllRecords (office_of office.now) (state S.Store conn.new).now.trees) }
+    ensures cause { HasCleanDisk (state S.Store conn.new) → IfErr result (RecordsRefuse (office_of office.now) (state S.Store conn.old).now.trees) }
+    ensures same { HasCleanDisk (state S.Store conn.new) → OnOk result (IsUnchanged (state S.Store conn.old) (state S.Store conn.new)) }
+    ensures kept { HasCleanDisk (state S.Store conn.new) → KeepsCommit (state S.Store conn.old) (state S.Store conn.new) }
+    ensures crash { Survives (state S.Store conn.old) (state S.Store conn.new) (λ _. ⊥) }
+{
+    if let Err(fault) = check_readings(alloc, conn, office) {
+        return Err(fault);
+    }
+    if let Err(fault) = check_assignments(alloc, conn, office) {
+        return Err(fault);
+    }
+    check_topups(alloc, conn, office)
+}
+
+fn check_readings<S: Alter>(
+    alloc: Global,
+    conn: &mut Connection<S>,
+    office: &Office,
+) -> Result<(), OpenFault>
+    requires ours { HasCleanDisk (state S.Store conn.old) → IsOurs (state S.Store conn.old).now.schema }
+    ensures good { HasCleanDisk (state S.Store conn.new) → OnOk result (HoldsRecords (office_of office.now) RecordKind.Readings (state S.Store conn.new).now.trees) }
+    ensures cause { HasCleanDisk (state S.Store conn.new) → IfErr result (TableRefuses (office_of office.now) RecordKind.Readings (state S.Store conn.old).now.trees) }
+    ensures same { HasCleanDisk (state S.Store conn.new) → OnOk result (IsUnchanged (state S.Store conn.old) (state S.Store conn.new)) }
+    ensures kept { HasCleanDisk (state S.Store conn.new) → KeepsCommit (state S.Store conn.old) (state S.Store conn.new) }
+    ensures crash { Survives (state S.Store conn.old) (state S.Store conn.new) (λ _. ⊥) }
+{
+    let rows = match all_readings(conn) {
+        Ok(rows) => rows,
+        Err(error) => return Err(fault_in(error)),
+    };
+    judge(alloc, office, RecordKind::Readings, rows.as_slice())
+}
+
+fn check_assignments<S: Alter>(
+    alloc: Global,
+    conn: &mut Connection<S>,
+    office: &Office,
+) -> Result<(), OpenFault>
+    requires ours { HasCleanDisk (state S.Store conn.old) → IsOurs (state S.Store conn.old).now.schema }
+    ensures good { HasCleanDisk (state S.Store conn.new) → OnOk result (HoldsRecords (office_of office.now) RecordKind.Assignments (state S.Store conn.new).now.trees) }
+    ensures cause { HasCleanDisk (state S.Store conn.new) → IfErr result (TableRefuses (office_of office.now) RecordKind.Assignments (state S.Store conn.old).now.trees) }
+    ensures same { HasCleanDisk (state S.Store conn.new) → OnOk result (IsUnchanged (state S.Store conn.old) (state S.Store conn.new)) }
+    ensures kept { HasCleanDisk (state S.Store conn.new) → KeepsCommit (state S.Store conn.old) (state S.Store conn.new) }
+    ensures crash { Survives (state S.Store conn.old) (state S.Store conn.new) (λ _. ⊥) }
+{
+    let rows = match all_assignments(conn) {
+        Ok(rows) => rows,
+        Err(error) => return Err(fault_in(error)),
+    };
+    judge(alloc, office, RecordKind::Assignments, rows.as_slice())
+}
+
+fn check_topups<S: Alter>(
+    alloc: Global,
+    conn: &mut Connection<S>,
+    office: &Office,
+) -> Result<(), OpenFault>
+    requires ours { HasCleanDisk (state S.Store conn.old) → IsOurs (state S.Store conn.old).now.schema }
+    ensures good { HasCleanDisk (state S.Store conn.new) → OnOk result (HoldsRecords (office_of office.now) RecordKind.TopUps (state S.Store conn.new).now.trees) }
+    ensures cause { HasCleanDisk (state S.Store conn.new) → IfErr result (TableRefuses (office_of office.now) RecordKind.TopUps (state S.Store conn.old).now.trees) }
+    ensures same { HasCleanDisk (state S.Store conn.new) → OnOk result (IsUnchanged (state S.Store conn.old) (state S.Store conn.new)) }
+    ensures kept { HasCleanDisk (state S.Store conn.new) → KeepsCommit (state S.Store conn.old) (state S.Store conn.new) }
+    ensures crash { Survives (state S.Store conn.old) (state S.Store conn.new) (λ _. ⊥) }
+{
+    let rows = match topup_rows(conn) {
+        Ok(rows) => rows,
+        Err(error) => return Err(fault_in(error)),
+    };
+    judge(alloc, office, RecordKind::TopUps, rows.as_slice())
+}
+
+// The version and the text of the office, judged.
+fn check_office<S: Alter>(conn: &mut Connection<S>, text: &[u8]) -> Result<(), OpenFault>
+    requires ours { HasCleanDisk (state S.Store conn.old) → IsOurs (state S.Store conn.old).now.schema }
+    ensures kept_text { HasCleanDisk (state S.Store conn.new) → OnOk result (KeepsText (KeepsOffice text.now) (state S.Store conn.new).now.trees) }
+    ensures cause { HasCleanDisk (state S.Store conn.new) → IfErr result (RowRefuses text.now (state S.Store conn.old).now.trees) }
+    ensures same { HasCleanDisk (state S.Store conn.new) → OnOk result (IsUnchanged (state S.Store conn.old) (state S.Store conn.new)) }
+    ensures kept { HasCleanDisk (state S.Store conn.new) → KeepsCommit (state S.Store conn.old) (state S.Store conn.new) }
+    ensures crash { Survives (state S.Store conn.old) (state S.Store conn.new) (λ _. ⊥) }
+{
+    let rows = match office_rows(conn) {
+        Ok(rows) => rows,
+        Err(error) => return Err(fault_in(error)),
+    };
+    match judge_office(rows.as_slice(), text) {
+        Ok(()) => Ok(()),
+        Err(fault) => Err(fault_of_office(fault)),
+    }
+}
+
+// The number of records, judged.
+fn check_number<S: Alter>(conn: &mut Connection<S>) -> Result<(), OpenFault>
+    requires ours { HasCleanDisk (state S.Store conn.old) → IsOurs (state S.Store conn.old).now.schema }
+    ensures few { HasCleanDisk (state S.Store conn.new) → OnOk result (length (records_of (state S.Store conn.old).now.trees) ≤ most_records) }
+    ensures cause { HasCleanDisk (state S.Store conn.new) → IfErr result (NumberRefuses (state S.Store conn.old).now.trees) }
+    ensures same { HasCleanDisk (state S.Store conn.new) → OnOk result (IsUnchanged (state S.Store conn.old) (state S.Store conn.new)) }
+    ensures kept { HasCleanDisk (state S.Store conn.new) → KeepsCommit (state S.Store conn.old) (state S.Store conn.new) }
+    ensures crash { Survives (state S.Store conn.old) (state S.Store conn.new) (λ _. ⊥) }
+{
+    match count_all(conn) {
+        Ok(Some(number)) => {
+            if number <= 10_000_000 {
+                Ok(())
+            } else {
+                Err(OpenFault::Unclean)
+            }
+        }
+        Ok(None) => Err(OpenFault::Store),
+        Err(error) => Err(fault_in(error)),
+    }
+}
+
+// What is there, judged.
+fn check<S: Alter>(
+    alloc: Global,
+    conn: &mut Connection<S>,
+    office: &Office,
+    text: &[u8],
+) -> Result<(), OpenFault>
+    requires ours { HasCleanDisk (state S.Store conn.old) → IsOurs (state S.Store conn.old).now.schema }
+    ensures may_open { HasCleanDisk (state S.Store conn.new) → OnOk result (MayOpen (office_of office.now) text.now (state S.Store conn.new).now) }
+    ensures cause { HasCleanDisk (state S.Store conn.new) → IfErr result (OursRefuses (office_of office.now) text.now (state S.Store conn.old).now.trees) }
+    ensures same { HasCleanDisk (state S.Store conn.new) → OnOk result (IsUnchanged (state S.Store conn.old) (state S.Store conn.new)) }
+    ensures kept { HasCleanDisk (state S.Store conn.new) → KeepsCommit (state S.Store conn.old) (state S.Store conn.new) }
+    ensures crash { Survives (state S.Store conn.old) (state S.Store conn.new) (λ _. ⊥) }
+{
+    if let Err(fault) = check_office(conn, text) {
+        return Err(fault);
+    }
+    if let Err(fault) = check_records(alloc, conn, office) {
+        return Err(fault);
+    }
+    if let Err(fault) = check_number(conn) {
+        return Err(fault);
+    }
+    if let Err(fault) = read_sums(alloc, conn, office) {
+        return Err(fault);
+    }
+    Ok(())
+}
+
+// Makes the tables where nothing is there, else judges what is there.
+fn make_or_check<S: Alter>(
+    alloc: Global,
+    conn: &mut Connection<S>,
+    office: &Office,
+    text: &[u8],
+) -> Result<(), OpenFault>
+    requires { HasCleanDisk (state S.Store conn.old) → IsIdleAt (state S.Store conn.old) }
+    ensures opened { HasCleanDisk (state S.Store conn.new) → OnOk result (IsOpened (office_of office.now) text.now (state S.Store conn.old).committed (state S.Store conn.new)) }
+    ensures cause { HasCleanDisk (state S.Store conn.new) → IfErr result (Refuses (office_of office.now) text.now (state S.Store conn.old).committed) }
+    ensures kept { HasCleanDisk (state S.Store conn.new) → OnErr result (KeepsCommit (state S.Store conn.old) (state S.Store conn.new)) }
+    ensures clean { HasCleanDisk (state S.Store conn.new) → HasCleanDisk (state S.Store conn.old) }
+{
+    match look(conn) {
+        Found::Nothing => match create(conn, text) {
+            Ok(()) => Ok(()),
+            Err(error) => Err(fault_in(error)),
+        },
+        Found::Ours => check(alloc, conn, office, text),
+        Found::Other => Err(OpenFault::Unclean),
+    }
+}
+
+#[derive(Clone, Copy, Debug, PartialEq, Eq)]
+enum Found {
+    Nothing,
+    Ours,
+    Other,
+}
+
+// What tables are there.
+fn look<S: Alter>(conn: &Connection<S>) -> Found
+    ensures nothing { result ≡ Found.Nothing → (state S.Store conn.now).now.schema ≡ no_schema }
+    ensures ours { result ≡ Found.Ours → IsOurs (state S.Store conn.now).now.schema }
+    ensures not_nothing { result ≡ Found.Other → (state S.Store conn.now).now.schema ≡ no_schema → ⊥ }
+    ensures not_ours { result ≡ Found.Other → IsOurs (state S.Store conn.now).now.schema → ⊥ }
+{
+    let schema = conn.schema();
+    if is_nothing(schema) {
+        return Found::Nothing;
+    }
+    if is_ours(schema) {
+        return Found::Ours;
+    }
+    Found::Other
+}
+
+/// Makes a connection ready to be a store, or says why it can't be one.
+pub(crate) fn prepare<S: Alter>(
+    alloc: Global,
+    conn: &mut Connection<S>,
+    office: &Office,
+    text: &[u8],
+) -> Result<(), OpenFault>
+    ensures opened { HasCleanDisk (state S.Store conn.new) → OnOk result (IsOpened (office_of office.now) text.now (state S.Store conn.old).committed (state S.Store conn.new)) }
+    ensures cause { HasCleanDisk (state S.Store conn.new) → IfErr result (Refuses (office_of office.now) text.now (state S.Store conn.old).committed) }
+    ensures kept { HasCleanDisk (state S.Store conn.new) → OnErr result (KeepsCommit (state S.Store conn.old) (state S.Store conn.new)) }
+{
+    if let Err(error) = settle(conn) {
+        return Err(fault_in(error));
+    }
+    make_or_check(alloc, conn, office, text)
+}

@@ -1,0 +1,202 @@
+//! Questions about points, starts and totals, each over a statement that is run once the connection is known to be open.
+
+ghost use Rattle.std.specs.Prelude.{◌≡◌, ◌⊎◌, ◌≤◌, IfOk, OnErr, OnOk, length, map};
+ghost use Rattle.sqlite.specs.Held.{state};
+ghost use Rattle.sqlite.specs.State.{HasCleanDisk, IsRolledBack, IsUnchanged, Survives};
+ghost use Rattle.pw_model.specs.Lists.{IsInOrder};
+ghost use Rattle.pw_shelf.specs.Seconds.{IsBefore, IsBehind, ListsSeconds, ListsSecondsWithin, by_second};
+ghost use Rattle.pw_store.specs.Content.{point_in, point_tree, start_in, start_tree, total_in};
+ghost use Rattle.pw_store.specs.Kept.{IsAwake, IsStore, NowIsStore};
+ghost use Rattle.pw_store.specs.inner.Seconds.{first_amount, first_point, point_told, start_told};
+
+use crate::fault::AskFault;
+use crate::points::{after_rows, before_rows, between_rows};
+use crate::starts::start_rows;
+use crate::told::{all_points, all_starts, one_amount, one_point};
+use crate::totals::{energy_rows, payment_rows};
+use crate::waking::wake;
+use pw_model::TotalKey;
+use pw_obis::{Register, WattHours};
+use pw_schema::ReadFault;
+use pw_tariff::{MeterId, Owner};
+use pw_time::Instant;
+use sqlite::{Alter, Connection, Error, Row};
+use std::alloc::Global;
+
+fn read_point(rows: &[Row]) -> Result<Option<(Instant, WattHours)>, AskFault>
+    ensures { IfOk result (λ found. found ≡ first_point rows.now) }
+{
+    match one_point(rows) {
+        Some(found) => Ok(found),
+        None => Err(AskFault::Unreadable),
+    }
+}
+
+fn read_points(alloc: Global, rows: &[Row]) -> Result<Vec<(Instant, WattHours)>, AskFault>
+    ensures told { IfOk result (λ found. found.items ≡ map point_told rows.now) }
+    ensures rising { IfOk result (λ found. IsInOrder by_second found.items) }
+{
+    match all_points(alloc, rows) {
+        Ok(found) => Ok(found),
+        Err(ReadFault::Memory) => Err(AskFault::Memory),
+        Err(ReadFault::Wrong) => Err(AskFault::Unreadable),
+    }
+}
+
+fn read_starts(alloc: Global, rows: &[Row]) -> Result<Vec<(Instant, Owner)>, AskFault>
+    ensures told { IfOk result (λ found. found.items ≡ map start_told rows.now) }
+    ensures rising { IfOk result (λ found. IsInOrder by_second found.items) }
+{
+    match all_starts(alloc, rows) {
+        Ok(found) => Ok(found),
+        Err(ReadFault::Memory) => Err(AskFault::Memory),
+        Err(ReadFault::Wrong) => Err(AskFault::Unreadable),
+    }
+}
+
+fn read_amount(rows: &[Row]) -> Result<u64, AskFault>
+    ensures few { IfOk result (λ amount. length rows.now ≤ 1) }
+    ensures told { IfOk result (λ amount. first_amount rows.now ≡ amount) }
+{
+    match one_amount(rows) {
+        Some(amount) => Ok(amount),
+        None => Err(AskFault::Unreadable),
+    }
+}
+
+/// The latest point strictly before an instant, if there is one.
+pub(crate) fn point_before<S: Alter>(
+    conn: &mut Connection<S>,
+    doubtful: bool,
+    meter: MeterId,
+    register: Register,
+    instant: Instant,
+) -> Result<Option<(Instant, WattHours)>, AskFault>
+    requires awake { IsAwake (state S.Store conn.old) doubtful }
+    requires store { NowIsStore (state S.Store conn.old) }
+    ensures row { HasCleanDisk (state S.Store conn.new) → IfOk result (λ found. IsBefore (point_in ((state S.Store conn.old).now.trees point_tree) meter.0 register) instant found) }
+    ensures same { HasCleanDisk (state S.Store conn.new) → OnOk result (IsUnchanged (state S.Store conn.old) (state S.Store conn.new)) }
+    ensures failed { HasCleanDisk (state S.Store conn.new) → OnErr result (IsUnchanged (state S.Store conn.old) (state S.Store conn.new) ⊎ IsRolledBack (state S.Store conn.old) (state S.Store conn.new)) }
+    ensures crash { Survives (state S.Store conn.old) (state S.Store conn.new) (λ _. ⊥) }
+{
+    if let Err(error) = wake(conn, doubtful) {
+        return Err(AskFault::Statement(error));
+    }
+    match before_rows(conn, meter, register, instant) {
+        Ok(rows) => read_point(rows.as_slice()),
+        Err(error) => Err(AskFault::Statement(error)),
+    }
+}
+
+/// The earliest point strictly behind an instant, if there is one.
+pub(crate) fn point_after<S: Alter>(
+    conn: &mut Connection<S>,
+    doubtful: bool,
+    meter: MeterId,
+    register: Register,
+    instant: Instant,
+) -> Result<Option<(Instant, WattHours)>, AskFault>
+    requires awake { IsAwake (state S.Store conn.old) doubtful }
+    requires store { NowIsStore (state S.Store conn.old) }
+    ensures row { HasCleanDisk (state S.Store conn.new) → IfOk result (λ found. IsBehind (point_in ((state S.Store conn.old).now.trees point_tree) meter.0 register) instant found) }
+    ensures same { HasCleanDisk (state S.Store conn.new) → OnOk result (IsUnchanged (state S.Store conn.old) (state S.Store conn.new)) }
+    ensures failed { HasCleanDisk (state S.Store conn.new) → OnErr result (IsUnchanged (state S.Store conn.old) (state S.Store conn.new) ⊎ IsRolledBack (state S.Store conn.old) (state S.Store conn.new)) }
+    ensures crash { Survives (state S.Store conn.old) (state S.Store conn.new) (λ _. ⊥) }
+{
+    if let Err(error) = wake(conn, doubtful) {
+        return Err(AskFault::Statement(error));
+    }
+    match after_rows(conn, meter, register, instant) {
+        Ok(rows) => read_point(rows.as_slice()),
+        Err(error) => Err(AskFault::Statement(error)),
+    }
+}
+
+/// The points from one instant to another, both included, in order.
+pub(crate) fn points_between<S: Alter>(
+    conn: &mut Connection<S>,
+    doubtful: bool,
+    alloc: Global,
+    meter: MeterId,
+    register: Register,
+    from: Instant,
+    to: Instant,
+) -> Result<Vec<(Instant, WattHours)>, AskFault>
+    requires awake { IsAwake (state S.Store conn.old) doubtful }
+    requires store { NowIsStore (state S.Store conn.old) }
+    ensures rows { HasCleanDisk (state S.Store conn.new) → IfOk result (λ found. ListsSecondsWithin from to (point_in ((state S.Store conn.old).now.trees point_tree) meter.0 register) found.items) }
+    ensures same { HasCleanDisk (state S.Store conn.new) → OnOk result (IsUnchanged (state S.Store conn.old) (state S.Store conn.new)) }
+    ensures failed { HasCleanDisk (state S.Store conn.new) → OnErr result (IsUnchanged (state S.Store conn.old) (state S.Store conn.new) ⊎ IsRolledBack (state S.Store conn.old) (state S.Store conn.new)) }
+    ensures crash { Survives (state S.Store conn.old) (state S.Store conn.new) (λ _. ⊥) }
+{
+    if let Err(error) = wake(conn, doubtful) {
+        return Err(AskFault::Statement(error));
+    }
+    match between_rows(conn, meter, register, from, to) {
+        Ok(rows) => read_points(alloc, rows.as_slice()),
+        Err(error) => Err(AskFault::Statement(error)),
+    }
+}
+
+/// All starts of a meter, in order.
+pub(crate) fn starts_of<S: Alter>(
+    conn: &mut Connection<S>,
+    doubtful: bool,
+    alloc: Global,
+    meter: MeterId,
+) -> Result<Vec<(Instant, Owner)>, AskFault>
+    requires awake { IsAwake (state S.Store conn.old) doubtful }
+    requires store { NowIsStore (state S.Store conn.old) }
+    ensures rows { HasCleanDisk (state S.Store conn.new) → IfOk result (λ found. ListsSeconds (start_in ((state S.Store conn.old).now.trees start_tree) meter.0) found.items) }
+    ensures same { HasCleanDisk (state S.Store conn.new) → OnOk result (IsUnchanged (state S.Store conn.old) (state S.Store conn.new)) }
+    ensures failed { HasCleanDisk (state S.Store conn.new) → OnErr result (IsUnchanged (state S.Store conn.old) (state S.Store conn.new) ⊎ IsRolledBack (state S.Store conn.old) (state S.Store conn.new)) }
+    ensures crash { Survives (state S.Store conn.old) (state S.Store conn.new) (λ _. ⊥) }
+{
+    if let Err(error) = wake(conn, doubtful) {
+        return Err(AskFault::Statement(error));
+    }
+    match start_rows(conn, meter) {
+        Ok(rows) => read_starts(alloc, rows.as_slice()),
+        Err(error) => Err(AskFault::Statement(error)),
+    }
+}
+
+// The rows of the total at a key.
+fn total_rows<S: Alter>(conn: &mut Connection<S>, key: &TotalKey) -> Result<Vec<Row>, Error>
+    requires store { HasCleanDisk (state S.Store conn.old) → IsStore (state S.Store conn.old).now }
+    ensures amount { HasCleanDisk (state S.Store conn.new) → IfOk result (λ rows. length rows.items ≤ 1 → first_amount rows.items ≡ total_in (state S.Store conn.old).now.trees key.now) }
+    ensures same { HasCleanDisk (state S.Store conn.new) → OnOk result (IsUnchanged (state S.Store conn.old) (state S.Store conn.new)) }
+    ensures failed { HasCleanDisk (state S.Store conn.new) → OnErr result (IsUnchanged (state S.Store conn.old) (state S.Store conn.new) ⊎ IsRolledBack (state S.Store conn.old) (state S.Store conn.new)) }
+    ensures crash { Survives (state S.Store conn.old) (state S.Store conn.new) (λ _. ⊥) }
+{
+    match key {
+        TotalKey::Energy {
+            owner,
+            band,
+            direction,
+        } => energy_rows(conn, *owner, *band, *direction),
+        TotalKey::TopUps { account } => payment_rows(conn, *account),
+    }
+}
+
+/// The total kept at a key; 0 where none is.
+pub(crate) fn total<S: Alter>(
+    conn: &mut Connection<S>,
+    doubtful: bool,
+    key: &TotalKey,
+) -> Result<u64, AskFault>
+    requires awake { IsAwake (state S.Store conn.old) doubtful }
+    requires store { NowIsStore (state S.Store conn.old) }
+    ensures amount { HasCleanDisk (state S.Store conn.new) → IfOk result (λ found. found ≡ total_in (state S.Store conn.old).now.trees key.now) }
+    ensures same { HasCleanDisk (state S.Store conn.new) → OnOk result (IsUnchanged (state S.Store conn.old) (state S.Store conn.new)) }
+    ensures failed { HasCleanDisk (state S.Store conn.new) → OnErr result (IsUnchanged (state S.Store conn.old) (state S.Store conn.new) ⊎ IsRolledBack (state S.Store conn.old) (state S.Store conn.new)) }
+    ensures crash { Survives (state S.Store conn.old) (state S.Store conn.new) (λ _. ⊥) }
+{
+    if let Err(error) = wake(conn, doubtful) {
+        return Err(AskFault::Statement(error));
+    }
+    match total_rows(conn, key) {
+        Ok(rows) => read_amount(rows.as_slice()),
+        Err(error) => Err(AskFault::Statement(error)),
+    }
+}

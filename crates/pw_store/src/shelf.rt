@@ -1,0 +1,30 @@
+//! The store over SQL, and what it keeps to.
+
+ghost use Rattle.sqlite.specs.Held.{state};
+ghost use Rattle.pw_store.specs.Kept.{BaseIsOnce, NowIsStore, CommittedIsStore, IsSinceBase, IsIdle, IsInside, IsAwake};
+ghost use Rattle.pw_store.specs.lemmas.OneProof.{BaseIsOnce-prop, NowIsStore-prop, CommittedIsStore-prop, IsSinceBase-prop, IsIdle-prop, IsInside-prop, IsAwake-prop};
+
+use pw_shelf::Tally;
+use sqlite::{Alter, Connection};
+use std::snapshot::Snapshot;
+
+/// A store over SQL: a connection, and whether an upload is begun.
+#[derive(Drop)]
+pub struct SqlShelf<S: Alter> {
+    pub(crate) conn: Connection<S>,
+    // the connection as it was when the last upload ended
+    pub(crate) base: Snapshot<Connection<S>>,
+    pub(crate) begun: bool,
+    // a statement has failed, so the connection may be shut
+    pub(crate) doubtful: bool,
+    pub(crate) failures: Tally,
+    pub(crate) failed_abandons: Tally,
+    pub(crate) tally: Tally,
+    ghost base_once: { BaseIsOnce (state S.Store conn) (state S.Store base.value) } by { BaseIsOnce-prop (state S.Store conn) (state S.Store base.value) },
+    ghost now: { NowIsStore (state S.Store conn) } by { NowIsStore-prop (state S.Store conn) },
+    ghost committed: { CommittedIsStore (state S.Store conn) } by { CommittedIsStore-prop (state S.Store conn) },
+    ghost since: { IsSinceBase (state S.Store conn) (state S.Store base.value) } by { IsSinceBase-prop (state S.Store conn) (state S.Store base.value) },
+    ghost idle: { IsIdle (state S.Store conn) begun } by { IsIdle-prop (state S.Store conn) begun },
+    ghost inside: { IsInside (state S.Store conn) } by { IsInside-prop (state S.Store conn) },
+    ghost awake: { IsAwake (state S.Store conn) doubtful } by { IsAwake-prop (state S.Store conn) doubtful },
+}

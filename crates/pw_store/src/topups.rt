@@ -1,0 +1,122 @@
+//! Top-ups, each statement run by its own text.
+
+ghost use Rattle.std.specs.Prelude.{◌≡◌, ◌⊎◌, ◌<◌, OnOk, OnErr, IfOk, IfErr, IsTrue, ◌↔◌, length, map, true};
+ghost use Rattle.sqlite.specs.Held.{state};
+ghost use Rattle.sqlite.specs.State.{HasCleanDisk, IsUnchanged, IsRolledBack, Shows, Survives};
+ghost use Rattle.pw_model.specs.Counting.{Member, contents_at};
+ghost use Rattle.pw_model.specs.declared.records.Key.TheVariants as key;
+ghost use Rattle.pw_store.specs.Kept.{IsStore};
+ghost use Rattle.pw_schema.specs.Tables.{IsOurs};
+ghost use Rattle.pw_shelf.specs.State.{IsWithRecord};
+ghost use Rattle.pw_store.specs.Content.{content_of, records_of};
+ghost use Rattle.pw_store.specs.inner.Records.{topup_entry};
+ghost use Rattle.pw_store.specs.inner.Lists.{ShowsAll};
+ghost use Rattle.pw_schema.specs.Rows.{contents_of, told_content};
+
+use pw_model::Reference;
+use pw_schema::{RecordKind, integer, words};
+use pw_tariff::AccountId;
+use pw_time::Instant;
+use sqlite::{Alter, Connection, Error, Row};
+
+/// Adds a top-up that isn't held.
+pub(crate) fn add_topup<S: Alter>(
+    conn: &mut Connection<S>,
+    reference: &Reference,
+    account: AccountId,
+    cents: u32,
+    instant: Instant,
+) -> Result<usize, Error>
+    requires inside { HasCleanDisk (state S.Store conn.old) → IsTrue (state S.Store conn.old).in_transaction }
+    requires store { HasCleanDisk (state S.Store conn.old) → IsStore (state S.Store conn.old).now }
+    requires fresh { HasCleanDisk (state S.Store conn.old) → Member (topup_entry reference.now account cents instant) (records_of (state S.Store conn.old).now.trees) → ⊥ }
+    ensures store { HasCleanDisk (state S.Store conn.new) → OnOk result (IsStore (state S.Store conn.new).now) }
+    ensures added { HasCleanDisk (state S.Store conn.new) → OnOk result (IsWithRecord (content_of (state S.Store conn.old).now.trees) (topup_entry reference.now account cents instant) (content_of (state S.Store conn.new).now.trees)) }
+    ensures inside { HasCleanDisk (state S.Store conn.new) → OnOk result (Shows (state S.Store conn.old) (state S.Store conn.new) (state S.Store conn.new).now (state S.Store conn.old).committed true) }
+    ensures failed { HasCleanDisk (state S.Store conn.new) → OnErr result (IsUnchanged (state S.Store conn.old) (state S.Store conn.new) ⊎ IsRolledBack (state S.Store conn.old) (state S.Store conn.new)) }
+    ensures crash { Survives (state S.Store conn.old) (state S.Store conn.new) (λ _. ⊥) }
+{
+    conn.execute(
+        "INSERT INTO record_topup (reference, account, cents, instant) VALUES (?1, ?2, ?3, ?4)",
+        &[
+            words(reference),
+            integer(u32::from(account.0)),
+            integer(cents),
+            integer(instant.seconds()),
+        ],
+    )
+}
+
+/// All top-ups, in order.
+pub(crate) fn topup_rows<S: Alter>(conn: &mut Connection<S>) -> Result<Vec<Row>, Error>
+    requires ours { HasCleanDisk (state S.Store conn.old) → IsOurs (state S.Store conn.old).now.schema }
+    ensures rows { HasCleanDisk (state S.Store conn.new) → IfOk result (λ rows. ShowsAll RecordKind.TopUps (state S.Store conn.old).now.trees rows.items) }
+    ensures same { HasCleanDisk (state S.Store conn.new) → OnOk result (IsUnchanged (state S.Store conn.old) (state S.Store conn.new)) }
+    ensures failed { HasCleanDisk (state S.Store conn.new) → OnErr result (IsUnchanged (state S.Store conn.old) (state S.Store conn.new) ⊎ IsRolledBack (state S.Store conn.old) (state S.Store conn.new)) }
+    ensures crash { Survives (state S.Store conn.old) (state S.Store conn.new) (λ _. ⊥) }
+{
+    conn.query_all(
+        "SELECT reference, account, cents, instant FROM record_topup ORDER BY reference, account, cents, instant",
+        &[],
+    )
+}
+
+// Rows for a top-up, if it is held.
+fn rows_of_topup<S: Alter>(
+    conn: &mut Connection<S>,
+    reference: &Reference,
+    account: AccountId,
+    cents: u32,
+    instant: Instant,
+) -> Result<Vec<Row>, Error>
+    requires store { HasCleanDisk (state S.Store conn.old) → IsStore (state S.Store conn.old).now }
+    ensures found { HasCleanDisk (state S.Store conn.new) → IfOk result (λ rows. 0 < length rows.items ↔ Member (topup_entry reference.now account cents instant) (records_of (state S.Store conn.old).now.trees)) }
+    ensures same { HasCleanDisk (state S.Store conn.new) → OnOk result (IsUnchanged (state S.Store conn.old) (state S.Store conn.new)) }
+    ensures failed { HasCleanDisk (state S.Store conn.new) → OnErr result (IsUnchanged (state S.Store conn.old) (state S.Store conn.new) ⊎ IsRolledBack (state S.Store conn.old) (state S.Store conn.new)) }
+    ensures crash { Survives (state S.Store conn.old) (state S.Store conn.new) (λ _. ⊥) }
+{
+    conn.query_all(
+        "SELECT account FROM record_topup WHERE reference = ?1 AND account = ?2 AND cents = ?3 AND instant = ?4",
+        &[
+            words(reference),
+            integer(u32::from(account.0)),
+            integer(cents),
+            integer(instant.seconds()),
+        ],
+    )
+}
+
+/// Whether a top-up is held.
+pub(crate) fn has_topup<S: Alter>(
+    conn: &mut Connection<S>,
+    reference: &Reference,
+    account: AccountId,
+    cents: u32,
+    instant: Instant,
+) -> Result<bool, Error>
+    requires store { HasCleanDisk (state S.Store conn.old) → IsStore (state S.Store conn.old).now }
+    ensures found { HasCleanDisk (state S.Store conn.new) → IfOk result (λ held. IsTrue held ↔ Member (topup_entry reference.now account cents instant) (records_of (state S.Store conn.old).now.trees)) }
+    ensures same { HasCleanDisk (state S.Store conn.new) → OnOk result (IsUnchanged (state S.Store conn.old) (state S.Store conn.new)) }
+    ensures failed { HasCleanDisk (state S.Store conn.new) → OnErr result (IsUnchanged (state S.Store conn.old) (state S.Store conn.new) ⊎ IsRolledBack (state S.Store conn.old) (state S.Store conn.new)) }
+    ensures crash { Survives (state S.Store conn.old) (state S.Store conn.new) (λ _. ⊥) }
+{
+    let rows = rows_of_topup(conn, reference, account, cents, instant)?;
+    Ok(0 < rows.len())
+}
+
+/// Two rows at most of what is told of a top-up's key.
+pub(crate) fn topup_at<S: Alter>(
+    conn: &mut Connection<S>,
+    reference: &Reference,
+) -> Result<Vec<Row>, Error>
+    requires store { HasCleanDisk (state S.Store conn.old) → IsStore (state S.Store conn.old).now }
+    ensures told { HasCleanDisk (state S.Store conn.new) → IfOk result (λ rows. contents_of (map (told_content RecordKind.TopUps) rows.items) ≡ contents_at (records_of (state S.Store conn.old).now.trees) (key.TopUp reference.now)) }
+    ensures same { HasCleanDisk (state S.Store conn.new) → OnOk result (IsUnchanged (state S.Store conn.old) (state S.Store conn.new)) }
+    ensures failed { HasCleanDisk (state S.Store conn.new) → OnErr result (IsUnchanged (state S.Store conn.old) (state S.Store conn.new) ⊎ IsRolledBack (state S.Store conn.old) (state S.Store conn.new)) }
+    ensures crash { Survives (state S.Store conn.old) (state S.Store conn.new) (λ _. ⊥) }
+{
+    conn.query_all(
+        "SELECT account, cents, instant FROM record_topup WHERE reference = ?1 LIMIT 2",
+        &[words(reference)],
+    )
+}
