@@ -187,3 +187,32 @@ fn writer_failing_at_each_call(rt: HostRuntime) -> Result<(), Fail> {
     }
     Ok(())
 }
+
+const BAD_HEAD: &[u8] =
+    b"HTTP/1.1 400 Bad Request\r\nContent-Type: text/plain\r\nContent-Length: 9\r\nConnection: close\r\n\r\nbad head\n";
+
+const BAD_BODY: &[u8] =
+    b"HTTP/1.1 400 Bad Request\r\nContent-Type: text/plain\r\nContent-Length: 9\r\nConnection: close\r\n\r\nbad body\n";
+
+// Whether the text is a front of the replies, and then one of these refusals, if any.
+fn is_front(text: &[u8]) -> bool {
+    let mut fits = FIRST_REPLIES.starts_with(text);
+    for refusal in [BAD_HEAD, BAD_BODY] {
+        if let Some(front) = text.strip_suffix(refusal) {
+            fits = fits || FIRST_REPLIES.starts_with(front);
+        }
+    }
+    fits
+}
+
+#[test]
+fn stream_ending_at_each_byte(rt: HostRuntime) -> Result<(), Fail> {
+    for place in 0..FIRST.len() {
+        let mut book = empty_book(rt.alloc())?;
+        let (front, _) = FIRST.split_at(place);
+        let (served, text) = replies(rt.alloc(), &mut book, front);
+        assert!(rt; served.is_ok());
+        assert!(rt; is_front(&text), "at {place}");
+    }
+    Ok(())
+}
