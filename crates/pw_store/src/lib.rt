@@ -27,3 +27,6 @@ mod waking;
 
 pub use fault::OpenFault;
 pub use shelf::SqlShelf;
+
+#[cfg(test)]
+mod tests;
