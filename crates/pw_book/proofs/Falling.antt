@@ -12,8 +12,8 @@ use Rattle.pw_model.specs.declared.records.Fall.{Fall}
 use Rattle.pw_model.specs.Counting.{Member}
 use Rattle.pw_model.specs.Lists.{IsInOrder, Lists, fall_order, fall_numbers}
 use Rattle.pw_book.specs.inner.Counted.{IsFallOf, ListsSeconds}
-use Rattle.pw_book.proofs.Groups.{before-all}
-use Rattle.pw_book.proofs.Chart.{listed}
+use Rattle.pw_parts.proofs.Groups.{before-all}
+use Rattle.pw_parts.proofs.Chart.{listed}
 
 abbrev pub fall : MeterId → Register → ℕ × ℕ → ℕ × ℕ → Fall
 fall m r a b = record { meter = m; register = r; from = a.0; high = a.1; to = b.0; low = b.1 }

@@ -20,7 +20,7 @@ use Rattle.pw_obis.specs.declared.energy.TheConstants.{LARGEST_WATT_HOURS}
 use Rattle.pw_tariff.specs.Office.{OfficeFile}
 use Rattle.pw_tariff.specs.Shares.{class_seconds}
 use Rattle.pw_book.specs.inner.Sums.{gathered, gathered_in_all, cells_for, pairs_for}
-use Rattle.pw_book.proofs.Chart.{pairs-ended}
+use Rattle.pw_parts.proofs.Chart.{pairs-ended}
 use Rattle.pw_book.proofs.TotalKeys.{same_total-decides, total-apart}
 
 -- ---- one energy more

@@ -1,8 +1,3 @@
-pub mod Keys
-pub mod Groups
-pub mod Telling
-pub mod Seconds
-pub mod Chart
 pub mod EachOne
 pub mod Joining
 pub mod Chains
@@ -13,8 +8,6 @@ pub mod Disputed
 pub mod Falling
 pub mod RowFacts
 pub mod Offices
-pub mod Owning
-pub mod Sharing
 pub mod Capped
 pub mod Segments
 pub mod Fallen

@@ -29,7 +29,7 @@ use Rattle.pw_book.specs.inner.Settling.{EndsBefore}
 use Rattle.pw_model.specs.Shelf.{ShelfContent}
 use Rattle.pw_book.specs.declared.sums.Sum.{Sum}
 use Rattle.pw_book.specs.inner.Sums.{AreDifferences, energy_told, gathered, pairs_for, point_listed}
-use Rattle.pw_book.proofs.Owning.{owners-told, starts-rise}
+use Rattle.pw_parts.proofs.Owning.{owners-told, starts-rise}
 
 -- ---- the points next to an instant at which none stands
 last-from : (p q : ℕ → Option ℕ) (z : ℕ) (below : Option (ℕ × ℕ)) → ((u : ℕ) → (u ≡ z → ⊥) → p u ≡ q u) → q z ≡ None → IsBefore p z below → LastIs q z below

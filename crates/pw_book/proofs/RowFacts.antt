@@ -17,8 +17,8 @@ use Rattle.pw_model.specs.Same.{entry_order, key_numbers, content_numbers}
 use Rattle.pw_shelf.specs.Rows.{IsReadingOf, ListsReadings}
 use Rattle.pw_book.specs.inner.Counted.{row_of_reading, shown}
 use Rattle.pw_book.specs.inner.Groups.{IsLastOf}
-use Rattle.pw_book.proofs.Groups.{member-left, member-right, member-split, rising-across, rising-push}
-use Rattle.pw_book.proofs.Seconds.{shown-of, counts-held}
+use Rattle.pw_parts.proofs.Groups.{member-left, member-right, member-split, rising-across, rising-push}
+use Rattle.pw_parts.proofs.Seconds.{shown-of, counts-held}
 
 -- a row_of_reading of the readings so far, marked where it counts among all
 pub record IsRowIn (all done : List Entry) (m : MeterId) (r : Register) (q : ReadingRow) : Type 0 where

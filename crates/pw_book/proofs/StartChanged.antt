@@ -28,7 +28,7 @@ use Rattle.pw_book.specs.inner.Moves.{MovesTotals, OfOwners}
 use Rattle.pw_book.specs.Cost.{HasStarts}
 use Rattle.pw_book.specs.inner.Settling.{EndsBefore, EndsBeforeNext, HavePoints, IsSettled, IsStartChanged, ListsUpToNextStart, register_told}
 use Rattle.pw_book.specs.inner.Sums.{AreDifferences, energy_told, gathered}
-use Rattle.pw_book.proofs.Owning.{owners-told, starts-rise}
+use Rattle.pw_parts.proofs.Owning.{owners-told, starts-rise}
 
 -- ---- one register more
 registers-more : (f : Register → ℕ) (i : ℕ) (d : Register) → i < 6 → sum_by f (take (i + 1) registers) ≡ sum_by f (take i registers) + f (get_or registers i d)

@@ -39,7 +39,7 @@ use Rattle.pw_book.specs.declared.around.Counted.{Counted}
 use Rattle.pw_book.specs.declared.settling.Given.{Given}
 use Rattle.pw_book.specs.inner.Added.{IsJustAdded, IsPaid, IsTrueOf, assignment_of, reading_of}
 use Rattle.pw_book.specs.inner.Settling.{EndsBefore, IsSettled}
-use Rattle.pw_book.proofs.Sharing.{points-end}
+use Rattle.pw_parts.proofs.Sharing.{points-end}
 
 -- ---- the records before
 pub of-office-before : (office : OfficeRules) (s t : List Entry) (e : Entry) → IsInserted e s t → AllOfOffice office t → AllOfOffice office s

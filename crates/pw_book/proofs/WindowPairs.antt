@@ -32,8 +32,8 @@ use Rattle.pw_book.specs.inner.Counted.{by_second}
 use Rattle.pw_book.specs.inner.Settling.{EndsBefore, EndsBeforeNext, IsStartChanged, ListsUpToNextStart, register_told}
 use Rattle.pw_book.specs.inner.Sums.{gathered, pairs_for, point_listed}
 use Rattle.pw_book.specs.declared.sums.Sum.{Sum}
-use Rattle.pw_book.proofs.Chart.{less-is}
-use Rattle.pw_book.proofs.Groups.{before-all, before-member}
+use Rattle.pw_parts.proofs.Chart.{less-is}
+use Rattle.pw_parts.proofs.Groups.{before-all, before-member}
 
 -- ---- the points from one second up to another
 -- each of them, in order

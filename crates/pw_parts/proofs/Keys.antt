@@ -60,3 +60,10 @@ keys-apart s a b c d o = elim (not-greater (key_order a.key b.key) _ o) [
       let P : Entry → Type 0 = λ x. entry_order a x ≡ Less in
       absurd (entry-apart a (subst P same o)))
 ]
+
+-- records of other keys stand in the order of their keys
+pub key-apart : (a b : Entry) → entry_order a b ≡ Less → (b.key ≡ a.key → ⊥) → key_order a.key b.key ≡ Less
+key-apart a b o n = elim (not-greater (key_order a.key b.key) _ o) [
+  | inl l ↦ l
+  | inr q ↦ absurd (n (sym (key-equal a.key b.key q)))
+]

@@ -1,5 +1,5 @@
 -- The readings and assignments that count, by the second.
-use Rattle.std.proofs.Common.{◌≡◌, ℕ, Option, Some, List, [], ◌∷◌, refl, ap, sym, ◌∙◌, inl, inr, Ordering, Less}
+use Rattle.std.proofs.Common.{◌≡◌, ℕ, Option, Some, List, [], ◌∷◌, ◌↔◌, refl, ap, sym, ◌∙◌, subst, inl, inr, Ordering, Less}
 use Rattle.std.specs.List.{filter_map}
 use Rattle.std.specs.Ordering.{nat_cmp}
 use Rattle.std.proofs.lemmas.Option.{none-some, same_Some}
@@ -14,15 +14,30 @@ use Rattle.pw_model.specs.declared.records.Content.TheVariants as content
 use Rattle.pw_model.specs.declared.records.Entry.{Entry}
 use Rattle.pw_model.specs.declared.records.Contents.{Contents}
 use Rattle.pw_model.specs.declared.records.Contents.TheVariants.{Nothing, One, Several}
-use Rattle.pw_model.specs.Counting.{Member, contents_at, point, start, wh_of, owner_of, reading_key, assignment_key}
-use Rattle.pw_model.specs.Lists.{IsInOrder}
+use Rattle.pw_model.specs.Counting.{Member, Counts, contents_at, point, start, wh_of, owner_of, reading_key, assignment_key}
+use Rattle.pw_model.specs.Lists.{IsInOrder, Lists}
 use Rattle.pw_model.specs.Same.{key_order, key_numbers, entry_order}
 use Rattle.pw_model.proofs.Counting.{entry, one-is_counting}
-use Rattle.pw_parts.specs.inner.Kinds.{IsReadingOf, IsAssignmentOf}
+use Rattle.pw_parts.specs.inner.Kinds.{IsReadingOf, IsAssignmentOf, ListsHeld}
 use Rattle.pw_parts.specs.inner.Counted.{ListsCounting, ListsSeconds, by_second, shown, shown_at, given, given_at}
 use Rattle.pw_flow.proofs.Points.{option-cases}
 use Rattle.pw_parts.proofs.Keys.{keys-apart, key-less}
 use Rattle.pw_parts.proofs.Groups.{before-member, before-all}
+
+-- ---- which of the records with such keys count
+pub counts-held : (Of : Key → Type 0) (s records : List Entry) → ListsHeld Of s records → (e : Entry) → Counts records e ↔ (Counts s e × Of e.key)
+counts-held Of s records h e = (
+  λ c.
+      let held = (h.members e).0 c.0 in
+      ((held.0, λ f m k. c.1 f ((h.members f).1 (m, subst Of (sym k) held.1)) k), held.1),
+  λ c. ((h.members e).1 (c.0.0, c.1), λ f m k. c.0.1 f ((h.members f).0 m).0 k),
+)
+
+pub lists-counting : (Of : Key → Type 0) (s records counted : List Entry) → ListsHeld Of s records → Lists entry_order (Counts records) counted → ListsCounting Of s counted
+lists-counting Of s records counted h l = record {
+  rising = l.rising;
+  members = λ e. (λ m. (counts-held Of s records h e).0 ((l.members e).0 m), λ c. (l.members e).1 ((counts-held Of s records h e).1 c));
+}
 
 -- ---- what a list tells
 module _ {X Y : Type 0} (h : X → Option Y) where

@@ -1,16 +1,10 @@
 -- Records in order, those of one key together. It serves `src/disputes.rt` and `src/counting.rt`.
 -- (Definitions of this project.)
-use Rattle.std.specs.Prelude.{◌≡◌, ℕ, ◌+◌, ◌^◌, ◌<◌, ◌≤◌, Bool, false, Option, Some, None, List, [], ◌∷◌, ◌++◌, length, take, drop}
+use Rattle.std.specs.Prelude.{◌≡◌, ℕ, ◌+◌, ◌^◌, ◌<◌, Bool, false, Option, Some, None, List, [], ◌∷◌, ◌++◌}
 use Rattle.pw_model.specs.declared.records.Dispute.{Dispute}
 use Rattle.pw_model.specs.declared.records.Entry.{Entry}
-use Rattle.pw_model.specs.Counting.{Member}
 use Rattle.pw_model.specs.Same.{same_key}
-
--- so many records at the head of a list have the key of the one before it, and no others have
-pub record HasSameKey (first : Entry) (others : List Entry) (count : ℕ) : Type 0 where
-  pub within : count ≤ length others
-  pub same : (e : Entry) → Member e (take count others) → e.key ≡ first.key
-  pub apart : (e : Entry) → Member e (drop count others) → e.key ≡ first.key → ⊥
+pub use Rattle.pw_parts.specs.inner.Groups.{HasSameKey}
 
 -- the last of a list, if it has any
 abbrev pub IsLastOf : List Entry → Option Entry → Type 0

@@ -1,6 +1,6 @@
 use Rattle.std.proofs.Common.{◌∙◌, ap, Vec, Global}
 use Rattle.pw_model.specs.declared.records.Entry.{Entry}
-use Rattle.pw_book.proofs.Groups.{rest-rises, step-one, step-many, no-rest}
+use Rattle.pw_parts.proofs.Groups.{rest-rises, step-one, step-many, no-rest}
 use Rattle.pw_book.proofs.counting.counting.Goals as goal
 use Rattle.pw_book.proofs.counting.counting.Goals.{then-same-eq0+in_ok-push, else-same-eq0}
 

@@ -1,7 +1,7 @@
 use Rattle.std.proofs.Common.{length}
 use Rattle.pw_model.specs.Lists.{IsInOrder}
 use Rattle.pw_model.specs.Same.{entry_order}
-use Rattle.pw_book.proofs.Groups.{SoFar}
+use Rattle.pw_parts.proofs.Groups.{SoFar}
 use Rattle.pw_book.proofs.counting.counting.Given as goal
 
 abbrev pub invariant-loop-first : goal.invariant-loop-first

@@ -1,5 +1,5 @@
 use Rattle.std.proofs.Common.{length, sym, ◌∙◌, arith}
-use Rattle.pw_book.proofs.Groups.{alike-more, apart-here, none-behind, all-alike}
+use Rattle.pw_parts.proofs.Groups.{alike-more, apart-here, none-behind, all-alike}
 use Rattle.pw_book.proofs.counting.same_key_behind.Goals as goal
 
 pub returns-then-not-is_same_key-clause-same : goal.returns-then-not-is_same_key-clause-same

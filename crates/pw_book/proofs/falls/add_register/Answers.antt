@@ -8,7 +8,7 @@ use Rattle.pw_shelf.specs.Rows.{ListsReadings}
 use Rattle.pw_book.specs.inner.Counted.{ListsSeconds}
 use Rattle.pw_book.specs.inner.Places.{FallsBefore}
 use Rattle.pw_book.proofs.Fallen.{falls-more}
-use Rattle.pw_book.proofs.Sharing.{points-end}
+use Rattle.pw_parts.proofs.Sharing.{points-end}
 use Rattle.pw_book.proofs.falls.add_register.Goals as goal
 
 pub returns-clause-falls : goal.returns-clause-falls

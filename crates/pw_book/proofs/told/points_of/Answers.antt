@@ -4,7 +4,7 @@ use Rattle.std.specs.List.{filter_map}
 use Rattle.pw_model.specs.Counting.{contents_at, point}
 use Rattle.pw_shelf.specs.Rows.{IsReadingOf}
 use Rattle.pw_book.specs.inner.Counted.{ListsSeconds, shown}
-use Rattle.pw_book.proofs.Seconds.{lists-counting, seconds-shown}
+use Rattle.pw_parts.proofs.Seconds.{lists-counting, seconds-shown}
 use Rattle.pw_book.proofs.told.points_of.Goals as goal
 
 pub returns : goal.returns
