@@ -12,7 +12,8 @@ use Rattle.pw_model.specs.Same.{same_key, same_entry, key_order, entry_order}
 use Rattle.pw_model.proofs.Same.{same_key-decides, same_entry-decides}
 use Rattle.pw_model.proofs.Once.{once-same, stands-decides}
 use Rattle.pw_shelf.specs.Rows.{ListsHeld}
-use Rattle.pw_book.specs.inner.Groups.{HasSameKey, IsDisputeOf}
+use Rattle.pw_parts.specs.Groups.{HasSameKey}
+use Rattle.pw_book.specs.inner.Groups.{IsDisputeOf}
 use Rattle.pw_parts.proofs.Keys.{entry-apart, key-apart}
 use Rattle.pw_parts.proofs.Groups.{AreApart, apart-more, joined-up, before-member, member-left, member-right, member-split, rising-right, rising-across, rising-push}
 

@@ -15,7 +15,8 @@ use Rattle.pw_model.specs.Counting.{Member, Counts}
 use Rattle.pw_model.specs.Lists.{IsInOrder, Lists, AreReadings, reading_entry, reading_order, reading_numbers}
 use Rattle.pw_model.specs.Same.{entry_order, key_numbers, content_numbers}
 use Rattle.pw_shelf.specs.Rows.{IsReadingOf, ListsReadings}
-use Rattle.pw_book.specs.inner.Counted.{row_of_reading, shown}
+use Rattle.pw_parts.specs.Shown.{shown}
+use Rattle.pw_book.specs.inner.Counted.{row_of_reading}
 use Rattle.pw_book.specs.inner.Groups.{IsLastOf}
 use Rattle.pw_parts.proofs.Groups.{member-left, member-right, member-split, rising-across, rising-push}
 use Rattle.pw_parts.proofs.Seconds.{shown-of, counts-held}

@@ -12,9 +12,9 @@ ghost use Rattle.pw_book.specs.inner.Places.{AreWithin, DisputesBefore};
 ghost use Rattle.pw_book.specs.inner.Groups.{IsDisputeOf};
 
 use crate::asked::{assignments_held, readings_held, topups_held};
-use crate::counting::same_key_behind;
 use pw_model::{Dispute, Entry};
 use pw_obis::Register;
+use pw_parts::same_key_behind;
 use pw_shelf::{Shelf, ShelfFault};
 use pw_tariff::{MeterId, Office};
 use std::alloc::{AllocError, Global};

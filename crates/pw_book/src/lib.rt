@@ -5,7 +5,6 @@ mod around;
 mod asked;
 mod balances;
 mod book;
-mod counting;
 mod disputes;
 mod distinct;
 mod falls;

@@ -8,7 +8,8 @@ ghost use Rattle.pw_model.specs.Same.{entry_order};
 ghost use Rattle.pw_shelf.specs.Rows.{ListsReadings};
 ghost use Rattle.pw_shelf.specs.Calls.{failures_told};
 ghost use Rattle.pw_book.specs.Asking.{IsOnlyAsked};
-ghost use Rattle.pw_book.specs.inner.Counted.{row_of_reading, shown};
+ghost use Rattle.pw_parts.specs.Shown.{shown};
+ghost use Rattle.pw_book.specs.inner.Counted.{row_of_reading};
 ghost use Rattle.pw_book.specs.inner.Groups.{IsFirstOf, IsLastOf, has_same_key};
 
 use crate::asked::readings_held;

@@ -9,7 +9,7 @@ use Rattle.pw_model.specs.Counting.{Member, SameMembers, Counts}
 use Rattle.pw_model.specs.Lists.{IsBeforeAll, IsInOrder, Lists}
 use Rattle.pw_model.specs.Same.{same_key, entry_order}
 use Rattle.pw_model.proofs.Same.{same_key-decides}
-use Rattle.pw_parts.specs.inner.Groups.{HasSameKey}
+use Rattle.pw_parts.specs.Groups.{HasSameKey}
 use Rattle.pw_parts.proofs.Keys.{between, entry-apart}
 
 -- ---- members and order of two lists together

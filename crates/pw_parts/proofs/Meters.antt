@@ -25,7 +25,8 @@ use Rattle.pw_model.specs.Energy.{owner_at as owner_told, energy_where, of_band,
 use Rattle.pw_model.specs.Office.{AllOfOffice}
 use Rattle.pw_model.specs.Same.{direction_of, total_numbers}
 use Rattle.pw_model.proofs.PlainEnergy.{sum-next, sum-to}
-use Rattle.pw_parts.specs.inner.Counted.{ListsCounting, ListsSeconds, given, shown}
+use Rattle.pw_parts.specs.Shown.{shown}
+use Rattle.pw_parts.specs.inner.Counted.{ListsCounting, ListsSeconds, given}
 use Rattle.pw_parts.specs.inner.Given.{in_way, pairs_given, register_given, registers_given, meter_given, energies_given, payment_given, AreCounted}
 use Rattle.pw_parts.specs.inner.Kinds.{ListsHeld, IsReadingOf, IsAssignmentOf}
 use Rattle.pw_parts.specs.inner.Totals.{given_at}

@@ -19,7 +19,8 @@ use Rattle.pw_model.specs.Lists.{IsInOrder, Lists}
 use Rattle.pw_model.specs.Same.{key_order, key_numbers, entry_order}
 use Rattle.pw_model.proofs.Counting.{entry, one-is_counting}
 use Rattle.pw_parts.specs.inner.Kinds.{IsReadingOf, IsAssignmentOf, ListsHeld}
-use Rattle.pw_parts.specs.inner.Counted.{ListsCounting, ListsSeconds, by_second, shown, shown_at, given, given_at}
+use Rattle.pw_parts.specs.Shown.{shown, shown_at}
+use Rattle.pw_parts.specs.inner.Counted.{ListsCounting, ListsSeconds, by_second, given, given_at}
 use Rattle.pw_flow.proofs.Points.{option-cases}
 use Rattle.pw_parts.proofs.Keys.{keys-apart, key-less}
 use Rattle.pw_parts.proofs.Groups.{before-member, before-all}

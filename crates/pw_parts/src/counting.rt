@@ -4,7 +4,7 @@ ghost use Rattle.std.specs.Prelude.{◌≤◌, ◌∷◌, IfOk, length};
 ghost use Rattle.pw_model.specs.Counting.{Counts, Member};
 ghost use Rattle.pw_model.specs.Lists.{IsInOrder, Lists};
 ghost use Rattle.pw_model.specs.Same.{entry_order};
-ghost use Rattle.pw_parts.specs.inner.Groups.{HasSameKey};
+ghost use Rattle.pw_parts.specs.Groups.{HasSameKey};
 
 use pw_model::{Entry, compare_entries, is_same_key};
 use std::alloc::{AllocError, Global};
@@ -30,8 +30,8 @@ fn sorted(alloc: Global, entries: &[Entry]) -> Result<Vec<Entry>, AllocError>
     Ok(all)
 }
 
-// Those that count among records in order.
-fn counting_among(alloc: Global, records: &[Entry]) -> Result<Vec<Entry>, AllocError>
+/// The records that count among records in order: those whose key no other record has.
+pub fn counting_among(alloc: Global, records: &[Entry]) -> Result<Vec<Entry>, AllocError>
     ensures counting { IsInOrder entry_order records.now → IfOk result (λ counted. Lists entry_order (Counts records.now) counted.items) }
     ensures few { IfOk result (λ counted. length counted.items ≤ length records.now) }
 {
@@ -47,8 +47,8 @@ fn counting_among(alloc: Global, records: &[Entry]) -> Result<Vec<Entry>, AllocE
     Ok(counted)
 }
 
-// How many records behind one have its key.
-fn same_key_behind(first: &Entry, others: &[Entry]) -> usize
+/// How many records behind one have its key.
+pub fn same_key_behind(first: &Entry, others: &[Entry]) -> usize
     ensures within { result ≤ length others.now }
     ensures same { IsInOrder entry_order (first.now ∷ others.now) → HasSameKey first.now others.now result }
 {

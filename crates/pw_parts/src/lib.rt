@@ -11,7 +11,9 @@ mod places;
 mod told;
 mod totals;
 
+pub use counting::{counting_among, same_key_behind};
 pub use parts::{Parts, true_parts};
+pub use told::readings_shown;
 
 #[cfg(test)]
 mod tests;

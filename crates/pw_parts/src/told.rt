@@ -2,7 +2,8 @@
 
 ghost use Rattle.std.specs.Prelude.{◌≡◌, IfOk};
 ghost use Rattle.std.specs.List.{filter_map};
-ghost use Rattle.pw_parts.specs.inner.Counted.{given, shown};
+ghost use Rattle.pw_parts.specs.Shown.{shown};
+ghost use Rattle.pw_parts.specs.inner.Counted.{given};
 
 use pw_model::{Content, Entry, Key};
 use pw_obis::WattHours;
@@ -10,8 +11,8 @@ use pw_tariff::Owner;
 use pw_time::Instant;
 use std::alloc::{AllocError, Global};
 
-// When and what the readings among records show.
-pub(crate) fn readings_shown(
+/// When and what the readings among records show.
+pub fn readings_shown(
     alloc: Global,
     records: &[Entry],
 ) -> Result<Vec<(Instant, WattHours)>, AllocError>

@@ -7,7 +7,6 @@ use Rattle.pw_tariff.specs.declared.ids.MeterId.{MeterId}
 use Rattle.pw_model.specs.declared.records.Fall.{Fall}
 use Rattle.pw_model.specs.declared.records.ReadingRow.{ReadingRow}
 pub use Rattle.pw_shelf.specs.Seconds.{ListsSeconds, by_second}
-pub use Rattle.pw_parts.specs.inner.Counted.{shown}
 
 -- a row_of_reading of what a reading shows
 abbrev pub row_of_reading : ℕ × ℕ → Bool → ReadingRow

@@ -1,10 +1,9 @@
--- Records in order, those of one key together. It serves `src/disputes.rt` and `src/counting.rt`.
+-- Records in order, those of one key together. It serves `src/disputes.rt` and `src/rows.rt`.
 -- (Definitions of this project.)
 use Rattle.std.specs.Prelude.{◌≡◌, ℕ, ◌+◌, ◌^◌, ◌<◌, Bool, false, Option, Some, None, List, [], ◌∷◌, ◌++◌}
 use Rattle.pw_model.specs.declared.records.Dispute.{Dispute}
 use Rattle.pw_model.specs.declared.records.Entry.{Entry}
 use Rattle.pw_model.specs.Same.{same_key}
-pub use Rattle.pw_parts.specs.inner.Groups.{HasSameKey}
 
 -- the last of a list, if it has any
 abbrev pub IsLastOf : List Entry → Option Entry → Type 0

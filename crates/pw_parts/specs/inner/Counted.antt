@@ -26,14 +26,6 @@ by_second a b = nat_cmp a.0 b.0
 abbrev pub ListsSeconds : {X : Type 0} → (ℕ → Option X) → List (ℕ × X) → Type 0
 ListsSeconds told = Lists by_second (λ a. told a.0 ≡ Some a.1)
 
--- when and what a reading shows
-abbrev pub shown_at : Key → Content → Option (ℕ × ℕ)
-shown_at (key.Reading m r t) (content.Reading w) = Some (t, w)
-shown_at _ _ = None
-
-abbrev pub shown : Entry → Option (ℕ × ℕ)
-shown e = shown_at e.key e.content
-
 -- from when on an assignment gives a meter to whom
 abbrev pub given_at : Key → Content → Option (ℕ × Option AccountId)
 given_at (key.Assignment m t) (content.Assignment o) = Some (t, o)

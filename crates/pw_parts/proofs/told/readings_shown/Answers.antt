@@ -1,5 +1,5 @@
 use Rattle.std.proofs.Common.{ℕ, Vec, Global, sym, ◌∙◌, ap}
-use Rattle.pw_parts.specs.inner.Counted.{shown}
+use Rattle.pw_parts.specs.Shown.{shown}
 use Rattle.pw_parts.proofs.Telling.{told-some, told-none}
 use Rattle.pw_parts.proofs.told.readings_shown.Goals as goal
 use Rattle.pw_parts.proofs.told.readings_shown.Goals.{in-Some+in_ok-push, in_default}

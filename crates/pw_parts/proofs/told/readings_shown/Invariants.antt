@@ -1,6 +1,6 @@
 use Rattle.std.proofs.Common.{◌≡◌, take}
 use Rattle.std.specs.List.{filter_map}
-use Rattle.pw_parts.specs.inner.Counted.{shown}
+use Rattle.pw_parts.specs.Shown.{shown}
 use Rattle.pw_parts.proofs.told.readings_shown.Given as goal
 
 abbrev pub invariant-loop-entry : goal.invariant-loop-entry

@@ -1,4 +1,4 @@
--- Records in order, those of one key together. It serves `src/counting.rt`.
+-- Records in order, those of one key together.
 -- (Definitions of this project.)
 use Rattle.std.specs.Prelude.{◌≡◌, ℕ, ◌≤◌, List, length, take, drop}
 use Rattle.pw_model.specs.declared.records.Entry.{Entry}
