@@ -9,7 +9,9 @@ use Rattle.pw_model.specs.Same.{same_key, entry_order}
 use Rattle.pw_model.proofs.Same.{same_key-decides}
 use Rattle.pw_book.specs.inner.Groups.{IsFirstOf, IsLastOf, has_same_key}
 use Rattle.pw_parts.proofs.Keys.{between, entry-apart}
-use Rattle.pw_parts.proofs.Groups.{before-member, member-left, member-right, member-split, rising-right, rising-across}
+use Rattle.pw_model.proofs.Places.{member-left, member-right, member-split}
+use Rattle.pw_model.proofs.InOrder.{before-member}
+use Rattle.pw_parts.proofs.Groups.{rising-right, rising-across}
 
 -- two records of one key: neither counts
 pub shared : (all : List Entry) (a b : Entry) → Member b all → entry_order a b ≡ Less → b.key ≡ a.key → Counts all a → ⊥

@@ -15,7 +15,7 @@ use Rattle.pw_book.specs.declared.fault.BookFault.{BookFault}
 use Rattle.pw_book.specs.declared.fault.BookFault.TheVariants.{Device, Memory, Reopen}
 use Rattle.pw_book.specs.Faults.{post_fault_of}
 use Rattle.pw_book.specs.Posting.{HasRoom, IsWithUpload, IsAccepted, IsFull, IsPosted, LeavesUpload, LeavesPosted, fresh_in, repeated_in}
-use Rattle.pw_parts.proofs.Groups.{member-left, member-right, member-split}
+use Rattle.pw_model.proofs.Places.{member-left, member-right, member-split}
 use Rattle.pw_book.proofs.EachOne.{fresh-is, joined-fits, record-count, repeated-held, repeated-same}
 
 -- how an upload was weighed: so many records are held, and of so many distinct entries so many are repeated

@@ -15,7 +15,9 @@ use Rattle.pw_shelf.specs.Rows.{ListsHeld}
 use Rattle.pw_parts.specs.Groups.{HasSameKey}
 use Rattle.pw_book.specs.inner.Groups.{IsDisputeOf}
 use Rattle.pw_parts.proofs.Keys.{entry-apart, key-apart}
-use Rattle.pw_parts.proofs.Groups.{AreApart, apart-more, joined-up, before-member, member-left, member-right, member-split, rising-right, rising-across, rising-push}
+use Rattle.pw_model.proofs.Places.{member-left, member-right, member-split}
+use Rattle.pw_model.proofs.InOrder.{before-member}
+use Rattle.pw_parts.proofs.Groups.{AreApart, apart-more, joined-up, rising-right, rising-across, rising-push}
 
 -- one for a record with the key
 abbrev pub one_at : Key → Entry → ℕ

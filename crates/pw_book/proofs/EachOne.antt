@@ -22,7 +22,7 @@ use Rattle.pw_model.proofs.Once.{stands-decides, once-same}
 use Rattle.pw_model.proofs.Same.{same_entry-decides}
 use Rattle.pw_shelf.proofs.InOrder.{order, order_total}
 use Rattle.pw_book.specs.Posting.{fresh_in, repeated_in}
-use Rattle.pw_parts.proofs.Groups.{member-left, member-right, member-split}
+use Rattle.pw_model.proofs.Places.{member-left, member-right, member-split}
 
 -- ---- sums over entries, each counted once
 -- one that doesn't stand behind is counted

@@ -12,7 +12,7 @@ use Rattle.pw_model.specs.declared.records.Fall.{Fall}
 use Rattle.pw_model.specs.Counting.{Member}
 use Rattle.pw_model.specs.Lists.{IsInOrder, Lists, fall_order, fall_numbers}
 use Rattle.pw_book.specs.inner.Counted.{IsFallOf, ListsSeconds}
-use Rattle.pw_parts.proofs.Groups.{before-all}
+use Rattle.pw_model.proofs.EntryOrder.{before-all}
 use Rattle.pw_parts.proofs.Chart.{listed}
 
 abbrev pub fall : MeterId → Register → ℕ × ℕ → ℕ × ℕ → Fall

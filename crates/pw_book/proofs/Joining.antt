@@ -11,7 +11,7 @@ use Rattle.pw_model.specs.Office.{AllOfOffice, IsOfOffice}
 use Rattle.pw_model.specs.Shelf.{IsTrueContent, ShelfContent}
 use Rattle.pw_book.specs.Posting.{IsWithUpload}
 use Rattle.pw_book.specs.inner.Added.{IsPut}
-use Rattle.pw_parts.proofs.Groups.{member-left, member-right, member-split}
+use Rattle.pw_model.proofs.Places.{member-left, member-right, member-split}
 use Rattle.pw_book.proofs.EachOne.{record-count, count-within}
 
 module _ (office : OfficeRules) where

@@ -8,7 +8,7 @@ use Rattle.pw_book.specs.declared.book.Accepted.{Accepted}
 use Rattle.pw_book.specs.declared.fault.PostFault.{PostFault}
 use Rattle.pw_book.specs.declared.fault.PostFault.TheVariants.{Full, Device, Memory, Reopen}
 use Rattle.pw_book.specs.Posting.{HasRoom, IsAccepted, IsPosted, IsSoundContent, IsWithUpload, LeavesPosted, LeavesSound, LeavesUpload}
-use Rattle.pw_parts.proofs.Groups.{member-split}
+use Rattle.pw_model.proofs.Places.{member-split}
 use Rattle.pw_book.proofs.EachOne.{record-count, record-count_same, count-joined}
 
 module _ (office : OfficeRules) (limit : ℕ) (entries : List Entry) (old new : ShelfContent) where

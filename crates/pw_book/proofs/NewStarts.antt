@@ -14,7 +14,10 @@ use Rattle.pw_model.specs.Lists.{IsInOrder}
 use Rattle.pw_book.specs.inner.Counted.{ListsSeconds, by_second}
 use Rattle.pw_book.specs.inner.Settling.{EndsBeforeNext}
 use Rattle.pw_parts.proofs.Chart.{less-is}
-use Rattle.pw_parts.proofs.Groups.{member-left, member-right, member-split, before-member, before-all, rising-right}
+use Rattle.pw_model.proofs.Places.{member-left, member-right, member-split}
+use Rattle.pw_model.proofs.InOrder.{before-member}
+use Rattle.pw_model.proofs.EntryOrder.{before-all}
+use Rattle.pw_parts.proofs.Groups.{rising-right}
 
 abbrev pub Start : Type 0
 Start = ℕ × Option AccountId

@@ -8,7 +8,7 @@ use Rattle.pw_record.specs.declared.fault.UploadFault.{UploadFault}
 use Rattle.pw_record.specs.Uploads.{Upload, Gives, RefusesContent}
 use Rattle.pw_record.specs.Laws.{HasNoTwoOutcomes}
 use Rattle.pw_book.specs.After.{Brings, After, LeavesAfter, OrderOfUploadsCountsNothing}
-use Rattle.pw_parts.proofs.Groups.{member-left, member-right, member-split}
+use Rattle.pw_model.proofs.Places.{member-left, member-right, member-split}
 
 -- what no upload of an office has
 abbrev pub AreOne : OfficeFile → Type 0

@@ -22,7 +22,7 @@ use Rattle.pw_shelf.specs.State.{IsWithRecord}
 use Rattle.pw_book.specs.Cost.{HasStarts, classes_of}
 use Rattle.pw_book.specs.inner.Added.{ChangesOneStart, IsJustAdded, IsPut, TakesAtMost}
 use Rattle.pw_book.specs.inner.Settling.{HavePoints}
-use Rattle.pw_parts.proofs.Groups.{member-left, member-right, member-split}
+use Rattle.pw_model.proofs.Places.{member-left, member-right, member-split}
 
 -- one that is held
 pub put-held : (office : OfficeRules) (e : Entry) (old new : ShelfContent) → new ≡ old → Member e old.records → IsTrueContent office old → IsPut office (e ∷ []) old new

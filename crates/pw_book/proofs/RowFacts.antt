@@ -18,7 +18,8 @@ use Rattle.pw_shelf.specs.Rows.{IsReadingOf, ListsReadings}
 use Rattle.pw_parts.specs.Shown.{shown}
 use Rattle.pw_book.specs.inner.Counted.{row_of_reading}
 use Rattle.pw_book.specs.inner.Groups.{IsLastOf}
-use Rattle.pw_parts.proofs.Groups.{member-left, member-right, member-split, rising-across, rising-push}
+use Rattle.pw_model.proofs.Places.{member-left, member-right, member-split}
+use Rattle.pw_parts.proofs.Groups.{rising-across, rising-push}
 use Rattle.pw_parts.proofs.Seconds.{shown-of, counts-held}
 
 -- a row_of_reading of the readings so far, marked where it counts among all

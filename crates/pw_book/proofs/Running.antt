@@ -8,7 +8,7 @@ use Rattle.pw_model.proofs.Answers.{order_counts_nothing}
 use Rattle.pw_record.specs.Uploads.{Upload, Gives}
 use Rattle.pw_book.specs.declared.fault.PostFault.TheVariants.{Full, Device, Memory, Reopen}
 use Rattle.pw_book.specs.After.{Brings, After, Outcome, Refused, Posted, LeadsTo, IsRun, if_accepted, accepted_in, AreAccepted, RunsLeaveAfter}
-use Rattle.pw_parts.proofs.Groups.{member-left, member-right, member-split}
+use Rattle.pw_model.proofs.Places.{member-left, member-right, member-split}
 use Rattle.pw_book.proofs.Order.{AreOne, brings-these, in-order, one-after}
 
 -- an upload that isn't accepted leaves the content as it is

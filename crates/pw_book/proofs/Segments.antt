@@ -10,7 +10,9 @@ use Rattle.pw_obis.specs.Registers.{registers}
 use Rattle.pw_tariff.specs.Office.{register_place}
 use Rattle.pw_model.specs.Counting.{Member}
 use Rattle.pw_model.specs.Lists.{IsInOrder, Lists}
-use Rattle.pw_parts.proofs.Groups.{member-left, member-right, member-split, before-member, before-all}
+use Rattle.pw_model.proofs.Places.{member-left, member-right, member-split}
+use Rattle.pw_model.proofs.InOrder.{before-member}
+use Rattle.pw_model.proofs.EntryOrder.{before-all}
 
 module _ {X : Type 0} (order : X → X → Ordering) where
   rising-joined : (xs ys : List X) → IsInOrder order xs → IsInOrder order ys → ((x y : X) → Member x xs → Member y ys → order x y ≡ Less) → IsInOrder order (xs ++ ys)

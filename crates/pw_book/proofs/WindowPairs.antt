@@ -33,7 +33,8 @@ use Rattle.pw_book.specs.inner.Settling.{EndsBefore, EndsBeforeNext, IsStartChan
 use Rattle.pw_book.specs.inner.Sums.{gathered, pairs_for, point_listed}
 use Rattle.pw_book.specs.declared.sums.Sum.{Sum}
 use Rattle.pw_parts.proofs.Chart.{less-is}
-use Rattle.pw_parts.proofs.Groups.{before-all, before-member}
+use Rattle.pw_model.proofs.InOrder.{before-member}
+use Rattle.pw_model.proofs.EntryOrder.{before-all}
 
 -- ---- the points from one second up to another
 -- each of them, in order

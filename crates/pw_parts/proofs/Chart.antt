@@ -9,7 +9,7 @@ use Rattle.pw_flow.proofs.Points.{option-cases}
 use Rattle.pw_model.specs.Counting.{Member}
 use Rattle.pw_model.specs.Lists.{IsInOrder}
 use Rattle.pw_parts.specs.inner.Counted.{ListsSeconds, by_second}
-use Rattle.pw_parts.proofs.Groups.{before-member}
+use Rattle.pw_model.proofs.InOrder.{before-member}
 
 pub less-is : (x y : ℕ) → nat_cmp x y ≡ Less → x < y
 less-is x y h = elim (cases_lt x y) [

@@ -9,33 +9,13 @@ use Rattle.pw_model.specs.Counting.{Member, SameMembers, Counts}
 use Rattle.pw_model.specs.Lists.{IsBeforeAll, IsInOrder, Lists}
 use Rattle.pw_model.specs.Same.{same_key, entry_order}
 use Rattle.pw_model.proofs.Same.{same_key-decides}
+use Rattle.pw_model.proofs.Places.{member-left, member-right, member-split}
+use Rattle.pw_model.proofs.InOrder.{before-member}
+use Rattle.pw_model.proofs.EntryOrder.{before-all}
 use Rattle.pw_parts.specs.Groups.{HasSameKey}
 use Rattle.pw_parts.proofs.Keys.{between, entry-apart}
 
--- ---- members and order of two lists together
-pub member-left : {X : Type 0} (x : X) (xs ys : List X) → Member x xs → Member x (xs ++ ys)
-member-left x [] ys m = absurd m
-member-left x (z ∷ xs) ys (inl i) = inl i
-member-left x (z ∷ xs) ys (inr m) = inr (member-left x xs ys m)
-
-pub member-right : {X : Type 0} (x : X) (xs ys : List X) → Member x ys → Member x (xs ++ ys)
-member-right x [] ys m = m
-member-right x (z ∷ xs) ys m = inr (member-right x xs ys m)
-
-pub member-split : {X : Type 0} (x : X) (xs ys : List X) → Member x (xs ++ ys) → Member x xs ⊎ Member x ys
-member-split x [] ys m = inr m
-member-split x (z ∷ xs) ys (inl i) = inl (inl i)
-member-split x (z ∷ xs) ys (inr m) = elim (member-split x xs ys m) [ inl a ↦ inl (inr a) | inr b ↦ inr b ]
-
-pub before-member : {X : Type 0} (order : X → X → Ordering) (x z : X) (xs : List X) → IsBeforeAll order x xs → Member z xs → order x z ≡ Less
-before-member order x z [] h m = absurd m
-before-member {X} order x z (y ∷ ys) h (inl i) = let P : X → Type 0 = λ v. order x v ≡ Less in subst P (sym i) h.0
-before-member order x z (y ∷ ys) h (inr m) = before-member order x z ys h.1 m
-
-pub before-all : {X : Type 0} (order : X → X → Ordering) (x : X) (xs : List X) → ((z : X) → Member z xs → order x z ≡ Less) → IsBeforeAll order x xs
-before-all order x [] h = tt
-before-all order x (y ∷ ys) h = (h y (inl refl), before-all order x ys (λ z m. h z (inr m)))
-
+-- ---- the order of two lists together
 pub rising-right : {X : Type 0} (order : X → X → Ordering) (xs ys : List X) → IsInOrder order (xs ++ ys) → IsInOrder order ys
 rising-right order [] ys h = h
 rising-right order (x ∷ xs) ys h = rising-right order xs ys h.1

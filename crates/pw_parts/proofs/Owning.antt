@@ -12,7 +12,7 @@ use Rattle.pw_model.specs.Energy.{owner_at as owner_told}
 use Rattle.pw_model.specs.Lists.{IsInOrder}
 use Rattle.pw_parts.specs.inner.Counted.{ListsSeconds, by_second}
 use Rattle.pw_parts.proofs.Chart.{less-is}
-use Rattle.pw_parts.proofs.Groups.{before-member}
+use Rattle.pw_model.proofs.InOrder.{before-member}
 
 abbrev Start : Type 0
 Start = ℕ × Option AccountId

@@ -23,7 +23,8 @@ use Rattle.pw_model.proofs.Answers.{key-back}
 use Rattle.pw_parts.specs.inner.Kinds.{IsTopUp}
 use Rattle.pw_parts.specs.inner.Counted.{ListsCounting}
 use Rattle.pw_parts.proofs.Keys.{entry-apart}
-use Rattle.pw_parts.proofs.Groups.{before-member, member-left, member-right, member-split}
+use Rattle.pw_model.proofs.Places.{member-left, member-right, member-split}
+use Rattle.pw_model.proofs.InOrder.{before-member}
 
 -- what stands in front and is told again, or tells nothing, adds nothing
 once-front : (f : Key → ℕ) (xs ys : List Key) → ((x : Key) → Member x xs → (Member x ys → ⊥) → f x ≡ 0) → sum_once same_key f (xs ++ ys) ≡ sum_once same_key f ys

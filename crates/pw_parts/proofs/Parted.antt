@@ -23,10 +23,11 @@ use Rattle.pw_model.specs.Counting.{Member}
 use Rattle.pw_model.specs.Lists.{IsInOrder, Lists}
 use Rattle.pw_model.specs.Same.{key_numbers, key_order, entry_order}
 use Rattle.pw_model.specs.inner.Search.{IsAt}
-use Rattle.pw_model.proofs.Places.{at-member, member-at, at-some, taken-at, at-taken, dropped-at, at-dropped, rising-at, rising-drop, entry-up_to}
+use Rattle.pw_model.proofs.Places.{at-member, member-at, at-some, taken-at, at-taken, dropped-at, at-dropped, rising-at, rising-drop, entry-up_to, member-left}
 use Rattle.pw_parts.specs.inner.Places.{key_place, IsWithin, AreWithin, ListsBefore, ListsFrom, ListsBetween}
 use Rattle.pw_parts.proofs.Keys.{not-both}
-use Rattle.pw_parts.proofs.Groups.{before-member, before-all, member-left}
+use Rattle.pw_model.proofs.InOrder.{before-member}
+use Rattle.pw_model.proofs.EntryOrder.{before-all}
 
 -- ---- numbers compared one after the other
 first-less : (a b : ℕ) (xs ys : List ℕ) → a < b → slice_cmp nat_cmp (a ∷ xs) (b ∷ ys) ≡ Less

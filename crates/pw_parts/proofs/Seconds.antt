@@ -23,7 +23,8 @@ use Rattle.pw_parts.specs.Shown.{shown, shown_at}
 use Rattle.pw_parts.specs.inner.Counted.{ListsCounting, ListsSeconds, by_second, given, given_at}
 use Rattle.pw_flow.proofs.Points.{option-cases}
 use Rattle.pw_parts.proofs.Keys.{keys-apart, key-less}
-use Rattle.pw_parts.proofs.Groups.{before-member, before-all}
+use Rattle.pw_model.proofs.InOrder.{before-member}
+use Rattle.pw_model.proofs.EntryOrder.{before-all}
 
 -- ---- which of the records with such keys count
 pub counts-held : (Of : Key → Type 0) (s records : List Entry) → ListsHeld Of s records → (e : Entry) → Counts records e ↔ (Counts s e × Of e.key)
