@@ -1,12 +1,12 @@
 -- Records of one key stand together, and which of them count.
-use Rattle.std.proofs.Common.{◌≡◌, ℕ, zero, suc, ◌+◌, ◌-◌, ◌<◌, ◌≤◌, List, [], ◌∷◌, ◌++◌, length, take, drop, get_or, length-take, length-drop, length-append, refl, ap, sym, subst, ◌∙◌, arith, inl, inr, ◌⊎◌, Ordering, Less, true, false}
+use Rattle.std.proofs.Common.{◌≡◌, ℕ, zero, suc, ◌+◌, ◌-◌, ◌<◌, ◌≤◌, List, [], ◌∷◌, ◌++◌, length, take, drop, get_or, length-take, length-drop, length-append, refl, ap, sym, subst, ◌∙◌, arith, inl, inr, Ordering, Less, true, false}
 use Rattle.std.proofs.lemmas.List.{take_more, drop_more, take_all, take-append-drop, take_rest, append-nil, append_assoc}
 use Rattle.std.proofs.Math.Seq.{take-length}
 use Rattle.std.proofs.Math.ListN.{drop_of_length-le}
 use Rattle.std.proofs.lemmas.Bool.{true≢false}
 use Rattle.pw_model.specs.declared.records.Entry.{Entry}
 use Rattle.pw_model.specs.Counting.{Member, SameMembers, Counts}
-use Rattle.pw_model.specs.Lists.{IsBeforeAll, IsInOrder, Lists}
+use Rattle.pw_model.specs.Lists.{IsInOrder, Lists}
 use Rattle.pw_model.specs.Same.{same_key, entry_order}
 use Rattle.pw_model.proofs.Same.{same_key-decides}
 use Rattle.pw_model.proofs.Places.{member-left, member-right, member-split}
