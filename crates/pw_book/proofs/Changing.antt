@@ -1,5 +1,5 @@
 -- Totals that change one after the other.
-use Rattle.std.proofs.Common.{◌≡◌, ℕ, ◌+◌, ◌<◌, ◌≤◌, ◌⊎◌, Bool, true, false, cond, Option, Some, None, refl, ap, sym, subst, ◌∙◌, arith, inl, inr, ◌↔◌}
+use Rattle.std.proofs.Common.{◌≡◌, ℕ, ◌+◌, ◌≤◌, ◌⊎◌, true, cond, Option, Some, None, refl, ap, sym, subst, ◌∙◌, arith, inl, inr, ◌↔◌}
 use Rattle.std.proofs.lemmas.Bool.{cases_lt}
 use Rattle.pw_tariff.specs.declared.ids.AccountId.{AccountId}
 use Rattle.pw_tariff.specs.declared.ids.BandId.{BandId}
@@ -10,7 +10,7 @@ use Rattle.pw_model.specs.declared.records.TotalKey.TheVariants.{Energy, TopUps}
 use Rattle.pw_model.specs.Shelf.{ShelfContent}
 use Rattle.pw_shelf.specs.Changes.{same_total, with_total}
 use Rattle.pw_book.specs.inner.Moves.{MovesTotals, InDirection, OfOwner, OfOwners, most_total}
-use Rattle.pw_book.proofs.TotalKeys.{same_total-decides, total-apart, total-itself}
+use Rattle.pw_book.proofs.TotalKeys.{same_total-decides, total-apart}
 
 -- none is changed
 pub moves-none : (these : TotalKey → Type 0) (more less : TotalKey → ℕ) (c d : ShelfContent) → d ≡ c → ((k : TotalKey) → these k → more k ≡ less k) → MovesTotals these more less c d

@@ -1,12 +1,12 @@
 -- Energies that follow what counts.
-use Rattle.std.proofs.Common.{◌≡◌, ℕ, ◌+◌, ◌≤◌, List, ap, sym, subst, ◌∙◌, arith}
+use Rattle.std.proofs.Common.{◌≡◌, List, ap, sym, ◌∙◌, arith}
 use Rattle.pw_tariff.specs.Office.{OfficeRules}
 use Rattle.pw_model.specs.declared.records.Key.{Key}
 use Rattle.pw_model.specs.declared.records.Contents.{Contents}
 use Rattle.pw_model.specs.declared.records.TotalKey.{TotalKey}
 use Rattle.pw_model.specs.Shelf.{ShelfContent}
 use Rattle.pw_book.specs.declared.sums.Sum.{Sum}
-use Rattle.pw_book.specs.inner.Moves.{MovesTotals, OfOwners, most_total}
+use Rattle.pw_book.specs.inner.Moves.{MovesTotals, OfOwners}
 use Rattle.pw_book.specs.inner.Settling.{IsSettled}
 use Rattle.pw_book.specs.inner.Sums.{AreDifferences, energy_told, gathered}
 

@@ -1,9 +1,9 @@
 -- The records before, with those that were added so far.
-use Rattle.std.proofs.Common.{◌≡◌, ℕ, ◌+◌, ◌<◌, ◌≤◌, List, [], ◌∷◌, ◌++◌, length, take, drop, get_or, refl, sym, subst, ◌∙◌, arith, inl, inr}
+use Rattle.std.proofs.Common.{◌≡◌, ℕ, ◌+◌, ◌<◌, ◌≤◌, List, [], ◌∷◌, ◌++◌, length, take, drop, get_or, refl, sym, subst, arith, inl, inr}
 use Rattle.std.proofs.lemmas.List.{take_more, take-append-drop}
 use Rattle.std.proofs.Math.Seq.{take-length}
 use Rattle.pw_model.specs.declared.records.Entry.{Entry}
-use Rattle.pw_model.specs.Counting.{Member, EachOnce, SameMembers}
+use Rattle.pw_model.specs.Counting.{Member, EachOnce}
 use Rattle.pw_model.specs.Lists.{record_count}
 use Rattle.pw_model.specs.Office.{most_records}
 use Rattle.pw_tariff.specs.Office.{OfficeRules}

@@ -1,16 +1,14 @@
 -- The points round an instant, and what their pairs give with a reading there and without it.
-use Rattle.std.proofs.Common.{◌≡◌, ◌==◌, ◌&&◌, ℕ, ◌+◌, ◌-◌, ◌<◌, ◌≤◌, Bool, true, false, cond, Option, Some, None, List, [], ◌∷◌, ◌++◌, length, Less, refl, ap, sym, subst, ◌∙◌, arith, inl, inr}
+use Rattle.std.proofs.Common.{◌≡◌, ◌==◌, ◌&&◌, ℕ, ◌+◌, ◌-◌, ◌<◌, ◌≤◌, Bool, true, cond, Option, Some, None, List, [], ◌++◌, length, Less, refl, ap, sym, subst, ◌∙◌, arith, inl, inr}
 use Rattle.std.specs.Cmp.{nat_cmp_is}
 use Rattle.std.specs.Ordering.{nat_cmp}
-use Rattle.std.proofs.lemmas.Bool.{cases_lt, cases_eq, cases_Bool}
-use Rattle.pw_flow.specs.Energy.{cell}
+use Rattle.std.proofs.lemmas.Bool.{cases_eq}
 use Rattle.pw_flow.specs.Pairs.{StandAround, cell_between, pairs_sum}
-use Rattle.pw_flow.specs.Time.{last, next}
 use Rattle.pw_flow.proofs.Points.{LastIs, NextIs, last-told, next-told}
 use Rattle.pw_obis.specs.declared.reference.Register.{Register}
 use Rattle.pw_tariff.specs.declared.ids.AccountId.{AccountId}
 use Rattle.pw_tariff.specs.declared.ids.Direction.{Direction}
-use Rattle.pw_tariff.specs.Office.{OfficeRules, OfficeFile, office_of, band_at}
+use Rattle.pw_tariff.specs.Office.{OfficeFile, office_of, band_at}
 use Rattle.pw_tariff.specs.Owners.{StartsIncrease, owner_by_starts, same_owner}
 use Rattle.pw_tariff.specs.Shares.{class_seconds}
 use Rattle.pw_model.specs.declared.records.Key.{Key}
@@ -20,7 +18,7 @@ use Rattle.pw_model.specs.declared.records.TotalKey.{TotalKey}
 use Rattle.pw_model.specs.declared.records.TotalKey.TheVariants.{Energy, TopUps}
 use Rattle.pw_model.specs.Changes.{IsOneMoreReading, in_direction}
 use Rattle.pw_model.specs.Counting.{point, start, reading_key, assignment_key, wh_of, owner_of}
-use Rattle.pw_model.specs.Energy.{Asked, asked_seconds, energy_where, of_band, owner_at as owner_told}
+use Rattle.pw_model.specs.Energy.{asked_seconds, of_band, owner_at as owner_told}
 use Rattle.pw_model.specs.Lists.{IsInOrder}
 use Rattle.pw_model.specs.Same.{direction_of, same_direction}
 use Rattle.pw_model.proofs.Energy.{one-more_reading}

@@ -1,5 +1,5 @@
 -- An entry that is added to a true content.
-use Rattle.std.proofs.Common.{◌≡◌, ℕ, ◌+◌, ◌*◌, ◌<◌, ◌≤◌, ◌⊎◌, Option, cond, List, [], ◌∷◌, ◌++◌, length, refl, ap, sym, subst, ◌∙◌, arith, inl, inr}
+use Rattle.std.proofs.Common.{◌≡◌, ℕ, ◌+◌, ◌<◌, ◌≤◌, Option, cond, List, [], ◌∷◌, ◌++◌, length, refl, ap, sym, subst, ◌∙◌, arith, inl, inr}
 use Rattle.std.proofs.lemmas.Bool.{cases_Bool}
 use Rattle.pw_obis.specs.declared.reference.Register.{Register}
 use Rattle.pw_tariff.specs.declared.ids.AccountId.{AccountId}
@@ -19,7 +19,7 @@ use Rattle.pw_model.proofs.Same.{same_key-decides}
 use Rattle.pw_shelf.specs.Changes.{starts_with}
 use Rattle.pw_shelf.specs.Rows.{rows_at}
 use Rattle.pw_shelf.specs.State.{IsWithRecord}
-use Rattle.pw_book.specs.Cost.{HasStarts, classes_of}
+use Rattle.pw_book.specs.Cost.{HasStarts}
 use Rattle.pw_book.specs.inner.Added.{ChangesOneStart, IsJustAdded, IsPut, TakesAtMost}
 use Rattle.pw_book.specs.inner.Settling.{HavePoints}
 use Rattle.pw_model.proofs.Places.{member-left, member-right, member-split}

@@ -1,7 +1,6 @@
 -- How many calls and rows the entries of an upload take together.
-use Rattle.std.proofs.Common.{◌≡◌, ℕ, zero, ◌+◌, ◌*◌, ◌<◌, ◌≤◌, Option, List, [], ◌∷◌, length, get_or, take, mul-le-mul_right, mul-le-mul_left, refl, inl, inr, ap, sym, subst, ◌∙◌, arith}
+use Rattle.std.proofs.Common.{◌≡◌, ℕ, ◌+◌, ◌*◌, ◌<◌, ◌≤◌, Option, List, [], ◌∷◌, length, mul-le-mul_right, mul-le-mul_left, refl, inl, inr, ap, sym, subst, ◌∙◌, arith}
 use Rattle.pw_obis.specs.declared.reference.Register.{Register}
-use Rattle.pw_tariff.specs.declared.ids.AccountId.{AccountId}
 use Rattle.pw_tariff.specs.Office.{OfficeRules}
 use Rattle.pw_model.specs.declared.records.Key.{Key}
 use Rattle.pw_model.specs.declared.records.Key.TheVariants as key

@@ -1,7 +1,7 @@
 -- The test on keys of totals decides whether two are equal.
-use Rattle.std.proofs.Common.{◌≡◌, ℕ, ◌+◌, Some, None, true, false, refl, ap, sym, ◌∙◌, Decides, arith, inl, inr}
+use Rattle.std.proofs.Common.{◌≡◌, ℕ, ◌+◌, Some, None, true, false, refl, ap, Decides, arith, inl, inr}
 use Rattle.std.specs.Cmp.Lexicographic.{bytes_decides}
-use Rattle.std.proofs.lemmas.Bool.{cases_Bool, true≢false}
+use Rattle.std.proofs.lemmas.Bool.{cases_Bool}
 use Rattle.std.proofs.lemmas.Bool.Decides.{Decides-like}
 use Rattle.pw_tariff.specs.declared.ids.AccountId.{AccountId}
 use Rattle.pw_tariff.specs.declared.ids.BandId.{BandId}

@@ -1,8 +1,7 @@
 -- Points, starts and totals stay those of the records.
-use Rattle.std.proofs.Common.{◌≡◌, ◌==◌, ℕ, ◌+◌, ◌*◌, ◌<◌, ◌≤◌, ◌⊎◌, Bool, true, false, cond, Option, Some, None, List, [], ◌∷◌, length, Result, Ok, Err, OnOk, refl, ap, sym, subst, ◌∙◌, arith, inl, inr}
+use Rattle.std.proofs.Common.{◌≡◌, ◌==◌, ℕ, ◌+◌, ◌<◌, ◌≤◌, ◌⊎◌, Bool, true, false, cond, Option, Some, None, List, length, Result, Ok, Err, OnOk, refl, ap, sym, subst, ◌∙◌, arith, inl, inr}
 use Rattle.std.proofs.lemmas.Bool.{cases_Bool, cases_lt, cases_eq, eq-eqb, ne_eqb, true≢false}
 use Rattle.pw_obis.specs.declared.reference.Register.{Register}
-use Rattle.pw_obis.specs.declared.energy.TheConstants.{LARGEST_WATT_HOURS}
 use Rattle.pw_tariff.specs.declared.ids.AccountId.{AccountId}
 use Rattle.pw_tariff.specs.declared.ids.BandId.{BandId}
 use Rattle.pw_tariff.specs.declared.ids.Direction.{Direction}
@@ -18,7 +17,7 @@ use Rattle.pw_model.specs.declared.records.Entry.{Entry}
 use Rattle.pw_model.specs.declared.records.TotalKey.{TotalKey}
 use Rattle.pw_model.specs.declared.records.TotalKey.TheVariants.{Energy, TopUps}
 use Rattle.pw_model.specs.Changes.{ChangesAtOneKey, IsOneMoreReading, IsOtherStart}
-use Rattle.pw_model.specs.Counting.{IsInserted, Member, SameMembers, contents_at, joined, point, start, wh_of, owner_of, reading_key, assignment_key}
+use Rattle.pw_model.specs.Counting.{IsInserted, Member, contents_at, joined, point, start, wh_of, owner_of, reading_key, assignment_key}
 use Rattle.pw_flow.specs.Energy.{register_energy}
 use Rattle.pw_flow.specs.Time.{last, sum_over}
 use Rattle.pw_tariff.specs.Owners.{owner_from}
@@ -37,7 +36,7 @@ use Rattle.pw_shelf.specs.Changes.{points_with, starts_with}
 use Rattle.pw_book.specs.inner.Moves.{MovesTotals, OfOwner, OfOwners, InDirection, most_total}
 use Rattle.pw_book.specs.declared.around.Counted.{Counted}
 use Rattle.pw_book.specs.declared.settling.Given.{Given}
-use Rattle.pw_book.specs.inner.Added.{IsJustAdded, IsPaid, IsTrueOf, assignment_of, reading_of}
+use Rattle.pw_book.specs.inner.Added.{IsJustAdded, IsPaid, assignment_of, reading_of}
 use Rattle.pw_book.specs.inner.Settling.{EndsBefore, IsSettled}
 use Rattle.pw_parts.proofs.Sharing.{points-end}
 

@@ -1,10 +1,9 @@
 -- Energy gathered by total. It serves `src/sums.rt`, `src/pairs.rt`, `src/around.rt` and `src/window.rt`.
 -- (Definitions of this project.)
-use Rattle.std.specs.Prelude.{◌≡◌, ℕ, ◌+◌, cond, Option, Some, None, List, [], ◌∷◌}
+use Rattle.std.specs.Prelude.{◌≡◌, ℕ, ◌+◌, cond, Option, Some, None, List, ◌∷◌}
 use Rattle.std.specs.List.{sum_by}
 use Rattle.pw_flow.specs.Pairs.{pairs_sum}
 use Rattle.pw_tariff.specs.declared.ids.AccountId.{AccountId}
-use Rattle.pw_tariff.specs.declared.ids.BandId.{BandId}
 use Rattle.pw_tariff.specs.declared.ids.Direction.{Direction}
 use Rattle.pw_tariff.specs.declared.cells.Cell.{Cell}
 use Rattle.pw_tariff.specs.Cells.{energy_in}

@@ -6,7 +6,7 @@ use Rattle.pw_tariff.specs.Office.{office_of}
 use Rattle.pw_model.specs.Counting.{contents_at}
 use Rattle.pw_model.specs.declared.records.TotalKey.TheVariants.{TopUps}
 use Rattle.pw_model.specs.Energy.{cost}
-use Rattle.pw_model.specs.Payments.{balance, topped_up}
+use Rattle.pw_model.specs.Payments.{balance}
 use Rattle.pw_model.specs.Shelf.{ShelfContent}
 use Rattle.pw_book.proofs.Capped.{difference-fits}
 use Rattle.pw_book.proofs.balances.balance_held.Goals as goal

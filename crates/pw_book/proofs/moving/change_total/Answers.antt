@@ -1,7 +1,5 @@
-use Rattle.std.proofs.Common.{refl, ap, ◌∙◌}
 use Rattle.std.proofs.lemmas.Result.{on_ok_weaker}
-use Rattle.pw_model.specs.Shelf.{ShelfContent}
-use Rattle.pw_book.proofs.Changing.{moves-none, moves-one}
+use Rattle.pw_book.proofs.Changing.{moves-one}
 use Rattle.pw_book.proofs.moving.change_total.Goals as goal
 
 pub returns-clause-moved : goal.returns-clause-moved

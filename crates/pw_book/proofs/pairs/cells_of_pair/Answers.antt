@@ -1,8 +1,5 @@
-use Rattle.std.proofs.Common.{◌≡◌, ◌<◌, ◌≤◌, ap, sym, ◌∙◌, List, [], arith}
-use Rattle.pw_obis.specs.declared.energy.TheConstants.{LARGEST_WATT_HOURS}
+use Rattle.std.proofs.Common.{◌<◌, sym, ◌∙◌}
 use Rattle.pw_flow.proofs.Level.{cell-fall}
-use Rattle.pw_tariff.specs.declared.cells.Cell.{Cell}
-use Rattle.pw_tariff.specs.Cells.{energy_in, energy_of_all}
 use Rattle.pw_tariff.specs.Shares.{class_seconds}
 use Rattle.pw_book.proofs.Gathering.{none-in-all, none-for}
 use Rattle.pw_book.proofs.pairs.cells_of_pair.Goals as goal

@@ -1,4 +1,3 @@
-use Rattle.std.proofs.Common.{arith}
 use Rattle.pw_book.proofs.Gathering.{cell-fits, cells-ended, whole-ended}
 use Rattle.pw_book.proofs.sums.add_cells.Goals as goal
 

@@ -1,4 +1,4 @@
-use Rattle.std.proofs.Common.{◌≡◌, ◌+◌, ◌≤◌, List, ◌∷◌, [], sym, subst, ap, ◌∙◌, refl, arith}
+use Rattle.std.proofs.Common.{sym, subst, ◌∙◌, refl}
 use Rattle.pw_tariff.specs.Office.{office_of}
 use Rattle.pw_model.specs.Counting.{Member}
 use Rattle.std.proofs.lemmas.Bool.{true≢false}
