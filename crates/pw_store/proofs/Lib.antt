@@ -36,3 +36,4 @@ pub mod KeyedRows
 pub mod OfParts
 pub mod Deciding
 pub mod Judged
+pub mod Reopening

@@ -20,8 +20,9 @@ use Rattle.pw_store.specs.Content.{content_of, records_of}
 use Rattle.pw_store.specs.Kept.{IsStore}
 use Rattle.pw_store.specs.Opening.{KeepsText, HoldsRecords, HoldsKept, HoldsTotals, HoldsSums, HasNoRow, HoldsAllRecords}
 
--- a connection that is open, and inside of no transaction
+-- a connection that was open and is, and inside of no transaction
 pub record IsSettled (old new : State) : Type 0 where
+  pub was_open : IsTrue old.is_open
   pub is_open : IsTrue new.is_open
   pub outside : new.in_transaction ≡ false
   pub now : new.now ≡ old.committed
