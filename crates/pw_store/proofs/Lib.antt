@@ -37,3 +37,4 @@ pub mod OfParts
 pub mod Deciding
 pub mod Judged
 pub mod Reopening
+pub mod OfContent
