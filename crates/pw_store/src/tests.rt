@@ -277,6 +277,22 @@ fn a_total_of_0_is_as_good_as_none(rt: HostRuntime) -> Result<(), Fail> {
 }
 
 #[test]
+fn a_total_of_0_at_any_key_opens_again(rt: HostRuntime) -> Result<(), Fail> {
+    let alloc = rt.alloc();
+    let key = TotalKey::TopUps {
+        account: AccountId(9),
+    };
+    let mut shelf = shelf_of(&rt, alloc, memory(&rt, alloc));
+    shelf.begin()?;
+    shelf.total_put(&key, 0)?;
+    shelf.commit()?;
+    let mut again = shelf_of(&rt, alloc, shelf.close());
+    let amount = again.total(&key)?;
+    assert_eq!(rt; amount, 0);
+    Ok(())
+}
+
+#[test]
 fn a_table_of_another_is_refused(rt: HostRuntime) -> Result<(), Fail> {
     let alloc = rt.alloc();
     let mut connection = memory(&rt, alloc);
