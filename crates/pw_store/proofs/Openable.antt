@@ -1,12 +1,12 @@
 -- A store of this office, version and text is refused only for the engine's sake, or for memory.
-use Rattle.std.proofs.Common.{◌≡◌, ◌⊎◌, inl, inr, List, [], ◌∷◌, refl, sym, subst, ◌∙◌}
+use Rattle.std.proofs.Common.{arith, ◌≡◌, inl, inr, List, [], ◌∷◌, refl, sym, subst, ◌∙◌}
 use Rattle.std.specs.List.Sorted.{IsPermutation}
 use Rattle.std.proofs.lemmas.List.Sorted.{IsPermutation-sym, IsPermutation-trans}
-use Rattle.sqlite.specs.declared.types.Value.{Value}
 use Rattle.sqlite.specs.Order.{Row, column}
 use Rattle.sqlite.proofs.Callers.{one_permutation}
 use Rattle.pw_store.specs.declared.fault.OpenFault.TheVariants.{Store, Memory, OfficeDiffers, Version, Unclean}
 use Rattle.pw_store.specs.Opening.{OpenableOpens}
+use Rattle.pw_store.proofs.OfContent.{records_held, sums_held}
 
 -- two listings of one row are alike
 same_row : (all xs ys : List Row) (x : Row) → IsPermutation all xs → IsPermutation all ys → xs ≡ x ∷ [] → ys ≡ x ∷ []
@@ -32,7 +32,7 @@ opens office body db Unclean it (inl r) = absurd (r.1 it.ours)
 opens office body db Unclean it (inr r) = elim r.1 [
   | inl none ↦ absurd (let mine = it.text.1.1 in none.1.1 mine.0 (same_row _ it.text.0 none.0 mine.0 it.text.1.0 none.1.0 mine.1))
   | inr more ↦ elim more [
-    | inl records ↦ absurd (records it.records)
-    | inr rest ↦ elim rest [ inl many ↦ absurd (it.few many) | inr sums ↦ absurd (sums it.sums) ]
+    | inl records ↦ absurd (records (records_held office db.trees it.rows it.of_office))
+    | inr rest ↦ elim rest [ inl many ↦ absurd (let few = it.few in omega (arith, few, many)) | inr last ↦ elim last [ inl sums ↦ absurd (sums (sums_held office db.trees it.rows it.of_office it.truth it.named)) | inr untrue ↦ absurd (untrue it.truth) ] ]
   ]
 ]

@@ -1,6 +1,6 @@
 -- What an opening finds, and why it is refused.
 -- (Definitions of this project.)
-use Rattle.std.specs.Prelude.{◌≡◌, ◌⊎◌, ℕ, pos, true, false, ◌&&◌, List, [], ◌∷◌, map, IsTrue, ◌<◌, length}
+use Rattle.std.specs.Prelude.{◌≡◌, ◌⊎◌, ℕ, pos, true, ◌&&◌, List, [], ◌∷◌, map, ◌<◌, ◌≤◌, length}
 use Rattle.std.specs.List.{AllByRecursion, filter}
 use Rattle.std.specs.List.Sorted.{IsPermutation}
 use Rattle.sqlite.specs.declared.types.Value.TheVariants.{Int}
@@ -8,12 +8,10 @@ use Rattle.sqlite.specs.Order.{Row, column}
 use Rattle.sqlite.specs.Ops.{binary, is_true}
 use Rattle.sqlite.specs.Tree.{Trees}
 use Rattle.sqlite.specs.Effect.{Database}
-use Rattle.sqlite.specs.State.{State}
 use Rattle.sqlite_value.specs.declared.keys.Collation.TheVariants.{Binary}
 use Rattle.sqlite_sql.specs.declared.ops.BinaryOp.TheVariants.{Compare}
 use Rattle.sqlite_sql.specs.declared.ops.CompareOp.TheVariants.{Eq}
 use Rattle.pw_tariff.specs.Office.{OfficeRules}
-use Rattle.pw_model.specs.declared.records.Entry.{Entry}
 use Rattle.pw_model.specs.Office.{AllOfOffice, most_records}
 use Rattle.pw_model.specs.Counting.{EachOnce}
 use Rattle.pw_schema.specs.declared.kind.RecordKind.{RecordKind}
@@ -21,14 +19,13 @@ use Rattle.pw_schema.specs.declared.kind.RecordKind.TheVariants.{Readings, Assig
 use Rattle.pw_model.specs.declared.records.TotalKey.{TotalKey}
 use Rattle.pw_schema.specs.declared.kind.TotalKind.{TotalKind}
 use Rattle.pw_schema.specs.declared.kind.TotalKind.TheVariants.{Energies, Payments}
-use Rattle.pw_schema.specs.Rows.{number}
 use Rattle.pw_schema.specs.Judging.{HasOtherText, HasOtherVersion, IsTotalOf, KeepsOffice}
 use Rattle.pw_schema.specs.Tables.{IsOurs, no_schema}
 use Rattle.pw_store.specs.declared.fault.OpenFault.{OpenFault}
 use Rattle.pw_store.specs.declared.fault.OpenFault.TheVariants.{Store, Memory, OfficeDiffers, Version, Unclean}
-use Rattle.pw_model.specs.Shelf.{no_content}
-use Rattle.pw_store.specs.Content.{content_of, energy_in, payment_in, point_tree, records_of, start_tree, total_tree, payment_tree}
-use Rattle.pw_store.specs.Kept.{IsStore}
+use Rattle.pw_model.specs.Shelf.{IsTrueContent}
+use Rattle.pw_store.specs.Content.{content_of, energy_in, payment_in, IsReadingRow, IsAssignmentRow, IsTopupRow, reading_tree, assignment_tree, topup_tree, point_tree, records_of, start_tree, total_tree, payment_tree}
+use Rattle.pw_store.specs.Kept.{key_in_point, key_in_start}
 use Rattle.pw_store.specs.Keyed.{IsEnergyRow, IsPaymentRow}
 use Rattle.pw_store.specs.Shown.{IsRowOf, entries_of, entry_in, tree_of}
 
@@ -97,7 +94,9 @@ OursRefuses office body db Memory = Unit {0}
 OursRefuses office body db OfficeDiffers = KeepsText (HasOtherText body) db
 OursRefuses office body db Version = KeepsText HasOtherVersion db
 OursRefuses office body db Unclean =
-    KeepsText HasNoRow db ⊎ ((HoldsAllRecords office db → ⊥) ⊎ (HoldsTooMany db ⊎ (HoldsSums office db → ⊥)))
+    KeepsText HasNoRow db
+    ⊎ ((HoldsAllRecords office db → ⊥)
+    ⊎ (HoldsTooMany db ⊎ ((HoldsSums office db → ⊥) ⊎ (IsTrueContent office (content_of db) → ⊥))))
 
 -- of any database: there is something else than our tables, or they are ours and what they hold refuses
 abbrev pub Refuses : OfficeRules → List ℕ → Database → OpenFault → Type 0
@@ -109,13 +108,36 @@ Refuses office body db Unclean =
     (((db.schema ≡ no_schema) → ⊥) × (IsOurs db.schema → ⊥)) ⊎ (IsOurs db.schema × OursRefuses office body db.trees Unclean)
 
 -- ---- what opens
--- our tables, of this version and this text, with records, points, starts and totals of the office, and not too many
+-- rows of the kinds asked for, with no key twice
+pub record AreRows {K : Type 0} (IsRow : Row → Type 0) (key_in : Row → K) (rows : List Row) : Type 0 where
+  pub each : AllByRecursion IsRow rows
+  pub once : EachOnce (map key_in rows)
+
+-- each row is of the kinds of its table, and no record stands twice, nor the key of a point, a start or a total
+pub record HasRows (db : Trees) : Type 0 where
+  pub readings : AllByRecursion IsReadingRow (db reading_tree)
+  pub assignments : AllByRecursion IsAssignmentRow (db assignment_tree)
+  pub topups : AllByRecursion IsTopupRow (db topup_tree)
+  pub once : EachOnce (records_of db)
+  pub points : AreRows IsReadingRow key_in_point (db point_tree)
+  pub starts : AreRows IsAssignmentRow key_in_start (db start_tree)
+  pub energies : AreRows IsEnergyRow energy_in (db total_tree)
+  pub payments : AreRows IsPaymentRow payment_in (db payment_tree)
+
+-- each total that is kept, a total of 0 too, names what the office has
+pub record NamesOffice (office : OfficeRules) (db : Trees) : Type 0 where
+  pub energies : AllByRecursion (λ r. IsTotalOf office (energy_in r)) (db total_tree)
+  pub payments : AllByRecursion (λ r. IsTotalOf office (payment_in r)) (db payment_tree)
+
+-- our tables, of this version and this text, whose content is true and has entries of the office, and not too many
 pub record IsOpenable (office : OfficeRules) (body : List ℕ) (db : Database) : Type 0 where
   pub ours : IsOurs db.schema
   pub text : KeepsText (KeepsOffice body) db.trees
-  pub records : HoldsAllRecords office db.trees
-  pub few : HoldsTooMany db.trees → ⊥
-  pub sums : HoldsSums office db.trees
+  pub rows : HasRows db.trees
+  pub named : NamesOffice office db.trees
+  pub of_office : AllOfOffice office (content_of db.trees).records
+  pub few : length (content_of db.trees).records ≤ most_records
+  pub truth : IsTrueContent office (content_of db.trees)
 
 -- what is found refuses such a store only for the engine's sake, or for memory
 abbrev pub OpenableOpens : Type 0

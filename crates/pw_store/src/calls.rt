@@ -362,26 +362,38 @@ impl<S: Alter> Shelf for SqlShelf<S> {
                 owner,
                 band,
                 direction,
-            } => self.replace(
-                Change::TakeEnergy {
+            } => {
+                let take = Change::TakeEnergy {
                     owner: *owner,
                     band: *band,
                     direction: *direction,
-                },
-                Change::PutEnergy {
-                    owner: *owner,
-                    band: *band,
-                    direction: *direction,
-                    wh: amount,
-                },
-            ),
-            TotalKey::TopUps { account } => self.replace(
-                Change::TakePayment { account: *account },
-                Change::PutPayment {
-                    account: *account,
-                    cents: amount,
-                },
-            ),
+                };
+                if amount == 0 {
+                    return self.change(take);
+                }
+                self.replace(
+                    take,
+                    Change::PutEnergy {
+                        owner: *owner,
+                        band: *band,
+                        direction: *direction,
+                        wh: amount,
+                    },
+                )
+            }
+            TotalKey::TopUps { account } => {
+                let take = Change::TakePayment { account: *account };
+                if amount == 0 {
+                    return self.change(take);
+                }
+                self.replace(
+                    take,
+                    Change::PutPayment {
+                        account: *account,
+                        cents: amount,
+                    },
+                )
+            }
         }
     }
 
