@@ -163,6 +163,3 @@ fn is_reopen(answer: &Result<Accepted, PostFault>) -> bool
         },
     }
 }
-
-#[cfg(test)]
-mod tests;

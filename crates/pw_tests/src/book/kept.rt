@@ -1,10 +1,10 @@
 //! The points, starts and totals that the book keeps beside its records, against those of its uploads.
 
-use super::{
-    FIRST, FIVE, METER, NEW_YEAR, OTHER, SECOND, SEVEN, SIX, are_of_office, assigned, at,
-    empty_book, energies, expecting, paid, post, reading, run,
+use super::{Books, Counting, InMemory, OTHER, energies, expecting, post, run};
+use crate::sample::{
+    FIRST, FIVE, METER, NEW_YEAR, SECOND, SEVEN, SIX, are_of_office, assigned, at, paid, reading,
 };
-use crate::Book;
+use pw_book::Book;
 use pw_model::{Content, Entry, Key, TotalKey};
 use pw_obis::Register;
 use pw_parts::{Parts, true_parts};
@@ -125,8 +125,13 @@ fn are_kept<S: Shelf>(
 }
 
 // So are they behind uploads of one entry each.
-fn parts_agree_behind(rt: &impl Abort, alloc: Global, entries: &[Entry]) -> Result<(), Fail> {
-    let mut book = empty_book(rt, alloc, 100)?;
+fn parts_agree_behind<B: Books>(
+    rt: &impl Abort,
+    alloc: Global,
+    books: &B,
+    entries: &[Entry],
+) -> Result<(), Fail> {
+    let mut book = books.empty(rt, alloc, 100)?;
     for entry in entries {
         post(rt, alloc, &mut book, &[*entry])?;
     }
@@ -134,49 +139,62 @@ fn parts_agree_behind(rt: &impl Abort, alloc: Global, entries: &[Entry]) -> Resu
 }
 
 // The same behind each of them.
-fn parts_agree_behind_each(rt: &impl Abort, alloc: Global, entries: &[Entry]) -> Result<(), Fail> {
+fn parts_agree_behind_each<B: Books>(
+    rt: &impl Abort,
+    alloc: Global,
+    books: &B,
+    entries: &[Entry],
+) -> Result<(), Fail> {
     for number in 0..entries.len() {
         let (first, _) = entries.split_at(number);
-        parts_agree_behind(rt, alloc, first)?;
+        parts_agree_behind(rt, alloc, books, first)?;
     }
-    parts_agree_behind(rt, alloc, entries)
+    parts_agree_behind(rt, alloc, books, entries)
+}
+
+fn settled<B: Books>(rt: &impl Abort, alloc: Global, books: &B) -> Result<(), Fail> {
+    let mut book = books.empty(rt, alloc, 100)?;
+    let mut taken = Vec::new(alloc);
+    let steps = [
+        expecting(assigned(rt, NEW_YEAR, Some(FIRST)), 0, 0),
+        expecting(reading(rt, FIVE, 100_000), 0, 0),
+        expecting(reading(rt, SIX, 50_000), 0, 0),
+        expecting(reading(rt, SEVEN, 120_000), 0, 70_000),
+        expecting(reading(rt, SIX, 60_000), 10_000, 10_000),
+        expecting(reading(rt, FIVE + 1_800, 110_000), 13_333, 6_667),
+        expecting(paid(rt, b"P1", FIRST, 2_000), 13_333, 6_667),
+        expecting(paid(rt, b"P1", FIRST, 3_000), 13_333, 6_667),
+    ];
+    run(rt, alloc, &mut book, &mut taken, &steps)?;
+    parts_agree_behind_each(rt, alloc, books, &taken)
 }
 
 #[test]
 fn fall_settled_by_dispute(rt: HostRuntime) -> Result<(), Fail> {
-    let alloc = rt.alloc();
-    let mut book = empty_book(&rt, alloc, 100)?;
+    settled(&rt, rt.alloc(), &InMemory)?;
+    settled(&rt, rt.alloc(), &Counting)
+}
+
+fn moved<B: Books>(rt: &impl Abort, alloc: Global, books: &B) -> Result<(), Fail> {
+    let mut book = books.empty(rt, alloc, 100)?;
     let mut taken = Vec::new(alloc);
     let steps = [
-        expecting(assigned(&rt, NEW_YEAR, Some(FIRST)), 0, 0),
-        expecting(reading(&rt, FIVE, 100_000), 0, 0),
-        expecting(reading(&rt, SIX, 50_000), 0, 0),
-        expecting(reading(&rt, SEVEN, 120_000), 0, 70_000),
-        expecting(reading(&rt, SIX, 60_000), 10_000, 10_000),
-        expecting(reading(&rt, FIVE + 1_800, 110_000), 13_333, 6_667),
-        expecting(paid(&rt, b"P1", 2_000), 13_333, 6_667),
-        expecting(paid(&rt, b"P1", 3_000), 13_333, 6_667),
+        expecting(assigned(rt, NEW_YEAR, Some(FIRST)), 0, 0),
+        expecting(reading(rt, SEVEN, 1_003_001), 0, 0),
+        expecting(reading(rt, FIVE, 1_000_000), 1_500, 1_501),
+        expecting(reading(rt, SIX, 1_001_000), 1_000, 2_001),
+        expecting(assigned(rt, SIX + 1_800, Some(SECOND)), 1_000, 1_000),
     ];
-    run(&rt, alloc, &mut book, &mut taken, &steps)?;
-    parts_agree_behind_each(&rt, alloc, &taken)
+    run(rt, alloc, &mut book, &mut taken, &steps)?;
+    let both = energies(rt, alloc, &mut book, Some(SECOND), Direction::Import)?;
+    assert_eq!(rt; both, (0, 1_001));
+    let steps = [expecting(assigned(rt, SIX + 1_800, None), 1_000, 2_001)];
+    run(rt, alloc, &mut book, &mut taken, &steps)?;
+    parts_agree_behind_each(rt, alloc, books, &taken)
 }
 
 #[test]
 fn assignments_over_a_late_reading(rt: HostRuntime) -> Result<(), Fail> {
-    let alloc = rt.alloc();
-    let mut book = empty_book(&rt, alloc, 100)?;
-    let mut taken = Vec::new(alloc);
-    let steps = [
-        expecting(assigned(&rt, NEW_YEAR, Some(FIRST)), 0, 0),
-        expecting(reading(&rt, SEVEN, 1_003_001), 0, 0),
-        expecting(reading(&rt, FIVE, 1_000_000), 1_500, 1_501),
-        expecting(reading(&rt, SIX, 1_001_000), 1_000, 2_001),
-        expecting(assigned(&rt, SIX + 1_800, Some(SECOND)), 1_000, 1_000),
-    ];
-    run(&rt, alloc, &mut book, &mut taken, &steps)?;
-    let both = energies(&rt, alloc, &mut book, Some(SECOND), Direction::Import)?;
-    assert_eq!(rt; both, (0, 1_001));
-    let steps = [expecting(assigned(&rt, SIX + 1_800, None), 1_000, 2_001)];
-    run(&rt, alloc, &mut book, &mut taken, &steps)?;
-    parts_agree_behind_each(&rt, alloc, &taken)
+    moved(&rt, rt.alloc(), &InMemory)?;
+    moved(&rt, rt.alloc(), &Counting)
 }

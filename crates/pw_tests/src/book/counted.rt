@@ -1,12 +1,10 @@
 //! The book over a store that counts its calls and rows, and over one whose device fails.
 
-use super::{
-    FIRST, FIVE, NEW_YEAR, SECOND, SEVEN, all_agree, assigned, book_over, imported, paid, post,
-    reading, takes, two_readings_told,
-};
-use crate::{Book, BookFault, PostFault};
+use super::{Books, Counting, InMemory, all_agree, imported, post, takes, two_readings_told};
+use crate::sample::{FIRST, FIVE, NEW_YEAR, SECOND, SEVEN, assigned, paid, reading};
+use pw_book::{Book, BookFault, PostFault};
 use pw_model::Entry;
-use pw_shelf::{CountShelf, MemoryShelf, Shelf};
+use pw_shelf::Shelf;
 use std::alloc::{AllocError, Global};
 use std::process::Abort;
 use std::test::Fail;
@@ -33,44 +31,86 @@ fn rising(
     Ok(entries)
 }
 
+// The calls and rows that these uploads take, one behind another, each of records that aren't held.
+fn seen_by<B: Books>(
+    rt: &impl Abort,
+    alloc: Global,
+    books: &B,
+    uploads: &[&[Entry]],
+) -> Result<u64, Fail> {
+    let mut book = books.failing(rt, alloc, 0, false)?;
+    for upload in uploads {
+        assert!(rt; upload.len() <= 2_000);
+        let fresh = upload.len() as u32;
+        takes(rt, alloc, &mut book, upload, (fresh, 0))?;
+    }
+    Ok(book.into_shelf().seen())
+}
+
 // The calls and rows that one more record takes over those held.
-fn cost_of(rt: &impl Abort, alloc: Global, held: &[Entry], fresh: Entry) -> Result<u64, Fail> {
-    let shelf = CountShelf::new(MemoryShelf::new(alloc));
-    let mut book = book_over(rt, alloc, shelf, 2_000)?;
-    let (taken, repeated) = post(rt, alloc, &mut book, held)?;
-    assert!(rt; held.len() <= 2_000);
-    assert_eq!(rt; (taken, repeated), (held.len() as u32, 0));
-    let before = book.shelf.seen();
-    assert_eq!(rt; post(rt, alloc, &mut book, &[fresh])?, (1, 0));
-    Ok(book.shelf.seen().saturating_sub(before))
+fn cost_of<B: Books>(
+    rt: &impl Abort,
+    alloc: Global,
+    books: &B,
+    held: &[Entry],
+    fresh: Entry,
+) -> Result<u64, Fail> {
+    let before = seen_by(rt, alloc, books, &[held])?;
+    let behind = seen_by(rt, alloc, books, &[held, &[fresh]])?;
+    Ok(behind.saturating_sub(before))
 }
 
 // The cost of a reading in the middle of so many.
-fn reading_cost(rt: &impl Abort, alloc: Global, number: u32) -> Result<u64, Fail> {
+fn reading_cost<B: Books>(
+    rt: &impl Abort,
+    alloc: Global,
+    books: &B,
+    number: u32,
+) -> Result<u64, Fail> {
     let half = number / 2;
     let from = MIDDLE.saturating_sub(half.saturating_mul(300));
     let held = rising(rt, alloc, from, number)?;
     let watt_hours = u64::from(half).saturating_mul(100).saturating_add(1_050);
-    cost_of(rt, alloc, &held, reading(rt, MIDDLE + 150, watt_hours))
+    cost_of(
+        rt,
+        alloc,
+        books,
+        &held,
+        reading(rt, MIDDLE + 150, watt_hours),
+    )
 }
 
 // The cost of an assignment with so many readings behind the next one.
-fn assignment_cost(rt: &impl Abort, alloc: Global, number: u32) -> Result<u64, Fail> {
+fn assignment_cost<B: Books>(
+    rt: &impl Abort,
+    alloc: Global,
+    books: &B,
+    number: u32,
+) -> Result<u64, Fail> {
     let mut held = rising(rt, alloc, MIDDLE, number.saturating_add(6))?;
     held.push(assigned(rt, MIDDLE + 1_700, Some(FIRST)))?;
-    cost_of(rt, alloc, &held, assigned(rt, MIDDLE + 400, Some(SECOND)))
+    cost_of(
+        rt,
+        alloc,
+        books,
+        &held,
+        assigned(rt, MIDDLE + 400, Some(SECOND)),
+    )
+}
+
+fn same_count<B: Books>(rt: &impl Abort, alloc: Global, books: &B) -> Result<(), Fail> {
+    let few = reading_cost(rt, alloc, books, 10)?;
+    assert!(rt; 0 < few);
+    assert_eq!(rt; reading_cost(rt, alloc, books, 1_000)?, few);
+    let few = assignment_cost(rt, alloc, books, 10)?;
+    assert!(rt; 0 < few);
+    assert_eq!(rt; assignment_cost(rt, alloc, books, 1_000)?, few);
+    Ok(())
 }
 
 #[test]
 fn same_count_among_few_and_many(rt: HostRuntime) -> Result<(), Fail> {
-    let alloc = rt.alloc();
-    let few = reading_cost(&rt, alloc, 10)?;
-    assert!(rt; 0 < few);
-    assert_eq!(rt; reading_cost(&rt, alloc, 1_000)?, few);
-    let few = assignment_cost(&rt, alloc, 10)?;
-    assert!(rt; 0 < few);
-    assert_eq!(rt; assignment_cost(&rt, alloc, 1_000)?, few);
-    Ok(())
+    same_count(&rt, rt.alloc(), &InMemory)
 }
 
 // The upload that fails: an owner, two readings and a payment.
@@ -79,7 +119,7 @@ fn upload(rt: &impl Abort) -> [Entry; 4] {
         assigned(rt, NEW_YEAR, Some(FIRST)),
         reading(rt, FIVE, 1_000_000),
         reading(rt, SEVEN, 1_003_001),
-        paid(rt, b"P1", 5_000),
+        paid(rt, b"P1", FIRST, 5_000),
     ]
 }
 
@@ -101,35 +141,31 @@ fn is_as_before<S: Shelf>(rt: &impl Abort, alloc: Global, book: &mut Book<S>) ->
 }
 
 // Takes one upload over a device that fails at a call, and again where nothing was begun: what it was first answered.
-fn taken_failing(
+fn taken_failing<S: Shelf>(
     rt: &impl Abort,
     alloc: Global,
-    fail_at: u32,
-    abandon_fails: bool,
+    book: &mut Book<S>,
 ) -> Result<Option<PostFault>, Fail> {
-    let shelf = CountShelf::failing(MemoryShelf::new(alloc), fail_at, abandon_fails);
-    let mut book = book_over(rt, alloc, shelf, 100)?;
-    match post(rt, alloc, &mut book, &upload(rt)) {
+    match post(rt, alloc, book, &upload(rt)) {
         Ok(accepted) => {
             assert_eq!(rt; accepted, (4, 0));
             Ok(None)
         }
         Err(fault) => {
             if fault == PostFault::Reopen {
-                is_shut(rt, alloc, &mut book)?;
+                is_shut(rt, alloc, book)?;
             } else {
-                is_as_before(rt, alloc, &mut book)?;
+                is_as_before(rt, alloc, book)?;
             }
             Ok(Some(fault))
         }
     }
 }
 
-#[test]
-fn failing_device(rt: HostRuntime) -> Result<(), Fail> {
-    let alloc = rt.alloc();
+fn fails_at_each<B: Books>(rt: &impl Abort, alloc: Global, books: &B) -> Result<(), Fail> {
     for fail_at in 1..200 {
-        let Some(fault) = taken_failing(&rt, alloc, fail_at, false)? else {
+        let mut book = books.failing(rt, alloc, fail_at, false)?;
+        let Some(fault) = taken_failing(rt, alloc, &mut book)? else {
             assert!(rt; fail_at > 20);
             return Ok(());
         };
@@ -139,11 +175,16 @@ fn failing_device(rt: HostRuntime) -> Result<(), Fail> {
 }
 
 #[test]
-fn failing_device_and_abandon(rt: HostRuntime) -> Result<(), Fail> {
-    let alloc = rt.alloc();
+fn failing_device(rt: HostRuntime) -> Result<(), Fail> {
+    fails_at_each(&rt, rt.alloc(), &InMemory)?;
+    fails_at_each(&rt, rt.alloc(), &Counting)
+}
+
+fn abandons_at_none<B: Books>(rt: &impl Abort, alloc: Global, books: &B) -> Result<(), Fail> {
     let mut begun = false;
     for fail_at in 1..200 {
-        let Some(fault) = taken_failing(&rt, alloc, fail_at, true)? else {
+        let mut book = books.failing(rt, alloc, fail_at, true)?;
+        let Some(fault) = taken_failing(rt, alloc, &mut book)? else {
             assert!(rt; begun);
             return Ok(());
         };
@@ -156,4 +197,10 @@ fn failing_device_and_abandon(rt: HostRuntime) -> Result<(), Fail> {
         assert_eq!(rt; fault, expected);
     }
     panic!(rt; "an upload takes fewer calls")
+}
+
+#[test]
+fn failing_device_and_abandon(rt: HostRuntime) -> Result<(), Fail> {
+    abandons_at_none(&rt, rt.alloc(), &InMemory)?;
+    abandons_at_none(&rt, rt.alloc(), &Counting)
 }

@@ -1,19 +1,14 @@
 //! The book from the bytes of uploads.
 
-use super::{FIRST, empty_book, money, two_readings_told};
-use crate::{Accepted, Book, PostFault};
-use pw_model::Entry;
+use super::{Books, Counting, InMemory, money, two_readings_told};
+use crate::sample::FIRST;
+use crate::uploads::{ASSIGNMENT, TOPUP, TWO_READINGS};
+use pw_book::{Accepted, Book, PostFault};
 use pw_record::{Cause, UploadFault, assignment_records, telegram_records, topup_records};
 use pw_shelf::Shelf;
 use std::alloc::Global;
+use std::process::Abort;
 use std::test::Fail;
-
-const TELEGRAMS: &[u8] =
-    b"/PWB5X\r\n\r\n0-0:1.0.0(240102060000W)\r\n0-0:96.1.1(4D31)\r\n1-0:1.8.1(001000.000*kWh)\r\n!1790\r\n/PWB5X\r\n\r\n0-0:1.0.0(240102080000W)\r\n0-0:96.1.1(4D31)\r\n1-0:1.8.1(001003.001*kWh)\r\n!C033\r\n";
-
-const ASSIGNMENTS: &[u8] = b"meter,start,account\n4D31,2024-01-01T00:00:00Z,A1\n";
-
-const TOPUPS: &[u8] = b"reference,account,cents,instant\nP1,A1,5000,2024-01-01T00:00:00Z\n";
 
 // The second row is of 0 cents.
 const FAULTY: &[u8] =
@@ -62,40 +57,50 @@ fn topups<S: Shelf>(alloc: Global, book: &mut Book<S>, body: &[u8]) -> Result<(u
     }
 }
 
+fn figures<S: Shelf>(rt: &impl Abort, alloc: Global, book: &mut Book<S>) -> Result<(), Fail> {
+    assert_eq!(rt; topups(alloc, book, TOPUP), Ok((1, 0)));
+    assert_eq!(rt; telegrams(alloc, book, TWO_READINGS), Ok((2, 0)));
+    assert_eq!(rt; assignments(alloc, book, ASSIGNMENT), Ok((1, 0)));
+    assert_eq!(rt; telegrams(alloc, book, TWO_READINGS), Ok((0, 2)));
+    two_readings_told(rt, alloc, book)?;
+    Ok(())
+}
+
 #[test]
 fn bodies_to_figures(rt: HostRuntime) -> Result<(), Fail> {
     let alloc = rt.alloc();
-    let mut book = empty_book(&rt, alloc, 100)?;
-    assert_eq!(rt; topups(alloc, &mut book, TOPUPS), Ok((1, 0)));
-    assert_eq!(rt; telegrams(alloc, &mut book, TELEGRAMS), Ok((2, 0)));
-    assert_eq!(rt; assignments(alloc, &mut book, ASSIGNMENTS), Ok((1, 0)));
-    assert_eq!(rt; telegrams(alloc, &mut book, TELEGRAMS), Ok((0, 2)));
-    two_readings_told(&rt, alloc, &mut book)?;
+    figures(&rt, alloc, &mut InMemory.empty(&rt, alloc, 100)?)?;
+    figures(&rt, alloc, &mut Counting.empty(&rt, alloc, 100)?)
+}
+
+fn header<S: Shelf>(rt: &impl Abort, alloc: Global, book: &mut Book<S>) -> Result<(), Fail> {
+    let told = assignments(alloc, book, b"meter,start,account\n");
+    assert_eq!(rt; told, Ok((0, 0)));
+    assert_eq!(rt; book.count()?, 0);
     Ok(())
 }
 
 #[test]
 fn header_alone(rt: HostRuntime) -> Result<(), Fail> {
     let alloc = rt.alloc();
-    let mut book = empty_book(&rt, alloc, 100)?;
-    assert_eq!(rt;
-        assignments(alloc, &mut book, b"meter,start,account\n"),
-        Ok((0, 0))
-    );
+    header(&rt, alloc, &mut InMemory.empty(&rt, alloc, 100)?)?;
+    header(&rt, alloc, &mut Counting.empty(&rt, alloc, 100)?)
+}
+
+fn no_row_kept<S: Shelf>(rt: &impl Abort, alloc: Global, book: &mut Book<S>) -> Result<(), Fail> {
+    let fault = UploadFault {
+        part: 2,
+        cause: Cause::Cents,
+    };
+    assert_eq!(rt; topups(alloc, book, FAULTY), Err(Refusal::Body(fault)));
     assert_eq!(rt; book.count()?, 0);
+    assert_eq!(rt; money(rt, alloc, book, FIRST)?, (0, 0));
     Ok(())
 }
 
 #[test]
 fn rows_before_a_faulty_one(rt: HostRuntime) -> Result<(), Fail> {
     let alloc = rt.alloc();
-    let mut book = empty_book(&rt, alloc, 100)?;
-    let fault = UploadFault {
-        part: 2,
-        cause: Cause::Cents,
-    };
-    assert_eq!(rt; topups(alloc, &mut book, FAULTY), Err(Refusal::Body(fault)));
-    assert_eq!(rt; book.count()?, 0);
-    assert_eq!(rt; money(&rt, alloc, &mut book, FIRST)?, (0, 0));
-    Ok(())
+    no_row_kept(&rt, alloc, &mut InMemory.empty(&rt, alloc, 100)?)?;
+    no_row_kept(&rt, alloc, &mut Counting.empty(&rt, alloc, 100)?)
 }

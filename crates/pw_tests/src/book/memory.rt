@@ -1,14 +1,11 @@
-//! The book with an allocation refused: what is right, or want of memory, and the next call is right. (To be run with the
-//! first allocation refused, with the second, and so on.)
+//! The book with an allocation refused: what is right, or want of memory, and the next call is right.
+//! (To be run with the first allocation refused, with the second, and so on.)
 
-use super::{
-    FIRST, FIVE, NEW_YEAR, OFFICE, SEVEN, SIX, all_agree, assigned, book_of, imported, lengths,
-    money, paid, post, reading,
-};
-use crate::{Book, BookFault, PostFault};
+use super::{Books, Counting, InMemory, all_agree, imported, lengths, money, post};
+use crate::sample::{FIRST, FIVE, NEW_YEAR, SEVEN, SIX, assigned, paid, reading};
+use pw_book::{Book, BookFault, PostFault};
 use pw_model::Entry;
-use pw_shelf::{MemoryShelf, Shelf};
-use pw_tariff::Office;
+use pw_shelf::Shelf;
 use std::alloc::Global;
 use std::process::Abort;
 use std::test::Fail;
@@ -42,27 +39,30 @@ fn told<S: Shelf>(rt: &impl Abort, alloc: Global, book: &mut Book<S>) -> Result<
     Ok(())
 }
 
-#[test]
-fn memory_refused(rt: HostRuntime) -> Result<(), Fail> {
-    let alloc = rt.alloc();
-    let Ok(office) = Office::read(alloc, OFFICE.as_bytes()) else {
+fn right_or_refused<B: Books>(rt: &impl Abort, alloc: Global, books: &B) -> Result<(), Fail> {
+    let Ok(mut book) = books.empty(rt, alloc, 100) else {
         return Ok(());
     };
-    let mut book = book_of(&rt, office, MemoryShelf::new(alloc), 100);
     let entries = [
-        reading(&rt, FIVE, 100_000),
-        reading(&rt, SIX, 50_000),
-        reading(&rt, SEVEN, 120_000),
-        assigned(&rt, NEW_YEAR, Some(FIRST)),
-        paid(&rt, b"P1", 2_000),
-        paid(&rt, b"P1", 3_000),
+        reading(rt, FIVE, 100_000),
+        reading(rt, SIX, 50_000),
+        reading(rt, SEVEN, 120_000),
+        assigned(rt, NEW_YEAR, Some(FIRST)),
+        paid(rt, b"P1", FIRST, 2_000),
+        paid(rt, b"P1", FIRST, 3_000),
     ];
     let (first, others) = entries.split_at(3);
-    posted_or_refused(&rt, alloc, &mut book, &[], first)?;
-    posted_or_refused(&rt, alloc, &mut book, first, others)?;
-    if let Err(fault) = told(&rt, alloc, &mut book) {
+    posted_or_refused(rt, alloc, &mut book, &[], first)?;
+    posted_or_refused(rt, alloc, &mut book, first, others)?;
+    if let Err(fault) = told(rt, alloc, &mut book) {
         assert_eq!(rt; fault, BookFault::Memory);
-        told(&rt, alloc, &mut book)?;
+        told(rt, alloc, &mut book)?;
     }
     Ok(())
+}
+
+#[test]
+fn memory_refused(rt: HostRuntime) -> Result<(), Fail> {
+    right_or_refused(&rt, rt.alloc(), &InMemory)?;
+    right_or_refused(&rt, rt.alloc(), &Counting)
 }

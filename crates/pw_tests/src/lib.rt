@@ -1,0 +1,10 @@
+//! Tests of the crates below by public calls alone: rows worked out by hand, texts that are refused, and memory,
+//! devices and wires that fail.
+#![tactic(auto)]
+
+#[cfg(test)]
+mod book;
+#[cfg(test)]
+mod sample;
+#[cfg(test)]
+mod uploads;

@@ -1,0 +1,176 @@
+//! The sample offices, and records of them on 2024-01-02, a Tuesday.
+
+ghost use Rattle.std.specs.Prelude.{◌↔◌, IsTrue};
+ghost use Rattle.pw_model.specs.Office.{AllOfOffice};
+ghost use Rattle.pw_tariff.specs.Office.{office_of};
+
+use pw_model::plain::{self, OfficeTerms};
+use pw_model::{Content, Entry, Key, Reference};
+use pw_obis::{Register, WattHours};
+use pw_tariff::{AccountId, BandId, MeterId, Office, Owner};
+use pw_time::{Instant, Zone};
+use std::process::Abort;
+
+/// 2024-01-02T05:00:00Z, and the hours behind it.
+pub const FIVE: u32 = 1_704_171_600;
+
+pub const SIX: u32 = FIVE + 3_600;
+
+pub const SEVEN: u32 = FIVE + 7_200;
+
+/// 2024-01-01T00:00:00Z.
+pub const NEW_YEAR: u32 = 1_704_067_200;
+
+pub const FIRST: AccountId = AccountId(0);
+
+pub const SECOND: AccountId = AccountId(1);
+
+pub const LOW: BandId = BandId(0);
+
+pub const HIGH: BandId = BandId(1);
+
+pub const METER: MeterId = MeterId(0);
+
+/// Two accounts, two bands, and three meters: one that marks its times, one on winter time and one on local time.
+pub const SAMPLE: &str = r#"accounts = ["A1", "A2"]
+week = [
+  "LLLLLLLHHHHHHHHHHHHHHHHL",
+  "LLLLLLLHHHHHHHHHHHHHHHHL",
+  "LLLLLLLHHHHHHHHHHHHHHHHL",
+  "LLLLLLLHHHHHHHHHHHHHHHHL",
+  "LLLLLLLHHHHHHHHHHHHHHHHL",
+  "LLLLLLLLLLLLLLLLLLLLLLLL",
+  "LLLLLLLLLLLLLLLLLLLLLLLL",
+]
+
+[[band]]
+name = "L"
+import = 200000
+export = 50000
+
+[[band]]
+name = "H"
+import = 300000
+export = 50000
+
+[[meter]]
+id = "4D31"
+clock = "marked"
+registers = ["I1", "I2", "E1", "E2"]
+
+[[meter]]
+id = "Z7"
+clock = "winter"
+registers = ["I0"]
+
+[[meter]]
+id = "Z8"
+clock = "local"
+registers = ["I0"]
+"#;
+
+/// Two accounts, two bands, and two meters of four registers.
+pub const TWO_METERS: &str = r#"accounts = ["A1", "A2"]
+week = [
+  "LLLLLLLHHHHHHHHHHHHHHHHL",
+  "LLLLLLLHHHHHHHHHHHHHHHHL",
+  "LLLLLLLHHHHHHHHHHHHHHHHL",
+  "LLLLLLLHHHHHHHHHHHHHHHHL",
+  "LLLLLLLHHHHHHHHHHHHHHHHL",
+  "LLLLLLLLLLLLLLLLLLLLLLLL",
+  "LLLLLLLLLLLLLLLLLLLLLLLL",
+]
+
+[[band]]
+name = "L"
+import = 200000
+export = 50000
+
+[[band]]
+name = "H"
+import = 300000
+export = 50000
+
+[[meter]]
+id = "4D31"
+clock = "marked"
+registers = ["I1", "I2", "E1", "E2"]
+
+[[meter]]
+id = "4D32"
+clock = "marked"
+registers = ["I1", "I2", "E1", "E2"]
+"#;
+
+/// Whether the entries are of an office.
+pub fn are_of_office(office: &Office, zone: &Zone, entries: &[Entry]) -> bool
+    ensures { IsTrue result ↔ AllOfOffice (office_of office.now) entries.now }
+{
+    let terms = OfficeTerms::new(office, zone);
+    plain::are_of_office(&terms, entries)
+}
+
+pub fn at(rt: &impl Abort, second: u32) -> Instant {
+    Instant::of(second).expect(rt, "an instant")
+}
+
+pub fn wh(rt: &impl Abort, watt_hours: u64) -> WattHours {
+    WattHours::of(watt_hours).expect(rt, "watt-hours")
+}
+
+pub fn shown(
+    rt: &impl Abort,
+    meter: MeterId,
+    register: Register,
+    second: u32,
+    watt_hours: u64,
+) -> Entry {
+    Entry {
+        key: Key::Reading {
+            meter,
+            register,
+            instant: at(rt, second),
+        },
+        content: Content::Reading {
+            wh: wh(rt, watt_hours),
+        },
+    }
+}
+
+/// A reading of the first register of the first meter.
+pub fn reading(rt: &impl Abort, second: u32, watt_hours: u64) -> Entry {
+    shown(rt, METER, Register::I1, second, watt_hours)
+}
+
+/// A reading of what it exports.
+pub fn exported(rt: &impl Abort, second: u32, watt_hours: u64) -> Entry {
+    shown(rt, METER, Register::E1, second, watt_hours)
+}
+
+/// An assignment of the first meter.
+pub fn assigned(rt: &impl Abort, second: u32, owner: Owner) -> Entry {
+    given(rt, METER, second, owner)
+}
+
+pub fn given(rt: &impl Abort, meter: MeterId, second: u32, owner: Owner) -> Entry {
+    Entry {
+        key: Key::Assignment {
+            meter,
+            start: at(rt, second),
+        },
+        content: Content::Assignment { owner },
+    }
+}
+
+pub fn paid(rt: &impl Abort, reference: &[u8], account: AccountId, cents: u32) -> Entry {
+    Entry {
+        key: Key::TopUp {
+            reference: Reference::of(reference).expect(rt, "a reference"),
+        },
+        content: Content::TopUp {
+            account,
+            cents,
+            instant: at(rt, NEW_YEAR),
+        },
+    }
+}
