@@ -1,5 +1,5 @@
 -- A store that was closed holds, when it is opened again, what was committed last.
-use Rattle.std.proofs.Common.{◌≡◌, ◌⊎◌, inl, inr, List, [], Result, Ok, Err, IfOk, sym, ap, ◌∙◌}
+use Rattle.std.proofs.Common.{◌≡◌, ◌⊎◌, inl, inr, [], Result, Ok, Err, IfOk, sym, ap, ◌∙◌}
 use Rattle.sqlite.specs.Schema.{Schema}
 use Rattle.pw_schema.specs.Tables.{IsOurs, no_schema, ours_with, checks_of}
 use Rattle.pw_model.specs.Shelf.{ShelfContent, no_content}

@@ -382,17 +382,13 @@ impl<S: Alter> Shelf for SqlShelf<S> {
                 )
             }
             TotalKey::TopUps { account } => {
-                let take = Change::TakePayment { account: *account };
-                if amount == 0 {
+                let account = *account;
+                let cents = amount;
+                let take = Change::TakePayment { account };
+                if cents == 0 {
                     return self.change(take);
                 }
-                self.replace(
-                    take,
-                    Change::PutPayment {
-                        account: *account,
-                        cents: amount,
-                    },
-                )
+                self.replace(take, Change::PutPayment { account, cents })
             }
         }
     }

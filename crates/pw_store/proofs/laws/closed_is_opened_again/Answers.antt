@@ -2,7 +2,6 @@ use Rattle.std.proofs.Common.{sym, subst}
 use Rattle.sqlite.specs.Held.{state}
 use Rattle.sqlite.specs.State.{HasCleanDisk}
 use Rattle.pw_shelf.specs.State.{committed}
-use Rattle.pw_schema.specs.Tables.{IsOurs}
 use Rattle.pw_store.specs.Content.{content_of}
 use Rattle.pw_store.specs.Kept.{CommittedIsStore, held_of, state_of}
 use Rattle.pw_store.proofs.Reopening.{reopened}

@@ -13,10 +13,10 @@ returns-then-amount-eq0-clause-put g c clean =
     let put = subst (λ n. OnOk c.change.result (new ≡ with_total old (total.Energy c.in-Energy.owner c.in-Energy.band c.in-Energy.direction) n)) (sym zero) (c.change.ensures.content clean) in
     subst (λ k. OnOk c.change.result (new ≡ with_total old k c.args.amount)) (sym c.in-Energy.is) put
 
-pub returns-then-amount-eq0-2-clause-put : goal.returns-then-amount-eq0-2-clause-put
-returns-then-amount-eq0-2-clause-put g c clean =
+pub returns-then-cents-eq0-clause-put : goal.returns-then-cents-eq0-clause-put
+returns-then-cents-eq0-clause-put g c clean =
     let old = held_of (state g.S.Store c.args.self.now.conn) (state g.S.Store c.args.self.now.base.value) in
-    let change = c.change-then-amount-eq0-2 in
+    let change = c.change-then-cents-eq0 in
     let new = held_of (state g.S.Store change.new.self.conn) (state g.S.Store change.new.self.base.value) in
     let zero : c.args.amount ≡ 0 = search rules in
     let put = subst (λ n. OnOk change.result (new ≡ with_total old (total.TopUps c.in-TopUps.account) n)) (sym zero) (change.ensures.content clean) in
