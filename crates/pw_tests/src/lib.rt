@@ -5,6 +5,10 @@
 #[cfg(test)]
 mod book;
 #[cfg(test)]
+mod memory_books;
+#[cfg(test)]
+mod report;
+#[cfg(test)]
 mod sample;
 #[cfg(test)]
 mod uploads;

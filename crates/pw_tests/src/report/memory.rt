@@ -1,10 +1,11 @@
-//! The pages with an allocation refused: the page, or want of memory, and the next call gives the page. (To be run with the
-//! first allocation refused, with the second, and so on.)
+//! The pages with an allocation refused: the page, or want of memory, and the next call gives the page.
+//! (To be run with the first allocation refused, with the second, and so on.)
 
-use super::telegrams::{BESIDE, BETWEEN, TWO_READINGS};
-use super::{FIRST, TOPUP, Upload, book_behind};
-use crate::{Page, page_text};
+use super::{Upload, book_behind};
+use crate::sample::FIRST;
+use crate::uploads::{BESIDE, BETWEEN, TOPUP, TWO_READINGS};
 use pw_book::{Book, BookFault};
+use pw_report::{Page, page_text};
 use pw_shelf::Shelf;
 use std::alloc::Global;
 use std::process::Abort;

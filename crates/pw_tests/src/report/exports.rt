@@ -1,9 +1,9 @@
 //! The exports, and what `csv` reads of them.
 
-use super::telegrams::{A_THIRD, BESIDE, BETWEEN, TWO_READINGS};
-use super::{TOPUP, Upload, book_behind, is};
-use crate::{export_energy, export_readings};
+use super::{Upload, book_behind, is};
+use crate::uploads::{A_THIRD, BESIDE, BETWEEN, TOPUP, TWO_READINGS};
 use csv::{ByteRecord, ReaderBuilder};
+use pw_report::{export_energy, export_readings};
 use std::alloc::Global;
 use std::test::Fail;
 

@@ -3,54 +3,15 @@
 mod exports;
 mod memory;
 mod tables;
-mod telegrams;
 
+use crate::memory_books::book_of;
+use crate::sample::SAMPLE;
+use crate::uploads::ASSIGNMENT;
 use pw_book::{Accepted, Book, PostFault};
 use pw_record::{UploadFault, assignment_records, telegram_records, topup_records};
 use pw_shelf::{MemoryShelf, Shelf};
-use pw_tariff::{AccountId, Office, OfficeFault};
-use pw_time::Zone;
+use pw_tariff::OfficeFault;
 use std::alloc::Global;
-
-const FIRST: AccountId = AccountId(0);
-
-const SECOND: AccountId = AccountId(1);
-
-const OFFICE: &str = r#"accounts = ["A1", "A2"]
-week = [
-  "LLLLLLLHHHHHHHHHHHHHHHHL",
-  "LLLLLLLHHHHHHHHHHHHHHHHL",
-  "LLLLLLLHHHHHHHHHHHHHHHHL",
-  "LLLLLLLHHHHHHHHHHHHHHHHL",
-  "LLLLLLLHHHHHHHHHHHHHHHHL",
-  "LLLLLLLLLLLLLLLLLLLLLLLL",
-  "LLLLLLLLLLLLLLLLLLLLLLLL",
-]
-
-[[band]]
-name = "L"
-import = 200000
-export = 50000
-
-[[band]]
-name = "H"
-import = 300000
-export = 50000
-
-[[meter]]
-id = "4D31"
-clock = "marked"
-registers = ["I1", "I2", "E1", "E2"]
-
-[[meter]]
-id = "Z7"
-clock = "winter"
-registers = ["I0"]
-"#;
-
-const ASSIGNMENT: &[u8] = b"meter,start,account\n4D31,2024-01-01T00:00:00Z,A1\n";
-
-const TOPUP: &[u8] = b"reference,account,cents,instant\nP1,A1,5000,2024-01-01T00:00:00Z\n";
 
 // An upload of one kind.
 #[derive(Clone, Copy)]
@@ -87,8 +48,7 @@ impl From<PostFault> for Refusal {
 }
 
 fn empty_book(alloc: Global) -> Result<Book<MemoryShelf>, Refusal> {
-    let office = Office::read(alloc, OFFICE.as_bytes())?;
-    Ok(Book::new(office, Zone::central(), MemoryShelf::new(alloc), 100))
+    Ok(book_of(alloc, SAMPLE, 100)?)
 }
 
 fn post<S: Shelf>(alloc: Global, book: &mut Book<S>, upload: Upload) -> Result<Accepted, Refusal> {

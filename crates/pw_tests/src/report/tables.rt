@@ -1,9 +1,10 @@
 //! The statement, and the tables.
 
-use super::telegrams::{A_THIRD, BESIDE, BETWEEN, FALL, RECOVERY, TWO_READINGS};
-use super::{FIRST, SECOND, TOPUP, Upload, book_behind, empty_book, is, post};
-use crate::{Page, accounts_table, disputes_table, falls_table, page_text, statement};
+use super::{Upload, book_behind, empty_book, is, post};
+use crate::sample::{FIRST, SECOND};
+use crate::uploads::{A_THIRD, BESIDE, BETWEEN, FALL, RECOVERY, TOPUP, TWO_READINGS};
 use pw_book::{Book, BookFault};
+use pw_report::{Page, accounts_table, disputes_table, falls_table, page_text, statement};
 use pw_shelf::Shelf;
 use pw_tariff::AccountId;
 use std::alloc::Global;
