@@ -11,4 +11,6 @@ mod report;
 #[cfg(test)]
 mod sample;
 #[cfg(test)]
+mod shelf;
+#[cfg(test)]
 mod uploads;

@@ -2,70 +2,21 @@
 
 ghost use Rattle.std.specs.Prelude.{◌≡◌, None, IsSome, OnOk};
 
-use crate::laws::memory_abandons;
-use crate::{AddFault, Contents, CountShelf, MemoryShelf, Shelf, ShelfFault, TotalKey, add_once};
-use pw_model::{Content, Entry, Key, Reference};
-use pw_obis::{Register, WattHours};
+use crate::sample::{FIRST, FIVE, METER, SECOND, SEVEN, SIX, assigned, at, paid, shown, wh};
+use pw_model::Entry;
+use pw_obis::Register;
+use pw_shelf::laws::memory_abandons;
+use pw_shelf::{
+    AddFault, Contents, CountShelf, MemoryShelf, Shelf, ShelfFault, TotalKey, add_once,
+};
 use pw_tariff::{AccountId, MeterId};
-use pw_time::Instant;
 use std::alloc::Global;
 use std::process::Abort;
 use std::test::Fail;
 
-// 2024-01-02T05:00:00Z, 06:00:00Z and 07:00:00Z
-const FIVE: u32 = 1_704_171_600;
-
-const SIX: u32 = FIVE + 3_600;
-
-const SEVEN: u32 = SIX + 3_600;
-
-const METER: MeterId = MeterId(0);
-
 const TOPUPS: TotalKey = TotalKey::TopUps {
     account: AccountId(0),
 };
-
-fn at(rt: &impl Abort, second: u32) -> Instant {
-    Instant::of(second).expect(rt, "an instant")
-}
-
-fn reading(rt: &impl Abort, register: Register, second: u32, watt_hours: u64) -> Entry {
-    Entry {
-        key: Key::Reading {
-            meter: METER,
-            register,
-            instant: at(rt, second),
-        },
-        content: Content::Reading {
-            wh: WattHours::of(watt_hours).expect(rt, "watt-hours"),
-        },
-    }
-}
-
-fn assigned(rt: &impl Abort, second: u32, account: u16) -> Entry {
-    Entry {
-        key: Key::Assignment {
-            meter: METER,
-            start: at(rt, second),
-        },
-        content: Content::Assignment {
-            owner: Some(AccountId(account)),
-        },
-    }
-}
-
-fn paid(rt: &impl Abort, reference: &[u8], cents: u32) -> Entry {
-    Entry {
-        key: Key::TopUp {
-            reference: Reference::of(reference).expect(rt, "a reference"),
-        },
-        content: Content::TopUp {
-            account: AccountId(0),
-            cents,
-            instant: at(rt, FIVE),
-        },
-    }
-}
 
 // Adds a record to the upload, if it is new and there is room.
 fn put<S: Shelf>(shelf: &mut S, entry: &Entry) -> Result<bool, ShelfFault>
@@ -159,26 +110,33 @@ fn added<S: Shelf>(shelf: &mut S, entry: &Entry) -> Result<bool, ShelfFault>
 fn each_call(rt: HostRuntime) -> Result<(), Fail> {
     let mut shelf = MemoryShelf::new(rt.alloc());
     let readings = [
-        reading(&rt, Register::I1, FIVE, 1_000_000),
-        reading(&rt, Register::I1, SIX, 1_001_000),
+        shown(&rt, METER, Register::I1, FIVE, 1_000_000),
+        shown(&rt, METER, Register::I1, SIX, 1_001_000),
     ];
-    let owner = assigned(&rt, FIVE, 1);
-    let topups = [paid(&rt, b"P1", 2_000), paid(&rt, b"P10", 5_000)];
+    let owner = assigned(&rt, FIVE, Some(SECOND));
+    let topups = [
+        paid(&rt, b"P1", FIRST, 2_000),
+        paid(&rt, b"P10", FIRST, 5_000),
+    ];
     uploaded(&mut shelf, &topups[1], &readings[1])?;
     uploaded(&mut shelf, &owner, &readings[0])?;
-    uploaded(&mut shelf, &topups[0], &reading(&rt, Register::I2, FIVE, 7))?;
+    uploaded(
+        &mut shelf,
+        &topups[0],
+        &shown(&rt, METER, Register::I2, FIVE, 7),
+    )?;
     disputed(
         &rt,
         &mut shelf,
-        &reading(&rt, Register::I1, FIVE, 1_000_500),
+        &shown(&rt, METER, Register::I1, FIVE, 1_000_500),
     )?;
     shelf.begin()?;
     memory_abandons(&mut shelf)?;
-    let exported = reading(&rt, Register::E1, FIVE, 1);
+    let exported = shown(&rt, METER, Register::E1, FIVE, 1);
     assert!(rt; added(&mut shelf, &exported)?);
     assert!(rt; !added(&mut shelf, &exported)?);
     found_at(&rt, &mut shelf, &readings[0])?;
-    never_at(&rt, &mut shelf, &assigned(&rt, SIX, 0))?;
+    never_at(&rt, &mut shelf, &assigned(&rt, SIX, Some(FIRST)))?;
     listed(&rt, rt.alloc(), &mut shelf, &readings, &owner, &topups)?;
     unlisted(&rt, rt.alloc(), &mut shelf)?;
     assert_eq!(rt; shelf.count()?, 7);
@@ -227,10 +185,10 @@ fn refused_memory_changes_nothing(rt: HostRuntime) -> Result<(), Fail> {
     added_or_refused(
         &rt,
         &mut shelf,
-        &reading(&rt, Register::I1, FIVE, 1_000_000),
+        &shown(&rt, METER, Register::I1, FIVE, 1_000_000),
     )?;
-    added_or_refused(&rt, &mut shelf, &assigned(&rt, FIVE, 1))?;
-    added_or_refused(&rt, &mut shelf, &paid(&rt, b"P1", 2_000))?;
+    added_or_refused(&rt, &mut shelf, &assigned(&rt, FIVE, Some(SECOND)))?;
+    added_or_refused(&rt, &mut shelf, &paid(&rt, b"P1", FIRST, 2_000))?;
     let before = shelf.count()?;
     one_or_refused(&rt, shelf.topups(rt.alloc()));
     one_or_refused(&rt, shelf.readings_of(rt.alloc(), METER, Register::I1));
@@ -239,20 +197,16 @@ fn refused_memory_changes_nothing(rt: HostRuntime) -> Result<(), Fail> {
     Ok(())
 }
 
-fn watt_hours(rt: &impl Abort, value: u64) -> WattHours {
-    WattHours::of(value).expect(rt, "watt-hours")
-}
-
 // Two points of a register, two starts of a meter and a total, in an upload of their own.
 fn kept<S: Shelf>(rt: &impl Abort, shelf: &mut S) -> Result<(), ShelfFault>
     requires { (S.state shelf.old).begun ≡ None }
     ensures { OnOk result ((S.state shelf.new).begun ≡ None) }
 {
     shelf.begin()?;
-    shelf.point_put(METER, Register::I1, at(rt, FIVE), watt_hours(rt, 7))?;
-    shelf.point_put(METER, Register::I1, at(rt, SIX), watt_hours(rt, 9))?;
-    shelf.point_put(METER, Register::I1, at(rt, FIVE), watt_hours(rt, 8))?;
-    shelf.point_put(METER, Register::I2, at(rt, FIVE), watt_hours(rt, 1))?;
+    shelf.point_put(METER, Register::I1, at(rt, FIVE), wh(rt, 7))?;
+    shelf.point_put(METER, Register::I1, at(rt, SIX), wh(rt, 9))?;
+    shelf.point_put(METER, Register::I1, at(rt, FIVE), wh(rt, 8))?;
+    shelf.point_put(METER, Register::I2, at(rt, FIVE), wh(rt, 1))?;
     shelf.start_put(METER, at(rt, FIVE), Some(AccountId(1)))?;
     shelf.start_put(METER, at(rt, SIX), None)?;
     shelf.total_put(&TOPUPS, 2_000)?;
@@ -277,8 +231,8 @@ fn given_up<S: Shelf>(rt: &impl Abort, shelf: &mut S) -> Result<(), ShelfFault>
 fn points_there<S: Shelf>(rt: &impl Abort, alloc: Global, shelf: &mut S) -> Result<(), ShelfFault>
     ensures { (S.state shelf.new).begun ≡ (S.state shelf.old).begun }
 {
-    let first = (at(rt, FIVE), watt_hours(rt, 8));
-    let second = (at(rt, SIX), watt_hours(rt, 9));
+    let first = (at(rt, FIVE), wh(rt, 8));
+    let second = (at(rt, SIX), wh(rt, 9));
     assert_eq!(rt;
         shelf.point_before(METER, Register::I1, at(rt, SIX))?,
         Some(first)
@@ -325,9 +279,9 @@ fn taken_away<S: Shelf>(rt: &impl Abort, shelf: &mut S) -> Result<(), ShelfFault
     ensures { (S.state shelf.new).begun ≡ (S.state shelf.old).begun }
 {
     shelf.point_del(METER, Register::I1, at(rt, FIVE))?;
-    shelf.point_put(METER, Register::I1, at(rt, FIVE), watt_hours(rt, 7))?;
+    shelf.point_put(METER, Register::I1, at(rt, FIVE), wh(rt, 7))?;
     shelf.point_del(METER, Register::I1, at(rt, FIVE))?;
-    shelf.point_put(METER, Register::I1, at(rt, SEVEN), watt_hours(rt, 10))?;
+    shelf.point_put(METER, Register::I1, at(rt, SEVEN), wh(rt, 10))?;
     shelf.point_del(METER, Register::I1, at(rt, SEVEN))?;
     shelf.start_put(METER, at(rt, FIVE), None)?;
     shelf.start_del(METER, at(rt, FIVE))?;
@@ -338,7 +292,7 @@ fn taken_away<S: Shelf>(rt: &impl Abort, shelf: &mut S) -> Result<(), ShelfFault
 fn later_there<S: Shelf>(rt: &impl Abort, alloc: Global, shelf: &mut S) -> Result<(), ShelfFault>
     ensures { (S.state shelf.new).begun ≡ (S.state shelf.old).begun }
 {
-    let second = (at(rt, SIX), watt_hours(rt, 9));
+    let second = (at(rt, SIX), wh(rt, 9));
     assert_eq!(rt; shelf.point_before(METER, Register::I1, at(rt, SIX))?, None);
     assert_eq!(rt;
         shelf.point_after(METER, Register::I1, at(rt, FIVE))?,
