@@ -12,6 +12,3 @@ mod told;
 mod totals;
 
 pub use parts::{Parts, true_parts};
-
-#[cfg(test)]
-mod tests;

@@ -1,12 +1,12 @@
 //! The parts of records, row by row.
 
-use super::{
-    FIRST, FIVE, HIGH, LOW, NEW_YEAR, SECOND, SEVEN, SIX, all_agree, assigned, imported, paid,
-    parts_of, reading, sample, shown, topped_up,
+use super::{all_agree, imported, parts_of, sample, topped_up};
+use crate::sample::{
+    FIRST, FIVE, HIGH, LOW, NEW_YEAR, SECOND, SEVEN, SIX, assigned, paid, reading, shown,
 };
-use crate::Parts;
 use pw_model::{Entry, TotalKey};
 use pw_obis::Register;
+use pw_parts::Parts;
 use pw_tariff::{Direction, MeterId};
 use std::alloc::Global;
 use std::process::Abort;

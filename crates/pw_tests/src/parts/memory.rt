@@ -1,9 +1,9 @@
-//! The parts with an allocation refused: they are right, or want of memory, and the next call is right. (To be run with the
-//! first allocation refused, with the second, and so on.)
+//! The parts with an allocation refused: they are right, or want of memory, and the next call is right.
+//! (To be run with the first allocation refused, with the second, and so on.)
 
-use super::{
-    FIRST, FIVE, HIGH, LOW, NEW_YEAR, OFFICE, SEVEN, SIX, all_agree, assigned, imported, paid,
-    parts_of, reading, topped_up,
+use super::{all_agree, imported, parts_of, topped_up};
+use crate::sample::{
+    FIRST, FIVE, HIGH, LOW, NEW_YEAR, SAMPLE, SEVEN, SIX, assigned, paid, reading,
 };
 use pw_tariff::Office;
 use pw_time::Zone;
@@ -12,7 +12,7 @@ use std::test::Fail;
 #[test]
 fn memory_refused(rt: HostRuntime) -> Result<(), Fail> {
     let alloc = rt.alloc();
-    let Ok(office) = Office::read(alloc, OFFICE.as_bytes()) else {
+    let Ok(office) = Office::read(alloc, SAMPLE.as_bytes()) else {
         return Ok(());
     };
     let zone = Zone::central();
