@@ -7,6 +7,8 @@ mod book;
 #[cfg(test)]
 mod memory_books;
 #[cfg(test)]
+mod model;
+#[cfg(test)]
 mod parts;
 #[cfg(test)]
 mod report;

@@ -1,8 +1,7 @@
 //! The texts and the order of references.
 
-use super::sample::{FIRST, paid};
-use crate::compare::{is_same_content, is_same_entry, is_same_key};
-use crate::reference::Reference;
+use crate::sample::{FIRST, paid};
+use pw_model::{Reference, is_same_content, is_same_entry, is_same_key};
 use std::cmp::Ordering;
 use std::test::Fail;
 

@@ -1,50 +1,17 @@
 //! The plain program over an office file.
 
-use super::sample::{
-    FIRST, FIVE, HIGH, LOW, NEW_YEAR, SEVEN, assigned, paid, reading, require_sound,
-};
-use crate::plain::{OfficeTerms, Terms, balance, energy};
+use super::terms::require_sound;
+use crate::sample::{FIRST, FIVE, HIGH, LOW, NEW_YEAR, SAMPLE, SEVEN, assigned, paid, reading};
+use pw_model::plain::{OfficeTerms, Terms, balance, energy};
 use pw_obis::Register;
 use pw_tariff::{BandId, Direction, MeterId, Office};
 use pw_time::Zone;
 use std::test::Fail;
 
-const OFFICE: &str = r#"accounts = ["A1", "A2"]
-week = [
-  "LLLLLLLHHHHHHHHHHHHHHHHL",
-  "LLLLLLLHHHHHHHHHHHHHHHHL",
-  "LLLLLLLHHHHHHHHHHHHHHHHL",
-  "LLLLLLLHHHHHHHHHHHHHHHHL",
-  "LLLLLLLHHHHHHHHHHHHHHHHL",
-  "LLLLLLLLLLLLLLLLLLLLLLLL",
-  "LLLLLLLLLLLLLLLLLLLLLLLL",
-]
-
-[[band]]
-name = "L"
-import = 200000
-export = 50000
-
-[[band]]
-name = "H"
-import = 300000
-export = 50000
-
-[[meter]]
-id = "4D31"
-clock = "marked"
-registers = ["I1", "I2", "E1", "E2"]
-
-[[meter]]
-id = "Z7"
-clock = "winter"
-registers = ["I0"]
-"#;
-
 #[test]
 fn two_readings_one_topup(rt: HostRuntime) -> Result<(), Fail> {
     let alloc = rt.alloc();
-    let office = Office::read(alloc, OFFICE.as_bytes())
+    let office = Office::read(alloc, SAMPLE.as_bytes())
         .ok()
         .ok_or("refused")?;
     let zone = Zone::central();
@@ -64,7 +31,7 @@ fn two_readings_one_topup(rt: HostRuntime) -> Result<(), Fail> {
         );
     }
     assert_eq!(rt; balance(alloc, &terms, &records, FIRST)?, 49_249_700_000);
-    assert!(rt; !terms.counts(MeterId(2), Register::I0));
+    assert!(rt; !terms.counts(MeterId(3), Register::I0));
     assert_eq!(rt; terms.price(BandId(2), Direction::Export), 0);
     Ok(())
 }

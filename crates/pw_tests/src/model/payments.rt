@@ -1,8 +1,8 @@
 //! Rows on top-ups, and what counts at a key.
 
-use super::sample::{FIRST, FIVE, NEW_YEAR, SECOND, assigned, paid, reading};
-use crate::plain::{contents_at, owner_at, topped_up};
-use crate::records::{Content, Contents};
+use crate::sample::{FIRST, FIVE, NEW_YEAR, SECOND, assigned, paid, reading};
+use pw_model::plain::{contents_at, owner_at, topped_up};
+use pw_model::{Content, Contents};
 use pw_tariff::MeterId;
 
 #[test]

@@ -2,13 +2,12 @@
 
 ghost use Rattle.std.specs.Prelude.{◌<◌};
 
-use super::sample::{
-    FIRST, FIVE, NEW_YEAR, SECOND, Sample, assigned, at, imported, nano, paid, reading, watt_hours,
-};
-use crate::plain::{
+use super::terms::{Sample, imported, nano};
+use crate::sample::{FIRST, FIVE, NEW_YEAR, SECOND, assigned, at, paid, reading, wh};
+use pw_model::plain::{
     are_of_office, contents_at, disputes, falls, owner_at, points_of, readings, topped_up,
 };
-use crate::records::{Content, Contents, Entry, Key};
+use pw_model::{Content, Contents, Entry, Key};
 use pw_obis::Register;
 use pw_tariff::MeterId;
 use std::alloc::Global;
@@ -118,7 +117,7 @@ fn other_reading(rt: &impl Abort, number: u32) -> Entry {
             instant: at(rt, FIVE + number % 10),
         },
         content: Content::Reading {
-            wh: watt_hours(rt, u64::from(number)),
+            wh: wh(rt, u64::from(number)),
         },
     }
 }

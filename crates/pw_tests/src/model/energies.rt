@@ -1,8 +1,7 @@
 //! Rows on energies and balances.
 
-use super::sample::{
-    FIRST, FIVE, NEW_YEAR, SECOND, SEVEN, SIX, assigned, imported, nano, paid, reading,
-};
+use super::terms::{imported, nano};
+use crate::sample::{FIRST, FIVE, NEW_YEAR, SECOND, SEVEN, SIX, assigned, paid, reading};
 use std::test::Fail;
 
 #[test]

@@ -1,10 +1,10 @@
 //! Rows on falls, disputes and readings.
 
-use super::sample::{
-    FIRST, FIVE, NEW_YEAR, SECOND, SEVEN, SIX, assigned, at, exported, paid, reading, watt_hours,
+use crate::sample::{
+    FIRST, FIVE, NEW_YEAR, SECOND, SEVEN, SIX, assigned, at, exported, paid, reading, wh,
 };
-use crate::plain::{disputes, falls, readings};
-use crate::records::{Dispute, Entry, Fall, ReadingRow};
+use pw_model::plain::{disputes, falls, readings};
+use pw_model::{Dispute, Entry, Fall, ReadingRow};
 use pw_obis::Register;
 use pw_tariff::MeterId;
 use std::process::Abort;
@@ -15,9 +15,9 @@ fn fall(rt: &impl Abort, register: Register, from: (u32, u64), to: (u32, u64)) -
         meter: MeterId(0),
         register,
         from: at(rt, from.0),
-        high: watt_hours(rt, from.1),
+        high: wh(rt, from.1),
         to: at(rt, to.0),
-        low: watt_hours(rt, to.1),
+        low: wh(rt, to.1),
     }
 }
 
@@ -94,10 +94,10 @@ fn readings_with_marks(rt: HostRuntime) -> Result<(), Fail> {
         reading(&rt, SIX, 1_001_000),
     ];
     let rows = readings(rt.alloc(), &records, MeterId(0), Register::I1)?;
-    let row = |second: u32, wh: u64, counted: bool| -> ReadingRow {
+    let row = |second: u32, number: u64, counted: bool| -> ReadingRow {
         ReadingRow {
             instant: at(&rt, second),
-            wh: watt_hours(&rt, wh),
+            wh: wh(&rt, number),
             counted,
         }
     };
