@@ -17,4 +17,6 @@ mod sample;
 #[cfg(test)]
 mod shelf;
 #[cfg(test)]
+mod tariff;
+#[cfg(test)]
 mod uploads;

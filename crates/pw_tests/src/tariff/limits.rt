@@ -1,6 +1,6 @@
 //! The largest office, and each limit one above.
 
-use crate::{Office, OfficeFault};
+use pw_tariff::{Office, OfficeFault};
 use std::alloc::{AllocError, Global};
 use std::test::Fail;
 

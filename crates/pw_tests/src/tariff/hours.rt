@@ -1,68 +1,23 @@
 //! Differences shared out by hours and owners' starts, against one second after another.
 
-ghost use Rattle.std.specs.Prelude.{◌<◌, ◌≤◌, IfOk};
-ghost use Rattle.pw_tariff.specs.Shares.{AreShares};
+ghost use Rattle.std.specs.Prelude.{◌≤◌, length};
+ghost use Rattle.pw_model.specs.Office.{AllOfOffice, most_records};
+ghost use Rattle.pw_tariff.specs.Office.{office_of};
 
 use super::files::hourly;
 use super::shares::{cell, span};
-use crate::cells::add;
-use crate::pieces::class_at;
-use crate::{AccountId, Cell, Office, Owner, Owners, Span, apportion};
-use pw_flow::plain::{Point, level_at};
+use crate::sample::{FIRST, HIGH, LOW, METER, SECOND, are_of_office, given, reading};
+use pw_model::Entry;
+use pw_model::plain::{OfficeTerms, energy};
+use pw_tariff::{AccountId, Cell, Direction, Office, Owner, Owners, Span, apportion};
 use pw_time::{Instant, Zone, utc};
 use std::alloc::{AllocError, Global};
+use std::process::Abort;
 use std::test::Fail;
 
-// What each owner gets in each band, as the definition says it: the flow of one second after another.
-#[tactic(auto, using(crate::proofs::Runs::rising))]
-fn by_seconds(
-    alloc: Global,
-    office: &Office,
-    zone: &Zone,
-    owners: &Owners,
-    span: Span,
-) -> Result<Vec<Cell>, AllocError>
-    requires earlier { span.from < span.to }
-    requires rising { span.low ≤ span.high }
-    ensures { IfOk result (λ cells. AreShares office.now owners.now span cells.items) }
-{
-    let from = Point {
-        at: span.from.seconds(),
-        watt_hours: span.low.get(),
-    };
-    let to = Point {
-        at: span.to.seconds(),
-        watt_hours: span.high.get(),
-    };
-    let mut cells = Vec::new(alloc);
-    let mut level = from.watt_hours;
-    for second in from.at..to.at {
-        let next = level_at(from, to, second + 1);
-        let wh = next - level;
-        let class = class_at(office, zone, owners, second);
-        if wh > 0 {
-            let share = Cell {
-                owner: class.owner,
-                band: class.band,
-                wh,
-            };
-            add(&mut cells, share)?;
-        }
-        level = next;
-    }
-    Ok(cells)
-}
-
-#[derive(Clone, Copy)]
-enum Way {
-    Hours,
-    Seconds,
-}
-
 // The cells of a span, in an office whose band changes with each hour, where they can be asked for.
-fn cells(
+fn by_hours(
     alloc: Global,
-    way: Way,
     starts: &[(Instant, Owner)],
     span: Option<Span>,
 ) -> Result<Option<Vec<Cell>>, Fail> {
@@ -76,11 +31,62 @@ fn cells(
     if span.from.seconds() >= span.to.seconds() || span.low.get() > span.high.get() {
         return Ok(None);
     }
-    let cells = match way {
-        Way::Hours => apportion(alloc, &office, &Zone::central(), &owners, span)?,
-        Way::Seconds => by_seconds(alloc, &office, &Zone::central(), &owners, span)?,
+    Ok(Some(apportion(alloc, &office, &Zone::central(), &owners, span)?))
+}
+
+// A meter's starts and the two readings of a span.
+fn records(
+    rt: &impl Abort,
+    alloc: Global,
+    starts: &[(Instant, Owner)],
+    span: Span,
+) -> Result<Vec<Entry>, AllocError> {
+    let mut entries = Vec::new(alloc);
+    for (start, owner) in starts {
+        entries.push(given(rt, METER, start.seconds(), *owner))?;
+    }
+    entries.push(reading(rt, span.from.seconds(), span.low.get()))?;
+    entries.push(reading(rt, span.to.seconds(), span.high.get()))?;
+    Ok(entries)
+}
+
+// What each owner imports in each band by the definition of energy, which adds up the flow of one second after another.
+fn shares(alloc: Global, office: &Office, entries: &[Entry]) -> Result<Vec<Cell>, AllocError>
+    requires entries { AllOfOffice (office_of office.now) entries.now }
+    requires few { length entries.now ≤ most_records }
+{
+    let zone = Zone::central();
+    let terms = OfficeTerms::new(office, &zone);
+    let mut cells = Vec::new(alloc);
+    for owner in [None, Some(FIRST), Some(SECOND)] {
+        for band in [LOW, HIGH] {
+            let wh = energy(alloc, &terms, entries, owner, band, Direction::Import)?;
+            if wh > 0 {
+                cells.push(Cell { owner, band, wh })?;
+            }
+        }
+    }
+    Ok(cells)
+}
+
+// The same cells, one second after another.
+fn by_seconds(
+    rt: &impl Abort,
+    alloc: Global,
+    starts: &[(Instant, Owner)],
+    span: Option<Span>,
+) -> Result<Option<Vec<Cell>>, Fail> {
+    let text = hourly(alloc)?;
+    let Ok(office) = Office::read(alloc, text.as_bytes()) else {
+        return Ok(None);
     };
-    Ok(Some(cells))
+    let Some(span) = span else {
+        return Ok(None);
+    };
+    let entries = records(rt, alloc, starts, span)?;
+    let of_office = are_of_office(&office, &Zone::central(), &entries);
+    assert!(rt; of_office && entries.len() <= 100);
+    Ok(Some(shares(alloc, &office, &entries)?))
 }
 
 // Both changes of the clocks of a year, some hours each side.
@@ -102,8 +108,8 @@ fn clock_changes(rt: HostRuntime) -> Result<(), Fail> {
     ];
     for (from, to, even, odd) in cases {
         let span = span(from.as_slice(), to.as_slice(), 0, 12_345);
-        let hours = cells(rt.alloc(), Way::Hours, &[], span)?.expect(&rt, "cells");
-        let seconds = cells(rt.alloc(), Way::Seconds, &[], span)?.expect(&rt, "cells");
+        let hours = by_hours(rt.alloc(), &[], span)?.expect(&rt, "cells");
+        let seconds = by_seconds(&rt, rt.alloc(), &[], span)?.expect(&rt, "cells");
         assert_eq!(rt;
             hours.as_slice(),
             [cell(None, 0, even), cell(None, 1, odd)].as_slice()
@@ -133,8 +139,8 @@ fn starts_within_hours(rt: HostRuntime) -> Result<(), Fail> {
         span(b"2024-10-26T22:30:00Z", b"2024-10-27T06:45:30Z", 0, 12_345),
     ];
     for span in spans {
-        let hours = cells(rt.alloc(), Way::Hours, &starts, span)?.expect(&rt, "cells");
-        let seconds = cells(rt.alloc(), Way::Seconds, &starts, span)?.expect(&rt, "cells");
+        let hours = by_hours(rt.alloc(), &starts, span)?.expect(&rt, "cells");
+        let seconds = by_seconds(&rt, rt.alloc(), &starts, span)?.expect(&rt, "cells");
         assert_eq!(rt; hours.as_slice(), seconds.as_slice());
     }
     Ok(())
@@ -164,8 +170,8 @@ fn short_spans(rt: HostRuntime) -> Result<(), Fail> {
         ),
     ];
     for span in spans {
-        let hours = cells(rt.alloc(), Way::Hours, &[], span)?.expect(&rt, "cells");
-        let seconds = cells(rt.alloc(), Way::Seconds, &[], span)?.expect(&rt, "cells");
+        let hours = by_hours(rt.alloc(), &[], span)?.expect(&rt, "cells");
+        let seconds = by_seconds(&rt, rt.alloc(), &[], span)?.expect(&rt, "cells");
         assert_eq!(rt; hours.as_slice(), seconds.as_slice());
     }
     Ok(())

@@ -1,5 +1,5 @@
 use Rattle.std.proofs.Common.{◌≡◌, length}
-use Rattle.pw_tariff.proofs.tests.files.all_names.Given as goal
+use Rattle.pw_tests.proofs.tariff.files.all_names.Given as goal
 
 abbrev pub invariant-loop-account : goal.invariant-loop-account
 invariant-loop-account l = record {

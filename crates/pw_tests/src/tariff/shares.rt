@@ -1,8 +1,8 @@
 //! Differences shared out.
 
-use super::files::sample;
-use crate::{AccountId, BandId, Cell, Office, Owner, Owners, Span, apportion};
+use crate::sample::SAMPLE;
 use pw_obis::WattHours;
+use pw_tariff::{AccountId, BandId, Cell, Office, Owner, Owners, Span, apportion};
 use pw_time::{Instant, Zone, utc};
 use std::alloc::Global;
 use std::test::Fail;
@@ -23,8 +23,7 @@ fn cells(
     starts: &[(Instant, Owner)],
     span: Option<Span>,
 ) -> Result<Option<Vec<Cell>>, Fail> {
-    let text = sample(alloc)?;
-    let Ok(office) = Office::read(alloc, text.as_bytes()) else {
+    let Ok(office) = Office::read(alloc, SAMPLE.as_bytes()) else {
         return Ok(None);
     };
     let (Some(owners), Some(span)) = (Owners::of(starts), span) else {
