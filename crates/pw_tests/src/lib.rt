@@ -11,6 +11,8 @@ mod model;
 #[cfg(test)]
 mod parts;
 #[cfg(test)]
+mod record;
+#[cfg(test)]
 mod report;
 #[cfg(test)]
 mod sample;

@@ -5,5 +5,5 @@ mod frames;
 mod memory;
 mod refusals;
 mod rows;
-mod sample;
+mod sending;
 mod telegrams;

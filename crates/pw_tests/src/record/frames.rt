@@ -1,16 +1,18 @@
 //! Bodies of telegrams and of readouts.
 
 use super::bodies::*;
-use super::sample::{FIVE, Path, gives, line_of, reading};
+use super::sending::{Path, gives, line_of};
 use super::telegrams::{ISKRA, KAIFA};
+use crate::sample::{FIVE, shown};
 use pw_obis::Register;
+use pw_tariff::MeterId;
 use std::test::Fail;
 
 #[test]
 fn telegrams_give_readings(rt: HostRuntime) -> Result<(), Fail> {
     let alloc = rt.alloc();
-    let first = reading(0, Register::I1, FIVE, 1_000_000)?;
-    let second = reading(0, Register::I1, FIVE, 1_000_001)?;
+    let first = shown(&rt, MeterId(0), Register::I1, FIVE, 1_000_000);
+    let second = shown(&rt, MeterId(0), Register::I1, FIVE, 1_000_001);
     assert!(rt; gives(alloc, Path::Telegrams, FIRST, &[first])?);
     assert!(rt; gives(alloc, Path::Telegrams, SMALL_LETTERS, &[first])?);
     assert!(rt; gives(alloc, Path::Telegrams, SMALL_ALONE, &[first])?);
@@ -32,7 +34,7 @@ fn obis_breadth(rt: HostRuntime) -> Result<(), Fail> {
         (LARGEST, 99_999_999_999),
     ];
     for (body, wh) in cases {
-        let entry = reading(0, Register::I1, FIVE, wh)?;
+        let entry = shown(&rt, MeterId(0), Register::I1, FIVE, wh);
         assert!(rt; gives(alloc, Path::Telegrams, body, &[entry])?);
     }
     Ok(())
@@ -44,14 +46,14 @@ fn real_telegrams(rt: HostRuntime) -> Result<(), Fail> {
     // 2016-11-13T19:57:57Z and 2017-01-02T18:20:02Z
     let (kaifa, iskra) = (1_479_067_077, 1_483_381_202);
     let wanted = [
-        reading(3, Register::I1, kaifa, 1_581_123)?,
-        reading(3, Register::I2, kaifa, 1_435_706)?,
-        reading(3, Register::E1, kaifa, 0)?,
-        reading(3, Register::E2, kaifa, 0)?,
-        reading(4, Register::I1, iskra, 4_426)?,
-        reading(4, Register::I2, iskra, 2_399)?,
-        reading(4, Register::E1, iskra, 2_444)?,
-        reading(4, Register::E2, iskra, 0)?,
+        shown(&rt, MeterId(3), Register::I1, kaifa, 1_581_123),
+        shown(&rt, MeterId(3), Register::I2, kaifa, 1_435_706),
+        shown(&rt, MeterId(3), Register::E1, kaifa, 0),
+        shown(&rt, MeterId(3), Register::E2, kaifa, 0),
+        shown(&rt, MeterId(4), Register::I1, iskra, 4_426),
+        shown(&rt, MeterId(4), Register::I2, iskra, 2_399),
+        shown(&rt, MeterId(4), Register::E1, iskra, 2_444),
+        shown(&rt, MeterId(4), Register::E2, iskra, 0),
     ];
     let mut body = Vec::from_slice(alloc, ISKRA)?;
     body.extend_from_slice(KAIFA)?;
@@ -135,8 +137,8 @@ fn frames_of_a_body(rt: HostRuntime) -> Result<(), Fail> {
 #[test]
 fn readouts(rt: HostRuntime) -> Result<(), Fail> {
     let alloc = rt.alloc();
-    let winter = reading(1, Register::I0, FIVE, 1_000_000)?;
-    let local = reading(2, Register::I0, FIVE, 1_000_000)?;
+    let winter = shown(&rt, MeterId(1), Register::I0, FIVE, 1_000_000);
+    let local = shown(&rt, MeterId(2), Register::I0, FIVE, 1_000_000);
     assert!(rt; gives(alloc, Path::Readouts(b"Z7"), READOUT, &[winter])?);
     assert!(rt; gives(alloc, Path::Readouts(b"Z8"), READOUT, &[local])?);
     let cases = [

@@ -1,16 +1,14 @@
-//! The sample office, and what it is asked.
+//! The sample office with the meters of real telegrams, and what it is asked.
 
-use crate::{
-    Content, Entry, Key, Reference, UploadFault, assignment_records, readout_records,
-    telegram_records, topup_records,
+use pw_record::{
+    Entry, UploadFault, assignment_records, readout_records, telegram_records, topup_records,
 };
-use pw_obis::{Register, WattHours};
-use pw_tariff::{AccountId, MeterId, Office, Owner};
-use pw_time::{Instant, Zone};
+use pw_tariff::Office;
+use pw_time::Zone;
 use std::alloc::Global;
 use std::test::Fail;
 
-const SAMPLE: &str = r#"accounts = ["A1", "A2"]
+const OFFICE: &str = r#"accounts = ["A1", "A2"]
 week = [
   "LLLLLLLHHHHHHHHHHHHHHHHL",
   "LLLLLLLHHHHHHHHHHHHHHHHL",
@@ -57,12 +55,6 @@ clock = "marked"
 registers = ["I1", "I2", "E1", "E2"]
 "#;
 
-/// 2024-01-02T05:00:00Z.
-pub const FIVE: u32 = 1_704_171_600;
-
-/// 2024-01-01T00:00:00Z.
-pub const NEW_YEAR: u32 = 1_704_067_200;
-
 /// Where a body is sent.
 #[derive(Clone, Copy)]
 pub enum Path<'a> {
@@ -78,14 +70,14 @@ pub fn send(
     path: Path,
     body: &[u8],
 ) -> Result<Result<Vec<Entry>, UploadFault>, Fail> {
-    let Ok(office) = Office::read(alloc, SAMPLE.as_bytes()) else {
+    let Ok(office) = Office::read(alloc, OFFICE.as_bytes()) else {
         return Err(Fail::from("no office"));
     };
-    Ok(given(alloc, &office, path, body))
+    Ok(records_of(alloc, &office, path, body))
 }
 
 /// What a body gives in an office.
-pub fn given(
+pub fn records_of(
     alloc: Global,
     office: &Office,
     path: Path,
@@ -114,39 +106,4 @@ pub fn gives(alloc: Global, path: Path, body: &[u8], wanted: &[Entry]) -> Result
         Ok(entries) => Ok(entries.as_slice() == wanted),
         Err(_) => Ok(false),
     }
-}
-
-pub fn instant(second: u32) -> Result<Instant, Fail> {
-    Ok(Instant::of(second).ok_or("no instant")?)
-}
-
-pub fn reading(meter: u16, register: Register, second: u32, wh: u64) -> Result<Entry, Fail> {
-    let key = Key::Reading {
-        meter: MeterId(meter),
-        register,
-        instant: instant(second)?,
-    };
-    let wh = WattHours::of(wh).ok_or("no energy")?;
-    let content = Content::Reading { wh };
-    Ok(Entry { key, content })
-}
-
-pub fn assignment(meter: u16, second: u32, owner: Owner) -> Result<Entry, Fail> {
-    let key = Key::Assignment {
-        meter: MeterId(meter),
-        start: instant(second)?,
-    };
-    let content = Content::Assignment { owner };
-    Ok(Entry { key, content })
-}
-
-pub fn top_up(reference: &[u8], account: u16, cents: u32) -> Result<Entry, Fail> {
-    let reference = Reference::of(reference).ok_or("no reference")?;
-    let key = Key::TopUp { reference };
-    let content = Content::TopUp {
-        account: AccountId(account),
-        cents,
-        instant: instant(NEW_YEAR)?,
-    };
-    Ok(Entry { key, content })
 }

@@ -1,7 +1,7 @@
 //! The refusals of a part behind the first, by their numbers.
 
 use super::bodies::{FIRST, READOUT};
-use super::sample::{Path, line_of};
+use super::sending::{Path, line_of};
 use std::test::Fail;
 
 // Each behind a telegram of 88 bytes.

@@ -1,7 +1,8 @@
 //! Bodies of assignment rows and of top-up rows.
 
-use super::sample::{NEW_YEAR, Path, assignment, gives, line_of, top_up};
-use pw_tariff::AccountId;
+use super::sending::{Path, gives, line_of};
+use crate::sample::{NEW_YEAR, given, paid};
+use pw_tariff::{AccountId, MeterId};
 use std::alloc::Global;
 use std::test::Fail;
 
@@ -24,8 +25,8 @@ fn assignments(rt: HostRuntime) -> Result<(), Fail> {
     let rows =
         b"4D31,2024-01-01T00:00:00Z,A1\nZ7,2024-01-01T00:00:00Z,\n4D31,2024-01-01T00:00:00Z,A1\n";
     let wanted = [
-        assignment(0, NEW_YEAR, Some(AccountId(0)))?,
-        assignment(1, NEW_YEAR, None)?,
+        given(&rt, MeterId(0), NEW_YEAR, Some(AccountId(0))),
+        given(&rt, MeterId(1), NEW_YEAR, None),
     ];
     let body = joined(alloc, ASSIGNMENTS, rows)?;
     assert!(rt; gives(alloc, Path::Assignments, &body, &wanted)?);
@@ -91,13 +92,26 @@ fn top_ups(rt: HostRuntime) -> Result<(), Fail> {
     // quoted fields, CR LF, blank lines, and a byte order mark
     let body =
         b"\xEF\xBB\xBF\"reference\",account,cents,instant\r\n\r\nP2,A2,100000000,2024-01-01T00:00:00Z\r\n\"P1\",\"A1\",\"5\",2024-01-01T00:00:00Z";
-    let wanted = [top_up(b"P1", 0, 5)?, top_up(b"P2", 1, 100_000_000)?];
+    let wanted = [
+        paid(&rt, b"P1", AccountId(0), 5),
+        paid(&rt, b"P2", AccountId(1), 100_000_000),
+    ];
     assert!(rt; gives(alloc, Path::TopUps, body, &wanted)?);
     let body = joined(alloc, TOP_UPS, ROW)?;
-    assert!(rt; gives(alloc, Path::TopUps, &body, &[top_up(b"P1", 0, 5)?])?);
+    assert!(rt;
+        gives(
+            alloc,
+            Path::TopUps,
+            &body,
+            &[paid(&rt, b"P1", AccountId(0), 5)]
+        )?
+    );
     // two contents of one reference are two entries
     let rows = b"P1,A1,3000,2024-01-01T00:00:00Z\nP1,A1,2000,2024-01-01T00:00:00Z\n";
-    let wanted = [top_up(b"P1", 0, 2_000)?, top_up(b"P1", 0, 3_000)?];
+    let wanted = [
+        paid(&rt, b"P1", AccountId(0), 2_000),
+        paid(&rt, b"P1", AccountId(0), 3_000),
+    ];
     let body = joined(alloc, TOP_UPS, rows)?;
     assert!(rt; gives(alloc, Path::TopUps, &body, &wanted)?);
     Ok(())

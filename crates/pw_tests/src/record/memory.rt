@@ -1,10 +1,11 @@
 //! Want of memory: where an allocation is refused, a body gives the same entries, or 62 with the part 0.
 
 use super::bodies::{FIRST, READOUT};
-use super::sample::{FIVE, NEW_YEAR, Path, assignment, given, reading, top_up};
-use crate::{Cause, Entry, UploadFault};
+use super::sending::{Path, records_of};
+use crate::sample::{FIVE, NEW_YEAR, given, paid, shown};
 use pw_obis::Register;
-use pw_tariff::Office;
+use pw_record::{Cause, Entry, UploadFault};
+use pw_tariff::{AccountId, MeterId, Office};
 use std::alloc::Global;
 use std::test::Fail;
 
@@ -33,7 +34,7 @@ fn gives_or_wants(
     body: &[u8],
     wanted: &[Entry],
 ) -> bool {
-    match given(alloc, office, path, body) {
+    match records_of(alloc, office, path, body) {
         Ok(entries) => entries.as_slice() == wanted,
         Err(fault) => {
             fault
@@ -51,15 +52,15 @@ fn memory_refused(rt: HostRuntime) -> Result<(), Fail> {
     let Ok(office) = Office::read(alloc, SMALL.as_bytes()) else {
         return Ok(());
     };
-    let first = [reading(0, Register::I1, FIVE, 1_000_000)?];
+    let first = [shown(&rt, MeterId(0), Register::I1, FIVE, 1_000_000)];
     assert!(rt; gives_or_wants(alloc, &office, Path::Telegrams, FIRST, &first));
-    let winter = [reading(1, Register::I0, FIVE, 1_000_000)?];
+    let winter = [shown(&rt, MeterId(1), Register::I0, FIVE, 1_000_000)];
     assert!(rt; gives_or_wants(alloc, &office, Path::Readouts(b"Z7"), READOUT, &winter));
     let body = b"meter,start,account\nZ7,2024-01-01T00:00:00Z,\n";
-    let nobody = [assignment(1, NEW_YEAR, None)?];
+    let nobody = [given(&rt, MeterId(1), NEW_YEAR, None)];
     assert!(rt; gives_or_wants(alloc, &office, Path::Assignments, body, &nobody));
     let body = b"reference,account,cents,instant\nP1,A1,5,2024-01-01T00:00:00Z\n";
-    let paid = [top_up(b"P1", 0, 5)?];
+    let paid = [paid(&rt, b"P1", AccountId(0), 5)];
     assert!(rt; gives_or_wants(alloc, &office, Path::TopUps, body, &paid));
     Ok(())
 }
