@@ -1,3 +1,2 @@
 pub mod Search
-pub mod Sample
 pub mod Keys

@@ -12,6 +12,3 @@ pub use compare::{
 };
 pub use records::{Content, Contents, Dispute, Entry, Fall, Key, ReadingRow, TotalKey};
 pub use reference::{LONGEST_REFERENCE, Reference};
-
-#[cfg(test)]
-mod tests;

@@ -14,6 +14,3 @@ mod totals;
 pub use counting::{counting_among, same_key_behind};
 pub use parts::{Parts, true_parts};
 pub use told::readings_shown;
-
-#[cfg(test)]
-mod tests;

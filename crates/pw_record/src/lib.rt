@@ -16,6 +16,3 @@ pub use fault::{Cause, UploadFault};
 pub use frames::{MOST_FRAMES, readout_records, telegram_records};
 pub use pw_model::{Content, Entry, Key, Reference};
 pub use rows::{MOST_ROWS, assignment_records, topup_records};
-
-#[cfg(test)]
-mod tests;

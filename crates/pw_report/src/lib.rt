@@ -21,6 +21,3 @@ pub use falls::falls_table;
 pub use page::{Page, page_text};
 pub use readings::export_readings;
 pub use statements::statement;
-
-#[cfg(test)]
-mod tests;

@@ -28,6 +28,3 @@ pub use once::{AddFault, add_once};
 pub use pw_model::{Contents, TotalKey};
 pub use shelf::Shelf;
 pub use tally::Tally;
-
-#[cfg(test)]
-mod tests;

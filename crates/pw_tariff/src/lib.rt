@@ -29,6 +29,3 @@ pub use office::Office;
 pub use owners::Owners;
 pub use spread::{Span, apportion};
 pub use walks::{AccountIds, BandIds, MeterIds};
-
-#[cfg(test)]
-mod tests;

@@ -1,9 +1,0 @@
-//! Worked examples: the entries and the refusals of bodies.
-
-mod bodies;
-mod frames;
-mod memory;
-mod refusals;
-mod rows;
-mod sample;
-mod telegrams;

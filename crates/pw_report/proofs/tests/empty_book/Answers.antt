@@ -1,8 +1,0 @@
-use Rattle.std.proofs.Common.{sym, subst}
-use Rattle.pw_tariff.specs.Office.{office_of}
-use Rattle.pw_model.specs.Shelf.{IsTrueContent}
-use Rattle.pw_model.proofs.Truth.{empty-true}
-use Rattle.pw_report.proofs.tests.empty_book.Goals as goal
-
-pub new-requires-2-clause-truth : goal.new-requires-2-clause-truth
-new-requires-2-clause-truth c = λ k. subst (IsTrueContent (office_of _)) (sym c.new.ensures.content) (empty-true (office_of _))

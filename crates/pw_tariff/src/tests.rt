@@ -1,6 +1,0 @@
-//! Worked rows.
-
-mod files;
-mod hours;
-mod limits;
-mod shares;
