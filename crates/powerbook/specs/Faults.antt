@@ -36,7 +36,7 @@ fault_status (fault.Office of_office) = office_status of_office
 fault_status fault.TooLarge = 1
 fault_status (fault.Upload of_upload) = cause_status of_upload.cause
 fault_status fault.NoSuchAccount = 1
-fault_status (fault.Store of_store) = 3
+fault_status (fault.Store of_opening) = 3
 fault_status (fault.Post of_post) = post_status of_post
 fault_status (fault.Book of_book) = 3
 fault_status (fault.Wire of_wire) = 3
@@ -49,7 +49,7 @@ fault_text (fault.Office of_office) = office_fault.office_fault_line of_office
 fault_text fault.TooLarge = codes "body too large"
 fault_text (fault.Upload of_upload) = upload_fault.fault_line of_upload
 fault_text fault.NoSuchAccount = codes "no such account"
-fault_text (fault.Store of_store) = store_fault.open_line of_store
+fault_text (fault.Store of_opening) = store_fault.open_line of_opening
 fault_text (fault.Post of_post) = book_fault.post_line of_post
 fault_text (fault.Book of_book) = book_fault.book_line of_book
 fault_text (fault.Wire of_wire) = wire_fault.wire_line of_wire
@@ -58,4 +58,4 @@ fault_text fault.Memory = codes "refused 62 Memory"
 
 -- its line is written, and its status answered; or the line couldn't be written, and 3 is
 abbrev pub IsTold : Fault → Option (List ℕ) → Option (List ℕ) → ℕ → Type 0
-IsTold given before after status = ((status ≡ fault_status given) × Appends before (fault_text given ++ codes "\n") after) ⊎ (status ≡ 3)
+IsTold given before after status = ((status ≡ fault_status given) × Appends before after (fault_text given ++ codes "\n")) ⊎ (status ≡ 3)

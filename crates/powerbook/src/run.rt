@@ -1,6 +1,10 @@
 //! The commands.
 
-ghost use Rattle.std.specs.Prelude.{◌≡◌, ◌≤◌};
+ghost use Rattle.std.specs.Prelude.{◌≡◌, List, Some, ℕ};
+ghost use Rattle.pw_read.specs.Run.{IsRun};
+ghost use Rattle.pw_time.specs.declared.zone.Clock.{Clock};
+ghost use Rattle.pw_words.specs.Words.{IsSound};
+ghost use Rattle.pw_words.specs.declared.commands.Command.TheVariants.{Read};
 
 use crate::fault::Fault;
 use crate::files::{LONGEST_BODY, LONGEST_OFFICE, read_file};
@@ -50,13 +54,18 @@ pub fn run<I: Read, O: Write, E: Write>(
     }
 }
 
+// Does what a command asks for, and answers the exit status.
 fn obey<I: Read, O: Write, E: Write>(
     rt: &HostRuntime,
     asked: Command<'_>,
     input: &mut I,
     out: &mut O,
     err: &mut E,
-) -> u8 {
+) -> u8
+    requires { IsSound asked }
+    ensures read { (clock : Clock) (body : List ℕ) → asked.entry ≡ Read clock → I.remaining input.old ≡ Some body →
+        IsRun clock body (O.contents out.old) (O.contents out.new) (E.contents err.old) (E.contents err.new) result }
+{
     match asked {
         Command::Read { clock } => read_run(rt.alloc(), clock, input, out, err),
         Command::Pipe { office: None, limit } => {
