@@ -1,10 +1,9 @@
 -- What the queries for one total give.
-use Rattle.std.proofs.Common.{◌≡◌, ◌≤◌, ◌<◌, inl, inr, ℕ, pos, List, [], ◌∷◌, map, find, length, Bool, true, false, cond, Option, option_map, unwrap_or, Some, None, Ok, Err, Result, Vec, IfOk, refl, sym, ap, subst₂, ◌∙◌, arith}
-use Rattle.std.specs.List.{AllByRecursion, filter}
+use Rattle.std.proofs.Common.{◌≡◌, ◌≤◌, ℕ, List, [], ◌∷◌, map, find, length, Bool, true, false, cond, Option, option_map, unwrap_or, Some, None, Ok, Err, Result, Vec, IfOk, refl, sym, ap, subst₂, ◌∙◌, arith}
+use Rattle.std.specs.List.{filter}
 use Rattle.std.specs.List.Sorted.{IsPermutation}
 use Rattle.std.proofs.lemmas.List.Sorted.{length_permutation}
 use Rattle.std.proofs.lemmas.List.{length-map}
-use Rattle.sqlite.specs.declared.types.Value.TheVariants.{Int}
 use Rattle.sqlite.specs.declared.error.Error.{Error}
 use Rattle.sqlite.specs.Order.{Row, column}
 use Rattle.sqlite.specs.Query.{Output, output}

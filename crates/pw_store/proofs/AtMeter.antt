@@ -20,7 +20,7 @@ use Rattle.pw_schema.specs.Rows.{number, register_at}
 use Rattle.pw_store.specs.Content.{records_of, reading_in, assignment_in, reading_tree, assignment_tree, IsReadingRow, IsAssignmentRow}
 use Rattle.pw_store.specs.Kept.{IsStore}
 use Rattle.pw_schema.specs.Rows.{contents_of, told_content}
-use Rattle.pw_schema.specs.declared.kind.RecordKind.TheVariants.{Readings, Assignments, TopUps}
+use Rattle.pw_schema.specs.declared.kind.RecordKind.TheVariants.{Readings, Assignments}
 use Rattle.pw_store.proofs.Texts.{reading_at_text, reading_at_query, reading_at_is, assignment_at_text, assignment_at_query, assignment_at_is}
 use Rattle.pw_store.proofs.Scans.{equal_ints, tied, scan_of}
 use Rattle.pw_store.proofs.Lists.{seen}

@@ -18,7 +18,7 @@ use Rattle.pw_schema.specs.Rows.{text}
 use Rattle.pw_store.specs.Content.{topup_in, topup_tree, records_of, reading_in, assignment_in, reading_tree, assignment_tree, IsTopupRow}
 use Rattle.pw_store.specs.Kept.{IsStore}
 use Rattle.pw_schema.specs.Rows.{contents_of, told_content}
-use Rattle.pw_schema.specs.declared.kind.RecordKind.TheVariants.{Readings, Assignments, TopUps}
+use Rattle.pw_schema.specs.declared.kind.RecordKind.TheVariants.{TopUps}
 use Rattle.pw_store.proofs.Texts.{topup_at_text, topup_at_query, topup_at_is}
 use Rattle.pw_store.proofs.Scans.{equal_texts, scan_of}
 use Rattle.pw_store.proofs.Lists.{seen, topup_records, records_topup}

@@ -1,5 +1,5 @@
 -- From rows that were read in the order of their keys to the rows of the tables.
-use Rattle.std.proofs.Common.{◌≡◌, ◌⊎◌, inl, inr, ℕ, ℤ, pos, List, [], ◌∷◌, map, Bool, true, false, Decides, Result, Ok, Err, Vec, IfOk, IfErr, OnOk, OnErr, refl, sym, ap, subst, subst₂, ◌∙◌, Ordering, Less, Equal, Greater}
+use Rattle.std.proofs.Common.{◌≡◌, ◌⊎◌, inl, inr, ℕ, ℤ, List, [], ◌∷◌, map, Bool, true, false, Decides, Result, Ok, Err, Vec, IfOk, IfErr, OnOk, OnErr, refl, sym, ap, subst, subst₂, ◌∙◌, Ordering, Less, Equal, Greater}
 use Rattle.std.specs.List.{AllByRecursion}
 use Rattle.std.specs.List.Sorted.{IsPermutation}
 use Rattle.std.proofs.lemmas.List.Sorted.{IsPermutation-sym, IsPermutation-map}
@@ -10,7 +10,7 @@ use Rattle.sqlite_trees.proofs.ListLemmas.{all_weaker, all-permutation, map-map}
 use Rattle.sqlite.specs.declared.types.Value.TheVariants.{Int}
 use Rattle.sqlite.specs.Order.{Row, column}
 use Rattle.sqlite.specs.Edit.{id_in}
-use Rattle.sqlite.specs.Tree.{Trees, rowid}
+use Rattle.sqlite.specs.Tree.{rowid}
 use Rattle.pw_tariff.specs.Office.{OfficeRules}
 use Rattle.pw_model.specs.declared.records.Key.{Key}
 use Rattle.pw_model.specs.declared.records.Entry.{Entry}
@@ -24,16 +24,16 @@ use Rattle.pw_shelf.specs.Changes.{same_total}
 use Rattle.pw_schema.specs.declared.kind.RecordKind.{RecordKind}
 use Rattle.pw_schema.specs.declared.kind.TotalKind.{TotalKind}
 use Rattle.pw_schema.specs.declared.kind.TotalKind.TheVariants.{Energies, Payments}
-use Rattle.pw_schema.specs.Rows.{told, Tells, told_key, told_amount, number}
+use Rattle.pw_schema.specs.Rows.{told, Tells, told_key, number}
 use Rattle.pw_schema.specs.Judging.{AreKept, AreTotals, AreRowids, IsRecord, IsTotal, IsTotalOf, by_key, by_total, id_of, told_total}
 use Rattle.pw_store.specs.declared.fault.OpenFault.{OpenFault}
 use Rattle.pw_store.specs.declared.fault.OpenFault.TheVariants.{Store, Memory, OfficeDiffers, Version, Unclean}
 use Rattle.pw_store.specs.Content.{payment_in}
 use Rattle.pw_store.specs.Keyed.{HasRowid}
-use Rattle.pw_store.specs.Shown.{entry_in, IsRowOf}
+use Rattle.pw_store.specs.Shown.{entry_in}
 use Rattle.pw_store.specs.inner.Lists.{shown}
 use Rattle.pw_store.specs.Opening.{HoldsKept, HoldsTotals, IsTotalRow, key_of_total}
-use Rattle.pw_store.specs.inner.Opened.{KeptRefuses, TotalsRefuse, amount_of_total}
+use Rattle.pw_store.specs.inner.Opened.{KeptRefuses, TotalsRefuse}
 use Rattle.pw_store.specs.inner.Sums.{AreNumbered, TellsKept, TellsTotals, shown_id, shown_total, total_in_row}
 use Rattle.pw_store.proofs.Others.{same_total-decides}
 use Rattle.pw_store.proofs.Lists.{told_permuted}

@@ -16,7 +16,8 @@ use Rattle.pw_shelf.specs.Left.{LeavesOnly}
 use Rattle.sqlite.specs.Order.{Row}
 use Rattle.pw_model.specs.declared.records.TotalKey.{TotalKey}
 use Rattle.pw_model.specs.declared.records.TotalKey.TheVariants as total
-use Rattle.pw_model.specs.Shelf.{no_content}
+use Rattle.pw_model.specs.Shelf.{IsTrueContent, no_content}
+use Rattle.pw_model.proofs.Truth.{empty-true}
 use Rattle.pw_store.specs.Content.{content_of, point_in, start_in, total_in, energy_told, payment_told}
 use Rattle.pw_store.specs.Kept.{IsStore, key_in_point, key_in_start, held_of, left_of}
 use Rattle.pw_store.specs.Keyed.{AreKeyed, IsEnergyRow, IsPaymentRow}
@@ -68,6 +69,7 @@ module _ (body : List ℕ) (db : Database) (fresh : IsFresh body db) where
     kept = (shown_office (office_row body) ∷ [], (subst (IsPermutation (offices db.trees)) fresh_offices (IsPermutation-refl (offices db.trees)), (shown_office (office_row body), refl, refl, refl)));
     of_office = λ e m. absurd (subst (Member e) fresh_records m);
     few = rw fresh_records (omega arith);
+    truth = subst (IsTrueContent office) (sym fresh_content) (empty-true office);
   }
 
 pub fresh_opened : (office : OfficeRules) (body : List ℕ) (old new : State) → IsIdleAt old → old.now.schema ≡ no_schema → IsFresh body new.now → IsIdleAt new → IsOpened office body old.committed new
@@ -95,3 +97,6 @@ open_content s base office body before it =
 
 pub open_few : (s base : State) (office : OfficeRules) (body : List ℕ) (before : Database) → IsOpened office body before s → length (held_of s base).records ≤ most_records
 open_few s base office body before it = subst (λ b. length (records_of (cond b s.now.trees base.committed.trees)) ≤ most_records) (sym it.is_open) it.may_open.few
+
+pub open_truth : (s base : State) (office : OfficeRules) (body : List ℕ) (before : Database) → IsOpened office body before s → IsTrueContent office (held_of s base)
+open_truth s base office body before it = subst (λ b. IsTrueContent office (content_of (cond b s.now.trees base.committed.trees))) (sym it.is_open) it.may_open.truth

@@ -1,5 +1,5 @@
 -- Seconds that are read one by one, and what a question finds behind a statement that changes nothing.
-use Rattle.std.proofs.Common.{◌≡◌, ◌<◌, ◌≤◌, ◌↔◌, ℕ, List, [], ◌∷◌, ◌++◌, map, length, Option, Some, None, Vec, Result, Ok, Err, IfOk, IfSome, refl, sym, ap, subst, ◌∙◌, inl, inr, nat_cmp, arith}
+use Rattle.std.proofs.Common.{◌≡◌, ◌<◌, ◌≤◌, ◌↔◌, ℕ, List, [], ◌∷◌, ◌++◌, map, length, Option, Some, None, Vec, Result, Ok, Err, IfOk, IfSome, refl, sym, ap, subst, ◌∙◌, inl, inr, arith}
 use Rattle.std.proofs.lemmas.List.{map-append}
 use Rattle.std.specs.Cmp.{ranked, nat_cmp_is}
 use Rattle.std.specs.declared.cmp.Ordering.TheVariants.{Less}
@@ -9,7 +9,7 @@ use Rattle.sqlite.specs.Effect.{Database}
 use Rattle.sqlite.specs.State.{State, IsUnchanged}
 use Rattle.pw_model.specs.Counting.{Member}
 use Rattle.pw_model.specs.Lists.{IsInOrder, IsBeforeAll}
-use Rattle.pw_shelf.specs.Seconds.{by_second, IsBefore, IsBehind, ListsSeconds, ListsSecondsWithin}
+use Rattle.pw_shelf.specs.Seconds.{by_second, ListsSeconds, ListsSecondsWithin}
 use Rattle.pw_store.specs.inner.Seconds.{first_amount, first_point}
 
 -- the last second of a list, if it has one

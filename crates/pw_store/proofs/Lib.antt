@@ -32,3 +32,8 @@ pub mod Counts
 pub mod SumTables
 pub mod Checked
 pub mod Openable
+pub mod KeyedRows
+pub mod OfParts
+pub mod Deciding
+pub mod Judged
+pub mod Reopening

@@ -1,5 +1,5 @@
 -- What the queries for points next to an instant, for points between two and for starts give.
-use Rattle.std.proofs.Common.{◌≡◌, ◌↔◌, ◌≤◌, ◌<◌, ◌+◌, ◌&&◌, inl, inr, ℕ, zero, suc, pos, List, [], ◌∷◌, map, find, take, length, codes, Bool, true, false, cond, Option, option_map, Some, None, Ok, Err, Result, Vec, IfOk, IsTrue, refl, sym, ap, subst, subst₂, ◌∙◌, nat_cmp, Ordering, Less, Equal, Greater, arith, add-one}
+use Rattle.std.proofs.Common.{◌≡◌, ◌↔◌, ◌≤◌, ◌<◌, ◌+◌, ◌&&◌, inl, inr, ℕ, pos, List, [], ◌∷◌, map, find, take, codes, Bool, true, false, cond, Option, option_map, Some, None, Ok, Err, Result, Vec, IfOk, refl, sym, ap, subst, subst₂, ◌∙◌, nat_cmp, Ordering, Less, Equal, Greater, arith, add-one}
 use Rattle.std.proofs.lemmas.Bool.{cases_Bool}
 use Rattle.std.specs.List.{AllByRecursion, list_all, filter}
 use Rattle.std.specs.List.Sorted.{IsPermutation, IsSorted}
@@ -10,7 +10,7 @@ use Rattle.sqlite.specs.declared.types.Value.TheVariants.{Int}
 use Rattle.sqlite.specs.declared.error.Error.{Error}
 use Rattle.sqlite.specs.Order.{Row, column, value_cmp}
 use Rattle.sqlite.specs.Ops.{binary, is_true, from_truth}
-use Rattle.sqlite.specs.Term.{Term, holds}
+use Rattle.sqlite.specs.Term.{holds}
 use Rattle.sqlite.specs.Query.{Query, Output, output, output_cmp}
 use Rattle.sqlite.specs.State.{State, Shown}
 use Rattle.sqlite_value.specs.declared.keys.Collation.TheVariants.{Binary}
@@ -20,7 +20,6 @@ use Rattle.sqlite_value.proofs.OrderLemmas.{value_cmp-Int, then-Equal}
 use Rattle.sqlite_trees.proofs.ListLemmas.{all-permutation, all-filter}
 use Rattle.pw_obis.specs.declared.reference.Register.{Register}
 use Rattle.pw_tariff.specs.declared.ids.AccountId.{AccountId}
-use Rattle.pw_tariff.specs.declared.ids.MeterId.{MeterId}
 use Rattle.pw_tariff.specs.Office.{register_place}
 use Rattle.pw_model.specs.declared.records.Key.{Key}
 use Rattle.pw_model.specs.declared.records.Key.TheVariants as key
@@ -33,10 +32,9 @@ use Rattle.pw_schema.specs.Rows.{number, register_at, owner_at}
 use Rattle.pw_store.specs.Content.{IsReadingRow, IsAssignmentRow, point_in, start_in}
 use Rattle.pw_store.specs.Kept.{IsStore, key_in_point, key_in_start}
 use Rattle.pw_store.specs.inner.Seconds.{point_told, start_told, first_point}
-use Rattle.pw_store.proofs.Texts.{IsQuery}
 use Rattle.pw_store.proofs.KeptTexts.{before_text, before_query, before_is, after_text, after_query, after_is, between_text, between_query, between_is, starts_text, starts_query, starts_is}
 use Rattle.pw_store.proofs.Once.{permuted}
-use Rattle.pw_store.proofs.Scans.{equal_ints, as_ints, tied, scan_of, outputs, passing, answer_of, IsScan}
+use Rattle.pw_store.proofs.Scans.{equal_ints, as_ints, tied, scan_of, outputs, answer_of, IsScan}
 use Rattle.pw_store.proofs.Lists.{seen}
 use Rattle.pw_store.proofs.Finding.{first, second, same_number, meter_of, register_of, second_of}
 use Rattle.pw_store.proofs.Adding.{register_back}

@@ -1,5 +1,5 @@
 -- A record that is held has a content of its key's kind.
-use Rattle.std.proofs.Common.{◌≡◌, ◌↔◌, ℕ, List, [], ◌∷◌, ◌++◌, map, Bool, true, false, IsTrue, Result, Ok, Err, IfOk, Option, Vec, refl, sym, ap, subst, inl, inr}
+use Rattle.std.proofs.Common.{◌≡◌, ◌↔◌, ℕ, List, [], ◌∷◌, map, Bool, true, false, IsTrue, Result, Ok, Err, IfOk, Option, Vec, refl, sym, ap, subst, inl, inr}
 use Rattle.sqlite.specs.declared.error.Error.{Error}
 use Rattle.sqlite.specs.Order.{Row}
 use Rattle.sqlite.specs.Tree.{Trees}

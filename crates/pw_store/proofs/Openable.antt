@@ -1,8 +1,7 @@
 -- A store of this office, version and text is refused only for the engine's sake, or for memory.
-use Rattle.std.proofs.Common.{◌≡◌, ◌⊎◌, inl, inr, List, [], ◌∷◌, refl, sym, subst, ◌∙◌}
+use Rattle.std.proofs.Common.{◌≡◌, inl, inr, List, [], ◌∷◌, refl, sym, subst, ◌∙◌}
 use Rattle.std.specs.List.Sorted.{IsPermutation}
 use Rattle.std.proofs.lemmas.List.Sorted.{IsPermutation-sym, IsPermutation-trans}
-use Rattle.sqlite.specs.declared.types.Value.{Value}
 use Rattle.sqlite.specs.Order.{Row, column}
 use Rattle.sqlite.proofs.Callers.{one_permutation}
 use Rattle.pw_store.specs.declared.fault.OpenFault.TheVariants.{Store, Memory, OfficeDiffers, Version, Unclean}
@@ -33,6 +32,6 @@ opens office body db Unclean it (inr r) = elim r.1 [
   | inl none ↦ absurd (let mine = it.text.1.1 in none.1.1 mine.0 (same_row _ it.text.0 none.0 mine.0 it.text.1.0 none.1.0 mine.1))
   | inr more ↦ elim more [
     | inl records ↦ absurd (records it.records)
-    | inr rest ↦ elim rest [ inl many ↦ absurd (it.few many) | inr sums ↦ absurd (sums it.sums) ]
+    | inr rest ↦ elim rest [ inl many ↦ absurd (it.few many) | inr last ↦ elim last [ inl sums ↦ absurd (sums it.sums) | inr untrue ↦ absurd (untrue it.truth) ] ]
   ]
 ]

@@ -1,5 +1,5 @@
 -- What a change of one table leaves of the others.
-use Rattle.std.proofs.Common.{◌≡◌, ◌≢◌, ◌<◌, ◌++◌, ℕ, Bool, true, false, cond, List, map, Option, Some, None, unwrap_or, refl, sym, subst, ap, ◌∙◌, inl, inr, Decides, arith}
+use Rattle.std.proofs.Common.{◌≡◌, ◌≢◌, ◌<◌, ℕ, Bool, true, false, cond, List, Option, unwrap_or, refl, sym, subst, ap, ◌∙◌, inl, inr, Decides, arith}
 use Rattle.std.proofs.lemmas.Bool.{cases_Bool}
 use Rattle.std.specs.Cmp.Lexicographic.{bytes_decides}
 use Rattle.std.proofs.lemmas.Bool.Decides.{Decides-like}
@@ -24,7 +24,7 @@ use Rattle.pw_model.specs.Counting.{IsInserted}
 use Rattle.pw_shelf.specs.State.{IsWithRecord}
 use Rattle.pw_schema.proofs.TotalKeys.{totals_one}
 use Rattle.pw_schema.specs.Tables.{IsOurs, ours_with, checks_of}
-use Rattle.pw_store.specs.Content.{content_of, records_of, reading_in, assignment_in, topup_in, energy_in, payment_in, IsReadingRow, IsAssignmentRow, IsTopupRow, point_in, start_in, total_in, energy_told, payment_told, reading_tree, assignment_tree, topup_tree, point_tree, start_tree, total_tree, payment_tree}
+use Rattle.pw_store.specs.Content.{content_of, records_of, energy_in, payment_in, IsReadingRow, IsAssignmentRow, IsTopupRow, point_in, start_in, total_in, energy_told, payment_told, reading_tree, assignment_tree, topup_tree, point_tree, start_tree, total_tree, payment_tree}
 
 -- the trees of points, starts and totals are the same
 pub record SameSums (old new : Trees) : Type 0 where

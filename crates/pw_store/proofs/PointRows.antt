@@ -1,5 +1,5 @@
 -- What DELETE and INSERT make of the points.
-use Rattle.std.proofs.Common.{◌≡◌, ℕ, ℤ, pos, List, [], ◌∷◌, ◌++◌, map, find, Bool, true, false, cond, not, ◌&&◌, Option, option_map, Some, None, Ok, Err, Result, OnOk, IsTrue, refl, sym, ap, subst, subst₂, ◌∙◌, nat_cmp, arith}
+use Rattle.std.proofs.Common.{◌≡◌, ℕ, pos, List, [], ◌∷◌, map, find, Bool, true, false, not, ◌&&◌, option_map, Some, None, Ok, Err, Result, OnOk, IsTrue, refl, sym, ap, subst, subst₂, ◌∙◌, nat_cmp, arith}
 use Rattle.std.specs.List.{AllByRecursion, list_all, filter}
 use Rattle.std.specs.List.Sorted.{IsPermutation}
 use Rattle.std.proofs.lemmas.List.Sorted.{IsPermutation-map}
@@ -9,7 +9,7 @@ use Rattle.sqlite.specs.declared.error.Error.{Error}
 use Rattle.sqlite.specs.Order.{Row, column}
 use Rattle.sqlite.specs.Term.{Term, holds}
 use Rattle.sqlite.specs.Table.{Table}
-use Rattle.sqlite.specs.Tree.{Trees, rowid, put_row}
+use Rattle.sqlite.specs.Tree.{rowid, put_row}
 use Rattle.sqlite.specs.Edit.{Applies, edit_of, id_in, is_taken, next_rowid}
 use Rattle.sqlite.specs.Rowids.TheVariants.{Given, Chosen}
 use Rattle.sqlite.specs.Source.TheVariants.{Values}
@@ -24,34 +24,26 @@ use Rattle.sqlite.proofs.Callers.{runs_as, statement_of}
 use Rattle.sqlite_rules.specs.Calls.{ids_of}
 use Rattle.sqlite_trees.proofs.ListLemmas.{map-map, filter_same, all_weaker}
 use Rattle.pw_obis.specs.declared.reference.Register.{Register}
-use Rattle.pw_tariff.specs.declared.ids.AccountId.{AccountId}
-use Rattle.pw_tariff.specs.declared.ids.BandId.{BandId}
-use Rattle.pw_tariff.specs.declared.ids.Direction.{Direction}
-use Rattle.pw_tariff.specs.declared.ids.Direction.TheVariants.{Import, Export}
 use Rattle.pw_tariff.specs.Office.{register_place}
-use Rattle.pw_tariff.specs.Cells.{owner_place}
-use Rattle.pw_model.specs.declared.records.Key.{Key}
 use Rattle.pw_model.specs.declared.records.Key.TheVariants as key
-use Rattle.pw_model.specs.declared.records.TotalKey.{TotalKey}
-use Rattle.pw_model.specs.declared.records.TotalKey.TheVariants as total
-use Rattle.pw_model.specs.Counting.{reading_key, assignment_key}
-use Rattle.pw_model.specs.Same.{same_key, direction_place}
+use Rattle.pw_model.specs.Counting.{reading_key}
+use Rattle.pw_model.specs.Same.{same_key}
 use Rattle.pw_model.proofs.Same.{same_key-decides}
-use Rattle.pw_shelf.specs.Changes.{same_total, points_with, starts_with, totals_with, with_point, with_start, with_total}
-use Rattle.pw_schema.specs.Tables.{ours_with, checks_of, point_at, start_at, total_at, total_topup_at}
-use Rattle.pw_schema.specs.Rows.{number, register_at, owner_at, direction_at}
+use Rattle.pw_shelf.specs.Changes.{points_with, with_point}
+use Rattle.pw_schema.specs.Tables.{ours_with, checks_of, point_at}
+use Rattle.pw_schema.specs.Rows.{number, register_at}
 use Rattle.pw_schema.proofs.Steps.{one_delete, one_insert, uncounted}
-use Rattle.pw_store.specs.Content.{reading_in, assignment_in, energy_in, payment_in, IsReadingRow, IsAssignmentRow, point_in, start_in, total_in, energy_told, payment_told}
-use Rattle.pw_store.specs.inner.Records.{reading_row, assignment_row}
-use Rattle.pw_store.specs.Keyed.{AreKeyed, HasRowid, IsEnergyRow, IsPaymentRow}
+use Rattle.pw_store.specs.Content.{energy_in, payment_in, IsReadingRow, IsAssignmentRow, point_in}
+use Rattle.pw_store.specs.inner.Records.{reading_row}
+use Rattle.pw_store.specs.Keyed.{AreKeyed, IsEnergyRow, IsPaymentRow}
 use Rattle.pw_store.specs.Kept.{IsStore, key_in_point, key_in_start}
 use Rattle.pw_store.specs.inner.Changing.{Makes}
-use Rattle.pw_store.proofs.Texts.{four_terms, three_terms}
+use Rattle.pw_store.proofs.Texts.{four_terms}
 use Rattle.pw_store.proofs.KeptTexts.{delete_point_text, delete_point_query, delete_point_is, insert_point_text, insert_point_is}
 use Rattle.pw_store.proofs.Scans.{equal_ints, tied, scans, scan_of, outputs, IsScan}
-use Rattle.pw_store.proofs.Finding.{first, second, same_number, meter_of, register_of, second_of, owner_one, place_one}
-use Rattle.pw_store.proofs.Adding.{cast_null, cast_int, register_back, owner_back, insert_inside}
-use Rattle.pw_store.proofs.Others.{AreElseSame, same_records, store_kept, same_total-decides, energies_with, payments_with, content_with_point, content_with_start, content_with_total}
+use Rattle.pw_store.proofs.Finding.{first, second, same_number, meter_of, register_of, second_of}
+use Rattle.pw_store.proofs.Adding.{cast_null, cast_int, register_back, insert_inside}
+use Rattle.pw_store.proofs.Others.{AreElseSame, same_records, store_kept, content_with_point}
 use Rattle.pw_store.proofs.KeptRows.{ids, leaves, find_gone, gone_told, put_told, keyed_gone, keyed_put}
 use Rattle.pw_store.proofs.Taking.{delete_inside, both_true, none_found}
 

@@ -1,5 +1,5 @@
 -- Why the rows of a table refuse an opening.
-use Rattle.std.proofs.Common.{◌≡◌, ◌⊎◌, inl, inr, ℕ, List, Result, Ok, Err, OnErr, IfErr, refl, sym, subst}
+use Rattle.std.proofs.Common.{◌≡◌, ◌⊎◌, inl, inr, List, Result, Ok, Err, OnErr, IfErr, refl}
 use Rattle.sqlite.specs.Order.{Row}
 use Rattle.sqlite.specs.Tree.{Trees}
 use Rattle.pw_tariff.specs.Office.{OfficeRules}
@@ -12,7 +12,7 @@ use Rattle.pw_store.specs.declared.fault.OpenFault.TheVariants.{Store, Memory, O
 use Rattle.pw_store.specs.inner.Opened.{TableRefuses}
 
 -- the rows of a table were judged
-pub table_cause : (office : OfficeRules) (k : RecordKind) (db : Trees) (rows : List Row) (r : Result (Unit {0}) OpenFault) → ShowsAll k db rows → (r ≡ Err Unclean → AreRecords office k rows → ⊥)
+pub table_cause : (office : OfficeRules) (k : RecordKind) (db : Trees) {A : Type 0} (rows : List Row) (r : Result A OpenFault) → ShowsAll k db rows → (r ≡ Err Unclean → AreRecords office k rows → ⊥)
     → OnErr r ((r ≡ Err Unclean) ⊎ ((r ≡ Err Memory) ⊎ (r ≡ Err Store))) → IfErr r (TableRefuses office k db)
 table_cause office k db rows (Ok u) shows foreign others = tt
 table_cause office k db rows (Err Store) shows foreign others = tt

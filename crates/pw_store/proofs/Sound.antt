@@ -1,7 +1,8 @@
 -- From rows that were read in order to the records of the tables, each once.
-use Rattle.std.proofs.Common.{◌≡◌, inl, inr, ℕ, ◌<◌, length, get_or, Result, Ok, Err, OnOk, List, [], ◌∷◌, ◌++◌, map, refl, sym, ap, subst, ◌∙◌, ◌≤◌}
+use Rattle.std.proofs.Common.{◌≡◌, inl, inr, Result, Ok, Err, Vec, IfOk, OnOk, List, [], ◌∷◌, ◌++◌, map, refl, sym, ap, subst, ◌∙◌}
 use Rattle.std.specs.List.{AllByRecursion}
-use Rattle.std.proofs.lemmas.List.Sorted.{IsPermutation-sym}
+use Rattle.std.specs.List.Sorted.{IsPermutation}
+use Rattle.std.proofs.lemmas.List.Sorted.{IsPermutation-sym, IsPermutation-append}
 use Rattle.sqlite_trees.proofs.ListLemmas.{all_weaker, all-permutation}
 use Rattle.sqlite.specs.Order.{Row}
 use Rattle.sqlite.specs.Tree.{Trees}
@@ -12,21 +13,20 @@ use Rattle.pw_model.specs.declared.records.Key.{Key}
 use Rattle.pw_model.specs.declared.records.Key.TheVariants as key
 use Rattle.pw_model.specs.declared.records.Entry.{Entry}
 use Rattle.pw_model.specs.Counting.{Member, EachOnce}
-use Rattle.pw_model.specs.Office.{AllOfOffice, IsOfOffice, most_records}
+use Rattle.pw_model.specs.Office.{AllOfOffice, IsOfOffice}
 use Rattle.pw_schema.specs.declared.kind.RecordKind.{RecordKind}
 use Rattle.pw_schema.specs.declared.kind.RecordKind.TheVariants.{Readings, Assignments, TopUps}
 use Rattle.pw_schema.specs.Tables.{IsOurs}
-use Rattle.pw_store.specs.Content.{records_of, point_tree, start_tree, total_tree, payment_tree}
+use Rattle.pw_store.specs.Content.{records_of, total_tree, payment_tree}
 use Rattle.pw_store.specs.Kept.{IsStore}
 use Rattle.pw_store.specs.Shown.{IsRowOf, entries_of, entry_in, tree_of}
 use Rattle.pw_store.specs.inner.Lists.{ShowsAll, shown}
 use Rattle.pw_schema.specs.Rows.{Tells, told}
-use Rattle.pw_schema.specs.Judging.{AreRecords, IsRecord, IsTotalOf, KeepsOffice}
+use Rattle.pw_schema.specs.Judging.{AreRecords, IsRecord, IsTotalOf}
 use Rattle.pw_schema.specs.declared.kind.TotalKind.TheVariants.{Energies, Payments}
 use Rattle.pw_store.specs.Keyed.{IsEnergyRow, IsPaymentRow}
 use Rattle.pw_store.specs.inner.Sums.{AreAllNumbered}
-use Rattle.pw_store.specs.Opening.{HoldsRecords, HoldsAllRecords, HoldsSums, IsTotalRow, KeepsText, key_of_total}
-use Rattle.pw_store.specs.inner.Opened.{MayOpen}
+use Rattle.pw_store.specs.Opening.{HoldsRecords, HoldsAllRecords, HoldsSums, IsTotalRow, key_of_total}
 use Rattle.pw_store.proofs.Once.{once-permuted, permuted}
 use Rattle.pw_store.proofs.Lists.{told_permuted, member_in}
 
@@ -99,7 +99,7 @@ once_both (x ∷ xs) ys a b apart = (
   once_both xs ys a.1 b (λ y m n. apart y (inr m) n),
 )
 
-all_both : (office : OfficeRules) (xs ys : List Entry) → AllOfOffice office xs → AllOfOffice office ys → AllOfOffice office (xs ++ ys)
+pub all_both : (office : OfficeRules) (xs ys : List Entry) → AllOfOffice office xs → AllOfOffice office ys → AllOfOffice office (xs ++ ys)
 all_both office xs ys a b e m = elim (member_in e xs ys m) [ inl i ↦ a e i | inr j ↦ b e j ]
 
 module _ (office : OfficeRules) (db : Database) (ours : IsOurs db.schema) (r : HoldsRecords office Readings db.trees) (a : HoldsRecords office Assignments db.trees) (t : HoldsRecords office TopUps db.trees) (s : HoldsSums office db.trees) (n : AreAllNumbered db.trees) where
@@ -124,35 +124,31 @@ module _ (office : OfficeRules) (db : Database) (ours : IsOurs db.schema) (r : H
   pub sound_office : AllOfOffice office (records_of db.trees)
   sound_office = all_both office (entries_of Readings db.trees) (entries_of Assignments db.trees ++ entries_of TopUps db.trees) r.of_office (all_both office (entries_of Assignments db.trees) (entries_of TopUps db.trees) a.of_office t.of_office)
 
-pub good_if : {E : Type 0} (office : OfficeRules) (k : RecordKind) (db db' : Trees) (rows : List Row) (r : Result (Unit {0}) E) → ShowsAll k db rows → db' ≡ db → OnOk r (AreRecords office k rows) → OnOk r (HoldsRecords office k db')
-good_if office k db db' rows (Ok u) shows same good = subst (HoldsRecords office k) (sym same) (good_records office k db rows shows good)
-good_if office k db db' rows (Err e) shows same good = tt
+pub good_if : {A E : Type 0} (office : OfficeRules) (k : RecordKind) (db : Trees) (rows : List Row) (r : Result A E) → ShowsAll k db rows → OnOk r (AreRecords office k rows) → OnOk r (HoldsRecords office k db)
+good_if office k db rows (Ok u) shows good = good_records office k db rows shows good
+good_if office k db rows (Err e) shows good = tt
 
-trees_is : (old new : State) → IsUnchanged old new → new.now.trees ≡ old.now.trees
+pub listed_if : {Z E : Type 0} (k : RecordKind) (db : Trees) (rows shown_rows : List Row) (r : Result (Vec Entry Z) E) → ShowsAll k db rows → shown_rows ≡ rows → IfOk r (λ found. found.items ≡ map (told k) shown_rows) → IfOk r (λ found. IsPermutation (entries_of k db) found.items)
+listed_if k db rows shown_rows (Ok v) shows is read = subst (IsPermutation (entries_of k db)) (sym (read ∙ ap (map (told k)) is)) (told_permuted k (db (tree_of k)) rows shows)
+listed_if k db rows shown_rows (Err e) shows is read = tt
+
+pub trees_is : (old new : State) → IsUnchanged old new → new.now.trees ≡ old.now.trees
 trees_is old new u = ap (λ (d : Database). d.trees) u.0.now_is
 
-pub records_if : {E : Type 0} (office : OfficeRules) (s0 s1 s2 s3 : State) (r : Result (Unit {0}) E) → IsUnchanged s1 s2 → OnOk r (IsUnchanged s2 s3)
-    → HoldsRecords office Readings s1.now.trees → HoldsRecords office Assignments s2.now.trees → OnOk r (HoldsRecords office TopUps s3.now.trees)
-    → OnOk r (HoldsAllRecords office s3.now.trees)
-records_if office s0 s1 s2 s3 (Err e) b c rs ss ts = tt
-records_if office s0 s1 s2 s3 (Ok u) b c rs ss ts = record {
-  readings = subst (HoldsRecords office Readings) (sym (trees_is s2 s3 c ∙ trees_is s1 s2 b)) rs;
-  assignments = subst (HoldsRecords office Assignments) (sym (trees_is s2 s3 c)) ss;
-  topups = ts;
+-- the three kinds, read one after the other
+pub all_hold : (office : OfficeRules) (s0 s1 s2 : State) → IsUnchanged s0 s1 → IsUnchanged s1 s2 → HoldsRecords office Readings s0.now.trees → HoldsRecords office Assignments s1.now.trees → HoldsRecords office TopUps s2.now.trees
+    → HoldsAllRecords office s0.now.trees
+all_hold office s0 s1 s2 a b rs ss ts = record {
+  readings = rs;
+  assignments = subst (HoldsRecords office Assignments) (trees_is s0 s1 a) ss;
+  topups = subst (HoldsRecords office TopUps) (trees_is s1 s2 b ∙ trees_is s0 s1 a) ts;
 }
 
--- what was checked may be opened
-pub checked : (office : OfficeRules) (body : List ℕ) (s0 s1 s2 s3 s4 : State) → IsOurs s0.now.schema → IsUnchanged s0 s1 → IsUnchanged s1 s2 → IsUnchanged s2 s3 → IsUnchanged s3 s4
-    → KeepsText (KeepsOffice body) s1.now.trees → HoldsAllRecords office s2.now.trees → length (records_of s2.now.trees) ≤ most_records → HoldsSums office s3.now.trees → AreAllNumbered s3.now.trees → MayOpen office body s4.now
-checked office body s0 s1 s2 s3 s4 ours a b c d text records few sums numbered =
-    let has : IsOurs s4.now.schema = subst IsOurs (sym (ap (λ (d : Database). d.schema) (d.0.now_is ∙ c.0.now_is ∙ b.0.now_is ∙ a.0.now_is))) ours in
-    let late = trees_is s3 s4 d ∙ trees_is s2 s3 c in
-    let rs = subst (HoldsAllRecords office) (sym late) records in
-    let ss = subst (HoldsSums office) (sym (trees_is s3 s4 d)) sums in
-    let ns = subst AreAllNumbered (sym (trees_is s3 s4 d)) numbered in
-    record {
-      store = sound_store office s4.now has rs.readings rs.assignments rs.topups ss ns;
-      kept = subst (KeepsText (KeepsOffice body)) (sym (late ∙ trees_is s1 s2 b)) text;
-      of_office = sound_office office s4.now has rs.readings rs.assignments rs.topups ss ns;
-      few = subst (λ (db : Trees). length (records_of db) ≤ most_records) (sym late) few;
-    }
+pub all_listed : (s0 s1 s2 : State) (rs ss ts all : List Entry) → IsUnchanged s0 s1 → IsUnchanged s1 s2 → IsPermutation (entries_of Readings s0.now.trees) rs → IsPermutation (entries_of Assignments s1.now.trees) ss → IsPermutation (entries_of TopUps s2.now.trees) ts
+    → all ≡ rs ++ (ss ++ ts) → IsPermutation (records_of s0.now.trees) all
+all_listed s0 s1 s2 rs ss ts all a b p q r is =
+    let db = s0.now.trees in
+    let second : IsPermutation (entries_of Assignments db) ss = subst (λ d. IsPermutation (entries_of Assignments d) ss) (trees_is s0 s1 a) q in
+    let third : IsPermutation (entries_of TopUps db) ts = subst (λ d. IsPermutation (entries_of TopUps d) ts) (trees_is s1 s2 b ∙ trees_is s0 s1 a) r in
+    subst (IsPermutation (records_of db)) (sym is)
+    (IsPermutation-append (entries_of Readings db) rs (entries_of Assignments db ++ entries_of TopUps db) (ss ++ ts) p (IsPermutation-append (entries_of Assignments db) ss (entries_of TopUps db) ts second third))

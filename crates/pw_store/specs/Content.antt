@@ -1,15 +1,12 @@
 -- What the tables hold.
 -- (A format of this project. Trees are numbered by the place of their object in the file's list of objects.)
-use Rattle.std.specs.Prelude.{◌≡◌, ℕ, pos, Bool, Option, Some, List, [], ◌∷◌, ◌++◌, map, find, option_map, unwrap_or}
+use Rattle.std.specs.Prelude.{◌≡◌, ℕ, pos, Option, List, ◌++◌, map, find, option_map, unwrap_or}
 use Rattle.sqlite.specs.declared.types.Value.TheVariants.{Int, Text}
 use Rattle.sqlite.specs.Order.{Row, column}
 use Rattle.sqlite.specs.Tree.{Trees}
 use Rattle.pw_obis.specs.declared.reference.Register.{Register}
 use Rattle.pw_tariff.specs.declared.ids.AccountId.{AccountId}
-use Rattle.pw_tariff.specs.declared.ids.BandId.{BandId}
-use Rattle.pw_tariff.specs.declared.ids.MeterId.{MeterId}
 use Rattle.pw_tariff.specs.Office.{register_place}
-use Rattle.pw_model.specs.declared.records.Key.{Key}
 use Rattle.pw_model.specs.declared.records.Key.TheVariants as key
 use Rattle.pw_model.specs.declared.records.Content.TheVariants as content
 use Rattle.pw_model.specs.declared.records.Entry.{Entry}
@@ -19,7 +16,7 @@ use Rattle.pw_model.specs.Counting.{assignment_key, reading_key}
 use Rattle.pw_model.specs.Same.{same_key}
 use Rattle.pw_model.specs.Shelf.{ShelfContent}
 use Rattle.pw_shelf.specs.Changes.{same_total}
-use Rattle.pw_schema.specs.Rows.{direction_at, natural, number, owner_at, register_at, text}
+use Rattle.pw_schema.specs.Rows.{direction_at, number, owner_at, register_at, text}
 
 -- where each table's rows are
 abbrev pub reading_tree : ℕ

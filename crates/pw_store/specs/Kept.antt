@@ -1,28 +1,20 @@
 -- What is known of a store over SQL: of its connection, and of the connection as it was when the last upload ended.
 -- (Definitions of this project.)
-use Rattle.std.specs.Prelude.{◌≡◌, ℕ, List, map, Bool, true, false, cond, Option, Some, None, IsTrue, refl}
+use Rattle.std.specs.Prelude.{◌≡◌, ℕ, Bool, true, false, cond, Option, Some, None, IsTrue, refl}
 use Rattle.std.proofs.Math.Logic.{∥∥₁_elim}
 use Rattle.std.specs.List.{AllByRecursion}
-use Rattle.std.specs.Coded.{×_prop, Π_prop, Coded-set}
-use mathlib.Core.Bool.{Bool-set}
 use mathlib.Core.HLevel.{⊥_prop}
 use Rattle.sqlite.specs.Order.{Row}
-use Rattle.sqlite.specs.Tree.{Trees, rowid}
+use Rattle.sqlite.specs.Tree.{Trees}
 use Rattle.sqlite.specs.Effect.{Database}
 use Rattle.sqlite.specs.State.{State as Sql, HasCleanDisk}
-use Rattle.sqlite_trees.specs.Props.{Trees-set, AllByRecursion-prop}
-use Rattle.sqlite_value.specs.declared.value.Value.{Value}
-use Rattle.sqlite_value.specs.contracts.value.Value as value
-use Rattle.sqlite_schema.specs.contracts.schema.Schema as schema_row
 use Rattle.pw_model.specs.Counting.{EachOnce}
 use Rattle.pw_model.specs.declared.records.Key.{Key}
-use Rattle.pw_model.specs.declared.records.TotalKey.{TotalKey}
 use Rattle.pw_model.specs.Shelf.{ShelfContent}
 use Rattle.pw_shelf.specs.State.{State}
-use Rattle.pw_shelf.specs.inner.Held.{EachOnce-prop}
 use Rattle.pw_schema.specs.Tables.{IsOurs}
 use Rattle.pw_store.specs.Content.{content_of, IsReadingRow, IsAssignmentRow, IsTopupRow, reading_in, assignment_in, energy_in, payment_in, reading_tree, assignment_tree, topup_tree, point_tree, start_tree, total_tree, payment_tree, records_of}
-use Rattle.pw_store.specs.Keyed.{AreKeyed, HasRowid, IsEnergyRow, IsPaymentRow}
+use Rattle.pw_store.specs.Keyed.{AreKeyed, IsEnergyRow, IsPaymentRow}
 
 -- a point is kept as a reading is, a start as an assignment
 abbrev pub key_in_point : Row → Key

@@ -1,6 +1,6 @@
 -- What an opening finds, and why it is refused.
 -- (Definitions of this project.)
-use Rattle.std.specs.Prelude.{◌≡◌, ◌⊎◌, ℕ, pos, true, false, ◌&&◌, List, [], ◌∷◌, map, IsTrue, ◌<◌, length}
+use Rattle.std.specs.Prelude.{◌≡◌, ◌⊎◌, ℕ, pos, true, ◌&&◌, List, [], ◌∷◌, map, ◌<◌, length}
 use Rattle.std.specs.List.{AllByRecursion, filter}
 use Rattle.std.specs.List.Sorted.{IsPermutation}
 use Rattle.sqlite.specs.declared.types.Value.TheVariants.{Int}
@@ -8,12 +8,10 @@ use Rattle.sqlite.specs.Order.{Row, column}
 use Rattle.sqlite.specs.Ops.{binary, is_true}
 use Rattle.sqlite.specs.Tree.{Trees}
 use Rattle.sqlite.specs.Effect.{Database}
-use Rattle.sqlite.specs.State.{State}
 use Rattle.sqlite_value.specs.declared.keys.Collation.TheVariants.{Binary}
 use Rattle.sqlite_sql.specs.declared.ops.BinaryOp.TheVariants.{Compare}
 use Rattle.sqlite_sql.specs.declared.ops.CompareOp.TheVariants.{Eq}
 use Rattle.pw_tariff.specs.Office.{OfficeRules}
-use Rattle.pw_model.specs.declared.records.Entry.{Entry}
 use Rattle.pw_model.specs.Office.{AllOfOffice, most_records}
 use Rattle.pw_model.specs.Counting.{EachOnce}
 use Rattle.pw_schema.specs.declared.kind.RecordKind.{RecordKind}
@@ -21,14 +19,12 @@ use Rattle.pw_schema.specs.declared.kind.RecordKind.TheVariants.{Readings, Assig
 use Rattle.pw_model.specs.declared.records.TotalKey.{TotalKey}
 use Rattle.pw_schema.specs.declared.kind.TotalKind.{TotalKind}
 use Rattle.pw_schema.specs.declared.kind.TotalKind.TheVariants.{Energies, Payments}
-use Rattle.pw_schema.specs.Rows.{number}
 use Rattle.pw_schema.specs.Judging.{HasOtherText, HasOtherVersion, IsTotalOf, KeepsOffice}
 use Rattle.pw_schema.specs.Tables.{IsOurs, no_schema}
 use Rattle.pw_store.specs.declared.fault.OpenFault.{OpenFault}
 use Rattle.pw_store.specs.declared.fault.OpenFault.TheVariants.{Store, Memory, OfficeDiffers, Version, Unclean}
-use Rattle.pw_model.specs.Shelf.{no_content}
+use Rattle.pw_model.specs.Shelf.{IsTrueContent}
 use Rattle.pw_store.specs.Content.{content_of, energy_in, payment_in, point_tree, records_of, start_tree, total_tree, payment_tree}
-use Rattle.pw_store.specs.Kept.{IsStore}
 use Rattle.pw_store.specs.Keyed.{IsEnergyRow, IsPaymentRow}
 use Rattle.pw_store.specs.Shown.{IsRowOf, entries_of, entry_in, tree_of}
 
@@ -97,7 +93,9 @@ OursRefuses office body db Memory = Unit {0}
 OursRefuses office body db OfficeDiffers = KeepsText (HasOtherText body) db
 OursRefuses office body db Version = KeepsText HasOtherVersion db
 OursRefuses office body db Unclean =
-    KeepsText HasNoRow db ⊎ ((HoldsAllRecords office db → ⊥) ⊎ (HoldsTooMany db ⊎ (HoldsSums office db → ⊥)))
+    KeepsText HasNoRow db
+    ⊎ ((HoldsAllRecords office db → ⊥)
+    ⊎ (HoldsTooMany db ⊎ ((HoldsSums office db → ⊥) ⊎ (IsTrueContent office (content_of db) → ⊥))))
 
 -- of any database: there is something else than our tables, or they are ours and what they hold refuses
 abbrev pub Refuses : OfficeRules → List ℕ → Database → OpenFault → Type 0
@@ -109,13 +107,15 @@ Refuses office body db Unclean =
     (((db.schema ≡ no_schema) → ⊥) × (IsOurs db.schema → ⊥)) ⊎ (IsOurs db.schema × OursRefuses office body db.trees Unclean)
 
 -- ---- what opens
--- our tables, of this version and this text, with records, points, starts and totals of the office, and not too many
+-- our tables, of this version and this text, with records, points, starts and totals of the office, not too many, and a
+-- true content
 pub record IsOpenable (office : OfficeRules) (body : List ℕ) (db : Database) : Type 0 where
   pub ours : IsOurs db.schema
   pub text : KeepsText (KeepsOffice body) db.trees
   pub records : HoldsAllRecords office db.trees
   pub few : HoldsTooMany db.trees → ⊥
   pub sums : HoldsSums office db.trees
+  pub truth : IsTrueContent office (content_of db.trees)
 
 -- what is found refuses such a store only for the engine's sake, or for memory
 abbrev pub OpenableOpens : Type 0

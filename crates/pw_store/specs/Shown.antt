@@ -1,16 +1,12 @@
 -- What the rows that a query shows say of the records held.
 -- (Definitions of this project.)
-use Rattle.std.specs.Prelude.{ℕ, List, [], ◌∷◌, map}
-use Rattle.std.specs.List.Sorted.{IsPermutation}
-use Rattle.sqlite.specs.Order.{Row, column}
+use Rattle.std.specs.Prelude.{ℕ, List, map}
+use Rattle.sqlite.specs.Order.{Row}
 use Rattle.sqlite.specs.Tree.{Trees}
-use Rattle.pw_model.specs.declared.records.Key.{Key}
 use Rattle.pw_model.specs.declared.records.Entry.{Entry}
-use Rattle.pw_shelf.specs.Rows.{ListsHeld}
 use Rattle.pw_schema.specs.declared.kind.RecordKind.{RecordKind}
 use Rattle.pw_schema.specs.declared.kind.RecordKind.TheVariants.{Readings, Assignments, TopUps}
-use Rattle.pw_schema.specs.Rows.{ReadsRows}
-use Rattle.pw_store.specs.Content.{records_of, reading_in, assignment_in, topup_in, IsReadingRow, IsAssignmentRow, IsTopupRow, reading_tree, assignment_tree, topup_tree}
+use Rattle.pw_store.specs.Content.{reading_in, assignment_in, topup_in, IsReadingRow, IsAssignmentRow, IsTopupRow, reading_tree, assignment_tree, topup_tree}
 
 -- ---- of a kind: where its rows are, and what one of them is
 abbrev pub tree_of : RecordKind → ℕ

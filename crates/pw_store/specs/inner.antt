@@ -4,3 +4,4 @@ pub mod Opened
 pub mod Changing
 pub mod Seconds
 pub mod Sums
+pub mod Truth

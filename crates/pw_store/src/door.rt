@@ -5,7 +5,7 @@ ghost use Rattle.sqlite.specs.Held.{state};
 ghost use Rattle.sqlite.specs.State.{HasCleanDisk, KeepsCommit};
 ghost use Rattle.pw_tariff.specs.Office.{OfficeFile, office_of};
 ghost use Rattle.pw_tariff.specs.Text.{IsOfficeOf};
-ghost use Rattle.pw_model.specs.Shelf.{no_content};
+ghost use Rattle.pw_model.specs.Shelf.{IsTrueContent, no_content};
 ghost use Rattle.pw_model.specs.Office.{AllOfOffice, most_records};
 ghost use Rattle.pw_shelf.specs.State.{committed};
 ghost use Rattle.pw_shelf.specs.Left.{LeavesOnly};
@@ -35,7 +35,9 @@ impl<S: Alter> SqlShelf<S> {
         requires { (office : OfficeFile) × IsOfficeOf office_text.now office }
         ensures content { IfOk result (λ s. HasCleanDisk (state S.Store s.conn) → (held_of (state S.Store s.conn) (state S.Store s.base.value) ≡ content_of (state S.Store connection).committed.trees) ⊎ (((state S.Store connection).committed.schema ≡ no_schema) × (held_of (state S.Store s.conn) (state S.Store s.base.value) ≡ no_content))) }
         ensures of_office { IfOk result (λ s. HasCleanDisk (state S.Store s.conn) → (office : OfficeFile) × IsOfficeOf office_text.now office × AllOfOffice (office_of office) (held_of (state S.Store s.conn) (state S.Store s.base.value)).records) }
+        ensures truth { IfOk result (λ s. HasCleanDisk (state S.Store s.conn) → (office : OfficeFile) × IsOfficeOf office_text.now office × IsTrueContent (office_of office) (held_of (state S.Store s.conn) (state S.Store s.base.value))) }
         ensures few { IfOk result (λ s. HasCleanDisk (state S.Store s.conn) → length (held_of (state S.Store s.conn) (state S.Store s.base.value)).records ≤ most_records) }
+        ensures was_open { IfOk result (λ s. HasCleanDisk (state S.Store s.conn) → HasCleanDisk (state S.Store connection) × IsTrue (state S.Store connection).is_open) }
         ensures idle { IfOk result (λ s. s.begun ≡ false) }
         ensures counts { IfOk result (λ s. (s.failures.count ≡ 0) × (s.failed_abandons.count ≡ 0) × (s.tally.count ≡ 0)) }
         ensures left { IfOk result (λ s. HasCleanDisk (state S.Store s.conn) → LeavesOnly (held_of (state S.Store s.conn) (state S.Store s.base.value)) (left_of (state S.Store s.conn))) }
@@ -57,7 +59,9 @@ impl<S: Alter> SqlShelf<S> {
     ) -> Result<SqlShelf<S>, (OpenFault, Connection<S>)>
         ensures content { IfOk result (λ s. HasCleanDisk (state S.Store s.conn) → (held_of (state S.Store s.conn) (state S.Store s.base.value) ≡ content_of (state S.Store connection).committed.trees) ⊎ (((state S.Store connection).committed.schema ≡ no_schema) × (held_of (state S.Store s.conn) (state S.Store s.base.value) ≡ no_content))) }
         ensures of_office { IfOk result (λ s. HasCleanDisk (state S.Store s.conn) → AllOfOffice (office_of office.now) (held_of (state S.Store s.conn) (state S.Store s.base.value)).records) }
+        ensures truth { IfOk result (λ s. HasCleanDisk (state S.Store s.conn) → IsTrueContent (office_of office.now) (held_of (state S.Store s.conn) (state S.Store s.base.value))) }
         ensures few { IfOk result (λ s. HasCleanDisk (state S.Store s.conn) → length (held_of (state S.Store s.conn) (state S.Store s.base.value)).records ≤ most_records) }
+        ensures was_open { IfOk result (λ s. HasCleanDisk (state S.Store s.conn) → HasCleanDisk (state S.Store connection) × IsTrue (state S.Store connection).is_open) }
         ensures idle { IfOk result (λ s. s.begun ≡ false) }
         ensures counts { IfOk result (λ s. (s.failures.count ≡ 0) × (s.failed_abandons.count ≡ 0) × (s.tally.count ≡ 0)) }
         ensures left { IfOk result (λ s. HasCleanDisk (state S.Store s.conn) → LeavesOnly (held_of (state S.Store s.conn) (state S.Store s.base.value)) (left_of (state S.Store s.conn))) }

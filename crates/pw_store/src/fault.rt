@@ -59,7 +59,8 @@ pub enum OpenFault {
     OfficeDiffers,
     /// Another schema version.
     Version,
-    /// The tables aren't those of a store, or a row is no record of the office.
+    /// The tables aren't those of a store, a row is no record of the office, or points, starts and totals aren't those of
+    /// the records.
     Unclean,
 }
 

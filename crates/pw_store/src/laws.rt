@@ -1,18 +1,23 @@
 //! The laws of the store over SQL.
 //!
-//! No function does anything. What counts is its contract.
+//! No function does anything but call. What counts is its contract.
 
-ghost use Rattle.std.specs.Prelude.{◌≡◌, ◌↔◌, IsTrue};
+ghost use Rattle.std.specs.Prelude.{◌≡◌, ◌↔◌, IfOk, IsTrue};
 ghost use Rattle.sqlite.specs.Held.{state};
 ghost use Rattle.sqlite.specs.State.{HasCleanDisk};
 ghost use Rattle.sqlite.specs.Tree.{Trees};
+ghost use Rattle.pw_tariff.specs.Office.{OfficeFile};
+ghost use Rattle.pw_tariff.specs.Text.{IsOfficeOf};
 ghost use Rattle.pw_model.specs.Shelf.{ShelfContent};
+ghost use Rattle.pw_shelf.specs.State.{committed};
 ghost use Rattle.pw_store.specs.Content.{content_of};
 ghost use Rattle.pw_store.specs.Opening.{OpenableOpens};
 
+use crate::fault::OpenFault;
 use crate::shelf::SqlShelf;
 use pw_shelf::Shelf;
-use sqlite::Alter;
+use sqlite::{Alter, Connection};
+use std::alloc::Global;
 
 /// A store over SQL is clean exactly where the disk has returned what was written to it; while the connection is open its
 /// tables are what is held; and a crash leaves exactly the contents of the databases that sqlite may leave.
@@ -29,3 +34,16 @@ pub fn store_is_its_tables<S: Alter>(shelf: SqlShelf<S>) -> SqlShelf<S>
 pub fn openable_stores_open()
     ensures { OpenableOpens }
 {}
+
+/// A store that is closed and opened again holds what was committed last: where an upload was still begun, what it began
+/// with.
+pub fn closed_is_opened_again<S: Alter>(
+    alloc: Global,
+    shelf: SqlShelf<S>,
+    office_text: &[u8],
+) -> Result<SqlShelf<S>, (OpenFault, Connection<S>)>
+    requires { (office : OfficeFile) × IsOfficeOf office_text.now office }
+    ensures { IfOk result (λ s. HasCleanDisk (state S.Store s.conn) → (⟦<SqlShelf<S> as Shelf>⟧.state s).content ≡ committed (⟦<SqlShelf<S> as Shelf>⟧.state shelf)) }
+{
+    SqlShelf::open(alloc, shelf.close(), office_text)
+}

@@ -22,6 +22,7 @@ mod tables;
 mod told;
 mod topups;
 mod totals;
+mod truth;
 mod upload;
 mod waking;
 

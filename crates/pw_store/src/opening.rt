@@ -1,39 +1,50 @@
 //! Making a connection ready to be a store, or finding why it can't be one.
 
-ghost use Rattle.std.specs.Prelude.{◌≡◌, ◌⊎◌, Err, IfErr, IsTrue, OnErr, OnOk, ◌≤◌, length};
+ghost use Rattle.std.specs.Prelude.{◌≡◌, ◌⊎◌, ◌++◌, Err, IfErr, IfOk, IsTrue, OnErr, OnOk, map};
+ghost use Rattle.std.specs.List.Sorted.{IsPermutation};
 ghost use Rattle.sqlite.specs.Held.{state};
 ghost use Rattle.sqlite.specs.State.{HasCleanDisk, IsUnchanged, KeepsCommit, Survives};
 ghost use Rattle.pw_tariff.specs.Office.{office_of};
-ghost use Rattle.pw_model.specs.Office.{most_records};
+ghost use Rattle.pw_model.specs.Office.{AllOfOffice};
 ghost use Rattle.pw_schema.specs.Fresh.{IsIdleAt};
 ghost use Rattle.pw_store.specs.Content.{records_of};
 ghost use Rattle.pw_schema.specs.Judging.{AreRecords, KeepsOffice};
+ghost use Rattle.pw_schema.specs.Rows.{told};
 ghost use Rattle.pw_schema.specs.Tables.{IsOurs, no_schema};
 ghost use Rattle.pw_store.specs.Opening.{HoldsAllRecords, HoldsRecords, KeepsText, OursRefuses, Refuses};
-ghost use Rattle.pw_store.specs.inner.Opened.{NumberRefuses, IsOpened, IsSettled, MayOpen, RecordsRefuse, RowRefuses, TableRefuses};
+ghost use Rattle.pw_store.specs.Shown.{entries_of};
+ghost use Rattle.pw_store.specs.inner.Opened.{IsOpened, IsSettled, MayOpen, RecordsRefuse, RowRefuses, TableRefuses};
 
-use crate::counting::count_all;
 use crate::fault::{OpenFault, fault_in};
 use crate::sums::read_sums;
 use crate::tables::{all_assignments, all_readings, office_rows};
 use crate::topups::topup_rows;
+use crate::truth::judge_truth;
 use crate::waking::wake;
+use pw_model::Entry;
 use pw_schema::{
     JudgeFault, OfficeFault, RecordKind, create, is_nothing, is_ours, judge_office, judge_rows,
     roll_back,
 };
 use pw_tariff::Office;
 use sqlite::{Alter, Connection, Error, Row};
-use std::alloc::Global;
+use std::alloc::{AllocError, Global};
 
 // Whether rows in order are records of the office, each once.
-fn judge(alloc: Global, office: &Office, kind: RecordKind, rows: &[Row]) -> Result<(), OpenFault>
+fn judge(
+    alloc: Global,
+    office: &Office,
+    kind: RecordKind,
+    rows: &[Row],
+) -> Result<Vec<Entry>, OpenFault>
+    ensures read { IfOk result (λ found. found.items ≡ map (told kind) rows.now) }
     ensures records { OnOk result (AreRecords (office_of office.now) kind rows.now) }
+    ensures of_office { IfOk result (λ found. AllOfOffice (office_of office.now) found.items) }
     ensures foreign { result ≡ Err OpenFault.Unclean → AreRecords (office_of office.now) kind rows.now → ⊥ }
     ensures others { OnErr result ((result ≡ Err OpenFault.Unclean) ⊎ ((result ≡ Err OpenFault.Memory) ⊎ (result ≡ Err OpenFault.Store))) }
 {
     match judge_rows(alloc, office, kind, rows) {
-        Ok(_) => Ok(()),
+        Ok(found) => Ok(found),
         Err(JudgeFault::Memory) => Err(OpenFault::Memory),
         Err(JudgeFault::Foreign) => Err(OpenFault::Unclean),
         Err(JudgeFault::Unordered) => Err(OpenFault::Store),
@@ -65,35 +76,64 @@ fn settle<S: Alter>(conn: &mut Connection<S>) -> Result<(), Error>
     wake(conn, true)
 }
 
+// Three lists, one behind the other.
+fn joined(
+    readings: Vec<Entry>,
+    assignments: Vec<Entry>,
+    topups: Vec<Entry>,
+) -> Result<Vec<Entry>, AllocError>
+    ensures { IfOk result (λ all. all.items ≡ readings.items ++ (assignments.items ++ topups.items)) }
+{
+    let mut all = readings;
+    let mut second = assignments;
+    let mut third = topups;
+    all.append(&mut second)?;
+    all.append(&mut third)?;
+    Ok(all)
+}
+
 // The records of the three tables, judged.
 fn check_records<S: Alter>(
     alloc: Global,
     conn: &mut Connection<S>,
     office: &Office,
-) -> Result<(), OpenFault>
+) -> Result<Vec<Entry>, OpenFault>
     requires ours { HasCleanDisk (state S.Store conn.old) → IsOurs (state S.Store conn.old).now.schema }
-    ensures sound { HasCleanDisk (state S.Store conn.new) → OnOk result (HoldsAllRecords (office_of office.now) (state S.Store conn.new).now.trees) }
+    ensures sound { HasCleanDisk (state S.Store conn.new) → OnOk result (HoldsAllRecords (office_of office.now) (state S.Store conn.old).now.trees) }
+    ensures listed { HasCleanDisk (state S.Store conn.new) → IfOk result (λ found. IsPermutation (records_of (state S.Store conn.old).now.trees) found.items) }
+    ensures of_office { IfOk result (λ found. AllOfOffice (office_of office.now) found.items) }
     ensures cause { HasCleanDisk (state S.Store conn.new) → IfErr result (RecordsRefuse (office_of office.now) (state S.Store conn.old).now.trees) }
     ensures same { HasCleanDisk (state S.Store conn.new) → OnOk result (IsUnchanged (state S.Store conn.old) (state S.Store conn.new)) }
     ensures kept { HasCleanDisk (state S.Store conn.new) → KeepsCommit (state S.Store conn.old) (state S.Store conn.new) }
     ensures crash { Survives (state S.Store conn.old) (state S.Store conn.new) (λ _. ⊥) }
 {
-    if let Err(fault) = check_readings(alloc, conn, office) {
-        return Err(fault);
+    let readings = match check_readings(alloc, conn, office) {
+        Ok(readings) => readings,
+        Err(fault) => return Err(fault),
+    };
+    let assignments = match check_assignments(alloc, conn, office) {
+        Ok(assignments) => assignments,
+        Err(fault) => return Err(fault),
+    };
+    let topups = match check_topups(alloc, conn, office) {
+        Ok(topups) => topups,
+        Err(fault) => return Err(fault),
+    };
+    match joined(readings, assignments, topups) {
+        Ok(all) => Ok(all),
+        Err(_) => Err(OpenFault::Memory),
     }
-    if let Err(fault) = check_assignments(alloc, conn, office) {
-        return Err(fault);
-    }
-    check_topups(alloc, conn, office)
 }
 
 fn check_readings<S: Alter>(
     alloc: Global,
     conn: &mut Connection<S>,
     office: &Office,
-) -> Result<(), OpenFault>
+) -> Result<Vec<Entry>, OpenFault>
     requires ours { HasCleanDisk (state S.Store conn.old) → IsOurs (state S.Store conn.old).now.schema }
-    ensures good { HasCleanDisk (state S.Store conn.new) → OnOk result (HoldsRecords (office_of office.now) RecordKind.Readings (state S.Store conn.new).now.trees) }
+    ensures good { HasCleanDisk (state S.Store conn.new) → OnOk result (HoldsRecords (office_of office.now) RecordKind.Readings (state S.Store conn.old).now.trees) }
+    ensures listed { HasCleanDisk (state S.Store conn.new) → IfOk result (λ found. IsPermutation (entries_of RecordKind.Readings (state S.Store conn.old).now.trees) found.items) }
+    ensures of_office { IfOk result (λ found. AllOfOffice (office_of office.now) found.items) }
     ensures cause { HasCleanDisk (state S.Store conn.new) → IfErr result (TableRefuses (office_of office.now) RecordKind.Readings (state S.Store conn.old).now.trees) }
     ensures same { HasCleanDisk (state S.Store conn.new) → OnOk result (IsUnchanged (state S.Store conn.old) (state S.Store conn.new)) }
     ensures kept { HasCleanDisk (state S.Store conn.new) → KeepsCommit (state S.Store conn.old) (state S.Store conn.new) }
@@ -110,9 +150,11 @@ fn check_assignments<S: Alter>(
     alloc: Global,
     conn: &mut Connection<S>,
     office: &Office,
-) -> Result<(), OpenFault>
+) -> Result<Vec<Entry>, OpenFault>
     requires ours { HasCleanDisk (state S.Store conn.old) → IsOurs (state S.Store conn.old).now.schema }
-    ensures good { HasCleanDisk (state S.Store conn.new) → OnOk result (HoldsRecords (office_of office.now) RecordKind.Assignments (state S.Store conn.new).now.trees) }
+    ensures good { HasCleanDisk (state S.Store conn.new) → OnOk result (HoldsRecords (office_of office.now) RecordKind.Assignments (state S.Store conn.old).now.trees) }
+    ensures listed { HasCleanDisk (state S.Store conn.new) → IfOk result (λ found. IsPermutation (entries_of RecordKind.Assignments (state S.Store conn.old).now.trees) found.items) }
+    ensures of_office { IfOk result (λ found. AllOfOffice (office_of office.now) found.items) }
     ensures cause { HasCleanDisk (state S.Store conn.new) → IfErr result (TableRefuses (office_of office.now) RecordKind.Assignments (state S.Store conn.old).now.trees) }
     ensures same { HasCleanDisk (state S.Store conn.new) → OnOk result (IsUnchanged (state S.Store conn.old) (state S.Store conn.new)) }
     ensures kept { HasCleanDisk (state S.Store conn.new) → KeepsCommit (state S.Store conn.old) (state S.Store conn.new) }
@@ -129,9 +171,11 @@ fn check_topups<S: Alter>(
     alloc: Global,
     conn: &mut Connection<S>,
     office: &Office,
-) -> Result<(), OpenFault>
+) -> Result<Vec<Entry>, OpenFault>
     requires ours { HasCleanDisk (state S.Store conn.old) → IsOurs (state S.Store conn.old).now.schema }
-    ensures good { HasCleanDisk (state S.Store conn.new) → OnOk result (HoldsRecords (office_of office.now) RecordKind.TopUps (state S.Store conn.new).now.trees) }
+    ensures good { HasCleanDisk (state S.Store conn.new) → OnOk result (HoldsRecords (office_of office.now) RecordKind.TopUps (state S.Store conn.old).now.trees) }
+    ensures listed { HasCleanDisk (state S.Store conn.new) → IfOk result (λ found. IsPermutation (entries_of RecordKind.TopUps (state S.Store conn.old).now.trees) found.items) }
+    ensures of_office { IfOk result (λ found. AllOfOffice (office_of office.now) found.items) }
     ensures cause { HasCleanDisk (state S.Store conn.new) → IfErr result (TableRefuses (office_of office.now) RecordKind.TopUps (state S.Store conn.old).now.trees) }
     ensures same { HasCleanDisk (state S.Store conn.new) → OnOk result (IsUnchanged (state S.Store conn.old) (state S.Store conn.new)) }
     ensures kept { HasCleanDisk (state S.Store conn.new) → KeepsCommit (state S.Store conn.old) (state S.Store conn.new) }
@@ -163,28 +207,6 @@ fn check_office<S: Alter>(conn: &mut Connection<S>, text: &[u8]) -> Result<(), O
     }
 }
 
-// The number of records, judged.
-fn check_number<S: Alter>(conn: &mut Connection<S>) -> Result<(), OpenFault>
-    requires ours { HasCleanDisk (state S.Store conn.old) → IsOurs (state S.Store conn.old).now.schema }
-    ensures few { HasCleanDisk (state S.Store conn.new) → OnOk result (length (records_of (state S.Store conn.old).now.trees) ≤ most_records) }
-    ensures cause { HasCleanDisk (state S.Store conn.new) → IfErr result (NumberRefuses (state S.Store conn.old).now.trees) }
-    ensures same { HasCleanDisk (state S.Store conn.new) → OnOk result (IsUnchanged (state S.Store conn.old) (state S.Store conn.new)) }
-    ensures kept { HasCleanDisk (state S.Store conn.new) → KeepsCommit (state S.Store conn.old) (state S.Store conn.new) }
-    ensures crash { Survives (state S.Store conn.old) (state S.Store conn.new) (λ _. ⊥) }
-{
-    match count_all(conn) {
-        Ok(Some(number)) => {
-            if number <= 10_000_000 {
-                Ok(())
-            } else {
-                Err(OpenFault::Unclean)
-            }
-        }
-        Ok(None) => Err(OpenFault::Store),
-        Err(error) => Err(fault_in(error)),
-    }
-}
-
 // What is there, judged.
 fn check<S: Alter>(
     alloc: Global,
@@ -202,16 +224,15 @@ fn check<S: Alter>(
     if let Err(fault) = check_office(conn, text) {
         return Err(fault);
     }
-    if let Err(fault) = check_records(alloc, conn, office) {
-        return Err(fault);
-    }
-    if let Err(fault) = check_number(conn) {
-        return Err(fault);
-    }
-    if let Err(fault) = read_sums(alloc, conn, office) {
-        return Err(fault);
-    }
-    Ok(())
+    let records = match check_records(alloc, conn, office) {
+        Ok(records) => records,
+        Err(fault) => return Err(fault),
+    };
+    let sums = match read_sums(alloc, conn, office) {
+        Ok(sums) => sums,
+        Err(fault) => return Err(fault),
+    };
+    judge_truth(alloc, office, records.as_slice(), sums)
 }
 
 // Makes the tables where nothing is there, else judges what is there.
@@ -270,7 +291,9 @@ pub(crate) fn prepare<S: Alter>(
 ) -> Result<(), OpenFault>
     ensures opened { HasCleanDisk (state S.Store conn.new) → OnOk result (IsOpened (office_of office.now) text.now (state S.Store conn.old).committed (state S.Store conn.new)) }
     ensures cause { HasCleanDisk (state S.Store conn.new) → IfErr result (Refuses (office_of office.now) text.now (state S.Store conn.old).committed) }
+    ensures was_open { HasCleanDisk (state S.Store conn.new) → OnOk result (IsTrue (state S.Store conn.old).is_open) }
     ensures kept { HasCleanDisk (state S.Store conn.new) → OnErr result (KeepsCommit (state S.Store conn.old) (state S.Store conn.new)) }
+    ensures clean { HasCleanDisk (state S.Store conn.new) → HasCleanDisk (state S.Store conn.old) }
 {
     if let Err(error) = settle(conn) {
         return Err(fault_in(error));

@@ -6,7 +6,7 @@ use crate::{OpenFault, SqlShelf};
 use pw_model::TotalKey;
 use pw_obis::{Register, WattHours};
 use pw_shelf::Shelf;
-use pw_tariff::{AccountId, MeterId, Office};
+use pw_tariff::{AccountId, BandId, Direction, MeterId, Office};
 use pw_time::Instant;
 use sqlite::{Connection, MemStore};
 use std::alloc::Global;
@@ -42,6 +42,12 @@ registers = ["I1", "I2", "E1", "E2"]
 
 const METER: MeterId = MeterId(0);
 
+const ENERGY: TotalKey = TotalKey::Energy {
+    owner: Some(AccountId(0)),
+    band: BandId(0),
+    direction: Direction::Import,
+};
+
 const PAYMENTS: TotalKey = TotalKey::TopUps {
     account: AccountId(1),
 };
@@ -75,6 +81,19 @@ fn refusal(rt: &impl Abort, alloc: Global, connection: Connection<MemStore>) -> 
     match SqlShelf::open(alloc, connection, TEXT.as_bytes()) {
         Ok(_) => None,
         Err((fault, _)) => Some(fault),
+    }
+}
+
+// Why a connection isn't opened, and the connection.
+fn refused_by(
+    rt: &impl Abort,
+    alloc: Global,
+    connection: Connection<MemStore>,
+) -> (OpenFault, Connection<MemStore>) {
+    let _office = Office::read(alloc, TEXT.as_bytes()).expect(rt, "an office");
+    match SqlShelf::open(alloc, connection, TEXT.as_bytes()) {
+        Ok(_) => panic!(rt; "opened"),
+        Err(refused) => refused,
     }
 }
 
@@ -117,7 +136,12 @@ fn a_start_is_there_when_opened_again(rt: HostRuntime) -> Result<(), Fail> {
     shelf.begin()?;
     shelf.start_put(METER, at(&rt, 1_704_067_200), Some(AccountId(1)))?;
     shelf.commit()?;
-    let mut again = shelf_of(&rt, alloc, shelf.close());
+    let mut connection = shelf.close();
+    connection.execute(
+        "INSERT INTO record_assignment VALUES (0, 1704067200, 2)",
+        &[],
+    )?;
+    let mut again = shelf_of(&rt, alloc, connection);
     let starts = again.starts_of(alloc, METER)?;
     assert_eq!(rt; starts.len(), 1);
     Ok(())
@@ -158,6 +182,97 @@ fn damaged_stores_are_refused(rt: HostRuntime) -> Result<(), Fail> {
     for (statement, fault) in cases {
         assert_eq!(rt; refusal_behind(&rt, alloc, statement), Some(fault));
     }
+    Ok(())
+}
+
+// Two readings an hour apart, in band L, of a meter of A1, and a top-up of A1, with what is kept beside them.
+const RECORDS: [&str; 9] = [
+    "INSERT INTO record_assignment VALUES (0, 1704067200, 1)",
+    "INSERT INTO record_reading VALUES (0, 1, 1704067200, 1000)",
+    "INSERT INTO record_reading VALUES (0, 1, 1704070800, 1100)",
+    "INSERT INTO record_topup VALUES ('P1', 0, 500, 1704067200)",
+    "INSERT INTO start VALUES (0, 1704067200, 1)",
+    "INSERT INTO point VALUES (0, 1, 1704067200, 1000)",
+    "INSERT INTO point VALUES (0, 1, 1704070800, 1100)",
+    "INSERT INTO total VALUES (1, 0, 0, 100)",
+    "INSERT INTO total_topup VALUES (0, 500)",
+];
+
+// What makes these sums untrue, and what makes them true again.
+const DAMAGES: [(&str, &str); 13] = [
+    ("UPDATE total SET wh = 101", "UPDATE total SET wh = 100"),
+    ("UPDATE total SET wh = 99", "UPDATE total SET wh = 100"),
+    ("UPDATE total SET wh = 0", "UPDATE total SET wh = 100"),
+    (
+        "DELETE FROM total",
+        "INSERT INTO total VALUES (1, 0, 0, 100)",
+    ),
+    (
+        "INSERT INTO total VALUES (2, 0, 0, 1)",
+        "DELETE FROM total WHERE owner = 2",
+    ),
+    (
+        "UPDATE total_topup SET cents = 501",
+        "UPDATE total_topup SET cents = 500",
+    ),
+    (
+        "INSERT INTO total_topup VALUES (1, 1)",
+        "DELETE FROM total_topup WHERE account = 1",
+    ),
+    (
+        "INSERT INTO point VALUES (0, 1, 1704074400, 1200)",
+        "DELETE FROM point WHERE instant = 1704074400",
+    ),
+    (
+        "INSERT INTO record_reading VALUES (0, 1, 1704074400, 1200)",
+        "DELETE FROM record_reading WHERE instant = 1704074400",
+    ),
+    (
+        "INSERT INTO record_reading VALUES (0, 1, 1704070800, 1101)",
+        "DELETE FROM record_reading WHERE wh = 1101",
+    ),
+    (
+        "UPDATE point SET wh = 1099 WHERE wh = 1100",
+        "UPDATE point SET wh = 1100 WHERE wh = 1099",
+    ),
+    (
+        "INSERT INTO record_assignment VALUES (0, 1704067200, 2)",
+        "DELETE FROM record_assignment WHERE owner = 2",
+    ),
+    (
+        "DELETE FROM start",
+        "INSERT INTO start VALUES (0, 1704067200, 1)",
+    ),
+];
+
+#[test]
+fn what_is_kept_beside_records_must_be_true(rt: HostRuntime) -> Result<(), Fail> {
+    let alloc = rt.alloc();
+    let mut connection = shelf_of(&rt, alloc, memory(&rt, alloc)).close();
+    for statement in RECORDS {
+        connection.execute(statement, &[])?;
+    }
+    for (damage, repair) in DAMAGES {
+        connection = shelf_of(&rt, alloc, connection).close();
+        connection.execute(damage, &[])?;
+        let (fault, refused) = refused_by(&rt, alloc, connection);
+        assert_eq!(rt; fault, OpenFault::Unclean);
+        connection = refused;
+        connection.execute(repair, &[])?;
+    }
+    let mut shelf = shelf_of(&rt, alloc, connection);
+    let amount = shelf.total(&ENERGY)?;
+    assert_eq!(rt; amount, 100);
+    Ok(())
+}
+
+#[test]
+fn a_total_of_0_is_as_good_as_none(rt: HostRuntime) -> Result<(), Fail> {
+    let alloc = rt.alloc();
+    let statement = "INSERT INTO total VALUES (0, 1, 0, 0)";
+    assert_eq!(rt; refusal_behind(&rt, alloc, statement), None);
+    let statement = "INSERT INTO total_topup VALUES (1, 0)";
+    assert_eq!(rt; refusal_behind(&rt, alloc, statement), None);
     Ok(())
 }
 

@@ -15,13 +15,14 @@ use Rattle.pw_schema.specs.Judging.{HasOtherText, HasOtherVersion, KeepsOffice}
 use Rattle.pw_schema.specs.Tables.{no_schema}
 use Rattle.pw_store.specs.declared.fault.OpenFault.{OpenFault}
 use Rattle.pw_store.specs.declared.fault.OpenFault.TheVariants.{Store, Memory, OfficeDiffers, Version, Unclean}
-use Rattle.pw_model.specs.Shelf.{no_content}
+use Rattle.pw_model.specs.Shelf.{no_content, IsTrueContent}
 use Rattle.pw_store.specs.Content.{content_of, records_of}
 use Rattle.pw_store.specs.Kept.{IsStore}
-use Rattle.pw_store.specs.Opening.{KeepsText, HoldsRecords, HoldsKept, HoldsTotals, HoldsSums, HasNoRow, HoldsTooMany, HoldsAllRecords}
+use Rattle.pw_store.specs.Opening.{KeepsText, HoldsRecords, HoldsKept, HoldsTotals, HoldsSums, HasNoRow, HoldsAllRecords}
 
--- a connection that is open, and inside of no transaction
+-- a connection that was open and is, and inside of no transaction
 pub record IsSettled (old new : State) : Type 0 where
+  pub was_open : IsTrue old.is_open
   pub is_open : IsTrue new.is_open
   pub outside : new.in_transaction ≡ false
   pub now : new.now ≡ old.committed
@@ -37,6 +38,7 @@ pub record MayOpen (office : OfficeRules) (body : List ℕ) (db : Database) : Ty
   pub kept : KeepsText (KeepsOffice body) db.trees
   pub of_office : AllOfOffice office (records_of db.trees)
   pub few : length (records_of db.trees) ≤ most_records
+  pub truth : IsTrueContent office (content_of db.trees)
 
 -- what an opened connection is: that of before, or where nothing was there, a store without records
 pub record IsOpened (office : OfficeRules) (body : List ℕ) (before : Database) (s : State) : Type 0 where
@@ -93,11 +95,3 @@ RecordsRefuse office db Memory = Unit {0}
 RecordsRefuse office db OfficeDiffers = ⊥
 RecordsRefuse office db Version = ⊥
 RecordsRefuse office db Unclean = HoldsAllRecords office db → ⊥
-
--- of the number of records
-abbrev pub NumberRefuses : Trees → OpenFault → Type 0
-NumberRefuses db Store = Unit {0}
-NumberRefuses db Memory = Unit {0}
-NumberRefuses db OfficeDiffers = ⊥
-NumberRefuses db Version = ⊥
-NumberRefuses db Unclean = HoldsTooMany db

@@ -9,7 +9,6 @@ use Rattle.pw_tariff.specs.declared.ids.MeterId.{MeterId}
 use Rattle.pw_model.specs.declared.records.Key.TheVariants as key
 use Rattle.pw_model.specs.declared.records.Content.TheVariants as content
 use Rattle.pw_model.specs.declared.records.Entry.{Entry}
-use Rattle.pw_model.specs.declared.records.TotalKey.TheVariants as total
 
 -- ---- a row as it is given to INSERT
 abbrev pub reading_row : ℕ → ℕ → ℕ → ℕ → Row

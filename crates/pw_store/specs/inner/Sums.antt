@@ -1,11 +1,10 @@
 -- What the rows of points, starts and totals are, as queries show them. It serves `src/tables.rt` and `src/sums.rt`.
 -- (Definitions of this project.)
-use Rattle.std.specs.Prelude.{◌≡◌, ℕ, List, [], ◌∷◌, map}
+use Rattle.std.specs.Prelude.{ℕ, List, [], ◌∷◌, map}
 use Rattle.std.specs.List.{AllByRecursion}
 use Rattle.std.specs.List.Sorted.{IsPermutation}
 use Rattle.sqlite.specs.Order.{Row, column}
 use Rattle.sqlite.specs.Tree.{Trees, rowid}
-use Rattle.pw_tariff.specs.Office.{OfficeRules}
 use Rattle.pw_model.specs.declared.records.Entry.{Entry}
 use Rattle.pw_model.specs.declared.records.TotalKey.{TotalKey}
 use Rattle.pw_model.specs.Counting.{EachOnce}
@@ -18,7 +17,7 @@ use Rattle.pw_schema.specs.Judging.{by_key, by_total}
 use Rattle.pw_store.specs.declared.sums.Sums.{Sums}
 use Rattle.pw_store.specs.Content.{point_tree, start_tree, total_tree, payment_tree}
 use Rattle.pw_store.specs.Keyed.{HasRowid}
-use Rattle.pw_store.specs.Opening.{HoldsKept, HoldsTotals, key_of_total}
+use Rattle.pw_store.specs.Opening.{key_of_total}
 use Rattle.pw_store.specs.inner.Opened.{amount_of_total}
 use Rattle.pw_store.specs.Shown.{entry_in}
 

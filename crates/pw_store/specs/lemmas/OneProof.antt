@@ -1,17 +1,15 @@
 -- What is kept of a store has one proof at most.
 use Rattle.std.specs.Prelude.{◌≡◌, List, map, Bool, true}
-use Rattle.std.specs.List.{AllByRecursion}
 use Rattle.std.specs.Coded.{×_prop, Π_prop, Coded-set}
 use mathlib.Core.Bool.{Bool-set}
 use Rattle.sqlite.specs.Order.{Row}
-use Rattle.sqlite.specs.Tree.{Trees, rowid}
+use Rattle.sqlite.specs.Tree.{rowid}
 use Rattle.sqlite.specs.Effect.{Database}
 use Rattle.sqlite.specs.State.{State as Sql}
 use Rattle.sqlite_trees.specs.Props.{Trees-set, AllByRecursion-prop}
 use Rattle.sqlite_value.specs.declared.value.Value.{Value}
 use Rattle.sqlite_value.specs.contracts.value.Value as value
 use Rattle.sqlite_schema.specs.contracts.schema.Schema as schema_row
-use Rattle.pw_model.specs.Counting.{EachOnce}
 use Rattle.pw_shelf.specs.inner.Held.{EachOnce-prop}
 use Rattle.pw_store.specs.Content.{IsReadingRow, IsAssignmentRow, IsTopupRow, energy_in, payment_in, reading_tree, assignment_tree, topup_tree, point_tree, start_tree, total_tree, payment_tree, records_of}
 use Rattle.pw_store.specs.Keyed.{AreKeyed, HasRowid, IsEnergyRow, IsPaymentRow}

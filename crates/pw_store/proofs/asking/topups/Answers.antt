@@ -1,10 +1,8 @@
-use Rattle.std.proofs.Common.{List, IfOk, Result, Ok, Err, Vec, subst}
+use Rattle.std.proofs.Common.{List}
 use Rattle.sqlite.specs.Held.{state}
-use Rattle.sqlite.specs.Order.{Row}
 use Rattle.pw_model.specs.declared.records.Entry.{Entry}
 use Rattle.pw_shelf.specs.Rows.{ListsTopUps}
 use Rattle.pw_schema.specs.declared.kind.RecordKind.TheVariants.{TopUps}
-use Rattle.pw_schema.specs.Rows.{ReadsRows}
 use Rattle.pw_schema.proofs.Outcomes.{early}
 use Rattle.pw_store.proofs.OneKind.{records_same, read_if}
 use Rattle.pw_store.proofs.Lists.{lists_topups}

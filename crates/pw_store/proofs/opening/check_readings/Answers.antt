@@ -1,20 +1,23 @@
-use Rattle.std.proofs.Common.{◌≡◌, ap, subst, List, OnOk, Err}
+use Rattle.std.proofs.Common.{◌≡◌, subst, List, OnOk, Err}
 use Rattle.pw_store.specs.declared.fault.OpenFault.TheVariants.{Unclean}
 use Rattle.sqlite.specs.Held.{state}
 use Rattle.sqlite.specs.Order.{Row}
-use Rattle.sqlite.specs.Effect.{Database}
 use Rattle.pw_tariff.specs.Office.{office_of}
 use Rattle.pw_schema.specs.declared.kind.RecordKind.TheVariants.{Readings}
 use Rattle.pw_schema.specs.Judging.{AreRecords}
 use Rattle.pw_store.proofs.Refusals.{table_cause}
-use Rattle.pw_store.proofs.Sound.{good_if}
+use Rattle.pw_store.proofs.Sound.{good_if, listed_if}
 use Rattle.pw_store.proofs.opening.check_readings.Goals as goal
 
 pub returns-clause-good : goal.returns-clause-good
 returns-clause-good g c clean =
     let office = office_of c.args.office.now in
     let good = subst (λ (rows : List Row). OnOk c.judge.result (AreRecords office Readings rows)) c.as_slice.ensures.value c.judge.ensures.records in
-    good_if office Readings (state g.S.Store c.args.conn.now).now.trees (state g.S.Store c.all_readings.new.conn).now.trees c.in-Ok.rows.items c.judge.result (c.in-Ok.ensures.rows clean) (ap (λ (d : Database). d.trees) (c.in-Ok.ensures.same clean).0.now_is) good
+    good_if office Readings (state g.S.Store c.args.conn.now).now.trees c.in-Ok.rows.items c.judge.result (c.in-Ok.ensures.rows clean) good
+
+pub returns-clause-listed : goal.returns-clause-listed
+returns-clause-listed g c clean =
+    listed_if Readings (state g.S.Store c.args.conn.now).now.trees c.in-Ok.rows.items c.as_slice.result.now c.judge.result (c.in-Ok.ensures.rows clean) c.as_slice.ensures.value c.judge.ensures.read
 
 pub returns-clause-cause : goal.returns-clause-cause
 returns-clause-cause g c clean =

@@ -1,9 +1,7 @@
 use Rattle.sqlite.specs.Held.{state}
 use Rattle.pw_schema.proofs.Outcomes.{early}
-use Rattle.pw_shelf.specs.Seconds.{IsBefore, IsBehind}
-use Rattle.pw_store.specs.Content.{point_in, point_tree, start_in, start_tree, total_in}
-use Rattle.pw_store.specs.inner.Seconds.{point_told, start_told}
-use Rattle.std.proofs.Common.{◌≡◌, ◌≤◌, Some}
+use Rattle.pw_shelf.specs.Seconds.{IsBefore}
+use Rattle.pw_store.specs.Content.{point_in, point_tree}
 use Rattle.pw_store.proofs.InTurn.{trees_same, one_if}
 use Rattle.pw_store.proofs.questions.point_before.Goals as goal
 

@@ -1,12 +1,9 @@
-use Rattle.std.proofs.Common.{List, map, subst}
-use Rattle.std.specs.List.Sorted.{IsPermutation}
+use Rattle.std.proofs.Common.{List}
 use Rattle.sqlite.specs.Held.{state}
 use Rattle.sqlite.specs.Order.{Row}
 use Rattle.pw_tariff.specs.Office.{office_of}
-use Rattle.pw_schema.proofs.Outcomes.{early}
 use Rattle.pw_schema.specs.declared.kind.TotalKind.TheVariants.{Payments}
 use Rattle.pw_store.specs.Content.{payment_tree}
-use Rattle.pw_store.proofs.InTurn.{trees_same}
 use Rattle.pw_store.proofs.Checked.{totals_hold, totals_tell, totals_cause, payments_numbered_if}
 use Rattle.pw_store.proofs.sums.read_payments.Goals as goal
 

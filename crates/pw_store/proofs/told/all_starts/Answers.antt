@@ -1,4 +1,4 @@
-use Rattle.std.proofs.Common.{◌++◌, ◌∷◌, sym, subst, List, [], take}
+use Rattle.std.proofs.Common.{sym, subst, List, take}
 use Rattle.sqlite.specs.Order.{Row}
 use Rattle.pw_model.specs.Lists.{IsInOrder}
 use Rattle.pw_shelf.specs.Seconds.{by_second}

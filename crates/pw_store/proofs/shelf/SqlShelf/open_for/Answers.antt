@@ -1,6 +1,6 @@
 use Rattle.sqlite.specs.Held.{state}
 use Rattle.pw_tariff.specs.Office.{office_of}
-use Rattle.pw_store.proofs.Fresh.{left_alone, open_content, open_few}
+use Rattle.pw_store.proofs.Fresh.{left_alone, open_content, open_few, open_truth}
 use Rattle.pw_store.proofs.shelf.SqlShelf.open_for.Goals as goal
 
 pub returns-in-Ok-clause-left : goal.returns-in-Ok-clause-left
@@ -12,3 +12,6 @@ returns-in-Ok-clause-content g c clean = open_content (state g.S.Store c.prepare
 
 pub returns-in-Ok-clause-few : goal.returns-in-Ok-clause-few
 returns-in-Ok-clause-few g c clean = open_few (state g.S.Store c.prepare.new.conn) (state g.S.Store c.of-base.result.value) (office_of c.args.office.now) c.args.office_text.now (state g.S.Store c.args.connection).committed (c.in-Ok.ensures.opened clean)
+
+pub returns-in-Ok-clause-truth : goal.returns-in-Ok-clause-truth
+returns-in-Ok-clause-truth g c clean = open_truth (state g.S.Store c.prepare.new.conn) (state g.S.Store c.of-base.result.value) (office_of c.args.office.now) c.args.office_text.now (state g.S.Store c.args.connection).committed (c.in-Ok.ensures.opened clean)

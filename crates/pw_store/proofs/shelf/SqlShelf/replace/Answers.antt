@@ -1,5 +1,3 @@
-use Rattle.sqlite.specs.Held.{state}
-use Rattle.pw_store.specs.Kept.{held_of}
 use Rattle.pw_store.specs.inner.Changing.{changed}
 use Rattle.pw_store.proofs.Again.{again_if}
 use Rattle.pw_store.proofs.shelf.SqlShelf.replace.Goals as goal
