@@ -7,13 +7,13 @@ use std::fs::File;
 use std::io::{ErrorKind, Read};
 
 /// The longest office file, in bytes.
-pub const LONGEST_OFFICE: usize = 1_048_576;
+pub const LONGEST_OFFICE: u32 = 1_048_576;
 
 /// The longest body of an upload, in bytes.
-pub const LONGEST_BODY: usize = 262_144;
+pub const LONGEST_BODY: u32 = 262_144;
 
 /// The bytes of a file. `TooLarge` where there are more than `most`; `Memory`; `Device` where it can't be read.
-pub fn read_file(rt: &HostRuntime, path: &str, most: usize) -> Result<Vec<u8>, Fault>
+pub fn read_file(rt: &HostRuntime, path: &str, most: u32) -> Result<Vec<u8>, Fault>
     ensures { IfOk result (λ bytes. length bytes.items ≤ most) }
 {
     match File::open(rt, path) {
@@ -22,12 +22,12 @@ pub fn read_file(rt: &HostRuntime, path: &str, most: usize) -> Result<Vec<u8>, F
     }
 }
 
-fn read_whole(rt: &HostRuntime, file: File, most: usize) -> Result<Vec<u8>, Fault>
+fn read_whole(rt: &HostRuntime, file: File, most: u32) -> Result<Vec<u8>, Fault>
     ensures { IfOk result (λ bytes. length bytes.items ≤ most) }
 {
     let mut bytes = Vec::new(rt.alloc());
-    match file.take(most as u64 + 1).read_to_end(&mut bytes) {
-        Ok(_) if bytes.len() <= most => Ok(bytes),
+    match file.take(u64::from(most) + 1).read_to_end(&mut bytes) {
+        Ok(_) if bytes.len() <= most as usize => Ok(bytes),
         Ok(_) => Err(Fault::TooLarge),
         Err(error) => Err(reading_failed(error.kind())),
     }

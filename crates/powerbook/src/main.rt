@@ -3,6 +3,7 @@
 
 mod fault;
 mod files;
+mod hints;
 mod pipe;
 mod run;
 mod sample;
@@ -13,9 +14,10 @@ mod telling;
 mod tests;
 
 use crate::fault::Fault;
+use crate::hints::name_unreadable;
 use crate::run::run;
 use crate::telling::tell;
-use std::io::ErrorKind;
+use std::io::{ErrorKind, IsTerminal, Write};
 use std::process::ExitCode;
 use std::rt::Env;
 use std::{env, io};
@@ -34,13 +36,19 @@ fn status_of(rt: &HostRuntime) -> u8 {
         Err(error) if error.kind() == ErrorKind::OutOfMemory => {
             return tell(Fault::Memory, &mut err);
         }
-        Err(_) => return WRONG_WORDS,
+        Err(_) => {
+            let _ = err.write_all(b"powerbook: a word isn't UTF-8\n");
+            return WRONG_WORDS;
+        }
     };
     let mut words = Vec::new(rt.alloc());
     for word in owned.iter() {
         if words.push(word.as_str()).is_err() {
             return tell(Fault::Memory, &mut err);
         }
+    }
+    if err.is_terminal() {
+        name_unreadable(rt, words.as_slice(), &mut err);
     }
     run(rt, words.as_slice(), &mut input, &mut out, &mut err)
 }

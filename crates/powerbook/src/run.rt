@@ -1,9 +1,11 @@
 //! The commands.
 
-ghost use Rattle.std.specs.Prelude.{◌≡◌, List, Some, ℕ};
+ghost use Rattle.std.specs.Prelude.{◌≡◌, List, Some, ℕ, IfOk};
+ghost use Rattle.pw_tariff.specs.Office.{office_of};
+ghost use Rattle.pw_model.specs.Office.{AllOfOffice};
 ghost use Rattle.pw_read.specs.Run.{IsRun};
 ghost use Rattle.pw_time.specs.declared.zone.Clock.{Clock};
-ghost use Rattle.pw_words.specs.Words.{IsSound};
+ghost use Rattle.pw_words.specs.Words.{IsLimit, IsSound};
 ghost use Rattle.pw_words.specs.declared.commands.Command.TheVariants.{Read};
 
 use crate::fault::Fault;
@@ -114,7 +116,9 @@ fn load(
     kind: Kind<'_>,
     file: &str,
     limit: u32,
-) -> Result<Vec<u8>, Fault> {
+) -> Result<Vec<u8>, Fault>
+    requires { IsLimit limit }
+{
     let text = read_file(rt, office, LONGEST_OFFICE)?;
     let office = Office::read(rt.alloc(), text.as_slice())?;
     let body = read_file(rt, file, LONGEST_BODY)?;
@@ -125,7 +129,9 @@ fn load(
     line
 }
 
-fn post(rt: &HostRuntime, book: &mut FileBook, entries: &[Entry]) -> Result<Vec<u8>, Fault> {
+fn post(rt: &HostRuntime, book: &mut FileBook, entries: &[Entry]) -> Result<Vec<u8>, Fault>
+    requires { AllOfOffice (office_of book.old.office) entries.now }
+{
     let accepted = book.post(rt.alloc(), entries)?;
     match format!(in rt.alloc(); "{accepted}\n") {
         Ok(line) => Ok(line.into_bytes()),
@@ -138,7 +144,9 @@ fn entries_of(
     office: &Office,
     kind: Kind<'_>,
     body: &[u8],
-) -> Result<Vec<Entry>, Fault> {
+) -> Result<Vec<Entry>, Fault>
+    ensures { IfOk result (λ entries. AllOfOffice (office_of office.now) entries.items) }
+{
     let (alloc, zone) = (rt.alloc(), Zone::central());
     let entries = match kind {
         Kind::Telegrams => telegram_records(alloc, office, &zone, body)?,
@@ -149,7 +157,9 @@ fn entries_of(
     Ok(entries)
 }
 
-fn book_at(rt: &HostRuntime, office: &str, store: &str, limit: u32) -> Result<FileBook, Fault> {
+fn book_at(rt: &HostRuntime, office: &str, store: &str, limit: u32) -> Result<FileBook, Fault>
+    requires { IsLimit limit }
+{
     let text = read_file(rt, office, LONGEST_OFFICE)?;
     let office = Office::read(rt.alloc(), text.as_slice())?;
     open_book(rt, store, office, text.as_slice(), limit)

@@ -1,6 +1,6 @@
 //! The server: connections of this machine, one after the other.
 
-ghost use Rattle.std.specs.Prelude.{◌≡◌, ◌⊎◌};
+ghost use Rattle.std.specs.Prelude.{◌≡◌, ◌⊎◌, IfErr};
 
 use crate::fault::Fault;
 use crate::store::{FileBook, close_book};
@@ -40,7 +40,9 @@ pub fn serve<O: Write, E: Write>(
     }
 }
 
-fn listener_at<O: Write>(rt: &HostRuntime, port: u16, out: &mut O) -> Result<TcpListener, Fault> {
+fn listener_at<O: Write>(rt: &HostRuntime, port: u16, out: &mut O) -> Result<TcpListener, Fault>
+    ensures { IfErr result (λ fault. (fault ≡ Fault.Device) ⊎ (fault ≡ Fault.Memory)) }
+{
     let Ok(listener) = TcpListener::bind(rt, ("127.0.0.1", port)) else {
         return Err(Fault::Device);
     };

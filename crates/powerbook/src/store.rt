@@ -1,5 +1,9 @@
 //! A book over a store file.
 
+ghost use Rattle.std.specs.Prelude.{◌≡◌, IfErr, IfOk};
+ghost use Rattle.pw_tariff.specs.Text.{IsOfficeOf};
+ghost use Rattle.pw_words.specs.Words.{IsLimit};
+
 use crate::fault::Fault;
 use pw_book::Book;
 use pw_store::SqlShelf;
@@ -19,7 +23,11 @@ pub fn open_book(
     office: Office,
     text: &[u8],
     limit: u32,
-) -> Result<FileBook, Fault> {
+) -> Result<FileBook, Fault>
+    requires office { IsOfficeOf text.now office }
+    requires limit { IsLimit limit }
+    ensures { IfOk result (λ book. book.office ≡ office) }
+{
     let connection = match Connection::open(rt, path) {
         Ok(connection) => connection,
         Err(Error::SqliteFailure(ErrorCode::OutOfMemory)) => return Err(Fault::Memory),
@@ -35,7 +43,9 @@ pub fn open_book(
 }
 
 /// Closes a book's store. What was committed stands in the file already; `Device` where the file can't be tidied.
-pub fn close_book(book: FileBook) -> Result<(), Fault> {
+pub fn close_book(book: FileBook) -> Result<(), Fault>
+    ensures { IfErr result (λ fault. fault ≡ Fault.Device) }
+{
     match book.into_shelf().close().close() {
         Ok(()) => Ok(()),
         Err(_) => Err(Fault::Device),

@@ -1,8 +1,7 @@
-//! The commands over files, and what is told of faults.
+//! The commands over files: what they print, in which order faults are told, and the exit status.
 
+mod exports;
+mod files;
+mod pipes;
+mod refusals;
 mod server;
-
-use crate::run::run;
-use std::fs;
-use std::io::{self, ErrorKind, Read, Write};
-use std::test::Fail;

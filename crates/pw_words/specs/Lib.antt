@@ -1,2 +1,4 @@
--- Words: which words a command's parts are told by, and what holds of each command
+-- Words: what holds of each command that words ask for
 pub mod Words
+-- named by private functions alone
+pub mod inner

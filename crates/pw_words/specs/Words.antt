@@ -1,14 +1,10 @@
--- The program's words: by which words the parts of a command are told, and what holds of each command.
+-- What words ask for, and what holds of each command.
 -- (Definitions of this project.)
-use Rattle.std.specs.Prelude.{◌≡◌, ◌≤◌, ℕ, List, Option, Some, None, codes, ⊤}
+use Rattle.std.specs.Prelude.{◌≡◌, ◌≤◌, ℕ, List, [], ◌∷◌, codes, ⊤}
 use Rattle.pw_time.specs.declared.zone.Clock.{Clock}
 use Rattle.pw_time.specs.declared.zone.Clock.TheVariants.{Marked, Winter, Local}
 use Rattle.pw_words.specs.declared.commands.Command.{Command}
 use Rattle.pw_words.specs.declared.commands.Command.TheVariants as command
-use Rattle.pw_words.specs.declared.commands.Kind.{Kind}
-use Rattle.pw_words.specs.declared.commands.Kind.TheVariants.{Telegrams, Readouts, Assignments, TopUps}
-use Rattle.pw_words.specs.declared.commands.What.{What}
-use Rattle.pw_words.specs.declared.commands.What.TheVariants.{Readings, Energy, Accounts, Falls, Disputes}
 
 -- a clock's word; a clock that marks its times is none of a readout
 abbrev pub IsClockWord : Clock → List ℕ → Type 0
@@ -16,20 +12,19 @@ IsClockWord Winter word = word ≡ codes "winter"
 IsClockWord Local word = word ≡ codes "local"
 IsClockWord Marked word = ⊥
 
--- the word of a kind of upload; of readouts the meter too
-abbrev pub IsKindWord : Kind → List ℕ → Option (List ℕ) → Type 0
-IsKindWord Telegrams word meter = word ≡ codes "telegrams"
-IsKindWord (Readouts id) word meter = (word ≡ codes "readouts") × (meter ≡ Some id.now)
-IsKindWord Assignments word meter = word ≡ codes "assignments"
-IsKindWord TopUps word meter = word ≡ codes "topups"
+-- `read`: winter time; or `read --clock` and the clock's word
+abbrev pub StatesClock : List (List ℕ) → Clock → Type 0
+StatesClock [] clock = ⊥
+StatesClock (command ∷ []) clock = (command ≡ codes "read") × (clock ≡ Winter)
+StatesClock (command ∷ flag ∷ name ∷ []) clock = (command ≡ codes "read") × (flag ≡ codes "--clock") × IsClockWord clock name
+StatesClock (command ∷ flag ∷ []) clock = ⊥
+StatesClock (command ∷ flag ∷ name ∷ other ∷ words) clock = ⊥
 
--- the word of a table
-abbrev pub IsTableWord : What → List ℕ → Type 0
-IsTableWord Readings word = word ≡ codes "readings"
-IsTableWord Energy word = word ≡ codes "energy"
-IsTableWord Accounts word = word ≡ codes "accounts"
-IsTableWord Falls word = word ≡ codes "falls"
-IsTableWord Disputes word = word ≡ codes "disputes"
+-- no word, or `pipe`
+abbrev pub AsksToPipe : List (List ℕ) → Type 0
+AsksToPipe [] = ⊤
+AsksToPipe (command ∷ []) = command ≡ codes "pipe"
+AsksToPipe (command ∷ other ∷ words) = ⊥
 
 -- the most records of a book
 abbrev pub IsLimit : ℕ → Type 0

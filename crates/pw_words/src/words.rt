@@ -1,8 +1,10 @@
 //! Which command words ask for.
 
-ghost use Rattle.std.specs.Prelude.{◌≡◌, IfOk, IfSome, IfNone, option_map};
+ghost use Rattle.std.specs.Prelude.{◌≡◌, ◌↔◌, IfOk, IfSome, IfNone, IsTrue, None, Ok, map, option_map};
 ghost use Rattle.pw_time.specs.declared.zone.Clock.{Clock};
-ghost use Rattle.pw_words.specs.Words.{IsClockWord, IsKindWord, IsLimit, IsSound, IsTableWord};
+ghost use Rattle.pw_words.specs.Words.{AsksToPipe, IsClockWord, IsLimit, IsSound, StatesClock};
+ghost use Rattle.pw_words.specs.declared.commands.Command.TheVariants as asks;
+ghost use Rattle.pw_words.specs.inner.Told.{IsKindWord, IsTableWord};
 
 use crate::commands::{Command, Kind, What};
 use crate::fault::{WordsFault, fault_of};
@@ -20,8 +22,19 @@ const USUAL_LIMIT: u32 = 1_000_000;
 /// Else `Help` with the text of help or of the version, where they ask for it; `Words` with a text that tells why they ask
 /// for no command; `Memory`.
 pub fn command<'a>(alloc: Global, words: &'a [&'a str]) -> Result<Command<'a>, WordsFault>
-    ensures { IfOk result IsSound }
+    ensures sound { IfOk result IsSound }
+    ensures read { (clock : Clock) → StatesClock (map (λ word. word.now) words.now) clock → result ≡ Ok (asks.Read clock) }
+    ensures pipe { AsksToPipe (map (λ word. word.now) words.now) → result ≡ Ok (asks.Pipe None 1_000_000) }
 {
+    if asks_to_pipe(words) {
+        return Ok(Command::Pipe {
+            office: None,
+            limit: USUAL_LIMIT,
+        });
+    }
+    if let Some(clock) = stated_clock(words) {
+        return Ok(Command::Read { clock });
+    }
     let matches = match parser(alloc)?.no_binary_name(true).try_get_matches_from(words) {
         Ok(matches) => matches,
         Err(error) => return Err(fault_of(alloc, &error)),
@@ -32,6 +45,37 @@ pub fn command<'a>(alloc: Global, words: &'a [&'a str]) -> Result<Command<'a>, W
     match parser(alloc)?.error(ErrorKind::MissingRequiredArgument, "a word is missing") {
         Ok(error) => Err(fault_of(alloc, &error)),
         Err(AllocError) => Err(WordsFault::Memory),
+    }
+}
+
+// Whether the words are those of a conversation with nothing else stated.
+fn asks_to_pipe(words: &[&str]) -> bool
+    ensures { IsTrue result ↔ AsksToPipe (map (λ word. word.now) words.now) }
+{
+    match words {
+        [] => true,
+        [command] => is_word(command, "pipe"),
+        _ => false,
+    }
+}
+
+fn is_word(word: &str, text: &str) -> bool
+    ensures { IsTrue result ↔ (word.now ≡ text.now) }
+{
+    word == text
+}
+
+// The clock of readouts, where the words are those of `read` and state no more than it.
+fn stated_clock(words: &[&str]) -> Option<Clock>
+    ensures some { IfSome result (λ clock. StatesClock (map (λ word. word.now) words.now) clock) }
+    ensures none { IfNone result ((clock : Clock) → StatesClock (map (λ word. word.now) words.now) clock → ⊥) }
+{
+    match words {
+        [command] if is_word(command, "read") => Some(Clock::Winter),
+        [command, flag, name] if is_word(command, "read") && is_word(flag, "--clock") => {
+            clock_named(name)
+        }
+        _ => None,
     }
 }
 
