@@ -1,9 +1,10 @@
 //! The commands.
 
-ghost use Rattle.std.specs.Prelude.{◌≡◌, List, Some, ℕ, IfOk};
+ghost use Rattle.std.specs.Prelude.{◌≡◌, List, Some, ℕ, IfOk, IfErr};
 ghost use Rattle.pw_tariff.specs.Office.{office_of};
 ghost use Rattle.pw_model.specs.Office.{AllOfOffice};
 ghost use Rattle.pw_read.specs.Run.{IsRun};
+ghost use Rattle.powerbook.specs.Loads.{Gives, Refused, page_of as the_page_of};
 ghost use Rattle.pw_time.specs.declared.zone.Clock.{Clock};
 ghost use Rattle.pw_words.specs.Words.{IsLimit, IsSound};
 ghost use Rattle.pw_words.specs.declared.commands.Command.TheVariants.{Read};
@@ -17,7 +18,7 @@ use crate::store::{FileBook, close_book, open_book};
 use crate::telling::{finish, tell};
 use pw_model::Entry;
 use pw_read::read_run;
-use pw_record::{assignment_records, readout_records, telegram_records, topup_records};
+use pw_record::{UploadFault, assignment_records, readout_records, telegram_records, topup_records};
 use pw_report::{Page, page_text, statement};
 use pw_tariff::Office;
 use pw_time::Zone;
@@ -144,17 +145,18 @@ fn entries_of(
     office: &Office,
     kind: Kind<'_>,
     body: &[u8],
-) -> Result<Vec<Entry>, Fault>
-    ensures { IfOk result (λ entries. AllOfOffice (office_of office.now) entries.items) }
+) -> Result<Vec<Entry>, UploadFault>
+    ensures entries { IfOk result (λ entries. Gives office.now kind body.now entries.items) }
+    ensures of_office { IfOk result (λ entries. AllOfOffice (office_of office.now) entries.items) }
+    ensures refused { IfErr result (λ fault. Refused office.now kind body.now fault) }
 {
     let (alloc, zone) = (rt.alloc(), Zone::central());
-    let entries = match kind {
-        Kind::Telegrams => telegram_records(alloc, office, &zone, body)?,
-        Kind::Readouts { meter } => readout_records(alloc, meter.as_bytes(), office, &zone, body)?,
-        Kind::Assignments => assignment_records(alloc, office, body)?,
-        Kind::TopUps => topup_records(alloc, office, body)?,
-    };
-    Ok(entries)
+    match kind {
+        Kind::Telegrams => telegram_records(alloc, office, &zone, body),
+        Kind::Readouts { meter } => readout_records(alloc, meter.as_bytes(), office, &zone, body),
+        Kind::Assignments => assignment_records(alloc, office, body),
+        Kind::TopUps => topup_records(alloc, office, body),
+    }
 }
 
 fn book_at(rt: &HostRuntime, office: &str, store: &str, limit: u32) -> Result<FileBook, Fault>
@@ -183,15 +185,20 @@ fn statement_of(
 }
 
 fn export(rt: &HostRuntime, office: &str, store: &str, what: What) -> Result<Vec<u8>, Fault> {
-    let page = match what {
+    let mut book = book_at(rt, office, store, MOST_RECORDS)?;
+    let text = page_text(&mut book, rt.alloc(), page_of(what));
+    close_book(book)?;
+    Ok(text?)
+}
+
+fn page_of(what: What) -> Page
+    ensures { result ≡ the_page_of what }
+{
+    match what {
         What::Readings => Page::Readings,
         What::Energy => Page::Energies,
         What::Accounts => Page::Accounts,
         What::Falls => Page::Falls,
         What::Disputes => Page::Disputes,
-    };
-    let mut book = book_at(rt, office, store, MOST_RECORDS)?;
-    let text = page_text(&mut book, rt.alloc(), page);
-    close_book(book)?;
-    Ok(text?)
+    }
 }

@@ -17,7 +17,7 @@ pub fn finish<O: Write, E: Write>(text: Result<Vec<u8>, Fault>, out: &mut O, err
     match text {
         Ok(text) => match write_whole(out, text.as_slice()) {
             Ok(()) => 0,
-            Err(fault) => tell(fault, err),
+            Err(failed) => tell(failed, err),
         },
         Err(fault) => tell(fault, err),
     }
