@@ -140,15 +140,16 @@ fn post(rt: &HostRuntime, book: &mut FileBook, entries: &[Entry]) -> Result<Vec<
     }
 }
 
-fn entries_of(
+/// The entries that a file of an upload gives, or why it is refused.
+pub fn entries_of(
     rt: &HostRuntime,
     office: &Office,
     kind: Kind<'_>,
     body: &[u8],
 ) -> Result<Vec<Entry>, UploadFault>
-    ensures entries { IfOk result (λ entries. Gives office.now kind body.now entries.items) }
+    ensures entries { IfOk result (λ entries. Gives office.now kind.entry body.now entries.items) }
     ensures of_office { IfOk result (λ entries. AllOfOffice (office_of office.now) entries.items) }
-    ensures refused { IfErr result (λ fault. Refused office.now kind body.now fault) }
+    ensures refused { IfErr result (λ fault. Refused office.now kind.entry body.now fault) }
 {
     let (alloc, zone) = (rt.alloc(), Zone::central());
     match kind {
@@ -191,7 +192,8 @@ fn export(rt: &HostRuntime, office: &str, store: &str, what: What) -> Result<Vec
     Ok(text?)
 }
 
-fn page_of(what: What) -> Page
+/// The page that an export is.
+pub fn page_of(what: What) -> Page
     ensures { result ≡ the_page_of what }
 {
     match what {
