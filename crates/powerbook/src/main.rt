@@ -1,17 +1,23 @@
-//! The program `powerbook`: its words and its exit status.
+//! The program `powerbook`.
 #![tactic(auto)]
 
+mod fault;
+mod files;
+mod hints;
 mod pipe;
+mod run;
 mod sample;
+mod serving;
+mod store;
+mod telling;
 #[cfg(test)]
 mod tests;
-mod words;
 
-use crate::pipe::pipe_run;
-use crate::sample::SAMPLE;
-use crate::words::{Command, command_of};
-use pw_read::read_run;
-use std::io::{ErrorKind, Write};
+use crate::fault::Fault;
+use crate::hints::name_unreadable;
+use crate::run::run;
+use crate::telling::tell;
+use std::io::{ErrorKind, IsTerminal, Write};
 use std::process::ExitCode;
 use std::rt::Env;
 use std::{env, io};
@@ -19,33 +25,32 @@ use std::{env, io};
 /// The exit status for words that no command has.
 const WRONG_WORDS: u8 = 2;
 
-/// The exit status for want of memory.
-const NO_MEMORY: u8 = 3;
-
 fn main(rt: HostRuntime) -> ExitCode {
-    let status = match words_of(&rt) {
-        Ok(words) => match command_of(words.as_slice()) {
-            Some(command) => {
-                let (mut input, mut out, mut err) = (rt.stdin(), rt.stdout(), rt.stderr());
-                match command {
-                    Command::Pipe => {
-                        let office = SAMPLE.as_bytes();
-                        pipe_run(rt.alloc(), office, &mut input, &mut out, &mut err)
-                    }
-                    Command::Read(clock) => {
-                        read_run(rt.alloc(), clock, &mut input, &mut out, &mut err)
-                    }
-                }
-            }
-            None => WRONG_WORDS,
-        },
+    ExitCode::from(status_of(&rt))
+}
+
+fn status_of(rt: &HostRuntime) -> u8 {
+    let (mut input, mut out, mut err) = (rt.stdin(), rt.stdout(), rt.stderr());
+    let owned = match words_of(rt) {
+        Ok(words) => words,
         Err(error) if error.kind() == ErrorKind::OutOfMemory => {
-            let _ = rt.stderr().write_all(b"refused 62 Memory\n");
-            NO_MEMORY
+            return tell(Fault::Memory, &mut err);
         }
-        Err(_) => WRONG_WORDS,
+        Err(_) => {
+            let _ = err.write_all(b"powerbook: a word isn't UTF-8\n");
+            return WRONG_WORDS;
+        }
     };
-    ExitCode::from(status)
+    let mut words = Vec::new(rt.alloc());
+    for word in owned.iter() {
+        if words.push(word.as_str()).is_err() {
+            return tell(Fault::Memory, &mut err);
+        }
+    }
+    if err.is_terminal() {
+        name_unreadable(rt, words.as_slice(), &mut err);
+    }
+    run(rt, words.as_slice(), &mut input, &mut out, &mut err)
 }
 
 /// The words behind the program's name. A word that is no text is an error.

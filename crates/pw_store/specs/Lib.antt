@@ -4,11 +4,13 @@
 -- Kept: what is known of a store over SQL
 -- Shown: of a kind of records, where its rows are and what one of them is
 -- Opening: what an opening finds, and why it is refused
+-- Faults: the number, name and line of an opening's fault
 pub mod Content
 pub mod Keyed
 pub mod Kept
 pub mod Shown
 pub mod Opening
+pub mod Faults
 -- named by private functions, tests and proofs alone
 pub mod inner
 -- facts that kept data needs

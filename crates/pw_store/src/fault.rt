@@ -6,6 +6,7 @@ ghost use Rattle.pw_shelf.specs.declared.fault.ShelfFault.TheVariants.{Device};
 
 use pw_shelf::{ShelfFault, Tally};
 use sqlite::{Error, ErrorCode};
+use std::fmt;
 
 /// Why a question has no answer.
 pub(crate) enum AskFault {
@@ -61,6 +62,54 @@ pub enum OpenFault {
     /// The tables aren't those of a store, a row is no record of the office, or points, starts and totals aren't those of
     /// the records.
     Unclean,
+}
+
+impl OpenFault {
+    ghost use Rattle.pw_store.specs.Faults.{open_name, open_number};
+
+    /// The number under which the fault is reported: 70 to 73, or 62.
+    pub fn number(self) -> u8
+        ensures { result ≡ open_number self }
+    {
+        match self {
+            OpenFault::Store => 70,
+            OpenFault::Memory => 62,
+            OpenFault::OfficeDiffers => 71,
+            OpenFault::Version => 72,
+            OpenFault::Unclean => 73,
+        }
+    }
+
+    /// The name under which the fault is reported: that of the variant.
+    pub fn name(self) -> &'static str
+        ensures { result.now ≡ open_name self }
+    {
+        match self {
+            OpenFault::Store => "Store",
+            OpenFault::Memory => "Memory",
+            OpenFault::OfficeDiffers => "OfficeDiffers",
+            OpenFault::Version => "Version",
+            OpenFault::Unclean => "Unclean",
+        }
+    }
+}
+
+/// The fault line without its end: `refused`, the number and the name.
+impl fmt::Display for OpenFault {
+    ghost use Rattle.std.specs.Prelude.{Some};
+    ghost use Rattle.pw_store.specs.Faults.{open_line};
+
+    ghost output = { λ fault. Some (open_line fault) };
+
+    fn fmt<W: fmt::Write>(&self, f: &mut fmt::Formatter<W>) -> fmt::Result {
+        match *self {
+            OpenFault::Store => write!(f, "refused 70 Store"),
+            OpenFault::Memory => write!(f, "refused 62 Memory"),
+            OpenFault::OfficeDiffers => write!(f, "refused 71 OfficeDiffers"),
+            OpenFault::Version => write!(f, "refused 72 Version"),
+            OpenFault::Unclean => write!(f, "refused 73 Unclean"),
+        }
+    }
 }
 
 /// What a refused statement is to an opening.

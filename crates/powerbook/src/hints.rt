@@ -1,0 +1,68 @@
+//! What a person at a terminal is told beside the fault lines: which file can't be opened, and why.
+
+use pw_words::Command;
+use pw_words::words::command;
+use std::fs;
+use std::fs::File;
+use std::io::{self, ErrorKind, Write};
+
+/// Tells each file that the words name and that can't be opened, a line for each.
+pub fn name_unreadable<E: Write>(rt: &HostRuntime, words: &[&str], err: &mut E) {
+    let Ok(asked) = command(rt.alloc(), words) else {
+        return;
+    };
+    match asked {
+        Command::Read { .. } | Command::Pipe { office: None, .. } => {}
+        Command::Check { office } => name_file(rt, office, err),
+        Command::Pipe {
+            office: Some(office),
+            ..
+        } => name_file(rt, office, err),
+        Command::Load {
+            office,
+            store,
+            file,
+            ..
+        } => {
+            name_file(rt, office, err);
+            name_file(rt, file, err);
+            name_store(rt, store, err);
+        }
+        Command::Statement { office, store, .. }
+        | Command::Export { office, store, .. }
+        | Command::Serve { office, store, .. } => {
+            name_file(rt, office, err);
+            name_store(rt, store, err);
+        }
+    }
+}
+
+fn name_file<E: Write>(rt: &HostRuntime, path: &str, err: &mut E) {
+    if let Err(error) = File::open(rt, path) {
+        name(path, &error, err);
+    }
+}
+
+// A store that isn't there yet is made, if its folder is there.
+fn name_store<E: Write>(rt: &HostRuntime, path: &str, err: &mut E) {
+    match fs::metadata(rt, path) {
+        Ok(found) if !found.is_file() => {
+            let _ = writeln!(err, "powerbook: {path} is no file");
+        }
+        Ok(_) => name_file(rt, path, err),
+        Err(error) if error.kind() == ErrorKind::NotFound => {
+            let folder = match path.rfind('/') {
+                Some(at) => &path[..at],
+                None => ".",
+            };
+            if folder != "" && fs::metadata(rt, folder).is_err() {
+                name(folder, &error, err);
+            }
+        }
+        Err(error) => name(path, &error, err),
+    }
+}
+
+fn name<E: Write>(path: &str, error: &io::Error, err: &mut E) {
+    let _ = writeln!(err, "powerbook: {path}: {error}");
+}

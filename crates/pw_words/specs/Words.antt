@@ -1,0 +1,41 @@
+-- What words ask for, and what holds of each command.
+-- (Definitions of this project.)
+use Rattle.std.specs.Prelude.{◌≡◌, ◌≤◌, ℕ, List, [], ◌∷◌, codes, ⊤}
+use Rattle.pw_time.specs.declared.zone.Clock.{Clock}
+use Rattle.pw_time.specs.declared.zone.Clock.TheVariants.{Marked, Winter, Local}
+use Rattle.pw_words.specs.declared.commands.Command.{Command}
+use Rattle.pw_words.specs.declared.commands.Command.TheVariants as command
+
+-- a clock's word; a clock that marks its times is none of a readout
+abbrev pub IsClockWord : Clock → List ℕ → Type 0
+IsClockWord Winter word = word ≡ codes "winter"
+IsClockWord Local word = word ≡ codes "local"
+IsClockWord Marked word = ⊥
+
+-- `read`: winter time; or `read --clock` and the clock's word
+abbrev pub StatesClock : List (List ℕ) → Clock → Type 0
+StatesClock [] clock = ⊥
+StatesClock (command ∷ []) clock = (command ≡ codes "read") × (clock ≡ Winter)
+StatesClock (command ∷ flag ∷ name ∷ []) clock = (command ≡ codes "read") × (flag ≡ codes "--clock") × IsClockWord clock name
+StatesClock (command ∷ flag ∷ []) clock = ⊥
+StatesClock (command ∷ flag ∷ name ∷ other ∷ words) clock = ⊥
+
+-- no word, or `pipe`
+abbrev pub AsksToPipe : List (List ℕ) → Type 0
+AsksToPipe [] = ⊤
+AsksToPipe (command ∷ []) = command ≡ codes "pipe"
+AsksToPipe (command ∷ other ∷ words) = ⊥
+
+-- the most records of a book
+abbrev pub IsLimit : ℕ → Type 0
+IsLimit limit = (1 ≤ limit) × (limit ≤ 10_000_000)
+
+-- a limit that a book takes, and a port that can be listened on
+abbrev pub IsSound : Command → Type 0
+IsSound (command.Read clock) = (clock ≡ Marked) → ⊥
+IsSound (command.Check office) = ⊤
+IsSound (command.Pipe office limit) = IsLimit limit
+IsSound (command.Load office store kind file limit) = IsLimit limit
+IsSound (command.Statement office store account) = ⊤
+IsSound (command.Export office store what) = ⊤
+IsSound (command.Serve office store count port limit) = IsLimit limit × (1 ≤ port)

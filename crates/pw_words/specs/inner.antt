@@ -1,0 +1,2 @@
+-- Told: by which words the parts of a command are told
+pub mod Told

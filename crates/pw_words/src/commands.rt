@@ -1,0 +1,73 @@
+//! The commands of the program.
+
+use pw_time::Clock;
+
+/// What the file of an upload holds.
+#[derive(Clone, Copy, Debug, PartialEq, Eq)]
+pub enum Kind<'a> {
+    /// DSMR P1 telegrams.
+    Telegrams,
+    /// IEC 62056-21 readouts of the meter with this id.
+    Readouts { meter: &'a str },
+    /// Rows that assign meters to accounts.
+    Assignments,
+    /// Rows of top-ups.
+    TopUps,
+}
+
+/// What is exported.
+#[derive(Clone, Copy, Debug, PartialEq, Eq)]
+pub enum What {
+    /// The readings held, as CSV.
+    Readings,
+    /// The energies and their costs, as CSV.
+    Energy,
+    /// The accounts with their balances.
+    Accounts,
+    /// The falls.
+    Falls,
+    /// The disputes.
+    Disputes,
+}
+
+/// What the program's words ask for. Files are told by their paths; a limit is 1 to 10,000,000 records.
+#[derive(Clone, Copy, Debug, PartialEq, Eq)]
+pub enum Command<'a> {
+    /// The frames of a body are printed, with the clock that readouts tell their time by.
+    Read { clock: Clock },
+    /// The size of an office is printed.
+    Check { office: &'a str },
+    /// Requests are read and replies written; without an office file, of the sample office.
+    Pipe {
+        office: Option<&'a str>,
+        limit: u32,
+    },
+    /// An upload is taken into a store.
+    Load {
+        office: &'a str,
+        store: &'a str,
+        kind: Kind<'a>,
+        file: &'a str,
+        limit: u32,
+    },
+    /// The statement of the account with this name is printed.
+    Statement {
+        office: &'a str,
+        store: &'a str,
+        account: &'a str,
+    },
+    /// A table is printed.
+    Export {
+        office: &'a str,
+        store: &'a str,
+        what: What,
+    },
+    /// `count` connections to a port of this machine are served.
+    Serve {
+        office: &'a str,
+        store: &'a str,
+        count: u32,
+        port: u16,
+        limit: u32,
+    },
+}

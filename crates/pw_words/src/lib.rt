@@ -1,0 +1,12 @@
+//! The program's words: which command they ask for.
+#![tactic(auto)]
+
+mod commands;
+mod fault;
+mod parser;
+#[cfg(test)]
+mod tests;
+pub mod words;
+
+pub use commands::{Command, Kind, What};
+pub use fault::WordsFault;

@@ -1,0 +1,189 @@
+//! Which command words ask for.
+
+ghost use Rattle.std.specs.Prelude.{◌≡◌, ◌↔◌, IfOk, IfSome, IfNone, IsTrue, None, Ok, map, option_map};
+ghost use Rattle.pw_time.specs.declared.zone.Clock.{Clock};
+ghost use Rattle.pw_words.specs.Words.{AsksToPipe, IsClockWord, IsLimit, IsSound, StatesClock};
+ghost use Rattle.pw_words.specs.declared.commands.Command.TheVariants as asks;
+ghost use Rattle.pw_words.specs.inner.Told.{IsKindWord, IsTableWord};
+
+use crate::commands::{Command, Kind, What};
+use crate::fault::{WordsFault, fault_of};
+use crate::parser::parser;
+use clap::ArgMatches;
+use clap::error::ErrorKind;
+use pw_time::Clock;
+use std::alloc::{AllocError, Global};
+
+/// The most records of a book, where the words don't state it.
+const USUAL_LIMIT: u32 = 1_000_000;
+
+/// The command that the words behind the program's name ask for. No word asks for `pipe`.
+///
+/// Else `Help` with the text of help or of the version, where they ask for it; `Words` with a text that tells why they ask
+/// for no command; `Memory`.
+pub fn command<'a>(alloc: Global, words: &'a [&'a str]) -> Result<Command<'a>, WordsFault>
+    ensures sound { IfOk result IsSound }
+    ensures read { (clock : Clock) → StatesClock (map (λ word. word.now) words.now) clock → result ≡ Ok (asks.Read clock) }
+    ensures pipe { AsksToPipe (map (λ word. word.now) words.now) → result ≡ Ok (asks.Pipe None 1_000_000) }
+{
+    if asks_to_pipe(words) {
+        return Ok(Command::Pipe {
+            office: None,
+            limit: USUAL_LIMIT,
+        });
+    }
+    if let Some(clock) = stated_clock(words) {
+        return Ok(Command::Read { clock });
+    }
+    let matches = match parser(alloc)?.no_binary_name(true).try_get_matches_from(words) {
+        Ok(matches) => matches,
+        Err(error) => return Err(fault_of(alloc, &error)),
+    };
+    if let Some(command) = command_of(&matches) {
+        return Ok(command);
+    }
+    match parser(alloc)?.error(ErrorKind::MissingRequiredArgument, "a word is missing") {
+        Ok(error) => Err(fault_of(alloc, &error)),
+        Err(AllocError) => Err(WordsFault::Memory),
+    }
+}
+
+// Whether the words are those of a conversation with nothing else stated.
+fn asks_to_pipe(words: &[&str]) -> bool
+    ensures { IsTrue result ↔ AsksToPipe (map (λ word. word.now) words.now) }
+{
+    match words {
+        [] => true,
+        [command] => is_word(command, "pipe"),
+        _ => false,
+    }
+}
+
+fn is_word(word: &str, text: &str) -> bool
+    ensures { IsTrue result ↔ (word.now ≡ text.now) }
+{
+    word == text
+}
+
+// The clock of readouts, where the words are those of `read` and state no more than it.
+fn stated_clock(words: &[&str]) -> Option<Clock>
+    ensures some { IfSome result (λ clock. StatesClock (map (λ word. word.now) words.now) clock) }
+    ensures none { IfNone result ((clock : Clock) → StatesClock (map (λ word. word.now) words.now) clock → ⊥) }
+{
+    match words {
+        [command] if is_word(command, "read") => Some(Clock::Winter),
+        [command, flag, name] if is_word(command, "read") && is_word(flag, "--clock") => {
+            clock_named(name)
+        }
+        _ => None,
+    }
+}
+
+fn command_of<'a>(matches: &ArgMatches<'a>) -> Option<Command<'a>>
+    ensures { IfSome result IsSound }
+{
+    match matches.subcommand() {
+        None => Some(Command::Pipe {
+            office: None,
+            limit: USUAL_LIMIT,
+        }),
+        Some(("read", words)) => Some(Command::Read {
+            clock: clock_named(words.get_str("clock")?)?,
+        }),
+        Some(("check", words)) => Some(Command::Check {
+            office: words.get_str("OFFICE")?,
+        }),
+        Some(("pipe", words)) => Some(Command::Pipe {
+            office: words.get_str("OFFICE"),
+            limit: limit_of(words)?,
+        }),
+        Some(("load", words)) => load_of(words),
+        Some(("statement", words)) => Some(Command::Statement {
+            office: words.get_str("OFFICE")?,
+            store: words.get_str("STORE")?,
+            account: words.get_str("ACCOUNT")?,
+        }),
+        Some(("export", words)) => Some(Command::Export {
+            office: words.get_str("OFFICE")?,
+            store: words.get_str("STORE")?,
+            what: table_named(words.get_str("WHAT")?)?,
+        }),
+        Some(("serve", words)) => serve_of(words),
+        Some(_) => None,
+    }
+}
+
+fn load_of<'a>(words: &ArgMatches<'a>) -> Option<Command<'a>>
+    ensures { IfSome result IsSound }
+{
+    Some(Command::Load {
+        office: words.get_str("OFFICE")?,
+        store: words.get_str("STORE")?,
+        kind: kind_named(words.get_str("KIND")?, words.get_str("meter"))?,
+        file: words.get_str("FILE")?,
+        limit: limit_of(words)?,
+    })
+}
+
+fn serve_of<'a>(words: &ArgMatches<'a>) -> Option<Command<'a>>
+    ensures { IfSome result IsSound }
+{
+    let port = words.get_one::<u16>("port")?;
+    if port == 0 {
+        return None;
+    }
+    Some(Command::Serve {
+        office: words.get_str("OFFICE")?,
+        store: words.get_str("STORE")?,
+        count: words.get_one::<u32>("count")?,
+        port,
+        limit: limit_of(words)?,
+    })
+}
+
+fn limit_of(words: &ArgMatches<'_>) -> Option<u32>
+    ensures { IfSome result IsLimit }
+{
+    let limit = words.get_one::<u32>("limit")?;
+    if (1..=10_000_000).contains(&limit) {
+        Some(limit)
+    } else {
+        None
+    }
+}
+
+fn clock_named(name: &str) -> Option<Clock>
+    ensures some { IfSome result (λ clock. IsClockWord clock name.now) }
+    ensures none { IfNone result ((clock : Clock) → IsClockWord clock name.now → ⊥) }
+{
+    match name {
+        "winter" => Some(Clock::Winter),
+        "local" => Some(Clock::Local),
+        _ => None,
+    }
+}
+
+fn kind_named<'a>(name: &str, meter: Option<&'a str>) -> Option<Kind<'a>>
+    ensures { IfSome result (λ kind. IsKindWord kind name.now (option_map (λ id. id.now) meter.entry)) }
+{
+    match name {
+        "telegrams" => Some(Kind::Telegrams),
+        "readouts" => Some(Kind::Readouts { meter: meter? }),
+        "assignments" => Some(Kind::Assignments),
+        "topups" => Some(Kind::TopUps),
+        _ => None,
+    }
+}
+
+fn table_named(name: &str) -> Option<What>
+    ensures { IfSome result (λ what. IsTableWord what name.now) }
+{
+    match name {
+        "readings" => Some(What::Readings),
+        "energy" => Some(What::Energy),
+        "accounts" => Some(What::Accounts),
+        "falls" => Some(What::Falls),
+        "disputes" => Some(What::Disputes),
+        _ => None,
+    }
+}
