@@ -18,7 +18,9 @@ use crate::store::{FileBook, close_book, open_book};
 use crate::telling::{finish, tell};
 use pw_model::Entry;
 use pw_read::read_run;
-use pw_record::{UploadFault, assignment_records, readout_records, telegram_records, topup_records};
+use pw_record::{
+    UploadFault, assignment_records, readout_records, telegram_records, topup_records,
+};
 use pw_report::{Page, page_text, statement};
 use pw_tariff::Office;
 use pw_time::Zone;
@@ -71,24 +73,44 @@ fn obey<I: Read, O: Write, E: Write>(
 {
     match asked {
         Command::Read { clock } => read_run(rt.alloc(), clock, input, out, err),
-        Command::Pipe { office: None, limit } => {
-            pipe_run(rt.alloc(), SAMPLE.as_bytes(), limit, input, out, err)
-        }
-        Command::Pipe { office: Some(path), limit } => {
+        Command::Pipe {
+            office: None,
+            limit,
+        } => { pipe_run(rt.alloc(), SAMPLE.as_bytes(), limit, input, out, err) }
+        Command::Pipe {
+            office: Some(path),
+            limit,
+        } => {
             match read_file(rt, path, LONGEST_OFFICE) {
                 Ok(text) => pipe_run(rt.alloc(), text.as_slice(), limit, input, out, err),
                 Err(fault) => tell(fault, err),
             }
         }
         Command::Check { office } => finish(check(rt, office), out, err),
-        Command::Load { office, store, kind, file, limit } => {
-            finish(load(rt, office, store, kind, file, limit), out, err)
-        }
-        Command::Statement { office, store, account } => {
-            finish(statement_of(rt, office, store, account), out, err)
-        }
-        Command::Export { office, store, what } => finish(export(rt, office, store, what), out, err),
-        Command::Serve { office, store, count, port, limit } => {
+        Command::Load {
+            office,
+            store,
+            kind,
+            file,
+            limit,
+        } => { finish(load(rt, office, store, kind, file, limit), out, err) }
+        Command::Statement {
+            office,
+            store,
+            account,
+        } => { finish(statement_of(rt, office, store, account), out, err) }
+        Command::Export {
+            office,
+            store,
+            what,
+        } => finish(export(rt, office, store, what), out, err),
+        Command::Serve {
+            office,
+            store,
+            count,
+            port,
+            limit,
+        } => {
             let book = match book_at(rt, office, store, limit) {
                 Ok(book) => book,
                 Err(fault) => return tell(fault, err),

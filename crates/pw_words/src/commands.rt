@@ -34,9 +34,13 @@ pub enum What {
 #[derive(Clone, Copy, Debug, PartialEq, Eq)]
 pub enum Command<'a> {
     /// The frames of a body are printed, with the clock that readouts tell their time by.
-    Read { clock: Clock },
+    Read {
+        clock: Clock,
+    },
     /// The size of an office is printed.
-    Check { office: &'a str },
+    Check {
+        office: &'a str,
+    },
     /// Requests are read and replies written; without an office file, of the sample office.
     Pipe {
         office: Option<&'a str>,

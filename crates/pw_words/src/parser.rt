@@ -21,7 +21,11 @@ fn office<'a>(alloc: Global) -> Arg<'a> {
 }
 
 fn store<'a>(alloc: Global) -> Arg<'a> {
-    required(alloc, "STORE", "The store file (SQLite); made where nothing is there")
+    required(
+        alloc,
+        "STORE",
+        "The store file (SQLite); made where nothing is there",
+    )
 }
 
 fn limit<'a>(alloc: Global) -> Arg<'a> {
@@ -41,23 +45,35 @@ fn read_command<'a>(alloc: Global) -> Result<Command<'a>, AllocError> {
         .default_value("winter")
         .help("The clock that readouts tell their time by");
     Command::new(alloc, "read")
-        .about("Prints the frames of a body on standard input: meters, stamps, registers in watt-hours")
-        .after_help("Exit status: 0; 1 refused; 2 wrong words; 3 a stream or memory failed.\nExample: powerbook read < telegram.txt")
+        .about(
+            "Prints the frames of a body on standard input: meters, stamps, registers in watt-hours",
+        )
+        .after_help(
+            "Exit status: 0; 1 refused; 2 wrong words; 3 a stream or memory failed.\nExample: powerbook read < telegram.txt",
+        )
         .arg(clock)
 }
 
 fn check_command<'a>(alloc: Global) -> Result<Command<'a>, AllocError> {
     Command::new(alloc, "check")
         .about("Reads an office file, and prints how many accounts, meters and bands it has")
-        .after_help("Exit status: 0; 1 refused; 2 wrong words; 3 the file or memory failed.\nExample: powerbook check office.toml")
+        .after_help(
+            "Exit status: 0; 1 refused; 2 wrong words; 3 the file or memory failed.\nExample: powerbook check office.toml",
+        )
         .arg(office(alloc))
 }
 
 fn pipe_command<'a>(alloc: Global) -> Result<Command<'a>, AllocError> {
-    let office = Arg::new(alloc, "OFFICE").help("The office file (TOML); without it, the sample office");
+    let office = Arg::new(alloc, "OFFICE").help(
+        "The office file (TOML); without it, the sample office",
+    );
     Command::new(alloc, "pipe")
-        .about("Reads HTTP requests on standard input and prints the replies; records are kept in memory until the end")
-        .after_help("Exit status: 0; 1 refused; 2 wrong words; 3 a file, stream or memory failed.\nExample: powerbook pipe office.toml < requests.txt")
+        .about(
+            "Reads HTTP requests on standard input and prints the replies; records are kept in memory until the end",
+        )
+        .after_help(
+            "Exit status: 0; 1 refused; 2 wrong words; 3 a file, stream or memory failed.\nExample: powerbook pipe office.toml < requests.txt",
+        )
         .arg(office)?
         .arg(limit(alloc))
 }
@@ -70,8 +86,12 @@ fn load_command<'a>(alloc: Global) -> Result<Command<'a>, AllocError> {
         .required_if_eq("KIND", "readouts")?
         .help("The meter of the readouts");
     Command::new(alloc, "load")
-        .about("Loads a file of telegrams, readouts, assignments or top-ups into a store, whole or not at all")
-        .after_help("Exit status: 0; 1 refused; 2 wrong words; 3 a file, stream, store or memory failed.\nExample: powerbook load office.toml book.db telegrams day.txt")
+        .about(
+            "Loads a file of telegrams, readouts, assignments or top-ups into a store, whole or not at all",
+        )
+        .after_help(
+            "Exit status: 0; 1 refused; 2 wrong words; 3 a file, stream, store or memory failed.\nExample: powerbook load office.toml book.db telegrams day.txt",
+        )
         .arg(office(alloc))?
         .arg(store(alloc))?
         .arg(kind)?
@@ -83,7 +103,9 @@ fn load_command<'a>(alloc: Global) -> Result<Command<'a>, AllocError> {
 fn statement_command<'a>(alloc: Global) -> Result<Command<'a>, AllocError> {
     Command::new(alloc, "statement")
         .about("Prints an account's energies, top-ups and balance")
-        .after_help("Exit status: 0; 1 refused; 2 wrong words; 3 a file, stream, store or memory failed.\nExample: powerbook statement office.toml book.db A1")
+        .after_help(
+            "Exit status: 0; 1 refused; 2 wrong words; 3 a file, stream, store or memory failed.\nExample: powerbook statement office.toml book.db A1",
+        )
         .arg(office(alloc))?
         .arg(store(alloc))?
         .arg(required(alloc, "ACCOUNT", "The account's name"))
@@ -92,8 +114,12 @@ fn statement_command<'a>(alloc: Global) -> Result<Command<'a>, AllocError> {
 fn export_command<'a>(alloc: Global) -> Result<Command<'a>, AllocError> {
     let what = required(alloc, "WHAT", "The table").value_parser(TABLES.as_slice());
     Command::new(alloc, "export")
-        .about("Prints a table of a store: readings and energy as CSV, accounts, falls and disputes as text")
-        .after_help("Exit status: 0; 1 refused; 2 wrong words; 3 a file, stream, store or memory failed.\nExample: powerbook export office.toml book.db readings > readings.csv")
+        .about(
+            "Prints a table of a store: readings and energy as CSV, accounts, falls and disputes as text",
+        )
+        .after_help(
+            "Exit status: 0; 1 refused; 2 wrong words; 3 a file, stream, store or memory failed.\nExample: powerbook export office.toml book.db readings > readings.csv",
+        )
         .arg(office(alloc))?
         .arg(store(alloc))?
         .arg(what)
@@ -114,7 +140,9 @@ fn serve_command<'a>(alloc: Global) -> Result<Command<'a>, AllocError> {
         .help("The port on 127.0.0.1");
     Command::new(alloc, "serve")
         .about("Serves a store to HTTP clients of this machine")
-        .after_help("Exit status: 0; 1 refused; 2 wrong words; 3 a file, socket, store or memory failed.\nExample: powerbook serve office.toml book.db --count 100")
+        .after_help(
+            "Exit status: 0; 1 refused; 2 wrong words; 3 a file, socket, store or memory failed.\nExample: powerbook serve office.toml book.db --count 100",
+        )
         .arg(office(alloc))?
         .arg(store(alloc))?
         .arg(count)?
@@ -127,7 +155,9 @@ pub(crate) fn parser<'a>(alloc: Global) -> Result<Command<'a>, AllocError> {
     Command::new(alloc, "powerbook")
         .version("1.0.0")
         .about("Meter readings and prepaid accounts of an electricity cooperative")
-        .after_help("Without a command it acts as pipe. Each command tells more: powerbook load --help.")
+        .after_help(
+            "Without a command it acts as pipe. Each command tells more: powerbook load --help.",
+        )
         .subcommand(read_command(alloc)?)?
         .subcommand(check_command(alloc)?)?
         .subcommand(pipe_command(alloc)?)?

@@ -57,12 +57,30 @@ fn load<'a>(kind: Kind<'a>, limit: u32) -> Command<'a> {
 fn words_of_loads(rt: HostRuntime) -> Result<(), Fail> {
     let readouts = Kind::Readouts { meter: "Z7" };
     let cases = [
-        (["load", "o", "s", "telegrams", "f"].as_slice(), load(Kind::Telegrams, LIMIT)),
-        (["load", "o", "s", "telegrams", "f", "--meter", "Z7"].as_slice(), load(Kind::Telegrams, LIMIT)),
-        (["load", "o", "s", "readouts", "f", "--meter", "Z7"].as_slice(), load(readouts, LIMIT)),
-        (["load", "--meter=Z7", "o", "s", "readouts", "f"].as_slice(), load(readouts, LIMIT)),
-        (["load", "o", "s", "assignments", "f", "--limit", "1"].as_slice(), load(Kind::Assignments, 1)),
-        (["load", "o", "s", "topups", "f", "--limit", "10000000"].as_slice(), load(Kind::TopUps, 10_000_000)),
+        (
+            ["load", "o", "s", "telegrams", "f"].as_slice(),
+            load(Kind::Telegrams, LIMIT),
+        ),
+        (
+            ["load", "o", "s", "telegrams", "f", "--meter", "Z7"].as_slice(),
+            load(Kind::Telegrams, LIMIT),
+        ),
+        (
+            ["load", "o", "s", "readouts", "f", "--meter", "Z7"].as_slice(),
+            load(readouts, LIMIT),
+        ),
+        (
+            ["load", "--meter=Z7", "o", "s", "readouts", "f"].as_slice(),
+            load(readouts, LIMIT),
+        ),
+        (
+            ["load", "o", "s", "assignments", "f", "--limit", "1"].as_slice(),
+            load(Kind::Assignments, 1),
+        ),
+        (
+            ["load", "o", "s", "topups", "f", "--limit", "10000000"].as_slice(),
+            load(Kind::TopUps, 10_000_000),
+        ),
     ];
     for (words, wanted) in cases {
         match command(rt.alloc(), words) {
@@ -100,14 +118,38 @@ fn words_of_questions(rt: HostRuntime) -> Result<(), Fail> {
     };
     let cases = [
         (["statement", "o", "s", "A1"].as_slice(), statement),
-        (["export", "o", "s", "readings"].as_slice(), export(What::Readings)),
-        (["export", "o", "s", "energy"].as_slice(), export(What::Energy)),
-        (["export", "o", "s", "accounts"].as_slice(), export(What::Accounts)),
-        (["export", "o", "s", "falls"].as_slice(), export(What::Falls)),
-        (["export", "o", "s", "disputes"].as_slice(), export(What::Disputes)),
-        (["serve", "o", "s", "--count", "0"].as_slice(), serve(0, 8_460)),
-        (["serve", "o", "s", "--count", "4294967295", "--port", "1"].as_slice(), serve(u32::MAX, 1)),
-        (["serve", "o", "s", "--port=65535", "--count=2"].as_slice(), serve(2, 65_535)),
+        (
+            ["export", "o", "s", "readings"].as_slice(),
+            export(What::Readings),
+        ),
+        (
+            ["export", "o", "s", "energy"].as_slice(),
+            export(What::Energy),
+        ),
+        (
+            ["export", "o", "s", "accounts"].as_slice(),
+            export(What::Accounts),
+        ),
+        (
+            ["export", "o", "s", "falls"].as_slice(),
+            export(What::Falls),
+        ),
+        (
+            ["export", "o", "s", "disputes"].as_slice(),
+            export(What::Disputes),
+        ),
+        (
+            ["serve", "o", "s", "--count", "0"].as_slice(),
+            serve(0, 8_460),
+        ),
+        (
+            ["serve", "o", "s", "--count", "4294967295", "--port", "1"].as_slice(),
+            serve(u32::MAX, 1),
+        ),
+        (
+            ["serve", "o", "s", "--port=65535", "--count=2"].as_slice(),
+            serve(2, 65_535),
+        ),
     ];
     for (words, wanted) in cases {
         match command(rt.alloc(), words) {

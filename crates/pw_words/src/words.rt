@@ -35,7 +35,10 @@ pub fn command<'a>(alloc: Global, words: &'a [&'a str]) -> Result<Command<'a>, W
     if let Some(clock) = stated_clock(words) {
         return Ok(Command::Read { clock });
     }
-    let matches = match parser(alloc)?.no_binary_name(true).try_get_matches_from(words) {
+    let matches = match parser(alloc)?
+        .no_binary_name(true)
+        .try_get_matches_from(words)
+    {
         Ok(matches) => matches,
         Err(error) => return Err(fault_of(alloc, &error)),
     };

@@ -1,11 +1,12 @@
 //! What a store's tables and exports hold, behind loads from files.
 
-use crate::tests::files::{ASSIGNMENT, Ran, Room, TOPUP, loaded, ran, room, told};
+use crate::tests::files::{ASSIGNMENT, Outcome, Place, TOPUP, loaded, ran, room, told};
 use std::test::Fail;
 use std::{fs, io};
 
 /// The readings of 06:00 and 08:00, of 1,000 kWh and 1,003.001 kWh.
-const TWO_READINGS: &str = "/PWB5X\r\n\r\n0-0:1.0.0(240102060000W)\r\n0-0:96.1.1(4D31)\r\n1-0:1.8.1(001000.000*kWh)\r\n!1790\r\n/PWB5X\r\n\r\n0-0:1.0.0(240102080000W)\r\n0-0:96.1.1(4D31)\r\n1-0:1.8.1(001003.001*kWh)\r\n!C033\r\n";
+const TWO_READINGS: &str =
+    "/PWB5X\r\n\r\n0-0:1.0.0(240102060000W)\r\n0-0:96.1.1(4D31)\r\n1-0:1.8.1(001000.000*kWh)\r\n!1790\r\n/PWB5X\r\n\r\n0-0:1.0.0(240102080000W)\r\n0-0:96.1.1(4D31)\r\n1-0:1.8.1(001003.001*kWh)\r\n!C033\r\n";
 
 const STATEMENT: &str = "account A1
 band       import Wh       export Wh
@@ -41,7 +42,7 @@ A2                                          0.00
 ";
 
 /// A store that holds an assignment, two readings and a top-up.
-fn filled(rt: &HostRuntime, name: &str) -> io::Result<Room> {
+fn filled(rt: &HostRuntime, name: &str) -> io::Result<Place> {
     let room = room(rt, name)?;
     loaded(rt, &room, "assignments", ASSIGNMENT)?;
     loaded(rt, &room, "telegrams", TWO_READINGS)?;
@@ -49,8 +50,11 @@ fn filled(rt: &HostRuntime, name: &str) -> io::Result<Room> {
     Ok(room)
 }
 
-fn exported(rt: &HostRuntime, room: &Room, what: &str) -> Ran {
-    ran(rt, &["export", room.office.as_str(), room.store.as_str(), what])
+fn exported(rt: &HostRuntime, room: &Place, what: &str) -> Outcome {
+    ran(
+        rt,
+        &["export", room.office.as_str(), room.store.as_str(), what],
+    )
 }
 
 #[test]
@@ -67,7 +71,14 @@ fn a_statement_is_printed(rt: HostRuntime) -> Result<(), Fail> {
 fn tables_are_printed(rt: HostRuntime) -> Result<(), Fail> {
     let room = filled(&rt, "tables")?;
     assert!(rt; told(&exported(&rt, &room, "accounts"), 0, ACCOUNTS, ""));
-    assert!(rt; told(&exported(&rt, &room, "falls"), 0, "meter register from wh to wh\n", ""));
+    assert!(rt;
+        told(
+            &exported(&rt, &room, "falls"),
+            0,
+            "meter register from wh to wh\n",
+            ""
+        )
+    );
     assert!(rt; told(&exported(&rt, &room, "disputes"), 0, "key records\n", ""));
     fs::remove_dir_all(&rt, room.folder.as_str())?;
     Ok(())

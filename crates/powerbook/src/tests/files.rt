@@ -9,32 +9,34 @@ pub const ASSIGNMENT: &str = "meter,start,account\n4D31,2024-01-01T00:00:00Z,A1\
 
 pub const TOPUP: &str = "reference,account,cents,instant\nP1,A1,5000,2024-01-01T00:00:00Z\n";
 
-pub const FIRST: &str = "/PWB5X\r\n\r\n0-0:1.0.0(240102060000W)\r\n0-0:96.1.1(4D31)\r\n1-0:1.8.1(001000.000*kWh)\r\n!1790\r\n";
+pub const FIRST: &str =
+    "/PWB5X\r\n\r\n0-0:1.0.0(240102060000W)\r\n0-0:96.1.1(4D31)\r\n1-0:1.8.1(001000.000*kWh)\r\n!1790\r\n";
 
 /// A folder of a test's own, with the sample office in the file `office`.
-pub struct Room {
+#[derive(Drop)]
+pub struct Place {
     pub folder: String,
     pub office: String,
     pub store: String,
 }
 
 /// What a run answered: its status, and what it wrote.
-#[derive(Debug)]
-pub struct Ran {
+#[derive(Debug, Drop)]
+pub struct Outcome {
     pub status: u8,
     pub out: Vec<u8>,
     pub err: Vec<u8>,
 }
 
 /// Makes the folder of a test anew.
-pub fn room(rt: &HostRuntime, name: &str) -> io::Result<Room> {
+pub fn room(rt: &HostRuntime, name: &str) -> io::Result<Place> {
     let (temp, id) = (env::temp_dir(rt)?, process::id(rt.process()));
     let folder = format!(in rt.alloc(); "{}/powerbook-{id}-{name}", temp.as_str())?;
     fs::create_dir(rt, folder.as_str())?;
     let office = format!(in rt.alloc(); "{folder}/office.toml")?;
     let store = format!(in rt.alloc(); "{folder}/book.db")?;
     fs::write(rt, office.as_str(), SAMPLE)?;
-    Ok(Room {
+    Ok(Place {
         folder,
         office,
         store,
@@ -42,29 +44,37 @@ pub fn room(rt: &HostRuntime, name: &str) -> io::Result<Room> {
 }
 
 /// Runs the program with nothing on its standard input.
-pub fn ran(rt: &HostRuntime, words: &[&str]) -> Ran {
+pub fn ran(rt: &HostRuntime, words: &[&str]) -> Outcome {
     let (mut out, mut err) = (Vec::new(rt.alloc()), Vec::new(rt.alloc()));
     let mut input = b"".as_slice();
     let status = run(rt, words, &mut input, &mut out, &mut err);
-    Ran { status, out, err }
+    Outcome { status, out, err }
 }
 
 /// Whether a run ended with this status and these texts.
-pub fn told(ran: &Ran, status: u8, out: &str, err: &str) -> bool {
-    ran.status == status && ran.out.as_slice() == out.as_bytes() && ran.err.as_slice() == err.as_bytes()
+pub fn told(ran: &Outcome, status: u8, out: &str, err: &str) -> bool {
+    ran.status == status
+        && ran.out.as_slice() == out.as_bytes()
+        && ran.err.as_slice() == err.as_bytes()
 }
 
 /// Writes a file of the folder, and answers its path.
-pub fn file(rt: &HostRuntime, room: &Room, name: &str, text: &str) -> io::Result<String> {
+pub fn file(rt: &HostRuntime, room: &Place, name: &str, text: &str) -> io::Result<String> {
     let path = format!(in rt.alloc(); "{}/{name}", room.folder)?;
     fs::write(rt, path.as_str(), text)?;
     Ok(path)
 }
 
 /// Loads a text of a kind into the folder's store.
-pub fn loaded(rt: &HostRuntime, room: &Room, kind: &str, text: &str) -> io::Result<Ran> {
+pub fn loaded(rt: &HostRuntime, room: &Place, kind: &str, text: &str) -> io::Result<Outcome> {
     let path = file(rt, room, "upload", text)?;
-    let words = ["load", room.office.as_str(), room.store.as_str(), kind, path.as_str()];
+    let words = [
+        "load",
+        room.office.as_str(),
+        room.store.as_str(),
+        kind,
+        path.as_str(),
+    ];
     Ok(ran(rt, &words))
 }
 
@@ -81,9 +91,15 @@ fn an_office_is_checked(rt: HostRuntime) -> Result<(), Fail> {
 fn a_telegram_is_loaded_twice(rt: HostRuntime) -> Result<(), Fail> {
     let room = room(&rt, "twice")?;
     let first = loaded(&rt, &room, "telegrams", FIRST)?;
-    assert!(rt; told(&first, 0, "accepted fresh 1 repeated 0\n", ""), "{first:?}");
+    assert!(rt;
+        told(&first, 0, "accepted fresh 1 repeated 0\n", ""),
+        "{first:?}"
+    );
     let second = loaded(&rt, &room, "telegrams", FIRST)?;
-    assert!(rt; told(&second, 0, "accepted fresh 0 repeated 1\n", ""), "{second:?}");
+    assert!(rt;
+        told(&second, 0, "accepted fresh 0 repeated 1\n", ""),
+        "{second:?}"
+    );
     fs::remove_dir_all(&rt, room.folder.as_str())?;
     Ok(())
 }

@@ -2,7 +2,7 @@
 
 use crate::pipe::pipe_run;
 use crate::sample::SAMPLE;
-use crate::tests::files::{Ran, told};
+use crate::tests::files::{Outcome, told};
 use std::alloc::Global;
 use std::io::{self, ErrorKind, Read, Write};
 use std::test::Fail;
@@ -78,7 +78,7 @@ fn refused_office_told(rt: HostRuntime) -> Result<(), Fail> {
     let (mut out, mut err) = (Vec::new(rt.alloc()), Vec::new(rt.alloc()));
     let office = b"accounts = []".as_slice();
     let status = pipe_run(rt.alloc(), office, LIMIT, &mut reader, &mut out, &mut err);
-    let ran = Ran { status, out, err };
+    let ran = Outcome { status, out, err };
     assert!(rt; told(&ran, 1, "", "refused 37 Empty\n"), "{ran:?}");
     Ok(())
 }

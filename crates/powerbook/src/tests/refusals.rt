@@ -12,7 +12,11 @@ const TOO_LARGE: &str = "body too large\n";
 #[test]
 fn files_that_cannot_be_read(rt: HostRuntime) -> Result<(), Fail> {
     let room = room(&rt, "unread")?;
-    let (office, store, folder) = (room.office.as_str(), room.store.as_str(), room.folder.as_str());
+    let (office, store, folder) = (
+        room.office.as_str(),
+        room.store.as_str(),
+        room.folder.as_str(),
+    );
     assert!(rt; told(&ran(&rt, &["check", "/nowhere/office"]), 3, "", DEVICE));
     assert!(rt; told(&ran(&rt, &["check", folder]), 3, "", DEVICE));
     let load = ran(&rt, &["load", office, store, "topups", "/nowhere/rows"]);
@@ -32,9 +36,19 @@ fn files_that_are_too_large(rt: HostRuntime) -> Result<(), Fail> {
     }
     let large = file(&rt, &room, "large", text.as_str())?;
     assert!(rt; told(&ran(&rt, &["check", large.as_str()]), 1, "", TOO_LARGE));
-    let body = loaded(&rt, &room, "readouts", &text.as_str()[..LONGEST_BODY as usize + 1])?;
+    let body = loaded(
+        &rt,
+        &room,
+        "readouts",
+        &text.as_str()[..LONGEST_BODY as usize + 1],
+    )?;
     assert_eq!(rt; body.status, 2);
-    let body = loaded(&rt, &room, "telegrams", &text.as_str()[..LONGEST_BODY as usize + 1])?;
+    let body = loaded(
+        &rt,
+        &room,
+        "telegrams",
+        &text.as_str()[..LONGEST_BODY as usize + 1],
+    )?;
     assert!(rt; told(&body, 1, "", TOO_LARGE));
     fs::remove_dir_all(&rt, room.folder.as_str())?;
     Ok(())
@@ -51,7 +65,15 @@ fn refusals_and_their_status(rt: HostRuntime) -> Result<(), Fail> {
     let rows = loaded(&rt, &room, "assignments", TOPUP)?;
     assert!(rt; told(&rows, 1, "", "refused 48 Header part 0\n"));
     let first = file(&rt, &room, "first", FIRST)?;
-    let words = ["load", office, store, "readouts", first.as_str(), "--meter", "Q"];
+    let words = [
+        "load",
+        office,
+        store,
+        "readouts",
+        first.as_str(),
+        "--meter",
+        "Q",
+    ];
     assert!(rt; told(&ran(&rt, &words), 1, "", "refused 41 UnknownMeter part 0\n"));
     fs::remove_dir_all(&rt, room.folder.as_str())?;
     Ok(())
@@ -63,9 +85,25 @@ fn a_full_book(rt: HostRuntime) -> Result<(), Fail> {
     let (office, store) = (room.office.as_str(), room.store.as_str());
     let first = file(&rt, &room, "first", FIRST)?;
     let rows = file(&rt, &room, "rows", TOPUP)?;
-    let words = ["load", office, store, "telegrams", first.as_str(), "--limit", "1"];
+    let words = [
+        "load",
+        office,
+        store,
+        "telegrams",
+        first.as_str(),
+        "--limit",
+        "1",
+    ];
     assert!(rt; told(&ran(&rt, &words), 0, "accepted fresh 1 repeated 0\n", ""));
-    let words = ["load", office, store, "topups", rows.as_str(), "--limit", "1"];
+    let words = [
+        "load",
+        office,
+        store,
+        "topups",
+        rows.as_str(),
+        "--limit",
+        "1",
+    ];
     assert!(rt; told(&ran(&rt, &words), 1, "", "refused 60 Full held 1 limit 1\n"));
     fs::remove_dir_all(&rt, room.folder.as_str())?;
     Ok(())

@@ -11,9 +11,11 @@ use std::io::{Read, Write};
 use std::net::{Shutdown, TcpListener, TcpStream};
 use std::test::Fail;
 
-const REQUESTS: &[u8] = b"POST /topups HTTP/1.1\r\nContent-Length: 64\r\n\r\nreference,account,cents,instant\nP1,A1,5000,2024-01-01T00:00:00Z\nGET /accounts/A1 HTTP/1.1\r\n\r\n";
+const REQUESTS: &[u8] =
+    b"POST /topups HTTP/1.1\r\nContent-Length: 64\r\n\r\nreference,account,cents,instant\nP1,A1,5000,2024-01-01T00:00:00Z\nGET /accounts/A1 HTTP/1.1\r\n\r\n";
 
-const REPLIES: &str = "HTTP/1.1 200 OK\r\nContent-Type: text/plain\r\nContent-Length: 28\r\n\r\naccepted fresh 1 repeated 0
+const REPLIES: &str =
+    "HTTP/1.1 200 OK\r\nContent-Type: text/plain\r\nContent-Length: 28\r\n\r\naccepted fresh 1 repeated 0
 HTTP/1.1 200 OK\r\nContent-Type: text/plain\r\nContent-Length: 160\r\n\r\naccount A1
 band       import Wh       export Wh
 L                  0               0
