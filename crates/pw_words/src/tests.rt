@@ -7,32 +7,41 @@ use std::test::Fail;
 
 const LIMIT: u32 = 1_000_000;
 
+fn pipe<'a>(office: Option<&'a str>, limit: u32) -> Command<'a> {
+    Command::Pipe { office, limit }
+}
+
+fn read<'a>(clock: Clock) -> Command<'a> {
+    Command::Read { clock }
+}
+
+fn check<'a>(office: &'a str) -> Command<'a> {
+    Command::Check { office }
+}
+
+#[test]
+fn no_words(rt: HostRuntime) -> Result<(), Fail> {
+    match command(rt.alloc(), &[]) {
+        Ok(given) => assert_eq!(rt; given, pipe(None, LIMIT)),
+        Err(fault) => panic!(rt; "{fault:?}"),
+    }
+    Ok(())
+}
+
 #[test]
 fn words_without_a_store(rt: HostRuntime) -> Result<(), Fail> {
-    let winter = Command::Read {
-        clock: Clock::Winter,
-    };
-    let local = Command::Read {
-        clock: Clock::Local,
-    };
-    let sample = Command::Pipe {
-        office: None,
-        limit: LIMIT,
-    };
-    let piped = Command::Pipe {
-        office: Some("o"),
-        limit: 3,
-    };
     let cases = [
-        ([].as_slice(), sample),
-        (["pipe"].as_slice(), sample),
-        (["pipe", "o", "--limit", "3"].as_slice(), piped),
-        (["pipe", "--limit=3", "o"].as_slice(), piped),
-        (["read"].as_slice(), winter),
-        (["read", "--clock", "winter"].as_slice(), winter),
-        (["read", "--clock", "local"].as_slice(), local),
-        (["read", "--clock=local"].as_slice(), local),
-        (["check", "o"].as_slice(), Command::Check { office: "o" }),
+        (["pipe"].as_slice(), pipe(None, LIMIT)),
+        (["pipe", "o", "--limit", "3"].as_slice(), pipe(Some("o"), 3)),
+        (["pipe", "--limit=3", "o"].as_slice(), pipe(Some("o"), 3)),
+        (["read"].as_slice(), read(Clock::Winter)),
+        (
+            ["read", "--clock", "winter"].as_slice(),
+            read(Clock::Winter),
+        ),
+        (["read", "--clock", "local"].as_slice(), read(Clock::Local)),
+        (["read", "--clock=local"].as_slice(), read(Clock::Local)),
+        (["check", "o"].as_slice(), check("o")),
     ];
     for (words, wanted) in cases {
         match command(rt.alloc(), words) {
