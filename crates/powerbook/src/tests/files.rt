@@ -67,6 +67,17 @@ pub fn file(rt: &HostRuntime, room: &Place, name: &str, text: &str) -> io::Resul
 
 /// Loads a text of a kind into the folder's store.
 pub fn loaded(rt: &HostRuntime, room: &Place, kind: &str, text: &str) -> io::Result<Outcome> {
+    loaded_within(rt, room, kind, text, "1000000")
+}
+
+/// Loads a text of a kind into the folder's store, with a limit.
+pub fn loaded_within(
+    rt: &HostRuntime,
+    room: &Place,
+    kind: &str,
+    text: &str,
+    limit: &str,
+) -> io::Result<Outcome> {
     let path = file(rt, room, "upload", text)?;
     let words = [
         "load",
@@ -74,6 +85,8 @@ pub fn loaded(rt: &HostRuntime, room: &Place, kind: &str, text: &str) -> io::Res
         room.store.as_str(),
         kind,
         path.as_str(),
+        "--limit",
+        limit,
     ];
     Ok(ran(rt, &words))
 }

@@ -1,7 +1,7 @@
 //! In which order faults are told, and with which exit status.
 
 use crate::files::{LONGEST_BODY, LONGEST_OFFICE};
-use crate::tests::files::{FIRST, TOPUP, file, loaded, ran, room, told};
+use crate::tests::files::{FIRST, TOPUP, file, loaded, loaded_within, ran, room, told};
 use std::fs;
 use std::test::Fail;
 
@@ -82,29 +82,10 @@ fn refusals_and_their_status(rt: HostRuntime) -> Result<(), Fail> {
 #[test]
 fn a_full_book(rt: HostRuntime) -> Result<(), Fail> {
     let room = room(&rt, "full")?;
-    let (office, store) = (room.office.as_str(), room.store.as_str());
-    let first = file(&rt, &room, "first", FIRST)?;
-    let rows = file(&rt, &room, "rows", TOPUP)?;
-    let words = [
-        "load",
-        office,
-        store,
-        "telegrams",
-        first.as_str(),
-        "--limit",
-        "1",
-    ];
-    assert!(rt; told(&ran(&rt, &words), 0, "accepted fresh 1 repeated 0\n", ""));
-    let words = [
-        "load",
-        office,
-        store,
-        "topups",
-        rows.as_str(),
-        "--limit",
-        "1",
-    ];
-    assert!(rt; told(&ran(&rt, &words), 1, "", "refused 60 Full held 1 limit 1\n"));
+    let first = loaded_within(&rt, &room, "telegrams", FIRST, "1")?;
+    assert!(rt; told(&first, 0, "accepted fresh 1 repeated 0\n", ""));
+    let second = loaded_within(&rt, &room, "topups", TOPUP, "1")?;
+    assert!(rt; told(&second, 1, "", "refused 60 Full held 1 limit 1\n"));
     fs::remove_dir_all(&rt, room.folder.as_str())?;
     Ok(())
 }
