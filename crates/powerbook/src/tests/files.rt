@@ -79,16 +79,18 @@ pub fn loaded_within(
     limit: &str,
 ) -> io::Result<Outcome> {
     let path = file(rt, room, "upload", text)?;
-    let words = [
-        "load",
-        room.office.as_str(),
-        room.store.as_str(),
-        kind,
-        path.as_str(),
-        "--limit",
-        limit,
-    ];
-    Ok(ran(rt, &words))
+    let (office, store) = (room.office.as_str(), room.store.as_str());
+    let line = format!(in rt.alloc(); "load {office} {store} {kind} {path} --limit {limit}")?;
+    ran_line(rt, line.as_str())
+}
+
+/// Runs the program with the words of a line.
+pub fn ran_line(rt: &HostRuntime, line: &str) -> io::Result<Outcome> {
+    let mut words = Vec::new(rt.alloc());
+    for word in line.split(' ') {
+        words.push(word)?;
+    }
+    Ok(ran(rt, words.as_slice()))
 }
 
 #[test]
