@@ -2,8 +2,8 @@
 
 use crate::files::{LONGEST_BODY, LONGEST_OFFICE};
 use crate::tests::files::{FIRST, TOPUP, file, loaded, loaded_within, ran, room, told};
-use std::fs;
 use std::test::Fail;
+use std::{fs, io};
 
 const DEVICE: &str = "device failed\n";
 
@@ -27,29 +27,25 @@ fn files_that_cannot_be_read(rt: HostRuntime) -> Result<(), Fail> {
     Ok(())
 }
 
+fn line_ends(rt: &HostRuntime, count: u32) -> io::Result<String> {
+    let mut text = String::new(rt.alloc());
+    for _ in 0..count {
+        text.push('\n')?;
+    }
+    Ok(text)
+}
+
 #[test]
 fn files_that_are_too_large(rt: HostRuntime) -> Result<(), Fail> {
     let room = room(&rt, "large")?;
-    let mut text = String::new(rt.alloc());
-    for _ in 0..=LONGEST_OFFICE {
-        text.push('\n')?;
-    }
+    let text = line_ends(&rt, LONGEST_OFFICE + 1)?;
     let large = file(&rt, &room, "large", text.as_str())?;
     assert!(rt; told(&ran(&rt, &["check", large.as_str()]), 1, "", TOO_LARGE));
-    let body = loaded(
-        &rt,
-        &room,
-        "readouts",
-        &text.as_str()[..LONGEST_BODY as usize + 1],
-    )?;
-    assert_eq!(rt; body.status, 2);
-    let body = loaded(
-        &rt,
-        &room,
-        "telegrams",
-        &text.as_str()[..LONGEST_BODY as usize + 1],
-    )?;
-    assert!(rt; told(&body, 1, "", TOO_LARGE));
+    let text = line_ends(&rt, LONGEST_BODY + 1)?;
+    let readouts = loaded(&rt, &room, "readouts", text.as_str())?;
+    assert_eq!(rt; readouts.status, 2);
+    let telegrams = loaded(&rt, &room, "telegrams", text.as_str())?;
+    assert!(rt; told(&telegrams, 1, "", TOO_LARGE));
     fs::remove_dir_all(&rt, room.folder.as_str())?;
     Ok(())
 }

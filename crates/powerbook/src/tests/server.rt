@@ -26,7 +26,8 @@ balance EUR 50.00
 
 fn empty_book(alloc: Global) -> Result<Book<MemoryShelf>, OfficeFault> {
     let office = Office::read(alloc, SAMPLE.as_bytes())?;
-    Ok(Book::new(office, Zone::central(), MemoryShelf::new(alloc), 1_000_000))
+    let shelf = MemoryShelf::new(alloc);
+    Ok(Book::new(office, Zone::central(), shelf, 1_000_000))
 }
 
 #[test]
