@@ -10,7 +10,8 @@ use Rattle.pw_tariff.specs.Office.{OfficeRules}
 use Rattle.pw_model.specs.Office.{most_records}
 use Rattle.pw_model.specs.Counting.{EachOnce, Member}
 use Rattle.pw_schema.specs.Fresh.{IsFresh, office_row}
-use Rattle.pw_schema.specs.Tables.{no_schema, only_one}
+use Rattle.pw_schema.specs.Judging.{KeepsOffice}
+use Rattle.pw_schema.specs.Tables.{IsOurs, no_schema, only_one}
 use Rattle.pw_store.specs.Content.{records_of, energy_in, payment_in, IsReadingRow, IsAssignmentRow, IsTopupRow}
 use Rattle.pw_shelf.specs.Left.{LeavesOnly}
 use Rattle.sqlite.specs.Order.{Row}
@@ -22,7 +23,7 @@ use Rattle.pw_store.specs.Content.{content_of, point_in, start_in, total_in, ene
 use Rattle.pw_store.specs.Kept.{IsStore, key_in_point, key_in_start, held_of, left_of}
 use Rattle.pw_store.specs.Keyed.{AreKeyed, IsEnergyRow, IsPaymentRow}
 use Rattle.pw_store.specs.Content.{content_of}
-use Rattle.pw_store.specs.Opening.{offices, shown_office}
+use Rattle.pw_store.specs.Opening.{KeepsText, offices, shown_office}
 use Rattle.pw_store.specs.inner.Opened.{MayOpen, IsOpened}
 use Rattle.pw_schema.specs.Fresh.{IsIdleAt}
 use Rattle.pw_store.proofs.Adding.{ours_is}
@@ -100,3 +101,6 @@ open_few s base office body before it = subst (λ b. length (records_of (cond b 
 
 pub open_truth : (s base : State) (office : OfficeRules) (body : List ℕ) (before : Database) → IsOpened office body before s → IsTrueContent office (held_of s base)
 open_truth s base office body before it = subst (λ b. IsTrueContent office (content_of (cond b s.now.trees base.committed.trees))) (sym it.is_open) it.may_open.truth
+
+pub open_text : (s : State) (office : OfficeRules) (body : List ℕ) (before : Database) → IsOpened office body before s → IsOurs s.now.schema × KeepsText (KeepsOffice body) s.now.trees
+open_text s office body before it = (it.may_open.store.ours, it.may_open.kept)

@@ -35,6 +35,9 @@ module _ (office : OfficeRules) (body : List ℕ) (s0 s1 s2 s3 : State) (records
   ours_now : IsOurs s3.now.schema
   ours_now = subst IsOurs (sym (ap (λ (d : Database). d.schema) (c.0.now_is ∙ b.0.now_is ∙ a.0.now_is))) ours
 
+  text_now : KeepsText (KeepsOffice body) db
+  text_now = subst (KeepsText (KeepsOffice body)) first text
+
   records_now : HoldsAllRecords office db
   records_now = subst (HoldsAllRecords office) first all
 
@@ -63,7 +66,7 @@ module _ (office : OfficeRules) (body : List ℕ) (s0 s1 s2 s3 : State) (records
       go (Err e) few parts = tt
       go (Ok u) few parts = record {
         store = sound_store office s3.now ours_now records_now.readings records_now.assignments records_now.topups holds_now numbered_now;
-        kept = subst (KeepsText (KeepsOffice body)) first text;
+        kept = text_now;
         of_office = of_office;
         few = omega (arith, few, many);
         truth = have_truth office db records sums holds_now tells_now listed_now of_office parts;
@@ -79,6 +82,6 @@ module _ (office : OfficeRules) (body : List ℕ) (s0 s1 s2 s3 : State) (records
       go (Err OfficeDiffers) cause others = elim others [ inl i ↦ (let bad : OfficeDiffers ≡ Unclean = cc in cc) | inr i ↦ (let bad : OfficeDiffers ≡ Memory = cc in cc) ]
       go (Err Version) cause others = elim others [ inl i ↦ (let bad : Version ≡ Unclean = cc in cc) | inr i ↦ (let bad : Version ≡ Memory = cc in cc) ]
       go (Err Unclean) cause others = elim (cause refl) [
-        | inl much ↦ inr (inr (inl (omega (arith, much, many))))
-        | inr parts ↦ inr (inr (inr (inr (have_none office db records sums holds_now tells_now listed_now of_office parts))))
+        | inl much ↦ inr (text_now, inr (inl (omega (arith, much, many))))
+        | inr parts ↦ inr (text_now, inr (inr (inr (have_none office db records sums holds_now tells_now listed_now of_office parts))))
       ]

@@ -31,7 +31,7 @@ opens office body db Version it r =
 opens office body db Unclean it (inl r) = absurd (r.1 it.ours)
 opens office body db Unclean it (inr r) = elim r.1 [
   | inl none ↦ absurd (let mine = it.text.1.1 in none.1.1 mine.0 (same_row _ it.text.0 none.0 mine.0 it.text.1.0 none.1.0 mine.1))
-  | inr more ↦ elim more [
+  | inr more ↦ elim more.1 [
     | inl records ↦ absurd (records (records_held office db.trees it.rows it.of_office))
     | inr rest ↦ elim rest [ inl many ↦ absurd (let few = it.few in omega (arith, few, many)) | inr last ↦ elim last [ inl sums ↦ absurd (sums (sums_held office db.trees it.rows it.of_office it.truth it.named)) | inr untrue ↦ absurd (untrue it.truth) ] ]
   ]

@@ -87,16 +87,19 @@ pub record HoldsAllRecords (office : OfficeRules) (db : Trees) : Type 0 where
   pub assignments : HoldsRecords office Assignments db
   pub topups : HoldsRecords office TopUps db
 
--- of a database whose tables are ours
+-- the rows aren't those of a store of the office
+abbrev pub IsSpoilt : OfficeRules → Trees → Type 0
+IsSpoilt office db =
+    (HoldsAllRecords office db → ⊥)
+    ⊎ (HoldsTooMany db ⊎ ((HoldsSums office db → ⊥) ⊎ (IsTrueContent office (content_of db) → ⊥)))
+
+-- of a database whose tables are ours: another version is told before another text, and both before other rows
 abbrev pub OursRefuses : OfficeRules → List ℕ → Trees → OpenFault → Type 0
 OursRefuses office body db Store = Unit {0}
 OursRefuses office body db Memory = Unit {0}
 OursRefuses office body db OfficeDiffers = KeepsText (HasOtherText body) db
 OursRefuses office body db Version = KeepsText HasOtherVersion db
-OursRefuses office body db Unclean =
-    KeepsText HasNoRow db
-    ⊎ ((HoldsAllRecords office db → ⊥)
-    ⊎ (HoldsTooMany db ⊎ ((HoldsSums office db → ⊥) ⊎ (IsTrueContent office (content_of db) → ⊥))))
+OursRefuses office body db Unclean = KeepsText HasNoRow db ⊎ (KeepsText (KeepsOffice body) db × IsSpoilt office db)
 
 -- of any database: there is something else than our tables, or they are ours and what they hold refuses
 abbrev pub Refuses : OfficeRules → List ℕ → Database → OpenFault → Type 0

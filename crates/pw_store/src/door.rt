@@ -12,11 +12,13 @@ ghost use Rattle.pw_shelf.specs.Left.{LeavesOnly};
 ghost use Rattle.pw_schema.specs.Tables.{IsOurs, no_schema};
 ghost use Rattle.pw_store.specs.Content.{content_of};
 ghost use Rattle.pw_store.specs.Kept.{held_of, left_of, state_of};
-ghost use Rattle.pw_store.specs.Opening.{Refuses};
+ghost use Rattle.pw_store.specs.Opening.{KeepsText, Refuses};
+ghost use Rattle.pw_schema.specs.Judging.{KeepsOffice};
 
 use crate::fault::OpenFault;
 use crate::opening::prepare;
 use crate::shelf::SqlShelf;
+use crate::watch::{Unwatched, Watch};
 use pw_shelf::Tally;
 use pw_tariff::Office;
 use sqlite::{Alter, Connection};
@@ -37,6 +39,30 @@ impl<S: Alter> SqlShelf<S> {
         ensures of_office { IfOk result (λ s. HasCleanDisk (state S.Store s.conn) → (office : OfficeFile) × IsOfficeOf office_text.now office × AllOfOffice (office_of office) (held_of (state S.Store s.conn) (state S.Store s.base.value)).records) }
         ensures truth { IfOk result (λ s. HasCleanDisk (state S.Store s.conn) → (office : OfficeFile) × IsOfficeOf office_text.now office × IsTrueContent (office_of office) (held_of (state S.Store s.conn) (state S.Store s.base.value))) }
         ensures few { IfOk result (λ s. HasCleanDisk (state S.Store s.conn) → length (held_of (state S.Store s.conn) (state S.Store s.base.value)).records ≤ most_records) }
+        ensures kept_text { IfOk result (λ s. HasCleanDisk (state S.Store s.conn) → IsOurs (state S.Store s.conn).now.schema × KeepsText (KeepsOffice office_text.now) (state S.Store s.conn).now.trees) }
+        ensures was_open { IfOk result (λ s. HasCleanDisk (state S.Store s.conn) → HasCleanDisk (state S.Store connection) × IsTrue (state S.Store connection).is_open) }
+        ensures idle { IfOk result (λ s. s.begun ≡ false) }
+        ensures counts { IfOk result (λ s. (s.failures.count ≡ 0) × (s.failed_abandons.count ≡ 0) × (s.tally.count ≡ 0)) }
+        ensures left { IfOk result (λ s. HasCleanDisk (state S.Store s.conn) → LeavesOnly (held_of (state S.Store s.conn) (state S.Store s.base.value)) (left_of (state S.Store s.conn))) }
+        ensures cause { IfErr result (λ e. HasCleanDisk (state S.Store e.1) → (office : OfficeFile) × IsOfficeOf office_text.now office × Refuses (office_of office) office_text.now (state S.Store connection).committed e.0) }
+        ensures refused { IfErr result (λ e. HasCleanDisk (state S.Store e.1) → KeepsCommit (state S.Store connection) (state S.Store e.1) ⊎ (e.1 ≡ connection)) }
+    {
+        SqlShelf::open_watched(alloc, connection, office_text, &mut Unwatched)
+    }
+
+    /// Opens a connection as `open` does, and tells `watch` how far it is.
+    pub fn open_watched<W: Watch>(
+        alloc: Global,
+        connection: Connection<S>,
+        office_text: &[u8],
+        watch: &mut W,
+    ) -> Result<SqlShelf<S>, (OpenFault, Connection<S>)>
+        requires { (office : OfficeFile) × IsOfficeOf office_text.now office }
+        ensures content { IfOk result (λ s. HasCleanDisk (state S.Store s.conn) → (held_of (state S.Store s.conn) (state S.Store s.base.value) ≡ content_of (state S.Store connection).committed.trees) ⊎ (((state S.Store connection).committed.schema ≡ no_schema) × (held_of (state S.Store s.conn) (state S.Store s.base.value) ≡ no_content))) }
+        ensures of_office { IfOk result (λ s. HasCleanDisk (state S.Store s.conn) → (office : OfficeFile) × IsOfficeOf office_text.now office × AllOfOffice (office_of office) (held_of (state S.Store s.conn) (state S.Store s.base.value)).records) }
+        ensures truth { IfOk result (λ s. HasCleanDisk (state S.Store s.conn) → (office : OfficeFile) × IsOfficeOf office_text.now office × IsTrueContent (office_of office) (held_of (state S.Store s.conn) (state S.Store s.base.value))) }
+        ensures few { IfOk result (λ s. HasCleanDisk (state S.Store s.conn) → length (held_of (state S.Store s.conn) (state S.Store s.base.value)).records ≤ most_records) }
+        ensures kept_text { IfOk result (λ s. HasCleanDisk (state S.Store s.conn) → IsOurs (state S.Store s.conn).now.schema × KeepsText (KeepsOffice office_text.now) (state S.Store s.conn).now.trees) }
         ensures was_open { IfOk result (λ s. HasCleanDisk (state S.Store s.conn) → HasCleanDisk (state S.Store connection) × IsTrue (state S.Store connection).is_open) }
         ensures idle { IfOk result (λ s. s.begun ≡ false) }
         ensures counts { IfOk result (λ s. (s.failures.count ≡ 0) × (s.failed_abandons.count ≡ 0) × (s.tally.count ≡ 0)) }
@@ -45,22 +71,24 @@ impl<S: Alter> SqlShelf<S> {
         ensures refused { IfErr result (λ e. HasCleanDisk (state S.Store e.1) → KeepsCommit (state S.Store connection) (state S.Store e.1) ⊎ (e.1 ≡ connection)) }
     {
         match Office::read(alloc, office_text) {
-            Ok(office) => SqlShelf::open_for(alloc, connection, &office, office_text),
+            Ok(office) => SqlShelf::open_for(alloc, connection, &office, office_text, watch),
             Err(_) => Err((OpenFault::Memory, connection)),
         }
     }
 
     // Opens a connection as a store of an office, whose text is kept.
-    fn open_for(
+    fn open_for<W: Watch>(
         alloc: Global,
         mut connection: Connection<S>,
         office: &Office,
         office_text: &[u8],
+        watch: &mut W,
     ) -> Result<SqlShelf<S>, (OpenFault, Connection<S>)>
         ensures content { IfOk result (λ s. HasCleanDisk (state S.Store s.conn) → (held_of (state S.Store s.conn) (state S.Store s.base.value) ≡ content_of (state S.Store connection).committed.trees) ⊎ (((state S.Store connection).committed.schema ≡ no_schema) × (held_of (state S.Store s.conn) (state S.Store s.base.value) ≡ no_content))) }
         ensures of_office { IfOk result (λ s. HasCleanDisk (state S.Store s.conn) → AllOfOffice (office_of office.now) (held_of (state S.Store s.conn) (state S.Store s.base.value)).records) }
         ensures truth { IfOk result (λ s. HasCleanDisk (state S.Store s.conn) → IsTrueContent (office_of office.now) (held_of (state S.Store s.conn) (state S.Store s.base.value))) }
         ensures few { IfOk result (λ s. HasCleanDisk (state S.Store s.conn) → length (held_of (state S.Store s.conn) (state S.Store s.base.value)).records ≤ most_records) }
+        ensures kept_text { IfOk result (λ s. HasCleanDisk (state S.Store s.conn) → IsOurs (state S.Store s.conn).now.schema × KeepsText (KeepsOffice office_text.now) (state S.Store s.conn).now.trees) }
         ensures was_open { IfOk result (λ s. HasCleanDisk (state S.Store s.conn) → HasCleanDisk (state S.Store connection) × IsTrue (state S.Store connection).is_open) }
         ensures idle { IfOk result (λ s. s.begun ≡ false) }
         ensures counts { IfOk result (λ s. (s.failures.count ≡ 0) × (s.failed_abandons.count ≡ 0) × (s.tally.count ≡ 0)) }
@@ -68,7 +96,7 @@ impl<S: Alter> SqlShelf<S> {
         ensures cause { IfErr result (λ e. HasCleanDisk (state S.Store e.1) → Refuses (office_of office.now) office_text.now (state S.Store connection).committed e.0) }
         ensures refused { IfErr result (λ e. HasCleanDisk (state S.Store e.1) → KeepsCommit (state S.Store connection) (state S.Store e.1)) }
     {
-        match prepare(alloc, &mut connection, office, office_text) {
+        match prepare(alloc, &mut connection, office, office_text, watch) {
             Ok(()) => {
                 let base = Snapshot::of(&connection);
                 Ok(SqlShelf {

@@ -25,9 +25,8 @@ mod totals;
 mod truth;
 mod upload;
 mod waking;
+mod watch;
 
 pub use fault::OpenFault;
 pub use shelf::SqlShelf;
-
-#[cfg(test)]
-mod tests;
+pub use watch::{Part, Unwatched, Watch};

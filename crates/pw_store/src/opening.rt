@@ -21,6 +21,7 @@ use crate::tables::{all_assignments, all_readings, office_rows};
 use crate::topups::topup_rows;
 use crate::truth::judge_truth;
 use crate::waking::wake;
+use crate::watch::{Part, Watch};
 use pw_model::Entry;
 use pw_schema::{
     JudgeFault, OfficeFault, RecordKind, create, is_nothing, is_ours, judge_office, judge_rows,
@@ -93,10 +94,11 @@ fn joined(
 }
 
 // The records of the three tables, judged.
-fn check_records<S: Alter>(
+fn check_records<S: Alter, W: Watch>(
     alloc: Global,
     conn: &mut Connection<S>,
     office: &Office,
+    watch: &mut W,
 ) -> Result<Vec<Entry>, OpenFault>
     requires ours { HasCleanDisk (state S.Store conn.old) → IsOurs (state S.Store conn.old).now.schema }
     ensures sound { HasCleanDisk (state S.Store conn.new) → OnOk result (HoldsAllRecords (office_of office.now) (state S.Store conn.old).now.trees) }
@@ -111,14 +113,17 @@ fn check_records<S: Alter>(
         Ok(readings) => readings,
         Err(fault) => return Err(fault),
     };
+    watch.checked(Part::Readings, readings.len());
     let assignments = match check_assignments(alloc, conn, office) {
         Ok(assignments) => assignments,
         Err(fault) => return Err(fault),
     };
+    watch.checked(Part::Assignments, assignments.len());
     let topups = match check_topups(alloc, conn, office) {
         Ok(topups) => topups,
         Err(fault) => return Err(fault),
     };
+    watch.checked(Part::TopUps, topups.len());
     match joined(readings, assignments, topups) {
         Ok(all) => Ok(all),
         Err(_) => Err(OpenFault::Memory),
@@ -208,11 +213,12 @@ fn check_office<S: Alter>(conn: &mut Connection<S>, text: &[u8]) -> Result<(), O
 }
 
 // What is there, judged.
-fn check<S: Alter>(
+fn check<S: Alter, W: Watch>(
     alloc: Global,
     conn: &mut Connection<S>,
     office: &Office,
     text: &[u8],
+    watch: &mut W,
 ) -> Result<(), OpenFault>
     requires ours { HasCleanDisk (state S.Store conn.old) → IsOurs (state S.Store conn.old).now.schema }
     ensures may_open { HasCleanDisk (state S.Store conn.new) → OnOk result (MayOpen (office_of office.now) text.now (state S.Store conn.new).now) }
@@ -224,11 +230,11 @@ fn check<S: Alter>(
     if let Err(fault) = check_office(conn, text) {
         return Err(fault);
     }
-    let records = match check_records(alloc, conn, office) {
+    let records = match check_records(alloc, conn, office, watch) {
         Ok(records) => records,
         Err(fault) => return Err(fault),
     };
-    let sums = match read_sums(alloc, conn, office) {
+    let sums = match read_sums(alloc, conn, office, watch) {
         Ok(sums) => sums,
         Err(fault) => return Err(fault),
     };
@@ -236,11 +242,12 @@ fn check<S: Alter>(
 }
 
 // Makes the tables where nothing is there, else judges what is there.
-fn make_or_check<S: Alter>(
+fn make_or_check<S: Alter, W: Watch>(
     alloc: Global,
     conn: &mut Connection<S>,
     office: &Office,
     text: &[u8],
+    watch: &mut W,
 ) -> Result<(), OpenFault>
     requires { HasCleanDisk (state S.Store conn.old) → IsIdleAt (state S.Store conn.old) }
     ensures opened { HasCleanDisk (state S.Store conn.new) → OnOk result (IsOpened (office_of office.now) text.now (state S.Store conn.old).committed (state S.Store conn.new)) }
@@ -253,7 +260,7 @@ fn make_or_check<S: Alter>(
             Ok(()) => Ok(()),
             Err(error) => Err(fault_in(error)),
         },
-        Found::Ours => check(alloc, conn, office, text),
+        Found::Ours => check(alloc, conn, office, text, watch),
         Found::Other => Err(OpenFault::Unclean),
     }
 }
@@ -283,11 +290,12 @@ fn look<S: Alter>(conn: &Connection<S>) -> Found
 }
 
 /// Makes a connection ready to be a store, or says why it can't be one.
-pub(crate) fn prepare<S: Alter>(
+pub(crate) fn prepare<S: Alter, W: Watch>(
     alloc: Global,
     conn: &mut Connection<S>,
     office: &Office,
     text: &[u8],
+    watch: &mut W,
 ) -> Result<(), OpenFault>
     ensures opened { HasCleanDisk (state S.Store conn.new) → OnOk result (IsOpened (office_of office.now) text.now (state S.Store conn.old).committed (state S.Store conn.new)) }
     ensures cause { HasCleanDisk (state S.Store conn.new) → IfErr result (Refuses (office_of office.now) text.now (state S.Store conn.old).committed) }
@@ -298,5 +306,5 @@ pub(crate) fn prepare<S: Alter>(
     if let Err(error) = settle(conn) {
         return Err(fault_in(error));
     }
-    make_or_check(alloc, conn, office, text)
+    make_or_check(alloc, conn, office, text, watch)
 }

@@ -17,6 +17,7 @@ use crate::fault::{OpenFault, fault_in};
 use crate::sum_tables::{
     all_energies, all_payments, all_points, all_starts, energy_ids, point_ids, start_ids,
 };
+use crate::watch::{Part, Watch};
 use pw_model::{Entry, TotalKey};
 use pw_schema::{JudgeFault, RecordKind, TotalKind, are_rowids, judge_kept, judge_totals};
 use pw_tariff::Office;
@@ -219,10 +220,11 @@ fn read_payments<S: Alter>(
 }
 
 /// Points, starts and totals, if they are of the office, with no key twice.
-pub(crate) fn read_sums<S: Alter>(
+pub(crate) fn read_sums<S: Alter, W: Watch>(
     alloc: Global,
     conn: &mut Connection<S>,
     office: &Office,
+    watch: &mut W,
 ) -> Result<Sums, OpenFault>
     requires ours { HasCleanDisk (state S.Store conn.old) → IsOurs (state S.Store conn.old).now.schema }
     ensures holds { HasCleanDisk (state S.Store conn.new) → OnOk result (HoldsSums (office_of office.now) (state S.Store conn.old).now.trees) }
@@ -237,18 +239,22 @@ pub(crate) fn read_sums<S: Alter>(
         Ok(points) => points,
         Err(fault) => return Err(fault),
     };
+    watch.checked(Part::Points, points.len());
     let starts = match read_starts(alloc, conn, office) {
         Ok(starts) => starts,
         Err(fault) => return Err(fault),
     };
+    watch.checked(Part::Starts, starts.len());
     let energies = match read_energies(alloc, conn, office) {
         Ok(energies) => energies,
         Err(fault) => return Err(fault),
     };
+    watch.checked(Part::Energies, energies.len());
     let payments = match read_payments(alloc, conn, office) {
         Ok(payments) => payments,
         Err(fault) => return Err(fault),
     };
+    watch.checked(Part::Payments, payments.len());
     Ok(Sums {
         points,
         starts,

@@ -1,6 +1,6 @@
 use Rattle.sqlite.specs.Held.{state}
 use Rattle.pw_tariff.specs.Office.{office_of}
-use Rattle.pw_store.proofs.Fresh.{left_alone, open_content, open_few, open_truth}
+use Rattle.pw_store.proofs.Fresh.{left_alone, open_content, open_few, open_text, open_truth}
 use Rattle.pw_store.proofs.shelf.SqlShelf.open_for.Goals as goal
 
 pub returns-in-Ok-clause-left : goal.returns-in-Ok-clause-left
@@ -15,3 +15,6 @@ returns-in-Ok-clause-few g c clean = open_few (state g.S.Store c.prepare.new.con
 
 pub returns-in-Ok-clause-truth : goal.returns-in-Ok-clause-truth
 returns-in-Ok-clause-truth g c clean = open_truth (state g.S.Store c.prepare.new.conn) (state g.S.Store c.of-base.result.value) (office_of c.args.office.now) c.args.office_text.now (state g.S.Store c.args.connection).committed (c.in-Ok.ensures.opened clean)
+
+pub returns-in-Ok-clause-kept_text : goal.returns-in-Ok-clause-kept_text
+returns-in-Ok-clause-kept_text g c clean = open_text (state g.S.Store c.prepare.new.conn) (office_of c.args.office.now) c.args.office_text.now (state g.S.Store c.args.connection).committed (c.in-Ok.ensures.opened clean)
