@@ -1,22 +1,7 @@
 //! The program `powerbook`.
 #![tactic(auto)]
 
-mod fault;
-mod files;
-mod hints;
-mod pipe;
-mod run;
-mod sample;
-mod serving;
-mod store;
-mod telling;
-#[cfg(test)]
-mod tests;
-
-use crate::fault::Fault;
-use crate::hints::name_unreadable;
-use crate::run::run;
-use crate::telling::tell;
+use pw_commands::{Fault, Progress, name_unreadable, run, run_watched, tell};
 use std::io::{ErrorKind, IsTerminal, Write};
 use std::process::ExitCode;
 use std::rt::Env;
@@ -47,10 +32,19 @@ fn status_of(rt: &HostRuntime) -> u8 {
             return tell(Fault::Memory, &mut err);
         }
     }
-    if err.is_terminal() {
-        name_unreadable(rt, words.as_slice(), &mut err);
+    if !err.is_terminal() {
+        return run(rt, words.as_slice(), &mut input, &mut out, &mut err);
     }
-    run(rt, words.as_slice(), &mut input, &mut out, &mut err)
+    name_unreadable(rt, words.as_slice(), &mut err);
+    let mut told = Progress::new(rt.stderr());
+    run_watched(
+        rt,
+        words.as_slice(),
+        &mut input,
+        &mut out,
+        &mut err,
+        &mut told,
+    )
 }
 
 /// The words behind the program's name. A word that is no text is an error.

@@ -6,10 +6,6 @@ mod frame_text;
 mod moment;
 mod run;
 mod set_line;
-#[cfg(test)]
-mod telegrams;
-#[cfg(test)]
-mod tests;
 
 pub use fault::{Cause, ReadFault, Refusal};
 pub use frame_text::body_text;

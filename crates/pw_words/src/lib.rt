@@ -4,8 +4,6 @@
 mod commands;
 mod fault;
 mod parser;
-#[cfg(test)]
-mod tests;
 pub mod words;
 
 pub use commands::{Command, Kind, What};

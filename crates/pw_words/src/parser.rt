@@ -155,6 +155,7 @@ pub(crate) fn parser<'a>(alloc: Global) -> Result<Command<'a>, AllocError> {
     Command::new(alloc, "powerbook")
         .version("1.0.0")
         .about("Meter readings and prepaid accounts of an electricity cooperative")
+        .bin_name("powerbook")?
         .after_help(
             "Without a command it acts as pipe. Each command tells more: powerbook load --help.",
         )

@@ -148,7 +148,7 @@ fn limit_of(words: &ArgMatches<'_>) -> Option<u32>
     ensures { IfSome result IsLimit }
 {
     let limit = words.get_one::<u32>("limit")?;
-    if (1..=10_000_000).contains(&limit) {
+    if 1 <= limit && limit <= 10_000_000 {
         Some(limit)
     } else {
         None

@@ -1,4 +1,0 @@
-pub mod Few
-pub mod Opened
-pub mod Piped
-pub mod Told

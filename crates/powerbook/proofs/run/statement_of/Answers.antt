@@ -1,8 +1,0 @@
-use Rattle.std.proofs.Common.{◌<◌, length, subst, sym}
-use Rattle.std.proofs.lemmas.Option.{slice_get_within}
-use Rattle.powerbook.proofs.run.statement_of.Goals as goal
-
-pub statement-page-requires : goal.statement-page-requires
-statement-page-requires c =
-    subst (λ office. c.in-Some.account.0 < length office.accounts) (sym c.in_ok-book.ensures)
-    (slice_get_within c.in_ok-office.office.accounts c.in-Some.account.0 _ c.in-Some.ensures.some)

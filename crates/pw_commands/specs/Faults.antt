@@ -1,0 +1,61 @@
+-- Why a command is refused: the line, and the exit status. One table over all faults.
+-- (A format of this project.)
+use Rattle.std.specs.Prelude.{◌≡◌, ◌⊎◌, ℕ, List, Option, ◌++◌, codes}
+use Rattle.std.specs.Io.KnownBytes.{Appends}
+use Rattle.pw_tariff.specs.Faults as office_fault
+use Rattle.pw_tariff.specs.declared.fault.OfficeFault.{OfficeFault}
+use Rattle.pw_tariff.specs.declared.fault.OfficeFault.TheVariants as office
+use Rattle.pw_record.specs.Causes as upload_fault
+use Rattle.pw_record.specs.declared.fault.Cause.{Cause}
+use Rattle.pw_record.specs.declared.fault.Cause.TheVariants as cause
+use Rattle.pw_book.specs.Faults as book_fault
+use Rattle.pw_book.specs.declared.fault.PostFault.{PostFault}
+use Rattle.pw_book.specs.declared.fault.PostFault.TheVariants as post
+use Rattle.pw_store.specs.Faults as store_fault
+use Rattle.pw_http.specs.Faults as wire_fault
+use Rattle.pw_commands.specs.declared.fault.Fault.{Fault}
+use Rattle.pw_commands.specs.declared.fault.Fault.TheVariants as fault
+
+-- what was given is refused, or memory was
+abbrev pub office_status : OfficeFault → ℕ
+office_status office.Memory = 3
+office_status _ = 1
+
+abbrev pub cause_status : Cause → ℕ
+cause_status cause.Memory = 3
+cause_status _ = 1
+
+-- a full book is no failure
+abbrev pub post_status : PostFault → ℕ
+post_status (post.Full held limit) = 1
+post_status _ = 3
+
+-- 1: what was given is refused; 3: a file, socket, stream, store or memory failed
+abbrev pub fault_status : Fault → ℕ
+fault_status (fault.Office of_office) = office_status of_office
+fault_status fault.TooLarge = 1
+fault_status (fault.Upload of_upload) = cause_status of_upload.cause
+fault_status fault.NoSuchAccount = 1
+fault_status (fault.Store of_opening) = 3
+fault_status (fault.Post of_post) = post_status of_post
+fault_status (fault.Book of_book) = 3
+fault_status (fault.Wire of_wire) = 3
+fault_status fault.Device = 3
+fault_status fault.Memory = 3
+
+-- the line, without its end
+abbrev pub fault_text : Fault → List ℕ
+fault_text (fault.Office of_office) = office_fault.office_fault_line of_office
+fault_text fault.TooLarge = codes "body too large"
+fault_text (fault.Upload of_upload) = upload_fault.fault_line of_upload
+fault_text fault.NoSuchAccount = codes "no such account"
+fault_text (fault.Store of_opening) = store_fault.open_line of_opening
+fault_text (fault.Post of_post) = book_fault.post_line of_post
+fault_text (fault.Book of_book) = book_fault.book_line of_book
+fault_text (fault.Wire of_wire) = wire_fault.wire_line of_wire
+fault_text fault.Device = codes "device failed"
+fault_text fault.Memory = codes "refused 62 Memory"
+
+-- its line is written, and its status answered; or the line couldn't be written, and 3 is
+abbrev pub IsTold : Fault → Option (List ℕ) → Option (List ℕ) → ℕ → Type 0
+IsTold given before after status = ((status ≡ fault_status given) × Appends before after (fault_text given ++ codes "\n")) ⊎ (status ≡ 3)

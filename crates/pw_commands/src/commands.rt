@@ -1,0 +1,263 @@
+//! The commands.
+
+ghost use Rattle.std.specs.Prelude.{◌≡◌, List, Some, ℕ, IfOk, IfErr};
+ghost use Rattle.pw_tariff.specs.Office.{office_of};
+ghost use Rattle.pw_model.specs.Office.{AllOfOffice};
+ghost use Rattle.pw_read.specs.Run.{IsRun};
+ghost use Rattle.pw_commands.specs.Loads.{Gives, Refused, page_of as the_page_of};
+ghost use Rattle.pw_time.specs.declared.zone.Clock.{Clock};
+ghost use Rattle.pw_words.specs.Words.{IsLimit, IsSound};
+ghost use Rattle.pw_words.specs.declared.commands.Command.TheVariants.{Read};
+
+use crate::fault::Fault;
+use crate::files::{LONGEST_BODY, LONGEST_OFFICE, read_file};
+use crate::pipe::pipe_run;
+use crate::sample::SAMPLE;
+use crate::serving::serve;
+use crate::store::{FileBook, close_book, open_book};
+use crate::telling::{finish, tell};
+use pw_model::Entry;
+use pw_read::read_run;
+use pw_record::{
+    UploadFault, assignment_records, readout_records, telegram_records, topup_records,
+};
+use pw_report::{Page, page_text, statement};
+use pw_store::{Unwatched, Watch};
+use pw_tariff::Office;
+use pw_time::Zone;
+use pw_words::words::command;
+use pw_words::{Command, Kind, What, WordsFault};
+use std::io::{Read, Write};
+
+/// The most records of a book that takes no upload.
+const MOST_RECORDS: u32 = 10_000_000;
+
+/// The exit status for words that no command has.
+const WRONG_WORDS: u8 = 2;
+
+/// Does what the words behind the program's name ask for, and answers the exit status: 0; 1 where what was given is
+/// refused; 2 for words that ask for no command; 3 where a file, socket, stream, store or memory failed.
+///
+/// What is asked for goes to `out`, and so does help; why there is none is a line to `err`.
+pub fn run<I: Read, O: Write, E: Write>(
+    rt: &HostRuntime,
+    words: &[&str],
+    input: &mut I,
+    out: &mut O,
+    err: &mut E,
+) -> u8 {
+    run_watched(rt, words, input, out, err, &mut Unwatched)
+}
+
+/// Does what `run` does, and tells `watch` how far the opening of a store is.
+pub fn run_watched<I: Read, O: Write, E: Write, W: Watch>(
+    rt: &HostRuntime,
+    words: &[&str],
+    input: &mut I,
+    out: &mut O,
+    err: &mut E,
+    watch: &mut W,
+) -> u8 {
+    match command(rt.alloc(), words) {
+        Ok(asked) => obey(rt, asked, input, out, err, watch),
+        Err(WordsFault::Help { text }) => match out.write_all(text.as_bytes()) {
+            Ok(()) => 0,
+            Err(_) => tell(Fault::Device, err),
+        },
+        Err(WordsFault::Words { text }) => {
+            let _ = err.write_all(text.as_bytes());
+            WRONG_WORDS
+        }
+        Err(WordsFault::Memory) => tell(Fault::Memory, err),
+    }
+}
+
+// Does what a command asks for, and answers the exit status.
+fn obey<I: Read, O: Write, E: Write, W: Watch>(
+    rt: &HostRuntime,
+    asked: Command<'_>,
+    input: &mut I,
+    out: &mut O,
+    err: &mut E,
+    watch: &mut W,
+) -> u8
+    requires { IsSound asked }
+    ensures read { (clock : Clock) (body : List ℕ) → asked.entry ≡ Read clock → I.remaining input.old ≡ Some body →
+        IsRun clock body (O.contents out.old) (O.contents out.new) (E.contents err.old) (E.contents err.new) result }
+{
+    match asked {
+        Command::Read { clock } => read_run(rt.alloc(), clock, input, out, err),
+        Command::Pipe { office, limit } => pipe(rt, office, limit, input, out, err),
+        Command::Check { office } => finish(check(rt, office), out, err),
+        Command::Load {
+            office,
+            store,
+            kind,
+            file,
+            limit,
+        } => { finish(load(rt, office, store, kind, file, limit, watch), out, err) }
+        Command::Statement {
+            office,
+            store,
+            account,
+        } => { finish(statement_of(rt, office, store, account, watch), out, err) }
+        Command::Export {
+            office,
+            store,
+            what,
+        } => finish(export(rt, office, store, what, watch), out, err),
+        Command::Serve {
+            office,
+            store,
+            count,
+            port,
+            limit,
+        } => {
+            match book_at(rt, office, store, limit, watch) {
+                Ok(book) => serve(rt, book, count, port, out, err),
+                Err(fault) => tell(fault, err),
+            }
+        }
+    }
+}
+
+// A conversation over the streams, with the office of a file or the sample office.
+fn pipe<I: Read, O: Write, E: Write>(
+    rt: &HostRuntime,
+    office: Option<&str>,
+    limit: u32,
+    input: &mut I,
+    out: &mut O,
+    err: &mut E,
+) -> u8
+    requires { IsLimit limit }
+{
+    match office {
+        None => pipe_run(rt.alloc(), SAMPLE.as_bytes(), limit, input, out, err),
+        Some(path) => match read_file(rt, path, LONGEST_OFFICE) {
+            Ok(text) => pipe_run(rt.alloc(), text.as_slice(), limit, input, out, err),
+            Err(fault) => tell(fault, err),
+        },
+    }
+}
+
+/// `office`, and how many accounts, meters and bands it has.
+fn check(rt: &HostRuntime, office: &str) -> Result<Vec<u8>, Fault> {
+    let text = read_file(rt, office, LONGEST_OFFICE)?;
+    let office = Office::read(rt.alloc(), text.as_slice())?;
+    let (accounts, meters, bands) = (office.accounts(), office.meters(), office.bands());
+    match format!(in rt.alloc(); "office accounts {accounts} meters {meters} bands {bands}\n") {
+        Ok(line) => Ok(line.into_bytes()),
+        Err(_) => Err(Fault::Memory),
+    }
+}
+
+/// The acceptance line of an upload that a store has taken.
+fn load<W: Watch>(
+    rt: &HostRuntime,
+    office: &str,
+    store: &str,
+    kind: Kind<'_>,
+    file: &str,
+    limit: u32,
+    watch: &mut W,
+) -> Result<Vec<u8>, Fault>
+    requires { IsLimit limit }
+{
+    let text = read_file(rt, office, LONGEST_OFFICE)?;
+    let office = Office::read(rt.alloc(), text.as_slice())?;
+    let body = read_file(rt, file, LONGEST_BODY)?;
+    let entries = entries_of(rt, &office, kind, body.as_slice())?;
+    let mut book = open_book(rt, store, office, text.as_slice(), limit, watch)?;
+    let line = post(rt, &mut book, entries.as_slice());
+    close_book(book)?;
+    line
+}
+
+fn post(rt: &HostRuntime, book: &mut FileBook, entries: &[Entry]) -> Result<Vec<u8>, Fault>
+    requires { AllOfOffice (office_of book.old.office) entries.now }
+{
+    let accepted = book.post(rt.alloc(), entries)?;
+    match format!(in rt.alloc(); "{accepted}\n") {
+        Ok(line) => Ok(line.into_bytes()),
+        Err(_) => Err(Fault::Memory),
+    }
+}
+
+/// The entries that a file of an upload gives, or why it is refused.
+pub fn entries_of(
+    rt: &HostRuntime,
+    office: &Office,
+    kind: Kind<'_>,
+    body: &[u8],
+) -> Result<Vec<Entry>, UploadFault>
+    ensures entries { IfOk result (λ entries. Gives office.now kind.entry body.now entries.items) }
+    ensures of_office { IfOk result (λ entries. AllOfOffice (office_of office.now) entries.items) }
+    ensures refused { IfErr result (λ fault. Refused office.now kind.entry body.now fault) }
+{
+    let (alloc, zone) = (rt.alloc(), Zone::central());
+    match kind {
+        Kind::Telegrams => telegram_records(alloc, office, &zone, body),
+        Kind::Readouts { meter } => readout_records(alloc, meter.as_bytes(), office, &zone, body),
+        Kind::Assignments => assignment_records(alloc, office, body),
+        Kind::TopUps => topup_records(alloc, office, body),
+    }
+}
+
+fn book_at<W: Watch>(
+    rt: &HostRuntime,
+    office: &str,
+    store: &str,
+    limit: u32,
+    watch: &mut W,
+) -> Result<FileBook, Fault>
+    requires { IsLimit limit }
+{
+    let text = read_file(rt, office, LONGEST_OFFICE)?;
+    let office = Office::read(rt.alloc(), text.as_slice())?;
+    open_book(rt, store, office, text.as_slice(), limit, watch)
+}
+
+fn statement_of<W: Watch>(
+    rt: &HostRuntime,
+    office: &str,
+    store: &str,
+    account: &str,
+    watch: &mut W,
+) -> Result<Vec<u8>, Fault> {
+    let text = read_file(rt, office, LONGEST_OFFICE)?;
+    let office = Office::read(rt.alloc(), text.as_slice())?;
+    let Some(account) = office.account(account.as_bytes()) else {
+        return Err(Fault::NoSuchAccount);
+    };
+    let mut book = open_book(rt, store, office, text.as_slice(), MOST_RECORDS, watch)?;
+    let page = statement(&mut book, rt.alloc(), account);
+    close_book(book)?;
+    Ok(page?)
+}
+
+fn export<W: Watch>(
+    rt: &HostRuntime,
+    office: &str,
+    store: &str,
+    what: What,
+    watch: &mut W,
+) -> Result<Vec<u8>, Fault> {
+    let mut book = book_at(rt, office, store, MOST_RECORDS, watch)?;
+    let text = page_text(&mut book, rt.alloc(), page_of(what));
+    close_book(book)?;
+    Ok(text?)
+}
+
+/// The page that an export is.
+pub fn page_of(what: What) -> Page
+    ensures { result ≡ the_page_of what }
+{
+    match what {
+        What::Readings => Page::Readings,
+        What::Energy => Page::Energies,
+        What::Accounts => Page::Accounts,
+        What::Falls => Page::Falls,
+        What::Disputes => Page::Disputes,
+    }
+}

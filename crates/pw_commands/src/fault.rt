@@ -1,0 +1,128 @@
+//! Why a command is refused: the line that tells it, and the exit status.
+
+ghost use Rattle.std.specs.Prelude.{◌≡◌};
+ghost use Rattle.pw_commands.specs.Faults.{fault_status};
+
+use pw_book::{BookFault, PostFault};
+use pw_http::WireFault;
+use pw_record::{Cause, UploadFault};
+use pw_store::OpenFault;
+use pw_tariff::OfficeFault;
+use std::fmt;
+
+/// Why a command is refused.
+#[derive(Clone, Copy, Debug, Drop, PartialEq, Eq)]
+pub enum Fault {
+    /// 30 to 38, 62: the office file is refused.
+    Office(OfficeFault),
+    /// A file is longer than its kind may be.
+    TooLarge,
+    /// The file of an upload is refused.
+    Upload(UploadFault),
+    /// The office has no account with the name.
+    NoSuchAccount,
+    /// 70 to 73, 62: the store isn't opened.
+    Store(OpenFault),
+    /// 60 to 63: the book doesn't take an upload.
+    Post(PostFault),
+    /// 61 to 63: the book doesn't answer.
+    Book(BookFault),
+    /// 80 to 82, 62: a conversation stopped.
+    Wire(WireFault),
+    /// A file, a socket or a stream failed.
+    Device,
+    /// 62: memory was refused.
+    Memory,
+}
+
+impl Fault {
+    /// The exit status: 1 where what was given is refused, 3 where a file, socket, stream, store or memory failed.
+    pub fn status(self) -> u8
+        ensures { result ≡ fault_status self }
+    {
+        match self {
+            Fault::Office(OfficeFault::Memory) => 3,
+            Fault::Upload(fault) => match fault.cause {
+                Cause::Memory => 3,
+                _ => 1,
+            },
+            Fault::Post(PostFault::Full { .. })
+            | Fault::Office(_)
+            | Fault::TooLarge
+            | Fault::NoSuchAccount => 1,
+            Fault::Store(_)
+            | Fault::Post(_)
+            | Fault::Book(_)
+            | Fault::Wire(_)
+            | Fault::Device
+            | Fault::Memory => 3,
+        }
+    }
+}
+
+/// The fault line without its end.
+impl fmt::Display for Fault {
+    ghost use Rattle.std.specs.Prelude.{Some};
+    ghost use Rattle.pw_commands.specs.Faults.{fault_text};
+
+    ghost output = { λ fault. Some (fault_text fault) };
+
+    fn fmt<W: fmt::Write>(&self, f: &mut fmt::Formatter<W>) -> fmt::Result {
+        match *self {
+            Fault::Office(fault) => write!(f, "{fault}"),
+            Fault::TooLarge => write!(f, "body too large"),
+            Fault::Upload(fault) => write!(f, "{fault}"),
+            Fault::NoSuchAccount => write!(f, "no such account"),
+            Fault::Store(fault) => write!(f, "{fault}"),
+            Fault::Post(fault) => write!(f, "{fault}"),
+            Fault::Book(fault) => write!(f, "{fault}"),
+            Fault::Wire(fault) => write!(f, "{fault}"),
+            Fault::Device => write!(f, "device failed"),
+            Fault::Memory => write!(f, "refused 62 Memory"),
+        }
+    }
+}
+
+impl From<OfficeFault> for Fault {
+    ghost use Rattle.std.specs.Prelude.{◌≡◌};
+    ghost use Rattle.pw_commands.specs.declared.fault.Fault.TheVariants.{Office};
+
+    ghost from_gives = { λ fault given. given ≡ Office fault };
+
+    fn from(fault: OfficeFault) -> Fault {
+        Fault::Office(fault)
+    }
+}
+
+impl From<UploadFault> for Fault {
+    ghost use Rattle.std.specs.Prelude.{◌≡◌};
+    ghost use Rattle.pw_commands.specs.declared.fault.Fault.TheVariants.{Upload};
+
+    ghost from_gives = { λ fault given. given ≡ Upload fault };
+
+    fn from(fault: UploadFault) -> Fault {
+        Fault::Upload(fault)
+    }
+}
+
+impl From<PostFault> for Fault {
+    ghost use Rattle.std.specs.Prelude.{◌≡◌};
+    ghost use Rattle.pw_commands.specs.declared.fault.Fault.TheVariants.{Post};
+
+    ghost from_gives = { λ fault given. given ≡ Post fault };
+
+    fn from(fault: PostFault) -> Fault {
+        Fault::Post(fault)
+    }
+}
+
+impl From<BookFault> for Fault {
+    ghost use Rattle.std.specs.Prelude.{◌≡◌};
+    ghost use Rattle.pw_commands.specs.declared.fault.Fault.TheVariants as fault;
+
+    ghost from_gives = { λ given told. told ≡ fault.Book given };
+
+    fn from(fault: BookFault) -> Fault {
+        Fault::Book(fault)
+    }
+}

@@ -1,0 +1,24 @@
+//! What the program's commands do, over files, stores, streams and connections.
+#![tactic(auto)]
+
+mod commands;
+mod fault;
+mod files;
+mod hints;
+mod pipe;
+mod progress;
+mod sample;
+mod serving;
+mod store;
+mod telling;
+
+pub use commands::{entries_of, page_of, run, run_watched};
+pub use fault::Fault;
+pub use files::{LONGEST_BODY, LONGEST_OFFICE, read_file};
+pub use hints::name_unreadable;
+pub use pipe::pipe_run;
+pub use progress::Progress;
+pub use sample::SAMPLE;
+pub use serving::{serve, serve_on};
+pub use store::{FileBook, close_book, open_book};
+pub use telling::{finish, tell, write_whole};

@@ -1,0 +1,55 @@
+//! A book over a store file.
+
+ghost use Rattle.std.specs.Prelude.{◌≡◌, IfErr, IfOk};
+ghost use Rattle.pw_tariff.specs.Text.{IsOfficeOf};
+ghost use Rattle.pw_words.specs.Words.{IsLimit};
+
+use crate::fault::Fault;
+use pw_book::Book;
+use pw_store::{SqlShelf, Watch};
+use pw_tariff::Office;
+use pw_time::Zone;
+use sqlite::{Connection, Error, ErrorCode};
+use sqlite_std_file::File;
+use sqlite_store::FileStore;
+
+/// A book whose records stand in a file.
+pub type FileBook = Book<SqlShelf<FileStore<File>>>;
+
+/// Opens the store at a path as a book of the office of a text, or makes it where nothing is there; `watch` is told how
+/// far that is.
+pub fn open_book<W: Watch>(
+    rt: &HostRuntime,
+    path: &str,
+    office: Office,
+    text: &[u8],
+    limit: u32,
+    watch: &mut W,
+) -> Result<FileBook, Fault>
+    requires office { IsOfficeOf text.now office }
+    requires limit { IsLimit limit }
+    ensures { IfOk result (λ book. book.office ≡ office) }
+{
+    let connection = match Connection::open(rt, path) {
+        Ok(connection) => connection,
+        Err(Error::SqliteFailure(ErrorCode::OutOfMemory)) => return Err(Fault::Memory),
+        Err(_) => return Err(Fault::Device),
+    };
+    match SqlShelf::open_watched(rt.alloc(), connection, text, watch) {
+        Ok(shelf) => Ok(Book::new(office, Zone::central(), shelf, limit)),
+        Err((fault, connection)) => {
+            let _ = connection.close();
+            Err(Fault::Store(fault))
+        }
+    }
+}
+
+/// Closes a book's store. What was committed stands in the file already; `Device` where the file can't be tidied.
+pub fn close_book(book: FileBook) -> Result<(), Fault>
+    ensures { IfErr result (λ fault. fault ≡ Fault.Device) }
+{
+    match book.into_shelf().close().close() {
+        Ok(()) => Ok(()),
+        Err(_) => Err(Fault::Device),
+    }
+}
