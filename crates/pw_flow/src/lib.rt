@@ -7,5 +7,3 @@
 
 pub mod laws;
 pub mod plain;
-#[cfg(test)]
-mod tests;

@@ -13,8 +13,6 @@ mod hexadecimal;
 pub mod laws;
 mod parity;
 mod search;
-#[cfg(test)]
-mod tests;
 mod whole;
 mod words;
 

@@ -24,8 +24,6 @@ pub use heads::{LONGEST_HEAD, MOST_FIELDS};
 pub use replies::{ContentType, Status};
 pub use requests::{LONGEST_BODY, ROOM, Refusal};
 pub use routes::{Place, Route, Routes};
+pub use send::send_reply;
 pub use served::Served;
 pub use service::Service;
-
-#[cfg(test)]
-mod tests;

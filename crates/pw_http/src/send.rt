@@ -26,7 +26,7 @@ pub(crate) fn send<W: Write>(writer: &mut W, bytes: &[u8]) -> Result<(), WireFau
 }
 
 /// Writes a reply. It takes no memory.
-pub(crate) fn send_reply<W: Write>(
+pub fn send_reply<W: Write>(
     writer: &mut W,
     status: Status,
     content: ContentType,

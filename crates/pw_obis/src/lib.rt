@@ -25,6 +25,3 @@ pub use meaning::{is_date, is_identifier, is_stamp, is_time, register};
 pub use reader::{LineFault, Sets};
 pub use reference::{Code, Register};
 pub use value::{ValueFault, watt_hours};
-
-#[cfg(test)]
-mod tests;

@@ -30,6 +30,3 @@ pub use shape::{is_nothing, is_ours};
 pub use totals::total_of;
 pub use transactions::{begin, commit, roll_back};
 pub use values::{direction_place, integer, owner_place, register_place, wide, words};
-
-#[cfg(test)]
-mod tests;

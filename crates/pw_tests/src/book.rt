@@ -12,6 +12,7 @@ mod counted;
 mod kept;
 mod limits;
 mod memory;
+mod sql;
 
 use crate::sample::{
     FIRST, FIVE, METER, NEW_YEAR, SECOND, SEVEN, SIX, TWO_METERS, are_of_office, assigned, at,
@@ -29,6 +30,16 @@ use std::process::Abort;
 use std::test::Fail;
 
 const OTHER: MeterId = MeterId(1);
+
+// The orders of three uploads.
+const ORDERS: [[u8; 3]; 6] = [
+    [0, 1, 2],
+    [0, 2, 1],
+    [1, 0, 2],
+    [1, 2, 0],
+    [2, 0, 1],
+    [2, 1, 0],
+];
 
 /// Makes empty books of the office with two meters, over stores of one kind.
 trait Books {
@@ -425,15 +436,7 @@ fn in_order<S: Shelf + Drop>(
 #[test]
 fn all_six_orders(rt: HostRuntime) -> Result<(), Fail> {
     let alloc = rt.alloc();
-    let orders = [
-        [0, 1, 2],
-        [0, 2, 1],
-        [1, 0, 2],
-        [1, 2, 0],
-        [2, 0, 1],
-        [2, 1, 0],
-    ];
-    for order in orders {
+    for order in ORDERS {
         in_order(&rt, alloc, InMemory.empty(&rt, alloc, 100)?, order)?;
         in_order(&rt, alloc, Counting.empty(&rt, alloc, 100)?, order)?;
     }

@@ -5,20 +5,30 @@
 #[cfg(test)]
 mod book;
 #[cfg(test)]
-mod memory_books;
+mod flow;
+#[cfg(test)]
+mod frame;
+pub mod memory_books;
 #[cfg(test)]
 mod model;
 #[cfg(test)]
+mod obis;
+#[cfg(test)]
 mod parts;
+#[cfg(test)]
+mod read;
 #[cfg(test)]
 mod record;
 #[cfg(test)]
 mod report;
-#[cfg(test)]
-mod sample;
+pub mod sample;
 #[cfg(test)]
 mod shelf;
+pub mod sql_stores;
 #[cfg(test)]
 mod tariff;
 #[cfg(test)]
-mod uploads;
+mod telegrams;
+#[cfg(test)]
+mod time;
+pub mod uploads;

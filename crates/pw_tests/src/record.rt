@@ -6,4 +6,3 @@ mod memory;
 mod refusals;
 mod rows;
 mod sending;
-mod telegrams;

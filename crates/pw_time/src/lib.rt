@@ -17,6 +17,3 @@ pub use instant::{END_SECOND, FIRST_SECOND, Instant, LAST_SECOND};
 pub use reading::{readout_instant, stamp, utc};
 pub use writing::write_utc;
 pub use zone::{Clock, WeekHour, Zone, week_hour};
-
-#[cfg(test)]
-mod tests;

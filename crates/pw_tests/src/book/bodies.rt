@@ -57,7 +57,11 @@ fn topups<S: Shelf>(alloc: Global, book: &mut Book<S>, body: &[u8]) -> Result<(u
     }
 }
 
-fn figures<S: Shelf>(rt: &impl Abort, alloc: Global, book: &mut Book<S>) -> Result<(), Fail> {
+pub(super) fn figures<S: Shelf>(
+    rt: &impl Abort,
+    alloc: Global,
+    book: &mut Book<S>,
+) -> Result<(), Fail> {
     assert_eq!(rt; topups(alloc, book, TOPUP), Ok((1, 0)));
     assert_eq!(rt; telegrams(alloc, book, TWO_READINGS), Ok((2, 0)));
     assert_eq!(rt; assignments(alloc, book, ASSIGNMENT), Ok((1, 0)));
@@ -73,7 +77,11 @@ fn bodies_to_figures(rt: HostRuntime) -> Result<(), Fail> {
     figures(&rt, alloc, &mut Counting.empty(&rt, alloc, 100)?)
 }
 
-fn header<S: Shelf>(rt: &impl Abort, alloc: Global, book: &mut Book<S>) -> Result<(), Fail> {
+pub(super) fn header<S: Shelf>(
+    rt: &impl Abort,
+    alloc: Global,
+    book: &mut Book<S>,
+) -> Result<(), Fail> {
     let told = assignments(alloc, book, b"meter,start,account\n");
     assert_eq!(rt; told, Ok((0, 0)));
     assert_eq!(rt; book.count()?, 0);
@@ -87,7 +95,11 @@ fn header_alone(rt: HostRuntime) -> Result<(), Fail> {
     header(&rt, alloc, &mut Counting.empty(&rt, alloc, 100)?)
 }
 
-fn no_row_kept<S: Shelf>(rt: &impl Abort, alloc: Global, book: &mut Book<S>) -> Result<(), Fail> {
+pub(super) fn no_row_kept<S: Shelf>(
+    rt: &impl Abort,
+    alloc: Global,
+    book: &mut Book<S>,
+) -> Result<(), Fail> {
     let fault = UploadFault {
         part: 2,
         cause: Cause::Cents,

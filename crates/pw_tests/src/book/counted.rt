@@ -162,7 +162,11 @@ fn taken_failing<S: Shelf>(
     }
 }
 
-fn fails_at_each<B: Books>(rt: &impl Abort, alloc: Global, books: &B) -> Result<(), Fail> {
+pub(super) fn fails_at_each<B: Books>(
+    rt: &impl Abort,
+    alloc: Global,
+    books: &B,
+) -> Result<(), Fail> {
     for fail_at in 1..200 {
         let mut book = books.failing(rt, alloc, fail_at, false)?;
         let Some(fault) = taken_failing(rt, alloc, &mut book)? else {
@@ -180,7 +184,11 @@ fn failing_device(rt: HostRuntime) -> Result<(), Fail> {
     fails_at_each(&rt, rt.alloc(), &Counting)
 }
 
-fn abandons_at_none<B: Books>(rt: &impl Abort, alloc: Global, books: &B) -> Result<(), Fail> {
+pub(super) fn abandons_at_none<B: Books>(
+    rt: &impl Abort,
+    alloc: Global,
+    books: &B,
+) -> Result<(), Fail> {
     let mut begun = false;
     for fail_at in 1..200 {
         let mut book = books.failing(rt, alloc, fail_at, true)?;

@@ -152,7 +152,7 @@ fn parts_agree_behind_each<B: Books>(
     parts_agree_behind(rt, alloc, books, entries)
 }
 
-fn settled<B: Books>(rt: &impl Abort, alloc: Global, books: &B) -> Result<(), Fail> {
+pub(super) fn settled<B: Books>(rt: &impl Abort, alloc: Global, books: &B) -> Result<(), Fail> {
     let mut book = books.empty(rt, alloc, 100)?;
     let mut taken = Vec::new(alloc);
     let steps = [
@@ -175,7 +175,7 @@ fn fall_settled_by_dispute(rt: HostRuntime) -> Result<(), Fail> {
     settled(&rt, rt.alloc(), &Counting)
 }
 
-fn moved<B: Books>(rt: &impl Abort, alloc: Global, books: &B) -> Result<(), Fail> {
+pub(super) fn moved<B: Books>(rt: &impl Abort, alloc: Global, books: &B) -> Result<(), Fail> {
     let mut book = books.empty(rt, alloc, 100)?;
     let mut taken = Vec::new(alloc);
     let steps = [

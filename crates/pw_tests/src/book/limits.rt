@@ -14,7 +14,11 @@ use std::process::Abort;
 use std::test::Fail;
 
 // A book with room for one record.
-fn takes_one<S: Shelf>(rt: &impl Abort, alloc: Global, book: &mut Book<S>) -> Result<(), Fail> {
+pub(super) fn takes_one<S: Shelf>(
+    rt: &impl Abort,
+    alloc: Global,
+    book: &mut Book<S>,
+) -> Result<(), Fail> {
     let twice = [paid(rt, b"P1", FIRST, 2_000); 2];
     takes(rt, alloc, book, &twice, (1, 0))?;
     takes(rt, alloc, book, &twice, (0, 1))?;
@@ -38,7 +42,11 @@ fn three_paid(rt: &impl Abort) -> [Entry; 3] {
 }
 
 // A book with room for three records.
-fn takes_three<S: Shelf>(rt: &impl Abort, alloc: Global, book: &mut Book<S>) -> Result<(), Fail> {
+pub(super) fn takes_three<S: Shelf>(
+    rt: &impl Abort,
+    alloc: Global,
+    book: &mut Book<S>,
+) -> Result<(), Fail> {
     let held = three_paid(rt);
     let full = Err(PostFault::Full { held: 3, limit: 3 });
     takes(rt, alloc, book, &held, (3, 0))?;
@@ -58,7 +66,7 @@ fn full_book(rt: HostRuntime) -> Result<(), Fail> {
     takes_three(&rt, alloc, &mut Counting.empty(&rt, alloc, 3)?)
 }
 
-fn gives_store_back<S: Shelf + Drop>(
+pub(super) fn gives_store_back<S: Shelf + Drop>(
     rt: &impl Abort,
     alloc: Global,
     mut book: Book<S>,

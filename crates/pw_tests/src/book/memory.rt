@@ -39,7 +39,11 @@ fn told<S: Shelf>(rt: &impl Abort, alloc: Global, book: &mut Book<S>) -> Result<
     Ok(())
 }
 
-fn right_or_refused<B: Books>(rt: &impl Abort, alloc: Global, books: &B) -> Result<(), Fail> {
+pub(super) fn right_or_refused<B: Books>(
+    rt: &impl Abort,
+    alloc: Global,
+    books: &B,
+) -> Result<(), Fail> {
     let Ok(mut book) = books.empty(rt, alloc, 100) else {
         return Ok(());
     };

@@ -2,8 +2,8 @@
 
 use super::bodies::*;
 use super::sending::{Path, gives, line_of};
-use super::telegrams::{ISKRA, KAIFA};
 use crate::sample::{FIVE, shown};
+use crate::telegrams::{ISKRA, KAIFA};
 use pw_obis::Register;
 use pw_tariff::MeterId;
 use std::test::Fail;

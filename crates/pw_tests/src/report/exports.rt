@@ -1,10 +1,17 @@
 //! The exports, and what `csv` reads of them.
 
 use super::{Upload, book_behind, is};
+use crate::sample::{FIRST, HIGH, LOW, METER, SECOND};
 use crate::uploads::{A_THIRD, BESIDE, BETWEEN, TOPUP, TWO_READINGS};
 use csv::{ByteRecord, ReaderBuilder};
+use pw_book::Book;
+use pw_obis::Register;
 use pw_report::{export_energy, export_readings};
+use pw_shelf::Shelf;
+use pw_tariff::{BandId, Direction, Owner};
+use pw_time::write_utc;
 use std::alloc::Global;
+use std::process::Abort;
 use std::test::Fail;
 
 // The rows of a text, as `csv` reads them.
@@ -29,6 +36,70 @@ fn reads(alloc: Global, text: &[u8], count: usize, at: usize, fourth: &[u8]) -> 
     Ok(rows.len() == count && five && row.get(3) == Some(fourth))
 }
 
+// The rows that `csv` reads of an export are the readings that the book gives.
+fn are_readings<S: Shelf>(
+    rt: &impl Abort,
+    alloc: Global,
+    book: &mut Book<S>,
+    text: &[u8],
+) -> Result<(), Fail> {
+    assert!(rt; METER.0 < book.office().meters());
+    let told = book.readings(alloc, METER, Register::I1)?;
+    let rows = rows_of(alloc, text)?;
+    assert_eq!(rt; rows.len(), told.len().saturating_add(1));
+    for (row, reading) in rows.iter().skip(1).zip(told.iter()) {
+        let instant = write_utc(reading.instant);
+        let shown = format!(in alloc; "{}", reading.wh.get())?;
+        let counted: &[u8] = if reading.counted { b"1" } else { b"0" };
+        assert!(rt; row.get(2) == Some(instant.as_slice()));
+        assert!(rt; row.get(3) == Some(shown.as_bytes()));
+        assert!(rt; row.get(4) == Some(counted));
+    }
+    Ok(())
+}
+
+// What the book gives of an owner in a band.
+fn energy<S: Shelf>(
+    rt: &impl Abort,
+    book: &mut Book<S>,
+    owner: Owner,
+    band: BandId,
+    direction: Direction,
+) -> Result<u64, Fail> {
+    if let Some(account) = owner {
+        assert!(rt; account.0 < book.office().accounts());
+    }
+    assert!(rt; band.0 < book.office().bands());
+    Ok(book.energy(owner, band, direction)?)
+}
+
+// The rows that `csv` reads of an export are the energies that the book gives.
+fn are_energies<S: Shelf>(
+    rt: &impl Abort,
+    alloc: Global,
+    book: &mut Book<S>,
+    text: &[u8],
+) -> Result<(), Fail> {
+    let rows = rows_of(alloc, text)?;
+    let mut at = 1usize;
+    for owner in [None, Some(FIRST), Some(SECOND)] {
+        for (band, direction) in [
+            (LOW, Direction::Import),
+            (LOW, Direction::Export),
+            (HIGH, Direction::Import),
+            (HIGH, Direction::Export),
+        ] {
+            let told = energy(rt, book, owner, band, direction)?;
+            let shown = format!(in alloc; "{told}")?;
+            let row = rows.get(at).ok_or("a row is missing")?;
+            assert!(rt; row.get(3) == Some(shown.as_bytes()));
+            at = at.saturating_add(1);
+        }
+    }
+    assert_eq!(rt; rows.len(), at);
+    Ok(())
+}
+
 const READINGS: &[u8] = b"meter,register,instant,wh,counted
 4D31,I1,2024-01-02T05:00:00Z,1000000,1
 4D31,I1,2024-01-02T06:00:00Z,1001000,0
@@ -51,7 +122,7 @@ fn readings_export(rt: HostRuntime) -> Result<(), Fail> {
     let text = export_readings(&mut book, alloc)?;
     assert!(rt; is(&text, READINGS));
     assert!(rt; reads(alloc, &text, 6, 3, b"1001200")?);
-    Ok(())
+    are_readings(&rt, alloc, &mut book, &text)
 }
 
 const ENERGIES: &[u8] = b"owner,band,direction,wh,nano
@@ -77,5 +148,5 @@ fn energies_export(rt: HostRuntime) -> Result<(), Fail> {
     let text = export_energy(&mut book, alloc)?;
     assert!(rt; is(&text, ENERGIES));
     assert!(rt; reads(alloc, &text, 13, 7, b"1501")?);
-    Ok(())
+    are_energies(&rt, alloc, &mut book, &text)
 }

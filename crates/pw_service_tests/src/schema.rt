@@ -1,10 +1,10 @@
 //! Tables made in memory, and rows of tables judged.
 
-use crate::{
+use pw_model::Entry;
+use pw_schema::{
     JudgeFault, ReadFault, RecordKind, begin, commit, create, is_nothing, is_ours, judge_office,
     judge_rows, read_rows, roll_back,
 };
-use pw_model::Entry;
 use pw_tariff::Office;
 use sqlite::{Connection, MemStore, Row};
 use std::alloc::Global;

@@ -1,9 +1,11 @@
 //! Worked rows: what is uploaded, in whatever order, and what is told of it.
 
-use super::books::{OFFICE, book_of, empty_book, replied, replies};
-use crate::Served;
+use super::books::{empty_book, replied, replies};
 use pw_book::Book;
+use pw_http::Served;
 use pw_shelf::Shelf;
+use pw_tests::memory_books::book_of;
+use pw_tests::sample::SAMPLE;
 use std::alloc::Global;
 use std::test::Fail;
 
@@ -178,7 +180,7 @@ fn disputed_payment(rt: HostRuntime) -> Result<(), Fail> {
 
 #[test]
 fn full_book(rt: HostRuntime) -> Result<(), Fail> {
-    let mut book = book_of(rt.alloc(), OFFICE, 3)?;
+    let mut book = book_of(rt.alloc(), SAMPLE, 3)?;
     assert_eq!(rt; replied(rt.alloc(), &mut book, &FULL), 6);
     Ok(())
 }

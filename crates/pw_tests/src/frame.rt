@@ -1,6 +1,6 @@
 //! Worked examples and outside values: what no contract can say, that the definitions are those of the standards.
 
-use crate::*;
+use pw_frame::*;
 use std::test::Fail;
 
 const FIRST: &[u8] =

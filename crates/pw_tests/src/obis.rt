@@ -1,6 +1,6 @@
 //! Worked examples, their values from the standards and from the telegrams that meters send.
 
-use crate::{
+use pw_obis::{
     Code, LineFault, Register, Sets, ValueFault, WattHours, code, first_value, is_date,
     is_identifier, is_stamp, is_time, register, watt_hours,
 };

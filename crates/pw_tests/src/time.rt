@@ -1,6 +1,6 @@
-use super::*;
 use jiff::Timestamp;
 use jiff::tz::TimeZone;
+use pw_time::*;
 use std::test::Fail;
 
 /// The instant of a text, or the number of its fault.
@@ -97,22 +97,26 @@ fn week_hours(rt: HostRuntime) -> Result<(), Fail> {
     Ok(())
 }
 
-/// Each change, and the second before it, by jiff's reading of the same rule.
+/// The local hour at 01:00 UTC of each day, when it may change, and a second before it, by jiff's reading of the same rule.
 #[test]
 fn changes_are_those_of_the_rule(rt: HostRuntime) -> Result<(), Fail> {
     let rule = TimeZone::posix("CET-1CEST,M3.5.0,M10.5.0/3")?;
     let zone = Zone::central();
-    let mut compared = 0u32;
-    for change in changes::CHANGES.iter() {
-        for second in [change.saturating_sub(1), *change] {
+    let mut summer = 0u32;
+    for day in 10_957u32..47_482 {
+        for (second, hour) in [(day * 86_400 + 3_599, 0u8), (day * 86_400 + 3_600, 1)] {
+            let instant = Instant::of(second).ok_or("not an instant")?;
             let ahead = rule
                 .to_offset(Timestamp::from_second(i64::from(second))?)
                 .seconds();
-            assert_eq!(rt; zone.is_summer(second), ahead == 7200, "at {second}");
-            compared = compared.saturating_add(1);
+            let local = if ahead == 7_200 { hour + 2 } else { hour + 1 };
+            assert_eq!(rt; week_hour(instant, &zone).hour, local, "at {second}");
+            if ahead == 7_200 {
+                summer = summer.saturating_add(1);
+            }
         }
     }
-    assert_eq!(rt; compared, 400);
+    assert_eq!(rt; summer, 42_798);
     Ok(())
 }
 

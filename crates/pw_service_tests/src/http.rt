@@ -7,11 +7,7 @@ mod rows;
 mod tables;
 mod wire;
 
-use crate::fault::WireFault;
-use crate::replies::{ContentType, Status};
-use crate::send::send_reply;
-use crate::service::Service;
-use crate::{Routes, Served, serve_within};
+use pw_http::{ContentType, Routes, Served, Service, Status, WireFault, send_reply, serve_within};
 use std::alloc::Global;
 use std::io::Write;
 use std::test::Fail;

@@ -5,8 +5,8 @@ ghost use Rattle.pw_flow.specs.Energy.{register_energy};
 ghost use Rattle.pw_flow.specs.Plain.{value_at};
 ghost use Rattle.pw_flow.specs.Time.{AreInTime};
 
-use super::laws::{earliest_behind_is_found, latest_is_found};
-use super::plain::{Point, energy, level_at};
+use pw_flow::laws::{earliest_behind_is_found, latest_is_found};
+use pw_flow::plain::{Point, energy, level_at};
 
 // 2024-01-02T05:00:00Z, and the hours behind it
 const FIVE: u32 = 1_704_171_600;

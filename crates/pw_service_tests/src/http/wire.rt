@@ -2,8 +2,8 @@
 
 use super::books::{empty_book, replies};
 use super::rows::{FIRST, FIRST_REPLIES};
-use crate::{Served, WireFault, converse, converse_within};
 use pw_book::Book;
+use pw_http::{Served, WireFault, converse, converse_within};
 use pw_shelf::Shelf;
 use std::alloc::Global;
 use std::io::{self, ErrorKind, Read, Write};

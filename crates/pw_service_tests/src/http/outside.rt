@@ -1,6 +1,7 @@
 //! What others send: requests as `curl` 7.88.1 wrote them to a socket, and telegrams of real meters.
 
-use super::books::{book_of, empty_book, replied};
+use super::books::{empty_book, replied};
+use pw_tests::memory_books::book_of;
 use std::test::Fail;
 
 // A POST of a file, a GET, a POST with `Expect`, and two requests on one connection.

@@ -1,0 +1,5 @@
+//! Tests of the commands, by public calls alone.
+#![tactic(auto)]
+
+#[cfg(test)]
+mod program;

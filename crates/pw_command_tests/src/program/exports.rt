@@ -1,0 +1,94 @@
+//! What a store's tables and exports hold, behind loads from files.
+
+use super::files::{ASSIGNMENT, Outcome, Place, TOPUP, loaded, ran, room, told};
+use std::test::Fail;
+use std::{fs, io};
+
+/// The readings of 06:00 and 08:00, of 1,000 kWh and 1,003.001 kWh.
+const TWO_READINGS: &str =
+    "/PWB5X\r\n\r\n0-0:1.0.0(240102060000W)\r\n0-0:96.1.1(4D31)\r\n1-0:1.8.1(001000.000*kWh)\r\n!1790\r\n/PWB5X\r\n\r\n0-0:1.0.0(240102080000W)\r\n0-0:96.1.1(4D31)\r\n1-0:1.8.1(001003.001*kWh)\r\n!C033\r\n";
+
+const STATEMENT: &str = "account A1
+band       import Wh       export Wh
+L               1500               0
+H               1501               0
+topped up EUR 50.00
+balance EUR 49.24
+";
+
+const ENERGIES: &str = "owner,band,direction,wh,nano
+-,L,import,0,0
+-,L,export,0,0
+-,H,import,0,0
+-,H,export,0,0
+A1,L,import,1500,300000000
+A1,L,export,0,0
+A1,H,import,1501,450300000
+A1,H,export,0,0
+A2,L,import,0,0
+A2,L,export,0,0
+A2,H,import,0,0
+A2,H,export,0,0
+";
+
+const READINGS: &str = "meter,register,instant,wh,counted
+4D31,I1,2024-01-02T05:00:00Z,1000000,1
+4D31,I1,2024-01-02T07:00:00Z,1003001,1
+";
+
+const ACCOUNTS: &str = "account                              balance EUR
+A1                                         49.24
+A2                                          0.00
+";
+
+/// A store that holds an assignment, two readings and a top-up.
+fn filled(rt: &HostRuntime, name: &str) -> io::Result<Place> {
+    let room = room(rt, name)?;
+    loaded(rt, &room, "assignments", ASSIGNMENT)?;
+    loaded(rt, &room, "telegrams", TWO_READINGS)?;
+    loaded(rt, &room, "topups", TOPUP)?;
+    Ok(room)
+}
+
+fn exported(rt: &HostRuntime, room: &Place, what: &str) -> Outcome {
+    ran(
+        rt,
+        &["export", room.office.as_str(), room.store.as_str(), what],
+    )
+}
+
+#[test]
+fn a_statement_is_printed(rt: HostRuntime) -> Result<(), Fail> {
+    let room = filled(&rt, "statement")?;
+    let words = ["statement", room.office.as_str(), room.store.as_str(), "A1"];
+    let printed = ran(&rt, &words);
+    assert!(rt; told(&printed, 0, STATEMENT, ""), "{printed:?}");
+    fs::remove_dir_all(&rt, room.folder.as_str())?;
+    Ok(())
+}
+
+#[test]
+fn tables_are_printed(rt: HostRuntime) -> Result<(), Fail> {
+    let room = filled(&rt, "tables")?;
+    assert!(rt; told(&exported(&rt, &room, "accounts"), 0, ACCOUNTS, ""));
+    assert!(rt;
+        told(
+            &exported(&rt, &room, "falls"),
+            0,
+            "meter register from wh to wh\n",
+            ""
+        )
+    );
+    assert!(rt; told(&exported(&rt, &room, "disputes"), 0, "key records\n", ""));
+    fs::remove_dir_all(&rt, room.folder.as_str())?;
+    Ok(())
+}
+
+#[test]
+fn exports_are_printed(rt: HostRuntime) -> Result<(), Fail> {
+    let room = filled(&rt, "exports")?;
+    assert!(rt; told(&exported(&rt, &room, "energy"), 0, ENERGIES, ""));
+    assert!(rt; told(&exported(&rt, &room, "readings"), 0, READINGS, ""));
+    fs::remove_dir_all(&rt, room.folder.as_str())?;
+    Ok(())
+}

@@ -1,0 +1,83 @@
+//! What `pipe` answers.
+
+use super::files::{Outcome, told};
+use pw_commands::{SAMPLE, pipe_run};
+use std::alloc::Global;
+use std::io::{self, ErrorKind, Read, Write};
+use std::test::Fail;
+
+const LIMIT: u32 = 1_000_000;
+
+const ASKED: &[u8] = b"GET /accounts/A1 HTTP/1.1\r\n\r\n";
+
+const REPLIED: &[u8] =
+    b"HTTP/1.1 200 OK\r\nContent-Type: text/plain\r\nContent-Length: 158\r\n\r\naccount A1
+band       import Wh       export Wh
+L                  0               0
+H                  0               0
+topped up EUR 0.00
+balance EUR 0.00
+";
+
+// A stream that fails.
+#[derive(Drop)]
+struct Failing;
+
+impl Read for Failing {
+    fn read(&mut self, _buf: &mut [u8]) -> io::Result<usize> {
+        Err(io::Error::from(ErrorKind::Other))
+    }
+}
+
+impl Write for Failing {
+    fn write(&mut self, _bytes: &[u8]) -> io::Result<usize> {
+        Err(io::Error::from(ErrorKind::Other))
+    }
+
+    fn flush(&mut self) -> io::Result<()> {
+        Ok(())
+    }
+}
+
+fn piped<R: Read, O: Write, E: Write>(
+    alloc: Global,
+    reader: &mut R,
+    out: &mut O,
+    err: &mut E,
+) -> u8 {
+    pipe_run(alloc, SAMPLE.as_bytes(), LIMIT, reader, out, err)
+}
+
+#[test]
+fn requests_piped(rt: HostRuntime) -> Result<(), Fail> {
+    let mut reader = ASKED;
+    let (mut out, mut err) = (Vec::new(rt.alloc()), Vec::new(rt.alloc()));
+    assert_eq!(rt; piped(rt.alloc(), &mut reader, &mut out, &mut err), 0);
+    assert!(rt; out.as_slice() == REPLIED);
+    assert!(rt; err.is_empty());
+    Ok(())
+}
+
+#[test]
+fn faults_told(rt: HostRuntime) -> Result<(), Fail> {
+    let (mut out, mut err) = (Vec::new(rt.alloc()), Vec::new(rt.alloc()));
+    assert_eq!(rt; piped(rt.alloc(), &mut Failing, &mut out, &mut err), 3);
+    assert!(rt; out.is_empty());
+    assert!(rt; err.as_slice() == b"refused 80 Read\n".as_slice());
+    let mut reader = ASKED;
+    let mut other = Vec::new(rt.alloc());
+    assert_eq!(rt; piped(rt.alloc(), &mut reader, &mut Failing, &mut other), 3);
+    assert!(rt; other.as_slice() == b"refused 81 Write\n".as_slice());
+    Ok(())
+}
+
+#[test]
+fn refused_office_told(rt: HostRuntime) -> Result<(), Fail> {
+    let mut reader = ASKED;
+    let (mut out, mut err) = (Vec::new(rt.alloc()), Vec::new(rt.alloc()));
+    let office = b"accounts = []".as_slice();
+    let status = pipe_run(rt.alloc(), office, LIMIT, &mut reader, &mut out, &mut err);
+    let ran = Outcome { status, out, err };
+    assert!(rt; told(&ran, 1, "", "refused 37 Empty\n"), "{ran:?}");
+    Ok(())
+}

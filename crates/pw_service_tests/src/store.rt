@@ -1,0 +1,302 @@
+//! Stores over memory: what is kept, and what is refused when one is opened again.
+
+ghost use Rattle.std.specs.Prelude.{◌≡◌, false};
+
+use pw_model::TotalKey;
+use pw_obis::{Register, WattHours};
+use pw_shelf::Shelf;
+use pw_store::{OpenFault, SqlShelf};
+use pw_tariff::{AccountId, BandId, Direction, MeterId, Office};
+use pw_time::Instant;
+use sqlite::{Connection, MemStore};
+use std::alloc::Global;
+use std::process::Abort;
+use std::test::Fail;
+
+const TEXT: &str = r#"accounts = ["A1", "A2"]
+week = [
+  "LLLLLLLHHHHHHHHHHHHHHHHL",
+  "LLLLLLLHHHHHHHHHHHHHHHHL",
+  "LLLLLLLHHHHHHHHHHHHHHHHL",
+  "LLLLLLLHHHHHHHHHHHHHHHHL",
+  "LLLLLLLHHHHHHHHHHHHHHHHL",
+  "LLLLLLLLLLLLLLLLLLLLLLLL",
+  "LLLLLLLLLLLLLLLLLLLLLLLL",
+]
+
+[[band]]
+name = "L"
+import = 200000
+export = 50000
+
+[[band]]
+name = "H"
+import = 300000
+export = 50000
+
+[[meter]]
+id = "4D31"
+clock = "marked"
+registers = ["I1", "I2", "E1", "E2"]
+"#;
+
+const METER: MeterId = MeterId(0);
+
+const ENERGY: TotalKey = TotalKey::Energy {
+    owner: Some(AccountId(0)),
+    band: BandId(0),
+    direction: Direction::Import,
+};
+
+const PAYMENTS: TotalKey = TotalKey::TopUps {
+    account: AccountId(1),
+};
+
+fn at(rt: &impl Abort, second: u32) -> Instant {
+    Instant::of(second).expect(rt, "an instant")
+}
+
+fn wh(rt: &impl Abort, amount: u64) -> WattHours {
+    WattHours::of(amount).expect(rt, "watt-hours")
+}
+
+fn memory(rt: &impl Abort, alloc: Global) -> Connection<MemStore> {
+    Connection::open_in_memory(alloc).expect(rt, "a connection")
+}
+
+// The store of a connection.
+fn shelf_of(rt: &impl Abort, alloc: Global, connection: Connection<MemStore>) -> SqlShelf<MemStore>
+    ensures { result.begun ≡ false }
+{
+    let _office = Office::read(alloc, TEXT.as_bytes()).expect(rt, "an office");
+    match SqlShelf::open(alloc, connection, TEXT.as_bytes()) {
+        Ok(shelf) => shelf,
+        Err(_) => panic!(rt; "not opened"),
+    }
+}
+
+// Why a connection isn't opened, if it isn't.
+fn refusal(rt: &impl Abort, alloc: Global, connection: Connection<MemStore>) -> Option<OpenFault> {
+    let _office = Office::read(alloc, TEXT.as_bytes()).expect(rt, "an office");
+    match SqlShelf::open(alloc, connection, TEXT.as_bytes()) {
+        Ok(_) => None,
+        Err((fault, _)) => Some(fault),
+    }
+}
+
+// Why a connection isn't opened, and the connection.
+fn refused_by(
+    rt: &impl Abort,
+    alloc: Global,
+    connection: Connection<MemStore>,
+) -> (OpenFault, Connection<MemStore>) {
+    let _office = Office::read(alloc, TEXT.as_bytes()).expect(rt, "an office");
+    match SqlShelf::open(alloc, connection, TEXT.as_bytes()) {
+        Ok(_) => panic!(rt; "opened"),
+        Err(refused) => refused,
+    }
+}
+
+// Why a new store, in which a statement was run, isn't opened, if it isn't.
+fn refusal_behind(rt: &impl Abort, alloc: Global, statement: &str) -> Option<OpenFault> {
+    let mut connection = shelf_of(rt, alloc, memory(rt, alloc)).close();
+    connection.execute(statement, &[]).expect(rt, "a statement");
+    refusal(rt, alloc, connection)
+}
+
+#[test]
+fn a_point_put_again_is_the_last(rt: HostRuntime) -> Result<(), Fail> {
+    let alloc = rt.alloc();
+    let mut shelf = shelf_of(&rt, alloc, memory(&rt, alloc));
+    let early = at(&rt, 1_704_067_200);
+    shelf.begin()?;
+    shelf.point_put(METER, Register::E1, early, wh(&rt, 5))?;
+    shelf.point_put(METER, Register::E1, early, wh(&rt, 6))?;
+    let found = shelf.point_before(METER, Register::E1, at(&rt, 1_704_070_800))?;
+    assert_eq!(rt; found, Some((early, wh(&rt, 6))));
+    Ok(())
+}
+
+#[test]
+fn an_abandoned_total_is_gone(rt: HostRuntime) -> Result<(), Fail> {
+    let alloc = rt.alloc();
+    let mut shelf = shelf_of(&rt, alloc, memory(&rt, alloc));
+    shelf.begin()?;
+    shelf.total_put(&PAYMENTS, 500)?;
+    shelf.abandon()?;
+    let amount = shelf.total(&PAYMENTS)?;
+    assert_eq!(rt; amount, 0);
+    Ok(())
+}
+
+#[test]
+fn a_start_is_there_when_opened_again(rt: HostRuntime) -> Result<(), Fail> {
+    let alloc = rt.alloc();
+    let mut shelf = shelf_of(&rt, alloc, memory(&rt, alloc));
+    shelf.begin()?;
+    shelf.start_put(METER, at(&rt, 1_704_067_200), Some(AccountId(1)))?;
+    shelf.commit()?;
+    let mut connection = shelf.close();
+    connection.execute(
+        "INSERT INTO record_assignment VALUES (0, 1704067200, 2)",
+        &[],
+    )?;
+    let mut again = shelf_of(&rt, alloc, connection);
+    let starts = again.starts_of(alloc, METER)?;
+    assert_eq!(rt; starts.len(), 1);
+    Ok(())
+}
+
+#[test]
+fn damaged_stores_are_refused(rt: HostRuntime) -> Result<(), Fail> {
+    let alloc = rt.alloc();
+    let cases = [
+        ("UPDATE office SET version = 9", OpenFault::Version),
+        ("UPDATE office SET body = X'00'", OpenFault::OfficeDiffers),
+        ("DELETE FROM office", OpenFault::Unclean),
+        ("DROP TABLE point", OpenFault::Unclean),
+        ("CREATE TABLE other (id INTEGER) STRICT", OpenFault::Unclean),
+        (
+            "INSERT INTO record_reading VALUES (0, 9, 1704067200, 1)",
+            OpenFault::Unclean,
+        ),
+        (
+            "INSERT INTO record_reading VALUES (0, 1, 5, 1)",
+            OpenFault::Unclean,
+        ),
+        (
+            "INSERT INTO record_topup VALUES ('P/1', 0, 5, 1704067200)",
+            OpenFault::Unclean,
+        ),
+        (
+            "INSERT INTO record_assignment VALUES (0, 1704067200, 3)",
+            OpenFault::Unclean,
+        ),
+        (
+            "INSERT INTO point VALUES (0, 9, 1704067200, 1)",
+            OpenFault::Unclean,
+        ),
+        ("INSERT INTO total VALUES (3, 0, 0, 1)", OpenFault::Unclean),
+        ("INSERT INTO total_topup VALUES (2, 1)", OpenFault::Unclean),
+    ];
+    for (statement, fault) in cases {
+        assert_eq!(rt; refusal_behind(&rt, alloc, statement), Some(fault));
+    }
+    Ok(())
+}
+
+// Two readings an hour apart, in band L, of a meter of A1, and a top-up of A1, with what is kept beside them.
+const RECORDS: [&str; 9] = [
+    "INSERT INTO record_assignment VALUES (0, 1704067200, 1)",
+    "INSERT INTO record_reading VALUES (0, 1, 1704067200, 1000)",
+    "INSERT INTO record_reading VALUES (0, 1, 1704070800, 1100)",
+    "INSERT INTO record_topup VALUES ('P1', 0, 500, 1704067200)",
+    "INSERT INTO start VALUES (0, 1704067200, 1)",
+    "INSERT INTO point VALUES (0, 1, 1704067200, 1000)",
+    "INSERT INTO point VALUES (0, 1, 1704070800, 1100)",
+    "INSERT INTO total VALUES (1, 0, 0, 100)",
+    "INSERT INTO total_topup VALUES (0, 500)",
+];
+
+// What makes these sums untrue, and what makes them true again.
+const DAMAGES: [(&str, &str); 13] = [
+    ("UPDATE total SET wh = 101", "UPDATE total SET wh = 100"),
+    ("UPDATE total SET wh = 99", "UPDATE total SET wh = 100"),
+    ("UPDATE total SET wh = 0", "UPDATE total SET wh = 100"),
+    (
+        "DELETE FROM total",
+        "INSERT INTO total VALUES (1, 0, 0, 100)",
+    ),
+    (
+        "INSERT INTO total VALUES (2, 0, 0, 1)",
+        "DELETE FROM total WHERE owner = 2",
+    ),
+    (
+        "UPDATE total_topup SET cents = 501",
+        "UPDATE total_topup SET cents = 500",
+    ),
+    (
+        "INSERT INTO total_topup VALUES (1, 1)",
+        "DELETE FROM total_topup WHERE account = 1",
+    ),
+    (
+        "INSERT INTO point VALUES (0, 1, 1704074400, 1200)",
+        "DELETE FROM point WHERE instant = 1704074400",
+    ),
+    (
+        "INSERT INTO record_reading VALUES (0, 1, 1704074400, 1200)",
+        "DELETE FROM record_reading WHERE instant = 1704074400",
+    ),
+    (
+        "INSERT INTO record_reading VALUES (0, 1, 1704070800, 1101)",
+        "DELETE FROM record_reading WHERE wh = 1101",
+    ),
+    (
+        "UPDATE point SET wh = 1099 WHERE wh = 1100",
+        "UPDATE point SET wh = 1100 WHERE wh = 1099",
+    ),
+    (
+        "INSERT INTO record_assignment VALUES (0, 1704067200, 2)",
+        "DELETE FROM record_assignment WHERE owner = 2",
+    ),
+    (
+        "DELETE FROM start",
+        "INSERT INTO start VALUES (0, 1704067200, 1)",
+    ),
+];
+
+#[test]
+fn what_is_kept_beside_records_must_be_true(rt: HostRuntime) -> Result<(), Fail> {
+    let alloc = rt.alloc();
+    let mut connection = shelf_of(&rt, alloc, memory(&rt, alloc)).close();
+    for statement in RECORDS {
+        connection.execute(statement, &[])?;
+    }
+    for (damage, repair) in DAMAGES {
+        connection = shelf_of(&rt, alloc, connection).close();
+        connection.execute(damage, &[])?;
+        let (fault, refused) = refused_by(&rt, alloc, connection);
+        assert_eq!(rt; fault, OpenFault::Unclean);
+        connection = refused;
+        connection.execute(repair, &[])?;
+    }
+    let mut shelf = shelf_of(&rt, alloc, connection);
+    let amount = shelf.total(&ENERGY)?;
+    assert_eq!(rt; amount, 100);
+    Ok(())
+}
+
+#[test]
+fn a_total_of_0_is_as_good_as_none(rt: HostRuntime) -> Result<(), Fail> {
+    let alloc = rt.alloc();
+    let statement = "INSERT INTO total VALUES (0, 1, 0, 0)";
+    assert_eq!(rt; refusal_behind(&rt, alloc, statement), None);
+    let statement = "INSERT INTO total_topup VALUES (1, 0)";
+    assert_eq!(rt; refusal_behind(&rt, alloc, statement), None);
+    Ok(())
+}
+
+#[test]
+fn a_total_of_0_at_any_key_opens_again(rt: HostRuntime) -> Result<(), Fail> {
+    let alloc = rt.alloc();
+    let key = TotalKey::TopUps {
+        account: AccountId(9),
+    };
+    let mut shelf = shelf_of(&rt, alloc, memory(&rt, alloc));
+    shelf.begin()?;
+    shelf.total_put(&key, 0)?;
+    shelf.commit()?;
+    let mut again = shelf_of(&rt, alloc, shelf.close());
+    let amount = again.total(&key)?;
+    assert_eq!(rt; amount, 0);
+    Ok(())
+}
+
+#[test]
+fn a_table_of_another_is_refused(rt: HostRuntime) -> Result<(), Fail> {
+    let alloc = rt.alloc();
+    let mut connection = memory(&rt, alloc);
+    connection.execute("CREATE TABLE office (id INTEGER) STRICT", &[])?;
+    assert_eq!(rt; refusal(&rt, alloc, connection), Some(OpenFault::Unclean));
+    Ok(())
+}
