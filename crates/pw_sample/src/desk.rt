@@ -1,0 +1,173 @@
+//! The office's desk: frames come in, and files of them go out.
+
+use crate::fault::Fault;
+use crate::figures::{Figures, more};
+use crate::folder::Folder;
+use crate::frames::{readout, telegram};
+use crate::meter::Meter;
+use crate::moment::quarter_begin;
+use std::alloc::Global;
+use std::mem;
+
+/// The most frames of a file.
+const MOST_FRAMES: u32 = 64;
+
+/// What stands on the desk.
+#[derive(Drop)]
+pub struct Desk<'a> {
+    alloc: Global,
+    pub folder: Folder<'a>,
+    pub figures: Figures,
+    /// Telegrams that have come and stand in no file yet, and how many they are.
+    body: Vec<u8>,
+    frames: u32,
+    /// Telegrams that come with those of the next day.
+    late: Vec<Vec<u8>>,
+    /// Telegrams that come at the end of the day: some for the second time, some with another value.
+    again: Vec<Vec<u8>>,
+}
+
+impl<'a> Desk<'a> {
+    /// An empty desk.
+    pub fn new(alloc: Global, folder: Folder<'a>, figures: Figures) -> Desk<'a> {
+        Desk {
+            alloc,
+            folder,
+            figures,
+            body: Vec::new(alloc),
+            frames: 0,
+            late: Vec::new(alloc),
+            again: Vec::new(alloc),
+        }
+    }
+
+    /// Takes what a meter sends at a quarter of an hour: now, late, again or told otherwise, as its plan says.
+    pub fn take(&mut self, meter: &Meter, day: u32, quarter: u32) -> Result<(), Fault> {
+        let second = quarter_begin(day, quarter);
+        let frame = telegram(self.alloc, meter, &meter.levels, second)?;
+        more(&mut self.figures.readings, meter.registers());
+        if is_at(meter.plan.again, quarter) {
+            more(&mut self.figures.repeated_frames, 1);
+            let again = frame.clone()?;
+            if self.again.push(again).is_err() {
+                return Err(Fault::Memory);
+            }
+        }
+        if is_at(meter.plan.otherwise, quarter) {
+            self.take_otherwise(meter, second)?;
+        }
+        if !is_at(meter.plan.late, quarter) {
+            return self.send(frame.as_slice());
+        }
+        more(&mut self.figures.late_frames, 1);
+        match self.late.push(frame) {
+            Ok(()) => Ok(()),
+            Err(_) => Err(Fault::Memory),
+        }
+    }
+
+    // A telegram of the same second with another value of the first register.
+    fn take_otherwise(&mut self, meter: &Meter, second: u32) -> Result<(), Fault> {
+        let mut levels = meter.levels;
+        levels.import[0] = levels.import[0].saturating_add(7);
+        let frame = telegram(self.alloc, meter, &levels, second)?;
+        more(&mut self.figures.readings, 1);
+        more(&mut self.figures.disputed_readings, 1);
+        match self.again.push(frame) {
+            Ok(()) => Ok(()),
+            Err(_) => Err(Fault::Memory),
+        }
+    }
+
+    fn send(&mut self, frame: &[u8]) -> Result<(), Fault> {
+        self.body.extend_from_slice(frame)?;
+        self.frames = self.frames.saturating_add(1);
+        more(&mut self.figures.telegrams, 1);
+        if self.frames < MOST_FRAMES {
+            return Ok(());
+        }
+        self.make_file()
+    }
+
+    /// Makes a file of the telegrams that stand in none yet.
+    pub fn make_file(&mut self) -> Result<(), Fault> {
+        if self.body.is_empty() {
+            return Ok(());
+        }
+        more(&mut self.figures.telegram_files, 1);
+        self.folder.put("telegrams", self.body.as_slice())?;
+        self.body.clear();
+        self.frames = 0;
+        Ok(())
+    }
+
+    /// Takes the telegrams that are late from the day before.
+    pub fn take_late(&mut self) -> Result<(), Fault> {
+        let frames = mem::replace(&mut self.late, Vec::new(self.alloc));
+        for frame in frames.iter() {
+            self.send(frame.as_slice())?;
+        }
+        Ok(())
+    }
+
+    /// Takes the telegrams that come at the end of the day.
+    pub fn take_again(&mut self) -> Result<(), Fault> {
+        let frames = mem::replace(&mut self.again, Vec::new(self.alloc));
+        for frame in frames.iter() {
+            self.send(frame.as_slice())?;
+        }
+        Ok(())
+    }
+
+    /// Takes a meter's readout of a day, and makes a file of it and of those that waited; or lets it wait, if it is late; or
+    /// both, if it comes again.
+    pub fn take_readout(
+        &mut self,
+        meter: &mut Meter,
+        day: u32,
+        is_late: bool,
+        is_again: bool,
+    ) -> Result<(), Fault> {
+        let frame = readout(self.alloc, meter, day)?;
+        more(&mut self.figures.readings, meter.registers());
+        if is_late {
+            more(&mut self.figures.late_frames, 1);
+            self.make_readouts(meter)?;
+            return wait(meter, frame.as_slice());
+        }
+        wait(meter, frame.as_slice())?;
+        self.make_readouts(meter)?;
+        if is_again {
+            more(&mut self.figures.repeated_frames, 1);
+            wait(meter, frame.as_slice())?;
+        }
+        Ok(())
+    }
+
+    /// Makes a file of a meter's readouts that wait.
+    pub fn make_readouts(&mut self, meter: &mut Meter) -> Result<(), Fault> {
+        if meter.waiting.is_empty() {
+            return Ok(());
+        }
+        more(&mut self.figures.readout_files, 1);
+        more(&mut self.figures.readouts, meter.waiting_frames);
+        self.folder
+            .put_readouts(meter.id.as_str(), meter.waiting.as_slice())?;
+        meter.waiting.clear();
+        meter.waiting_frames = 0;
+        Ok(())
+    }
+}
+
+fn wait(meter: &mut Meter, frame: &[u8]) -> Result<(), Fault> {
+    meter.waiting.extend_from_slice(frame)?;
+    meter.waiting_frames = meter.waiting_frames.saturating_add(1);
+    Ok(())
+}
+
+fn is_at(planned: Option<u32>, quarter: u32) -> bool {
+    match planned {
+        Some(place) => place == quarter,
+        None => false,
+    }
+}
