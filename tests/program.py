@@ -1,0 +1,287 @@
+"""What the scripts of this folder share: the built program and its server, telegrams and readouts, a run of tests."""
+import contextlib
+import os
+import shutil
+import signal
+import socket
+import sqlite3
+import subprocess
+import sys
+import tempfile
+import time
+
+TOP = os.path.normpath(os.path.join(os.path.dirname(os.path.abspath(__file__)), ".."))
+EXAMPLES = f"{TOP}/examples"
+PROGRAM = f"{TOP}/crates/powerbook/out/powerbook"
+OFFICE = f"{EXAMPLES}/sample.toml"
+# A test may take so many seconds; each command and each answer has to come within PATIENCE.
+LONGEST = 60
+PATIENCE = 30
+
+
+class Late(Exception):
+    """A test took longer than it may."""
+
+
+def content(path):
+    """The bytes of a file."""
+    with open(path, "rb") as file:
+        return file.read()
+
+
+def written(path, data):
+    """Writes a file, of bytes or of a text, and answers its path."""
+    with open(path, "wb") as file:
+        file.write(data if isinstance(data, bytes) else data.encode())
+    return path
+
+
+def run(*words, given=b"", **options):
+    """Runs the program on words and an input: its exit status, and what it wrote to both streams."""
+    ran = subprocess.run(
+        [PROGRAM, *words], input=given, capture_output=True, timeout=PATIENCE, check=False, **options
+    )
+    return ran.returncode, ran.stdout, ran.stderr
+
+
+def same(told, wanted, what=""):
+    """Fails where what was told isn't what was wanted, and shows both."""
+    assert told == wanted, f"{what}: told {told!r}, wanted {wanted!r}"
+
+
+def told(words, status, out="", err="", given=b""):
+    """Runs the program, and compares its exit status and both streams, byte for byte."""
+    same(run(*words, given=given), (status, out.encode(), err.encode()), f"{words}")
+
+
+def crc16(data):
+    """The CRC16 of a telegram: x^16+x^15+x^2+1, least significant bit first, from 0."""
+    register = 0
+    for byte in data:
+        register ^= byte
+        for _ in range(8):
+            register = register >> 1 ^ (0xA001 if register & 1 else 0)
+    return register
+
+
+def framed(lines):
+    """A telegram of these data lines, with its CRC."""
+    text = "".join(f"{it}\r\n" for it in ["/PWB5X", "", *lines]).encode() + b"!"
+    return text + b"%04X\r\n" % crc16(text)
+
+
+def telegram(stamp, *values, meter="4D31"):
+    """A telegram of a meter at a stamp, with sets of registers as '1.8.1(001000.000*kWh)'; a bare value is I1's."""
+    shown = [f"1-0:{it}" if "(" in it else f"1-0:1.8.1({it}*kWh)" for it in values]
+    return framed([f"0-0:1.0.0({stamp})", f"0-0:96.1.1({meter})", *shown])
+
+
+def readout(date, hour, *values):
+    """A data readout at a date and time, with sets of registers as '1.8.0(1000.000*kWh)'."""
+    lines = [f"0.9.1({hour})", f"0.9.2({date})", *values]
+    block = "".join(f"{it}\r\n" for it in lines).encode() + b"!\r\n\x03"
+    check = 0
+    for byte in block:
+        check ^= byte
+    return b"/PWB5Z7\r\n\x02" + block + bytes([check])
+
+
+def rows(header, *lines):
+    """A body of rows under their header."""
+    return "".join(f"{it}\n" for it in [header, *lines]).encode()
+
+
+def assignments(*lines):
+    return rows("meter,start,account", *lines)
+
+
+def topups(*lines):
+    return rows("reference,account,cents,instant", *lines)
+
+
+def load(room, store, kind, body, meter=None, office=OFFICE, wanted=None):
+    """Loads a body by the command `load`, and answers its line; fails where it's refused."""
+    file = written(f"{room}/upload", body)
+    given = run("load", office, store, kind, file, *(["--meter", meter] if meter else []))
+    assert given[0] == 0 and given[2] == b"", f"load of {kind}: {given!r}"
+    line = given[1].decode()
+    assert wanted is None or line == wanted, f"load of {kind}: told {line!r}, wanted {wanted!r}"
+    return line
+
+
+def accepted(fresh, repeated=0):
+    return f"accepted fresh {fresh} repeated {repeated}\n"
+
+
+def export(store, what, office=OFFICE):
+    """A table of a store, by the command `export`."""
+    status, out, err = run("export", office, store, what)
+    same((status, err), (0, b""), f"export {what}")
+    return out.decode()
+
+
+def statement(store, account="A1", office=OFFICE):
+    """The statement of an account of a store, by the command `statement`."""
+    status, out, err = run("statement", office, store, account)
+    same((status, err), (0, b""), f"statement {account}")
+    return out.decode()
+
+
+def euro(nano):
+    """An amount in nano-euro as it's printed: the greatest whole number of cents that isn't above it."""
+    cents = nano // 10_000_000
+    return f"{'-' * (cents < 0)}{abs(cents) // 100}.{abs(cents) % 100:02}"
+
+
+def statement_text(account, bands, topped, balance):
+    """A statement: bands with their names and both energies in Wh, top-ups in cents, the balance in nano-euro."""
+    lines = [f"account {account}", f"band{'import Wh':>16}{'export Wh':>16}"]
+    lines += [f"{name:<4}{bought:>16}{sold:>16}" for name, bought, sold in bands]
+    lines += [f"topped up EUR {euro(topped * 10_000_000)}", f"balance EUR {euro(balance)}"]
+    return "".join(f"{it}\n" for it in lines)
+
+
+def free_port():
+    with socket.socket() as held:
+        held.bind(("127.0.0.1", 0))
+        return held.getsockname()[1]
+
+
+class Server:
+    """The program serving a store at a free port of 127.0.0.1, from its first line on."""
+
+    def __init__(self, store, count=1_000_000, office=OFFICE, words=(), port=None, **options):
+        for _ in range(5):
+            self.port = port or free_port()
+            asked = [PROGRAM, "serve", office, store, "--count", str(count), "--port", str(self.port), *words]
+            self.process = subprocess.Popen(
+                asked, stdin=subprocess.DEVNULL, stdout=subprocess.PIPE, stderr=subprocess.PIPE, **options
+            )
+            self.line = self.process.stdout.readline()
+            if self.line:
+                break
+            self.fault = self.ended()
+        assert self.line == b"listening 127.0.0.1:%d\n" % self.port, f"serve said {self.line!r} {self.fault!r}"
+
+    def connection(self):
+        """A bare connection to the server."""
+        made = socket.create_connection(("127.0.0.1", self.port), timeout=PATIENCE)
+        made.setsockopt(socket.IPPROTO_TCP, socket.TCP_NODELAY, 1)
+        return made
+
+    def ended(self):
+        """Waits until the server ends by itself: its exit status and what stands behind its first line."""
+        out, err = self.process.communicate(timeout=PATIENCE)
+        return self.process.returncode, out, err
+
+    def kill(self):
+        self.process.kill()
+        self.process.communicate()
+
+    def __enter__(self):
+        return self
+
+    def __exit__(self, *_):
+        if self.process.poll() is None:
+            self.kill()
+
+
+def post(path, body, *headers):
+    """The bytes of a request that uploads a body."""
+    lines = [f"POST {path} HTTP/1.1", f"Content-Length: {len(body)}", *headers, "", ""]
+    return "\r\n".join(lines).encode() + body
+
+
+def get(path, *headers):
+    return "\r\n".join([f"GET {path} HTTP/1.1", *headers, "", ""]).encode()
+
+
+PHRASES = {
+    200: "OK",
+    400: "Bad Request",
+    404: "Not Found",
+    405: "Method Not Allowed",
+    413: "Payload Too Large",
+    501: "Not Implemented",
+    503: "Service Unavailable",
+    507: "Insufficient Storage",
+}
+
+
+def reply(status, body, ends=False, kind="text/plain"):
+    """The bytes of a reply, as they have to be."""
+    lines = [f"HTTP/1.1 {status} {PHRASES[status]}", f"Content-Type: {kind}", f"Content-Length: {len(body)}"]
+    lines += ["Connection: close"] * ends
+    return "\r\n".join([*lines, "", ""]).encode() + body.encode()
+
+
+def all_of(connection):
+    """What a connection gives until its other side has ended."""
+    parts = []
+    while part := connection.recv(65_536):
+        parts.append(part)
+    return b"".join(parts)
+
+
+def one_reply(connection):
+    """Reads one reply off a connection: its status and its body."""
+    head = b""
+    while not head.endswith(b"\r\n\r\n"):
+        part = connection.recv(1)
+        if not part:
+            raise ConnectionError(f"the connection ended behind {head!r}")
+        head += part
+    lines = head.decode().split("\r\n")
+    length = int(next(it for it in lines if it.startswith("Content-Length: "))[16:])
+    body = b""
+    while len(body) < length:
+        part = connection.recv(length - len(body))
+        if not part:
+            raise ConnectionError(f"the connection ended behind {body!r}")
+        body += part
+    return int(lines[0].split()[1]), body.decode()
+
+
+def rows_of(store, query, *values):
+    """The rows that a query gives of a store that nothing has open, by SQLite's own library."""
+    with contextlib.closing(sqlite3.connect(f"file:{store}?mode=ro", uri=True)) as connection:
+        return connection.execute(query, values).fetchall()
+
+
+def need(script, *tools):
+    """Ends the script where one of these commands isn't there, or the program isn't built."""
+    missing = [f"{it} is not on PATH" for it in tools if not shutil.which(it)]
+    if not os.access(PROGRAM, os.X_OK):
+        missing.append("the program isn't built (crates/powerbook/out/powerbook)")
+    if missing:
+        print(f"{script}: {missing[0]}\n0 passed, 1 failed")
+        sys.exit(1)
+
+
+def too_late(*_):
+    raise Late(f"longer than {LONGEST} seconds")
+
+
+def run_tests(script, tests):
+    """Runs tests by name, each in a new folder that it is given, and tells 'N passed, M failed' last."""
+    signal.signal(signal.SIGALRM, too_late)
+    asked = sys.argv[1:]
+    passed = failed = 0
+    for name, test in tests.items():
+        if asked and name not in asked:
+            continue
+        room, begun = tempfile.mkdtemp(), time.monotonic()
+        signal.alarm(LONGEST)
+        try:
+            test(room)
+            passed += 1
+        except Exception as fault:  # Whatever goes wrong, the other tests are still run.
+            failed += 1
+            print(f"{script}: {name}: FAILED: {type(fault).__name__}: {fault}", flush=True)
+        finally:
+            signal.alarm(0)
+            shutil.rmtree(room, ignore_errors=True)
+        if os.environ.get("TIMES"):
+            print(f"{script}: {name}: {time.monotonic() - begun:.1f} s", flush=True)
+    print(f"{passed} passed, {failed} failed")
+    sys.exit(1 if failed else 0)
