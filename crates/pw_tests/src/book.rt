@@ -14,9 +14,10 @@ mod limits;
 mod memory;
 mod sql;
 
+use crate::offices::TWO_METERS;
 use crate::sample::{
-    FIRST, FIVE, METER, NEW_YEAR, SECOND, SEVEN, SIX, TWO_METERS, are_of_office, assigned, at,
-    exported, given, paid, reading, shown, wh,
+    FIRST, FIVE, METER, NEW_YEAR, SECOND, SEVEN, SIX, are_of_office, assigned, at, exported, given,
+    paid, reading, shown, wh,
 };
 use agreeing::all_agree;
 use kept::parts_agree;

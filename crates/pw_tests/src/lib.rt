@@ -13,6 +13,7 @@ pub mod memory_books;
 mod model;
 #[cfg(test)]
 mod obis;
+pub mod offices;
 #[cfg(test)]
 mod parts;
 #[cfg(test)]
@@ -21,7 +22,8 @@ mod read;
 mod record;
 #[cfg(test)]
 mod report;
-pub mod sample;
+#[cfg(test)]
+mod sample;
 #[cfg(test)]
 mod shelf;
 pub mod sql_stores;

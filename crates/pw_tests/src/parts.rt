@@ -3,7 +3,8 @@
 mod memory;
 mod rows;
 
-use crate::sample::{FIRST, HIGH, LOW, SAMPLE, SECOND, are_of_office};
+use crate::offices::SAMPLE;
+use crate::sample::{FIRST, HIGH, LOW, SECOND, are_of_office};
 use pw_model::plain::{self, OfficeTerms};
 use pw_model::{Entry, TotalKey};
 use pw_parts::{Parts, true_parts};

@@ -5,7 +5,7 @@ mod memory;
 mod tables;
 
 use crate::memory_books::book_of;
-use crate::sample::SAMPLE;
+use crate::offices::SAMPLE;
 use crate::uploads::ASSIGNMENT;
 use pw_book::{Accepted, Book, PostFault};
 use pw_record::{UploadFault, assignment_records, telegram_records, topup_records};

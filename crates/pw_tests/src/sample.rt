@@ -1,4 +1,4 @@
-//! The sample offices, and records of them on 2024-01-02, a Tuesday.
+//! Records of the sample offices on 2024-01-02, a Tuesday.
 
 ghost use Rattle.std.specs.Prelude.{◌↔◌, IsTrue};
 ghost use Rattle.pw_model.specs.Office.{AllOfOffice};
@@ -30,77 +30,6 @@ pub const LOW: BandId = BandId(0);
 pub const HIGH: BandId = BandId(1);
 
 pub const METER: MeterId = MeterId(0);
-
-/// Two accounts, two bands, and three meters: one that marks its times, one on winter time and one on local time.
-pub const SAMPLE: &str = r#"accounts = ["A1", "A2"]
-week = [
-  "LLLLLLLHHHHHHHHHHHHHHHHL",
-  "LLLLLLLHHHHHHHHHHHHHHHHL",
-  "LLLLLLLHHHHHHHHHHHHHHHHL",
-  "LLLLLLLHHHHHHHHHHHHHHHHL",
-  "LLLLLLLHHHHHHHHHHHHHHHHL",
-  "LLLLLLLLLLLLLLLLLLLLLLLL",
-  "LLLLLLLLLLLLLLLLLLLLLLLL",
-]
-
-[[band]]
-name = "L"
-import = 200000
-export = 50000
-
-[[band]]
-name = "H"
-import = 300000
-export = 50000
-
-[[meter]]
-id = "4D31"
-clock = "marked"
-registers = ["I1", "I2", "E1", "E2"]
-
-[[meter]]
-id = "Z7"
-clock = "winter"
-registers = ["I0"]
-
-[[meter]]
-id = "Z8"
-clock = "local"
-registers = ["I0"]
-"#;
-
-/// Two accounts, two bands, and two meters of four registers.
-pub const TWO_METERS: &str = r#"accounts = ["A1", "A2"]
-week = [
-  "LLLLLLLHHHHHHHHHHHHHHHHL",
-  "LLLLLLLHHHHHHHHHHHHHHHHL",
-  "LLLLLLLHHHHHHHHHHHHHHHHL",
-  "LLLLLLLHHHHHHHHHHHHHHHHL",
-  "LLLLLLLHHHHHHHHHHHHHHHHL",
-  "LLLLLLLLLLLLLLLLLLLLLLLL",
-  "LLLLLLLLLLLLLLLLLLLLLLLL",
-]
-
-[[band]]
-name = "L"
-import = 200000
-export = 50000
-
-[[band]]
-name = "H"
-import = 300000
-export = 50000
-
-[[meter]]
-id = "4D31"
-clock = "marked"
-registers = ["I1", "I2", "E1", "E2"]
-
-[[meter]]
-id = "4D32"
-clock = "marked"
-registers = ["I1", "I2", "E1", "E2"]
-"#;
 
 /// Whether the entries are of an office.
 pub fn are_of_office(office: &Office, zone: &Zone, entries: &[Entry]) -> bool

@@ -5,7 +5,7 @@ use pw_http::{Served, WireFault, converse};
 use pw_shelf::{MemoryShelf, Shelf};
 use pw_tariff::OfficeFault;
 use pw_tests::memory_books::book_of;
-use pw_tests::sample::SAMPLE;
+use pw_tests::offices::SAMPLE;
 use std::alloc::Global;
 
 /// An empty book of the sample office.

@@ -5,7 +5,7 @@ use pw_book::Book;
 use pw_http::Served;
 use pw_shelf::Shelf;
 use pw_tests::memory_books::book_of;
-use pw_tests::sample::SAMPLE;
+use pw_tests::offices::SAMPLE;
 use std::alloc::Global;
 use std::test::Fail;
 

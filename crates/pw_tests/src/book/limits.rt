@@ -4,7 +4,8 @@ ghost use Rattle.std.specs.Prelude.{◌≡◌, ◌≤◌, IfOk, false};
 ghost use Rattle.pw_model.specs.Office.{most_records};
 
 use super::{Books, Counting, InMemory, all_agree, book_of, has_money, post, takes};
-use crate::sample::{FIRST, TWO_METERS, paid};
+use crate::offices::TWO_METERS;
+use crate::sample::{FIRST, paid};
 use pw_book::{Accepted, Book, BookFault, Entry, PostFault};
 use pw_shelf::{CountShelf, MemoryShelf, Shelf};
 use pw_tariff::{Office, OfficeFault};

@@ -9,7 +9,8 @@ use super::{
     Books, ORDERS, disputed, exports, falls_and_recovers, in_order, late_and_disputed, mid_pair,
     nothing_held, payment_before_readings, sorted_lists,
 };
-use crate::sample::{SECOND, TWO_METERS};
+use crate::offices::TWO_METERS;
+use crate::sample::SECOND;
 use crate::sql_stores::{book_over, store_on};
 use pw_book::Book;
 use pw_shelf::CountShelf;

@@ -1,7 +1,8 @@
 //! The plain program over an office file.
 
 use super::terms::require_sound;
-use crate::sample::{FIRST, FIVE, HIGH, LOW, NEW_YEAR, SAMPLE, SEVEN, assigned, paid, reading};
+use crate::offices::SAMPLE;
+use crate::sample::{FIRST, FIVE, HIGH, LOW, NEW_YEAR, SEVEN, assigned, paid, reading};
 use pw_model::plain::{OfficeTerms, Terms, balance, energy};
 use pw_obis::Register;
 use pw_tariff::{BandId, Direction, MeterId, Office};

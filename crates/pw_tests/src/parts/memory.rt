@@ -2,9 +2,8 @@
 //! (To be run with the first allocation refused, with the second, and so on.)
 
 use super::{all_agree, imported, parts_of, topped_up};
-use crate::sample::{
-    FIRST, FIVE, HIGH, LOW, NEW_YEAR, SAMPLE, SEVEN, SIX, assigned, paid, reading,
-};
+use crate::offices::SAMPLE;
+use crate::sample::{FIRST, FIVE, HIGH, LOW, NEW_YEAR, SEVEN, SIX, assigned, paid, reading};
 use pw_tariff::Office;
 use pw_time::Zone;
 use std::test::Fail;

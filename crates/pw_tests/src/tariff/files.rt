@@ -1,6 +1,6 @@
 //! Office files: the sample, and each refusal.
 
-use crate::sample::SAMPLE;
+use crate::offices::SAMPLE;
 use pw_obis::Register;
 use pw_tariff::{AccountId, BandId, Direction, MeterId, Office, OfficeFault};
 use pw_time::{Clock, Instant, Zone};

@@ -1,6 +1,6 @@
 //! Differences shared out.
 
-use crate::sample::SAMPLE;
+use crate::offices::SAMPLE;
 use pw_obis::WattHours;
 use pw_tariff::{AccountId, BandId, Cell, Office, Owner, Owners, Span, apportion};
 use pw_time::{Instant, Zone, utc};
