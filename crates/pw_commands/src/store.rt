@@ -6,12 +6,13 @@ ghost use Rattle.pw_words.specs.Words.{IsLimit};
 
 use crate::fault::Fault;
 use pw_book::Book;
-use pw_store::{SqlShelf, Watch};
+use pw_store::{OpenFault, SqlShelf, Watch};
 use pw_tariff::Office;
 use pw_time::Zone;
-use sqlite::{Connection, Error, ErrorCode};
+use sqlite::{Alter, Connection, Error, ErrorCode};
 use sqlite_std_file::File;
 use sqlite_store::FileStore;
+use std::alloc::Global;
 
 /// A book whose records stand in a file.
 pub type FileBook = Book<SqlShelf<FileStore<File>>>;
@@ -35,8 +36,8 @@ pub fn open_book<W: Watch>(
         Err(Error::SqliteFailure(ErrorCode::OutOfMemory)) => return Err(Fault::Memory),
         Err(_) => return Err(Fault::Device),
     };
-    match SqlShelf::open_watched(rt.alloc(), connection, text, watch) {
-        Ok(shelf) => Ok(Book::new(office, Zone::central(), shelf, limit)),
+    match book_over(rt.alloc(), connection, office, text, limit, watch) {
+        Ok(book) => Ok(book),
         Err((fault, connection)) => {
             let _ = connection.close();
             Err(Fault::Store(fault))
@@ -44,12 +45,36 @@ pub fn open_book<W: Watch>(
     }
 }
 
+// A book over a connection, which is opened as the store of the office of a text; a refused connection is given back.
+fn book_over<S: Alter, W: Watch>(
+    alloc: Global,
+    connection: Connection<S>,
+    office: Office,
+    text: &[u8],
+    limit: u32,
+    watch: &mut W,
+) -> Result<Book<SqlShelf<S>>, (OpenFault, Connection<S>)>
+    requires office { IsOfficeOf text.now office }
+    requires limit { IsLimit limit }
+    ensures { IfOk result (λ book. book.office ≡ office) }
+{
+    match SqlShelf::open_watched(alloc, connection, text, watch) {
+        Ok(shelf) => Ok(Book::new(office, Zone::central(), shelf, limit)),
+        Err(refused) => Err(refused),
+    }
+}
+
 /// Closes a book's store. What was committed stands in the file already; `Device` where the file can't be tidied.
 pub fn close_book(book: FileBook) -> Result<(), Fault>
     ensures { IfErr result (λ fault. fault ≡ Fault.Device) }
 {
-    match book.into_shelf().close().close() {
+    match connection_under(book).close() {
         Ok(()) => Ok(()),
         Err(_) => Err(Fault::Device),
     }
+}
+
+// The connection that a book's store stands on.
+fn connection_under<S: Alter>(book: Book<SqlShelf<S>>) -> Connection<S> {
+    book.into_shelf().close()
 }
