@@ -37,9 +37,10 @@ def written(path, data):
 
 
 def run(*words, given=b"", **options):
-    """Runs the program on words and an input: its exit status, and what it wrote to both streams."""
+    """Runs the program on words and an input, bytes or a file: its exit status, and what it wrote to both streams."""
+    source = {"input": given} if isinstance(given, bytes) else {"stdin": given}
     ran = subprocess.run(
-        [PROGRAM, *words], input=given, capture_output=True, timeout=PATIENCE, check=False, **options
+        [PROGRAM, *words], **source, capture_output=True, timeout=PATIENCE, check=False, **options
     )
     return ran.returncode, ran.stdout, ran.stderr
 
@@ -141,17 +142,29 @@ def statement_text(account, bands, topped, balance):
     return "".join(f"{it}\n" for it in lines)
 
 
+def library(room, name):
+    """Builds a library of this folder, to be preloaded into the program, and answers its path."""
+    path = f"{room}/{name}.so"
+    words = ["cc", "-O1", "-Wall", "-shared", "-fPIC", "-o", path, f"{TOP}/tests/{name}.c"]
+    subprocess.run(words, timeout=PATIENCE, check=True)
+    return path
+
+
 def free_port():
     with socket.socket() as held:
         held.bind(("127.0.0.1", 0))
         return held.getsockname()[1]
 
 
+class NotServing(AssertionError):
+    """A server ended before its first line: its exit status and what it wrote to both streams."""
+
+
 class Server:
     """The program serving a store at a free port of 127.0.0.1, from its first line on."""
 
-    def __init__(self, store, count=1_000_000, office=OFFICE, words=(), port=None, **options):
-        for _ in range(5):
+    def __init__(self, store, count=1_000_000, office=OFFICE, words=(), port=None, tries=5, **options):
+        for _ in range(tries):
             self.port = port or free_port()
             asked = [PROGRAM, "serve", office, store, "--count", str(count), "--port", str(self.port), *words]
             self.process = subprocess.Popen(
@@ -160,8 +173,10 @@ class Server:
             self.line = self.process.stdout.readline()
             if self.line:
                 break
-            self.fault = self.ended()
-        assert self.line == b"listening 127.0.0.1:%d\n" % self.port, f"serve said {self.line!r} {self.fault!r}"
+            ended = self.ended()
+        else:
+            raise NotServing(*ended)
+        same(self.line, b"listening 127.0.0.1:%d\n" % self.port, "the first line of serve")
 
     def connection(self):
         """A bare connection to the server."""
@@ -223,6 +238,15 @@ def all_of(connection):
     return b"".join(parts)
 
 
+def talk(server, data, slowly=False):
+    """What a server answers on a connection of its own to bytes with an end behind them."""
+    with server.connection() as connection:
+        for part in [data[it : it + 1] for it in range(len(data))] if slowly else [data]:
+            connection.sendall(part)
+        connection.shutdown(socket.SHUT_WR)
+        return all_of(connection)
+
+
 def one_reply(connection):
     """Reads one reply off a connection: its status and its body."""
     head = b""
@@ -258,12 +282,12 @@ def need(script, *tools):
         sys.exit(1)
 
 
-def too_late(*_):
-    raise Late(f"longer than {LONGEST} seconds")
-
-
-def run_tests(script, tests):
+def run_tests(script, tests, longest=LONGEST):
     """Runs tests by name, each in a new folder that it is given, and tells 'N passed, M failed' last."""
+
+    def too_late(*_):
+        raise Late(f"longer than {longest} seconds")
+
     signal.signal(signal.SIGALRM, too_late)
     asked = sys.argv[1:]
     passed = failed = 0
@@ -271,7 +295,7 @@ def run_tests(script, tests):
         if asked and name not in asked:
             continue
         room, begun = tempfile.mkdtemp(), time.monotonic()
-        signal.alarm(LONGEST)
+        signal.alarm(longest)
         try:
             test(room)
             passed += 1

@@ -3,13 +3,19 @@
  * Preloaded (LD_PRELOAD) into a program that writes the lines `no memory` and `memory again`: a request between them is
  * refused and counted, and at the second line the program ends with status 9 where any was made. Between lines `one may be
  * refused` and `all is given` the request of the number that REFUSED_REQUEST names is refused, counted from 1 over all of
- * them; at the line `done` the program ends with status 8 where fewer were made. */
+ * them; at the line `done` the program ends with status 8 where fewer were made.
+ *
+ * Preloaded into any other program: where REQUESTS names a file of three numbers of 8 bytes, each request from the number
+ * that is the first to the number that is the second is refused, counted from 1 from the program's start; the third, 0 at
+ * the start, is kept as how many were made. */
 #define _GNU_SOURCE
-#include <dlfcn.h>
 #include <errno.h>
+#include <fcntl.h>
 #include <stddef.h>
+#include <stdint.h>
 #include <stdlib.h>
 #include <string.h>
+#include <sys/mman.h>
 #include <sys/syscall.h>
 #include <unistd.h>
 
@@ -23,11 +29,27 @@ static int counting;
 static unsigned long asked;
 static unsigned long counted;
 static unsigned long wanted;
+static volatile struct { uint64_t first, last, made; } *requests;
+
+__attribute__((constructor)) static void count_requests(void) {
+    const char *name = getenv("REQUESTS");
+    int file = name ? open(name, O_RDWR) : -1;
+    if (file < 0) return;
+    void *place = mmap(NULL, sizeof *requests, PROT_READ | PROT_WRITE, MAP_SHARED, file, 0);
+    close(file);
+    if (place != MAP_FAILED) requests = place;
+}
+
+static int is_one_refused(void) {
+    if (!requests) return 0;
+    uint64_t number = ++requests->made;
+    return requests->first <= number && number <= requests->last;
+}
 
 static int refused(void) {
     if (refusing) asked++;
     if (counting) counted++;
-    if (!refusing && !(counting && counted == wanted)) return 0;
+    if (!is_one_refused() && !refusing && !(counting && counted == wanted)) return 0;
     errno = ENOMEM;
     return 1;
 }
