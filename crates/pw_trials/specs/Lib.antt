@@ -1,0 +1,2 @@
+-- named by private functions alone
+pub mod inner

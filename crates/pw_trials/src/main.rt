@@ -1,10 +1,15 @@
 //! A program of trials: each call that takes no memory, made while none is given.
 //!
+//! With the folder of a made cooperative behind its name it tells the figures of that folder's records in place of that,
+//! as the plain program of the definitions computes them: `tests/sample` compares powerbook's with them.
+//!
 //! Between the lines `no memory` and `memory again` nothing may ask for memory. Between `one may be refused` and `all is
 //! given` a call answers that memory was refused, and is right when it is made again. The script `tests/no_memory` runs it
 //! with an allocator that refuses each request there, and here one in each run; in the gate it runs as it is.
 #![tactic(auto)]
 
+mod figures;
+mod folder;
 mod frames;
 mod instants;
 mod offices;
@@ -20,6 +25,7 @@ use pw_book::Book;
 use pw_shelf::MemoryShelf;
 use pw_tariff::Office;
 use std::alloc::Global;
+use std::env;
 use std::io::Write;
 use std::process::ExitCode;
 
@@ -44,26 +50,37 @@ meter = [
 const NO_MEMORY: u8 = 3;
 
 fn main(rt: HostRuntime) -> ExitCode {
+    let Ok(mut words) = env::args(&rt) else {
+        return ExitCode::from(NO_MEMORY);
+    };
+    match words.nth(1) {
+        Some(folder) => ExitCode::from(folder::tell_figures(&rt, &folder)),
+        None => ExitCode::from(trials(&rt)),
+    }
+}
+
+// Makes the trials, and answers the exit status.
+fn trials(rt: &HostRuntime) -> u8 {
     let (Ok(office), Ok(other)) = (
         Office::read(rt.alloc(), OFFICE.as_bytes()),
         Office::read(rt.alloc(), OFFICE.as_bytes()),
     ) else {
-        return ExitCode::from(NO_MEMORY);
+        return NO_MEMORY;
     };
     let mut shelf = MemoryShelf::new(rt.alloc());
     if !shelves::is_begun(&mut shelf) {
-        return ExitCode::from(NO_MEMORY);
+        return NO_MEMORY;
     }
     let Some(mut book) = posts::filled(rt.alloc(), other) else {
-        return ExitCode::from(NO_MEMORY);
+        return NO_MEMORY;
     };
     let Some(mut store) = uploads::begun(rt.alloc()) else {
-        return ExitCode::from(NO_MEMORY);
+        return NO_MEMORY;
     };
     let mut out = rt.stdout();
     without_memory(&mut out, rt.alloc(), &mut shelf, &mut store, office);
     with_one_refused(&mut out, rt.alloc(), &mut book);
-    ExitCode::from(0)
+    0
 }
 
 /// The calls that take no memory.

@@ -1,0 +1,149 @@
+//! The figures of a list of records by the plain program of the definitions: no store, no book.
+
+ghost use Rattle.std.specs.Prelude.{◌≡◌, ◌++◌, ◌<◌, ◌≤◌, IfOk, OnOk, Some, encode_utf8, length, string_bytes};
+ghost use Rattle.pw_model.specs.Office.{AllOfOffice, HasOwner, most_records};
+ghost use Rattle.pw_tariff.specs.Office.{office_of};
+ghost use Rattle.pw_trials.specs.inner.Figures.{balance_fields as fields_of_balance, balance_line as line_of_balance, energy_fields as fields_of_energy, energy_line as line_of_energy, owner_name as name_of_owner};
+
+use pw_model::Entry;
+use pw_model::plain::{OfficeTerms, balance, energy, topped_up};
+use pw_tariff::{AccountId, BandId, Direction, Office, Owner};
+use pw_time::Zone;
+use std::alloc::{AllocError, Global};
+
+/// What the records mean: the energies of nobody and of each account, band by band, in Wh and nano-euro; then what each
+/// account has topped up, in cents, and its balance, in nano-euro.
+pub(crate) fn figures_text(
+    alloc: Global,
+    office: &Office,
+    zone: &Zone,
+    entries: &[Entry],
+) -> Result<String, AllocError>
+    requires entries { AllOfOffice (office_of office.now) entries.now }
+    requires few { length entries.now ≤ most_records }
+{
+    let mut text = String::from_str(alloc, "owner,band,direction,wh,nano\n")?;
+    put_energies(alloc, office, zone, entries, None, &mut text)?;
+    for account in 0..office.accounts() {
+        put_energies(
+            alloc,
+            office,
+            zone,
+            entries,
+            Some(AccountId(account)),
+            &mut text,
+        )?;
+    }
+    text.push_str("account,cents,nano\n")?;
+    for account in 0..office.accounts() {
+        let line = balance_line(alloc, office, zone, entries, AccountId(account))?;
+        text.push_str(&line)?;
+    }
+    Ok(text)
+}
+
+// The energies of an owner, band by band.
+fn put_energies(
+    alloc: Global,
+    office: &Office,
+    zone: &Zone,
+    entries: &[Entry],
+    owner: Owner,
+    text: &mut String,
+) -> Result<(), AllocError>
+    requires entries { AllOfOffice (office_of office.now) entries.now }
+    requires few { length entries.now ≤ most_records }
+    requires owner { HasOwner (office_of office.now) owner }
+{
+    for band in 0..office.bands() {
+        for direction in [Direction::Import, Direction::Export] {
+            let line = energy_line(alloc, office, zone, entries, owner, BandId(band), direction)?;
+            text.push_str(&line)?;
+        }
+    }
+    Ok(())
+}
+
+// The line of an owner's energy in a band and a direction.
+fn energy_line(
+    alloc: Global,
+    office: &Office,
+    zone: &Zone,
+    entries: &[Entry],
+    owner: Owner,
+    band: BandId,
+    direction: Direction,
+) -> Result<String, AllocError>
+    requires entries { AllOfOffice (office_of office.now) entries.now }
+    requires few { length entries.now ≤ most_records }
+    requires owner { HasOwner (office_of office.now) owner }
+    requires band { band.0 < length office.now.bands }
+    ensures { IfOk result (λ line. string_bytes line ≡ line_of_energy office.now entries.now owner band.0 direction) }
+{
+    let wh = energy(
+        alloc,
+        &OfficeTerms::new(office, zone),
+        entries,
+        owner,
+        band,
+        direction,
+    )?;
+    let nano = u128::from(office.price(band, direction)) * u128::from(wh);
+    let (name, letter) = (owner_name(office, owner), office.band_name(band));
+    energy_fields(alloc, name, letter, direction, wh, nano)
+}
+
+fn energy_fields(
+    alloc: Global,
+    owner: &str,
+    band: char,
+    direction: Direction,
+    wh: u64,
+    nano: u128,
+) -> Result<String, AllocError>
+    ensures { IfOk result (λ line. string_bytes line ≡ fields_of_energy owner.now (encode_utf8 band) direction wh nano) }
+{
+    let direction = direction.name();
+    format!(in alloc; "{owner},{band},{direction},{wh},{nano}\n")
+}
+
+// The line of what an account has topped up, and of its balance.
+fn balance_line(
+    alloc: Global,
+    office: &Office,
+    zone: &Zone,
+    entries: &[Entry],
+    account: AccountId,
+) -> Result<String, AllocError>
+    requires entries { AllOfOffice (office_of office.now) entries.now }
+    requires few { length entries.now ≤ most_records }
+    requires account { account.0 < length office.now.accounts }
+    ensures { IfOk result (λ line. string_bytes line ≡ line_of_balance office.now entries.now account) }
+{
+    let name = office.account_name(account);
+    let cents = topped_up(entries, account);
+    let nano = balance(alloc, &OfficeTerms::new(office, zone), entries, account)?;
+    balance_fields(alloc, name, cents, nano)
+}
+
+fn balance_fields(
+    alloc: Global,
+    account: &str,
+    cents: u128,
+    nano: i128,
+) -> Result<String, AllocError>
+    ensures { IfOk result (λ line. string_bytes line ≡ fields_of_balance account.now cents nano) }
+{
+    format!(in alloc; "{account},{cents},{nano}\n")
+}
+
+// An account's name, `-` for nobody.
+fn owner_name(office: &Office, owner: Owner) -> &str
+    requires { HasOwner (office_of office.now) owner }
+    ensures { result.now ≡ name_of_owner office.now owner }
+{
+    match owner {
+        None => "-",
+        Some(account) => office.account_name(account),
+    }
+}
