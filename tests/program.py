@@ -128,6 +128,24 @@ def statement(store, account="A1", office=OFFICE):
     return out.decode()
 
 
+ASKED = [
+    ("statement", "A1"), ("statement", "A2"), ("export", "accounts"), ("export", "readings"), ("export", "energy"),
+    ("export", "falls"), ("export", "disputes"),
+]  # fmt: skip
+
+
+def answers(store):
+    """All that is told of a store of the sample office: of each question the exit status and both streams."""
+    return {f"{command} {what}": run(command, OFFICE, store, what) for command, what in ASKED}
+
+
+def remove(store):
+    """Removes a store with the file beside it, where they are there."""
+    for path in (store, f"{store}-wal"):
+        with contextlib.suppress(FileNotFoundError):
+            os.remove(path)
+
+
 def euro(nano):
     """An amount in nano-euro as it's printed: the greatest whole number of cents that isn't above it."""
     cents = nano // 10_000_000
@@ -266,10 +284,25 @@ def one_reply(connection):
     return int(lines[0].split()[1]), body.decode()
 
 
+PAGES = ["/accounts/A1", "/accounts/A2", "/accounts", "/falls", "/disputes", "/export/readings", "/export/energy"]
+
+
+def pages(connection):
+    """All that a server tells of its book, asked over a connection: of each page the status and the body."""
+    connection.sendall(b"".join(get(it) for it in PAGES))
+    return [(it, *one_reply(connection)) for it in PAGES]
+
+
 def rows_of(store, query, *values):
     """The rows that a query gives of a store that nothing has open, by SQLite's own library."""
     with contextlib.closing(sqlite3.connect(f"file:{store}?mode=ro", uri=True)) as connection:
         return connection.execute(query, values).fetchall()
+
+
+def in_memory():
+    """Has folders of tests made in memory, where that can be: each opening of a store syncs its files a dozen times."""
+    if "TMPDIR" not in os.environ and os.access("/dev/shm", os.W_OK):
+        tempfile.tempdir = "/dev/shm"
 
 
 def need(script, *tools):
