@@ -1,6 +1,7 @@
 """What the scripts of this folder share: the built program and its server, telegrams and readouts, a run of tests."""
 import contextlib
 import os
+import pty
 import shutil
 import signal
 import socket
@@ -8,6 +9,7 @@ import sqlite3
 import subprocess
 import sys
 import tempfile
+import termios
 import time
 
 TOP = os.path.normpath(os.path.join(os.path.dirname(os.path.abspath(__file__)), ".."))
@@ -36,12 +38,10 @@ def written(path, data):
     return path
 
 
-def run(*words, given=b"", **options):
+def run(*words, given=b"", by=(PROGRAM,), **options):
     """Runs the program on words and an input, bytes or a file: its exit status, and what it wrote to both streams."""
     source = {"input": given} if isinstance(given, bytes) else {"stdin": given}
-    ran = subprocess.run(
-        [PROGRAM, *words], **source, capture_output=True, timeout=PATIENCE, check=False, **options
-    )
+    ran = subprocess.run([*by, *words], **source, capture_output=True, timeout=PATIENCE, check=False, **options)
     return ran.returncode, ran.stdout, ran.stderr
 
 
@@ -53,6 +53,66 @@ def same(told, wanted, what=""):
 def told(words, status, out="", err="", given=b""):
     """Runs the program, and compares its exit status and both streams, byte for byte."""
     same(run(*words, given=given), (status, out.encode(), err.encode()), f"{words}")
+
+
+def as_nobody():
+    """The words before a command that is run as nobody, where this is run by root, who may read all; None where no
+    command does that."""
+    if os.geteuid() != 0:
+        return []
+    return ["setpriv", "--reuid=65534", "--regid=65534", "--clear-groups"] if shutil.which("setpriv") else None
+
+
+class Terminal:
+    """A terminal that programs write to, at its far side, and that shows, at its near side, the bytes as written."""
+
+    def __init__(self):
+        self.near, self.far = pty.openpty()
+        modes = termios.tcgetattr(self.far)
+        modes[1] &= ~termios.OPOST
+        modes[3] &= ~termios.ECHO
+        termios.tcsetattr(self.far, termios.TCSANOW, modes)
+
+    def type(self, data):
+        os.write(self.near, data)
+
+    def shown(self, end=None):
+        """What it shows up to a text; without one, until no program has it open any more."""
+        if end is None:
+            self.hand_over()
+        told = b""
+        with contextlib.suppress(OSError):
+            while (end is None or end not in told) and (part := os.read(self.near, 65_536)):
+                told += part
+        return told
+
+    def hand_over(self):
+        """Leaves the far side to the programs."""
+        if self.far is not None:
+            os.close(self.far)
+            self.far = None
+
+    def __enter__(self):
+        return self
+
+    def __exit__(self, *_):
+        self.hand_over()
+        os.close(self.near)
+
+
+def at_terminal(*words, given=b"", by=(PROGRAM,), **options):
+    """Runs the program as `run` does, with a terminal as standard error."""
+    with Terminal() as terminal, tempfile.TemporaryFile() as source, tempfile.TemporaryFile() as out:
+        source.write(given)
+        source.seek(0)
+        process = subprocess.Popen([*by, *words], stdin=source, stdout=out, stderr=terminal.far, **options)
+        try:
+            err = terminal.shown()
+            status = process.wait(PATIENCE)
+        finally:
+            process.kill()
+        out.seek(0)
+        return status, out.read(), err
 
 
 def crc16(data):
@@ -182,12 +242,11 @@ class Server:
     """The program serving a store at a free port of 127.0.0.1, from its first line on."""
 
     def __init__(self, store, count=1_000_000, office=OFFICE, words=(), port=None, tries=5, **options):
+        options = {"stdin": subprocess.DEVNULL, "stdout": subprocess.PIPE, "stderr": subprocess.PIPE, **options}
         for _ in range(tries):
             self.port = port or free_port()
             asked = [PROGRAM, "serve", office, store, "--count", str(count), "--port", str(self.port), *words]
-            self.process = subprocess.Popen(
-                asked, stdin=subprocess.DEVNULL, stdout=subprocess.PIPE, stderr=subprocess.PIPE, **options
-            )
+            self.process = subprocess.Popen(asked, **options)
             self.line = self.process.stdout.readline()
             if self.line:
                 break
