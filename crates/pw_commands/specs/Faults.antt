@@ -30,6 +30,15 @@ abbrev pub post_status : PostFault → ℕ
 post_status (post.Full held limit) = 1
 post_status _ = 3
 
+-- why a file can't be read
+abbrev pub IsOfReading : Fault → Type 0
+IsOfReading f = (f ≡ fault.Device) ⊎ (f ≡ fault.Memory)
+
+-- why a store isn't opened
+abbrev pub IsOfOpening : Fault → Type 0
+IsOfOpening (fault.Store of_opening) = Unit {0}
+IsOfOpening f = IsOfReading f
+
 -- 1: what was given is refused; 3: a file, socket, stream, store or memory failed
 abbrev pub fault_status : Fault → ℕ
 fault_status (fault.Office of_office) = office_status of_office

@@ -1,6 +1,7 @@
 //! Files that a command is given.
 
-ghost use Rattle.std.specs.Prelude.{◌≡◌, ◌≤◌, IfOk, length};
+ghost use Rattle.std.specs.Prelude.{◌≡◌, ◌≤◌, ◌⊎◌, IfErr, IfOk, length};
+ghost use Rattle.pw_commands.specs.Faults.{IsOfReading};
 
 use crate::fault::Fault;
 use std::fs::File;
@@ -14,7 +15,8 @@ pub const LONGEST_BODY: u32 = 262_144;
 
 /// The bytes of a file. `TooLarge` where there are more than `most`; `Memory`; `Device` where it can't be read.
 pub fn read_file(rt: &HostRuntime, path: &str, most: u32) -> Result<Vec<u8>, Fault>
-    ensures { IfOk result (λ bytes. length bytes.items ≤ most) }
+    ensures size { IfOk result (λ bytes. length bytes.items ≤ most) }
+    ensures cause { IfErr result (λ fault. (fault ≡ Fault.TooLarge) ⊎ IsOfReading fault) }
 {
     match File::open(rt, path) {
         Ok(file) => read_whole(rt, file, most),
@@ -23,7 +25,8 @@ pub fn read_file(rt: &HostRuntime, path: &str, most: u32) -> Result<Vec<u8>, Fau
 }
 
 fn read_whole(rt: &HostRuntime, file: File, most: u32) -> Result<Vec<u8>, Fault>
-    ensures { IfOk result (λ bytes. length bytes.items ≤ most) }
+    ensures size { IfOk result (λ bytes. length bytes.items ≤ most) }
+    ensures cause { IfErr result (λ fault. (fault ≡ Fault.TooLarge) ⊎ IsOfReading fault) }
 {
     let mut bytes = Vec::new(rt.alloc());
     match file.take(u64::from(most) + 1).read_to_end(&mut bytes) {
@@ -33,7 +36,9 @@ fn read_whole(rt: &HostRuntime, file: File, most: u32) -> Result<Vec<u8>, Fault>
     }
 }
 
-fn reading_failed(kind: ErrorKind) -> Fault {
+fn reading_failed(kind: ErrorKind) -> Fault
+    ensures { IsOfReading result }
+{
     match kind {
         ErrorKind::OutOfMemory => Fault::Memory,
         _ => Fault::Device,

@@ -3,6 +3,7 @@
 ghost use Rattle.std.specs.Prelude.{◌≡◌, IfErr, IfOk};
 ghost use Rattle.pw_tariff.specs.Text.{IsOfficeOf};
 ghost use Rattle.pw_words.specs.Words.{IsLimit};
+ghost use Rattle.pw_commands.specs.Faults.{IsOfOpening};
 
 use crate::fault::Fault;
 use pw_book::Book;
@@ -29,7 +30,8 @@ pub fn open_book<W: Watch>(
 ) -> Result<FileBook, Fault>
     requires office { IsOfficeOf text.now office }
     requires limit { IsLimit limit }
-    ensures { IfOk result (λ book. book.office ≡ office) }
+    ensures book { IfOk result (λ book. book.office ≡ office) }
+    ensures cause { IfErr result IsOfOpening }
 {
     let connection = match Connection::open(rt, path) {
         Ok(connection) => connection,
