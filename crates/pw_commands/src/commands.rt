@@ -29,6 +29,9 @@ use pw_words::words::command;
 use pw_words::{Command, Kind, What, WordsFault};
 use std::io::{Read, Write};
 
+/// No line of an accepted upload is longer, in bytes.
+const LONGEST_LINE: usize = 64;
+
 /// The most records of a book that takes no upload.
 const MOST_RECORDS: u32 = 10_000_000;
 
@@ -177,9 +180,13 @@ fn load<W: Watch>(
 fn post(rt: &HostRuntime, book: &mut FileBook, entries: &[Entry]) -> Result<Vec<u8>, Fault>
     requires { AllOfOffice (office_of book.old.office) entries.now }
 {
+    // Room for the line comes first, so that an upload which was accepted isn't told as refused.
+    let Ok(mut line) = Vec::with_capacity(rt.alloc(), LONGEST_LINE) else {
+        return Err(Fault::Memory);
+    };
     let accepted = book.post(rt.alloc(), entries)?;
-    match format!(in rt.alloc(); "{accepted}\n") {
-        Ok(line) => Ok(line.into_bytes()),
+    match writeln!(line, "{accepted}") {
+        Ok(()) => Ok(line),
         Err(_) => Err(Fault::Memory),
     }
 }
