@@ -115,13 +115,21 @@ def at_terminal(*words, given=b"", by=(PROGRAM,), **options):
         return status, out.read(), err
 
 
+def crc_word(register):
+    """What eight single steps make of a register of the CRC16."""
+    for _ in range(8):
+        register = register >> 1 ^ (0xA001 if register & 1 else 0)
+    return register
+
+
+CRC_WORDS = [crc_word(it) for it in range(256)]
+
+
 def crc16(data):
     """The CRC16 of a telegram: x^16+x^15+x^2+1, least significant bit first, from 0."""
     register = 0
     for byte in data:
-        register ^= byte
-        for _ in range(8):
-            register = register >> 1 ^ (0xA001 if register & 1 else 0)
+        register = register >> 8 ^ CRC_WORDS[(register ^ byte) & 0xFF]
     return register
 
 
@@ -350,6 +358,44 @@ def pages(connection):
     """All that a server tells of its book, asked over a connection: of each page the status and the body."""
     connection.sendall(b"".join(get(it) for it in PAGES))
     return [(it, *one_reply(connection)) for it in PAGES]
+
+
+def read_reply(replies):
+    """Reads one reply off a buffered stream of replies: its status and its body."""
+    first = line = replies.readline()
+    length = 0
+    while line != b"\r\n":
+        if not line.endswith(b"\r\n"):
+            raise ConnectionError(f"the replies ended behind {line!r}")
+        if line.startswith(b"Content-Length: "):
+            length = int(line[16:])
+        line = replies.readline()
+    body = replies.read(length)
+    if len(body) < length:
+        raise ConnectionError(f"the replies ended {length - len(body)} bytes early")
+    return int(first.split()[1]), body.decode()
+
+
+class Client:
+    """A connection to a server for many requests, whose replies are read through a buffer."""
+
+    def __init__(self, server):
+        self.connection = server.connection()
+        self.replies = self.connection.makefile("rb")
+
+    def send(self, request):
+        self.connection.sendall(request)
+
+    def reply(self):
+        return read_reply(self.replies)
+
+    def asked(self, request):
+        self.send(request)
+        return self.reply()
+
+    def close(self):
+        self.replies.close()
+        self.connection.close()
 
 
 def rows_of(store, query, *values):
