@@ -37,13 +37,34 @@ fn limit<'a>(alloc: Global) -> Arg<'a> {
         .help("The most records of the book")
 }
 
-fn read_command<'a>(alloc: Global) -> Result<Command<'a>, AllocError> {
-    let clock = Arg::new(alloc, "clock")
+fn clock<'a>(alloc: Global) -> Arg<'a> {
+    Arg::new(alloc, "clock")
         .long("clock")
         .value_name("CLOCK")
         .value_parser(CLOCKS.as_slice())
         .default_value("winter")
-        .help("The clock that readouts tell their time by");
+        .help("The clock that readouts tell their time by")
+}
+
+fn count<'a>(alloc: Global) -> Arg<'a> {
+    Arg::new(alloc, "count")
+        .long("count")
+        .value_name("N")
+        .required(true)
+        .value_parser(value_parser!(u32))
+        .help("How many connections are served, one after the other")
+}
+
+fn port<'a>(alloc: Global) -> Arg<'a> {
+    Arg::new(alloc, "port")
+        .long("port")
+        .value_name("P")
+        .value_parser(value_parser!(u16).range(1..=65_535))
+        .default_value("8460")
+        .help("The port on 127.0.0.1")
+}
+
+fn read_command<'a>(alloc: Global) -> Result<Command<'a>, AllocError> {
     Command::new(alloc, "read")
         .about(
             "Prints the frames of a body on standard input: meters, stamps, registers in watt-hours",
@@ -51,7 +72,7 @@ fn read_command<'a>(alloc: Global) -> Result<Command<'a>, AllocError> {
         .after_help(
             "Exit status: 0; 1 refused; 2 wrong words; 3 a stream or memory failed.\nExample: powerbook read < telegram.txt",
         )
-        .arg(clock)
+        .arg(clock(alloc))
 }
 
 fn check_command<'a>(alloc: Global) -> Result<Command<'a>, AllocError> {
@@ -126,18 +147,6 @@ fn export_command<'a>(alloc: Global) -> Result<Command<'a>, AllocError> {
 }
 
 fn serve_command<'a>(alloc: Global) -> Result<Command<'a>, AllocError> {
-    let count = Arg::new(alloc, "count")
-        .long("count")
-        .value_name("N")
-        .required(true)
-        .value_parser(value_parser!(u32))
-        .help("How many connections are served, one after the other");
-    let port = Arg::new(alloc, "port")
-        .long("port")
-        .value_name("P")
-        .value_parser(value_parser!(u16).range(1..=65_535))
-        .default_value("8460")
-        .help("The port on 127.0.0.1");
     Command::new(alloc, "serve")
         .about("Serves a store to HTTP clients of this machine")
         .after_help(
@@ -145,8 +154,8 @@ fn serve_command<'a>(alloc: Global) -> Result<Command<'a>, AllocError> {
         )
         .arg(office(alloc))?
         .arg(store(alloc))?
-        .arg(count)?
-        .arg(port)?
+        .arg(count(alloc))?
+        .arg(port(alloc))?
         .arg(limit(alloc))
 }
 

@@ -35,6 +35,13 @@ pub fn command<'a>(alloc: Global, words: &'a [&'a str]) -> Result<Command<'a>, W
     if let Some(clock) = stated_clock(words) {
         return Ok(Command::Read { clock });
     }
+    parsed(alloc, words)
+}
+
+// The command that the parser finds in the words.
+fn parsed<'a>(alloc: Global, words: &'a [&'a str]) -> Result<Command<'a>, WordsFault>
+    ensures { IfOk result IsSound }
+{
     let matches = match parser(alloc)?
         .no_binary_name(true)
         .try_get_matches_from(words)
@@ -42,13 +49,16 @@ pub fn command<'a>(alloc: Global, words: &'a [&'a str]) -> Result<Command<'a>, W
         Ok(matches) => matches,
         Err(error) => return Err(fault_of(alloc, &error)),
     };
-    if let Some(command) = command_of(&matches) {
-        return Ok(command);
+    match command_of(&matches) {
+        Some(command) => Ok(command),
+        None => Err(word_missing(alloc)?),
     }
-    match parser(alloc)?.error(ErrorKind::MissingRequiredArgument, "a word is missing") {
-        Ok(error) => Err(fault_of(alloc, &error)),
-        Err(AllocError) => Err(WordsFault::Memory),
-    }
+}
+
+// That the parser asks for no word which a command needs: the text is its own.
+fn word_missing(alloc: Global) -> Result<WordsFault, AllocError> {
+    let error = parser(alloc)?.error(ErrorKind::MissingRequiredArgument, "a word is missing")?;
+    Ok(fault_of(alloc, &error))
 }
 
 // Whether the words are those of a conversation with nothing else stated.
@@ -101,16 +111,8 @@ fn command_of<'a>(matches: &ArgMatches<'a>) -> Option<Command<'a>>
             limit: limit_of(words)?,
         }),
         Some(("load", words)) => load_of(words),
-        Some(("statement", words)) => Some(Command::Statement {
-            office: words.get_str("OFFICE")?,
-            store: words.get_str("STORE")?,
-            account: words.get_str("ACCOUNT")?,
-        }),
-        Some(("export", words)) => Some(Command::Export {
-            office: words.get_str("OFFICE")?,
-            store: words.get_str("STORE")?,
-            what: table_named(words.get_str("WHAT")?)?,
-        }),
+        Some(("statement", words)) => statement_of(words),
+        Some(("export", words)) => export_of(words),
         Some(("serve", words)) => serve_of(words),
         Some(_) => None,
     }
@@ -125,6 +127,26 @@ fn load_of<'a>(words: &ArgMatches<'a>) -> Option<Command<'a>>
         kind: kind_named(words.get_str("KIND")?, words.get_str("meter"))?,
         file: words.get_str("FILE")?,
         limit: limit_of(words)?,
+    })
+}
+
+fn statement_of<'a>(words: &ArgMatches<'a>) -> Option<Command<'a>>
+    ensures { IfSome result IsSound }
+{
+    Some(Command::Statement {
+        office: words.get_str("OFFICE")?,
+        store: words.get_str("STORE")?,
+        account: words.get_str("ACCOUNT")?,
+    })
+}
+
+fn export_of<'a>(words: &ArgMatches<'a>) -> Option<Command<'a>>
+    ensures { IfSome result IsSound }
+{
+    Some(Command::Export {
+        office: words.get_str("OFFICE")?,
+        store: words.get_str("STORE")?,
+        what: table_named(words.get_str("WHAT")?)?,
     })
 }
 
