@@ -1,6 +1,6 @@
 //! The commands.
 
-ghost use Rattle.std.specs.Prelude.{◌≡◌, List, Some, ℕ, IfOk, IfErr};
+ghost use Rattle.std.specs.Prelude.{◌≡◌, ◌<◌, List, Some, ℕ, IfOk, IfErr, length};
 ghost use Rattle.pw_tariff.specs.Office.{office_of};
 ghost use Rattle.pw_model.specs.Office.{AllOfOffice};
 ghost use Rattle.pw_read.specs.Run.{IsRun};
@@ -16,17 +16,19 @@ use crate::sample::SAMPLE;
 use crate::serving::serve;
 use crate::store::{FileBook, close_book, open_book};
 use crate::telling::{finish, tell};
+use pw_book::{Book, BookFault};
 use pw_model::Entry;
 use pw_read::read_run;
 use pw_record::{
     UploadFault, assignment_records, readout_records, telegram_records, topup_records,
 };
 use pw_report::{Page, page_text, statement};
-use pw_store::{Unwatched, Watch};
-use pw_tariff::Office;
+use pw_store::{SqlShelf, Unwatched, Watch};
+use pw_tariff::{AccountId, Office};
 use pw_time::Zone;
 use pw_words::words::command;
 use pw_words::{Command, Kind, What, WordsFault};
+use sqlite::Alter;
 use std::io::{Read, Write};
 
 /// No line of an accepted upload is longer, in bytes.
@@ -177,7 +179,11 @@ fn load<W: Watch>(
     line
 }
 
-fn post(rt: &HostRuntime, book: &mut FileBook, entries: &[Entry]) -> Result<Vec<u8>, Fault>
+fn post<S: Alter>(
+    rt: &HostRuntime,
+    book: &mut Book<SqlShelf<S>>,
+    entries: &[Entry],
+) -> Result<Vec<u8>, Fault>
     requires { AllOfOffice (office_of book.old.office) entries.now }
 {
     // Room for the line comes first, so that an upload which was accepted isn't told as refused.
@@ -238,9 +244,19 @@ fn statement_of<W: Watch>(
         return Err(Fault::NoSuchAccount);
     };
     let mut book = open_book(rt, store, office, text.as_slice(), MOST_RECORDS, watch)?;
-    let page = statement(&mut book, rt.alloc(), account);
+    let page = statement_text(rt, &mut book, account);
     close_book(book)?;
     Ok(page?)
+}
+
+fn statement_text<S: Alter>(
+    rt: &HostRuntime,
+    book: &mut Book<SqlShelf<S>>,
+    account: AccountId,
+) -> Result<Vec<u8>, BookFault>
+    requires { account.0 < length book.old.office.accounts }
+{
+    statement(book, rt.alloc(), account)
 }
 
 fn export<W: Watch>(
@@ -251,9 +267,17 @@ fn export<W: Watch>(
     watch: &mut W,
 ) -> Result<Vec<u8>, Fault> {
     let mut book = book_at(rt, office, store, MOST_RECORDS, watch)?;
-    let text = page_text(&mut book, rt.alloc(), page_of(what));
+    let text = export_text(rt, &mut book, what);
     close_book(book)?;
     Ok(text?)
+}
+
+fn export_text<S: Alter>(
+    rt: &HostRuntime,
+    book: &mut Book<SqlShelf<S>>,
+    what: What,
+) -> Result<Vec<u8>, BookFault> {
+    page_text(book, rt.alloc(), page_of(what))
 }
 
 /// The page that an export is.

@@ -8,6 +8,8 @@ use crate::telling::{tell, write_whole};
 use pw_book::Book;
 use pw_http::{WireFault, converse};
 use pw_shelf::Shelf;
+use pw_store::SqlShelf;
+use sqlite::Alter;
 use std::alloc::Global;
 use std::io::{Read, Write};
 use std::net::{Shutdown, TcpListener, TcpStream};
@@ -30,12 +32,26 @@ pub fn serve<O: Write, E: Write>(
 ) -> u8
     ensures { (result ≡ 0) ⊎ (result ≡ 3) }
 {
-    let status = match listener_at(rt, port, out) {
-        Ok(listener) => serve_on(rt.alloc(), &listener, count, &mut book, err),
-        Err(fault) => return tell(fault, err),
-    };
+    let status = serve_book(rt, &mut book, count, port, out, err);
     match close_book(book) {
-        Ok(()) => status,
+        Err(fault) if status == 0 => tell(fault, err),
+        _ => status,
+    }
+}
+
+// Serves connections with a book over any store that is written to as SQLite's are.
+fn serve_book<S: Alter, O: Write, E: Write>(
+    rt: &HostRuntime,
+    book: &mut Book<SqlShelf<S>>,
+    count: u32,
+    port: u16,
+    out: &mut O,
+    err: &mut E,
+) -> u8
+    ensures { (result ≡ 0) ⊎ (result ≡ 3) }
+{
+    match listener_at(rt, port, out) {
+        Ok(listener) => serve_on(rt.alloc(), &listener, count, book, err),
         Err(fault) => tell(fault, err),
     }
 }
