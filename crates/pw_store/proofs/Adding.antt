@@ -36,6 +36,8 @@ use Rattle.pw_store.specs.inner.Records.{reading_row, assignment_row, reading_en
 use Rattle.pw_shelf.specs.State.{IsWithRecord}
 use Rattle.pw_store.specs.Kept.{IsStore, key_in_point, key_in_start}
 use Rattle.pw_store.specs.Keyed.{AreKeyed, IsEnergyRow, IsPaymentRow}
+use Rattle.pw_store.specs.inner.Changing.{StillKeeps}
+use Rattle.pw_store.proofs.StillKept.{keeps_sums}
 use Rattle.pw_store.proofs.Others.{SameSums, same_sums, with_record}
 use Rattle.pw_store.proofs.Texts.{IsInsert, add_topup_text, add_topup_is, four_terms, add_reading_text, add_reading_is, add_assignment_text, add_assignment_is, three_terms}
 use Rattle.pw_schema.proofs.Outcomes.{fails, keeps_commit}
@@ -126,6 +128,9 @@ module _ (old new : State) (t : List ℕ) (a c i count : ℕ) (store : IsStore o
   pub sums_topup : SameSums old.now.trees new.now.trees
   sums_topup = same_sums own topup_tree old.now.trees new.now.trees (omega arith) applied.1.tables
 
+  pub keeps_topup : StillKeeps old.now.trees new.now.trees
+  keeps_topup = keeps_sums own _ old.now.trees new.now.trees _ applied.1 (omega arith) (omega arith) sums_topup.total sums_topup.payment
+
   pub stores_topup : (Member (topup_in row) (records_of old.now.trees) → ⊥) → IsStore new.now
   stores_topup fresh = record {
     ours = ours_is new.now.schema own applied.0;
@@ -197,6 +202,9 @@ module _ (old new : State) (m : MeterId) (r : Register) (t v : ℕ) (count : ℕ
   pub sums_reading : SameSums old.now.trees new.now.trees
   sums_reading = same_sums own_reading reading_tree old.now.trees new.now.trees (omega arith) applied_reading.1.tables
 
+  pub keeps_reading : StillKeeps old.now.trees new.now.trees
+  keeps_reading = keeps_sums own_reading _ old.now.trees new.now.trees _ applied_reading.1 (omega arith) (omega arith) sums_reading.total sums_reading.payment
+
   pub stores_reading : (Member (reading_entry m r t v) (records_of old.now.trees) → ⊥) → IsStore new.now
   stores_reading fresh = record {
     ours = ours_is new.now.schema own_reading applied_reading.0;
@@ -255,6 +263,9 @@ module _ (old new : State) (m : MeterId) (t : ℕ) (o : Option AccountId) (count
   pub sums_assignment : SameSums old.now.trees new.now.trees
   sums_assignment = same_sums own_assignment assignment_tree old.now.trees new.now.trees (omega arith) applied_assignment.1.tables
 
+  pub keeps_assignment : StillKeeps old.now.trees new.now.trees
+  keeps_assignment = keeps_sums own_assignment _ old.now.trees new.now.trees _ applied_assignment.1 (omega arith) (omega arith) sums_assignment.total sums_assignment.payment
+
   pub stores_assignment : (Member (assignment_entry m t o) (records_of old.now.trees) → ⊥) → IsStore new.now
   stores_assignment fresh = record {
     ours = ours_is new.now.schema own_assignment applied_assignment.0;
@@ -296,3 +307,15 @@ stores_assignment_if old new m t o (Err e) store fresh h = tt
 pub adds_assignment_if : (old new : State) (m : MeterId) (t : ℕ) (o : Option AccountId) (out : Result ℕ Error) → IsStore old.now → Executes add_assignment_text (assignment_row m.0 t (owner_place o)) old new out → OnOk out (IsWithRecord (content_of old.now.trees) (assignment_entry m t o) (content_of new.now.trees))
 adds_assignment_if old new m t o (Ok n) store h = with_record (assignment_entry m t o) old.now.trees new.now.trees (adds_assignment old new m t o n store h) (sums_assignment old new m t o n store h)
 adds_assignment_if old new m t o (Err e) store h = tt
+
+pub keeps_topup_if : (old new : State) (t : List ℕ) (a c i : ℕ) (r : Result ℕ Error) → IsStore old.now → Executes add_topup_text (topup_row t a c i) old new r → OnOk r (StillKeeps old.now.trees new.now.trees)
+keeps_topup_if old new t a c i (Ok n) store h = keeps_topup old new t a c i n store h
+keeps_topup_if old new t a c i (Err e) store h = tt
+
+pub keeps_reading_if : (old new : State) (m : MeterId) (r : Register) (t w : ℕ) (out : Result ℕ Error) → IsStore old.now → Executes add_reading_text (reading_row m.0 (register_place r) t w) old new out → OnOk out (StillKeeps old.now.trees new.now.trees)
+keeps_reading_if old new m r t w (Ok n) store h = keeps_reading old new m r t w n store h
+keeps_reading_if old new m r t w (Err e) store h = tt
+
+pub keeps_assignment_if : (old new : State) (m : MeterId) (t : ℕ) (o : Option AccountId) (out : Result ℕ Error) → IsStore old.now → Executes add_assignment_text (assignment_row m.0 t (owner_place o)) old new out → OnOk out (StillKeeps old.now.trees new.now.trees)
+keeps_assignment_if old new m t o (Ok n) store h = keeps_assignment old new m t o n store h
+keeps_assignment_if old new m t o (Err e) store h = tt

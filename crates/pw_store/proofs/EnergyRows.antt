@@ -1,5 +1,5 @@
 -- What DELETE and INSERT make of the totals of energy.
-use Rattle.std.proofs.Common.{◌≡◌, ℕ, pos, List, [], ◌∷◌, map, find, Bool, true, false, not, ◌&&◌, Option, option_map, Some, None, Ok, Err, Result, OnOk, IsTrue, refl, sym, ap, subst, subst₂, ◌∙◌, nat_cmp, arith}
+use Rattle.std.proofs.Common.{◌≡◌, ◌<◌, ℕ, pos, List, [], ◌∷◌, map, find, Bool, true, false, not, ◌&&◌, Option, option_map, Some, None, Ok, Err, Result, OnOk, IsTrue, refl, sym, ap, subst, subst₂, ◌∙◌, nat_cmp, arith}
 use Rattle.std.specs.List.{AllByRecursion, list_all, filter}
 use Rattle.std.specs.List.Sorted.{IsPermutation}
 use Rattle.std.proofs.lemmas.List.Sorted.{IsPermutation-map}
@@ -45,6 +45,8 @@ use Rattle.pw_store.proofs.KeptTexts.{delete_total_text, delete_total_query, del
 use Rattle.pw_store.proofs.Scans.{equal_ints, tied, scans, scan_of, outputs, IsScan}
 use Rattle.pw_store.proofs.Finding.{first, second, same_number, owner_one, place_one}
 use Rattle.pw_store.proofs.Adding.{cast_null, cast_int, owner_back, insert_inside}
+use Rattle.pw_store.specs.Left.{IsOldEnergy, IsOldPayment}
+use Rattle.pw_store.proofs.StillKept.{fewer, keeps_rows, more}
 use Rattle.pw_store.proofs.Others.{AreElseSame, same_records, store_kept, same_total-decides, energies_with, content_with_total}
 use Rattle.pw_store.proofs.KeptRows.{ids, leaves, find_gone, gone_told, put_told, keyed_gone, keyed_put}
 use Rattle.pw_store.proofs.Taking.{delete_inside, both_true, none_found}
@@ -144,6 +146,9 @@ module _ (old new : State) (o : Option AccountId) (b : BandId) (d : Direction) (
         (subst (AreKeyed IsAssignmentRow key_in_start) (sym (others.1.1.1.1.1.0 (λ e. absurd (omega (arith, e))))) store.starts)
         (subst (AreKeyed IsEnergyRow energy_in) (sym left) (keyed_gone same_total same_total-decides energy_in (λ x. number (column x 4)) IsEnergyRow (total.Energy o b d) (old.now.trees 11) store.energies))
         (subst (AreKeyed IsPaymentRow payment_in) (sym (others.1.1.1.1.1.1.1.0 (λ e. absurd (omega (arith, e))))) store.payments);
+    keeps = keeps_rows own _ old.now.trees new.now.trees _ deleted.1.2 (omega arith) (omega arith)
+        (λ before all. fewer (IsOldEnergy before) (λ row. not (at_key o b d row)) (old.now.trees 11) (new.now.trees 11) left all)
+        (λ before all. subst (AllByRecursion (IsOldPayment before)) (sym (others.1.1.1.1.1.1.1.0 (λ e. absurd (omega (arith, e))))) all);
     content = content_with_total old.now.trees new.now.trees (total.Energy o b d) 0 (same_records own 11 old.now.trees new.now.trees (omega arith) others) (others.1.1.1.1.0 (λ e. absurd (omega (arith, e)))) (others.1.1.1.1.1.0 (λ e. absurd (omega (arith, e)))) told_left;
     shows = delete_inside delete_total_text 6 delete_total_query delete_total_is old new store.ours (params o b d) count h inside;
   }
@@ -152,7 +157,7 @@ module _ (old new : State) (o : Option AccountId) (b : BandId) (d : Direction) (
   taken = ap (option_map (λ x. number (column x 4))) (ap (find (at_key o b d)) left ∙ find_gone (at_key o b d) (old.now.trees 11))
 
 -- ---- INSERT
-module _ (old new : State) (o : Option AccountId) (b : BandId) (d : Direction) (v : ℕ) (count : ℕ) (store : IsStore old.now) (inside : IsTrue old.in_transaction) (none : energy_told (old.now.trees 11) (total.Energy o b d) ≡ None) (h : Executes insert_total_text (reading_row (owner_place o) b.0 (direction_place d) v) old new (Ok count)) where
+module _ (old new : State) (o : Option AccountId) (b : BandId) (d : Direction) (v : ℕ) (count : ℕ) (above : 0 < v) (store : IsStore old.now) (inside : IsTrue old.in_transaction) (none : energy_told (old.now.trees 11) (total.Energy o b d) ≡ None) (h : Executes insert_total_text (reading_row (owner_place o) b.0 (direction_place d) v) old new (Ok count)) where
   abbrev checks : List Term
   checks = checks_of old.now.schema
 
@@ -198,6 +203,9 @@ module _ (old new : State) (o : Option AccountId) (b : BandId) (d : Direction) (
         (subst (AreKeyed IsAssignmentRow key_in_start) (sym (elsewhere.1.1.1.1.1.0 (λ e. absurd (omega (arith, e))))) store.starts)
         (subst (AreKeyed IsEnergyRow energy_in) (sym put) (keyed_put same_total same_total-decides energy_in (λ x. number (column x 4)) IsEnergyRow (total.Energy o b d) row (old.now.trees 11) key_is (refl, (refl, (ap (λ (e : Direction). Int (pos (direction_place e))) (sym (direction_back d)), refl))) refl free unseen store.energies))
         (subst (AreKeyed IsPaymentRow payment_in) (sym (elsewhere.1.1.1.1.1.1.1.0 (λ e. absurd (omega (arith, e))))) store.payments);
+    keeps = keeps_rows checks _ old.now.trees new.now.trees _ inserted.1 (omega arith) (omega arith)
+        (λ before all. more (IsOldEnergy before) row (old.now.trees 11) (new.now.trees 11) put (λ none. absurd (omega (arith, above, none))) all)
+        (λ before all. subst (AllByRecursion (IsOldPayment before)) (sym (elsewhere.1.1.1.1.1.1.1.0 (λ e. absurd (omega (arith, e))))) all);
     content = content_with_total old.now.trees new.now.trees (total.Energy o b d) v (same_records checks 11 old.now.trees new.now.trees (omega arith) elsewhere) (elsewhere.1.1.1.1.0 (λ e. absurd (omega (arith, e)))) (elsewhere.1.1.1.1.1.0 (λ e. absurd (omega (arith, e)))) told_put;
     shows = insert_inside insert_total_text 6 5 four_terms insert_total_is old new store.ours given count h inside;
   }
@@ -211,6 +219,6 @@ pub taken_if : (old new : State) (o : Option AccountId) (b : BandId) (d : Direct
 taken_if old new o b d (Ok n) store inside h = taken old new o b d n store inside h
 taken_if old new o b d (Err e) store inside h = tt
 
-pub puts_if : (old new : State) (o : Option AccountId) (b : BandId) (d : Direction) (v : ℕ) (r : Result ℕ Error) → IsStore old.now → IsTrue old.in_transaction → energy_told (old.now.trees 11) (total.Energy o b d) ≡ None → Executes insert_total_text (reading_row (owner_place o) b.0 (direction_place d) v) old new r → OnOk r (Makes (λ c. with_total c (total.Energy o b d) v) old new)
-puts_if old new o b d v (Ok n) store inside none h = puts old new o b d v n store inside none h
-puts_if old new o b d v (Err e) store inside none h = tt
+pub puts_if : (old new : State) (o : Option AccountId) (b : BandId) (d : Direction) (v : ℕ) (r : Result ℕ Error) → (0 < v) → IsStore old.now → IsTrue old.in_transaction → energy_told (old.now.trees 11) (total.Energy o b d) ≡ None → Executes insert_total_text (reading_row (owner_place o) b.0 (direction_place d) v) old new r → OnOk r (Makes (λ c. with_total c (total.Energy o b d) v) old new)
+puts_if old new o b d v (Ok n) above store inside none h = puts old new o b d v n above store inside none h
+puts_if old new o b d v (Err e) above store inside none h = tt

@@ -10,7 +10,7 @@ use Rattle.pw_tariff.specs.Office.{OfficeRules}
 use Rattle.pw_model.specs.Office.{most_records}
 use Rattle.pw_model.specs.Counting.{EachOnce, Member}
 use Rattle.pw_schema.specs.Fresh.{IsFresh, office_row}
-use Rattle.pw_schema.specs.Judging.{KeepsOffice}
+use Rattle.pw_schema.specs.Judging.{IsTotalOf, KeepsOffice}
 use Rattle.pw_schema.specs.Tables.{IsOurs, no_schema, only_one}
 use Rattle.pw_store.specs.Content.{records_of, energy_in, payment_in, IsReadingRow, IsAssignmentRow, IsTopupRow}
 use Rattle.pw_shelf.specs.Left.{LeavesOnly}
@@ -68,6 +68,10 @@ module _ (body : List ℕ) (db : Database) (fresh : IsFresh body db) where
   fresh_opens office = record {
     store = fresh_store;
     kept = (shown_office (office_row body) ∷ [], (subst (IsPermutation (offices db.trees)) fresh_offices (IsPermutation-refl (offices db.trees)), (shown_office (office_row body), refl, refl, refl)));
+    named = record {
+      energies = subst (AllByRecursion (λ r. IsTotalOf office (energy_in r))) (sym fresh.total) tt;
+      payments = subst (AllByRecursion (λ r. IsTotalOf office (payment_in r))) (sym fresh.total_topup) tt;
+    };
     of_office = λ e m. absurd (subst (Member e) fresh_records m);
     few = rw fresh_records (omega arith);
     truth = subst (IsTrueContent office) (sym fresh_content) (empty-true office);

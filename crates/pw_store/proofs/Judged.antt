@@ -19,6 +19,7 @@ use Rattle.pw_store.specs.inner.Opened.{MayOpen}
 use Rattle.pw_store.specs.inner.Sums.{AreAllNumbered, TellsSums}
 use Rattle.pw_store.specs.inner.Truth.{HaveParts, HaveOtherParts}
 use Rattle.pw_store.proofs.OfParts.{have_truth, have_none}
+use Rattle.pw_store.proofs.OfContent.{names_office}
 use Rattle.pw_store.proofs.Sound.{sound_store, sound_office, trees_is}
 
 -- of s0, at which everything begins: s1 is behind the row of `office`, s2 behind the records, s3 behind points, starts and totals
@@ -67,6 +68,7 @@ module _ (office : OfficeRules) (body : List ℕ) (s0 s1 s2 s3 : State) (records
       go (Ok u) few parts = record {
         store = sound_store office s3.now ours_now records_now.readings records_now.assignments records_now.topups holds_now numbered_now;
         kept = text_now;
+        named = names_office office db holds_now;
         of_office = of_office;
         few = omega (arith, few, many);
         truth = have_truth office db records sums holds_now tells_now listed_now of_office parts;

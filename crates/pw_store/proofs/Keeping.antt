@@ -82,3 +82,7 @@ with_held old new base e was live h = subst (λ c. IsWithRecord c e (held_of new
 
 pub held_made : (old new base : State) (made : ShelfContent → ShelfContent) → Makes made old new → held_of new base ≡ made (held_of old base)
 held_made old new base made m = held_open new base m.shows.is_open ∙ m.content ∙ ap made (sym (held_open old base m.shows.was_open))
+
+-- what was just committed can be left
+pub left_stays : (old new base : State) → IsTrue old.is_open → new.may_leave old.now.trees → left_of new (held_of old base)
+left_stays old new base live may = (old.now.trees, may, sym (held_open old base live))

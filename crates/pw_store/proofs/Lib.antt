@@ -16,6 +16,8 @@ pub mod Keeping
 pub mod KeptRows
 pub mod KeptTexts
 pub mod KeyedRows
+pub mod LeftOpening
+pub mod LeftStores
 pub mod Lists
 pub mod Neighbours
 pub mod OfContent
@@ -35,6 +37,7 @@ pub mod Reopening
 pub mod Scans
 pub mod Sound
 pub mod StartRows
+pub mod StillKept
 pub mod SumTables
 pub mod Taking
 pub mod Telling

@@ -133,7 +133,7 @@ is_at_least : (m n : ℕ) → n ≤ m → is_least (nat_cmp m n) ≡ true
 is_at_least m n l = (compared (nat_cmp m n) m n refl).1 l
 
 -- ---- lists
-all_member : {X : Type 0} (P : X → Type 0) (xs : List X) (x : X) → AllByRecursion P xs → Member x xs → P x
+pub all_member : {X : Type 0} (P : X → Type 0) (xs : List X) (x : X) → AllByRecursion P xs → Member x xs → P x
 all_member P [] x all m = absurd m
 all_member P (y ∷ ys) x all (inl e) = subst P (sym e) all.0
 all_member P (y ∷ ys) x all (inr m) = all_member P ys x all.1 m

@@ -17,8 +17,11 @@ use Rattle.pw_parts.specs.Laws.{assignment_entry}
 use Rattle.pw_parts.proofs.Seconds.{wh-one, owner-one}
 use Rattle.pw_schema.specs.declared.kind.RecordKind.TheVariants.{Readings, Assignments, TopUps}
 use Rattle.pw_schema.specs.Rows.{number, register_at, owner_at}
-use Rattle.pw_store.specs.Content.{content_of, records_of, reading_in, assignment_in, point_tree, start_tree}
-use Rattle.pw_store.specs.Opening.{HasRows, NamesOffice, HoldsAllRecords, HoldsSums}
+use Rattle.pw_store.specs.Content.{content_of, records_of, reading_in, assignment_in, energy_in, payment_in, payment_tree, point_tree, start_tree, total_tree}
+use Rattle.pw_store.specs.Opening.{HasRows, NamesOffice, HoldsAllRecords, HoldsSums, IsTotalRow, key_of_total}
+use Rattle.pw_schema.specs.declared.kind.TotalKind.TheVariants.{Energies, Payments}
+use Rattle.pw_schema.specs.Judging.{IsTotalOf}
+use Rattle.sqlite_trees.proofs.ListLemmas.{all_weaker}
 use Rattle.pw_store.specs.Shown.{entries_of}
 use Rattle.pw_store.proofs.KeyedRows.{before_map, row_told}
 use Rattle.pw_store.proofs.Lists.{member_behind}
@@ -39,6 +42,13 @@ once_back (x ∷ xs) ys h = once_back xs ys h.1
 all_two : {X : Type 0} (P Q : X → Type 0) (xs : List X) → AllByRecursion P xs → AllByRecursion Q xs → AllByRecursion (λ x. P x × Q x) xs
 all_two P Q [] p q = tt
 all_two P Q (x ∷ xs) p q = ((p.0, q.0), all_two P Q xs p.1 q.1)
+
+-- totals of the office name what it has
+pub names_office : (office : OfficeRules) (db : Trees) → HoldsSums office db → NamesOffice office db
+names_office office db sums = record {
+  energies = all_weaker (λ row. IsTotalRow Energies row × IsTotalOf office (key_of_total Energies row)) (λ row. IsTotalOf office (energy_in row)) (λ row it. it.1) (db total_tree) sums.energies.rows;
+  payments = all_weaker (λ row. IsTotalRow Payments row × IsTotalOf office (key_of_total Payments row)) (λ row. IsTotalOf office (payment_in row)) (λ row it. it.1) (db payment_tree) sums.payments.rows;
+}
 
 module _ (office : OfficeRules) (db : Trees) (rows : HasRows db) (of : AllOfOffice office (records_of db)) where
   pub records_held : HoldsAllRecords office db

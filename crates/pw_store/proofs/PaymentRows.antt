@@ -1,5 +1,5 @@
 -- What DELETE and INSERT make of the totals of top-ups.
-use Rattle.std.proofs.Common.{◌≡◌, ℕ, pos, List, [], ◌∷◌, map, find, Bool, true, false, not, ◌&&◌, option_map, Some, None, Ok, Err, Result, OnOk, IsTrue, refl, sym, ap, subst, subst₂, ◌∙◌, nat_cmp, arith}
+use Rattle.std.proofs.Common.{◌≡◌, ◌<◌, ℕ, pos, List, [], ◌∷◌, map, find, Bool, true, false, not, ◌&&◌, option_map, Some, None, Ok, Err, Result, OnOk, IsTrue, refl, sym, ap, subst, subst₂, ◌∙◌, nat_cmp, arith}
 use Rattle.std.specs.List.{AllByRecursion, list_all, filter}
 use Rattle.std.specs.List.Sorted.{IsPermutation}
 use Rattle.std.proofs.lemmas.List.Sorted.{IsPermutation-map}
@@ -38,6 +38,8 @@ use Rattle.pw_store.proofs.KeptTexts.{delete_payment_text, delete_payment_query,
 use Rattle.pw_store.proofs.Scans.{equal_ints, tied, scans, scan_of, outputs, IsScan}
 use Rattle.pw_store.proofs.Finding.{first, same_number}
 use Rattle.pw_store.proofs.Adding.{cast_null, cast_int, insert_inside}
+use Rattle.pw_store.specs.Left.{IsOldEnergy, IsOldPayment}
+use Rattle.pw_store.proofs.StillKept.{fewer, keeps_rows, more}
 use Rattle.pw_store.proofs.Others.{AreElseSame, same_records, store_kept, same_total-decides, payments_with, content_with_total}
 use Rattle.pw_store.proofs.KeptRows.{ids, leaves, find_gone, gone_told, put_told, keyed_gone, keyed_put}
 use Rattle.pw_store.proofs.Taking.{delete_inside, both_true, none_found}
@@ -118,6 +120,9 @@ module _ (old new : State) (a : AccountId) (count : ℕ) (store : IsStore old.no
         (subst (AreKeyed IsAssignmentRow key_in_start) (sym (others.1.1.1.1.1.0 (λ e. absurd (omega (arith, e))))) store.starts)
         (subst (AreKeyed IsEnergyRow energy_in) (sym (others.1.1.1.1.1.1.0 (λ e. absurd (omega (arith, e))))) store.energies)
         (subst (AreKeyed IsPaymentRow payment_in) (sym left) (keyed_gone same_total same_total-decides payment_in (λ x. number (column x 2)) IsPaymentRow (total.TopUps a) (old.now.trees 13) store.payments));
+    keeps = keeps_rows own _ old.now.trees new.now.trees _ deleted.1.2 (omega arith) (omega arith)
+        (λ before all. subst (AllByRecursion (IsOldEnergy before)) (sym (others.1.1.1.1.1.1.0 (λ e. absurd (omega (arith, e))))) all)
+        (λ before all. fewer (IsOldPayment before) (λ row. not (at_key a row)) (old.now.trees 13) (new.now.trees 13) left all);
     content = content_with_total old.now.trees new.now.trees (total.TopUps a) 0 (same_records own 13 old.now.trees new.now.trees (omega arith) others) (others.1.1.1.1.0 (λ e. absurd (omega (arith, e)))) (others.1.1.1.1.1.0 (λ e. absurd (omega (arith, e)))) told_left;
     shows = delete_inside delete_payment_text 7 delete_payment_query delete_payment_is old new store.ours (params a) count h inside;
   }
@@ -126,7 +131,7 @@ module _ (old new : State) (a : AccountId) (count : ℕ) (store : IsStore old.no
   taken = ap (option_map (λ x. number (column x 2))) (ap (find (at_key a)) left ∙ find_gone (at_key a) (old.now.trees 13))
 
 -- ---- INSERT
-module _ (old new : State) (a : AccountId) (v : ℕ) (count : ℕ) (store : IsStore old.now) (inside : IsTrue old.in_transaction) (none : payment_told (old.now.trees 13) (total.TopUps a) ≡ None) (h : Executes insert_payment_text (Int (pos a.0) ∷ Int (pos v) ∷ []) old new (Ok count)) where
+module _ (old new : State) (a : AccountId) (v : ℕ) (count : ℕ) (above : 0 < v) (store : IsStore old.now) (inside : IsTrue old.in_transaction) (none : payment_told (old.now.trees 13) (total.TopUps a) ≡ None) (h : Executes insert_payment_text (Int (pos a.0) ∷ Int (pos v) ∷ []) old new (Ok count)) where
   abbrev checks : List Term
   checks = checks_of old.now.schema
 
@@ -172,6 +177,9 @@ module _ (old new : State) (a : AccountId) (v : ℕ) (count : ℕ) (store : IsSt
         (subst (AreKeyed IsAssignmentRow key_in_start) (sym (elsewhere.1.1.1.1.1.0 (λ e. absurd (omega (arith, e))))) store.starts)
         (subst (AreKeyed IsEnergyRow energy_in) (sym (elsewhere.1.1.1.1.1.1.0 (λ e. absurd (omega (arith, e))))) store.energies)
         (subst (AreKeyed IsPaymentRow payment_in) (sym put) (keyed_put same_total same_total-decides payment_in (λ x. number (column x 2)) IsPaymentRow (total.TopUps a) row (old.now.trees 13) key_is (refl, refl) refl free unseen store.payments));
+    keeps = keeps_rows checks _ old.now.trees new.now.trees _ inserted.1 (omega arith) (omega arith)
+        (λ before all. subst (AllByRecursion (IsOldEnergy before)) (sym (elsewhere.1.1.1.1.1.1.0 (λ e. absurd (omega (arith, e))))) all)
+        (λ before all. more (IsOldPayment before) row (old.now.trees 13) (new.now.trees 13) put (λ none. absurd (omega (arith, above, none))) all);
     content = content_with_total old.now.trees new.now.trees (total.TopUps a) v (same_records checks 13 old.now.trees new.now.trees (omega arith) elsewhere) (elsewhere.1.1.1.1.0 (λ e. absurd (omega (arith, e)))) (elsewhere.1.1.1.1.1.0 (λ e. absurd (omega (arith, e)))) told_put;
     shows = insert_inside insert_payment_text 7 3 payment_terms insert_payment_is old new store.ours given count h inside;
   }
@@ -185,6 +193,6 @@ pub taken_if : (old new : State) (a : AccountId) (r : Result ℕ Error) → IsSt
 taken_if old new a (Ok n) store inside h = taken old new a n store inside h
 taken_if old new a (Err e) store inside h = tt
 
-pub puts_if : (old new : State) (a : AccountId) (v : ℕ) (r : Result ℕ Error) → IsStore old.now → IsTrue old.in_transaction → payment_told (old.now.trees 13) (total.TopUps a) ≡ None → Executes insert_payment_text (Int (pos a.0) ∷ Int (pos v) ∷ []) old new r → OnOk r (Makes (λ c. with_total c (total.TopUps a) v) old new)
-puts_if old new a v (Ok n) store inside none h = puts old new a v n store inside none h
-puts_if old new a v (Err e) store inside none h = tt
+pub puts_if : (old new : State) (a : AccountId) (v : ℕ) (r : Result ℕ Error) → (0 < v) → IsStore old.now → IsTrue old.in_transaction → payment_told (old.now.trees 13) (total.TopUps a) ≡ None → Executes insert_payment_text (Int (pos a.0) ∷ Int (pos v) ∷ []) old new r → OnOk r (Makes (λ c. with_total c (total.TopUps a) v) old new)
+puts_if old new a v (Ok n) above store inside none h = puts old new a v n above store inside none h
+puts_if old new a v (Err e) above store inside none h = tt

@@ -43,6 +43,7 @@ use Rattle.pw_store.proofs.KeptTexts.{delete_point_text, delete_point_query, del
 use Rattle.pw_store.proofs.Scans.{equal_ints, tied, scans, scan_of, outputs, IsScan}
 use Rattle.pw_store.proofs.Finding.{first, second, same_number, meter_of, register_of, second_of}
 use Rattle.pw_store.proofs.Adding.{cast_null, cast_int, register_back, insert_inside}
+use Rattle.pw_store.proofs.StillKept.{keeps_sums}
 use Rattle.pw_store.proofs.Others.{AreElseSame, same_records, store_kept, content_with_point}
 use Rattle.pw_store.proofs.KeptRows.{ids, leaves, find_gone, gone_told, put_told, keyed_gone, keyed_put}
 use Rattle.pw_store.proofs.Taking.{delete_inside, both_true, none_found}
@@ -125,6 +126,7 @@ module _ (old new : State) (m : ℕ) (g : Register) (i : ℕ) (count : ℕ) (sto
         (subst (AreKeyed IsAssignmentRow key_in_start) (sym (others.1.1.1.1.1.0 (λ e. absurd (omega (arith, e))))) store.starts)
         (subst (AreKeyed IsEnergyRow energy_in) (sym (others.1.1.1.1.1.1.0 (λ e. absurd (omega (arith, e))))) store.energies)
         (subst (AreKeyed IsPaymentRow payment_in) (sym (others.1.1.1.1.1.1.1.0 (λ e. absurd (omega (arith, e))))) store.payments);
+    keeps = keeps_sums own _ old.now.trees new.now.trees _ deleted.1.2 (omega arith) (omega arith) (others.1.1.1.1.1.1.0 (λ e. absurd (omega (arith, e)))) (others.1.1.1.1.1.1.1.0 (λ e. absurd (omega (arith, e))));
     content = content_with_point old.now.trees new.now.trees m g i (None) (same_records own 7 old.now.trees new.now.trees (omega arith) others) (others.1.1.1.1.1.0 (λ e. absurd (omega (arith, e)))) (others.1.1.1.1.1.1.0 (λ e. absurd (omega (arith, e)))) (others.1.1.1.1.1.1.1.0 (λ e. absurd (omega (arith, e)))) told_left;
     shows = delete_inside delete_point_text 4 delete_point_query delete_point_is old new store.ours (params m g i) count h inside;
   }
@@ -179,6 +181,7 @@ module _ (old new : State) (m : ℕ) (g : Register) (i : ℕ) (v : ℕ) (count :
         (subst (AreKeyed IsAssignmentRow key_in_start) (sym (elsewhere.1.1.1.1.1.0 (λ e. absurd (omega (arith, e))))) store.starts)
         (subst (AreKeyed IsEnergyRow energy_in) (sym (elsewhere.1.1.1.1.1.1.0 (λ e. absurd (omega (arith, e))))) store.energies)
         (subst (AreKeyed IsPaymentRow payment_in) (sym (elsewhere.1.1.1.1.1.1.1.0 (λ e. absurd (omega (arith, e))))) store.payments);
+    keeps = keeps_sums checks _ old.now.trees new.now.trees _ inserted.1 (omega arith) (omega arith) (elsewhere.1.1.1.1.1.1.0 (λ e. absurd (omega (arith, e)))) (elsewhere.1.1.1.1.1.1.1.0 (λ e. absurd (omega (arith, e))));
     content = content_with_point old.now.trees new.now.trees m g i (Some v) (same_records checks 7 old.now.trees new.now.trees (omega arith) elsewhere) (elsewhere.1.1.1.1.1.0 (λ e. absurd (omega (arith, e)))) (elsewhere.1.1.1.1.1.1.0 (λ e. absurd (omega (arith, e)))) (elsewhere.1.1.1.1.1.1.1.0 (λ e. absurd (omega (arith, e)))) told_put;
     shows = insert_inside insert_point_text 4 5 four_terms insert_point_is old new store.ours given count h inside;
   }

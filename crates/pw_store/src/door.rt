@@ -12,6 +12,7 @@ ghost use Rattle.pw_shelf.specs.Left.{LeavesOnly};
 ghost use Rattle.pw_schema.specs.Tables.{IsOurs, no_schema};
 ghost use Rattle.pw_store.specs.Content.{content_of};
 ghost use Rattle.pw_store.specs.Kept.{held_of, left_of, state_of};
+ghost use Rattle.pw_store.specs.Left.{IsOfText};
 ghost use Rattle.pw_store.specs.Opening.{KeepsText, Refuses};
 ghost use Rattle.pw_schema.specs.Judging.{KeepsOffice};
 
@@ -40,6 +41,7 @@ impl<S: Alter> SqlShelf<S> {
         ensures truth { IfOk result (λ s. HasCleanDisk (state S.Store s.conn) → (office : OfficeFile) × IsOfficeOf office_text.now office × IsTrueContent (office_of office) (held_of (state S.Store s.conn) (state S.Store s.base.value))) }
         ensures few { IfOk result (λ s. HasCleanDisk (state S.Store s.conn) → length (held_of (state S.Store s.conn) (state S.Store s.base.value)).records ≤ most_records) }
         ensures kept_text { IfOk result (λ s. HasCleanDisk (state S.Store s.conn) → IsOurs (state S.Store s.conn).now.schema × KeepsText (KeepsOffice office_text.now) (state S.Store s.conn).now.trees) }
+        ensures opened { IfOk result (λ s. HasCleanDisk (state S.Store s.conn) → (office : OfficeFile) × IsOfficeOf office_text.now office × IsOfText (office_of office) office_text.now (state S.Store s.opened.value).now.trees) }
         ensures was_open { IfOk result (λ s. HasCleanDisk (state S.Store s.conn) → HasCleanDisk (state S.Store connection) × IsTrue (state S.Store connection).is_open) }
         ensures idle { IfOk result (λ s. s.begun ≡ false) }
         ensures counts { IfOk result (λ s. (s.failures.count ≡ 0) × (s.failed_abandons.count ≡ 0) × (s.tally.count ≡ 0)) }
@@ -63,6 +65,7 @@ impl<S: Alter> SqlShelf<S> {
         ensures truth { IfOk result (λ s. HasCleanDisk (state S.Store s.conn) → (office : OfficeFile) × IsOfficeOf office_text.now office × IsTrueContent (office_of office) (held_of (state S.Store s.conn) (state S.Store s.base.value))) }
         ensures few { IfOk result (λ s. HasCleanDisk (state S.Store s.conn) → length (held_of (state S.Store s.conn) (state S.Store s.base.value)).records ≤ most_records) }
         ensures kept_text { IfOk result (λ s. HasCleanDisk (state S.Store s.conn) → IsOurs (state S.Store s.conn).now.schema × KeepsText (KeepsOffice office_text.now) (state S.Store s.conn).now.trees) }
+        ensures opened { IfOk result (λ s. HasCleanDisk (state S.Store s.conn) → (office : OfficeFile) × IsOfficeOf office_text.now office × IsOfText (office_of office) office_text.now (state S.Store s.opened.value).now.trees) }
         ensures was_open { IfOk result (λ s. HasCleanDisk (state S.Store s.conn) → HasCleanDisk (state S.Store connection) × IsTrue (state S.Store connection).is_open) }
         ensures idle { IfOk result (λ s. s.begun ≡ false) }
         ensures counts { IfOk result (λ s. (s.failures.count ≡ 0) × (s.failed_abandons.count ≡ 0) × (s.tally.count ≡ 0)) }
@@ -89,6 +92,7 @@ impl<S: Alter> SqlShelf<S> {
         ensures truth { IfOk result (λ s. HasCleanDisk (state S.Store s.conn) → IsTrueContent (office_of office.now) (held_of (state S.Store s.conn) (state S.Store s.base.value))) }
         ensures few { IfOk result (λ s. HasCleanDisk (state S.Store s.conn) → length (held_of (state S.Store s.conn) (state S.Store s.base.value)).records ≤ most_records) }
         ensures kept_text { IfOk result (λ s. HasCleanDisk (state S.Store s.conn) → IsOurs (state S.Store s.conn).now.schema × KeepsText (KeepsOffice office_text.now) (state S.Store s.conn).now.trees) }
+        ensures opened { IfOk result (λ s. HasCleanDisk (state S.Store s.conn) → IsOfText (office_of office.now) office_text.now (state S.Store s.opened.value).now.trees) }
         ensures was_open { IfOk result (λ s. HasCleanDisk (state S.Store s.conn) → HasCleanDisk (state S.Store connection) × IsTrue (state S.Store connection).is_open) }
         ensures idle { IfOk result (λ s. s.begun ≡ false) }
         ensures counts { IfOk result (λ s. (s.failures.count ≡ 0) × (s.failed_abandons.count ≡ 0) × (s.tally.count ≡ 0)) }
@@ -98,10 +102,14 @@ impl<S: Alter> SqlShelf<S> {
     {
         match prepare(alloc, &mut connection, office, office_text, watch) {
             Ok(()) => {
+                // it says that the file lists these tables
+                let _ = connection.schema();
                 let base = Snapshot::of(&connection);
+                let opened = Snapshot::of(&connection);
                 Ok(SqlShelf {
                     conn: connection,
                     base,
+                    opened,
                     begun: false,
                     doubtful: false,
                     failures: zero(),
@@ -121,6 +129,7 @@ impl<S: Alter> SqlShelf<S> {
         let SqlShelf {
             conn,
             base: _,
+            opened: _,
             begun: _,
             doubtful: _,
             failures: _,

@@ -7,6 +7,7 @@ ghost use Rattle.pw_model.specs.Counting.{Member};
 ghost use Rattle.pw_shelf.specs.State.{IsWithRecord};
 ghost use Rattle.pw_store.specs.Content.{content_of, records_of};
 ghost use Rattle.pw_store.specs.Kept.{IsStore};
+ghost use Rattle.pw_store.specs.inner.Changing.{StillKeeps};
 
 use crate::meters::{add_assignment, add_reading};
 use crate::topups::add_topup;
@@ -19,6 +20,7 @@ pub(crate) fn add_entry<S: Alter>(conn: &mut Connection<S>, entry: &Entry) -> Re
     requires store { HasCleanDisk (state S.Store conn.old) → IsStore (state S.Store conn.old).now }
     requires fresh { HasCleanDisk (state S.Store conn.old) → Member entry.now (records_of (state S.Store conn.old).now.trees) → ⊥ }
     ensures store { HasCleanDisk (state S.Store conn.new) → OnOk result (IsStore (state S.Store conn.new).now) }
+    ensures keeps { HasCleanDisk (state S.Store conn.new) → OnOk result (StillKeeps (state S.Store conn.old).now.trees (state S.Store conn.new).now.trees) }
     ensures added { HasCleanDisk (state S.Store conn.new) → IfOk result (λ added. IsTrue added → IsWithRecord (content_of (state S.Store conn.old).now.trees) entry.now (content_of (state S.Store conn.new).now.trees)) }
     ensures inside { HasCleanDisk (state S.Store conn.new) → IfOk result (λ added. IsTrue added → Shows (state S.Store conn.old) (state S.Store conn.new) (state S.Store conn.new).now (state S.Store conn.old).committed true) }
     ensures foreign { HasCleanDisk (state S.Store conn.new) → IfOk result (λ added. (added ≡ false) → conn.new ≡ conn.old) }

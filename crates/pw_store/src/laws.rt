@@ -2,7 +2,7 @@
 //!
 //! No function does anything but call. What counts is its contract.
 
-ghost use Rattle.std.specs.Prelude.{◌≡◌, ◌↔◌, IfOk, IsTrue};
+ghost use Rattle.std.specs.Prelude.{◌≡◌, ◌⊎◌, ◌↔◌, IfErr, IfOk, IsTrue};
 ghost use Rattle.sqlite.specs.Held.{state};
 ghost use Rattle.sqlite.specs.State.{HasCleanDisk};
 ghost use Rattle.sqlite.specs.Tree.{Trees};
@@ -11,6 +11,7 @@ ghost use Rattle.pw_tariff.specs.Text.{IsOfficeOf};
 ghost use Rattle.pw_model.specs.Shelf.{ShelfContent};
 ghost use Rattle.pw_shelf.specs.State.{committed};
 ghost use Rattle.pw_store.specs.Content.{content_of};
+ghost use Rattle.pw_store.specs.Left.{IsLeftBehind, LeftOpens};
 ghost use Rattle.pw_store.specs.Opening.{OpenableOpens};
 
 use crate::fault::OpenFault;
@@ -34,6 +35,29 @@ pub fn store_is_its_tables<S: Alter>(shelf: SqlShelf<S>) -> SqlShelf<S>
 pub fn openable_stores_open()
     ensures { OpenableOpens }
 {}
+
+/// What a crash may leave of a store that was opened with a text, where its content is true, of at most 10,000,000 entries
+/// of the office, is refused with `Store` or `Memory` alone: what `open` says of the cause of a refusal leaves no other.
+pub fn left_stores_open<S: Alter>(shelf: SqlShelf<S>) -> SqlShelf<S>
+    ensures { LeftOpens (state S.Store result.conn) (state S.Store result.opened.value) }
+{
+    shelf
+}
+
+/// Opened with that text, such a store is refused with `Store` or `Memory` alone, or has that content.
+pub fn left_is_opened_again<S: Alter, T: Alter>(
+    alloc: Global,
+    shelf: &SqlShelf<S>,
+    found: Connection<T>,
+    office_text: &[u8],
+) -> Result<SqlShelf<T>, (OpenFault, Connection<T>)>
+    requires { (office : OfficeFile) × IsOfficeOf office_text.now office }
+    ensures refused { IsLeftBehind (state S.Store shelf.entry.now.conn) (state S.Store shelf.entry.now.opened.value) office_text.now (state T.Store found) → IfErr result (λ e. HasCleanDisk (state T.Store e.1) → (e.0 ≡ OpenFault.Store) ⊎ (e.0 ≡ OpenFault.Memory)) }
+    ensures content { IsLeftBehind (state S.Store shelf.entry.now.conn) (state S.Store shelf.entry.now.opened.value) office_text.now (state T.Store found) → IfOk result (λ s. HasCleanDisk (state T.Store s.conn) → (⟦<SqlShelf<T> as Shelf>⟧.state s).content ≡ content_of (state T.Store found).committed.trees) }
+{
+    let _ = shelf;
+    SqlShelf::open(alloc, found, office_text)
+}
 
 /// A store that is closed and opened again holds what was committed last: where an upload was still begun, what it began
 /// with.

@@ -6,6 +6,7 @@ ghost use Rattle.sqlite.specs.State.{HasCleanDisk, IsUnchanged, IsRolledBack, Sh
 ghost use Rattle.pw_model.specs.Counting.{Member, contents_at};
 ghost use Rattle.pw_shelf.specs.Rows.{IsAssignmentOf, IsReadingOf};
 ghost use Rattle.pw_store.specs.Kept.{IsStore};
+ghost use Rattle.pw_store.specs.inner.Changing.{StillKeeps};
 ghost use Rattle.pw_store.specs.inner.Lists.{ShowsKept};
 ghost use Rattle.pw_schema.specs.Rows.{contents_of, told_content};
 ghost use Rattle.pw_model.specs.declared.records.Key.TheVariants as key;
@@ -31,6 +32,7 @@ pub(crate) fn add_reading<S: Alter>(
     requires store { HasCleanDisk (state S.Store conn.old) → IsStore (state S.Store conn.old).now }
     requires fresh { HasCleanDisk (state S.Store conn.old) → Member (reading_entry meter register instant wh) (records_of (state S.Store conn.old).now.trees) → ⊥ }
     ensures store { HasCleanDisk (state S.Store conn.new) → OnOk result (IsStore (state S.Store conn.new).now) }
+    ensures keeps { HasCleanDisk (state S.Store conn.new) → OnOk result (StillKeeps (state S.Store conn.old).now.trees (state S.Store conn.new).now.trees) }
     ensures added { HasCleanDisk (state S.Store conn.new) → OnOk result (IsWithRecord (content_of (state S.Store conn.old).now.trees) (reading_entry meter register instant wh) (content_of (state S.Store conn.new).now.trees)) }
     ensures inside { HasCleanDisk (state S.Store conn.new) → OnOk result (Shows (state S.Store conn.old) (state S.Store conn.new) (state S.Store conn.new).now (state S.Store conn.old).committed true) }
     ensures failed { HasCleanDisk (state S.Store conn.new) → OnErr result (IsUnchanged (state S.Store conn.old) (state S.Store conn.new) ⊎ IsRolledBack (state S.Store conn.old) (state S.Store conn.new)) }
@@ -58,6 +60,7 @@ pub(crate) fn add_assignment<S: Alter>(
     requires store { HasCleanDisk (state S.Store conn.old) → IsStore (state S.Store conn.old).now }
     requires fresh { HasCleanDisk (state S.Store conn.old) → Member (assignment_entry meter start owner) (records_of (state S.Store conn.old).now.trees) → ⊥ }
     ensures store { HasCleanDisk (state S.Store conn.new) → OnOk result (IsStore (state S.Store conn.new).now) }
+    ensures keeps { HasCleanDisk (state S.Store conn.new) → OnOk result (StillKeeps (state S.Store conn.old).now.trees (state S.Store conn.new).now.trees) }
     ensures added { HasCleanDisk (state S.Store conn.new) → OnOk result (IsWithRecord (content_of (state S.Store conn.old).now.trees) (assignment_entry meter start owner) (content_of (state S.Store conn.new).now.trees)) }
     ensures inside { HasCleanDisk (state S.Store conn.new) → OnOk result (Shows (state S.Store conn.old) (state S.Store conn.new) (state S.Store conn.new).now (state S.Store conn.old).committed true) }
     ensures failed { HasCleanDisk (state S.Store conn.new) → OnErr result (IsUnchanged (state S.Store conn.old) (state S.Store conn.new) ⊎ IsRolledBack (state S.Store conn.old) (state S.Store conn.new)) }

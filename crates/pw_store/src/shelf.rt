@@ -2,7 +2,8 @@
 
 ghost use Rattle.sqlite.specs.Held.{state};
 ghost use Rattle.pw_store.specs.Kept.{BaseIsOnce, NowIsStore, CommittedIsStore, IsSinceBase, IsIdle, IsInside, IsAwake};
-ghost use Rattle.pw_store.specs.lemmas.OneProof.{BaseIsOnce-prop, NowIsStore-prop, CommittedIsStore-prop, IsSinceBase-prop, IsIdle-prop, IsInside-prop, IsAwake-prop};
+ghost use Rattle.pw_store.specs.lemmas.OneProof.{BaseIsOnce-prop, NowIsStore-prop, CommittedIsStore-prop, IsSinceBase-prop, IsIdle-prop, IsInside-prop, IsAwake-prop, KeepsOpened-prop};
+ghost use Rattle.pw_store.specs.Left.{KeepsOpened};
 
 use pw_shelf::Tally;
 use sqlite::{Alter, Connection};
@@ -14,6 +15,8 @@ pub struct SqlShelf<S: Alter> {
     pub(crate) conn: Connection<S>,
     // the connection as it was when the last upload ended
     pub(crate) base: Snapshot<Connection<S>>,
+    // the connection as it was when the store was opened
+    pub(crate) opened: Snapshot<Connection<S>>,
     pub(crate) begun: bool,
     // a statement has failed, so the connection may be shut
     pub(crate) doubtful: bool,
@@ -27,4 +30,5 @@ pub struct SqlShelf<S: Alter> {
     ghost idle: { IsIdle (state S.Store conn) begun } by { IsIdle-prop (state S.Store conn) begun },
     ghost inside: { IsInside (state S.Store conn) } by { IsInside-prop (state S.Store conn) },
     ghost awake: { IsAwake (state S.Store conn) doubtful } by { IsAwake-prop (state S.Store conn) doubtful },
+    ghost keeps: { KeepsOpened (state S.Store conn) (state S.Store opened.value) } by { KeepsOpened-prop (state S.Store conn) (state S.Store opened.value) },
 }

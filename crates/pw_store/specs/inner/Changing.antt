@@ -1,5 +1,5 @@
--- What a statement within an upload makes of a store. It serves `src/points.rt`, `src/starts.rt`, `src/totals.rt` and
--- `src/changes.rt`.
+-- What a statement within an upload makes of a store. It serves `src/points.rt`, `src/starts.rt`, `src/totals.rt`,
+-- `src/changes.rt`, `src/meters.rt`, `src/topups.rt` and `src/entries.rt`.
 -- (Definitions of this project.)
 use Rattle.std.specs.Prelude.{◌≡◌, ◌<◌, ◌^◌, Some, None, true}
 use Rattle.sqlite.specs.Tree.{Trees}
@@ -11,10 +11,16 @@ use Rattle.pw_store.specs.declared.changes.Change.{Change}
 use Rattle.pw_store.specs.declared.changes.Change.TheVariants.{TakePoint, PutPoint, TakeStart, PutStart, TakeEnergy, PutEnergy, TakePayment, PutPayment}
 use Rattle.pw_store.specs.Content.{content_of, point_in, start_in, energy_told, payment_told, point_tree, start_tree, total_tree, payment_tree}
 use Rattle.pw_store.specs.Kept.{IsStore}
+use Rattle.pw_store.specs.Left.{Keeps}
 
--- it stays a store, with this content, and the upload goes on
+-- whatever the old trees keep, the new ones do
+abbrev pub StillKeeps : Trees → Trees → Type 0
+StillKeeps old new = (before : Trees) → Keeps before old → Keeps before new
+
+-- it stays a store, with this content, and keeps what it has kept; and the upload goes on
 pub record Makes (made : ShelfContent → ShelfContent) (old new : State) : Type 0 where
   pub store : IsStore new.now
+  pub keeps : StillKeeps old.now.trees new.now.trees
   pub content : content_of new.now.trees ≡ made (content_of old.now.trees)
   pub shows : Shows old new new.now old.committed true
 
@@ -45,8 +51,8 @@ IsTaken (TakeEnergy o b d) db = energy_told (db total_tree) (total.Energy o b d)
 IsTaken (TakePayment a) db = payment_told (db payment_tree) (total.TopUps a) ≡ None
 IsTaken _ db = Unit {0}
 
--- an amount fits a column
+-- an amount is above 0, and fits a column
 abbrev pub Fits : Change → Type 0
-Fits (PutEnergy o b d w) = w < 2 ^ 63
-Fits (PutPayment a n) = n < 2 ^ 63
+Fits (PutEnergy o b d w) = (0 < w) × (w < 2 ^ 63)
+Fits (PutPayment a n) = (0 < n) × (n < 2 ^ 63)
 Fits _ = Unit {0}

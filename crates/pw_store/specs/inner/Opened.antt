@@ -18,7 +18,7 @@ use Rattle.pw_store.specs.declared.fault.OpenFault.TheVariants.{Store, Memory, O
 use Rattle.pw_model.specs.Shelf.{no_content, IsTrueContent}
 use Rattle.pw_store.specs.Content.{content_of, records_of}
 use Rattle.pw_store.specs.Kept.{IsStore}
-use Rattle.pw_store.specs.Opening.{KeepsText, HoldsRecords, HoldsKept, HoldsTotals, HoldsSums, HasNoRow, HoldsAllRecords}
+use Rattle.pw_store.specs.Opening.{KeepsText, NamesOffice, HoldsRecords, HoldsKept, HoldsTotals, HoldsSums, HasNoRow, HoldsAllRecords}
 
 -- a connection that was open and is, and inside of no transaction
 pub record IsSettled (old new : State) : Type 0 where
@@ -36,6 +36,7 @@ amount_of_total Payments r = number (column r 2)
 pub record MayOpen (office : OfficeRules) (body : List ℕ) (db : Database) : Type 0 where
   pub store : IsStore db
   pub kept : KeepsText (KeepsOffice body) db.trees
+  pub named : NamesOffice office db.trees
   pub of_office : AllOfOffice office (records_of db.trees)
   pub few : length (records_of db.trees) ≤ most_records
   pub truth : IsTrueContent office (content_of db.trees)

@@ -1,18 +1,22 @@
 -- What is kept of a store has one proof at most.
 use Rattle.std.specs.Prelude.{◌≡◌, List, map, Bool, true}
+use mathlib.Core.HLevel.{⊥_prop}
 use Rattle.std.specs.Coded.{×_prop, Π_prop, Coded-set}
 use mathlib.Core.Bool.{Bool-set}
 use Rattle.sqlite.specs.Order.{Row}
-use Rattle.sqlite.specs.Tree.{rowid}
+use Rattle.sqlite.specs.Tree.{Trees, rowid}
+use Rattle.sqlite_trees.specs.Objects.{catalog_tree}
 use Rattle.sqlite.specs.Effect.{Database}
 use Rattle.sqlite.specs.State.{State as Sql}
-use Rattle.sqlite_trees.specs.Props.{Trees-set, AllByRecursion-prop}
+use Rattle.sqlite_trees.specs.Props.{Trees-set, rows_set, AllByRecursion-prop}
 use Rattle.sqlite_value.specs.declared.value.Value.{Value}
 use Rattle.sqlite_value.specs.contracts.value.Value as value
 use Rattle.sqlite_schema.specs.contracts.schema.Schema as schema_row
 use Rattle.pw_shelf.specs.inner.Held.{EachOnce-prop}
 use Rattle.pw_store.specs.Content.{IsReadingRow, IsAssignmentRow, IsTopupRow, energy_in, payment_in, reading_tree, assignment_tree, topup_tree, point_tree, start_tree, total_tree, payment_tree, records_of}
 use Rattle.pw_store.specs.Keyed.{AreKeyed, HasRowid, IsEnergyRow, IsPaymentRow}
+use Rattle.pw_store.specs.Opening.{AreRows, HasRows}
+use Rattle.pw_store.specs.Left.{IsOldEnergy, IsOldPayment, Keeps, IsLeftOf, KeepsOpened}
 use Rattle.pw_store.specs.Kept.{key_in_point, key_in_start, IsStore, BaseIsOnce, NowIsStore, CommittedIsStore, IsSinceBase, IsIdle, IsInside, IsAwake}
 
 -- ---- a fact has one proof at most
@@ -75,3 +79,41 @@ IsInside-prop s = Π_prop λ _. Π_prop λ _. Bool-set s.is_open true
 
 pub IsAwake-prop : (s : Sql) (doubtful : Bool) → IsProp (IsAwake s doubtful)
 IsAwake-prop s doubtful = Π_prop λ _. Π_prop λ _. Bool-set s.is_open true
+
+-- ---- what is kept of the store that was opened
+AreRows-prop : {K : Type 0} (IsRow : Row → Type 0) → ((r : Row) → IsProp (IsRow r)) → (key_in : Row → K) (rows : List Row) → IsProp (AreRows IsRow key_in rows)
+AreRows-prop IsRow prop key_in rows a b = λ i. record {
+  each = AllByRecursion-prop IsRow prop rows a.each b.each i;
+  once = EachOnce-prop (map key_in rows) a.once b.once i;
+}
+
+HasRows-prop : (db : Trees) → IsProp (HasRows db)
+HasRows-prop db a b = λ i. record {
+  readings = AllByRecursion-prop IsReadingRow IsReadingRow-prop (db reading_tree) a.readings b.readings i;
+  assignments = AllByRecursion-prop IsAssignmentRow IsAssignmentRow-prop (db assignment_tree) a.assignments b.assignments i;
+  topups = AllByRecursion-prop IsTopupRow IsTopupRow-prop (db topup_tree) a.topups b.topups i;
+  once = EachOnce-prop (records_of db) a.once b.once i;
+  points = AreRows-prop IsReadingRow IsReadingRow-prop key_in_point (db point_tree) a.points b.points i;
+  starts = AreRows-prop IsAssignmentRow IsAssignmentRow-prop key_in_start (db start_tree) a.starts b.starts i;
+  energies = AreRows-prop IsEnergyRow IsEnergyRow-prop energy_in (db total_tree) a.energies b.energies i;
+  payments = AreRows-prop IsPaymentRow IsPaymentRow-prop payment_in (db payment_tree) a.payments b.payments i;
+}
+
+Keeps-prop : (before db : Trees) → IsProp (Keeps before db)
+Keeps-prop before db a b = λ i. record {
+  listed = rows_set (db catalog_tree) (before catalog_tree) a.listed b.listed i;
+  office = rows_set (db 0) (before 0) a.office b.office i;
+  energies = AllByRecursion-prop (IsOldEnergy before) (λ r. Π_prop λ _. Π_prop λ _. ⊥_prop) (db total_tree) a.energies b.energies i;
+  payments = AllByRecursion-prop (IsOldPayment before) (λ r. Π_prop λ _. Π_prop λ _. ⊥_prop) (db payment_tree) a.payments b.payments i;
+}
+
+IsLeftOf-prop : (s opened : Sql) → IsProp (IsLeftOf s opened)
+IsLeftOf-prop s opened a b = λ i. record {
+  ours = Π_prop (λ found. Π_prop λ _. Π_prop λ _. Coded-set schema_row.the_row.coded found.schema _) a.ours b.ours i;
+  now = Π_prop (λ _. Keeps-prop opened.now.trees s.now.trees) a.now b.now i;
+  committed = Π_prop (λ _. Keeps-prop opened.now.trees s.committed.trees) a.committed b.committed i;
+  left = Π_prop (λ db. Π_prop λ _. ×_prop (HasRows-prop db) (Keeps-prop opened.now.trees db)) a.left b.left i;
+}
+
+pub KeepsOpened-prop : (s opened : Sql) → IsProp (KeepsOpened s opened)
+KeepsOpened-prop s opened = Π_prop λ _. IsLeftOf-prop s opened

@@ -1,6 +1,6 @@
 use Rattle.sqlite.specs.Held.{state}
 use Rattle.pw_store.proofs.Texts.{add_reading_text, add_reading_is, four_terms}
-use Rattle.pw_store.proofs.Adding.{stores_reading_if, adds_reading_if, inside_if, insert_fails, insert_survives}
+use Rattle.pw_store.proofs.Adding.{stores_reading_if, adds_reading_if, keeps_reading_if, inside_if, insert_fails, insert_survives}
 use Rattle.pw_schema.proofs.Outcomes.{early}
 use Rattle.pw_store.proofs.meters.add_reading.Goals as goal
 
@@ -14,6 +14,12 @@ pub returns-clause-added : goal.returns-clause-added
 returns-clause-added g c clean =
     let before = early (state g.S.Store c.args.conn.now) (state g.S.Store c.execute.new.self) c.execute.ensures.survives clean in
     adds_reading_if (state g.S.Store c.args.conn.now) (state g.S.Store c.execute.new.self) c.args.meter c.args.register c.args.instant c.args.wh c.execute.result (c.requires.store before)
+    (rw (c.integer.ensures, c.integer-2.ensures, c.integer-3.ensures, c.wide.ensures, c.from.ensures, c.register_place.ensures, c.seconds.ensures.value, c.get.ensures.value) at (c.execute.ensures.runs clean))
+
+pub returns-clause-keeps : goal.returns-clause-keeps
+returns-clause-keeps g c clean =
+    let before = early (state g.S.Store c.args.conn.now) (state g.S.Store c.execute.new.self) c.execute.ensures.survives clean in
+    keeps_reading_if (state g.S.Store c.args.conn.now) (state g.S.Store c.execute.new.self) c.args.meter c.args.register c.args.instant c.args.wh c.execute.result (c.requires.store before)
     (rw (c.integer.ensures, c.integer-2.ensures, c.integer-3.ensures, c.wide.ensures, c.from.ensures, c.register_place.ensures, c.seconds.ensures.value, c.get.ensures.value) at (c.execute.ensures.runs clean))
 
 pub returns-clause-inside : goal.returns-clause-inside

@@ -1,6 +1,6 @@
 use Rattle.sqlite.specs.Held.{state}
 use Rattle.pw_store.proofs.Texts.{add_topup_text, add_topup_is, four_terms}
-use Rattle.pw_store.proofs.Adding.{stores_topup_if, adds_topup_if, inside_if, insert_fails, insert_survives}
+use Rattle.pw_store.proofs.Adding.{stores_topup_if, adds_topup_if, keeps_topup_if, inside_if, insert_fails, insert_survives}
 use Rattle.pw_schema.proofs.Outcomes.{early}
 use Rattle.pw_store.proofs.topups.add_topup.Goals as goal
 
@@ -14,6 +14,12 @@ pub returns-clause-added : goal.returns-clause-added
 returns-clause-added g c clean =
     let before = early (state g.S.Store c.args.conn.now) (state g.S.Store c.execute.new.self) c.execute.ensures.survives clean in
     adds_topup_if (state g.S.Store c.args.conn.now) (state g.S.Store c.execute.new.self) c.args.reference.now c.args.account.0 c.args.cents c.args.instant c.execute.result (c.requires.store before)
+    (rw (c.words.ensures, c.integer.ensures, c.integer-2.ensures, c.integer-3.ensures, c.from.ensures, c.seconds.ensures.value) at (c.execute.ensures.runs clean))
+
+pub returns-clause-keeps : goal.returns-clause-keeps
+returns-clause-keeps g c clean =
+    let before = early (state g.S.Store c.args.conn.now) (state g.S.Store c.execute.new.self) c.execute.ensures.survives clean in
+    keeps_topup_if (state g.S.Store c.args.conn.now) (state g.S.Store c.execute.new.self) c.args.reference.now c.args.account.0 c.args.cents c.args.instant c.execute.result (c.requires.store before)
     (rw (c.words.ensures, c.integer.ensures, c.integer-2.ensures, c.integer-3.ensures, c.from.ensures, c.seconds.ensures.value) at (c.execute.ensures.runs clean))
 
 pub returns-clause-inside : goal.returns-clause-inside

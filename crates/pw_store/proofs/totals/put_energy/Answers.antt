@@ -9,7 +9,7 @@ use Rattle.pw_store.proofs.totals.put_energy.Goals as goal
 pub returns-clause-done : goal.returns-clause-done
 returns-clause-done g c clean =
     let before = early (state g.S.Store c.args.conn.now) (state g.S.Store c.execute.new.self) c.execute.ensures.survives clean in
-    puts_if (state g.S.Store c.args.conn.now) (state g.S.Store c.execute.new.self) c.args.owner c.args.band c.args.direction c.args.wh c.execute.result (c.requires.store before) (c.requires.inside before) (c.requires.free before)
+    puts_if (state g.S.Store c.args.conn.now) (state g.S.Store c.execute.new.self) c.args.owner c.args.band c.args.direction c.args.wh c.execute.result c.requires.fits.0 (c.requires.store before) (c.requires.inside before) (c.requires.free before)
     (rw (c.integer.ensures, c.integer-2.ensures, c.integer-3.ensures, c.owner_place.ensures, c.from.ensures, c.direction_place.ensures, c.wide.ensures) at (c.execute.ensures.runs clean))
 
 pub returns-clause-failed : goal.returns-clause-failed

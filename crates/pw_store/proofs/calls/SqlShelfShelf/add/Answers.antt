@@ -1,5 +1,6 @@
 use Rattle.sqlite.specs.Held.{state}
 use Rattle.pw_store.proofs.Keeping.{with_held}
+use Rattle.pw_store.proofs.LeftStores.{keeps_failed, keeps_written}
 use Rattle.pw_store.proofs.calls.SqlShelfShelf.add.Goals as goal
 
 pub returns-in-Ok-true-clause-added : goal.returns-in-Ok-true-clause-added
@@ -7,3 +8,13 @@ returns-in-Ok-true-clause-added g c clean =
     let self = c.args.self.now in
     let shown = c.in-Ok-true.ensures.inside clean c.in-Ok-true.field-0-test in
     with_held (state g.S.Store self.conn) (state g.S.Store c.add_entry.new.conn) (state g.S.Store self.base.value) c.args.entry.now shown.was_open shown.is_open (c.in-Ok-true.ensures.added clean c.in-Ok-true.field-0-test)
+
+pub invariant_of-self-in-Ok-true-clause-keeps : goal.invariant_of-self-in-Ok-true-clause-keeps
+invariant_of-self-in-Ok-true-clause-keeps g c =
+    let self = c.args.self.now in
+    keeps_written (state g.S.Store self.conn) (state g.S.Store c.add_entry.new.conn) (state g.S.Store self.opened.value) self.keeps c.in-Ok-true.ensures.crash (λ clean. c.in-Ok-true.ensures.inside clean c.in-Ok-true.field-0-test) c.in-Ok-true.ensures.keeps
+
+pub invariant_of-self-in-Err-clause-keeps : goal.invariant_of-self-in-Err-clause-keeps
+invariant_of-self-in-Err-clause-keeps g c =
+    let self = c.args.self.now in
+    keeps_failed (state g.S.Store self.conn) (state g.S.Store c.add_entry.new.conn) (state g.S.Store self.opened.value) self.keeps c.in-Err.ensures.crash c.in-Err.ensures.failed

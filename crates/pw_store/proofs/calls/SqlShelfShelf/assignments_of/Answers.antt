@@ -5,6 +5,7 @@ use Rattle.pw_shelf.specs.Rows.{ListsAssignments}
 use Rattle.pw_schema.proofs.Outcomes.{early}
 use Rattle.pw_store.proofs.Inside.{held_live}
 use Rattle.pw_store.proofs.Keeping.{failed_same, left_no_more}
+use Rattle.pw_store.proofs.LeftStores.{keeps_failed, keeps_same}
 use Rattle.pw_store.proofs.calls.SqlShelfShelf.assignments_of.Goals as goal
 
 pub returns-in-Ok-clause-rows : goal.returns-in-Ok-clause-rows
@@ -29,3 +30,13 @@ returns-in-Err-clause-asked g c =
         clean = early old new c.in-Err.ensures.crash;
       };
     }
+
+pub invariant_of-self-clause-keeps : goal.invariant_of-self-clause-keeps
+invariant_of-self-clause-keeps g c =
+    let self = c.args.self.now in
+    keeps_same (state g.S.Store self.conn) (state g.S.Store c.assignments.new.conn) (state g.S.Store self.opened.value) self.keeps c.in-Ok.ensures.crash c.in-Ok.ensures.same
+
+pub invariant_of-self-in-Err-clause-keeps : goal.invariant_of-self-in-Err-clause-keeps
+invariant_of-self-in-Err-clause-keeps g c =
+    let self = c.args.self.now in
+    keeps_failed (state g.S.Store self.conn) (state g.S.Store c.assignments.new.conn) (state g.S.Store self.opened.value) self.keeps c.in-Err.ensures.crash c.in-Err.ensures.failed

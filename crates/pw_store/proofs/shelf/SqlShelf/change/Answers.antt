@@ -1,7 +1,18 @@
 use Rattle.sqlite.specs.Held.{state}
 use Rattle.pw_store.specs.inner.Changing.{changed}
 use Rattle.pw_store.proofs.Keeping.{held_made}
+use Rattle.pw_store.proofs.LeftStores.{keeps_failed, keeps_written}
 use Rattle.pw_store.proofs.shelf.SqlShelf.change.Goals as goal
+
+pub invariant_of-self-in-Ok-clause-keeps : goal.invariant_of-self-in-Ok-clause-keeps
+invariant_of-self-in-Ok-clause-keeps g c =
+    let self = c.args.self.now in
+    keeps_written (state g.S.Store self.conn) (state g.S.Store c.make.new.conn) (state g.S.Store self.opened.value) self.keeps c.in-Ok.ensures.crash (λ clean. (c.in-Ok.ensures.done clean).shows) (λ clean. (c.in-Ok.ensures.done clean).keeps)
+
+pub invariant_of-self-in-Err-clause-keeps : goal.invariant_of-self-in-Err-clause-keeps
+invariant_of-self-in-Err-clause-keeps g c =
+    let self = c.args.self.now in
+    keeps_failed (state g.S.Store self.conn) (state g.S.Store c.make.new.conn) (state g.S.Store self.opened.value) self.keeps c.in-Err.ensures.crash c.in-Err.ensures.failed
 
 pub returns-in-Ok-clause-content : goal.returns-in-Ok-clause-content
 returns-in-Ok-clause-content g c clean =

@@ -1,0 +1,13 @@
+use Rattle.sqlite.specs.Held.{state}
+use Rattle.pw_store.proofs.LeftStores.{keeps_failed, keeps_undone}
+use Rattle.pw_store.proofs.calls.SqlShelfShelf.abandon.Goals as goal
+
+pub invariant_of-self-in-Ok-clause-keeps : goal.invariant_of-self-in-Ok-clause-keeps
+invariant_of-self-in-Ok-clause-keeps g c =
+    let self = c.args.self.now in
+    keeps_undone (state g.S.Store self.conn) (state g.S.Store c.roll_back.new.conn) (state g.S.Store self.opened.value) self.keeps c.in-Ok.ensures.crash c.in-Ok.ensures.undone
+
+pub invariant_of-self-in-Err-clause-keeps : goal.invariant_of-self-in-Err-clause-keeps
+invariant_of-self-in-Err-clause-keeps g c =
+    let self = c.args.self.now in
+    keeps_failed (state g.S.Store self.conn) (state g.S.Store c.roll_back.new.conn) (state g.S.Store self.opened.value) self.keeps c.in-Err.ensures.crash c.in-Err.ensures.failed

@@ -1,0 +1,75 @@
+-- What each database that a crash may leave keeps of the store that was opened.
+-- (Definitions of this project.)
+use Rattle.std.specs.Prelude.{◌≡◌, ◌⊎◌, ℕ, None, IsTrue, List, ◌≤◌, length}
+use Rattle.std.specs.List.{AllByRecursion}
+use Rattle.sqlite.specs.Order.{Row, column}
+use Rattle.sqlite.specs.Tree.{Trees}
+use Rattle.sqlite.specs.Effect.{Database, IsDatabase}
+use Rattle.sqlite.specs.State.{State as Sql, HasCleanDisk}
+use Rattle.sqlite_trees.specs.Objects.{catalog_tree}
+use Rattle.pw_tariff.specs.Office.{OfficeFile, OfficeRules, office_of}
+use Rattle.pw_tariff.specs.Text.{IsOfficeOf}
+use Rattle.pw_model.specs.Office.{AllOfOffice, most_records}
+use Rattle.pw_model.specs.Shelf.{IsTrueContent, ShelfContent}
+use Rattle.pw_schema.specs.Judging.{KeepsOffice}
+use Rattle.pw_schema.specs.Rows.{number}
+use Rattle.pw_schema.specs.Tables.{IsOurs}
+use Rattle.pw_store.specs.Content.{content_of, energy_in, energy_told, payment_in, payment_told, payment_tree, total_tree}
+use Rattle.pw_store.specs.declared.fault.OpenFault.{OpenFault}
+use Rattle.pw_store.specs.declared.fault.OpenFault.TheVariants.{Store, Memory}
+use Rattle.pw_store.specs.Opening.{HasRows, KeepsText, NamesOffice, Refuses}
+
+-- ---- what is kept of earlier trees
+-- a total of 0 has a key that had a row there
+abbrev pub IsOldEnergy : Trees → Row → Type 0
+IsOldEnergy before r = number (column r 4) ≡ 0 → energy_told (before total_tree) (energy_in r) ≡ None → ⊥
+
+abbrev pub IsOldPayment : Trees → Row → Type 0
+IsOldPayment before r = number (column r 2) ≡ 0 → payment_told (before payment_tree) (payment_in r) ≡ None → ⊥
+
+-- the list of tables and the rows of `office` are the same, and no total of 0 was put
+pub record Keeps (before db : Trees) : Type 0 where
+  pub listed : db catalog_tree ≡ before catalog_tree
+  pub office : db 0 ≡ before 0
+  pub energies : AllByRecursion (IsOldEnergy before) (db total_tree)
+  pub payments : AllByRecursion (IsOldPayment before) (db payment_tree)
+
+-- ---- what the fields keep to: of a connection, and of it as it was when the store was opened
+pub record IsLeftOf (s opened : Sql) : Type 0 where
+  -- a database with that list of tables has our tables
+  pub ours : (found : Database) → IsDatabase found → found.trees catalog_tree ≡ opened.now.trees catalog_tree → IsOurs found.schema
+  pub now : IsTrue s.is_open → Keeps opened.now.trees s.now.trees
+  pub committed : IsTrue s.is_open → Keeps opened.now.trees s.committed.trees
+  pub left : (db : Trees) → s.may_leave db → HasRows db × Keeps opened.now.trees db
+
+abbrev pub KeepsOpened : Sql → Sql → Type 0
+KeepsOpened s opened = HasCleanDisk s → IsLeftOf s opened
+
+-- ---- what a crash leaves opens again
+-- the tables of a store of this office and text
+abbrev pub IsOfText : OfficeRules → List ℕ → Trees → Type 0
+IsOfText office body db = KeepsText (KeepsOffice body) db × NamesOffice office db
+
+-- a true content of at most 10,000,000 entries of the office
+pub record IsSoundOf (office : OfficeRules) (c : ShelfContent) : Type 0 where
+  pub of_office : AllOfOffice office c.records
+  pub few : length c.records ≤ most_records
+  pub truth : IsTrueContent office c
+
+-- a database that a crash may leave of a store of this office and text, with such a content
+pub record IsLeftSound (s opened : Sql) (office : OfficeRules) (body : List ℕ) (found : Database) : Type 0 where
+  pub clean : HasCleanDisk s
+  pub text : IsOfText office body opened.now.trees
+  pub database : IsDatabase found
+  pub left : s.may_leave found.trees
+  pub sound : IsSoundOf office (content_of found.trees)
+
+-- what is found refuses it only for the engine's sake, or for memory
+abbrev pub LeftOpens : Sql → Sql → Type 0
+LeftOpens s opened =
+    (office : OfficeFile) (body : List ℕ) (found : Database) → IsOfficeOf body office → IsLeftSound s opened (office_of office) body found
+    → (fault : OpenFault) → Refuses (office_of office) body found fault → (fault ≡ Store) ⊎ (fault ≡ Memory)
+
+-- so it is of what a connection has committed, and of the office of the text
+abbrev pub IsLeftBehind : Sql → Sql → List ℕ → Sql → Type 0
+IsLeftBehind s opened body found = (office : OfficeFile) → IsOfficeOf body office → IsLeftSound s opened (office_of office) body found.committed
