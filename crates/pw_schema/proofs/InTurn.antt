@@ -10,12 +10,8 @@ use Rattle.pw_model.specs.Counting.{Member}
 use Rattle.pw_model.specs.Lists.{IsInOrder, IsBeforeAll}
 use Rattle.pw_model.proofs.EntryOrder.{entry-total}
 use Rattle.pw_schema.specs.declared.kind.RecordKind.{RecordKind}
+use Rattle.pw_schema.specs.Judges.{IsLast}
 use Rattle.pw_schema.specs.Rows.{told, Tells, ReadsRows}
-
--- the last of a list, if it has one
-abbrev pub IsLast : Option Entry → List Entry → Type 0
-IsLast None xs = xs ≡ []
-IsLast (Some e) xs = (front : List Entry) × (xs ≡ front ++ e ∷ [])
 
 all_push : {X : Type 0} (P : X → Type 0) (x : X) (xs : List X) → AllByRecursion P xs → P x → AllByRecursion P (xs ++ x ∷ [])
 all_push P x [] all one = (one, tt)

@@ -1,7 +1,6 @@
 -- Rows that are judged one by one, in the order of their keys.
-use Rattle.std.proofs.Common.{◌≡◌, ◌<◌, ◌≤◌, ◌+◌, ℕ, List, [], ◌∷◌, ◌++◌, map, length, take, get_or, Option, option_map, Some, None, IfSome, IfNone, refl, sym, ap, subst, ◌∙◌, inl, inr, nat_cmp, Ordering, Equal}
+use Rattle.std.proofs.Common.{◌≡◌, ℕ, List, [], ◌∷◌, ◌++◌, map, Option, option_map, Some, None, IfSome, IfNone, refl, sym, ap, subst, ◌∙◌, inl, inr, nat_cmp, Ordering, Equal}
 use Rattle.std.proofs.lemmas.List.{map-append}
-use Rattle.std.specs.List.{AllByRecursion}
 use Rattle.std.specs.Cmp.Lexicographic.{slice_cmp, nat_list_cmp_total}
 use Rattle.std.proofs.lemmas.Cmp.{tied_itself}
 use Rattle.std.specs.declared.cmp.Ordering.TheVariants.{Less}
@@ -10,16 +9,12 @@ use Rattle.pw_model.specs.Counting.{Member, EachOnce}
 use Rattle.pw_model.specs.Lists.{IsInOrder, IsBeforeAll}
 use Rattle.pw_model.proofs.EntryOrder.{numbers-tie}
 use Rattle.pw_model.proofs.InOrder.{before-member}
-use Rattle.pw_schema.proofs.Judged.{once_at, all_push, take_end}
+use Rattle.pw_schema.specs.Judges.{IsLastKey}
+use Rattle.pw_schema.proofs.OneByOne.{once_mid}
 
 module _ {X K : Type 0} (f : X → K) (num : K → List ℕ) (one : (k l : K) → num k ≡ num l → k ≡ l) where
   abbrev order : X → X → Ordering
   order x y = slice_cmp nat_cmp (num (f x)) (num (f y))
-
-  -- the key of the last of a list, if it has one
-  abbrev pub IsLastKey : Option K → List X → Type 0
-  IsLastKey None xs = xs ≡ []
-  IsLastKey (Some k) xs = (front : List X) × (x : X) × (f x ≡ k) × (xs ≡ front ++ x ∷ [])
 
   apart : (x y : X) → order x y ≡ Less → f x ≡ f y → ⊥
   apart x y less same = let tie : order x y ≡ Equal = ap (λ k. slice_cmp nat_cmp (num (f x)) (num k)) (sym same) ∙ tied_itself nat_list_cmp_total (num (f x)) in cc
@@ -42,7 +37,7 @@ module _ {X K : Type 0} (f : X → K) (num : K → List ℕ) (one : (k l : K) �
   rising_push e [] h l = (tt, tt)
   rising_push e (z ∷ xs) h l = (before_push z e xs h.0 (l z (inl refl)), rising_push e xs h.1 (λ x m. l x (inr m)))
 
-  pub key_push : (last : Option K) (found : List X) (e : X) → IsInOrder order found → IsLastKey last found → IfSome last (λ l. slice_cmp nat_cmp (num l) (num (f e)) ≡ Less) → IsInOrder order (found ++ e ∷ [])
+  pub key_push : (last : Option K) (found : List X) (e : X) → IsInOrder order found → IsLastKey f last found → IfSome last (λ l. slice_cmp nat_cmp (num l) (num (f e)) ≡ Less) → IsInOrder order (found ++ e ∷ [])
   key_push None found e rising is low = subst (λ xs. IsInOrder order (xs ++ e ∷ [])) (sym is) (tt, tt)
   key_push (Some k) found e rising is low =
       rising_push e found rising (λ x m. all_before is.0 is.1 e (subst (IsInOrder order) is.3 rising) (subst (λ j. slice_cmp nat_cmp (num j) (num (f e)) ≡ Less) (sym is.2) low) x (subst (Member x) is.3 m))
@@ -64,14 +59,14 @@ module _ {X K : Type 0} (f : X → K) (num : K → List ℕ) (one : (k l : K) �
   member_key (y ∷ front) x = inr (member_key front x)
 
   -- the key of the last that was read stands there again
-  pub key_twice : (told : Row → X) (rows : List Row) (i : ℕ) (row : Row) (found : List X) (last : Option K) (e : X) → i < length rows → row ≡ get_or rows i row → found ≡ map told (take i rows) → IsLastKey last found → e ≡ told row
-      → IfSome last (λ l. slice_cmp nat_cmp (num l) (num (f e)) ≡ Equal) → IfNone last (Equal ≡ Less) → EachOnce (map (λ r. f (told r)) rows) → ⊥
-  key_twice told rows i row found None e lt is are ends_at one_row tie none once = cc
-  key_twice told rows i row found (Some k) e lt is are ends_at one_row tie none once =
+  pub key_twice : (told : Row → X) (rows tail : List Row) (row : Row) (last : Option K) (e : X) → IsLastKey f last (map told rows) → e ≡ told row
+      → IfSome last (λ l. slice_cmp nat_cmp (num l) (num (f e)) ≡ Equal) → IfNone last (Equal ≡ Less) → EachOnce (map (λ r. f (told r)) (rows ++ row ∷ tail)) → ⊥
+  key_twice told rows tail row None e ends_at one_row tie none once = cc
+  key_twice told rows tail row (Some k) e ends_at one_row tie none once =
       let same : k ≡ f (told row) = one k (f e) (numbers-tie (num k) (num (f e)) tie) ∙ ap f one_row in
-      let there : Member (f ends_at.1) (map f found) = subst (λ xs. Member (f ends_at.1) (map f xs)) (sym ends_at.3) (member_key ends_at.0 ends_at.1) in
-      let here : Member (f (told row)) (map f (map told (take i rows))) = subst (λ j. Member j (map f (map told (take i rows)))) (ends_at.2 ∙ same) (subst (λ xs. Member (f ends_at.1) (map f xs)) are there) in
-      once_at (λ r. f (told r)) rows i row lt is once (subst (Member (f (told row))) (twice told (take i rows)) here)
+      let there : Member (f ends_at.1) (map f (map told rows)) = subst (λ xs. Member (f ends_at.1) (map f xs)) (sym ends_at.3) (member_key ends_at.0 ends_at.1) in
+      let here : Member (f (told row)) (map f (map told rows)) = subst (λ j. Member j (map f (map told rows))) (ends_at.2 ∙ same) there in
+      once_mid (λ r. f (told r)) row rows tail once (subst (Member (f (told row))) (twice told rows) here)
     where
       twice : (told : Row → X) (rs : List Row) → map f (map told rs) ≡ map (λ r. f (told r)) rs
       twice told [] = refl
@@ -84,9 +79,8 @@ module _ {X K : Type 0} (f : X → K) (num : K → List ℕ) (one : (k l : K) �
       twice told [] = refl
       twice told (r ∷ rs) = ap (λ xs. f (told r) ∷ xs) (twice told rs)
 
-pub told_push : {X : Type 0} (told : Row → X) (rows more : List Row) (row : Row) (found new : List X) (e : X) → found ≡ map told rows → e ≡ told row → new ≡ found ++ e ∷ [] → more ≡ rows ++ row ∷ [] → new ≡ map told more
-told_push told rows more row found new e so one is more_is =
-    is ∙ ap (λ xs. xs ++ e ∷ []) so ∙ ap (λ x. map told rows ++ x ∷ []) one ∙ sym (map-append told rows (row ∷ [])) ∙ ap (map told) (sym more_is)
+pub told_on : {X : Type 0} (told : Row → X) (rows : List Row) (row : Row) → map told (rows ++ row ∷ []) ≡ map told rows ++ told row ∷ []
+told_on told rows row = map-append told rows (row ∷ [])
 
 pub some_mapped : {X K : Type 0} (f : X → K) (last : Option X) (P : K → Type 0) → IfSome last (λ x. P (f x)) → IfSome (option_map f last) P
 some_mapped f None P h = tt

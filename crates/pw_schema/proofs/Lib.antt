@@ -10,3 +10,7 @@ pub mod Shapes
 pub mod TotalKeys
 pub mod Keyed
 pub mod Rising
+pub mod OneByOne
+pub mod Deciding
+pub mod Compared
+pub mod Taken

@@ -1,7 +1,6 @@
 -- Rowids that are read one by one.
-use Rattle.std.proofs.Common.{◌≡◌, ◌++◌, ℤ, Bool, true, false, is_some, not, List, [], ◌∷◌, map, Option, Some, None, IfSome, refl, sym, ap, subst, ◌∙◌, inl, inr, Ordering, Equal}
+use Rattle.std.proofs.Common.{◌≡◌, ◌++◌, ℤ, Bool, true, false, is_some, not, List, [], ◌∷◌, Option, Some, None, IfSome, refl, sym, ap, subst, ◌∙◌, inl, inr, Equal}
 use Rattle.std.proofs.lemmas.List.{map-append}
-use Rattle.std.specs.List.{AllByRecursion}
 use Rattle.std.specs.Ordering.{int_cmp}
 use Rattle.std.proofs.lemmas.Cmp.{int_cmp_total, tied_itself}
 use Rattle.std.specs.declared.cmp.Ordering.TheVariants.{Less}
@@ -11,15 +10,9 @@ use Rattle.pw_model.specs.Counting.{Member, EachOnce}
 use Rattle.pw_model.specs.Lists.{IsInOrder, IsBeforeAll}
 use Rattle.pw_model.proofs.InOrder.{before-member}
 use Rattle.pw_schema.specs.Judging.{id_of}
+use Rattle.pw_schema.specs.Judges.{ids_in, IsLast, HasRisen}
+use Rattle.pw_schema.specs.declared.rowids.Rowids.{Rowids}
 use Rattle.pw_schema.proofs.Judged.{all_push}
-
-abbrev pub ids_in : List Row → List ℤ
-ids_in = map (λ r. id_of (column r 0))
-
--- the last of a list, if it has one
-abbrev pub IsLastId : Option ℤ → List ℤ → Type 0
-IsLastId None xs = xs ≡ []
-IsLastId (Some x) xs = (front : List ℤ) × (xs ≡ front ++ x ∷ [])
 
 ends : (z l : ℤ) (front : List ℤ) → IsBeforeAll int_cmp z (front ++ l ∷ []) → int_cmp z l ≡ Less
 ends z l [] b = b.0
@@ -39,7 +32,7 @@ rising_push : (e : ℤ) (xs : List ℤ) → IsInOrder int_cmp xs → ((x : ℤ) 
 rising_push e [] h l = (tt, tt)
 rising_push e (z ∷ xs) h l = (before_push z e xs h.0 (l z (inl refl)), rising_push e xs h.1 (λ x m. l x (inr m)))
 
-pub id_push : (last : Option ℤ) (xs : List ℤ) (e : ℤ) → IsInOrder int_cmp xs → IsLastId last xs → IfSome last (λ l. int_cmp l e ≡ Less) → IsInOrder int_cmp (xs ++ e ∷ [])
+pub id_push : (last : Option ℤ) (xs : List ℤ) (e : ℤ) → IsInOrder int_cmp xs → IsLast last xs → IfSome last (λ l. int_cmp l e ≡ Less) → IsInOrder int_cmp (xs ++ e ∷ [])
 id_push None xs e rising is low = subst (λ ys. IsInOrder int_cmp (ys ++ e ∷ [])) (sym is) (tt, tt)
 id_push (Some l) xs e rising is low = rising_push e xs rising (λ x m. all_before is.0 l e (subst (IsInOrder int_cmp) is.1 rising) low x (subst (Member x) is.1 m))
 
@@ -53,21 +46,20 @@ ids_once (x ∷ xs) h = (
   ids_once xs h.1,
 )
 
-abbrev pub IsIdRow : Row → Type 0
+abbrev IsIdRow : Row → Type 0
 IsIdRow r = column r 0 ≡ Int (id_of (column r 0))
 
-abbrev pub Goes : Option ℤ → List Row → Type 0
-Goes last rows = AllByRecursion IsIdRow rows × IsInOrder int_cmp (ids_in rows) × IsLastId last (ids_in rows)
-
-pub goes_on : (last next : Option ℤ) (rows more : List Row) (row : Row) → (next ≡ None → ⊥) → Goes last rows → IfSome next (λ id. column row 0 ≡ Int id) → IfSome next (λ id. IfSome last (λ l. int_cmp l id ≡ Less)) → more ≡ rows ++ row ∷ [] → Goes next more
-goes_on last None rows more row some so shown above is = absurd (some refl)
-goes_on last (Some id) rows more row some so shown above is =
+-- one more row, whose rowid stands behind the last
+pub rises : (first old : Rowids) (next : Option ℤ) (rows : List Row) (row : Row) → (next ≡ None → ⊥) → HasRisen first rows old → IfSome next (λ id. column row 0 ≡ Int id) → IfSome next (λ id. IfSome old.last (λ l. int_cmp l id ≡ Less)) → HasRisen first (rows ++ row ∷ []) (record { last = next })
+rises first old None rows row some so shown above = absurd (some refl)
+rises first old (Some id) rows row some so shown above =
     let one : id_of (column row 0) ≡ id = ap id_of shown in
-    let ids = ids_push rows more row id (sym one) is in (
-      subst (AllByRecursion IsIdRow) (sym is) (all_push IsIdRow row rows so.0 (shown ∙ ap Int (sym one))),
-      subst (IsInOrder int_cmp) (sym ids) (id_push last (ids_in rows) id so.1 so.2 above),
-      (ids_in rows, ids),
-    )
+    let ids = ids_push rows (rows ++ row ∷ []) row id (sym one) refl in
+    let rising = subst (IsInOrder int_cmp) (sym ids) (id_push old.last (ids_in rows) id so.rising so.behind above) in record {
+      are = record { each = all_push IsIdRow row rows so.are.each (shown ∙ ap Int (sym one)); once = ids_once _ rising };
+      rising = rising;
+      behind = (ids_in rows, ids);
+    }
 
 pub not_none : (o : Option ℤ) (b : Bool) → is_some o ≡ not b → b ≡ false → o ≡ None → ⊥
 not_none None b is down e = let bad : false ≡ true = is ∙ ap not down in cc

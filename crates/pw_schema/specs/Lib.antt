@@ -3,9 +3,11 @@
 -- Fresh: what a new store holds
 -- Rows: what the rows of the tables say
 -- Judging: which rows are of an office, and what the row of `office` says
+-- Judges: what a judge is behind the rows that it took, one at a time
 pub mod Tables
 pub mod Fresh
 pub mod Rows
 pub mod Judging
+pub mod Judges
 -- named by private functions, tests and proofs alone
 pub mod inner

@@ -1,32 +1,17 @@
 //! Whether rows are of an office.
 
-ghost use Rattle.std.specs.Prelude.{◌≡◌, ◌↔◌, Err, IfNone, IfOk, IfSome, IsTrue};
-ghost use Rattle.std.specs.declared.cmp.Ordering.TheVariants.{Less};
+ghost use Rattle.std.specs.Prelude.{◌≡◌, ◌↔◌, IfNone, IfSome, IsTrue};
 ghost use Rattle.pw_tariff.specs.Office.{office_of};
 ghost use Rattle.pw_model.specs.Office.{HasOwner, IsOfOffice};
-ghost use Rattle.pw_model.specs.Same.{entry_order};
-ghost use Rattle.pw_schema.specs.Judging.{AreRecords, IsRecord, IsTotal, IsTotalOf};
-ghost use Rattle.pw_schema.specs.Rows.{ReadsRows, told, told_amount, told_key};
+ghost use Rattle.pw_schema.specs.Judging.{IsRecord, IsTotal, IsTotalOf};
+ghost use Rattle.pw_schema.specs.Rows.{told, told_amount, told_key};
 
 use crate::kind::{RecordKind, TotalKind};
 use crate::reading::entry_of;
 use crate::totals::total_of;
-use pw_model::{Content, Entry, Key, TotalKey, compare_entries};
+use pw_model::{Content, Entry, Key, TotalKey};
 use pw_tariff::{Office, Owner};
 use sqlite::Row;
-use std::alloc::Global;
-use std::cmp::Ordering;
-
-/// Why rows aren't taken for the records of an office.
-#[derive(Clone, Copy, Debug, PartialEq, Eq)]
-pub enum JudgeFault {
-    /// Memory was refused.
-    Memory,
-    /// A row is no record of the office, or one that stands there twice.
-    Foreign,
-    /// The rows don't stand in the order in which they were asked for.
-    Unordered,
-}
 
 fn has_owner(office: &Office, owner: &Owner) -> bool
     ensures { IsTrue result ↔ HasOwner (office_of office.now) owner.now }
@@ -115,46 +100,4 @@ pub fn total_in(office: &Office, kind: TotalKind, row: &Row) -> Option<(TotalKey
     } else {
         None
     }
-}
-
-// How the last entry, if there is one, stands to the next.
-fn place_of(last: &Option<Entry>, entry: &Entry) -> Ordering
-    ensures some { IfSome last.now (λ l. entry_order l entry.now ≡ result) }
-    ensures none { IfNone last.now (result ≡ Less) }
-{
-    match last {
-        Some(last) => compare_entries(last, entry),
-        None => Ordering::Less,
-    }
-}
-
-/// The records that rows in order are, if they are records of the office, each once.
-pub fn judge_rows(
-    alloc: Global,
-    office: &Office,
-    kind: RecordKind,
-    rows: &[Row],
-) -> Result<Vec<Entry>, JudgeFault>
-    ensures read { IfOk result (λ found. ReadsRows kind rows.now found.items) }
-    ensures records { IfOk result (λ found. AreRecords (office_of office.now) kind rows.now) }
-    ensures foreign { result ≡ Err JudgeFault.Foreign → AreRecords (office_of office.now) kind rows.now → ⊥ }
-{
-    let mut found = Vec::new(alloc);
-    let mut last = None;
-    for row in rows {
-        let Some(entry) = record_in(office, kind, row) else {
-            return Err(JudgeFault::Foreign);
-        };
-        match place_of(&last, &entry) {
-            Ordering::Less => {}
-            Ordering::Equal => return Err(JudgeFault::Foreign),
-            Ordering::Greater => return Err(JudgeFault::Unordered),
-        }
-        match found.push(entry) {
-            Ok(()) => {}
-            Err(_) => return Err(JudgeFault::Memory),
-        }
-        last = Some(entry);
-    }
-    Ok(found)
 }

@@ -1,15 +1,22 @@
-//! Whether rows show rowids, none of them twice.
+//! Rowids, read one at a time.
 
-ghost use Rattle.std.specs.Prelude.{◌≡◌, IfSome, IsTrue};
+ghost use Rattle.std.specs.Prelude.{◌≡◌, [], IfSome};
 ghost use Rattle.std.specs.Ordering.{int_cmp};
 ghost use Rattle.std.specs.declared.cmp.Ordering.TheVariants.{Less};
 ghost use Rattle.sqlite.specs.declared.types.Value.TheVariants.{Int};
 ghost use Rattle.sqlite.specs.Order.{column};
-ghost use Rattle.pw_schema.specs.Judging.{AreRowids};
+ghost use Rattle.pw_schema.specs.Judges.{HasRisen};
 
+use crate::judge::{Judge, JudgeFault};
 use sqlite::Row;
 use sqlite::types::ValueRef;
 use std::cmp::Ordering;
+
+/// Takes rows that show rowids, each above the one before: then none stands there twice.
+#[derive(Drop)]
+pub struct Rowids {
+    last: Option<i64>,
+}
 
 fn rowid_of(row: &Row) -> Option<i64>
     ensures { IfSome result (λ id. column row.now 0 ≡ Int id) }
@@ -35,16 +42,26 @@ fn next_rowid(last: &Option<i64>, row: &Row) -> Option<i64>
     }
 }
 
-/// Whether rows show rowids that rise: then none stands there twice.
-pub fn are_rowids(rows: &[Row]) -> bool
-    ensures { IsTrue result → AreRowids rows.now }
-{
-    let mut last = None;
-    for row in rows {
-        last = next_rowid(&last, row);
-        if last.is_none() {
-            return false;
-        }
+impl Rowids {
+    /// No row is taken yet.
+    pub fn new() -> Rowids
+        ensures { HasRisen result [] result }
+    {
+        Rowids { last: None }
     }
-    true
+}
+
+impl Judge for Rowids {
+    ghost took = { HasRisen };
+
+    ghost refuses = { λ first rows. ⊥ };
+
+    fn take(&mut self, row: &Row) -> Result<(), JudgeFault> {
+        let next = next_rowid(&self.last, row);
+        if next.is_none() {
+            return Err(JudgeFault::Unordered);
+        }
+        self.last = next;
+        Ok(())
+    }
 }

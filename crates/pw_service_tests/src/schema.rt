@@ -2,8 +2,8 @@
 
 use pw_model::Entry;
 use pw_schema::{
-    JudgeFault, ReadFault, RecordKind, begin, commit, create, is_nothing, is_ours, judge_office,
-    judge_rows, read_rows, roll_back,
+    Judge, JudgeFault, ReadFault, RecordKind, Records, begin, commit, create, is_nothing, is_ours,
+    judge_office, read_rows, roll_back,
 };
 use pw_tariff::Office;
 use sqlite::{Connection, MemStore, Row};
@@ -55,7 +55,11 @@ fn judged(
     text: &str,
 ) -> Result<Vec<Entry>, JudgeFault> {
     let office = office(rt, alloc);
-    judge_rows(alloc, &office, kind, rows(rt, alloc, text).as_slice())
+    let mut records = Records::new(alloc, &office, kind);
+    for row in rows(rt, alloc, text).as_slice() {
+        records.take(row)?;
+    }
+    Ok(records.into_entries())
 }
 
 fn new_store(rt: &impl Abort, alloc: Global) -> Connection<MemStore> {
@@ -162,23 +166,18 @@ fn rows_that_are_no_records_of_the_office_are_foreign(rt: HostRuntime) -> Result
             Some(JudgeFault::Foreign)
         );
     }
-    let twisted = rows(
-        &rt,
-        alloc,
-        "SELECT 0, 5, 1704067200, 2 UNION ALL SELECT 0, 5, 1704067200, 1",
-    );
+    let twisted = "SELECT 0, 5, 1704067200, 2 UNION ALL SELECT 0, 5, 1704067200, 1";
     assert_eq!(rt;
-        read_rows(alloc, RecordKind::Readings, twisted.as_slice()).err(),
+        read_rows(
+            alloc,
+            RecordKind::Readings,
+            rows(&rt, alloc, twisted).as_slice()
+        )
+        .err(),
         Some(ReadFault::Wrong)
     );
     assert_eq!(rt;
-        judge_rows(
-            alloc,
-            &office(&rt, alloc),
-            RecordKind::Readings,
-            twisted.as_slice()
-        )
-        .err(),
+        judged(&rt, alloc, RecordKind::Readings, twisted).err(),
         Some(JudgeFault::Unordered)
     );
     Ok(())

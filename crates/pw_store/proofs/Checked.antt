@@ -1,5 +1,5 @@
 -- From rows that were read in the order of their keys to the rows of the tables.
-use Rattle.std.proofs.Common.{◌≡◌, ◌⊎◌, inl, inr, ℕ, ℤ, List, [], ◌∷◌, map, Bool, true, false, Decides, Result, Ok, Err, Vec, IfOk, IfErr, OnOk, OnErr, refl, sym, ap, subst, subst₂, ◌∙◌, Ordering, Less, Equal, Greater}
+use Rattle.std.proofs.Common.{◌≡◌, inl, inr, ℕ, ℤ, List, [], ◌∷◌, map, Bool, true, false, Decides, refl, sym, ap, subst, subst₂, ◌∙◌, Ordering, Less, Equal, Greater}
 use Rattle.std.specs.List.{AllByRecursion}
 use Rattle.std.specs.List.Sorted.{IsPermutation}
 use Rattle.std.proofs.lemmas.List.Sorted.{IsPermutation-sym, IsPermutation-map}
@@ -26,14 +26,11 @@ use Rattle.pw_schema.specs.declared.kind.TotalKind.{TotalKind}
 use Rattle.pw_schema.specs.declared.kind.TotalKind.TheVariants.{Energies, Payments}
 use Rattle.pw_schema.specs.Rows.{told, Tells, told_key, number}
 use Rattle.pw_schema.specs.Judging.{AreKept, AreTotals, AreRowids, IsRecord, IsTotal, IsTotalOf, by_key, by_total, id_of, told_total}
-use Rattle.pw_store.specs.declared.fault.OpenFault.{OpenFault}
-use Rattle.pw_store.specs.declared.fault.OpenFault.TheVariants.{Store, Memory, OfficeDiffers, Version, Unclean}
 use Rattle.pw_store.specs.Content.{payment_in}
 use Rattle.pw_store.specs.Keyed.{HasRowid}
 use Rattle.pw_store.specs.Shown.{entry_in}
 use Rattle.pw_store.specs.inner.Lists.{shown}
 use Rattle.pw_store.specs.Opening.{HoldsKept, HoldsTotals, IsTotalRow, key_of_total}
-use Rattle.pw_store.specs.inner.Opened.{KeptRefuses, TotalsRefuse}
 use Rattle.pw_store.specs.inner.Sums.{AreNumbered, TellsKept, TellsTotals, shown_id, shown_total, total_in_row}
 use Rattle.pw_store.proofs.Others.{same_total-decides}
 use Rattle.pw_store.proofs.Lists.{told_permuted}
@@ -165,67 +162,3 @@ payments_numbered office table held = record {
   ids = payment_ids office table held.rows;
   numbered = once_before (λ v. total.TopUps (record { 0 = number v })) (map rowid table) (subst EachOnce (account_of table) held.once);
 }
-
--- ---- whether it answered Ok or not
-abbrev IsOther : {A : Type 0} → Result A OpenFault → Type 0
-IsOther r = OnErr r ((r ≡ Err Unclean) ⊎ ((r ≡ Err Memory) ⊎ (r ≡ Err Store)))
-
-module _ {Z : Type 0} (office : OfficeRules) (k : RecordKind) (table rows shown_rows : List Row) (r : Result (Vec Entry Z) OpenFault) (shows : IsPermutation (map (shown k) table) rows) (is : shown_rows ≡ rows) where
-  pub kept_holds : IfOk r (λ found. AreKept office k shown_rows) → OnOk r (HoldsKept office k table)
-  kept_holds h = go r h
-    where
-      go : (q : Result (Vec Entry Z) OpenFault) → IfOk q (λ found. AreKept office k shown_rows) → OnOk q (HoldsKept office k table)
-      go (Ok v) good = good_kept office k table rows shows (subst (AreKept office k) is good)
-      go (Err e) good = tt
-
-  pub kept_tells : IfOk r (λ found. found.items ≡ map (told k) shown_rows) → IfOk r (λ found. IsInOrder by_key found.items) → IfOk r (λ found. TellsKept k table found.items)
-  kept_tells a b = go r a b
-    where
-      go : (q : Result (Vec Entry Z) OpenFault) → IfOk q (λ found. found.items ≡ map (told k) shown_rows) → IfOk q (λ found. IsInOrder by_key found.items) → IfOk q (λ found. TellsKept k table found.items)
-      go (Ok v) are rising = tells_kept office k table rows shows v.items (are ∙ ap (map (told k)) is) rising
-      go (Err e) are rising = tt
-
-  pub kept_cause : (r ≡ Err Unclean → AreKept office k shown_rows → ⊥) → IsOther r → IfErr r (KeptRefuses office k table)
-  kept_cause foreign others = go r foreign others
-    where
-      go : (q : Result (Vec Entry Z) OpenFault) → (q ≡ Err Unclean → AreKept office k shown_rows → ⊥) → IsOther q → IfErr q (KeptRefuses office k table)
-      go (Ok v) f o = tt
-      go (Err Store) f o = tt
-      go (Err Memory) f o = tt
-      go (Err OfficeDiffers) f o = elim o [ inl i ↦ cc | inr more ↦ elim more [ inl i ↦ cc | inr i ↦ cc ] ]
-      go (Err Version) f o = elim o [ inl i ↦ cc | inr more ↦ elim more [ inl i ↦ cc | inr i ↦ cc ] ]
-      go (Err Unclean) f o = λ held. f refl (subst (AreKept office k) (sym is) (back_kept office k table rows shows held))
-
-module _ {Z : Type 0} (office : OfficeRules) (k : TotalKind) (table rows shown_rows : List Row) (r : Result (Vec (TotalKey × ℕ) Z) OpenFault) (shows : IsPermutation (map (shown_total k) table) rows) (is : shown_rows ≡ rows) where
-  pub totals_hold : IfOk r (λ found. AreTotals office k shown_rows) → OnOk r (HoldsTotals office k table)
-  totals_hold h = go r h
-    where
-      go : (q : Result (Vec (TotalKey × ℕ) Z) OpenFault) → IfOk q (λ found. AreTotals office k shown_rows) → OnOk q (HoldsTotals office k table)
-      go (Ok v) good = good_totals office k table rows shows (subst (AreTotals office k) is good)
-      go (Err e) good = tt
-
-  pub totals_tell : IfOk r (λ found. found.items ≡ map (told_total k) shown_rows) → IfOk r (λ found. IsInOrder by_total found.items) → IfOk r (λ found. TellsTotals k table found.items)
-  totals_tell a b = go r a b
-    where
-      go : (q : Result (Vec (TotalKey × ℕ) Z) OpenFault) → IfOk q (λ found. found.items ≡ map (told_total k) shown_rows) → IfOk q (λ found. IsInOrder by_total found.items) → IfOk q (λ found. TellsTotals k table found.items)
-      go (Ok v) are rising = tells_totals office k table rows shows v.items (are ∙ ap (map (told_total k)) is) rising
-      go (Err e) are rising = tt
-
-  pub totals_cause : (r ≡ Err Unclean → AreTotals office k shown_rows → ⊥) → IsOther r → IfErr r (TotalsRefuse office k table)
-  totals_cause foreign others = go r foreign others
-    where
-      go : (q : Result (Vec (TotalKey × ℕ) Z) OpenFault) → (q ≡ Err Unclean → AreTotals office k shown_rows → ⊥) → IsOther q → IfErr q (TotalsRefuse office k table)
-      go (Ok v) f o = tt
-      go (Err Store) f o = tt
-      go (Err Memory) f o = tt
-      go (Err OfficeDiffers) f o = elim o [ inl i ↦ cc | inr more ↦ elim more [ inl i ↦ cc | inr i ↦ cc ] ]
-      go (Err Version) f o = elim o [ inl i ↦ cc | inr more ↦ elim more [ inl i ↦ cc | inr i ↦ cc ] ]
-      go (Err Unclean) f o = λ held. f refl (subst (AreTotals office k) (sym is) (back_totals office k table rows shows held))
-
-pub numbered_if : {A : Type 0} (table ids shown_ids : List Row) (r : Result A OpenFault) → IsPermutation (map shown_id table) ids → shown_ids ≡ ids → OnOk r (AreRowids shown_ids) → OnOk r (AreNumbered table)
-numbered_if table ids shown_ids (Ok a) shows is good = are_numbered table ids shows (subst AreRowids is good)
-numbered_if table ids shown_ids (Err e) shows is good = tt
-
-pub payments_numbered_if : {A : Type 0} (office : OfficeRules) (table : List Row) (r : Result A OpenFault) → OnOk r (HoldsTotals office Payments table) → OnOk r (AreNumbered table)
-payments_numbered_if office table (Ok a) held = payments_numbered office table held
-payments_numbered_if office table (Err e) held = tt

@@ -1,5 +1,5 @@
 -- What was judged may be opened, or is refused with cause.
-use Rattle.std.proofs.Common.{◌≡◌, ◌⊎◌, inl, inr, ℕ, ◌<◌, ◌≤◌, List, length, Result, Ok, Err, OnOk, OnErr, IfErr, refl, sym, ap, subst, ◌∙◌, arith}
+use Rattle.std.proofs.Common.{◌≡◌, ◌⊎◌, inl, inr, ℕ, ◌<◌, ◌≤◌, List, length, Result, Err, refl, sym, ap, subst, ◌∙◌, arith}
 use Rattle.std.specs.List.Sorted.{IsPermutation}
 use Rattle.std.proofs.lemmas.List.Sorted.{length_permutation}
 use Rattle.sqlite.specs.Tree.{Trees}
@@ -12,18 +12,17 @@ use Rattle.pw_schema.specs.Judging.{KeepsOffice}
 use Rattle.pw_schema.specs.Tables.{IsOurs}
 use Rattle.pw_store.specs.declared.fault.OpenFault.{OpenFault}
 use Rattle.pw_store.specs.declared.fault.OpenFault.TheVariants.{Store, Memory, OfficeDiffers, Version, Unclean}
-use Rattle.pw_store.specs.declared.sums.Sums.{Sums}
 use Rattle.pw_store.specs.Content.{records_of}
 use Rattle.pw_store.specs.Opening.{HoldsAllRecords, HoldsSums, KeepsText, OursRefuses}
-use Rattle.pw_store.specs.inner.Opened.{MayOpen}
-use Rattle.pw_store.specs.inner.Sums.{AreAllNumbered, TellsSums}
+use Rattle.pw_store.specs.inner.Opened.{MayOpen, SumsRefuse}
+use Rattle.pw_store.specs.inner.Sums.{AreAllNumbered, Listed, TellsSums}
 use Rattle.pw_store.specs.inner.Truth.{HaveParts, HaveOtherParts}
 use Rattle.pw_store.proofs.OfParts.{have_truth, have_none}
 use Rattle.pw_store.proofs.OfContent.{names_office}
 use Rattle.pw_store.proofs.Sound.{sound_store, sound_office, trees_is}
 
 -- of s0, at which everything begins: s1 is behind the row of `office`, s2 behind the records, s3 behind points, starts and totals
-module _ (office : OfficeRules) (body : List ℕ) (s0 s1 s2 s3 : State) (records : List Entry) (sums : Sums) (r : Result (Unit {0}) OpenFault)
+module _ (office : OfficeRules) (body : List ℕ) (s0 s1 s2 s3 : State) (records : List Entry) (sums : Listed)
     (ours : IsOurs s0.now.schema) (a : IsUnchanged s0 s1) (b : IsUnchanged s1 s2) (c : IsUnchanged s2 s3)
     (text : KeepsText (KeepsOffice body) s1.now.trees) (all : HoldsAllRecords office s1.now.trees) (listed : IsPermutation (records_of s1.now.trees) records)
     (holds : HoldsSums office s2.now.trees) (numbered : AreAllNumbered s2.now.trees) (tells : TellsSums s2.now.trees sums) where
@@ -60,30 +59,36 @@ module _ (office : OfficeRules) (body : List ℕ) (s0 s1 s2 s3 : State) (records
   many : length records ≡ length (records_of db)
   many = length_permutation (records_of db) records listed_now
 
-  pub judged : OnOk r (length records ≤ most_records) → OnOk r (HaveParts office records sums) → OnOk r (MayOpen office body s3.now)
-  judged few parts = go r few parts
-    where
-      go : (q : Result (Unit {0}) OpenFault) → OnOk q (length records ≤ most_records) → OnOk q (HaveParts office records sums) → OnOk q (MayOpen office body s3.now)
-      go (Err e) few parts = tt
-      go (Ok u) few parts = record {
-        store = sound_store office s3.now ours_now records_now.readings records_now.assignments records_now.topups holds_now numbered_now;
-        kept = text_now;
-        named = names_office office db holds_now;
-        of_office = of_office;
-        few = omega (arith, few, many);
-        truth = have_truth office db records sums holds_now tells_now listed_now of_office parts;
-      }
+  pub judged : length records ≤ most_records → HaveParts office records sums → MayOpen office body s3.now
+  judged few parts = record {
+    store = sound_store office s3.now ours_now records_now.readings records_now.assignments records_now.topups holds_now numbered_now;
+    kept = text_now;
+    named = names_office office db holds_now;
+    of_office = of_office;
+    few = omega (arith, few, many);
+    truth = have_truth office db records sums holds_now tells_now listed_now of_office parts;
+  }
 
-  pub judged_cause : (r ≡ Err Unclean → (most_records < length records) ⊎ HaveOtherParts office records sums) → OnErr r ((r ≡ Err Unclean) ⊎ (r ≡ Err Memory)) → IfErr r (OursRefuses office body s0.now.trees)
-  judged_cause cause others = subst (λ (d : Trees). IfErr r (OursRefuses office body d)) (trees_is s2 s3 c ∙ trees_is s1 s2 b ∙ trees_is s0 s1 a) (go r cause others)
-    where
-      go : (q : Result (Unit {0}) OpenFault) → (q ≡ Err Unclean → (most_records < length records) ⊎ HaveOtherParts office records sums) → OnErr q ((q ≡ Err Unclean) ⊎ (q ≡ Err Memory)) → IfErr q (OursRefuses office body db)
-      go (Ok u) cause others = tt
-      go (Err Store) cause others = tt
-      go (Err Memory) cause others = tt
-      go (Err OfficeDiffers) cause others = elim others [ inl i ↦ (let bad : OfficeDiffers ≡ Unclean = cc in cc) | inr i ↦ (let bad : OfficeDiffers ≡ Memory = cc in cc) ]
-      go (Err Version) cause others = elim others [ inl i ↦ (let bad : Version ≡ Unclean = cc in cc) | inr i ↦ (let bad : Version ≡ Memory = cc in cc) ]
-      go (Err Unclean) cause others = elim (cause refl) [
-        | inl much ↦ inr (text_now, inr (inl (omega (arith, much, many))))
-        | inr parts ↦ inr (text_now, inr (inr (inr (have_none office db records sums holds_now tells_now listed_now of_office parts))))
-      ]
+  pub judged_others : HaveOtherParts office records sums → OursRefuses office body s0.now.trees Unclean
+  judged_others parts = subst (λ (d : Trees). OursRefuses office body d Unclean) (trees_is s2 s3 c ∙ trees_is s1 s2 b ∙ trees_is s0 s1 a) (inr (text_now, inr (inr (inr (have_none office db records sums holds_now tells_now listed_now of_office parts)))))
+
+-- the records have no parts: they are too many, or memory was refused
+pub parts_refused : {A : Type 0} (office : OfficeRules) (body : List ℕ) (s0 s1 : State) (records : List Entry) (fault : OpenFault) → IsUnchanged s0 s1 → KeepsText (KeepsOffice body) s1.now.trees → IsPermutation (records_of s1.now.trees) records
+    → (◌≡◌ {A = Result A OpenFault} (Err fault) (Err Unclean) → most_records < length records) → (◌≡◌ {A = Result A OpenFault} (Err fault) (Err Unclean)) ⊎ (◌≡◌ {A = Result A OpenFault} (Err fault) (Err Memory)) → OursRefuses office body s0.now.trees fault
+parts_refused office body s0 s1 records Store a text listed many others = tt
+parts_refused office body s0 s1 records Memory a text listed many others = tt
+parts_refused office body s0 s1 records OfficeDiffers a text listed many others = elim others [ inl i ↦ cc | inr i ↦ cc ]
+parts_refused office body s0 s1 records Version a text listed many others = elim others [ inl i ↦ cc | inr i ↦ cc ]
+parts_refused office body s0 s1 records Unclean a text listed many others =
+    let much = many refl in
+    let same = length_permutation (records_of s1.now.trees) records listed in
+    subst (λ (d : Trees). OursRefuses office body d Unclean) (trees_is s0 s1 a) (inr (text, inr (inl (omega (arith, much, same)))))
+
+-- points, starts and totals were refused
+pub sums_refused : (office : OfficeRules) (body : List ℕ) (s0 s1 s2 : State) (fault : OpenFault) → IsUnchanged s0 s1 → IsUnchanged s1 s2 → KeepsText (KeepsOffice body) s1.now.trees → SumsRefuse office s2.now.trees fault → OursRefuses office body s0.now.trees fault
+sums_refused office body s0 s1 s2 Store a b text refuse = tt
+sums_refused office body s0 s1 s2 Memory a b text refuse = tt
+sums_refused office body s0 s1 s2 OfficeDiffers a b text refuse = absurd refuse
+sums_refused office body s0 s1 s2 Version a b text refuse = absurd refuse
+sums_refused office body s0 s1 s2 Unclean a b text refuse =
+    subst (λ (d : Trees). OursRefuses office body d Unclean) (trees_is s0 s1 a) (inr (text, inr (inr (inl (subst (λ d. HoldsSums office d → ⊥) (trees_is s1 s2 b) refuse)))))

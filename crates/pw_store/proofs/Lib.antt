@@ -5,7 +5,6 @@ pub mod AtMeter
 pub mod AtTopup
 pub mod Checked
 pub mod Counts
-pub mod Deciding
 pub mod EnergyRows
 pub mod Finding
 pub mod Fresh
@@ -42,3 +41,5 @@ pub mod SumTables
 pub mod Taking
 pub mod Telling
 pub mod Texts
+pub mod Scanning
+pub mod Compared

@@ -34,13 +34,13 @@ use Rattle.pw_shelf.specs.Changes.{same_total}
 use Rattle.pw_shelf.proofs.AtKey.{kept-member, member-kept}
 use Rattle.pw_schema.specs.declared.kind.TotalKind.{TotalKind}
 use Rattle.pw_schema.specs.declared.kind.TotalKind.TheVariants.{Energies, Payments}
+use Rattle.pw_schema.specs.Judges.{is_above_zero}
 use Rattle.pw_schema.specs.Rows.{number, register_at, owner_at}
-use Rattle.pw_store.specs.declared.sums.Sums.{Sums}
 use Rattle.pw_store.specs.Content.{content_of, records_of, point_in, start_in, total_in, reading_in, assignment_in, energy_in, payment_in, energy_told, payment_told, point_tree, start_tree, total_tree, payment_tree}
 use Rattle.pw_store.specs.Opening.{HoldsSums, key_of_total}
 use Rattle.pw_store.specs.inner.Opened.{amount_of_total}
-use Rattle.pw_store.specs.inner.Sums.{TellsSums, total_in_row}
-use Rattle.pw_store.specs.inner.Truth.{AreRead, HaveParts, HaveOtherParts, is_above_zero}
+use Rattle.pw_store.specs.inner.Sums.{Listed, TellsSums, total_in_row}
+use Rattle.pw_store.specs.inner.Truth.{AreRead, HaveParts, HaveOtherParts}
 use Rattle.pw_store.proofs.KeyedRows.{before_map, image, told_row, row_told}
 use Rattle.pw_store.proofs.Lists.{member_in, member_behind}
 use Rattle.pw_store.proofs.Once.{permuted}
@@ -108,12 +108,12 @@ abbrev owner_in : Content → Option AccountId
 owner_in (content.Assignment o) = o
 owner_in _ = None
 
-module _ (office : OfficeRules) (db : Trees) (records : List Entry) (sums : Sums) (holds : HoldsSums office db) (tells : TellsSums db sums) (same : IsPermutation (records_of db) records) (of : AllOfOffice office (records_of db)) where
+module _ (office : OfficeRules) (db : Trees) (records : List Entry) (sums : Listed) (holds : HoldsSums office db) (tells : TellsSums db sums) (same : IsPermutation (records_of db) records) (of : AllOfOffice office (records_of db)) where
   abbrev now : ShelfContent
   now = content_of db
 
   abbrev positive : List (TotalKey × ℕ)
-  positive = filter is_above_zero (sums.energies.items ++ sums.payments.items)
+  positive = filter is_above_zero (sums.energies ++ sums.payments)
 
   -- ---- what the lists that were read tell
   abbrev point_at : Key → Option ℕ
@@ -122,9 +122,9 @@ module _ (office : OfficeRules) (db : Trees) (records : List Entry) (sums : Sums
   abbrev start_at : Key → Option (Option AccountId)
   start_at l = option_map (λ x. owner_at (number (column x 3))) (find (λ x. same_key l (assignment_in x).key) (db start_tree))
 
-  points_read : (m : ℕ) (r : Register) (t w : ℕ) → point_in (db point_tree) m r t ≡ Some w ↔ Member (reading_entry m r t w) sums.points.items
+  points_read : (m : ℕ) (r : Register) (t w : ℕ) → point_in (db point_tree) m r t ≡ Some w ↔ Member (reading_entry m r t w) sums.points
   points_read m r t w =
-      let members = permuted (map reading_in (db point_tree)) sums.points.items tells.points.told in (
+      let members = permuted (map reading_in (db point_tree)) sums.points tells.points_told.told in (
         λ e.
             let it = told_row same_key same_key-decides (λ x. (reading_in x).key) (λ x. number (column x 4)) (db point_tree) (reading_key m r t) w e in
             let one : reading_in it.0 ≡ reading_entry m r t w = λ i. record { key = it.1.1.0 i; content = content.Reading (it.1.1.1 i) } in
@@ -136,9 +136,9 @@ module _ (office : OfficeRules) (db : Trees) (records : List Entry) (sums : Sums
             subst (λ (l : Key). point_at l ≡ Some w) key_is (row_told same_key same_key-decides (λ x. (reading_in x).key) (λ x. number (column x 4)) (db point_tree) it.0 holds.points.once it.1.0 ∙ ap Some wh_is),
       )
 
-  starts_read : (m t : ℕ) (o : Option AccountId) → start_in (db start_tree) m t ≡ Some o ↔ Member (assignment_entry m t o) sums.starts.items
+  starts_read : (m t : ℕ) (o : Option AccountId) → start_in (db start_tree) m t ≡ Some o ↔ Member (assignment_entry m t o) sums.starts
   starts_read m t o =
-      let members = permuted (map assignment_in (db start_tree)) sums.starts.items tells.starts.told in (
+      let members = permuted (map assignment_in (db start_tree)) sums.starts tells.starts_told.told in (
         λ e.
             let it = told_row same_key same_key-decides (λ x. (assignment_in x).key) (λ x. owner_at (number (column x 3))) (db start_tree) (assignment_key m t) o e in
             let one : assignment_in it.0 ≡ assignment_entry m t o = λ i. record { key = it.1.1.0 i; content = content.Assignment (it.1.1.1 i) } in
@@ -175,44 +175,44 @@ module _ (office : OfficeRules) (db : Trees) (records : List Entry) (sums : Sums
         let it = before_map (total_in_row k) x table ((permuted (map (total_in_row k) table) found told x).1 m) in
         (it.0, ap (λ (y : TotalKey × ℕ). y.0) it.1.1)
 
-  energies_read : (l : TotalKey) (n : ℕ) → energy_told (db total_tree) l ≡ Some n ↔ Member (l, n) sums.energies.items
-  energies_read = amounts_read Energies (db total_tree) sums.energies.items tells.energies.told holds.energies.once
+  energies_read : (l : TotalKey) (n : ℕ) → energy_told (db total_tree) l ≡ Some n ↔ Member (l, n) sums.energies
+  energies_read = amounts_read Energies (db total_tree) sums.energies tells.energies_told.told holds.energies.once
 
-  payments_read : (l : TotalKey) (n : ℕ) → payment_told (db payment_tree) l ≡ Some n ↔ Member (l, n) sums.payments.items
-  payments_read = amounts_read Payments (db payment_tree) sums.payments.items tells.payments.told holds.payments.once
+  payments_read : (l : TotalKey) (n : ℕ) → payment_told (db payment_tree) l ≡ Some n ↔ Member (l, n) sums.payments
+  payments_read = amounts_read Payments (db payment_tree) sums.payments tells.payments_told.told holds.payments.once
 
   -- no key of a total of top-ups is among the energies, and none of a total of energy among the top-ups
-  no_payment : (a : AccountId) (n : ℕ) → Member (total.TopUps a, n) sums.energies.items → ⊥
-  no_payment a n m = let it = key_found Energies (db total_tree) sums.energies.items tells.energies.told holds.energies.once (total.TopUps a, n) m in no_energy_row a it.0 it.1
+  no_payment : (a : AccountId) (n : ℕ) → Member (total.TopUps a, n) sums.energies → ⊥
+  no_payment a n m = let it = key_found Energies (db total_tree) sums.energies tells.energies_told.told holds.energies.once (total.TopUps a, n) m in no_energy_row a it.0 it.1
 
-  no_energy : (o : Option AccountId) (b : BandId) (d : Direction) (n : ℕ) → Member (total.Energy o b d, n) sums.payments.items → ⊥
-  no_energy o b d n m = let it = key_found Payments (db payment_tree) sums.payments.items tells.payments.told holds.payments.once (total.Energy o b d, n) m in no_payment_row o b d it.0 it.1
+  no_energy : (o : Option AccountId) (b : BandId) (d : Direction) (n : ℕ) → Member (total.Energy o b d, n) sums.payments → ⊥
+  no_energy o b d n m = let it = key_found Payments (db payment_tree) sums.payments tells.payments_told.told holds.payments.once (total.Energy o b d, n) m in no_payment_row o b d it.0 it.1
 
   totals_read : (l : TotalKey) (n : ℕ) → 0 < n → total_in db l ≡ n ↔ Member (l, n) positive
   totals_read (total.Energy o b d) n lt = (
-    λ e. kept-member is_above_zero (sums.energies.items ++ sums.payments.items) (total.Energy o b d, n)
-        (member_front (total.Energy o b d, n) sums.energies.items sums.payments.items ((energies_read (total.Energy o b d) n).0 (some_amount (energy_told (db total_tree) (total.Energy o b d)) n lt e))) (lt-ltb 0 n lt),
-    λ m. elim (member_in (total.Energy o b d, n) sums.energies.items sums.payments.items (member-kept is_above_zero (sums.energies.items ++ sums.payments.items) (total.Energy o b d, n) m).0) [
+    λ e. kept-member is_above_zero (sums.energies ++ sums.payments) (total.Energy o b d, n)
+        (member_front (total.Energy o b d, n) sums.energies sums.payments ((energies_read (total.Energy o b d) n).0 (some_amount (energy_told (db total_tree) (total.Energy o b d)) n lt e))) (lt-ltb 0 n lt),
+    λ m. elim (member_in (total.Energy o b d, n) sums.energies sums.payments (member-kept is_above_zero (sums.energies ++ sums.payments) (total.Energy o b d, n) m).0) [
       | inl i ↦ ap (λ q. unwrap_or q 0) ((energies_read (total.Energy o b d) n).1 i)
       | inr j ↦ absurd (no_energy o b d n j)
     ],
   )
   totals_read (total.TopUps a) n lt = (
-    λ e. kept-member is_above_zero (sums.energies.items ++ sums.payments.items) (total.TopUps a, n)
-        (member_behind (total.TopUps a, n) sums.energies.items sums.payments.items ((payments_read (total.TopUps a) n).0 (some_amount (payment_told (db payment_tree) (total.TopUps a)) n lt e))) (lt-ltb 0 n lt),
-    λ m. elim (member_in (total.TopUps a, n) sums.energies.items sums.payments.items (member-kept is_above_zero (sums.energies.items ++ sums.payments.items) (total.TopUps a, n) m).0) [
+    λ e. kept-member is_above_zero (sums.energies ++ sums.payments) (total.TopUps a, n)
+        (member_behind (total.TopUps a, n) sums.energies sums.payments ((payments_read (total.TopUps a) n).0 (some_amount (payment_told (db payment_tree) (total.TopUps a)) n lt e))) (lt-ltb 0 n lt),
+    λ m. elim (member_in (total.TopUps a, n) sums.energies sums.payments (member-kept is_above_zero (sums.energies ++ sums.payments) (total.TopUps a, n) m).0) [
       | inl i ↦ absurd (no_payment a n i)
       | inr j ↦ ap (λ q. unwrap_or q 0) ((payments_read (total.TopUps a) n).1 j)
     ],
   )
 
-  energies_first : (x y : TotalKey × ℕ) → Member x sums.energies.items → Member y sums.payments.items → by_total x y ≡ Less
+  energies_first : (x y : TotalKey × ℕ) → Member x sums.energies → Member y sums.payments → by_total x y ≡ Less
   energies_first (total.Energy o b d, n) (total.TopUps a, p) m k = energy_before o b d a
   energies_first (total.TopUps a, n) y m k = absurd (no_payment a n m)
   energies_first (total.Energy o b d, n) (total.Energy p c e, q) m k = absurd (no_energy p c e q k)
 
   positive_rises : IsInOrder by_total positive
-  positive_rises = rising_filter by_total is_above_zero (sums.energies.items ++ sums.payments.items) (rising_both by_total sums.energies.items sums.payments.items tells.energies.rising tells.payments.rising energies_first)
+  positive_rises = rising_filter by_total is_above_zero (sums.energies ++ sums.payments) (rising_both by_total sums.energies sums.payments tells.energies_told.rising tells.payments_told.rising energies_first)
 
   -- ---- the content is told by the lists that were read, and by no others
   module _ (parts : Parts) (p : IsPartsOf office records parts) where
@@ -228,34 +228,34 @@ module _ (office : OfficeRules) (db : Trees) (records : List Entry) (sums : Sums
 
     read_by : IsToldBy now parts → AreRead parts sums
     read_by told = record {
-      points = rising-one by_key (by-numbers (λ (e : Entry). key_numbers e.key)) parts.points.items sums.points.items p.points.rising tells.points.rising (λ x. (
+      points = rising-one by_key (by-numbers (λ (e : Entry). key_numbers e.key)) parts.points.items sums.points p.points.rising tells.points_told.rising (λ x. (
         λ m.
             let counts = (p.points.members x).0 m in
             let it = reading_shape office x.key x.content counts.1 (record_of x counts.0) in
-            subst (λ e. Member e sums.points.items) (sym it.4) ((points_read it.0 it.1 it.2 it.3).0 ((told.points it.0 it.1 it.2 it.3).1 (subst (λ e. Member e parts.points.items) it.4 m))),
+            subst (λ e. Member e sums.points) (sym it.4) ((points_read it.0 it.1 it.2 it.3).0 ((told.points it.0 it.1 it.2 it.3).1 (subst (λ e. Member e parts.points.items) it.4 m))),
         λ m.
-            let it = before_map reading_in x (db point_tree) ((permuted (map reading_in (db point_tree)) sums.points.items tells.points.told x).1 m) in
+            let it = before_map reading_in x (db point_tree) ((permuted (map reading_in (db point_tree)) sums.points tells.points_told.told x).1 m) in
             let meter = number (column it.0 1) in
             let register = register_at (number (column it.0 2)) in
             let second = number (column it.0 3) in
             let wh = number (column it.0 4) in
-            subst (λ e. Member e parts.points.items) (sym it.1.1) ((told.points meter register second wh).0 ((points_read meter register second wh).1 (subst (λ e. Member e sums.points.items) it.1.1 m))),
+            subst (λ e. Member e parts.points.items) (sym it.1.1) ((told.points meter register second wh).0 ((points_read meter register second wh).1 (subst (λ e. Member e sums.points) it.1.1 m))),
       ));
-      starts = rising-one by_key (by-numbers (λ (e : Entry). key_numbers e.key)) parts.starts.items sums.starts.items p.starts.rising tells.starts.rising (λ x. (
+      starts = rising-one by_key (by-numbers (λ (e : Entry). key_numbers e.key)) parts.starts.items sums.starts p.starts.rising tells.starts_told.rising (λ x. (
         λ m.
             let counts = (p.starts.members x).0 m in
             let it = assignment_shape office x.key x.content counts.1 (record_of x counts.0) in
-            subst (λ e. Member e sums.starts.items) (sym it.3) ((starts_read it.0 it.1 it.2).0 ((told.starts it.0 it.1 it.2).1 (subst (λ e. Member e parts.starts.items) it.3 m))),
+            subst (λ e. Member e sums.starts) (sym it.3) ((starts_read it.0 it.1 it.2).0 ((told.starts it.0 it.1 it.2).1 (subst (λ e. Member e parts.starts.items) it.3 m))),
         λ m.
-            let it = before_map assignment_in x (db start_tree) ((permuted (map assignment_in (db start_tree)) sums.starts.items tells.starts.told x).1 m) in
+            let it = before_map assignment_in x (db start_tree) ((permuted (map assignment_in (db start_tree)) sums.starts tells.starts_told.told x).1 m) in
             let meter = number (column it.0 1) in
             let second = number (column it.0 2) in
             let owner = owner_at (number (column it.0 3)) in
-            subst (λ e. Member e parts.starts.items) (sym it.1.1) ((told.starts meter second owner).0 ((starts_read meter second owner).1 (subst (λ e. Member e sums.starts.items) it.1.1 m))),
+            subst (λ e. Member e parts.starts.items) (sym it.1.1) ((told.starts meter second owner).0 ((starts_read meter second owner).1 (subst (λ e. Member e sums.starts) it.1.1 m))),
       ));
       totals = rising-one by_total (by-numbers (λ (x : TotalKey × ℕ). total_numbers x.0)) parts.totals.items positive p.totals.rising positive_rises (λ x. (
         λ m. (let lt = ((p.totals.members x).0 m).1 in (totals_read x.0 x.1 lt).0 ((told.totals x.0 x.1 lt).1 m)),
-        λ m. (let lt = ltb-true 0 x.1 (member-kept is_above_zero (sums.energies.items ++ sums.payments.items) x m).1 in (told.totals x.0 x.1 lt).0 ((totals_read x.0 x.1 lt).1 m)),
+        λ m. (let lt = ltb-true 0 x.1 (member-kept is_above_zero (sums.energies ++ sums.payments) x m).1 in (told.totals x.0 x.1 lt).0 ((totals_read x.0 x.1 lt).1 m)),
       ));
     }
 

@@ -2,7 +2,6 @@
 use Rattle.std.proofs.Common.{◌≡◌, sym, subst, ℕ, List, Result, Ok}
 use Rattle.pw_tariff.specs.Office.{OfficeFile, office_of}
 use Rattle.pw_tariff.specs.Text.{IsOfficeOf}
-use Rattle.pw_tariff.specs.declared.fault.OfficeFault.{OfficeFault}
 use Rattle.pw_tariff.proofs.Answered.{one-answer}
 use Rattle.pw_model.specs.Office.{AllOfOffice}
 use Rattle.pw_model.specs.Shelf.{ShelfContent, IsTrueContent}

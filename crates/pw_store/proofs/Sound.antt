@@ -1,5 +1,5 @@
 -- From rows that were read in order to the records of the tables, each once.
-use Rattle.std.proofs.Common.{◌≡◌, inl, inr, Result, Ok, Err, Vec, IfOk, OnOk, List, [], ◌∷◌, ◌++◌, map, refl, sym, ap, subst, ◌∙◌}
+use Rattle.std.proofs.Common.{◌≡◌, inl, inr, List, [], ◌∷◌, ◌++◌, map, refl, sym, ap, subst, ◌∙◌}
 use Rattle.std.specs.List.{AllByRecursion}
 use Rattle.std.specs.List.Sorted.{IsPermutation}
 use Rattle.std.proofs.lemmas.List.Sorted.{IsPermutation-sym, IsPermutation-append}
@@ -123,14 +123,6 @@ module _ (office : OfficeRules) (db : Database) (ours : IsOurs db.schema) (r : H
 
   pub sound_office : AllOfOffice office (records_of db.trees)
   sound_office = all_both office (entries_of Readings db.trees) (entries_of Assignments db.trees ++ entries_of TopUps db.trees) r.of_office (all_both office (entries_of Assignments db.trees) (entries_of TopUps db.trees) a.of_office t.of_office)
-
-pub good_if : {A E : Type 0} (office : OfficeRules) (k : RecordKind) (db : Trees) (rows : List Row) (r : Result A E) → ShowsAll k db rows → OnOk r (AreRecords office k rows) → OnOk r (HoldsRecords office k db)
-good_if office k db rows (Ok u) shows good = good_records office k db rows shows good
-good_if office k db rows (Err e) shows good = tt
-
-pub listed_if : {Z E : Type 0} (k : RecordKind) (db : Trees) (rows shown_rows : List Row) (r : Result (Vec Entry Z) E) → ShowsAll k db rows → shown_rows ≡ rows → IfOk r (λ found. found.items ≡ map (told k) shown_rows) → IfOk r (λ found. IsPermutation (entries_of k db) found.items)
-listed_if k db rows shown_rows (Ok v) shows is read = subst (IsPermutation (entries_of k db)) (sym (read ∙ ap (map (told k)) is)) (told_permuted k (db (tree_of k)) rows shows)
-listed_if k db rows shown_rows (Err e) shows is read = tt
 
 pub trees_is : (old new : State) → IsUnchanged old new → new.now.trees ≡ old.now.trees
 trees_is old new u = ap (λ (d : Database). d.trees) u.0.now_is

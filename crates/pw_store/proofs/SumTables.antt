@@ -1,7 +1,6 @@
 -- What the queries for whole tables of points, starts and totals show.
-use Rattle.std.proofs.Common.{◌≡◌, List, [], ◌∷◌, map, Ok, Err, Result, Vec, IfOk, refl, sym, ap, subst₂}
+use Rattle.std.proofs.Common.{◌≡◌, List, [], ◌∷◌, map, refl, sym, ap, subst₂}
 use Rattle.std.specs.List.Sorted.{IsPermutation}
-use Rattle.sqlite.specs.declared.error.Error.{Error}
 use Rattle.sqlite.specs.Order.{Row}
 use Rattle.sqlite.specs.Query.{Output}
 use Rattle.sqlite.specs.State.{State, Shown}
@@ -21,68 +20,61 @@ all_points_shown : (rows : List Row) → map second (outputs all_points_query []
 all_points_shown [] = refl
 all_points_shown (r ∷ rows) = ap (λ xs. shown Readings r ∷ xs) (all_points_shown rows)
 
-pub all_points_if : {Z : Type 0} (old new : State) (out : Result (Vec Row Z) Error) → IsOurs old.now.schema → IfOk out (λ rows. Shown all_points_text [] old new rows.items) → IfOk out (λ rows. IsPermutation (map (shown Readings) (old.now.trees 7)) rows.items)
-all_points_if old new (Err e) ours h = tt
-all_points_if old new (Ok rows) ours h =
-    let s = seen all_points_text 7 all_points_query _ all_points_is [] old new rows.items ours h in
+pub shows_all_points : (old new : State) (rows : List Row) → IsOurs old.now.schema → Shown all_points_text [] old new rows → IsPermutation (map (shown Readings) (old.now.trees 7)) rows
+shows_all_points old new rows ours h =
+    let s = seen all_points_text 7 all_points_query _ all_points_is [] old new rows ours h in
     subst₂ IsPermutation (all_points_shown _) (sym s.2) s.1
 
 all_starts_shown : (rows : List Row) → map second (outputs all_starts_query [] rows) ≡ map (shown Assignments) rows
 all_starts_shown [] = refl
 all_starts_shown (r ∷ rows) = ap (λ xs. shown Assignments r ∷ xs) (all_starts_shown rows)
 
-pub all_starts_if : {Z : Type 0} (old new : State) (out : Result (Vec Row Z) Error) → IsOurs old.now.schema → IfOk out (λ rows. Shown all_starts_text [] old new rows.items) → IfOk out (λ rows. IsPermutation (map (shown Assignments) (old.now.trees 9)) rows.items)
-all_starts_if old new (Err e) ours h = tt
-all_starts_if old new (Ok rows) ours h =
-    let s = seen all_starts_text 9 all_starts_query _ all_starts_is [] old new rows.items ours h in
+pub shows_all_starts : (old new : State) (rows : List Row) → IsOurs old.now.schema → Shown all_starts_text [] old new rows → IsPermutation (map (shown Assignments) (old.now.trees 9)) rows
+shows_all_starts old new rows ours h =
+    let s = seen all_starts_text 9 all_starts_query _ all_starts_is [] old new rows ours h in
     subst₂ IsPermutation (all_starts_shown _) (sym s.2) s.1
 
 all_energies_shown : (rows : List Row) → map second (outputs all_energies_query [] rows) ≡ map (shown_total Energies) rows
 all_energies_shown [] = refl
 all_energies_shown (r ∷ rows) = ap (λ xs. shown_total Energies r ∷ xs) (all_energies_shown rows)
 
-pub all_energies_if : {Z : Type 0} (old new : State) (out : Result (Vec Row Z) Error) → IsOurs old.now.schema → IfOk out (λ rows. Shown all_energies_text [] old new rows.items) → IfOk out (λ rows. IsPermutation (map (shown_total Energies) (old.now.trees 11)) rows.items)
-all_energies_if old new (Err e) ours h = tt
-all_energies_if old new (Ok rows) ours h =
-    let s = seen all_energies_text 11 all_energies_query _ all_energies_is [] old new rows.items ours h in
+pub shows_all_energies : (old new : State) (rows : List Row) → IsOurs old.now.schema → Shown all_energies_text [] old new rows → IsPermutation (map (shown_total Energies) (old.now.trees 11)) rows
+shows_all_energies old new rows ours h =
+    let s = seen all_energies_text 11 all_energies_query _ all_energies_is [] old new rows ours h in
     subst₂ IsPermutation (all_energies_shown _) (sym s.2) s.1
 
 all_payments_shown : (rows : List Row) → map second (outputs all_payments_query [] rows) ≡ map (shown_total Payments) rows
 all_payments_shown [] = refl
 all_payments_shown (r ∷ rows) = ap (λ xs. shown_total Payments r ∷ xs) (all_payments_shown rows)
 
-pub all_payments_if : {Z : Type 0} (old new : State) (out : Result (Vec Row Z) Error) → IsOurs old.now.schema → IfOk out (λ rows. Shown all_payments_text [] old new rows.items) → IfOk out (λ rows. IsPermutation (map (shown_total Payments) (old.now.trees 13)) rows.items)
-all_payments_if old new (Err e) ours h = tt
-all_payments_if old new (Ok rows) ours h =
-    let s = seen all_payments_text 13 all_payments_query _ all_payments_is [] old new rows.items ours h in
+pub shows_all_payments : (old new : State) (rows : List Row) → IsOurs old.now.schema → Shown all_payments_text [] old new rows → IsPermutation (map (shown_total Payments) (old.now.trees 13)) rows
+shows_all_payments old new rows ours h =
+    let s = seen all_payments_text 13 all_payments_query _ all_payments_is [] old new rows ours h in
     subst₂ IsPermutation (all_payments_shown _) (sym s.2) s.1
 
 point_ids_shown : (rows : List Row) → map second (outputs point_ids_query [] rows) ≡ map (shown_id) rows
 point_ids_shown [] = refl
 point_ids_shown (r ∷ rows) = ap (λ xs. shown_id r ∷ xs) (point_ids_shown rows)
 
-pub point_ids_if : {Z : Type 0} (old new : State) (out : Result (Vec Row Z) Error) → IsOurs old.now.schema → IfOk out (λ rows. Shown point_ids_text [] old new rows.items) → IfOk out (λ rows. IsPermutation (map (shown_id) (old.now.trees 7)) rows.items)
-point_ids_if old new (Err e) ours h = tt
-point_ids_if old new (Ok rows) ours h =
-    let s = seen point_ids_text 7 point_ids_query _ point_ids_is [] old new rows.items ours h in
+pub shows_point_ids : (old new : State) (rows : List Row) → IsOurs old.now.schema → Shown point_ids_text [] old new rows → IsPermutation (map (shown_id) (old.now.trees 7)) rows
+shows_point_ids old new rows ours h =
+    let s = seen point_ids_text 7 point_ids_query _ point_ids_is [] old new rows ours h in
     subst₂ IsPermutation (point_ids_shown _) (sym s.2) s.1
 
 start_ids_shown : (rows : List Row) → map second (outputs start_ids_query [] rows) ≡ map (shown_id) rows
 start_ids_shown [] = refl
 start_ids_shown (r ∷ rows) = ap (λ xs. shown_id r ∷ xs) (start_ids_shown rows)
 
-pub start_ids_if : {Z : Type 0} (old new : State) (out : Result (Vec Row Z) Error) → IsOurs old.now.schema → IfOk out (λ rows. Shown start_ids_text [] old new rows.items) → IfOk out (λ rows. IsPermutation (map (shown_id) (old.now.trees 9)) rows.items)
-start_ids_if old new (Err e) ours h = tt
-start_ids_if old new (Ok rows) ours h =
-    let s = seen start_ids_text 9 start_ids_query _ start_ids_is [] old new rows.items ours h in
+pub shows_start_ids : (old new : State) (rows : List Row) → IsOurs old.now.schema → Shown start_ids_text [] old new rows → IsPermutation (map (shown_id) (old.now.trees 9)) rows
+shows_start_ids old new rows ours h =
+    let s = seen start_ids_text 9 start_ids_query _ start_ids_is [] old new rows ours h in
     subst₂ IsPermutation (start_ids_shown _) (sym s.2) s.1
 
 energy_ids_shown : (rows : List Row) → map second (outputs energy_ids_query [] rows) ≡ map (shown_id) rows
 energy_ids_shown [] = refl
 energy_ids_shown (r ∷ rows) = ap (λ xs. shown_id r ∷ xs) (energy_ids_shown rows)
 
-pub energy_ids_if : {Z : Type 0} (old new : State) (out : Result (Vec Row Z) Error) → IsOurs old.now.schema → IfOk out (λ rows. Shown energy_ids_text [] old new rows.items) → IfOk out (λ rows. IsPermutation (map (shown_id) (old.now.trees 11)) rows.items)
-energy_ids_if old new (Err e) ours h = tt
-energy_ids_if old new (Ok rows) ours h =
-    let s = seen energy_ids_text 11 energy_ids_query _ energy_ids_is [] old new rows.items ours h in
+pub shows_energy_ids : (old new : State) (rows : List Row) → IsOurs old.now.schema → Shown energy_ids_text [] old new rows → IsPermutation (map (shown_id) (old.now.trees 11)) rows
+shows_energy_ids old new rows ours h =
+    let s = seen energy_ids_text 11 energy_ids_query _ energy_ids_is [] old new rows ours h in
     subst₂ IsPermutation (energy_ids_shown _) (sym s.2) s.1

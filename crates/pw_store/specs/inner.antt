@@ -5,3 +5,4 @@ pub mod Changing
 pub mod Seconds
 pub mod Sums
 pub mod Truth
+pub mod Scanning

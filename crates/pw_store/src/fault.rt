@@ -4,6 +4,7 @@ ghost use Rattle.std.specs.Prelude.{◌≡◌, ◌+◌, ◌⊎◌};
 ghost use Rattle.pw_shelf.specs.Calls.{failures_in};
 ghost use Rattle.pw_shelf.specs.declared.fault.ShelfFault.TheVariants.{Device};
 
+use pw_schema::JudgeFault;
 use pw_shelf::{ShelfFault, Tally};
 use sqlite::{Error, ErrorCode};
 use std::fmt;
@@ -119,5 +120,17 @@ pub(crate) fn fault_in(error: Error) -> OpenFault
     match error {
         Error::SqliteFailure(ErrorCode::OutOfMemory) => OpenFault::Memory,
         _ => OpenFault::Store,
+    }
+}
+
+/// What rows that a judge refused are to an opening.
+pub(crate) fn fault_of_rows(fault: JudgeFault) -> OpenFault
+    ensures foreign { result ≡ OpenFault.Unclean → fault ≡ JudgeFault.Foreign }
+    ensures others { (result ≡ OpenFault.Unclean) ⊎ ((result ≡ OpenFault.Memory) ⊎ (result ≡ OpenFault.Store)) }
+{
+    match fault {
+        JudgeFault::Memory => OpenFault::Memory,
+        JudgeFault::Foreign => OpenFault::Unclean,
+        JudgeFault::Unordered => OpenFault::Store,
     }
 }

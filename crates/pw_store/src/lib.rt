@@ -14,6 +14,7 @@ mod meters;
 mod opening;
 mod points;
 mod questions;
+mod scan;
 mod shelf;
 mod starts;
 mod sum_tables;

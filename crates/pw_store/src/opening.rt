@@ -1,6 +1,6 @@
 //! Making a connection ready to be a store, or finding why it can't be one.
 
-ghost use Rattle.std.specs.Prelude.{◌≡◌, ◌⊎◌, ◌++◌, Err, IfErr, IfOk, IsTrue, OnErr, OnOk, map};
+ghost use Rattle.std.specs.Prelude.{◌≡◌, ◌++◌, IfErr, IfOk, IsTrue, OnErr, OnOk};
 ghost use Rattle.std.specs.List.Sorted.{IsPermutation};
 ghost use Rattle.sqlite.specs.Held.{state};
 ghost use Rattle.sqlite.specs.State.{HasCleanDisk, IsUnchanged, KeepsCommit, Survives};
@@ -8,8 +8,7 @@ ghost use Rattle.pw_tariff.specs.Office.{office_of};
 ghost use Rattle.pw_model.specs.Office.{AllOfOffice};
 ghost use Rattle.pw_schema.specs.Fresh.{IsIdleAt};
 ghost use Rattle.pw_store.specs.Content.{records_of};
-ghost use Rattle.pw_schema.specs.Judging.{AreRecords, KeepsOffice};
-ghost use Rattle.pw_schema.specs.Rows.{told};
+ghost use Rattle.pw_schema.specs.Judging.{KeepsOffice};
 ghost use Rattle.pw_schema.specs.Tables.{IsOurs, no_schema};
 ghost use Rattle.pw_store.specs.Opening.{HoldsAllRecords, HoldsRecords, KeepsText, OursRefuses, Refuses};
 ghost use Rattle.pw_store.specs.Shown.{entries_of};
@@ -17,40 +16,17 @@ ghost use Rattle.pw_store.specs.inner.Opened.{IsOpened, IsSettled, MayOpen, Reco
 
 use crate::fault::{OpenFault, fault_in};
 use crate::sums::read_sums;
-use crate::tables::{all_assignments, all_readings, office_rows};
-use crate::topups::topup_rows;
-use crate::truth::judge_truth;
+use crate::tables::{all_assignments, all_readings, all_topups, office_rows};
+use crate::truth::parts_of;
 use crate::waking::wake;
 use crate::watch::{Part, Watch};
 use pw_model::Entry;
 use pw_schema::{
-    JudgeFault, OfficeFault, RecordKind, create, is_nothing, is_ours, judge_office, judge_rows,
-    roll_back,
+    OfficeFault, RecordKind, Records, create, is_nothing, is_ours, judge_office, roll_back,
 };
 use pw_tariff::Office;
-use sqlite::{Alter, Connection, Error, Row};
+use sqlite::{Alter, Connection, Error};
 use std::alloc::{AllocError, Global};
-
-// Whether rows in order are records of the office, each once.
-fn judge(
-    alloc: Global,
-    office: &Office,
-    kind: RecordKind,
-    rows: &[Row],
-) -> Result<Vec<Entry>, OpenFault>
-    ensures read { IfOk result (λ found. found.items ≡ map (told kind) rows.now) }
-    ensures records { OnOk result (AreRecords (office_of office.now) kind rows.now) }
-    ensures of_office { IfOk result (λ found. AllOfOffice (office_of office.now) found.items) }
-    ensures foreign { result ≡ Err OpenFault.Unclean → AreRecords (office_of office.now) kind rows.now → ⊥ }
-    ensures others { OnErr result ((result ≡ Err OpenFault.Unclean) ⊎ ((result ≡ Err OpenFault.Memory) ⊎ (result ≡ Err OpenFault.Store))) }
-{
-    match judge_rows(alloc, office, kind, rows) {
-        Ok(found) => Ok(found),
-        Err(JudgeFault::Memory) => Err(OpenFault::Memory),
-        Err(JudgeFault::Foreign) => Err(OpenFault::Unclean),
-        Err(JudgeFault::Unordered) => Err(OpenFault::Store),
-    }
-}
 
 // Why the row of `office` refuses an opening.
 fn fault_of_office(fault: OfficeFault) -> OpenFault
@@ -144,11 +120,11 @@ fn check_readings<S: Alter>(
     ensures kept { HasCleanDisk (state S.Store conn.new) → KeepsCommit (state S.Store conn.old) (state S.Store conn.new) }
     ensures crash { Survives (state S.Store conn.old) (state S.Store conn.new) (λ _. ⊥) }
 {
-    let rows = match all_readings(conn) {
-        Ok(rows) => rows,
-        Err(error) => return Err(fault_in(error)),
-    };
-    judge(alloc, office, RecordKind::Readings, rows.as_slice())
+    let mut readings = Records::new(alloc, office, RecordKind::Readings);
+    match all_readings(conn, &mut readings) {
+        Ok(_) => Ok(readings.into_entries()),
+        Err(fault) => Err(fault),
+    }
 }
 
 fn check_assignments<S: Alter>(
@@ -165,11 +141,11 @@ fn check_assignments<S: Alter>(
     ensures kept { HasCleanDisk (state S.Store conn.new) → KeepsCommit (state S.Store conn.old) (state S.Store conn.new) }
     ensures crash { Survives (state S.Store conn.old) (state S.Store conn.new) (λ _. ⊥) }
 {
-    let rows = match all_assignments(conn) {
-        Ok(rows) => rows,
-        Err(error) => return Err(fault_in(error)),
-    };
-    judge(alloc, office, RecordKind::Assignments, rows.as_slice())
+    let mut assignments = Records::new(alloc, office, RecordKind::Assignments);
+    match all_assignments(conn, &mut assignments) {
+        Ok(_) => Ok(assignments.into_entries()),
+        Err(fault) => Err(fault),
+    }
 }
 
 fn check_topups<S: Alter>(
@@ -186,11 +162,11 @@ fn check_topups<S: Alter>(
     ensures kept { HasCleanDisk (state S.Store conn.new) → KeepsCommit (state S.Store conn.old) (state S.Store conn.new) }
     ensures crash { Survives (state S.Store conn.old) (state S.Store conn.new) (λ _. ⊥) }
 {
-    let rows = match topup_rows(conn) {
-        Ok(rows) => rows,
-        Err(error) => return Err(fault_in(error)),
-    };
-    judge(alloc, office, RecordKind::TopUps, rows.as_slice())
+    let mut topups = Records::new(alloc, office, RecordKind::TopUps);
+    match all_topups(conn, &mut topups) {
+        Ok(_) => Ok(topups.into_entries()),
+        Err(fault) => Err(fault),
+    }
 }
 
 // The version and the text of the office, judged.
@@ -234,11 +210,15 @@ fn check<S: Alter, W: Watch>(
         Ok(records) => records,
         Err(fault) => return Err(fault),
     };
-    let sums = match read_sums(alloc, conn, office, watch) {
-        Ok(sums) => sums,
+    let parts = match parts_of(alloc, office, records) {
+        Ok(parts) => parts,
         Err(fault) => return Err(fault),
     };
-    judge_truth(alloc, office, records.as_slice(), sums)
+    match read_sums(conn, office, &parts, watch) {
+        Ok(true) => Ok(()),
+        Ok(false) => Err(OpenFault::Unclean),
+        Err(fault) => Err(fault),
+    }
 }
 
 // Makes the tables where nothing is there, else judges what is there.

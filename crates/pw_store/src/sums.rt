@@ -1,264 +1,185 @@
-//! Points, starts and totals of a store that is opened, judged.
+//! Points, starts and totals of a store that is opened, judged and compared with the parts of its records.
 
-ghost use Rattle.std.specs.Prelude.{◌≡◌, ◌⊎◌, Err, IfErr, IfOk, OnErr, OnOk, map};
+ghost use Rattle.std.specs.Prelude.{◌≡◌, ◌↔◌, ℕ, [], Err, IfErr, IfOk, IsTrue, List, OnErr, OnOk, Some, filter};
+ghost use Rattle.std.specs.Option.{option_copied};
 ghost use Rattle.sqlite.specs.Held.{state};
 ghost use Rattle.sqlite.specs.State.{HasCleanDisk, IsUnchanged, KeepsCommit, Survives};
 ghost use Rattle.pw_tariff.specs.Office.{office_of};
-ghost use Rattle.pw_model.specs.Lists.{IsInOrder};
-ghost use Rattle.pw_schema.specs.Judging.{AreKept, AreRowids, AreTotals, by_key, by_total, told_total};
-ghost use Rattle.pw_schema.specs.Rows.{told};
+ghost use Rattle.pw_model.specs.declared.records.Entry.{Entry as EntrySpec};
+ghost use Rattle.pw_model.specs.declared.records.TotalKey.{TotalKey as TotalKeySpec};
+ghost use Rattle.pw_schema.specs.Judges.{IsRest, is_above_zero};
 ghost use Rattle.pw_schema.specs.Tables.{IsOurs};
 ghost use Rattle.pw_store.specs.Content.{payment_tree, point_tree, start_tree, total_tree};
 ghost use Rattle.pw_store.specs.Opening.{HoldsKept, HoldsSums, HoldsTotals};
 ghost use Rattle.pw_store.specs.inner.Opened.{KeptRefuses, SumsRefuse, TotalsRefuse};
-ghost use Rattle.pw_store.specs.inner.Sums.{AreAllNumbered, AreNumbered, TellsKept, TellsSums, TellsTotals};
+ghost use Rattle.pw_store.specs.inner.Sums.{AreAllNumbered, AreNumbered, Listed, TellsKept, TellsSums, TellsTotals};
+ghost use Rattle.pw_store.specs.inner.Truth.{AreRead};
 
-use crate::fault::{OpenFault, fault_in};
+use crate::fault::OpenFault;
 use crate::sum_tables::{
     all_energies, all_payments, all_points, all_starts, energy_ids, point_ids, start_ids,
 };
 use crate::watch::{Part, Watch};
 use pw_model::{Entry, TotalKey};
-use pw_schema::{JudgeFault, RecordKind, TotalKind, are_rowids, judge_kept, judge_totals};
+use pw_parts::Parts;
+use pw_schema::{KeptEntries, KeptTotals, RecordKind, Rowids, TotalKind};
 use pw_tariff::Office;
-use sqlite::{Alter, Connection, Row};
-use std::alloc::Global;
-
-/// Points, starts and totals, each list in the order of its keys.
-#[derive(Drop)]
-pub(crate) struct Sums {
-    pub points: Vec<Entry>,
-    pub starts: Vec<Entry>,
-    pub energies: Vec<(TotalKey, u64)>,
-    pub payments: Vec<(TotalKey, u64)>,
-}
-
-fn fault_of_rows(fault: JudgeFault) -> OpenFault
-    ensures foreign { result ≡ OpenFault.Unclean → fault ≡ JudgeFault.Foreign }
-    ensures others { (result ≡ OpenFault.Unclean) ⊎ ((result ≡ OpenFault.Memory) ⊎ (result ≡ OpenFault.Store)) }
-{
-    match fault {
-        JudgeFault::Memory => OpenFault::Memory,
-        JudgeFault::Foreign => OpenFault::Unclean,
-        JudgeFault::Unordered => OpenFault::Store,
-    }
-}
-
-// Points or starts in order, with the rowids of their table.
-fn judge_entries(
-    alloc: Global,
-    office: &Office,
-    kind: RecordKind,
-    rows: &[Row],
-    ids: &[Row],
-) -> Result<Vec<Entry>, OpenFault>
-    ensures read { IfOk result (λ found. found.items ≡ map (told kind) rows.now) }
-    ensures rising { IfOk result (λ found. IsInOrder by_key found.items) }
-    ensures good { IfOk result (λ found. AreKept (office_of office.now) kind rows.now) }
-    ensures ids { OnOk result (AreRowids ids.now) }
-    ensures foreign { result ≡ Err OpenFault.Unclean → AreKept (office_of office.now) kind rows.now → ⊥ }
-    ensures others { OnErr result ((result ≡ Err OpenFault.Unclean) ⊎ ((result ≡ Err OpenFault.Memory) ⊎ (result ≡ Err OpenFault.Store))) }
-{
-    if !are_rowids(ids) {
-        return Err(OpenFault::Store);
-    }
-    match judge_kept(alloc, office, kind, rows) {
-        Ok(found) => Ok(found),
-        Err(fault) => Err(fault_of_rows(fault)),
-    }
-}
-
-// Totals in order.
-fn judge_amounts(
-    alloc: Global,
-    office: &Office,
-    kind: TotalKind,
-    rows: &[Row],
-) -> Result<Vec<(TotalKey, u64)>, OpenFault>
-    ensures read { IfOk result (λ found. found.items ≡ map (told_total kind) rows.now) }
-    ensures rising { IfOk result (λ found. IsInOrder by_total found.items) }
-    ensures good { IfOk result (λ found. AreTotals (office_of office.now) kind rows.now) }
-    ensures foreign { result ≡ Err OpenFault.Unclean → AreTotals (office_of office.now) kind rows.now → ⊥ }
-    ensures others { OnErr result ((result ≡ Err OpenFault.Unclean) ⊎ ((result ≡ Err OpenFault.Memory) ⊎ (result ≡ Err OpenFault.Store))) }
-{
-    match judge_totals(alloc, office, kind, rows) {
-        Ok(found) => Ok(found),
-        Err(fault) => Err(fault_of_rows(fault)),
-    }
-}
-
-// Totals in order, with the rowids of their table.
-fn judge_energies(
-    alloc: Global,
-    office: &Office,
-    rows: &[Row],
-    ids: &[Row],
-) -> Result<Vec<(TotalKey, u64)>, OpenFault>
-    ensures read { IfOk result (λ found. found.items ≡ map (told_total TotalKind.Energies) rows.now) }
-    ensures rising { IfOk result (λ found. IsInOrder by_total found.items) }
-    ensures good { IfOk result (λ found. AreTotals (office_of office.now) TotalKind.Energies rows.now) }
-    ensures ids { OnOk result (AreRowids ids.now) }
-    ensures foreign { result ≡ Err OpenFault.Unclean → AreTotals (office_of office.now) TotalKind.Energies rows.now → ⊥ }
-    ensures others { OnErr result ((result ≡ Err OpenFault.Unclean) ⊎ ((result ≡ Err OpenFault.Memory) ⊎ (result ≡ Err OpenFault.Store))) }
-{
-    if !are_rowids(ids) {
-        return Err(OpenFault::Store);
-    }
-    judge_amounts(alloc, office, TotalKind::Energies, rows)
-}
+use sqlite::{Alter, Connection};
 
 // The points.
 fn read_points<S: Alter>(
-    alloc: Global,
     conn: &mut Connection<S>,
     office: &Office,
-) -> Result<Vec<Entry>, OpenFault>
+    expected: &[Entry],
+) -> Result<(usize, bool), OpenFault>
     requires ours { HasCleanDisk (state S.Store conn.old) → IsOurs (state S.Store conn.old).now.schema }
     ensures holds { HasCleanDisk (state S.Store conn.new) → OnOk result (HoldsKept (office_of office.now) RecordKind.Readings ((state S.Store conn.old).now.trees point_tree)) }
     ensures numbered { HasCleanDisk (state S.Store conn.new) → OnOk result (AreNumbered ((state S.Store conn.old).now.trees point_tree)) }
-    ensures tells { HasCleanDisk (state S.Store conn.new) → IfOk result (λ found. TellsKept RecordKind.Readings ((state S.Store conn.old).now.trees point_tree) found.items) }
+    ensures tells { HasCleanDisk (state S.Store conn.new) → IfOk result (λ read. (found : List EntrySpec) × TellsKept RecordKind.Readings ((state S.Store conn.old).now.trees point_tree) found × (IsTrue read.1 ↔ expected.now ≡ found)) }
     ensures cause { HasCleanDisk (state S.Store conn.new) → IfErr result (KeptRefuses (office_of office.now) RecordKind.Readings ((state S.Store conn.old).now.trees point_tree)) }
     ensures same { HasCleanDisk (state S.Store conn.new) → OnOk result (IsUnchanged (state S.Store conn.old) (state S.Store conn.new)) }
     ensures kept { HasCleanDisk (state S.Store conn.new) → KeepsCommit (state S.Store conn.old) (state S.Store conn.new) }
     ensures crash { Survives (state S.Store conn.old) (state S.Store conn.new) (λ _. ⊥) }
 {
-    let rows = match all_points(conn) {
-        Ok(rows) => rows,
-        Err(error) => return Err(fault_in(error)),
+    let mut points = KeptEntries::new(office, RecordKind::Readings, expected);
+    let count = match all_points(conn, &mut points) {
+        Ok(count) => count,
+        Err(fault) => return Err(fault),
     };
-    let ids = match point_ids(conn) {
-        Ok(ids) => ids,
-        Err(error) => return Err(fault_in(error)),
-    };
-    judge_entries(
-        alloc,
-        office,
-        RecordKind::Readings,
-        rows.as_slice(),
-        ids.as_slice(),
-    )
+    let mut ids = Rowids::new();
+    match point_ids(conn, &mut ids) {
+        Ok(_) => Ok((count, points.is_at_end())),
+        Err(fault) => Err(fault),
+    }
 }
 
 // The starts.
 fn read_starts<S: Alter>(
-    alloc: Global,
     conn: &mut Connection<S>,
     office: &Office,
-) -> Result<Vec<Entry>, OpenFault>
+    expected: &[Entry],
+) -> Result<(usize, bool), OpenFault>
     requires ours { HasCleanDisk (state S.Store conn.old) → IsOurs (state S.Store conn.old).now.schema }
     ensures holds { HasCleanDisk (state S.Store conn.new) → OnOk result (HoldsKept (office_of office.now) RecordKind.Assignments ((state S.Store conn.old).now.trees start_tree)) }
     ensures numbered { HasCleanDisk (state S.Store conn.new) → OnOk result (AreNumbered ((state S.Store conn.old).now.trees start_tree)) }
-    ensures tells { HasCleanDisk (state S.Store conn.new) → IfOk result (λ found. TellsKept RecordKind.Assignments ((state S.Store conn.old).now.trees start_tree) found.items) }
+    ensures tells { HasCleanDisk (state S.Store conn.new) → IfOk result (λ read. (found : List EntrySpec) × TellsKept RecordKind.Assignments ((state S.Store conn.old).now.trees start_tree) found × (IsTrue read.1 ↔ expected.now ≡ found)) }
     ensures cause { HasCleanDisk (state S.Store conn.new) → IfErr result (KeptRefuses (office_of office.now) RecordKind.Assignments ((state S.Store conn.old).now.trees start_tree)) }
     ensures same { HasCleanDisk (state S.Store conn.new) → OnOk result (IsUnchanged (state S.Store conn.old) (state S.Store conn.new)) }
     ensures kept { HasCleanDisk (state S.Store conn.new) → KeepsCommit (state S.Store conn.old) (state S.Store conn.new) }
     ensures crash { Survives (state S.Store conn.old) (state S.Store conn.new) (λ _. ⊥) }
 {
-    let rows = match all_starts(conn) {
-        Ok(rows) => rows,
-        Err(error) => return Err(fault_in(error)),
+    let mut starts = KeptEntries::new(office, RecordKind::Assignments, expected);
+    let count = match all_starts(conn, &mut starts) {
+        Ok(count) => count,
+        Err(fault) => return Err(fault),
     };
-    let ids = match start_ids(conn) {
-        Ok(ids) => ids,
-        Err(error) => return Err(fault_in(error)),
-    };
-    judge_entries(
-        alloc,
-        office,
-        RecordKind::Assignments,
-        rows.as_slice(),
-        ids.as_slice(),
-    )
+    let mut ids = Rowids::new();
+    match start_ids(conn, &mut ids) {
+        Ok(_) => Ok((count, starts.is_at_end())),
+        Err(fault) => Err(fault),
+    }
 }
 
 // The totals of energy.
-fn read_energies<S: Alter>(
-    alloc: Global,
+fn read_energies<'a, S: Alter>(
     conn: &mut Connection<S>,
-    office: &Office,
-) -> Result<Vec<(TotalKey, u64)>, OpenFault>
+    office: &'a Office,
+    expected: &'a [(TotalKey, u64)],
+) -> Result<(usize, Option<&'a [(TotalKey, u64)]>), OpenFault>
     requires ours { HasCleanDisk (state S.Store conn.old) → IsOurs (state S.Store conn.old).now.schema }
     ensures holds { HasCleanDisk (state S.Store conn.new) → OnOk result (HoldsTotals (office_of office.now) TotalKind.Energies ((state S.Store conn.old).now.trees total_tree)) }
     ensures numbered { HasCleanDisk (state S.Store conn.new) → OnOk result (AreNumbered ((state S.Store conn.old).now.trees total_tree)) }
-    ensures tells { HasCleanDisk (state S.Store conn.new) → IfOk result (λ found. TellsTotals TotalKind.Energies ((state S.Store conn.old).now.trees total_tree) found.items) }
+    ensures tells { HasCleanDisk (state S.Store conn.new) → IfOk result (λ read. (found : List (TotalKeySpec × ℕ)) × TellsTotals TotalKind.Energies ((state S.Store conn.old).now.trees total_tree) found × IsRest (Some expected.now) (filter is_above_zero found) (option_copied read.1)) }
     ensures cause { HasCleanDisk (state S.Store conn.new) → IfErr result (TotalsRefuse (office_of office.now) TotalKind.Energies ((state S.Store conn.old).now.trees total_tree)) }
     ensures same { HasCleanDisk (state S.Store conn.new) → OnOk result (IsUnchanged (state S.Store conn.old) (state S.Store conn.new)) }
     ensures kept { HasCleanDisk (state S.Store conn.new) → KeepsCommit (state S.Store conn.old) (state S.Store conn.new) }
     ensures crash { Survives (state S.Store conn.old) (state S.Store conn.new) (λ _. ⊥) }
 {
-    let rows = match all_energies(conn) {
-        Ok(rows) => rows,
-        Err(error) => return Err(fault_in(error)),
+    let mut energies = KeptTotals::new(office, TotalKind::Energies, Some(expected));
+    let count = match all_energies(conn, &mut energies) {
+        Ok(count) => count,
+        Err(fault) => return Err(fault),
     };
-    let ids = match energy_ids(conn) {
-        Ok(ids) => ids,
-        Err(error) => return Err(fault_in(error)),
-    };
-    judge_energies(alloc, office, rows.as_slice(), ids.as_slice())
+    let mut ids = Rowids::new();
+    match energy_ids(conn, &mut ids) {
+        Ok(_) => Ok((count, energies.rest())),
+        Err(fault) => Err(fault),
+    }
+}
+
+// Whether a list has been met whole.
+fn is_at_end(rest: Option<&[(TotalKey, u64)]>) -> bool
+    ensures { IsTrue result ↔ option_copied rest.entry ≡ Some [] }
+{
+    match rest {
+        Some(rest) => rest.is_empty(),
+        None => false,
+    }
 }
 
 // The totals of top-ups.
 fn read_payments<S: Alter>(
-    alloc: Global,
     conn: &mut Connection<S>,
     office: &Office,
-) -> Result<Vec<(TotalKey, u64)>, OpenFault>
+    expected: Option<&[(TotalKey, u64)]>,
+) -> Result<(usize, bool), OpenFault>
     requires ours { HasCleanDisk (state S.Store conn.old) → IsOurs (state S.Store conn.old).now.schema }
     ensures holds { HasCleanDisk (state S.Store conn.new) → OnOk result (HoldsTotals (office_of office.now) TotalKind.Payments ((state S.Store conn.old).now.trees payment_tree)) }
     ensures numbered { HasCleanDisk (state S.Store conn.new) → OnOk result (AreNumbered ((state S.Store conn.old).now.trees payment_tree)) }
-    ensures tells { HasCleanDisk (state S.Store conn.new) → IfOk result (λ found. TellsTotals TotalKind.Payments ((state S.Store conn.old).now.trees payment_tree) found.items) }
+    ensures tells { HasCleanDisk (state S.Store conn.new) → IfOk result (λ read. (found : List (TotalKeySpec × ℕ)) × TellsTotals TotalKind.Payments ((state S.Store conn.old).now.trees payment_tree) found × (IsTrue read.1 ↔ option_copied expected.entry ≡ Some (filter is_above_zero found))) }
     ensures cause { HasCleanDisk (state S.Store conn.new) → IfErr result (TotalsRefuse (office_of office.now) TotalKind.Payments ((state S.Store conn.old).now.trees payment_tree)) }
     ensures same { HasCleanDisk (state S.Store conn.new) → OnOk result (IsUnchanged (state S.Store conn.old) (state S.Store conn.new)) }
     ensures kept { HasCleanDisk (state S.Store conn.new) → KeepsCommit (state S.Store conn.old) (state S.Store conn.new) }
     ensures crash { Survives (state S.Store conn.old) (state S.Store conn.new) (λ _. ⊥) }
 {
-    let rows = match all_payments(conn) {
-        Ok(rows) => rows,
-        Err(error) => return Err(fault_in(error)),
-    };
-    judge_amounts(alloc, office, TotalKind::Payments, rows.as_slice())
+    let mut payments = KeptTotals::new(office, TotalKind::Payments, expected);
+    match all_payments(conn, &mut payments) {
+        Ok(count) => Ok((count, is_at_end(payments.rest()))),
+        Err(fault) => Err(fault),
+    }
 }
 
-/// Points, starts and totals, if they are of the office, with no key twice.
+fn are_all(points: bool, starts: bool, totals: bool) -> bool
+    ensures { IsTrue result ↔ IsTrue points × IsTrue starts × IsTrue totals }
+{
+    points && starts && totals
+}
+
+/// Whether points, starts and totals are these parts of records, if they are of the office, with no key twice.
 pub(crate) fn read_sums<S: Alter, W: Watch>(
-    alloc: Global,
     conn: &mut Connection<S>,
     office: &Office,
+    parts: &Parts,
     watch: &mut W,
-) -> Result<Sums, OpenFault>
+) -> Result<bool, OpenFault>
     requires ours { HasCleanDisk (state S.Store conn.old) → IsOurs (state S.Store conn.old).now.schema }
     ensures holds { HasCleanDisk (state S.Store conn.new) → OnOk result (HoldsSums (office_of office.now) (state S.Store conn.old).now.trees) }
     ensures numbered { HasCleanDisk (state S.Store conn.new) → OnOk result (AreAllNumbered (state S.Store conn.old).now.trees) }
-    ensures tells { HasCleanDisk (state S.Store conn.new) → IfOk result (TellsSums (state S.Store conn.old).now.trees) }
+    ensures tells { HasCleanDisk (state S.Store conn.new) → IfOk result (λ same. (sums : Listed) × TellsSums (state S.Store conn.old).now.trees sums × (IsTrue same ↔ AreRead parts.now sums)) }
     ensures cause { HasCleanDisk (state S.Store conn.new) → IfErr result (SumsRefuse (office_of office.now) (state S.Store conn.old).now.trees) }
     ensures same { HasCleanDisk (state S.Store conn.new) → OnOk result (IsUnchanged (state S.Store conn.old) (state S.Store conn.new)) }
     ensures kept { HasCleanDisk (state S.Store conn.new) → KeepsCommit (state S.Store conn.old) (state S.Store conn.new) }
     ensures crash { Survives (state S.Store conn.old) (state S.Store conn.new) (λ _. ⊥) }
 {
-    let points = match read_points(alloc, conn, office) {
+    let points = match read_points(conn, office, parts.points.as_slice()) {
         Ok(points) => points,
         Err(fault) => return Err(fault),
     };
-    watch.checked(Part::Points, points.len());
-    let starts = match read_starts(alloc, conn, office) {
+    watch.checked(Part::Points, points.0);
+    let starts = match read_starts(conn, office, parts.starts.as_slice()) {
         Ok(starts) => starts,
         Err(fault) => return Err(fault),
     };
-    watch.checked(Part::Starts, starts.len());
-    let energies = match read_energies(alloc, conn, office) {
+    watch.checked(Part::Starts, starts.0);
+    let energies = match read_energies(conn, office, parts.totals.as_slice()) {
         Ok(energies) => energies,
         Err(fault) => return Err(fault),
     };
-    watch.checked(Part::Energies, energies.len());
-    let payments = match read_payments(alloc, conn, office) {
+    watch.checked(Part::Energies, energies.0);
+    let payments = match read_payments(conn, office, energies.1) {
         Ok(payments) => payments,
         Err(fault) => return Err(fault),
     };
-    watch.checked(Part::Payments, payments.len());
-    Ok(Sums {
-        points,
-        starts,
-        energies,
-        payments,
-    })
+    watch.checked(Part::Payments, payments.0);
+    Ok(are_all(points.1, starts.1, payments.1))
 }

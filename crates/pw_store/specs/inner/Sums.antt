@@ -1,4 +1,4 @@
--- What the rows of points, starts and totals are, as queries show them. It serves `src/tables.rt` and `src/sums.rt`.
+-- What the rows of points, starts and totals are, as queries show them. It serves `src/sum_tables.rt` and `src/sums.rt`.
 -- (Definitions of this project.)
 use Rattle.std.specs.Prelude.{ℕ, List, [], ◌∷◌, map}
 use Rattle.std.specs.List.{AllByRecursion}
@@ -14,7 +14,6 @@ use Rattle.pw_schema.specs.declared.kind.RecordKind.TheVariants.{Readings, Assig
 use Rattle.pw_schema.specs.declared.kind.TotalKind.{TotalKind}
 use Rattle.pw_schema.specs.declared.kind.TotalKind.TheVariants.{Energies, Payments}
 use Rattle.pw_schema.specs.Judging.{by_key, by_total}
-use Rattle.pw_store.specs.declared.sums.Sums.{Sums}
 use Rattle.pw_store.specs.Content.{point_tree, start_tree, total_tree, payment_tree}
 use Rattle.pw_store.specs.Keyed.{HasRowid}
 use Rattle.pw_store.specs.Opening.{key_of_total}
@@ -55,9 +54,16 @@ pub record TellsTotals (k : TotalKind) (table : List Row) (found : List (TotalKe
   pub told : IsPermutation (map (total_in_row k) table) found
   pub rising : IsInOrder by_total found
 
+-- points, starts and totals, each list in the order of its keys
+pub record Listed : Type 0 where
+  pub points : List Entry
+  pub starts : List Entry
+  pub energies : List (TotalKey × ℕ)
+  pub payments : List (TotalKey × ℕ)
+
 -- all of them
-pub record TellsSums (db : Trees) (sums : Sums) : Type 0 where
-  pub points : TellsKept Readings (db point_tree) sums.points.items
-  pub starts : TellsKept Assignments (db start_tree) sums.starts.items
-  pub energies : TellsTotals Energies (db total_tree) sums.energies.items
-  pub payments : TellsTotals Payments (db payment_tree) sums.payments.items
+pub record TellsSums (db : Trees) (sums : Listed) : Type 0 where
+  pub points_told : TellsKept Readings (db point_tree) sums.points
+  pub starts_told : TellsKept Assignments (db start_tree) sums.starts
+  pub energies_told : TellsTotals Energies (db total_tree) sums.energies
+  pub payments_told : TellsTotals Payments (db payment_tree) sums.payments

@@ -1,6 +1,6 @@
 use Rattle.std.proofs.Common.{take}
 use Rattle.pw_schema.specs.Rows.{ReadsRows}
-use Rattle.pw_schema.proofs.InTurn.{IsLast}
+use Rattle.pw_schema.specs.Judges.{IsLast}
 use Rattle.pw_schema.proofs.reading.read_rows.Given as goal
 
 abbrev pub invariant-loop-row : goal.invariant-loop-row

@@ -1,26 +1,31 @@
-use Rattle.std.proofs.Common.{◌≡◌, subst, List, OnOk, Err}
-use Rattle.pw_store.specs.declared.fault.OpenFault.TheVariants.{Unclean}
+use Rattle.std.proofs.Common.{ap, sym, subst}
+use Rattle.std.specs.List.Sorted.{IsPermutation}
 use Rattle.sqlite.specs.Held.{state}
-use Rattle.sqlite.specs.Order.{Row}
 use Rattle.pw_tariff.specs.Office.{office_of}
+use Rattle.pw_model.specs.Office.{AllOfOffice}
 use Rattle.pw_schema.specs.declared.kind.RecordKind.TheVariants.{Readings}
-use Rattle.pw_schema.specs.Judging.{AreRecords}
-use Rattle.pw_store.proofs.Refusals.{table_cause}
-use Rattle.pw_store.proofs.Sound.{good_if, listed_if}
+use Rattle.pw_store.specs.Shown.{entries_of}
+use Rattle.pw_store.proofs.Refusals.{table_holds, table_listed, table_of_office, table_refuses}
 use Rattle.pw_store.proofs.opening.check_readings.Goals as goal
 
-pub returns-clause-good : goal.returns-clause-good
-returns-clause-good g c clean =
-    let office = office_of c.args.office.now in
-    let good = subst (λ (rows : List Row). OnOk c.judge.result (AreRecords office Readings rows)) c.as_slice.ensures.value c.judge.ensures.records in
-    good_if office Readings (state g.S.Store c.args.conn.now).now.trees c.in-Ok.rows.items c.judge.result (c.in-Ok.ensures.rows clean) good
+pub returns-in-Ok-clause-good : goal.returns-in-Ok-clause-good
+returns-in-Ok-clause-good g c clean =
+    let it = c.in-Ok.ensures.took in
+    table_holds (office_of c.args.office.now) Readings c.new-readings.result (ap office_of c.new-readings.ensures.office) c.new-readings.ensures.kind c.all_readings.new.judge it.0 it.1 (state g.S.Store c.args.conn.now).now.trees (it.2 clean)
 
-pub returns-clause-listed : goal.returns-clause-listed
-returns-clause-listed g c clean =
-    listed_if Readings (state g.S.Store c.args.conn.now).now.trees c.in-Ok.rows.items c.as_slice.result.now c.judge.result (c.in-Ok.ensures.rows clean) c.as_slice.ensures.value c.judge.ensures.read
+pub returns-in-Ok-clause-listed : goal.returns-in-Ok-clause-listed
+returns-in-Ok-clause-listed g c clean =
+    let it = c.in-Ok.ensures.took in
+    let db = (state g.S.Store c.args.conn.now).now.trees in
+    let listed = table_listed (office_of c.args.office.now) Readings c.new-readings.result (ap office_of c.new-readings.ensures.office) c.new-readings.ensures.kind c.all_readings.new.judge it.0 it.1 db (it.2 clean) in
+    subst (IsPermutation (entries_of Readings db)) (sym (ap (λ v. v.items) c.into_entries.ensures)) listed
 
-pub returns-clause-cause : goal.returns-clause-cause
-returns-clause-cause g c clean =
-    let office = office_of c.args.office.now in
-    let foreign = subst (λ (rows : List Row). c.judge.result ≡ Err Unclean → AreRecords office Readings rows → ⊥) c.as_slice.ensures.value c.judge.ensures.foreign in
-    table_cause office Readings (state g.S.Store c.args.conn.now).now.trees c.in-Ok.rows.items c.judge.result (c.in-Ok.ensures.rows clean) foreign c.judge.ensures.others
+pub returns-in-Ok-clause-of_office : goal.returns-in-Ok-clause-of_office
+returns-in-Ok-clause-of_office g c =
+    let it = c.in-Ok.ensures.took in
+    let of = table_of_office (office_of c.args.office.now) Readings c.new-readings.result (ap office_of c.new-readings.ensures.office) c.new-readings.ensures.kind c.all_readings.new.judge it.0 it.1 in
+    subst (AllOfOffice (office_of c.args.office.now)) (sym (ap (λ v. v.items) c.into_entries.ensures)) of
+
+pub returns-in-Err-clause-cause : goal.returns-in-Err-clause-cause
+returns-in-Err-clause-cause g c clean =
+    table_refuses (office_of c.args.office.now) Readings c.new-readings.result (ap office_of c.new-readings.ensures.office) c.new-readings.ensures.kind (state g.S.Store c.args.conn.now).now.trees c.in-Err.fault c.in-Err.ensures.others (c.in-Err.ensures.refused clean)

@@ -1,25 +1,29 @@
-use Rattle.std.proofs.Common.{[]}
+use Rattle.std.proofs.Common.{[], map}
 use Rattle.sqlite.specs.Held.{state}
-use Rattle.pw_store.proofs.KeptTexts.{all_energies_text, all_energies_is}
-use Rattle.pw_store.proofs.Querying.{ours_plain, stays_if, fails_if, survives_if}
-use Rattle.pw_store.proofs.SumTables.{all_energies_if}
+use Rattle.sqlite.specs.State.{HasCleanDisk, Shown}
+use Rattle.std.specs.List.Sorted.{IsPermutation}
+use Rattle.pw_schema.specs.declared.kind.TotalKind.TheVariants.{Energies}
+use Rattle.pw_store.specs.inner.Sums.{shown_total}
+use Rattle.pw_store.specs.Content.{total_tree}
 use Rattle.pw_schema.proofs.Outcomes.{early}
+use Rattle.pw_store.proofs.KeptTexts.{all_energies_text, all_energies_is}
+use Rattle.pw_store.proofs.SumTables.{shows_all_energies}
+use Rattle.pw_store.proofs.Scanning.{ours_one, taken_if}
 use Rattle.pw_store.proofs.sum_tables.all_energies.Goals as goal
 
-pub returns-clause-rows : goal.returns-clause-rows
-returns-clause-rows g c clean =
-    let before = early (state g.S.Store c.args.conn.now) (state g.S.Store c.query_all.new.self) c.query_all.ensures.survives clean in
-    all_energies_if (state g.S.Store c.args.conn.now) (state g.S.Store c.query_all.new.self) c.query_all.result (c.requires.ours before) (c.query_all.ensures.ok clean)
+pub judge_each-requires-clause-query : goal.judge_each-requires-clause-query
+judge_each-requires-clause-query g c clean = ours_one all_energies_is _ (c.requires.ours clean)
 
-pub returns-clause-same : goal.returns-clause-same
-returns-clause-same g c clean =
-    let before = early (state g.S.Store c.args.conn.now) (state g.S.Store c.query_all.new.self) c.query_all.ensures.survives clean in
-    stays_if all_energies_text [] (state g.S.Store c.args.conn.now) (state g.S.Store c.query_all.new.self) c.query_all.result (ours_plain all_energies_is _ (c.requires.ours before)) (c.query_all.ensures.ok clean)
+pub returns-clause-took : goal.returns-clause-took
+returns-clause-took g c =
+    let old = state g.S.Store c.args.conn.now in
+    let new = state g.S.Store c.judge_each.new.conn in
+    taken_if g.J.Judge.took (λ rows. HasCleanDisk new → Shown all_energies_text [] old new rows) (λ rows. HasCleanDisk new → IsPermutation (map (shown_total Energies) (old.now.trees total_tree)) rows) c.args.judge.now c.judge_each.new.judge c.judge_each.result
+    (λ rows h clean. shows_all_energies old new rows (c.requires.ours (early old new c.judge_each.ensures.crash clean)) (h clean)) c.judge_each.ensures.took
 
-pub returns-clause-failed : goal.returns-clause-failed
-returns-clause-failed g c clean =
-    let before = early (state g.S.Store c.args.conn.now) (state g.S.Store c.query_all.new.self) c.query_all.ensures.survives clean in
-    fails_if all_energies_text [] (state g.S.Store c.args.conn.now) (state g.S.Store c.query_all.new.self) c.query_all.result (ours_plain all_energies_is _ (c.requires.ours before)) (c.query_all.ensures.err clean)
-
-pub returns-clause-crash : goal.returns-clause-crash
-returns-clause-crash g c = survives_if all_energies_text [] (state g.S.Store c.args.conn.now) (state g.S.Store c.query_all.new.self) (λ clean. ours_plain all_energies_is _ (c.requires.ours clean)) c.query_all.ensures.survives
+pub returns-clause-refused : goal.returns-clause-refused
+returns-clause-refused g c clean is =
+    let old = state g.S.Store c.args.conn.now in
+    let new = state g.S.Store c.judge_each.new.conn in
+    let it = c.judge_each.ensures.refused clean is in
+    (it.0, it.1, shows_all_energies old new it.0 (c.requires.ours (early old new c.judge_each.ensures.crash clean)) it.2)

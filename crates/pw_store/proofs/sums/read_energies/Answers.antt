@@ -1,38 +1,43 @@
-use Rattle.std.proofs.Common.{List, map, subst}
+use Rattle.std.proofs.Common.{List, Some, ap, filter, map, sym, subst}
 use Rattle.std.specs.List.Sorted.{IsPermutation}
+use Rattle.std.specs.Option.{option_copied}
 use Rattle.sqlite.specs.Held.{state}
 use Rattle.sqlite.specs.Order.{Row}
 use Rattle.pw_tariff.specs.Office.{office_of}
 use Rattle.pw_schema.proofs.Outcomes.{early}
+use Rattle.pw_schema.specs.Judges.{IsRest, is_above_zero}
 use Rattle.pw_schema.specs.declared.kind.TotalKind.TheVariants.{Energies}
 use Rattle.pw_store.specs.Content.{total_tree}
 use Rattle.pw_store.specs.inner.Sums.{shown_id}
 use Rattle.pw_store.proofs.InTurn.{trees_same}
-use Rattle.pw_store.proofs.Checked.{totals_hold, totals_tell, totals_cause, numbered_if}
+use Rattle.pw_store.proofs.Checked.{are_numbered}
+use Rattle.pw_store.proofs.Compared.{totals_hold, totals_refuse, totals_tell}
 use Rattle.pw_store.proofs.sums.read_energies.Goals as goal
 
-pub returns-clause-holds : goal.returns-clause-holds
-returns-clause-holds g c clean =
+pub returns-in-Err-clause-cause : goal.returns-in-Err-clause-cause
+returns-in-Err-clause-cause g c clean =
+    let table : List Row = (state g.S.Store c.args.conn.now).now.trees total_tree in
+    totals_refuse (office_of c.args.office.now) Energies table c.new-energies.result (ap office_of c.new-energies.ensures.office) c.new-energies.ensures.kind c.in-Err.fault c.in-Err.ensures.others (c.in-Err.ensures.refused clean)
+
+pub returns-in-Ok-energy_ids-clause-holds : goal.returns-in-Ok-energy_ids-clause-holds
+returns-in-Ok-energy_ids-clause-holds g c clean =
     let before = early (state g.S.Store c.all_energies.new.conn) (state g.S.Store c.energy_ids.new.conn) c.in-Ok-energy_ids.ensures.crash clean in
     let table : List Row = (state g.S.Store c.args.conn.now).now.trees total_tree in
-    totals_hold (office_of c.args.office.now) Energies table c.in-Ok.rows.items c.as_slice.result.now c.judge_energies.result (c.in-Ok.ensures.rows before) c.as_slice.ensures.value c.judge_energies.ensures.good
+    let it = c.in-Ok.ensures.took in
+    totals_hold (office_of c.args.office.now) Energies table c.new-energies.result (ap office_of c.new-energies.ensures.office) c.new-energies.ensures.kind c.all_energies.new.judge it.0 it.1 (it.2 before)
 
-pub returns-clause-numbered : goal.returns-clause-numbered
-returns-clause-numbered g c clean =
+pub returns-in-Ok-energy_ids-clause-numbered : goal.returns-in-Ok-energy_ids-clause-numbered
+returns-in-Ok-energy_ids-clause-numbered g c clean =
     let before = early (state g.S.Store c.all_energies.new.conn) (state g.S.Store c.energy_ids.new.conn) c.in-Ok-energy_ids.ensures.crash clean in
     let table : List Row = (state g.S.Store c.args.conn.now).now.trees total_tree in
     let same = trees_same (state g.S.Store c.args.conn.now) (state g.S.Store c.all_energies.new.conn) (c.in-Ok.ensures.same before) in
-    let ids : List Row = c.in-Ok-energy_ids.ids.items in
-    numbered_if table ids c.as_slice-2.result.now c.judge_energies.result (subst (λ db. IsPermutation (map shown_id (db total_tree)) ids) same (c.in-Ok-energy_ids.ensures.rows clean)) c.as_slice-2.ensures.value c.judge_energies.ensures.ids
+    let it = c.in-Ok-energy_ids.ensures.took in
+    are_numbered table it.0 (subst (λ db. IsPermutation (map shown_id (db total_tree)) it.0) same (it.2 clean)) it.1.are
 
-pub returns-clause-tells : goal.returns-clause-tells
-returns-clause-tells g c clean =
+pub returns-in-Ok-energy_ids-clause-tells : goal.returns-in-Ok-energy_ids-clause-tells
+returns-in-Ok-energy_ids-clause-tells g c clean =
     let before = early (state g.S.Store c.all_energies.new.conn) (state g.S.Store c.energy_ids.new.conn) c.in-Ok-energy_ids.ensures.crash clean in
     let table : List Row = (state g.S.Store c.args.conn.now).now.trees total_tree in
-    totals_tell (office_of c.args.office.now) Energies table c.in-Ok.rows.items c.as_slice.result.now c.judge_energies.result (c.in-Ok.ensures.rows before) c.as_slice.ensures.value c.judge_energies.ensures.read c.judge_energies.ensures.rising
-
-pub returns-clause-cause : goal.returns-clause-cause
-returns-clause-cause g c clean =
-    let before = early (state g.S.Store c.all_energies.new.conn) (state g.S.Store c.energy_ids.new.conn) c.in-Ok-energy_ids.ensures.crash clean in
-    let table : List Row = (state g.S.Store c.args.conn.now).now.trees total_tree in
-    totals_cause (office_of c.args.office.now) Energies table c.in-Ok.rows.items c.as_slice.result.now c.judge_energies.result (c.in-Ok.ensures.rows before) c.as_slice.ensures.value c.judge_energies.ensures.foreign c.judge_energies.ensures.others
+    let it = c.in-Ok.ensures.took in
+    let told = totals_tell (office_of c.args.office.now) Energies table c.new-energies.result (ap office_of c.new-energies.ensures.office) c.new-energies.ensures.kind c.all_energies.new.judge it.0 it.1 (it.2 before) (Some c.args.expected.now) (ap option_copied c.new-energies.ensures.rest) in
+    (told.0, told.1, subst (λ r. IsRest (Some c.args.expected.now) (filter is_above_zero told.0) (option_copied r)) (sym c.rest.ensures) told.2)

@@ -1,0 +1,33 @@
+use Rattle.std.proofs.Common.{[], ◌∷◌, ◌++◌, sym, subst, subst₂}
+use Rattle.sqlite.specs.Order.{Row}
+use Rattle.pw_tariff.specs.Office.{office_of}
+use Rattle.pw_schema.specs.Judging.{AreRecords, IsRecord}
+use Rattle.pw_schema.specs.Rows.{ReadsRows}
+use Rattle.pw_schema.proofs.InTurn.{read_push}
+use Rattle.pw_schema.proofs.Judged.{all_push}
+use Rattle.pw_schema.proofs.OneByOne.{all_mid, read_twice}
+use Rattle.pw_schema.proofs.records.RecordsJudge.take.Goals as goal
+
+pub returns-in_default-clause-foreign : goal.returns-in_default-clause-foreign
+returns-in_default-clause-foreign c first rows tail held e records =
+    let row : Row = c.args.row.now in
+    let mine = subst₂ (λ o k. AreRecords (office_of o) k (rows ++ row ∷ tail)) (sym held.same_office) (sym held.same_kind) records in
+    c.in_default.ensures.none (all_mid (IsRecord (office_of c.args.self.now.office.now) c.args.self.now.kind) row rows tail mine.each)
+
+pub returns-in-Equal-clause-foreign : goal.returns-in-Equal-clause-foreign
+returns-in-Equal-clause-foreign c first rows tail held e records =
+    let row : Row = c.args.row.now in
+    let mine = subst₂ (λ o k. AreRecords (office_of o) k (rows ++ row ∷ tail)) (sym held.same_office) (sym held.same_kind) records in
+    read_twice (office_of c.args.self.now.office.now) c.args.self.now.kind rows tail row c.args.self.now.found.items c.args.self.now.last c.in-Some.entry held.read held.behind c.in-Some.ensures.some.0 c.in-Equal.ensures.some c.in-Equal.ensures.none mine
+
+pub returns-clause-took : goal.returns-clause-took
+returns-clause-took c first rows held =
+    let row : Row = c.args.row.now in
+    let next = read_push c.args.self.now.kind rows c.args.self.now.found.items c.args.self.now.last row c.in-Some.entry held.read held.behind c.in-Some.ensures.some.1.0 c.in-Some.ensures.some.0 c.in-Less.ensures.some in
+    record {
+      same_office = held.same_office;
+      same_kind = held.same_kind;
+      read = subst (ReadsRows c.args.self.now.kind (rows ++ row ∷ [])) (sym c.in-Ok.ensures.items) next;
+      behind = (c.args.self.now.found.items, c.in-Ok.ensures.items);
+      each = all_push (IsRecord (office_of c.args.self.now.office.now) c.args.self.now.kind) row rows held.each c.in-Some.ensures.some.1;
+    }

@@ -1,0 +1,62 @@
+use Rattle.std.proofs.Common.{◌≡◌, ◌↔◌, Some, IsTrue, filter, subst, ◌∙◌}
+use Rattle.std.specs.Option.{option_copied}
+use Rattle.sqlite.specs.Held.{state}
+use Rattle.pw_schema.specs.declared.kind.RecordKind.TheVariants.{Assignments}
+use Rattle.pw_schema.specs.declared.kind.TotalKind.TheVariants.{Energies, Payments}
+use Rattle.pw_schema.specs.Judges.{IsRest, is_above_zero}
+use Rattle.pw_schema.proofs.Outcomes.{early}
+use Rattle.pw_store.specs.Content.{start_tree, total_tree, payment_tree}
+use Rattle.pw_store.specs.inner.Sums.{TellsKept, TellsTotals}
+use Rattle.pw_store.proofs.Compared.{all_read}
+use Rattle.pw_store.proofs.InTurn.{trees_same}
+use Rattle.pw_store.proofs.Scanning.{survives_on}
+use Rattle.pw_store.proofs.sums.read_sums.Goals as goal
+
+pub returns-in-Err-read_payments-clause-crash : goal.returns-in-Err-read_payments-clause-crash
+returns-in-Err-read_payments-clause-crash g c =
+    let s0 = state g.S.Store c.args.conn.now in
+    let s1 = state g.S.Store c.read_points.new.conn in
+    let s2 = state g.S.Store c.read_starts.new.conn in
+    let s3 = state g.S.Store c.read_energies.new.conn in
+    let s4 = state g.S.Store c.read_payments.new.conn in
+    survives_on s0 s2 s4 (survives_on s0 s1 s2 c.in-Ok.ensures.crash c.in-Ok-read_starts.ensures.crash) (survives_on s2 s3 s4 c.in-Ok-read_energies.ensures.crash c.in-Err-read_payments.ensures.crash)
+
+pub returns-clause-crash : goal.returns-clause-crash
+returns-clause-crash g c =
+    let s0 = state g.S.Store c.args.conn.now in
+    let s1 = state g.S.Store c.read_points.new.conn in
+    let s2 = state g.S.Store c.read_starts.new.conn in
+    let s3 = state g.S.Store c.read_energies.new.conn in
+    let s4 = state g.S.Store c.read_payments.new.conn in
+    survives_on s0 s2 s4 (survives_on s0 s1 s2 c.in-Ok.ensures.crash c.in-Ok-read_starts.ensures.crash) (survives_on s2 s3 s4 c.in-Ok-read_energies.ensures.crash c.in-Ok-read_payments.ensures.crash)
+
+pub returns-clause-tells : goal.returns-clause-tells
+returns-clause-tells g c clean =
+    let s0 = state g.S.Store c.args.conn.now in
+    let s1 = state g.S.Store c.read_points.new.conn in
+    let s2 = state g.S.Store c.read_starts.new.conn in
+    let s3 = state g.S.Store c.read_energies.new.conn in
+    let s4 = state g.S.Store c.read_payments.new.conn in
+    let clean3 = early s3 s4 c.in-Ok-read_payments.ensures.crash clean in
+    let clean2 = early s2 s3 c.in-Ok-read_energies.ensures.crash clean3 in
+    let clean1 = early s1 s2 c.in-Ok-read_starts.ensures.crash clean2 in
+    let same1 = trees_same s0 s1 (c.in-Ok.ensures.same clean1) in
+    let same2 = trees_same s1 s2 (c.in-Ok-read_starts.ensures.same clean2) ∙ same1 in
+    let same3 = trees_same s2 s3 (c.in-Ok-read_energies.ensures.same clean3) ∙ same2 in
+    let p = c.in-Ok.ensures.tells clean1 in
+    let s = c.in-Ok-read_starts.ensures.tells clean2 in
+    let e = c.in-Ok-read_energies.ensures.tells clean3 in
+    let y = c.in-Ok-read_payments.ensures.tells clean in (
+      record { points = p.0; starts = s.0; energies = e.0; payments = y.0 },
+      record {
+        points_told = p.1;
+        starts_told = subst (λ db. TellsKept Assignments (db start_tree) s.0) same1 s.1;
+        energies_told = subst (λ db. TellsTotals Energies (db total_tree) e.0) same2 e.1;
+        payments_told = subst (λ db. TellsTotals Payments (db payment_tree) y.0) same3 y.1;
+      },
+      all_read c.args.parts.now p.0 s.0 e.0 y.0 (option_copied c.in-Ok-read_energies.energies.1) c.in-Ok.points.1 c.in-Ok-read_starts.starts.1 c.in-Ok-read_payments.payments.1 c.are_all.result c.are_all.ensures
+          (subst (λ l. IsTrue c.in-Ok.points.1 ↔ l ≡ p.0) c.as_slice.ensures.value p.2)
+          (subst (λ l. IsTrue c.in-Ok-read_starts.starts.1 ↔ l ≡ s.0) c.as_slice-2.ensures.value s.2)
+          (subst (λ l. IsRest (Some l) (filter is_above_zero e.0) (option_copied c.in-Ok-read_energies.energies.1)) c.as_slice-3.ensures.value e.2)
+          y.2,
+    )

@@ -1,6 +1,0 @@
-use Rattle.std.proofs.lemmas.Slice.Eq.{slice_eq-Decides}
-use Rattle.pw_store.proofs.Deciding.{rows_decided}
-use Rattle.pw_store.proofs.truth.are_same_totals.Goals as goal
-
-pub returns : goal.returns
-returns c = slice_eq-Decides rows_decided c.args.a.now c.args.b.now c.eq.result c.eq.ensures
