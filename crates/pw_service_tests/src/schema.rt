@@ -2,8 +2,8 @@
 
 use pw_model::Entry;
 use pw_schema::{
-    Judge, JudgeFault, ReadFault, RecordKind, Records, begin, commit, create, is_nothing, is_ours,
-    judge_office, read_rows, roll_back,
+    Judge, JudgeFault, ReadFault, RecordKind, Records, Rowids, begin, commit, create, is_nothing,
+    is_ours, judge_office, read_rows, roll_back,
 };
 use pw_tariff::Office;
 use sqlite::{Connection, MemStore, Row};
@@ -181,4 +181,19 @@ fn rows_that_are_no_records_of_the_office_are_foreign(rt: HostRuntime) -> Result
         Some(JudgeFault::Unordered)
     );
     Ok(())
+}
+
+#[test]
+fn rowids_rise(rt: HostRuntime) {
+    let alloc = rt.alloc();
+    for (text, rising) in [
+        ("SELECT -1 UNION ALL SELECT 1 UNION ALL SELECT 3", true),
+        ("SELECT 1 UNION ALL SELECT 1", false),
+        ("SELECT 2 UNION ALL SELECT 1", false),
+        ("SELECT 1 UNION ALL SELECT 'x'", false),
+    ] {
+        let (rows, mut ids) = (rows(&rt, alloc, text), Rowids::new());
+        let are_rising = rows.as_slice().iter().all(|row| ids.take(row).is_ok());
+        assert_eq!(rt; are_rising, rising, "{text}");
+    }
 }

@@ -5,6 +5,7 @@ ghost use Rattle.std.specs.Prelude.{◌≡◌, false};
 use pw_model::TotalKey;
 use pw_obis::{Register, WattHours};
 use pw_shelf::Shelf;
+use pw_store::laws::{closed_is_opened_again, left_is_opened_again};
 use pw_store::{OpenFault, SqlShelf};
 use pw_tariff::{AccountId, BandId, Direction, MeterId, Office};
 use pw_time::Instant;
@@ -145,6 +146,60 @@ fn a_start_is_there_when_opened_again(rt: HostRuntime) -> Result<(), Fail> {
     let starts = again.starts_of(alloc, METER)?;
     assert_eq!(rt; starts.len(), 1);
     Ok(())
+}
+
+// Whether what is left of a store opens.
+fn is_opened_behind(
+    rt: &impl Abort,
+    alloc: Global,
+    shelf: &SqlShelf<MemStore>,
+    left: Connection<MemStore>,
+) -> bool {
+    let _office = Office::read(alloc, TEXT.as_bytes()).expect(rt, "an office");
+    left_is_opened_again(alloc, shelf, left, TEXT.as_bytes()).is_ok()
+}
+
+// The store, closed and opened again.
+fn reopened(rt: &impl Abort, alloc: Global, shelf: SqlShelf<MemStore>) -> SqlShelf<MemStore> {
+    let _office = Office::read(alloc, TEXT.as_bytes()).expect(rt, "an office");
+    match closed_is_opened_again(alloc, shelf, TEXT.as_bytes()) {
+        Ok(again) => again,
+        Err(_) => panic!(rt; "not opened"),
+    }
+}
+
+#[test]
+fn an_upload_still_begun_is_gone_when_opened_again(rt: HostRuntime) -> Result<(), Fail> {
+    let alloc = rt.alloc();
+    let mut shelf = shelf_of(&rt, alloc, memory(&rt, alloc));
+    shelf.begin()?;
+    shelf.total_put(&PAYMENTS, 500)?;
+    let mut again = reopened(&rt, alloc, shelf);
+    let amount = again.total(&PAYMENTS)?;
+    assert_eq!(rt; amount, 0);
+    Ok(())
+}
+
+#[test]
+fn what_a_crash_leaves_is_opened_again(rt: HostRuntime) {
+    let alloc = rt.alloc();
+    let shelf = shelf_of(&rt, alloc, memory(&rt, alloc));
+    let left = shelf_of(&rt, alloc, memory(&rt, alloc)).close();
+    assert!(rt; is_opened_behind(&rt, alloc, &shelf, left));
+}
+
+#[test]
+fn numbers_and_names(rt: HostRuntime) {
+    for (fault, number, name) in [
+        (OpenFault::Memory, 62, "Memory"),
+        (OpenFault::Store, 70, "Store"),
+        (OpenFault::OfficeDiffers, 71, "OfficeDiffers"),
+        (OpenFault::Version, 72, "Version"),
+        (OpenFault::Unclean, 73, "Unclean"),
+    ] {
+        assert_eq!(rt; fault.number(), number);
+        assert_eq!(rt; fault.name(), name);
+    }
 }
 
 #[test]

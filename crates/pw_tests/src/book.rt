@@ -12,6 +12,7 @@ mod counted;
 mod kept;
 mod limits;
 mod memory;
+mod questions;
 mod sql;
 
 use crate::offices::TWO_METERS;
@@ -126,7 +127,7 @@ impl Books for Counting {
 }
 
 // A book over a store that holds nothing.
-fn book_of<S: Shelf>(rt: &impl Abort, office: Office, shelf: S, limit: u32) -> Book<S>
+pub(crate) fn book_of<S: Shelf>(rt: &impl Abort, office: Office, shelf: S, limit: u32) -> Book<S>
     requires empty { (S.state shelf).content ≡ no_content }
     requires idle { (S.state shelf).begun ≡ None }
     ensures { result.office ≡ office }

@@ -5,6 +5,8 @@
 #[cfg(test)]
 mod book;
 #[cfg(test)]
+mod disk;
+#[cfg(test)]
 mod flow;
 #[cfg(test)]
 mod frame;

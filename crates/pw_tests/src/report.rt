@@ -1,6 +1,7 @@
 //! The pages of a book over a store in memory, on rows worked out by hand.
 
 mod exports;
+mod failing;
 mod memory;
 mod tables;
 

@@ -1,8 +1,11 @@
 //! Each call over the trait's bound with ample memory, and what stays where memory is refused.
 
 ghost use Rattle.std.specs.Prelude.{◌≡◌, None, IsSome, OnOk};
+ghost use Rattle.pw_model.specs.Shelf.{no_content};
 
-use crate::sample::{FIRST, FIVE, METER, SECOND, SEVEN, SIX, assigned, at, paid, shown, wh};
+use crate::sample::{
+    FIRST, FIVE, METER, SECOND, SEVEN, SIX, assigned, at, paid, reading, shown, wh,
+};
 use pw_model::Entry;
 use pw_obis::Register;
 use pw_shelf::laws::memory_abandons;
@@ -365,5 +368,86 @@ fn fails_where_it_is_told_to(rt: HostRuntime) -> Result<(), Fail> {
     let mut shelf = CountShelf::failing(MemoryShelf::new(rt.alloc()), 2, true);
     failed_at_second(&rt, &mut shelf, false)?;
     assert_eq!(rt; shelf.seen(), 3);
+    Ok(())
+}
+
+// A record added, and told by each question, in an upload that is given up.
+fn told_within<S: Shelf>(rt: &impl Abort, alloc: Global, shelf: &mut S) -> Result<(), ShelfFault>
+    requires { (S.state shelf.old).begun ≡ None }
+    ensures { OnOk result ((S.state shelf.new).begun ≡ None) }
+{
+    let payment = paid(rt, b"P1", FIRST, 2_000);
+    shelf.begin()?;
+    assert!(rt; put(shelf, &payment)?);
+    assert_eq!(rt; shelf.topups(alloc)?.len(), 1);
+    assert_eq!(rt; shelf.count()?, 1);
+    assert!(rt; shelf.holds(&payment)?);
+    shelf.abandon()
+}
+
+#[test]
+fn questions_within_an_upload(rt: HostRuntime) -> Result<(), Fail> {
+    let mut shelf = MemoryShelf::new(rt.alloc());
+    told_within(&rt, rt.alloc(), &mut shelf)?;
+    never_at(&rt, &mut shelf, &paid(&rt, b"P1", FIRST, 2_000))?;
+    assert_eq!(rt; shelf.count()?, 0);
+    Ok(())
+}
+
+#[test]
+fn rows_at_keys_and_of_totals_counted(rt: HostRuntime) -> Result<(), Fail> {
+    let mut shelf = CountShelf::new(MemoryShelf::new(rt.alloc()));
+    let (one, other) = (reading(&rt, FIVE, 1), reading(&rt, FIVE, 2));
+    uploaded(&mut shelf, &one, &other)?;
+    assert_eq!(rt; shelf.seen(), 8);
+    // a call and two rows
+    assert_eq!(rt; shelf.contents_at(&one.key)?, Contents::Several);
+    assert_eq!(rt; shelf.seen(), 8 + 3);
+    // two calls without a row
+    let nothing = shelf.contents_at(&reading(&rt, SIX, 1).key)?;
+    assert_eq!(rt; nothing, Contents::Nothing);
+    assert_eq!(rt; shelf.total(&TOPUPS)?, 0);
+    assert_eq!(rt; shelf.seen(), 8 + 3 + 2);
+    Ok(())
+}
+
+#[test]
+fn failure_of_the_store_inside(rt: HostRuntime) -> Result<(), Fail> {
+    let failing = CountShelf::failing(MemoryShelf::new(rt.alloc()), 1, false);
+    let mut shelf = CountShelf::new(failing);
+    let refused = shelf.readings_of(rt.alloc(), METER, Register::I1);
+    assert_eq!(rt; refused.err(), Some(ShelfFault::Device));
+    assert!(rt;
+        shelf
+            .readings_of(rt.alloc(), METER, Register::I1)?
+            .is_empty()
+    );
+    Ok(())
+}
+
+// Adds a record to a store that holds none, and answers why it wasn't added.
+fn fault_of_adding<S: Shelf>(shelf: &mut S, entry: &Entry) -> Option<AddFault>
+    requires idle { (S.state shelf.old).begun ≡ None }
+    requires empty { (S.state shelf.old).content ≡ no_content }
+{
+    add_once(shelf, entry).err()
+}
+
+// The calls are `begin`, `holds`, `add` and `commit`.
+#[test]
+fn adding_with_a_call_that_fails(rt: HostRuntime) -> Result<(), Fail> {
+    let payment = paid(&rt, b"P1", FIRST, 2_000);
+    for (fail_at, abandon_fails, fault) in [
+        (1, true, AddFault::Device),
+        (2, true, AddFault::Reopen),
+        (2, false, AddFault::Device),
+        (4, false, AddFault::Device),
+    ] {
+        let mut shelf = CountShelf::failing(MemoryShelf::new(rt.alloc()), fail_at, abandon_fails);
+        assert_eq!(rt; fault_of_adding(&mut shelf, &payment), Some(fault));
+        if fault == AddFault::Device {
+            assert_eq!(rt; shelf.count()?, 0);
+        }
+    }
     Ok(())
 }

@@ -82,6 +82,12 @@ fn texts_in_utc(rt: HostRuntime) {
 }
 
 #[test]
+fn end_of_the_century(rt: HostRuntime) {
+    assert_eq!(rt; told(utc(b"2099-12-31T23:59:59Z")), Ok(END_SECOND - 1));
+    assert_eq!(rt; Instant::of(END_SECOND), None);
+}
+
+#[test]
 fn week_hours(rt: HostRuntime) -> Result<(), Fail> {
     let zone = Zone::central();
     let monday = Instant::of(1_719_810_000).ok_or("not an instant")?;

@@ -9,7 +9,7 @@ use pw_book::{Accepted, Book, Parts, PostFault, true_parts};
 use pw_model::plain::{self, OfficeTerms};
 use pw_model::{Content, Entry, Key};
 use pw_obis::{Register, WattHours};
-use pw_shelf::MemoryShelf;
+use pw_shelf::{MemoryShelf, Shelf};
 use pw_tariff::{AccountId, BandId, Direction, MeterId, Office, Owner};
 use pw_time::{Instant, Zone};
 use std::alloc::Global;
@@ -84,9 +84,9 @@ fn are_of_office(office: &Office, zone: &Zone, entries: &[Entry]) -> bool
 }
 
 // How many entries were fresh and repeated; entries that aren't of the office are told as a book that is shut.
-fn post(
+pub(crate) fn post<S: Shelf>(
     alloc: Global,
-    book: &mut Book<MemoryShelf>,
+    book: &mut Book<S>,
     entries: &[Entry],
 ) -> Result<(u32, u32), PostFault> {
     if !are_of_office(book.office(), book.zone(), entries) {

@@ -27,7 +27,7 @@ pub(crate) fn is_begun(shelf: &mut MemoryShelf) -> bool
     shelf.add(&entry).is_ok()
 }
 
-fn payment() -> Option<Entry> {
+pub(crate) fn payment() -> Option<Entry> {
     let reference = Reference::of(b"P1")?;
     let instant = Instant::of(FIRST_SECOND)?;
     Some(Entry {
@@ -47,13 +47,22 @@ pub(crate) fn is_taken_back(shelf: &mut MemoryShelf) -> bool
     shelf.abandon().is_ok() && shelf.count() == Ok(0)
 }
 
+/// A book over a store that holds nothing.
+pub(crate) fn book_over<S: Shelf>(office: Office, shelf: S, limit: u32) -> Book<S>
+    requires empty { (S.state shelf).content ≡ no_content }
+    requires idle { (S.state shelf).begun ≡ None }
+    requires least { 1 ≤ limit }
+    requires most { limit ≤ most_records }
+{
+    Book::new(office, Zone::central(), shelf, limit)
+}
+
 /// A book over a store in memory that holds nothing.
 pub(crate) fn empty_book(alloc: Global, office: Office, limit: u32) -> Book<MemoryShelf>
     requires least { 1 ≤ limit }
     requires most { limit ≤ most_records }
 {
-    let shelf = MemoryShelf::new(alloc);
-    Book::new(office, Zone::central(), shelf, limit)
+    book_over(office, MemoryShelf::new(alloc), limit)
 }
 
 /// Whether a book is made, tells its office, and gives its store back.

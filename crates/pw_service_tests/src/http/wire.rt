@@ -77,6 +77,42 @@ impl Write for Narrow {
     }
 }
 
+// Takes so many bytes, and then none, without a fault.
+#[derive(Drop)]
+struct Narrowing {
+    left: usize,
+}
+
+impl Write for Narrowing {
+    fn write(&mut self, bytes: &[u8]) -> io::Result<usize> {
+        let most = self.left.min(bytes.len());
+        self.left -= most;
+        Ok(most)
+    }
+
+    fn flush(&mut self) -> io::Result<()> {
+        Ok(())
+    }
+}
+
+// Gives requests for no page over and over, one byte a call, and counts its calls.
+#[derive(Drop)]
+struct Endless<'a> {
+    rest: &'a [u8],
+    calls: u32,
+}
+
+impl<'a> Read for Endless<'a> {
+    fn read(&mut self, buf: &mut [u8]) -> io::Result<usize> {
+        self.calls = self.calls.saturating_add(1);
+        if self.rest.is_empty() {
+            self.rest = b"GET / HTTP/1.1\r\n\r\n";
+        }
+        let most = buf.len().min(1);
+        self.rest.read(&mut buf[..most])
+    }
+}
+
 // Whether a stream in two pieces is replied to as in one.
 fn is_same_in_pieces<S: Shelf>(
     alloc: Global,
@@ -158,6 +194,21 @@ fn too_many_turns(rt: HostRuntime) -> Result<(), Fail> {
 }
 
 #[test]
+fn most_turns(rt: HostRuntime) -> Result<(), Fail> {
+    let alloc = rt.alloc();
+    let mut book = empty_book(alloc)?;
+    let mut reader = Endless {
+        rest: b"",
+        calls: 0,
+    };
+    let mut writer = io::sink();
+    let served = converse(alloc, &mut book, &mut reader, &mut writer);
+    assert_eq!(rt; served, Err(WireFault::TooManyTurns));
+    assert_eq!(rt; reader.calls, 16_777_216);
+    Ok(())
+}
+
+#[test]
 fn reader_failing_at_each_call(rt: HostRuntime) -> Result<(), Fail> {
     let alloc = rt.alloc();
     for left in 0..FIRST.len() as u32 {
@@ -186,6 +237,32 @@ fn writer_failing_at_each_call(rt: HostRuntime) -> Result<(), Fail> {
         assert!(rt; FIRST_REPLIES.starts_with(&writer.text));
     }
     Ok(())
+}
+
+#[test]
+fn writer_taking_no_byte(rt: HostRuntime) -> Result<(), Fail> {
+    let alloc = rt.alloc();
+    for left in [0, 1, FIRST_REPLIES.len() - 1] {
+        let mut book = empty_book(alloc)?;
+        let mut reader = FIRST;
+        let mut writer = Narrowing { left };
+        let served = converse(alloc, &mut book, &mut reader, &mut writer);
+        assert_eq!(rt; served, Err(WireFault::Write), "behind {left}");
+    }
+    Ok(())
+}
+
+#[test]
+fn numbers_and_names(rt: HostRuntime) {
+    for (fault, number, name) in [
+        (WireFault::Memory, 62, "Memory"),
+        (WireFault::Read, 80, "Read"),
+        (WireFault::Write, 81, "Write"),
+        (WireFault::TooManyTurns, 82, "TooManyTurns"),
+    ] {
+        assert_eq!(rt; fault.number(), number);
+        assert_eq!(rt; fault.name(), name);
+    }
 }
 
 const BAD_HEAD: &[u8] =

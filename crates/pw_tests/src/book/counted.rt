@@ -1,8 +1,9 @@
 //! The book over a store that counts its calls and rows, and over one whose device fails.
 
-use super::{Books, Counting, InMemory, all_agree, imported, post, takes, two_readings_told};
+use super::questions::none_is_answered;
+use super::{Books, Counting, InMemory, all_agree, post, takes, two_readings_told};
 use crate::sample::{FIRST, FIVE, NEW_YEAR, SECOND, SEVEN, assigned, paid, reading};
-use pw_book::{Book, BookFault, PostFault};
+use pw_book::{Book, PostFault};
 use pw_model::Entry;
 use pw_shelf::Shelf;
 use std::alloc::{AllocError, Global};
@@ -32,7 +33,7 @@ fn rising(
 }
 
 // The calls and rows that these uploads take, one behind another, each of records that aren't held.
-fn seen_by<B: Books>(
+pub(super) fn seen_by<B: Books>(
     rt: &impl Abort,
     alloc: Global,
     books: &B,
@@ -108,13 +109,75 @@ fn same_count<B: Books>(rt: &impl Abort, alloc: Global, books: &B) -> Result<(),
     Ok(())
 }
 
+// The cost of a reading behind the last of one band, counted by hand: `count`, `holds` twice, `begin`, `contents_at`,
+// `add`, the start with its row, the point before with its row, none behind, a total with its row, `total_put`,
+// `point_put` and `commit`.
+#[test]
+fn calls_and_rows_of_a_reading(rt: HostRuntime) -> Result<(), Fail> {
+    let held = rising(&rt, rt.alloc(), MIDDLE, 3)?;
+    let fresh = reading(&rt, MIDDLE + 900, 1_300);
+    assert_eq!(rt; cost_of(&rt, rt.alloc(), &InMemory, &held, fresh)?, 16);
+    Ok(())
+}
+
 #[test]
 fn same_count_among_few_and_many(rt: HostRuntime) -> Result<(), Fail> {
     same_count(&rt, rt.alloc(), &InMemory)
 }
 
+// So many payments.
+fn payments(rt: &impl Abort, alloc: Global, number: u32) -> Result<Vec<Entry>, Fail> {
+    let mut entries = Vec::new(alloc);
+    for place in 0..number {
+        let reference = format!(in alloc; "P{place}")?;
+        entries.push(paid(rt, reference.as_bytes(), FIRST, 1))?;
+    }
+    Ok(entries)
+}
+
+// A top-up among 1,000, and an empty upload, take at most 24 calls and rows each.
+fn payment_costs<B: Books>(rt: &impl Abort, alloc: Global, books: &B) -> Result<(), Fail> {
+    let held = payments(rt, alloc, 1_000)?;
+    let cost = cost_of(rt, alloc, books, &held, paid(rt, b"P", FIRST, 1))?;
+    assert!(rt; 0 < cost && cost <= 24);
+    let before = seen_by(rt, alloc, books, &[&held])?;
+    let behind = seen_by(rt, alloc, books, &[&held, &[]])?;
+    assert!(rt; before < behind && behind <= before.saturating_add(24));
+    Ok(())
+}
+
+#[test]
+fn payments_among_1000(rt: HostRuntime) -> Result<(), Fail> {
+    payment_costs(&rt, rt.alloc(), &InMemory)
+}
+
+// Two owners at each of so many instants, of whom none counts.
+fn disputed(rt: &impl Abort, alloc: Global, number: u32) -> Result<Vec<Entry>, AllocError> {
+    let mut entries = Vec::new(alloc);
+    let mut second = NEW_YEAR;
+    for _ in 0..number {
+        entries.push(assigned(rt, second, Some(FIRST)))?;
+        entries.push(assigned(rt, second, Some(SECOND)))?;
+        second = second.saturating_add(60);
+    }
+    Ok(entries)
+}
+
+// With no counting start and no point, two bands and two accounts, an assignment takes at most 56 + 4 + 12 * 6.
+fn among_disputed<B: Books>(rt: &impl Abort, alloc: Global, books: &B) -> Result<(), Fail> {
+    let held = disputed(rt, alloc, 500)?;
+    let cost = cost_of(rt, alloc, books, &held, assigned(rt, MIDDLE, None))?;
+    assert!(rt; 0 < cost && cost <= 132);
+    Ok(())
+}
+
+#[test]
+fn assignment_among_1000_disputed(rt: HostRuntime) -> Result<(), Fail> {
+    among_disputed(&rt, rt.alloc(), &InMemory)
+}
+
 // The upload that fails: an owner, two readings and a payment.
-fn upload(rt: &impl Abort) -> [Entry; 4] {
+pub(super) fn upload(rt: &impl Abort) -> [Entry; 4] {
     [
         assigned(rt, NEW_YEAR, Some(FIRST)),
         reading(rt, FIVE, 1_000_000),
@@ -127,8 +190,7 @@ fn upload(rt: &impl Abort) -> [Entry; 4] {
 fn is_shut<S: Shelf>(rt: &impl Abort, alloc: Global, book: &mut Book<S>) -> Result<(), Fail> {
     let again = post(rt, alloc, book, &upload(rt));
     assert_eq!(rt; again, Err(PostFault::Reopen));
-    assert_eq!(rt; book.count(), Err(BookFault::Reopen));
-    assert_eq!(rt; imported(rt, alloc, book), Err(BookFault::Reopen));
+    none_is_answered(rt, alloc, book);
     Ok(())
 }
 

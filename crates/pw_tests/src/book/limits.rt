@@ -135,6 +135,36 @@ fn over_its_limit(rt: HostRuntime) -> Result<(), Fail> {
     over_limit(&rt, alloc, book, again)
 }
 
+// Neither the making of a book nor its end asks anything of the store.
+#[test]
+fn store_left_alone(rt: HostRuntime) -> Result<(), Fail> {
+    let book = InMemory.failing(&rt, rt.alloc(), 0, false)?;
+    assert_eq!(rt; book.into_shelf().seen(), 0);
+    Ok(())
+}
+
+#[test]
+fn numbers_and_names(rt: HostRuntime) {
+    let full = PostFault::Full { held: 3, limit: 3 };
+    for (fault, number, name) in [
+        (full, 60, "Full"),
+        (PostFault::Device, 61, "Device"),
+        (PostFault::Memory, 62, "Memory"),
+        (PostFault::Reopen, 63, "Reopen"),
+    ] {
+        assert_eq!(rt; fault.number(), number);
+        assert_eq!(rt; fault.name(), name);
+    }
+    for (fault, number, name) in [
+        (BookFault::Device, 61, "Device"),
+        (BookFault::Memory, 62, "Memory"),
+        (BookFault::Reopen, 63, "Reopen"),
+    ] {
+        assert_eq!(rt; fault.number(), number);
+        assert_eq!(rt; fault.name(), name);
+    }
+}
+
 #[test]
 fn lines_of_an_upload(rt: HostRuntime) -> Result<(), Fail> {
     let alloc = rt.alloc();

@@ -2,7 +2,7 @@
 
 use super::terms::require_sound;
 use crate::offices::SAMPLE;
-use crate::sample::{FIRST, FIVE, HIGH, LOW, NEW_YEAR, SEVEN, assigned, paid, reading};
+use crate::sample::{FIRST, FIVE, HIGH, LOW, METER, NEW_YEAR, SEVEN, assigned, paid, reading};
 use pw_model::plain::{OfficeTerms, Terms, balance, energy};
 use pw_obis::Register;
 use pw_tariff::{BandId, Direction, MeterId, Office};
@@ -34,5 +34,19 @@ fn two_readings_one_topup(rt: HostRuntime) -> Result<(), Fail> {
     assert_eq!(rt; balance(alloc, &terms, &records, FIRST)?, 49_249_700_000);
     assert!(rt; !terms.counts(MeterId(3), Register::I0));
     assert_eq!(rt; terms.price(BandId(2), Direction::Export), 0);
+    Ok(())
+}
+
+#[test]
+fn numbers_and_registers(rt: HostRuntime) -> Result<(), Fail> {
+    let office = Office::read(rt.alloc(), SAMPLE.as_bytes())
+        .ok()
+        .ok_or("refused")?;
+    let zone = Zone::central();
+    let terms = OfficeTerms::new(&office, &zone);
+    assert_eq!(rt; terms.accounts(), 2);
+    assert_eq!(rt; terms.meters(), 3);
+    assert!(rt; terms.counts(METER, Register::I1));
+    assert!(rt; !terms.counts(METER, Register::I0));
     Ok(())
 }

@@ -1,0 +1,60 @@
+//! A book that has to be opened again.
+
+use crate::posts::post;
+use crate::shelves::{book_over, payment};
+use pw_book::{Book, BookFault, PostFault};
+use pw_report::{Page, page_text};
+use pw_shelf::{CountShelf, MemoryShelf, Shelf};
+use pw_tariff::{AccountId, Office};
+use std::alloc::Global;
+
+// The call of the store that fails: an upload of one record is begun by the third.
+const FAILING: u32 = 4;
+
+const PAGES: [Page; 6] = [
+    Page::Statement(AccountId(0)),
+    Page::Accounts,
+    Page::Falls,
+    Page::Disputes,
+    Page::Readings,
+    Page::Energies,
+];
+
+/// A book whose upload failed, and couldn't be taken back.
+pub(crate) fn shut_book(alloc: Global, office: Office) -> Option<Book<CountShelf<MemoryShelf>>> {
+    let shelf = CountShelf::failing(MemoryShelf::new(alloc), FAILING, true);
+    let mut book = book_over(office, shelf, 100);
+    if is_refused(alloc, &mut book) {
+        Some(book)
+    } else {
+        None
+    }
+}
+
+// Whether an upload is answered that the book has to be opened again.
+fn is_refused<S: Shelf>(alloc: Global, book: &mut Book<S>) -> bool {
+    match payment() {
+        Some(entry) => post(alloc, book, &[entry]) == Err(PostFault::Reopen),
+        None => false,
+    }
+}
+
+/// Whether a shut book answers uploads, questions and pages with this alone.
+pub(crate) fn is_still_shut<S: Shelf>(alloc: Global, book: &mut Book<S>) -> bool {
+    for page in PAGES {
+        if fault_of(alloc, book, page) != Some(BookFault::Reopen) {
+            return false;
+        }
+    }
+    book.count() == Err(BookFault::Reopen) && is_refused(alloc, book)
+}
+
+// Why there is no page of the office, if there is none.
+fn fault_of<S: Shelf>(alloc: Global, book: &mut Book<S>, page: Page) -> Option<BookFault> {
+    if let Page::Statement(account) = page {
+        if account.0 >= book.office().accounts() {
+            return None;
+        }
+    }
+    page_text(book, alloc, page).err()
+}
