@@ -183,6 +183,11 @@ fn book_of<S: Alter>(
     Ok(book_over(office, shelf, 100))
 }
 
+// The engine's store under a connection.
+fn store_under<S: Alter + Drop>(connection: Connection<S>) -> S {
+    connection.into_store()
+}
+
 // A book over files; or why there is no store on their connection, if they gave one, and the files.
 fn opened<D: Disk + Drop>(
     rt: &impl Abort,
@@ -199,7 +204,7 @@ fn opened<D: Disk + Drop>(
     };
     match book_of(rt, alloc, connection) {
         Ok(book) => Ok(book),
-        Err((fault, connection)) => Err((Some(fault), connection.into_store().close())),
+        Err((fault, connection)) => Err((Some(fault), store_under(connection).close())),
     }
 }
 
@@ -410,9 +415,8 @@ fn connection_behind<S: Alter + Drop>(
 // The files of a new store behind uploads, where nothing was copied from the log.
 fn stored(rt: &impl Abort, alloc: Global, uploads: &[Upload]) -> Result<Image, Fail> {
     let empty = files_of(alloc, b"", b"", (ALL, ALL))?;
-    let files = connection_behind(rt, alloc, book_on(rt, alloc, empty), uploads)?
-        .into_store()
-        .close();
+    let connection = connection_behind(rt, alloc, book_on(rt, alloc, empty), uploads)?;
+    let files = store_under(connection).close();
     Ok(Image {
         log: copy(alloc, &files.log)?,
         db: copy(alloc, &files.db)?,
