@@ -9,22 +9,36 @@ fn wh(value: u64) -> Option<WattHours> {
     WattHours::of(value)
 }
 
+// Values, and their watt-hours.
+const VALUES: [(&str, u64); 5] = [
+    ("001000.000*kWh", 1_000_000),
+    ("123456.789*kWh", 123_456_789),
+    ("00000001.99999999*kWh", 1_999),
+    ("0000001000.5*kWh", 1_000_500),
+    ("99999999999*Wh", 99_999_999_999),
+];
+
+// Texts that aren't values, and why.
+const NO_VALUES: [(&str, ValueFault); 9] = [
+    ("000.001*MWh", ValueFault::Unit),
+    ("1000.000", ValueFault::Unit),
+    ("1*2*kWh", ValueFault::Unit),
+    ("123456789*kWh", ValueFault::TooLarge),
+    ("100000000000*Wh", ValueFault::TooLarge),
+    ("1,5*kWh", ValueFault::Digits),
+    ("5.0*Wh", ValueFault::Digits),
+    ("5.*kWh", ValueFault::Digits),
+    ("*kWh", ValueFault::Digits),
+];
+
 #[test]
 fn values_of_registers(rt: HostRuntime) {
-    assert_eq!(rt; watt_hours(b"001000.000*kWh").ok(), wh(1_000_000));
-    assert_eq!(rt; watt_hours(b"123456.789*kWh").ok(), wh(123_456_789));
-    assert_eq!(rt; watt_hours(b"00000001.99999999*kWh").ok(), wh(1_999));
-    assert_eq!(rt; watt_hours(b"0000001000.5*kWh").ok(), wh(1_000_500));
-    assert_eq!(rt; watt_hours(b"99999999999*Wh").ok(), wh(99_999_999_999));
-    assert_eq!(rt; watt_hours(b"000.001*MWh"), Err(ValueFault::Unit));
-    assert_eq!(rt; watt_hours(b"1000.000"), Err(ValueFault::Unit));
-    assert_eq!(rt; watt_hours(b"1*2*kWh"), Err(ValueFault::Unit));
-    assert_eq!(rt; watt_hours(b"123456789*kWh"), Err(ValueFault::TooLarge));
-    assert_eq!(rt; watt_hours(b"100000000000*Wh"), Err(ValueFault::TooLarge));
-    assert_eq!(rt; watt_hours(b"1,5*kWh"), Err(ValueFault::Digits));
-    assert_eq!(rt; watt_hours(b"5.0*Wh"), Err(ValueFault::Digits));
-    assert_eq!(rt; watt_hours(b"5.*kWh"), Err(ValueFault::Digits));
-    assert_eq!(rt; watt_hours(b"*kWh"), Err(ValueFault::Digits));
+    for (text, value) in VALUES {
+        assert_eq!(rt; watt_hours(text.as_bytes()).ok(), wh(value));
+    }
+    for (text, fault) in NO_VALUES {
+        assert_eq!(rt; watt_hours(text.as_bytes()), Err(fault));
+    }
 }
 
 #[test]
@@ -87,23 +101,30 @@ fn register_at(address: &[u8]) -> Option<Register> {
     register(&code)
 }
 
+// Addresses, and the registers that they name.
+const ADDRESSES: [(&str, Option<Register>); 15] = [
+    ("1-0:1.8.0", Some(Register::I0)),
+    ("1-0:1.8.1", Some(Register::I1)),
+    ("1-0:1.8.2", Some(Register::I2)),
+    ("1-0:2.8.0", Some(Register::E0)),
+    ("1-0:2.8.1", Some(Register::E1)),
+    ("1-0:2.8.2", Some(Register::E2)),
+    ("1.8.0", Some(Register::I0)),
+    ("1-2.8.1*255", Some(Register::E1)),
+    ("1:001.008.002&255", Some(Register::I2)),
+    ("0-0:1.8.0", None),
+    ("1-2:1.8.0", None),
+    ("1-0:1.8.3", None),
+    ("1-0:1.8", None),
+    ("1-0:1.8.0*05", None),
+    ("1-0:1.8.0&05", None),
+];
+
 #[test]
 fn registers_of_addresses(rt: HostRuntime) {
-    assert_eq!(rt; register_at(b"1-0:1.8.0"), Some(Register::I0));
-    assert_eq!(rt; register_at(b"1-0:1.8.1"), Some(Register::I1));
-    assert_eq!(rt; register_at(b"1-0:1.8.2"), Some(Register::I2));
-    assert_eq!(rt; register_at(b"1-0:2.8.0"), Some(Register::E0));
-    assert_eq!(rt; register_at(b"1-0:2.8.1"), Some(Register::E1));
-    assert_eq!(rt; register_at(b"1-0:2.8.2"), Some(Register::E2));
-    assert_eq!(rt; register_at(b"1.8.0"), Some(Register::I0));
-    assert_eq!(rt; register_at(b"1-2.8.1*255"), Some(Register::E1));
-    assert_eq!(rt; register_at(b"1:001.008.002&255"), Some(Register::I2));
-    assert_eq!(rt; register_at(b"0-0:1.8.0"), None);
-    assert_eq!(rt; register_at(b"1-2:1.8.0"), None);
-    assert_eq!(rt; register_at(b"1-0:1.8.3"), None);
-    assert_eq!(rt; register_at(b"1-0:1.8"), None);
-    assert_eq!(rt; register_at(b"1-0:1.8.0*05"), None);
-    assert_eq!(rt; register_at(b"1-0:1.8.0&05"), None);
+    for (address, register) in ADDRESSES {
+        assert_eq!(rt; register_at(address.as_bytes()), register);
+    }
 }
 
 #[test]
