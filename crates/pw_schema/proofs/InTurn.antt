@@ -1,7 +1,7 @@
 -- Rows that are read one by one.
-use Rattle.std.proofs.Common.{◌≡◌, ◌<◌, ◌+◌, ℕ, List, [], ◌∷◌, ◌++◌, map, length, take, get_or, Option, Some, None, Bool, true, IsTrue, refl, sym, ap, subst, ◌∙◌, inl, inr, IfSome}
+use Rattle.std.proofs.Common.{◌≡◌, ◌<◌, ◌+◌, ℕ, List, [], ◌∷◌, ◌++◌, map, length, take, drop, get_or, Option, Some, None, Bool, true, IsTrue, refl, sym, ap, subst, ◌∙◌, inl, inr, IfSome}
 use Rattle.std.specs.List.{AllByRecursion}
-use Rattle.std.proofs.lemmas.List.{map-append, take_more}
+use Rattle.std.proofs.lemmas.List.{map-append, take_more, take-append-drop}
 use Rattle.std.specs.declared.cmp.Ordering.TheVariants.{Less}
 use Rattle.sqlite.specs.Order.{Row}
 use Rattle.pw_model.specs.declared.records.Entry.{Entry}
@@ -52,3 +52,17 @@ turned xs i x lt is = take_more xs i x lt ∙ ap (λ y. take i xs ++ y ∷ []) (
 
 pub behind_if : {T : Type 0} (b : Bool) → (IsTrue b → T) → b ≡ true → T
 behind_if b h e = h e
+
+next_behind : (front : List Entry) (l e : Entry) (tail : List Entry) → IsInOrder entry_order (((front ++ l ∷ []) ++ e ∷ []) ++ tail) → entry_order l e ≡ Less
+next_behind [] l e tail r = r.0.0
+next_behind (x ∷ front) l e tail r = next_behind front l e tail r.1
+
+-- of rows in order each tells what stands behind the last of those read before
+pub behind_last : (k : RecordKind) (rows : List Row) (i : ℕ) (row : Row) (found : List Entry) (last : Option Entry) → i < length rows → row ≡ get_or rows i row → ReadsRows k (take i rows) found → IsLast last found → IsInOrder entry_order (map (told k) rows) → IfSome last (λ l. entry_order l (told k row) ≡ Less)
+behind_last k rows i row found None lt is reads ends rising = tt
+behind_last k rows i row found (Some l) lt is reads ends rising =
+    let rest : List Row = drop (i + 1) rows in
+    let front : List Entry = ends.0 in
+    let read : map (told k) (take (i + 1) rows) ≡ (front ++ l ∷ []) ++ told k row ∷ [] = ap (map (told k)) (turned rows i row lt is) ∙ map-append (told k) (take i rows) (row ∷ []) ∙ ap (λ xs. xs ++ told k row ∷ []) (sym reads.are ∙ ends.1) in
+    let all : map (told k) rows ≡ ((front ++ l ∷ []) ++ told k row ∷ []) ++ map (told k) rest = ap (map (told k)) (sym (take-append-drop (i + 1) rows)) ∙ map-append (told k) (take (i + 1) rows) rest ∙ ap (λ xs. xs ++ map (told k) rest) read in
+    next_behind front l (told k row) (map (told k) rest) (subst (IsInOrder entry_order) all rising)

@@ -66,6 +66,10 @@ pub either_fails : (old new : State) (sql : List ℕ) (params : Row) (r : Result
 either_fails old new sql params (Ok n) h = tt
 either_fails old new sql params (Err e) h = fails old new sql params e h
 
+pub on_error : {T E P : Type 0} (r : Result T E) → P → OnErr r P
+on_error (Ok x) p = tt
+on_error (Err e) p = p
+
 -- none of the three writes by itself
 no_write : (limit : Option ℕ) (mode : Mode) (params : Row) (db : Database) (text : List ℕ) (returning : Option Returning) (out : Tally × Database) → Does limit mode params db text returning Commit (Ok out) → ⊥
 no_write limit mode params db text None out h = let e = h in cc

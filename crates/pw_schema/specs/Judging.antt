@@ -10,8 +10,9 @@ use Rattle.pw_model.specs.declared.records.TotalKey.{TotalKey}
 use Rattle.pw_model.specs.declared.records.TotalKey.TheVariants.{Energy, TopUps}
 use Rattle.std.specs.declared.cmp.Ordering.{Ordering}
 use Rattle.pw_model.specs.declared.records.Entry.{Entry}
-use Rattle.pw_model.specs.Same.{key_order, total_order}
+use Rattle.pw_model.specs.Same.{entry_order, key_order, total_order}
 use Rattle.pw_model.specs.Counting.{EachOnce}
+use Rattle.pw_model.specs.Lists.{IsInOrder}
 use Rattle.pw_model.specs.Office.{HasOwner, IsOfOffice}
 use Rattle.pw_schema.specs.declared.kind.RecordKind.{RecordKind}
 use Rattle.pw_schema.specs.declared.kind.TotalKind.{TotalKind}
@@ -26,6 +27,11 @@ IsRecord office k r = Tells k r × IsOfOffice office (told k r)
 pub record AreRecords (office : OfficeRules) (k : RecordKind) (rows : List Row) : Type 0 where
   pub each : AllByRecursion (IsRecord office k) rows
   pub once : EachOnce (map (told k) rows)
+
+-- the rows are records of the office, in the order of records
+pub record AreInOrder (office : OfficeRules) (k : RecordKind) (rows : List Row) : Type 0 where
+  pub each : AllByRecursion (IsRecord office k) rows
+  pub rising : IsInOrder entry_order (map (told k) rows)
 
 -- ---- totals
 -- the key of a total names an owner and a band, or an account, of the office

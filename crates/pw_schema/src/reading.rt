@@ -1,11 +1,11 @@
 //! Records from the rows that a query shows.
 
-ghost use Rattle.std.specs.Prelude.{◌≡◌, IfNone, IfOk, IfSome, IsTrue, map};
+ghost use Rattle.std.specs.Prelude.{◌≡◌, ◌↔◌, Err, IfNone, IfOk, IfSome, IsTrue, map};
 ghost use Rattle.std.specs.declared.cmp.Ordering.TheVariants.{Less};
 ghost use Rattle.pw_tariff.specs.Office.{OfficeRules};
 ghost use Rattle.pw_model.specs.Office.{IsOffice};
 ghost use Rattle.pw_model.specs.Same.{entry_order};
-ghost use Rattle.pw_schema.specs.Judging.{IsRecord};
+ghost use Rattle.pw_schema.specs.Judging.{AreInOrder, IsRecord};
 ghost use Rattle.pw_schema.specs.Rows.{ReadsRows, Tells, contents_of, told, told_content};
 
 use crate::cells::{
@@ -27,12 +27,22 @@ pub enum ReadFault {
 }
 
 impl From<AllocError> for ReadFault {
+    ghost use Rattle.std.specs.Prelude.{◌≡◌};
+    ghost use Rattle.pw_schema.specs.declared.reading.ReadFault.TheVariants.{Memory};
+
+    ghost from_gives = { λ _ e. e ≡ Memory };
+
     fn from(_: AllocError) -> Self {
         ReadFault::Memory
     }
 }
 
 impl<T: Drop> From<AllocFailed<T>> for ReadFault {
+    ghost use Rattle.std.specs.Prelude.{◌≡◌};
+    ghost use Rattle.pw_schema.specs.declared.reading.ReadFault.TheVariants.{Memory};
+
+    ghost from_gives = { λ _ e. e ≡ Memory };
+
     fn from(_: AllocFailed<T>) -> Self {
         ReadFault::Memory
     }
@@ -105,7 +115,7 @@ pub fn entry_of(kind: RecordKind, row: &Row) -> Option<Entry>
 
 // Whether the entry stands behind the last one.
 fn is_behind(last: &Option<Entry>, entry: &Entry) -> bool
-    ensures { IsTrue result → IfSome last.now (λ l. entry_order l entry.now ≡ Less) }
+    ensures { IsTrue result ↔ IfSome last.now (λ l. entry_order l entry.now ≡ Less) }
 {
     match last {
         Some(last) => matches!(compare_entries(last, entry), Ordering::Less),
@@ -113,9 +123,11 @@ fn is_behind(last: &Option<Entry>, entry: &Entry) -> bool
     }
 }
 
-/// The records that the rows tell, if each tells one and stands behind the one before.
+/// The records that the rows tell, if each tells one and stands behind the one before. Rows that are records of an
+/// office, in the order of records, aren't wrong.
 pub fn read_rows(alloc: Global, kind: RecordKind, rows: &[Row]) -> Result<Vec<Entry>, ReadFault>
-    ensures { IfOk result (λ found. ReadsRows kind rows.now found.items) }
+    ensures found { IfOk result (λ found. ReadsRows kind rows.now found.items) }
+    ensures wrong { result ≡ Err ReadFault.Wrong → (office : OfficeRules) → IsOffice office → AreInOrder office kind rows.now → ⊥ }
 {
     let mut found = Vec::new(alloc);
     let mut last = None;

@@ -8,30 +8,33 @@ ghost use Rattle.sqlite.specs.State.{HasCleanDisk, IsUnchanged, IsRolledBack, Sh
 use sqlite::{Alter, Connection, Error};
 
 /// Begins a transaction.
-pub fn begin<S: Alter>(conn: &mut Connection<S>) -> Result<usize, Error>
+pub fn begin<S: Alter>(conn: &mut Connection<S>) -> Result<(), Error>
     ensures begun { HasCleanDisk (state S.Store conn.new) → OnOk result (Shows (state S.Store conn.old) (state S.Store conn.new) (state S.Store conn.old).now (state S.Store conn.old).committed true) }
     ensures failed { HasCleanDisk (state S.Store conn.new) → OnErr result (IsUnchanged (state S.Store conn.old) (state S.Store conn.new) ⊎ IsRolledBack (state S.Store conn.old) (state S.Store conn.new)) }
     ensures crash { Survives (state S.Store conn.old) (state S.Store conn.new) (λ _. ⊥) }
 {
-    conn.execute("BEGIN", &[])
+    conn.execute("BEGIN", &[])?;
+    Ok(())
 }
 
 /// Commits the transaction.
-pub fn commit<S: Alter>(conn: &mut Connection<S>) -> Result<usize, Error>
+pub fn commit<S: Alter>(conn: &mut Connection<S>) -> Result<(), Error>
     ensures done { HasCleanDisk (state S.Store conn.new) → OnOk result (Shows (state S.Store conn.old) (state S.Store conn.new) (state S.Store conn.old).now (state S.Store conn.old).now false) }
     ensures failed { HasCleanDisk (state S.Store conn.new) → OnErr result (IsUnchanged (state S.Store conn.old) (state S.Store conn.new) ⊎ IsRolledBack (state S.Store conn.old) (state S.Store conn.new)) }
     ensures alone { HasCleanDisk (state S.Store conn.new) → OnOk result ((db : Trees) → (state S.Store conn.new).may_leave db → db ≡ (state S.Store conn.old).now.trees) }
     ensures stays { HasCleanDisk (state S.Store conn.new) → OnOk result ((state S.Store conn.new).may_leave (state S.Store conn.old).now.trees) }
     ensures crash { Survives (state S.Store conn.old) (state S.Store conn.new) (λ db. db ≡ (state S.Store conn.old).now.trees) }
 {
-    conn.execute("COMMIT", &[])
+    conn.execute("COMMIT", &[])?;
+    Ok(())
 }
 
 /// Undoes the transaction.
-pub fn roll_back<S: Alter>(conn: &mut Connection<S>) -> Result<usize, Error>
+pub fn roll_back<S: Alter>(conn: &mut Connection<S>) -> Result<(), Error>
     ensures undone { HasCleanDisk (state S.Store conn.new) → OnOk result (IsRolledBack (state S.Store conn.old) (state S.Store conn.new)) }
     ensures failed { HasCleanDisk (state S.Store conn.new) → OnErr result (IsUnchanged (state S.Store conn.old) (state S.Store conn.new) ⊎ IsRolledBack (state S.Store conn.old) (state S.Store conn.new)) }
     ensures crash { Survives (state S.Store conn.old) (state S.Store conn.new) (λ _. ⊥) }
 {
-    conn.execute("ROLLBACK", &[])
+    conn.execute("ROLLBACK", &[])?;
+    Ok(())
 }
