@@ -32,7 +32,7 @@ impl<S: Alter> Shelf for SqlShelf<S> {
     fn begin(&mut self) -> Result<(), ShelfFault> {
         self.tally.tick(0);
         match begin(&mut self.conn) {
-            Ok(_) => {
+            Ok(()) => {
                 self.begun = true;
                 self.doubtful = false;
                 Ok(())
@@ -50,7 +50,7 @@ impl<S: Alter> Shelf for SqlShelf<S> {
             return Err(device_fault(&mut self.failures));
         }
         match commit(&mut self.conn) {
-            Ok(_) => {
+            Ok(()) => {
                 self.base = Snapshot::of(&self.conn);
                 self.begun = false;
                 self.doubtful = false;
@@ -70,7 +70,7 @@ impl<S: Alter> Shelf for SqlShelf<S> {
             return Ok(());
         }
         match roll_back(&mut self.conn) {
-            Ok(_) => {
+            Ok(()) => {
                 self.begun = false;
                 self.doubtful = true;
                 Ok(())
