@@ -14,6 +14,7 @@ mod limits;
 mod memory;
 mod questions;
 mod sql;
+mod stores;
 
 use crate::offices::TWO_METERS;
 use crate::sample::{
@@ -268,19 +269,16 @@ fn run<S: Shelf>(
 }
 
 // A book that holds nothing, and takes one record.
-fn nothing_held<S: Shelf>(rt: &impl Abort, alloc: Global, book: &mut Book<S>) -> Result<(), Fail> {
+fn empty_book_answers<S: Shelf>(
+    rt: &impl Abort,
+    alloc: Global,
+    book: &mut Book<S>,
+) -> Result<(), Fail> {
     takes(rt, alloc, book, &[], (0, 0))?;
     has_imported(rt, alloc, book, Some(FIRST), (0, 0))?;
     has_money(rt, alloc, book, 0, 0)?;
     assert_eq!(rt; lengths(rt, alloc, book)?, (0, 0, 0));
     all_agree(rt, alloc, book, &[], 0)
-}
-
-#[test]
-fn empty_book_answers(rt: HostRuntime) -> Result<(), Fail> {
-    let alloc = rt.alloc();
-    nothing_held(&rt, alloc, &mut InMemory.empty(&rt, alloc, 1)?)?;
-    nothing_held(&rt, alloc, &mut Counting.empty(&rt, alloc, 1)?)
 }
 
 // How many falls, disputes and readings of the register there are.
@@ -320,7 +318,7 @@ fn lists<S: Shelf>(rt: &impl Abort, alloc: Global, book: &mut Book<S>) -> Result
     Ok(())
 }
 
-fn late_and_disputed<S: Shelf + Drop>(
+fn late_and_disputed_readings<S: Shelf + Drop>(
     rt: &impl Abort,
     alloc: Global,
     mut book: Book<S>,
@@ -340,14 +338,7 @@ fn late_and_disputed<S: Shelf + Drop>(
     parts_agree(rt, alloc, book, &taken)
 }
 
-#[test]
-fn late_and_disputed_readings(rt: HostRuntime) -> Result<(), Fail> {
-    let alloc = rt.alloc();
-    late_and_disputed(&rt, alloc, InMemory.empty(&rt, alloc, 100)?)?;
-    late_and_disputed(&rt, alloc, Counting.empty(&rt, alloc, 100)?)
-}
-
-fn payment_before_readings<S: Shelf + Drop>(
+fn two_readings_one_topup<S: Shelf + Drop>(
     rt: &impl Abort,
     alloc: Global,
     mut book: Book<S>,
@@ -365,14 +356,11 @@ fn payment_before_readings<S: Shelf + Drop>(
     parts_agree(rt, alloc, book, &taken)
 }
 
-#[test]
-fn two_readings_one_topup(rt: HostRuntime) -> Result<(), Fail> {
-    let alloc = rt.alloc();
-    payment_before_readings(&rt, alloc, InMemory.empty(&rt, alloc, 100)?)?;
-    payment_before_readings(&rt, alloc, Counting.empty(&rt, alloc, 100)?)
-}
-
-fn exports<S: Shelf>(rt: &impl Abort, alloc: Global, book: &mut Book<S>) -> Result<(), Fail> {
+fn exported_energy<S: Shelf>(
+    rt: &impl Abort,
+    alloc: Global,
+    book: &mut Book<S>,
+) -> Result<(), Fail> {
     let mut taken = Vec::new(alloc);
     let steps = [
         expecting(assigned(rt, NEW_YEAR, Some(FIRST)), 0, 0),
@@ -383,13 +371,6 @@ fn exports<S: Shelf>(rt: &impl Abort, alloc: Global, book: &mut Book<S>) -> Resu
     let both = energies(rt, alloc, book, Some(FIRST), Direction::Export)?;
     assert_eq!(rt; both, (1_500, 1_501));
     has_money(rt, alloc, book, 0, 150_050_000)
-}
-
-#[test]
-fn exported_energy(rt: HostRuntime) -> Result<(), Fail> {
-    let alloc = rt.alloc();
-    exports(&rt, alloc, &mut InMemory.empty(&rt, alloc, 100)?)?;
-    exports(&rt, alloc, &mut Counting.empty(&rt, alloc, 100)?)
 }
 
 // What the questions are answered behind two readings and a top-up.
@@ -435,12 +416,9 @@ fn in_order<S: Shelf + Drop>(
     parts_agree(rt, alloc, book, &entries)
 }
 
-#[test]
-fn all_six_orders(rt: HostRuntime) -> Result<(), Fail> {
-    let alloc = rt.alloc();
+fn all_six_orders<B: Books>(rt: &impl Abort, alloc: Global, books: &B) -> Result<(), Fail> {
     for order in ORDERS {
-        in_order(&rt, alloc, InMemory.empty(&rt, alloc, 100)?, order)?;
-        in_order(&rt, alloc, Counting.empty(&rt, alloc, 100)?, order)?;
+        in_order(rt, alloc, books.empty(rt, alloc, 100)?, order)?;
     }
     Ok(())
 }
@@ -484,22 +462,14 @@ fn mid_pair<S: Shelf + Drop>(
     Ok(nano)
 }
 
-#[test]
-fn assignment_mid_pair(rt: HostRuntime) -> Result<(), Fail> {
-    let alloc = rt.alloc();
-    let nano = mid_pair(&rt, alloc, InMemory.empty(&rt, alloc, 100)?, Some(SECOND))?;
-    assert_eq!(rt; nano, -600_300_000);
-    let nano = mid_pair(&rt, alloc, Counting.empty(&rt, alloc, 100)?, Some(SECOND))?;
+fn assignment_mid_pair<B: Books>(rt: &impl Abort, alloc: Global, books: &B) -> Result<(), Fail> {
+    let nano = mid_pair(rt, alloc, books.empty(rt, alloc, 100)?, Some(SECOND))?;
     assert_eq!(rt; nano, -600_300_000);
     Ok(())
 }
 
-#[test]
-fn assignment_to_nobody(rt: HostRuntime) -> Result<(), Fail> {
-    let alloc = rt.alloc();
-    let nano = mid_pair(&rt, alloc, InMemory.empty(&rt, alloc, 100)?, None)?;
-    assert_eq!(rt; nano, 0);
-    let nano = mid_pair(&rt, alloc, Counting.empty(&rt, alloc, 100)?, None)?;
+fn assignment_to_nobody<B: Books>(rt: &impl Abort, alloc: Global, books: &B) -> Result<(), Fail> {
+    let nano = mid_pair(rt, alloc, books.empty(rt, alloc, 100)?, None)?;
     assert_eq!(rt; nano, 0);
     Ok(())
 }
@@ -519,7 +489,7 @@ fn falls<S: Shelf>(rt: &impl Abort, alloc: Global, book: &mut Book<S>) -> Result
     Ok(())
 }
 
-fn falls_and_recovers<S: Shelf + Drop>(
+fn fall_and_recovery<S: Shelf + Drop>(
     rt: &impl Abort,
     alloc: Global,
     mut book: Book<S>,
@@ -539,15 +509,12 @@ fn falls_and_recovers<S: Shelf + Drop>(
     parts_agree(rt, alloc, book, &taken)
 }
 
-#[test]
-fn fall_and_recovery(rt: HostRuntime) -> Result<(), Fail> {
-    let alloc = rt.alloc();
-    falls_and_recovers(&rt, alloc, InMemory.empty(&rt, alloc, 100)?)?;
-    falls_and_recovers(&rt, alloc, Counting.empty(&rt, alloc, 100)?)
-}
-
 // Three falls and five disputes, over both meters and of all kinds, uploaded from the last to the first.
-fn sorted_lists<S: Shelf>(rt: &impl Abort, alloc: Global, book: &mut Book<S>) -> Result<(), Fail> {
+fn lists_in_their_order<S: Shelf>(
+    rt: &impl Abort,
+    alloc: Global,
+    book: &mut Book<S>,
+) -> Result<(), Fail> {
     let entries = [
         paid(rt, b"P1", FIRST, 2),
         paid(rt, b"P1", FIRST, 1),
@@ -569,13 +536,6 @@ fn sorted_lists<S: Shelf>(rt: &impl Abort, alloc: Global, book: &mut Book<S>) ->
     takes(rt, alloc, book, &entries, (16, 0))?;
     assert_eq!(rt; lengths(rt, alloc, book)?, (3, 5, 4));
     all_agree(rt, alloc, book, &entries, 16)
-}
-
-#[test]
-fn lists_in_their_order(rt: HostRuntime) -> Result<(), Fail> {
-    let alloc = rt.alloc();
-    sorted_lists(&rt, alloc, &mut InMemory.empty(&rt, alloc, 100)?)?;
-    sorted_lists(&rt, alloc, &mut Counting.empty(&rt, alloc, 100)?)
 }
 
 // There is one dispute, of two contents at the reference.
@@ -610,12 +570,9 @@ fn disputed<S: Shelf + Drop>(
     parts_agree(rt, alloc, book, &pair)
 }
 
-#[test]
-fn disputed_payment(rt: HostRuntime) -> Result<(), Fail> {
-    let alloc = rt.alloc();
+fn disputed_payment<B: Books>(rt: &impl Abort, alloc: Global, books: &B) -> Result<(), Fail> {
     for (first, other) in [(2_000, 3_000), (3_000, 2_000)] {
-        disputed(&rt, alloc, InMemory.empty(&rt, alloc, 100)?, first, other)?;
-        disputed(&rt, alloc, Counting.empty(&rt, alloc, 100)?, first, other)?;
+        disputed(rt, alloc, books.empty(rt, alloc, 100)?, first, other)?;
     }
     Ok(())
 }

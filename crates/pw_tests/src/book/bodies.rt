@@ -1,6 +1,6 @@
 //! The book from the bytes of uploads.
 
-use super::{Books, Counting, InMemory, money, two_readings_told};
+use super::{money, two_readings_told};
 use crate::sample::FIRST;
 use crate::uploads::{ASSIGNMENT, TOPUP, TWO_READINGS};
 use pw_book::{Accepted, Book, PostFault};
@@ -57,7 +57,7 @@ fn topups<S: Shelf>(alloc: Global, book: &mut Book<S>, body: &[u8]) -> Result<(u
     }
 }
 
-pub(super) fn figures<S: Shelf>(
+pub(super) fn bodies_to_figures<S: Shelf>(
     rt: &impl Abort,
     alloc: Global,
     book: &mut Book<S>,
@@ -70,14 +70,7 @@ pub(super) fn figures<S: Shelf>(
     Ok(())
 }
 
-#[test]
-fn bodies_to_figures(rt: HostRuntime) -> Result<(), Fail> {
-    let alloc = rt.alloc();
-    figures(&rt, alloc, &mut InMemory.empty(&rt, alloc, 100)?)?;
-    figures(&rt, alloc, &mut Counting.empty(&rt, alloc, 100)?)
-}
-
-pub(super) fn header<S: Shelf>(
+pub(super) fn header_alone<S: Shelf>(
     rt: &impl Abort,
     alloc: Global,
     book: &mut Book<S>,
@@ -88,14 +81,7 @@ pub(super) fn header<S: Shelf>(
     Ok(())
 }
 
-#[test]
-fn header_alone(rt: HostRuntime) -> Result<(), Fail> {
-    let alloc = rt.alloc();
-    header(&rt, alloc, &mut InMemory.empty(&rt, alloc, 100)?)?;
-    header(&rt, alloc, &mut Counting.empty(&rt, alloc, 100)?)
-}
-
-pub(super) fn no_row_kept<S: Shelf>(
+pub(super) fn rows_before_a_faulty_one<S: Shelf>(
     rt: &impl Abort,
     alloc: Global,
     book: &mut Book<S>,
@@ -108,11 +94,4 @@ pub(super) fn no_row_kept<S: Shelf>(
     assert_eq!(rt; book.count()?, 0);
     assert_eq!(rt; money(rt, alloc, book, FIRST)?, (0, 0));
     Ok(())
-}
-
-#[test]
-fn rows_before_a_faulty_one(rt: HostRuntime) -> Result<(), Fail> {
-    let alloc = rt.alloc();
-    no_row_kept(&rt, alloc, &mut InMemory.empty(&rt, alloc, 100)?)?;
-    no_row_kept(&rt, alloc, &mut Counting.empty(&rt, alloc, 100)?)
 }

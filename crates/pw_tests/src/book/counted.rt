@@ -1,7 +1,7 @@
 //! The book over a store that counts its calls and rows, and over one whose device fails.
 
 use super::questions::none_is_answered;
-use super::{Books, Counting, InMemory, all_agree, post, takes, two_readings_told};
+use super::{Books, InMemory, all_agree, post, takes, two_readings_told};
 use crate::sample::{FIRST, FIVE, NEW_YEAR, SECOND, SEVEN, assigned, paid, reading};
 use pw_book::{Book, PostFault};
 use pw_model::Entry;
@@ -224,7 +224,7 @@ fn taken_failing<S: Shelf>(
     }
 }
 
-pub(super) fn fails_at_each<B: Books>(
+pub(super) fn failing_device<B: Books>(
     rt: &impl Abort,
     alloc: Global,
     books: &B,
@@ -240,13 +240,7 @@ pub(super) fn fails_at_each<B: Books>(
     panic!(rt; "an upload takes fewer calls")
 }
 
-#[test]
-fn failing_device(rt: HostRuntime) -> Result<(), Fail> {
-    fails_at_each(&rt, rt.alloc(), &InMemory)?;
-    fails_at_each(&rt, rt.alloc(), &Counting)
-}
-
-pub(super) fn abandons_at_none<B: Books>(
+pub(super) fn failing_device_and_abandon<B: Books>(
     rt: &impl Abort,
     alloc: Global,
     books: &B,
@@ -267,10 +261,4 @@ pub(super) fn abandons_at_none<B: Books>(
         assert_eq!(rt; fault, expected);
     }
     panic!(rt; "an upload takes fewer calls")
-}
-
-#[test]
-fn failing_device_and_abandon(rt: HostRuntime) -> Result<(), Fail> {
-    abandons_at_none(&rt, rt.alloc(), &InMemory)?;
-    abandons_at_none(&rt, rt.alloc(), &Counting)
 }

@@ -1,6 +1,6 @@
 //! The points, starts and totals that the book keeps beside its records, against those of its uploads.
 
-use super::{Books, Counting, InMemory, OTHER, energies, expecting, post, run};
+use super::{Books, OTHER, energies, expecting, post, run};
 use crate::sample::{
     FIRST, FIVE, METER, NEW_YEAR, SECOND, SEVEN, SIX, are_of_office, assigned, at, paid, reading,
 };
@@ -152,7 +152,11 @@ fn parts_agree_behind_each<B: Books>(
     parts_agree_behind(rt, alloc, books, entries)
 }
 
-pub(super) fn settled<B: Books>(rt: &impl Abort, alloc: Global, books: &B) -> Result<(), Fail> {
+pub(super) fn fall_settled_by_dispute<B: Books>(
+    rt: &impl Abort,
+    alloc: Global,
+    books: &B,
+) -> Result<(), Fail> {
     let mut book = books.empty(rt, alloc, 100)?;
     let mut taken = Vec::new(alloc);
     let steps = [
@@ -169,13 +173,11 @@ pub(super) fn settled<B: Books>(rt: &impl Abort, alloc: Global, books: &B) -> Re
     parts_agree_behind_each(rt, alloc, books, &taken)
 }
 
-#[test]
-fn fall_settled_by_dispute(rt: HostRuntime) -> Result<(), Fail> {
-    settled(&rt, rt.alloc(), &InMemory)?;
-    settled(&rt, rt.alloc(), &Counting)
-}
-
-pub(super) fn moved<B: Books>(rt: &impl Abort, alloc: Global, books: &B) -> Result<(), Fail> {
+pub(super) fn assignments_over_a_late_reading<B: Books>(
+    rt: &impl Abort,
+    alloc: Global,
+    books: &B,
+) -> Result<(), Fail> {
     let mut book = books.empty(rt, alloc, 100)?;
     let mut taken = Vec::new(alloc);
     let steps = [
@@ -191,10 +193,4 @@ pub(super) fn moved<B: Books>(rt: &impl Abort, alloc: Global, books: &B) -> Resu
     let steps = [expecting(assigned(rt, SIX + 1_800, None), 1_000, 2_001)];
     run(rt, alloc, &mut book, &mut taken, &steps)?;
     parts_agree_behind_each(rt, alloc, books, &taken)
-}
-
-#[test]
-fn assignments_over_a_late_reading(rt: HostRuntime) -> Result<(), Fail> {
-    moved(&rt, rt.alloc(), &InMemory)?;
-    moved(&rt, rt.alloc(), &Counting)
 }

@@ -3,7 +3,7 @@
 ghost use Rattle.std.specs.Prelude.{◌≡◌, ◌≤◌, IfOk, false};
 ghost use Rattle.pw_model.specs.Office.{most_records};
 
-use super::{Books, Counting, InMemory, all_agree, book_of, has_money, post, takes};
+use super::{Books, InMemory, all_agree, book_of, has_money, post, takes};
 use crate::offices::TWO_METERS;
 use crate::sample::{FIRST, paid};
 use pw_book::{Accepted, Book, BookFault, Entry, PostFault};
@@ -15,7 +15,7 @@ use std::process::Abort;
 use std::test::Fail;
 
 // A book with room for one record.
-pub(super) fn takes_one<S: Shelf>(
+pub(super) fn room_for_one<S: Shelf>(
     rt: &impl Abort,
     alloc: Global,
     book: &mut Book<S>,
@@ -24,13 +24,6 @@ pub(super) fn takes_one<S: Shelf>(
     takes(rt, alloc, book, &twice, (1, 0))?;
     takes(rt, alloc, book, &twice, (0, 1))?;
     all_agree(rt, alloc, book, &twice, 1)
-}
-
-#[test]
-fn room_for_one(rt: HostRuntime) -> Result<(), Fail> {
-    let alloc = rt.alloc();
-    takes_one(&rt, alloc, &mut InMemory.empty(&rt, alloc, 1)?)?;
-    takes_one(&rt, alloc, &mut Counting.empty(&rt, alloc, 1)?)
 }
 
 // Three payments in a book that has room for no more.
@@ -43,7 +36,7 @@ fn three_paid(rt: &impl Abort) -> [Entry; 3] {
 }
 
 // A book with room for three records.
-pub(super) fn takes_three<S: Shelf>(
+pub(super) fn full_book<S: Shelf>(
     rt: &impl Abort,
     alloc: Global,
     book: &mut Book<S>,
@@ -60,14 +53,7 @@ pub(super) fn takes_three<S: Shelf>(
     all_agree(rt, alloc, book, &held, 3)
 }
 
-#[test]
-fn full_book(rt: HostRuntime) -> Result<(), Fail> {
-    let alloc = rt.alloc();
-    takes_three(&rt, alloc, &mut InMemory.empty(&rt, alloc, 3)?)?;
-    takes_three(&rt, alloc, &mut Counting.empty(&rt, alloc, 3)?)
-}
-
-pub(super) fn gives_store_back<S: Shelf + Drop>(
+pub(super) fn store_given_back<S: Shelf + Drop>(
     rt: &impl Abort,
     alloc: Global,
     mut book: Book<S>,
@@ -76,13 +62,6 @@ pub(super) fn gives_store_back<S: Shelf + Drop>(
     let shelf = &mut book.into_shelf();
     assert_eq!(rt; shelf.count()?, 3);
     Ok(())
-}
-
-#[test]
-fn store_given_back(rt: HostRuntime) -> Result<(), Fail> {
-    let alloc = rt.alloc();
-    gives_store_back(&rt, alloc, InMemory.empty(&rt, alloc, 3)?)?;
-    gives_store_back(&rt, alloc, Counting.empty(&rt, alloc, 3)?)
 }
 
 // A book over the store that another book of the office filled, with another limit.

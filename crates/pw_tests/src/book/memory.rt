@@ -1,7 +1,7 @@
 //! The book with an allocation refused: what is right, or want of memory, and the next call is right.
 //! (To be run with the first allocation refused, with the second, and so on.)
 
-use super::{Books, Counting, InMemory, all_agree, imported, lengths, money, post};
+use super::{Books, all_agree, imported, lengths, money, post};
 use crate::sample::{FIRST, FIVE, NEW_YEAR, SEVEN, SIX, assigned, paid, reading};
 use pw_book::{Book, BookFault, PostFault};
 use pw_model::Entry;
@@ -39,7 +39,7 @@ fn told<S: Shelf>(rt: &impl Abort, alloc: Global, book: &mut Book<S>) -> Result<
     Ok(())
 }
 
-pub(super) fn right_or_refused<B: Books>(
+pub(super) fn memory_refused<B: Books>(
     rt: &impl Abort,
     alloc: Global,
     books: &B,
@@ -63,10 +63,4 @@ pub(super) fn right_or_refused<B: Books>(
         told(rt, alloc, &mut book)?;
     }
     Ok(())
-}
-
-#[test]
-fn memory_refused(rt: HostRuntime) -> Result<(), Fail> {
-    right_or_refused(&rt, rt.alloc(), &InMemory)?;
-    right_or_refused(&rt, rt.alloc(), &Counting)
 }

@@ -1,7 +1,7 @@
 //! Questions to a book whose device fails, to one that is shut, and what questions cost.
 
 use super::counted::{seen_by, upload};
-use super::{Books, Counting, InMemory, imported, takes};
+use super::{Books, InMemory, imported, takes};
 use crate::sample::{FIRST, METER};
 use pw_book::{Book, BookFault};
 use pw_obis::Register;
@@ -62,7 +62,11 @@ pub(super) fn none_is_answered<S: Shelf>(rt: &impl Abort, alloc: Global, book: &
 }
 
 // Each question to a device that fails at its first call.
-fn fails_once<B: Books>(rt: &impl Abort, alloc: Global, books: &B) -> Result<(), Fail> {
+pub(super) fn failing_device<B: Books>(
+    rt: &impl Abort,
+    alloc: Global,
+    books: &B,
+) -> Result<(), Fail> {
     for question in QUESTIONS {
         let mut book = books.failing(rt, alloc, 1, false)?;
         let fault = fault_of(rt, alloc, &mut book, question);
@@ -70,12 +74,6 @@ fn fails_once<B: Books>(rt: &impl Abort, alloc: Global, books: &B) -> Result<(),
         assert_eq!(rt; fault_of(rt, alloc, &mut book, question), None);
     }
     Ok(())
-}
-
-#[test]
-fn failing_device(rt: HostRuntime) -> Result<(), Fail> {
-    fails_once(&rt, rt.alloc(), &InMemory)?;
-    fails_once(&rt, rt.alloc(), &Counting)
 }
 
 // The calls and rows that a question takes.
