@@ -11,6 +11,3 @@ new-requires-clause-few g c = λ k. subst (λ (x : ShelfContent). length x.recor
 
 pub new-requires-clause-truth : goal.new-requires-clause-truth
 new-requires-clause-truth g c = λ k. subst (IsTrueContent (office_of c.args.office)) (sym c.requires.empty) (empty-true (office_of c.args.office))
-
-pub new-requires-clause-of_office : goal.new-requires-clause-of_office
-new-requires-clause-of_office g c = λ k. subst (λ (x : ShelfContent). AllOfOffice (office_of c.args.office) x.records) (sym c.requires.empty) tt
