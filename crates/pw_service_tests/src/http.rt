@@ -52,7 +52,7 @@ fn said(alloc: Global, stream: &[u8], turns: u32) -> (Result<Served, WireFault>,
 #[test]
 fn empty_stream(rt: HostRuntime) -> Result<(), Fail> {
     let (served, text) = said(rt.alloc(), b"", 10);
-    assert_eq!(rt; served, Ok(Served { requests: 0 }));
+    assert!(rt; served == Ok(Served { requests: 0 }));
     assert!(rt; text.is_empty());
     Ok(())
 }
@@ -60,7 +60,7 @@ fn empty_stream(rt: HostRuntime) -> Result<(), Fail> {
 #[test]
 fn one_request(rt: HostRuntime) -> Result<(), Fail> {
     let (served, text) = said(rt.alloc(), PAGE, 10);
-    assert_eq!(rt; served, Ok(Served { requests: 1 }));
+    assert!(rt; served == Ok(Served { requests: 1 }));
     assert!(rt; text.as_slice() == YES);
     Ok(())
 }
@@ -72,7 +72,7 @@ fn body_cut_short(rt: HostRuntime) -> Result<(), Fail> {
         b"POST /topups HTTP/1.1\r\nContent-Length: 64\r\n\r\n0123456789",
         10,
     );
-    assert_eq!(rt; served, Ok(Served { requests: 1 }));
+    assert!(rt; served == Ok(Served { requests: 1 }));
     let expected: &[u8] =
         b"HTTP/1.1 400 Bad Request\r\nContent-Type: text/plain\r\nContent-Length: 9\r\nConnection: close\r\n\r\nbad body\n";
     assert!(rt; text.as_slice() == expected);
@@ -86,7 +86,7 @@ fn body_too_large(rt: HostRuntime) -> Result<(), Fail> {
         b"POST /topups HTTP/1.1\r\nContent-Length: 262145\r\n\r\n",
         10,
     );
-    assert_eq!(rt; served, Ok(Served { requests: 1 }));
+    assert!(rt; served == Ok(Served { requests: 1 }));
     let expected: &[u8] =
         b"HTTP/1.1 413 Payload Too Large\r\nContent-Type: text/plain\r\nContent-Length: 15\r\nConnection: close\r\n\r\nbody too large\n";
     assert!(rt; text.as_slice() == expected);

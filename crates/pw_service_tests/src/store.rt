@@ -114,7 +114,7 @@ fn a_point_put_again_is_the_last(rt: HostRuntime) -> Result<(), Fail> {
     shelf.point_put(METER, Register::E1, early, wh(&rt, 5))?;
     shelf.point_put(METER, Register::E1, early, wh(&rt, 6))?;
     let found = shelf.point_before(METER, Register::E1, at(&rt, 1_704_070_800))?;
-    assert_eq!(rt; found, Some((early, wh(&rt, 6))));
+    assert!(rt; found == Some((early, wh(&rt, 6))));
     Ok(())
 }
 
@@ -126,7 +126,7 @@ fn an_abandoned_total_is_gone(rt: HostRuntime) -> Result<(), Fail> {
     shelf.total_put(&PAYMENTS, 500)?;
     shelf.abandon()?;
     let amount = shelf.total(&PAYMENTS)?;
-    assert_eq!(rt; amount, 0);
+    assert!(rt; amount == 0);
     Ok(())
 }
 
@@ -144,7 +144,7 @@ fn a_start_is_there_when_opened_again(rt: HostRuntime) -> Result<(), Fail> {
     )?;
     let mut again = shelf_of(&rt, alloc, connection);
     let starts = again.starts_of(alloc, METER)?;
-    assert_eq!(rt; starts.len(), 1);
+    assert!(rt; starts.len() == 1);
     Ok(())
 }
 
@@ -176,7 +176,7 @@ fn an_upload_still_begun_is_gone_when_opened_again(rt: HostRuntime) -> Result<()
     shelf.total_put(&PAYMENTS, 500)?;
     let mut again = reopened(&rt, alloc, shelf);
     let amount = again.total(&PAYMENTS)?;
-    assert_eq!(rt; amount, 0);
+    assert!(rt; amount == 0);
     Ok(())
 }
 
@@ -197,8 +197,8 @@ fn numbers_and_names(rt: HostRuntime) {
         (OpenFault::Version, 72, "Version"),
         (OpenFault::Unclean, 73, "Unclean"),
     ] {
-        assert_eq!(rt; fault.number(), number);
-        assert_eq!(rt; fault.name(), name);
+        assert!(rt; fault.number() == number);
+        assert!(rt; fault.name() == name);
     }
 }
 
@@ -235,7 +235,7 @@ fn damaged_stores_are_refused(rt: HostRuntime) -> Result<(), Fail> {
         ("INSERT INTO total_topup VALUES (2, 1)", OpenFault::Unclean),
     ];
     for (statement, fault) in cases {
-        assert_eq!(rt; refusal_behind(&rt, alloc, statement), Some(fault));
+        assert!(rt; refusal_behind(&rt, alloc, statement) == Some(fault));
     }
     Ok(())
 }
@@ -311,13 +311,13 @@ fn what_is_kept_beside_records_must_be_true(rt: HostRuntime) -> Result<(), Fail>
         connection = shelf_of(&rt, alloc, connection).close();
         connection.execute(damage, &[])?;
         let (fault, refused) = refused_by(&rt, alloc, connection);
-        assert_eq!(rt; fault, OpenFault::Unclean);
+        assert!(rt; fault == OpenFault::Unclean);
         connection = refused;
         connection.execute(repair, &[])?;
     }
     let mut shelf = shelf_of(&rt, alloc, connection);
     let amount = shelf.total(&ENERGY)?;
-    assert_eq!(rt; amount, 100);
+    assert!(rt; amount == 100);
     Ok(())
 }
 
@@ -325,9 +325,9 @@ fn what_is_kept_beside_records_must_be_true(rt: HostRuntime) -> Result<(), Fail>
 fn a_total_of_0_is_as_good_as_none(rt: HostRuntime) -> Result<(), Fail> {
     let alloc = rt.alloc();
     let statement = "INSERT INTO total VALUES (0, 1, 0, 0)";
-    assert_eq!(rt; refusal_behind(&rt, alloc, statement), None);
+    assert!(rt; refusal_behind(&rt, alloc, statement) == None);
     let statement = "INSERT INTO total_topup VALUES (1, 0)";
-    assert_eq!(rt; refusal_behind(&rt, alloc, statement), None);
+    assert!(rt; refusal_behind(&rt, alloc, statement) == None);
     Ok(())
 }
 
@@ -343,7 +343,7 @@ fn a_total_of_0_at_any_key_opens_again(rt: HostRuntime) -> Result<(), Fail> {
     shelf.commit()?;
     let mut again = shelf_of(&rt, alloc, shelf.close());
     let amount = again.total(&key)?;
-    assert_eq!(rt; amount, 0);
+    assert!(rt; amount == 0);
     Ok(())
 }
 
@@ -352,6 +352,6 @@ fn a_table_of_another_is_refused(rt: HostRuntime) -> Result<(), Fail> {
     let alloc = rt.alloc();
     let mut connection = memory(&rt, alloc);
     connection.execute("CREATE TABLE office (id INTEGER) STRICT", &[])?;
-    assert_eq!(rt; refusal(&rt, alloc, connection), Some(OpenFault::Unclean));
+    assert!(rt; refusal(&rt, alloc, connection) == Some(OpenFault::Unclean));
     Ok(())
 }

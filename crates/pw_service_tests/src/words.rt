@@ -22,7 +22,7 @@ fn check<'a>(office: &'a str) -> Command<'a> {
 #[test]
 fn no_words(rt: HostRuntime) -> Result<(), Fail> {
     match command(rt.alloc(), &[]) {
-        Ok(given) => assert_eq!(rt; given, pipe(None, LIMIT)),
+        Ok(given) => assert!(rt; given == pipe(None, LIMIT)),
         Err(fault) => panic!(rt; "{fault:?}"),
     }
     Ok(())
@@ -45,7 +45,7 @@ fn words_without_a_store(rt: HostRuntime) -> Result<(), Fail> {
     ];
     for (words, wanted) in cases {
         match command(rt.alloc(), words) {
-            Ok(given) => assert_eq!(rt; given, wanted, "of {words:?}"),
+            Ok(given) => assert!(rt; given == wanted, "of {words:?}"),
             Err(fault) => panic!(rt; "of {words:?}: {fault:?}"),
         }
     }
@@ -93,7 +93,7 @@ fn words_of_loads(rt: HostRuntime) -> Result<(), Fail> {
     ];
     for (words, wanted) in cases {
         match command(rt.alloc(), words) {
-            Ok(given) => assert_eq!(rt; given, wanted, "of {words:?}"),
+            Ok(given) => assert!(rt; given == wanted, "of {words:?}"),
             Err(fault) => panic!(rt; "of {words:?}: {fault:?}"),
         }
     }
@@ -162,7 +162,7 @@ fn words_of_questions(rt: HostRuntime) -> Result<(), Fail> {
     ];
     for (words, wanted) in cases {
         match command(rt.alloc(), words) {
-            Ok(given) => assert_eq!(rt; given, wanted, "of {words:?}"),
+            Ok(given) => assert!(rt; given == wanted, "of {words:?}"),
             Err(fault) => panic!(rt; "of {words:?}: {fault:?}"),
         }
     }

@@ -164,7 +164,7 @@ fn takes<S: Shelf>(
     ensures open { IfOk result (λ _. book.new.shut ≡ false) }
 {
     let told = post(rt, alloc, book, entries)?;
-    assert_eq!(rt; told, counts);
+    assert!(rt; told == counts);
     Ok(())
 }
 
@@ -177,7 +177,7 @@ fn has_money<S: Shelf>(
     nano: i128,
 ) -> Result<(), Fail> {
     let told = money(rt, alloc, book, FIRST)?;
-    assert_eq!(rt; told, (cents, nano));
+    assert!(rt; told == (cents, nano));
     Ok(())
 }
 
@@ -259,9 +259,9 @@ fn run<S: Shelf>(
     let mut held = book.count()?;
     for step in steps {
         let (fresh, repeated) = post(rt, alloc, book, &[step.entry])?;
-        assert_eq!(rt; fresh, step.fresh);
-        assert_eq!(rt; repeated, if step.fresh == 0 { 1 } else { 0 });
-        assert_eq!(rt; imported(rt, alloc, book)?, (step.low, step.high));
+        assert!(rt; fresh == step.fresh);
+        assert!(rt; repeated == (if step.fresh == 0 { 1 } else { 0 }));
+        assert!(rt; imported(rt, alloc, book)? == (step.low, step.high));
         taken.push(step.entry)?;
         held = held.saturating_add(fresh);
     }
@@ -277,7 +277,7 @@ fn empty_book_answers<S: Shelf>(
     takes(rt, alloc, book, &[], (0, 0))?;
     has_imported(rt, alloc, book, Some(FIRST), (0, 0))?;
     has_money(rt, alloc, book, 0, 0)?;
-    assert_eq!(rt; lengths(rt, alloc, book)?, (0, 0, 0));
+    assert!(rt; lengths(rt, alloc, book)? == (0, 0, 0));
     all_agree(rt, alloc, book, &[], 0)
 }
 
@@ -297,9 +297,9 @@ fn lengths<S: Shelf>(
 // The dispute over three readings, and the five rows of their register.
 fn lists<S: Shelf>(rt: &impl Abort, alloc: Global, book: &mut Book<S>) -> Result<(), BookFault> {
     let disputes = book.disputes(alloc)?;
-    assert_eq!(rt; disputes.len(), 1);
-    assert_eq!(rt; disputes[0].key, reading(rt, SIX, 0).key);
-    assert_eq!(rt; disputes[0].contents, 3);
+    assert!(rt; disputes.len() == 1);
+    assert!(rt; disputes[0].key == reading(rt, SIX, 0).key);
+    assert!(rt; disputes[0].contents == 3);
     assert!(rt; METER.0 < book.office().meters());
     let rows = book.readings(alloc, METER, Register::I1)?;
     let expected = [
@@ -309,11 +309,11 @@ fn lists<S: Shelf>(rt: &impl Abort, alloc: Global, book: &mut Book<S>) -> Result
         (SIX, 1_001_500, false),
         (SEVEN, 1_003_001, true),
     ];
-    assert_eq!(rt; rows.len(), 5);
+    assert!(rt; rows.len() == 5);
     for (row, (second, watt_hours, counted)) in rows.iter().zip(expected.iter()) {
-        assert_eq!(rt; row.instant.seconds(), *second);
-        assert_eq!(rt; row.wh.get(), *watt_hours);
-        assert_eq!(rt; row.counted, *counted);
+        assert!(rt; row.instant.seconds() == *second);
+        assert!(rt; row.wh.get() == *watt_hours);
+        assert!(rt; row.counted == *counted);
     }
     Ok(())
 }
@@ -369,7 +369,7 @@ fn exported_energy<S: Shelf>(
     ];
     run(rt, alloc, book, &mut taken, &steps)?;
     let both = energies(rt, alloc, book, Some(FIRST), Direction::Export)?;
-    assert_eq!(rt; both, (1_500, 1_501));
+    assert!(rt; both == (1_500, 1_501));
     has_money(rt, alloc, book, 0, 150_050_000)
 }
 
@@ -379,11 +379,11 @@ fn two_readings_told<S: Shelf>(
     alloc: Global,
     book: &mut Book<S>,
 ) -> Result<(), BookFault> {
-    assert_eq!(rt; imported(rt, alloc, book)?, (1_500, 1_501));
+    assert!(rt; imported(rt, alloc, book)? == (1_500, 1_501));
     let both = money(rt, alloc, book, FIRST)?;
-    assert_eq!(rt; both, (5_000, 49_249_700_000));
-    assert_eq!(rt; lengths(rt, alloc, book)?, (0, 0, 2));
-    assert_eq!(rt; book.count()?, 4);
+    assert!(rt; both == (5_000, 49_249_700_000));
+    assert!(rt; lengths(rt, alloc, book)? == (0, 0, 2));
+    assert!(rt; book.count()? == 4);
     Ok(())
 }
 
@@ -435,7 +435,7 @@ fn has_imported<S: Shelf>(
         assert!(rt; account.0 < book.office().accounts());
     }
     let told = energies(rt, alloc, book, owner, Direction::Import)?;
-    assert_eq!(rt; told, both);
+    assert!(rt; told == both);
     Ok(())
 }
 
@@ -464,13 +464,13 @@ fn mid_pair<S: Shelf + Drop>(
 
 fn assignment_mid_pair<B: Books>(rt: &impl Abort, alloc: Global, books: &B) -> Result<(), Fail> {
     let nano = mid_pair(rt, alloc, books.empty(rt, alloc, 100)?, Some(SECOND))?;
-    assert_eq!(rt; nano, -600_300_000);
+    assert!(rt; nano == -600_300_000);
     Ok(())
 }
 
 fn assignment_to_nobody<B: Books>(rt: &impl Abort, alloc: Global, books: &B) -> Result<(), Fail> {
     let nano = mid_pair(rt, alloc, books.empty(rt, alloc, 100)?, None)?;
-    assert_eq!(rt; nano, 0);
+    assert!(rt; nano == 0);
     Ok(())
 }
 
@@ -484,8 +484,8 @@ fn falls<S: Shelf>(rt: &impl Abort, alloc: Global, book: &mut Book<S>) -> Result
         low: wh(rt, 50_000),
     };
     let found = book.falls(alloc)?;
-    assert_eq!(rt; found.len(), 1);
-    assert_eq!(rt; found[0], fall);
+    assert!(rt; found.len() == 1);
+    assert!(rt; found[0] == fall);
     Ok(())
 }
 
@@ -505,7 +505,7 @@ fn fall_and_recovery<S: Shelf + Drop>(
     falls(rt, alloc, &mut book)?;
     let steps = [expecting(reading(rt, SIX, 60_000), 10_000, 10_000)];
     run(rt, alloc, &mut book, &mut taken, &steps)?;
-    assert_eq!(rt; lengths(rt, alloc, &mut book)?, (0, 1, 4));
+    assert!(rt; lengths(rt, alloc, &mut book)? == (0, 1, 4));
     parts_agree(rt, alloc, book, &taken)
 }
 
@@ -534,7 +534,7 @@ fn lists_in_their_order<S: Shelf>(
         reading(rt, FIVE, 20),
     ];
     takes(rt, alloc, book, &entries, (16, 0))?;
-    assert_eq!(rt; lengths(rt, alloc, book)?, (3, 5, 4));
+    assert!(rt; lengths(rt, alloc, book)? == (3, 5, 4));
     all_agree(rt, alloc, book, &entries, 16)
 }
 
@@ -545,7 +545,7 @@ fn disputes_payment<S: Shelf>(
     book: &mut Book<S>,
 ) -> Result<(), Fail> {
     let disputes = book.disputes(alloc)?;
-    assert_eq!(rt; disputes.len(), 1);
+    assert!(rt; disputes.len() == 1);
     let key = paid(rt, b"P1", FIRST, 0).key;
     assert!(rt; disputes[0].key == key && disputes[0].contents == 2);
     Ok(())

@@ -326,7 +326,7 @@ fn attempt(
         }
         Err((None, files)) => (End::NoConnection, files),
         Err((Some(fault), files)) => {
-            assert_eq!(rt; fault, OpenFault::Store);
+            assert!(rt; fault == OpenFault::Store);
             (End::NoStore, files)
         }
     }

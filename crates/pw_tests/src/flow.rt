@@ -47,9 +47,8 @@ fn one_watt_hour_over_two_hours(rt: HostRuntime) {
         (SEVEN - 1, SEVEN, 1),
         (SEVEN, EIGHT, 0),
     ] {
-        assert_eq!(rt;
-            energy_within(&points, from, until),
-            want,
+        assert!(rt;
+            energy_within(&points, from, until) == want,
             "from {from} until {until}"
         );
     }
@@ -57,21 +56,18 @@ fn one_watt_hour_over_two_hours(rt: HostRuntime) {
 
 #[test]
 fn nothing_flows(rt: HostRuntime) {
-    assert_eq!(rt; energy(&[], |_| true), 0);
-    assert_eq!(rt; energy(&[reading(FIVE, 7)], |_| true), 0);
-    assert_eq!(rt; energy(&[reading(FIVE, 7), reading(SIX, 7)], |_| true), 0);
-    assert_eq!(rt; energy(&[reading(FIVE, 0), reading(SIX, 9)], |_| false), 0);
+    assert!(rt; energy(&[], |_| true) == 0);
+    assert!(rt; energy(&[reading(FIVE, 7)], |_| true) == 0);
+    assert!(rt; energy(&[reading(FIVE, 7), reading(SIX, 7)], |_| true) == 0);
+    assert!(rt; energy(&[reading(FIVE, 0), reading(SIX, 9)], |_| false) == 0);
 }
 
 #[test]
 fn all_in_one_second(rt: HostRuntime) {
     for watt_hours in [1, LARGEST] {
         let points = [reading(FIVE, 0), reading(FIVE + 1, watt_hours)];
-        assert_eq!(rt;
-            energy_within(&points, FIVE, FIVE + 1),
-            u128::from(watt_hours)
-        );
-        assert_eq!(rt; energy_within(&points, FIVE + 1, NINE), 0);
+        assert!(rt; energy_within(&points, FIVE, FIVE + 1) == u128::from(watt_hours));
+        assert!(rt; energy_within(&points, FIVE + 1, NINE) == 0);
     }
 }
 
@@ -85,9 +81,8 @@ fn largest_value_within_an_hour(rt: HostRuntime) {
         (FIVE, FIVE + 1, 27_777_777),
         (FIVE + 1, FIVE + 2, 27_777_778),
     ] {
-        assert_eq!(rt;
-            energy_within(&points, from, until),
-            want,
+        assert!(rt;
+            energy_within(&points, from, until) == want,
             "from {from} until {until}"
         );
     }
@@ -109,9 +104,8 @@ fn falls_between_rises(rt: HostRuntime) {
         (SEVEN, EIGHT, 0),
         (EIGHT, NINE, 3),
     ] {
-        assert_eq!(rt;
-            energy_within(&points, from, until),
-            want,
+        assert!(rt;
+            energy_within(&points, from, until) == want,
             "from {from} until {until}"
         );
     }
@@ -121,11 +115,11 @@ fn falls_between_rises(rt: HostRuntime) {
 #[test]
 fn late_reading(rt: HostRuntime) {
     let two = [reading(FIVE, 1_000_000), reading(SEVEN, 1_003_001)];
-    assert_eq!(rt; energy_within(&two, FIVE, SIX), 1_500);
-    assert_eq!(rt; energy_within(&two, SIX, SEVEN), 1_501);
+    assert!(rt; energy_within(&two, FIVE, SIX) == 1_500);
+    assert!(rt; energy_within(&two, SIX, SEVEN) == 1_501);
     let three = [two[0], reading(SIX, 1_001_000), two[1]];
-    assert_eq!(rt; energy_within(&three, FIVE, SIX), 1_000);
-    assert_eq!(rt; energy_within(&three, SIX, SEVEN), 2_001);
+    assert!(rt; energy_within(&three, FIVE, SIX) == 1_000);
+    assert!(rt; energy_within(&three, SIX, SEVEN) == 2_001);
 }
 
 // 744 Wh over 31 days are one in each hour.
@@ -133,16 +127,16 @@ fn late_reading(rt: HostRuntime) {
 fn thirty_one_days(rt: HostRuntime) {
     let end = FIVE + 2_678_400;
     let points = [reading(FIVE, 0), reading(end, 744)];
-    assert_eq!(rt; energy_within(&points, FIVE, end), 744);
-    assert_eq!(rt; energy_within(&points, SIX, EIGHT), 2);
+    assert!(rt; energy_within(&points, FIVE, end) == 744);
+    assert!(rt; energy_within(&points, SIX, EIGHT) == 2);
 }
 
 #[test]
 fn levels(rt: HostRuntime) {
     let (from, to) = (reading(FIVE, 10), reading(SEVEN, 11));
-    assert_eq!(rt; level_at(from, to, FIVE), 10);
-    assert_eq!(rt; level_at(from, to, SEVEN - 1), 10);
-    assert_eq!(rt; level_at(from, to, SEVEN), 11);
+    assert!(rt; level_at(from, to, FIVE) == 10);
+    assert!(rt; level_at(from, to, SEVEN - 1) == 10);
+    assert!(rt; level_at(from, to, SEVEN) == 11);
 }
 
 #[test]

@@ -27,13 +27,12 @@ fn read(body: &[u8]) -> (usize, Option<FrameFault>) {
 
 #[test]
 fn checks(rt: HostRuntime) {
-    assert_eq!(rt; crc16(b"123456789"), 0xBB3D);
-    assert_eq!(rt; crc_update(crc16(b"1234"), b"56789"), 0xBB3D);
-    assert_eq!(rt; crc16(b""), 0);
-    assert_eq!(rt; block_check(b""), 0);
-    assert_eq!(rt;
-        block_check(b"0.9.1(060000)\r\n0.9.2(240102)\r\n1.8.0(1000.000*kWh)\r\n!\r\n\x03"),
-        0x7B
+    assert!(rt; crc16(b"123456789") == 0xBB3D);
+    assert!(rt; crc_update(crc16(b"1234"), b"56789") == 0xBB3D);
+    assert!(rt; crc16(b"") == 0);
+    assert!(rt; block_check(b"") == 0);
+    assert!(rt;
+        block_check(b"0.9.1(060000)\r\n0.9.2(240102)\r\n1.8.0(1000.000*kWh)\r\n!\r\n\x03") == 0x7B
     );
 }
 
@@ -47,7 +46,7 @@ fn both_kinds_in_one_body(rt: HostRuntime) -> Result<(), Fail> {
     let Some(Ok(readout)) = frames.next_frame() else {
         return Ok(assert!(rt; false));
     };
-    assert_eq!(rt; readout.kind, Kind::Readout);
+    assert!(rt; readout.kind == Kind::Readout);
     assert!(rt; readout.header == b"PWB5Z7".as_slice());
     assert!(rt;
         readout.block == b"0.9.1(060000)\r\n0.9.2(240102)\r\n1.8.0(1000.000*kWh)\r\n".as_slice()
@@ -55,7 +54,7 @@ fn both_kinds_in_one_body(rt: HostRuntime) -> Result<(), Fail> {
     let Some(Ok(telegram)) = frames.next_frame() else {
         return Ok(assert!(rt; false));
     };
-    assert_eq!(rt; telegram.kind, Kind::Telegram);
+    assert!(rt; telegram.kind == Kind::Telegram);
     assert!(rt; telegram.header == b"PWB5X".as_slice());
     assert!(rt; telegram.block.is_empty());
     assert!(rt; matches!(frames.next_frame(), None));
@@ -155,8 +154,8 @@ fn faults_in_their_order(rt: HostRuntime) {
         ),
     ];
     for (body, count, fault) in cases {
-        assert_eq!(rt; read(body).0, count, "in {body:?}");
-        assert_eq!(rt; read(body).1, fault, "in {body:?}");
+        assert!(rt; read(body).0 == count, "in {body:?}");
+        assert!(rt; read(body).1 == fault, "in {body:?}");
     }
 }
 
@@ -201,30 +200,30 @@ fn readout_block_check(rt: HostRuntime) {
         ),
     ];
     for (body, count, fault) in cases {
-        assert_eq!(rt; read(body).0, count, "in {body:?}");
-        assert_eq!(rt; read(body).1, fault, "in {body:?}");
+        assert!(rt; read(body).0 == count, "in {body:?}");
+        assert!(rt; read(body).1 == fault, "in {body:?}");
     }
 }
 
 #[test]
 fn prefixes(rt: HostRuntime) {
-    assert_eq!(rt; FIRST.len(), 88);
+    assert!(rt; FIRST.len() == 88);
     for cut in 0..88 {
         let fault = match cut {
             0..=9 => FrameFault::Header { at: 0 },
             10..=81 => FrameFault::NoEnd { at: 0 },
             _ => FrameFault::Trailer { at: 0 },
         };
-        assert_eq!(rt; read(&FIRST[..cut]).1, Some(fault), "at {cut}");
+        assert!(rt; read(&FIRST[..cut]).1 == Some(fault), "at {cut}");
     }
-    assert_eq!(rt; READOUT.len(), 66);
+    assert!(rt; READOUT.len() == 66);
     for cut in 0..66 {
         let fault = match cut {
             0..=9 => FrameFault::Header { at: 0 },
             10..=61 => FrameFault::NoEnd { at: 0 },
             _ => FrameFault::Trailer { at: 0 },
         };
-        assert_eq!(rt; read(&READOUT[..cut]).1, Some(fault), "at {cut}");
+        assert!(rt; read(&READOUT[..cut]).1 == Some(fault), "at {cut}");
     }
 }
 

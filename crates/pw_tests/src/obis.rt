@@ -34,10 +34,10 @@ const NO_VALUES: [(&str, ValueFault); 9] = [
 #[test]
 fn values_of_registers(rt: HostRuntime) {
     for (text, value) in VALUES {
-        assert_eq!(rt; watt_hours(text.as_bytes()).ok(), wh(value));
+        assert!(rt; watt_hours(text.as_bytes()).ok() == wh(value));
     }
     for (text, fault) in NO_VALUES {
-        assert_eq!(rt; watt_hours(text.as_bytes()), Err(fault));
+        assert!(rt; watt_hours(text.as_bytes()) == Err(fault));
     }
 }
 
@@ -81,7 +81,7 @@ fn obis_breadth(rt: HostRuntime) {
             found = found.saturating_add(1);
         }
         if register(&code) == Some(Register::I1) {
-            assert_eq!(rt; watt_hours(first_value(&set)).ok(), wh(123_456_789));
+            assert!(rt; watt_hours(first_value(&set)).ok() == wh(123_456_789));
             found = found.saturating_add(1);
         }
         if set.address == b"1-0:99.97.0".as_slice() {
@@ -91,8 +91,8 @@ fn obis_breadth(rt: HostRuntime) {
             found = found.saturating_add(1);
         }
     }
-    assert_eq!(rt; given, 7);
-    assert_eq!(rt; found, 4);
+    assert!(rt; given == 7);
+    assert!(rt; found == 4);
     assert!(rt; matches!(sets.next_set(), None));
 }
 
@@ -123,7 +123,7 @@ const ADDRESSES: [(&str, Option<Register>); 15] = [
 #[test]
 fn registers_of_addresses(rt: HostRuntime) {
     for (address, register) in ADDRESSES {
-        assert_eq!(rt; register_at(address.as_bytes()), register);
+        assert!(rt; register_at(address.as_bytes()) == register);
     }
 }
 
@@ -137,8 +137,8 @@ fn codes_of_addresses(rt: HostRuntime) {
         e: Some(0),
         f: Some(255),
     };
-    assert_eq!(rt; code(b"1-0:99.97.0*255"), Some(whole));
-    assert_eq!(rt; code(b"1-000:099.97.0&255"), Some(whole));
+    assert!(rt; code(b"1-0:99.97.0*255") == Some(whole));
+    assert!(rt; code(b"1-000:099.97.0&255") == Some(whole));
     assert!(rt; code(b"1-0:99.97.0*256").is_none());
     assert!(rt; code(b"256.8").is_none());
     assert!(rt; code(b"0001.8.0").is_none());
@@ -159,18 +159,18 @@ fn is_clock_address(address: &[u8]) -> (bool, bool) {
 
 #[test]
 fn clock_of_a_readout(rt: HostRuntime) {
-    assert_eq!(rt; is_clock_address(b"0.9.1"), (true, false));
-    assert_eq!(rt; is_clock_address(b"0.9.2"), (false, true));
-    assert_eq!(rt; is_clock_address(b"1-0:0.9.1*255"), (true, false));
-    assert_eq!(rt; is_clock_address(b"0-1:0.9.2"), (false, true));
-    assert_eq!(rt; is_clock_address(b"2-0:0.9.2"), (false, false));
-    assert_eq!(rt; is_clock_address(b"0.9.1*1"), (false, false));
+    assert!(rt; is_clock_address(b"0.9.1") == (true, false));
+    assert!(rt; is_clock_address(b"0.9.2") == (false, true));
+    assert!(rt; is_clock_address(b"1-0:0.9.1*255") == (true, false));
+    assert!(rt; is_clock_address(b"0-1:0.9.2") == (false, true));
+    assert!(rt; is_clock_address(b"2-0:0.9.2") == (false, false));
+    assert!(rt; is_clock_address(b"0.9.1*1") == (false, false));
 }
 
 #[test]
 fn registers_in_order(rt: HostRuntime) {
     let names = ["I0", "I1", "I2", "E0", "E1", "E2"];
     for (register, name) in Register::ALL.iter().zip(names) {
-        assert_eq!(rt; register.name(), name);
+        assert!(rt; register.name() == name);
     }
 }

@@ -286,12 +286,9 @@ fn longest_body(rt: HostRuntime) -> Result<(), Fail> {
     let mut endless = EndlessReader { given: 0 };
     let mut out = Vec::new(rt.alloc());
     let mut err = Vec::new(rt.alloc());
-    assert_eq!(rt;
-        read_run(rt.alloc(), Clock::Winter, &mut endless, &mut out, &mut err),
-        1
-    );
+    assert!(rt; read_run(rt.alloc(), Clock::Winter, &mut endless, &mut out, &mut err) == 1);
     assert!(rt; err.as_slice() == b"body too large\n".as_slice());
-    assert_eq!(rt; endless.given, 262_145);
+    assert!(rt; endless.given == 262_145);
     body.extend_from_slice(b"\n")?;
     assert!(rt;
         gives(
@@ -311,35 +308,30 @@ fn broken_streams(rt: HostRuntime) {
     let mut out = Vec::new(rt.alloc());
     let mut err = Vec::new(rt.alloc());
     let mut reader = BrokenReader { left: FIRST };
-    assert_eq!(rt;
-        read_run(rt.alloc(), Clock::Winter, &mut reader, &mut out, &mut err),
-        3
-    );
+    assert!(rt; read_run(rt.alloc(), Clock::Winter, &mut reader, &mut out, &mut err) == 3);
     assert!(rt; out.is_empty());
     assert!(rt; err.as_slice() == b"device failed\n".as_slice());
     let mut line = Vec::new(rt.alloc());
     let mut whole = FIRST;
-    assert_eq!(rt;
+    assert!(rt;
         read_run(
             rt.alloc(),
             Clock::Winter,
             &mut whole,
             &mut BrokenWriter,
             &mut line
-        ),
-        3
+        ) == 3
     );
     assert!(rt; line.as_slice() == b"device failed\n".as_slice());
     let mut empty = b"".as_slice();
-    assert_eq!(rt;
+    assert!(rt;
         read_run(
             rt.alloc(),
             Clock::Winter,
             &mut empty,
             &mut out,
             &mut BrokenWriter
-        ),
-        3
+        ) == 3
     );
     assert!(rt; out.is_empty());
 }
@@ -353,7 +345,7 @@ fn narrow_streams(rt: HostRuntime) {
         let mut err = Vec::new(rt.alloc());
         let mut whole = FIRST;
         let status = read_run(rt.alloc(), Clock::Winter, &mut whole, &mut out, &mut err);
-        assert_eq!(rt; status, 3);
+        assert!(rt; status == 3);
         assert!(rt; out.held.as_slice() == &text[..room], "room {room}");
         assert!(rt; err.as_slice() == b"device failed\n".as_slice());
     }
@@ -363,7 +355,7 @@ fn narrow_streams(rt: HostRuntime) {
         let mut err = NarrowWriter::new(&rt, room);
         let mut cut = &FIRST[..81];
         let status = read_run(rt.alloc(), Clock::Winter, &mut cut, &mut out, &mut err);
-        assert_eq!(rt; status, 3);
+        assert!(rt; status == 3);
         assert!(rt; out.is_empty());
         assert!(rt; err.held.as_slice() == &line[..room], "room {room}");
     }

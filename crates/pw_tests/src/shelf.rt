@@ -54,22 +54,19 @@ fn disputed<S: Shelf>(rt: &impl Abort, shelf: &mut S, other: &Entry) -> Result<(
 {
     shelf.begin()?;
     assert!(rt; put(shelf, other)?);
-    assert_eq!(rt; shelf.contents_at(&other.key)?, Contents::Several);
+    assert!(rt; shelf.contents_at(&other.key)? == Contents::Several);
     shelf.abandon()
 }
 
 fn found_at<S: Shelf>(rt: &impl Abort, shelf: &mut S, entry: &Entry) -> Result<(), ShelfFault> {
     assert!(rt; shelf.holds(entry)?);
-    assert_eq!(rt;
-        shelf.contents_at(&entry.key)?,
-        Contents::One(entry.content)
-    );
+    assert!(rt; shelf.contents_at(&entry.key)? == Contents::One(entry.content));
     Ok(())
 }
 
 fn never_at<S: Shelf>(rt: &impl Abort, shelf: &mut S, entry: &Entry) -> Result<(), ShelfFault> {
     assert!(rt; !shelf.holds(entry)?);
-    assert_eq!(rt; shelf.contents_at(&entry.key)?, Contents::Nothing);
+    assert!(rt; shelf.contents_at(&entry.key)? == Contents::Nothing);
     Ok(())
 }
 
@@ -142,7 +139,7 @@ fn each_call(rt: HostRuntime) -> Result<(), Fail> {
     never_at(&rt, &mut shelf, &assigned(&rt, SIX, Some(FIRST)))?;
     listed(&rt, rt.alloc(), &mut shelf, &readings, &owner, &topups)?;
     unlisted(&rt, rt.alloc(), &mut shelf)?;
-    assert_eq!(rt; shelf.count()?, 7);
+    assert!(rt; shelf.count()? == 7);
     Ok(())
 }
 
@@ -162,12 +159,12 @@ fn added_or_refused<S: Shelf>(
     match add_once(shelf, entry) {
         Ok(fresh) => {
             assert!(rt; fresh);
-            assert_eq!(rt; shelf.count()?, before + 1);
+            assert!(rt; shelf.count()? == before + 1);
         }
         Err(AddFault::Memory) => {
-            assert_eq!(rt; shelf.count()?, before);
+            assert!(rt; shelf.count()? == before);
             assert!(rt; !shelf.holds(entry)?);
-            assert_eq!(rt; shelf.contents_at(&entry.key)?, Contents::Nothing);
+            assert!(rt; shelf.contents_at(&entry.key)? == Contents::Nothing);
         }
         Err(_) => return Err(ShelfFault::Device),
     }
@@ -178,7 +175,7 @@ fn added_or_refused<S: Shelf>(
 fn one_or_refused(rt: &impl Abort, found: Result<Vec<Entry>, ShelfFault>) {
     match found {
         Ok(found) => assert!(rt; found.len() <= 1),
-        Err(fault) => assert_eq!(rt; fault, ShelfFault::Memory),
+        Err(fault) => assert!(rt; fault == ShelfFault::Memory),
     }
 }
 
@@ -196,7 +193,7 @@ fn refused_memory_changes_nothing(rt: HostRuntime) -> Result<(), Fail> {
     one_or_refused(&rt, shelf.topups(rt.alloc()));
     one_or_refused(&rt, shelf.readings_of(rt.alloc(), METER, Register::I1));
     one_or_refused(&rt, shelf.assignments_of(rt.alloc(), METER));
-    assert_eq!(rt; shelf.count()?, before);
+    assert!(rt; shelf.count()? == before);
     Ok(())
 }
 
@@ -226,8 +223,8 @@ fn given_up<S: Shelf>(rt: &impl Abort, shelf: &mut S) -> Result<(), ShelfFault>
     shelf.point_del(METER, Register::I1, at(rt, FIVE))?;
     shelf.start_del(METER, at(rt, SIX))?;
     shelf.total_put(&TOPUPS, 0)?;
-    assert_eq!(rt; shelf.point_before(METER, Register::I1, at(rt, SIX))?, None);
-    assert_eq!(rt; shelf.total(&TOPUPS)?, 0);
+    assert!(rt; shelf.point_before(METER, Register::I1, at(rt, SIX))? == None);
+    assert!(rt; shelf.total(&TOPUPS)? == 0);
     shelf.abandon()
 }
 
@@ -236,19 +233,10 @@ fn points_there<S: Shelf>(rt: &impl Abort, alloc: Global, shelf: &mut S) -> Resu
 {
     let first = (at(rt, FIVE), wh(rt, 8));
     let second = (at(rt, SIX), wh(rt, 9));
-    assert_eq!(rt;
-        shelf.point_before(METER, Register::I1, at(rt, SIX))?,
-        Some(first)
-    );
-    assert_eq!(rt;
-        shelf.point_before(METER, Register::I1, at(rt, FIVE))?,
-        None
-    );
-    assert_eq!(rt;
-        shelf.point_after(METER, Register::I1, at(rt, FIVE))?,
-        Some(second)
-    );
-    assert_eq!(rt; shelf.point_after(METER, Register::I1, at(rt, SIX))?, None);
+    assert!(rt; shelf.point_before(METER, Register::I1, at(rt, SIX))? == Some(first));
+    assert!(rt; shelf.point_before(METER, Register::I1, at(rt, FIVE))? == None);
+    assert!(rt; shelf.point_after(METER, Register::I1, at(rt, FIVE))? == Some(second));
+    assert!(rt; shelf.point_after(METER, Register::I1, at(rt, SIX))? == None);
     let both = shelf.points_between(alloc, METER, Register::I1, at(rt, FIVE), at(rt, SIX))?;
     assert!(rt; both.as_slice() == [first, second].as_slice());
     let none = shelf.points_between(alloc, METER, Register::I1, at(rt, SIX), at(rt, FIVE))?;
@@ -262,7 +250,7 @@ fn starts_there<S: Shelf>(rt: &impl Abort, alloc: Global, shelf: &mut S) -> Resu
     let starts = [(at(rt, FIVE), Some(AccountId(1))), (at(rt, SIX), None)];
     assert!(rt; shelf.starts_of(alloc, METER)?.as_slice() == starts.as_slice());
     assert!(rt; shelf.starts_of(alloc, MeterId(1))?.is_empty());
-    assert_eq!(rt; shelf.total(&TOPUPS)?, 2_000);
+    assert!(rt; shelf.total(&TOPUPS)? == 2_000);
     Ok(())
 }
 
@@ -296,17 +284,14 @@ fn later_there<S: Shelf>(rt: &impl Abort, alloc: Global, shelf: &mut S) -> Resul
     ensures { (S.state shelf.new).begun ≡ (S.state shelf.old).begun }
 {
     let second = (at(rt, SIX), wh(rt, 9));
-    assert_eq!(rt; shelf.point_before(METER, Register::I1, at(rt, SIX))?, None);
-    assert_eq!(rt;
-        shelf.point_after(METER, Register::I1, at(rt, FIVE))?,
-        Some(second)
-    );
-    assert_eq!(rt; shelf.point_after(METER, Register::I1, at(rt, SIX))?, None);
+    assert!(rt; shelf.point_before(METER, Register::I1, at(rt, SIX))? == None);
+    assert!(rt; shelf.point_after(METER, Register::I1, at(rt, FIVE))? == Some(second));
+    assert!(rt; shelf.point_after(METER, Register::I1, at(rt, SIX))? == None);
     let points = shelf.points_between(alloc, METER, Register::I1, at(rt, FIVE), at(rt, SEVEN))?;
     assert!(rt; points.as_slice() == [second].as_slice());
     let start = (at(rt, SIX), None);
     assert!(rt; shelf.starts_of(alloc, METER)?.as_slice() == [start].as_slice());
-    assert_eq!(rt; shelf.total(&TOPUPS)?, 0);
+    assert!(rt; shelf.total(&TOPUPS)? == 0);
     Ok(())
 }
 
@@ -334,10 +319,10 @@ fn removals_hold_where_they_are_committed(rt: HostRuntime) -> Result<(), Fail> {
 fn calls_and_rows_counted(rt: HostRuntime) -> Result<(), Fail> {
     let mut shelf = CountShelf::new(MemoryShelf::new(rt.alloc()));
     kept(&rt, &mut shelf)?;
-    assert_eq!(rt; shelf.seen(), 9);
+    assert!(rt; shelf.seen() == 9);
     // two calls that find a row, two that don't, a list of two and an empty one
     points_there(&rt, rt.alloc(), &mut shelf)?;
-    assert_eq!(rt; shelf.seen(), 9 + 2 * 2 + 2 + 3 + 1);
+    assert!(rt; shelf.seen() == 9 + 2 * 2 + 2 + 3 + 1);
     let mut inner = shelf.into_inner();
     starts_there(&rt, rt.alloc(), &mut inner)?;
     Ok(())
@@ -352,11 +337,8 @@ fn failed_at_second<S: Shelf>(
     requires { (S.state shelf.old).begun ≡ None }
 {
     shelf.begin()?;
-    assert_eq!(rt;
-        shelf.point_del(METER, Register::I1, at(rt, FIVE)),
-        Err(ShelfFault::Device)
-    );
-    assert_eq!(rt; shelf.abandon().is_ok(), abandons);
+    assert!(rt; shelf.point_del(METER, Register::I1, at(rt, FIVE)) == Err(ShelfFault::Device));
+    assert!(rt; shelf.abandon().is_ok() == abandons);
     Ok(())
 }
 
@@ -364,10 +346,10 @@ fn failed_at_second<S: Shelf>(
 fn fails_where_it_is_told_to(rt: HostRuntime) -> Result<(), Fail> {
     let mut shelf = CountShelf::failing(MemoryShelf::new(rt.alloc()), 2, false);
     failed_at_second(&rt, &mut shelf, true)?;
-    assert_eq!(rt; shelf.seen(), 3);
+    assert!(rt; shelf.seen() == 3);
     let mut shelf = CountShelf::failing(MemoryShelf::new(rt.alloc()), 2, true);
     failed_at_second(&rt, &mut shelf, false)?;
-    assert_eq!(rt; shelf.seen(), 3);
+    assert!(rt; shelf.seen() == 3);
     Ok(())
 }
 
@@ -379,8 +361,8 @@ fn told_within<S: Shelf>(rt: &impl Abort, alloc: Global, shelf: &mut S) -> Resul
     let payment = paid(rt, b"P1", FIRST, 2_000);
     shelf.begin()?;
     assert!(rt; put(shelf, &payment)?);
-    assert_eq!(rt; shelf.topups(alloc)?.len(), 1);
-    assert_eq!(rt; shelf.count()?, 1);
+    assert!(rt; shelf.topups(alloc)?.len() == 1);
+    assert!(rt; shelf.count()? == 1);
     assert!(rt; shelf.holds(&payment)?);
     shelf.abandon()
 }
@@ -390,7 +372,7 @@ fn questions_within_an_upload(rt: HostRuntime) -> Result<(), Fail> {
     let mut shelf = MemoryShelf::new(rt.alloc());
     told_within(&rt, rt.alloc(), &mut shelf)?;
     never_at(&rt, &mut shelf, &paid(&rt, b"P1", FIRST, 2_000))?;
-    assert_eq!(rt; shelf.count()?, 0);
+    assert!(rt; shelf.count()? == 0);
     Ok(())
 }
 
@@ -399,15 +381,15 @@ fn rows_at_keys_and_of_totals_counted(rt: HostRuntime) -> Result<(), Fail> {
     let mut shelf = CountShelf::new(MemoryShelf::new(rt.alloc()));
     let (one, other) = (reading(&rt, FIVE, 1), reading(&rt, FIVE, 2));
     uploaded(&mut shelf, &one, &other)?;
-    assert_eq!(rt; shelf.seen(), 8);
+    assert!(rt; shelf.seen() == 8);
     // a call and two rows
-    assert_eq!(rt; shelf.contents_at(&one.key)?, Contents::Several);
-    assert_eq!(rt; shelf.seen(), 8 + 3);
+    assert!(rt; shelf.contents_at(&one.key)? == Contents::Several);
+    assert!(rt; shelf.seen() == 8 + 3);
     // two calls without a row
     let nothing = shelf.contents_at(&reading(&rt, SIX, 1).key)?;
-    assert_eq!(rt; nothing, Contents::Nothing);
-    assert_eq!(rt; shelf.total(&TOPUPS)?, 0);
-    assert_eq!(rt; shelf.seen(), 8 + 3 + 2);
+    assert!(rt; nothing == Contents::Nothing);
+    assert!(rt; shelf.total(&TOPUPS)? == 0);
+    assert!(rt; shelf.seen() == 8 + 3 + 2);
     Ok(())
 }
 
@@ -416,7 +398,7 @@ fn failure_of_the_store_inside(rt: HostRuntime) -> Result<(), Fail> {
     let failing = CountShelf::failing(MemoryShelf::new(rt.alloc()), 1, false);
     let mut shelf = CountShelf::new(failing);
     let refused = shelf.readings_of(rt.alloc(), METER, Register::I1);
-    assert_eq!(rt; refused.err(), Some(ShelfFault::Device));
+    assert!(rt; refused.err() == Some(ShelfFault::Device));
     assert!(rt;
         shelf
             .readings_of(rt.alloc(), METER, Register::I1)?
@@ -444,9 +426,9 @@ fn adding_with_a_call_that_fails(rt: HostRuntime) -> Result<(), Fail> {
         (4, false, AddFault::Device),
     ] {
         let mut shelf = CountShelf::failing(MemoryShelf::new(rt.alloc()), fail_at, abandon_fails);
-        assert_eq!(rt; fault_of_adding(&mut shelf, &payment), Some(fault));
+        assert!(rt; fault_of_adding(&mut shelf, &payment) == Some(fault));
         if fault == AddFault::Device {
-            assert_eq!(rt; shelf.count()?, 0);
+            assert!(rt; shelf.count()? == 0);
         }
     }
     Ok(())

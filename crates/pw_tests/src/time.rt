@@ -27,7 +27,7 @@ fn stamps_and_folds(rt: HostRuntime) {
         (b"24010206000W", Err(1)),
     ];
     for (text, want) in texts.iter() {
-        assert_eq!(rt; told(stamp(text)), *want);
+        assert!(rt; told(stamp(text)) == *want);
     }
 }
 
@@ -60,7 +60,7 @@ fn readouts(rt: HostRuntime) {
         (b"24-0102", b"060000", Clock::Marked, Err(1)),
     ];
     for (date, time, clock, want) in texts.iter() {
-        assert_eq!(rt; told(readout_instant(date, time, *clock, &zone)), *want);
+        assert!(rt; told(readout_instant(date, time, *clock, &zone)) == *want);
     }
 }
 
@@ -77,29 +77,26 @@ fn texts_in_utc(rt: HostRuntime) {
         (b"2024-01-02 05:00:00Z", Err(1)),
     ];
     for (text, want) in texts.iter() {
-        assert_eq!(rt; told(utc(text)), *want);
+        assert!(rt; told(utc(text)) == *want);
     }
 }
 
 #[test]
 fn end_of_the_century(rt: HostRuntime) {
-    assert_eq!(rt; told(utc(b"2099-12-31T23:59:59Z")), Ok(END_SECOND - 1));
-    assert_eq!(rt; Instant::of(END_SECOND), None);
+    assert!(rt; told(utc(b"2099-12-31T23:59:59Z")) == Ok(END_SECOND - 1));
+    assert!(rt; Instant::of(END_SECOND) == None);
 }
 
 #[test]
 fn week_hours(rt: HostRuntime) -> Result<(), Fail> {
     let zone = Zone::central();
     let monday = Instant::of(1_719_810_000).ok_or("not an instant")?;
-    assert_eq!(rt;
-        write_utc(monday).as_slice(),
-        b"2024-07-01T05:00:00Z".as_slice()
-    );
+    assert!(rt; write_utc(monday).as_slice() == b"2024-07-01T05:00:00Z".as_slice());
     let text = format!(in rt.alloc(); "{monday}")?;
-    assert_eq!(rt; text.as_str(), "2024-07-01T05:00:00Z");
-    assert_eq!(rt; week_hour(monday, &zone), WeekHour { day: 0, hour: 7 });
+    assert!(rt; text.as_str() == "2024-07-01T05:00:00Z");
+    assert!(rt; week_hour(monday, &zone) == WeekHour { day: 0, hour: 7 });
     let sunday = utc(b"2024-01-07T11:00:00Z")?;
-    assert_eq!(rt; week_hour(sunday, &zone), WeekHour { day: 6, hour: 12 });
+    assert!(rt; week_hour(sunday, &zone) == WeekHour { day: 6, hour: 12 });
     Ok(())
 }
 
@@ -116,13 +113,13 @@ fn changes_are_those_of_the_rule(rt: HostRuntime) -> Result<(), Fail> {
                 .to_offset(Timestamp::from_second(i64::from(second))?)
                 .seconds();
             let local = if ahead == 7_200 { hour + 2 } else { hour + 1 };
-            assert_eq!(rt; week_hour(instant, &zone).hour, local, "at {second}");
+            assert!(rt; week_hour(instant, &zone).hour == local, "at {second}");
             if ahead == 7_200 {
                 summer = summer.saturating_add(1);
             }
         }
     }
-    assert_eq!(rt; summer, 42_798);
+    assert!(rt; summer == 42_798);
     Ok(())
 }
 
@@ -133,9 +130,9 @@ fn each_day_is_written_and_read_back(rt: HostRuntime) -> Result<(), Fail> {
     for day in 10_957u32..47_482 {
         let noon = Instant::of(day * 86_400 + 43_200).ok_or("not an instant")?;
         let text = write_utc(noon);
-        assert_eq!(rt; utc(&text), Ok(noon), "on day {day}");
+        assert!(rt; utc(&text) == Ok(noon), "on day {day}");
         days = days.saturating_add(1);
     }
-    assert_eq!(rt; days, 36_525);
+    assert!(rt; days == 36_525);
     Ok(())
 }

@@ -91,13 +91,13 @@ registers = ["I0"]
 #[test]
 fn requests_of_curl(rt: HostRuntime) -> Result<(), Fail> {
     let mut book = empty_book(rt.alloc())?;
-    assert_eq!(rt; replied(rt.alloc(), &mut book, &OF_CURL), 4);
+    assert!(rt; replied(rt.alloc(), &mut book, &OF_CURL) == 4);
     Ok(())
 }
 
 #[test]
 fn telegrams_of_meters(rt: HostRuntime) -> Result<(), Fail> {
     let mut book = book_of(rt.alloc(), OFFICE, 100)?;
-    assert_eq!(rt; replied(rt.alloc(), &mut book, &OF_METERS), 3);
+    assert!(rt; replied(rt.alloc(), &mut book, &OF_METERS) == 3);
     Ok(())
 }

@@ -119,13 +119,13 @@ const ENDS: [(&[u8], &[u8]); 16] = [
 #[test]
 fn forms(rt: HostRuntime) -> Result<(), Fail> {
     let mut book = empty_book(rt.alloc())?;
-    assert_eq!(rt; replied(rt.alloc(), &mut book, &REFUSED), 11);
+    assert!(rt; replied(rt.alloc(), &mut book, &REFUSED) == 11);
     Ok(())
 }
 
 #[test]
 fn routes_and_ends(rt: HostRuntime) -> Result<(), Fail> {
     let mut book = empty_book(rt.alloc())?;
-    assert_eq!(rt; replied(rt.alloc(), &mut book, &ENDS), 16);
+    assert!(rt; replied(rt.alloc(), &mut book, &ENDS) == 16);
     Ok(())
 }

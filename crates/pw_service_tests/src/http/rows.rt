@@ -135,7 +135,7 @@ const REFUSED: [(&[u8], &[u8]); 6] = [
 fn two_readings_one_topup(rt: HostRuntime) -> Result<(), Fail> {
     let mut book = empty_book(rt.alloc())?;
     let (served, text) = replies(rt.alloc(), &mut book, FIRST);
-    assert_eq!(rt; served, Ok(Served { requests: 4 }));
+    assert!(rt; served == Ok(Served { requests: 4 }));
     assert!(rt; text.as_slice() == FIRST_REPLIES);
     Ok(())
 }
@@ -172,22 +172,22 @@ fn all_six_orders(rt: HostRuntime) -> Result<(), Fail> {
 #[test]
 fn disputed_payment(rt: HostRuntime) -> Result<(), Fail> {
     let mut book = empty_book(rt.alloc())?;
-    assert_eq!(rt; replied(rt.alloc(), &mut book, &DISPUTED), 6);
+    assert!(rt; replied(rt.alloc(), &mut book, &DISPUTED) == 6);
     let mut other = empty_book(rt.alloc())?;
-    assert_eq!(rt; replied(rt.alloc(), &mut other, &DISPUTED_AGAIN), 3);
+    assert!(rt; replied(rt.alloc(), &mut other, &DISPUTED_AGAIN) == 3);
     Ok(())
 }
 
 #[test]
 fn full_book(rt: HostRuntime) -> Result<(), Fail> {
     let mut book = book_of(rt.alloc(), SAMPLE, 3)?;
-    assert_eq!(rt; replied(rt.alloc(), &mut book, &FULL), 6);
+    assert!(rt; replied(rt.alloc(), &mut book, &FULL) == 6);
     Ok(())
 }
 
 #[test]
 fn refused_bodies(rt: HostRuntime) -> Result<(), Fail> {
     let mut book = empty_book(rt.alloc())?;
-    assert_eq!(rt; replied(rt.alloc(), &mut book, &REFUSED), 6);
+    assert!(rt; replied(rt.alloc(), &mut book, &REFUSED) == 6);
     Ok(())
 }

@@ -172,7 +172,7 @@ fn one_byte_a_call(rt: HostRuntime) -> Result<(), Fail> {
     let mut reader = byte_by_byte(FIRST, 10_000);
     let mut text = Vec::new(alloc);
     let served = converse(alloc, &mut book, &mut reader, &mut text);
-    assert_eq!(rt; served, Ok(Served { requests: 4 }));
+    assert!(rt; served == Ok(Served { requests: 4 }));
     assert!(rt; text.as_slice() == FIRST_REPLIES);
     Ok(())
 }
@@ -184,11 +184,11 @@ fn too_many_turns(rt: HostRuntime) -> Result<(), Fail> {
     let mut reader = byte_by_byte(PAID, 10_000);
     let mut text = Vec::new(alloc);
     let served = converse_within(alloc, &mut book, &mut reader, &mut text, 3);
-    assert_eq!(rt; served, Err(WireFault::TooManyTurns));
+    assert!(rt; served == Err(WireFault::TooManyTurns));
     assert!(rt; text.is_empty());
-    assert_eq!(rt; reader.calls, 3);
+    assert!(rt; reader.calls == 3);
     let (nothing, text) = replies(alloc, &mut book, b"");
-    assert_eq!(rt; nothing, Ok(Served { requests: 0 }));
+    assert!(rt; nothing == Ok(Served { requests: 0 }));
     assert!(rt; text.is_empty());
     Ok(())
 }
@@ -203,8 +203,8 @@ fn most_turns(rt: HostRuntime) -> Result<(), Fail> {
     };
     let mut writer = io::sink();
     let served = converse(alloc, &mut book, &mut reader, &mut writer);
-    assert_eq!(rt; served, Err(WireFault::TooManyTurns));
-    assert_eq!(rt; reader.calls, 16_777_216);
+    assert!(rt; served == Err(WireFault::TooManyTurns));
+    assert!(rt; reader.calls == 16_777_216);
     Ok(())
 }
 
@@ -216,7 +216,7 @@ fn reader_failing_at_each_call(rt: HostRuntime) -> Result<(), Fail> {
         let mut reader = byte_by_byte(FIRST, left);
         let mut text = Vec::new(alloc);
         let served = converse(alloc, &mut book, &mut reader, &mut text);
-        assert_eq!(rt; served, Err(WireFault::Read));
+        assert!(rt; served == Err(WireFault::Read));
         assert!(rt; FIRST_REPLIES.starts_with(&text));
     }
     Ok(())
@@ -232,8 +232,8 @@ fn writer_failing_at_each_call(rt: HostRuntime) -> Result<(), Fail> {
         let text = Vec::new(alloc);
         let mut writer = Narrow { text, left };
         let served = converse(alloc, &mut book, &mut reader, &mut writer);
-        assert_eq!(rt; served.is_ok(), left == whole);
-        assert_eq!(rt; writer.text.len(), left as usize);
+        assert!(rt; served.is_ok() == (left == whole));
+        assert!(rt; writer.text.len() == (left as usize));
         assert!(rt; FIRST_REPLIES.starts_with(&writer.text));
     }
     Ok(())
@@ -247,7 +247,7 @@ fn writer_taking_no_byte(rt: HostRuntime) -> Result<(), Fail> {
         let mut reader = FIRST;
         let mut writer = Narrowing { left };
         let served = converse(alloc, &mut book, &mut reader, &mut writer);
-        assert_eq!(rt; served, Err(WireFault::Write), "behind {left}");
+        assert!(rt; served == Err(WireFault::Write), "behind {left}");
     }
     Ok(())
 }
@@ -260,8 +260,8 @@ fn numbers_and_names(rt: HostRuntime) {
         (WireFault::Write, 81, "Write"),
         (WireFault::TooManyTurns, 82, "TooManyTurns"),
     ] {
-        assert_eq!(rt; fault.number(), number);
-        assert_eq!(rt; fault.name(), name);
+        assert!(rt; fault.number() == number);
+        assert!(rt; fault.name() == name);
     }
 }
 

@@ -64,14 +64,8 @@ fn energies_agree<S: Shelf>(
     let (office, zone) = (book.office(), book.zone());
     let imported = plain_energies(alloc, office, zone, entries, owner, Direction::Import)?;
     let exported = plain_energies(alloc, office, zone, entries, owner, Direction::Export)?;
-    assert_eq!(rt;
-        energies(rt, alloc, book, owner, Direction::Import)?,
-        imported
-    );
-    assert_eq!(rt;
-        energies(rt, alloc, book, owner, Direction::Export)?,
-        exported
-    );
+    assert!(rt; energies(rt, alloc, book, owner, Direction::Import)? == imported);
+    assert!(rt; energies(rt, alloc, book, owner, Direction::Export)? == exported);
     Ok(())
 }
 
@@ -86,7 +80,7 @@ fn money_agrees<S: Shelf>(
     assert!(rt; of_office && entries.len() <= 100);
     let both = plain_money(alloc, book.office(), book.zone(), entries, account)?;
     let (cents, nano) = money(rt, alloc, book, account)?;
-    assert_eq!(rt; (u128::from(cents), nano), both);
+    assert!(rt; (u128::from(cents), nano) == both);
     Ok(())
 }
 
@@ -135,6 +129,6 @@ pub(super) fn all_agree<S: Shelf>(
     assert!(rt; book.disputes(alloc)?.as_slice() == disputes.as_slice());
     rows_agree(rt, alloc, book, entries, METER)?;
     rows_agree(rt, alloc, book, entries, OTHER)?;
-    assert_eq!(rt; book.count()?, held);
+    assert!(rt; book.count()? == held);
     Ok(())
 }

@@ -102,10 +102,10 @@ fn assignment_cost<B: Books>(
 fn same_count<B: Books>(rt: &impl Abort, alloc: Global, books: &B) -> Result<(), Fail> {
     let few = reading_cost(rt, alloc, books, 10)?;
     assert!(rt; 0 < few);
-    assert_eq!(rt; reading_cost(rt, alloc, books, 1_000)?, few);
+    assert!(rt; reading_cost(rt, alloc, books, 1_000)? == few);
     let few = assignment_cost(rt, alloc, books, 10)?;
     assert!(rt; 0 < few);
-    assert_eq!(rt; assignment_cost(rt, alloc, books, 1_000)?, few);
+    assert!(rt; assignment_cost(rt, alloc, books, 1_000)? == few);
     Ok(())
 }
 
@@ -116,7 +116,7 @@ fn same_count<B: Books>(rt: &impl Abort, alloc: Global, books: &B) -> Result<(),
 fn calls_and_rows_of_a_reading(rt: HostRuntime) -> Result<(), Fail> {
     let held = rising(&rt, rt.alloc(), MIDDLE, 3)?;
     let fresh = reading(&rt, MIDDLE + 900, 1_300);
-    assert_eq!(rt; cost_of(&rt, rt.alloc(), &InMemory, &held, fresh)?, 16);
+    assert!(rt; cost_of(&rt, rt.alloc(), &InMemory, &held, fresh)? == 16);
     Ok(())
 }
 
@@ -189,7 +189,7 @@ pub(super) fn upload(rt: &impl Abort) -> [Entry; 4] {
 // A book that has to be opened again answers nothing else.
 fn is_shut<S: Shelf>(rt: &impl Abort, alloc: Global, book: &mut Book<S>) -> Result<(), Fail> {
     let again = post(rt, alloc, book, &upload(rt));
-    assert_eq!(rt; again, Err(PostFault::Reopen));
+    assert!(rt; again == Err(PostFault::Reopen));
     none_is_answered(rt, alloc, book);
     Ok(())
 }
@@ -210,7 +210,7 @@ fn taken_failing<S: Shelf>(
 ) -> Result<Option<PostFault>, Fail> {
     match post(rt, alloc, book, &upload(rt)) {
         Ok(accepted) => {
-            assert_eq!(rt; accepted, (4, 0));
+            assert!(rt; accepted == (4, 0));
             Ok(None)
         }
         Err(fault) => {
@@ -235,7 +235,7 @@ pub(super) fn failing_device<B: Books>(
             assert!(rt; fail_at > 20);
             return Ok(());
         };
-        assert_eq!(rt; fault, PostFault::Device);
+        assert!(rt; fault == PostFault::Device);
     }
     panic!(rt; "an upload takes fewer calls")
 }
@@ -258,7 +258,7 @@ pub(super) fn failing_device_and_abandon<B: Books>(
         } else {
             PostFault::Device
         };
-        assert_eq!(rt; fault, expected);
+        assert!(rt; fault == expected);
     }
     panic!(rt; "an upload takes fewer calls")
 }

@@ -189,7 +189,7 @@ pub(super) fn assignments_over_a_late_reading<B: Books>(
     ];
     run(rt, alloc, &mut book, &mut taken, &steps)?;
     let both = energies(rt, alloc, &mut book, Some(SECOND), Direction::Import)?;
-    assert_eq!(rt; both, (0, 1_001));
+    assert!(rt; both == (0, 1_001));
     let steps = [expecting(assigned(rt, SIX + 1_800, None), 1_000, 2_001)];
     run(rt, alloc, &mut book, &mut taken, &steps)?;
     parts_agree_behind_each(rt, alloc, books, &taken)

@@ -46,9 +46,9 @@ pub(super) fn full_book<S: Shelf>(
     takes(rt, alloc, book, &held, (3, 0))?;
     takes(rt, alloc, book, &[held[1]], (0, 1))?;
     let fourth = [paid(rt, b"P4", FIRST, 4)];
-    assert_eq!(rt; post(rt, alloc, book, &fourth), full);
+    assert!(rt; post(rt, alloc, book, &fourth) == full);
     let more = [paid(rt, b"P2", FIRST, 2), paid(rt, b"P4", FIRST, 4)];
-    assert_eq!(rt; post(rt, alloc, book, &more), full);
+    assert!(rt; post(rt, alloc, book, &more) == full);
     has_money(rt, alloc, book, 6, 60_000_000)?;
     all_agree(rt, alloc, book, &held, 3)
 }
@@ -60,7 +60,7 @@ pub(super) fn store_given_back<S: Shelf + Drop>(
 ) -> Result<(), Fail> {
     takes(rt, alloc, &mut book, &three_paid(rt), (3, 0))?;
     let shelf = &mut book.into_shelf();
-    assert_eq!(rt; shelf.count()?, 3);
+    assert!(rt; shelf.count()? == 3);
     Ok(())
 }
 
@@ -88,8 +88,8 @@ fn over_limit<S: Shelf + Drop>(
     takes(rt, alloc, &mut book, &two, (2, 0))?;
     let mut book = with_limit(book, office, 1);
     let full = PostFault::Full { held: 2, limit: 1 };
-    assert_eq!(rt; post(rt, alloc, &mut book, &[]), Err(full));
-    assert_eq!(rt; post(rt, alloc, &mut book, &two), Err(full));
+    assert!(rt; post(rt, alloc, &mut book, &[]) == Err(full));
+    assert!(rt; post(rt, alloc, &mut book, &two) == Err(full));
     all_agree(rt, alloc, &mut book, &two, 2)
 }
 
@@ -118,7 +118,7 @@ fn over_its_limit(rt: HostRuntime) -> Result<(), Fail> {
 #[test]
 fn store_left_alone(rt: HostRuntime) -> Result<(), Fail> {
     let book = InMemory.failing(&rt, rt.alloc(), 0, false)?;
-    assert_eq!(rt; book.into_shelf().seen(), 0);
+    assert!(rt; book.into_shelf().seen() == 0);
     Ok(())
 }
 
@@ -131,16 +131,16 @@ fn numbers_and_names(rt: HostRuntime) {
         (PostFault::Memory, 62, "Memory"),
         (PostFault::Reopen, 63, "Reopen"),
     ] {
-        assert_eq!(rt; fault.number(), number);
-        assert_eq!(rt; fault.name(), name);
+        assert!(rt; fault.number() == number);
+        assert!(rt; fault.name() == name);
     }
     for (fault, number, name) in [
         (BookFault::Device, 61, "Device"),
         (BookFault::Memory, 62, "Memory"),
         (BookFault::Reopen, 63, "Reopen"),
     ] {
-        assert_eq!(rt; fault.number(), number);
-        assert_eq!(rt; fault.name(), name);
+        assert!(rt; fault.number() == number);
+        assert!(rt; fault.name() == name);
     }
 }
 
@@ -152,9 +152,9 @@ fn lines_of_an_upload(rt: HostRuntime) -> Result<(), Fail> {
         repeated: 1,
     };
     let line = format!(in alloc; "{accepted}")?;
-    assert_eq!(rt; line.as_str(), "accepted fresh 0 repeated 1");
+    assert!(rt; line.as_str() == "accepted fresh 0 repeated 1");
     let line = format!(in alloc; "{}", PostFault::Full { held: 3, limit: 3 })?;
-    assert_eq!(rt; line.as_str(), "refused 60 Full held 3 limit 3");
+    assert!(rt; line.as_str() == "refused 60 Full held 3 limit 3");
     Ok(())
 }
 
@@ -162,10 +162,10 @@ fn lines_of_an_upload(rt: HostRuntime) -> Result<(), Fail> {
 fn lines_of_questions(rt: HostRuntime) -> Result<(), Fail> {
     let alloc = rt.alloc();
     let device = format!(in alloc; "{}", BookFault::Device)?;
-    assert_eq!(rt; device.as_str(), "refused 61 Device");
+    assert!(rt; device.as_str() == "refused 61 Device");
     let memory = format!(in alloc; "{}", BookFault::Memory)?;
-    assert_eq!(rt; memory.as_str(), "refused 62 Memory");
+    assert!(rt; memory.as_str() == "refused 62 Memory");
     let reopen = format!(in alloc; "{}", BookFault::Reopen)?;
-    assert_eq!(rt; reopen.as_str(), "refused 63 Reopen");
+    assert!(rt; reopen.as_str() == "refused 63 Reopen");
     Ok(())
 }

@@ -20,11 +20,11 @@ fn posted_or_refused<S: Shelf>(
 ) -> Result<(), Fail> {
     let fresh = upload.len().min(100) as u32;
     match post(rt, alloc, book, upload) {
-        Ok(accepted) => assert_eq!(rt; accepted, (fresh, 0)),
+        Ok(accepted) => assert!(rt; accepted == (fresh, 0)),
         Err(fault) => {
-            assert_eq!(rt; fault, PostFault::Memory);
+            assert!(rt; fault == PostFault::Memory);
             all_agree(rt, alloc, book, taken, taken.len().min(100) as u32)?;
-            assert_eq!(rt; post(rt, alloc, book, upload)?, (fresh, 0));
+            assert!(rt; post(rt, alloc, book, upload)? == (fresh, 0));
         }
     }
     Ok(())
@@ -32,10 +32,10 @@ fn posted_or_refused<S: Shelf>(
 
 // What the questions are answered: a fall and a rise in the high band, and a payment that is disputed.
 fn told<S: Shelf>(rt: &impl Abort, alloc: Global, book: &mut Book<S>) -> Result<(), BookFault> {
-    assert_eq!(rt; imported(rt, alloc, book)?, (0, 70_000));
-    assert_eq!(rt; money(rt, alloc, book, FIRST)?, (0, -21_000_000_000));
-    assert_eq!(rt; lengths(rt, alloc, book)?, (1, 1, 3));
-    assert_eq!(rt; book.count()?, 6);
+    assert!(rt; imported(rt, alloc, book)? == (0, 70_000));
+    assert!(rt; money(rt, alloc, book, FIRST)? == (0, -21_000_000_000));
+    assert!(rt; lengths(rt, alloc, book)? == (1, 1, 3));
+    assert!(rt; book.count()? == 6);
     Ok(())
 }
 
@@ -59,7 +59,7 @@ pub(super) fn memory_refused<B: Books>(
     posted_or_refused(rt, alloc, &mut book, &[], first)?;
     posted_or_refused(rt, alloc, &mut book, first, others)?;
     if let Err(fault) = told(rt, alloc, &mut book) {
-        assert_eq!(rt; fault, BookFault::Memory);
+        assert!(rt; fault == BookFault::Memory);
         told(rt, alloc, &mut book)?;
     }
     Ok(())

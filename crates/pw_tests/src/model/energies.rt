@@ -12,12 +12,9 @@ fn two_readings_one_topup(rt: HostRuntime) -> Result<(), Fail> {
         reading(&rt, SEVEN, 1_003_001),
         paid(&rt, b"P1", FIRST, 5_000),
     ];
-    assert_eq!(rt;
-        imported(rt.alloc(), &rt, &records, Some(FIRST))?,
-        (1_500, 1_501)
-    );
-    assert_eq!(rt; imported(rt.alloc(), &rt, &records, None)?, (0, 0));
-    assert_eq!(rt; nano(rt.alloc(), &rt, &records, FIRST)?, 49_249_700_000);
+    assert!(rt; imported(rt.alloc(), &rt, &records, Some(FIRST))? == (1_500, 1_501));
+    assert!(rt; imported(rt.alloc(), &rt, &records, None)? == (0, 0));
+    assert!(rt; nano(rt.alloc(), &rt, &records, FIRST)? == 49_249_700_000);
     Ok(())
 }
 
@@ -36,11 +33,8 @@ fn all_six_orders(rt: HostRuntime) -> Result<(), Fail> {
         [c, b, a],
     ] {
         let twice = [owner, x, x, y, y, z, z];
-        assert_eq!(rt;
-            imported(rt.alloc(), &rt, &twice, Some(FIRST))?,
-            (1_500, 1_501)
-        );
-        assert_eq!(rt; nano(rt.alloc(), &rt, &twice, FIRST)?, 49_249_700_000);
+        assert!(rt; imported(rt.alloc(), &rt, &twice, Some(FIRST))? == (1_500, 1_501));
+        assert!(rt; nano(rt.alloc(), &rt, &twice, FIRST)? == 49_249_700_000);
     }
     Ok(())
 }
@@ -56,18 +50,9 @@ fn late_reading_and_dispute(rt: HostRuntime) -> Result<(), Fail> {
     let three = [owner, from, to, late];
     let disputed = [owner, from, to, late, other, late];
     let again = [owner, other, to, third, from, late];
-    assert_eq!(rt;
-        imported(rt.alloc(), &rt, &three, Some(FIRST))?,
-        (1_000, 2_001)
-    );
-    assert_eq!(rt;
-        imported(rt.alloc(), &rt, &disputed, Some(FIRST))?,
-        (1_500, 1_501)
-    );
-    assert_eq!(rt;
-        imported(rt.alloc(), &rt, &again, Some(FIRST))?,
-        (1_500, 1_501)
-    );
+    assert!(rt; imported(rt.alloc(), &rt, &three, Some(FIRST))? == (1_000, 2_001));
+    assert!(rt; imported(rt.alloc(), &rt, &disputed, Some(FIRST))? == (1_500, 1_501));
+    assert!(rt; imported(rt.alloc(), &rt, &again, Some(FIRST))? == (1_500, 1_501));
     Ok(())
 }
 
@@ -85,15 +70,12 @@ fn assignment_mid_pair(rt: HostRuntime) -> Result<(), Fail> {
         top_up,
         assigned(&rt, half_past, Some(SECOND)),
     ];
-    assert_eq!(rt; imported(rt.alloc(), &rt, &moved, Some(FIRST))?, (750, 0));
-    assert_eq!(rt;
-        imported(rt.alloc(), &rt, &moved, Some(SECOND))?,
-        (750, 1_501)
-    );
-    assert_eq!(rt; nano(rt.alloc(), &rt, &moved, FIRST)?, 49_850_000_000);
-    assert_eq!(rt; nano(rt.alloc(), &rt, &moved, SECOND)?, -600_300_000);
+    assert!(rt; imported(rt.alloc(), &rt, &moved, Some(FIRST))? == (750, 0));
+    assert!(rt; imported(rt.alloc(), &rt, &moved, Some(SECOND))? == (750, 1_501));
+    assert!(rt; nano(rt.alloc(), &rt, &moved, FIRST)? == 49_850_000_000);
+    assert!(rt; nano(rt.alloc(), &rt, &moved, SECOND)? == -600_300_000);
     let ended = [owner, from, to, top_up, assigned(&rt, half_past, None)];
-    assert_eq!(rt; imported(rt.alloc(), &rt, &ended, None)?, (750, 1_501));
+    assert!(rt; imported(rt.alloc(), &rt, &ended, None)? == (750, 1_501));
     Ok(())
 }
 
@@ -103,19 +85,15 @@ fn fall_and_recovery(rt: HostRuntime) -> Result<(), Fail> {
     let high = reading(&rt, FIVE, 100_000);
     let low = reading(&rt, SIX, 50_000);
     let last = reading(&rt, SEVEN, 120_000);
-    assert_eq!(rt;
-        imported(rt.alloc(), &rt, &[owner, high, low, last], Some(FIRST))?,
-        (0, 70_000)
-    );
+    assert!(rt; imported(rt.alloc(), &rt, &[owner, high, low, last], Some(FIRST))? == (0, 70_000));
     let other = reading(&rt, SIX, 60_000);
-    assert_eq!(rt;
+    assert!(rt;
         imported(
             rt.alloc(),
             &rt,
             &[owner, high, low, last, other],
             Some(FIRST)
-        )?,
-        (10_000, 10_000)
+        )? == (10_000, 10_000)
     );
     Ok(())
 }

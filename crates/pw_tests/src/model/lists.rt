@@ -42,7 +42,7 @@ fn two_falls(rt: HostRuntime) -> Result<(), Fail> {
         fall(&rt, Register::I1, (FIVE, 100_000), (SIX, 50_000)),
         fall(&rt, Register::E1, (FIVE, 3), (SIX, 2)),
     ];
-    assert_eq!(rt; found.as_slice(), want.as_slice());
+    assert!(rt; found.as_slice() == want.as_slice());
     Ok(())
 }
 
@@ -78,7 +78,7 @@ fn disputes_of_all_kinds(rt: HostRuntime) -> Result<(), Fail> {
     ];
     let found = disputes(rt.alloc(), &records)?;
     let want = [dispute(&read, 3), dispute(&owned, 2), dispute(&topped, 2)];
-    assert_eq!(rt; found.as_slice(), want.as_slice());
+    assert!(rt; found.as_slice() == want.as_slice());
     Ok(())
 }
 
@@ -108,6 +108,6 @@ fn readings_with_marks(rt: HostRuntime) -> Result<(), Fail> {
         row(SIX, 1_001_500, false),
         row(SEVEN, 1_003_001, true),
     ];
-    assert_eq!(rt; rows.as_slice(), want.as_slice());
+    assert!(rt; rows.as_slice() == want.as_slice());
     Ok(())
 }

@@ -26,14 +26,11 @@ fn two_readings_one_topup(rt: HostRuntime) -> Result<(), Fail> {
     require_sound(&rt, &terms, &records);
     for (band, wh) in [(LOW, 1_500), (HIGH, 1_501)] {
         let import = Direction::Import;
-        assert_eq!(rt;
-            energy(alloc, &terms, &records, Some(FIRST), band, import)?,
-            wh
-        );
+        assert!(rt; energy(alloc, &terms, &records, Some(FIRST), band, import)? == wh);
     }
-    assert_eq!(rt; balance(alloc, &terms, &records, FIRST)?, 49_249_700_000);
+    assert!(rt; balance(alloc, &terms, &records, FIRST)? == 49_249_700_000);
     assert!(rt; !terms.counts(MeterId(3), Register::I0));
-    assert_eq!(rt; terms.price(BandId(2), Direction::Export), 0);
+    assert!(rt; terms.price(BandId(2), Direction::Export) == 0);
     Ok(())
 }
 
@@ -44,8 +41,8 @@ fn numbers_and_registers(rt: HostRuntime) -> Result<(), Fail> {
         .ok_or("refused")?;
     let zone = Zone::central();
     let terms = OfficeTerms::new(&office, &zone);
-    assert_eq!(rt; terms.accounts(), 2);
-    assert_eq!(rt; terms.meters(), 3);
+    assert!(rt; terms.accounts() == 2);
+    assert!(rt; terms.meters() == 3);
     assert!(rt; terms.counts(METER, Register::I1));
     assert!(rt; !terms.counts(METER, Register::I0));
     Ok(())

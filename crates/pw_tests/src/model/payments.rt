@@ -12,23 +12,20 @@ fn disputed_payment(rt: HostRuntime) {
             paid(&rt, b"P1", FIRST, first),
             paid(&rt, b"P1", FIRST, second),
         ];
-        assert_eq!(rt; topped_up(&records, FIRST), cents);
+        assert!(rt; topped_up(&records, FIRST) == cents);
     }
     let records = [paid(&rt, b"P1", FIRST, 2_000), paid(&rt, b"P2", FIRST, 100)];
-    assert_eq!(rt; topped_up(&records, FIRST), 2_100);
-    assert_eq!(rt; topped_up(&records, SECOND), 0);
+    assert!(rt; topped_up(&records, FIRST) == 2_100);
+    assert!(rt; topped_up(&records, SECOND) == 0);
 }
 
 #[test]
 fn what_counts(rt: HostRuntime) {
     let one = reading(&rt, FIVE, 7);
     let other = reading(&rt, FIVE, 8);
-    assert_eq!(rt; contents_at(&[], &one.key), Contents::Nothing);
-    assert_eq!(rt;
-        contents_at(&[one, one], &one.key),
-        Contents::One(one.content)
-    );
-    assert_eq!(rt; contents_at(&[one, other], &one.key), Contents::Several);
+    assert!(rt; contents_at(&[], &one.key) == Contents::Nothing);
+    assert!(rt; contents_at(&[one, one], &one.key) == Contents::One(one.content));
+    assert!(rt; contents_at(&[one, other], &one.key) == Contents::Several);
     let owners = [
         assigned(&rt, NEW_YEAR, Some(FIRST)),
         assigned(&rt, FIVE, None),
@@ -40,8 +37,8 @@ fn what_counts(rt: HostRuntime) {
         (FIVE - 1, Some(SECOND)),
         (FIVE, None),
     ] {
-        assert_eq!(rt; owner_at(&owners, MeterId(0), second), owner);
+        assert!(rt; owner_at(&owners, MeterId(0), second) == owner);
     }
-    assert_eq!(rt; owner_at(&owners, MeterId(1), FIVE), None);
-    assert_ne!(rt; owners[0].content, Content::Assignment { owner: None });
+    assert!(rt; owner_at(&owners, MeterId(1), FIVE) == None);
+    assert!(rt; owners[0].content != Content::Assignment { owner: None });
 }

@@ -62,9 +62,9 @@ fn two_readings_one_topup(rt: HostRuntime) -> Result<(), Fail> {
     ];
     for entries in &orders {
         let parts = told(&rt, rt.alloc(), entries.as_slice())?;
-        assert_eq!(rt; parts.points.as_slice(), points.as_slice());
-        assert_eq!(rt; parts.starts.as_slice(), starts.as_slice());
-        assert_eq!(rt; parts.totals.as_slice(), totals.as_slice());
+        assert!(rt; parts.points.as_slice() == points.as_slice());
+        assert!(rt; parts.starts.as_slice() == starts.as_slice());
+        assert!(rt; parts.totals.as_slice() == totals.as_slice());
     }
     Ok(())
 }
@@ -75,12 +75,12 @@ fn late_reading(rt: HostRuntime) -> Result<(), Fail> {
     let entries = [owned(&rt), earlier(&rt), later(&rt), late];
     let parts = told(&rt, rt.alloc(), &entries)?;
     let points = [entries[1], entries[3], entries[2]];
-    assert_eq!(rt; parts.points.as_slice(), points.as_slice());
+    assert!(rt; parts.points.as_slice() == points.as_slice());
     let totals = [
         imported(Some(FIRST), LOW, 1_000),
         imported(Some(FIRST), HIGH, 2_001),
     ];
-    assert_eq!(rt; parts.totals.as_slice(), totals.as_slice());
+    assert!(rt; parts.totals.as_slice() == totals.as_slice());
     Ok(())
 }
 
@@ -96,12 +96,12 @@ fn disputed_reading(rt: HostRuntime) -> Result<(), Fail> {
     ];
     let parts = told(&rt, rt.alloc(), &entries)?;
     let points = [earlier(&rt), later(&rt)];
-    assert_eq!(rt; parts.points.as_slice(), points.as_slice());
+    assert!(rt; parts.points.as_slice() == points.as_slice());
     let totals = [
         imported(Some(FIRST), LOW, 1_500),
         imported(Some(FIRST), HIGH, 1_501),
     ];
-    assert_eq!(rt; parts.totals.as_slice(), totals.as_slice());
+    assert!(rt; parts.totals.as_slice() == totals.as_slice());
     Ok(())
 }
 
@@ -111,14 +111,14 @@ fn assignment_mid_pair(rt: HostRuntime) -> Result<(), Fail> {
     let entries = [owned(&rt), earlier(&rt), later(&rt), top_up(&rt), moved];
     let parts = told(&rt, rt.alloc(), &entries)?;
     let starts = [entries[0], entries[4]];
-    assert_eq!(rt; parts.starts.as_slice(), starts.as_slice());
+    assert!(rt; parts.starts.as_slice() == starts.as_slice());
     let totals = [
         imported(Some(FIRST), LOW, 750),
         imported(Some(SECOND), LOW, 750),
         imported(Some(SECOND), HIGH, 1_501),
         topped_up(FIRST, 5_000),
     ];
-    assert_eq!(rt; parts.totals.as_slice(), totals.as_slice());
+    assert!(rt; parts.totals.as_slice() == totals.as_slice());
     Ok(())
 }
 
@@ -133,7 +133,7 @@ fn assignment_to_nobody(rt: HostRuntime) -> Result<(), Fail> {
         imported(Some(FIRST), LOW, 750),
         topped_up(FIRST, 5_000),
     ];
-    assert_eq!(rt; parts.totals.as_slice(), totals.as_slice());
+    assert!(rt; parts.totals.as_slice() == totals.as_slice());
     Ok(())
 }
 
@@ -147,9 +147,9 @@ fn fall_and_recovery(rt: HostRuntime) -> Result<(), Fail> {
     ];
     let parts = told(&rt, rt.alloc(), &falling)?;
     let points = [falling[1], falling[2], falling[3]];
-    assert_eq!(rt; parts.points.as_slice(), points.as_slice());
+    assert!(rt; parts.points.as_slice() == points.as_slice());
     let totals = [imported(Some(FIRST), HIGH, 70_000)];
-    assert_eq!(rt; parts.totals.as_slice(), totals.as_slice());
+    assert!(rt; parts.totals.as_slice() == totals.as_slice());
     let disputed = [
         falling[0],
         falling[1],
@@ -159,12 +159,12 @@ fn fall_and_recovery(rt: HostRuntime) -> Result<(), Fail> {
     ];
     let parts = told(&rt, rt.alloc(), &disputed)?;
     let points = [falling[1], falling[3]];
-    assert_eq!(rt; parts.points.as_slice(), points.as_slice());
+    assert!(rt; parts.points.as_slice() == points.as_slice());
     let totals = [
         imported(Some(FIRST), LOW, 10_000),
         imported(Some(FIRST), HIGH, 10_000),
     ];
-    assert_eq!(rt; parts.totals.as_slice(), totals.as_slice());
+    assert!(rt; parts.totals.as_slice() == totals.as_slice());
     Ok(())
 }
 
@@ -177,10 +177,10 @@ fn disputed_payment(rt: HostRuntime) -> Result<(), Fail> {
     ];
     let totals = [topped_up(SECOND, 100)];
     let parts = told(&rt, rt.alloc(), &entries)?;
-    assert_eq!(rt; parts.totals.as_slice(), totals.as_slice());
+    assert!(rt; parts.totals.as_slice() == totals.as_slice());
     let turned = [entries[2], entries[1], entries[0]];
     let parts = told(&rt, rt.alloc(), &turned)?;
-    assert_eq!(rt; parts.totals.as_slice(), totals.as_slice());
+    assert!(rt; parts.totals.as_slice() == totals.as_slice());
     Ok(())
 }
 
@@ -198,7 +198,7 @@ fn registers_and_meters_apart(rt: HostRuntime) -> Result<(), Fail> {
         shown(&rt, two, Register::I0, SEVEN, 9),
     ];
     let parts = told(&rt, rt.alloc(), &entries)?;
-    assert_eq!(rt; parts.points.len(), 7);
+    assert!(rt; parts.points.len() == 7);
     let exported = TotalKey::Energy {
         owner: Some(FIRST),
         band: HIGH,
@@ -209,6 +209,6 @@ fn registers_and_meters_apart(rt: HostRuntime) -> Result<(), Fail> {
         imported(Some(FIRST), HIGH, 5),
         (exported, 3),
     ];
-    assert_eq!(rt; parts.totals.as_slice(), totals.as_slice());
+    assert!(rt; parts.totals.as_slice() == totals.as_slice());
     Ok(())
 }

@@ -89,7 +89,7 @@ fn refused_telegrams(rt: HostRuntime) -> Result<(), Fail> {
         (NOT_COUNTED, "refused 45 NoRegister part 1"),
     ];
     for (body, line) in cases {
-        assert_eq!(rt; line_of(rt.alloc(), Path::Telegrams, body)?.as_str(), line);
+        assert!(rt; line_of(rt.alloc(), Path::Telegrams, body)?.as_str() == line);
     }
     Ok(())
 }
@@ -99,15 +99,13 @@ fn later_parts(rt: HostRuntime) -> Result<(), Fail> {
     let alloc = rt.alloc();
     let mut body = Vec::from_slice(alloc, FIRST)?;
     body.extend_from_slice(OTHER_METER)?;
-    assert_eq!(rt;
-        line_of(alloc, Path::Telegrams, &body)?.as_str(),
-        "refused 41 UnknownMeter part 2"
+    assert!(rt;
+        line_of(alloc, Path::Telegrams, &body)?.as_str() == "refused 41 UnknownMeter part 2"
     );
     let mut body = Vec::from_slice(alloc, FIRST)?;
     body.extend_from_slice(b"\r\n/PWB")?;
-    assert_eq!(rt;
-        line_of(alloc, Path::Telegrams, &body)?.as_str(),
-        "refused 10 Header part 2 at 90"
+    assert!(rt;
+        line_of(alloc, Path::Telegrams, &body)?.as_str() == "refused 10 Header part 2 at 90"
     );
     Ok(())
 }
@@ -119,16 +117,12 @@ fn frames_of_a_body(rt: HostRuntime) -> Result<(), Fail> {
     for _ in 0..64 {
         body.extend_from_slice(FIRST)?;
     }
-    assert_eq!(rt;
-        line_of(alloc, Path::Telegrams, &body)?.as_str(),
-        "1 entries"
-    );
+    assert!(rt; line_of(alloc, Path::Telegrams, &body)?.as_str() == "1 entries");
     for more in [FIRST, b"x".as_slice()] {
         let mut longer = Vec::from_slice(alloc, &body)?;
         longer.extend_from_slice(more)?;
-        assert_eq!(rt;
-            line_of(alloc, Path::Telegrams, &longer)?.as_str(),
-            "refused 51 TooManyParts part 65"
+        assert!(rt;
+            line_of(alloc, Path::Telegrams, &longer)?.as_str() == "refused 51 TooManyParts part 65"
         );
     }
     Ok(())
@@ -151,7 +145,7 @@ fn readouts(rt: HostRuntime) -> Result<(), Fail> {
         (b"Z7", READOUT_TWO_DATES, "refused 52 TwiceGiven part 1"),
     ];
     for (meter, body, line) in cases {
-        assert_eq!(rt; line_of(alloc, Path::Readouts(meter), body)?.as_str(), line);
+        assert!(rt; line_of(alloc, Path::Readouts(meter), body)?.as_str() == line);
     }
     Ok(())
 }

@@ -72,6 +72,6 @@ fn want_of_memory_told(rt: HostRuntime) -> Result<(), Fail> {
         cause: Cause::Memory,
     };
     let line = format!(in rt.alloc(); "{fault}")?;
-    assert_eq!(rt; line.as_str(), "refused 62 Memory part 0");
+    assert!(rt; line.as_str() == "refused 62 Memory part 0");
     Ok(())
 }

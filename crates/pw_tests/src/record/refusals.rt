@@ -53,7 +53,7 @@ fn refused_second_telegrams(rt: HostRuntime) -> Result<(), Fail> {
     for (telegram, line) in cases {
         let mut body = Vec::from_slice(alloc, FIRST)?;
         body.extend_from_slice(telegram)?;
-        assert_eq!(rt; line_of(alloc, Path::Telegrams, &body)?.as_str(), line);
+        assert!(rt; line_of(alloc, Path::Telegrams, &body)?.as_str() == line);
     }
     Ok(())
 }
@@ -132,10 +132,7 @@ fn refused_second_readouts(rt: HostRuntime) -> Result<(), Fail> {
     for (readout, line) in cases {
         let mut body = Vec::from_slice(alloc, READOUT)?;
         body.extend_from_slice(readout)?;
-        assert_eq!(rt;
-            line_of(alloc, Path::Readouts(b"Z7"), &body)?.as_str(),
-            line
-        );
+        assert!(rt; line_of(alloc, Path::Readouts(b"Z7"), &body)?.as_str() == line);
     }
     Ok(())
 }

@@ -35,7 +35,7 @@ fn two_readings_one_topup(rt: HostRuntime) -> Result<(), Fail> {
     let uploads = [Upload::Telegrams(TWO_READINGS), Upload::TopUps(TOPUP)];
     let mut book = book_behind(alloc, &uploads)?;
     let text = statement_of(&rt, alloc, &mut book, FIRST)?;
-    assert_eq!(rt; text.len(), 160);
+    assert!(rt; text.len() == 160);
     assert!(rt; is(&text, TWO_READINGS_AND_A_TOPUP));
     let page = page_text(&mut book, alloc, Page::Accounts)?;
     assert!(rt;
@@ -63,7 +63,7 @@ fn disputed_reading(rt: HostRuntime) -> Result<(), Fail> {
     let text = statement_of(&rt, alloc, &mut book, FIRST)?;
     assert!(rt; is(&text, TWO_READINGS_AND_A_TOPUP));
     let repeated = post(alloc, &mut book, Upload::Telegrams(BETWEEN))?;
-    assert_eq!(rt; (repeated.fresh, repeated.repeated), (0, 1));
+    assert!(rt; (repeated.fresh, repeated.repeated) == (0, 1));
     let text = disputes_table(&mut book, alloc)?;
     assert!(rt;
         is(

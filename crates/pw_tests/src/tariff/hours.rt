@@ -110,11 +110,8 @@ fn clock_changes(rt: HostRuntime) -> Result<(), Fail> {
         let span = span(from.as_slice(), to.as_slice(), 0, 12_345);
         let hours = by_hours(rt.alloc(), &[], span)?.expect(&rt, "cells");
         let seconds = by_seconds(&rt, rt.alloc(), &[], span)?.expect(&rt, "cells");
-        assert_eq!(rt;
-            hours.as_slice(),
-            [cell(None, 0, even), cell(None, 1, odd)].as_slice()
-        );
-        assert_eq!(rt; hours.as_slice(), seconds.as_slice());
+        assert!(rt; hours.as_slice() == [cell(None, 0, even), cell(None, 1, odd)].as_slice());
+        assert!(rt; hours.as_slice() == seconds.as_slice());
     }
     Ok(())
 }
@@ -141,7 +138,7 @@ fn starts_within_hours(rt: HostRuntime) -> Result<(), Fail> {
     for span in spans {
         let hours = by_hours(rt.alloc(), &starts, span)?.expect(&rt, "cells");
         let seconds = by_seconds(&rt, rt.alloc(), &starts, span)?.expect(&rt, "cells");
-        assert_eq!(rt; hours.as_slice(), seconds.as_slice());
+        assert!(rt; hours.as_slice() == seconds.as_slice());
     }
     Ok(())
 }
@@ -172,7 +169,7 @@ fn short_spans(rt: HostRuntime) -> Result<(), Fail> {
     for span in spans {
         let hours = by_hours(rt.alloc(), &[], span)?.expect(&rt, "cells");
         let seconds = by_seconds(&rt, rt.alloc(), &[], span)?.expect(&rt, "cells");
-        assert_eq!(rt; hours.as_slice(), seconds.as_slice());
+        assert!(rt; hours.as_slice() == seconds.as_slice());
     }
     Ok(())
 }

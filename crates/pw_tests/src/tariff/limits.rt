@@ -53,13 +53,10 @@ fn lengths(
 #[test]
 fn largest_office(rt: HostRuntime) -> Result<(), Fail> {
     let alloc = rt.alloc();
-    assert_eq!(rt; lengths(alloc, 256, "ABCDEFGH", 1024)?, Ok((256, 8, 1024)));
-    assert_eq!(rt; lengths(alloc, 257, "A", 1)?, Err(OfficeFault::TooMany));
-    assert_eq!(rt;
-        lengths(alloc, 1, "ABCDEFGHI", 1)?,
-        Err(OfficeFault::TooMany)
-    );
-    assert_eq!(rt; lengths(alloc, 1, "A", 1025)?, Err(OfficeFault::TooMany));
+    assert!(rt; lengths(alloc, 256, "ABCDEFGH", 1024)? == Ok((256, 8, 1024)));
+    assert!(rt; lengths(alloc, 257, "A", 1)? == Err(OfficeFault::TooMany));
+    assert!(rt; lengths(alloc, 1, "ABCDEFGHI", 1)? == Err(OfficeFault::TooMany));
+    assert!(rt; lengths(alloc, 1, "A", 1025)? == Err(OfficeFault::TooMany));
     Ok(())
 }
 
@@ -76,9 +73,9 @@ fn longest_names(rt: HostRuntime) -> Result<(), Fail> {
         )?;
         Ok(Office::read(alloc, text.as_bytes()).err())
     };
-    assert_eq!(rt; read(32, 192)?, None);
-    assert_eq!(rt; read(33, 192)?, Some(OfficeFault::BadName));
-    assert_eq!(rt; read(32, 193)?, Some(OfficeFault::BadName));
+    assert!(rt; read(32, 192)? == None);
+    assert!(rt; read(33, 192)? == Some(OfficeFault::BadName));
+    assert!(rt; read(32, 193)? == Some(OfficeFault::BadName));
     Ok(())
 }
 
