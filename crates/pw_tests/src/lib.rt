@@ -28,7 +28,8 @@ mod report;
 mod sample;
 #[cfg(test)]
 mod shelf;
-pub mod sql_stores;
+#[cfg(test)]
+mod sql_stores;
 #[cfg(test)]
 mod tariff;
 #[cfg(test)]
