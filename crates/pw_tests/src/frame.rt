@@ -27,39 +27,34 @@ fn read(body: &[u8]) -> (usize, Option<FrameFault>) {
 
 #[test]
 fn checks(rt: HostRuntime) {
-    assert!(rt; crc16(b"123456789") == 0xBB3D);
+    assert!(rt; crc16(b"123456789") == 0xBB3D && crc16(b"") == 0);
     assert!(rt; crc_update(crc16(b"1234"), b"56789") == 0xBB3D);
-    assert!(rt; crc16(b"") == 0);
     assert!(rt; block_check(b"") == 0);
     assert!(rt;
         block_check(b"0.9.1(060000)\r\n0.9.2(240102)\r\n1.8.0(1000.000*kWh)\r\n!\r\n\x03") == 0x7B
     );
 }
 
+/// A readout between line ends, and a telegram behind it.
+const BOTH: &[u8] =
+    b"\r\n/PWB5Z7\r\n\x020.9.1(060000)\r\n0.9.2(240102)\r\n1.8.0(1000.000*kWh)\r\n!\r\n\x03{\r\n\r\n/PWB5X\r\n\r\n!36D6\r\n";
+
+/// Whether the next frame is of this kind, with this header and block.
+fn is_next(frames: &mut Frames<'_>, kind: Kind, header: &[u8], block: &[u8]) -> bool {
+    match frames.next_frame() {
+        Some(Ok(frame)) => frame.kind == kind && frame.header == header && frame.block == block,
+        _ => false,
+    }
+}
+
 #[test]
-fn both_kinds_in_one_body(rt: HostRuntime) -> Result<(), Fail> {
-    let mut body = b"\r\n".to_vec(rt.alloc())?;
-    body.extend_from_slice(READOUT)?;
-    body.extend_from_slice(b"\r\n\r\n")?;
-    body.extend_from_slice(b"/PWB5X\r\n\r\n!36D6\r\n")?;
-    let mut frames = Frames::new(body.as_slice());
-    let Some(Ok(readout)) = frames.next_frame() else {
-        return Ok(assert!(rt; false));
-    };
-    assert!(rt; readout.kind == Kind::Readout);
-    assert!(rt; readout.header == b"PWB5Z7".as_slice());
-    assert!(rt;
-        readout.block == b"0.9.1(060000)\r\n0.9.2(240102)\r\n1.8.0(1000.000*kWh)\r\n".as_slice()
-    );
-    let Some(Ok(telegram)) = frames.next_frame() else {
-        return Ok(assert!(rt; false));
-    };
-    assert!(rt; telegram.kind == Kind::Telegram);
-    assert!(rt; telegram.header == b"PWB5X".as_slice());
-    assert!(rt; telegram.block.is_empty());
+fn both_kinds_in_one_body(rt: HostRuntime) {
+    let block = b"0.9.1(060000)\r\n0.9.2(240102)\r\n1.8.0(1000.000*kWh)\r\n";
+    let mut frames = Frames::new(BOTH);
+    assert!(rt; is_next(&mut frames, Kind::Readout, b"PWB5Z7", block));
+    assert!(rt; is_next(&mut frames, Kind::Telegram, b"PWB5X", b""));
     assert!(rt; matches!(frames.next_frame(), None));
     assert!(rt; matches!(frames.next_frame(), None));
-    Ok(())
 }
 
 #[test]
@@ -154,8 +149,7 @@ fn faults_in_their_order(rt: HostRuntime) {
         ),
     ];
     for (body, count, fault) in cases {
-        assert!(rt; read(body).0 == count, "in {body:?}");
-        assert!(rt; read(body).1 == fault, "in {body:?}");
+        assert!(rt; read(body) == (count, fault), "in {body:?}");
     }
 }
 
@@ -200,43 +194,49 @@ fn readout_block_check(rt: HostRuntime) {
         ),
     ];
     for (body, count, fault) in cases {
-        assert!(rt; read(body).0 == count, "in {body:?}");
-        assert!(rt; read(body).1 == fault, "in {body:?}");
+        assert!(rt; read(body) == (count, fault), "in {body:?}");
+    }
+}
+
+/// The fault of the first bytes of a frame whose header ends behind the ninth byte.
+fn fault_of_prefix(cut: usize, last_of_block: usize) -> FrameFault {
+    if cut <= 9 {
+        FrameFault::Header { at: 0 }
+    } else if cut <= last_of_block {
+        FrameFault::NoEnd { at: 0 }
+    } else {
+        FrameFault::Trailer { at: 0 }
     }
 }
 
 #[test]
 fn prefixes(rt: HostRuntime) {
-    assert!(rt; FIRST.len() == 88);
-    for cut in 0..88 {
-        let fault = match cut {
-            0..=9 => FrameFault::Header { at: 0 },
-            10..=81 => FrameFault::NoEnd { at: 0 },
-            _ => FrameFault::Trailer { at: 0 },
-        };
-        assert!(rt; read(&FIRST[..cut]).1 == Some(fault), "at {cut}");
+    assert!(rt; FIRST.len() == 88 && READOUT.len() == 66);
+    for (frame, last_of_block) in [(FIRST, 81), (READOUT, 61)] {
+        for cut in 0..frame.len() {
+            let fault = fault_of_prefix(cut, last_of_block);
+            assert!(rt; read(&frame[..cut]).1 == Some(fault), "at {cut}");
+        }
     }
-    assert!(rt; READOUT.len() == 66);
-    for cut in 0..66 {
-        let fault = match cut {
-            0..=9 => FrameFault::Header { at: 0 },
-            10..=61 => FrameFault::NoEnd { at: 0 },
-            _ => FrameFault::Trailer { at: 0 },
-        };
-        assert!(rt; read(&READOUT[..cut]).1 == Some(fault), "at {cut}");
+}
+
+/// Whether a body is refused with any one of its bits turned. Each is turned back.
+fn are_flips_refused(body: &mut [u8]) -> bool {
+    let mut are_refused = true;
+    for i in 0..body.len() {
+        for bit in [1, 2, 4, 8, 16, 32, 64, 128] {
+            body[i] ^= bit;
+            are_refused = are_refused && read(body).1.is_some();
+            body[i] ^= bit;
+        }
     }
+    are_refused
 }
 
 #[test]
 fn flips_of_one_bit(rt: HostRuntime) -> Result<(), Fail> {
-    for i in 0..FIRST.len() {
-        for bit in [1, 2, 4, 8, 16, 32, 64, 128] {
-            let mut body = FIRST.to_vec(rt.alloc())?;
-            if let Some(byte) = body.get_mut(i) {
-                *byte ^= bit;
-            }
-            assert!(rt; read(body.as_slice()).1.is_some(), "byte {i} bit {bit}");
-        }
-    }
+    let mut body = FIRST.to_vec(rt.alloc())?;
+    assert!(rt; are_flips_refused(body.as_mut_slice()));
+    assert!(rt; body.as_slice() == FIRST);
     Ok(())
 }

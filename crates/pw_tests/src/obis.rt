@@ -1,7 +1,7 @@
 //! Worked examples, their values from the standards and from the telegrams that meters send.
 
 use pw_obis::{
-    Code, LineFault, Register, Sets, ValueFault, WattHours, code, first_value, is_date,
+    Code, LineFault, Register, Set, Sets, ValueFault, WattHours, code, first_value, is_date,
     is_identifier, is_stamp, is_time, register, watt_hours,
 };
 
@@ -41,19 +41,69 @@ fn values_of_registers(rt: HostRuntime) {
     }
 }
 
+// Whether the next set has this address, which is no code, and these values.
+fn is_next_without_code(sets: &mut Sets<'_>, address: &[u8], values: &[u8]) -> bool {
+    match sets.next_set() {
+        Some(Ok(set)) => set.address == address && set.code.is_none() && set.values == values,
+        _ => false,
+    }
+}
+
 #[test]
 fn cut_line(rt: HostRuntime) {
     let mut sets = Sets::new(b"F.F(00)\r\n1.8.0(1\r\n");
-    if let Some(Ok(set)) = sets.next_set() {
-        assert!(rt; set.address == b"F.F".as_slice());
-        assert!(rt; set.code.is_none());
-        assert!(rt; set.values == b"(00)".as_slice());
-    } else {
-        assert!(rt; false);
-    }
+    assert!(rt; is_next_without_code(&mut sets, b"F.F", b"(00)"));
     assert!(rt; matches!(sets.next_set(), Some(Err(LineFault { at: 9 }))));
     assert!(rt; matches!(sets.next_set(), None));
     assert!(rt; matches!(sets.next_set(), None));
+}
+
+// What a set of the block below means.
+#[derive(Clone, Copy, PartialEq, Eq)]
+enum Meaning {
+    Stamp,
+    Identifier,
+    Energy,
+    Failures,
+    Skipped,
+}
+
+// What a code means, if it is none of the log of power failures.
+fn meaning_of(code: &Code) -> Meaning {
+    if is_stamp(code) {
+        Meaning::Stamp
+    } else if is_identifier(code) {
+        Meaning::Identifier
+    } else if register(code) == Some(Register::I1) {
+        Meaning::Energy
+    } else {
+        Meaning::Skipped
+    }
+}
+
+// Whether a set is the log of power failures, which has several values.
+fn is_log(set: &Set<'_>) -> bool {
+    set.address == b"1-0:99.97.0".as_slice()
+        && set.values == b"(2)(0-0:96.7.19)(101208152415W)(0000000240*s)".as_slice()
+        && first_value(set) == b"2".as_slice()
+}
+
+// Whether the next set has a code of this meaning, and its value.
+fn is_next(sets: &mut Sets<'_>, wanted: Meaning) -> bool {
+    let Some(Ok(set)) = sets.next_set() else {
+        return false;
+    };
+    let Some(code) = set.code else {
+        return false;
+    };
+    let found = meaning_of(&code);
+    match wanted {
+        Meaning::Stamp => found == wanted && first_value(&set) == b"240102060000W".as_slice(),
+        Meaning::Identifier => found == wanted && first_value(&set) == b"4D31".as_slice(),
+        Meaning::Energy => found == wanted && watt_hours(first_value(&set)).ok() == wh(123_456_789),
+        Meaning::Failures => found == Meaning::Skipped && register(&code).is_none() && is_log(&set),
+        Meaning::Skipped => found == Meaning::Skipped && !is_log(&set),
+    }
 }
 
 #[test]
@@ -62,37 +112,18 @@ fn obis_breadth(rt: HostRuntime) {
         1-3:0.2.8(50)\r\n0-0:96.13.0()\r\n1-0:1.7.0(00.318*kW)\r\n\
         1-0:99.97.0(2)(0-0:96.7.19)(101208152415W)(0000000240*s)\r\n\r\n";
     let mut sets = Sets::new(block.as_slice());
-    let mut given = 0u32;
-    let mut found = 0u32;
-    for _ in 0..9 {
-        let Some(Ok(set)) = sets.next_set() else {
-            continue;
-        };
-        given = given.saturating_add(1);
-        let Some(code) = set.code else {
-            continue;
-        };
-        if is_stamp(&code) {
-            assert!(rt; first_value(&set) == b"240102060000W".as_slice());
-            found = found.saturating_add(1);
-        }
-        if is_identifier(&code) {
-            assert!(rt; first_value(&set) == b"4D31".as_slice());
-            found = found.saturating_add(1);
-        }
-        if register(&code) == Some(Register::I1) {
-            assert!(rt; watt_hours(first_value(&set)).ok() == wh(123_456_789));
-            found = found.saturating_add(1);
-        }
-        if set.address == b"1-0:99.97.0".as_slice() {
-            assert!(rt; set.values == b"(2)(0-0:96.7.19)(101208152415W)(0000000240*s)".as_slice());
-            assert!(rt; first_value(&set) == b"2".as_slice());
-            assert!(rt; register(&code).is_none());
-            found = found.saturating_add(1);
-        }
+    let meanings = [
+        Meaning::Stamp,
+        Meaning::Identifier,
+        Meaning::Energy,
+        Meaning::Skipped,
+        Meaning::Skipped,
+        Meaning::Skipped,
+        Meaning::Failures,
+    ];
+    for meaning in meanings {
+        assert!(rt; is_next(&mut sets, meaning));
     }
-    assert!(rt; given == 7);
-    assert!(rt; found == 4);
     assert!(rt; matches!(sets.next_set(), None));
 }
 
@@ -127,6 +158,19 @@ fn registers_of_addresses(rt: HostRuntime) {
     }
 }
 
+// Texts that are no addresses.
+const NO_ADDRESSES: [&str; 9] = [
+    "1-0:99.97.0*256",
+    "256.8",
+    "0001.8.0",
+    "F.F",
+    "C.1.0",
+    "",
+    "1.8.0.0",
+    "1.8.",
+    "0:1-1.8.0",
+];
+
 #[test]
 fn codes_of_addresses(rt: HostRuntime) {
     let whole = Code {
@@ -139,15 +183,9 @@ fn codes_of_addresses(rt: HostRuntime) {
     };
     assert!(rt; code(b"1-0:99.97.0*255") == Some(whole));
     assert!(rt; code(b"1-000:099.97.0&255") == Some(whole));
-    assert!(rt; code(b"1-0:99.97.0*256").is_none());
-    assert!(rt; code(b"256.8").is_none());
-    assert!(rt; code(b"0001.8.0").is_none());
-    assert!(rt; code(b"F.F").is_none());
-    assert!(rt; code(b"C.1.0").is_none());
-    assert!(rt; code(b"").is_none());
-    assert!(rt; code(b"1.8.0.0").is_none());
-    assert!(rt; code(b"1.8.").is_none());
-    assert!(rt; code(b"0:1-1.8.0").is_none());
+    for address in NO_ADDRESSES {
+        assert!(rt; code(address.as_bytes()).is_none());
+    }
 }
 
 fn is_clock_address(address: &[u8]) -> (bool, bool) {
@@ -159,12 +197,17 @@ fn is_clock_address(address: &[u8]) -> (bool, bool) {
 
 #[test]
 fn clock_of_a_readout(rt: HostRuntime) {
-    assert!(rt; is_clock_address(b"0.9.1") == (true, false));
-    assert!(rt; is_clock_address(b"0.9.2") == (false, true));
-    assert!(rt; is_clock_address(b"1-0:0.9.1*255") == (true, false));
-    assert!(rt; is_clock_address(b"0-1:0.9.2") == (false, true));
-    assert!(rt; is_clock_address(b"2-0:0.9.2") == (false, false));
-    assert!(rt; is_clock_address(b"0.9.1*1") == (false, false));
+    let addresses = [
+        ("0.9.1", (true, false)),
+        ("0.9.2", (false, true)),
+        ("1-0:0.9.1*255", (true, false)),
+        ("0-1:0.9.2", (false, true)),
+        ("2-0:0.9.2", (false, false)),
+        ("0.9.1*1", (false, false)),
+    ];
+    for (address, told) in addresses {
+        assert!(rt; is_clock_address(address.as_bytes()) == told);
+    }
 }
 
 #[test]

@@ -270,26 +270,23 @@ fn refused_bodies(rt: HostRuntime) {
     }
 }
 
-#[test]
-fn longest_body(rt: HostRuntime) -> Result<(), Fail> {
-    let mut body = vec![in rt.alloc(); b'\n'; 262_144]?;
-    assert!(rt;
-        gives(
-            &rt,
-            Clock::Winter,
-            body.as_slice(),
-            1,
-            b"",
-            b"refused 10 Header part 1 at 0\n"
-        )
-    );
+/// How many bytes are taken of a reader that never ends, where its body is told to be too large, and else none.
+fn given_of_endless(rt: &HostRuntime) -> u64 {
     let mut endless = EndlessReader { given: 0 };
     let mut out = Vec::new(rt.alloc());
     let mut err = Vec::new(rt.alloc());
-    assert!(rt; read_run(rt.alloc(), Clock::Winter, &mut endless, &mut out, &mut err) == 1);
-    assert!(rt; err.as_slice() == b"body too large\n".as_slice());
-    assert!(rt; endless.given == 262_145);
-    body.extend_from_slice(b"\n")?;
+    let status = read_run(rt.alloc(), Clock::Winter, &mut endless, &mut out, &mut err);
+    let is_told = status == 1 && err.as_slice() == b"body too large\n".as_slice();
+    if is_told { endless.given } else { 0 }
+}
+
+#[test]
+fn longest_body(rt: HostRuntime) -> Result<(), Fail> {
+    let body = vec![in rt.alloc(); b'\n'; 262_145]?;
+    let (_, longest) = body.split_last().ok_or("an empty body")?;
+    let header = b"refused 10 Header part 1 at 0\n";
+    assert!(rt; longest.len() == 262_144);
+    assert!(rt; gives(&rt, Clock::Winter, longest, 1, b"", header));
     assert!(rt;
         gives(
             &rt,
@@ -300,40 +297,63 @@ fn longest_body(rt: HostRuntime) -> Result<(), Fail> {
             b"body too large\n"
         )
     );
+    assert!(rt; given_of_endless(&rt) == 262_145);
     Ok(())
+}
+
+/// What is told on the last stream where a device failed.
+const DEVICE: &[u8] = b"device failed\n";
+
+/// Whether an input that fails is told of.
+fn is_told_of_reader(rt: &HostRuntime) -> bool {
+    let mut out = Vec::new(rt.alloc());
+    let mut err = Vec::new(rt.alloc());
+    let mut reader = BrokenReader { left: FIRST };
+    let status = read_run(rt.alloc(), Clock::Winter, &mut reader, &mut out, &mut err);
+    status == 3 && out.is_empty() && err.as_slice() == DEVICE
+}
+
+/// Whether an output that fails is told of.
+fn is_told_of_output(rt: &HostRuntime) -> bool {
+    let mut err = Vec::new(rt.alloc());
+    let mut whole = FIRST;
+    let out = &mut BrokenWriter;
+    let status = read_run(rt.alloc(), Clock::Winter, &mut whole, out, &mut err);
+    status == 3 && err.as_slice() == DEVICE
+}
+
+/// Whether a refusal that can't be told leaves the output empty.
+fn is_silent_where_nothing_is_written(rt: &HostRuntime) -> bool {
+    let mut out = Vec::new(rt.alloc());
+    let mut empty = b"".as_slice();
+    let err = &mut BrokenWriter;
+    let status = read_run(rt.alloc(), Clock::Winter, &mut empty, &mut out, err);
+    status == 3 && out.is_empty()
 }
 
 #[test]
 fn broken_streams(rt: HostRuntime) {
-    let mut out = Vec::new(rt.alloc());
+    assert!(rt; is_told_of_reader(&rt));
+    assert!(rt; is_told_of_output(&rt));
+    assert!(rt; is_silent_where_nothing_is_written(&rt));
+}
+
+/// Whether an output that has room for this text alone takes it, and is told of.
+fn is_output_cut(rt: &HostRuntime, text: &[u8]) -> bool {
+    let mut out = NarrowWriter::new(rt, text.len());
     let mut err = Vec::new(rt.alloc());
-    let mut reader = BrokenReader { left: FIRST };
-    assert!(rt; read_run(rt.alloc(), Clock::Winter, &mut reader, &mut out, &mut err) == 3);
-    assert!(rt; out.is_empty());
-    assert!(rt; err.as_slice() == b"device failed\n".as_slice());
-    let mut line = Vec::new(rt.alloc());
     let mut whole = FIRST;
-    assert!(rt;
-        read_run(
-            rt.alloc(),
-            Clock::Winter,
-            &mut whole,
-            &mut BrokenWriter,
-            &mut line
-        ) == 3
-    );
-    assert!(rt; line.as_slice() == b"device failed\n".as_slice());
-    let mut empty = b"".as_slice();
-    assert!(rt;
-        read_run(
-            rt.alloc(),
-            Clock::Winter,
-            &mut empty,
-            &mut out,
-            &mut BrokenWriter
-        ) == 3
-    );
-    assert!(rt; out.is_empty());
+    let status = read_run(rt.alloc(), Clock::Winter, &mut whole, &mut out, &mut err);
+    status == 3 && out.held.as_slice() == text && err.as_slice() == DEVICE
+}
+
+/// Whether a refusal is cut to this text where there is room for it alone.
+fn is_refusal_cut(rt: &HostRuntime, line: &[u8]) -> bool {
+    let mut out = Vec::new(rt.alloc());
+    let mut err = NarrowWriter::new(rt, line.len());
+    let mut cut = &FIRST[..81];
+    let status = read_run(rt.alloc(), Clock::Winter, &mut cut, &mut out, &mut err);
+    status == 3 && out.is_empty() && err.held.as_slice() == line
 }
 
 #[test]
@@ -341,22 +361,10 @@ fn narrow_streams(rt: HostRuntime) {
     let text =
         b"telegram /PWB5X\nstamp 240102060000W\nmeter 4D31\nI1 1000000\ninstant 2024-01-02T05:00:00Z\n";
     for room in 0..text.len() {
-        let mut out = NarrowWriter::new(&rt, room);
-        let mut err = Vec::new(rt.alloc());
-        let mut whole = FIRST;
-        let status = read_run(rt.alloc(), Clock::Winter, &mut whole, &mut out, &mut err);
-        assert!(rt; status == 3);
-        assert!(rt; out.held.as_slice() == &text[..room], "room {room}");
-        assert!(rt; err.as_slice() == b"device failed\n".as_slice());
+        assert!(rt; is_output_cut(&rt, &text[..room]), "room {room}");
     }
     let line = b"refused 11 NoEnd part 1 at 0\n";
     for room in 0..line.len() {
-        let mut out = Vec::new(rt.alloc());
-        let mut err = NarrowWriter::new(&rt, room);
-        let mut cut = &FIRST[..81];
-        let status = read_run(rt.alloc(), Clock::Winter, &mut cut, &mut out, &mut err);
-        assert!(rt; status == 3);
-        assert!(rt; out.is_empty());
-        assert!(rt; err.held.as_slice() == &line[..room], "room {room}");
+        assert!(rt; is_refusal_cut(&rt, &line[..room]), "room {room}");
     }
 }

@@ -1,3 +1,7 @@
+//! Stamps, local clocks and instants, worked out by hand and by another reading of the same rule.
+
+ghost use Rattle.std.specs.Prelude.{◌≤◌, IfOk};
+
 use jiff::Timestamp;
 use jiff::tz::TimeZone;
 use pw_time::*;
@@ -92,12 +96,25 @@ fn week_hours(rt: HostRuntime) -> Result<(), Fail> {
     let zone = Zone::central();
     let monday = Instant::of(1_719_810_000).ok_or("not an instant")?;
     assert!(rt; write_utc(monday).as_slice() == b"2024-07-01T05:00:00Z".as_slice());
-    let text = format!(in rt.alloc(); "{monday}")?;
-    assert!(rt; text.as_str() == "2024-07-01T05:00:00Z");
     assert!(rt; week_hour(monday, &zone) == WeekHour { day: 0, hour: 7 });
     let sunday = utc(b"2024-01-07T11:00:00Z")?;
     assert!(rt; week_hour(sunday, &zone) == WeekHour { day: 6, hour: 12 });
+    let text = format!(in rt.alloc(); "{monday}")?;
+    assert!(rt; text.as_str() == "2024-07-01T05:00:00Z");
     Ok(())
+}
+
+/// By how many hours local clocks are ahead of UTC by a rule, one or two.
+fn hours_ahead(rule: &TimeZone, second: u32) -> Result<u8, Fail>
+    ensures { IfOk result (λ hours. hours ≤ 2) }
+{
+    let offset = rule.to_offset(Timestamp::from_second(i64::from(second))?);
+    Ok(if offset.seconds() == 7_200 { 2 } else { 1 })
+}
+
+fn local_hour(zone: &Zone, second: u32) -> Option<u8> {
+    let instant = Instant::of(second)?;
+    Some(week_hour(instant, zone).hour)
 }
 
 /// The local hour at 01:00 UTC of each day, when it may change, and a second before it, by jiff's reading of the same rule.
@@ -108,13 +125,12 @@ fn changes_are_those_of_the_rule(rt: HostRuntime) -> Result<(), Fail> {
     let mut summer = 0u32;
     for day in 10_957u32..47_482 {
         for (second, hour) in [(day * 86_400 + 3_599, 0u8), (day * 86_400 + 3_600, 1)] {
-            let instant = Instant::of(second).ok_or("not an instant")?;
-            let ahead = rule
-                .to_offset(Timestamp::from_second(i64::from(second))?)
-                .seconds();
-            let local = if ahead == 7_200 { hour + 2 } else { hour + 1 };
-            assert!(rt; week_hour(instant, &zone).hour == local, "at {second}");
-            if ahead == 7_200 {
+            let ahead = hours_ahead(&rule, second)?;
+            assert!(rt;
+                local_hour(&zone, second) == Some(hour + ahead),
+                "at {second}"
+            );
+            if ahead == 2 {
                 summer = summer.saturating_add(1);
             }
         }
@@ -126,13 +142,9 @@ fn changes_are_those_of_the_rule(rt: HostRuntime) -> Result<(), Fail> {
 /// Noon of each day is written, and read back.
 #[test]
 fn each_day_is_written_and_read_back(rt: HostRuntime) -> Result<(), Fail> {
-    let mut days = 0u32;
     for day in 10_957u32..47_482 {
         let noon = Instant::of(day * 86_400 + 43_200).ok_or("not an instant")?;
-        let text = write_utc(noon);
-        assert!(rt; utc(&text) == Ok(noon), "on day {day}");
-        days = days.saturating_add(1);
+        assert!(rt; utc(&write_utc(noon)) == Ok(noon), "on day {day}");
     }
-    assert!(rt; days == 36_525);
     Ok(())
 }

@@ -2,38 +2,54 @@
 
 use pw_tariff::{Office, OfficeFault};
 use std::alloc::{AllocError, Global};
-use std::test::Fail;
+
+const WEEK: &str = r#"week = [
+  "AAAAAAAAAAAAAAAAAAAAAAAA",
+  "AAAAAAAAAAAAAAAAAAAAAAAA",
+  "AAAAAAAAAAAAAAAAAAAAAAAA",
+  "AAAAAAAAAAAAAAAAAAAAAAAA",
+  "AAAAAAAAAAAAAAAAAAAAAAAA",
+  "AAAAAAAAAAAAAAAAAAAAAAAA",
+  "AAAAAAAAAAAAAAAAAAAAAAAA",
+]
+
+"#;
+
+// So many numbers, each between two texts.
+fn numbered(alloc: Global, before: &str, behind: &str, count: usize) -> Result<String, AllocError> {
+    let mut all = String::new(alloc);
+    for i in 0..count {
+        let one = format!(in alloc; "{before}{i}{behind}")?;
+        all.push_str(one.as_str())?;
+    }
+    Ok(all)
+}
+
+// A band for each name.
+fn bands(alloc: Global, names: &str) -> Result<String, AllocError> {
+    let mut all = String::new(alloc);
+    for name in names.chars() {
+        let band = format!(in alloc;
+            "[[band]]\nname = \"{name}\"\nimport = 0\nexport = 1000000000\n"
+        )?;
+        all.push_str(band.as_str())?;
+    }
+    Ok(all)
+}
+
+const REST_OF_METER: &str = "\"\nclock = \"winter\"\nregisters = [\"I0\"]\n";
 
 // The text of an office of so many accounts, bands (at most 26) and meters.
 fn office(
     alloc: Global,
     accounts: usize,
-    bands: &str,
+    names: &str,
     meters: usize,
 ) -> Result<String, AllocError> {
-    let mut text = format!(in alloc; "accounts = [")?;
-    for i in 0..accounts {
-        let name = format!(in alloc; "\"A{i}\",")?;
-        text.push_str(name.as_str())?;
-    }
-    text.push_str("]\nweek = [")?;
-    for _ in 0..7 {
-        text.push_str("\"AAAAAAAAAAAAAAAAAAAAAAAA\",")?;
-    }
-    text.push_str("]\n")?;
-    for name in bands.chars() {
-        let band = format!(in alloc;
-            "[[band]]\nname = \"{name}\"\nimport = 0\nexport = 1000000000\n"
-        )?;
-        text.push_str(band.as_str())?;
-    }
-    for i in 0..meters {
-        let meter = format!(in alloc;
-            "[[meter]]\nid = \"M{i}\"\nclock = \"winter\"\nregisters = [\"I0\"]\n"
-        )?;
-        text.push_str(meter.as_str())?;
-    }
-    Ok(text)
+    let accounts = numbered(alloc, "\"A", "\",", accounts)?;
+    let bands = bands(alloc, names)?;
+    let meters = numbered(alloc, "[[meter]]\nid = \"M", REST_OF_METER, meters)?;
+    format!(in alloc; "accounts = [{accounts}]\n{WEEK}{bands}{meters}")
 }
 
 // The three lengths, or the refusal.
@@ -51,38 +67,32 @@ fn lengths(
 }
 
 #[test]
-fn largest_office(rt: HostRuntime) -> Result<(), Fail> {
+fn largest_office(rt: HostRuntime) {
     let alloc = rt.alloc();
-    assert!(rt; lengths(alloc, 256, "ABCDEFGH", 1024)? == Ok((256, 8, 1024)));
-    assert!(rt; lengths(alloc, 257, "A", 1)? == Err(OfficeFault::TooMany));
-    assert!(rt; lengths(alloc, 1, "ABCDEFGHI", 1)? == Err(OfficeFault::TooMany));
-    assert!(rt; lengths(alloc, 1, "A", 1025)? == Err(OfficeFault::TooMany));
-    Ok(())
+    assert!(rt; lengths(alloc, 256, "ABCDEFGH", 1024) == Ok(Ok((256, 8, 1024))));
+    for (accounts, bands, meters) in [(257, "A", 1), (1, "ABCDEFGHI", 1), (1, "A", 1025)] {
+        assert!(rt; lengths(alloc, accounts, bands, meters) == Ok(Err(OfficeFault::TooMany)));
+    }
 }
 
 // An account's name has 32 characters at most, a meter's id 192.
 #[test]
-fn longest_names(rt: HostRuntime) -> Result<(), Fail> {
-    let alloc = rt.alloc();
-    let read = |account: usize, id: usize| -> Result<Option<OfficeFault>, AllocError> {
-        let account = letters(alloc, account)?;
-        let id = letters(alloc, id)?;
-        let day = letters(alloc, 24)?;
-        let text = format!(in alloc;
-            "accounts = [\"{account}\"]\nweek = [\"{day}\", \"{day}\", \"{day}\", \"{day}\", \"{day}\", \"{day}\", \"{day}\"]\n[[band]]\nname = \"A\"\nimport = 1\nexport = 1\n[[meter]]\nid = \"{id}\"\nclock = \"marked\"\nregisters = [\"I0\"]\n"
-        )?;
-        Ok(Office::read(alloc, text.as_bytes()).err())
-    };
-    assert!(rt; read(32, 192)? == None);
-    assert!(rt; read(33, 192)? == Some(OfficeFault::BadName));
-    assert!(rt; read(32, 193)? == Some(OfficeFault::BadName));
-    Ok(())
+fn longest_names(rt: HostRuntime) {
+    assert!(rt; refusal_of_names(rt.alloc(), 32, 192) == Ok(None));
+    assert!(rt; refusal_of_names(rt.alloc(), 33, 192) == Ok(Some(OfficeFault::BadName)));
+    assert!(rt; refusal_of_names(rt.alloc(), 32, 193) == Ok(Some(OfficeFault::BadName)));
 }
 
-fn letters(alloc: Global, count: usize) -> Result<String, AllocError> {
-    let mut text = String::new(alloc);
-    for _ in 0..count {
-        text.push('A')?;
-    }
-    Ok(text)
+// Why an office is refused whose account's name and meter's id are so long.
+fn refusal_of_names(
+    alloc: Global,
+    account: usize,
+    id: usize,
+) -> Result<Option<OfficeFault>, AllocError> {
+    let account = "A".repeat(alloc, account)?;
+    let id = "A".repeat(alloc, id)?;
+    let text = format!(in alloc;
+        "accounts = [\"{account}\"]\n{WEEK}[[band]]\nname = \"A\"\nimport = 1\nexport = 1\n[[meter]]\nid = \"{id}\"\nclock = \"marked\"\nregisters = [\"I0\"]\n"
+    )?;
+    Ok(Office::read(alloc, text.as_bytes()).err())
 }
