@@ -1,6 +1,6 @@
 //! What a store's tables and exports hold, behind loads from files.
 
-use super::files::{ASSIGNMENT, Outcome, Place, TOPUP, loaded, ran, room, told};
+use super::files::{ASSIGNMENT, Place, TOPUP, loaded, room, tells};
 use std::test::Fail;
 use std::{fs, io};
 
@@ -44,51 +44,50 @@ A2                                          0.00
 /// A store that holds an assignment, two readings and a top-up.
 fn filled(rt: &HostRuntime, name: &str) -> io::Result<Place> {
     let room = room(rt, name)?;
-    loaded(rt, &room, "assignments", ASSIGNMENT)?;
-    loaded(rt, &room, "telegrams", TWO_READINGS)?;
-    loaded(rt, &room, "topups", TOPUP)?;
+    fill(rt, &room)?;
     Ok(room)
 }
 
-fn exported(rt: &HostRuntime, room: &Place, what: &str) -> Outcome {
-    ran(
-        rt,
-        &["export", room.office.as_str(), room.store.as_str(), what],
-    )
+fn fill(rt: &HostRuntime, room: &Place) -> io::Result<()> {
+    loaded(rt, room, "assignments", ASSIGNMENT)?;
+    loaded(rt, room, "telegrams", TWO_READINGS)?;
+    loaded(rt, room, "topups", TOPUP)?;
+    Ok(())
+}
+
+/// Whether a table of the folder's store is this text.
+fn is_exported(rt: &HostRuntime, room: &Place, what: &str, text: &str) -> bool {
+    let words = ["export", room.office.as_str(), room.store.as_str(), what];
+    tells(rt, &words, 0, text, "")
 }
 
 #[test]
 fn a_statement_is_printed(rt: HostRuntime) -> Result<(), Fail> {
     let room = filled(&rt, "statement")?;
     let words = ["statement", room.office.as_str(), room.store.as_str(), "A1"];
-    let printed = ran(&rt, &words);
-    assert!(rt; told(&printed, 0, STATEMENT, ""), "{printed:?}");
+    let is_printed = tells(&rt, &words, 0, STATEMENT, "");
     fs::remove_dir_all(&rt, room.folder.as_str())?;
+    assert!(rt; is_printed);
     Ok(())
 }
 
 #[test]
 fn tables_are_printed(rt: HostRuntime) -> Result<(), Fail> {
     let room = filled(&rt, "tables")?;
-    assert!(rt; told(&exported(&rt, &room, "accounts"), 0, ACCOUNTS, ""));
-    assert!(rt;
-        told(
-            &exported(&rt, &room, "falls"),
-            0,
-            "meter register from wh to wh\n",
-            ""
-        )
-    );
-    assert!(rt; told(&exported(&rt, &room, "disputes"), 0, "key records\n", ""));
+    let are_printed = is_exported(&rt, &room, "accounts", ACCOUNTS)
+        && is_exported(&rt, &room, "falls", "meter register from wh to wh\n")
+        && is_exported(&rt, &room, "disputes", "key records\n");
     fs::remove_dir_all(&rt, room.folder.as_str())?;
+    assert!(rt; are_printed);
     Ok(())
 }
 
 #[test]
 fn exports_are_printed(rt: HostRuntime) -> Result<(), Fail> {
     let room = filled(&rt, "exports")?;
-    assert!(rt; told(&exported(&rt, &room, "energy"), 0, ENERGIES, ""));
-    assert!(rt; told(&exported(&rt, &room, "readings"), 0, READINGS, ""));
+    let are_printed = is_exported(&rt, &room, "energy", ENERGIES)
+        && is_exported(&rt, &room, "readings", READINGS);
     fs::remove_dir_all(&rt, room.folder.as_str())?;
+    assert!(rt; are_printed);
     Ok(())
 }

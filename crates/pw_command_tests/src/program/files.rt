@@ -50,6 +50,11 @@ pub fn ran(rt: &HostRuntime, words: &[&str]) -> Outcome {
     Outcome { status, out, err }
 }
 
+/// Whether the program, run with these words, ends with this status and writes these texts.
+pub fn tells(rt: &HostRuntime, words: &[&str], status: u8, out: &str, err: &str) -> bool {
+    told(&ran(rt, words), status, out, err)
+}
+
 /// Whether a run ended with this status and these texts.
 pub fn told(ran: &Outcome, status: u8, out: &str, err: &str) -> bool {
     ran.status == status
@@ -83,8 +88,8 @@ pub fn loaded_within(
     ran_line(rt, line.as_str())
 }
 
-/// Runs the program with the words of a line.
-pub fn ran_line(rt: &HostRuntime, line: &str) -> io::Result<Outcome> {
+// Runs the program with the words of a line.
+fn ran_line(rt: &HostRuntime, line: &str) -> io::Result<Outcome> {
     let mut words = Vec::new(rt.alloc());
     for word in line.split(' ') {
         words.push(word)?;
@@ -92,28 +97,40 @@ pub fn ran_line(rt: &HostRuntime, line: &str) -> io::Result<Outcome> {
     Ok(ran(rt, words.as_slice()))
 }
 
+/// Whether a load of a text of a kind into the folder's store ends with this status and writes these texts.
+pub fn load_tells(
+    rt: &HostRuntime,
+    room: &Place,
+    kind: &str,
+    text: &str,
+    (status, out, err): (u8, &str, &str),
+) -> io::Result<bool> {
+    let ran = loaded(rt, room, kind, text)?;
+    Ok(told(&ran, status, out, err))
+}
+
 #[test]
 fn an_office_is_checked(rt: HostRuntime) -> Result<(), Fail> {
     let room = room(&rt, "check")?;
-    let checked = ran(&rt, &["check", room.office.as_str()]);
-    assert!(rt; told(&checked, 0, "office accounts 2 meters 3 bands 2\n", ""));
+    let words = ["check", room.office.as_str()];
+    let is_checked = tells(&rt, &words, 0, "office accounts 2 meters 3 bands 2\n", "");
     fs::remove_dir_all(&rt, room.folder.as_str())?;
+    assert!(rt; is_checked);
     Ok(())
+}
+
+// Whether a telegram is fresh when it is loaded, and repeated when it is loaded again.
+fn is_repeated(rt: &HostRuntime, room: &Place) -> io::Result<bool> {
+    let fresh = (0, "accepted fresh 1 repeated 0\n", "");
+    let repeated = (0, "accepted fresh 0 repeated 1\n", "");
+    let is_fresh = load_tells(rt, room, "telegrams", FIRST, fresh)?;
+    Ok(is_fresh && load_tells(rt, room, "telegrams", FIRST, repeated)?)
 }
 
 #[test]
 fn a_telegram_is_loaded_twice(rt: HostRuntime) -> Result<(), Fail> {
     let room = room(&rt, "twice")?;
-    let first = loaded(&rt, &room, "telegrams", FIRST)?;
-    assert!(rt;
-        told(&first, 0, "accepted fresh 1 repeated 0\n", ""),
-        "{first:?}"
-    );
-    let second = loaded(&rt, &room, "telegrams", FIRST)?;
-    assert!(rt;
-        told(&second, 0, "accepted fresh 0 repeated 1\n", ""),
-        "{second:?}"
-    );
+    assert!(rt; is_repeated(&rt, &room)?);
     fs::remove_dir_all(&rt, room.folder.as_str())?;
     Ok(())
 }

@@ -52,23 +52,30 @@ fn piped<R: Read, O: Write, E: Write>(
 fn requests_piped(rt: HostRuntime) -> Result<(), Fail> {
     let mut reader = ASKED;
     let (mut out, mut err) = (Vec::new(rt.alloc()), Vec::new(rt.alloc()));
-    assert!(rt; piped(rt.alloc(), &mut reader, &mut out, &mut err) == 0);
-    assert!(rt; out.as_slice() == REPLIED);
-    assert!(rt; err.is_empty());
+    let status = piped(rt.alloc(), &mut reader, &mut out, &mut err);
+    assert!(rt; status == 0 && out.as_slice() == REPLIED && err.is_empty());
     Ok(())
 }
 
 #[test]
 fn faults_told(rt: HostRuntime) -> Result<(), Fail> {
-    let (mut out, mut err) = (Vec::new(rt.alloc()), Vec::new(rt.alloc()));
-    assert!(rt; piped(rt.alloc(), &mut Failing, &mut out, &mut err) == 3);
-    assert!(rt; out.is_empty());
-    assert!(rt; err.as_slice() == b"refused 80 Read\n".as_slice());
-    let mut reader = ASKED;
-    let mut other = Vec::new(rt.alloc());
-    assert!(rt; piped(rt.alloc(), &mut reader, &mut Failing, &mut other) == 3);
-    assert!(rt; other.as_slice() == b"refused 81 Write\n".as_slice());
+    assert!(rt; is_reader_told(rt.alloc()) && is_writer_told(rt.alloc()));
     Ok(())
+}
+
+// Whether an input that fails is told of.
+fn is_reader_told(alloc: Global) -> bool {
+    let (mut out, mut err) = (Vec::new(alloc), Vec::new(alloc));
+    let status = piped(alloc, &mut Failing, &mut out, &mut err);
+    status == 3 && out.is_empty() && err.as_slice() == b"refused 80 Read\n".as_slice()
+}
+
+// Whether an output that fails is told of.
+fn is_writer_told(alloc: Global) -> bool {
+    let mut reader = ASKED;
+    let mut err = Vec::new(alloc);
+    let status = piped(alloc, &mut reader, &mut Failing, &mut err);
+    status == 3 && err.as_slice() == b"refused 81 Write\n".as_slice()
 }
 
 #[test]
@@ -78,6 +85,6 @@ fn refused_office_told(rt: HostRuntime) -> Result<(), Fail> {
     let office = b"accounts = []".as_slice();
     let status = pipe_run(rt.alloc(), office, LIMIT, &mut reader, &mut out, &mut err);
     let ran = Outcome { status, out, err };
-    assert!(rt; told(&ran, 1, "", "refused 37 Empty\n"), "{ran:?}");
+    assert!(rt; told(&ran, 1, "", "refused 37 Empty\n"));
     Ok(())
 }

@@ -1,6 +1,8 @@
 //! In which order faults are told, and with which exit status.
 
-use super::files::{FIRST, TOPUP, file, loaded, loaded_within, ran, room, told};
+use super::files::{
+    FIRST, Place, TOPUP, file, load_tells, loaded, loaded_within, room, tells, told,
+};
 use pw_commands::{LONGEST_BODY, LONGEST_OFFICE};
 use std::test::Fail;
 use std::{fs, io};
@@ -12,55 +14,50 @@ const TOO_LARGE: &str = "body too large\n";
 #[test]
 fn files_that_cannot_be_read(rt: HostRuntime) -> Result<(), Fail> {
     let room = room(&rt, "unread")?;
-    let (office, store, folder) = (
-        room.office.as_str(),
-        room.store.as_str(),
-        room.folder.as_str(),
-    );
-    assert!(rt; told(&ran(&rt, &["check", "/nowhere/office"]), 3, "", DEVICE));
-    assert!(rt; told(&ran(&rt, &["check", folder]), 3, "", DEVICE));
-    let load = ran(&rt, &["load", office, store, "topups", "/nowhere/rows"]);
-    assert!(rt; told(&load, 3, "", DEVICE));
-    let statement = ran(&rt, &["statement", office, "/nowhere/store", "A1"]);
-    assert!(rt; told(&statement, 3, "", DEVICE));
-    fs::remove_dir_all(&rt, folder)?;
+    let (office, store) = (room.office.as_str(), room.store.as_str());
+    let load = ["load", office, store, "topups", "/nowhere/rows"];
+    let statement = ["statement", office, "/nowhere/store", "A1"];
+    let are_told = tells(&rt, &["check", "/nowhere/office"], 3, "", DEVICE)
+        && tells(&rt, &["check", room.folder.as_str()], 3, "", DEVICE)
+        && tells(&rt, &load, 3, "", DEVICE)
+        && tells(&rt, &statement, 3, "", DEVICE);
+    fs::remove_dir_all(&rt, room.folder.as_str())?;
+    assert!(rt; are_told);
     Ok(())
 }
 
 fn line_ends(rt: &HostRuntime, count: u32) -> io::Result<String> {
-    let mut text = String::new(rt.alloc());
-    for _ in 0..count {
-        text.push('\n')?;
-    }
-    Ok(text)
+    Ok("\n".repeat(rt.alloc(), count as usize)?)
+}
+
+// Whether an office file that is one byte too long is refused.
+fn is_large_office_told(rt: &HostRuntime, room: &Place) -> io::Result<bool> {
+    let text = line_ends(rt, LONGEST_OFFICE + 1)?;
+    let large = file(rt, room, "large", text.as_str())?;
+    Ok(tells(rt, &["check", large.as_str()], 1, "", TOO_LARGE))
+}
+
+// Whether a body that is one byte too long is refused, behind words that are wrong.
+fn is_large_body_told(rt: &HostRuntime, room: &Place) -> io::Result<bool> {
+    let text = line_ends(rt, LONGEST_BODY + 1)?;
+    let readouts = loaded(rt, room, "readouts", text.as_str())?;
+    let is_told = load_tells(rt, room, "telegrams", text.as_str(), (1, "", TOO_LARGE))?;
+    Ok(is_told && readouts.status == 2)
 }
 
 #[test]
 fn files_that_are_too_large(rt: HostRuntime) -> Result<(), Fail> {
     let room = room(&rt, "large")?;
-    let text = line_ends(&rt, LONGEST_OFFICE + 1)?;
-    let large = file(&rt, &room, "large", text.as_str())?;
-    assert!(rt; told(&ran(&rt, &["check", large.as_str()]), 1, "", TOO_LARGE));
-    let text = line_ends(&rt, LONGEST_BODY + 1)?;
-    let readouts = loaded(&rt, &room, "readouts", text.as_str())?;
-    assert!(rt; readouts.status == 2);
-    let telegrams = loaded(&rt, &room, "telegrams", text.as_str())?;
-    assert!(rt; told(&telegrams, 1, "", TOO_LARGE));
+    assert!(rt; is_large_office_told(&rt, &room)?);
+    assert!(rt; is_large_body_told(&rt, &room)?);
     fs::remove_dir_all(&rt, room.folder.as_str())?;
     Ok(())
 }
 
-#[test]
-fn refusals_and_their_status(rt: HostRuntime) -> Result<(), Fail> {
-    let room = room(&rt, "refusals")?;
+// Whether readouts of a meter that the office doesn't have are refused.
+fn is_unknown_meter_told(rt: &HostRuntime, room: &Place) -> io::Result<bool> {
+    let first = file(rt, room, "first", FIRST)?;
     let (office, store) = (room.office.as_str(), room.store.as_str());
-    let unknown = ran(&rt, &["statement", office, "/nowhere/store", "A9"]);
-    assert!(rt; told(&unknown, 1, "", "no such account\n"));
-    let empty = loaded(&rt, &room, "telegrams", "")?;
-    assert!(rt; told(&empty, 1, "", "refused 10 Header part 1 at 0\n"));
-    let rows = loaded(&rt, &room, "assignments", TOPUP)?;
-    assert!(rt; told(&rows, 1, "", "refused 48 Header part 0\n"));
-    let first = file(&rt, &room, "first", FIRST)?;
     let words = [
         "load",
         office,
@@ -70,31 +67,60 @@ fn refusals_and_their_status(rt: HostRuntime) -> Result<(), Fail> {
         "--meter",
         "Q",
     ];
-    assert!(rt; told(&ran(&rt, &words), 1, "", "refused 41 UnknownMeter part 0\n"));
+    Ok(tells(rt, &words, 1, "", "refused 41 UnknownMeter part 0\n"))
+}
+
+// Whether an account that the office doesn't have is told of before the store that isn't there.
+fn is_unknown_account_told(rt: &HostRuntime, room: &Place) -> bool {
+    let words = ["statement", room.office.as_str(), "/nowhere/store", "A9"];
+    tells(rt, &words, 1, "", "no such account\n")
+}
+
+#[test]
+fn refusals_and_their_status(rt: HostRuntime) -> Result<(), Fail> {
+    let room = room(&rt, "refusals")?;
+    let empty = (1, "", "refused 10 Header part 1 at 0\n");
+    let header = (1, "", "refused 48 Header part 0\n");
+    assert!(rt; is_unknown_account_told(&rt, &room));
+    assert!(rt; load_tells(&rt, &room, "telegrams", "", empty)?);
+    assert!(rt; load_tells(&rt, &room, "assignments", TOPUP, header)?);
+    assert!(rt; is_unknown_meter_told(&rt, &room)?);
     fs::remove_dir_all(&rt, room.folder.as_str())?;
     Ok(())
+}
+
+// Whether a book of one record takes a telegram, and then no payment.
+fn is_full_behind_one(rt: &HostRuntime, room: &Place) -> io::Result<bool> {
+    let first = loaded_within(rt, room, "telegrams", FIRST, "1")?;
+    let second = loaded_within(rt, room, "topups", TOPUP, "1")?;
+    Ok(
+        told(&first, 0, "accepted fresh 1 repeated 0\n", "")
+            && told(&second, 1, "", "refused 60 Full held 1 limit 1\n"),
+    )
 }
 
 #[test]
 fn a_full_book(rt: HostRuntime) -> Result<(), Fail> {
     let room = room(&rt, "full")?;
-    let first = loaded_within(&rt, &room, "telegrams", FIRST, "1")?;
-    assert!(rt; told(&first, 0, "accepted fresh 1 repeated 0\n", ""));
-    let second = loaded_within(&rt, &room, "topups", TOPUP, "1")?;
-    assert!(rt; told(&second, 1, "", "refused 60 Full held 1 limit 1\n"));
+    assert!(rt; is_full_behind_one(&rt, &room)?);
     fs::remove_dir_all(&rt, room.folder.as_str())?;
     Ok(())
+}
+
+// Whether a store is refused for an office file that has a comment more.
+fn is_other_office_told(rt: &HostRuntime, room: &Place) -> io::Result<bool> {
+    loaded(rt, room, "topups", TOPUP)?;
+    let text = fs::read_to_string(rt, room.office.as_str())?;
+    let other = format!(in rt.alloc(); "{text}# a comment\n")?;
+    let office = file(rt, room, "other.toml", other.as_str())?;
+    let words = ["statement", office.as_str(), room.store.as_str(), "A1"];
+    Ok(tells(rt, &words, 3, "", "refused 71 OfficeDiffers\n"))
 }
 
 #[test]
 fn a_store_of_another_office(rt: HostRuntime) -> Result<(), Fail> {
     let room = room(&rt, "other")?;
-    loaded(&rt, &room, "topups", TOPUP)?;
-    let text = fs::read_to_string(&rt, room.office.as_str())?;
-    let other = format!(in rt.alloc(); "{text}# a comment\n")?;
-    let office = file(&rt, &room, "other.toml", other.as_str())?;
-    let words = ["statement", office.as_str(), room.store.as_str(), "A1"];
-    assert!(rt; told(&ran(&rt, &words), 3, "", "refused 71 OfficeDiffers\n"));
+    assert!(rt; is_other_office_told(&rt, &room)?);
     fs::remove_dir_all(&rt, room.folder.as_str())?;
     Ok(())
 }

@@ -1,8 +1,11 @@
 //! Connections that are served.
 
+use pw_book::Book;
 use pw_commands::{SAMPLE, serve_on};
+use pw_shelf::Shelf;
 use pw_tests::memory_books::book_of;
-use std::io::{Read, Write};
+use std::alloc::Global;
+use std::io::{self, Read, Write};
 use std::net::{Shutdown, TcpListener, TcpStream};
 use std::test::Fail;
 
@@ -21,40 +24,66 @@ topped up EUR 50.00
 balance EUR 50.00
 ";
 
+// A client that has sent these bytes, and sends no more.
+fn client_of(rt: &HostRuntime, listener: &TcpListener, bytes: &[u8]) -> io::Result<TcpStream> {
+    let mut client = TcpStream::connect(rt, listener.local_addr()?)?;
+    client.write_all(bytes)?;
+    client.shutdown(Shutdown::Write)?;
+    Ok(client)
+}
+
+// Whether so many connections are served without a word.
+fn are_served<S: Shelf>(
+    alloc: Global,
+    listener: &TcpListener,
+    count: u32,
+    book: &mut Book<S>,
+) -> bool {
+    let mut err = Vec::new(alloc);
+    serve_on(alloc, listener, count, book, &mut err) == 0 && err.is_empty()
+}
+
+// All that a client is replied to.
+fn replies(alloc: Global, client: &mut TcpStream) -> io::Result<Vec<u8>> {
+    let mut replies = Vec::new(alloc);
+    client.read_to_end(&mut replies)?;
+    Ok(replies)
+}
+
+// Whether a client's requests are replied to.
+fn is_replied<S: Shelf>(rt: &HostRuntime, book: &mut Book<S>) -> io::Result<bool> {
+    let listener = TcpListener::bind(rt, ("127.0.0.1", 0))?;
+    let mut client = client_of(rt, &listener, REQUESTS)?;
+    let are_served = are_served(rt.alloc(), &listener, 1, book);
+    let replies = replies(rt.alloc(), &mut client)?;
+    Ok(are_served && replies.as_slice() == REPLIES.as_bytes())
+}
+
 #[test]
 fn requests_on_a_connection(rt: HostRuntime) -> Result<(), Fail> {
     let mut book = book_of(rt.alloc(), SAMPLE, LIMIT).map_err(|_| "the sample office")?;
-    let listener = TcpListener::bind(&rt, ("127.0.0.1", 0))?;
-    let mut client = TcpStream::connect(&rt, listener.local_addr()?)?;
-    client.write_all(REQUESTS)?;
-    client.shutdown(Shutdown::Write)?;
-    let mut err = Vec::new(rt.alloc());
-    assert!(rt; serve_on(rt.alloc(), &listener, 1, &mut book, &mut err) == 0);
-    assert!(rt; err.is_empty());
-    let mut replies = Vec::new(rt.alloc());
-    client.read_to_end(&mut replies)?;
-    assert!(rt; replies.as_slice() == REPLIES.as_bytes());
+    assert!(rt; is_replied(&rt, &mut book)?);
     Ok(())
+}
+
+// Whether a client's requests are replied to behind another's, which sends half a head.
+fn is_replied_behind_another<S: Shelf>(rt: &HostRuntime, book: &mut Book<S>) -> io::Result<bool> {
+    let listener = TcpListener::bind(rt, ("127.0.0.1", 0))?;
+    let mut first = client_of(rt, &listener, b"GET /acc")?;
+    let mut second = client_of(rt, &listener, REQUESTS)?;
+    let are_served = are_served(rt.alloc(), &listener, 2, book);
+    let refusal = replies(rt.alloc(), &mut first)?;
+    let replies = replies(rt.alloc(), &mut second)?;
+    Ok(
+        are_served
+            && refusal.as_slice().ends_with(b"bad head\n")
+            && replies.as_slice() == REPLIES.as_bytes(),
+    )
 }
 
 #[test]
 fn two_connections(rt: HostRuntime) -> Result<(), Fail> {
     let mut book = book_of(rt.alloc(), SAMPLE, LIMIT).map_err(|_| "the sample office")?;
-    let listener = TcpListener::bind(&rt, ("127.0.0.1", 0))?;
-    let mut first = TcpStream::connect(&rt, listener.local_addr()?)?;
-    let mut second = TcpStream::connect(&rt, listener.local_addr()?)?;
-    first.write_all(b"GET /acc")?;
-    first.shutdown(Shutdown::Write)?;
-    second.write_all(REQUESTS)?;
-    second.shutdown(Shutdown::Write)?;
-    let mut err = Vec::new(rt.alloc());
-    assert!(rt; serve_on(rt.alloc(), &listener, 2, &mut book, &mut err) == 0);
-    assert!(rt; err.is_empty());
-    let mut replies = Vec::new(rt.alloc());
-    second.read_to_end(&mut replies)?;
-    assert!(rt; replies.as_slice() == REPLIES.as_bytes());
-    let mut refusal = Vec::new(rt.alloc());
-    first.read_to_end(&mut refusal)?;
-    assert!(rt; refusal.as_slice().ends_with(b"bad head\n"));
+    assert!(rt; is_replied_behind_another(&rt, &mut book)?);
     Ok(())
 }

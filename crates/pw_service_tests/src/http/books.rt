@@ -1,5 +1,8 @@
 //! Conversations with a book over a store in memory.
 
+ghost use Rattle.std.specs.Prelude.{◌≤◌};
+ghost use Rattle.pw_model.specs.Office.{most_records};
+
 use pw_book::Book;
 use pw_http::{Served, WireFault, converse};
 use pw_shelf::{MemoryShelf, Shelf};
@@ -25,18 +28,35 @@ pub(super) fn replies<S: Shelf>(
     (served, text)
 }
 
-/// How many of the streams were replied to as expected, one conversation behind another.
-pub(super) fn replied<S: Shelf>(
+/// Whether a book serves so many requests of a stream, and replies this.
+pub(super) fn is_served<S: Shelf>(
     alloc: Global,
     book: &mut Book<S>,
-    rows: &[(&[u8], &[u8])],
-) -> usize {
-    let mut fitting = 0usize;
+    stream: &[u8],
+    requests: u64,
+    expected: &[u8],
+) -> bool {
+    let (served, text) = replies(alloc, book, stream);
+    served == Ok(Served { requests }) && text.as_slice() == expected
+}
+
+/// Whether a book takes each stream to its end and replies as expected, one conversation behind another.
+fn are_replied<S: Shelf>(alloc: Global, book: &mut Book<S>, rows: &[(&[u8], &[u8])]) -> bool {
+    let mut are_replied = true;
     for (stream, expected) in rows {
         let (served, text) = replies(alloc, book, stream);
-        if served.is_ok() && text.as_slice() == *expected {
-            fitting = fitting.saturating_add(1);
-        }
+        are_replied = are_replied && served.is_ok() && text.as_slice() == *expected;
     }
-    fitting
+    are_replied
+}
+
+/// Whether a new book does so, of an office file and with a limit.
+pub(super) fn is_replied(alloc: Global, office: &str, limit: u32, rows: &[(&[u8], &[u8])]) -> bool
+    requires least { 1 ≤ limit }
+    requires most { limit ≤ most_records }
+{
+    match book_of(alloc, office, limit) {
+        Ok(mut book) => are_replied(alloc, &mut book, rows),
+        Err(_) => false,
+    }
 }

@@ -1,8 +1,7 @@
 //! What others send: requests as `curl` 7.88.1 wrote them to a socket, and telegrams of real meters.
 
-use super::books::{empty_book, replied};
-use pw_tests::memory_books::book_of;
-use std::test::Fail;
+use super::books::is_replied;
+use pw_tests::offices::SAMPLE;
 
 // A POST of a file, a GET, a POST with `Expect`, and two requests on one connection.
 const OF_CURL: [(&[u8], &[u8]); 4] = [
@@ -89,15 +88,11 @@ registers = ["I0"]
 "#;
 
 #[test]
-fn requests_of_curl(rt: HostRuntime) -> Result<(), Fail> {
-    let mut book = empty_book(rt.alloc())?;
-    assert!(rt; replied(rt.alloc(), &mut book, &OF_CURL) == 4);
-    Ok(())
+fn requests_of_curl(rt: HostRuntime) {
+    assert!(rt; is_replied(rt.alloc(), SAMPLE, 100, &OF_CURL));
 }
 
 #[test]
-fn telegrams_of_meters(rt: HostRuntime) -> Result<(), Fail> {
-    let mut book = book_of(rt.alloc(), OFFICE, 100)?;
-    assert!(rt; replied(rt.alloc(), &mut book, &OF_METERS) == 3);
-    Ok(())
+fn telegrams_of_meters(rt: HostRuntime) {
+    assert!(rt; is_replied(rt.alloc(), OFFICE, 100, &OF_METERS));
 }

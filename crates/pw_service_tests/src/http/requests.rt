@@ -1,7 +1,7 @@
 //! Requests, one by one: what is refused, where each goes, and when a conversation ends.
 
-use super::books::{empty_book, replied};
-use std::test::Fail;
+use super::books::is_replied;
+use pw_tests::offices::SAMPLE;
 
 // The form of a request.
 const REFUSED: [(&[u8], &[u8]); 11] = [
@@ -117,15 +117,11 @@ const ENDS: [(&[u8], &[u8]); 16] = [
 ];
 
 #[test]
-fn forms(rt: HostRuntime) -> Result<(), Fail> {
-    let mut book = empty_book(rt.alloc())?;
-    assert!(rt; replied(rt.alloc(), &mut book, &REFUSED) == 11);
-    Ok(())
+fn forms(rt: HostRuntime) {
+    assert!(rt; is_replied(rt.alloc(), SAMPLE, 100, &REFUSED));
 }
 
 #[test]
-fn routes_and_ends(rt: HostRuntime) -> Result<(), Fail> {
-    let mut book = empty_book(rt.alloc())?;
-    assert!(rt; replied(rt.alloc(), &mut book, &ENDS) == 16);
-    Ok(())
+fn routes_and_ends(rt: HostRuntime) {
+    assert!(rt; is_replied(rt.alloc(), SAMPLE, 100, &ENDS));
 }

@@ -1,13 +1,10 @@
 //! Worked rows: what is uploaded, in whatever order, and what is told of it.
 
-use super::books::{empty_book, replied, replies};
+use super::books::{empty_book, is_replied, is_served, replies};
 use pw_book::Book;
-use pw_http::Served;
 use pw_shelf::Shelf;
-use pw_tests::memory_books::book_of;
 use pw_tests::offices::SAMPLE;
 use std::alloc::Global;
-use std::test::Fail;
 
 pub(super) const ASSIGNMENT: &[u8] =
     b"POST /assignments HTTP/1.1\r\nContent-Length: 49\r\n\r\nmeter,start,account\n4D31,2024-01-01T00:00:00Z,A1\n";
@@ -131,29 +128,44 @@ const REFUSED: [(&[u8], &[u8]); 6] = [
     ),
 ];
 
+// Whether a new book serves the four requests.
+fn are_four_served(alloc: Global) -> bool {
+    match empty_book(alloc) {
+        Ok(mut book) => is_served(alloc, &mut book, FIRST, 4, FIRST_REPLIES),
+        Err(_) => false,
+    }
+}
+
 #[test]
-fn two_readings_one_topup(rt: HostRuntime) -> Result<(), Fail> {
-    let mut book = empty_book(rt.alloc())?;
-    let (served, text) = replies(rt.alloc(), &mut book, FIRST);
-    assert!(rt; served == Ok(Served { requests: 4 }));
-    assert!(rt; text.as_slice() == FIRST_REPLIES);
-    Ok(())
+fn two_readings_one_topup(rt: HostRuntime) {
+    assert!(rt; are_four_served(rt.alloc()));
+}
+
+// Whether an upload is taken to its end.
+fn is_taken<S: Shelf>(alloc: Global, book: &mut Book<S>, upload: &[u8]) -> bool {
+    let (served, _) = replies(alloc, book, upload);
+    served.is_ok()
 }
 
 // Whether the statement is the same behind the uploads in this order, each sent twice.
-fn is_same_behind<S: Shelf>(alloc: Global, book: &mut Book<S>, order: &[&[u8]]) -> bool {
-    let mut taken = true;
+fn is_shown_behind<S: Shelf>(alloc: Global, book: &mut Book<S>, order: &[&[u8]]) -> bool {
     for upload in order {
-        let (once, _) = replies(alloc, book, upload);
-        let (twice, _) = replies(alloc, book, upload);
-        taken = taken && once.is_ok() && twice.is_ok();
+        if !is_taken(alloc, book, upload) || !is_taken(alloc, book, upload) {
+            return false;
+        }
     }
-    let (_, text) = replies(alloc, book, STATEMENT);
-    taken && text.as_slice() == SHOWN
+    is_served(alloc, book, STATEMENT, 1, SHOWN)
+}
+
+fn is_same_behind(alloc: Global, order: &[&[u8]]) -> bool {
+    match empty_book(alloc) {
+        Ok(mut book) => is_shown_behind(alloc, &mut book, order),
+        Err(_) => false,
+    }
 }
 
 #[test]
-fn all_six_orders(rt: HostRuntime) -> Result<(), Fail> {
+fn all_six_orders(rt: HostRuntime) {
     let orders: [[&[u8]; 3]; 6] = [
         [ASSIGNMENT, TELEGRAMS, TOPUP],
         [ASSIGNMENT, TOPUP, TELEGRAMS],
@@ -163,31 +175,22 @@ fn all_six_orders(rt: HostRuntime) -> Result<(), Fail> {
         [TOPUP, TELEGRAMS, ASSIGNMENT],
     ];
     for order in &orders {
-        let mut book = empty_book(rt.alloc())?;
-        assert!(rt; is_same_behind(rt.alloc(), &mut book, order));
+        assert!(rt; is_same_behind(rt.alloc(), order));
     }
-    Ok(())
 }
 
 #[test]
-fn disputed_payment(rt: HostRuntime) -> Result<(), Fail> {
-    let mut book = empty_book(rt.alloc())?;
-    assert!(rt; replied(rt.alloc(), &mut book, &DISPUTED) == 6);
-    let mut other = empty_book(rt.alloc())?;
-    assert!(rt; replied(rt.alloc(), &mut other, &DISPUTED_AGAIN) == 3);
-    Ok(())
+fn disputed_payment(rt: HostRuntime) {
+    assert!(rt; is_replied(rt.alloc(), SAMPLE, 100, &DISPUTED));
+    assert!(rt; is_replied(rt.alloc(), SAMPLE, 100, &DISPUTED_AGAIN));
 }
 
 #[test]
-fn full_book(rt: HostRuntime) -> Result<(), Fail> {
-    let mut book = book_of(rt.alloc(), SAMPLE, 3)?;
-    assert!(rt; replied(rt.alloc(), &mut book, &FULL) == 6);
-    Ok(())
+fn full_book(rt: HostRuntime) {
+    assert!(rt; is_replied(rt.alloc(), SAMPLE, 3, &FULL));
 }
 
 #[test]
-fn refused_bodies(rt: HostRuntime) -> Result<(), Fail> {
-    let mut book = empty_book(rt.alloc())?;
-    assert!(rt; replied(rt.alloc(), &mut book, &REFUSED) == 6);
-    Ok(())
+fn refused_bodies(rt: HostRuntime) {
+    assert!(rt; is_replied(rt.alloc(), SAMPLE, 100, &REFUSED));
 }

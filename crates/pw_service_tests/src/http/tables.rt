@@ -1,7 +1,7 @@
 //! Worked rows, told by the pages.
 
-use super::books::{empty_book, replied};
-use std::test::Fail;
+use super::books::is_replied;
+use pw_tests::offices::SAMPLE;
 
 // A late reading, then others of the same instant.
 const DISPUTED: [(&[u8], &[u8]); 12] = [
@@ -124,22 +124,16 @@ const FALLING: [(&[u8], &[u8]); 7] = [
 ];
 
 #[test]
-fn disputed_reading(rt: HostRuntime) -> Result<(), Fail> {
-    let mut book = empty_book(rt.alloc())?;
-    assert!(rt; replied(rt.alloc(), &mut book, &DISPUTED) == 12);
-    Ok(())
+fn disputed_reading(rt: HostRuntime) {
+    assert!(rt; is_replied(rt.alloc(), SAMPLE, 100, &DISPUTED));
 }
 
 #[test]
-fn assignment_mid_pair(rt: HostRuntime) -> Result<(), Fail> {
-    let mut book = empty_book(rt.alloc())?;
-    assert!(rt; replied(rt.alloc(), &mut book, &ASSIGNED) == 8);
-    Ok(())
+fn assignment_mid_pair(rt: HostRuntime) {
+    assert!(rt; is_replied(rt.alloc(), SAMPLE, 100, &ASSIGNED));
 }
 
 #[test]
-fn fall_and_recovery(rt: HostRuntime) -> Result<(), Fail> {
-    let mut book = empty_book(rt.alloc())?;
-    assert!(rt; replied(rt.alloc(), &mut book, &FALLING) == 7);
-    Ok(())
+fn fall_and_recovery(rt: HostRuntime) {
+    assert!(rt; is_replied(rt.alloc(), SAMPLE, 100, &FALLING));
 }

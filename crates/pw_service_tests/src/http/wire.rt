@@ -1,6 +1,6 @@
 //! Streams in pieces, and readers and writers that fail.
 
-use super::books::{empty_book, replies};
+use super::books::{empty_book, is_served, replies};
 use super::rows::{FIRST, FIRST_REPLIES};
 use pw_book::Book;
 use pw_http::{Served, WireFault, converse, converse_within};
@@ -113,47 +113,50 @@ impl<'a> Read for Endless<'a> {
     }
 }
 
-// Whether a stream in two pieces is replied to as in one.
-fn is_same_in_pieces<S: Shelf>(
+// Whether a reader's requests are served to their end, and replied to so.
+fn is_served_to<S: Shelf, R: Read>(
     alloc: Global,
     book: &mut Book<S>,
-    pieces: (&[u8], &[u8]),
+    reader: &mut R,
     expected: (&[u8], u64),
 ) -> bool {
-    let mut reader = TwoPieces {
-        first: pieces.0,
-        second: pieces.1,
-    };
     let mut text = Vec::new(alloc);
-    let served = converse(alloc, book, &mut reader, &mut text);
+    let served = converse(alloc, book, reader, &mut text);
     let requests = expected.1;
     served == Ok(Served { requests }) && text.as_slice() == expected.0
 }
 
-#[test]
-fn cut_at_every_byte(rt: HostRuntime) -> Result<(), Fail> {
-    for place in 0..PAID.len() {
-        let mut book = empty_book(rt.alloc())?;
-        let pieces = PAID.split_at(place);
-        assert!(rt;
-            is_same_in_pieces(rt.alloc(), &mut book, pieces, (PAID_REPLIES, 2)),
-            "at {place}"
-        );
+// Whether a new book replies to a stream in two pieces as to one.
+fn is_same_in_pieces(alloc: Global, pieces: (&[u8], &[u8]), expected: (&[u8], u64)) -> bool {
+    let (first, second) = pieces;
+    match empty_book(alloc) {
+        Ok(mut book) => {
+            is_served_to(alloc, &mut book, &mut TwoPieces { first, second }, expected)
+        }
+        Err(_) => false,
     }
-    Ok(())
 }
 
 #[test]
-fn four_requests_cut_at_every_byte(rt: HostRuntime) -> Result<(), Fail> {
-    for place in 0..FIRST.len() {
-        let mut book = empty_book(rt.alloc())?;
-        let pieces = FIRST.split_at(place);
+fn cut_at_every_byte(rt: HostRuntime) {
+    for place in 0..PAID.len() {
+        let pieces = PAID.split_at(place);
         assert!(rt;
-            is_same_in_pieces(rt.alloc(), &mut book, pieces, (FIRST_REPLIES, 4)),
+            is_same_in_pieces(rt.alloc(), pieces, (PAID_REPLIES, 2)),
             "at {place}"
         );
     }
-    Ok(())
+}
+
+#[test]
+fn four_requests_cut_at_every_byte(rt: HostRuntime) {
+    for place in 0..FIRST.len() {
+        let pieces = FIRST.split_at(place);
+        assert!(rt;
+            is_same_in_pieces(rt.alloc(), pieces, (FIRST_REPLIES, 4)),
+            "at {place}"
+        );
+    }
 }
 
 // A reader that gives one byte a call, and fails behind so many.
@@ -165,89 +168,110 @@ fn byte_by_byte(bytes: &[u8], left: u32) -> ByteByByte<'_> {
     }
 }
 
+// Whether a new book replies to single bytes as to one stream.
+fn is_same_byte_by_byte(alloc: Global) -> bool {
+    match empty_book(alloc) {
+        Ok(mut book) => {
+            let mut reader = byte_by_byte(FIRST, 10_000);
+            is_served_to(alloc, &mut book, &mut reader, (FIRST_REPLIES, 4))
+        }
+        Err(_) => false,
+    }
+}
+
 #[test]
-fn one_byte_a_call(rt: HostRuntime) -> Result<(), Fail> {
-    let alloc = rt.alloc();
-    let mut book = empty_book(alloc)?;
-    let mut reader = byte_by_byte(FIRST, 10_000);
+fn one_byte_a_call(rt: HostRuntime) {
+    assert!(rt; is_same_byte_by_byte(rt.alloc()));
+}
+
+// Whether a conversation of three turns ends with the third, and leaves nothing in the book's way.
+fn is_ended_at_third<S: Shelf>(alloc: Global, book: &mut Book<S>) -> bool {
+    let mut reader = byte_by_byte(PAID, 10_000);
     let mut text = Vec::new(alloc);
-    let served = converse(alloc, &mut book, &mut reader, &mut text);
-    assert!(rt; served == Ok(Served { requests: 4 }));
-    assert!(rt; text.as_slice() == FIRST_REPLIES);
-    Ok(())
+    let served = converse_within(alloc, book, &mut reader, &mut text, 3);
+    let is_ended = served == Err(WireFault::TooManyTurns) && text.is_empty() && reader.calls == 3;
+    is_ended && is_served(alloc, book, b"", 0, b"")
 }
 
 #[test]
 fn too_many_turns(rt: HostRuntime) -> Result<(), Fail> {
-    let alloc = rt.alloc();
-    let mut book = empty_book(alloc)?;
-    let mut reader = byte_by_byte(PAID, 10_000);
-    let mut text = Vec::new(alloc);
-    let served = converse_within(alloc, &mut book, &mut reader, &mut text, 3);
-    assert!(rt; served == Err(WireFault::TooManyTurns));
-    assert!(rt; text.is_empty());
-    assert!(rt; reader.calls == 3);
-    let (nothing, text) = replies(alloc, &mut book, b"");
-    assert!(rt; nothing == Ok(Served { requests: 0 }));
-    assert!(rt; text.is_empty());
+    let mut book = empty_book(rt.alloc())?;
+    assert!(rt; is_ended_at_third(rt.alloc(), &mut book));
     Ok(())
 }
 
-#[test]
-fn most_turns(rt: HostRuntime) -> Result<(), Fail> {
-    let alloc = rt.alloc();
-    let mut book = empty_book(alloc)?;
+// How many calls a reader without an end gets, where it is told of.
+fn calls_of_endless<S: Shelf>(alloc: Global, book: &mut Book<S>) -> Option<u32> {
     let mut reader = Endless {
         rest: b"",
         calls: 0,
     };
-    let mut writer = io::sink();
-    let served = converse(alloc, &mut book, &mut reader, &mut writer);
-    assert!(rt; served == Err(WireFault::TooManyTurns));
-    assert!(rt; reader.calls == 16_777_216);
+    match converse(alloc, book, &mut reader, &mut io::sink()) {
+        Err(WireFault::TooManyTurns) => Some(reader.calls),
+        _ => None,
+    }
+}
+
+#[test]
+fn most_turns(rt: HostRuntime) -> Result<(), Fail> {
+    let mut book = empty_book(rt.alloc())?;
+    assert!(rt; calls_of_endless(rt.alloc(), &mut book) == Some(16_777_216));
     Ok(())
+}
+
+// Whether a reader that fails behind so many bytes is told of, behind a front of the replies.
+fn is_read_fault_told<S: Shelf>(alloc: Global, book: &mut Book<S>, left: u32) -> bool {
+    let mut reader = byte_by_byte(FIRST, left);
+    let mut text = Vec::new(alloc);
+    let served = converse(alloc, book, &mut reader, &mut text);
+    served == Err(WireFault::Read) && FIRST_REPLIES.starts_with(&text)
 }
 
 #[test]
 fn reader_failing_at_each_call(rt: HostRuntime) -> Result<(), Fail> {
-    let alloc = rt.alloc();
     for left in 0..FIRST.len() as u32 {
-        let mut book = empty_book(alloc)?;
-        let mut reader = byte_by_byte(FIRST, left);
-        let mut text = Vec::new(alloc);
-        let served = converse(alloc, &mut book, &mut reader, &mut text);
-        assert!(rt; served == Err(WireFault::Read));
-        assert!(rt; FIRST_REPLIES.starts_with(&text));
+        let mut book = empty_book(rt.alloc())?;
+        assert!(rt; is_read_fault_told(rt.alloc(), &mut book, left));
     }
     Ok(())
+}
+
+// Whether a writer that fails behind so many bytes has a front of the replies, and is told of if it isn't whole.
+fn has_front<S: Shelf>(alloc: Global, book: &mut Book<S>, left: u32) -> bool {
+    let mut reader = FIRST;
+    let text = Vec::new(alloc);
+    let mut writer = Narrow { text, left };
+    let served = converse(alloc, book, &mut reader, &mut writer);
+    served.is_ok() == (writer.text.len() == FIRST_REPLIES.len())
+        && writer.text.len() == (left as usize)
+        && FIRST_REPLIES.starts_with(&writer.text)
 }
 
 #[test]
 fn writer_failing_at_each_call(rt: HostRuntime) -> Result<(), Fail> {
-    let alloc = rt.alloc();
     let whole = FIRST_REPLIES.len() as u32;
     for left in 0..whole + 1 {
-        let mut book = empty_book(alloc)?;
-        let mut reader = FIRST;
-        let text = Vec::new(alloc);
-        let mut writer = Narrow { text, left };
-        let served = converse(alloc, &mut book, &mut reader, &mut writer);
-        assert!(rt; served.is_ok() == (left == whole));
-        assert!(rt; writer.text.len() == (left as usize));
-        assert!(rt; FIRST_REPLIES.starts_with(&writer.text));
+        let mut book = empty_book(rt.alloc())?;
+        assert!(rt; has_front(rt.alloc(), &mut book, left));
     }
     Ok(())
 }
 
+// Whether a writer that takes no byte behind so many is told of.
+fn is_write_fault_told<S: Shelf>(alloc: Global, book: &mut Book<S>, left: usize) -> bool {
+    let mut reader = FIRST;
+    let served = converse(alloc, book, &mut reader, &mut Narrowing { left });
+    served == Err(WireFault::Write)
+}
+
 #[test]
 fn writer_taking_no_byte(rt: HostRuntime) -> Result<(), Fail> {
-    let alloc = rt.alloc();
     for left in [0, 1, FIRST_REPLIES.len() - 1] {
-        let mut book = empty_book(alloc)?;
-        let mut reader = FIRST;
-        let mut writer = Narrowing { left };
-        let served = converse(alloc, &mut book, &mut reader, &mut writer);
-        assert!(rt; served == Err(WireFault::Write), "behind {left}");
+        let mut book = empty_book(rt.alloc())?;
+        assert!(rt;
+            is_write_fault_told(rt.alloc(), &mut book, left),
+            "behind {left}"
+        );
     }
     Ok(())
 }
@@ -282,14 +306,21 @@ fn is_front(text: &[u8]) -> bool {
     fits
 }
 
+// Whether a stream that ends early is served, and replied to by a front of the replies and a refusal, if any.
+fn is_front_replied<S: Shelf>(alloc: Global, book: &mut Book<S>, stream: &[u8]) -> bool {
+    let (served, text) = replies(alloc, book, stream);
+    served.is_ok() && is_front(&text)
+}
+
 #[test]
 fn stream_ending_at_each_byte(rt: HostRuntime) -> Result<(), Fail> {
     for place in 0..FIRST.len() {
         let mut book = empty_book(rt.alloc())?;
         let (front, _) = FIRST.split_at(place);
-        let (served, text) = replies(rt.alloc(), &mut book, front);
-        assert!(rt; served.is_ok());
-        assert!(rt; is_front(&text), "at {place}");
+        assert!(rt;
+            is_front_replied(rt.alloc(), &mut book, front),
+            "at {place}"
+        );
     }
     Ok(())
 }

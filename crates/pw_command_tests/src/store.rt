@@ -1,10 +1,10 @@
 //! Stores over memory: what is kept, and what is refused when one is opened again.
 
-ghost use Rattle.std.specs.Prelude.{◌≡◌, false};
+ghost use Rattle.std.specs.Prelude.{◌≡◌, IfOk, None, false};
 
 use pw_model::TotalKey;
 use pw_obis::{Register, WattHours};
-use pw_shelf::Shelf;
+use pw_shelf::{Shelf, ShelfFault};
 use pw_store::laws::{closed_is_opened_again, left_is_opened_again};
 use pw_store::{OpenFault, SqlShelf};
 use pw_tariff::{AccountId, BandId, Direction, MeterId, Office};
@@ -65,21 +65,38 @@ fn memory(rt: &impl Abort, alloc: Global) -> Connection<MemStore> {
     Connection::open_in_memory(alloc).expect(rt, "a connection")
 }
 
+// A connection, opened as a store, or why it isn't, and the connection.
+fn opened(
+    rt: &impl Abort,
+    alloc: Global,
+    connection: Connection<MemStore>,
+) -> Result<SqlShelf<MemStore>, (OpenFault, Connection<MemStore>)>
+    ensures { IfOk result (λ shelf. shelf.begun ≡ false) }
+{
+    let _office = Office::read(alloc, TEXT.as_bytes()).expect(rt, "an office");
+    SqlShelf::open(alloc, connection, TEXT.as_bytes())
+}
+
 // The store of a connection.
 fn shelf_of(rt: &impl Abort, alloc: Global, connection: Connection<MemStore>) -> SqlShelf<MemStore>
     ensures { result.begun ≡ false }
 {
-    let _office = Office::read(alloc, TEXT.as_bytes()).expect(rt, "an office");
-    match SqlShelf::open(alloc, connection, TEXT.as_bytes()) {
+    match opened(rt, alloc, connection) {
         Ok(shelf) => shelf,
         Err(_) => panic!(rt; "not opened"),
     }
 }
 
+// A store that holds nothing.
+fn empty_shelf(rt: &impl Abort, alloc: Global) -> SqlShelf<MemStore>
+    ensures { result.begun ≡ false }
+{
+    shelf_of(rt, alloc, memory(rt, alloc))
+}
+
 // Why a connection isn't opened, if it isn't.
 fn refusal(rt: &impl Abort, alloc: Global, connection: Connection<MemStore>) -> Option<OpenFault> {
-    let _office = Office::read(alloc, TEXT.as_bytes()).expect(rt, "an office");
-    match SqlShelf::open(alloc, connection, TEXT.as_bytes()) {
+    match opened(rt, alloc, connection) {
         Ok(_) => None,
         Err((fault, _)) => Some(fault),
     }
@@ -91,60 +108,79 @@ fn refused_by(
     alloc: Global,
     connection: Connection<MemStore>,
 ) -> (OpenFault, Connection<MemStore>) {
-    let _office = Office::read(alloc, TEXT.as_bytes()).expect(rt, "an office");
-    match SqlShelf::open(alloc, connection, TEXT.as_bytes()) {
+    match opened(rt, alloc, connection) {
         Ok(_) => panic!(rt; "opened"),
         Err(refused) => refused,
     }
 }
 
+fn execute(rt: &impl Abort, connection: &mut Connection<MemStore>, statement: &str) {
+    connection.execute(statement, &[]).expect(rt, "a statement");
+}
+
 // Why a new store, in which a statement was run, isn't opened, if it isn't.
 fn refusal_behind(rt: &impl Abort, alloc: Global, statement: &str) -> Option<OpenFault> {
-    let mut connection = shelf_of(rt, alloc, memory(rt, alloc)).close();
-    connection.execute(statement, &[]).expect(rt, "a statement");
+    let mut connection = empty_shelf(rt, alloc).close();
+    execute(rt, &mut connection, statement);
     refusal(rt, alloc, connection)
 }
 
-#[test]
-fn a_point_put_again_is_the_last(rt: HostRuntime) -> Result<(), Fail> {
-    let alloc = rt.alloc();
-    let mut shelf = shelf_of(&rt, alloc, memory(&rt, alloc));
-    let early = at(&rt, 1_704_067_200);
+// Puts a point twice, and answers the last before the next hour.
+fn point_put_twice<S: Shelf>(
+    rt: &impl Abort,
+    shelf: &mut S,
+) -> Result<Option<(Instant, WattHours)>, ShelfFault>
+    requires { (S.state shelf.old).begun ≡ None }
+{
+    let early = at(rt, 1_704_067_200);
     shelf.begin()?;
-    shelf.point_put(METER, Register::E1, early, wh(&rt, 5))?;
-    shelf.point_put(METER, Register::E1, early, wh(&rt, 6))?;
-    let found = shelf.point_before(METER, Register::E1, at(&rt, 1_704_070_800))?;
-    assert!(rt; found == Some((early, wh(&rt, 6))));
-    Ok(())
+    shelf.point_put(METER, Register::E1, early, wh(rt, 5))?;
+    shelf.point_put(METER, Register::E1, early, wh(rt, 6))?;
+    shelf.point_before(METER, Register::E1, at(rt, 1_704_070_800))
 }
 
 #[test]
-fn an_abandoned_total_is_gone(rt: HostRuntime) -> Result<(), Fail> {
-    let alloc = rt.alloc();
-    let mut shelf = shelf_of(&rt, alloc, memory(&rt, alloc));
+fn a_point_put_again_is_the_last(rt: HostRuntime) {
+    let mut shelf = empty_shelf(&rt, rt.alloc());
+    let last = (at(&rt, 1_704_067_200), wh(&rt, 6));
+    assert!(rt; point_put_twice(&rt, &mut shelf) == Ok(Some(last)));
+}
+
+// Puts a total, gives the upload up, and answers the total.
+fn abandoned_total<S: Shelf>(shelf: &mut S) -> Result<u64, ShelfFault>
+    requires { (S.state shelf.old).begun ≡ None }
+{
     shelf.begin()?;
     shelf.total_put(&PAYMENTS, 500)?;
     shelf.abandon()?;
-    let amount = shelf.total(&PAYMENTS)?;
-    assert!(rt; amount == 0);
-    Ok(())
+    shelf.total(&PAYMENTS)
+}
+
+#[test]
+fn an_abandoned_total_is_gone(rt: HostRuntime) {
+    let mut shelf = empty_shelf(&rt, rt.alloc());
+    assert!(rt; abandoned_total(&mut shelf) == Ok(0));
+}
+
+// Puts a start, and commits it.
+fn committed_start<S: Shelf>(rt: &impl Abort, shelf: &mut S) -> Result<(), ShelfFault>
+    requires { (S.state shelf.old).begun ≡ None }
+{
+    shelf.begin()?;
+    shelf.start_put(METER, at(rt, 1_704_067_200), Some(AccountId(1)))?;
+    shelf.commit()
 }
 
 #[test]
 fn a_start_is_there_when_opened_again(rt: HostRuntime) -> Result<(), Fail> {
     let alloc = rt.alloc();
-    let mut shelf = shelf_of(&rt, alloc, memory(&rt, alloc));
-    shelf.begin()?;
-    shelf.start_put(METER, at(&rt, 1_704_067_200), Some(AccountId(1)))?;
-    shelf.commit()?;
+    let mut shelf = empty_shelf(&rt, alloc);
+    assert!(rt; committed_start(&rt, &mut shelf).is_ok());
     let mut connection = shelf.close();
-    connection.execute(
-        "INSERT INTO record_assignment VALUES (0, 1704067200, 2)",
-        &[],
-    )?;
+    let assignment = "INSERT INTO record_assignment VALUES (0, 1704067200, 2)";
+    execute(&rt, &mut connection, assignment);
     let mut again = shelf_of(&rt, alloc, connection);
-    let starts = again.starts_of(alloc, METER)?;
-    assert!(rt; starts.len() == 1);
+    assert!(rt; again.starts_of(alloc, METER)?.len() == 1);
     Ok(())
 }
 
@@ -168,23 +204,27 @@ fn reopened(rt: &impl Abort, alloc: Global, shelf: SqlShelf<MemStore>) -> SqlShe
     }
 }
 
-#[test]
-fn an_upload_still_begun_is_gone_when_opened_again(rt: HostRuntime) -> Result<(), Fail> {
-    let alloc = rt.alloc();
-    let mut shelf = shelf_of(&rt, alloc, memory(&rt, alloc));
+// Puts a total in an upload that stays begun.
+fn begun_total<S: Shelf>(shelf: &mut S) -> Result<(), ShelfFault>
+    requires { (S.state shelf.old).begun ≡ None }
+{
     shelf.begin()?;
-    shelf.total_put(&PAYMENTS, 500)?;
-    let mut again = reopened(&rt, alloc, shelf);
-    let amount = again.total(&PAYMENTS)?;
-    assert!(rt; amount == 0);
-    Ok(())
+    shelf.total_put(&PAYMENTS, 500)
+}
+
+#[test]
+fn an_upload_still_begun_is_gone_when_opened_again(rt: HostRuntime) {
+    let mut shelf = empty_shelf(&rt, rt.alloc());
+    assert!(rt; begun_total(&mut shelf).is_ok());
+    let mut again = reopened(&rt, rt.alloc(), shelf);
+    assert!(rt; again.total(&PAYMENTS) == Ok(0));
 }
 
 #[test]
 fn what_a_crash_leaves_is_opened_again(rt: HostRuntime) {
     let alloc = rt.alloc();
-    let shelf = shelf_of(&rt, alloc, memory(&rt, alloc));
-    let left = shelf_of(&rt, alloc, memory(&rt, alloc)).close();
+    let shelf = empty_shelf(&rt, alloc);
+    let left = empty_shelf(&rt, alloc).close();
     assert!(rt; is_opened_behind(&rt, alloc, &shelf, left));
 }
 
@@ -197,14 +237,12 @@ fn numbers_and_names(rt: HostRuntime) {
         (OpenFault::Version, 72, "Version"),
         (OpenFault::Unclean, 73, "Unclean"),
     ] {
-        assert!(rt; fault.number() == number);
-        assert!(rt; fault.name() == name);
+        assert!(rt; fault.number() == number && fault.name() == name);
     }
 }
 
 #[test]
-fn damaged_stores_are_refused(rt: HostRuntime) -> Result<(), Fail> {
-    let alloc = rt.alloc();
+fn damaged_stores_are_refused(rt: HostRuntime) {
     let cases = [
         ("UPDATE office SET version = 9", OpenFault::Version),
         ("UPDATE office SET body = X'00'", OpenFault::OfficeDiffers),
@@ -235,9 +273,8 @@ fn damaged_stores_are_refused(rt: HostRuntime) -> Result<(), Fail> {
         ("INSERT INTO total_topup VALUES (2, 1)", OpenFault::Unclean),
     ];
     for (statement, fault) in cases {
-        assert!(rt; refusal_behind(&rt, alloc, statement) == Some(fault));
+        assert!(rt; refusal_behind(&rt, rt.alloc(), statement) == Some(fault));
     }
-    Ok(())
 }
 
 // Two readings an hour apart, in band L, of a meter of A1, and a top-up of A1, with what is kept beside them.
@@ -300,58 +337,73 @@ const DAMAGES: [(&str, &str); 13] = [
     ),
 ];
 
+// A store that is opened, damaged, refused and repaired.
+fn repaired(
+    rt: &impl Abort,
+    alloc: Global,
+    connection: Connection<MemStore>,
+    damage: &str,
+    repair: &str,
+) -> Connection<MemStore> {
+    let mut damaged = shelf_of(rt, alloc, connection).close();
+    execute(rt, &mut damaged, damage);
+    let (fault, mut refused) = refused_by(rt, alloc, damaged);
+    assert!(rt; fault == OpenFault::Unclean);
+    execute(rt, &mut refused, repair);
+    refused
+}
+
 #[test]
-fn what_is_kept_beside_records_must_be_true(rt: HostRuntime) -> Result<(), Fail> {
-    let alloc = rt.alloc();
-    let mut connection = shelf_of(&rt, alloc, memory(&rt, alloc)).close();
+fn what_is_kept_beside_records_must_be_true(rt: HostRuntime) {
+    let mut connection = empty_shelf(&rt, rt.alloc()).close();
     for statement in RECORDS {
-        connection.execute(statement, &[])?;
+        execute(&rt, &mut connection, statement);
     }
     for (damage, repair) in DAMAGES {
-        connection = shelf_of(&rt, alloc, connection).close();
-        connection.execute(damage, &[])?;
-        let (fault, refused) = refused_by(&rt, alloc, connection);
-        assert!(rt; fault == OpenFault::Unclean);
-        connection = refused;
-        connection.execute(repair, &[])?;
+        connection = repaired(&rt, rt.alloc(), connection, damage, repair);
     }
-    let mut shelf = shelf_of(&rt, alloc, connection);
-    let amount = shelf.total(&ENERGY)?;
-    assert!(rt; amount == 100);
-    Ok(())
+    let mut shelf = shelf_of(&rt, rt.alloc(), connection);
+    assert!(rt; shelf.total(&ENERGY) == Ok(100));
 }
 
 #[test]
-fn a_total_of_0_is_as_good_as_none(rt: HostRuntime) -> Result<(), Fail> {
-    let alloc = rt.alloc();
-    let statement = "INSERT INTO total VALUES (0, 1, 0, 0)";
-    assert!(rt; refusal_behind(&rt, alloc, statement) == None);
-    let statement = "INSERT INTO total_topup VALUES (1, 0)";
-    assert!(rt; refusal_behind(&rt, alloc, statement) == None);
-    Ok(())
+fn a_total_of_0_is_as_good_as_none(rt: HostRuntime) {
+    for statement in [
+        "INSERT INTO total VALUES (0, 1, 0, 0)",
+        "INSERT INTO total_topup VALUES (1, 0)",
+    ] {
+        assert!(rt; refusal_behind(&rt, rt.alloc(), statement) == None);
+    }
 }
 
-#[test]
-fn a_total_of_0_at_any_key_opens_again(rt: HostRuntime) -> Result<(), Fail> {
-    let alloc = rt.alloc();
-    let key = TotalKey::TopUps {
-        account: AccountId(9),
-    };
-    let mut shelf = shelf_of(&rt, alloc, memory(&rt, alloc));
+const NOBODY: TotalKey = TotalKey::TopUps {
+    account: AccountId(9),
+};
+
+// Puts a total of 0 for an account that the office hasn't, and commits it.
+fn committed_total_of_0<S: Shelf>(shelf: &mut S) -> Result<(), ShelfFault>
+    requires { (S.state shelf.old).begun ≡ None }
+{
     shelf.begin()?;
-    shelf.total_put(&key, 0)?;
-    shelf.commit()?;
-    let mut again = shelf_of(&rt, alloc, shelf.close());
-    let amount = again.total(&key)?;
-    assert!(rt; amount == 0);
-    Ok(())
+    shelf.total_put(&NOBODY, 0)?;
+    shelf.commit()
 }
 
 #[test]
-fn a_table_of_another_is_refused(rt: HostRuntime) -> Result<(), Fail> {
-    let alloc = rt.alloc();
-    let mut connection = memory(&rt, alloc);
-    connection.execute("CREATE TABLE office (id INTEGER) STRICT", &[])?;
-    assert!(rt; refusal(&rt, alloc, connection) == Some(OpenFault::Unclean));
-    Ok(())
+fn a_total_of_0_at_any_key_opens_again(rt: HostRuntime) {
+    let mut shelf = empty_shelf(&rt, rt.alloc());
+    assert!(rt; committed_total_of_0(&mut shelf).is_ok());
+    let mut again = shelf_of(&rt, rt.alloc(), shelf.close());
+    assert!(rt; again.total(&NOBODY) == Ok(0));
+}
+
+#[test]
+fn a_table_of_another_is_refused(rt: HostRuntime) {
+    let mut connection = memory(&rt, rt.alloc());
+    execute(
+        &rt,
+        &mut connection,
+        "CREATE TABLE office (id INTEGER) STRICT",
+    );
+    assert!(rt; refusal(&rt, rt.alloc(), connection) == Some(OpenFault::Unclean));
 }

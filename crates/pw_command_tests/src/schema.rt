@@ -1,0 +1,202 @@
+//! Tables made in memory, and rows of tables judged.
+
+use pw_model::Entry;
+use pw_schema::{
+    Judge, JudgeFault, ReadFault, RecordKind, Records, Rowids, begin, commit, create, is_nothing,
+    is_ours, judge_office, read_rows, roll_back,
+};
+use pw_tariff::Office;
+use sqlite::{Connection, Error, MemStore, Row};
+use std::alloc::Global;
+use std::process::Abort;
+use std::test::Fail;
+
+const TEXT: &str = r#"accounts = ["A1", "A2"]
+week = [
+  "LLLLLLLHHHHHHHHHHHHHHHHL",
+  "LLLLLLLHHHHHHHHHHHHHHHHL",
+  "LLLLLLLHHHHHHHHHHHHHHHHL",
+  "LLLLLLLHHHHHHHHHHHHHHHHL",
+  "LLLLLLLHHHHHHHHHHHHHHHHL",
+  "LLLLLLLLLLLLLLLLLLLLLLLL",
+  "LLLLLLLLLLLLLLLLLLLLLLLL",
+]
+
+[[band]]
+name = "L"
+import = 200000
+export = 50000
+
+[[band]]
+name = "H"
+import = 300000
+export = 50000
+
+[[meter]]
+id = "4D31"
+clock = "marked"
+registers = ["I1", "I2", "E1", "E2"]
+"#;
+
+fn office(rt: &impl Abort, alloc: Global) -> Office {
+    Office::read(alloc, TEXT.as_bytes()).expect(rt, "an office")
+}
+
+fn rows(rt: &impl Abort, alloc: Global, text: &str) -> Vec<Row> {
+    memory(rt, alloc).query_all(text, &[]).expect(rt, "rows")
+}
+
+// Whether the rows that a text shows are records of the office.
+fn judged(
+    rt: &impl Abort,
+    alloc: Global,
+    kind: RecordKind,
+    text: &str,
+) -> Result<Vec<Entry>, JudgeFault> {
+    let office = office(rt, alloc);
+    let mut records = Records::new(alloc, &office, kind);
+    for row in rows(rt, alloc, text).as_slice() {
+        records.take(row)?;
+    }
+    Ok(records.into_entries())
+}
+
+fn memory(rt: &impl Abort, alloc: Global) -> Connection<MemStore> {
+    Connection::open_in_memory(alloc).expect(rt, "a connection")
+}
+
+fn new_store(rt: &impl Abort, alloc: Global) -> Connection<MemStore> {
+    let mut conn = Connection::open_in_memory(alloc).expect(rt, "a connection");
+    create(&mut conn, b"text".as_slice()).expect(rt, "tables");
+    conn
+}
+
+// Whether the tables are ours behind a statement.
+fn are_ours_behind(rt: &impl Abort, conn: &mut Connection<MemStore>, statement: &str) -> bool {
+    conn.execute(statement, &[]).expect(rt, "a statement");
+    is_ours(conn.schema())
+}
+
+// Whether the text of the office is kept.
+fn is_text_kept(rt: &impl Abort, conn: &mut Connection<MemStore>) -> bool {
+    let asked = "SELECT version, body FROM office WHERE id = 1";
+    let kept = conn.query_all(asked, &[]).expect(rt, "rows");
+    judge_office(kept.as_slice(), b"text".as_slice()).is_ok()
+}
+
+#[test]
+fn tables_that_are_made_are_ours(rt: HostRuntime) {
+    let conn = memory(&rt, rt.alloc());
+    assert!(rt; is_nothing(conn.schema()) && !is_ours(conn.schema()));
+    let mut conn = new_store(&rt, rt.alloc());
+    assert!(rt; is_ours(conn.schema()) && !is_nothing(conn.schema()));
+    assert!(rt; is_text_kept(&rt, &mut conn));
+    let other = "CREATE TABLE other (id INTEGER) STRICT";
+    assert!(rt; !are_ours_behind(&rt, &mut conn, other));
+}
+
+#[test]
+fn a_table_less_or_a_column_less_is_not_ours(rt: HostRuntime) {
+    let mut conn = new_store(&rt, rt.alloc());
+    for (statement, are_ours) in [
+        ("DROP TABLE total_topup", false),
+        (
+            "CREATE TABLE total_topup (account INTEGER PRIMARY KEY) STRICT",
+            false,
+        ),
+        ("DROP TABLE total_topup", false),
+        (
+            "CREATE TABLE total_topup (account INTEGER PRIMARY KEY, cents INTEGER NOT NULL) STRICT",
+            true,
+        ),
+    ] {
+        assert!(rt; are_ours_behind(&rt, &mut conn, statement) == are_ours);
+    }
+}
+
+// How many rows there are behind an upload of one, which is committed or rolled back.
+fn rows_behind(conn: &mut Connection<MemStore>, is_committed: bool) -> Result<usize, Error> {
+    begin(conn)?;
+    conn.execute(
+        "INSERT INTO start (meter, start, owner) VALUES (0, 1, 2)",
+        &[],
+    )?;
+    if is_committed {
+        commit(conn)?;
+    } else {
+        roll_back(conn)?;
+    }
+    let rows = conn.query_all("SELECT meter FROM start", &[])?;
+    Ok(rows.len())
+}
+
+#[test]
+fn an_upload_is_rolled_back_or_committed(rt: HostRuntime) -> Result<(), Fail> {
+    let mut conn = new_store(&rt, rt.alloc());
+    assert!(rt; rows_behind(&mut conn, false)? == 0);
+    assert!(rt; rows_behind(&mut conn, true)? == 1);
+    Ok(())
+}
+
+// Whether a row that a text shows is no record of the office.
+fn is_foreign(rt: &impl Abort, alloc: Global, kind: RecordKind, text: &str) -> bool {
+    judged(rt, alloc, kind, text).err() == Some(JudgeFault::Foreign)
+}
+
+// Whether two rows that a text shows are records in the wrong order.
+fn are_in_wrong_order(rt: &impl Abort, alloc: Global, text: &str) -> bool {
+    let rows = rows(rt, alloc, text);
+    let read = read_rows(alloc, RecordKind::Readings, rows.as_slice());
+    let judged = judged(rt, alloc, RecordKind::Readings, text);
+    read.err() == Some(ReadFault::Wrong) && judged.err() == Some(JudgeFault::Unordered)
+}
+
+#[test]
+fn rows_that_are_no_records_of_the_office_are_foreign(rt: HostRuntime) {
+    for text in [
+        "SELECT 0, 9, 1704067200, 1",
+        "SELECT 0, 0, 1704067200, 1",
+        "SELECT 1, 5, 1704067200, 1",
+        "SELECT 0, 5, 5, 1",
+        "SELECT 0, 5, 1704067200, 100000000000",
+        "SELECT 0, 5, 1704067200, NULL",
+        "SELECT 0, 5, 1704067200, 'x'",
+        "SELECT 0, 5, 1704067200, 1 UNION ALL SELECT 0, 5, 1704067200, 1",
+    ] {
+        assert!(rt; is_foreign(&rt, rt.alloc(), RecordKind::Readings, text));
+    }
+    for text in [
+        "SELECT 0, 1704067200, 3",
+        "SELECT 0, 1704067200, -1",
+        "SELECT 0, 5, 0",
+    ] {
+        assert!(rt; is_foreign(&rt, rt.alloc(), RecordKind::Assignments, text));
+    }
+    for text in [
+        "SELECT 'P/1', 0, 1, 1704067200",
+        "SELECT '', 0, 1, 1704067200",
+        "SELECT 'P1', 2, 1, 1704067200",
+        "SELECT 'P1', 0, 0, 1704067200",
+        "SELECT 'P1', 0, 100000001, 1704067200",
+        "SELECT 'P1', 0, 1, 4102444800",
+    ] {
+        assert!(rt; is_foreign(&rt, rt.alloc(), RecordKind::TopUps, text));
+    }
+    let twisted = "SELECT 0, 5, 1704067200, 2 UNION ALL SELECT 0, 5, 1704067200, 1";
+    assert!(rt; are_in_wrong_order(&rt, rt.alloc(), twisted));
+}
+
+#[test]
+fn rowids_rise(rt: HostRuntime) {
+    let alloc = rt.alloc();
+    for (text, rising) in [
+        ("SELECT -1 UNION ALL SELECT 1 UNION ALL SELECT 3", true),
+        ("SELECT 1 UNION ALL SELECT 1", false),
+        ("SELECT 2 UNION ALL SELECT 1", false),
+        ("SELECT 1 UNION ALL SELECT 'x'", false),
+    ] {
+        let (rows, mut ids) = (rows(&rt, alloc, text), Rowids::new());
+        let are_rising = rows.as_slice().iter().all(|row| ids.take(row).is_ok());
+        assert!(rt; are_rising == rising, "{text}");
+    }
+}
