@@ -7,6 +7,7 @@ ghost use Rattle.pw_model.specs.Office.{AllOfOffice, most_records};
 ghost use Rattle.pw_tariff.specs.Office.{office_of};
 
 mod agreeing;
+mod asking;
 mod bodies;
 mod counted;
 mod kept;
@@ -21,14 +22,15 @@ use crate::sample::{
     FIRST, FIVE, METER, NEW_YEAR, SECOND, SEVEN, SIX, are_of_office, assigned, at, exported, given,
     paid, reading, shown, wh,
 };
-use agreeing::all_agree;
+use agreeing::{all_agree, is_list, length};
 use kept::parts_agree;
 use pw_book::{Accepted, Book, BookFault, Entry, Fall, PostFault};
+use pw_model::{Dispute, Key, ReadingRow};
 use pw_obis::Register;
 use pw_shelf::{CountShelf, MemoryShelf, Shelf};
 use pw_tariff::{AccountId, BandId, Direction, MeterId, Office, OfficeFault, Owner};
 use pw_time::Zone;
-use std::alloc::Global;
+use std::alloc::{AllocError, Global};
 use std::process::Abort;
 use std::test::Fail;
 
@@ -67,6 +69,34 @@ trait Books {
     ) -> Result<Book<CountShelf<Self::Store>>, OfficeFault>;
 }
 
+// The office with two meters.
+fn two_meters(alloc: Global) -> Result<Office, OfficeFault> {
+    Office::read(alloc, TWO_METERS.as_bytes())
+}
+
+// An empty store in memory that counts its calls.
+fn counting_shelf(alloc: Global) -> CountShelf<MemoryShelf>
+    ensures empty { (⟦<CountShelf<MemoryShelf> as Shelf>⟧.state result).content ≡ no_content }
+    ensures idle { (⟦<CountShelf<MemoryShelf> as Shelf>⟧.state result).begun ≡ None }
+{
+    CountShelf::new(MemoryShelf::new(alloc))
+}
+
+// A book over a store that counts its calls, one of which fails.
+fn failing_over<S: Shelf>(
+    rt: &impl Abort,
+    office: Office,
+    shelf: S,
+    fail_at: u32,
+    abandon_fails: bool,
+) -> Book<CountShelf<S>>
+    requires empty { (S.state shelf).content ≡ no_content }
+    requires idle { (S.state shelf).begun ≡ None }
+{
+    let failing = CountShelf::failing(shelf, fail_at, abandon_fails);
+    book_of(rt, office, failing, 2_000)
+}
+
 /// Books over a store in memory.
 struct InMemory;
 
@@ -79,7 +109,7 @@ impl Books for InMemory {
         alloc: Global,
         limit: u32,
     ) -> Result<Book<MemoryShelf>, OfficeFault> {
-        let office = Office::read(alloc, TWO_METERS.as_bytes())?;
+        let office = two_meters(alloc)?;
         Ok(book_of(rt, office, MemoryShelf::new(alloc), limit))
     }
 
@@ -90,9 +120,9 @@ impl Books for InMemory {
         fail_at: u32,
         abandon_fails: bool,
     ) -> Result<Book<CountShelf<MemoryShelf>>, OfficeFault> {
-        let office = Office::read(alloc, TWO_METERS.as_bytes())?;
-        let shelf = CountShelf::failing(MemoryShelf::new(alloc), fail_at, abandon_fails);
-        Ok(book_of(rt, office, shelf, 2_000))
+        let office = two_meters(alloc)?;
+        let shelf = MemoryShelf::new(alloc);
+        Ok(failing_over(rt, office, shelf, fail_at, abandon_fails))
     }
 }
 
@@ -108,9 +138,8 @@ impl Books for Counting {
         alloc: Global,
         limit: u32,
     ) -> Result<Book<CountShelf<MemoryShelf>>, OfficeFault> {
-        let office = Office::read(alloc, TWO_METERS.as_bytes())?;
-        let shelf = CountShelf::new(MemoryShelf::new(alloc));
-        Ok(book_of(rt, office, shelf, limit))
+        let office = two_meters(alloc)?;
+        Ok(book_of(rt, office, counting_shelf(alloc), limit))
     }
 
     fn failing(
@@ -120,10 +149,9 @@ impl Books for Counting {
         fail_at: u32,
         abandon_fails: bool,
     ) -> Result<Book<CountShelf<CountShelf<MemoryShelf>>>, OfficeFault> {
-        let office = Office::read(alloc, TWO_METERS.as_bytes())?;
-        let shelf = CountShelf::new(MemoryShelf::new(alloc));
-        let failing = CountShelf::failing(shelf, fail_at, abandon_fails);
-        Ok(book_of(rt, office, failing, 2_000))
+        let office = two_meters(alloc)?;
+        let shelf = counting_shelf(alloc);
+        Ok(failing_over(rt, office, shelf, fail_at, abandon_fails))
     }
 }
 
@@ -159,26 +187,13 @@ fn takes<S: Shelf>(
     book: &mut Book<S>,
     entries: &[Entry],
     counts: (u32, u32),
-) -> Result<(), Fail>
-    ensures office { book.new.office ≡ book.old.office }
-    ensures open { IfOk result (λ _. book.new.shut ≡ false) }
-{
-    let told = post(rt, alloc, book, entries)?;
-    assert!(rt; told == counts);
-    Ok(())
+) {
+    assert!(rt; post(rt, alloc, book, entries) == Ok(counts));
 }
 
 // What was topped up for the first account, in cents, and its balance, in nano-euro.
-fn has_money<S: Shelf>(
-    rt: &impl Abort,
-    alloc: Global,
-    book: &mut Book<S>,
-    cents: u64,
-    nano: i128,
-) -> Result<(), Fail> {
-    let told = money(rt, alloc, book, FIRST)?;
-    assert!(rt; told == (cents, nano));
-    Ok(())
+fn has_money<S: Shelf>(rt: &impl Abort, alloc: Global, book: &mut Book<S>, cents: u64, nano: i128) {
+    assert!(rt; money(rt, alloc, book, FIRST) == Ok((cents, nano)));
 }
 
 // What an owner has of a direction in both bands.
@@ -189,12 +204,8 @@ fn energies<S: Shelf>(
     owner: Owner,
     direction: Direction,
 ) -> Result<(u64, u64), BookFault> {
-    if let Some(account) = owner {
-        assert!(rt; account.0 < book.office().accounts());
-    }
-    assert!(rt; 1 < book.office().bands());
-    let low = book.energy(owner, BandId(0), direction)?;
-    let high = book.energy(owner, BandId(1), direction)?;
+    let low = asking::energy(rt, book, owner, BandId(0), direction)?;
+    let high = asking::energy(rt, book, owner, BandId(1), direction)?;
     Ok((low, high))
 }
 
@@ -213,59 +224,89 @@ fn money<S: Shelf>(
     book: &mut Book<S>,
     account: AccountId,
 ) -> Result<(u64, i128), BookFault> {
-    assert!(rt; account.0 < book.office().accounts());
-    let cents = book.topped_up(account)?;
-    let nano = book.balance(account)?;
+    let cents = asking::topped_up(rt, book, account)?;
+    let nano = asking::balance(rt, book, account)?;
     Ok((cents, nano))
 }
 
-// An upload of one entry, and what the first account imported behind it.
+// What is uploaded of the first meter and the first account.
 #[derive(Clone, Copy)]
-struct Step {
-    entry: Entry,
-    fresh: u32,
-    low: u64,
-    high: u64,
+enum Sent {
+    // an owner from a second on
+    Assigned(u32, Owner),
+    // what the first register shows at a second
+    Read(u32, u64),
+    // what the first register of exported energy shows
+    Exported(u32, u64),
+    // cents under the reference P1
+    Paid(u32),
 }
 
-fn expecting(entry: Entry, low: u64, high: u64) -> Step {
-    let fresh = 1;
-    Step {
-        entry,
-        fresh,
-        low,
-        high,
+fn entry_of(rt: &impl Abort, sent: Sent) -> Entry {
+    match sent {
+        Sent::Assigned(second, owner) => assigned(rt, second, owner),
+        Sent::Read(second, watt_hours) => reading(rt, second, watt_hours),
+        Sent::Exported(second, watt_hours) => exported(rt, second, watt_hours),
+        Sent::Paid(cents) => paid(rt, b"P1", FIRST, cents),
     }
 }
 
-// The entry is held before.
-fn repeating(entry: Entry, low: u64, high: u64) -> Step {
-    let fresh = 0;
-    Step {
-        entry,
-        fresh,
-        low,
-        high,
+// An upload of one entry, how many of it are fresh and repeated, and what the first account imported behind it.
+#[derive(Clone, Copy)]
+struct Step(Sent, (u32, u32), (u64, u64));
+
+const FRESH: (u32, u32) = (1, 0);
+
+const REPEATED: (u32, u32) = (0, 1);
+
+fn run<S: Shelf>(rt: &impl Abort, alloc: Global, book: &mut Book<S>, steps: &[Step]) {
+    for Step(sent, counts, both) in steps {
+        takes(rt, alloc, book, &[entry_of(rt, *sent)], *counts);
+        has_imported(rt, alloc, book, Some(FIRST), *both);
     }
 }
 
-fn run<S: Shelf>(
+fn entries_of(rt: &impl Abort, alloc: Global, steps: &[Step]) -> Result<Vec<Entry>, AllocError> {
+    let mut entries = Vec::new(alloc);
+    for Step(sent, _, _) in steps {
+        entries.push(entry_of(rt, *sent))?;
+    }
+    Ok(entries)
+}
+
+// Behind these steps the book answers what the definitions give, and holds so many records.
+fn steps_agree<S: Shelf>(
     rt: &impl Abort,
     alloc: Global,
     book: &mut Book<S>,
-    taken: &mut Vec<Entry>,
     steps: &[Step],
+    held: u32,
 ) -> Result<(), Fail> {
-    let mut held = book.count()?;
-    for step in steps {
-        let (fresh, repeated) = post(rt, alloc, book, &[step.entry])?;
-        assert!(rt; fresh == step.fresh);
-        assert!(rt; repeated == (if step.fresh == 0 { 1 } else { 0 }));
-        assert!(rt; imported(rt, alloc, book)? == (step.low, step.high));
-        taken.push(step.entry)?;
-        held = held.saturating_add(fresh);
-    }
-    all_agree(rt, alloc, book, taken, held)
+    let entries = entries_of(rt, alloc, steps)?;
+    all_agree(rt, alloc, book, &entries, held)
+}
+
+// So does a book that took these entries, and its store keeps their parts.
+fn entries_and_parts_agree<S: Shelf + Drop>(
+    rt: &impl Abort,
+    alloc: Global,
+    mut book: Book<S>,
+    entries: &[Entry],
+    held: u32,
+) -> Result<(), Fail> {
+    all_agree(rt, alloc, &mut book, entries, held)?;
+    parts_agree(rt, alloc, book, entries)
+}
+
+fn steps_and_parts_agree<S: Shelf + Drop>(
+    rt: &impl Abort,
+    alloc: Global,
+    book: Book<S>,
+    steps: &[Step],
+    held: u32,
+) -> Result<(), Fail> {
+    let entries = entries_of(rt, alloc, steps).expect(rt, "memory");
+    entries_and_parts_agree(rt, alloc, book, &entries, held)
 }
 
 // A book that holds nothing, and takes one record.
@@ -274,10 +315,10 @@ fn empty_book_answers<S: Shelf>(
     alloc: Global,
     book: &mut Book<S>,
 ) -> Result<(), Fail> {
-    takes(rt, alloc, book, &[], (0, 0))?;
-    has_imported(rt, alloc, book, Some(FIRST), (0, 0))?;
-    has_money(rt, alloc, book, 0, 0)?;
-    assert!(rt; lengths(rt, alloc, book)? == (0, 0, 0));
+    takes(rt, alloc, book, &[], (0, 0));
+    has_imported(rt, alloc, book, Some(FIRST), (0, 0));
+    has_money(rt, alloc, book, 0, 0);
+    has_lengths(rt, alloc, book, (0, 0, 0));
     all_agree(rt, alloc, book, &[], 0)
 }
 
@@ -287,104 +328,117 @@ fn lengths<S: Shelf>(
     alloc: Global,
     book: &mut Book<S>,
 ) -> Result<(usize, usize, usize), BookFault> {
-    assert!(rt; METER.0 < book.office().meters());
-    let falls = book.falls(alloc)?.len();
-    let disputes = book.disputes(alloc)?.len();
-    let readings = book.readings(alloc, METER, Register::I1)?.len();
+    let falls = length(asking::falls(alloc, book))?;
+    let disputes = length(asking::disputes(alloc, book))?;
+    let readings = length(asking::readings(rt, alloc, book, METER, Register::I1))?;
     Ok((falls, disputes, readings))
 }
 
-// The dispute over three readings, and the five rows of their register.
-fn lists<S: Shelf>(rt: &impl Abort, alloc: Global, book: &mut Book<S>) -> Result<(), BookFault> {
-    let disputes = book.disputes(alloc)?;
-    assert!(rt; disputes.len() == 1);
-    assert!(rt; disputes[0].key == reading(rt, SIX, 0).key);
-    assert!(rt; disputes[0].contents == 3);
-    assert!(rt; METER.0 < book.office().meters());
-    let rows = book.readings(alloc, METER, Register::I1)?;
-    let expected = [
-        (FIVE, 1_000_000, true),
-        (SIX, 1_001_000, false),
-        (SIX, 1_001_200, false),
-        (SIX, 1_001_500, false),
-        (SEVEN, 1_003_001, true),
-    ];
-    assert!(rt; rows.len() == 5);
-    for (row, (second, watt_hours, counted)) in rows.iter().zip(expected.iter()) {
-        assert!(rt; row.instant.seconds() == *second);
-        assert!(rt; row.wh.get() == *watt_hours);
-        assert!(rt; row.counted == *counted);
-    }
-    Ok(())
+fn has_lengths<S: Shelf>(
+    rt: &impl Abort,
+    alloc: Global,
+    book: &mut Book<S>,
+    expected: (usize, usize, usize),
+) {
+    assert!(rt; lengths(rt, alloc, book) == Ok(expected));
 }
+
+// There is one dispute, of so many contents at a key.
+fn disputes_one<S: Shelf>(
+    rt: &impl Abort,
+    alloc: Global,
+    book: &mut Book<S>,
+    key: Key,
+    contents: u32,
+) {
+    let dispute = Dispute { key, contents };
+    assert!(rt; is_list(asking::disputes(alloc, book), &[dispute]));
+}
+
+fn row(rt: &impl Abort, second: u32, watt_hours: u64, counted: bool) -> ReadingRow {
+    ReadingRow {
+        instant: at(rt, second),
+        wh: wh(rt, watt_hours),
+        counted,
+    }
+}
+
+// The dispute over three readings, and the five rows of their register.
+fn lists<S: Shelf>(rt: &impl Abort, alloc: Global, book: &mut Book<S>) {
+    disputes_one(rt, alloc, book, reading(rt, SIX, 0).key, 3);
+    let rows = [
+        row(rt, FIVE, 1_000_000, true),
+        row(rt, SIX, 1_001_000, false),
+        row(rt, SIX, 1_001_200, false),
+        row(rt, SIX, 1_001_500, false),
+        row(rt, SEVEN, 1_003_001, true),
+    ];
+    let told = asking::readings(rt, alloc, book, METER, Register::I1);
+    assert!(rt; is_list(told, &rows));
+}
+
+const LATE_STEPS: [Step; 7] = [
+    Step(Sent::Assigned(NEW_YEAR, Some(FIRST)), FRESH, (0, 0)),
+    Step(Sent::Read(SEVEN, 1_003_001), FRESH, (0, 0)),
+    Step(Sent::Read(FIVE, 1_000_000), FRESH, (1_500, 1_501)),
+    Step(Sent::Read(SIX, 1_001_000), FRESH, (1_000, 2_001)),
+    Step(Sent::Read(SIX, 1_001_500), FRESH, (1_500, 1_501)),
+    Step(Sent::Read(SIX, 1_001_000), REPEATED, (1_500, 1_501)),
+    Step(Sent::Read(SIX, 1_001_200), FRESH, (1_500, 1_501)),
+];
 
 fn late_and_disputed_readings<S: Shelf + Drop>(
     rt: &impl Abort,
     alloc: Global,
     mut book: Book<S>,
 ) -> Result<(), Fail> {
-    let mut taken = Vec::new(alloc);
-    let steps = [
-        expecting(assigned(rt, NEW_YEAR, Some(FIRST)), 0, 0),
-        expecting(reading(rt, SEVEN, 1_003_001), 0, 0),
-        expecting(reading(rt, FIVE, 1_000_000), 1_500, 1_501),
-        expecting(reading(rt, SIX, 1_001_000), 1_000, 2_001),
-        expecting(reading(rt, SIX, 1_001_500), 1_500, 1_501),
-        repeating(reading(rt, SIX, 1_001_000), 1_500, 1_501),
-        expecting(reading(rt, SIX, 1_001_200), 1_500, 1_501),
-    ];
-    run(rt, alloc, &mut book, &mut taken, &steps)?;
-    lists(rt, alloc, &mut book)?;
-    parts_agree(rt, alloc, book, &taken)
+    run(rt, alloc, &mut book, &LATE_STEPS);
+    lists(rt, alloc, &mut book);
+    steps_and_parts_agree(rt, alloc, book, &LATE_STEPS, 6)
 }
+
+const TOPUP_STEPS: [Step; 5] = [
+    Step(Sent::Read(SEVEN, 1_003_001), FRESH, (0, 0)),
+    Step(Sent::Paid(5_000), FRESH, (0, 0)),
+    Step(Sent::Read(FIVE, 1_000_000), FRESH, (0, 0)),
+    Step(Sent::Assigned(NEW_YEAR, Some(FIRST)), FRESH, (1_500, 1_501)),
+    Step(Sent::Paid(5_000), REPEATED, (1_500, 1_501)),
+];
 
 fn two_readings_one_topup<S: Shelf + Drop>(
     rt: &impl Abort,
     alloc: Global,
     mut book: Book<S>,
 ) -> Result<(), Fail> {
-    let mut taken = Vec::new(alloc);
-    let steps = [
-        expecting(reading(rt, SEVEN, 1_003_001), 0, 0),
-        expecting(paid(rt, b"P1", FIRST, 5_000), 0, 0),
-        expecting(reading(rt, FIVE, 1_000_000), 0, 0),
-        expecting(assigned(rt, NEW_YEAR, Some(FIRST)), 1_500, 1_501),
-        repeating(paid(rt, b"P1", FIRST, 5_000), 1_500, 1_501),
-    ];
-    run(rt, alloc, &mut book, &mut taken, &steps)?;
-    has_money(rt, alloc, &mut book, 5_000, 49_249_700_000)?;
-    parts_agree(rt, alloc, book, &taken)
+    run(rt, alloc, &mut book, &TOPUP_STEPS);
+    has_money(rt, alloc, &mut book, 5_000, 49_249_700_000);
+    steps_and_parts_agree(rt, alloc, book, &TOPUP_STEPS, 4)
 }
+
+const EXPORTED_STEPS: [Step; 3] = [
+    Step(Sent::Assigned(NEW_YEAR, Some(FIRST)), FRESH, (0, 0)),
+    Step(Sent::Exported(FIVE, 1_000_000), FRESH, (0, 0)),
+    Step(Sent::Exported(SEVEN, 1_003_001), FRESH, (0, 0)),
+];
 
 fn exported_energy<S: Shelf>(
     rt: &impl Abort,
     alloc: Global,
     book: &mut Book<S>,
 ) -> Result<(), Fail> {
-    let mut taken = Vec::new(alloc);
-    let steps = [
-        expecting(assigned(rt, NEW_YEAR, Some(FIRST)), 0, 0),
-        expecting(exported(rt, FIVE, 1_000_000), 0, 0),
-        expecting(exported(rt, SEVEN, 1_003_001), 0, 0),
-    ];
-    run(rt, alloc, book, &mut taken, &steps)?;
-    let both = energies(rt, alloc, book, Some(FIRST), Direction::Export)?;
-    assert!(rt; both == (1_500, 1_501));
-    has_money(rt, alloc, book, 0, 150_050_000)
+    run(rt, alloc, book, &EXPORTED_STEPS);
+    let both = energies(rt, alloc, book, Some(FIRST), Direction::Export);
+    assert!(rt; both == Ok((1_500, 1_501)));
+    has_money(rt, alloc, book, 0, 150_050_000);
+    steps_agree(rt, alloc, book, &EXPORTED_STEPS, 3)
 }
 
 // What the questions are answered behind two readings and a top-up.
-fn two_readings_told<S: Shelf>(
-    rt: &impl Abort,
-    alloc: Global,
-    book: &mut Book<S>,
-) -> Result<(), BookFault> {
-    assert!(rt; imported(rt, alloc, book)? == (1_500, 1_501));
-    let both = money(rt, alloc, book, FIRST)?;
-    assert!(rt; both == (5_000, 49_249_700_000));
-    assert!(rt; lengths(rt, alloc, book)? == (0, 0, 2));
-    assert!(rt; book.count()? == 4);
-    Ok(())
+fn two_readings_told<S: Shelf>(rt: &impl Abort, alloc: Global, book: &mut Book<S>) {
+    has_imported(rt, alloc, book, Some(FIRST), (1_500, 1_501));
+    has_money(rt, alloc, book, 5_000, 49_249_700_000);
+    has_lengths(rt, alloc, book, (0, 0, 2));
+    assert!(rt; asking::count(book) == Ok(4));
 }
 
 // One of the uploads of two readings and a top-up.
@@ -396,6 +450,14 @@ fn upload_at(rt: &impl Abort, place: u8) -> [Entry; 2] {
     }
 }
 
+// One of the three uploads, sent twice.
+fn takes_twice<S: Shelf>(rt: &impl Abort, alloc: Global, book: &mut Book<S>, place: u8) {
+    let upload = upload_at(rt, place);
+    let distinct = if place == 1 { 2 } else { 1 };
+    takes(rt, alloc, book, &upload, (distinct, 0));
+    takes(rt, alloc, book, &upload, (0, distinct));
+}
+
 // The three uploads in an order, each sent twice.
 fn in_order<S: Shelf + Drop>(
     rt: &impl Abort,
@@ -403,17 +465,13 @@ fn in_order<S: Shelf + Drop>(
     mut book: Book<S>,
     order: [u8; 3],
 ) -> Result<(), Fail> {
+    for place in order {
+        takes_twice(rt, alloc, &mut book, place);
+    }
+    two_readings_told(rt, alloc, &mut book);
     let [first, second] = upload_at(rt, 1);
     let entries = [first, second, upload_at(rt, 0)[0], upload_at(rt, 2)[0]];
-    for place in order {
-        let upload = upload_at(rt, place);
-        let distinct = if place == 1 { 2 } else { 1 };
-        takes(rt, alloc, &mut book, &upload, (distinct, 0))?;
-        takes(rt, alloc, &mut book, &upload, (0, distinct))?;
-    }
-    two_readings_told(rt, alloc, &mut book)?;
-    all_agree(rt, alloc, &mut book, &entries, 4)?;
-    parts_agree(rt, alloc, book, &entries)
+    entries_and_parts_agree(rt, alloc, book, &entries, 4)
 }
 
 fn all_six_orders<B: Books>(rt: &impl Abort, alloc: Global, books: &B) -> Result<(), Fail> {
@@ -430,13 +488,8 @@ fn has_imported<S: Shelf>(
     book: &mut Book<S>,
     owner: Owner,
     both: (u64, u64),
-) -> Result<(), Fail> {
-    if let Some(account) = owner {
-        assert!(rt; account.0 < book.office().accounts());
-    }
-    let told = energies(rt, alloc, book, owner, Direction::Import)?;
-    assert!(rt; told == both);
-    Ok(())
+) {
+    assert!(rt; energies(rt, alloc, book, owner, Direction::Import) == Ok(both));
 }
 
 // A meter that passes from the first account to another owner between two readings: the balance of the second account.
@@ -445,36 +498,40 @@ fn mid_pair<S: Shelf + Drop>(
     alloc: Global,
     mut book: Book<S>,
     next: Owner,
-) -> Result<i128, Fail> {
-    let mut taken = Vec::new(alloc);
+    nano: i128,
+) -> Result<(), Fail> {
     let steps = [
-        expecting(assigned(rt, NEW_YEAR, Some(FIRST)), 0, 0),
-        expecting(paid(rt, b"P1", FIRST, 5_000), 0, 0),
-        expecting(reading(rt, SEVEN, 1_003_001), 0, 0),
-        expecting(reading(rt, FIVE, 1_000_000), 1_500, 1_501),
-        expecting(assigned(rt, FIVE + 1_800, next), 750, 0),
+        Step(Sent::Assigned(NEW_YEAR, Some(FIRST)), FRESH, (0, 0)),
+        Step(Sent::Paid(5_000), FRESH, (0, 0)),
+        Step(Sent::Read(SEVEN, 1_003_001), FRESH, (0, 0)),
+        Step(Sent::Read(FIVE, 1_000_000), FRESH, (1_500, 1_501)),
+        Step(Sent::Assigned(FIVE + 1_800, next), FRESH, (750, 0)),
     ];
-    run(rt, alloc, &mut book, &mut taken, &steps)?;
-    has_imported(rt, alloc, &mut book, next, (750, 1_501))?;
-    has_money(rt, alloc, &mut book, 5_000, 49_850_000_000)?;
-    let (_, nano) = money(rt, alloc, &mut book, SECOND)?;
-    parts_agree(rt, alloc, book, &taken)?;
-    Ok(nano)
+    run(rt, alloc, &mut book, &steps);
+    has_imported(rt, alloc, &mut book, next, (750, 1_501));
+    has_money(rt, alloc, &mut book, 5_000, 49_850_000_000);
+    assert!(rt; money(rt, alloc, &mut book, SECOND) == Ok((0, nano)));
+    steps_and_parts_agree(rt, alloc, book, &steps, 5)
 }
 
-fn assignment_mid_pair<B: Books>(rt: &impl Abort, alloc: Global, books: &B) -> Result<(), Fail> {
-    let nano = mid_pair(rt, alloc, books.empty(rt, alloc, 100)?, Some(SECOND))?;
-    assert!(rt; nano == -600_300_000);
-    Ok(())
+fn assignment_mid_pair<S: Shelf + Drop>(
+    rt: &impl Abort,
+    alloc: Global,
+    book: Book<S>,
+) -> Result<(), Fail> {
+    mid_pair(rt, alloc, book, Some(SECOND), -600_300_000)
 }
 
-fn assignment_to_nobody<B: Books>(rt: &impl Abort, alloc: Global, books: &B) -> Result<(), Fail> {
-    let nano = mid_pair(rt, alloc, books.empty(rt, alloc, 100)?, None)?;
-    assert!(rt; nano == 0);
-    Ok(())
+fn assignment_to_nobody<S: Shelf + Drop>(
+    rt: &impl Abort,
+    alloc: Global,
+    book: Book<S>,
+) -> Result<(), Fail> {
+    mid_pair(rt, alloc, book, None, 0)
 }
 
-fn falls<S: Shelf>(rt: &impl Abort, alloc: Global, book: &mut Book<S>) -> Result<(), BookFault> {
+// There is one fall, of the first register.
+fn falls<S: Shelf>(rt: &impl Abort, alloc: Global, book: &mut Book<S>) {
     let fall = Fall {
         meter: METER,
         register: Register::I1,
@@ -483,30 +540,40 @@ fn falls<S: Shelf>(rt: &impl Abort, alloc: Global, book: &mut Book<S>) -> Result
         to: at(rt, SIX),
         low: wh(rt, 50_000),
     };
-    let found = book.falls(alloc)?;
-    assert!(rt; found.len() == 1);
-    assert!(rt; found[0] == fall);
+    assert!(rt; is_list(asking::falls(alloc, book), &[fall]));
+}
+
+// A fall, and behind it another reading at its end.
+fn fall_and_dispute<S: Shelf>(
+    rt: &impl Abort,
+    alloc: Global,
+    book: &mut Book<S>,
+    steps: &[Step; 5],
+) -> Result<(), Fail> {
+    let (first, last) = steps.split_at(4);
+    run(rt, alloc, book, first);
+    steps_agree(rt, alloc, book, first, 4)?;
+    falls(rt, alloc, book);
+    run(rt, alloc, book, last);
+    has_lengths(rt, alloc, book, (0, 1, 4));
     Ok(())
 }
+
+const FALL_STEPS: [Step; 5] = [
+    Step(Sent::Assigned(NEW_YEAR, Some(FIRST)), FRESH, (0, 0)),
+    Step(Sent::Read(FIVE, 100_000), FRESH, (0, 0)),
+    Step(Sent::Read(SIX, 50_000), FRESH, (0, 0)),
+    Step(Sent::Read(SEVEN, 120_000), FRESH, (0, 70_000)),
+    Step(Sent::Read(SIX, 60_000), FRESH, (10_000, 10_000)),
+];
 
 fn fall_and_recovery<S: Shelf + Drop>(
     rt: &impl Abort,
     alloc: Global,
     mut book: Book<S>,
 ) -> Result<(), Fail> {
-    let mut taken = Vec::new(alloc);
-    let steps = [
-        expecting(assigned(rt, NEW_YEAR, Some(FIRST)), 0, 0),
-        expecting(reading(rt, FIVE, 100_000), 0, 0),
-        expecting(reading(rt, SIX, 50_000), 0, 0),
-        expecting(reading(rt, SEVEN, 120_000), 0, 70_000),
-    ];
-    run(rt, alloc, &mut book, &mut taken, &steps)?;
-    falls(rt, alloc, &mut book)?;
-    let steps = [expecting(reading(rt, SIX, 60_000), 10_000, 10_000)];
-    run(rt, alloc, &mut book, &mut taken, &steps)?;
-    assert!(rt; lengths(rt, alloc, &mut book)? == (0, 1, 4));
-    parts_agree(rt, alloc, book, &taken)
+    fall_and_dispute(rt, alloc, &mut book, &FALL_STEPS)?;
+    steps_and_parts_agree(rt, alloc, book, &FALL_STEPS, 5)
 }
 
 // Three falls and five disputes, over both meters and of all kinds, uploaded from the last to the first.
@@ -533,26 +600,13 @@ fn lists_in_their_order<S: Shelf>(
         reading(rt, SIX, 10),
         reading(rt, FIVE, 20),
     ];
-    takes(rt, alloc, book, &entries, (16, 0))?;
-    assert!(rt; lengths(rt, alloc, book)? == (3, 5, 4));
+    takes(rt, alloc, book, &entries, (16, 0));
+    has_lengths(rt, alloc, book, (3, 5, 4));
     all_agree(rt, alloc, book, &entries, 16)
 }
 
-// There is one dispute, of two contents at the reference.
-fn disputes_payment<S: Shelf>(
-    rt: &impl Abort,
-    alloc: Global,
-    book: &mut Book<S>,
-) -> Result<(), Fail> {
-    let disputes = book.disputes(alloc)?;
-    assert!(rt; disputes.len() == 1);
-    let key = paid(rt, b"P1", FIRST, 0).key;
-    assert!(rt; disputes[0].key == key && disputes[0].contents == 2);
-    Ok(())
-}
-
 // Two payments of one reference, in this order.
-fn disputed<S: Shelf + Drop>(
+fn disputed_payment<S: Shelf + Drop>(
     rt: &impl Abort,
     alloc: Global,
     mut book: Book<S>,
@@ -561,18 +615,10 @@ fn disputed<S: Shelf + Drop>(
 ) -> Result<(), Fail> {
     let pair = [paid(rt, b"P1", FIRST, first), paid(rt, b"P1", FIRST, other)];
     let nano = i128::from(first) * 10_000_000;
-    takes(rt, alloc, &mut book, &[pair[0]], (1, 0))?;
-    has_money(rt, alloc, &mut book, u64::from(first), nano)?;
-    takes(rt, alloc, &mut book, &[pair[1]], (1, 0))?;
-    has_money(rt, alloc, &mut book, 0, 0)?;
-    disputes_payment(rt, alloc, &mut book)?;
-    all_agree(rt, alloc, &mut book, &pair, 2)?;
-    parts_agree(rt, alloc, book, &pair)
-}
-
-fn disputed_payment<B: Books>(rt: &impl Abort, alloc: Global, books: &B) -> Result<(), Fail> {
-    for (first, other) in [(2_000, 3_000), (3_000, 2_000)] {
-        disputed(rt, alloc, books.empty(rt, alloc, 100)?, first, other)?;
-    }
-    Ok(())
+    takes(rt, alloc, &mut book, &[pair[0]], (1, 0));
+    has_money(rt, alloc, &mut book, u64::from(first), nano);
+    takes(rt, alloc, &mut book, &[pair[1]], (1, 0));
+    has_money(rt, alloc, &mut book, 0, 0);
+    disputes_one(rt, alloc, &mut book, pair[0].key, 2);
+    entries_and_parts_agree(rt, alloc, book, &pair, 2)
 }

@@ -1,20 +1,26 @@
 //! A store over SQL on a disk whose log or database file stops at each of its calls in turn. It is opened again where all
 //! that was written is there, and where what wasn't synced is lost: an upload is there whole, or not at all.
 
+ghost use Rattle.std.specs.Prelude.{◌≡◌, ◌<◌, length};
+ghost use Rattle.pw_model.specs.Office.{AllOfOffice};
+ghost use Rattle.pw_tariff.specs.Office.{office_of};
+ghost use Rattle.pw_tariff.specs.Text.{IsOfficeOf};
+
 use crate::offices::SAMPLE;
 use crate::sql_stores::{book_over, store_on};
 use crate::uploads::{ASSIGNMENT, TOPUP, TWO_READINGS};
 use pw_book::{Book, BookFault, PostFault};
+use pw_model::Entry;
 use pw_record::{assignment_records, telegram_records, topup_records};
 use pw_report::{export_readings, statement};
 use pw_shelf::Shelf;
 use pw_store::{OpenFault, SqlShelf};
 use pw_tariff::{AccountId, Office};
+use pw_time::Zone;
 use sqlite::{Alter, Connection, FileStore, Files, Options};
 use sqlite_disk::{Crash, Disk, Fuse, Memory};
 use std::alloc::Global;
 use std::process::Abort;
-use std::test::Fail;
 
 // More calls than a test makes.
 const ALL: u64 = 1_000_000;
@@ -39,6 +45,12 @@ enum Upload {
 }
 
 const PAYMENT: [Upload; 2] = [Upload::Assignments(ASSIGNMENT), Upload::TopUps(TOPUP)];
+
+const PAYMENT_AND_READINGS: [Upload; 3] = [
+    Upload::Assignments(ASSIGNMENT),
+    Upload::TopUps(TOPUP),
+    Upload::Telegrams(TWO_READINGS),
+];
 
 const READINGS: [Upload; 1] = [Upload::Telegrams(TWO_READINGS)];
 
@@ -151,25 +163,55 @@ enum End {
     Taken,
 }
 
+// Whether the bytes are written to a file and synced.
+fn is_written<D: Disk>(file: &mut D, bytes: &[u8]) -> bool {
+    file.may_be_used()
+        && file.write_at(0, bytes).is_ok()
+        && file.may_be_used()
+        && file.sync().is_ok()
+}
+
 // A file of these bytes, which stops behind so many calls.
-fn file_of(alloc: Global, bytes: &[u8], calls: u64) -> Result<Stopping, Fail> {
+fn file_of(rt: &impl Abort, alloc: Global, bytes: &[u8], calls: u64) -> Stopping {
     let mut file = Memory::new(alloc);
-    file.write_at(0, bytes)?;
-    file.sync()?;
-    Ok(Fuse::new(file, calls))
+    assert!(rt; is_written(&mut file, bytes));
+    Fuse::new(file, calls)
 }
 
 // Files of these bytes, each of which stops behind so many calls.
 fn files_of(
+    rt: &impl Abort,
     alloc: Global,
     log: &[u8],
     db: &[u8],
     (log_calls, db_calls): (u64, u64),
-) -> Result<Files<Stopping>, Fail> {
-    Ok(Files {
-        log: file_of(alloc, log, log_calls)?,
-        db: file_of(alloc, db, db_calls)?,
-    })
+) -> Files<Stopping> {
+    Files {
+        log: file_of(rt, alloc, log, log_calls),
+        db: file_of(rt, alloc, db, db_calls),
+    }
+}
+
+// The office of a text.
+fn office_in(rt: &impl Abort, alloc: Global, text: &[u8]) -> Office
+    ensures { IsOfficeOf text.now result }
+{
+    Office::read(alloc, text).expect(rt, "an office")
+}
+
+// A book of an office, whose text this is, over a connection; or why there is no store on it.
+fn book_of_office<S: Alter>(
+    alloc: Global,
+    connection: Connection<S>,
+    office: Office,
+    text: &[u8],
+) -> Result<Book<SqlShelf<S>>, (OpenFault, Connection<S>)>
+    requires { IsOfficeOf text.now office }
+{
+    match store_on(alloc, connection, &office, text) {
+        Ok(shelf) => Ok(book_over(office, shelf, 100)),
+        Err(left) => Err(left),
+    }
 }
 
 // A book over a connection; or why there is no store on it.
@@ -178,45 +220,48 @@ fn book_of<S: Alter>(
     alloc: Global,
     connection: Connection<S>,
 ) -> Result<Book<SqlShelf<S>>, (OpenFault, Connection<S>)> {
-    let office = Office::read(alloc, SAMPLE.as_bytes()).expect(rt, "an office");
-    let shelf = store_on(alloc, connection, &office, SAMPLE.as_bytes())?;
-    Ok(book_over(office, shelf, 100))
+    let text = SAMPLE.as_bytes();
+    let office = office_in(rt, alloc, text);
+    book_of_office(alloc, connection, office, text)
 }
 
-// The engine's store under a connection.
-fn store_under<S: Alter + Drop>(connection: Connection<S>) -> S {
-    connection.into_store()
+// A book over a connection that has a store.
+fn book_on<S: Alter>(
+    rt: &impl Abort,
+    alloc: Global,
+    connection: Connection<S>,
+) -> Book<SqlShelf<S>> {
+    match book_of(rt, alloc, connection) {
+        Ok(book) => book,
+        Err(_) => panic!(rt; "no store"),
+    }
 }
 
-// A book over files; or why there is no store on their connection, if they gave one, and the files.
-fn opened<D: Disk + Drop>(
+// A connection of files, or the files that gave none.
+fn connected<D: Disk + Drop>(
     rt: &impl Abort,
     alloc: Global,
     files: Files<D>,
     pages: usize,
-) -> Result<Book<SqlShelf<FileStore<D>>>, (Option<OpenFault>, Files<D>)> {
+) -> Result<Connection<FileStore<D>>, Files<D>> {
     assert!(rt; files.may_be_used());
     let mut options = Options::new(7);
     options.checkpoint_frames = pages;
-    let connection = match Connection::open_files(alloc, files, options) {
-        Ok(connection) => connection,
-        Err((_, left)) => return Err((None, left.into_files())),
-    };
-    match book_of(rt, alloc, connection) {
-        Ok(book) => Ok(book),
-        Err((fault, connection)) => Err((Some(fault), store_under(connection).close())),
+    match Connection::open_files(alloc, files, options) {
+        Ok(connection) => Ok(connection),
+        Err((_, left)) => Err(left.into_files()),
     }
 }
 
-// A book over files that give one.
-fn book_on<D: Disk + Drop>(
+// A connection of files that give one.
+fn connection_of<D: Disk + Drop>(
     rt: &impl Abort,
     alloc: Global,
     files: Files<D>,
-) -> Book<SqlShelf<FileStore<D>>> {
-    match opened(rt, alloc, files, LONG) {
-        Ok(book) => book,
-        Err(_) => panic!(rt; "not opened"),
+) -> Connection<FileStore<D>> {
+    match connected(rt, alloc, files, LONG) {
+        Ok(connection) => connection,
+        Err(_) => panic!(rt; "no connection"),
     }
 }
 
@@ -225,12 +270,22 @@ fn connection_under<S: Alter>(book: Book<SqlShelf<S>>) -> Connection<S> {
     book.into_shelf().close()
 }
 
-// The files of a connection that is closed, which copies the log, as far as that goes.
-fn closed<D: Disk + Drop>(connection: Connection<FileStore<D>>) -> Files<D> {
-    match connection.close_files() {
-        Ok(files) => files,
-        Err((_, store)) => store.close(),
-    }
+// The records of an upload.
+fn records_of(
+    rt: &impl Abort,
+    alloc: Global,
+    office: &Office,
+    zone: &Zone,
+    upload: Upload,
+) -> Vec<Entry>
+    ensures { AllOfOffice (office_of office.now) result.items }
+{
+    let read = match upload {
+        Upload::Telegrams(body) => telegram_records(alloc, office, zone, body),
+        Upload::Assignments(body) => assignment_records(alloc, office, body),
+        Upload::TopUps(body) => topup_records(alloc, office, body),
+    };
+    read.expect(rt, "records")
 }
 
 fn post<S: Shelf>(
@@ -239,14 +294,11 @@ fn post<S: Shelf>(
     book: &mut Book<S>,
     upload: Upload,
 ) -> Result<(), PostFault> {
-    let read = match upload {
-        Upload::Telegrams(body) => telegram_records(alloc, book.office(), book.zone(), body),
-        Upload::Assignments(body) => assignment_records(alloc, book.office(), body),
-        Upload::TopUps(body) => topup_records(alloc, book.office(), body),
-    };
-    let entries = read.expect(rt, "records");
-    let _accepted = book.post(alloc, &entries)?;
-    Ok(())
+    let entries = records_of(rt, alloc, book.office(), book.zone(), upload);
+    match book.post(alloc, &entries) {
+        Ok(_) => Ok(()),
+        Err(fault) => Err(fault),
+    }
 }
 
 fn post_all<S: Shelf>(
@@ -261,38 +313,68 @@ fn post_all<S: Shelf>(
     Ok(())
 }
 
-// Whether just this is told.
-fn tells<S: Shelf>(
+// Whether the text is given, and just this.
+fn is_text(rt: &impl Abort, text: Result<Vec<u8>, BookFault>, wanted: &[u8]) -> bool {
+    text.expect(rt, "a text").as_slice() == wanted
+}
+
+// Whether this is the statement of an account.
+fn is_stated<S: Shelf>(
     rt: &impl Abort,
     alloc: Global,
     book: &mut Book<S>,
-    told: Told,
-) -> Result<bool, BookFault> {
+    account: AccountId,
+    wanted: &[u8],
+) -> bool
+    requires { account.0 < length book.old.office.accounts }
+    ensures { book.new.office ≡ book.old.office }
+{
+    is_text(rt, statement(book, alloc, account), wanted)
+}
+
+// Whether just this is told.
+fn tells<S: Shelf>(rt: &impl Abort, alloc: Global, book: &mut Book<S>, told: &Told) -> bool {
     assert!(rt; book.office().accounts() == 2);
-    let first = statement(book, alloc, AccountId(0))?;
-    let second = statement(book, alloc, AccountId(1))?;
-    let readings = export_readings(book, alloc)?;
-    let records = book.count()?;
-    Ok(
-        records == told.records
-            && first.as_slice() == told.first
-            && second.as_slice() == told.second
-            && readings.as_slice() == told.readings,
-    )
+    is_stated(rt, alloc, book, AccountId(0), told.first)
+        && is_stated(rt, alloc, book, AccountId(1), told.second)
+        && is_text(rt, export_readings(book, alloc), told.readings)
+        && book.count().expect(rt, "a count") == told.records
 }
 
 // Whether a book tells what it has to behind the uploads. Else it tells what it did before.
-fn is_behind<S: Alter + Drop>(
+fn is_behind<S: Shelf>(rt: &impl Abort, alloc: Global, book: &mut Book<S>, case: &Case) -> bool {
+    let behind = tells(rt, alloc, book, &case.behind);
+    assert!(rt; behind || tells(rt, alloc, book, &case.before));
+    behind
+}
+
+// The same of the book over a connection.
+fn is_behind_on<S: Alter + Drop>(
     rt: &impl Abort,
     alloc: Global,
-    mut book: Book<SqlShelf<S>>,
+    connection: Connection<S>,
     case: &Case,
-) -> Result<bool, BookFault> {
-    if tells(rt, alloc, &mut book, case.behind)? {
-        return Ok(true);
+) -> bool {
+    is_behind(rt, alloc, &mut book_on(rt, alloc, connection), case)
+}
+
+// The same of the book over files.
+fn is_behind_in<D: Disk + Drop>(
+    rt: &impl Abort,
+    alloc: Global,
+    files: Files<D>,
+    case: &Case,
+) -> bool {
+    is_behind_on(rt, alloc, connection_of(rt, alloc, files), case)
+}
+
+// The end of the uploads to a book.
+fn end_of<S: Shelf>(rt: &impl Abort, alloc: Global, book: &mut Book<S>, uploads: &[Upload]) -> End {
+    match post_all(rt, alloc, book, uploads) {
+        Ok(()) => End::Taken,
+        Err(PostFault::Device | PostFault::Reopen) => End::Refused,
+        Err(_) => panic!(rt; "refused for another cause"),
     }
-    assert!(rt; tells(rt, alloc, &mut book, case.before)?);
-    Ok(false)
 }
 
 // The uploads to a book, and its connection.
@@ -300,74 +382,123 @@ fn uploaded<S: Alter>(
     rt: &impl Abort,
     alloc: Global,
     mut book: Book<SqlShelf<S>>,
-    case: &Case,
+    uploads: &[Upload],
 ) -> (End, Connection<S>) {
-    let answer = post_all(rt, alloc, &mut book, case.uploads);
-    assert!(rt; matches!(answer, Ok(()) | Err(PostFault::Device | PostFault::Reopen)));
-    let end = if answer.is_ok() {
-        End::Taken
-    } else {
-        End::Refused
-    };
+    let end = end_of(rt, alloc, &mut book, uploads);
     (end, connection_under(book))
 }
 
-// The uploads to a store on these files: how they ended, and the files.
-fn attempt(
+// What an attempt leaves: a connection, or the engine's store under one.
+enum Left<S: Alter> {
+    Connection(Connection<S>),
+    Store(S),
+}
+
+fn left_by<S: Alter + Drop>(connection: Connection<S>, is_closed: bool) -> Left<S> {
+    if is_closed {
+        Left::Connection(connection)
+    } else {
+        Left::Store(connection.into_store())
+    }
+}
+
+// The uploads to a store on a connection: how they ended, and what is left, where a connection is to be closed if it has
+// a store and this is asked for.
+fn attempt_on<S: Alter + Drop>(
     rt: &impl Abort,
     alloc: Global,
-    files: Files<Stopping>,
-    case: &Case,
-) -> (End, Files<Stopping>) {
-    match opened(rt, alloc, files, case.pages) {
+    connection: Connection<S>,
+    uploads: &[Upload],
+    closes: bool,
+) -> (End, Left<S>) {
+    match book_of(rt, alloc, connection) {
         Ok(book) => {
-            let (end, connection) = uploaded(rt, alloc, book, case);
-            (end, closed(connection))
+            let (end, connection) = uploaded(rt, alloc, book, uploads);
+            (end, left_by(connection, closes))
         }
-        Err((None, files)) => (End::NoConnection, files),
-        Err((Some(fault), files)) => {
+        Err((fault, connection)) => {
             assert!(rt; fault == OpenFault::Store);
-            (End::NoStore, files)
+            (End::NoStore, left_by(connection, false))
         }
     }
 }
 
+// The files, where a connection that is closed copies the log, as far as that goes.
+fn files_left<D: Disk + Drop>(left: Left<FileStore<D>>) -> Files<D> {
+    match left {
+        Left::Connection(connection) => match connection.close_files() {
+            Ok(files) => files,
+            Err((_, store)) => store.close(),
+        },
+        Left::Store(store) => store.close(),
+    }
+}
+
+// The uploads to a store on these files: how they ended, and the files.
+fn attempt<D: Disk + Drop>(
+    rt: &impl Abort,
+    alloc: Global,
+    files: Files<D>,
+    uploads: &[Upload],
+    pages: usize,
+    closes: bool,
+) -> (End, Files<D>) {
+    match connected(rt, alloc, files, pages) {
+        Ok(connection) => {
+            let (end, left) = attempt_on(rt, alloc, connection, uploads, closes);
+            (end, files_left(left))
+        }
+        Err(files) => (End::NoConnection, files),
+    }
+}
+
 // Whether a file stopped, or would at its next call.
-fn has_stopped(file: &mut Stopping) -> bool {
+fn has_stopped<D: Disk>(file: &mut D) -> bool {
     !file.may_be_used() || file.len().is_err()
 }
 
-fn copy(alloc: Global, file: &Stopping) -> Result<Vec<u8>, Fail> {
-    let mut bytes = Vec::new(alloc);
-    bytes.extend_from_slice(file.inner().bytes())?;
-    Ok(bytes)
+fn copy(rt: &impl Abort, alloc: Global, file: &Stopping) -> Vec<u8> {
+    file.inner().bytes().to_vec(alloc).expect(rt, "memory")
 }
 
 // What a file may hold behind a stop: all that was written, or what was synced.
-fn outcomes(alloc: Global, file: &mut Stopping) -> Result<[Vec<u8>; 2], Fail> {
-    let written = copy(alloc, file)?;
+fn outcomes(rt: &impl Abort, alloc: Global, file: &mut Stopping) -> [Vec<u8>; 2] {
+    let written = copy(rt, alloc, file);
     file.crash();
-    Ok([written, copy(alloc, file)?])
+    [written, copy(rt, alloc, file)]
 }
 
 // Whatever a stop leaves in the files, nothing is there of the uploads or all; and all if they were taken.
 fn leaves_whole(
     rt: &impl Abort,
     alloc: Global,
-    mut files: Files<Stopping>,
+    files: &mut Files<Stopping>,
     end: End,
     case: &Case,
-) -> Result<(), Fail> {
-    let logs = outcomes(alloc, &mut files.log)?;
-    let dbs = outcomes(alloc, &mut files.db)?;
+) {
+    let logs = outcomes(rt, alloc, &mut files.log);
+    let dbs = outcomes(rt, alloc, &mut files.db);
     for log in &logs {
         for db in &dbs {
-            let again = files_of(alloc, log, db, (ALL, ALL))?;
-            let all = is_behind(rt, alloc, book_on(rt, alloc, again), case)?;
-            assert!(rt; all || end != End::Taken);
+            let files = files_of(rt, alloc, log, db, (ALL, ALL));
+            assert!(rt; is_behind_in(rt, alloc, files, case) || end != End::Taken);
         }
     }
-    Ok(())
+}
+
+// The uploads to a store whose files stop behind so many calls: how they ended, and whether a file stopped.
+fn attempt_stopped(
+    rt: &impl Abort,
+    alloc: Global,
+    store: &Image,
+    case: &Case,
+    calls: (u64, u64),
+) -> (End, bool) {
+    let files = files_of(rt, alloc, &store.log, &store.db, calls);
+    let (end, mut files) = attempt(rt, alloc, files, case.uploads, case.pages, true);
+    let stopped = has_stopped(&mut files.log) || has_stopped(&mut files.db);
+    leaves_whole(rt, alloc, &mut files, end, case);
+    (end, stopped)
 }
 
 // One of the files stops behind each number of calls, until none is left out; this end is met.
@@ -378,7 +509,7 @@ fn stops_at_each(
     case: &Case,
     log_stops: bool,
     met: End,
-) -> Result<(), Fail> {
+) {
     let mut times = 0u32;
     for calls in 0..ALL {
         let both = if log_stops {
@@ -386,45 +517,51 @@ fn stops_at_each(
         } else {
             (ALL, calls)
         };
-        let files = files_of(alloc, &store.log, &store.db, both)?;
-        let (end, mut files) = attempt(rt, alloc, files, case);
-        let stopped = has_stopped(&mut files.log) || has_stopped(&mut files.db);
-        leaves_whole(rt, alloc, files, end, case)?;
+        let (end, stopped) = attempt_stopped(rt, alloc, store, case, both);
         if end == met {
             times = times.saturating_add(1);
         }
         if !stopped {
             assert!(rt; end == End::Taken && times > 0);
-            return Ok(());
+            return;
         }
     }
-    Err("stopped each time".into())
+    panic!(rt; "stopped each time");
 }
 
-// The connection of a book behind uploads.
-fn connection_behind<S: Alter + Drop>(
+// Each file stops at each of its calls, as the uploads are made with a long log and with a short one.
+fn stops_with_each_log(
     rt: &impl Abort,
     alloc: Global,
-    mut book: Book<SqlShelf<S>>,
-    uploads: &[Upload],
-) -> Result<Connection<S>, Fail> {
-    post_all(rt, alloc, &mut book, uploads)?;
-    Ok(connection_under(book))
+    store: &Image,
+    uploads: &'static [Upload],
+    [before, behind]: [Told; 2],
+) {
+    for (pages, db_end) in [(LONG, End::NoConnection), (SHORT, End::Refused)] {
+        let case = Case {
+            uploads,
+            before,
+            behind,
+            pages,
+        };
+        stops_at_each(rt, alloc, store, &case, true, End::Refused);
+        stops_at_each(rt, alloc, store, &case, false, db_end);
+    }
 }
 
-// The files of a new store behind uploads, where nothing was copied from the log.
-fn stored(rt: &impl Abort, alloc: Global, uploads: &[Upload]) -> Result<Image, Fail> {
-    let empty = files_of(alloc, b"", b"", (ALL, ALL))?;
-    let connection = connection_behind(rt, alloc, book_on(rt, alloc, empty), uploads)?;
-    let files = store_under(connection).close();
-    Ok(Image {
-        log: copy(alloc, &files.log)?,
-        db: copy(alloc, &files.db)?,
-    })
+// What the files of a new store hold behind uploads, where nothing was copied from the log.
+fn stored(rt: &impl Abort, alloc: Global, uploads: &[Upload]) -> Image {
+    let empty = files_of(rt, alloc, b"", b"", (ALL, ALL));
+    let (end, files) = attempt(rt, alloc, empty, uploads, LONG, false);
+    assert!(rt; end == End::Taken);
+    Image {
+        log: copy(rt, alloc, &files.log),
+        db: copy(rt, alloc, &files.db),
+    }
 }
 
 #[test]
-fn a_new_store_is_empty_wherever_its_opening_stops(rt: HostRuntime) -> Result<(), Fail> {
+fn a_new_store_is_empty_wherever_its_opening_stops(rt: HostRuntime) {
     let alloc = rt.alloc();
     let nothing = Image {
         log: Vec::new(alloc),
@@ -436,41 +573,22 @@ fn a_new_store_is_empty_wherever_its_opening_stops(rt: HostRuntime) -> Result<()
         behind: NOTHING,
         pages: LONG,
     };
-    stops_at_each(&rt, alloc, &nothing, &case, true, End::NoStore)?;
-    stops_at_each(&rt, alloc, &nothing, &case, false, End::NoConnection)
+    stops_at_each(&rt, alloc, &nothing, &case, true, End::NoStore);
+    stops_at_each(&rt, alloc, &nothing, &case, false, End::NoConnection);
 }
 
 #[test]
-fn both_readings_are_there_or_none(rt: HostRuntime) -> Result<(), Fail> {
+fn both_readings_are_there_or_none(rt: HostRuntime) {
     let alloc = rt.alloc();
-    let store = stored(&rt, alloc, &PAYMENT)?;
-    for (pages, db_end) in [(LONG, End::NoConnection), (SHORT, End::Refused)] {
-        let case = Case {
-            uploads: &READINGS,
-            before: BEHIND_PAYMENT,
-            behind: BEHIND_READINGS,
-            pages,
-        };
-        stops_at_each(&rt, alloc, &store, &case, true, End::Refused)?;
-        stops_at_each(&rt, alloc, &store, &case, false, db_end)?;
-    }
-    Ok(())
+    let store = stored(&rt, alloc, &PAYMENT);
+    let told = [BEHIND_PAYMENT, BEHIND_READINGS];
+    stops_with_each_log(&rt, alloc, &store, &READINGS, told);
 }
 
 #[test]
-fn a_meter_passes_on_whole_or_not(rt: HostRuntime) -> Result<(), Fail> {
+fn a_meter_passes_on_whole_or_not(rt: HostRuntime) {
     let alloc = rt.alloc();
-    let [assignment, topup] = PAYMENT;
-    let store = stored(&rt, alloc, &[assignment, topup, READINGS[0]])?;
-    for (pages, db_end) in [(LONG, End::NoConnection), (SHORT, End::Refused)] {
-        let case = Case {
-            uploads: &PASSING_ON,
-            before: BEHIND_READINGS,
-            behind: PASSED_ON,
-            pages,
-        };
-        stops_at_each(&rt, alloc, &store, &case, true, End::Refused)?;
-        stops_at_each(&rt, alloc, &store, &case, false, db_end)?;
-    }
-    Ok(())
+    let store = stored(&rt, alloc, &PAYMENT_AND_READINGS);
+    let told = [BEHIND_READINGS, PASSED_ON];
+    stops_with_each_log(&rt, alloc, &store, &PASSING_ON, told);
 }

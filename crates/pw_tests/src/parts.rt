@@ -3,22 +3,122 @@
 mod memory;
 mod rows;
 
-use crate::offices::SAMPLE;
-use crate::sample::{FIRST, HIGH, LOW, SECOND, are_of_office};
+use crate::sample::{FIRST, KINDS, SECOND, are_of_office, assigned, paid, shown};
 use pw_model::plain::{self, OfficeTerms};
 use pw_model::{Entry, TotalKey};
+use pw_obis::Register;
 use pw_parts::{Parts, true_parts};
-use pw_tariff::{AccountId, BandId, Direction, Office, Owner};
+use pw_tariff::{AccountId, BandId, Direction, MeterId, Office, Owner};
 use pw_time::Zone;
 use std::alloc::{AllocError, Global};
 use std::process::Abort;
-use std::test::Fail;
 
-fn sample(alloc: Global) -> Result<(Office, Zone), Fail> {
-    let office = Office::read(alloc, SAMPLE.as_bytes())
-        .ok()
-        .ok_or("refused")?;
-    Ok((office, Zone::central()))
+// A record: an assignment of the first meter, a reading, or a payment.
+#[derive(Clone, Copy)]
+enum Row {
+    Assigned(u32, Owner),
+    Shown(MeterId, Register, u32, u64),
+    Paid(&'static [u8], AccountId, u32),
+}
+
+// A total above 0.
+#[derive(Clone, Copy)]
+enum Total {
+    Energy(Owner, BandId, Direction, u64),
+    TopUps(AccountId, u64),
+}
+
+// What the points or the starts have to be.
+#[derive(Clone, Copy)]
+enum Wanted {
+    Any,
+    Many(usize),
+    These(&'static [Row]),
+}
+
+// Records, and what their parts have to be.
+#[derive(Clone, Copy)]
+struct Case {
+    records: &'static [Row],
+    points: Wanted,
+    starts: Wanted,
+    totals: &'static [Total],
+}
+
+fn entry_of(rt: &impl Abort, row: Row) -> Entry {
+    match row {
+        Row::Assigned(second, owner) => assigned(rt, second, owner),
+        Row::Shown(meter, register, second, wh) => shown(rt, meter, register, second, wh),
+        Row::Paid(reference, account, cents) => paid(rt, reference, account, cents),
+    }
+}
+
+fn entries_of(rt: &impl Abort, alloc: Global, rows: &[Row]) -> Result<Vec<Entry>, AllocError> {
+    let mut entries = Vec::new(alloc);
+    for row in rows {
+        entries.push(entry_of(rt, *row))?;
+    }
+    Ok(entries)
+}
+
+fn are_wanted(rt: &impl Abort, entries: &[Entry], wanted: Wanted) -> bool {
+    match wanted {
+        Wanted::Any => true,
+        Wanted::Many(count) => entries.len() == count,
+        Wanted::These(rows) => are_rows(rt, entries, rows),
+    }
+}
+
+fn are_rows(rt: &impl Abort, entries: &[Entry], rows: &[Row]) -> bool {
+    for (entry, row) in entries.iter().zip(rows) {
+        if *entry != entry_of(rt, *row) {
+            return false;
+        }
+    }
+    entries.len() == rows.len()
+}
+
+fn listed_as(total: Total) -> (TotalKey, u64) {
+    match total {
+        Total::Energy(owner, band, direction, wh) => (
+            TotalKey::Energy {
+                owner,
+                band,
+                direction,
+            },
+            wh,
+        ),
+        Total::TopUps(account, cents) => (TotalKey::TopUps { account }, cents),
+    }
+}
+
+fn are_totals(told: &[(TotalKey, u64)], totals: &[Total]) -> bool {
+    for (amount, total) in told.iter().zip(totals) {
+        if *amount != listed_as(*total) {
+            return false;
+        }
+    }
+    told.len() == totals.len()
+}
+
+// The parts of the case's records are right, and agree with the plain program.
+fn hold(
+    rt: &impl Abort,
+    alloc: Global,
+    office: &Office,
+    zone: &Zone,
+    case: &Case,
+) -> Result<(), AllocError> {
+    let entries = entries_of(rt, alloc, case.records)?;
+    let parts = parts_of(rt, alloc, office, zone, &entries)?;
+    assert!(rt; are_parts(rt, &parts, case));
+    all_agree(rt, alloc, office, zone, &entries, &parts)
+}
+
+fn are_parts(rt: &impl Abort, parts: &Parts, case: &Case) -> bool {
+    are_wanted(rt, &parts.points, case.points)
+        && are_wanted(rt, &parts.starts, case.starts)
+        && are_totals(&parts.totals, case.totals)
 }
 
 // The parts of few records, which have to be of the office.
@@ -35,22 +135,6 @@ fn parts_of(
     true_parts(alloc, office, zone, entries)
 }
 
-fn imported(owner: Owner, band: BandId, wh: u64) -> (TotalKey, u64) {
-    let direction = Direction::Import;
-    (
-        TotalKey::Energy {
-            owner,
-            band,
-            direction,
-        },
-        wh,
-    )
-}
-
-fn topped_up(account: AccountId, cents: u64) -> (TotalKey, u64) {
-    (TotalKey::TopUps { account }, cents)
-}
-
 fn listed(parts: &Parts, key: TotalKey) -> u64 {
     for (other, amount) in &parts.totals {
         if *other == key {
@@ -58,6 +142,22 @@ fn listed(parts: &Parts, key: TotalKey) -> u64 {
         }
     }
     0
+}
+
+// What the plain program tells of an owner in a band.
+fn energy(
+    rt: &impl Abort,
+    alloc: Global,
+    office: &Office,
+    zone: &Zone,
+    entries: &[Entry],
+    (owner, band, direction): (Owner, BandId, Direction),
+) -> Result<u64, AllocError> {
+    let of_office = are_of_office(office, zone, entries);
+    assert!(rt; of_office);
+    assert!(rt; entries.len() <= 100);
+    let terms = OfficeTerms::new(office, zone);
+    plain::energy(alloc, &terms, entries, owner, band, direction)
 }
 
 // The totals of the parts of some records are what the plain program tells.
@@ -69,27 +169,37 @@ fn all_agree(
     entries: &[Entry],
     parts: &Parts,
 ) -> Result<(), AllocError> {
-    let of_office = are_of_office(office, zone, entries);
-    assert!(rt; of_office);
-    assert!(rt; entries.len() <= 100);
-    let terms = OfficeTerms::new(office, zone);
-    for owner in [None, Some(FIRST), Some(SECOND)] {
-        for band in [LOW, HIGH] {
-            for direction in [Direction::Import, Direction::Export] {
-                let key = TotalKey::Energy {
-                    owner,
-                    band,
-                    direction,
-                };
-                let told = plain::energy(alloc, &terms, entries, owner, band, direction)?;
-                assert!(rt; listed(parts, key) == told);
-            }
+    assert!(rt; energies_agree(rt, alloc, office, zone, entries, parts)?);
+    assert!(rt; is_topped_up(entries, parts, FIRST) && is_topped_up(entries, parts, SECOND));
+    Ok(())
+}
+
+fn energies_agree(
+    rt: &impl Abort,
+    alloc: Global,
+    office: &Office,
+    zone: &Zone,
+    entries: &[Entry],
+    parts: &Parts,
+) -> Result<bool, AllocError> {
+    for kind in KINDS {
+        if energy(rt, alloc, office, zone, entries, *kind)? != energy_in(parts, *kind) {
+            return Ok(false);
         }
     }
-    for account in [FIRST, SECOND] {
-        let told = plain::topped_up(entries, account);
-        let kept = listed(parts, TotalKey::TopUps { account });
-        assert!(rt; u128::from(kept) == told);
-    }
-    Ok(())
+    Ok(true)
+}
+
+fn energy_in(parts: &Parts, (owner, band, direction): (Owner, BandId, Direction)) -> u64 {
+    let key = TotalKey::Energy {
+        owner,
+        band,
+        direction,
+    };
+    listed(parts, key)
+}
+
+fn is_topped_up(entries: &[Entry], parts: &Parts, account: AccountId) -> bool {
+    let kept = listed(parts, TotalKey::TopUps { account });
+    u128::from(kept) == plain::topped_up(entries, account)
 }

@@ -1,5 +1,9 @@
 //! The pages of a book over a store in memory, on rows worked out by hand.
 
+ghost use Rattle.std.specs.Prelude.{IfOk};
+ghost use Rattle.pw_model.specs.Office.{AllOfOffice};
+ghost use Rattle.pw_tariff.specs.Office.{office_of};
+
 mod exports;
 mod failing;
 mod memory;
@@ -8,11 +12,14 @@ mod tables;
 use crate::memory_books::book_of;
 use crate::offices::SAMPLE;
 use crate::uploads::ASSIGNMENT;
-use pw_book::{Accepted, Book, PostFault};
+use pw_book::{Accepted, Book, BookFault, Entry, PostFault};
 use pw_record::{UploadFault, assignment_records, telegram_records, topup_records};
+use pw_report::{Page, page_text};
 use pw_shelf::{MemoryShelf, Shelf};
-use pw_tariff::OfficeFault;
+use pw_tariff::{Office, OfficeFault};
+use pw_time::Zone;
 use std::alloc::Global;
+use std::process::Abort;
 
 // An upload of one kind.
 #[derive(Clone, Copy)]
@@ -52,25 +59,54 @@ fn empty_book(alloc: Global) -> Result<Book<MemoryShelf>, Refusal> {
     Ok(book_of(alloc, SAMPLE, 100)?)
 }
 
+fn entries_of(
+    alloc: Global,
+    office: &Office,
+    zone: &Zone,
+    upload: Upload,
+) -> Result<Vec<Entry>, UploadFault>
+    ensures { IfOk result (λ entries. AllOfOffice (office_of office.now) entries.items) }
+{
+    match upload {
+        Upload::Telegrams(body) => telegram_records(alloc, office, zone, body),
+        Upload::Assignments(body) => assignment_records(alloc, office, body),
+        Upload::TopUps(body) => topup_records(alloc, office, body),
+    }
+}
+
 fn post<S: Shelf>(alloc: Global, book: &mut Book<S>, upload: Upload) -> Result<Accepted, Refusal> {
-    let entries = match upload {
-        Upload::Telegrams(body) => telegram_records(alloc, book.office(), book.zone(), body)?,
-        Upload::Assignments(body) => assignment_records(alloc, book.office(), body)?,
-        Upload::TopUps(body) => topup_records(alloc, book.office(), body)?,
-    };
+    let entries = entries_of(alloc, book.office(), book.zone(), upload)?;
     Ok(book.post(alloc, &entries)?)
 }
 
 // A book behind uploads, the first of which assigns the meter to the first account.
 fn book_behind(alloc: Global, uploads: &[Upload]) -> Result<Book<MemoryShelf>, Refusal> {
     let mut book = empty_book(alloc)?;
-    post(alloc, &mut book, Upload::Assignments(ASSIGNMENT))?;
-    for upload in uploads {
-        post(alloc, &mut book, *upload)?;
-    }
+    post_all(alloc, &mut book, uploads)?;
     Ok(book)
 }
 
-fn is(text: &[u8], expected: &[u8]) -> bool {
-    text == expected
+fn post_all<S: Shelf>(
+    alloc: Global,
+    book: &mut Book<S>,
+    uploads: &[Upload],
+) -> Result<(), Refusal> {
+    post(alloc, book, Upload::Assignments(ASSIGNMENT))?;
+    for upload in uploads {
+        post(alloc, book, *upload)?;
+    }
+    Ok(())
+}
+
+// A page of a book. A statement is of one of the office's accounts.
+fn page_of<S: Shelf>(
+    rt: &impl Abort,
+    alloc: Global,
+    book: &mut Book<S>,
+    page: Page,
+) -> Result<Vec<u8>, BookFault> {
+    if let Page::Statement(account) = page {
+        assert!(rt; account.0 < book.office().accounts());
+    }
+    page_text(book, alloc, page)
 }

@@ -4,11 +4,13 @@ ghost use Rattle.std.specs.Prelude.{◌↔◌, IsTrue};
 ghost use Rattle.pw_model.specs.Office.{AllOfOffice};
 ghost use Rattle.pw_tariff.specs.Office.{office_of};
 
+use crate::offices::SAMPLE;
 use pw_model::plain::{self, OfficeTerms};
 use pw_model::{Content, Entry, Key, Reference};
 use pw_obis::{Register, WattHours};
-use pw_tariff::{AccountId, BandId, MeterId, Office, Owner};
+use pw_tariff::{AccountId, BandId, Direction, MeterId, Office, OfficeFault, Owner};
 use pw_time::{Instant, Zone};
+use std::alloc::Global;
 use std::process::Abort;
 
 /// 2024-01-02T05:00:00Z, and the hours behind it.
@@ -30,6 +32,27 @@ pub const LOW: BandId = BandId(0);
 pub const HIGH: BandId = BandId(1);
 
 pub const METER: MeterId = MeterId(0);
+
+/// The owners' energies in the bands, in the order in which they are listed.
+pub const KINDS: &[(Owner, BandId, Direction)] = &[
+    (None, LOW, Direction::Import),
+    (None, LOW, Direction::Export),
+    (None, HIGH, Direction::Import),
+    (None, HIGH, Direction::Export),
+    (Some(FIRST), LOW, Direction::Import),
+    (Some(FIRST), LOW, Direction::Export),
+    (Some(FIRST), HIGH, Direction::Import),
+    (Some(FIRST), HIGH, Direction::Export),
+    (Some(SECOND), LOW, Direction::Import),
+    (Some(SECOND), LOW, Direction::Export),
+    (Some(SECOND), HIGH, Direction::Import),
+    (Some(SECOND), HIGH, Direction::Export),
+];
+
+/// The sample office.
+pub fn sample_office(alloc: Global) -> Result<Office, OfficeFault> {
+    Office::read(alloc, SAMPLE.as_bytes())
+}
 
 /// Whether the entries are of an office.
 pub fn are_of_office(office: &Office, zone: &Zone, entries: &[Entry]) -> bool

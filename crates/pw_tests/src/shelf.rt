@@ -1,94 +1,99 @@
 //! Each call over the trait's bound with ample memory, and what stays where memory is refused.
 
-ghost use Rattle.std.specs.Prelude.{◌≡◌, None, IsSome, OnOk};
+ghost use Rattle.std.specs.Prelude.{◌≡◌, ◌<◌, None, IsSome, IsTrue, OnOk, length};
 ghost use Rattle.pw_model.specs.Shelf.{no_content};
 
 use crate::sample::{
-    FIRST, FIVE, METER, SECOND, SEVEN, SIX, assigned, at, paid, reading, shown, wh,
+    FIRST, FIVE, METER, SECOND, SEVEN, SIX, assigned, at, exported, paid, reading, shown, wh,
 };
-use pw_model::Entry;
-use pw_obis::Register;
+use pw_model::{Entry, Key};
+use pw_obis::{Register, WattHours};
 use pw_shelf::laws::memory_abandons;
 use pw_shelf::{
     AddFault, Contents, CountShelf, MemoryShelf, Shelf, ShelfFault, TotalKey, add_once,
 };
-use pw_tariff::{AccountId, MeterId};
+use pw_tariff::{AccountId, MeterId, Owner};
+use pw_time::Instant;
 use std::alloc::Global;
 use std::process::Abort;
-use std::test::Fail;
 
 const TOPUPS: TotalKey = TotalKey::TopUps {
     account: AccountId(0),
 };
 
-// Adds a record to the upload, if it is new and there is room.
-fn put<S: Shelf>(shelf: &mut S, entry: &Entry) -> Result<bool, ShelfFault>
+// Adds a record to the upload, and answers whether it was new and there was room.
+fn put<S: Shelf>(shelf: &mut S, entry: &Entry) -> bool
     requires { IsSome (S.state shelf.old).begun }
     ensures { (S.state shelf.new).begun ≡ (S.state shelf.old).begun }
 {
-    if shelf.holds(entry)? {
-        return Ok(false);
+    if shelf.holds(entry) != Ok(false) {
+        return false;
     }
-    if 10_000_000 <= shelf.count()? {
-        return Ok(false);
+    match shelf.count() {
+        Ok(count) => count < 10_000_000 && shelf.add(entry).is_ok(),
+        Err(_) => false,
     }
-    shelf.add(entry)?;
-    Ok(true)
 }
 
-// Two records in an upload of their own.
-fn uploaded<S: Shelf>(shelf: &mut S, first: &Entry, second: &Entry) -> Result<(), ShelfFault>
+// Whether two records are new in an upload of their own.
+fn uploaded<S: Shelf>(shelf: &mut S, first: &Entry, second: &Entry) -> bool
     requires { (S.state shelf.old).begun ≡ None }
-    ensures { OnOk result ((S.state shelf.new).begun ≡ None) }
+    ensures { IsTrue result → (S.state shelf.new).begun ≡ None }
 {
-    shelf.begin()?;
-    put(shelf, first)?;
-    put(shelf, second)?;
-    shelf.commit()
+    shelf.begin().is_ok() && put(shelf, first) && put(shelf, second) && shelf.commit().is_ok()
 }
 
-// A second content at a key, seen within an upload and gone behind it.
-fn disputed<S: Shelf>(rt: &impl Abort, shelf: &mut S, other: &Entry) -> Result<(), ShelfFault>
+// Whether a second content at a key is seen within an upload. It is gone behind it.
+fn disputed<S: Shelf>(shelf: &mut S, other: &Entry) -> bool
     requires { (S.state shelf.old).begun ≡ None }
-    ensures { OnOk result ((S.state shelf.new).begun ≡ None) }
+    ensures { IsTrue result → (S.state shelf.new).begun ≡ None }
 {
-    shelf.begin()?;
-    assert!(rt; put(shelf, other)?);
-    assert!(rt; shelf.contents_at(&other.key)? == Contents::Several);
-    shelf.abandon()
+    shelf.begin().is_ok()
+        && put(shelf, other)
+        && contents_are(shelf, &other.key, Contents::Several)
+        && shelf.abandon().is_ok()
 }
 
-fn found_at<S: Shelf>(rt: &impl Abort, shelf: &mut S, entry: &Entry) -> Result<(), ShelfFault> {
-    assert!(rt; shelf.holds(entry)?);
-    assert!(rt; shelf.contents_at(&entry.key)? == Contents::One(entry.content));
-    Ok(())
+fn contents_are<S: Shelf>(shelf: &mut S, key: &Key, wanted: Contents) -> bool
+    ensures { (S.state shelf.new).begun ≡ (S.state shelf.old).begun }
+{
+    shelf.contents_at(key) == Ok(wanted)
 }
 
-fn never_at<S: Shelf>(rt: &impl Abort, shelf: &mut S, entry: &Entry) -> Result<(), ShelfFault> {
-    assert!(rt; !shelf.holds(entry)?);
-    assert!(rt; shelf.contents_at(&entry.key)? == Contents::Nothing);
-    Ok(())
+// Whether the call listed just these.
+fn lists<T: PartialEq + Drop>(found: Result<Vec<T>, ShelfFault>, wanted: &[T]) -> bool {
+    match found {
+        Ok(found) => found.as_slice() == wanted,
+        Err(_) => false,
+    }
+}
+
+fn found_at<S: Shelf>(shelf: &mut S, entry: &Entry) -> bool {
+    shelf.holds(entry) == Ok(true) && contents_are(shelf, &entry.key, Contents::One(entry.content))
+}
+
+fn never_at<S: Shelf>(shelf: &mut S, entry: &Entry) -> bool
+    ensures { (S.state shelf.new).begun ≡ (S.state shelf.old).begun }
+{
+    shelf.holds(entry) == Ok(false) && contents_are(shelf, &entry.key, Contents::Nothing)
 }
 
 // All readings of the register, the assignment of the meter and all top-ups, sorted.
 fn listed<S: Shelf>(
-    rt: &impl Abort,
     alloc: Global,
     shelf: &mut S,
     readings: &[Entry],
     owner: &Entry,
     topups: &[Entry],
-) -> Result<(), ShelfFault> {
-    assert!(rt; shelf.readings_of(alloc, METER, Register::I1)?.as_slice() == readings);
-    assert!(rt; shelf.assignments_of(alloc, METER)?.as_slice() == [*owner].as_slice());
-    assert!(rt; shelf.topups(alloc)?.as_slice() == topups);
-    Ok(())
+) -> bool {
+    lists(shelf.readings_of(alloc, METER, Register::I1), readings)
+        && lists(shelf.assignments_of(alloc, METER), &[*owner])
+        && lists(shelf.topups(alloc), topups)
 }
 
-fn unlisted<S: Shelf>(rt: &impl Abort, alloc: Global, shelf: &mut S) -> Result<(), ShelfFault> {
-    assert!(rt; shelf.readings_of(alloc, METER, Register::E0)?.is_empty());
-    assert!(rt; shelf.assignments_of(alloc, MeterId(1))?.is_empty());
-    Ok(())
+fn unlisted<S: Shelf>(alloc: Global, shelf: &mut S) -> bool {
+    lists(shelf.readings_of(alloc, METER, Register::E0), &[])
+        && lists(shelf.assignments_of(alloc, MeterId(1)), &[])
 }
 
 // Adds a record in an upload of its own.
@@ -106,318 +111,502 @@ fn added<S: Shelf>(shelf: &mut S, entry: &Entry) -> Result<bool, ShelfFault>
     }
 }
 
-#[test]
-fn each_call(rt: HostRuntime) -> Result<(), Fail> {
-    let mut shelf = MemoryShelf::new(rt.alloc());
-    let readings = [
-        shown(&rt, METER, Register::I1, FIVE, 1_000_000),
-        shown(&rt, METER, Register::I1, SIX, 1_001_000),
-    ];
-    let owner = assigned(&rt, FIVE, Some(SECOND));
-    let topups = [
-        paid(&rt, b"P1", FIRST, 2_000),
-        paid(&rt, b"P10", FIRST, 5_000),
-    ];
-    uploaded(&mut shelf, &topups[1], &readings[1])?;
-    uploaded(&mut shelf, &owner, &readings[0])?;
-    uploaded(
-        &mut shelf,
-        &topups[0],
-        &shown(&rt, METER, Register::I2, FIVE, 7),
-    )?;
-    disputed(
-        &rt,
-        &mut shelf,
-        &shown(&rt, METER, Register::I1, FIVE, 1_000_500),
-    )?;
-    shelf.begin()?;
-    memory_abandons(&mut shelf)?;
-    let exported = shown(&rt, METER, Register::E1, FIVE, 1);
-    assert!(rt; added(&mut shelf, &exported)?);
-    assert!(rt; !added(&mut shelf, &exported)?);
-    found_at(&rt, &mut shelf, &readings[0])?;
-    never_at(&rt, &mut shelf, &assigned(&rt, SIX, Some(FIRST)))?;
-    listed(&rt, rt.alloc(), &mut shelf, &readings, &owner, &topups)?;
-    unlisted(&rt, rt.alloc(), &mut shelf)?;
-    assert!(rt; shelf.count()? == 7);
-    Ok(())
+// Two readings of the first register.
+fn two_readings(rt: &impl Abort) -> [Entry; 2] {
+    [reading(rt, FIVE, 1_000_000), reading(rt, SIX, 1_001_000)]
 }
 
-// Adds a new record, and finds the content as before where memory was refused.
-fn added_or_refused<S: Shelf>(
-    rt: &impl Abort,
-    shelf: &mut S,
-    entry: &Entry,
-) -> Result<(), ShelfFault>
+fn two_topups(rt: &impl Abort) -> [Entry; 2] {
+    [
+        paid(rt, b"P1", FIRST, 2_000),
+        paid(rt, b"P10", FIRST, 5_000),
+    ]
+}
+
+// Six records in three uploads.
+fn three_uploads<S: Shelf>(rt: &impl Abort, shelf: &mut S) -> bool
     requires { (S.state shelf.old).begun ≡ None }
-    ensures { OnOk result ((S.state shelf.new).begun ≡ None) }
+    ensures { IsTrue result → (S.state shelf.new).begun ≡ None }
 {
-    let before = shelf.count()?;
-    if 10 <= before {
-        return Ok(());
+    let [early, late] = two_readings(rt);
+    let [first, second] = two_topups(rt);
+    let owner = assigned(rt, FIVE, Some(SECOND));
+    let other = shown(rt, METER, Register::I2, FIVE, 7);
+    uploaded(shelf, &second, &late)
+        && uploaded(shelf, &owner, &early)
+        && uploaded(shelf, &first, &other)
+}
+
+// An upload of nothing, which is given up.
+fn begun_and_given_up(shelf: &mut MemoryShelf) -> Result<(), ShelfFault>
+    requires { (⟦<MemoryShelf as Shelf>⟧.state shelf.old).begun ≡ None }
+    ensures { OnOk result ((⟦<MemoryShelf as Shelf>⟧.state shelf.new).begun ≡ None) }
+{
+    shelf.begin()?;
+    memory_abandons(shelf)
+}
+
+// Whether a record is new once.
+fn added_once<S: Shelf>(shelf: &mut S, entry: &Entry) -> bool
+    requires { (S.state shelf.old).begun ≡ None }
+{
+    match added(shelf, entry) {
+        Ok(true) => added(shelf, entry) == Ok(false),
+        _ => false,
     }
+}
+
+// Whether each question is answered by the six records, and one of another register.
+fn seven_told<S: Shelf>(rt: &impl Abort, alloc: Global, shelf: &mut S) -> bool {
+    let readings = two_readings(rt);
+    let owner = assigned(rt, FIVE, Some(SECOND));
+    found_at(shelf, &reading(rt, FIVE, 1_000_000))
+        && never_at(shelf, &assigned(rt, SIX, Some(FIRST)))
+        && listed(alloc, shelf, &readings, &owner, &two_topups(rt))
+        && unlisted(alloc, shelf)
+        && shelf.count() == Ok(7)
+}
+
+// Whether records are held behind three uploads, and the second content of a key isn't behind a fourth.
+fn records_kept<S: Shelf>(rt: &impl Abort, shelf: &mut S) -> bool
+    requires { (S.state shelf.old).begun ≡ None }
+    ensures { IsTrue result → (S.state shelf.new).begun ≡ None }
+{
+    three_uploads(rt, shelf) && disputed(shelf, &reading(rt, FIVE, 1_000_500))
+}
+
+fn calls_answered(rt: &impl Abort, alloc: Global, mut shelf: MemoryShelf) -> bool
+    requires { (⟦<MemoryShelf as Shelf>⟧.state shelf).begun ≡ None }
+{
+    records_kept(rt, &mut shelf)
+        && begun_and_given_up(&mut shelf).is_ok()
+        && added_once(&mut shelf, &exported(rt, FIVE, 1))
+        && seven_told(rt, alloc, &mut shelf)
+}
+
+#[test]
+fn each_call(rt: HostRuntime) {
+    assert!(rt; calls_answered(&rt, rt.alloc(), MemoryShelf::new(rt.alloc())));
+}
+
+// Whether so many records are held, and not this one.
+fn is_as_before<S: Shelf>(shelf: &mut S, entry: &Entry, before: u32) -> bool
+    ensures { (S.state shelf.new).begun ≡ (S.state shelf.old).begun }
+{
+    shelf.count() == Ok(before) && never_at(shelf, entry)
+}
+
+// Whether a new record is added, or the content is as before where memory was refused.
+fn added_or_refused<S: Shelf>(shelf: &mut S, entry: &Entry) -> bool
+    requires { (S.state shelf.old).begun ≡ None }
+    ensures { IsTrue result → (S.state shelf.new).begun ≡ None }
+{
+    match shelf.count() {
+        Ok(before) => before < 10 && added_to(shelf, entry, before),
+        Err(_) => false,
+    }
+}
+
+fn added_to<S: Shelf>(shelf: &mut S, entry: &Entry, before: u32) -> bool
+    requires idle { (S.state shelf.old).begun ≡ None }
+    requires few { before < 10 }
+    requires held { S.clean shelf.old → length (S.state shelf.old).content.records ≡ before }
+    ensures { IsTrue result → (S.state shelf.new).begun ≡ None }
+{
     match add_once(shelf, entry) {
-        Ok(fresh) => {
-            assert!(rt; fresh);
-            assert!(rt; shelf.count()? == before + 1);
-        }
-        Err(AddFault::Memory) => {
-            assert!(rt; shelf.count()? == before);
-            assert!(rt; !shelf.holds(entry)?);
-            assert!(rt; shelf.contents_at(&entry.key)? == Contents::Nothing);
-        }
-        Err(_) => return Err(ShelfFault::Device),
+        Ok(fresh) => fresh && shelf.count() == Ok(before + 1),
+        Err(AddFault::Memory) => is_as_before(shelf, entry, before),
+        Err(_) => false,
     }
-    Ok(())
 }
 
-// At most one record, or want of memory.
-fn one_or_refused(rt: &impl Abort, found: Result<Vec<Entry>, ShelfFault>) {
+// Whether at most one record is listed, or memory was refused.
+fn is_one_or_refused(found: Result<Vec<Entry>, ShelfFault>) -> bool {
     match found {
-        Ok(found) => assert!(rt; found.len() <= 1),
-        Err(fault) => assert!(rt; fault == ShelfFault::Memory),
+        Ok(found) => found.len() <= 1,
+        Err(fault) => fault == ShelfFault::Memory,
     }
 }
 
-#[test]
-fn refused_memory_changes_nothing(rt: HostRuntime) -> Result<(), Fail> {
-    let mut shelf = MemoryShelf::new(rt.alloc());
-    added_or_refused(
-        &rt,
-        &mut shelf,
-        &shown(&rt, METER, Register::I1, FIVE, 1_000_000),
-    )?;
-    added_or_refused(&rt, &mut shelf, &assigned(&rt, FIVE, Some(SECOND)))?;
-    added_or_refused(&rt, &mut shelf, &paid(&rt, b"P1", FIRST, 2_000))?;
-    let before = shelf.count()?;
-    one_or_refused(&rt, shelf.topups(rt.alloc()));
-    one_or_refused(&rt, shelf.readings_of(rt.alloc(), METER, Register::I1));
-    one_or_refused(&rt, shelf.assignments_of(rt.alloc(), METER));
-    assert!(rt; shelf.count()? == before);
-    Ok(())
+// Whether each list has at most one record, and as many records are held behind them.
+fn lists_change_nothing<S: Shelf>(alloc: Global, shelf: &mut S) -> bool {
+    let before = shelf.count();
+    is_one_or_refused(shelf.topups(alloc))
+        && is_one_or_refused(shelf.readings_of(alloc, METER, Register::I1))
+        && is_one_or_refused(shelf.assignments_of(alloc, METER))
+        && before.is_ok()
+        && shelf.count() == before
 }
 
-// Two points of a register, two starts of a meter and a total, in an upload of their own.
-fn kept<S: Shelf>(rt: &impl Abort, shelf: &mut S) -> Result<(), ShelfFault>
-    requires { (S.state shelf.old).begun ≡ None }
-    ensures { OnOk result ((S.state shelf.new).begun ≡ None) }
+fn nothing_changed<S: Shelf + Drop>(rt: &impl Abort, alloc: Global, mut shelf: S) -> bool
+    requires { (S.state shelf).begun ≡ None }
 {
-    shelf.begin()?;
-    shelf.point_put(METER, Register::I1, at(rt, FIVE), wh(rt, 7))?;
-    shelf.point_put(METER, Register::I1, at(rt, SIX), wh(rt, 9))?;
-    shelf.point_put(METER, Register::I1, at(rt, FIVE), wh(rt, 8))?;
-    shelf.point_put(METER, Register::I2, at(rt, FIVE), wh(rt, 1))?;
-    shelf.start_put(METER, at(rt, FIVE), Some(AccountId(1)))?;
-    shelf.start_put(METER, at(rt, SIX), None)?;
-    shelf.total_put(&TOPUPS, 2_000)?;
-    shelf.commit()
-}
-
-// Changes each part in an upload, and gives it up.
-fn given_up<S: Shelf>(rt: &impl Abort, shelf: &mut S) -> Result<(), ShelfFault>
-    requires { (S.state shelf.old).begun ≡ None }
-    ensures { OnOk result ((S.state shelf.new).begun ≡ None) }
-{
-    shelf.begin()?;
-    shelf.point_del(METER, Register::I1, at(rt, FIVE))?;
-    shelf.point_del(METER, Register::I1, at(rt, FIVE))?;
-    shelf.start_del(METER, at(rt, SIX))?;
-    shelf.total_put(&TOPUPS, 0)?;
-    assert!(rt; shelf.point_before(METER, Register::I1, at(rt, SIX))? == None);
-    assert!(rt; shelf.total(&TOPUPS)? == 0);
-    shelf.abandon()
-}
-
-fn points_there<S: Shelf>(rt: &impl Abort, alloc: Global, shelf: &mut S) -> Result<(), ShelfFault>
-    ensures { (S.state shelf.new).begun ≡ (S.state shelf.old).begun }
-{
-    let first = (at(rt, FIVE), wh(rt, 8));
-    let second = (at(rt, SIX), wh(rt, 9));
-    assert!(rt; shelf.point_before(METER, Register::I1, at(rt, SIX))? == Some(first));
-    assert!(rt; shelf.point_before(METER, Register::I1, at(rt, FIVE))? == None);
-    assert!(rt; shelf.point_after(METER, Register::I1, at(rt, FIVE))? == Some(second));
-    assert!(rt; shelf.point_after(METER, Register::I1, at(rt, SIX))? == None);
-    let both = shelf.points_between(alloc, METER, Register::I1, at(rt, FIVE), at(rt, SIX))?;
-    assert!(rt; both.as_slice() == [first, second].as_slice());
-    let none = shelf.points_between(alloc, METER, Register::I1, at(rt, SIX), at(rt, FIVE))?;
-    assert!(rt; none.is_empty());
-    Ok(())
-}
-
-fn starts_there<S: Shelf>(rt: &impl Abort, alloc: Global, shelf: &mut S) -> Result<(), ShelfFault>
-    ensures { (S.state shelf.new).begun ≡ (S.state shelf.old).begun }
-{
-    let starts = [(at(rt, FIVE), Some(AccountId(1))), (at(rt, SIX), None)];
-    assert!(rt; shelf.starts_of(alloc, METER)?.as_slice() == starts.as_slice());
-    assert!(rt; shelf.starts_of(alloc, MeterId(1))?.is_empty());
-    assert!(rt; shelf.total(&TOPUPS)? == 2_000);
-    Ok(())
+    added_or_refused(&mut shelf, &reading(rt, FIVE, 1_000_000))
+        && added_or_refused(&mut shelf, &assigned(rt, FIVE, Some(SECOND)))
+        && added_or_refused(&mut shelf, &paid(rt, b"P1", FIRST, 2_000))
+        && lists_change_nothing(alloc, &mut shelf)
 }
 
 #[test]
-fn each_part_kept_and_given_back(rt: HostRuntime) -> Result<(), Fail> {
-    let mut shelf = MemoryShelf::new(rt.alloc());
-    kept(&rt, &mut shelf)?;
-    given_up(&rt, &mut shelf)?;
-    points_there(&rt, rt.alloc(), &mut shelf)?;
-    starts_there(&rt, rt.alloc(), &mut shelf)?;
-    Ok(())
+fn refused_memory_changes_nothing(rt: HostRuntime) {
+    assert!(rt; nothing_changed(&rt, rt.alloc(), MemoryShelf::new(rt.alloc())));
 }
+
+// A change of the first meter's points or starts, or of the total.
+#[derive(Clone, Copy)]
+enum Change {
+    Point(Register, u32, u64),
+    NoPoint(u32),
+    Start(u32, Owner),
+    NoStart(u32),
+    Total(u32),
+}
+
+// Two points of a register, two starts of a meter and a total.
+const KEPT: [Change; 7] = [
+    Change::Point(Register::I1, FIVE, 7),
+    Change::Point(Register::I1, SIX, 9),
+    Change::Point(Register::I1, FIVE, 8),
+    Change::Point(Register::I2, FIVE, 1),
+    Change::Start(FIVE, Some(SECOND)),
+    Change::Start(SIX, None),
+    Change::Total(2_000),
+];
+
+// Some of each part.
+const GIVEN_UP: [Change; 4] = [
+    Change::NoPoint(FIVE),
+    Change::NoPoint(FIVE),
+    Change::NoStart(SIX),
+    Change::Total(0),
+];
 
 // Takes the first point and the first start away, each behind another change of it, and a point that is new.
-fn taken_away<S: Shelf>(rt: &impl Abort, shelf: &mut S) -> Result<(), ShelfFault>
+const TAKEN_AWAY: [Change; 8] = [
+    Change::NoPoint(FIVE),
+    Change::Point(Register::I1, FIVE, 7),
+    Change::NoPoint(FIVE),
+    Change::Point(Register::I1, SEVEN, 10),
+    Change::NoPoint(SEVEN),
+    Change::Start(FIVE, None),
+    Change::NoStart(FIVE),
+    Change::Total(0),
+];
+
+fn apply<S: Shelf>(rt: &impl Abort, shelf: &mut S, change: Change) -> Result<(), ShelfFault>
     requires { IsSome (S.state shelf.old).begun }
     ensures { (S.state shelf.new).begun ≡ (S.state shelf.old).begun }
 {
-    shelf.point_del(METER, Register::I1, at(rt, FIVE))?;
-    shelf.point_put(METER, Register::I1, at(rt, FIVE), wh(rt, 7))?;
-    shelf.point_del(METER, Register::I1, at(rt, FIVE))?;
-    shelf.point_put(METER, Register::I1, at(rt, SEVEN), wh(rt, 10))?;
-    shelf.point_del(METER, Register::I1, at(rt, SEVEN))?;
-    shelf.start_put(METER, at(rt, FIVE), None)?;
-    shelf.start_del(METER, at(rt, FIVE))?;
-    shelf.total_put(&TOPUPS, 0)
+    match change {
+        Change::Point(register, second, watt_hours) => {
+            shelf.point_put(METER, register, at(rt, second), wh(rt, watt_hours))
+        }
+        Change::NoPoint(second) => shelf.point_del(METER, Register::I1, at(rt, second)),
+        Change::Start(second, owner) => shelf.start_put(METER, at(rt, second), owner),
+        Change::NoStart(second) => shelf.start_del(METER, at(rt, second)),
+        Change::Total(cents) => shelf.total_put(&TOPUPS, u64::from(cents)),
+    }
 }
 
-// The second point and the second start alone.
-fn later_there<S: Shelf>(rt: &impl Abort, alloc: Global, shelf: &mut S) -> Result<(), ShelfFault>
+// The changes, in the upload that is begun.
+fn changed<S: Shelf>(rt: &impl Abort, shelf: &mut S, changes: &[Change]) -> Result<(), ShelfFault>
+    requires { IsSome (S.state shelf.old).begun }
     ensures { (S.state shelf.new).begun ≡ (S.state shelf.old).begun }
 {
-    let second = (at(rt, SIX), wh(rt, 9));
-    assert!(rt; shelf.point_before(METER, Register::I1, at(rt, SIX))? == None);
-    assert!(rt; shelf.point_after(METER, Register::I1, at(rt, FIVE))? == Some(second));
-    assert!(rt; shelf.point_after(METER, Register::I1, at(rt, SIX))? == None);
-    let points = shelf.points_between(alloc, METER, Register::I1, at(rt, FIVE), at(rt, SEVEN))?;
-    assert!(rt; points.as_slice() == [second].as_slice());
-    let start = (at(rt, SIX), None);
-    assert!(rt; shelf.starts_of(alloc, METER)?.as_slice() == [start].as_slice());
-    assert!(rt; shelf.total(&TOPUPS)? == 0);
+    for change in changes {
+        apply(rt, shelf, *change)?;
+    }
     Ok(())
 }
 
-#[test]
-fn removals_hold_where_they_are_committed(rt: HostRuntime) -> Result<(), Fail> {
-    let mut shelf = MemoryShelf::new(rt.alloc());
-    kept(&rt, &mut shelf)?;
-    shelf.begin()?;
-    taken_away(&rt, &mut shelf)?;
-    later_there(&rt, rt.alloc(), &mut shelf)?;
-    shelf.abandon()?;
-    points_there(&rt, rt.alloc(), &mut shelf)?;
-    starts_there(&rt, rt.alloc(), &mut shelf)?;
-    shelf.begin()?;
-    taken_away(&rt, &mut shelf)?;
-    shelf.commit()?;
-    later_there(&rt, rt.alloc(), &mut shelf)?;
-    shelf.begin()?;
-    shelf.abandon()?;
-    later_there(&rt, rt.alloc(), &mut shelf)?;
-    Ok(())
-}
-
-#[test]
-fn calls_and_rows_counted(rt: HostRuntime) -> Result<(), Fail> {
-    let mut shelf = CountShelf::new(MemoryShelf::new(rt.alloc()));
-    kept(&rt, &mut shelf)?;
-    assert!(rt; shelf.seen() == 9);
-    // two calls that find a row, two that don't, a list of two and an empty one
-    points_there(&rt, rt.alloc(), &mut shelf)?;
-    assert!(rt; shelf.seen() == 9 + 2 * 2 + 2 + 3 + 1);
-    let mut inner = shelf.into_inner();
-    starts_there(&rt, rt.alloc(), &mut inner)?;
-    Ok(())
-}
-
-// The second call fails, and the third where it is to.
-fn failed_at_second<S: Shelf>(
-    rt: &impl Abort,
-    shelf: &mut S,
-    abandons: bool,
-) -> Result<(), ShelfFault>
-    requires { (S.state shelf.old).begun ≡ None }
-{
-    shelf.begin()?;
-    assert!(rt; shelf.point_del(METER, Register::I1, at(rt, FIVE)) == Err(ShelfFault::Device));
-    assert!(rt; shelf.abandon().is_ok() == abandons);
-    Ok(())
-}
-
-#[test]
-fn fails_where_it_is_told_to(rt: HostRuntime) -> Result<(), Fail> {
-    let mut shelf = CountShelf::failing(MemoryShelf::new(rt.alloc()), 2, false);
-    failed_at_second(&rt, &mut shelf, true)?;
-    assert!(rt; shelf.seen() == 3);
-    let mut shelf = CountShelf::failing(MemoryShelf::new(rt.alloc()), 2, true);
-    failed_at_second(&rt, &mut shelf, false)?;
-    assert!(rt; shelf.seen() == 3);
-    Ok(())
-}
-
-// A record added, and told by each question, in an upload that is given up.
-fn told_within<S: Shelf>(rt: &impl Abort, alloc: Global, shelf: &mut S) -> Result<(), ShelfFault>
+// The changes, in an upload of their own.
+fn kept<S: Shelf>(rt: &impl Abort, shelf: &mut S, changes: &[Change]) -> Result<(), ShelfFault>
     requires { (S.state shelf.old).begun ≡ None }
     ensures { OnOk result ((S.state shelf.new).begun ≡ None) }
 {
-    let payment = paid(rt, b"P1", FIRST, 2_000);
     shelf.begin()?;
-    assert!(rt; put(shelf, &payment)?);
-    assert!(rt; shelf.topups(alloc)?.len() == 1);
-    assert!(rt; shelf.count()? == 1);
-    assert!(rt; shelf.holds(&payment)?);
-    shelf.abandon()
+    changed(rt, shelf, changes)?;
+    shelf.commit()
 }
 
-#[test]
-fn questions_within_an_upload(rt: HostRuntime) -> Result<(), Fail> {
-    let mut shelf = MemoryShelf::new(rt.alloc());
-    told_within(&rt, rt.alloc(), &mut shelf)?;
-    never_at(&rt, &mut shelf, &paid(&rt, b"P1", FIRST, 2_000))?;
-    assert!(rt; shelf.count()? == 0);
-    Ok(())
-}
-
-#[test]
-fn rows_at_keys_and_of_totals_counted(rt: HostRuntime) -> Result<(), Fail> {
-    let mut shelf = CountShelf::new(MemoryShelf::new(rt.alloc()));
-    let (one, other) = (reading(&rt, FIVE, 1), reading(&rt, FIVE, 2));
-    uploaded(&mut shelf, &one, &other)?;
-    assert!(rt; shelf.seen() == 8);
-    // a call and two rows
-    assert!(rt; shelf.contents_at(&one.key)? == Contents::Several);
-    assert!(rt; shelf.seen() == 8 + 3);
-    // two calls without a row
-    let nothing = shelf.contents_at(&reading(&rt, SIX, 1).key)?;
-    assert!(rt; nothing == Contents::Nothing);
-    assert!(rt; shelf.total(&TOPUPS)? == 0);
-    assert!(rt; shelf.seen() == 8 + 3 + 2);
-    Ok(())
-}
-
-#[test]
-fn failure_of_the_store_inside(rt: HostRuntime) -> Result<(), Fail> {
-    let failing = CountShelf::failing(MemoryShelf::new(rt.alloc()), 1, false);
-    let mut shelf = CountShelf::new(failing);
-    let refused = shelf.readings_of(rt.alloc(), METER, Register::I1);
-    assert!(rt; refused.err() == Some(ShelfFault::Device));
-    assert!(rt;
-        shelf
-            .readings_of(rt.alloc(), METER, Register::I1)?
-            .is_empty()
-    );
-    Ok(())
-}
-
-// Adds a record to a store that holds none, and answers why it wasn't added.
-fn fault_of_adding<S: Shelf>(shelf: &mut S, entry: &Entry) -> Option<AddFault>
-    requires idle { (S.state shelf.old).begun ≡ None }
-    requires empty { (S.state shelf.old).content ≡ no_content }
+// Whether some of each part is seen as taken away in an upload, which is given up.
+fn given_up<S: Shelf>(rt: &impl Abort, shelf: &mut S) -> bool
+    requires { (S.state shelf.old).begun ≡ None }
+    ensures { IsTrue result → (S.state shelf.new).begun ≡ None }
 {
-    add_once(shelf, entry).err()
+    shelf.begin().is_ok()
+        && changed(rt, shelf, &GIVEN_UP).is_ok()
+        && is_before(rt, shelf, SIX, None)
+        && is_total(shelf, 0)
+        && shelf.abandon().is_ok()
+}
+
+fn point(rt: &impl Abort, second: u32, watt_hours: u64) -> (Instant, WattHours) {
+    (at(rt, second), wh(rt, watt_hours))
+}
+
+// Whether this point is the latest before the second.
+fn is_before<S: Shelf>(
+    rt: &impl Abort,
+    shelf: &mut S,
+    second: u32,
+    wanted: Option<(Instant, WattHours)>,
+) -> bool
+    ensures { (S.state shelf.new).begun ≡ (S.state shelf.old).begun }
+{
+    shelf.point_before(METER, Register::I1, at(rt, second)) == Ok(wanted)
+}
+
+// Whether it is the earliest behind it.
+fn is_behind<S: Shelf>(
+    rt: &impl Abort,
+    shelf: &mut S,
+    second: u32,
+    wanted: Option<(Instant, WattHours)>,
+) -> bool
+    ensures { (S.state shelf.new).begun ≡ (S.state shelf.old).begun }
+{
+    shelf.point_after(METER, Register::I1, at(rt, second)) == Ok(wanted)
+}
+
+// Whether just these points are from one second to another.
+fn are_between<S: Shelf>(
+    rt: &impl Abort,
+    alloc: Global,
+    shelf: &mut S,
+    from: u32,
+    to: u32,
+    wanted: &[(Instant, WattHours)],
+) -> bool
+    ensures { (S.state shelf.new).begun ≡ (S.state shelf.old).begun }
+{
+    let found = shelf.points_between(alloc, METER, Register::I1, at(rt, from), at(rt, to));
+    lists(found, wanted)
+}
+
+fn is_total<S: Shelf>(shelf: &mut S, wanted: u64) -> bool
+    ensures { (S.state shelf.new).begun ≡ (S.state shelf.old).begun }
+{
+    shelf.total(&TOPUPS) == Ok(wanted)
+}
+
+fn points_there<S: Shelf>(rt: &impl Abort, alloc: Global, shelf: &mut S) -> bool
+    ensures { (S.state shelf.new).begun ≡ (S.state shelf.old).begun }
+{
+    let both = [point(rt, FIVE, 8), point(rt, SIX, 9)];
+    is_before(rt, shelf, SIX, Some(point(rt, FIVE, 8)))
+        && is_before(rt, shelf, FIVE, None)
+        && is_behind(rt, shelf, FIVE, Some(point(rt, SIX, 9)))
+        && is_behind(rt, shelf, SIX, None)
+        && are_between(rt, alloc, shelf, FIVE, SIX, &both)
+        && are_between(rt, alloc, shelf, SIX, FIVE, &[])
+}
+
+fn starts_there<S: Shelf>(rt: &impl Abort, alloc: Global, shelf: &mut S) -> bool
+    ensures { (S.state shelf.new).begun ≡ (S.state shelf.old).begun }
+{
+    let starts = [(at(rt, FIVE), Some(SECOND)), (at(rt, SIX), None)];
+    lists(shelf.starts_of(alloc, METER), &starts)
+        && lists(shelf.starts_of(alloc, MeterId(1)), &[])
+        && is_total(shelf, 2_000)
+}
+
+fn parts_given_back<S: Shelf + Drop>(rt: &impl Abort, alloc: Global, mut shelf: S) -> bool
+    requires { (S.state shelf).begun ≡ None }
+{
+    kept(rt, &mut shelf, &KEPT).is_ok()
+        && given_up(rt, &mut shelf)
+        && points_there(rt, alloc, &mut shelf)
+        && starts_there(rt, alloc, &mut shelf)
+}
+
+#[test]
+fn each_part_kept_and_given_back(rt: HostRuntime) {
+    assert!(rt; parts_given_back(&rt, rt.alloc(), MemoryShelf::new(rt.alloc())));
+}
+
+// The second point and the second start alone.
+fn later_there<S: Shelf>(rt: &impl Abort, alloc: Global, shelf: &mut S) -> bool
+    ensures { (S.state shelf.new).begun ≡ (S.state shelf.old).begun }
+{
+    is_before(rt, shelf, SIX, None)
+        && is_behind(rt, shelf, FIVE, Some(point(rt, SIX, 9)))
+        && is_behind(rt, shelf, SIX, None)
+        && are_between(rt, alloc, shelf, FIVE, SEVEN, &[point(rt, SIX, 9)])
+        && lists(shelf.starts_of(alloc, METER), &[(at(rt, SIX), None)])
+        && is_total(shelf, 0)
+}
+
+// Whether an upload that takes away is seen within it, and gone behind it.
+fn taken_away_and_given_up<S: Shelf>(rt: &impl Abort, alloc: Global, shelf: &mut S) -> bool
+    requires { (S.state shelf.old).begun ≡ None }
+    ensures { IsTrue result → (S.state shelf.new).begun ≡ None }
+{
+    shelf.begin().is_ok()
+        && changed(rt, shelf, &TAKEN_AWAY).is_ok()
+        && later_there(rt, alloc, shelf)
+        && shelf.abandon().is_ok()
+        && points_there(rt, alloc, shelf)
+        && starts_there(rt, alloc, shelf)
+}
+
+// Whether an upload of nothing that is given up leaves all as it is.
+fn begun_for_nothing<S: Shelf>(rt: &impl Abort, alloc: Global, shelf: &mut S) -> bool
+    requires { (S.state shelf.old).begun ≡ None }
+{
+    shelf.begin().is_ok() && shelf.abandon().is_ok() && later_there(rt, alloc, shelf)
+}
+
+fn removals_hold<S: Shelf + Drop>(rt: &impl Abort, alloc: Global, mut shelf: S) -> bool
+    requires { (S.state shelf).begun ≡ None }
+{
+    kept(rt, &mut shelf, &KEPT).is_ok()
+        && taken_away_and_given_up(rt, alloc, &mut shelf)
+        && kept(rt, &mut shelf, &TAKEN_AWAY).is_ok()
+        && later_there(rt, alloc, &mut shelf)
+        && begun_for_nothing(rt, alloc, &mut shelf)
+}
+
+#[test]
+fn removals_hold_where_they_are_committed(rt: HostRuntime) {
+    assert!(rt; removals_hold(&rt, rt.alloc(), MemoryShelf::new(rt.alloc())));
+}
+
+// Behind nine calls, two calls that find a row, two that don't, a list of two and an empty one.
+fn rows_of_points_counted<S: Shelf>(
+    rt: &impl Abort,
+    alloc: Global,
+    shelf: &mut CountShelf<S>,
+) -> bool
+    requires { (⟦<CountShelf<S> as Shelf>⟧.state shelf.old).begun ≡ None }
+{
+    kept(rt, shelf, &KEPT).is_ok()
+        && shelf.seen() == 9
+        && points_there(rt, alloc, shelf)
+        && shelf.seen() == 9 + 2 * 2 + 2 + 3 + 1
+}
+
+// Whether the calls are counted, and the shelf inside holds what was kept.
+fn counted_and_kept<S: Shelf + Drop>(rt: &impl Abort, alloc: Global, inner: S) -> bool
+    requires { (S.state inner).begun ≡ None }
+{
+    let mut shelf = CountShelf::new(inner);
+    assert!(rt; rows_of_points_counted(rt, alloc, &mut shelf));
+    starts_there(rt, alloc, &mut shelf.into_inner())
+}
+
+#[test]
+fn calls_and_rows_counted(rt: HostRuntime) {
+    assert!(rt; counted_and_kept(&rt, rt.alloc(), MemoryShelf::new(rt.alloc())));
+}
+
+// Whether the second call fails, and the third where it is to.
+fn fails_at_second<S: Shelf + Drop>(rt: &impl Abort, inner: S, abandons: bool) -> bool
+    requires { (S.state inner).begun ≡ None }
+{
+    let mut shelf = CountShelf::failing(inner, 2, !abandons);
+    shelf.begin().is_ok()
+        && shelf.point_del(METER, Register::I1, at(rt, FIVE)) == Err(ShelfFault::Device)
+        && shelf.abandon().is_ok() == abandons
+        && shelf.seen() == 3
+}
+
+#[test]
+fn fails_where_it_is_told_to(rt: HostRuntime) {
+    for abandons in [true, false] {
+        assert!(rt; fails_at_second(&rt, MemoryShelf::new(rt.alloc()), abandons));
+    }
+}
+
+// A record told by each question.
+fn is_told<S: Shelf>(alloc: Global, shelf: &mut S, payment: &Entry) -> bool
+    ensures { (S.state shelf.new).begun ≡ (S.state shelf.old).begun }
+{
+    lists(shelf.topups(alloc), &[*payment])
+        && shelf.count() == Ok(1)
+        && shelf.holds(payment) == Ok(true)
+}
+
+// Whether a record added is told by each question within an upload, and isn't there behind it.
+fn told_within<S: Shelf + Drop>(alloc: Global, mut shelf: S, payment: &Entry) -> bool
+    requires { (S.state shelf).begun ≡ None }
+{
+    shelf.begin().is_ok()
+        && put(&mut shelf, payment)
+        && is_told(alloc, &mut shelf, payment)
+        && shelf.abandon().is_ok()
+        && never_at(&mut shelf, payment)
+        && shelf.count() == Ok(0)
+}
+
+#[test]
+fn questions_within_an_upload(rt: HostRuntime) {
+    let payment = paid(&rt, b"P1", FIRST, 2_000);
+    assert!(rt; told_within(rt.alloc(), MemoryShelf::new(rt.alloc()), &payment));
+}
+
+// Behind eight calls, a call and two rows.
+fn several_counted<S: Shelf>(rt: &impl Abort, shelf: &mut CountShelf<S>) -> bool
+    requires { (⟦<CountShelf<S> as Shelf>⟧.state shelf.old).begun ≡ None }
+{
+    let (one, other) = (reading(rt, FIVE, 1), reading(rt, FIVE, 2));
+    uploaded(shelf, &one, &other)
+        && shelf.seen() == 8
+        && contents_are(shelf, &one.key, Contents::Several)
+        && shelf.seen() == 8 + 3
+}
+
+// Behind them two calls without a row.
+fn rows_at_keys_counted<S: Shelf + Drop>(rt: &impl Abort, inner: S) -> bool
+    requires { (S.state inner).begun ≡ None }
+{
+    let mut shelf = CountShelf::new(inner);
+    several_counted(rt, &mut shelf)
+        && contents_are(&mut shelf, &reading(rt, SIX, 1).key, Contents::Nothing)
+        && is_total(&mut shelf, 0)
+        && shelf.seen() == 8 + 3 + 2
+}
+
+#[test]
+fn rows_at_keys_and_of_totals_counted(rt: HostRuntime) {
+    assert!(rt; rows_at_keys_counted(&rt, MemoryShelf::new(rt.alloc())));
+}
+
+// Whether the first call fails, and the second lists nothing.
+fn fails_once<S: Shelf>(alloc: Global, shelf: &mut S) -> bool {
+    let refused = shelf.readings_of(alloc, METER, Register::I1).err();
+    refused == Some(ShelfFault::Device) && lists(shelf.readings_of(alloc, METER, Register::I1), &[])
+}
+
+fn fails_inside<S: Shelf + Drop>(alloc: Global, inner: S) -> bool {
+    let mut shelf = CountShelf::new(CountShelf::failing(inner, 1, false));
+    fails_once(alloc, &mut shelf)
+}
+
+#[test]
+fn failure_of_the_store_inside(rt: HostRuntime) {
+    assert!(rt; fails_inside(rt.alloc(), MemoryShelf::new(rt.alloc())));
+}
+
+// Whether adding to an empty store whose call fails tells this fault, and adds nothing where the upload was given up.
+fn adding_tells<S: Shelf + Drop>(
+    inner: S,
+    entry: &Entry,
+    fail_at: u32,
+    abandon_fails: bool,
+    fault: AddFault,
+) -> bool
+    requires idle { (S.state inner).begun ≡ None }
+    requires empty { (S.state inner).content ≡ no_content }
+{
+    let mut shelf = CountShelf::failing(inner, fail_at, abandon_fails);
+    add_once(&mut shelf, entry).err() == Some(fault)
+        && (fault != AddFault::Device || shelf.count() == Ok(0))
 }
 
 // The calls are `begin`, `holds`, `add` and `commit`.
 #[test]
-fn adding_with_a_call_that_fails(rt: HostRuntime) -> Result<(), Fail> {
+fn adding_with_a_call_that_fails(rt: HostRuntime) {
     let payment = paid(&rt, b"P1", FIRST, 2_000);
     for (fail_at, abandon_fails, fault) in [
         (1, true, AddFault::Device),
@@ -425,11 +614,7 @@ fn adding_with_a_call_that_fails(rt: HostRuntime) -> Result<(), Fail> {
         (2, false, AddFault::Device),
         (4, false, AddFault::Device),
     ] {
-        let mut shelf = CountShelf::failing(MemoryShelf::new(rt.alloc()), fail_at, abandon_fails);
-        assert!(rt; fault_of_adding(&mut shelf, &payment) == Some(fault));
-        if fault == AddFault::Device {
-            assert!(rt; shelf.count()? == 0);
-        }
+        let shelf = MemoryShelf::new(rt.alloc());
+        assert!(rt; adding_tells(shelf, &payment, fail_at, abandon_fails, fault));
     }
-    Ok(())
 }

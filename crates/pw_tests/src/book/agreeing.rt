@@ -1,74 +1,53 @@
 //! The answers of a book against those that the definitions give for all the entries that it took.
 
-ghost use Rattle.std.specs.Prelude.{◌≤◌, length};
-ghost use Rattle.pw_model.specs.Office.{AllOfOffice, most_records};
-ghost use Rattle.pw_tariff.specs.Office.{office_of};
-
-use super::{OTHER, energies, money};
+use super::{OTHER, asking, money};
 use crate::sample::{FIRST, METER, SECOND, are_of_office};
 use pw_book::{Book, Entry};
 use pw_model::plain::{self, OfficeTerms};
 use pw_obis::Register;
 use pw_shelf::Shelf;
-use pw_tariff::{AccountId, BandId, Direction, MeterId, Office, Owner};
-use pw_time::Zone;
-use std::alloc::{AllocError, Global};
+use pw_tariff::{AccountId, BandId, Direction, MeterId, Owner};
+use std::alloc::Global;
 use std::process::Abort;
 use std::test::Fail;
 
-// What an owner has of a direction in both bands, computed from the definitions, one second at a time.
-fn plain_energies(
-    alloc: Global,
-    office: &Office,
-    zone: &Zone,
-    entries: &[Entry],
-    owner: Owner,
-    direction: Direction,
-) -> Result<(u64, u64), AllocError>
-    requires entries { AllOfOffice (office_of office.now) entries.now }
-    requires few { length entries.now ≤ most_records }
-{
-    let terms = OfficeTerms::new(office, zone);
-    let low = plain::energy(alloc, &terms, entries, owner, BandId(0), direction)?;
-    let high = plain::energy(alloc, &terms, entries, owner, BandId(1), direction)?;
-    Ok((low, high))
+// Whether a list was told, and is the expected one.
+pub(super) fn is_list<T: PartialEq + Drop, E: Drop>(
+    told: Result<Vec<T>, E>,
+    expected: &[T],
+) -> bool {
+    match told {
+        Ok(list) => list.as_slice() == expected,
+        Err(_) => false,
+    }
 }
 
-// What was topped up for an account and its balance, computed from the definitions.
-fn plain_money(
-    alloc: Global,
-    office: &Office,
-    zone: &Zone,
-    entries: &[Entry],
-    account: AccountId,
-) -> Result<(u128, i128), AllocError>
-    requires entries { AllOfOffice (office_of office.now) entries.now }
-    requires few { length entries.now ≤ most_records }
-{
-    let terms = OfficeTerms::new(office, zone);
-    let cents = plain::topped_up(entries, account);
-    let nano = plain::balance(alloc, &terms, entries, account)?;
-    Ok((cents, nano))
+pub(super) fn length<T: Drop, E: Drop>(told: Result<Vec<T>, E>) -> Result<usize, E> {
+    match told {
+        Ok(list) => Ok(list.len()),
+        Err(fault) => Err(fault),
+    }
 }
 
-// The book answers what the definitions give for all the entries that it took.
-fn energies_agree<S: Shelf>(
+// The book answers what the definitions give for all the entries that it took, one second at a time.
+fn energy_agrees<S: Shelf>(
     rt: &impl Abort,
     alloc: Global,
     book: &mut Book<S>,
     entries: &[Entry],
     owner: Owner,
+    band: BandId,
+    direction: Direction,
 ) -> Result<(), Fail> {
     let of_office = are_of_office(book.office(), book.zone(), entries);
     assert!(rt; of_office && entries.len() <= 100);
-    let (office, zone) = (book.office(), book.zone());
-    let imported = plain_energies(alloc, office, zone, entries, owner, Direction::Import)?;
-    let exported = plain_energies(alloc, office, zone, entries, owner, Direction::Export)?;
-    assert!(rt; energies(rt, alloc, book, owner, Direction::Import)? == imported);
-    assert!(rt; energies(rt, alloc, book, owner, Direction::Export)? == exported);
+    let terms = OfficeTerms::new(book.office(), book.zone());
+    let watt_hours = plain::energy(alloc, &terms, entries, owner, band, direction)?;
+    assert!(rt; asking::energy(rt, book, owner, band, direction) == Ok(watt_hours));
     Ok(())
 }
 
+// What was topped up for an account, and its balance.
 fn money_agrees<S: Shelf>(
     rt: &impl Abort,
     alloc: Global,
@@ -78,9 +57,27 @@ fn money_agrees<S: Shelf>(
 ) -> Result<(), Fail> {
     let of_office = are_of_office(book.office(), book.zone(), entries);
     assert!(rt; of_office && entries.len() <= 100);
-    let both = plain_money(alloc, book.office(), book.zone(), entries, account)?;
+    let terms = OfficeTerms::new(book.office(), book.zone());
+    let both = (
+        plain::topped_up(entries, account),
+        plain::balance(alloc, &terms, entries, account)?,
+    );
     let (cents, nano) = money(rt, alloc, book, account)?;
     assert!(rt; (u128::from(cents), nano) == both);
+    Ok(())
+}
+
+fn energies_agree<S: Shelf>(
+    rt: &impl Abort,
+    alloc: Global,
+    book: &mut Book<S>,
+    entries: &[Entry],
+    owner: Owner,
+) -> Result<(), Fail> {
+    for band in [BandId(0), BandId(1)] {
+        energy_agrees(rt, alloc, book, entries, owner, band, Direction::Import)?;
+        energy_agrees(rt, alloc, book, entries, owner, band, Direction::Export)?;
+    }
     Ok(())
 }
 
@@ -91,10 +88,32 @@ fn agrees<S: Shelf>(
     entries: &[Entry],
 ) -> Result<(), Fail> {
     energies_agree(rt, alloc, book, entries, None)?;
-    for account in [FIRST, SECOND] {
-        energies_agree(rt, alloc, book, entries, Some(account))?;
-        money_agrees(rt, alloc, book, entries, account)?;
-    }
+    energies_agree(rt, alloc, book, entries, Some(FIRST))?;
+    energies_agree(rt, alloc, book, entries, Some(SECOND))?;
+    money_agrees(rt, alloc, book, entries, FIRST)?;
+    money_agrees(rt, alloc, book, entries, SECOND)
+}
+
+fn falls_agree<S: Shelf>(
+    rt: &impl Abort,
+    alloc: Global,
+    book: &mut Book<S>,
+    entries: &[Entry],
+) -> Result<(), Fail> {
+    let falls = plain::falls(alloc, entries)?;
+    assert!(rt; is_list(asking::falls(alloc, book), &falls));
+    Ok(())
+}
+
+fn disputes_agree<S: Shelf>(
+    rt: &impl Abort,
+    alloc: Global,
+    book: &mut Book<S>,
+    entries: &[Entry],
+) -> Result<(), Fail> {
+    assert!(rt; entries.len() <= 100);
+    let disputes = plain::disputes(alloc, entries)?;
+    assert!(rt; is_list(asking::disputes(alloc, book), &disputes));
     Ok(())
 }
 
@@ -104,11 +123,22 @@ fn rows_agree<S: Shelf>(
     book: &mut Book<S>,
     entries: &[Entry],
     meter: MeterId,
+    register: Register,
+) -> Result<(), Fail> {
+    let rows = plain::readings(alloc, entries, meter, register)?;
+    assert!(rt; is_list(asking::readings(rt, alloc, book, meter, register), &rows));
+    Ok(())
+}
+
+fn registers_agree<S: Shelf>(
+    rt: &impl Abort,
+    alloc: Global,
+    book: &mut Book<S>,
+    entries: &[Entry],
 ) -> Result<(), Fail> {
     for register in [Register::I1, Register::I2, Register::E1, Register::E2] {
-        assert!(rt; meter.0 < book.office().meters());
-        let rows = plain::readings(alloc, entries, meter, register)?;
-        assert!(rt; book.readings(alloc, meter, register)?.as_slice() == rows.as_slice());
+        rows_agree(rt, alloc, book, entries, METER, register)?;
+        rows_agree(rt, alloc, book, entries, OTHER, register)?;
     }
     Ok(())
 }
@@ -121,14 +151,9 @@ pub(super) fn all_agree<S: Shelf>(
     entries: &[Entry],
     held: u32,
 ) -> Result<(), Fail> {
-    assert!(rt; entries.len() <= 100);
+    assert!(rt; asking::count(book) == Ok(held));
     agrees(rt, alloc, book, entries)?;
-    let falls = plain::falls(alloc, entries)?;
-    assert!(rt; book.falls(alloc)?.as_slice() == falls.as_slice());
-    let disputes = plain::disputes(alloc, entries)?;
-    assert!(rt; book.disputes(alloc)?.as_slice() == disputes.as_slice());
-    rows_agree(rt, alloc, book, entries, METER)?;
-    rows_agree(rt, alloc, book, entries, OTHER)?;
-    assert!(rt; book.count()? == held);
-    Ok(())
+    falls_agree(rt, alloc, book, entries)?;
+    disputes_agree(rt, alloc, book, entries)?;
+    registers_agree(rt, alloc, book, entries)
 }

@@ -1,9 +1,8 @@
 //! The book from the bytes of uploads.
 
-use super::{money, two_readings_told};
-use crate::sample::FIRST;
+use super::{asking, has_money, post, two_readings_told};
 use crate::uploads::{ASSIGNMENT, TOPUP, TWO_READINGS};
-use pw_book::{Accepted, Book, PostFault};
+use pw_book::{Book, Entry, PostFault};
 use pw_record::{Cause, UploadFault, assignment_records, telegram_records, topup_records};
 use pw_shelf::Shelf;
 use std::alloc::Global;
@@ -15,45 +14,55 @@ const FAULTY: &[u8] =
     b"reference,account,cents,instant\nP2,A1,100,2024-01-01T00:00:00Z\nP3,A1,0,2024-01-01T00:00:00Z\n";
 
 // Why a body isn't taken: for its content, or by the book.
-#[derive(Clone, Copy, Debug, PartialEq, Eq)]
+#[derive(Clone, Copy, PartialEq)]
 enum Refusal {
     Body(UploadFault),
     Book(PostFault),
 }
 
-fn accepted(answer: Result<Accepted, PostFault>) -> Result<(u32, u32), Refusal> {
-    match answer {
-        Ok(Accepted { fresh, repeated }) => Ok((fresh, repeated)),
-        Err(fault) => Err(Refusal::Book(fault)),
+// What the rows of a body are.
+#[derive(Clone, Copy)]
+enum Kind {
+    Telegrams,
+    Assignments,
+    Topups,
+}
+
+fn records<S: Shelf>(
+    alloc: Global,
+    book: &Book<S>,
+    kind: Kind,
+    body: &[u8],
+) -> Result<Vec<Entry>, UploadFault> {
+    match kind {
+        Kind::Telegrams => telegram_records(alloc, book.office(), book.zone(), body),
+        Kind::Assignments => assignment_records(alloc, book.office(), body),
+        Kind::Topups => topup_records(alloc, book.office(), body),
     }
 }
 
-fn telegrams<S: Shelf>(
+fn taken<S: Shelf>(
+    rt: &impl Abort,
     alloc: Global,
     book: &mut Book<S>,
+    kind: Kind,
     body: &[u8],
 ) -> Result<(u32, u32), Refusal> {
-    match telegram_records(alloc, book.office(), book.zone(), body) {
-        Ok(entries) => accepted(book.post(alloc, &entries)),
+    match records(alloc, book, kind, body) {
+        Ok(entries) => post(rt, alloc, book, &entries).map_err(Refusal::Book),
         Err(fault) => Err(Refusal::Body(fault)),
     }
 }
 
-fn assignments<S: Shelf>(
-    alloc: Global,
-    book: &mut Book<S>,
-    body: &[u8],
-) -> Result<(u32, u32), Refusal> {
-    match assignment_records(alloc, book.office(), body) {
-        Ok(entries) => accepted(book.post(alloc, &entries)),
-        Err(fault) => Err(Refusal::Body(fault)),
-    }
-}
-
-fn topups<S: Shelf>(alloc: Global, book: &mut Book<S>, body: &[u8]) -> Result<(u32, u32), Refusal> {
-    match topup_records(alloc, book.office(), body) {
-        Ok(entries) => accepted(book.post(alloc, &entries)),
-        Err(fault) => Err(Refusal::Body(fault)),
+// The bodies of two readings and a top-up, of which the readings come twice.
+fn bodies_taken<S: Shelf>(rt: &impl Abort, alloc: Global, book: &mut Book<S>) {
+    for (kind, body, counts) in [
+        (Kind::Topups, TOPUP, (1, 0)),
+        (Kind::Telegrams, TWO_READINGS, (2, 0)),
+        (Kind::Assignments, ASSIGNMENT, (1, 0)),
+        (Kind::Telegrams, TWO_READINGS, (0, 2)),
+    ] {
+        assert!(rt; taken(rt, alloc, book, kind, body) == Ok(counts));
     }
 }
 
@@ -62,11 +71,8 @@ pub(super) fn bodies_to_figures<S: Shelf>(
     alloc: Global,
     book: &mut Book<S>,
 ) -> Result<(), Fail> {
-    assert!(rt; topups(alloc, book, TOPUP) == Ok((1, 0)));
-    assert!(rt; telegrams(alloc, book, TWO_READINGS) == Ok((2, 0)));
-    assert!(rt; assignments(alloc, book, ASSIGNMENT) == Ok((1, 0)));
-    assert!(rt; telegrams(alloc, book, TWO_READINGS) == Ok((0, 2)));
-    two_readings_told(rt, alloc, book)?;
+    bodies_taken(rt, alloc, book);
+    two_readings_told(rt, alloc, book);
     Ok(())
 }
 
@@ -75,9 +81,8 @@ pub(super) fn header_alone<S: Shelf>(
     alloc: Global,
     book: &mut Book<S>,
 ) -> Result<(), Fail> {
-    let told = assignments(alloc, book, b"meter,start,account\n");
-    assert!(rt; told == Ok((0, 0)));
-    assert!(rt; book.count()? == 0);
+    let told = taken(rt, alloc, book, Kind::Assignments, b"meter,start,account\n");
+    assert!(rt; told == Ok((0, 0)) && asking::count(book) == Ok(0));
     Ok(())
 }
 
@@ -90,8 +95,8 @@ pub(super) fn rows_before_a_faulty_one<S: Shelf>(
         part: 2,
         cause: Cause::Cents,
     };
-    assert!(rt; topups(alloc, book, FAULTY) == Err(Refusal::Body(fault)));
-    assert!(rt; book.count()? == 0);
-    assert!(rt; money(rt, alloc, book, FIRST)? == (0, 0));
+    let told = taken(rt, alloc, book, Kind::Topups, FAULTY);
+    assert!(rt; told == Err(Refusal::Body(fault)) && asking::count(book) == Ok(0));
+    has_money(rt, alloc, book, 0, 0);
     Ok(())
 }

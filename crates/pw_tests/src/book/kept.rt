@@ -1,19 +1,106 @@
 //! The points, starts and totals that the book keeps beside its records, against those of its uploads.
 
-use super::{Books, OTHER, energies, expecting, post, run};
-use crate::sample::{
-    FIRST, FIVE, METER, NEW_YEAR, SECOND, SEVEN, SIX, are_of_office, assigned, at, paid, reading,
-};
+use super::agreeing::is_list;
+use super::{Books, FRESH, OTHER, Sent, Step, energies, entries_of, post, run, steps_agree};
+use crate::sample::{FIRST, FIVE, METER, NEW_YEAR, SECOND, SEVEN, SIX, are_of_office, at};
 use pw_book::Book;
 use pw_model::{Content, Entry, Key, TotalKey};
 use pw_obis::Register;
 use pw_parts::{Parts, true_parts};
 use pw_shelf::{Shelf, ShelfFault};
-use pw_tariff::{BandId, Direction};
+use pw_tariff::{BandId, Direction, MeterId};
 use pw_time::{FIRST_SECOND, LAST_SECOND};
-use std::alloc::Global;
+use std::alloc::{AllocError, Global};
 use std::process::Abort;
 use std::test::Fail;
+
+// The keys of all totals, energies first.
+const TOTALS: [TotalKey; 14] = [
+    TotalKey::Energy {
+        owner: None,
+        band: BandId(0),
+        direction: Direction::Import,
+    },
+    TotalKey::Energy {
+        owner: None,
+        band: BandId(0),
+        direction: Direction::Export,
+    },
+    TotalKey::Energy {
+        owner: None,
+        band: BandId(1),
+        direction: Direction::Import,
+    },
+    TotalKey::Energy {
+        owner: None,
+        band: BandId(1),
+        direction: Direction::Export,
+    },
+    TotalKey::Energy {
+        owner: Some(FIRST),
+        band: BandId(0),
+        direction: Direction::Import,
+    },
+    TotalKey::Energy {
+        owner: Some(FIRST),
+        band: BandId(0),
+        direction: Direction::Export,
+    },
+    TotalKey::Energy {
+        owner: Some(FIRST),
+        band: BandId(1),
+        direction: Direction::Import,
+    },
+    TotalKey::Energy {
+        owner: Some(FIRST),
+        band: BandId(1),
+        direction: Direction::Export,
+    },
+    TotalKey::Energy {
+        owner: Some(SECOND),
+        band: BandId(0),
+        direction: Direction::Import,
+    },
+    TotalKey::Energy {
+        owner: Some(SECOND),
+        band: BandId(0),
+        direction: Direction::Export,
+    },
+    TotalKey::Energy {
+        owner: Some(SECOND),
+        band: BandId(1),
+        direction: Direction::Import,
+    },
+    TotalKey::Energy {
+        owner: Some(SECOND),
+        band: BandId(1),
+        direction: Direction::Export,
+    },
+    TotalKey::TopUps { account: FIRST },
+    TotalKey::TopUps { account: SECOND },
+];
+
+// Adds the points that a store keeps of a register, as readings.
+fn add_points<S: Shelf>(
+    rt: &impl Abort,
+    alloc: Global,
+    shelf: &mut S,
+    points: &mut Vec<Entry>,
+    meter: MeterId,
+    register: Register,
+) -> Result<(), ShelfFault> {
+    let (from, to) = (at(rt, FIRST_SECOND), at(rt, LAST_SECOND));
+    for (instant, wh) in shelf.points_between(alloc, meter, register, from, to)? {
+        let key = Key::Reading {
+            meter,
+            register,
+            instant,
+        };
+        let content = Content::Reading { wh };
+        points.push(Entry { key, content })?;
+    }
+    Ok(())
+}
 
 // The points that a store keeps, as readings in the order of their keys.
 fn points_kept<S: Shelf>(
@@ -21,62 +108,42 @@ fn points_kept<S: Shelf>(
     alloc: Global,
     shelf: &mut S,
 ) -> Result<Vec<Entry>, ShelfFault> {
-    let (from, to) = (at(rt, FIRST_SECOND), at(rt, LAST_SECOND));
     let mut points = Vec::new(alloc);
     for meter in [METER, OTHER] {
         for register in [Register::I1, Register::I2, Register::E1, Register::E2] {
-            let found = shelf.points_between(alloc, meter, register, from, to)?;
-            for (instant, wh) in &found {
-                let key = Key::Reading {
-                    meter,
-                    register,
-                    instant: *instant,
-                };
-                let content = Content::Reading { wh: *wh };
-                points.push(Entry { key, content })?;
-            }
+            add_points(rt, alloc, shelf, &mut points, meter, register)?;
         }
     }
     Ok(points)
 }
 
+// Adds the starts that a store keeps of a meter, as assignments.
+fn add_starts<S: Shelf>(
+    alloc: Global,
+    shelf: &mut S,
+    starts: &mut Vec<Entry>,
+    meter: MeterId,
+) -> Result<(), ShelfFault> {
+    for (start, owner) in shelf.starts_of(alloc, meter)? {
+        let key = Key::Assignment { meter, start };
+        let content = Content::Assignment { owner };
+        starts.push(Entry { key, content })?;
+    }
+    Ok(())
+}
+
 // The starts that a store keeps, as assignments in the order of their keys.
 fn starts_kept<S: Shelf>(alloc: Global, shelf: &mut S) -> Result<Vec<Entry>, ShelfFault> {
     let mut starts = Vec::new(alloc);
-    for meter in [METER, OTHER] {
-        let found = shelf.starts_of(alloc, meter)?;
-        for (start, owner) in &found {
-            let key = Key::Assignment {
-                meter,
-                start: *start,
-            };
-            let content = Content::Assignment { owner: *owner };
-            starts.push(Entry { key, content })?;
-        }
-    }
+    add_starts(alloc, shelf, &mut starts, METER)?;
+    add_starts(alloc, shelf, &mut starts, OTHER)?;
     Ok(starts)
 }
 
 // The totals above 0 that a store keeps, energies first.
 fn totals_kept<S: Shelf>(alloc: Global, shelf: &mut S) -> Result<Vec<(TotalKey, u64)>, ShelfFault> {
     let mut totals = Vec::new(alloc);
-    for owner in [None, Some(FIRST), Some(SECOND)] {
-        for band in [BandId(0), BandId(1)] {
-            for direction in [Direction::Import, Direction::Export] {
-                let key = TotalKey::Energy {
-                    owner,
-                    band,
-                    direction,
-                };
-                let amount = shelf.total(&key)?;
-                if amount > 0 {
-                    totals.push((key, amount))?;
-                }
-            }
-        }
-    }
-    for account in [FIRST, SECOND] {
-        let key = TotalKey::TopUps { account };
+    for key in TOTALS {
         let amount = shelf.total(&key)?;
         if amount > 0 {
             totals.push((key, amount))?;
@@ -91,11 +158,16 @@ fn parts_of<S: Shelf>(
     alloc: Global,
     book: &Book<S>,
     entries: &[Entry],
-) -> Result<Parts, Fail> {
+) -> Result<Parts, AllocError> {
     let of_office = are_of_office(book.office(), book.zone(), entries);
     assert!(rt; of_office && entries.len() <= 100);
-    let parts = true_parts(alloc, book.office(), book.zone(), entries)?;
-    Ok(parts)
+    true_parts(alloc, book.office(), book.zone(), entries)
+}
+
+fn are_kept<S: Shelf>(rt: &impl Abort, alloc: Global, shelf: &mut S, parts: &Parts) {
+    assert!(rt; is_list(points_kept(rt, alloc, shelf), &parts.points));
+    assert!(rt; is_list(starts_kept(alloc, shelf), &parts.starts));
+    assert!(rt; is_list(totals_kept(alloc, shelf), &parts.totals));
 }
 
 // What the store of a book keeps are the parts of all the entries that the book took.
@@ -106,22 +178,15 @@ pub(super) fn parts_agree<S: Shelf + Drop>(
     entries: &[Entry],
 ) -> Result<(), Fail> {
     let parts = parts_of(rt, alloc, &book, entries)?;
-    are_kept(rt, alloc, &mut book.into_shelf(), &parts)
+    are_kept(rt, alloc, &mut book.into_shelf(), &parts);
+    Ok(())
 }
 
-fn are_kept<S: Shelf>(
-    rt: &impl Abort,
-    alloc: Global,
-    shelf: &mut S,
-    parts: &Parts,
-) -> Result<(), Fail> {
-    let points = points_kept(rt, alloc, shelf)?;
-    let starts = starts_kept(alloc, shelf)?;
-    let totals = totals_kept(alloc, shelf)?;
-    assert!(rt; points.as_slice() == parts.points.as_slice());
-    assert!(rt; starts.as_slice() == parts.starts.as_slice());
-    assert!(rt; totals.as_slice() == parts.totals.as_slice());
-    Ok(())
+fn take_each<S: Shelf>(rt: &impl Abort, alloc: Global, book: &mut Book<S>, entries: &[Entry]) {
+    for entry in entries {
+        let told = post(rt, alloc, book, &[*entry]);
+        assert!(rt; told.is_ok());
+    }
 }
 
 // So are they behind uploads of one entry each.
@@ -132,9 +197,7 @@ fn parts_agree_behind<B: Books>(
     entries: &[Entry],
 ) -> Result<(), Fail> {
     let mut book = books.empty(rt, alloc, 100)?;
-    for entry in entries {
-        post(rt, alloc, &mut book, &[*entry])?;
-    }
+    take_each(rt, alloc, &mut book, entries);
     parts_agree(rt, alloc, book, entries)
 }
 
@@ -152,45 +215,81 @@ fn parts_agree_behind_each<B: Books>(
     parts_agree_behind(rt, alloc, books, entries)
 }
 
+fn parts_agree_behind_steps<B: Books>(
+    rt: &impl Abort,
+    alloc: Global,
+    books: &B,
+    steps: &[Step],
+) -> Result<(), Fail> {
+    let entries = entries_of(rt, alloc, steps)?;
+    parts_agree_behind_each(rt, alloc, books, &entries)
+}
+
+const SETTLED_STEPS: [Step; 8] = [
+    Step(Sent::Assigned(NEW_YEAR, Some(FIRST)), FRESH, (0, 0)),
+    Step(Sent::Read(FIVE, 100_000), FRESH, (0, 0)),
+    Step(Sent::Read(SIX, 50_000), FRESH, (0, 0)),
+    Step(Sent::Read(SEVEN, 120_000), FRESH, (0, 70_000)),
+    Step(Sent::Read(SIX, 60_000), FRESH, (10_000, 10_000)),
+    Step(Sent::Read(FIVE + 1_800, 110_000), FRESH, (13_333, 6_667)),
+    Step(Sent::Paid(2_000), FRESH, (13_333, 6_667)),
+    Step(Sent::Paid(3_000), FRESH, (13_333, 6_667)),
+];
+
 pub(super) fn fall_settled_by_dispute<B: Books>(
     rt: &impl Abort,
     alloc: Global,
     books: &B,
 ) -> Result<(), Fail> {
-    let mut book = books.empty(rt, alloc, 100)?;
-    let mut taken = Vec::new(alloc);
-    let steps = [
-        expecting(assigned(rt, NEW_YEAR, Some(FIRST)), 0, 0),
-        expecting(reading(rt, FIVE, 100_000), 0, 0),
-        expecting(reading(rt, SIX, 50_000), 0, 0),
-        expecting(reading(rt, SEVEN, 120_000), 0, 70_000),
-        expecting(reading(rt, SIX, 60_000), 10_000, 10_000),
-        expecting(reading(rt, FIVE + 1_800, 110_000), 13_333, 6_667),
-        expecting(paid(rt, b"P1", FIRST, 2_000), 13_333, 6_667),
-        expecting(paid(rt, b"P1", FIRST, 3_000), 13_333, 6_667),
-    ];
-    run(rt, alloc, &mut book, &mut taken, &steps)?;
-    parts_agree_behind_each(rt, alloc, books, &taken)
+    runs(rt, alloc, &mut books.empty(rt, alloc, 100)?, &SETTLED_STEPS)?;
+    parts_agree_behind_steps(rt, alloc, books, &SETTLED_STEPS)
 }
+
+// The steps are fresh, and the book agrees behind them.
+fn runs<S: Shelf>(
+    rt: &impl Abort,
+    alloc: Global,
+    book: &mut Book<S>,
+    steps: &[Step; 8],
+) -> Result<(), Fail> {
+    run(rt, alloc, book, steps);
+    steps_agree(rt, alloc, book, steps, 8)
+}
+
+// The meter passes to the second account, and then, in dispute, back to the first.
+fn passes_back<S: Shelf>(
+    rt: &impl Abort,
+    alloc: Global,
+    book: &mut Book<S>,
+    steps: &[Step; 6],
+) -> Result<(), Fail> {
+    let (first, last) = steps.split_at(5);
+    run(rt, alloc, book, first);
+    steps_agree(rt, alloc, book, first, 5)?;
+    let both = energies(rt, alloc, book, Some(SECOND), Direction::Import);
+    assert!(rt; both == Ok((0, 1_001)));
+    run(rt, alloc, book, last);
+    steps_agree(rt, alloc, book, steps, 6)
+}
+
+const PASSED_STEPS: [Step; 6] = [
+    Step(Sent::Assigned(NEW_YEAR, Some(FIRST)), FRESH, (0, 0)),
+    Step(Sent::Read(SEVEN, 1_003_001), FRESH, (0, 0)),
+    Step(Sent::Read(FIVE, 1_000_000), FRESH, (1_500, 1_501)),
+    Step(Sent::Read(SIX, 1_001_000), FRESH, (1_000, 2_001)),
+    Step(
+        Sent::Assigned(SIX + 1_800, Some(SECOND)),
+        FRESH,
+        (1_000, 1_000),
+    ),
+    Step(Sent::Assigned(SIX + 1_800, None), FRESH, (1_000, 2_001)),
+];
 
 pub(super) fn assignments_over_a_late_reading<B: Books>(
     rt: &impl Abort,
     alloc: Global,
     books: &B,
 ) -> Result<(), Fail> {
-    let mut book = books.empty(rt, alloc, 100)?;
-    let mut taken = Vec::new(alloc);
-    let steps = [
-        expecting(assigned(rt, NEW_YEAR, Some(FIRST)), 0, 0),
-        expecting(reading(rt, SEVEN, 1_003_001), 0, 0),
-        expecting(reading(rt, FIVE, 1_000_000), 1_500, 1_501),
-        expecting(reading(rt, SIX, 1_001_000), 1_000, 2_001),
-        expecting(assigned(rt, SIX + 1_800, Some(SECOND)), 1_000, 1_000),
-    ];
-    run(rt, alloc, &mut book, &mut taken, &steps)?;
-    let both = energies(rt, alloc, &mut book, Some(SECOND), Direction::Import)?;
-    assert!(rt; both == (0, 1_001));
-    let steps = [expecting(assigned(rt, SIX + 1_800, None), 1_000, 2_001)];
-    run(rt, alloc, &mut book, &mut taken, &steps)?;
-    parts_agree_behind_each(rt, alloc, books, &taken)
+    passes_back(rt, alloc, &mut books.empty(rt, alloc, 100)?, &PASSED_STEPS)?;
+    parts_agree_behind_steps(rt, alloc, books, &PASSED_STEPS)
 }

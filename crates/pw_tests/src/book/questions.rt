@@ -1,11 +1,11 @@
 //! Questions to a book whose device fails, to one that is shut, and what questions cost.
 
 use super::counted::{seen_by, upload};
-use super::{Books, InMemory, imported, takes};
+use super::{Books, InMemory, asking, imported, takes};
 use crate::sample::{FIRST, METER};
-use pw_book::{Book, BookFault};
+use pw_book::{Book, BookFault, Entry};
 use pw_obis::Register;
-use pw_shelf::Shelf;
+use pw_shelf::{CountShelf, Shelf};
 use std::alloc::Global;
 use std::process::Abort;
 use std::test::Fail;
@@ -17,21 +17,41 @@ enum Question {
     Imported,
     ToppedUp,
     Balance,
+    Count,
+    Listed(List),
+}
+
+// What it is asked for a list of.
+#[derive(Clone, Copy)]
+enum List {
     Readings,
     Falls,
     Disputes,
-    Count,
 }
 
 const QUESTIONS: [Question; 7] = [
     Question::Imported,
     Question::ToppedUp,
     Question::Balance,
-    Question::Readings,
-    Question::Falls,
-    Question::Disputes,
+    Question::Listed(List::Readings),
+    Question::Listed(List::Falls),
+    Question::Listed(List::Disputes),
     Question::Count,
 ];
+
+// Why a list isn't told, if it isn't.
+fn fault_of_list<S: Shelf>(
+    rt: &impl Abort,
+    alloc: Global,
+    book: &mut Book<S>,
+    list: List,
+) -> Option<BookFault> {
+    match list {
+        List::Readings => asking::readings(rt, alloc, book, METER, Register::I1).err(),
+        List::Falls => asking::falls(alloc, book).err(),
+        List::Disputes => asking::disputes(alloc, book).err(),
+    }
+}
 
 // Why a question isn't answered, if it isn't.
 fn fault_of<S: Shelf>(
@@ -40,16 +60,12 @@ fn fault_of<S: Shelf>(
     book: &mut Book<S>,
     question: Question,
 ) -> Option<BookFault> {
-    assert!(rt; FIRST.0 < book.office().accounts());
-    assert!(rt; METER.0 < book.office().meters());
     match question {
         Question::Imported => imported(rt, alloc, book).err(),
-        Question::ToppedUp => book.topped_up(FIRST).err(),
-        Question::Balance => book.balance(FIRST).err(),
-        Question::Readings => book.readings(alloc, METER, Register::I1).err(),
-        Question::Falls => book.falls(alloc).err(),
-        Question::Disputes => book.disputes(alloc).err(),
-        Question::Count => book.count().err(),
+        Question::ToppedUp => asking::topped_up(rt, book, FIRST).err(),
+        Question::Balance => asking::balance(rt, book, FIRST).err(),
+        Question::Count => asking::count(book).err(),
+        Question::Listed(list) => fault_of_list(rt, alloc, book, list),
     }
 }
 
@@ -61,7 +77,14 @@ pub(super) fn none_is_answered<S: Shelf>(rt: &impl Abort, alloc: Global, book: &
     }
 }
 
-// Each question to a device that fails at its first call.
+// A question to a device that fails at its first call, and again.
+fn fails_once<S: Shelf>(rt: &impl Abort, alloc: Global, book: &mut Book<S>, question: Question) {
+    let fault = fault_of(rt, alloc, book, question);
+    assert!(rt; fault == Some(BookFault::Device));
+    assert!(rt; fault_of(rt, alloc, book, question) == None);
+}
+
+// Each question to such a device.
 pub(super) fn failing_device<B: Books>(
     rt: &impl Abort,
     alloc: Global,
@@ -69,38 +92,42 @@ pub(super) fn failing_device<B: Books>(
 ) -> Result<(), Fail> {
     for question in QUESTIONS {
         let mut book = books.failing(rt, alloc, 1, false)?;
-        let fault = fault_of(rt, alloc, &mut book, question);
-        assert!(rt; fault == Some(BookFault::Device));
-        assert!(rt; fault_of(rt, alloc, &mut book, question) == None);
+        fails_once(rt, alloc, &mut book, question);
     }
     Ok(())
 }
 
-// The calls and rows that a question takes.
-fn cost_of<B: Books>(
+// The calls and rows that an upload and a question behind it take.
+fn seen_behind<S: Shelf + Drop>(
     rt: &impl Abort,
     alloc: Global,
-    books: &B,
+    mut book: Book<CountShelf<S>>,
+    held: &[Entry],
     question: Question,
-) -> Result<u64, Fail> {
-    let held = upload(rt);
-    let before = seen_by(rt, alloc, books, &[held.as_slice()])?;
-    let mut book = books.failing(rt, alloc, 0, false)?;
-    takes(rt, alloc, &mut book, &held, (4, 0))?;
+) -> u64 {
+    takes(rt, alloc, &mut book, held, (4, 0));
     assert!(rt; fault_of(rt, alloc, &mut book, question) == None);
-    Ok(book.into_shelf().seen().saturating_sub(before))
+    book.into_shelf().seen()
+}
+
+// The calls and rows that a question takes.
+fn cost_of<B: Books>(rt: &impl Abort, alloc: Global, books: &B, question: Question) -> u64 {
+    let held = upload(rt);
+    let before = seen_by(rt, alloc, books, &[held.as_slice()]);
+    let book = books.failing(rt, alloc, 0, false).expect(rt, "a book");
+    let behind = seen_behind(rt, alloc, book, &held, question);
+    behind.saturating_sub(before)
 }
 
 // An energy, and what was topped up, takes at most 2; a balance over two bands at most 10.
 #[test]
-fn costs(rt: HostRuntime) -> Result<(), Fail> {
+fn costs(rt: HostRuntime) {
     for (question, most) in [
         (Question::Imported, 4),
         (Question::ToppedUp, 2),
         (Question::Balance, 10),
     ] {
-        let cost = cost_of(&rt, rt.alloc(), &InMemory, question)?;
+        let cost = cost_of(&rt, rt.alloc(), &InMemory, question);
         assert!(rt; 0 < cost && cost <= most);
     }
-    Ok(())
 }

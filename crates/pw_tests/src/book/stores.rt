@@ -11,84 +11,162 @@ use super::{
     disputed_payment, empty_book_answers, exported_energy, fall_and_recovery,
     late_and_disputed_readings, lists_in_their_order, questions, two_readings_one_topup,
 };
+use pw_book::Book;
+use pw_shelf::Shelf;
 use std::alloc::Global;
 use std::process::Abort;
 use std::test::Fail;
 
 // What is told behind readings and a payment.
+#[derive(Clone, Copy)]
+enum Figure {
+    Nothing,
+    LateReadings,
+    ReadingsAndTopup,
+    Exported,
+    Fall,
+    Lists,
+}
+
+// Owners that change, payments in dispute, and bodies.
+#[derive(Clone, Copy)]
+enum Change {
+    MidPair,
+    ToNobody,
+    // cents of two payments of one reference
+    Payments(u32, u32),
+    Bodies,
+    Header,
+    FaultyBody,
+}
+
+#[derive(Clone, Copy)]
+enum Room {
+    ForOne,
+    ForThree,
+    GivenBack,
+}
+
+// A row over a book of its own.
+#[derive(Clone, Copy)]
+enum Row {
+    Figure(Figure),
+    Change(Change),
+    Room(Room),
+}
+
+// Each row with the limit of its book.
+const FIGURES: [(Row, u32); 6] = [
+    (Row::Figure(Figure::Nothing), 1),
+    (Row::Figure(Figure::LateReadings), 100),
+    (Row::Figure(Figure::ReadingsAndTopup), 100),
+    (Row::Figure(Figure::Exported), 100),
+    (Row::Figure(Figure::Fall), 100),
+    (Row::Figure(Figure::Lists), 100),
+];
+
+const CHANGES: [(Row, u32); 7] = [
+    (Row::Change(Change::MidPair), 100),
+    (Row::Change(Change::ToNobody), 100),
+    (Row::Change(Change::Payments(2_000, 3_000)), 100),
+    (Row::Change(Change::Payments(3_000, 2_000)), 100),
+    (Row::Change(Change::Bodies), 100),
+    (Row::Change(Change::Header), 100),
+    (Row::Change(Change::FaultyBody), 100),
+];
+
+const ROOMS: [(Row, u32); 3] = [
+    (Row::Room(Room::ForOne), 1),
+    (Row::Room(Room::ForThree), 3),
+    (Row::Room(Room::GivenBack), 3),
+];
+
+fn figure_holds<S: Shelf + Drop>(
+    rt: &impl Abort,
+    alloc: Global,
+    mut book: Book<S>,
+    figure: Figure,
+) -> Result<(), Fail> {
+    match figure {
+        Figure::Nothing => empty_book_answers(rt, alloc, &mut book),
+        Figure::LateReadings => late_and_disputed_readings(rt, alloc, book),
+        Figure::ReadingsAndTopup => two_readings_one_topup(rt, alloc, book),
+        Figure::Exported => exported_energy(rt, alloc, &mut book),
+        Figure::Fall => fall_and_recovery(rt, alloc, book),
+        Figure::Lists => lists_in_their_order(rt, alloc, &mut book),
+    }
+}
+
+fn change_holds<S: Shelf + Drop>(
+    rt: &impl Abort,
+    alloc: Global,
+    mut book: Book<S>,
+    change: Change,
+) -> Result<(), Fail> {
+    match change {
+        Change::MidPair => assignment_mid_pair(rt, alloc, book),
+        Change::ToNobody => assignment_to_nobody(rt, alloc, book),
+        Change::Payments(first, other) => disputed_payment(rt, alloc, book, first, other),
+        Change::Bodies => bodies_to_figures(rt, alloc, &mut book),
+        Change::Header => header_alone(rt, alloc, &mut book),
+        Change::FaultyBody => rows_before_a_faulty_one(rt, alloc, &mut book),
+    }
+}
+
+fn room_holds<S: Shelf + Drop>(
+    rt: &impl Abort,
+    alloc: Global,
+    mut book: Book<S>,
+    room: Room,
+) -> Result<(), Fail> {
+    match room {
+        Room::ForOne => room_for_one(rt, alloc, &mut book),
+        Room::ForThree => full_book(rt, alloc, &mut book),
+        Room::GivenBack => store_given_back(rt, alloc, book),
+    }
+}
+
+fn row_holds<S: Shelf + Drop>(
+    rt: &impl Abort,
+    alloc: Global,
+    book: Book<S>,
+    row: Row,
+) -> Result<(), Fail> {
+    match row {
+        Row::Figure(what) => figure_holds(rt, alloc, book, what),
+        Row::Change(what) => change_holds(rt, alloc, book, what),
+        Row::Room(what) => room_holds(rt, alloc, book, what),
+    }
+}
+
+fn all_hold<B: Books>(
+    rt: &impl Abort,
+    alloc: Global,
+    books: &B,
+    rows: &[(Row, u32)],
+) -> Result<(), Fail> {
+    for (row, limit) in rows {
+        row_holds(rt, alloc, books.empty(rt, alloc, *limit)?, *row)?;
+    }
+    Ok(())
+}
+
 fn figures<B: Books>(rt: &impl Abort, alloc: Global, books: &B) -> Result<(), Fail> {
-    empty_book_answers(rt, alloc, &mut books.empty(rt, alloc, 1)?)?;
-    late_and_disputed_readings(rt, alloc, books.empty(rt, alloc, 100)?)?;
-    two_readings_one_topup(rt, alloc, books.empty(rt, alloc, 100)?)?;
-    exported_energy(rt, alloc, &mut books.empty(rt, alloc, 100)?)?;
-    fall_and_recovery(rt, alloc, books.empty(rt, alloc, 100)?)?;
-    lists_in_their_order(rt, alloc, &mut books.empty(rt, alloc, 100)?)
+    all_hold(rt, alloc, books, &FIGURES)
 }
 
-#[test]
-fn figures_in_memory(rt: HostRuntime) -> Result<(), Fail> {
-    figures(&rt, rt.alloc(), &InMemory)
-}
-
-#[test]
-fn figures_with_calls_counted(rt: HostRuntime) -> Result<(), Fail> {
-    figures(&rt, rt.alloc(), &Counting)
-}
-
-#[test]
-fn figures_over_sql(rt: HostRuntime) -> Result<(), Fail> {
-    figures(&rt, rt.alloc(), &OverSql)
-}
-
-// Orders of arrival, owners that change, payments in dispute, and bodies.
+// Orders of arrival, and other changes.
 fn changes<B: Books>(rt: &impl Abort, alloc: Global, books: &B) -> Result<(), Fail> {
     all_six_orders(rt, alloc, books)?;
-    assignment_mid_pair(rt, alloc, books)?;
-    assignment_to_nobody(rt, alloc, books)?;
-    disputed_payment(rt, alloc, books)?;
-    bodies_to_figures(rt, alloc, &mut books.empty(rt, alloc, 100)?)?;
-    header_alone(rt, alloc, &mut books.empty(rt, alloc, 100)?)?;
-    rows_before_a_faulty_one(rt, alloc, &mut books.empty(rt, alloc, 100)?)
-}
-
-#[test]
-fn changes_in_memory(rt: HostRuntime) -> Result<(), Fail> {
-    changes(&rt, rt.alloc(), &InMemory)
-}
-
-#[test]
-fn changes_with_calls_counted(rt: HostRuntime) -> Result<(), Fail> {
-    changes(&rt, rt.alloc(), &Counting)
-}
-
-#[test]
-fn changes_over_sql(rt: HostRuntime) -> Result<(), Fail> {
-    changes(&rt, rt.alloc(), &OverSql)
+    all_hold(rt, alloc, books, &CHANGES)
 }
 
 // Limits, points, starts and totals behind each upload, and a request for memory that is refused.
 fn bounds<B: Books>(rt: &impl Abort, alloc: Global, books: &B) -> Result<(), Fail> {
-    room_for_one(rt, alloc, &mut books.empty(rt, alloc, 1)?)?;
-    full_book(rt, alloc, &mut books.empty(rt, alloc, 3)?)?;
-    store_given_back(rt, alloc, books.empty(rt, alloc, 3)?)?;
+    all_hold(rt, alloc, books, &ROOMS)?;
     fall_settled_by_dispute(rt, alloc, books)?;
     assignments_over_a_late_reading(rt, alloc, books)?;
     memory_refused(rt, alloc, books)
-}
-
-#[test]
-fn bounds_in_memory(rt: HostRuntime) -> Result<(), Fail> {
-    bounds(&rt, rt.alloc(), &InMemory)
-}
-
-#[test]
-fn bounds_with_calls_counted(rt: HostRuntime) -> Result<(), Fail> {
-    bounds(&rt, rt.alloc(), &Counting)
-}
-
-#[test]
-fn bounds_over_sql(rt: HostRuntime) -> Result<(), Fail> {
-    bounds(&rt, rt.alloc(), &OverSql)
 }
 
 // A call of the store that fails: each in turn.
@@ -98,17 +176,97 @@ fn failures<B: Books>(rt: &impl Abort, alloc: Global, books: &B) -> Result<(), F
     questions::failing_device(rt, alloc, books)
 }
 
+// The rows of a test.
+#[derive(Clone, Copy)]
+enum Group {
+    Figures,
+    Changes,
+    Bounds,
+    Failures,
+}
+
+fn group_holds<B: Books>(
+    rt: &impl Abort,
+    alloc: Global,
+    books: &B,
+    group: Group,
+) -> Result<(), Fail> {
+    match group {
+        Group::Figures => figures(rt, alloc, books),
+        Group::Changes => changes(rt, alloc, books),
+        Group::Bounds => bounds(rt, alloc, books),
+        Group::Failures => failures(rt, alloc, books),
+    }
+}
+
+fn in_memory(rt: &impl Abort, alloc: Global, rows: Group) -> Result<(), Fail> {
+    group_holds(rt, alloc, &InMemory, rows)
+}
+
+fn with_calls_counted(rt: &impl Abort, alloc: Global, rows: Group) -> Result<(), Fail> {
+    group_holds(rt, alloc, &Counting, rows)
+}
+
+fn over_sql(rt: &impl Abort, alloc: Global, rows: Group) -> Result<(), Fail> {
+    group_holds(rt, alloc, &OverSql, rows)
+}
+
+#[test]
+fn figures_in_memory(rt: HostRuntime) -> Result<(), Fail> {
+    in_memory(&rt, rt.alloc(), Group::Figures)
+}
+
+#[test]
+fn figures_with_calls_counted(rt: HostRuntime) -> Result<(), Fail> {
+    with_calls_counted(&rt, rt.alloc(), Group::Figures)
+}
+
+#[test]
+fn figures_over_sql(rt: HostRuntime) -> Result<(), Fail> {
+    over_sql(&rt, rt.alloc(), Group::Figures)
+}
+
+#[test]
+fn changes_in_memory(rt: HostRuntime) -> Result<(), Fail> {
+    in_memory(&rt, rt.alloc(), Group::Changes)
+}
+
+#[test]
+fn changes_with_calls_counted(rt: HostRuntime) -> Result<(), Fail> {
+    with_calls_counted(&rt, rt.alloc(), Group::Changes)
+}
+
+#[test]
+fn changes_over_sql(rt: HostRuntime) -> Result<(), Fail> {
+    over_sql(&rt, rt.alloc(), Group::Changes)
+}
+
+#[test]
+fn bounds_in_memory(rt: HostRuntime) -> Result<(), Fail> {
+    in_memory(&rt, rt.alloc(), Group::Bounds)
+}
+
+#[test]
+fn bounds_with_calls_counted(rt: HostRuntime) -> Result<(), Fail> {
+    with_calls_counted(&rt, rt.alloc(), Group::Bounds)
+}
+
+#[test]
+fn bounds_over_sql(rt: HostRuntime) -> Result<(), Fail> {
+    over_sql(&rt, rt.alloc(), Group::Bounds)
+}
+
 #[test]
 fn failures_in_memory(rt: HostRuntime) -> Result<(), Fail> {
-    failures(&rt, rt.alloc(), &InMemory)
+    in_memory(&rt, rt.alloc(), Group::Failures)
 }
 
 #[test]
 fn failures_with_calls_counted(rt: HostRuntime) -> Result<(), Fail> {
-    failures(&rt, rt.alloc(), &Counting)
+    with_calls_counted(&rt, rt.alloc(), Group::Failures)
 }
 
 #[test]
 fn failures_over_sql(rt: HostRuntime) -> Result<(), Fail> {
-    failures(&rt, rt.alloc(), &OverSql)
+    over_sql(&rt, rt.alloc(), Group::Failures)
 }

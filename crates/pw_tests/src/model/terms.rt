@@ -12,7 +12,6 @@ use pw_tariff::{AccountId, BandId, Direction, MeterId, Owner};
 use pw_time::Instant;
 use std::alloc::Global;
 use std::process::Abort;
-use std::test::Fail;
 
 pub struct Sample;
 
@@ -61,37 +60,33 @@ pub fn require_sound<T: Terms>(rt: &impl Abort, terms: &T, entries: &[Entry])
     ensures of_office { AllOfOffice (T.office terms.now) entries.now }
     ensures few { length entries.now ≤ most_records }
 {
-    let of_office = are_of_office(terms, entries);
-    assert!(rt; of_office);
-    assert!(rt; entries.len() <= 10_000_000);
+    assert!(rt; are_of_office(terms, entries) && entries.len() <= 10_000_000);
 }
 
 fn office()
     ensures { IsOffice sample }
 {}
 
-/// The imported Wh of an owner in both bands.
-pub fn imported(
-    alloc: Global,
-    rt: &impl Abort,
-    entries: &[Entry],
-    owner: Owner,
-) -> Result<(u64, u64), Fail> {
-    require_sound(rt, &Sample, entries);
+/// The Wh that an owner imported in a band.
+fn imported_in(alloc: Global, rt: &impl Abort, entries: &[Entry], owner: Owner, band: BandId) -> u64
+    requires of_office { AllOfOffice sample entries.now }
+    requires few { length entries.now ≤ most_records }
+{
     office();
-    let low = energy(alloc, &Sample, entries, owner, LOW, Direction::Import)?;
-    let high = energy(alloc, &Sample, entries, owner, HIGH, Direction::Import)?;
-    Ok((low, high))
+    energy(alloc, &Sample, entries, owner, band, Direction::Import).expect(rt, "memory")
+}
+
+/// The imported Wh of an owner in both bands.
+pub fn imported(alloc: Global, rt: &impl Abort, entries: &[Entry], owner: Owner) -> (u64, u64) {
+    require_sound(rt, &Sample, entries);
+    let low = imported_in(alloc, rt, entries, owner, LOW);
+    let high = imported_in(alloc, rt, entries, owner, HIGH);
+    (low, high)
 }
 
 /// The balance of an account, in nano-euro.
-pub fn nano(
-    alloc: Global,
-    rt: &impl Abort,
-    entries: &[Entry],
-    account: AccountId,
-) -> Result<i128, Fail> {
+pub fn nano(alloc: Global, rt: &impl Abort, entries: &[Entry], account: AccountId) -> i128 {
     require_sound(rt, &Sample, entries);
     office();
-    Ok(balance(alloc, &Sample, entries, account)?)
+    balance(alloc, &Sample, entries, account).expect(rt, "memory")
 }

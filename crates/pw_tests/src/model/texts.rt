@@ -1,14 +1,13 @@
 //! The texts and the order of references.
 
 use crate::sample::{FIRST, paid};
-use pw_model::{Reference, is_same_content, is_same_entry, is_same_key};
+use pw_model::{Entry, Reference, is_same_content, is_same_entry, is_same_key};
 use std::cmp::Ordering;
-use std::test::Fail;
 
 #[test]
-fn references(rt: HostRuntime) -> Result<(), Fail> {
+fn references(rt: HostRuntime) {
     for text in ["P", "P1", "a-Z.09", "ABCDEFGHIJKLMNOPQRSTUVWXYZ.-0123"] {
-        let reference = Reference::of(text.as_bytes()).ok_or("refused")?;
+        let reference = Reference::of(text.as_bytes()).expect(&rt, "a reference");
         assert!(rt; reference.bytes() == text.as_bytes());
     }
     for text in [
@@ -21,11 +20,10 @@ fn references(rt: HostRuntime) -> Result<(), Fail> {
     ] {
         assert!(rt; Reference::of(text.as_bytes()) == None, "{text}");
     }
-    Ok(())
 }
 
 #[test]
-fn order_of_references(rt: HostRuntime) -> Result<(), Fail> {
+fn order_of_references(rt: HostRuntime) {
     for (a, b) in [
         ("P1", "P1-"),
         ("P1-", "P10"),
@@ -33,20 +31,22 @@ fn order_of_references(rt: HostRuntime) -> Result<(), Fail> {
         ("P", "p"),
         ("-", "0"),
     ] {
-        let a = Reference::of(a.as_bytes()).ok_or("refused")?;
-        let b = Reference::of(b.as_bytes()).ok_or("refused")?;
+        let a = Reference::of(a.as_bytes()).expect(&rt, "a reference");
+        let b = Reference::of(b.as_bytes()).expect(&rt, "a reference");
         assert!(rt; a.cmp(&b) == Ordering::Less);
     }
-    Ok(())
+}
+
+// Whether two payments have one key and differ in their contents, of which the first is the less.
+fn are_told_apart(a: &Entry, b: &Entry) -> bool {
+    is_same_key(&a.key, &b.key)
+        && !is_same_content(&a.content, &b.content)
+        && !is_same_entry(a, b)
+        && a.key.cmp(&b.key) == Ordering::Equal
+        && a.cmp(b) == Ordering::Less
 }
 
 #[test]
 fn comparisons(rt: HostRuntime) {
-    let a = paid(&rt, b"P1", FIRST, 1);
-    let b = paid(&rt, b"P1", FIRST, 2);
-    assert!(rt; is_same_key(&a.key, &b.key));
-    assert!(rt; !is_same_content(&a.content, &b.content));
-    assert!(rt; !is_same_entry(&a, &b));
-    assert!(rt; a.key.cmp(&b.key) == Ordering::Equal);
-    assert!(rt; a.cmp(&b) == Ordering::Less);
+    assert!(rt; are_told_apart(&paid(&rt, b"P1", FIRST, 1), &paid(&rt, b"P1", FIRST, 2)));
 }

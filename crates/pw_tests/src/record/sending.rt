@@ -3,10 +3,9 @@
 use pw_record::{
     Entry, UploadFault, assignment_records, readout_records, telegram_records, topup_records,
 };
-use pw_tariff::Office;
+use pw_tariff::{Office, OfficeFault};
 use pw_time::Zone;
-use std::alloc::Global;
-use std::test::Fail;
+use std::alloc::{AllocError, Global};
 
 const OFFICE: &str = r#"accounts = ["A1", "A2"]
 week = [
@@ -55,6 +54,10 @@ clock = "marked"
 registers = ["I1", "I2", "E1", "E2"]
 "#;
 
+fn office(alloc: Global) -> Result<Office, OfficeFault> {
+    Office::read(alloc, OFFICE.as_bytes())
+}
+
 /// Where a body is sent.
 #[derive(Clone, Copy)]
 pub enum Path<'a> {
@@ -62,18 +65,6 @@ pub enum Path<'a> {
     Readouts(&'a [u8]),
     Assignments,
     TopUps,
-}
-
-/// What a body gives in the sample office.
-pub fn send(
-    alloc: Global,
-    path: Path,
-    body: &[u8],
-) -> Result<Result<Vec<Entry>, UploadFault>, Fail> {
-    let Ok(office) = Office::read(alloc, OFFICE.as_bytes()) else {
-        return Err(Fail::from("no office"));
-    };
-    Ok(records_of(alloc, &office, path, body))
 }
 
 /// What a body gives in an office.
@@ -92,18 +83,75 @@ pub fn records_of(
     }
 }
 
-/// The fault line of a body, or how many entries it gives.
-pub fn line_of(alloc: Global, path: Path, body: &[u8]) -> Result<String, Fail> {
-    match send(alloc, path, body)? {
-        Ok(entries) => Ok(format!(in alloc; "{} entries", entries.len())?),
-        Err(fault) => Ok(format!(in alloc; "{fault}")?),
+/// Whether this is the fault line of a body sent to the sample office, or how many entries the body gives.
+pub fn tells(alloc: Global, path: Path, body: &[u8], line: &str) -> bool {
+    match office(alloc) {
+        Ok(office) => tells_in(alloc, &office, path, body, line),
+        Err(_) => false,
     }
 }
 
-/// Whether a body gives these entries.
-pub fn gives(alloc: Global, path: Path, body: &[u8], wanted: &[Entry]) -> Result<bool, Fail> {
-    match send(alloc, path, body)? {
-        Ok(entries) => Ok(entries.as_slice() == wanted),
-        Err(_) => Ok(false),
+fn tells_in(alloc: Global, office: &Office, path: Path, body: &[u8], line: &str) -> bool {
+    let told = match records_of(alloc, office, path, body) {
+        Ok(entries) => format!(in alloc; "{} entries", entries.len()),
+        Err(fault) => format!(in alloc; "{fault}"),
+    };
+    match told {
+        Ok(told) => told.as_str() == line,
+        Err(_) => false,
+    }
+}
+
+/// Whether two texts, one behind the other, are a body of this line.
+pub fn joined_tells(alloc: Global, path: Path, front: &[u8], back: &[u8], line: &str) -> bool {
+    match joined(alloc, front, back) {
+        Ok(body) => tells(alloc, path, &body, line),
+        Err(_) => false,
+    }
+}
+
+/// Whether each of some texts behind a front is a body of its line.
+pub fn all_tell(alloc: Global, path: Path, front: &[u8], cases: &[(&[u8], &str)]) -> bool {
+    for (back, line) in cases {
+        if !joined_tells(alloc, path, front, back, line) {
+            return false;
+        }
+    }
+    true
+}
+
+/// Two texts, one behind the other.
+pub fn joined(alloc: Global, front: &[u8], back: &[u8]) -> Result<Vec<u8>, AllocError> {
+    let mut body = Vec::from_slice(alloc, front)?;
+    body.extend_from_slice(back)?;
+    Ok(body)
+}
+
+/// Whether a body sent to the sample office gives these entries.
+pub fn gives(alloc: Global, path: Path, body: &[u8], wanted: &[Entry]) -> bool {
+    match office(alloc) {
+        Ok(office) => gives_in(alloc, &office, path, body, wanted),
+        Err(_) => false,
+    }
+}
+
+fn gives_in(alloc: Global, office: &Office, path: Path, body: &[u8], wanted: &[Entry]) -> bool {
+    match records_of(alloc, office, path, body) {
+        Ok(entries) => entries.as_slice() == wanted,
+        Err(_) => false,
+    }
+}
+
+/// Whether two texts, one behind the other, are a body that gives these entries.
+pub fn joined_gives(
+    alloc: Global,
+    path: Path,
+    front: &[u8],
+    back: &[u8],
+    wanted: &[Entry],
+) -> bool {
+    match joined(alloc, front, back) {
+        Ok(body) => gives(alloc, path, &body, wanted),
+        Err(_) => false,
     }
 }

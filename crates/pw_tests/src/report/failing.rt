@@ -1,12 +1,12 @@
 //! Pages of a book whose device fails at one call.
 
+use super::page_of;
 use crate::book::book_of;
-use crate::offices::SAMPLE;
-use crate::sample::FIRST;
+use crate::sample::{FIRST, sample_office};
 use pw_book::{Book, BookFault};
-use pw_report::{Page, page_text};
+use pw_report::Page;
 use pw_shelf::{CountShelf, MemoryShelf, Shelf};
-use pw_tariff::{Office, OfficeFault};
+use pw_tariff::OfficeFault;
 use std::alloc::Global;
 use std::process::Abort;
 use std::test::Fail;
@@ -17,33 +17,32 @@ fn failing_book(
     alloc: Global,
     fail_at: u32,
 ) -> Result<Book<CountShelf<MemoryShelf>>, OfficeFault> {
-    let office = Office::read(alloc, SAMPLE.as_bytes())?;
+    let office = sample_office(alloc)?;
     let shelf = CountShelf::failing(MemoryShelf::new(alloc), fail_at, false);
     Ok(book_of(rt, office, shelf, 100))
 }
 
-// Why there is no page, if there is none.
-fn fault_of<S: Shelf>(
-    rt: &impl Abort,
-    alloc: Global,
-    book: &mut Book<S>,
-    page: Page,
-) -> Option<BookFault> {
-    if let Page::Statement(account) = page {
-        assert!(rt; account.0 < book.office().accounts());
-    }
-    page_text(book, alloc, page).err()
+// Whether a page of a book fails by its device, and is given when it is asked for again. (A page that is given doesn't fail.)
+fn fails_once<S: Shelf>(rt: &impl Abort, alloc: Global, book: &mut Book<S>, page: Page) -> bool {
+    let Some(fault) = page_of(rt, alloc, book, page).err() else {
+        return false;
+    };
+    assert!(rt; fault == BookFault::Device);
+    assert!(rt; page_of(rt, alloc, book, page).is_ok());
+    true
+}
+
+fn fails_at(rt: &impl Abort, alloc: Global, page: Page, fail_at: u32) -> Result<bool, OfficeFault> {
+    let mut book = failing_book(rt, alloc, fail_at)?;
+    Ok(fails_once(rt, alloc, &mut book, page))
 }
 
 // How many calls a page takes, each of which is told where it fails.
-fn calls_of(rt: &impl Abort, alloc: Global, page: Page) -> Result<u32, Fail> {
+fn calls_of(rt: &impl Abort, alloc: Global, page: Page) -> Result<u32, OfficeFault> {
     for fail_at in 1..200 {
-        let mut book = failing_book(rt, alloc, fail_at)?;
-        let Some(fault) = fault_of(rt, alloc, &mut book, page) else {
+        if !fails_at(rt, alloc, page, fail_at)? {
             return Ok(fail_at - 1);
-        };
-        assert!(rt; fault == BookFault::Device);
-        assert!(rt; fault_of(rt, alloc, &mut book, page) == None);
+        }
     }
     panic!(rt; "a page takes fewer calls")
 }

@@ -1,0 +1,67 @@
+//! The questions to a book, each with what it asks of its caller asserted before.
+
+use pw_book::{Book, BookFault};
+use pw_model::{Dispute, Fall, ReadingRow};
+use pw_obis::Register;
+use pw_shelf::Shelf;
+use pw_tariff::{AccountId, BandId, Direction, MeterId, Owner};
+use std::alloc::Global;
+use std::process::Abort;
+
+pub(super) fn energy<S: Shelf>(
+    rt: &impl Abort,
+    book: &mut Book<S>,
+    owner: Owner,
+    band: BandId,
+    direction: Direction,
+) -> Result<u64, BookFault> {
+    if let Some(account) = owner {
+        assert!(rt; account.0 < book.office().accounts());
+    }
+    assert!(rt; band.0 < book.office().bands());
+    book.energy(owner, band, direction)
+}
+
+pub(super) fn topped_up<S: Shelf>(
+    rt: &impl Abort,
+    book: &mut Book<S>,
+    account: AccountId,
+) -> Result<u64, BookFault> {
+    assert!(rt; account.0 < book.office().accounts());
+    book.topped_up(account)
+}
+
+pub(super) fn balance<S: Shelf>(
+    rt: &impl Abort,
+    book: &mut Book<S>,
+    account: AccountId,
+) -> Result<i128, BookFault> {
+    assert!(rt; account.0 < book.office().accounts());
+    book.balance(account)
+}
+
+pub(super) fn readings<S: Shelf>(
+    rt: &impl Abort,
+    alloc: Global,
+    book: &mut Book<S>,
+    meter: MeterId,
+    register: Register,
+) -> Result<Vec<ReadingRow>, BookFault> {
+    assert!(rt; meter.0 < book.office().meters());
+    book.readings(alloc, meter, register)
+}
+
+pub(super) fn falls<S: Shelf>(alloc: Global, book: &mut Book<S>) -> Result<Vec<Fall>, BookFault> {
+    book.falls(alloc)
+}
+
+pub(super) fn disputes<S: Shelf>(
+    alloc: Global,
+    book: &mut Book<S>,
+) -> Result<Vec<Dispute>, BookFault> {
+    book.disputes(alloc)
+}
+
+pub(super) fn count<S: Shelf>(book: &mut Book<S>) -> Result<u32, BookFault> {
+    book.count()
+}
