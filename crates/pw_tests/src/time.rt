@@ -142,9 +142,13 @@ fn changes_are_those_of_the_rule(rt: HostRuntime) -> Result<(), Fail> {
 /// Noon of each day is written, and read back.
 #[test]
 fn each_day_is_written_and_read_back(rt: HostRuntime) -> Result<(), Fail> {
+    let mut days = 0u32;
     for day in 10_957u32..47_482 {
         let noon = Instant::of(day * 86_400 + 43_200).ok_or("not an instant")?;
-        assert!(rt; utc(&write_utc(noon)) == Ok(noon), "on day {day}");
+        let text = write_utc(noon);
+        assert!(rt; utc(&text) == Ok(noon), "on day {day}");
+        days = days.saturating_add(1);
     }
+    assert!(rt; days == 36_525);
     Ok(())
 }
