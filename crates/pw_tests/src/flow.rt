@@ -37,21 +37,29 @@ fn energy_within(points: &[Point], from: u32, until: u32) -> u128
     energy(points, |second| from <= second && second < until)
 }
 
+// Whether these are the energies from a second up to another.
+fn are_energies(points: &[Point], rows: &[(u32, u32, u128)]) -> bool
+    requires rising { AreInTime (λ p. p.at) points.now }
+    requires early { All (λ p. p.at < 2 ^ 31) points.now }
+{
+    for (from, until, watt_hours) in rows {
+        if energy_within(points, *from, *until) != *watt_hours {
+            return false;
+        }
+    }
+    true
+}
+
 #[test]
 fn one_watt_hour_over_two_hours(rt: HostRuntime) {
-    let points = [reading(FIVE, 0), reading(SEVEN, 1)];
-    for (from, until, want) in [
+    let rows = [
         (FIVE, SEVEN, 1),
         (FIVE, SIX, 0),
         (SIX, SEVEN, 1),
         (SEVEN - 1, SEVEN, 1),
         (SEVEN, EIGHT, 0),
-    ] {
-        assert!(rt;
-            energy_within(&points, from, until) == want,
-            "from {from} until {until}"
-        );
-    }
+    ];
+    assert!(rt; are_energies(&[reading(FIVE, 0), reading(SEVEN, 1)], &rows));
 }
 
 #[test]
@@ -66,26 +74,24 @@ fn nothing_flows(rt: HostRuntime) {
 fn all_in_one_second(rt: HostRuntime) {
     for watt_hours in [1, LARGEST] {
         let points = [reading(FIVE, 0), reading(FIVE + 1, watt_hours)];
-        assert!(rt; energy_within(&points, FIVE, FIVE + 1) == u128::from(watt_hours));
-        assert!(rt; energy_within(&points, FIVE + 1, NINE) == 0);
+        let rows = [
+            (FIVE, FIVE + 1, u128::from(watt_hours)),
+            (FIVE + 1, NINE, 0),
+        ];
+        assert!(rt; are_energies(&points, &rows));
     }
 }
 
 #[test]
 fn largest_value_within_an_hour(rt: HostRuntime) {
-    let points = [reading(FIVE, 0), reading(SIX, LARGEST)];
-    for (from, until, want) in [
+    let rows = [
         (FIVE, SIX, 99_999_999_999),
         (FIVE, FIVE + 1_800, 49_999_999_999),
         (FIVE + 1_800, SIX, 50_000_000_000),
         (FIVE, FIVE + 1, 27_777_777),
         (FIVE + 1, FIVE + 2, 27_777_778),
-    ] {
-        assert!(rt;
-            energy_within(&points, from, until) == want,
-            "from {from} until {until}"
-        );
-    }
+    ];
+    assert!(rt; are_energies(&[reading(FIVE, 0), reading(SIX, LARGEST)], &rows));
 }
 
 #[test]
@@ -97,29 +103,23 @@ fn falls_between_rises(rt: HostRuntime) {
         reading(EIGHT, 20),
         reading(NINE, 23),
     ];
-    for (from, until, want) in [
+    let rows = [
         (FIVE, NINE, 73),
         (FIVE, SIX, 0),
         (SIX, SEVEN, 70),
         (SEVEN, EIGHT, 0),
         (EIGHT, NINE, 3),
-    ] {
-        assert!(rt;
-            energy_within(&points, from, until) == want,
-            "from {from} until {until}"
-        );
-    }
+    ];
+    assert!(rt; are_energies(&points, &rows));
 }
 
 // Two readings, and then one more between them.
 #[test]
 fn late_reading(rt: HostRuntime) {
     let two = [reading(FIVE, 1_000_000), reading(SEVEN, 1_003_001)];
-    assert!(rt; energy_within(&two, FIVE, SIX) == 1_500);
-    assert!(rt; energy_within(&two, SIX, SEVEN) == 1_501);
+    assert!(rt; are_energies(&two, &[(FIVE, SIX, 1_500), (SIX, SEVEN, 1_501)]));
     let three = [two[0], reading(SIX, 1_001_000), two[1]];
-    assert!(rt; energy_within(&three, FIVE, SIX) == 1_000);
-    assert!(rt; energy_within(&three, SIX, SEVEN) == 2_001);
+    assert!(rt; are_energies(&three, &[(FIVE, SIX, 1_000), (SIX, SEVEN, 2_001)]));
 }
 
 // 744 Wh over 31 days are one in each hour.
@@ -127,8 +127,7 @@ fn late_reading(rt: HostRuntime) {
 fn thirty_one_days(rt: HostRuntime) {
     let end = FIVE + 2_678_400;
     let points = [reading(FIVE, 0), reading(end, 744)];
-    assert!(rt; energy_within(&points, FIVE, end) == 744);
-    assert!(rt; energy_within(&points, SIX, EIGHT) == 2);
+    assert!(rt; are_energies(&points, &[(FIVE, end, 744), (SIX, EIGHT, 2)]));
 }
 
 #[test]

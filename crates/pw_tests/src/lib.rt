@@ -2,15 +2,15 @@
 //! devices and wires that fail.
 #![tactic(auto)]
 
+pub mod books;
 #[cfg(test)]
-mod book;
-#[cfg(test)]
-mod disk;
+mod entries;
 #[cfg(test)]
 mod flow;
 #[cfg(test)]
 mod frame;
-pub mod memory_books;
+#[cfg(test)]
+mod http;
 #[cfg(test)]
 mod model;
 #[cfg(test)]
@@ -24,12 +24,9 @@ mod read;
 mod record;
 #[cfg(test)]
 mod report;
-#[cfg(test)]
-mod sample;
+pub mod sample;
 #[cfg(test)]
 mod shelf;
-#[cfg(test)]
-mod sql_stores;
 #[cfg(test)]
 mod tariff;
 #[cfg(test)]
@@ -37,3 +34,5 @@ mod telegrams;
 #[cfg(test)]
 mod time;
 pub mod uploads;
+#[cfg(test)]
+mod words;

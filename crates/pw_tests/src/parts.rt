@@ -3,7 +3,8 @@
 mod memory;
 mod rows;
 
-use crate::sample::{FIRST, KINDS, SECOND, are_of_office, assigned, paid, shown};
+use crate::entries::{assigned, paid, shown};
+use crate::sample::{FIRST, KINDS, SECOND, are_of_office};
 use pw_model::plain::{self, OfficeTerms};
 use pw_model::{Entry, TotalKey};
 use pw_obis::Register;

@@ -9,7 +9,7 @@ mod failing;
 mod memory;
 mod tables;
 
-use crate::memory_books::book_of;
+use crate::books::book_of;
 use crate::offices::SAMPLE;
 use crate::uploads::ASSIGNMENT;
 use pw_book::{Accepted, Book, BookFault, Entry, PostFault};

@@ -11,7 +11,6 @@ use pw_obis::{Register, WattHours};
 use pw_tariff::{AccountId, BandId, Direction, MeterId, Office, OfficeFault, Owner};
 use pw_time::{Instant, Zone};
 use std::alloc::Global;
-use std::process::Abort;
 
 /// 2024-01-02T05:00:00Z, and the hours behind it.
 pub const FIVE: u32 = 1_704_171_600;
@@ -62,67 +61,34 @@ pub fn are_of_office(office: &Office, zone: &Zone, entries: &[Entry]) -> bool
     plain::are_of_office(&terms, entries)
 }
 
-pub fn at(rt: &impl Abort, second: u32) -> Instant {
-    Instant::of(second).expect(rt, "an instant")
-}
-
-pub fn wh(rt: &impl Abort, watt_hours: u64) -> WattHours {
-    WattHours::of(watt_hours).expect(rt, "watt-hours")
-}
-
-pub fn shown(
-    rt: &impl Abort,
-    meter: MeterId,
-    register: Register,
-    second: u32,
-    watt_hours: u64,
-) -> Entry {
+/// A reading.
+pub fn shown(meter: MeterId, register: Register, instant: Instant, wh: WattHours) -> Entry {
     Entry {
         key: Key::Reading {
             meter,
             register,
-            instant: at(rt, second),
+            instant,
         },
-        content: Content::Reading {
-            wh: wh(rt, watt_hours),
-        },
+        content: Content::Reading { wh },
     }
 }
 
-/// A reading of the first register of the first meter.
-pub fn reading(rt: &impl Abort, second: u32, watt_hours: u64) -> Entry {
-    shown(rt, METER, Register::I1, second, watt_hours)
-}
-
-/// A reading of what it exports.
-pub fn exported(rt: &impl Abort, second: u32, watt_hours: u64) -> Entry {
-    shown(rt, METER, Register::E1, second, watt_hours)
-}
-
-/// An assignment of the first meter.
-pub fn assigned(rt: &impl Abort, second: u32, owner: Owner) -> Entry {
-    given(rt, METER, second, owner)
-}
-
-pub fn given(rt: &impl Abort, meter: MeterId, second: u32, owner: Owner) -> Entry {
+/// An assignment.
+pub fn given(meter: MeterId, start: Instant, owner: Owner) -> Entry {
     Entry {
-        key: Key::Assignment {
-            meter,
-            start: at(rt, second),
-        },
+        key: Key::Assignment { meter, start },
         content: Content::Assignment { owner },
     }
 }
 
-pub fn paid(rt: &impl Abort, reference: &[u8], account: AccountId, cents: u32) -> Entry {
+/// A top-up.
+pub fn paid(reference: Reference, account: AccountId, cents: u32, instant: Instant) -> Entry {
     Entry {
-        key: Key::TopUp {
-            reference: Reference::of(reference).expect(rt, "a reference"),
-        },
+        key: Key::TopUp { reference },
         content: Content::TopUp {
             account,
             cents,
-            instant: at(rt, NEW_YEAR),
+            instant,
         },
     }
 }

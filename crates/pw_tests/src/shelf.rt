@@ -3,9 +3,8 @@
 ghost use Rattle.std.specs.Prelude.{◌≡◌, ◌<◌, None, IsSome, IsTrue, OnOk, length};
 ghost use Rattle.pw_model.specs.Shelf.{no_content};
 
-use crate::sample::{
-    FIRST, FIVE, METER, SECOND, SEVEN, SIX, assigned, at, exported, paid, reading, shown, wh,
-};
+use crate::entries::{assigned, at, exported, paid, reading, shown, wh};
+use crate::sample::{FIRST, FIVE, METER, SECOND, SEVEN, SIX};
 use pw_model::{Entry, Key};
 use pw_obis::{Register, WattHours};
 use pw_shelf::laws::memory_abandons;

@@ -3,7 +3,7 @@
 use pw_book::Book;
 use pw_commands::{SAMPLE, serve_on};
 use pw_shelf::Shelf;
-use pw_tests::memory_books::book_of;
+use pw_tests::books::book_of;
 use std::alloc::Global;
 use std::io::{self, Read, Write};
 use std::net::{Shutdown, TcpListener, TcpStream};

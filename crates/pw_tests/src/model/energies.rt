@@ -1,7 +1,8 @@
 //! Rows on energies and balances.
 
 use super::terms::{imported, nano};
-use crate::sample::{FIRST, FIVE, NEW_YEAR, SECOND, SEVEN, SIX, assigned, paid, reading};
+use crate::entries::{assigned, paid, reading};
+use crate::sample::{FIRST, FIVE, NEW_YEAR, SECOND, SEVEN, SIX};
 use pw_model::Entry;
 use pw_tariff::Owner;
 use std::alloc::Global;
@@ -105,13 +106,9 @@ fn fall_and_recovery(rt: HostRuntime) {
     let low = reading(&rt, SIX, 50_000);
     let last = reading(&rt, SEVEN, 120_000);
     let other = reading(&rt, SIX, 60_000);
+    let records = [owner, high, low, last, other];
     assert!(rt;
-        has_imported(&rt, alloc, &[owner, high, low, last], (0, 70_000))
-            && has_imported(
-                &rt,
-                alloc,
-                &[owner, high, low, last, other],
-                (10_000, 10_000)
-            )
+        has_imported(&rt, alloc, &records[..4], (0, 70_000))
+            && has_imported(&rt, alloc, &records, (10_000, 10_000))
     );
 }

@@ -5,7 +5,8 @@ ghost use Rattle.pw_model.specs.Office.{most_records};
 
 use super::lists::fall;
 use super::terms::{Sample, imported, nano};
-use crate::sample::{FIRST, FIVE, NEW_YEAR, SECOND, assigned, at, paid, reading, wh};
+use crate::entries::{assigned, at, paid, reading, wh};
+use crate::sample::{FIRST, FIVE, NEW_YEAR, SECOND};
 use pw_flow::plain::Point;
 use pw_model::plain::{
     are_of_office, contents_at, disputes, falls, owner_at, points_of, readings, topped_up,

@@ -1,8 +1,7 @@
 //! Rows on falls, disputes and readings.
 
-use crate::sample::{
-    FIRST, FIVE, NEW_YEAR, SECOND, SEVEN, SIX, assigned, at, exported, paid, reading, wh,
-};
+use crate::entries::{assigned, at, exported, paid, reading, wh};
+use crate::sample::{FIRST, FIVE, NEW_YEAR, SECOND, SEVEN, SIX};
 use pw_model::plain::{disputes, falls, readings};
 use pw_model::{Dispute, Entry, Fall, ReadingRow};
 use pw_obis::Register;

@@ -3,8 +3,9 @@
 ghost use Rattle.pw_model.specs.Office.{IsOffice};
 
 use super::terms::require_sound;
+use crate::entries::{assigned, paid, reading};
 use crate::offices::SAMPLE;
-use crate::sample::{FIRST, FIVE, HIGH, LOW, METER, NEW_YEAR, SEVEN, assigned, paid, reading};
+use crate::sample::{FIRST, FIVE, HIGH, LOW, METER, NEW_YEAR, SEVEN};
 use pw_model::Entry;
 use pw_model::plain::{OfficeTerms, Terms, balance, energy};
 use pw_obis::Register;

@@ -1,6 +1,7 @@
 //! Rows on top-ups, and what counts at a key.
 
-use crate::sample::{FIRST, FIVE, NEW_YEAR, SECOND, assigned, paid, reading};
+use crate::entries::{assigned, paid, reading};
+use crate::sample::{FIRST, FIVE, NEW_YEAR, SECOND};
 use pw_model::plain::{contents_at, owner_at, topped_up};
 use pw_model::{Content, Contents, Entry};
 use pw_tariff::MeterId;

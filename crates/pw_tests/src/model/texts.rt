@@ -1,6 +1,7 @@
 //! The texts and the order of references.
 
-use crate::sample::{FIRST, paid};
+use crate::entries::paid;
+use crate::sample::FIRST;
 use pw_model::{Entry, Reference, is_same_content, is_same_entry, is_same_key};
 use std::cmp::Ordering;
 

@@ -2,7 +2,8 @@
 
 use super::bodies::*;
 use super::sending::{Path, all_tell, gives, joined_gives, tells};
-use crate::sample::{FIVE, shown};
+use crate::entries::shown;
+use crate::sample::FIVE;
 use crate::telegrams::{ISKRA, KAIFA};
 use pw_obis::Register;
 use pw_tariff::MeterId;

@@ -2,7 +2,8 @@
 
 use super::bodies::{FIRST, READOUT};
 use super::sending::{Path, records_of};
-use crate::sample::{FIVE, NEW_YEAR, given, paid, shown};
+use crate::entries::{given, paid, shown};
+use crate::sample::{FIVE, NEW_YEAR};
 use pw_obis::Register;
 use pw_record::{Cause, Entry, UploadFault};
 use pw_tariff::{AccountId, MeterId, Office, OfficeFault};

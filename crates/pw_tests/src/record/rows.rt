@@ -1,7 +1,8 @@
 //! Bodies of assignment rows and of top-up rows.
 
 use super::sending::{Path, all_tell, gives, joined, joined_gives, tells};
-use crate::sample::{NEW_YEAR, given, paid};
+use crate::entries::{given, paid};
+use crate::sample::NEW_YEAR;
 use pw_tariff::{AccountId, MeterId};
 use std::test::Fail;
 

@@ -1,7 +1,7 @@
 //! Pages of a book whose device fails at one call.
 
 use super::page_of;
-use crate::book::book_of;
+use crate::books::empty_book;
 use crate::sample::{FIRST, sample_office};
 use pw_book::{Book, BookFault};
 use pw_report::Page;
@@ -12,14 +12,10 @@ use std::process::Abort;
 use std::test::Fail;
 
 // An empty book over a store that fails at a call.
-fn failing_book(
-    rt: &impl Abort,
-    alloc: Global,
-    fail_at: u32,
-) -> Result<Book<CountShelf<MemoryShelf>>, OfficeFault> {
+fn failing_book(alloc: Global, fail_at: u32) -> Result<Book<CountShelf<MemoryShelf>>, OfficeFault> {
     let office = sample_office(alloc)?;
     let shelf = CountShelf::failing(MemoryShelf::new(alloc), fail_at, false);
-    Ok(book_of(rt, office, shelf, 100))
+    Ok(empty_book(office, shelf, 100))
 }
 
 // Whether a page of a book fails by its device, and is given when it is asked for again. (A page that is given doesn't fail.)
@@ -33,7 +29,7 @@ fn fails_once<S: Shelf>(rt: &impl Abort, alloc: Global, book: &mut Book<S>, page
 }
 
 fn fails_at(rt: &impl Abort, alloc: Global, page: Page, fail_at: u32) -> Result<bool, OfficeFault> {
-    let mut book = failing_book(rt, alloc, fail_at)?;
+    let mut book = failing_book(alloc, fail_at)?;
     Ok(fails_once(rt, alloc, &mut book, page))
 }
 

@@ -6,7 +6,8 @@ ghost use Rattle.pw_tariff.specs.Office.{office_of};
 
 use super::files::hourly;
 use super::shares::{cell, span};
-use crate::sample::{FIRST, HIGH, LOW, METER, SECOND, are_of_office, given, reading};
+use crate::entries::{given, reading};
+use crate::sample::{FIRST, HIGH, LOW, METER, SECOND, are_of_office};
 use pw_model::Entry;
 use pw_model::plain::{OfficeTerms, energy};
 use pw_tariff::{AccountId, Cell, Direction, Office, Owner, Owners, Span, apportion};

@@ -1,0 +1,14 @@
+use Rattle.std.proofs.Common.{sym, subst}
+use Rattle.pw_tariff.specs.Office.{office_of}
+use Rattle.pw_model.specs.Office.{AllOfOffice}
+use Rattle.pw_model.specs.Shelf.{IsTrueContent}
+use Rattle.pw_shelf.specs.State.{State}
+use Rattle.pw_command_tests.proofs.book.sql.OverSqlBooks.failing.Goals as goal
+
+pub book_over-requires-clause-of_office : goal.book_over-requires-clause-of_office
+book_over-requires-clause-of_office g c = λ clean.
+    subst (λ (s : State). AllOfOffice (office_of c.in_ok-office.office) s.content.records) (sym c.failing-failing.ensures.state) (c.in-Ok.ensures.of_office (c.failing-failing.ensures.clean.0 clean))
+
+pub book_over-requires-clause-truth : goal.book_over-requires-clause-truth
+book_over-requires-clause-truth g c = λ clean.
+    subst (λ (s : State). IsTrueContent (office_of c.in_ok-office.office) s.content) (sym c.failing-failing.ensures.state) (c.in-Ok.ensures.truth (c.failing-failing.ensures.clean.0 clean))

@@ -1,0 +1,279 @@
+//! The book over a store that counts its calls and rows, and over one whose device fails.
+
+use super::questions::none_is_answered;
+use super::{Books, InMemory, all_agree, post, takes, two_readings_told};
+use crate::entries::{assigned, paid, reading};
+use pw_book::{Book, PostFault};
+use pw_model::Entry;
+use pw_shelf::{CountShelf, Shelf};
+use pw_tests::sample::{FIRST, FIVE, NEW_YEAR, SECOND, SEVEN};
+use std::alloc::{AllocError, Global};
+use std::process::Abort;
+use std::test::Fail;
+
+// Ten days behind the new year, 2024-01-11T05:00:00Z: an hour of one band, and no change of it near.
+const MIDDLE: u32 = FIVE + 777_600;
+
+// An owner, and readings five minutes apart from an instant on.
+fn rising(
+    rt: &impl Abort,
+    alloc: Global,
+    from: u32,
+    number: u32,
+) -> Result<Vec<Entry>, AllocError> {
+    let mut entries = Vec::new(alloc);
+    entries.push(assigned(rt, NEW_YEAR, Some(FIRST)))?;
+    let mut second = from;
+    let mut watt_hours = 1_000u64;
+    for _ in 0..number {
+        entries.push(reading(rt, second, watt_hours))?;
+        second = second.saturating_add(300);
+        watt_hours = watt_hours.saturating_add(100);
+    }
+    Ok(entries)
+}
+
+// An upload of records that aren't held.
+fn takes_fresh<S: Shelf>(rt: &impl Abort, alloc: Global, book: &mut Book<S>, upload: &[Entry]) {
+    assert!(rt; upload.len() <= 2_000);
+    takes(rt, alloc, book, upload, (upload.len() as u32, 0));
+}
+
+fn seen_in<S: Shelf + Drop>(
+    rt: &impl Abort,
+    alloc: Global,
+    mut book: Book<CountShelf<S>>,
+    uploads: &[&[Entry]],
+) -> u64 {
+    for upload in uploads {
+        takes_fresh(rt, alloc, &mut book, upload);
+    }
+    book.into_shelf().seen()
+}
+
+// The calls and rows that these uploads take, one behind another, each of records that aren't held.
+pub(super) fn seen_by<B: Books>(
+    rt: &impl Abort,
+    alloc: Global,
+    books: &B,
+    uploads: &[&[Entry]],
+) -> u64 {
+    let book = books.failing(rt, alloc, 0, false).expect(rt, "a book");
+    seen_in(rt, alloc, book, uploads)
+}
+
+// The calls and rows that one more record takes over those held.
+fn cost_of<B: Books>(
+    rt: &impl Abort,
+    alloc: Global,
+    books: &B,
+    held: &[Entry],
+    fresh: Entry,
+) -> u64 {
+    let before = seen_by(rt, alloc, books, &[held]);
+    let behind = seen_by(rt, alloc, books, &[held, &[fresh]]);
+    behind.saturating_sub(before)
+}
+
+// The cost of a reading in the middle of so many.
+fn reading_cost<B: Books>(rt: &impl Abort, alloc: Global, books: &B, number: u32) -> u64 {
+    let half = number / 2;
+    let from = MIDDLE.saturating_sub(half.saturating_mul(300));
+    let watt_hours = u64::from(half).saturating_mul(100).saturating_add(1_050);
+    let fresh = reading(rt, MIDDLE + 150, watt_hours);
+    let held = rising(rt, alloc, from, number).expect(rt, "memory");
+    cost_of(rt, alloc, books, &held, fresh)
+}
+
+// The cost of an assignment with so many readings behind the next one.
+fn assignment_cost<B: Books>(rt: &impl Abort, alloc: Global, books: &B, number: u32) -> u64 {
+    let next = assigned(rt, MIDDLE + 1_700, Some(FIRST));
+    let fresh = assigned(rt, MIDDLE + 400, Some(SECOND));
+    let mut held = rising(rt, alloc, MIDDLE, number.saturating_add(6)).expect(rt, "memory");
+    held.push(next).expect(rt, "memory");
+    cost_of(rt, alloc, books, &held, fresh)
+}
+
+fn same_count<B: Books>(rt: &impl Abort, alloc: Global, books: &B) {
+    let few = reading_cost(rt, alloc, books, 10);
+    assert!(rt; 0 < few && reading_cost(rt, alloc, books, 1_000) == few);
+    let few = assignment_cost(rt, alloc, books, 10);
+    assert!(rt; 0 < few && assignment_cost(rt, alloc, books, 1_000) == few);
+}
+
+// The cost of a reading behind the last of three.
+fn cost_behind_three<B: Books>(rt: &impl Abort, alloc: Global, books: &B) -> u64 {
+    let fresh = reading(rt, MIDDLE + 900, 1_300);
+    let held = rising(rt, alloc, MIDDLE, 3).expect(rt, "memory");
+    cost_of(rt, alloc, books, &held, fresh)
+}
+
+// The cost of a reading behind the last of one band, counted by hand: `count`, `holds` twice, `begin`, `contents_at`,
+// `add`, the start with its row, the point before with its row, none behind, a total with its row, `total_put`,
+// `point_put` and `commit`.
+#[test]
+fn calls_and_rows_of_a_reading(rt: HostRuntime) {
+    assert!(rt; cost_behind_three(&rt, rt.alloc(), &InMemory) == 16);
+}
+
+#[test]
+fn same_count_among_few_and_many(rt: HostRuntime) {
+    same_count(&rt, rt.alloc(), &InMemory);
+}
+
+fn payment(rt: &impl Abort, alloc: Global, place: u32) -> Entry {
+    let reference = format!(in alloc; "P{place}").expect(rt, "a reference");
+    paid(rt, reference.as_bytes(), FIRST, 1)
+}
+
+// So many payments.
+fn payments(rt: &impl Abort, alloc: Global, number: u32) -> Result<Vec<Entry>, AllocError> {
+    let mut entries = Vec::new(alloc);
+    for place in 0..number {
+        entries.push(payment(rt, alloc, place))?;
+    }
+    Ok(entries)
+}
+
+// A top-up among those held takes at most 24 calls and rows.
+fn topup_cost<B: Books>(rt: &impl Abort, alloc: Global, books: &B, held: &[Entry]) {
+    let cost = cost_of(rt, alloc, books, held, paid(rt, b"P", FIRST, 1));
+    assert!(rt; 0 < cost && cost <= 24);
+}
+
+// So does an empty upload.
+fn empty_cost<B: Books>(rt: &impl Abort, alloc: Global, books: &B, held: &[Entry]) {
+    let before = seen_by(rt, alloc, books, &[held]);
+    let behind = seen_by(rt, alloc, books, &[held, &[]]);
+    assert!(rt; before < behind && behind <= before.saturating_add(24));
+}
+
+fn payment_costs<B: Books>(rt: &impl Abort, alloc: Global, books: &B) {
+    let held = payments(rt, alloc, 1_000).expect(rt, "memory");
+    topup_cost(rt, alloc, books, &held);
+    empty_cost(rt, alloc, books, &held);
+}
+
+#[test]
+fn payments_among_1000(rt: HostRuntime) {
+    payment_costs(&rt, rt.alloc(), &InMemory);
+}
+
+// So many owners, two at each instant, of whom none counts.
+fn disputed(rt: &impl Abort, alloc: Global, number: u32) -> Result<Vec<Entry>, AllocError> {
+    let mut entries = Vec::new(alloc);
+    for place in 0..number {
+        let second = NEW_YEAR.saturating_add((place / 2).saturating_mul(60));
+        let owner = if place % 2 == 0 { FIRST } else { SECOND };
+        entries.push(assigned(rt, second, Some(owner)))?;
+    }
+    Ok(entries)
+}
+
+// With no counting start and no point, two bands and two accounts, an assignment takes at most 56 + 4 + 12 * 6.
+fn among_disputed<B: Books>(rt: &impl Abort, alloc: Global, books: &B) {
+    let fresh = assigned(rt, MIDDLE, None);
+    let held = disputed(rt, alloc, 1_000).expect(rt, "memory");
+    let cost = cost_of(rt, alloc, books, &held, fresh);
+    assert!(rt; 0 < cost && cost <= 132);
+}
+
+#[test]
+fn assignment_among_1000_disputed(rt: HostRuntime) {
+    among_disputed(&rt, rt.alloc(), &InMemory);
+}
+
+// The upload that fails: an owner, two readings and a payment.
+pub(super) fn upload(rt: &impl Abort) -> [Entry; 4] {
+    [
+        assigned(rt, NEW_YEAR, Some(FIRST)),
+        reading(rt, FIVE, 1_000_000),
+        reading(rt, SEVEN, 1_003_001),
+        paid(rt, b"P1", FIRST, 5_000),
+    ]
+}
+
+// A book that has to be opened again answers nothing else.
+fn is_shut<S: Shelf>(rt: &impl Abort, alloc: Global, book: &mut Book<S>) {
+    let again = post(rt, alloc, book, &upload(rt));
+    assert!(rt; again == Err(PostFault::Reopen));
+    none_is_answered(rt, alloc, book);
+}
+
+// An upload that was taken back left nothing, and is taken the next time.
+fn is_as_before<S: Shelf>(rt: &impl Abort, alloc: Global, book: &mut Book<S>) -> Result<(), Fail> {
+    all_agree(rt, alloc, book, &[], 0)?;
+    takes(rt, alloc, book, &upload(rt), (4, 0));
+    two_readings_told(rt, alloc, book);
+    Ok(())
+}
+
+// Takes one upload over a device that fails at a call, and again where nothing was begun: what it was first answered.
+fn taken_failing<S: Shelf>(
+    rt: &impl Abort,
+    alloc: Global,
+    book: &mut Book<S>,
+) -> Result<Option<PostFault>, Fail> {
+    let told = post(rt, alloc, book, &upload(rt));
+    match told {
+        Ok(counts) => assert!(rt; counts == (4, 0)),
+        Err(PostFault::Reopen) => is_shut(rt, alloc, book),
+        Err(_) => is_as_before(rt, alloc, book)?,
+    }
+    Ok(told.err())
+}
+
+fn told_failing<B: Books>(
+    rt: &impl Abort,
+    alloc: Global,
+    books: &B,
+    fail_at: u32,
+    abandon_fails: bool,
+) -> Result<Option<PostFault>, Fail> {
+    let mut book = books.failing(rt, alloc, fail_at, abandon_fails)?;
+    taken_failing(rt, alloc, &mut book)
+}
+
+// Takes one upload over a device that fails at the first call, at the second, and so on, until it is taken: at which
+// call no more, and whether a book had to be opened again, from which call on each has to be.
+fn taken_at_last<B: Books>(
+    rt: &impl Abort,
+    alloc: Global,
+    books: &B,
+    abandon_fails: bool,
+) -> Result<(u32, bool), Fail> {
+    let mut begun = false;
+    for fail_at in 1..200 {
+        let Some(fault) = told_failing(rt, alloc, books, fail_at, abandon_fails)? else {
+            return Ok((fail_at, begun));
+        };
+        begun = begun || fault == PostFault::Reopen;
+        let expected = if begun {
+            PostFault::Reopen
+        } else {
+            PostFault::Device
+        };
+        assert!(rt; fault == expected);
+    }
+    panic!(rt; "an upload takes fewer calls")
+}
+
+pub(super) fn failing_device<B: Books>(
+    rt: &impl Abort,
+    alloc: Global,
+    books: &B,
+) -> Result<(), Fail> {
+    let (fail_at, begun) = taken_at_last(rt, alloc, books, false)?;
+    assert!(rt; fail_at > 20 && !begun);
+    Ok(())
+}
+
+pub(super) fn failing_device_and_abandon<B: Books>(
+    rt: &impl Abort,
+    alloc: Global,
+    books: &B,
+) -> Result<(), Fail> {
+    let (_, begun) = taken_at_last(rt, alloc, books, true)?;
+    assert!(rt; begun);
+    Ok(())
+}

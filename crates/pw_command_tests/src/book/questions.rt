@@ -1,0 +1,133 @@
+//! Questions to a book whose device fails, to one that is shut, and what questions cost.
+
+use super::counted::{seen_by, upload};
+use super::{Books, InMemory, asking, imported, takes};
+use pw_book::{Book, BookFault, Entry};
+use pw_obis::Register;
+use pw_shelf::{CountShelf, Shelf};
+use pw_tests::sample::{FIRST, METER};
+use std::alloc::Global;
+use std::process::Abort;
+use std::test::Fail;
+
+// What a book is asked.
+#[derive(Clone, Copy)]
+enum Question {
+    // both energies that the first account imported
+    Imported,
+    ToppedUp,
+    Balance,
+    Count,
+    Listed(List),
+}
+
+// What it is asked for a list of.
+#[derive(Clone, Copy)]
+enum List {
+    Readings,
+    Falls,
+    Disputes,
+}
+
+const QUESTIONS: [Question; 7] = [
+    Question::Imported,
+    Question::ToppedUp,
+    Question::Balance,
+    Question::Listed(List::Readings),
+    Question::Listed(List::Falls),
+    Question::Listed(List::Disputes),
+    Question::Count,
+];
+
+// Why a list isn't told, if it isn't.
+fn fault_of_list<S: Shelf>(
+    rt: &impl Abort,
+    alloc: Global,
+    book: &mut Book<S>,
+    list: List,
+) -> Option<BookFault> {
+    match list {
+        List::Readings => asking::readings(rt, alloc, book, METER, Register::I1).err(),
+        List::Falls => asking::falls(alloc, book).err(),
+        List::Disputes => asking::disputes(alloc, book).err(),
+    }
+}
+
+// Why a question isn't answered, if it isn't.
+fn fault_of<S: Shelf>(
+    rt: &impl Abort,
+    alloc: Global,
+    book: &mut Book<S>,
+    question: Question,
+) -> Option<BookFault> {
+    match question {
+        Question::Imported => imported(rt, alloc, book).err(),
+        Question::ToppedUp => asking::topped_up(rt, book, FIRST).err(),
+        Question::Balance => asking::balance(rt, book, FIRST).err(),
+        Question::Count => asking::count(book).err(),
+        Question::Listed(list) => fault_of_list(rt, alloc, book, list),
+    }
+}
+
+// No question is answered but with the words that the book has to be opened again.
+pub(super) fn none_is_answered<S: Shelf>(rt: &impl Abort, alloc: Global, book: &mut Book<S>) {
+    for question in QUESTIONS {
+        let fault = fault_of(rt, alloc, book, question);
+        assert!(rt; fault == Some(BookFault::Reopen));
+    }
+}
+
+// A question to a device that fails at its first call, and again.
+fn fails_once<S: Shelf>(rt: &impl Abort, alloc: Global, book: &mut Book<S>, question: Question) {
+    let fault = fault_of(rt, alloc, book, question);
+    assert!(rt; fault == Some(BookFault::Device));
+    assert!(rt; fault_of(rt, alloc, book, question) == None);
+}
+
+// Each question to such a device.
+pub(super) fn failing_device<B: Books>(
+    rt: &impl Abort,
+    alloc: Global,
+    books: &B,
+) -> Result<(), Fail> {
+    for question in QUESTIONS {
+        let mut book = books.failing(rt, alloc, 1, false)?;
+        fails_once(rt, alloc, &mut book, question);
+    }
+    Ok(())
+}
+
+// The calls and rows that an upload and a question behind it take.
+fn seen_behind<S: Shelf + Drop>(
+    rt: &impl Abort,
+    alloc: Global,
+    mut book: Book<CountShelf<S>>,
+    held: &[Entry],
+    question: Question,
+) -> u64 {
+    takes(rt, alloc, &mut book, held, (4, 0));
+    assert!(rt; fault_of(rt, alloc, &mut book, question) == None);
+    book.into_shelf().seen()
+}
+
+// The calls and rows that a question takes.
+fn cost_of<B: Books>(rt: &impl Abort, alloc: Global, books: &B, question: Question) -> u64 {
+    let held = upload(rt);
+    let before = seen_by(rt, alloc, books, &[held.as_slice()]);
+    let book = books.failing(rt, alloc, 0, false).expect(rt, "a book");
+    let behind = seen_behind(rt, alloc, book, &held, question);
+    behind.saturating_sub(before)
+}
+
+// An energy, and what was topped up, takes at most 2; a balance over two bands at most 10.
+#[test]
+fn costs(rt: HostRuntime) {
+    for (question, most) in [
+        (Question::Imported, 4),
+        (Question::ToppedUp, 2),
+        (Question::Balance, 10),
+    ] {
+        let cost = cost_of(&rt, rt.alloc(), &InMemory, question);
+        assert!(rt; 0 < cost && cost <= most);
+    }
+}

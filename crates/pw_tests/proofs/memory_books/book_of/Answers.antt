@@ -1,8 +1,0 @@
-use Rattle.std.proofs.Common.{sym, subst}
-use Rattle.pw_tariff.specs.Office.{office_of}
-use Rattle.pw_model.specs.Shelf.{IsTrueContent}
-use Rattle.pw_model.proofs.Truth.{empty-true}
-use Rattle.pw_tests.proofs.memory_books.book_of.Goals as goal
-
-pub new-requires-clause-truth : goal.new-requires-clause-truth
-new-requires-clause-truth c = λ k. subst (IsTrueContent (office_of _)) (sym c.new-shelf.ensures.content) (empty-true (office_of _))
