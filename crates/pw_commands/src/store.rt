@@ -35,8 +35,7 @@ pub fn open_book<W: Watch>(
 {
     let connection = match Connection::open(rt, path) {
         Ok(connection) => connection,
-        Err(Error::SqliteFailure(ErrorCode::OutOfMemory)) => return Err(Fault::Memory),
-        Err(_) => return Err(Fault::Device),
+        Err(error) => return Err(unopened(error)),
     };
     match book_over(rt.alloc(), connection, office, text, limit, watch) {
         Ok(book) => Ok(book),
@@ -44,6 +43,16 @@ pub fn open_book<W: Watch>(
             let _ = connection.close();
             Err(Fault::Store(fault))
         }
+    }
+}
+
+// Why a file can't be opened.
+fn unopened(error: Error) -> Fault
+    ensures { IsOfOpening result }
+{
+    match error {
+        Error::SqliteFailure(ErrorCode::OutOfMemory) => Fault::Memory,
+        _ => Fault::Device,
     }
 }
 
