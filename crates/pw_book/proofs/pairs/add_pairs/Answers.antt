@@ -1,4 +1,4 @@
-use Rattle.std.proofs.Common.{arith}
+use Rattle.std.proofs.Common.{arith, rules}
 use Rattle.std.specs.Slice.Iter.{windows_rest}
 use Rattle.pw_book.proofs.Gathering.{pairs-ended-for}
 use Rattle.pw_book.proofs.pairs.add_pairs.Goals as goal
@@ -8,3 +8,6 @@ returns-clause-gathered c = λ r k.
     let so_far = c.loop-pair.invariant.gathered r k in
     let ended = pairs-ended-for c.args.office.now c.args.owners.now c.args.direction (windows_rest c.loop-pair.pair-iterator) k (omega (arith, c.in-None.ensures.steps.1.0)) in
     omega (arith, so_far, ended)
+
+pub add_cells-requires-clause-in_order : goal.add_cells-requires-clause-in_order
+add_cells-requires-clause-in_order c = search rules

@@ -1,4 +1,4 @@
-use Rattle.std.proofs.Common.{◌<◌, sym, ◌∙◌}
+use Rattle.std.proofs.Common.{◌<◌, sym, ◌∙◌, rules}
 use Rattle.pw_flow.proofs.Level.{cell-fall}
 use Rattle.pw_tariff.specs.Shares.{class_seconds}
 use Rattle.pw_book.proofs.Gathering.{none-in-all, none-for}
@@ -14,3 +14,6 @@ returns-then-get-clause-cells c = λ later o b.
 
 pub returns-then-get-clause-bound : goal.returns-then-get-clause-bound
 returns-then-get-clause-bound c = none-in-all c.new-then-get.result.items c.new-then-get.ensures.items
+
+pub returns-clause-cells : goal.returns-clause-cells
+returns-clause-cells c = search rules

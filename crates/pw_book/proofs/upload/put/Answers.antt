@@ -1,4 +1,4 @@
-use Rattle.std.proofs.Common.{sym, subst, ◌∙◌, refl}
+use Rattle.std.proofs.Common.{sym, subst, ◌∙◌, refl, rules}
 use Rattle.pw_tariff.specs.Office.{office_of}
 use Rattle.pw_model.specs.Counting.{Member}
 use Rattle.std.proofs.lemmas.Bool.{true≢false}
@@ -45,3 +45,6 @@ returns-clause-alone g c = λ k.
     let second = c.add.ensures.written.kept.clean third in
     let first = c.contents_at.ensures.asked.kept.clean second in
     on_ok_weaker c.settle.result (λ h. added-then c.args.entry.now.key c.args.entry.now _ _ _ _ _ (c.in_ok-holds.ensures.asked.same first) (c.in_ok-before.ensures.asked.same second) (c.in_ok-add.ensures.added third) h) (c.settle.ensures.alone k)
+
+pub add-requires-clause-fresh : goal.add-requires-clause-fresh
+add-requires-clause-fresh g c = search rules

@@ -1,4 +1,4 @@
-use Rattle.std.proofs.Common.{arith}
+use Rattle.std.proofs.Common.{arith, rules}
 use Rattle.pw_tariff.specs.Office.{office_of}
 use Rattle.pw_book.proofs.Spending.{costs-more}
 use Rattle.pw_book.proofs.upload.upload.Goals as goal
@@ -18,3 +18,15 @@ returns-in-Err-abandon-clause-tally g c = λ k.
     let before = c.abandon.ensures.cleanness k in
     let t = c.abandon.ensures.tally in
     costs-more (office_of c.args.office.now) c.args.entries.now _ _ _ _ _ _ (c.begin.ensures.same (c.write.ensures.cleanness before)) c.begin.ensures.tally (c.write.ensures.tally before) (omega (arith, t))
+
+pub returns-in-Err-clause-failures : goal.returns-in-Err-clause-failures
+returns-in-Err-clause-failures g c = search rules
+
+pub returns-in-Ok-abandon-clause-failures : goal.returns-in-Ok-abandon-clause-failures
+returns-in-Ok-abandon-clause-failures g c = search rules
+
+pub returns-in-Ok-clause-back : goal.returns-in-Ok-clause-back
+returns-in-Ok-clause-back g c = search rules
+
+pub returns-in-Ok-abandon-clause-reopen : goal.returns-in-Ok-abandon-clause-reopen
+returns-in-Ok-abandon-clause-reopen g c = search rules

@@ -1,4 +1,4 @@
-use Rattle.std.proofs.Common.{◌∙◌, ap, refl, sym, subst}
+use Rattle.std.proofs.Common.{◌∙◌, ap, refl, sym, subst, rules}
 use Rattle.pw_tariff.specs.Office.{office_of}
 use Rattle.pw_tariff.specs.Text.{IsOfficeOf}
 use Rattle.pw_model.specs.Shelf.{IsTrueContent}
@@ -20,3 +20,12 @@ returns-in-Ok-flush-clause-piped g c = λ e. piped _ c.args.office.now _ _ (g.O.
     c.flush.ensures.bytes
     tt
     refl
+
+pub returns-clause-refused : goal.returns-clause-refused
+returns-clause-refused g c = search rules
+
+pub returns-clause-status : goal.returns-clause-status
+returns-clause-status g c = search rules
+
+pub returns-in-Err-clause-piped : goal.returns-in-Err-clause-piped
+returns-in-Err-clause-piped g c = search rules

@@ -1,4 +1,4 @@
-use Rattle.std.proofs.Common.{◌≡◌, ◌<◌, ◌++◌, [], ◌+◌, length, refl, ◌∙◌, ap, arith, length-append}
+use Rattle.std.proofs.Common.{◌≡◌, ◌<◌, ◌++◌, [], ◌+◌, length, refl, ◌∙◌, ap, arith, length-append, rules}
 use Rattle.pw_http.proofs.Asks.{none_in_nothing}
 use Rattle.pw_http.proofs.KnownLemmas.{Appends-then, Appends-nothing, Consumes-then, Consumes-nothing}
 use Rattle.pw_http.proofs.Talks.{Told-nothing, Told-then}
@@ -55,3 +55,6 @@ pub returns : goal.returns
 returns g c =
     let i = c.loop.invariant in
     record { talk = (record { got = i.got; text = i.text; count = c.loop.requests; rest = c.loop.inbox; consumed = i.consumed; written = i.written; told = i.told; no_other = i.no_other }, omega (arith, i.turns, c.loop-test.false)) }
+
+pub returns-in-Err-fill : goal.returns-in-Err-fill
+returns-in-Err-fill g c = search rules

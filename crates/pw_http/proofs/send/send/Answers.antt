@@ -1,4 +1,4 @@
-use Rattle.std.proofs.Common.{arith, length-drop}
+use Rattle.std.proofs.Common.{arith, length-drop, rules}
 use Rattle.std.proofs.lemmas.List.{take_rest}
 use Rattle.pw_http.proofs.KnownLemmas.{Appends-further}
 use Rattle.pw_http.proofs.send.send.Goals as goal
@@ -11,3 +11,6 @@ loop-at-preserved g c =
       within = omega (arith, rw (take_rest c.args.bytes.now c.loop-at.at) at c.in-Ok.ensures.bound, length-drop c.loop-at.at c.args.bytes.now);
       written = Appends-further _ _ _ c.loop-at.at n c.args.bytes.now c.loop-at.invariant.within c.loop-at.invariant.written went;
     }
+
+pub returns-in-Ok-eq0-clause-written : goal.returns-in-Ok-eq0-clause-written
+returns-in-Ok-eq0-clause-written g c = search rules

@@ -1,4 +1,4 @@
-use Rattle.std.proofs.Common.{Err, ◌≡◌, ℕ, List, ◌<◌, ◌++◌, ◌∷◌, [], arith, subst, ap, sym, ◌∙◌}
+use Rattle.std.proofs.Common.{Err, ◌≡◌, ℕ, List, ◌<◌, ◌++◌, ◌∷◌, [], arith, subst, ap, sym, ◌∙◌, rules}
 use Rattle.std.proofs.lemmas.List.{length-append}
 use Rattle.pw_frame.specs.Frame.{frame_text}
 use Rattle.pw_frame.specs.Body.{Front, BodyFault, BodyReading}
@@ -45,3 +45,9 @@ pub returns-clause-text : goal.returns-clause-text
 returns-clause-text c =
     let i = c.frames.invariant in
     record { frames = i.0; reading = subst (λ (b : List ℕ). BodyReading b i.0) i.3 (c.in_default.ensures.next i.2 i.0 i.1).0; shown = i.4 }
+
+pub frames-init : goal.frames-init
+frames-init c = search rules
+
+pub returns-in-Err-clause-text : goal.returns-in-Err-clause-text
+returns-in-Err-clause-text c = search rules

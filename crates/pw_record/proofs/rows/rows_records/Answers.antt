@@ -1,4 +1,4 @@
-use Rattle.std.proofs.Common.{Bor, List, ℕ, ◌∙◌, sym, refl, inl, inr, Some, Err, ◌∷◌, ◌++◌, [], arith, ap}
+use Rattle.std.proofs.Common.{Bor, List, rules, ℕ, ◌∙◌, sym, refl, inl, inr, Some, Err, ◌∷◌, ◌++◌, [], arith, ap}
 use Rattle.std.proofs.lemmas.List.{length-append}
 use Rattle.csv.specs.Reading.{Reached, default_config, strip_bom}
 use Rattle.csv.specs.Records.{fields_of}
@@ -81,3 +81,6 @@ pub returns-clause-of_office : goal.returns-clause-of_office
 returns-clause-of_office c =
     let inv = c.loop-row.invariant in
     listed-of-office c.args.office.now c.loop-row.given.items c.in_order.result.items c.in_order.ensures (good-of-office c.args.office.now c.args.kind inv.6 c.loop-row.given.items inv.8)
+
+pub returns-in-Err-Memory-clause-refused : goal.returns-in-Err-Memory-clause-refused
+returns-in-Err-Memory-clause-refused c = search rules

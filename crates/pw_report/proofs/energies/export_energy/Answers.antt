@@ -1,4 +1,4 @@
-use Rattle.std.proofs.Common.{◌++◌, ◌≡◌, ◌∙◌, ℕ, [], Some, None, ap, length, arith}
+use Rattle.std.proofs.Common.{◌++◌, ◌≡◌, ◌∙◌, ℕ, [], Some, None, ap, length, arith, rules}
 use Rattle.std.specs.List.{flat_map}
 use Rattle.pw_tariff.specs.Office.{OfficeFile}
 use Rattle.pw_model.specs.Energy.{account}

@@ -1,4 +1,4 @@
-use Rattle.std.proofs.Common.{◌≡◌, ◌++◌, ◌∷◌, sym, subst, List, [], take, IfSome}
+use Rattle.std.proofs.Common.{◌≡◌, ◌++◌, ◌∷◌, sym, subst, List, [], take, IfSome, rules}
 use Rattle.std.specs.declared.cmp.Ordering.TheVariants.{Less}
 use Rattle.pw_model.specs.Same.{entry_order}
 use Rattle.sqlite.specs.Order.{Row}
@@ -22,3 +22,6 @@ returns-then-not-is_behind-clause-wrong c e office is records =
     let low = behind_last c.args.kind c.args.rows.now c.loop-row.row-index c.row-item.result c.loop-row.found.items c.loop-row.last c.loop-row-test.true c.row-item.is c.loop-row.invariant.read c.loop-row.invariant.last records.rising in
     let bad = c.if-not-is_behind.ensures.1 (subst (λ x. IfSome c.loop-row.last (λ l. entry_order l x ≡ Less)) (sym c.in-Some.ensures.told) low) in
     cc
+
+pub returns-clause-wrong : goal.returns-clause-wrong
+returns-clause-wrong c = search rules

@@ -72,3 +72,9 @@ returns-in-Err-take-clause-refused g c late is =
       c.in-Err-take.ensures.foreign c.args.judge.now given.0 whole.0 given.1 (ap Err fault),
       (let shown = subst (Shown c.args.text.now [] old new) (append_assoc given.0 (row ∷ []) whole.0) whole.1 in search rules),
     )
+
+pub loop-count-preserved : goal.loop-count-preserved
+loop-count-preserved g c = search rules
+
+pub returns-clause-took : goal.returns-clause-took
+returns-clause-took g c = search rules

@@ -1,4 +1,4 @@
-use Rattle.std.proofs.Common.{ℕ, ℤ, refl, sym, subst}
+use Rattle.std.proofs.Common.{ℕ, ℤ, refl, sym, subst, rules}
 use Rattle.pw_time.specs.declared.zone.Clock.{Clock}
 use Rattle.pw_time.specs.Outcomes.{always, central, IsReadoutClock}
 use Rattle.pw_time.proofs.OutcomeFacts.{readout_outcome}
@@ -14,3 +14,6 @@ pub returns-in-Local : goal.returns-in-Local
 returns-in-Local c =
     let P : Clock → Type 0 = λ clock. IsReadoutClock clock central in
     readout_outcome c.args.date.now c.args.time.now c.args.clock c.in-Some.civil central c.in_zone.result c.in-Some.ensures (subst P (sym c.in-Local.is) refl) c.in_zone.ensures
+
+pub returns-in-Marked : goal.returns-in-Marked
+returns-in-Marked c = search rules

@@ -1,4 +1,4 @@
-use Rattle.std.proofs.Common.{sym, ◌∙◌}
+use Rattle.std.proofs.Common.{sym, ◌∙◌, rules}
 use Rattle.std.proofs.lemmas.Bool.{true≢false}
 use Rattle.pw_tariff.specs.Office.{office_of}
 use Rattle.pw_book.proofs.Keeping.{posted-few, posted-of_office, posted-sound, posted-true}
@@ -23,3 +23,9 @@ returns-clause-sound g c = λ k.
     let before = c.post_to-answer.ensures.cleanness k in
     posted-sound (office_of c.args.self.now.office) c.args.self.now.limit c.args.entries.now _ _ _ _ c.post_to-answer.result c.args.self.now.limited.1 c.requires (c.args.self.now.of_office c.if-self.false before)
     (c.post_to-answer.ensures.posted k) (c.post_to-answer.ensures.left k)
+
+pub returns-then-self-clause-untouched : goal.returns-then-self-clause-untouched
+returns-then-self-clause-untouched g c = search rules
+
+pub returns-clause-shut : goal.returns-clause-shut
+returns-clause-shut g c = search rules

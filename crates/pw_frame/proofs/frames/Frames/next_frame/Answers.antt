@@ -1,4 +1,4 @@
-use Rattle.std.proofs.Common.{ℕ, List, refl, subst}
+use Rattle.std.proofs.Common.{ℕ, List, refl, subst, rules}
 use Rattle.std.proofs.lemmas.List.{take_rest}
 use Rattle.pw_frame.specs.Frame.{Whole, frame_text}
 use Rattle.pw_frame.specs.FirstFault.{IsFault}
@@ -21,3 +21,12 @@ returns-in-Err-clause-next c = rw (← c.self.view_is) (λ o fs x. (
       (λ e. elim c.else-self-2.branch [ else-self-2-via-then-self-2+else-self-3 w ↦ absurd (w.if-self-3.false e) | else-self-2-via-else-self-2 w ↦ w.if-self-2.false ]),
   refl,
 ))
+
+pub returns-in-Err-clause-body : goal.returns-in-Err-clause-body
+returns-in-Err-clause-body c = search rules
+
+pub returns-then-self-clause-ended : goal.returns-then-self-clause-ended
+returns-then-self-clause-ended c = search rules
+
+pub returns-in-Ok-clause-ended : goal.returns-in-Ok-clause-ended
+returns-in-Ok-clause-ended c = search rules

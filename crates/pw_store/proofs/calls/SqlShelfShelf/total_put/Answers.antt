@@ -30,3 +30,6 @@ returns-else-amount-eq0-clause-put g c clean =
 pub returns-else-cents-eq0-clause-put : goal.returns-else-cents-eq0-clause-put
 returns-else-cents-eq0-clause-put g c clean =
     total_if c.replace-in-TopUps.result _ (held_of (state g.S.Store c.args.self.now.conn) (state g.S.Store c.args.self.now.base.value)) (total.TopUps c.in-TopUps.account) c.args.key.now 0 c.args.amount c.in-TopUps.is (c.replace-in-TopUps.ensures.content clean)
+
+pub replace-requires-in-TopUps-clause-fits : goal.replace-requires-in-TopUps-clause-fits
+replace-requires-in-TopUps-clause-fits g c = search rules

@@ -1,3 +1,4 @@
+use Rattle.std.proofs.Common.{rules}
 use Rattle.sqlite.specs.Held.{state}
 use Rattle.pw_store.specs.inner.Changing.{changed}
 use Rattle.pw_store.proofs.Keeping.{held_made}
@@ -18,3 +19,9 @@ pub returns-in-Ok-clause-content : goal.returns-in-Ok-clause-content
 returns-in-Ok-clause-content g c clean =
     let self = c.args.self.now in
     held_made (state g.S.Store self.conn) (state g.S.Store c.make.new.conn) (state g.S.Store self.base.value) (changed c.args.change) (c.in-Ok.ensures.done clean)
+
+pub invariant_of-self-in-Err-clause-awake : goal.invariant_of-self-in-Err-clause-awake
+invariant_of-self-in-Err-clause-awake g c = search rules
+
+pub make-requires-clause-inside : goal.make-requires-clause-inside
+make-requires-clause-inside g c = search rules

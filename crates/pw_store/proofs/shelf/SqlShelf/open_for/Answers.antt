@@ -1,7 +1,7 @@
 use Rattle.sqlite.specs.Held.{state}
 use Rattle.pw_tariff.specs.Office.{office_of}
 use Rattle.pw_store.proofs.Fresh.{left_alone, open_content, open_few, open_text, open_truth}
-use Rattle.std.proofs.Common.{ap}
+use Rattle.std.proofs.Common.{ap, rules}
 use Rattle.pw_store.proofs.LeftStores.{opening_keeps, opening_text}
 use Rattle.pw_store.proofs.shelf.SqlShelf.open_for.Goals as goal
 
@@ -28,3 +28,6 @@ invariant_of-result-clause-keeps g c clean =
 pub returns-in-Ok-clause-opened : goal.returns-in-Ok-clause-opened
 returns-in-Ok-clause-opened g c clean =
     opening_text (state g.S.Store c.prepare.new.conn) (state g.S.Store c.of-opened.result.value) (office_of c.args.office.now) c.args.office_text.now (state g.S.Store c.args.connection).committed (ap (state g.S.Store) c.of-opened.ensures) (c.in-Ok.ensures.opened clean)
+
+pub returns-in-Ok-clause-idle : goal.returns-in-Ok-clause-idle
+returns-in-Ok-clause-idle g c = search rules

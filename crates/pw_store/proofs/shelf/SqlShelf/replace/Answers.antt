@@ -1,3 +1,4 @@
+use Rattle.std.proofs.Common.{rules}
 use Rattle.pw_store.specs.inner.Changing.{changed}
 use Rattle.pw_store.proofs.Again.{again_if}
 use Rattle.pw_store.proofs.shelf.SqlShelf.replace.Goals as goal
@@ -8,3 +9,6 @@ returns-clause-content g c clean =
 
 pub returns-clause-left : goal.returns-clause-left
 returns-clause-left g c clean d l = c.in_ok-change.ensures.left (c.change-2.ensures.clean clean) d (c.change-2.ensures.left clean d l)
+
+pub change-requires-clause-free : goal.change-requires-clause-free
+change-requires-clause-free g c = search rules

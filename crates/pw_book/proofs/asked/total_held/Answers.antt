@@ -1,0 +1,5 @@
+use Rattle.std.proofs.Common.{rules}
+use Rattle.pw_book.proofs.asked.total_held.Goals as goal
+
+pub returns-clause-tally : goal.returns-clause-tally
+returns-clause-tally g c = search rules

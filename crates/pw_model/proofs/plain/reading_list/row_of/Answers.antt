@@ -1,0 +1,5 @@
+use Rattle.std.proofs.Common.{rules}
+use Rattle.pw_model.proofs.plain.reading_list.row_of.Goals as goal
+
+pub returns-clause-some : goal.returns-clause-some
+returns-clause-some c = search rules

@@ -1,0 +1,5 @@
+use Rattle.std.proofs.Common.{rules}
+use Rattle.pw_schema.proofs.reading.entry_of.Goals as goal
+
+pub returns-in-Assignments-clause-told : goal.returns-in-Assignments-clause-told
+returns-in-Assignments-clause-told c = search rules

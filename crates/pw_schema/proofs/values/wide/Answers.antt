@@ -1,0 +1,5 @@
+use Rattle.std.proofs.Common.{rules}
+use Rattle.pw_schema.proofs.values.wide.Goals as goal
+
+pub returns : goal.returns
+returns c = search rules

@@ -1,0 +1,8 @@
+use Rattle.std.proofs.Common.{rules}
+use Rattle.pw_shelf.proofs.calls.MemoryShelfShelf.count.Goals as goal
+
+pub returns-clause-number : goal.returns-clause-number
+returns-clause-number c = search rules
+
+pub returns-clause-asked : goal.returns-clause-asked
+returns-clause-asked c = search rules

@@ -1,0 +1,5 @@
+use Rattle.std.proofs.Common.{rules}
+use Rattle.pw_shelf.proofs.calls.MemoryShelfShelf.holds.Goals as goal
+
+pub returns-clause-held : goal.returns-clause-held
+returns-clause-held c = search rules

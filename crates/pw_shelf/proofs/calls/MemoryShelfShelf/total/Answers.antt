@@ -1,0 +1,5 @@
+use Rattle.std.proofs.Common.{rules}
+use Rattle.pw_shelf.proofs.calls.MemoryShelfShelf.total.Goals as goal
+
+pub returns-clause-amount : goal.returns-clause-amount
+returns-clause-amount c = search rules

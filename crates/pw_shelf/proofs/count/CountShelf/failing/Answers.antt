@@ -1,0 +1,11 @@
+use Rattle.std.proofs.Common.{rules}
+use Rattle.pw_shelf.proofs.count.CountShelf.failing.Goals as goal
+
+pub returns-clause-state : goal.returns-clause-state
+returns-clause-state g c = search rules
+
+pub returns-clause-made : goal.returns-clause-made
+returns-clause-made g c = search rules
+
+pub returns-clause-plan : goal.returns-clause-plan
+returns-clause-plan g c = search rules

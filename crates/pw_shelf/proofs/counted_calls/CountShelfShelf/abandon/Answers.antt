@@ -1,0 +1,11 @@
+use Rattle.std.proofs.Common.{rules}
+use Rattle.pw_shelf.proofs.counted_calls.CountShelfShelf.abandon.Goals as goal
+
+pub returns-clause-done : goal.returns-clause-done
+returns-clause-done g c = search rules
+
+pub returns-clause-begun : goal.returns-clause-begun
+returns-clause-begun g c = search rules
+
+pub returns-then-fails_abandon-clause-failed : goal.returns-then-fails_abandon-clause-failed
+returns-then-fails_abandon-clause-failed g c = search rules

@@ -1,0 +1,8 @@
+use Rattle.std.proofs.Common.{rules}
+use Rattle.pw_shelf.proofs.laws.memory_abandons.Goals as goal
+
+pub returns-clause-succeeds : goal.returns-clause-succeeds
+returns-clause-succeeds c = search rules
+
+pub returns-clause-ended : goal.returns-clause-ended
+returns-clause-ended c = search rules

@@ -1,0 +1,5 @@
+use Rattle.std.proofs.Common.{rules}
+use Rattle.pw_shelf.proofs.table.Table.first_behind.Goals as goal
+
+pub loop-row-init : goal.loop-row-init
+loop-row-init g c = search rules

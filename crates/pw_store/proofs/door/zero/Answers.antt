@@ -1,0 +1,5 @@
+use Rattle.std.proofs.Common.{rules}
+use Rattle.pw_store.proofs.door.zero.Goals as goal
+
+pub returns : goal.returns
+returns c = search rules

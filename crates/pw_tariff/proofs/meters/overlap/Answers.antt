@@ -1,0 +1,5 @@
+use Rattle.std.proofs.Common.{rules}
+use Rattle.pw_tariff.proofs.meters.overlap.Goals as goal
+
+pub returns-then-import : goal.returns-then-import
+returns-then-import c = search rules
