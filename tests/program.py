@@ -429,6 +429,7 @@ def run_tests(script, tests, longest=LONGEST):
     signal.signal(signal.SIGALRM, too_late)
     asked = sys.argv[1:]
     passed = failed = 0
+    took = {}
     for name, test in tests.items():
         if asked and name not in asked:
             continue
@@ -443,7 +444,11 @@ def run_tests(script, tests, longest=LONGEST):
         finally:
             signal.alarm(0)
             shutil.rmtree(room, ignore_errors=True)
+        took[name] = time.monotonic() - begun
         if os.environ.get("TIMES"):
-            print(f"{script}: {name}: {time.monotonic() - begun:.1f} s", flush=True)
+            print(f"{script}: {name}: {took[name]:.1f} s", flush=True)
+    slowest = max(took, key=took.get, default=None)
+    if slowest:
+        print(f"{script}: the longest took {took[slowest]:.0f} s ({slowest})")
     print(f"{passed} passed, {failed} failed")
     sys.exit(1 if failed else 0)
