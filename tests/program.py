@@ -2,7 +2,6 @@
 import contextlib
 import os
 import pty
-import resource
 import shutil
 import signal
 import socket
@@ -17,11 +16,10 @@ TOP = os.path.normpath(os.path.join(os.path.dirname(os.path.abspath(__file__)), 
 EXAMPLES = f"{TOP}/examples"
 PROGRAM = f"{TOP}/crates/powerbook/out/powerbook"
 OFFICE = f"{EXAMPLES}/sample.toml"
-# A test may take so many seconds of processor time, its programs' included. By the clock, which goes on while a machine
-# stands still, it may take LATEST times as long, and each command and each answer PATIENCE seconds.
+# A test may take so many seconds; each command and each answer has to come within PATIENCE: less than the minute that a
+# server waits for a silent client, so that one which waits in vain is seen.
 LONGEST = 60
-LATEST = 5
-PATIENCE = 120
+PATIENCE = 30
 
 
 class Late(Exception):
@@ -423,17 +421,11 @@ def need(script, *tools):
         sys.exit(1)
 
 
-def processor_seconds():
-    """What this script, and its programs that have ended, have taken."""
-    used = (resource.getrusage(it) for it in (resource.RUSAGE_SELF, resource.RUSAGE_CHILDREN))
-    return sum(it.ru_utime + it.ru_stime for it in used)
-
-
 def run_tests(script, tests, longest=LONGEST):
     """Runs tests by name, each in a new folder that it is given, and tells 'N passed, M failed' last."""
 
     def too_late(*_):
-        raise Late(f"longer than {longest * LATEST} seconds")
+        raise Late(f"longer than {longest} seconds")
 
     signal.signal(signal.SIGALRM, too_late)
     asked = sys.argv[1:]
@@ -442,13 +434,10 @@ def run_tests(script, tests, longest=LONGEST):
     for name, test in tests.items():
         if asked and name not in asked:
             continue
-        room, begun, used = tempfile.mkdtemp(), time.monotonic(), processor_seconds()
-        signal.alarm(longest * LATEST)
+        room, begun = tempfile.mkdtemp(), time.monotonic()
+        signal.alarm(longest)
         try:
             test(room)
-            used = processor_seconds() - used
-            if used > longest:
-                raise Late(f"{used:.0f} seconds of processor time")
             passed += 1
         except Exception as fault:  # Whatever goes wrong, the other tests are still run.
             failed += 1
