@@ -2,6 +2,8 @@
 
 ghost use Rattle.std.specs.Prelude.{◌≡◌, IfOk, None, false};
 
+mod no_memory;
+
 use pw_model::TotalKey;
 use pw_obis::{Register, WattHours};
 use pw_shelf::{Shelf, ShelfFault};

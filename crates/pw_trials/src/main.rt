@@ -17,17 +17,14 @@ mod posts;
 mod sets;
 mod shelves;
 mod shut;
-mod stores;
 mod uploads;
 
-ghost use Rattle.std.specs.Prelude.{◌≡◌, IsSome, None};
+ghost use Rattle.std.specs.Prelude.{IsSome};
 ghost use Rattle.pw_shelf.specs.Memory.{state_of};
 
 use pw_book::Book;
-use pw_shelf::{CountShelf, MemoryShelf, Shelf};
-use pw_store::SqlShelf;
+use pw_shelf::{CountShelf, MemoryShelf};
 use pw_tariff::Office;
-use sqlite::MemStore;
 use std::alloc::Global;
 use std::env;
 use std::io::Write;
@@ -82,17 +79,13 @@ fn trials(rt: &HostRuntime) -> u8 {
     let Some(mut store) = uploads::begun(rt.alloc()) else {
         return NO_MEMORY;
     };
-    let (Some(mut over_sql), Some(begun), Some(mut shut)) = (
-        stores::opened(rt.alloc(), OFFICE.as_bytes()),
-        stores::begun(rt.alloc(), OFFICE.as_bytes()),
-        shut::shut_book(rt.alloc(), third),
-    ) else {
+    let Some(mut shut) = shut::shut_book(rt.alloc(), third) else {
         return NO_MEMORY;
     };
     let mut out = rt.stdout();
     without_memory(&mut out, rt.alloc(), &mut shelf, &mut store, office);
-    shut_without_memory(&mut out, rt.alloc(), begun, &mut shut);
-    with_one_refused(&mut out, rt.alloc(), &mut over_sql, &mut book);
+    shut_without_memory(&mut out, rt.alloc(), &mut shut);
+    with_one_refused(&mut out, rt.alloc(), &mut book);
     0
 }
 
@@ -120,15 +113,13 @@ fn without_memory<O: Write>(
     tell(out, b"memory again\n");
 }
 
-/// A store over SQL that is closed, and a book that is shut.
+/// A book that is shut.
 fn shut_without_memory<O: Write>(
     out: &mut O,
     alloc: Global,
-    store: SqlShelf<MemStore>,
     book: &mut Book<CountShelf<MemoryShelf>>,
 ) {
     tell(out, b"no memory\n");
-    tell(out, line(stores::is_closed(store), b"store closed\n"));
     tell(
         out,
         line(shut::is_still_shut(alloc, book), b"shut book right\n"),
@@ -137,18 +128,7 @@ fn shut_without_memory<O: Write>(
 }
 
 /// The calls that answer that memory was refused, and are right when they are made again.
-fn with_one_refused<O: Write>(
-    out: &mut O,
-    alloc: Global,
-    store: &mut SqlShelf<MemStore>,
-    book: &mut Book<MemoryShelf>,
-)
-    requires { (⟦<SqlShelf<MemStore> as Shelf>⟧.state store.old).begun ≡ None }
-{
-    let is_opened = stores::is_opened(alloc, out, OFFICE.as_bytes());
-    tell(out, line(is_opened, b"store opened\n"));
-    let is_left_alone = stores::is_left_alone(out, store) == Ok(true);
-    tell(out, line(is_left_alone, b"upload undone\n"));
+fn with_one_refused<O: Write>(out: &mut O, alloc: Global, book: &mut Book<MemoryShelf>) {
     let is_taken_back = uploads::is_taken_back(alloc, out) == Ok(true);
     tell(out, line(is_taken_back, b"upload given up\n"));
     tell(out, b"one may be refused\n");

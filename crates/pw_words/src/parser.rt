@@ -12,12 +12,96 @@ static KINDS: [&str; 4] = ["telegrams", "readouts", "assignments", "topups"];
 /// The words of what can be exported.
 static TABLES: [&str; 5] = ["readings", "energy", "accounts", "falls", "disputes"];
 
+/// A word that a command takes: by its place, or behind a flag.
+#[derive(Clone, Copy)]
+enum Word {
+    Office,
+    OfficeOrSample,
+    Store,
+    Kind,
+    File,
+    Account,
+    Table,
+    Meter,
+    Limit,
+    Clock,
+    Count,
+    Port,
+}
+
+/// A command: its name, what it does, how it ends with an example, and the words that it takes.
+#[derive(Clone, Copy)]
+struct Asked {
+    name: &'static str,
+    about: &'static str,
+    end: &'static str,
+    words: &'static [Word],
+}
+
+static COMMANDS: [Asked; 7] = [
+    Asked {
+        name: "read",
+        about: "Prints the frames of a body on standard input: meters, stamps, registers in watt-hours",
+        end: "Exit status: 0; 1 refused; 2 wrong words; 3 a stream or memory failed.\nExample: powerbook read < telegram.txt",
+        words: &[Word::Clock],
+    },
+    Asked {
+        name: "check",
+        about: "Reads an office file, and prints how many accounts, meters and bands it has",
+        end: "Exit status: 0; 1 refused; 2 wrong words; 3 the file or memory failed.\nExample: powerbook check office.toml",
+        words: &[Word::Office],
+    },
+    Asked {
+        name: "pipe",
+        about: "Reads HTTP requests on standard input and prints the replies; records are kept in memory until the end",
+        end: "Exit status: 0; 1 refused; 2 wrong words; 3 a file, stream or memory failed.\nExample: powerbook pipe office.toml < requests.txt",
+        words: &[Word::OfficeOrSample, Word::Limit],
+    },
+    Asked {
+        name: "load",
+        about: "Loads a file of telegrams, readouts, assignments or top-ups into a store, whole or not at all",
+        end: "Exit status: 0; 1 refused; 2 wrong words; 3 a file, stream, store or memory failed.\nExample: powerbook load office.toml book.db telegrams day.txt",
+        words: &[
+            Word::Office,
+            Word::Store,
+            Word::Kind,
+            Word::File,
+            Word::Meter,
+            Word::Limit,
+        ],
+    },
+    Asked {
+        name: "statement",
+        about: "Prints an account's energies, top-ups and balance",
+        end: "Exit status: 0; 1 refused; 2 wrong words; 3 a file, stream, store or memory failed.\nExample: powerbook statement office.toml book.db A1",
+        words: &[Word::Office, Word::Store, Word::Account],
+    },
+    Asked {
+        name: "export",
+        about: "Prints a table of a store: readings and energy as CSV, accounts, falls and disputes as text",
+        end: "Exit status: 0; 1 refused; 2 wrong words; 3 a file, stream, store or memory failed.\nExample: powerbook export office.toml book.db readings > readings.csv",
+        words: &[Word::Office, Word::Store, Word::Table],
+    },
+    Asked {
+        name: "serve",
+        about: "Serves a store to HTTP clients of this machine",
+        end: "Exit status: 0; 1 refused; 2 wrong words; 3 a file, socket, store or memory failed.\nExample: powerbook serve office.toml book.db --count 100",
+        words: &[
+            Word::Office,
+            Word::Store,
+            Word::Count,
+            Word::Port,
+            Word::Limit,
+        ],
+    },
+];
+
 fn required<'a>(alloc: Global, id: &'a str, help: &'a str) -> Arg<'a> {
     Arg::new(alloc, id).required(true).help(help)
 }
 
-fn office<'a>(alloc: Global) -> Arg<'a> {
-    required(alloc, "OFFICE", "The office file (TOML)")
+fn office_or_sample<'a>(alloc: Global) -> Arg<'a> {
+    Arg::new(alloc, "OFFICE").help("The office file (TOML); without it, the sample office")
 }
 
 fn store<'a>(alloc: Global) -> Arg<'a> {
@@ -26,6 +110,14 @@ fn store<'a>(alloc: Global) -> Arg<'a> {
         "STORE",
         "The store file (SQLite); made where nothing is there",
     )
+}
+
+fn kind<'a>(alloc: Global) -> Arg<'a> {
+    required(alloc, "KIND", "What the file holds").value_parser(KINDS.as_slice())
+}
+
+fn table<'a>(alloc: Global) -> Arg<'a> {
+    required(alloc, "WHAT", "The table").value_parser(TABLES.as_slice())
 }
 
 fn limit<'a>(alloc: Global) -> Arg<'a> {
@@ -64,115 +156,59 @@ fn port<'a>(alloc: Global) -> Arg<'a> {
         .help("The port on 127.0.0.1")
 }
 
-fn read_command<'a>(alloc: Global) -> Result<Command<'a>, AllocError> {
-    Command::new(alloc, "read")
-        .about(
-            "Prints the frames of a body on standard input: meters, stamps, registers in watt-hours",
-        )
-        .after_help(
-            "Exit status: 0; 1 refused; 2 wrong words; 3 a stream or memory failed.\nExample: powerbook read < telegram.txt",
-        )
-        .arg(clock(alloc))
-}
-
-fn check_command<'a>(alloc: Global) -> Result<Command<'a>, AllocError> {
-    Command::new(alloc, "check")
-        .about("Reads an office file, and prints how many accounts, meters and bands it has")
-        .after_help(
-            "Exit status: 0; 1 refused; 2 wrong words; 3 the file or memory failed.\nExample: powerbook check office.toml",
-        )
-        .arg(office(alloc))
-}
-
-fn pipe_command<'a>(alloc: Global) -> Result<Command<'a>, AllocError> {
-    let office = Arg::new(alloc, "OFFICE").help(
-        "The office file (TOML); without it, the sample office",
-    );
-    Command::new(alloc, "pipe")
-        .about(
-            "Reads HTTP requests on standard input and prints the replies; records are kept in memory until the end",
-        )
-        .after_help(
-            "Exit status: 0; 1 refused; 2 wrong words; 3 a file, stream or memory failed.\nExample: powerbook pipe office.toml < requests.txt",
-        )
-        .arg(office)?
-        .arg(limit(alloc))
-}
-
-fn load_command<'a>(alloc: Global) -> Result<Command<'a>, AllocError> {
-    let kind = required(alloc, "KIND", "What the file holds").value_parser(KINDS.as_slice());
-    let meter = Arg::new(alloc, "meter")
+fn meter<'a>(alloc: Global) -> Result<Arg<'a>, AllocError> {
+    Arg::new(alloc, "meter")
         .long("meter")
         .value_name("ID")
-        .required_if_eq("KIND", "readouts")?
-        .help("The meter of the readouts");
-    Command::new(alloc, "load")
-        .about(
-            "Loads a file of telegrams, readouts, assignments or top-ups into a store, whole or not at all",
-        )
-        .after_help(
-            "Exit status: 0; 1 refused; 2 wrong words; 3 a file, stream, store or memory failed.\nExample: powerbook load office.toml book.db telegrams day.txt",
-        )
-        .arg(office(alloc))?
-        .arg(store(alloc))?
-        .arg(kind)?
-        .arg(required(alloc, "FILE", "The file, of at most 262,144 bytes"))?
-        .arg(meter)?
-        .arg(limit(alloc))
+        .help("The meter of the readouts")
+        .required_if_eq("KIND", "readouts")
 }
 
-fn statement_command<'a>(alloc: Global) -> Result<Command<'a>, AllocError> {
-    Command::new(alloc, "statement")
-        .about("Prints an account's energies, top-ups and balance")
-        .after_help(
-            "Exit status: 0; 1 refused; 2 wrong words; 3 a file, stream, store or memory failed.\nExample: powerbook statement office.toml book.db A1",
-        )
-        .arg(office(alloc))?
-        .arg(store(alloc))?
-        .arg(required(alloc, "ACCOUNT", "The account's name"))
+fn argument<'a>(alloc: Global, word: Word) -> Result<Arg<'a>, AllocError> {
+    match word {
+        Word::Office => Ok(required(alloc, "OFFICE", "The office file (TOML)")),
+        Word::OfficeOrSample => Ok(office_or_sample(alloc)),
+        Word::Store => Ok(store(alloc)),
+        Word::Kind => Ok(kind(alloc)),
+        Word::File => Ok(required(alloc, "FILE", "The file, of at most 262,144 bytes")),
+        Word::Account => Ok(required(alloc, "ACCOUNT", "The account's name")),
+        Word::Table => Ok(table(alloc)),
+        Word::Meter => meter(alloc),
+        Word::Limit => Ok(limit(alloc)),
+        Word::Clock => Ok(clock(alloc)),
+        Word::Count => Ok(count(alloc)),
+        Word::Port => Ok(port(alloc)),
+    }
 }
 
-fn export_command<'a>(alloc: Global) -> Result<Command<'a>, AllocError> {
-    let what = required(alloc, "WHAT", "The table").value_parser(TABLES.as_slice());
-    Command::new(alloc, "export")
-        .about(
-            "Prints a table of a store: readings and energy as CSV, accounts, falls and disputes as text",
-        )
-        .after_help(
-            "Exit status: 0; 1 refused; 2 wrong words; 3 a file, stream, store or memory failed.\nExample: powerbook export office.toml book.db readings > readings.csv",
-        )
-        .arg(office(alloc))?
-        .arg(store(alloc))?
-        .arg(what)
+fn command<'a>(alloc: Global, asked: &Asked) -> Result<Command<'a>, AllocError> {
+    let mut command = Command::new(alloc, asked.name)
+        .about(asked.about)
+        .after_help(asked.end);
+    for word in asked.words {
+        let argument = argument(alloc, *word)?;
+        command = command.arg(argument)?;
+    }
+    Ok(command)
 }
 
-fn serve_command<'a>(alloc: Global) -> Result<Command<'a>, AllocError> {
-    Command::new(alloc, "serve")
-        .about("Serves a store to HTTP clients of this machine")
+// The parser without its commands.
+fn empty_parser<'a>(alloc: Global) -> Result<Command<'a>, AllocError> {
+    Command::new(alloc, "powerbook")
+        .version("1.0.0")
+        .about("Meter readings and prepaid accounts of an electricity cooperative")
         .after_help(
-            "Exit status: 0; 1 refused; 2 wrong words; 3 a file, socket, store or memory failed.\nExample: powerbook serve office.toml book.db --count 100",
+            "Without a command it acts as pipe. Each command tells more: powerbook load --help.",
         )
-        .arg(office(alloc))?
-        .arg(store(alloc))?
-        .arg(count(alloc))?
-        .arg(port(alloc))?
-        .arg(limit(alloc))
+        .bin_name("powerbook")
 }
 
 /// The parser of the program's words.
 pub(crate) fn parser<'a>(alloc: Global) -> Result<Command<'a>, AllocError> {
-    Command::new(alloc, "powerbook")
-        .version("1.0.0")
-        .about("Meter readings and prepaid accounts of an electricity cooperative")
-        .bin_name("powerbook")?
-        .after_help(
-            "Without a command it acts as pipe. Each command tells more: powerbook load --help.",
-        )
-        .subcommand(read_command(alloc)?)?
-        .subcommand(check_command(alloc)?)?
-        .subcommand(pipe_command(alloc)?)?
-        .subcommand(load_command(alloc)?)?
-        .subcommand(statement_command(alloc)?)?
-        .subcommand(export_command(alloc)?)?
-        .subcommand(serve_command(alloc)?)
+    let mut parser = empty_parser(alloc)?;
+    for asked in &COMMANDS {
+        let command = command(alloc, asked)?;
+        parser = parser.subcommand(command)?;
+    }
+    Ok(parser)
 }
