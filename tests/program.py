@@ -57,11 +57,11 @@ def told(words, status, out="", err="", given=b""):
 
 
 def as_nobody():
-    """The words before a command that is run as nobody, where this is run by root, who may read all; None where no
-    command does that."""
+    """The words before a command that is run as nobody, where this is run by root, who may read all."""
     if os.geteuid() != 0:
         return []
-    return ["setpriv", "--reuid=65534", "--regid=65534", "--clear-groups"] if shutil.which("setpriv") else None
+    assert shutil.which("setpriv"), "root may read all, so setpriv is needed (Debian's package util-linux)"
+    return ["setpriv", "--reuid=65534", "--regid=65534", "--clear-groups"]
 
 
 class Terminal:
@@ -422,15 +422,17 @@ def need(script, *tools):
 
 
 def run_tests(script, tests, longest=LONGEST):
-    """Runs tests by name, each in a new folder that it is given, and tells 'N passed, M failed' last."""
+    """Runs tests by name, each in a new folder that it is given, and tells 'N passed, M failed' last. A name that no
+    test has fails too."""
 
     def too_late(*_):
         raise Late(f"longer than {longest} seconds")
 
     signal.signal(signal.SIGALRM, too_late)
     asked = sys.argv[1:]
-    passed = failed = 0
-    took = {}
+    unknown = [it for it in asked if it not in tests]
+    print("".join(f"{script}: {it}: FAILED: there is no such test\n" for it in unknown), end="", flush=True)
+    passed, failed, took = 0, len(unknown), {}
     for name, test in tests.items():
         if asked and name not in asked:
             continue
@@ -452,4 +454,4 @@ def run_tests(script, tests, longest=LONGEST):
     if slowest:
         print(f"{script}: the longest took {took[slowest]:.0f} s ({slowest})")
     print(f"{passed} passed, {failed} failed")
-    sys.exit(1 if failed else 0)
+    sys.exit(1 if failed or not passed else 0)

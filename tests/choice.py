@@ -1,0 +1,87 @@
+"""Which edits a run has to try: those of each crate on which something has changed since all of its edits were refused,
+and a tenth of the others.
+
+What an edit shows depends on the files of its crate and of the crates below it, on the kit and on the script that tries
+it. The file edits.tried keeps, for each crate, a sum of these at which all of its edits were refused. The run that
+refused them writes it. A line that is altered, or that stands there twice, is no sum of anything: its crate is tried
+again."""
+import collections
+import glob
+import hashlib
+import os
+import re
+
+TOP = os.path.normpath(os.path.join(os.path.dirname(os.path.abspath(__file__)), ".."))
+KEPT = f"{TOP}/tests/edits.tried"
+SCRIPT = f"{TOP}/tests/edits"
+FOLDER = "refused"
+# One in so many of the edits that stand by the kept file is tried all the same.
+SHARE = 10
+# A line of an edit that nothing which is tried depends on.
+SHOWS = b"shows: "
+
+
+def sum_of(*parts):
+    """A sum of bytes and texts that tells where each ends."""
+    return hashlib.sha256(repr(parts).encode()).hexdigest()
+
+
+def content(path):
+    with open(path, "rb") as file:
+        return file.read()
+
+
+def kit_sum(kit):
+    """A sum of the toolchain: its own lists of sums, and the commands by which edits are checked."""
+    lists = sorted(glob.glob(f"{kit}/WHAT*"))
+    return sum_of(*((os.path.basename(it), content(it)) for it in [*lists, f"{kit}/bin/rt", f"{kit}/bin/rtlib.py"]))
+
+
+def files_of(crate):
+    """The files that a crate's edits stand on beside its sources, in their order."""
+    folder = f"{crate.folder}/{FOLDER}"
+    return [f"{folder}/{it}" for it in sorted(os.listdir(folder))] if os.path.isdir(folder) else []
+
+
+def edit_text(path):
+    """What of an edit is tried."""
+    lines = content(path).split(b"\n") if os.path.isfile(path) else []
+    return [it for it in lines if not it.startswith(SHOWS)]
+
+
+def sums_of(rt, crates):
+    """For each crate a sum of all that its edits stand on. (rt's stamp is one of the sources, of the crate's line of
+    crates.txt and of the same of the crates below.)"""
+    tool = kit_sum(rt.KIT), content(SCRIPT)
+    edits = {crate.name: [(os.path.basename(it), edit_text(it)) for it in files_of(crate)] for crate in crates}
+    return {crate.name: sum_of(tool, crate.stamp(), edits[crate.name]) for crate in crates}
+
+
+def kept_sums():
+    """The sums of the kept file, by their crates."""
+    if not os.path.isfile(KEPT):
+        return {}
+    with open(KEPT, encoding="utf-8", errors="replace") as file:
+        found = re.findall(r"(?m)^(\w+) ([0-9a-f]{64})$", file.read())
+    often = collections.Counter(name for name, _ in found)
+    return {name: told for name, told in found if often[name] == 1}
+
+
+def keep(names, name, told):
+    """Keeps a crate's sum, or none of it, among those of the crates that have edits."""
+    found = {**kept_sums(), name: told}
+    lines = [f"{it} {found[it]}\n" for it in sorted(found) if it in names and found[it]]
+    with open(f"{KEPT}.new", "w", encoding="utf-8") as file:
+        file.write("".join(lines))
+    os.replace(f"{KEPT}.new", KEPT)
+
+
+def chosen(labels, sums):
+    """The edits to be tried, of labels by their crates, and the crates on which something has changed. What is tried of
+    the others is chosen by a sum over all crates, so that it's another tenth wherever a source is another one."""
+    kept = kept_sums()
+    changed = [name for name in labels if kept.get(name) != sums[name]]
+    others = [label for name in labels if name not in changed for label in labels[name]]
+    seed = sum_of(sorted(sums.items()))
+    share = sorted(others, key=lambda it: sum_of(seed, it))[: -(-len(others) // SHARE)]
+    return {label for name in changed for label in labels[name]}.union(share), changed
