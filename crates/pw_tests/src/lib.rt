@@ -30,8 +30,6 @@ mod shelf;
 #[cfg(test)]
 mod tariff;
 #[cfg(test)]
-mod telegrams;
-#[cfg(test)]
 mod time;
 pub mod uploads;
 #[cfg(test)]
