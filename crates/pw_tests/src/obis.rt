@@ -1,44 +1,12 @@
-//! Worked examples, their values from the standards and from the telegrams that meters send.
+//! Data sets one by one, and codes of addresses. (Values, and which addresses are a register's, stand in `cases/`.)
 
 use pw_obis::{
-    Code, LineFault, Register, Set, Sets, ValueFault, WattHours, code, first_value, is_date,
-    is_identifier, is_stamp, is_time, register, watt_hours,
+    Code, LineFault, Register, Set, Sets, WattHours, code, first_value, is_identifier, is_stamp,
+    register, watt_hours,
 };
 
 fn wh(value: u64) -> Option<WattHours> {
     WattHours::of(value)
-}
-
-// Values, and their watt-hours.
-const VALUES: [(&str, u64); 5] = [
-    ("001000.000*kWh", 1_000_000),
-    ("123456.789*kWh", 123_456_789),
-    ("00000001.99999999*kWh", 1_999),
-    ("0000001000.5*kWh", 1_000_500),
-    ("99999999999*Wh", 99_999_999_999),
-];
-
-// Texts that aren't values, and why.
-const NO_VALUES: [(&str, ValueFault); 9] = [
-    ("000.001*MWh", ValueFault::Unit),
-    ("1000.000", ValueFault::Unit),
-    ("1*2*kWh", ValueFault::Unit),
-    ("123456789*kWh", ValueFault::TooLarge),
-    ("100000000000*Wh", ValueFault::TooLarge),
-    ("1,5*kWh", ValueFault::Digits),
-    ("5.0*Wh", ValueFault::Digits),
-    ("5.*kWh", ValueFault::Digits),
-    ("*kWh", ValueFault::Digits),
-];
-
-#[test]
-fn values_of_registers(rt: HostRuntime) {
-    for (text, value) in VALUES {
-        assert!(rt; watt_hours(text.as_bytes()).ok() == wh(value));
-    }
-    for (text, fault) in NO_VALUES {
-        assert!(rt; watt_hours(text.as_bytes()) == Err(fault));
-    }
 }
 
 // Whether the next set has this address, which is no code, and these values.
@@ -127,37 +95,6 @@ fn obis_breadth(rt: HostRuntime) {
     assert!(rt; matches!(sets.next_set(), None));
 }
 
-fn register_at(address: &[u8]) -> Option<Register> {
-    let code = code(address)?;
-    register(&code)
-}
-
-// Addresses, and the registers that they name.
-const ADDRESSES: [(&str, Option<Register>); 15] = [
-    ("1-0:1.8.0", Some(Register::I0)),
-    ("1-0:1.8.1", Some(Register::I1)),
-    ("1-0:1.8.2", Some(Register::I2)),
-    ("1-0:2.8.0", Some(Register::E0)),
-    ("1-0:2.8.1", Some(Register::E1)),
-    ("1-0:2.8.2", Some(Register::E2)),
-    ("1.8.0", Some(Register::I0)),
-    ("1-2.8.1*255", Some(Register::E1)),
-    ("1:001.008.002&255", Some(Register::I2)),
-    ("0-0:1.8.0", None),
-    ("1-2:1.8.0", None),
-    ("1-0:1.8.3", None),
-    ("1-0:1.8", None),
-    ("1-0:1.8.0*05", None),
-    ("1-0:1.8.0&05", None),
-];
-
-#[test]
-fn registers_of_addresses(rt: HostRuntime) {
-    for (address, register) in ADDRESSES {
-        assert!(rt; register_at(address.as_bytes()) == register);
-    }
-}
-
 // Texts that are no addresses.
 const NO_ADDRESSES: [&str; 9] = [
     "1-0:99.97.0*256",
@@ -185,28 +122,6 @@ fn codes_of_addresses(rt: HostRuntime) {
     assert!(rt; code(b"1-000:099.97.0&255") == Some(whole));
     for address in NO_ADDRESSES {
         assert!(rt; code(address.as_bytes()).is_none());
-    }
-}
-
-fn is_clock_address(address: &[u8]) -> (bool, bool) {
-    match code(address) {
-        Some(code) => (is_time(&code), is_date(&code)),
-        None => (false, false),
-    }
-}
-
-#[test]
-fn clock_of_a_readout(rt: HostRuntime) {
-    let addresses = [
-        ("0.9.1", (true, false)),
-        ("0.9.2", (false, true)),
-        ("1-0:0.9.1*255", (true, false)),
-        ("0-1:0.9.2", (false, true)),
-        ("2-0:0.9.2", (false, false)),
-        ("0.9.1*1", (false, false)),
-    ];
-    for (address, told) in addresses {
-        assert!(rt; is_clock_address(address.as_bytes()) == told);
     }
 }
 

@@ -1,4 +1,5 @@
-//! Stamps, local clocks and instants, worked out by hand and by another reading of the same rule.
+//! Instants, worked out by hand and by another reading of the same rule. (Stamps, readouts' times and texts in UTC stand
+//! in `cases/`.)
 
 ghost use Rattle.std.specs.Prelude.{◌≤◌, IfOk};
 
@@ -15,74 +16,14 @@ fn told(answer: Result<Instant, StampFault>) -> Result<u32, u8> {
     }
 }
 
+/// Readouts have no marks, so a clock that marks its times tells no instant of one.
 #[test]
-fn stamps_and_folds(rt: HostRuntime) {
-    let texts: [(&[u8], Result<u32, u8>); 11] = [
-        (b"240102060000W", Ok(1_704_171_600)),
-        (b"241027023000S", told(utc(b"2024-10-27T00:30:00Z"))),
-        (b"241027023000W", told(utc(b"2024-10-27T01:30:00Z"))),
-        (b"240331013000W", told(utc(b"2024-03-31T00:30:00Z"))),
-        (b"240331033000S", told(utc(b"2024-03-31T01:30:00Z"))),
-        (b"000101003000W", Err(5)),
-        (b"240230000000W", Err(2)),
-        (b"240102240000W", Err(3)),
-        (b"240102060060W", Err(3)),
-        (b"240102060000X", Err(4)),
-        (b"24010206000W", Err(1)),
-    ];
-    for (text, want) in texts.iter() {
-        assert!(rt; told(stamp(text)) == *want);
-    }
-}
-
-#[test]
-fn readouts(rt: HostRuntime) {
+fn readouts_of_marked_clocks(rt: HostRuntime) {
     let zone = Zone::central();
-    let texts: [(&[u8], &[u8], Clock, Result<u32, u8>); 8] = [
-        (b"240331", b"02:30:00", Clock::Local, Err(6)),
-        (b"241027", b"023000", Clock::Local, Err(7)),
-        (
-            b"240331",
-            b"02:30:00",
-            Clock::Winter,
-            told(utc(b"2024-03-31T01:30:00Z")),
-        ),
-        (
-            b"241027",
-            b"023000",
-            Clock::Winter,
-            told(utc(b"2024-10-27T01:30:00Z")),
-        ),
-        (
-            b"24-07-01",
-            b"070000",
-            Clock::Local,
-            told(utc(b"2024-07-01T05:00:00Z")),
-        ),
-        (b"240102", b"060000", Clock::Local, Ok(1_704_171_600)),
-        (b"240102", b"060000", Clock::Marked, Err(4)),
-        (b"24-0102", b"060000", Clock::Marked, Err(1)),
-    ];
-    for (date, time, clock, want) in texts.iter() {
-        assert!(rt; told(readout_instant(date, time, *clock, &zone)) == *want);
-    }
-}
-
-#[test]
-fn texts_in_utc(rt: HostRuntime) {
-    let texts: [(&[u8], Result<u32, u8>); 8] = [
-        (b"2024-01-02T05:00:00Z", Ok(1_704_171_600)),
-        (b"2000-01-01T00:00:00Z", Ok(946_684_800)),
-        (b"2099-12-31T23:59:59Z", Ok(4_102_444_799)),
-        (b"2100-01-01T00:00:00Z", Err(5)),
-        (b"0000-02-29T00:00:00Z", Err(5)),
-        (b"1900-02-29T00:00:00Z", Err(2)),
-        (b"1999-01-01T25:00:00Z", Err(3)),
-        (b"2024-01-02 05:00:00Z", Err(1)),
-    ];
-    for (text, want) in texts.iter() {
-        assert!(rt; told(utc(text)) == *want);
-    }
+    let answer = readout_instant(b"240102", b"060000", Clock::Marked, &zone);
+    assert!(rt; told(answer) == Err(4));
+    let answer = readout_instant(b"24-0102", b"060000", Clock::Marked, &zone);
+    assert!(rt; told(answer) == Err(1));
 }
 
 #[test]

@@ -20,9 +20,6 @@ fn gives(alloc: Global, body: &[u8], wanted: &[Entry]) -> bool {
 
 #[test]
 fn entries_in_order(rt: HostRuntime) {
-    let both = [
-        reading(&rt, FIVE, 1_000_000),
-        reading(&rt, FIVE, 1_000_001),
-    ];
+    let both = [reading(&rt, FIVE, 1_000_000), reading(&rt, FIVE, 1_000_001)];
     assert!(rt; gives(rt.alloc(), SECOND_THEN_FIRST, &both));
 }
