@@ -1,13 +1,11 @@
-//! The pages of a book over a store in memory, on rows worked out by hand.
+//! The pages of a book where memory is refused, or a device fails. (Pages of rows worked out by hand stand in `cases/`.)
 
 ghost use Rattle.std.specs.Prelude.{IfOk};
 ghost use Rattle.pw_model.specs.Office.{AllOfOffice};
 ghost use Rattle.pw_tariff.specs.Office.{office_of};
 
-mod exports;
 mod failing;
 mod memory;
-mod tables;
 
 use crate::books::book_of;
 use crate::offices::SAMPLE;
