@@ -2,56 +2,7 @@
 
 use crate::offices::SAMPLE;
 use pw_tariff::{AccountId, BandId, MeterId, Office, OfficeFault};
-use std::alloc::{AllocError, Global};
 use std::test::Fail;
-
-const ACCOUNTS: &str = "accounts = [\"A1\", \"A2\"]\n";
-
-// The band changes with each hour.
-const HOURLY_WEEK: &str = r#"week = [
-  "LHLHLHLHLHLHLHLHLHLHLHLH",
-  "LHLHLHLHLHLHLHLHLHLHLHLH",
-  "LHLHLHLHLHLHLHLHLHLHLHLH",
-  "LHLHLHLHLHLHLHLHLHLHLHLH",
-  "LHLHLHLHLHLHLHLHLHLHLHLH",
-  "LHLHLHLHLHLHLHLHLHLHLHLH",
-  "LHLHLHLHLHLHLHLHLHLHLHLH",
-]
-
-"#;
-
-const BANDS: &str = r#"[[band]]
-name = "L"
-import = 200000
-export = 50000
-
-[[band]]
-name = "H"
-import = 300000
-export = 50000
-
-"#;
-
-const METERS: &str = r#"[[meter]]
-id = "4D31"
-clock = "marked"
-registers = ["I1", "I2", "E1", "E2"]
-
-[[meter]]
-id = "Z7"
-clock = "winter"
-registers = ["I0"]
-
-[[meter]]
-id = "Z8"
-clock = "local"
-registers = ["I0"]
-"#;
-
-// The sample office with a band for each odd hour, and another for each even one.
-pub(super) fn hourly(alloc: Global) -> Result<String, AllocError> {
-    Ok(format!(in alloc; "{ACCOUNTS}{HOURLY_WEEK}{BANDS}{METERS}")?)
-}
 
 // Whether these are the accounts, each in its place.
 fn are_accounts(office: &Office, names: &[&str]) -> bool {
