@@ -1,10 +1,6 @@
 //! Conversations: with a service that gives one answer to all, and with a book over a store in memory.
 
 mod books;
-mod outside;
-mod requests;
-mod rows;
-mod tables;
 mod wire;
 
 use pw_http::{ContentType, Routes, Served, Service, Status, WireFault, send_reply, serve_within};
@@ -50,46 +46,10 @@ fn said(alloc: Global, stream: &[u8], turns: u32) -> (Result<Served, WireFault>,
 }
 
 #[test]
-fn empty_stream(rt: HostRuntime) -> Result<(), Fail> {
-    let (served, text) = said(rt.alloc(), b"", 10);
-    assert!(rt; served == Ok(Served { requests: 0 }));
-    assert!(rt; text.is_empty());
-    Ok(())
-}
-
-#[test]
 fn one_request(rt: HostRuntime) -> Result<(), Fail> {
     let (served, text) = said(rt.alloc(), PAGE, 10);
     assert!(rt; served == Ok(Served { requests: 1 }));
     assert!(rt; text.as_slice() == YES);
-    Ok(())
-}
-
-#[test]
-fn body_cut_short(rt: HostRuntime) -> Result<(), Fail> {
-    let (served, text) = said(
-        rt.alloc(),
-        b"POST /topups HTTP/1.1\r\nContent-Length: 64\r\n\r\n0123456789",
-        10,
-    );
-    assert!(rt; served == Ok(Served { requests: 1 }));
-    let expected: &[u8] =
-        b"HTTP/1.1 400 Bad Request\r\nContent-Type: text/plain\r\nContent-Length: 9\r\nConnection: close\r\n\r\nbad body\n";
-    assert!(rt; text.as_slice() == expected);
-    Ok(())
-}
-
-#[test]
-fn body_too_large(rt: HostRuntime) -> Result<(), Fail> {
-    let (served, text) = said(
-        rt.alloc(),
-        b"POST /topups HTTP/1.1\r\nContent-Length: 262145\r\n\r\n",
-        10,
-    );
-    assert!(rt; served == Ok(Served { requests: 1 }));
-    let expected: &[u8] =
-        b"HTTP/1.1 413 Payload Too Large\r\nContent-Type: text/plain\r\nContent-Length: 15\r\nConnection: close\r\n\r\nbody too large\n";
-    assert!(rt; text.as_slice() == expected);
     Ok(())
 }
 

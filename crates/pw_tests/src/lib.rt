@@ -1,5 +1,5 @@
-//! Tests of the crates below by public calls alone: rows worked out by hand, texts that are refused, and memory,
-//! devices and wires that fail.
+//! Tests of the crates below by public calls alone: memory, devices and wires that fail, and calls that no command makes.
+//! (Rows worked out by hand, and texts that are refused, stand in `cases/`.)
 #![tactic(auto)]
 
 pub mod books;
@@ -8,13 +8,7 @@ mod entries;
 #[cfg(test)]
 mod flow;
 #[cfg(test)]
-mod frame;
-#[cfg(test)]
 mod http;
-#[cfg(test)]
-mod model;
-#[cfg(test)]
-mod obis;
 pub mod offices;
 #[cfg(test)]
 mod parts;
@@ -29,8 +23,6 @@ pub mod sample;
 mod shelf;
 #[cfg(test)]
 mod tariff;
-#[cfg(test)]
-mod telegrams;
 #[cfg(test)]
 mod time;
 pub mod uploads;

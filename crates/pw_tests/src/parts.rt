@@ -1,7 +1,7 @@
-//! Worked rows of 2024-01-02, a Tuesday: what is listed is counted by hand, and compared with the plain program.
+//! The parts of records where memory is refused: right by hand and by the plain program, or want of memory. (Rows of
+//! parts stand in `cases/`.)
 
 mod memory;
-mod rows;
 
 use crate::entries::{assigned, paid, shown};
 use crate::sample::{FIRST, KINDS, SECOND, are_of_office};
@@ -29,20 +29,12 @@ enum Total {
     TopUps(AccountId, u64),
 }
 
-// What the points or the starts have to be.
-#[derive(Clone, Copy)]
-enum Wanted {
-    Any,
-    Many(usize),
-    These(&'static [Row]),
-}
-
-// Records, and what their parts have to be.
+// Records, how many of them count, and what their totals have to be.
 #[derive(Clone, Copy)]
 struct Case {
     records: &'static [Row],
-    points: Wanted,
-    starts: Wanted,
+    points: usize,
+    starts: usize,
     totals: &'static [Total],
 }
 
@@ -60,23 +52,6 @@ fn entries_of(rt: &impl Abort, alloc: Global, rows: &[Row]) -> Result<Vec<Entry>
         entries.push(entry_of(rt, *row))?;
     }
     Ok(entries)
-}
-
-fn are_wanted(rt: &impl Abort, entries: &[Entry], wanted: Wanted) -> bool {
-    match wanted {
-        Wanted::Any => true,
-        Wanted::Many(count) => entries.len() == count,
-        Wanted::These(rows) => are_rows(rt, entries, rows),
-    }
-}
-
-fn are_rows(rt: &impl Abort, entries: &[Entry], rows: &[Row]) -> bool {
-    for (entry, row) in entries.iter().zip(rows) {
-        if *entry != entry_of(rt, *row) {
-            return false;
-        }
-    }
-    entries.len() == rows.len()
 }
 
 fn listed_as(total: Total) -> (TotalKey, u64) {
@@ -112,13 +87,13 @@ fn hold(
 ) -> Result<(), AllocError> {
     let entries = entries_of(rt, alloc, case.records)?;
     let parts = parts_of(rt, alloc, office, zone, &entries)?;
-    assert!(rt; are_parts(rt, &parts, case));
+    assert!(rt; are_parts(&parts, case));
     all_agree(rt, alloc, office, zone, &entries, &parts)
 }
 
-fn are_parts(rt: &impl Abort, parts: &Parts, case: &Case) -> bool {
-    are_wanted(rt, &parts.points, case.points)
-        && are_wanted(rt, &parts.starts, case.starts)
+fn are_parts(parts: &Parts, case: &Case) -> bool {
+    parts.points.len() == case.points
+        && parts.starts.len() == case.starts
         && are_totals(&parts.totals, case.totals)
 }
 

@@ -1,8 +1,7 @@
-//! Worked examples: the entries and the refusals of bodies.
+//! The entries of bodies: their order, and want of memory. (What bodies give and for what they are refused stands in
+//! `cases/`.)
 
 mod bodies;
 mod frames;
 mod memory;
-mod refusals;
-mod rows;
 mod sending;

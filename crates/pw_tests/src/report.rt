@@ -1,25 +1,26 @@
-//! The pages of a book over a store in memory, on rows worked out by hand.
+//! The pages of a book where memory is refused, or a device fails. (Pages of rows worked out by hand stand in `cases/`.)
 
 ghost use Rattle.std.specs.Prelude.{IfOk};
 ghost use Rattle.pw_model.specs.Office.{AllOfOffice};
 ghost use Rattle.pw_tariff.specs.Office.{office_of};
 
-mod exports;
 mod failing;
 mod memory;
-mod tables;
 
 use crate::books::book_of;
 use crate::offices::SAMPLE;
 use crate::uploads::ASSIGNMENT;
 use pw_book::{Accepted, Book, BookFault, Entry, PostFault};
 use pw_record::{UploadFault, assignment_records, telegram_records, topup_records};
-use pw_report::{Page, page_text};
+use pw_report::{
+    Page, accounts_table, disputes_table, export_energy, export_readings, falls_table, page_text,
+};
 use pw_shelf::{MemoryShelf, Shelf};
 use pw_tariff::{Office, OfficeFault};
 use pw_time::Zone;
 use std::alloc::Global;
 use std::process::Abort;
+use std::test::Fail;
 
 // An upload of one kind.
 #[derive(Clone, Copy)]
@@ -109,4 +110,20 @@ fn page_of<S: Shelf>(
         assert!(rt; account.0 < book.office().accounts());
     }
     page_text(book, alloc, page)
+}
+
+// Whether each list is given by its own call.
+fn are_given<S: Shelf>(alloc: Global, book: &mut Book<S>) -> bool {
+    accounts_table(book, alloc).is_ok()
+        && falls_table(book, alloc).is_ok()
+        && disputes_table(book, alloc).is_ok()
+        && export_readings(book, alloc).is_ok()
+        && export_energy(book, alloc).is_ok()
+}
+
+#[test]
+fn lists_by_their_own_calls(rt: HostRuntime) -> Result<(), Fail> {
+    let mut book = empty_book(rt.alloc())?;
+    assert!(rt; are_given(rt.alloc(), &mut book));
+    Ok(())
 }

@@ -1,6 +1,3 @@
-//! Office files, their bands and owners, and differences shared out.
+//! Office files, and their bands.
 
 mod files;
-mod hours;
-mod limits;
-mod shares;

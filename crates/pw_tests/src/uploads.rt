@@ -17,15 +17,3 @@ pub const BETWEEN: &[u8] =
 /// Another reading at the same instant.
 pub const BESIDE: &[u8] =
     b"/PWB5X\r\n\r\n0-0:1.0.0(240102070000W)\r\n0-0:96.1.1(4D31)\r\n1-0:1.8.1(001001.500*kWh)\r\n!E128\r\n";
-
-/// A third one.
-pub const A_THIRD: &[u8] =
-    b"/PWB5X\r\n\r\n0-0:1.0.0(240102070000W)\r\n0-0:96.1.1(4D31)\r\n1-0:1.8.1(001001.200*kWh)\r\n!9532\r\n";
-
-/// Three readings, of which the second shows less than the first.
-pub const FALL: &[u8] =
-    b"/PWB5X\r\n\r\n0-0:1.0.0(240102060000W)\r\n0-0:96.1.1(4D31)\r\n1-0:1.8.1(000100.000*kWh)\r\n!8790\r\n/PWB5X\r\n\r\n0-0:1.0.0(240102070000W)\r\n0-0:96.1.1(4D31)\r\n1-0:1.8.1(000050.000*kWh)\r\n!39FF\r\n/PWB5X\r\n\r\n0-0:1.0.0(240102080000W)\r\n0-0:96.1.1(4D31)\r\n1-0:1.8.1(000120.000*kWh)\r\n!C138\r\n";
-
-/// Another reading at the second's instant.
-pub const RECOVERY: &[u8] =
-    b"/PWB5X\r\n\r\n0-0:1.0.0(240102070000W)\r\n0-0:96.1.1(4D31)\r\n1-0:1.8.1(000060.000*kWh)\r\n!3AFC\r\n";

@@ -39,24 +39,3 @@ pub(super) fn is_served<S: Shelf>(
     let (served, text) = replies(alloc, book, stream);
     served == Ok(Served { requests }) && text.as_slice() == expected
 }
-
-/// Whether a book takes each stream to its end and replies as expected, one conversation behind another.
-fn are_replied<S: Shelf>(alloc: Global, book: &mut Book<S>, rows: &[(&[u8], &[u8])]) -> bool {
-    let mut are_replied = true;
-    for (stream, expected) in rows {
-        let (served, text) = replies(alloc, book, stream);
-        are_replied = are_replied && served.is_ok() && text.as_slice() == *expected;
-    }
-    are_replied
-}
-
-/// Whether a new book does so, of an office file and with a limit.
-pub(super) fn is_replied(alloc: Global, office: &str, limit: u32, rows: &[(&[u8], &[u8])]) -> bool
-    requires least { 1 ≤ limit }
-    requires most { limit ≤ most_records }
-{
-    match book_of(alloc, office, limit) {
-        Ok(mut book) => are_replied(alloc, &mut book, rows),
-        Err(_) => false,
-    }
-}

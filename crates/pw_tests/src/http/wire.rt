@@ -1,7 +1,6 @@
 //! Streams in pieces, and readers and writers that fail.
 
 use super::books::{empty_book, is_served, replies};
-use super::rows::{FIRST, FIRST_REPLIES};
 use pw_book::Book;
 use pw_http::{Served, WireFault, converse, converse_within};
 use pw_shelf::Shelf;
@@ -15,6 +14,13 @@ const PAID: &[u8] =
 
 const PAID_REPLIES: &[u8] =
     b"HTTP/1.1 200 OK\r\nContent-Type: text/plain\r\nContent-Length: 28\r\n\r\naccepted fresh 1 repeated 0\nHTTP/1.1 200 OK\r\nContent-Type: text/plain\r\nContent-Length: 160\r\n\r\naccount A1\nband       import Wh       export Wh\nL                  0               0\nH                  0               0\ntopped up EUR 50.00\nbalance EUR 50.00\n";
+
+// Three uploads and a statement.
+const FIRST: &[u8] =
+    b"POST /assignments HTTP/1.1\r\nContent-Length: 49\r\n\r\nmeter,start,account\n4D31,2024-01-01T00:00:00Z,A1\nPOST /telegrams HTTP/1.1\r\nContent-Length: 176\r\n\r\n/PWB5X\r\n\r\n0-0:1.0.0(240102060000W)\r\n0-0:96.1.1(4D31)\r\n1-0:1.8.1(001000.000*kWh)\r\n!1790\r\n/PWB5X\r\n\r\n0-0:1.0.0(240102080000W)\r\n0-0:96.1.1(4D31)\r\n1-0:1.8.1(001003.001*kWh)\r\n!C033\r\nPOST /topups HTTP/1.1\r\nContent-Length: 64\r\n\r\nreference,account,cents,instant\nP1,A1,5000,2024-01-01T00:00:00Z\nGET /accounts/A1 HTTP/1.1\r\n\r\n";
+
+const FIRST_REPLIES: &[u8] =
+    b"HTTP/1.1 200 OK\r\nContent-Type: text/plain\r\nContent-Length: 28\r\n\r\naccepted fresh 1 repeated 0\nHTTP/1.1 200 OK\r\nContent-Type: text/plain\r\nContent-Length: 28\r\n\r\naccepted fresh 2 repeated 0\nHTTP/1.1 200 OK\r\nContent-Type: text/plain\r\nContent-Length: 28\r\n\r\naccepted fresh 1 repeated 0\nHTTP/1.1 200 OK\r\nContent-Type: text/plain\r\nContent-Length: 160\r\n\r\naccount A1\nband       import Wh       export Wh\nL               1500               0\nH               1501               0\ntopped up EUR 50.00\nbalance EUR 49.24\n";
 
 // Gives a stream in two pieces.
 #[derive(Drop)]

@@ -1,0 +1,127 @@
+//! Records in words: `reading METER REGISTER INSTANT WH`, `assignment METER INSTANT OWNER` and
+//! `topup REFERENCE ACCOUNT CENTS INSTANT`. The first words are the key's.
+
+use crate::names::{account, meter, meter_name, owner, owner_name};
+use crate::words::{instant, register, wh};
+use pw_model::{Content, Entry, Key, Reference};
+use pw_tariff::Office;
+use std::io::Write;
+use std::str::from_utf8;
+
+/// The record of a line, if it is one.
+pub(crate) fn entry_of(office: &Office, words: &[&str]) -> Option<Entry> {
+    match words {
+        ["reading", meter, register, instant, wh] => {
+            reading_of(office, [meter, register, instant], wh)
+        }
+        ["assignment", meter, instant, owner] => assignment_of(office, [meter, instant], owner),
+        ["topup", reference, account, cents, instant] => {
+            topup_of(office, reference, [account, cents, instant])
+        }
+        _ => None,
+    }
+}
+
+fn reading_of(office: &Office, key: [&str; 3], content: &str) -> Option<Entry> {
+    Some(Entry {
+        key: reading_key(office, key)?,
+        content: Content::Reading { wh: wh(content)? },
+    })
+}
+
+fn assignment_of(office: &Office, key: [&str; 2], content: &str) -> Option<Entry> {
+    Some(Entry {
+        key: assignment_key(office, key)?,
+        content: Content::Assignment {
+            owner: owner(office, content)?,
+        },
+    })
+}
+
+fn topup_of(office: &Office, key: &str, content: [&str; 3]) -> Option<Entry> {
+    let [name, cents, at] = content;
+    Some(Entry {
+        key: topup_key(key)?,
+        content: Content::TopUp {
+            account: account(office, name)?,
+            cents: cents.parse::<u32>().ok()?,
+            instant: instant(at)?,
+        },
+    })
+}
+
+/// The key of its words.
+pub(crate) fn key_of(office: &Office, words: &[&str]) -> Option<Key> {
+    match words {
+        ["reading", meter, register, instant] => reading_key(office, [meter, register, instant]),
+        ["assignment", meter, instant] => assignment_key(office, [meter, instant]),
+        ["topup", reference] => topup_key(reference),
+        _ => None,
+    }
+}
+
+fn reading_key(office: &Office, words: [&str; 3]) -> Option<Key> {
+    let [name, of, at] = words;
+    Some(Key::Reading {
+        meter: meter(office, name)?,
+        register: register(of)?,
+        instant: instant(at)?,
+    })
+}
+
+fn assignment_key(office: &Office, words: [&str; 2]) -> Option<Key> {
+    let [name, from] = words;
+    Some(Key::Assignment {
+        meter: meter(office, name)?,
+        start: instant(from)?,
+    })
+}
+
+fn topup_key(word: &str) -> Option<Key> {
+    let reference = Reference::of(word.as_bytes())?;
+    Some(Key::TopUp { reference })
+}
+
+/// Tells a key in its words, without the end of the line.
+pub(crate) fn tell_key<O: Write>(office: &Office, key: &Key, out: &mut O) {
+    let _ = match *key {
+        Key::Reading {
+            meter,
+            register,
+            instant,
+        } => {
+            let (meter, register) = (meter_name(office, meter), register.name());
+            write!(out, "reading {meter} {register} {instant}")
+        }
+        Key::Assignment { meter, start } => {
+            let meter = meter_name(office, meter);
+            write!(out, "assignment {meter} {start}")
+        }
+        Key::TopUp { reference } => {
+            let text = from_utf8(reference.bytes()).unwrap_or("-");
+            write!(out, "topup {text}")
+        }
+    };
+}
+
+/// Tells a content in its words, with the end of the line.
+pub(crate) fn tell_content<O: Write>(office: &Office, content: &Content, out: &mut O) {
+    let _ = match *content {
+        Content::Reading { wh } => {
+            let wh = wh.get();
+            writeln!(out, "{wh}")
+        }
+        Content::Assignment { owner } => {
+            let owner = owner_name(office, owner);
+            writeln!(out, "{owner}")
+        }
+        Content::TopUp {
+            account,
+            cents,
+            instant,
+        } => {
+            let account = owner_name(office, Some(account));
+            writeln!(out, "{account} {cents} {instant}")
+        }
+    };
+}

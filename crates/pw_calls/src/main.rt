@@ -1,0 +1,121 @@
+//! A program for the tests alone: each line of its input is a call in words, and it tells what the call answers.
+//!
+//! The word behind its name is an office file. A line that tells a record adds it to those that are held; what is asked of
+//! records is asked of these. No store and no book stands below it: what records mean is told by the plain program of the
+//! definitions, and by `true_parts`.
+#![tactic(auto)]
+
+mod asked;
+mod counting;
+mod entries;
+mod flows;
+mod frames;
+mod instants;
+mod large;
+mod lists;
+mod meaning;
+mod names;
+mod sets;
+mod shares;
+mod terms;
+mod words;
+
+use asked::Asked;
+use entries::entry_of;
+use pw_model::Entry;
+use pw_tariff::Office;
+use pw_time::Zone;
+use std::alloc::{AllocError, Global};
+use std::io::{self, Write};
+use std::process::ExitCode;
+use std::{env, fs};
+
+/// The exit status where the calls can't be made.
+const FAILED: u8 = 3;
+
+fn main(rt: HostRuntime) -> ExitCode {
+    ExitCode::from(status_of(&rt))
+}
+
+fn status_of(rt: &HostRuntime) -> u8 {
+    let Some(office) = office_of_words(rt) else {
+        let _ = rt.stderr().write_all(b"pw_calls: no office file\n");
+        return FAILED;
+    };
+    match answer_lines(rt, &office) {
+        Ok(()) => 0,
+        Err(_) => FAILED,
+    }
+}
+
+/// The office of the file that the first word names.
+fn office_of_words(rt: &HostRuntime) -> Option<Office> {
+    let mut words = env::args(rt).ok()?;
+    let path = words.nth(1)?;
+    let text = fs::read(rt, path.as_str()).ok()?;
+    Office::read(rt.alloc(), &text).ok()
+}
+
+fn answer_lines(rt: &HostRuntime, office: &Office) -> io::Result<()> {
+    let zone = Zone::central();
+    let mut entries = Vec::new(rt.alloc());
+    for line in rt.lines(rt.alloc()) {
+        let line = line?;
+        answer(
+            rt.alloc(),
+            office,
+            &zone,
+            &mut entries,
+            &line,
+            &mut rt.stdout(),
+        )?;
+    }
+    Ok(())
+}
+
+/// Answers one line.
+fn answer<O: Write>(
+    alloc: Global,
+    office: &Office,
+    zone: &Zone,
+    entries: &mut Vec<Entry>,
+    line: &str,
+    out: &mut O,
+) -> Result<(), AllocError> {
+    let mut words = Vec::new(alloc);
+    for word in line.split(' ') {
+        words.push(word)?;
+    }
+    match words.as_slice() {
+        ["forget"] => entries.clear(),
+        ["blocks"] => large::push_blocks(alloc, entries)?,
+        _ => match entry_of(office, &words) {
+            Some(entry) => entries.push(entry)?,
+            None => {
+                let asked = Asked {
+                    alloc,
+                    office,
+                    zone,
+                    entries,
+                };
+                tell_answer(&asked, &words, line, out);
+            }
+        },
+    }
+    Ok(())
+}
+
+fn tell_answer<O: Write>(asked: &Asked<'_>, words: &[&str], line: &str, out: &mut O) {
+    let is_answered = frames::answer(asked.alloc, words, out).is_some()
+        || sets::answer(asked.alloc, words, out).is_some()
+        || instants::answer(asked.zone, words, out).is_some()
+        || terms::answer(asked, words, out).is_some()
+        || shares::answer(asked, words, out).is_some()
+        || flows::answer(asked, words, out).is_some()
+        || counting::answer(asked, words, out).is_some()
+        || lists::answer(asked, words, out).is_some()
+        || meaning::answer(asked, words, out).is_some();
+    if !is_answered {
+        let _ = writeln!(out, "not understood: {line}");
+    }
+}

@@ -1,0 +1,132 @@
+//! The calls on what records of the office mean.
+
+ghost use Rattle.std.specs.Prelude.{◌≤◌, IsTrue, length};
+ghost use Rattle.pw_model.specs.Office.{AllOfOffice, most_records};
+ghost use Rattle.pw_tariff.specs.Office.{office_of};
+
+use crate::asked::Asked;
+use crate::entries::{tell_content, tell_key};
+use crate::names::{account, band_name, owner_name};
+use crate::shares::tell_cell;
+use pw_model::plain::{OfficeTerms, are_of_office, balance, energy};
+use pw_model::{Entry, TotalKey};
+use pw_parts::true_parts;
+use pw_tariff::{AccountId, BandId, Cell, Direction, Office, Owner};
+use std::io::Write;
+
+/// The most records of an office.
+pub(crate) const MOST_RECORDS: usize = 10_000_000;
+
+pub(crate) fn answer<O: Write>(asked: &Asked<'_>, words: &[&str], out: &mut O) -> Option<()> {
+    let is_of_office = is_sound(asked);
+    match words {
+        ["of_office"] => {
+            let _ = writeln!(out, "{is_of_office}");
+            Some(())
+        }
+        _ if is_of_office => answer_sound(asked, words, out),
+        _ => None,
+    }
+}
+
+// Whether these can be the records of an office.
+fn is_sound(asked: &Asked<'_>) -> bool
+    ensures of_office { IsTrue result → AllOfOffice (office_of asked.now.office.now) asked.now.entries.now }
+    ensures few { IsTrue result → length asked.now.entries.now ≤ most_records }
+{
+    let terms = OfficeTerms::new(asked.office, asked.zone);
+    are_of_office(&terms, asked.entries) && asked.entries.len() <= MOST_RECORDS
+}
+
+fn answer_sound<O: Write>(asked: &Asked<'_>, words: &[&str], out: &mut O) -> Option<()>
+    requires of_office { AllOfOffice (office_of asked.now.office.now) asked.now.entries.now }
+    requires few { length asked.now.entries.now ≤ most_records }
+{
+    match words {
+        ["imported"] => tell_energies(asked, Direction::Import, out),
+        ["exported"] => tell_energies(asked, Direction::Export, out),
+        ["balance", name] => {
+            let terms = OfficeTerms::new(asked.office, asked.zone);
+            let account = account(asked.office, name)?;
+            let nano = balance(asked.alloc, &terms, asked.entries, account).ok()?;
+            let _ = writeln!(out, "{nano}");
+            Some(())
+        }
+        ["parts"] => tell_parts(asked, out),
+        _ => None,
+    }
+}
+
+// The energies above 0 in a direction, nobody's first, one second after another.
+fn tell_energies<O: Write>(asked: &Asked<'_>, direction: Direction, out: &mut O) -> Option<()>
+    requires of_office { AllOfOffice (office_of asked.now.office.now) asked.now.entries.now }
+    requires few { length asked.now.entries.now ≤ most_records }
+{
+    tell_energies_of(asked, None, direction, out)?;
+    for account in 0..asked.office.accounts() {
+        tell_energies_of(asked, Some(AccountId(account)), direction, out)?;
+    }
+    Some(())
+}
+
+fn tell_energies_of<O: Write>(
+    asked: &Asked<'_>,
+    owner: Owner,
+    direction: Direction,
+    out: &mut O,
+) -> Option<()>
+    requires of_office { AllOfOffice (office_of asked.now.office.now) asked.now.entries.now }
+    requires few { length asked.now.entries.now ≤ most_records }
+{
+    let terms = OfficeTerms::new(asked.office, asked.zone);
+    for band in 0..asked.office.bands() {
+        let band = BandId(band);
+        let wh = energy(asked.alloc, &terms, asked.entries, owner, band, direction).ok()?;
+        if wh > 0 {
+            tell_cell(asked.office, &Cell { owner, band, wh }, out);
+        }
+    }
+    Some(())
+}
+
+// The points, the starts and the totals.
+fn tell_parts<O: Write>(asked: &Asked<'_>, out: &mut O) -> Option<()>
+    requires of_office { AllOfOffice (office_of asked.now.office.now) asked.now.entries.now }
+    requires few { length asked.now.entries.now ≤ most_records }
+{
+    let parts = true_parts(asked.alloc, asked.office, asked.zone, asked.entries).ok()?;
+    tell_entries(asked.office, &parts.points, out);
+    tell_entries(asked.office, &parts.starts, out);
+    for (key, amount) in &parts.totals {
+        tell_total(asked.office, *key, *amount, out);
+    }
+    Some(())
+}
+
+fn tell_entries<O: Write>(office: &Office, entries: &[Entry], out: &mut O) {
+    for entry in entries {
+        tell_key(office, &entry.key, out);
+        let _ = out.write_all(b" ");
+        tell_content(office, &entry.content, out);
+    }
+    let count = entries.len();
+    let _ = writeln!(out, "{count} records");
+}
+
+fn tell_total<O: Write>(office: &Office, key: TotalKey, amount: u64, out: &mut O) {
+    match key {
+        TotalKey::Energy {
+            owner,
+            band,
+            direction,
+        } => {
+            let (owner, band) = (owner_name(office, owner), band_name(office, band));
+            let direction = direction.name();
+            let _ = writeln!(out, "{owner} {band} {direction} {amount}");
+        }
+        TotalKey::TopUps { account } => {
+            let account = owner_name(office, Some(account));
+            let _ = writeln!(out, "{account} topped up {amount}");
+        }
+    }
+}

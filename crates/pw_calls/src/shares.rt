@@ -1,0 +1,73 @@
+//! The calls on owners over time, and on differences shared out. A start is written `INSTANT=OWNER`.
+
+use crate::asked::Asked;
+use crate::names::{band_name, owner, owner_name};
+use crate::words::{instant, wh};
+use pw_tariff::{Cell, Office, Owner, Owners, Span, apportion};
+use pw_time::Instant;
+use std::alloc::Global;
+use std::io::Write;
+
+pub(crate) fn answer<O: Write>(asked: &Asked<'_>, words: &[&str], out: &mut O) -> Option<()> {
+    match words {
+        ["owners", rest @ ..] => {
+            let starts = starts_of(asked.alloc, asked.office, rest)?;
+            let is_one = Owners::of(&starts).is_some();
+            let _ = writeln!(out, "{is_one}");
+            Some(())
+        }
+        ["apportion", from, low, to, high, rest @ ..] => {
+            let span = span_of([from, low, to, high])?;
+            let starts = starts_of(asked.alloc, asked.office, rest)?;
+            tell_shares(asked, &Owners::of(&starts)?, span, out)
+        }
+        _ => None,
+    }
+}
+
+fn span_of(words: [&str; 4]) -> Option<Span> {
+    let [from, low, to, high] = words;
+    Some(Span {
+        from: instant(from)?,
+        to: instant(to)?,
+        low: wh(low)?,
+        high: wh(high)?,
+    })
+}
+
+fn starts_of(alloc: Global, office: &Office, words: &[&str]) -> Option<Vec<(Instant, Owner)>> {
+    let mut starts = Vec::new(alloc);
+    for word in words {
+        let start = start_of(office, word)?;
+        starts.push(start).ok()?;
+    }
+    Some(starts)
+}
+
+fn start_of(office: &Office, word: &str) -> Option<(Instant, Owner)> {
+    let (from, name) = word.split_once('=')?;
+    Some((instant(from)?, owner(office, name)?))
+}
+
+fn tell_shares<O: Write>(
+    asked: &Asked<'_>,
+    owners: &Owners<'_>,
+    span: Span,
+    out: &mut O,
+) -> Option<()> {
+    if span.from.seconds() >= span.to.seconds() || span.low.get() > span.high.get() {
+        return None;
+    }
+    let cells = apportion(asked.alloc, asked.office, asked.zone, owners, span).ok()?;
+    for cell in &cells {
+        tell_cell(asked.office, cell, out);
+    }
+    Some(())
+}
+
+/// Tells what an owner gets in a band.
+pub(crate) fn tell_cell<O: Write>(office: &Office, cell: &Cell, out: &mut O) {
+    let (owner, band) = (owner_name(office, cell.owner), band_name(office, cell.band));
+    let wh = cell.wh;
+    let _ = writeln!(out, "{owner} {band} {wh}");
+}

@@ -1,0 +1,34 @@
+//! The calls on the terms of the office. Meters and bands are told by their numbers, from 0.
+
+use crate::asked::Asked;
+use crate::names::{band_name, direction};
+use crate::words::{instant, register};
+use pw_model::plain::{OfficeTerms, Terms};
+use pw_tariff::{BandId, MeterId};
+use std::io::Write;
+
+pub(crate) fn answer<O: Write>(asked: &Asked<'_>, words: &[&str], out: &mut O) -> Option<()> {
+    let terms = OfficeTerms::new(asked.office, asked.zone);
+    match words {
+        ["terms"] => {
+            let (accounts, meters, bands) = (terms.accounts(), terms.meters(), terms.bands());
+            let _ = writeln!(out, "accounts {accounts} meters {meters} bands {bands}");
+        }
+        ["counts", meter, of] => {
+            let meter = MeterId(meter.parse::<u16>().ok()?);
+            let counts = terms.counts(meter, register(of)?);
+            let _ = writeln!(out, "{counts}");
+        }
+        ["band", at] => {
+            let band = band_name(asked.office, terms.band(instant(at)?));
+            let _ = writeln!(out, "{band}");
+        }
+        ["price", band, word] => {
+            let band = BandId(band.parse::<u8>().ok()?);
+            let price = terms.price(band, direction(word)?);
+            let _ = writeln!(out, "{price}");
+        }
+        _ => return None,
+    }
+    Some(())
+}
