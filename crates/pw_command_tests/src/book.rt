@@ -306,6 +306,11 @@ fn steps_and_parts_agree<S: Shelf + Drop>(
 }
 
 // A book that holds nothing, and takes one record.
+// bears on: pw_book book.rt Book::new open_yet
+// bears on: pw_book book/questions.rt Book::energy question
+// bears on: pw_shelf memory.rt MemoryShelf::new content
+// bears on: pw_shelf memory.rt MemoryShelf::new left
+// bears on: pw_model laws.rt empty_content_is_true ensures
 fn empty_book_answers<S: Shelf>(
     rt: &impl Abort,
     alloc: Global,
@@ -383,6 +388,12 @@ const LATE_STEPS: [Step; 7] = [
     Step(Sent::Read(SIX, 1_001_200), FRESH, (1_500, 1_501)),
 ];
 
+// bears on: pw_book book.rt Book::post posted
+// bears on: pw_book book/questions.rt Book::count memory
+// bears on: pw_book book/questions.rt Book::readings memory
+// bears on: pw_book book/questions.rt Book::readings readings
+// bears on: pw_shelf shelf.rt Shelf::total_put put
+// bears on: pw_model laws.rt one_more_reading ensures
 fn late_and_disputed_readings<S: Shelf + Drop>(
     rt: &impl Abort,
     alloc: Global,
@@ -401,6 +412,11 @@ const TOPUP_STEPS: [Step; 5] = [
     Step(Sent::Paid(5_000), REPEATED, (1_500, 1_501)),
 ];
 
+// bears on: pw_book book.rt Book::post memory
+// bears on: pw_book book.rt Book::post posted
+// bears on: pw_book book/questions.rt Book::balance memory
+// bears on: pw_book book/questions.rt Book::energy memory
+// bears on: pw_book book/questions.rt Book::topped_up memory
 fn two_readings_one_topup<S: Shelf + Drop>(
     rt: &impl Abort,
     alloc: Global,
@@ -417,6 +433,11 @@ const EXPORTED_STEPS: [Step; 3] = [
     Step(Sent::Exported(SEVEN, 1_003_001), FRESH, (0, 0)),
 ];
 
+// bears on: pw_book book.rt Book::post posted
+// bears on: pw_book book/questions.rt Book::balance balance
+// bears on: pw_book book/questions.rt Book::energy energy
+// bears on: pw_model plain/balances.rt balance ensures
+// bears on: pw_model plain/terms.rt Terms::price ensures
 fn exported_energy<S: Shelf>(
     rt: &impl Abort,
     alloc: Global,
@@ -470,6 +491,15 @@ fn in_order<S: Shelf + Drop>(
     entries_and_parts_agree(rt, alloc, book, &entries, 4)
 }
 
+// bears on: pw_book book.rt Book of_office
+// bears on: pw_book book.rt Book::post posted
+// bears on: pw_book book/questions.rt Book::count count
+// bears on: pw_book laws.rt order_of_uploads_counts_nothing ensures
+// bears on: pw_book laws.rt records_are_those_after_runs ensures
+// bears on: pw_book laws.rt records_are_those_after_uploads ensures
+// bears on: pw_model laws.rt count_is_length ensures
+// bears on: pw_model laws.rt one_more_record ensures
+// bears on: pw_model laws.rt true_contents_are_alike ensures
 fn all_six_orders<B: Books>(rt: &impl Abort, alloc: Global, books: &B) -> Result<(), Fail> {
     for order in ORDERS {
         in_order(rt, alloc, books.empty(rt, alloc, 100)?, order)?;
@@ -510,6 +540,9 @@ fn mid_pair<S: Shelf + Drop>(
     steps_and_parts_agree(rt, alloc, book, &steps, 5)
 }
 
+// bears on: pw_book book.rt Book::post posted
+// bears on: pw_book book/questions.rt Book::topped_up topped_up
+// bears on: pw_model laws.rt one_more_assignment ensures
 fn assignment_mid_pair<S: Shelf + Drop>(
     rt: &impl Abort,
     alloc: Global,
@@ -518,6 +551,7 @@ fn assignment_mid_pair<S: Shelf + Drop>(
     mid_pair(rt, alloc, book, Some(SECOND), -600_300_000)
 }
 
+// bears on: pw_book book.rt Book::post posted
 fn assignment_to_nobody<S: Shelf + Drop>(
     rt: &impl Abort,
     alloc: Global,
@@ -563,6 +597,13 @@ const FALL_STEPS: [Step; 5] = [
     Step(Sent::Read(SIX, 60_000), FRESH, (10_000, 10_000)),
 ];
 
+// bears on: pw_book book.rt Book::post posted
+// bears on: pw_book book/questions.rt Book::falls memory
+// bears on: pw_parts counting.rt counting_among counting
+// bears on: pw_parts counting.rt counting_among memory
+// bears on: pw_parts told.rt readings_shown ensures
+// bears on: pw_parts told.rt readings_shown memory
+// bears on: pw_parts counting.rt counting_among few
 fn fall_and_recovery<S: Shelf + Drop>(
     rt: &impl Abort,
     alloc: Global,
@@ -573,6 +614,7 @@ fn fall_and_recovery<S: Shelf + Drop>(
 }
 
 // Three falls and five disputes, over both meters and of all kinds, uploaded from the last to the first.
+// bears on: pw_book book/questions.rt Book::disputes disputes
 fn lists_in_their_order<S: Shelf>(
     rt: &impl Abort,
     alloc: Global,
@@ -602,6 +644,11 @@ fn lists_in_their_order<S: Shelf>(
 }
 
 // Two payments of one reference, in this order.
+// bears on: pw_book book.rt Book::post posted
+// bears on: pw_book book/questions.rt Book::disputes memory
+// bears on: pw_parts counting.rt same_key_behind same
+// bears on: pw_model laws.rt one_more_payment ensures
+// bears on: pw_parts counting.rt same_key_behind within
 fn disputed_payment<S: Shelf + Drop>(
     rt: &impl Abort,
     alloc: Global,

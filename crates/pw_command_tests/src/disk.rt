@@ -577,6 +577,7 @@ fn a_new_store_is_empty_wherever_its_opening_stops(rt: HostRuntime) {
     stops_at_each(&rt, alloc, &nothing, &case, false, End::NoConnection);
 }
 
+// bears on: pw_shelf shelf.rt Shelf::commit left
 #[test]
 fn both_readings_are_there_or_none(rt: HostRuntime) {
     let alloc = rt.alloc();

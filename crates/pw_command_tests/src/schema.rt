@@ -84,6 +84,11 @@ fn is_text_kept(rt: &impl Abort, conn: &mut Connection<MemStore>) -> bool {
     judge_office(kept.as_slice(), b"text".as_slice()).is_ok()
 }
 
+// bears on: pw_schema make.rt create made
+// bears on: pw_schema make.rt create memory
+// bears on: pw_schema office.rt judge_office text
+// bears on: pw_schema office.rt judge_office version
+// bears on: pw_schema shape.rt is_nothing ensures
 #[test]
 fn tables_that_are_made_are_ours(rt: HostRuntime) {
     let conn = memory(&rt, rt.alloc());
@@ -130,6 +135,13 @@ fn rows_behind(conn: &mut Connection<MemStore>, is_committed: bool) -> Result<us
     Ok(rows.len())
 }
 
+// bears on: pw_schema make.rt create idle
+// bears on: pw_schema transactions.rt begin begun
+// bears on: pw_schema transactions.rt begin memory
+// bears on: pw_schema transactions.rt commit done
+// bears on: pw_schema transactions.rt commit memory
+// bears on: pw_schema transactions.rt roll_back memory
+// bears on: pw_schema transactions.rt roll_back undone
 #[test]
 fn an_upload_is_rolled_back_or_committed(rt: HostRuntime) -> Result<(), Fail> {
     let mut conn = new_store(&rt, rt.alloc());
@@ -151,6 +163,19 @@ fn are_in_wrong_order(rt: &impl Abort, alloc: Global, text: &str) -> bool {
     read.err() == Some(ReadFault::Wrong) && judged.err() == Some(JudgeFault::Unordered)
 }
 
+// bears on: pw_schema judge.rt Judge::take took
+// bears on: pw_schema judging.rt record_in some
+// bears on: pw_schema reading.rt entry_of kinds
+// bears on: pw_schema reading.rt read_rows found
+// bears on: pw_schema reading.rt read_rows memory
+// bears on: pw_schema records.rt Records::new memory
+// bears on: pw_schema records.rt Records::new kind
+// bears on: pw_schema records.rt Records::new office
+// bears on: pw_schema records.rt Records::new start
+// bears on: pw_schema cells.rt instant_at some
+// bears on: pw_schema cells.rt number_at some
+// bears on: pw_schema cells.rt owner_at some
+// bears on: pw_schema cells.rt wh_at some
 #[test]
 fn rows_that_are_no_records_of_the_office_are_foreign(rt: HostRuntime) {
     for text in [
@@ -186,6 +211,8 @@ fn rows_that_are_no_records_of_the_office_are_foreign(rt: HostRuntime) {
     assert!(rt; are_in_wrong_order(&rt, rt.alloc(), twisted));
 }
 
+// bears on: pw_schema judge.rt Judge::take took
+// bears on: pw_schema rowids.rt Rowids::new ensures
 #[test]
 fn rowids_rise(rt: HostRuntime) {
     let alloc = rt.alloc();

@@ -141,6 +141,12 @@ fn point_put_twice<S: Shelf>(
     shelf.point_before(METER, Register::E1, at(rt, 1_704_070_800))
 }
 
+// bears on: pw_shelf shelf.rt Shelf::begin begun
+// bears on: pw_shelf shelf.rt Shelf::begin memory
+// bears on: pw_shelf shelf.rt Shelf::point_before memory
+// bears on: pw_shelf shelf.rt Shelf::point_put memory
+// bears on: pw_shelf shelf.rt Shelf::point_put put
+// bears on: pw_store shelf.rt SqlShelf now
 #[test]
 fn a_point_put_again_is_the_last(rt: HostRuntime) {
     let mut shelf = empty_shelf(&rt, rt.alloc());
@@ -158,6 +164,10 @@ fn abandoned_total<S: Shelf>(shelf: &mut S) -> Result<u64, ShelfFault>
     shelf.total(&PAYMENTS)
 }
 
+// bears on: pw_shelf shelf.rt Shelf::abandon back
+// bears on: pw_shelf shelf.rt Shelf::abandon memory
+// bears on: pw_shelf shelf.rt Shelf::total memory
+// bears on: pw_shelf shelf.rt Shelf::total_put memory
 #[test]
 fn an_abandoned_total_is_gone(rt: HostRuntime) {
     let mut shelf = empty_shelf(&rt, rt.alloc());
@@ -173,6 +183,14 @@ fn committed_start<S: Shelf>(rt: &impl Abort, shelf: &mut S) -> Result<(), Shelf
     shelf.commit()
 }
 
+// bears on: pw_shelf shelf.rt Shelf::commit memory
+// bears on: pw_shelf shelf.rt Shelf::start_put memory
+// bears on: pw_shelf shelf.rt Shelf::start_put put
+// bears on: pw_shelf shelf.rt Shelf::starts_of memory
+// bears on: pw_store door.rt SqlShelf::close committed
+// bears on: pw_store door.rt SqlShelf::close same
+// bears on: pw_store door.rt SqlShelf::open memory
+// bears on: pw_store door.rt SqlShelf::open_watched memory
 #[test]
 fn a_start_is_there_when_opened_again(rt: HostRuntime) -> Result<(), Fail> {
     let alloc = rt.alloc();
@@ -214,6 +232,8 @@ fn begun_total<S: Shelf>(shelf: &mut S) -> Result<(), ShelfFault>
     shelf.total_put(&PAYMENTS, 500)
 }
 
+// bears on: pw_store laws.rt closed_is_opened_again ensures
+// bears on: pw_store laws.rt closed_is_opened_again memory
 #[test]
 fn an_upload_still_begun_is_gone_when_opened_again(rt: HostRuntime) {
     let mut shelf = empty_shelf(&rt, rt.alloc());
@@ -222,6 +242,7 @@ fn an_upload_still_begun_is_gone_when_opened_again(rt: HostRuntime) {
     assert!(rt; again.total(&PAYMENTS) == Ok(0));
 }
 
+// bears on: pw_store laws.rt left_is_opened_again memory
 #[test]
 fn what_a_crash_leaves_is_opened_again(rt: HostRuntime) {
     let alloc = rt.alloc();
@@ -230,6 +251,8 @@ fn what_a_crash_leaves_is_opened_again(rt: HostRuntime) {
     assert!(rt; is_opened_behind(&rt, alloc, &shelf, left));
 }
 
+// bears on: pw_store fault.rt OpenFault::name ensures
+// bears on: pw_store fault.rt OpenFault::number ensures
 #[test]
 fn numbers_and_names(rt: HostRuntime) {
     for (fault, number, name) in [
@@ -243,6 +266,14 @@ fn numbers_and_names(rt: HostRuntime) {
     }
 }
 
+// bears on: pw_schema office.rt judge_office kept
+// bears on: pw_schema office.rt judge_office missing
+// bears on: pw_store door.rt SqlShelf::open cause
+// bears on: pw_store door.rt SqlShelf::open content
+// bears on: pw_store door.rt SqlShelf::open of_office
+// bears on: pw_store door.rt SqlShelf::open_watched cause
+// bears on: pw_store door.rt SqlShelf::open_watched content
+// bears on: pw_store door.rt SqlShelf::open_watched of_office
 #[test]
 fn damaged_stores_are_refused(rt: HostRuntime) {
     let cases = [
@@ -355,6 +386,26 @@ fn repaired(
     refused
 }
 
+// bears on: pw_parts laws.rt true_exactly_where_told ensures
+// bears on: pw_schema judge.rt Judge::take took
+// bears on: pw_schema kept.rt KeptEntries::is_at_end ensures
+// bears on: pw_schema kept.rt KeptEntries::new memory
+// bears on: pw_schema kept.rt KeptTotals::new memory
+// bears on: pw_shelf shelf.rt Shelf::total amount
+// bears on: pw_store door.rt SqlShelf::open refused
+// bears on: pw_store door.rt SqlShelf::open truth
+// bears on: pw_schema kept.rt KeptEntries::new kind
+// bears on: pw_schema kept.rt KeptEntries::new office
+// bears on: pw_schema kept.rt KeptEntries::new rest
+// bears on: pw_schema kept.rt KeptEntries::new start
+// bears on: pw_schema kept.rt KeptTotals::new kind
+// bears on: pw_schema kept.rt KeptTotals::new office
+// bears on: pw_schema kept.rt KeptTotals::new rest
+// bears on: pw_schema kept.rt KeptTotals::new start
+// bears on: pw_schema kept.rt KeptTotals::rest ensures
+// bears on: pw_store door.rt SqlShelf::open_watched refused
+// bears on: pw_store door.rt SqlShelf::open_watched truth
+// bears on: pw_schema records.rt Records::into_entries ensures
 #[test]
 fn what_is_kept_beside_records_must_be_true(rt: HostRuntime) {
     let mut connection = empty_shelf(&rt, rt.alloc()).close();
@@ -391,6 +442,9 @@ fn committed_total_of_0<S: Shelf>(shelf: &mut S) -> Result<(), ShelfFault>
     shelf.commit()
 }
 
+// bears on: pw_schema judge.rt Judge::take took
+// bears on: pw_store door.rt SqlShelf::open content
+// bears on: pw_store door.rt SqlShelf::open_watched content
 #[test]
 fn a_total_of_0_at_any_key_opens_again(rt: HostRuntime) {
     let mut shelf = empty_shelf(&rt, rt.alloc());

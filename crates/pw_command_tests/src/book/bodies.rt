@@ -86,6 +86,7 @@ pub(super) fn header_alone<S: Shelf>(
     Ok(())
 }
 
+// bears on: pw_record rows.rt topup_records entries
 pub(super) fn rows_before_a_faulty_one<S: Shelf>(
     rt: &impl Abort,
     alloc: Global,

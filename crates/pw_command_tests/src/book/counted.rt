@@ -111,11 +111,13 @@ fn cost_behind_three<B: Books>(rt: &impl Abort, alloc: Global, books: &B) -> u64
 // The cost of a reading behind the last of one band, counted by hand: `count`, `holds` twice, `begin`, `contents_at`,
 // `add`, the start with its row, the point before with its row, none behind, a total with its row, `total_put`,
 // `point_put` and `commit`.
+// bears on: pw_book book.rt Book::post cost
 #[test]
 fn calls_and_rows_of_a_reading(rt: HostRuntime) {
     assert!(rt; cost_behind_three(&rt, rt.alloc(), &InMemory) == 16);
 }
 
+// bears on: pw_book book.rt Book::post cost
 #[test]
 fn same_count_among_few_and_many(rt: HostRuntime) {
     same_count(&rt, rt.alloc(), &InMemory);
@@ -154,6 +156,7 @@ fn payment_costs<B: Books>(rt: &impl Abort, alloc: Global, books: &B) {
     empty_cost(rt, alloc, books, &held);
 }
 
+// bears on: pw_book book.rt Book::post cost
 #[test]
 fn payments_among_1000(rt: HostRuntime) {
     payment_costs(&rt, rt.alloc(), &InMemory);
@@ -178,6 +181,7 @@ fn among_disputed<B: Books>(rt: &impl Abort, alloc: Global, books: &B) {
     assert!(rt; 0 < cost && cost <= 132);
 }
 
+// bears on: pw_book book.rt Book::post cost
 #[test]
 fn assignment_among_1000_disputed(rt: HostRuntime) {
     among_disputed(&rt, rt.alloc(), &InMemory);
@@ -258,6 +262,11 @@ fn taken_at_last<B: Books>(
     panic!(rt; "an upload takes fewer calls")
 }
 
+// bears on: pw_book book.rt Book::post failures
+// bears on: pw_book book.rt Book::post posted
+// bears on: pw_book book.rt Book::post reopen
+// bears on: pw_shelf shelf.rt Shelf::begin unbegun
+// bears on: pw_shelf shelf.rt Shelf::commit begun
 pub(super) fn failing_device<B: Books>(
     rt: &impl Abort,
     alloc: Global,
@@ -268,6 +277,16 @@ pub(super) fn failing_device<B: Books>(
     Ok(())
 }
 
+// bears on: pw_book book.rt Book idle
+// bears on: pw_book book.rt Book::post reopen
+// bears on: pw_book book.rt Book::post shut
+// bears on: pw_book book.rt Book::post untouched
+// bears on: pw_book book/questions.rt Book::balance question
+// bears on: pw_book book/questions.rt Book::count question
+// bears on: pw_book book/questions.rt Book::disputes question
+// bears on: pw_book book/questions.rt Book::energy question
+// bears on: pw_book book/questions.rt Book::falls question
+// bears on: pw_book book/questions.rt Book::topped_up question
 pub(super) fn failing_device_and_abandon<B: Books>(
     rt: &impl Abort,
     alloc: Global,

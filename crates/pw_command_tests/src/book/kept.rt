@@ -237,6 +237,9 @@ const SETTLED_STEPS: [Step; 8] = [
     Step(Sent::Paid(3_000), FRESH, (13_333, 6_667)),
 ];
 
+// bears on: pw_book book.rt Book truth
+// bears on: pw_parts parts.rt true_parts ensures
+// bears on: pw_shelf shelf.rt Shelf::total amount
 pub(super) fn fall_settled_by_dispute<B: Books>(
     rt: &impl Abort,
     alloc: Global,
@@ -286,6 +289,8 @@ const PASSED_STEPS: [Step; 6] = [
     Step(Sent::Assigned(SIX + 1_800, None), FRESH, (1_000, 2_001)),
 ];
 
+// bears on: pw_book book.rt Book::post posted
+// bears on: pw_model laws.rt other_start_window ensures
 pub(super) fn assignments_over_a_late_reading<B: Books>(
     rt: &impl Abort,
     alloc: Global,

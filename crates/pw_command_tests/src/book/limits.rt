@@ -19,6 +19,7 @@ use std::process::Abort;
 use std::test::Fail;
 
 // A book with room for one record.
+// bears on: pw_book book.rt Book::post posted
 pub(super) fn room_for_one<S: Shelf>(
     rt: &impl Abort,
     alloc: Global,
@@ -53,6 +54,9 @@ fn three_paid(rt: &impl Abort) -> [Entry; 3] {
 }
 
 // A book with room for three records.
+// bears on: pw_book book.rt Book few
+// bears on: pw_book book.rt Book::post book
+// bears on: pw_book book.rt Book::post posted
 pub(super) fn full_book<S: Shelf>(
     rt: &impl Abort,
     alloc: Global,
@@ -133,6 +137,8 @@ fn over_limit_in<S: Shelf + Drop>(rt: &impl Abort, alloc: Global, shelf: S) -> R
     over_limit(rt, alloc, book_of(rt, office, shelf, 2), again)
 }
 
+// bears on: pw_book book.rt Book limited
+// bears on: pw_book book.rt Book::new limit
 #[test]
 fn over_its_limit(rt: HostRuntime) -> Result<(), Fail> {
     let alloc = rt.alloc();
@@ -141,6 +147,8 @@ fn over_its_limit(rt: HostRuntime) -> Result<(), Fail> {
 }
 
 // Neither the making of a book nor its end asks anything of the store.
+// bears on: pw_book book.rt Book::into_shelf ensures
+// bears on: pw_book book.rt Book::new shelf
 #[test]
 fn store_left_alone(rt: HostRuntime) {
     assert!(rt; seen_by(&rt, rt.alloc(), &InMemory, &[]) == 0);
@@ -168,6 +176,10 @@ fn book_faults_told(rt: &impl Abort) {
     }
 }
 
+// bears on: pw_book fault.rt BookFault::name ensures
+// bears on: pw_book fault.rt BookFault::number ensures
+// bears on: pw_book fault.rt PostFault::name ensures
+// bears on: pw_book fault.rt PostFault::number ensures
 #[test]
 fn numbers_and_names(rt: HostRuntime) {
     post_faults_told(&rt);
@@ -185,6 +197,8 @@ fn has_line<D: Display + Drop>(
     Ok(())
 }
 
+// bears on: pw_book book.rt Accepted output
+// bears on: pw_book fault.rt PostFault output
 #[test]
 fn lines_of_an_upload(rt: HostRuntime) -> Result<(), Fail> {
     let accepted = Accepted {
@@ -196,6 +210,7 @@ fn lines_of_an_upload(rt: HostRuntime) -> Result<(), Fail> {
     has_line(&rt, rt.alloc(), full, "refused 60 Full held 3 limit 3")
 }
 
+// bears on: pw_book fault.rt BookFault output
 #[test]
 fn lines_of_questions(rt: HostRuntime) -> Result<(), Fail> {
     for (fault, line) in [

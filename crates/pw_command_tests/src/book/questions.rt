@@ -85,6 +85,8 @@ fn fails_once<S: Shelf>(rt: &impl Abort, alloc: Global, book: &mut Book<S>, ques
 }
 
 // Each question to such a device.
+// bears on: pw_book book/questions.rt Book::readings question
+// bears on: pw_book fault.rt BookFault from_gives
 pub(super) fn failing_device<B: Books>(
     rt: &impl Abort,
     alloc: Global,
@@ -120,6 +122,9 @@ fn cost_of<B: Books>(rt: &impl Abort, alloc: Global, books: &B, question: Questi
 }
 
 // An energy, and what was topped up, takes at most 2; a balance over two bands at most 10.
+// bears on: pw_book book/questions.rt Book::balance cost
+// bears on: pw_book book/questions.rt Book::energy cost
+// bears on: pw_book book/questions.rt Book::topped_up cost
 #[test]
 fn costs(rt: HostRuntime) {
     for (question, most) in [

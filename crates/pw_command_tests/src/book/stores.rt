@@ -221,6 +221,11 @@ fn figures_with_calls_counted(rt: HostRuntime) -> Result<(), Fail> {
     with_calls_counted(&rt, rt.alloc(), Group::Figures)
 }
 
+// bears on: pw_schema reading.rt contents_in ensures
+// bears on: pw_schema reading.rt read_rows wrong
+// bears on: pw_schema values.rt direction_place ensures
+// bears on: pw_shelf shelf.rt Shelf::assignments_of rows
+// bears on: pw_shelf shelf.rt Shelf::contents_at rows
 #[test]
 fn figures_over_sql(rt: HostRuntime) -> Result<(), Fail> {
     over_sql(&rt, rt.alloc(), Group::Figures)
@@ -251,6 +256,14 @@ fn bounds_with_calls_counted(rt: HostRuntime) -> Result<(), Fail> {
     with_calls_counted(&rt, rt.alloc(), Group::Bounds)
 }
 
+// bears on: pw_schema reading.rt read_rows wrong
+// bears on: pw_shelf shelf.rt Shelf::point_after row
+// bears on: pw_shelf shelf.rt Shelf::point_before row
+// bears on: pw_shelf shelf.rt Shelf::point_del deleted
+// bears on: pw_shelf shelf.rt Shelf::point_del memory
+// bears on: pw_shelf shelf.rt Shelf::points_between rows
+// bears on: pw_shelf shelf.rt Shelf::start_del memory
+// bears on: pw_shelf shelf.rt Shelf::starts_of rows
 #[test]
 fn bounds_over_sql(rt: HostRuntime) -> Result<(), Fail> {
     over_sql(&rt, rt.alloc(), Group::Bounds)

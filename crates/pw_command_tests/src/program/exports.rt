@@ -61,6 +61,10 @@ fn is_exported(rt: &HostRuntime, room: &Place, what: &str, text: &str) -> bool {
     tells(rt, &words, 0, text, "")
 }
 
+// bears on: pw_commands commands.rt entries_of entries
+// bears on: pw_commands commands.rt entries_of of_office
+// bears on: pw_commands store.rt open_book book
+// bears on: pw_shelf shelf.rt Shelf::points_between memory
 #[test]
 fn a_statement_is_printed(rt: HostRuntime) -> Result<(), Fail> {
     let room = filled(&rt, "statement")?;
@@ -71,6 +75,10 @@ fn a_statement_is_printed(rt: HostRuntime) -> Result<(), Fail> {
     Ok(())
 }
 
+// bears on: pw_commands commands.rt page_of ensures
+// bears on: pw_shelf shelf.rt Shelf::assignments_of memory
+// bears on: pw_shelf shelf.rt Shelf::topups memory
+// bears on: pw_shelf shelf.rt Shelf::topups rows
 #[test]
 fn tables_are_printed(rt: HostRuntime) -> Result<(), Fail> {
     let room = filled(&rt, "tables")?;
@@ -82,6 +90,10 @@ fn tables_are_printed(rt: HostRuntime) -> Result<(), Fail> {
     Ok(())
 }
 
+// bears on: pw_commands telling.rt finish text
+// bears on: pw_shelf shelf.rt Shelf::readings_of memory
+// bears on: pw_shelf shelf.rt Shelf::readings_of rows
+// bears on: pw_commands telling.rt write_whole ok
 #[test]
 fn exports_are_printed(rt: HostRuntime) -> Result<(), Fail> {
     let room = filled(&rt, "exports")?;

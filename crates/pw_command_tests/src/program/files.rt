@@ -109,6 +109,8 @@ pub fn load_tells(
     Ok(told(&ran, status, out, err))
 }
 
+// bears on: pw_commands commands.rt run memory
+// bears on: pw_commands files.rt read_file memory
 #[test]
 fn an_office_is_checked(rt: HostRuntime) -> Result<(), Fail> {
     let room = room(&rt, "check")?;
@@ -127,6 +129,14 @@ fn is_repeated(rt: &HostRuntime, room: &Place) -> io::Result<bool> {
     Ok(is_fresh && load_tells(rt, room, "telegrams", FIRST, repeated)?)
 }
 
+// bears on: pw_commands commands.rt entries_of memory
+// bears on: pw_commands store.rt open_book memory
+// bears on: pw_shelf shelf.rt Shelf::add memory
+// bears on: pw_shelf shelf.rt Shelf::commit kept
+// bears on: pw_shelf shelf.rt Shelf::contents_at memory
+// bears on: pw_shelf shelf.rt Shelf::count memory
+// bears on: pw_shelf shelf.rt Shelf::holds memory
+// bears on: pw_shelf shelf.rt Shelf::point_after memory
 #[test]
 fn a_telegram_is_loaded_twice(rt: HostRuntime) -> Result<(), Fail> {
     let room = room(&rt, "twice")?;

@@ -48,6 +48,7 @@ fn piped<R: Read, O: Write, E: Write>(
     pipe_run(alloc, SAMPLE.as_bytes(), LIMIT, reader, out, err)
 }
 
+// bears on: pw_commands pipe.rt pipe_run memory
 #[test]
 fn requests_piped(rt: HostRuntime) -> Result<(), Fail> {
     let mut reader = ASKED;
@@ -57,6 +58,8 @@ fn requests_piped(rt: HostRuntime) -> Result<(), Fail> {
     Ok(())
 }
 
+// bears on: pw_commands pipe.rt pipe_run status
+// bears on: pw_http fault.rt WireFault output
 #[test]
 fn faults_told(rt: HostRuntime) -> Result<(), Fail> {
     assert!(rt; is_reader_told(rt.alloc()) && is_writer_told(rt.alloc()));
@@ -78,6 +81,8 @@ fn is_writer_told(alloc: Global) -> bool {
     status == 3 && err.as_slice() == b"refused 81 Write\n".as_slice()
 }
 
+// bears on: pw_commands pipe.rt pipe_run piped
+// bears on: pw_commands pipe.rt pipe_run refused
 #[test]
 fn refused_office_told(rt: HostRuntime) -> Result<(), Fail> {
     let mut reader = ASKED;

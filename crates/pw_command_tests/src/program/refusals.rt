@@ -11,6 +11,9 @@ const DEVICE: &str = "device failed\n";
 
 const TOO_LARGE: &str = "body too large\n";
 
+// bears on: pw_commands fault.rt Fault::status ensures
+// bears on: pw_commands files.rt read_file cause
+// bears on: pw_commands store.rt open_book cause
 #[test]
 fn files_that_cannot_be_read(rt: HostRuntime) -> Result<(), Fail> {
     let room = room(&rt, "unread")?;
@@ -45,6 +48,8 @@ fn is_large_body_told(rt: &HostRuntime, room: &Place) -> io::Result<bool> {
     Ok(is_told && readouts.status == 2)
 }
 
+// bears on: pw_commands fault.rt Fault output
+// bears on: pw_commands files.rt read_file size
 #[test]
 fn files_that_are_too_large(rt: HostRuntime) -> Result<(), Fail> {
     let room = room(&rt, "large")?;
@@ -76,6 +81,9 @@ fn is_unknown_account_told(rt: &HostRuntime, room: &Place) -> bool {
     tells(rt, &words, 1, "", "no such account\n")
 }
 
+// bears on: pw_commands commands.rt entries_of refused
+// bears on: pw_commands telling.rt finish fault
+// bears on: pw_commands telling.rt tell ensures
 #[test]
 fn refusals_and_their_status(rt: HostRuntime) -> Result<(), Fail> {
     let room = room(&rt, "refusals")?;
@@ -99,6 +107,8 @@ fn is_full_behind_one(rt: &HostRuntime, room: &Place) -> io::Result<bool> {
     )
 }
 
+// bears on: pw_shelf shelf.rt Shelf::count number
+// bears on: pw_commands fault.rt Fault from_gives
 #[test]
 fn a_full_book(rt: HostRuntime) -> Result<(), Fail> {
     let room = room(&rt, "full")?;
@@ -117,6 +127,7 @@ fn is_other_office_told(rt: &HostRuntime, room: &Place) -> io::Result<bool> {
     Ok(tells(rt, &words, 3, "", "refused 71 OfficeDiffers\n"))
 }
 
+// bears on: pw_store fault.rt OpenFault output
 #[test]
 fn a_store_of_another_office(rt: HostRuntime) -> Result<(), Fail> {
     let room = room(&rt, "other")?;

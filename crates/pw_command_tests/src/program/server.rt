@@ -59,6 +59,7 @@ fn is_replied<S: Shelf>(rt: &HostRuntime, book: &mut Book<S>) -> io::Result<bool
     Ok(are_served && replies.as_slice() == REPLIES.as_bytes())
 }
 
+// bears on: pw_commands serving.rt serve_on memory
 #[test]
 fn requests_on_a_connection(rt: HostRuntime) -> Result<(), Fail> {
     let mut book = book_of(rt.alloc(), SAMPLE, LIMIT).map_err(|_| "the sample office")?;
@@ -81,6 +82,7 @@ fn is_replied_behind_another<S: Shelf>(rt: &HostRuntime, book: &mut Book<S>) -> 
     )
 }
 
+// bears on: pw_commands serving.rt serve_on ensures
 #[test]
 fn two_connections(rt: HostRuntime) -> Result<(), Fail> {
     let mut book = book_of(rt.alloc(), SAMPLE, LIMIT).map_err(|_| "the sample office")?;
