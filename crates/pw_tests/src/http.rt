@@ -45,6 +45,9 @@ fn said(alloc: Global, stream: &[u8], turns: u32) -> (Result<Served, WireFault>,
     (served, text)
 }
 
+// bears on: pw_http conversation.rt serve_within memory
+// bears on: pw_http routes.rt Routes::new memory
+// bears on: pw_http service.rt Service::serve serving
 #[test]
 fn one_request(rt: HostRuntime) -> Result<(), Fail> {
     let (served, text) = said(rt.alloc(), PAGE, 10);

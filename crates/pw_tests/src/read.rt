@@ -133,6 +133,7 @@ fn is_silent_where_nothing_is_written(rt: &HostRuntime) -> bool {
     status == 3 && out.is_empty()
 }
 
+// bears on: pw_read run.rt read_run status
 #[test]
 fn broken_streams(rt: HostRuntime) {
     assert!(rt; is_told_of_reader(&rt));
@@ -158,6 +159,7 @@ fn is_refusal_cut(rt: &HostRuntime, line: &[u8]) -> bool {
     status == 3 && out.is_empty() && err.held.as_slice() == line
 }
 
+// bears on: pw_read run.rt read_run run
 #[test]
 fn narrow_streams(rt: HostRuntime) {
     let text =

@@ -183,6 +183,38 @@ fn calls_answered(rt: &impl Abort, alloc: Global, mut shelf: MemoryShelf) -> boo
         && seven_told(rt, alloc, &mut shelf)
 }
 
+// bears on: pw_shelf laws.rt memory_abandons ended
+// bears on: pw_shelf laws.rt memory_abandons succeeds
+// bears on: pw_shelf laws.rt records_are_each_once ensures
+// bears on: pw_shelf memory.rt MemoryShelf::new begun
+// bears on: pw_shelf once.rt add_once added
+// bears on: pw_shelf once.rt add_once memory
+// bears on: pw_shelf shelf.rt Shelf once
+// bears on: pw_shelf shelf.rt Shelf::abandon back
+// bears on: pw_shelf shelf.rt Shelf::abandon ended
+// bears on: pw_shelf shelf.rt Shelf::abandon memory
+// bears on: pw_shelf shelf.rt Shelf::add added
+// bears on: pw_shelf shelf.rt Shelf::add memory
+// bears on: pw_shelf shelf.rt Shelf::add written
+// bears on: pw_shelf shelf.rt Shelf::assignments_of memory
+// bears on: pw_shelf shelf.rt Shelf::assignments_of rows
+// bears on: pw_shelf shelf.rt Shelf::begin begun
+// bears on: pw_shelf shelf.rt Shelf::begin memory
+// bears on: pw_shelf shelf.rt Shelf::begin same
+// bears on: pw_shelf shelf.rt Shelf::commit ended
+// bears on: pw_shelf shelf.rt Shelf::commit memory
+// bears on: pw_shelf shelf.rt Shelf::commit stays
+// bears on: pw_shelf shelf.rt Shelf::contents_at memory
+// bears on: pw_shelf shelf.rt Shelf::contents_at rows
+// bears on: pw_shelf shelf.rt Shelf::count asked
+// bears on: pw_shelf shelf.rt Shelf::count memory
+// bears on: pw_shelf shelf.rt Shelf::count number
+// bears on: pw_shelf shelf.rt Shelf::holds held
+// bears on: pw_shelf shelf.rt Shelf::holds memory
+// bears on: pw_shelf shelf.rt Shelf::readings_of memory
+// bears on: pw_shelf shelf.rt Shelf::readings_of rows
+// bears on: pw_shelf shelf.rt Shelf::topups memory
+// bears on: pw_shelf shelf.rt Shelf::topups rows
 #[test]
 fn each_call(rt: HostRuntime) {
     assert!(rt; calls_answered(&rt, rt.alloc(), MemoryShelf::new(rt.alloc())));
@@ -246,6 +278,7 @@ fn nothing_changed<S: Shelf + Drop>(rt: &impl Abort, alloc: Global, mut shelf: S
         && lists_change_nothing(alloc, &mut shelf)
 }
 
+// bears on: pw_shelf once.rt add_once same
 #[test]
 fn refused_memory_changes_nothing(rt: HostRuntime) {
     assert!(rt; nothing_changed(&rt, rt.alloc(), MemoryShelf::new(rt.alloc())));
@@ -419,6 +452,16 @@ fn parts_given_back<S: Shelf + Drop>(rt: &impl Abort, alloc: Global, mut shelf: 
         && starts_there(rt, alloc, &mut shelf)
 }
 
+// bears on: pw_shelf memory.rt MemoryShelf settled
+// bears on: pw_shelf shelf.rt Shelf::abandon left
+// bears on: pw_shelf shelf.rt Shelf::begin left
+// bears on: pw_shelf shelf.rt Shelf::commit same
+// bears on: pw_shelf shelf.rt Shelf::point_put put
+// bears on: pw_shelf shelf.rt Shelf::points_between rows
+// bears on: pw_shelf shelf.rt Shelf::start_put put
+// bears on: pw_shelf shelf.rt Shelf::starts_of asked
+// bears on: pw_shelf shelf.rt Shelf::starts_of rows
+// bears on: pw_shelf shelf.rt Shelf::total memory
 #[test]
 fn each_part_kept_and_given_back(rt: HostRuntime) {
     assert!(rt; parts_given_back(&rt, rt.alloc(), MemoryShelf::new(rt.alloc())));
@@ -466,6 +509,14 @@ fn removals_hold<S: Shelf + Drop>(rt: &impl Abort, alloc: Global, mut shelf: S) 
         && begun_for_nothing(rt, alloc, &mut shelf)
 }
 
+// bears on: pw_shelf shelf.rt Shelf::abandon back
+// bears on: pw_shelf shelf.rt Shelf::commit same
+// bears on: pw_shelf shelf.rt Shelf::point_before row
+// bears on: pw_shelf shelf.rt Shelf::point_del deleted
+// bears on: pw_shelf shelf.rt Shelf::point_del memory
+// bears on: pw_shelf shelf.rt Shelf::points_between rows
+// bears on: pw_shelf shelf.rt Shelf::start_del deleted
+// bears on: pw_shelf shelf.rt Shelf::start_del memory
 #[test]
 fn removals_hold_where_they_are_committed(rt: HostRuntime) {
     assert!(rt; removals_hold(&rt, rt.alloc(), MemoryShelf::new(rt.alloc())));
@@ -494,6 +545,21 @@ fn counted_and_kept<S: Shelf + Drop>(rt: &impl Abort, alloc: Global, inner: S) -
     starts_there(rt, alloc, &mut shelf.into_inner())
 }
 
+// bears on: pw_shelf count.rt CountShelf::new plan
+// bears on: pw_shelf count.rt CountShelf::seen ensures
+// bears on: pw_shelf shelf.rt Shelf::begin tally
+// bears on: pw_shelf shelf.rt Shelf::commit tally
+// bears on: pw_shelf shelf.rt Shelf::point_after asked
+// bears on: pw_shelf shelf.rt Shelf::point_after memory
+// bears on: pw_shelf shelf.rt Shelf::point_after row
+// bears on: pw_shelf shelf.rt Shelf::point_before asked
+// bears on: pw_shelf shelf.rt Shelf::point_before memory
+// bears on: pw_shelf shelf.rt Shelf::point_before row
+// bears on: pw_shelf shelf.rt Shelf::point_put memory
+// bears on: pw_shelf shelf.rt Shelf::points_between memory
+// bears on: pw_shelf shelf.rt Shelf::start_put memory
+// bears on: pw_shelf shelf.rt Shelf::starts_of memory
+// bears on: pw_shelf shelf.rt Shelf::total_put memory
 #[test]
 fn calls_and_rows_counted(rt: HostRuntime) {
     assert!(rt; counted_and_kept(&rt, rt.alloc(), MemoryShelf::new(rt.alloc())));
@@ -510,6 +576,10 @@ fn fails_at_second<S: Shelf + Drop>(rt: &impl Abort, inner: S, abandons: bool) -
         && shelf.seen() == 3
 }
 
+// bears on: pw_shelf count.rt CountShelf::failing plan
+// bears on: pw_shelf count.rt CountShelf::failing state
+// bears on: pw_shelf shelf.rt Shelf::abandon begun
+// bears on: pw_shelf shelf.rt Shelf::abandon tally
 #[test]
 fn fails_where_it_is_told_to(rt: HostRuntime) {
     for abandons in [true, false] {
@@ -538,6 +608,8 @@ fn told_within<S: Shelf + Drop>(alloc: Global, mut shelf: S, payment: &Entry) ->
         && shelf.count() == Ok(0)
 }
 
+// bears on: pw_shelf shelf.rt Shelf::count asked
+// bears on: pw_shelf shelf.rt Shelf::topups asked
 #[test]
 fn questions_within_an_upload(rt: HostRuntime) {
     let payment = paid(&rt, b"P1", FIRST, 2_000);
@@ -566,6 +638,8 @@ fn rows_at_keys_counted<S: Shelf + Drop>(rt: &impl Abort, inner: S) -> bool
         && shelf.seen() == 8 + 3 + 2
 }
 
+// bears on: pw_shelf shelf.rt Shelf::contents_at asked
+// bears on: pw_shelf shelf.rt Shelf::total asked
 #[test]
 fn rows_at_keys_and_of_totals_counted(rt: HostRuntime) {
     assert!(rt; rows_at_keys_counted(&rt, MemoryShelf::new(rt.alloc())));
@@ -582,6 +656,7 @@ fn fails_inside<S: Shelf + Drop>(alloc: Global, inner: S) -> bool {
     fails_once(alloc, &mut shelf)
 }
 
+// bears on: pw_shelf shelf.rt Shelf::readings_of asked
 #[test]
 fn failure_of_the_store_inside(rt: HostRuntime) {
     assert!(rt; fails_inside(rt.alloc(), MemoryShelf::new(rt.alloc())));
@@ -604,6 +679,9 @@ fn adding_tells<S: Shelf + Drop>(
 }
 
 // The calls are `begin`, `holds`, `add` and `commit`.
+// bears on: pw_shelf once.rt add_once failures
+// bears on: pw_shelf once.rt add_once kept
+// bears on: pw_shelf once.rt add_once reopen
 #[test]
 fn adding_with_a_call_that_fails(rt: HostRuntime) {
     let payment = paid(&rt, b"P1", FIRST, 2_000);

@@ -21,6 +21,11 @@ fn local_hour(zone: &Zone, second: u32) -> Option<u8> {
 }
 
 /// The local hour at 01:00 UTC of each day, when it may change, and a second before it, by jiff's reading of the same rule.
+// bears on: pw_time laws.rt last_sunday_is_last ensures
+// bears on: pw_time laws.rt local_hour_is_constant_within_an_hour ensures
+// bears on: pw_time laws.rt summer_is_of_some_year ensures
+// bears on: pw_time zone.rt Zone::central ensures
+// bears on: pw_time zone.rt week_hour hour
 #[test]
 fn changes_are_those_of_the_rule(rt: HostRuntime) -> Result<(), Fail> {
     let rule = TimeZone::posix("CET-1CEST,M3.5.0,M10.5.0/3")?;

@@ -10,6 +10,8 @@ fn pipe<'a>(office: Option<&'a str>, limit: u32) -> Command<'a> {
     Command::Pipe { office, limit }
 }
 
+// bears on: pw_words words.rt command memory
+// bears on: pw_words words.rt command pipe
 #[test]
 fn no_words(rt: HostRuntime) -> Result<(), Fail> {
     match command(rt.alloc(), &[]) {

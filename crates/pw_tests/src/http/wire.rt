@@ -143,6 +143,7 @@ fn is_same_in_pieces(alloc: Global, pieces: (&[u8], &[u8]), expected: (&[u8], u6
     }
 }
 
+// bears on: pw_http books.rt converse_within talk
 #[test]
 fn cut_at_every_byte(rt: HostRuntime) {
     for place in 0..PAID.len() {
@@ -154,6 +155,8 @@ fn cut_at_every_byte(rt: HostRuntime) {
     }
 }
 
+// bears on: pw_http books.rt converse_within streams
+// bears on: pw_http laws.rt streams_have_one_reading ensures
 #[test]
 fn four_requests_cut_at_every_byte(rt: HostRuntime) {
     for place in 0..FIRST.len() {
@@ -185,6 +188,8 @@ fn is_same_byte_by_byte(alloc: Global) -> bool {
     }
 }
 
+// bears on: pw_http books.rt converse_within talk
+// bears on: pw_http conversation.rt serve_within talk
 #[test]
 fn one_byte_a_call(rt: HostRuntime) {
     assert!(rt; is_same_byte_by_byte(rt.alloc()));
@@ -199,6 +204,8 @@ fn is_ended_at_third<S: Shelf>(alloc: Global, book: &mut Book<S>) -> bool {
     is_ended && is_served(alloc, book, b"", 0, b"")
 }
 
+// bears on: pw_http books.rt converse_within memory
+// bears on: pw_http books.rt converse_within turns
 #[test]
 fn too_many_turns(rt: HostRuntime) -> Result<(), Fail> {
     let mut book = empty_book(rt.alloc())?;
@@ -218,6 +225,7 @@ fn calls_of_endless<S: Shelf>(alloc: Global, book: &mut Book<S>) -> Option<u32> 
     }
 }
 
+// bears on: pw_http books.rt converse talk
 #[test]
 fn most_turns(rt: HostRuntime) -> Result<(), Fail> {
     let mut book = empty_book(rt.alloc())?;
@@ -233,6 +241,7 @@ fn is_read_fault_told<S: Shelf>(alloc: Global, book: &mut Book<S>, left: u32) ->
     served == Err(WireFault::Read) && FIRST_REPLIES.starts_with(&text)
 }
 
+// bears on: pw_http books.rt converse_within talk
 #[test]
 fn reader_failing_at_each_call(rt: HostRuntime) -> Result<(), Fail> {
     for left in 0..FIRST.len() as u32 {
@@ -253,6 +262,9 @@ fn has_front<S: Shelf>(alloc: Global, book: &mut Book<S>, left: u32) -> bool {
         && FIRST_REPLIES.starts_with(&writer.text)
 }
 
+// bears on: pw_http books.rt converse_within talk
+// bears on: pw_http send.rt send_reply fault
+// bears on: pw_http service.rt Service::serve fault
 #[test]
 fn writer_failing_at_each_call(rt: HostRuntime) -> Result<(), Fail> {
     let whole = FIRST_REPLIES.len() as u32;
@@ -270,6 +282,8 @@ fn is_write_fault_told<S: Shelf>(alloc: Global, book: &mut Book<S>, left: usize)
     served == Err(WireFault::Write)
 }
 
+// bears on: pw_http books.rt converse_within talk
+// bears on: pw_http send.rt send_reply written
 #[test]
 fn writer_taking_no_byte(rt: HostRuntime) -> Result<(), Fail> {
     for left in [0, 1, FIRST_REPLIES.len() - 1] {
@@ -282,6 +296,8 @@ fn writer_taking_no_byte(rt: HostRuntime) -> Result<(), Fail> {
     Ok(())
 }
 
+// bears on: pw_http fault.rt WireFault::name ensures
+// bears on: pw_http fault.rt WireFault::number ensures
 #[test]
 fn numbers_and_names(rt: HostRuntime) {
     for (fault, number, name) in [
@@ -318,6 +334,7 @@ fn is_front_replied<S: Shelf>(alloc: Global, book: &mut Book<S>, stream: &[u8]) 
     served.is_ok() && is_front(&text)
 }
 
+// bears on: pw_http books.rt converse_within talk
 #[test]
 fn stream_ending_at_each_byte(rt: HostRuntime) -> Result<(), Fail> {
     for place in 0..FIRST.len() {

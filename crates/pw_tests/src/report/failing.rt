@@ -43,6 +43,7 @@ fn calls_of(rt: &impl Abort, alloc: Global, page: Page) -> Result<u32, OfficeFau
     panic!(rt; "a page takes fewer calls")
 }
 
+// bears on: pw_report statements.rt statement report
 #[test]
 fn failing_device(rt: HostRuntime) -> Result<(), Fail> {
     for page in [

@@ -48,6 +48,13 @@ fn is_band(office: &Office, band: Option<BandId>, name: char) -> bool {
     }
 }
 
+// bears on: pw_tariff office.rt Office::account_ids ensures
+// bears on: pw_tariff office.rt Office::band_ids ensures
+// bears on: pw_tariff office.rt Office::band_name ensures
+// bears on: pw_tariff office.rt Office::meter_ids ensures
+// bears on: pw_tariff walks.rt AccountIds next_gives
+// bears on: pw_tariff walks.rt BandIds next_gives
+// bears on: pw_tariff walks.rt MeterIds next_gives
 #[test]
 fn ids_of_an_office(rt: HostRuntime) {
     let Ok(office) = Office::read(rt.alloc(), SAMPLE.as_bytes()) else {
