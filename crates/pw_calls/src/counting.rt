@@ -3,7 +3,7 @@
 use crate::asked::Asked;
 use crate::entries::{key_of, tell_content};
 use crate::names::{account, meter, owner_name};
-use crate::words::instant;
+use crate::words::{bytes_of, instant};
 use pw_model::plain::{contents_at, owner_at, topped_up};
 use pw_model::{Contents, Entry, Reference, is_same_content, is_same_entry, is_same_key};
 use pw_tariff::Office;
@@ -25,7 +25,7 @@ pub(crate) fn answer<O: Write>(asked: &Asked<'_>, words: &[&str], out: &mut O) -
             let _ = writeln!(out, "{cents}");
         }
         ["reference"] => tell_reference(b"", out),
-        ["reference", text] => tell_reference(text.as_bytes(), out),
+        ["reference", text] => tell_reference(&bytes_of(asked.alloc, text).ok()?, out),
         ["compare"] => tell_comparison(entries, out)?,
         _ => return None,
     }

@@ -36,7 +36,15 @@ pub(crate) fn push_blocks(alloc: Global, entries: &mut Vec<Entry>) -> Result<(),
         let block = step * 7_919 % 10_000;
         if let Some(start) = Instant::of(NEW_YEAR + 10 * block) {
             push_readings(entries, block)?;
-            entries.push(assignment(start, block))?;
+            let account = AccountId(if block % 2 == 0 { 0 } else { 1 });
+            let key = Key::Assignment {
+                meter: METER,
+                start,
+            };
+            let content = Content::Assignment {
+                owner: Some(account),
+            };
+            entries.push(Entry { key, content })?;
             push_topup(alloc, entries, start, block)?;
         }
     }
@@ -60,19 +68,6 @@ fn push_readings(entries: &mut Vec<Entry>, block: u32) -> Result<(), AllocError>
         }
     }
     Ok(())
-}
-
-fn assignment(start: Instant, block: u32) -> Entry {
-    let account = AccountId(if block % 2 == 0 { 0 } else { 1 });
-    Entry {
-        key: Key::Assignment {
-            meter: METER,
-            start,
-        },
-        content: Content::Assignment {
-            owner: Some(account),
-        },
-    }
 }
 
 fn push_topup(
