@@ -1,0 +1,12 @@
+//! What stands at the path of a store, and whether a command may open it: what may hold uploads is never written over.
+#![tactic(auto)]
+
+mod cause;
+mod files;
+mod place;
+mod verdict;
+
+pub use cause::Cause;
+pub use files::{Found, LONGEST_EMPTY_LOG, look};
+pub use place::Place;
+pub use verdict::{Purpose, Refusal, found_by_sizes, refused};

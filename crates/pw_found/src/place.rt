@@ -1,0 +1,84 @@
+//! Where a store's two files lie.
+
+ghost use Rattle.std.specs.Prelude.{IsTrue, IfOk};
+ghost use Rattle.sqlite_std_file.specs.File.{file_is_usable};
+
+use crate::cause::{Cause, refusal_of};
+use crate::files::{Found, LONGEST_EMPTY_LOG};
+use crate::verdict::{Refusal, found_by_sizes};
+use sqlite_disk::{Disk, Files};
+use sqlite_std_file::{FileFrom, Start, open};
+use std::alloc::AllocError;
+use std::fs;
+use std::io::ErrorKind;
+
+/// Where a store's two files lie, and whether a log is there.
+#[derive(Drop)]
+pub struct Place {
+    file: String,
+    log: String,
+    has_log: bool,
+}
+
+impl Place {
+    /// The place of the store at a path; where a link stands there, of that to which it leads.
+    pub fn at(rt: &HostRuntime, path: &str) -> Result<Place, AllocError> {
+        let file = match fs::canonicalize(rt, path) {
+            Ok(real) => format!(in rt.alloc(); "{}", real.as_str())?,
+            Err(_) => format!(in rt.alloc(); "{path}")?,
+        };
+        let log = format!(in rt.alloc(); "{}-wal", file.as_str())?;
+        let has_log = fs::symlink_metadata(rt, log.as_str()).is_ok();
+        Ok(Place { file, log, has_log })
+    }
+
+    /// What the files are, by their sizes. Nothing is opened.
+    pub fn found(&self, rt: &HostRuntime) -> Found {
+        match (size_at(rt, self.file.as_str()), size_at(rt, self.log.as_str())) {
+            (Some(file), Some(log)) => found_by_sizes(file, log),
+            _ => Found::File,
+        }
+    }
+
+    /// Opens both files, and locks them; those that aren't there are made. A name that SQLite takes for no file isn't
+    /// opened.
+    pub fn open<S: Start>(&self, rt: &HostRuntime, start: S) -> Result<Files<FileFrom<S>>, Refusal>
+        ensures log { IfOk result (λ files. IsTrue (file_is_usable S.Start files.log)) }
+        ensures db { IfOk result (λ files. IsTrue (file_is_usable S.Start files.db)) }
+    {
+        if self.file.as_str() == ":memory:" || self.file.as_str().starts_with("file:") {
+            return Err(Refusal::Unopened(Cause::NoFile));
+        }
+        match open(rt, self.file.as_str(), start) {
+            Ok(files) => Ok(files),
+            Err(error) => Err(refusal_of(error)),
+        }
+    }
+
+    /// Closes files whose opening was refused. A log that the opening made, and that has no commit, is taken away first,
+    /// while both are locked.
+    pub fn leave<D: Disk + Drop>(&self, rt: &HostRuntime, mut files: Files<D>) {
+        if !self.has_log && has_short_log(&mut files) {
+            let _ = fs::remove_file(rt, self.log.as_str());
+        }
+    }
+}
+
+// The size of a file in bytes, 0 where none is; `None` where that can't be told, or something else is there.
+fn size_at(rt: &HostRuntime, path: &str) -> Option<u64> {
+    match fs::metadata(rt, path) {
+        Ok(found) if found.is_file() => Some(found.len()),
+        Err(error) if error.kind() == ErrorKind::NotFound => Some(0),
+        _ => None,
+    }
+}
+
+fn has_short_log<D: Disk>(files: &mut Files<D>) -> bool {
+    if !files.may_be_used() {
+        return false;
+    }
+    match files.log.len() {
+        Ok(size) => size <= LONGEST_EMPTY_LOG,
+        Err(_) => false,
+    }
+}
