@@ -1,13 +1,13 @@
 -- What a command may do with what it finds.
 -- (A format of this project.)
-use Rattle.std.specs.Prelude.{ℕ, Option, None, Some, Result, Ok, Err, nat_lt, if◌then◌else◌}
+use Rattle.std.specs.Prelude.{◌≡◌, ◌⊎◌, ℕ, Option, None, Some, nat_lt, if◌then◌else◌}
 use Rattle.pw_found.specs.Files.{longest_empty_log}
 use Rattle.pw_found.specs.declared.files.Found.{Found}
 use Rattle.pw_found.specs.declared.files.Found.TheVariants as found
 use Rattle.pw_found.specs.declared.verdict.Purpose.{Purpose}
 use Rattle.pw_found.specs.declared.verdict.Purpose.TheVariants as purpose
 use Rattle.pw_found.specs.declared.verdict.Refusal.{Refusal}
-use Rattle.pw_found.specs.declared.verdict.Refusal.TheVariants.{NoSuchStore, Unopened}
+use Rattle.pw_found.specs.declared.verdict.Refusal.TheVariants.{NoSuchStore, Memory, Unopened}
 use Rattle.pw_found.specs.declared.cause.Cause.TheVariants as cause
 
 -- by the sizes of the two files in bytes, where no name stands for no byte: a log that may have commits isn't written
@@ -23,3 +23,7 @@ refused found.Nothing purpose.Ask = Some NoSuchStore
 refused found.LogAlone _ = Some (Unopened cause.LogAlone)
 refused found.Cut _ = Some (Unopened cause.Damaged)
 refused found.File _ = None
+
+-- why the files can't be looked at
+abbrev pub IsOfLooking : Refusal → Type 0
+IsOfLooking refusal = (refusal ≡ Memory) ⊎ (refusal ≡ Unopened cause.Disk)

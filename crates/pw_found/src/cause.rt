@@ -1,7 +1,12 @@
 //! Why a store can't be opened, in words.
 
+ghost use Rattle.std.specs.Prelude.{◌≡◌};
+ghost use Rattle.pw_found.specs.Verdicts.{IsOfLooking};
+ghost use Rattle.sqlite_wal.specs.declared.error.Error.TheVariants as log;
+
 use crate::verdict::Refusal;
 use sqlite_std_file::OpenError;
+use sqlite_wal::Error;
 use std::fmt;
 use std::io::ErrorKind;
 
@@ -63,12 +68,27 @@ fn cause_of(kind: ErrorKind) -> Cause {
 }
 
 /// What a file that isn't opened is to a command.
-pub(crate) fn refusal_of(error: OpenError) -> Refusal {
+pub(crate) fn refusal_of(error: OpenError) -> Refusal
+    ensures memory { error ≡ OpenError.OutOfMemory → result ≡ Refusal.Memory }
+    ensures in_use { error ≡ OpenError.Busy → result ≡ Refusal.Unopened Cause.InUse }
+    ensures journal { error ≡ OpenError.HotJournal → result ≡ Refusal.Unopened Cause.Journal }
+{
     match error {
         OpenError::OutOfMemory => Refusal::Memory,
         OpenError::Busy => Refusal::Unopened(Cause::InUse),
         OpenError::HotJournal => Refusal::Unopened(Cause::Journal),
         OpenError::Io(error) if error.kind() == ErrorKind::OutOfMemory => Refusal::Memory,
         OpenError::Io(error) => Refusal::Unopened(cause_of(error.kind())),
+    }
+}
+
+/// What a log that can't be read is to a command.
+pub(crate) fn refusal_of_log(error: Error) -> Refusal
+    ensures cause { IsOfLooking result }
+    ensures memory { error ≡ log.OutOfMemory → result ≡ Refusal.Memory }
+{
+    match error {
+        Error::OutOfMemory => Refusal::Memory,
+        _ => Refusal::Unopened(Cause::Disk),
     }
 }

@@ -5,8 +5,11 @@ ghost use Rattle.sqlite_wal.specs.Files.{seen_image};
 ghost use Rattle.sqlite_wal.specs.Reads.{AreClean, IsClean, OnlyReads};
 ghost use Rattle.sqlite_pool.specs.Opening.{IsBlankFile};
 ghost use Rattle.sqlite_pool.specs.Stored.{used_size};
-ghost use Rattle.pw_found.specs.Files.{IsCut, IsLogAlone, IsNoDatabase, IsNothing, longest_empty_log};
+ghost use Rattle.pw_found.specs.Files.{IsCut, IsLogAlone, IsNoDatabase, IsNothing};
+ghost use Rattle.pw_found.specs.Verdicts.{IsOfLooking};
 
+use crate::cause::refusal_of_log;
+use crate::verdict::Refusal;
 use sqlite_disk::{Disk, Files};
 use sqlite_pool::probe_blank;
 use sqlite_wal::{Error, PageSize};
@@ -33,7 +36,24 @@ pub enum Found {
 }
 
 /// Tells what the two files are. Nothing is written.
-pub fn look<D: Disk>(alloc: Global, files: &mut Files<D>) -> Result<Found, Error>
+pub fn look<D: Disk>(alloc: Global, files: &mut Files<D>) -> Result<Found, Refusal>
+    requires log { IsTrue (D.Disk.is_usable files.old.log) }
+    requires db { IsTrue (D.Disk.is_usable files.old.db) }
+    ensures nothing { IfOk result (λ found. AreClean D.Disk files.new.log files.new.db → found ≡ Found.Nothing → IsNothing (seen_image D.Disk files.old.log files.old.db)) }
+    ensures alone { IfOk result (λ found. AreClean D.Disk files.new.log files.new.db → found ≡ Found.LogAlone → IsLogAlone (seen_image D.Disk files.old.log files.old.db)) }
+    ensures cut { IfOk result (λ found. AreClean D.Disk files.new.log files.new.db → found ≡ Found.Cut → IsCut (seen_image D.Disk files.old.log files.old.db)) }
+    ensures file { IfOk result (λ found. AreClean D.Disk files.new.log files.new.db → found ≡ Found.File → ¬ IsNoDatabase (seen_image D.Disk files.old.log files.old.db)) }
+    ensures cause { IfErr result IsOfLooking }
+    ensures log { OnlyReads D.Disk files.old.log files.new.log }
+    ensures db { OnlyReads D.Disk files.old.db files.new.db }
+{
+    match found_in(alloc, files) {
+        Ok(found) => Ok(found),
+        Err(error) => Err(refusal_of_log(error)),
+    }
+}
+
+fn found_in<D: Disk>(alloc: Global, files: &mut Files<D>) -> Result<Found, Error>
     requires log { IsTrue (D.Disk.is_usable files.old.log) }
     requires db { IsTrue (D.Disk.is_usable files.old.db) }
     ensures nothing { IfOk result (λ found. AreClean D.Disk files.new.log files.new.db → found ≡ Found.Nothing → IsNothing (seen_image D.Disk files.old.log files.old.db)) }

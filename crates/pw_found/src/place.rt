@@ -1,14 +1,17 @@
 //! Where a store's two files lie.
 
 ghost use Rattle.std.specs.Prelude.{IsTrue, IfOk};
+ghost use Rattle.sqlite_wal.specs.Files.{seen_image};
+ghost use Rattle.sqlite_wal.specs.Reads.{AreClean};
 ghost use Rattle.sqlite_std_file.specs.File.{file_is_usable};
+ghost use Rattle.pw_found.specs.Files.{HasNoCommit, IsNoDatabase};
 
 use crate::cause::{Cause, refusal_of};
-use crate::files::{Found, LONGEST_EMPTY_LOG};
+use crate::files::{Found, LONGEST_EMPTY_LOG, look};
 use crate::verdict::{Refusal, found_by_sizes};
 use sqlite_disk::{Disk, Files};
 use sqlite_std_file::{FileFrom, Start, open};
-use std::alloc::AllocError;
+use std::alloc::{AllocError, Global};
 use std::fs;
 use std::io::ErrorKind;
 
@@ -55,10 +58,10 @@ impl Place {
         }
     }
 
-    /// Closes files whose opening was refused. A log that the opening made, and that has no commit, is taken away first,
-    /// while both are locked.
+    /// Closes files whose opening was refused. A log that the opening made is taken away first, while both are locked,
+    /// unless it has a commit, or a first opening goes on with it.
     pub fn leave<D: Disk + Drop>(&self, rt: &HostRuntime, mut files: Files<D>) {
-        if !self.has_log && has_short_log(&mut files) {
+        if !self.has_log && needs_no_log(rt.alloc(), &mut files) {
             let _ = fs::remove_file(rt, self.log.as_str());
         }
     }
@@ -73,8 +76,11 @@ fn size_at(rt: &HostRuntime, path: &str) -> Option<u64> {
     }
 }
 
-fn has_short_log<D: Disk>(files: &mut Files<D>) -> bool {
-    if !files.may_be_used() {
+// Whether the file is a database, or none, whatever is said of it, and its log has no commit.
+fn needs_no_log<D: Disk>(alloc: Global, files: &mut Files<D>) -> bool
+    ensures { IsTrue result → AreClean D.Disk files.new.log files.new.db → (¬ IsNoDatabase (seen_image D.Disk files.old.log files.old.db)) × HasNoCommit (D.Disk.seen files.old.log) }
+{
+    if !files.may_be_used() || look(alloc, files) != Ok(Found::File) {
         return false;
     }
     match files.log.len() {

@@ -3,7 +3,7 @@ use Rattle.std.proofs.lemmas.Bool.{iff_false}
 use Rattle.sqlite_wal.specs.Reads.{IsClean}
 use Rattle.sqlite_wal.proofs.CleanLemmas.{both_clean, halves}
 use Rattle.pw_found.proofs.Logs.{short_has_no_commit, zero_unless_cut}
-use Rattle.pw_found.proofs.files.look.Goals as goal
+use Rattle.pw_found.proofs.files.found_in.Goals as goal
 
 pub returns-then-branch-gt-LONGEST_EMPTY_LOG-clause-alone :
     goal.returns-then-branch-gt-LONGEST_EMPTY_LOG-clause-alone
