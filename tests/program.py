@@ -21,6 +21,24 @@ OFFICE = f"{EXAMPLES}/sample.toml"
 LONGEST = 60
 PATIENCE = 30
 
+# What is told of a store that isn't opened, by its cause: why, and what to do; and then the fault's line.
+UNOPENED = {
+    cause: f"powerbook: {why}\ndevice failed\n"
+    for cause, why in (
+        ("in use", "the store is in use: ask the server that has it open, or stop it"),
+        ("not writable", "the store may not be written: see to the rights on its file, on the -wal file beside it and "
+         "on their folder"),
+        ("journal", "another program left a journal beside the store: open the store with sqlite3 first"),
+        ("no file", "no store can be at this path: its folder isn't there, or something else than a file with one name "
+         "is"),
+        ("log alone", "the store's file is gone or empty, and the -wal file beside it may hold uploads: put the file "
+         "back, or move both away"),
+        ("no database", "the store is no SQLite database, or is damaged: look at the path, else take the latest copy"),
+        ("damaged", "the store is damaged: take the latest copy, or load a new store from the uploads"),
+        ("disk", "the store can't be read or written: look at the disk"),
+    )
+}
+
 
 class Late(Exception):
     """A test took longer than it may."""

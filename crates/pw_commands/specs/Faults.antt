@@ -6,13 +6,17 @@ use Rattle.pw_tariff.specs.Faults as office_fault
 use Rattle.pw_tariff.specs.declared.fault.OfficeFault.{OfficeFault}
 use Rattle.pw_tariff.specs.declared.fault.OfficeFault.TheVariants as office
 use Rattle.pw_record.specs.Causes as upload_fault
-use Rattle.pw_record.specs.declared.fault.Cause.{Cause}
+use Rattle.pw_record.specs.declared.fault.Cause.{Cause as UploadCause}
 use Rattle.pw_record.specs.declared.fault.Cause.TheVariants as cause
 use Rattle.pw_book.specs.Faults as book_fault
 use Rattle.pw_book.specs.declared.fault.PostFault.{PostFault}
 use Rattle.pw_book.specs.declared.fault.PostFault.TheVariants as post
 use Rattle.pw_store.specs.Faults as store_fault
 use Rattle.pw_http.specs.Faults as wire_fault
+use Rattle.pw_found.specs.Causes as found_cause
+use Rattle.pw_found.specs.declared.cause.Cause.{Cause}
+use Rattle.pw_found.specs.declared.verdict.Refusal.{Refusal}
+use Rattle.pw_found.specs.declared.verdict.Refusal.TheVariants as refusal
 use Rattle.pw_commands.specs.declared.fault.Fault.{Fault}
 use Rattle.pw_commands.specs.declared.fault.Fault.TheVariants as fault
 
@@ -21,7 +25,7 @@ abbrev pub office_status : OfficeFault → ℕ
 office_status office.Memory = 3
 office_status _ = 1
 
-abbrev pub cause_status : Cause → ℕ
+abbrev pub cause_status : UploadCause → ℕ
 cause_status cause.Memory = 3
 cause_status _ = 1
 
@@ -34,10 +38,18 @@ post_status _ = 3
 abbrev pub IsOfReading : Fault → Type 0
 IsOfReading f = (f ≡ fault.Device) ⊎ (f ≡ fault.Memory)
 
+-- what a store that isn't looked at or opened is to a command
+abbrev pub fault_of_refusal : Refusal → Fault
+fault_of_refusal refusal.NoSuchStore = fault.NoSuchStore
+fault_of_refusal refusal.Memory = fault.Memory
+fault_of_refusal (refusal.Unopened of_file) = fault.Unopened of_file
+
 -- why a store isn't opened
 abbrev pub IsOfOpening : Fault → Type 0
 IsOfOpening (fault.Store of_opening) = Unit {0}
-IsOfOpening f = IsOfReading f
+IsOfOpening (fault.Unopened of_file) = Unit {0}
+IsOfOpening fault.NoSuchStore = Unit {0}
+IsOfOpening f = f ≡ fault.Memory
 
 -- 1: what was given is refused; 3: a file, socket, stream, store or memory failed
 abbrev pub fault_status : Fault → ℕ
@@ -45,20 +57,28 @@ fault_status (fault.Office of_office) = office_status of_office
 fault_status fault.TooLarge = 1
 fault_status (fault.Upload of_upload) = cause_status of_upload.cause
 fault_status fault.NoSuchAccount = 1
+fault_status fault.NoSuchStore = 1
 fault_status (fault.Store of_opening) = 3
+fault_status (fault.Unopened of_file) = 3
 fault_status (fault.Post of_post) = post_status of_post
 fault_status (fault.Book of_book) = 3
 fault_status (fault.Wire of_wire) = 3
 fault_status fault.Device = 3
 fault_status fault.Memory = 3
 
--- the line, without its end
+-- why a file isn't opened as a store's stands in a line before: which cause it is, and what to do
+abbrev pub unopened_text : Cause → List ℕ
+unopened_text of_file = found_cause.cause_text of_file ++ codes "\ndevice failed"
+
+-- the line, without its end; of a store's file that isn't opened two lines
 abbrev pub fault_text : Fault → List ℕ
 fault_text (fault.Office of_office) = office_fault.office_fault_line of_office
 fault_text fault.TooLarge = codes "body too large"
 fault_text (fault.Upload of_upload) = upload_fault.fault_line of_upload
 fault_text fault.NoSuchAccount = codes "no such account"
+fault_text fault.NoSuchStore = codes "no such store"
 fault_text (fault.Store of_opening) = store_fault.open_line of_opening
+fault_text (fault.Unopened of_file) = unopened_text of_file
 fault_text (fault.Post of_post) = book_fault.post_line of_post
 fault_text (fault.Book of_book) = book_fault.book_line of_book
 fault_text (fault.Wire of_wire) = wire_fault.wire_line of_wire

@@ -17,6 +17,7 @@ use crate::serving::serve;
 use crate::store::{FileBook, close_book, open_book};
 use crate::telling::{finish, tell};
 use pw_book::{Book, BookFault};
+use pw_found::Purpose;
 use pw_model::Entry;
 use pw_read::read_run;
 use pw_record::{
@@ -118,7 +119,7 @@ fn obey<I: Read, O: Write, E: Write, W: Watch>(
             port,
             limit,
         } => {
-            match book_at(rt, office, store, limit, watch) {
+            match book_at(rt, office, store, Purpose::Take, limit, watch) {
                 Ok(book) => serve(rt, book, count, port, out, err),
                 Err(fault) => tell(fault, err),
             }
@@ -173,7 +174,7 @@ fn load<W: Watch>(
     let office = Office::read(rt.alloc(), text.as_slice())?;
     let body = read_file(rt, file, LONGEST_BODY)?;
     let entries = entries_of(rt, &office, kind, body.as_slice())?;
-    let mut book = open_book(rt, store, office, text.as_slice(), limit, watch)?;
+    let mut book = open_book(rt, store, Purpose::Take, office, text.as_slice(), limit, watch)?;
     let line = post(rt, &mut book, entries.as_slice());
     close_book(book)?;
     line
@@ -221,6 +222,7 @@ fn book_at<W: Watch>(
     rt: &HostRuntime,
     office: &str,
     store: &str,
+    purpose: Purpose,
     limit: u32,
     watch: &mut W,
 ) -> Result<FileBook, Fault>
@@ -228,7 +230,7 @@ fn book_at<W: Watch>(
 {
     let text = read_file(rt, office, LONGEST_OFFICE)?;
     let office = Office::read(rt.alloc(), text.as_slice())?;
-    open_book(rt, store, office, text.as_slice(), limit, watch)
+    open_book(rt, store, purpose, office, text.as_slice(), limit, watch)
 }
 
 fn statement_of<W: Watch>(
@@ -243,7 +245,7 @@ fn statement_of<W: Watch>(
     let Some(account) = office.account(account.as_bytes()) else {
         return Err(Fault::NoSuchAccount);
     };
-    let mut book = open_book(rt, store, office, text.as_slice(), MOST_RECORDS, watch)?;
+    let mut book = open_book(rt, store, Purpose::Ask, office, text.as_slice(), MOST_RECORDS, watch)?;
     let page = statement_text(rt, &mut book, account);
     close_book(book)?;
     Ok(page?)
@@ -266,7 +268,7 @@ fn export<W: Watch>(
     what: What,
     watch: &mut W,
 ) -> Result<Vec<u8>, Fault> {
-    let mut book = book_at(rt, office, store, MOST_RECORDS, watch)?;
+    let mut book = book_at(rt, office, store, Purpose::Ask, MOST_RECORDS, watch)?;
     let text = export_text(rt, &mut book, what);
     close_book(book)?;
     Ok(text?)

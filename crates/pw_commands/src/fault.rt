@@ -5,7 +5,8 @@ ghost use Rattle.pw_commands.specs.Faults.{fault_status};
 
 use pw_book::{BookFault, PostFault};
 use pw_http::WireFault;
-use pw_record::{Cause, UploadFault};
+use pw_found::{Cause, Refusal};
+use pw_record::{Cause as UploadCause, UploadFault};
 use pw_store::OpenFault;
 use pw_tariff::OfficeFault;
 use std::fmt;
@@ -21,8 +22,12 @@ pub enum Fault {
     Upload(UploadFault),
     /// The office has no account with the name.
     NoSuchAccount,
+    /// No store is at the path, and the command makes none.
+    NoSuchStore,
     /// 70 to 73, 62: the store isn't opened.
     Store(OpenFault),
+    /// The store's file isn't opened: a line tells why, before `device failed`.
+    Unopened(Cause),
     /// 60 to 63: the book doesn't take an upload.
     Post(PostFault),
     /// 61 to 63: the book doesn't answer.
@@ -43,14 +48,16 @@ impl Fault {
         match self {
             Fault::Office(OfficeFault::Memory) => 3,
             Fault::Upload(fault) => match fault.cause {
-                Cause::Memory => 3,
+                UploadCause::Memory => 3,
                 _ => 1,
             },
             Fault::Post(PostFault::Full { .. })
             | Fault::Office(_)
             | Fault::TooLarge
-            | Fault::NoSuchAccount => 1,
+            | Fault::NoSuchAccount
+            | Fault::NoSuchStore => 1,
             Fault::Store(_)
+            | Fault::Unopened(_)
             | Fault::Post(_)
             | Fault::Book(_)
             | Fault::Wire(_)
@@ -60,7 +67,7 @@ impl Fault {
     }
 }
 
-/// The fault line without its end.
+/// The fault's lines without their end.
 impl fmt::Display for Fault {
     ghost use Rattle.std.specs.Prelude.{Some};
     ghost use Rattle.pw_commands.specs.Faults.{fault_text};
@@ -73,7 +80,9 @@ impl fmt::Display for Fault {
             Fault::TooLarge => write!(f, "body too large"),
             Fault::Upload(fault) => write!(f, "{fault}"),
             Fault::NoSuchAccount => write!(f, "no such account"),
+            Fault::NoSuchStore => write!(f, "no such store"),
             Fault::Store(fault) => write!(f, "{fault}"),
+            Fault::Unopened(cause) => write!(f, "{cause}\ndevice failed"),
             Fault::Post(fault) => write!(f, "{fault}"),
             Fault::Book(fault) => write!(f, "{fault}"),
             Fault::Wire(fault) => write!(f, "{fault}"),
@@ -124,5 +133,20 @@ impl From<BookFault> for Fault {
 
     fn from(fault: BookFault) -> Fault {
         Fault::Book(fault)
+    }
+}
+
+impl From<Refusal> for Fault {
+    ghost use Rattle.std.specs.Prelude.{◌≡◌};
+    ghost use Rattle.pw_commands.specs.Faults.{fault_of_refusal};
+
+    ghost from_gives = { λ refusal given. given ≡ fault_of_refusal refusal };
+
+    fn from(refusal: Refusal) -> Fault {
+        match refusal {
+            Refusal::NoSuchStore => Fault::NoSuchStore,
+            Refusal::Memory => Fault::Memory,
+            Refusal::Unopened(cause) => Fault::Unopened(cause),
+        }
     }
 }

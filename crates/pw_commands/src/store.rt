@@ -1,28 +1,38 @@
-//! A book over a store file.
+//! A book over a store's files.
 
-ghost use Rattle.std.specs.Prelude.{◌≡◌, IfErr, IfOk};
+ghost use Rattle.std.specs.Prelude.{◌≡◌, ◌≢◌, IfErr, IfOk, IsTrue, OnOk};
+ghost use Rattle.sqlite.specs.State.{HasCleanDisk};
+ghost use Rattle.sqlite.specs.Files.{Finds, file_state, image_of};
 ghost use Rattle.pw_tariff.specs.Text.{IsOfficeOf};
 ghost use Rattle.pw_words.specs.Words.{IsLimit};
+ghost use Rattle.pw_schema.specs.Tables.{no_schema};
 ghost use Rattle.pw_commands.specs.Faults.{IsOfOpening};
+ghost use Rattle.pw_commands.specs.Opening.{MayOpen};
 
 use crate::fault::Fault;
 use pw_book::Book;
+use pw_found::{Cause, Place, Purpose, look, refused};
+use pw_schema::is_nothing;
 use pw_store::{OpenFault, SqlShelf, Watch};
 use pw_tariff::Office;
 use pw_time::Zone;
 use sqlite::{Alter, Connection, Error, ErrorCode};
-use sqlite_std_file::File;
+use sqlite_disk::{Disk, Files};
+use sqlite_pager::Options;
+use sqlite_std_file::{FileFrom, Wary};
 use sqlite_store::FileStore;
 use std::alloc::Global;
+use std::hash::{BuildHasher, RandomState};
 
 /// A book whose records stand in a file.
-pub type FileBook = Book<SqlShelf<FileStore<File>>>;
+pub type FileBook = Book<SqlShelf<FileStore<FileFrom<Wary>>>>;
 
-/// Opens the store at a path as a book of the office of a text, or makes it where nothing is there; `watch` is told how
-/// far that is.
+/// Opens the store at a path as a book of the office of a text. Where none is, one is made to take uploads, and none to
+/// ask; `watch` is told how far the opening is.
 pub fn open_book<W: Watch>(
     rt: &HostRuntime,
     path: &str,
+    purpose: Purpose,
     office: Office,
     text: &[u8],
     limit: u32,
@@ -33,26 +43,114 @@ pub fn open_book<W: Watch>(
     ensures book { IfOk result (λ book. book.office ≡ office) }
     ensures cause { IfErr result IsOfOpening }
 {
-    let connection = match Connection::open(rt, path) {
-        Ok(connection) => connection,
-        Err(error) => return Err(unopened(error)),
+    let place = match Place::at(rt, path) {
+        Ok(place) => place,
+        Err(refusal) => return Err(Fault::from(refusal)),
     };
-    match book_over(rt.alloc(), connection, office, text, limit, watch) {
+    if let Some(refusal) = refused(place.found(rt), purpose) {
+        return Err(Fault::from(refusal));
+    }
+    let files = match place.open(rt, Wary) {
+        Ok(files) => files,
+        Err(refusal) => return Err(Fault::from(refusal)),
+    };
+    match book_in(rt, files, purpose, office, text, limit, watch) {
         Ok(book) => Ok(book),
-        Err((fault, connection)) => {
-            let _ = connection.close();
-            Err(Fault::Store(fault))
+        Err((fault, files)) => {
+            place.leave(rt, files);
+            Err(fault)
         }
     }
 }
 
-// Why a file can't be opened.
+// A book over the files of a store, which are given back where it is refused.
+fn book_in<D: Disk + Drop, W: Watch>(
+    rt: &HostRuntime,
+    files: Files<D>,
+    purpose: Purpose,
+    office: Office,
+    text: &[u8],
+    limit: u32,
+    watch: &mut W,
+) -> Result<Book<SqlShelf<FileStore<D>>>, (Fault, Files<D>)>
+    requires log { IsTrue (D.Disk.is_usable files.log) }
+    requires db { IsTrue (D.Disk.is_usable files.db) }
+    requires office { IsOfficeOf text.now office }
+    requires limit { IsLimit limit }
+    ensures book { IfOk result (λ book. book.office ≡ office) }
+    ensures cause { IfErr result (λ e. IsOfOpening e.0) }
+{
+    let Ok(random) = RandomState::new(rt) else {
+        return Err((Fault::Unopened(Cause::Disk), files));
+    };
+    let options = Options::new(random.hash_one(&0u8));
+    let connection = match connection_in(rt.alloc(), files, options, purpose) {
+        Ok(connection) => connection,
+        Err(refused) => return Err(refused),
+    };
+    match book_over(rt.alloc(), connection, office, text, limit, watch) {
+        Ok(book) => Ok(book),
+        Err((fault, connection)) => Err((Fault::Store(fault), files_under(connection))),
+    }
+}
+
+// A connection over the files of a store, which are looked at before: nothing that may hold uploads is written over, and
+// to ask no store is made.
+fn connection_in<D: Disk + Drop>(
+    alloc: Global,
+    mut files: Files<D>,
+    options: Options,
+    purpose: Purpose,
+) -> Result<Connection<FileStore<D>>, (Fault, Files<D>)>
+    requires log { IsTrue (D.Disk.is_usable files.log) }
+    requires db { IsTrue (D.Disk.is_usable files.db) }
+    ensures cause { IfErr result (λ e. IsOfOpening e.0) }
+    ensures kept { IfOk result (λ c. HasCleanDisk (file_state c) → MayOpen purpose (image_of D.Disk files)) }
+    ensures found { IfOk result (λ c. HasCleanDisk (file_state c) → Finds files c) }
+{
+    match look(alloc, &mut files) {
+        Ok(found) => {
+            if let Some(refusal) = refused(found, purpose) {
+                return Err((Fault::from(refusal), files));
+            }
+        }
+        Err(refusal) => return Err((Fault::from(refusal), files)),
+    }
+    match Connection::open_files(alloc, files, options) {
+        Ok(connection) => if_asked(connection, purpose),
+        Err((error, left)) => Err((unopened(error), left.into_files())),
+    }
+}
+
+// The connection, unless it is to a database without a table that is only asked.
+fn if_asked<D: Disk + Drop>(
+    connection: Connection<FileStore<D>>,
+    purpose: Purpose,
+) -> Result<Connection<FileStore<D>>, (Fault, Files<D>)>
+    ensures same { IfOk result (λ c. c ≡ connection) }
+    ensures asked { OnOk result (purpose ≡ Purpose.Ask → (file_state connection).now.schema ≢ no_schema) }
+    ensures cause { IfErr result (λ e. e.0 ≡ Fault.NoSuchStore) }
+{
+    if purpose == Purpose::Ask && is_nothing(connection.schema()) {
+        return Err((Fault::NoSuchStore, files_under(connection)));
+    }
+    Ok(connection)
+}
+
+// The files that a connection stands on. Nothing is written any more: what was committed stays where it is.
+fn files_under<D: Disk + Drop>(connection: Connection<FileStore<D>>) -> Files<D> {
+    connection.into_store().close()
+}
+
+// Why a file can't be opened as a database.
 fn unopened(error: Error) -> Fault
     ensures { IsOfOpening result }
 {
     match error {
         Error::SqliteFailure(ErrorCode::OutOfMemory) => Fault::Memory,
-        _ => Fault::Device,
+        Error::SqliteFailure(ErrorCode::NotADatabase) => Fault::Unopened(Cause::NoDatabase),
+        Error::SqliteFailure(ErrorCode::DatabaseCorrupt) => Fault::Unopened(Cause::Damaged),
+        _ => Fault::Unopened(Cause::Disk),
     }
 }
 

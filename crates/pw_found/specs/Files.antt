@@ -1,7 +1,7 @@
 -- What a store's file and its log are to an opening, before anything is written.
 -- (SQLite's formats: https://www.sqlite.org/fileformat2.html, section 4. What a first opening leaves: the crates that
 -- stand for SQLite.)
-use Rattle.std.specs.Prelude.{◌≡◌, ◌≢◌, ◌⊎◌, ℕ, ◌<◌, ◌≤◌, false, true, List, length, slice_index}
+use Rattle.std.specs.Prelude.{◌≡◌, ◌≢◌, ◌⊎◌, ℕ, ◌<◌, ◌≤◌, false, true, List, [], length, slice_index}
 use Rattle.sqlite_wal.specs.Recovery.{Image, Replays}
 use Rattle.sqlite_pool.specs.Opening.{IsBlankFile}
 use Rattle.sqlite_pool.specs.Stored.{used_size}
@@ -35,3 +35,8 @@ pub record IsNothing (image : Image) : Type 0 where
   pub short : length image.log ≤ longest_empty_log
   pub empty : HasNoCommit image.log
   pub whole : length image.db ≡ 1 → slice_index image.db 0 ≡ 0
+
+-- the two are the same to an opening without the log
+pub record NeedsNoLog (image : Image) : Type 0 where
+  pub empty : HasNoCommit image.log
+  pub other : (image.log ≡ []) ⊎ (¬ IsNoDatabase image)

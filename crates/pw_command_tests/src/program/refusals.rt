@@ -9,6 +9,11 @@ use std::{fs, io};
 
 const DEVICE: &str = "device failed\n";
 
+const NO_STORE: &str = "no such store\n";
+
+const NO_FILE: &str =
+    "powerbook: no store can be at this path: its folder isn't there, or something else than a file with one name is\ndevice failed\n";
+
 const TOO_LARGE: &str = "body too large\n";
 
 // bears on: pw_commands fault.rt Fault::status ensures
@@ -19,11 +24,11 @@ fn files_that_cannot_be_read(rt: HostRuntime) -> Result<(), Fail> {
     let room = room(&rt, "unread")?;
     let (office, store) = (room.office.as_str(), room.store.as_str());
     let load = ["load", office, store, "topups", "/nowhere/rows"];
-    let statement = ["statement", office, "/nowhere/store", "A1"];
+    let statement = ["statement", office, room.folder.as_str(), "A1"];
     let are_told = tells(&rt, &["check", "/nowhere/office"], 3, "", DEVICE)
         && tells(&rt, &["check", room.folder.as_str()], 3, "", DEVICE)
         && tells(&rt, &load, 3, "", DEVICE)
-        && tells(&rt, &statement, 3, "", DEVICE);
+        && tells(&rt, &statement, 3, "", NO_FILE);
     fs::remove_dir_all(&rt, room.folder.as_str())?;
     assert!(rt; are_told);
     Ok(())
@@ -81,6 +86,14 @@ fn is_unknown_account_told(rt: &HostRuntime, room: &Place) -> bool {
     tells(rt, &words, 1, "", "no such account\n")
 }
 
+// Whether a store that isn't there isn't made to be asked.
+fn is_no_store_told(rt: &HostRuntime, room: &Place) -> bool {
+    let statement = ["statement", room.office.as_str(), room.store.as_str(), "A1"];
+    let export = ["export", room.office.as_str(), room.store.as_str(), "falls"];
+    let are_told = tells(rt, &statement, 1, "", NO_STORE) && tells(rt, &export, 1, "", NO_STORE);
+    are_told && fs::metadata(rt, room.store.as_str()).is_err()
+}
+
 // bears on: pw_commands commands.rt entries_of refused
 // bears on: pw_commands telling.rt finish fault
 // bears on: pw_commands telling.rt tell ensures
@@ -90,6 +103,7 @@ fn refusals_and_their_status(rt: HostRuntime) -> Result<(), Fail> {
     let empty = (1, "", "refused 10 Header part 1 at 0\n");
     let header = (1, "", "refused 48 Header part 0\n");
     assert!(rt; is_unknown_account_told(&rt, &room));
+    assert!(rt; is_no_store_told(&rt, &room));
     assert!(rt; load_tells(&rt, &room, "telegrams", "", empty)?);
     assert!(rt; load_tells(&rt, &room, "assignments", TOPUP, header)?);
     assert!(rt; is_unknown_meter_told(&rt, &room)?);
