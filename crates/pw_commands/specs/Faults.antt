@@ -42,12 +42,12 @@ IsOfReading f = (f ≡ fault.Device) ⊎ (f ≡ fault.Memory)
 abbrev pub fault_of_refusal : Refusal → Fault
 fault_of_refusal refusal.NoSuchStore = fault.NoSuchStore
 fault_of_refusal refusal.Memory = fault.Memory
-fault_of_refusal (refusal.Unopened of_file) = fault.Unopened of_file
+fault_of_refusal (refusal.Unopened why) = fault.Unopened why
 
 -- why a store isn't opened
 abbrev pub IsOfOpening : Fault → Type 0
 IsOfOpening (fault.Store of_opening) = Unit {0}
-IsOfOpening (fault.Unopened of_file) = Unit {0}
+IsOfOpening (fault.Unopened why) = Unit {0}
 IsOfOpening fault.NoSuchStore = Unit {0}
 IsOfOpening f = f ≡ fault.Memory
 
@@ -59,7 +59,7 @@ fault_status (fault.Upload of_upload) = cause_status of_upload.cause
 fault_status fault.NoSuchAccount = 1
 fault_status fault.NoSuchStore = 1
 fault_status (fault.Store of_opening) = 3
-fault_status (fault.Unopened of_file) = 3
+fault_status (fault.Unopened why) = 3
 fault_status (fault.Post of_post) = post_status of_post
 fault_status (fault.Book of_book) = 3
 fault_status (fault.Wire of_wire) = 3
@@ -68,7 +68,7 @@ fault_status fault.Memory = 3
 
 -- why a file isn't opened as a store's stands in a line before: which cause it is, and what to do
 abbrev pub unopened_text : Cause → List ℕ
-unopened_text of_file = found_cause.cause_text of_file ++ codes "\ndevice failed"
+unopened_text why = found_cause.cause_text why ++ codes "\ndevice failed"
 
 -- the line, without its end; of a store's file that isn't opened two lines
 abbrev pub fault_text : Fault → List ℕ
@@ -78,7 +78,7 @@ fault_text (fault.Upload of_upload) = upload_fault.fault_line of_upload
 fault_text fault.NoSuchAccount = codes "no such account"
 fault_text fault.NoSuchStore = codes "no such store"
 fault_text (fault.Store of_opening) = store_fault.open_line of_opening
-fault_text (fault.Unopened of_file) = unopened_text of_file
+fault_text (fault.Unopened why) = unopened_text why
 fault_text (fault.Post of_post) = book_fault.post_line of_post
 fault_text (fault.Book of_book) = book_fault.book_line of_book
 fault_text (fault.Wire of_wire) = wire_fault.wire_line of_wire

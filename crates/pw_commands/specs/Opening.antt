@@ -1,10 +1,10 @@
--- When a store's files may be opened.
-use Rattle.std.specs.Prelude.{◌≡◌}
-use Rattle.sqlite_wal.specs.Recovery.{Image}
-use Rattle.pw_found.specs.Files.{IsNoDatabase, IsNothing}
-use Rattle.pw_found.specs.declared.verdict.Purpose.{Purpose}
-use Rattle.pw_found.specs.declared.verdict.Purpose.TheVariants.{Take}
+-- Why the engine doesn't open a store's files.
+use Rattle.std.specs.Prelude.{◌≡◌, ◌⊎◌}
+use Rattle.pw_found.specs.declared.cause.Cause.TheVariants as cause
+use Rattle.pw_commands.specs.declared.fault.Fault.{Fault}
+use Rattle.pw_commands.specs.declared.fault.Fault.TheVariants as fault
 
--- Where no database is there yet, an opening makes one: to take uploads alone, and where no commit is in the log.
-abbrev pub MayOpen : Purpose → Image → Type 0
-MayOpen purpose image = IsNoDatabase image → (purpose ≡ Take) × IsNothing image
+abbrev pub IsOfEngine : Fault → Type 0
+IsOfEngine f =
+    (f ≡ fault.Memory)
+    ⊎ ((f ≡ fault.Unopened cause.NoDatabase) ⊎ ((f ≡ fault.Unopened cause.Damaged) ⊎ (f ≡ fault.Unopened cause.Disk)))

@@ -20,5 +20,5 @@ pub use pipe::pipe_run;
 pub use progress::Progress;
 pub use sample::SAMPLE;
 pub use serving::{serve, serve_on};
-pub use store::{FileBook, close_book, open_book};
+pub use store::{FileBook, close_book, connection_in, open_book};
 pub use telling::{finish, tell, write_whole};

@@ -2,16 +2,19 @@
 
 ghost use Rattle.std.specs.Prelude.{◌≡◌, ◌≢◌, IfErr, IfOk, IsTrue, OnOk};
 ghost use Rattle.sqlite.specs.State.{HasCleanDisk};
-ghost use Rattle.sqlite.specs.Files.{Finds, file_state, image_of};
+ghost use Rattle.sqlite.specs.Files.{file_state, image_of};
+ghost use Rattle.sqlite.specs.Start.{FindsIn};
+ghost use Rattle.sqlite_wal.specs.Reads.{OnlyReads};
 ghost use Rattle.pw_tariff.specs.Text.{IsOfficeOf};
 ghost use Rattle.pw_words.specs.Words.{IsLimit};
 ghost use Rattle.pw_schema.specs.Tables.{no_schema};
 ghost use Rattle.pw_commands.specs.Faults.{IsOfOpening};
-ghost use Rattle.pw_commands.specs.Opening.{MayOpen};
+ghost use Rattle.pw_commands.specs.Opening.{IsOfEngine};
+ghost use Rattle.pw_found.specs.Verdicts.{MayOpen};
 
 use crate::fault::Fault;
 use pw_book::Book;
-use pw_found::{Cause, Place, Purpose, look, refused};
+use pw_found::{Cause, Place, Purpose, admit, refused};
 use pw_schema::is_nothing;
 use pw_store::{OpenFault, SqlShelf, Watch};
 use pw_tariff::Office;
@@ -94,9 +97,9 @@ fn book_in<D: Disk + Drop, W: Watch>(
     }
 }
 
-// A connection over the files of a store, which are looked at before: nothing that may hold uploads is written over, and
-// to ask no store is made.
-fn connection_in<D: Disk + Drop>(
+/// A connection over the files of a store, which are looked at before: nothing that may hold uploads is written over,
+/// and to ask no store is made. Where it is refused the files are given back, and nothing more is written to them.
+pub fn connection_in<D: Disk + Drop>(
     alloc: Global,
     mut files: Files<D>,
     options: Options,
@@ -104,17 +107,14 @@ fn connection_in<D: Disk + Drop>(
 ) -> Result<Connection<FileStore<D>>, (Fault, Files<D>)>
     requires log { IsTrue (D.Disk.is_usable files.log) }
     requires db { IsTrue (D.Disk.is_usable files.db) }
-    ensures cause { IfErr result (λ e. IsOfOpening e.0) }
     ensures kept { IfOk result (λ c. HasCleanDisk (file_state c) → MayOpen purpose (image_of D.Disk files)) }
-    ensures found { IfOk result (λ c. HasCleanDisk (file_state c) → Finds files c) }
+    ensures found { IfOk result (λ c. HasCleanDisk (file_state c) → FindsIn (image_of D.Disk files) (file_state c)) }
+    ensures asked { IfOk result (λ c. purpose ≡ Purpose.Ask → (file_state c).now.schema ≢ no_schema) }
+    ensures cause { IfErr result (λ e. IsOfOpening e.0) }
+    ensures untouched { IfErr result (λ e. e.0 ≡ Fault.Unopened Cause.LogAlone → OnlyReads D.Disk files.log e.1.log × OnlyReads D.Disk files.db e.1.db) }
 {
-    match look(alloc, &mut files) {
-        Ok(found) => {
-            if let Some(refusal) = refused(found, purpose) {
-                return Err((Fault::from(refusal), files));
-            }
-        }
-        Err(refusal) => return Err((Fault::from(refusal), files)),
+    if let Err(refusal) = admit(alloc, &mut files, purpose) {
+        return Err((Fault::from(refusal), files));
     }
     match Connection::open_files(alloc, files, options) {
         Ok(connection) => if_asked(connection, purpose),
@@ -144,7 +144,7 @@ fn files_under<D: Disk + Drop>(connection: Connection<FileStore<D>>) -> Files<D>
 
 // Why a file can't be opened as a database.
 fn unopened(error: Error) -> Fault
-    ensures { IsOfOpening result }
+    ensures { IsOfEngine result }
 {
     match error {
         Error::SqliteFailure(ErrorCode::OutOfMemory) => Fault::Memory,

@@ -1,6 +1,6 @@
-use Rattle.std.proofs.Common.{◌≡◌, ◌≢◌, ℕ, ◌<◌, ◌≤◌, List, length, slice_index, inl, inr, ap₂, arith}
+use Rattle.std.proofs.Common.{◌≡◌, ◌≢◌, ℕ, ◌≤◌, List, length, slice_index, inl, inr, ap₂, arith}
 use Rattle.std.proofs.lemmas.Bool.{cases_lt}
-use Rattle.sqlite_wal.specs.Recovery.{Image, Replays, IsCommitted}
+use Rattle.sqlite_wal.specs.Recovery.{Image, IsCommitted}
 use Rattle.sqlite_wal.specs.Reads.{OnlyReads}
 use Rattle.sqlite_wal.specs.Files.{seen_image}
 use Rattle.sqlite_disk.specs.declared.Disk.{Ghosts}

@@ -1,7 +1,8 @@
 -- What a command may do with what it finds.
 -- (A format of this project.)
 use Rattle.std.specs.Prelude.{◌≡◌, ◌⊎◌, ℕ, Option, None, Some, nat_lt, if◌then◌else◌}
-use Rattle.pw_found.specs.Files.{longest_empty_log}
+use Rattle.sqlite_wal.specs.Recovery.{Image}
+use Rattle.pw_found.specs.Files.{longest_empty_log, IsNoDatabase, IsNothing}
 use Rattle.pw_found.specs.declared.files.Found.{Found}
 use Rattle.pw_found.specs.declared.files.Found.TheVariants as found
 use Rattle.pw_found.specs.declared.verdict.Purpose.{Purpose}
@@ -23,6 +24,10 @@ refused found.Nothing purpose.Ask = Some NoSuchStore
 refused found.LogAlone _ = Some (Unopened cause.LogAlone)
 refused found.Cut _ = Some (Unopened cause.Damaged)
 refused found.File _ = None
+
+-- Where no database is there yet, an opening makes one: to take uploads alone, and where no commit is in the log.
+abbrev pub MayOpen : Purpose → Image → Type 0
+MayOpen given image = IsNoDatabase image → (given ≡ purpose.Take) × IsNothing image
 
 -- why the files can't be looked at
 abbrev pub IsOfLooking : Refusal → Type 0

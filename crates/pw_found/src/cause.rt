@@ -40,13 +40,20 @@ impl fmt::Display for Cause {
 
     fn fmt<W: fmt::Write>(&self, f: &mut fmt::Formatter<W>) -> fmt::Result {
         f.write_str(match *self {
-            Cause::InUse => "powerbook: the store is in use: ask the server that has it open, or stop it",
-            Cause::NotWritable => "powerbook: the store may not be written: see to the rights on its file, on the -wal file beside it and on their folder",
-            Cause::Journal => "powerbook: another program left a journal beside the store: open the store with sqlite3 first",
-            Cause::NoFile => "powerbook: no store can be at this path: its folder isn't there, or something else than a file with one name is",
-            Cause::LogAlone => "powerbook: the store's file is gone or empty, and the -wal file beside it may hold uploads: put the file back, or move both away",
-            Cause::NoDatabase => "powerbook: the store is no SQLite database, or is damaged: look at the path, else take the latest copy",
-            Cause::Damaged => "powerbook: the store is damaged: take the latest copy, or load a new store from the uploads",
+            Cause::InUse =>
+                "powerbook: the store is in use: ask the server that has it open, or stop it",
+            Cause::NotWritable =>
+                "powerbook: the store may not be written: see to the rights on its file, on the -wal file beside it and on their folder",
+            Cause::Journal =>
+                "powerbook: another program left a journal beside the store: open the store with sqlite3 first",
+            Cause::NoFile =>
+                "powerbook: no store can be at this path: its folder isn't there, or something else than a file with one name is",
+            Cause::LogAlone =>
+                "powerbook: the store's file is gone or empty, and the -wal file beside it may hold uploads: put the file back, or move both away",
+            Cause::NoDatabase =>
+                "powerbook: the store is no SQLite database, or is damaged: look at the path, else take the latest copy",
+            Cause::Damaged =>
+                "powerbook: the store is damaged: take the latest copy, or load a new store from the uploads",
             Cause::Disk => "powerbook: the store can't be read or written: look at the disk",
         })
     }

@@ -9,4 +9,4 @@ mod verdict;
 pub use cause::Cause;
 pub use files::{Found, LONGEST_EMPTY_LOG, look};
 pub use place::Place;
-pub use verdict::{Purpose, Refusal, found_by_sizes, refused};
+pub use verdict::{Purpose, Refusal, admit, found_by_sizes, refused};

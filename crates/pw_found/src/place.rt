@@ -36,7 +36,10 @@ impl Place {
 
     /// What the files are, by their sizes. Nothing is opened.
     pub fn found(&self, rt: &HostRuntime) -> Found {
-        match (size_at(rt, self.file.as_str()), size_at(rt, self.log.as_str())) {
+        match (
+            size_at(rt, self.file.as_str()),
+            size_at(rt, self.log.as_str()),
+        ) {
             (Some(file), Some(log)) => found_by_sizes(file, log),
             _ => Found::File,
         }

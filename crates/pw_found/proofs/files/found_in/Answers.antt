@@ -1,4 +1,4 @@
-use Rattle.std.proofs.Common.{rules, arith, subst, ap, ◌∙◌, ◌<◌, ◌≤◌, ◌≡◌, ℕ, List, length, slice_index, IsTrue}
+use Rattle.std.proofs.Common.{rules, subst, ap, ◌∙◌, ◌<◌, ◌≤◌, ◌≡◌, ℕ, List, length, slice_index}
 use Rattle.std.proofs.lemmas.Bool.{iff_false}
 use Rattle.sqlite_wal.specs.Reads.{IsClean}
 use Rattle.sqlite_wal.proofs.CleanLemmas.{both_clean, halves}

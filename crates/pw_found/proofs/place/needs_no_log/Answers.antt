@@ -10,7 +10,7 @@ returns-in-Ok g c is clean =
     let log = c.is_file.ensures.log.clean (halves g.D.Disk _ _ clean).0 in
     let size : c.in-Ok.size ≡ length (g.D.Disk.seen c.args.files.now.log) = c.in-Ok.ensures.len log in
     let other = subst (λ (log : List ℕ). let image : Image = record { log = log; db = g.D.Disk.seen c.args.files.now.db } in ¬ IsNoDatabase image)
-        c.len.ensures.seen (c.is_file.ensures.file is clean) in
+    c.len.ensures.seen (c.is_file.ensures.file is clean) in
     record {
       empty = short_has_no_commit _ (subst (λ n. n ≤ 41) size c.if-size-le-LONGEST_EMPTY_LOG.true);
       other = inr other;
