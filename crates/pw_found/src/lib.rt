@@ -8,5 +8,5 @@ mod verdict;
 
 pub use cause::Cause;
 pub use files::{Found, LONGEST_EMPTY_LOG, look};
-pub use place::Place;
+pub use place::{Place, needs_no_log};
 pub use verdict::{Purpose, Refusal, admit, found_by_sizes, refused};

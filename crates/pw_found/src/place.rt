@@ -90,9 +90,9 @@ fn size_at(rt: &HostRuntime, path: &str) -> Option<u64> {
     }
 }
 
-// Whether the log has no commit, and the file needs none: where the log is empty, or the file isn't one that a first
-// opening goes on with.
-fn needs_no_log<D: Disk>(alloc: Global, files: &mut Files<D>) -> bool
+/// Whether the log has no commit, and the file needs none: where the log is empty, or the file isn't one that a first
+/// opening goes on with.
+pub fn needs_no_log<D: Disk>(alloc: Global, files: &mut Files<D>) -> bool
     ensures { IsTrue result → AreClean D.Disk files.new.log files.new.db → NeedsNoLog (seen_image D.Disk files.old.log files.old.db) }
 {
     if !files.may_be_used() {
