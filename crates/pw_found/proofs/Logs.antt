@@ -21,11 +21,3 @@ short_has_no_commit log short page_size frames (inr taken) = no_frame page_size 
 -- what two files are read as, behind calls that only read
 pub same_image : {D : Type 0} {g : Ghosts D} {log db log' db' : D} → OnlyReads g log log' → OnlyReads g db db' → seen_image g log' db' ≡ seen_image g log db
 same_image of_log of_db = ap₂ (λ a b. let i : Image = record { log = a; db = b } in i) of_log.seen of_db.seen
-
--- a byte that isn't none but zero is zero
-pub zero_unless_cut : (db : List ℕ) → ¬ ((length db ≡ 1) × (slice_index db 0 ≢ 0)) → length db ≡ 1 → slice_index db 0 ≡ 0
-zero_unless_cut db whole one =
-    elim (cases_lt 0 (slice_index db 0)) [
-      | inl some ↦ absurd (whole (one, λ zero. omega (arith, some, zero)))
-      | inr none ↦ omega arith
-    ]

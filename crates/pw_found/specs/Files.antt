@@ -24,17 +24,17 @@ pub record IsLogAlone (image : Image) : Type 0 where
   pub none : IsNoDatabase image
   pub long : longest_empty_log < length image.log
 
--- one byte is left of a file, and it isn't the zero that a first opening begins with
+-- one byte is left of a file, the S with which SQLite's begin; a first opening begins with another
 pub record IsCut (image : Image) : Type 0 where
   pub one : length image.db ≡ 1
-  pub other : slice_index image.db 0 ≢ 0
+  pub letter : slice_index image.db 0 ≡ 83
 
 -- a store may be made: no database is there, and nothing is lost
 pub record IsNothing (image : Image) : Type 0 where
   pub none : IsNoDatabase image
   pub short : length image.log ≤ longest_empty_log
   pub empty : HasNoCommit image.log
-  pub whole : length image.db ≡ 1 → slice_index image.db 0 ≡ 0
+  pub whole : length image.db ≡ 1 → slice_index image.db 0 ≢ 83
 
 -- the two are the same to an opening without the log
 pub record NeedsNoLog (image : Image) : Type 0 where

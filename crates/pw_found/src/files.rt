@@ -29,7 +29,7 @@ pub enum Found {
     Nothing,
     /// No database, beside a log that may have uploads.
     LogAlone,
-    /// One byte, which no opening leaves.
+    /// One byte, which is left of a database.
     Cut,
     /// A file that is judged as a database.
     File,
@@ -98,10 +98,10 @@ fn is_blank<D: Disk>(alloc: Global, files: &mut Files<D>, has_sums: bool) -> Res
     probe_blank(alloc, files, page, has_sums)
 }
 
-// Whether the file has one byte, and not the zero that a first opening begins with.
+// Whether the file has one byte, the letter with which SQLite's begin.
 fn is_cut<D: Disk>(db: &mut D) -> io::Result<bool>
     requires { IsTrue (D.Disk.is_usable db.old) }
-    ensures ok { IfOk result (λ cut. IsClean D.Disk db.new → (IsTrue cut ↔ ((length (D.Disk.seen db.old) ≡ 1) × (slice_index (D.Disk.seen db.old) 0 ≢ 0)))) }
+    ensures ok { IfOk result (λ cut. IsClean D.Disk db.new → (IsTrue cut ↔ ((length (D.Disk.seen db.old) ≡ 1) × (slice_index (D.Disk.seen db.old) 0 ≡ 83)))) }
     ensures same { OnlyReads D.Disk db.old db.new }
 {
     if db.len()? != 1 {
@@ -109,5 +109,5 @@ fn is_cut<D: Disk>(db: &mut D) -> io::Result<bool>
     }
     let mut byte = [0];
     db.read_at(0, &mut byte)?;
-    Ok(byte[0] != 0)
+    Ok(byte[0] == b'S')
 }

@@ -2,7 +2,7 @@ use Rattle.std.proofs.Common.{rules, subst, ap, ◌∙◌, ◌<◌, ◌≤◌, �
 use Rattle.std.proofs.lemmas.Bool.{iff_false}
 use Rattle.sqlite_wal.specs.Reads.{IsClean}
 use Rattle.sqlite_wal.proofs.CleanLemmas.{both_clean, halves}
-use Rattle.pw_found.proofs.Logs.{short_has_no_commit, zero_unless_cut}
+use Rattle.pw_found.proofs.Logs.{short_has_no_commit}
 use Rattle.pw_found.proofs.files.found_in.Goals as goal
 
 pub returns-then-branch-gt-LONGEST_EMPTY_LOG-clause-alone :
@@ -24,11 +24,11 @@ returns-clause-nothing g c clean is =
     let size : c.in_ok-len.field-0 ≡ length (g.D.Disk.seen c.args.files.now.log) =
     c.in_ok-len.ensures.len both.0 ∙ ap length c.is_no_database.ensures.log.seen in
     let short = subst (λ n. n ≤ 41) size c.if-branch-gt-LONGEST_EMPTY_LOG.false in
-    let whole = subst (λ (db : List ℕ). length db ≡ 1 → slice_index db 0 ≡ 0) c.is_no_database.ensures.db.seen
-    (zero_unless_cut _ (iff_false (c.in_ok-is_cut.ensures.ok both.1) c.if-branch.false)) in
+    let whole = subst (λ (db : List ℕ). ¬ ((length db ≡ 1) × (slice_index db 0 ≡ 83))) c.is_no_database.ensures.db.seen
+        (iff_false (c.in_ok-is_cut.ensures.ok both.1) c.if-branch.false) in
     record {
       none = (c.in_ok-is_no_database.ensures.ok before).0 (search rules);
       short = short;
       empty = short_has_no_commit _ short;
-      whole = whole;
+      whole = λ one letter. whole (one, letter);
     }
