@@ -9,7 +9,6 @@ ghost use Rattle.pw_tariff.specs.Text.{IsOfficeOf};
 ghost use Rattle.pw_words.specs.Words.{IsLimit};
 ghost use Rattle.pw_schema.specs.Tables.{no_schema};
 ghost use Rattle.pw_commands.specs.Faults.{IsOfOpening};
-ghost use Rattle.pw_commands.specs.Opening.{IsOfEngine};
 ghost use Rattle.pw_found.specs.Verdicts.{MayOpen};
 
 use crate::fault::Fault;
@@ -144,7 +143,8 @@ fn files_under<D: Disk + Drop>(connection: Connection<FileStore<D>>) -> Files<D>
 
 // Why a file can't be opened as a database.
 fn unopened(error: Error) -> Fault
-    ensures { IsOfEngine result }
+    ensures opening { IsOfOpening result }
+    ensures other { result ≢ Fault.Unopened Cause.LogAlone }
 {
     match error {
         Error::SqliteFailure(ErrorCode::OutOfMemory) => Fault::Memory,
