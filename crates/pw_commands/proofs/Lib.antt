@@ -1,3 +1,4 @@
 pub mod Few
+pub mod Opened
 pub mod Piped
 pub mod Told

@@ -1,6 +1,6 @@
 -- What a file of an upload gives, and why it is refused; which page an export is.
 -- (Definitions of this project.)
-use Rattle.std.specs.Prelude.{◌≡◌, ℕ, List}
+use Rattle.std.specs.Prelude.{ℕ, List}
 use Rattle.pw_tariff.specs.Office.{OfficeFile}
 use Rattle.pw_model.specs.declared.records.Entry.{Entry}
 use Rattle.pw_record.specs.Frames.{TelegramsGive, TelegramsRefused, ReadoutsGive, ReadoutsRefused}

@@ -174,7 +174,15 @@ fn load<W: Watch>(
     let office = Office::read(rt.alloc(), text.as_slice())?;
     let body = read_file(rt, file, LONGEST_BODY)?;
     let entries = entries_of(rt, &office, kind, body.as_slice())?;
-    let mut book = open_book(rt, store, Purpose::Take, office, text.as_slice(), limit, watch)?;
+    let mut book = open_book(
+        rt,
+        store,
+        Purpose::Take,
+        office,
+        text.as_slice(),
+        limit,
+        watch,
+    )?;
     let line = post(rt, &mut book, entries.as_slice());
     close_book(book)?;
     line
@@ -245,7 +253,15 @@ fn statement_of<W: Watch>(
     let Some(account) = office.account(account.as_bytes()) else {
         return Err(Fault::NoSuchAccount);
     };
-    let mut book = open_book(rt, store, Purpose::Ask, office, text.as_slice(), MOST_RECORDS, watch)?;
+    let mut book = open_book(
+        rt,
+        store,
+        Purpose::Ask,
+        office,
+        text.as_slice(),
+        MOST_RECORDS,
+        watch,
+    )?;
     let page = statement_text(rt, &mut book, account);
     close_book(book)?;
     Ok(page?)

@@ -4,8 +4,8 @@ ghost use Rattle.std.specs.Prelude.{◌≡◌};
 ghost use Rattle.pw_commands.specs.Faults.{fault_status};
 
 use pw_book::{BookFault, PostFault};
-use pw_http::WireFault;
 use pw_found::{Cause, Refusal};
+use pw_http::WireFault;
 use pw_record::{Cause as UploadCause, UploadFault};
 use pw_store::OpenFault;
 use pw_tariff::OfficeFault;
