@@ -25,7 +25,7 @@ returns-clause-nothing g c clean is =
     c.in_ok-len.ensures.len both.0 ∙ ap length c.is_no_database.ensures.log.seen in
     let short = subst (λ n. n ≤ 41) size c.if-branch-gt-LONGEST_EMPTY_LOG.false in
     let whole = subst (λ (db : List ℕ). ¬ ((length db ≡ 1) × (slice_index db 0 ≡ 83))) c.is_no_database.ensures.db.seen
-        (iff_false (c.in_ok-is_cut.ensures.ok both.1) c.if-branch.false) in
+    (iff_false (c.in_ok-is_cut.ensures.ok both.1) c.if-branch.false) in
     record {
       none = (c.in_ok-is_no_database.ensures.ok before).0 (search rules);
       short = short;
