@@ -14,6 +14,7 @@ pub mod Fallen
 pub mod Contested
 pub mod Order
 pub mod Running
+pub mod Crashing
 pub mod TotalKeys
 pub mod Gathering
 pub mod Changing

@@ -9,4 +9,4 @@ module _ {S : Type 0} (shelf : Ghosts S) where
   -- before
   pub record IsOnlyAsked (told : ℕ) (old new : S) : Type 0 where
     pub content : shelf.clean new → (shelf.state new).content ≡ (shelf.state old).content
-    pub kept : GoesOn shelf.state shelf.left shelf.clean told old new
+    pub kept : GoesOn shelf.state shelf.left shelf.clean shelf.same_store told old new

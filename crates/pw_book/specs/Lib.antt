@@ -3,10 +3,12 @@
 -- Cost: how many calls of the store and rows an upload takes
 -- Questions: what a question leaves as it is
 -- After: the records after uploads, and runs of them
+-- Crashes: what a crash leaves behind uploads
 pub mod Posting
 pub mod Cost
 pub mod Questions
 pub mod After
+pub mod Crashes
 -- and these where a file above names them:
 -- Asking: what asking a shelf leaves as it is
 -- Acceptance: the line of an accepted upload

@@ -50,7 +50,7 @@ pub(crate) fn begin_to_count<S: Shelf>(
     ensures point { S.clean shelf.new → OnOk result ((S.state shelf.new).content.point ≡ points_with (S.state shelf.old).content.point reading.now.meter.0 reading.now.register reading.now.instant (Some reading.now.wh)) }
     ensures start { S.clean shelf.new → OnOk result ((S.state shelf.new).content.start ≡ (S.state shelf.old).content.start) }
     ensures tally { S.clean shelf.new → (starts : ℕ) → HasStarts (S.state shelf.old).content reading.now.meter.0 starts → (S.state shelf.new).tally ≤ (S.state shelf.old).tally + (6 + starts) + 6 * (length office.now.bands * (length office.now.accounts + 1)) }
-    ensures kept { GoesOn S.state S.left S.clean (failures_told result) shelf.old shelf.new }
+    ensures kept { GoesOn S.state S.left S.clean S.same_store (failures_told result) shelf.old shelf.new }
 {
     let (without, with) = weigh_around(shelf, alloc, office, zone, reading)?;
     move_energies(shelf, office, &without, &with)?;
@@ -72,7 +72,7 @@ pub(crate) fn cease_to_count<S: Shelf>(
     ensures point { S.clean shelf.new → OnOk result ((S.state shelf.new).content.point ≡ points_with (S.state shelf.old).content.point reading.now.meter.0 reading.now.register reading.now.instant None) }
     ensures start { S.clean shelf.new → OnOk result ((S.state shelf.new).content.start ≡ (S.state shelf.old).content.start) }
     ensures tally { S.clean shelf.new → (starts : ℕ) → HasStarts (S.state shelf.old).content reading.now.meter.0 starts → (S.state shelf.new).tally ≤ (S.state shelf.old).tally + (6 + starts) + 6 * (length office.now.bands * (length office.now.accounts + 1)) }
-    ensures kept { GoesOn S.state S.left S.clean (failures_told result) shelf.old shelf.new }
+    ensures kept { GoesOn S.state S.left S.clean S.same_store (failures_told result) shelf.old shelf.new }
 {
     let (without, with) = weigh_around(shelf, alloc, office, zone, reading)?;
     move_energies(shelf, office, &with, &without)?;
@@ -95,7 +95,7 @@ fn weigh_around<S: Shelf>(
     ensures around { S.clean shelf.new → (free is : AnyKey → AnyContents) → ((u : ℕ) → (u ≡ reading.now.instant → ⊥) → (S.state shelf.old).content.point reading.now.meter.0 reading.now.register u ≡ point_told free reading.now.meter.0 reading.now.register u) → (S.state shelf.old).content.start reading.now.meter.0 ≡ start_told free reading.now.meter.0 → IsOneMoreReading free is reading.now.meter.0 reading.now.register reading.now.instant reading.now.wh → EndsBefore (office_of office.now).end (point_told is reading.now.meter.0 reading.now.register) → IfOk result (λ around. AreDifferences (office_of office.now) free is around.0.items around.1.items) }
     ensures same { S.clean shelf.new → OnOk result ((S.state shelf.new).content ≡ (S.state shelf.old).content) }
     ensures tally { S.clean shelf.new → (starts : ℕ) → HasStarts (S.state shelf.old).content reading.now.meter.0 starts → (S.state shelf.new).tally ≤ (S.state shelf.old).tally + (5 + starts) }
-    ensures kept { GoesOn S.state S.left S.clean (failures_told result) shelf.old shelf.new }
+    ensures kept { GoesOn S.state S.left S.clean S.same_store (failures_told result) shelf.old shelf.new }
 {
     let starts = shelf.starts_of(alloc, reading.meter)?;
     let below = shelf.point_before(reading.meter, reading.register, reading.instant)?;

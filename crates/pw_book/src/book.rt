@@ -133,6 +133,7 @@ impl<S: Shelf> Book<S> {
         ensures shut { (self.new.shut ≡ true) ↔ IsErrOf result PostFault.Reopen }
         ensures failures { FailuresPosted result (S.state self.old.shelf).failures (S.state self.new.shelf).failures }
         ensures cleanness { S.clean self.new.shelf → S.clean self.old.shelf }
+        ensures store { S.same_store self.old.shelf self.new.shelf }
         ensures book { (self.new.office ≡ self.old.office) × (self.new.zone ≡ self.old.zone) × (self.new.limit ≡ self.old.limit) }
     {
         if self.shut {

@@ -9,7 +9,10 @@ ghost use Rattle.pw_tariff.specs.Office.{office_of};
 ghost use Rattle.pw_tariff.specs.declared.ids.Direction.{Direction};
 ghost use Rattle.pw_book.specs.After.{LeavesAfter, OrderOfUploadsCountsNothing, RunsLeaveAfter};
 
+mod crashes;
+
 use crate::book::Book;
+pub use crashes::{Sent, uploads_survive_a_crash};
 use pw_shelf::Shelf;
 use pw_tariff::Office;
 

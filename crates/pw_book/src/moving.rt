@@ -35,7 +35,7 @@ pub(crate) fn change_total<S: Shelf>(
     requires fits { more < 2 ^ 127 }
     ensures moved { S.clean shelf.new → OnOk result (MovesTotals (λ k. k ≡ key.now) (λ _. more) (λ _. less) (S.state shelf.old).content (S.state shelf.new).content) }
     ensures tally { (S.state shelf.new).tally ≤ (S.state shelf.old).tally + 3 }
-    ensures kept { GoesOn S.state S.left S.clean (failures_told result) shelf.old shelf.new }
+    ensures kept { GoesOn S.state S.left S.clean S.same_store (failures_told result) shelf.old shelf.new }
 {
     if more == less {
         return Ok(());
@@ -59,7 +59,7 @@ fn move_direction<S: Shelf>(
     requires given { gathered_in_all given.now < 2 ^ 127 }
     ensures moved { S.clean shelf.new → OnOk result (MovesTotals (InDirection owner direction (length office.now.bands)) (gathered given.now) (gathered taken.now) (S.state shelf.old).content (S.state shelf.new).content) }
     ensures tally { (S.state shelf.new).tally ≤ (S.state shelf.old).tally + 3 * length office.now.bands }
-    ensures kept { GoesOn S.state S.left S.clean (failures_told result) shelf.old shelf.new }
+    ensures kept { GoesOn S.state S.left S.clean S.same_store (failures_told result) shelf.old shelf.new }
 {
     for band in 0..office.bands() {
         let key = TotalKey::Energy {
@@ -87,7 +87,7 @@ fn move_owner<S: Shelf>(
     requires given { gathered_in_all given.now < 2 ^ 127 }
     ensures moved { S.clean shelf.new → OnOk result (MovesTotals (OfOwner (length office.now.bands) owner) (gathered given.now) (gathered taken.now) (S.state shelf.old).content (S.state shelf.new).content) }
     ensures tally { (S.state shelf.new).tally ≤ (S.state shelf.old).tally + 6 * length office.now.bands }
-    ensures kept { GoesOn S.state S.left S.clean (failures_told result) shelf.old shelf.new }
+    ensures kept { GoesOn S.state S.left S.clean S.same_store (failures_told result) shelf.old shelf.new }
 {
     move_direction(shelf, office, owner, Direction::Import, taken, given)?;
     move_direction(shelf, office, owner, Direction::Export, taken, given)
@@ -106,7 +106,7 @@ pub(crate) fn move_energies<S: Shelf>(
     requires given { gathered_in_all given.now < 2 ^ 127 }
     ensures moved { S.clean shelf.new → OnOk result (MovesTotals (OfOwners (length office.now.bands) (length office.now.accounts)) (gathered given.now) (gathered taken.now) (S.state shelf.old).content (S.state shelf.new).content) }
     ensures tally { (S.state shelf.new).tally ≤ (S.state shelf.old).tally + 6 * (length office.now.bands * (length office.now.accounts + 1)) }
-    ensures kept { GoesOn S.state S.left S.clean (failures_told result) shelf.old shelf.new }
+    ensures kept { GoesOn S.state S.left S.clean S.same_store (failures_told result) shelf.old shelf.new }
 {
     move_owner(shelf, office, None, taken, given)?;
     for account in 0..office.accounts() {

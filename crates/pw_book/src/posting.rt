@@ -46,6 +46,7 @@ pub(crate) fn post_to<S: Shelf>(
     ensures reopen { IsErrOf result Reopen → (S.state shelf.new).failed_abandons ≡ (S.state shelf.old).failed_abandons + 1 }
     ensures failures { FailuresPosted result (S.state shelf.old).failures (S.state shelf.new).failures }
     ensures cleanness { S.clean shelf.new → S.clean shelf.old }
+    ensures store { S.same_store shelf.old shelf.new }
 {
     let distinct = distinct(alloc, entries)?;
     let (held, repeated) = weigh(shelf, &distinct)?;

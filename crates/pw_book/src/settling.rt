@@ -46,7 +46,7 @@ fn reading_added<S: Shelf>(
     ensures records { S.clean shelf.new → (s : List AnEntry) → IsJustAdded (office_of office.now) s (reading_of reading.now) before.now (S.state shelf.old).content → OnOk result ((S.state shelf.new).content.records ≡ (S.state shelf.old).content.records) }
     ensures start { S.clean shelf.new → OnOk result ((S.state shelf.new).content.start ≡ (S.state shelf.old).content.start) }
     ensures tally { S.clean shelf.new → (starts : ℕ) → HasStarts (S.state shelf.old).content reading.now.meter.0 starts → (S.state shelf.new).tally ≤ (S.state shelf.old).tally + (6 + starts) + 6 * classes_of (office_of office.now) }
-    ensures kept { GoesOn S.state S.left S.clean (failures_told result) shelf.old shelf.new }
+    ensures kept { GoesOn S.state S.left S.clean S.same_store (failures_told result) shelf.old shelf.new }
 {
     match before {
         Contents::Nothing => begin_to_count(shelf, alloc, office, zone, reading),
@@ -81,7 +81,7 @@ fn assignment_added<S: Shelf>(
     ensures records { S.clean shelf.new → (s : List AnEntry) → IsJustAdded (office_of office.now) s (assignment_of given.now) before.now (S.state shelf.old).content → OnOk result ((S.state shelf.new).content.records ≡ (S.state shelf.old).content.records) }
     ensures alone { S.clean shelf.new → OnOk result (ChangesOneStart (key.Assignment given.now.meter given.now.start) (S.state shelf.old).content (S.state shelf.new).content) }
     ensures tally { S.clean shelf.new → TakesAtMost 0 (office_of office.now) (S.state shelf.old).content (key.Assignment given.now.meter given.now.start) (S.state shelf.old).tally (S.state shelf.new).tally }
-    ensures kept { GoesOn S.state S.left S.clean (failures_told result) shelf.old shelf.new }
+    ensures kept { GoesOn S.state S.left S.clean S.same_store (failures_told result) shelf.old shelf.new }
 {
     match before {
         Contents::Nothing => change_start(
@@ -111,7 +111,7 @@ fn top_up_added<S: Shelf>(
     requires begun { IsSome (S.state shelf.old).begun }
     ensures moved { S.clean shelf.new → OnOk result (IsPaid account cents before.now (S.state shelf.old).content (S.state shelf.new).content) }
     ensures tally { (S.state shelf.new).tally ≤ (S.state shelf.old).tally + 3 }
-    ensures kept { GoesOn S.state S.left S.clean (failures_told result) shelf.old shelf.new }
+    ensures kept { GoesOn S.state S.left S.clean S.same_store (failures_told result) shelf.old shelf.new }
 {
     match before {
         Contents::Nothing => change_total(
@@ -148,7 +148,7 @@ pub(crate) fn settle<S: Shelf>(
     ensures start { S.clean shelf.new → IsReading entry.now.key → OnOk result ((S.state shelf.new).content.start ≡ (S.state shelf.old).content.start) }
     ensures alone { S.clean shelf.new → OnOk result (ChangesOneStart entry.now.key (S.state shelf.old).content (S.state shelf.new).content) }
     ensures tally { S.clean shelf.new → TakesAtMost 0 (office_of office.now) (S.state shelf.old).content entry.now.key (S.state shelf.old).tally (S.state shelf.new).tally }
-    ensures kept { GoesOn S.state S.left S.clean (failures_told result) shelf.old shelf.new }
+    ensures kept { GoesOn S.state S.left S.clean S.same_store (failures_told result) shelf.old shelf.new }
 {
     match &entry.key {
         Key::Reading {

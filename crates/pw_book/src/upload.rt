@@ -47,6 +47,7 @@ pub(crate) fn upload<S: Shelf>(
     ensures left { S.clean shelf.new → OnErr result (LeavesWithUpload (office_of office.now) entries.now (S.state shelf.old).content (S.left shelf.old) (S.left shelf.new)) }
     ensures tally { S.clean shelf.new → CostsAtMost 3 (office_of office.now) entries.now (S.state shelf.old).content (S.state shelf.old).tally (S.state shelf.new).tally }
     ensures cleanness { S.clean shelf.new → S.clean shelf.old }
+    ensures store { S.same_store shelf.old shelf.new }
 {
     if let Err(fault) = shelf.begin() {
         return Err(BookFault::from(fault));
@@ -82,6 +83,7 @@ fn write<S: Shelf>(
     ensures left { S.clean shelf.new → OnErr result (LeavesWithUpload (office_of office.now) entries.now (S.state shelf.old).content (S.left shelf.old) (S.left shelf.new)) }
     ensures tally { S.clean shelf.new → CostsAtMost 1 (office_of office.now) entries.now (S.state shelf.old).content (S.state shelf.old).tally (S.state shelf.new).tally }
     ensures cleanness { S.clean shelf.new → S.clean shelf.old }
+    ensures store { S.same_store shelf.old shelf.new }
 {
     for entry in entries {
         put(shelf, alloc, office, zone, entry)?;
@@ -105,7 +107,7 @@ fn put<S: Shelf>(
     ensures start { S.clean shelf.new → IsReading entry.now.key → OnOk result ((S.state shelf.new).content.start ≡ (S.state shelf.old).content.start) }
     ensures alone { S.clean shelf.new → OnOk result (ChangesOneStart entry.now.key (S.state shelf.old).content (S.state shelf.new).content) }
     ensures tally { S.clean shelf.new → TakesAtMost 5 (office_of office.now) (S.state shelf.old).content entry.now.key (S.state shelf.old).tally (S.state shelf.new).tally }
-    ensures kept { GoesOn S.state S.left S.clean (failures_told result) shelf.old shelf.new }
+    ensures kept { GoesOn S.state S.left S.clean S.same_store (failures_told result) shelf.old shelf.new }
 {
     if shelf.holds(entry)? {
         return Ok(());

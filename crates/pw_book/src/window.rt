@@ -62,7 +62,7 @@ pub(crate) fn change_start<S: Shelf>(
     ensures point { S.clean shelf.new → OnOk result ((S.state shelf.new).content.point ≡ (S.state shelf.old).content.point) }
     ensures start { S.clean shelf.new → OnOk result ((S.state shelf.new).content.start ≡ starts_with (S.state shelf.old).content.start meter.0 start owner) }
     ensures tally { S.clean shelf.new → (starts : ℕ) (points : AnyRegister → ℕ) → HasStarts (S.state shelf.old).content meter.0 starts → HavePoints (S.state shelf.old).content meter.0 start points → (S.state shelf.new).tally ≤ (S.state shelf.old).tally + (32 + starts) + (over_registers Import points + over_registers Export points) + 6 * (length office.now.bands * (length office.now.accounts + 1)) }
-    ensures kept { GoesOn S.state S.left S.clean (failures_told result) shelf.old shelf.new }
+    ensures kept { GoesOn S.state S.left S.clean S.same_store (failures_told result) shelf.old shelf.new }
 {
     let old = shelf.starts_of(alloc, meter)?;
     let new = with_start(alloc, &old, start, owner)?;
@@ -88,7 +88,7 @@ fn keep_start<S: Shelf>(
     requires { IsSome (S.state shelf.old).begun }
     ensures kept_start { S.clean shelf.new → OnOk result ((S.state shelf.new).content ≡ with_start_of (S.state shelf.old).content meter.0 start owner) }
     ensures tally { (S.state shelf.new).tally ≡ (S.state shelf.old).tally + 1 }
-    ensures kept { GoesOn S.state S.left S.clean (failures_told result) shelf.old shelf.new }
+    ensures kept { GoesOn S.state S.left S.clean S.same_store (failures_told result) shelf.old shelf.new }
 {
     match owner {
         Some(owner) => shelf.start_put(meter, start, owner),
@@ -111,7 +111,7 @@ fn weigh_window<S: Shelf>(
     ensures moved { S.clean shelf.new → (was is : AnyKey → AnyContents) → IsStartChanged (S.state shelf.old).content was is window.now.meter.0 window.now.from window.now.until window.now.before window.now.after → IfOk result (λ moved. AreDifferences (office_of office.now) was is moved.taken.items moved.given.items) }
     ensures same { S.clean shelf.new → OnOk result ((S.state shelf.new).content ≡ (S.state shelf.old).content) }
     ensures tally { S.clean shelf.new → (points : AnyRegister → ℕ) → EndsBeforeNext ((S.state shelf.old).content.start window.now.meter.0) window.now.from window.now.until → HavePoints (S.state shelf.old).content window.now.meter.0 window.now.from points → (S.state shelf.new).tally ≤ (S.state shelf.old).tally + 30 + (over_registers Import points + over_registers Export points) }
-    ensures kept { GoesOn S.state S.left S.clean (failures_told result) shelf.old shelf.new }
+    ensures kept { GoesOn S.state S.left S.clean S.same_store (failures_told result) shelf.old shelf.new }
 {
     let mut taken = Vec::new(alloc);
     let mut given = Vec::new(alloc);
@@ -144,7 +144,7 @@ fn add_register<S: Shelf>(
     ensures moved { S.clean shelf.new → (was is : AnyKey → AnyContents) → IsStartChanged (S.state shelf.old).content was is window.now.meter.0 window.now.from window.now.until window.now.before window.now.after → OnOk result ((k : AnyTotal) → gathered given.new.items k + gathered taken.old.items k + register_told (office_of office.now) was window.now.meter.0 k register ≡ gathered taken.new.items k + gathered given.old.items k + register_told (office_of office.now) is window.now.meter.0 k register) }
     ensures same { S.clean shelf.new → OnOk result ((S.state shelf.new).content ≡ (S.state shelf.old).content) }
     ensures tally { S.clean shelf.new → (most : ℕ) → EndsBeforeNext ((S.state shelf.old).content.start window.now.meter.0) window.now.from window.now.until → ((points : List (ℕ × ℕ)) → ListsUpToNextStart (S.state shelf.old).content window.now.meter.0 register window.now.from points → length points ≤ most) → (S.state shelf.new).tally ≤ (S.state shelf.old).tally + 5 + most }
-    ensures kept { GoesOn S.state S.left S.clean (failures_told result) shelf.old shelf.new }
+    ensures kept { GoesOn S.state S.left S.clean S.same_store (failures_told result) shelf.old shelf.new }
 {
     if !office.counts(window.meter, register) {
         return Ok(());

@@ -2,3 +2,4 @@ pub mod Few
 pub mod Opened
 pub mod Piped
 pub mod Told
+pub mod Crashed

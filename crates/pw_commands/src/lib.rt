@@ -5,6 +5,7 @@ mod commands;
 mod fault;
 mod files;
 mod hints;
+pub mod laws;
 mod pipe;
 mod progress;
 mod sample;

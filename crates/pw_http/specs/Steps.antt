@@ -102,6 +102,8 @@ module _ {S : Type 0} (shelf : Ghosts S) where
     pub shut : (new.shut ≡ true) ↔ IsErrOf answer post.Reopen
     pub untouched : old.shut ≡ true → new.shelf ≡ old.shelf
     pub clean : shelf.clean new.shelf → shelf.clean old.shelf
+    -- the store is the same
+    pub store : shelf.same_store old.shelf new.shelf
     pub office : new.office ≡ old.office
     pub zone : new.zone ≡ old.zone
     pub limit : new.limit ≡ old.limit

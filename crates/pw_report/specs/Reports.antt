@@ -12,7 +12,7 @@ module _ {S : Type 0} (shelf : Ghosts S) where
   -- questions that tell so many failures of the device: the records are as before, and nothing of the book is touched
   pub record IsAsked (told : ℕ) (old new : Book S shelf) : Type 0 where
     pub content : shelf.clean new.shelf → (shelf.state new.shelf).content ≡ (shelf.state old.shelf).content
-    pub kept : GoesOn shelf.state shelf.left shelf.clean told old.shelf new.shelf
+    pub kept : GoesOn shelf.state shelf.left shelf.clean shelf.same_store told old.shelf new.shelf
     pub shut : new.shut ≡ old.shut
     pub office : new.office ≡ old.office
     pub zone : new.zone ≡ old.zone

@@ -28,3 +28,7 @@ left_of m c = c ≡ committed (state_of m)
 -- memory returns what was written
 abbrev pub clean_of : MemoryShelf → Type 0
 clean_of m = Unit {0}
+
+-- a store in memory remembers nothing of its making
+abbrev pub same_of : MemoryShelf → MemoryShelf → Type 0
+same_of old new = Unit {0}

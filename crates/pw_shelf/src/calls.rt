@@ -4,7 +4,7 @@ ghost use Rattle.std.specs.Prelude.{IfOk, refl};
 ghost use Rattle.pw_shelf.specs.Calls.{IsAsking};
 ghost use Rattle.pw_shelf.specs.inner.Kinds.{IsOfKind};
 ghost use Rattle.pw_shelf.specs.Rows.{ListsHeld, rows_listed};
-ghost use Rattle.pw_shelf.specs.Memory.{state_of, left_of, clean_of};
+ghost use Rattle.pw_shelf.specs.Memory.{state_of, left_of, clean_of, same_of};
 ghost use Rattle.pw_shelf.specs.State.{committed};
 
 use crate::fault::ShelfFault;
@@ -24,6 +24,8 @@ impl Shelf for MemoryShelf {
     ghost left = { left_of };
 
     ghost clean = { clean_of };
+
+    ghost same_store = { same_of };
 
     fn begin(&mut self) -> Result<(), ShelfFault> {
         self.tally.tick(0);
@@ -178,13 +180,17 @@ impl Shelf for MemoryShelf {
     ghost once = { λ s _. s.kept.records.once };
 
     ghost survives = { λ s _ none. none (committed (state_of s)) refl };
+
+    ghost same_yet = { λ s. tt };
+
+    ghost same_then = { λ a b c p q. tt };
 }
 
 impl MemoryShelf {
     // All records of a kind, sorted; the tally rises by the rows given.
     fn all_of(&mut self, alloc: Global, kind: Kind) -> Result<Vec<Entry>, ShelfFault>
         ensures rows { IfOk result (λ found. ListsHeld (IsOfKind kind) (state_of self.old).content.records found.items) }
-        ensures asked { IsAsking state_of left_of clean_of rows_listed result self.old self.new }
+        ensures asked { IsAsking state_of left_of clean_of same_of rows_listed result self.old self.new }
     {
         let found = self.kept.records.all_of(alloc, kind);
         self.tally.tick(rows::of_list(&found));

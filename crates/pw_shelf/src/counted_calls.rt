@@ -1,6 +1,7 @@
 //! The calls of a counting shelf: each is passed on and counted, unless it is the one that fails.
 
-ghost use Rattle.std.specs.Prelude.{◌≡◌, ◌+◌};
+ghost use Rattle.std.specs.Prelude.{◌≡◌, ◌+◌, refl};
+ghost use Rattle.std.proofs.Common.{◌∙◌};
 ghost use Rattle.pw_shelf.specs.Count.{with_refused};
 ghost use Rattle.pw_shelf.specs.declared.fault.ShelfFault.TheVariants.{Device};
 
@@ -20,6 +21,8 @@ impl<S: Shelf> Shelf for CountShelf<S> {
     ghost left = { λ c. S.left c.inner };
 
     ghost clean = { λ c. S.clean c.inner };
+
+    ghost same_store = { λ old new. (new.made.value ≡ old.made.value) × S.same_store old.inner new.inner };
 
     fn begin(&mut self) -> Result<(), ShelfFault> {
         if self.plan.fails() {
@@ -247,6 +250,10 @@ impl<S: Shelf> Shelf for CountShelf<S> {
     ghost once = { λ c clean. S.once c.inner clean };
 
     ghost survives = { λ c clean. S.survives c.inner clean };
+
+    ghost same_yet = { λ c. (refl, S.same_yet c.inner) };
+
+    ghost same_then = { λ a b c p q. (q.0 ∙ p.0, S.same_then a.inner b.inner c.inner p.1 q.1) };
 }
 
 impl<S: Shelf> CountShelf<S> {
@@ -254,6 +261,7 @@ impl<S: Shelf> CountShelf<S> {
     fn refuse(&mut self) -> ShelfFault
         ensures fault { result ≡ Device }
         ensures inner { self.new.inner ≡ self.old.inner }
+        ensures store { ⟦<CountShelf<S> as Shelf>⟧.same_store self.old self.new }
         ensures refused { self.new.refused.count ≡ self.old.refused.count + 1 }
         ensures abandons { self.new.refused_abandons.count ≡ self.old.refused_abandons.count }
     {

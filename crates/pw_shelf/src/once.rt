@@ -42,6 +42,7 @@ pub fn add_once<S: Shelf>(shelf: &mut S, entry: &Entry) -> Result<bool, AddFault
     ensures kept { S.clean shelf.new → OnOk result (LeavesOnly (S.state shelf.new).content (S.left shelf.new)) }
     ensures left { S.clean shelf.new → OnErr result (LeavesBeforeOrAfter (S.state shelf.old).content entry.now (S.left shelf.old) (S.left shelf.new)) }
     ensures cleanness { S.clean shelf.new → S.clean shelf.old }
+    ensures store { S.same_store shelf.old shelf.new }
 {
     if let Err(fault) = shelf.begin() {
         return Err(nothing_changed(fault));
@@ -67,6 +68,7 @@ fn add_unless_held<S: Shelf>(shelf: &mut S, entry: &Entry) -> Result<bool, Shelf
     ensures kept { S.clean shelf.new → OnOk result (LeavesOnly (S.state shelf.new).content (S.left shelf.new)) }
     ensures left { S.clean shelf.new → OnErr result (LeavesBeforeOrAfter (S.state shelf.old).content entry.now (S.left shelf.old) (S.left shelf.new)) }
     ensures cleanness { S.clean shelf.new → S.clean shelf.old }
+    ensures store { S.same_store shelf.old shelf.new }
 {
     let held = shelf.holds(entry)?;
     if !held {

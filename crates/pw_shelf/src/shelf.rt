@@ -39,6 +39,9 @@ pub trait Shelf {
     /// The store has returned what was written to it.
     ghost clean: { Self → Type 0 };
 
+    /// The second is the first behind calls: what a store remembers of its making or opening is as it was.
+    ghost same_store: { Self → Self → Type 0 };
+
     /// Begins an upload. A failed call begins nothing.
     fn begin(&mut self) -> Result<(), ShelfFault>
         requires { (state self.old).begun ≡ None }
@@ -48,7 +51,8 @@ pub trait Shelf {
         ensures counts { CountsFailures (failures_told result) (state self.old) (state self.new) }
         ensures tally { (state self.new).tally ≡ (state self.old).tally + 1 }
         ensures left { clean self.new → LeavesNoMore (left self.old) (left self.new) }
-        ensures cleanness { clean self.new → clean self.old };
+        ensures cleanness { clean self.new → clean self.old }
+        ensures store { same_store self.old self.new };
 
     /// Ends the upload and keeps what it wrote, whatever happens from then on. A failed call leaves the upload begun.
     fn commit(&mut self) -> Result<(), ShelfFault>
@@ -61,7 +65,8 @@ pub trait Shelf {
         ensures kept { clean self.new → OnOk result (LeavesOnly (state self.old).content (left self.new)) }
         ensures stays { clean self.new → OnOk result (left self.new (state self.old).content) }
         ensures left { clean self.new → OnErr result (LeavesNoMoreOr (state self.old).content (left self.old) (left self.new)) }
-        ensures cleanness { clean self.new → clean self.old };
+        ensures cleanness { clean self.new → clean self.old }
+        ensures store { same_store self.old self.new };
 
     /// Ends the upload and gives back the content that it began with. A failed call leaves the upload begun.
     fn abandon(&mut self) -> Result<(), ShelfFault>
@@ -74,17 +79,18 @@ pub trait Shelf {
         ensures failures { (state self.new).failures ≡ (state self.old).failures + failures_told result }
         ensures tally { (state self.new).tally ≡ (state self.old).tally + 1 }
         ensures left { clean self.new → LeavesNoMore (left self.old) (left self.new) }
-        ensures cleanness { clean self.new → clean self.old };
+        ensures cleanness { clean self.new → clean self.old }
+        ensures store { same_store self.old self.new };
 
     /// Whether a record is held.
     fn holds(&mut self, entry: &Entry) -> Result<bool, ShelfFault>
         ensures held { clean self.new → IfOk result (λ held. IsTrue held ↔ Member entry.now (state self.old).content.records) }
-        ensures asked { IsAsking state left clean no_rows result self.old self.new };
+        ensures asked { IsAsking state left clean same_store no_rows result self.old self.new };
 
     /// What the records held say of a key: whether none has it, one, or several: no row, one, or two.
     fn contents_at(&mut self, key: &Key) -> Result<Contents, ShelfFault>
         ensures rows { clean self.new → IfOk result (λ found. found ≡ held_at (state self.old).content.records key.now) }
-        ensures asked { IsAsking state left clean rows_at result self.old self.new };
+        ensures asked { IsAsking state left clean same_store rows_at result self.old self.new };
 
     /// Adds a record that isn't held, and changes nothing else.
     fn add(&mut self, entry: &Entry) -> Result<(), ShelfFault>
@@ -92,7 +98,7 @@ pub trait Shelf {
         requires fresh { clean self.old → Member entry.now (state self.old).content.records → ⊥ }
         requires room { clean self.old → length (state self.old).content.records < most_records }
         ensures added { clean self.new → OnOk result (IsWithRecord (state self.old).content entry.now (state self.new).content) }
-        ensures written { IsWriting state left clean result self.old self.new };
+        ensures written { IsWriting state left clean same_store result self.old self.new };
 
     /// All readings held of a register, sorted.
     fn readings_of(
@@ -102,22 +108,22 @@ pub trait Shelf {
         register: Register,
     ) -> Result<Vec<Entry>, ShelfFault>
         ensures rows { clean self.new → IfOk result (λ found. ListsReadings (state self.old).content.records meter register found.items) }
-        ensures asked { IsAsking state left clean rows_listed result self.old self.new };
+        ensures asked { IsAsking state left clean same_store rows_listed result self.old self.new };
 
     /// All assignments held of a meter, sorted.
     fn assignments_of(&mut self, alloc: Global, meter: MeterId) -> Result<Vec<Entry>, ShelfFault>
         ensures rows { clean self.new → IfOk result (λ found. ListsAssignments (state self.old).content.records meter found.items) }
-        ensures asked { IsAsking state left clean rows_listed result self.old self.new };
+        ensures asked { IsAsking state left clean same_store rows_listed result self.old self.new };
 
     /// All top-ups held, sorted.
     fn topups(&mut self, alloc: Global) -> Result<Vec<Entry>, ShelfFault>
         ensures rows { clean self.new → IfOk result (λ found. ListsTopUps (state self.old).content.records found.items) }
-        ensures asked { IsAsking state left clean rows_listed result self.old self.new };
+        ensures asked { IsAsking state left clean same_store rows_listed result self.old self.new };
 
     /// How many records are held.
     fn count(&mut self) -> Result<u32, ShelfFault>
         ensures number { clean self.new → IfOk result (λ held. held ≡ length (state self.old).content.records) }
-        ensures asked { IsAsking state left clean no_rows result self.old self.new };
+        ensures asked { IsAsking state left clean same_store no_rows result self.old self.new };
 
     /// Keeps the value of a register at an instant, in place of the one that is kept there, and changes nothing else.
     fn point_put(
@@ -129,7 +135,7 @@ pub trait Shelf {
     ) -> Result<(), ShelfFault>
         requires { IsSome (state self.old).begun }
         ensures put { clean self.new → OnOk result ((state self.new).content ≡ with_point (state self.old).content meter.0 register instant (Some wh)) }
-        ensures written { IsWriting state left clean result self.old self.new };
+        ensures written { IsWriting state left clean same_store result self.old self.new };
 
     /// Takes the point of a register at an instant away, if one is kept, and changes nothing else.
     fn point_del(
@@ -140,7 +146,7 @@ pub trait Shelf {
     ) -> Result<(), ShelfFault>
         requires { IsSome (state self.old).begun }
         ensures deleted { clean self.new → OnOk result ((state self.new).content ≡ with_point (state self.old).content meter.0 register instant None) }
-        ensures written { IsWriting state left clean result self.old self.new };
+        ensures written { IsWriting state left clean same_store result self.old self.new };
 
     /// The latest point kept of a register strictly before an instant, if there is one: then it is one row.
     fn point_before(
@@ -150,7 +156,7 @@ pub trait Shelf {
         instant: Instant,
     ) -> Result<Option<(Instant, WattHours)>, ShelfFault>
         ensures row { clean self.new → IfOk result (λ found. IsBefore ((state self.old).content.point meter.0 register) instant found) }
-        ensures asked { IsAsking state left clean rows_found result self.old self.new };
+        ensures asked { IsAsking state left clean same_store rows_found result self.old self.new };
 
     /// The earliest point kept of a register strictly behind an instant, if there is one: then it is one row.
     fn point_after(
@@ -160,7 +166,7 @@ pub trait Shelf {
         instant: Instant,
     ) -> Result<Option<(Instant, WattHours)>, ShelfFault>
         ensures row { clean self.new → IfOk result (λ found. IsBehind ((state self.old).content.point meter.0 register) instant found) }
-        ensures asked { IsAsking state left clean rows_found result self.old self.new };
+        ensures asked { IsAsking state left clean same_store rows_found result self.old self.new };
 
     /// The points kept of a register from one instant to another, both included, in order; none where the second is
     /// before the first.
@@ -173,19 +179,19 @@ pub trait Shelf {
         to: Instant,
     ) -> Result<Vec<(Instant, WattHours)>, ShelfFault>
         ensures rows { clean self.new → IfOk result (λ found. ListsSecondsWithin from to ((state self.old).content.point meter.0 register) found.items) }
-        ensures asked { IsAsking state left clean rows_listed result self.old self.new };
+        ensures asked { IsAsking state left clean same_store rows_listed result self.old self.new };
 
     /// Keeps the owner of a meter from an instant on, in place of the one that is kept there, and changes nothing else.
     fn start_put(&mut self, meter: MeterId, start: Instant, owner: Owner) -> Result<(), ShelfFault>
         requires { IsSome (state self.old).begun }
         ensures put { clean self.new → OnOk result ((state self.new).content ≡ with_start (state self.old).content meter.0 start (Some owner)) }
-        ensures written { IsWriting state left clean result self.old self.new };
+        ensures written { IsWriting state left clean same_store result self.old self.new };
 
     /// Takes the start of a meter at an instant away, if one is kept, and changes nothing else.
     fn start_del(&mut self, meter: MeterId, start: Instant) -> Result<(), ShelfFault>
         requires { IsSome (state self.old).begun }
         ensures deleted { clean self.new → OnOk result ((state self.new).content ≡ with_start (state self.old).content meter.0 start None) }
-        ensures written { IsWriting state left clean result self.old self.new };
+        ensures written { IsWriting state left clean same_store result self.old self.new };
 
     /// All starts kept of a meter, in order.
     fn starts_of(
@@ -194,23 +200,29 @@ pub trait Shelf {
         meter: MeterId,
     ) -> Result<Vec<(Instant, Owner)>, ShelfFault>
         ensures rows { clean self.new → IfOk result (λ found. ListsSeconds ((state self.old).content.start meter.0) found.items) }
-        ensures asked { IsAsking state left clean rows_listed result self.old self.new };
+        ensures asked { IsAsking state left clean same_store rows_listed result self.old self.new };
 
     /// The total kept at a key; 0 where none is. It is one row where it is above 0.
     fn total(&mut self, key: &TotalKey) -> Result<u64, ShelfFault>
         ensures amount { clean self.new → IfOk result (λ amount. amount ≡ (state self.old).content.total key.now) }
-        ensures asked { IsAsking state left clean rows_total result self.old self.new };
+        ensures asked { IsAsking state left clean same_store rows_total result self.old self.new };
 
     /// Keeps a total at a key, in place of the one that is kept there, and changes nothing else.
     fn total_put(&mut self, key: &TotalKey, amount: u64) -> Result<(), ShelfFault>
         requires begun { IsSome (state self.old).begun }
         requires bounded { amount ≤ most_records * LARGEST_WATT_HOURS }
         ensures put { clean self.new → OnOk result ((state self.new).content ≡ with_total (state self.old).content key.now amount) }
-        ensures written { IsWriting state left clean result self.old self.new };
+        ensures written { IsWriting state left clean same_store result self.old self.new };
 
     /// Each record is held once.
     ghost once: { (s : Self) → clean s → EachOnce (state s).content.records };
 
     /// A crash leaves something.
     ghost survives: { (s : Self) → clean s → ¬ ((c : ShelfContent) → ¬ (left s c)) };
+
+    /// A store is the same behind no call.
+    ghost same_yet: { (s : Self) → same_store s s };
+
+    /// What is the same behind some calls, and then behind others, is the same behind all of them.
+    ghost same_then: { (a b c : Self) → same_store a b → same_store b c → same_store a c };
 }

@@ -1,6 +1,7 @@
 //! The calls of the store over SQL.
 
-ghost use Rattle.std.specs.Prelude.{◌≡◌};
+ghost use Rattle.std.specs.Prelude.{◌≡◌, refl};
+ghost use Rattle.std.proofs.Common.{◌∙◌};
 ghost use Rattle.sqlite.specs.Held.{state};
 ghost use Rattle.sqlite.specs.State.{HasCleanDisk};
 ghost use Rattle.pw_shelf.specs.Rows.{rows_at, rows_found, rows_total};
@@ -28,6 +29,8 @@ impl<S: Alter> Shelf for SqlShelf<S> {
     ghost left = { λ s. left_of (state S.Store s.conn) };
 
     ghost clean = { λ s. HasCleanDisk (state S.Store s.conn) };
+
+    ghost same_store = { λ old new. new.opened.value ≡ old.opened.value };
 
     fn begin(&mut self) -> Result<(), ShelfFault> {
         self.tally.tick(0);
@@ -396,6 +399,10 @@ impl<S: Alter> Shelf for SqlShelf<S> {
     ghost once = { λ s clean. once_held (state S.Store.own s.conn) (state S.Store.own s.base.value) s.base_once s.now clean };
 
     ghost survives = { λ s clean none. survives_left (state S.Store.own s.conn) (S.Store.survives s.conn.store clean) none };
+
+    ghost same_yet = { λ s. refl };
+
+    ghost same_then = { λ a b c p q. q ∙ p };
 }
 
 // How many rows an answer of one at most is.

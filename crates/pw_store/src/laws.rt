@@ -30,6 +30,11 @@ pub fn store_is_its_tables<S: Alter>(shelf: SqlShelf<S>) -> SqlShelf<S>
     shelf
 }
 
+/// A store over SQL is the same behind calls: it was opened over the same connection, as that was then.
+pub fn store_stays_as_it_was_opened<S: Alter>(old: &SqlShelf<S>, new: &SqlShelf<S>)
+    ensures { ⟦<SqlShelf<S> as Shelf>⟧.same_store old.entry.now new.entry.now ↔ (new.entry.now.opened.value ≡ old.entry.now.opened.value) }
+{}
+
 /// Where the tables are those of a store of this office, of this version and this text, `open` refuses them with `Store`
 /// or `Memory` alone: what it says of the cause of a refusal leaves no other.
 pub fn openable_stores_open()

@@ -25,6 +25,7 @@ impl<S: Alter> SqlShelf<S> {
         ensures taken { HasCleanDisk (state S.Store self.new.conn) → OnOk result (IsTaken change (state S.Store self.new.conn).now.trees) }
         ensures begun { self.new.begun ≡ self.old.begun }
         ensures base { self.new.base.value ≡ self.old.base.value }
+        ensures opened { self.new.opened.value ≡ self.old.opened.value }
         ensures failures { self.new.failures.count ≡ self.old.failures.count + failures_told result }
         ensures abandons { self.new.failed_abandons.count ≡ self.old.failed_abandons.count }
         ensures tally { self.new.tally.count ≡ self.old.tally.count }
@@ -52,6 +53,7 @@ impl<S: Alter> SqlShelf<S> {
         ensures content { HasCleanDisk (state S.Store self.new.conn) → OnOk result (held_of (state S.Store self.new.conn) (state S.Store self.new.base.value) ≡ changed put (changed take (held_of (state S.Store self.old.conn) (state S.Store self.old.base.value)))) }
         ensures begun { self.new.begun ≡ self.old.begun }
         ensures base { self.new.base.value ≡ self.old.base.value }
+        ensures opened { self.new.opened.value ≡ self.old.opened.value }
         ensures failures { self.new.failures.count ≡ self.old.failures.count + failures_told result }
         ensures abandons { self.new.failed_abandons.count ≡ self.old.failed_abandons.count }
         ensures tally { self.new.tally.count ≡ self.old.tally.count }

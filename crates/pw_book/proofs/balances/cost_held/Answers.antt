@@ -12,7 +12,7 @@ use Rattle.pw_book.proofs.balances.cost_held.Goals as goal
 
 pub loop-band-init : goal.loop-band-init
 unfolding sum_over
-loop-band-init g c = record { sum = λ k. refl; few = omega arith; tally = omega arith; asked = asked-none _ _ }
+loop-band-init g c = record { sum = λ k. refl; few = omega arith; tally = omega arith; asked = asked-none _ g.met.S.Shelf.same_yet _ }
 
 pub loop-band-preserved : goal.loop-band-preserved
 loop-band-preserved g c = record {
@@ -32,7 +32,7 @@ loop-band-preserved g c = record {
       omega (arith, here, so_far, next);
   few = let a = c.loop-band.invariant.few in let b = c.price_of-nano.ensures.bound in omega (arith, a, b);
   tally = let a = c.loop-band.invariant.tally in let b = c.total_held.ensures.tally in omega (arith, a, b);
-  asked = asked-then _ _ _ _ _ c.loop-band.invariant.asked c.in_ok-wh.ensures.asked;
+  asked = asked-then _ g.met.S.Shelf.same_then _ _ _ _ c.loop-band.invariant.asked c.in_ok-wh.ensures.asked;
 }
 
 pub returns-clause-cost : goal.returns-clause-cost

@@ -10,7 +10,7 @@ loop-meter-preserved g c = record {
       let within : c.loop-meter.meter < meters = omega (arith, e, c.loop-meter-test.true) in
       disputes-next meters _ _ (6 * meters + c.loop-meter.meter) (6 * meters + c.loop-meter.meter) (6 * meters + (c.loop-meter.meter + 1)) (6 * meters + (c.loop-meter.meter + 1)) c.loop-meter.disputes.items _ (c.loop-meter.invariant.asked.content before)
       refl (omega arith) w (c.loop-meter.invariant.disputes before meters w e b) (λ v. c.in_ok-add_assignments_of.ensures.disputes k meters v within);
-  asked = asked-then _ _ _ _ _ c.loop-meter.invariant.asked c.in_ok-add_assignments_of.ensures.asked;
+  asked = asked-then _ g.met.S.Shelf.same_then _ _ _ _ c.loop-meter.invariant.asked c.in_ok-add_assignments_of.ensures.asked;
 }
 
 pub returns-clause-disputes : goal.returns-clause-disputes

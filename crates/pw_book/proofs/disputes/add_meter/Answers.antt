@@ -11,7 +11,7 @@ loop-register-preserved g c = record {
       let here = place-at c.loop-register.register-index _ c.loop-register-test.true in
       disputes-next meters _ _ (6 * c.args.meter.0 + c.loop-register.register-index) _ _ (6 * c.args.meter.0 + (c.loop-register.register-index + 1)) c.loop-register.disputes.items _ (c.loop-register.invariant.asked.content before)
       (ap (λ (p : ℕ). 6 * c.args.meter.0 + p) here) (omega (arith, here)) w (c.loop-register.invariant.disputes before meters w l b) (λ v. c.in_ok-add_readings_of.ensures.disputes k meters v l);
-  asked = asked-then _ _ _ _ _ c.loop-register.invariant.asked c.in_ok-add_readings_of.ensures.asked;
+  asked = asked-then _ g.met.S.Shelf.same_then _ _ _ _ c.loop-register.invariant.asked c.in_ok-add_readings_of.ensures.asked;
 }
 
 pub returns-clause-disputes : goal.returns-clause-disputes

@@ -11,7 +11,7 @@ loop-register-preserved g c = record {
       let here = place-at c.loop-register.register-index _ c.loop-register-test.true in
       falls-next office _ _ (6 * c.args.meter.0 + c.loop-register.register-index) _ _ (6 * c.args.meter.0 + (c.loop-register.register-index + 1)) c.loop-register.falls.items _ (c.loop-register.invariant.asked.content before)
       (ap (λ (p : ℕ). 6 * c.args.meter.0 + p) here) (omega (arith, here)) o (c.loop-register.invariant.falls before office o b) (c.in_ok-add_register.ensures.falls k office);
-  asked = asked-then _ _ _ _ _ c.loop-register.invariant.asked c.in_ok-add_register.ensures.asked;
+  asked = asked-then _ g.met.S.Shelf.same_then _ _ _ _ c.loop-register.invariant.asked c.in_ok-add_register.ensures.asked;
 }
 
 pub returns-clause-falls : goal.returns-clause-falls

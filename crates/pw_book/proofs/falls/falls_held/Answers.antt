@@ -11,7 +11,7 @@ loop-meter-preserved g c = record {
       let start = c.loop-meter.invariant.asked.kept.clean before in
       falls-next (office_of c.args.office.now) _ _ (6 * c.loop-meter.meter) (6 * c.loop-meter.meter) (6 * c.loop-meter.meter + 6) (6 * (c.loop-meter.meter + 1)) c.loop-meter.falls.items c.add_meter.new.falls.items
       (c.loop-meter.invariant.asked.content before) refl (omega arith) (c.requires.of_office start) (c.loop-meter.invariant.falls before) (c.in_ok-add_meter.ensures.falls k (office_of c.args.office.now));
-  asked = asked-then _ _ _ _ _ c.loop-meter.invariant.asked c.in_ok-add_meter.ensures.asked;
+  asked = asked-then _ g.met.S.Shelf.same_then _ _ _ _ c.loop-meter.invariant.asked c.in_ok-add_meter.ensures.asked;
 }
 
 pub returns-clause-falls : goal.returns-clause-falls

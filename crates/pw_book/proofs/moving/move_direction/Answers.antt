@@ -16,5 +16,5 @@ pub loop-band-preserved : goal.loop-band-preserved
 loop-band-preserved g c = record {
   moved = λ k. moves-band c.args.owner c.args.direction _ _ c.loop-band.band c.amount_of-more.result c.amount_of-less.result _ _ _ (c.loop-band.invariant.moved (c.change_total.ensures.kept.clean k)) c.amount_of-more.ensures c.amount_of-less.ensures (c.in_ok-change_total.ensures.moved k);
   tally = let a = c.loop-band.invariant.tally in let b = c.change_total.ensures.tally in omega (arith, a, b);
-  kept = kept-then _ _ _ _ _ _ _ c.loop-band.invariant.kept c.in_ok-change_total.ensures.kept;
+  kept = kept-then _ _ _ _ g.met.S.Shelf.same_then _ _ _ _ c.loop-band.invariant.kept c.in_ok-change_total.ensures.kept;
 }

@@ -23,7 +23,7 @@ loop-entry-preserved g c =
         | else-branch w ↦ omega arith
       ];
       tally = let a = c.loop-entry.invariant.tally in let b = c.is_held.ensures.tally in omega (arith, a, b);
-      asked = asked-then _ _ _ _ _ c.loop-entry.invariant.asked c.in_ok-is_held.ensures.asked;
+      asked = asked-then _ g.met.S.Shelf.same_then _ _ _ _ c.loop-entry.invariant.asked c.in_ok-is_held.ensures.asked;
     }
 
 pub returns-in_err-is_held-clause-tally : goal.returns-in_err-is_held-clause-tally

@@ -48,5 +48,5 @@ returns-in_default g c = record {
   records = λ k s j. refl;
   start = λ k. refl;
   tally = λ k starts h. omega arith;
-  kept = kept-none _ _ _ _;
+  kept = kept-none _ _ _ _ g.met.S.Shelf.same_yet _;
 }

@@ -30,7 +30,7 @@ loop-entry-init g c = record {
   assignment = λ k e starts points q a. omega arith;
   assignments = λ k starts points a. omega arith;
   top_ups = λ k a. omega arith;
-  kept = kept-none g.S.Shelf.state g.S.Shelf.left g.S.Shelf.clean c.args.shelf.now;
+  kept = kept-none g.S.Shelf.state g.S.Shelf.left g.S.Shelf.clean g.S.Shelf.same_store g.met.S.Shelf.same_yet c.args.shelf.now;
 }
 
 pub loop-entry-preserved : goal.loop-entry-preserved
@@ -62,7 +62,7 @@ loop-entry-preserved g c =
       top_ups = λ k a.
           let before = c.put.ensures.kept.clean k in
           top-ups-next office c.args.entries.now c.entry-item.result c.loop-entry.entry-index (g.S.Shelf.state c.loop-entry.shelf).content _ _ _ m a (c.loop-entry.invariant.top_ups before a) (c.put.ensures.tally k);
-      kept = kept-then _ _ _ _ _ _ _ c.loop-entry.invariant.kept c.in_ok-put.ensures.kept;
+      kept = kept-then _ _ _ _ g.met.S.Shelf.same_then _ _ _ _ c.loop-entry.invariant.kept c.in_ok-put.ensures.kept;
     }
 
 pub returns-clause-posted : goal.returns-clause-posted

@@ -22,5 +22,5 @@ invariant-loop-entry g l = record {
   assignments : g.S.Shelf.clean l.shelf → (starts points : ℕ) → AreAssignmentsWith (g.S.Shelf.state l.initial.shelf).content starts points l.entries →
       (g.S.Shelf.state l.shelf).tally ≤ (g.S.Shelf.state l.initial.shelf).tally + l.entry-index * (37 + (starts + length l.entries) + points + 6 * classes_of (office_of l.office));
   top_ups : g.S.Shelf.clean l.shelf → AreTopUps l.entries → (g.S.Shelf.state l.shelf).tally ≤ (g.S.Shelf.state l.initial.shelf).tally + l.entry-index * 8;
-  kept : GoesOn g.S.Shelf.state g.S.Shelf.left g.S.Shelf.clean 0 l.initial.shelf l.shelf;
+  kept : GoesOn g.S.Shelf.state g.S.Shelf.left g.S.Shelf.clean g.S.Shelf.same_store 0 l.initial.shelf l.shelf;
 }

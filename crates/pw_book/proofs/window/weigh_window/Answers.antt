@@ -27,7 +27,7 @@ loop-register-preserved g c = record {
       let before = c.add_register.ensures.kept.clean k in
       let here = tally-there _ _ _ _ _ _ points _ _ (c.loop-register.invariant.same before) (c.add_register.ensures.tally k) w h in
       tally-more points c.loop-register.register-index _ _ _ _ c.loop-register-test.true (c.loop-register.invariant.tally before points w h) here;
-  kept = kept-then _ _ _ _ _ _ _ c.loop-register.invariant.kept c.in_ok-add_register.ensures.kept;
+  kept = kept-then _ _ _ _ g.met.S.Shelf.same_then _ _ _ _ c.loop-register.invariant.kept c.in_ok-add_register.ensures.kept;
 }
 
 pub returns-clause-moved : goal.returns-clause-moved

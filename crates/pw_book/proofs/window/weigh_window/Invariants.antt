@@ -24,5 +24,5 @@ invariant-loop-register g l = record {
   tally : g.S.Shelf.clean l.shelf → (points : Register → ℕ) → EndsBeforeNext ((g.S.Shelf.state l.initial.shelf).content.start l.window.meter.0) l.window.from l.window.until →
       HavePoints (g.S.Shelf.state l.initial.shelf).content l.window.meter.0 l.window.from points →
       (g.S.Shelf.state l.shelf).tally ≤ (g.S.Shelf.state l.initial.shelf).tally + 5 * l.register-index + sum_by points (take l.register-index registers);
-  kept : GoesOn g.S.Shelf.state g.S.Shelf.left g.S.Shelf.clean 0 l.initial.shelf l.shelf;
+  kept : GoesOn g.S.Shelf.state g.S.Shelf.left g.S.Shelf.clean g.S.Shelf.same_store 0 l.initial.shelf l.shelf;
 }

@@ -21,6 +21,7 @@ returns-in-Ok g c = λ upload m. (
       shut = c.post.ensures.shut;
       untouched = c.post.ensures.untouched;
       clean = c.post.ensures.cleanness;
+      store = c.post.ensures.store;
       office = c.post.ensures.book.0;
       zone = c.post.ensures.book.1;
       limit = c.post.ensures.book.2;

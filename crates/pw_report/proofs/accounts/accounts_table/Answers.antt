@@ -18,7 +18,7 @@ loop-account-init g c = record {
 pub loop-account-preserved : goal.loop-account-preserved
 loop-account-preserved g c =
     let one = asked-once _ _ _ _ c.in_ok-nano.ensures.question in
-    let both = asked-then _ _ _ _ _ c.loop-account.invariant.asked one in
+    let both = asked-then _ g.met.S.Shelf.same_then _ _ _ _ c.loop-account.invariant.asked one in
     record {
       text = λ k.
           let before = one.kept.clean k in
@@ -36,3 +36,8 @@ returns-clause-text g c = λ k.
     let same = ap (λ (o : OfficeFile). length o.accounts) (c.office.ensures ∙ c.in_ok-still_open.ensures.report.asked.office) in
     let all : c.loop-account.account ≡ length c.args.book.now.office.accounts = omega (arith, same, c.accounts-account-end.ensures.count) in
     text-whole (account_line (codes "account") (codes "balance EUR")) _ (balance_line c.args.book.now.office (g.S.Shelf.state c.args.book.now.shelf).content.records) _ _ (c.loop-account.invariant.text k) all
+
+pub returns-in_err-put_account-2-clause-report : goal.returns-in_err-put_account-2-clause-report
+returns-in_err-put_account-2-clause-report g c =
+    let store = g.met.S.Shelf.same_then _ _ _ c.loop-account.invariant.asked.kept.store c.balance.ensures.question.asked.kept.store in
+    search rules

@@ -1,4 +1,4 @@
-use Rattle.std.proofs.Common.{◌++◌, ◌≡◌, ◌∙◌, ℕ, [], Some, None, ap, length, arith, rules}
+use Rattle.std.proofs.Common.{◌++◌, ◌≡◌, ◌∙◌, ℕ, [], Some, None, ap, length, arith}
 use Rattle.std.specs.List.{flat_map}
 use Rattle.pw_tariff.specs.Office.{OfficeFile}
 use Rattle.pw_model.specs.Energy.{account}
@@ -23,7 +23,7 @@ loop-account-init g c =
           let same = ap (λ (d : ShelfContent). d.records) (none.content prior) in
           text-is _ _ _ ((λ i. header ++ flat_map (energy_row_line (none.office i)) (owner_rows (none.office i) (same i) None)) ∙ ap (λ xs. header ++ flat_map (energy_row_line file) xs) (listed-none (owner_rows file records None) (λ a. owner_rows file records (Some (account a)))))
           (c.in_ok-put_owner.ensures.text k _ (c.in_ok-put_header.ensures.text [] c.new-rows.ensures));
-      asked = asked-then _ _ _ _ _ none one;
+      asked = asked-then _ g.met.S.Shelf.same_then _ _ _ _ none one;
       open_yet = c.in_ok-still_open.ensures.open_yet;
     }
 
@@ -44,7 +44,7 @@ loop-account-preserved g c =
           let same = ap (λ (d : ShelfContent). d.records) (was.asked.content prior) in
           text-is _ _ _ ((λ i. (header ++ flat_map line (first ++ listed_below a rows)) ++ flat_map (energy_row_line (was.asked.office i)) (owner_rows (was.asked.office i) (same i) (Some (account a)))) ∙ all-next line header first rows a)
           (c.in_ok-put_owner-2.ensures.text k _ (was.text prior));
-      asked = asked-then _ _ _ _ _ was.asked one;
+      asked = asked-then _ g.met.S.Shelf.same_then _ _ _ _ was.asked one;
       open_yet = was.open_yet;
     }
 

@@ -11,15 +11,15 @@ use Rattle.pw_report.proofs.Lines.{row-line}
 use Rattle.pw_report.proofs.energies.put_owner.Goals as goal
 
 pub loop-band-init : goal.loop-band-init
-loop-band-init g c = record { text = λ k before h. text-is _ _ _ (flat-none _ before _) h; asked = asked-none _ _ }
+loop-band-init g c = record { text = λ k before h. text-is _ _ _ (flat-none _ before _) h; asked = asked-none _ g.met.S.Shelf.same_yet _ }
 
 pub loop-band-preserved : goal.loop-band-preserved
 loop-band-preserved g c =
     let was = c.loop-band.invariant in
     let one = asked-once _ _ _ _ c.in_ok-imported.ensures.question in
     let two = asked-once _ _ _ _ c.in_ok-exported.ensures.question in
-    let first = asked-then _ _ _ _ _ was.asked one in
-    let both = asked-then _ _ _ _ _ first two in
+    let first = asked-then _ g.met.S.Shelf.same_then _ _ _ _ was.asked one in
+    let both = asked-then _ g.met.S.Shelf.same_then _ _ _ _ first two in
     let file = c.args.book.now.office in
     let records = (g.S.Shelf.state c.args.book.now.shelf).content.records in
     let row = energy_row file records c.args.owner in

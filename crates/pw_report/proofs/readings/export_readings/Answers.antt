@@ -1,4 +1,4 @@
-use Rattle.std.proofs.Common.{◌≡◌, ◌∙◌, ℕ, [], ap, length, refl, subst, sym, arith, rules}
+use Rattle.std.proofs.Common.{◌≡◌, ◌∙◌, ℕ, [], ap, length, refl, subst, sym, arith}
 use Rattle.pw_obis.specs.declared.reference.Register.{Register}
 use Rattle.pw_tariff.specs.Office.{OfficeFile}
 use Rattle.pw_model.specs.Lists.{AreReadings}
@@ -31,7 +31,7 @@ loop-meter-preserved g c =
           let same = sym (was.asked.content prior) in
           let more = c.in_ok-put_meter.ensures.text k (readings m) (λ r. subst (λ (d : ShelfContent). AreReadings d.records m r (readings m r)) same ((lists-exist records).readings m r).1) _ (was.text prior) in
           text-is _ _ _ (text-next (csv_line readings_header) _ _ _ (λ n. meter_lines (meter_name c.args.book.now.office n) (readings n)) m refl refl (ap (λ (o : OfficeFile). meter_lines (meter_name o m) (readings m)) was.asked.office)) more;
-      asked = asked-then _ _ _ _ _ was.asked one;
+      asked = asked-then _ g.met.S.Shelf.same_then _ _ _ _ was.asked one;
       open_yet = was.open_yet;
     }
 

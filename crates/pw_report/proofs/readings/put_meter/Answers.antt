@@ -11,7 +11,7 @@ use Rattle.pw_report.proofs.Fields.{register-next, text-is}
 use Rattle.pw_report.proofs.readings.put_meter.Goals as goal
 
 pub loop-register-init : goal.loop-register-init
-loop-register-init g c = record { text = λ k readings are before h. text-is _ _ _ (sym (append-nil before)) h; asked = asked-none _ _ }
+loop-register-init g c = record { text = λ k readings are before h. text-is _ _ _ (sym (append-nil before)) h; asked = asked-none _ g.met.S.Shelf.same_yet _ }
 
 pub loop-register-preserved : goal.loop-register-preserved
 loop-register-preserved g c =
@@ -22,7 +22,7 @@ loop-register-preserved g c =
           let prior = one.kept.clean k in
           register-next _ _ _ _ _ _ c.args.meter.0 readings before _ _ (was.asked.content prior) (ap (λ (o : OfficeFile). meter_name o c.args.meter.0) was.asked.office) c.loop-register-test.true
           are (was.text prior readings are before h) (c.in_ok-put_register.ensures.text k);
-      asked = asked-then _ _ _ _ _ was.asked one;
+      asked = asked-then _ g.met.S.Shelf.same_then _ _ _ _ was.asked one;
     }
 
 pub put_register-requires-clause-meter : goal.put_register-requires-clause-meter

@@ -8,15 +8,15 @@ use Rattle.pw_report.proofs.statements.put_energies.Goals as goal
 pub loop-band-init : goal.loop-band-init
 loop-band-init g c = record {
   text = λ k. listed-none _ _;
-  asked = asked-none _ _;
+  asked = asked-none _ g.met.S.Shelf.same_yet _;
 }
 
 pub loop-band-preserved : goal.loop-band-preserved
 loop-band-preserved g c =
     let one = asked-once _ _ _ _ c.in_ok-imported.ensures.question in
     let two = asked-once _ _ _ _ c.in_ok-exported.ensures.question in
-    let first = asked-then _ _ _ _ _ c.loop-band.invariant.asked one in
-    let both = asked-then _ _ _ _ _ first two in
+    let first = asked-then _ g.met.S.Shelf.same_then _ _ _ _ c.loop-band.invariant.asked one in
+    let both = asked-then _ g.met.S.Shelf.same_then _ _ _ _ first two in
     record {
       text = λ k.
           let between = two.kept.clean k in

@@ -18,7 +18,7 @@ returns-clause-text g c = λ k.
     let a = c.args.account.0 in
     let one = asked-once _ _ _ _ c.in_ok-cents.ensures.question in
     let two = asked-once _ _ _ _ c.in_ok-nano.ensures.question in
-    let both = asked-then _ _ _ _ _ one two in
+    let both = asked-then _ g.met.S.Shelf.same_then _ _ _ _ one two in
     let last = c.in_ok-put_energies.ensures.report.asked in
     let third = last.kept.clean k in
     let second = two.kept.clean third in
@@ -37,3 +37,56 @@ returns-clause-text g c = λ k.
     })
     c.new-text.ensures.items c.in_ok-extend_from_slice.ensures.items c.in_ok-extend_from_slice-2.ensures.items c.in_ok-extend_from_slice-3.ensures.items c.in_ok-put_band.ensures (c.in_ok-put_energies.ensures.text k)
     c.in_ok-extend_from_slice-4.ensures.items c.in_ok-put_euro.ensures c.in_ok-extend_from_slice-5.ensures.items c.in_ok-extend_from_slice-6.ensures.items c.in_ok-extend_from_slice-7.ensures.items c.in_ok-extend_from_slice-8.ensures.items
+
+pub returns-in_err-put_band-clause-report : goal.returns-in_err-put_band-clause-report
+returns-in_err-put_band-clause-report g c =
+    let store = g.met.S.Shelf.same_then _ _ _ c.topped_up.ensures.question.asked.kept.store c.balance.ensures.question.asked.kept.store in
+    search rules
+
+pub returns-in_err-put_energies-clause-report : goal.returns-in_err-put_energies-clause-report
+returns-in_err-put_energies-clause-report g c =
+    let two = g.met.S.Shelf.same_then _ _ _ c.topped_up.ensures.question.asked.kept.store c.balance.ensures.question.asked.kept.store in
+    let store = g.met.S.Shelf.same_then _ _ _ two c.put_energies.ensures.report.asked.kept.store in
+    search rules
+
+pub returns-in_err-extend_from_slice-4-clause-report : goal.returns-in_err-extend_from_slice-4-clause-report
+returns-in_err-extend_from_slice-4-clause-report g c =
+    let two = g.met.S.Shelf.same_then _ _ _ c.topped_up.ensures.question.asked.kept.store c.balance.ensures.question.asked.kept.store in
+    let store = g.met.S.Shelf.same_then _ _ _ two c.put_energies.ensures.report.asked.kept.store in
+    search rules
+
+pub returns-in_err-put_euro-clause-report : goal.returns-in_err-put_euro-clause-report
+returns-in_err-put_euro-clause-report g c =
+    let two = g.met.S.Shelf.same_then _ _ _ c.topped_up.ensures.question.asked.kept.store c.balance.ensures.question.asked.kept.store in
+    let store = g.met.S.Shelf.same_then _ _ _ two c.put_energies.ensures.report.asked.kept.store in
+    search rules
+
+pub returns-in_err-extend_from_slice-5-clause-report : goal.returns-in_err-extend_from_slice-5-clause-report
+returns-in_err-extend_from_slice-5-clause-report g c =
+    let two = g.met.S.Shelf.same_then _ _ _ c.topped_up.ensures.question.asked.kept.store c.balance.ensures.question.asked.kept.store in
+    let store = g.met.S.Shelf.same_then _ _ _ two c.put_energies.ensures.report.asked.kept.store in
+    search rules
+
+pub returns-in_err-extend_from_slice-6-clause-report : goal.returns-in_err-extend_from_slice-6-clause-report
+returns-in_err-extend_from_slice-6-clause-report g c =
+    let two = g.met.S.Shelf.same_then _ _ _ c.topped_up.ensures.question.asked.kept.store c.balance.ensures.question.asked.kept.store in
+    let store = g.met.S.Shelf.same_then _ _ _ two c.put_energies.ensures.report.asked.kept.store in
+    search rules
+
+pub returns-in_err-extend_from_slice-7-clause-report : goal.returns-in_err-extend_from_slice-7-clause-report
+returns-in_err-extend_from_slice-7-clause-report g c =
+    let two = g.met.S.Shelf.same_then _ _ _ c.topped_up.ensures.question.asked.kept.store c.balance.ensures.question.asked.kept.store in
+    let store = g.met.S.Shelf.same_then _ _ _ two c.put_energies.ensures.report.asked.kept.store in
+    search rules
+
+pub returns-in_err-extend_from_slice-8-clause-report : goal.returns-in_err-extend_from_slice-8-clause-report
+returns-in_err-extend_from_slice-8-clause-report g c =
+    let two = g.met.S.Shelf.same_then _ _ _ c.topped_up.ensures.question.asked.kept.store c.balance.ensures.question.asked.kept.store in
+    let store = g.met.S.Shelf.same_then _ _ _ two c.put_energies.ensures.report.asked.kept.store in
+    search rules
+
+pub returns-clause-report : goal.returns-clause-report
+returns-clause-report g c =
+    let two = g.met.S.Shelf.same_then _ _ _ c.topped_up.ensures.question.asked.kept.store c.balance.ensures.question.asked.kept.store in
+    let store = g.met.S.Shelf.same_then _ _ _ two c.put_energies.ensures.report.asked.kept.store in
+    search rules

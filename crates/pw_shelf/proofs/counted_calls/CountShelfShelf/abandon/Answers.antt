@@ -9,3 +9,6 @@ returns-clause-begun g c = search rules
 
 pub returns-then-fails_abandon-clause-failed : goal.returns-then-fails_abandon-clause-failed
 returns-then-fails_abandon-clause-failed g c = search rules
+
+pub returns-clause-store : goal.returns-clause-store
+returns-clause-store g c = search rules

@@ -6,3 +6,6 @@ returns-clause-begun g c = search rules
 
 pub returns-clause-counts : goal.returns-clause-counts
 returns-clause-counts g c = search rules
+
+pub returns-clause-store : goal.returns-clause-store
+returns-clause-store g c = search rules

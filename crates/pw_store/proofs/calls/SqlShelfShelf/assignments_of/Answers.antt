@@ -28,6 +28,7 @@ returns-in-Err-clause-asked g c =
         counts = record { failures = c.fault_of_ask.ensures; failed_abandons = refl };
         left = left_no_more old new c.in-Err.ensures.crash;
         clean = early old new c.in-Err.ensures.crash;
+        store = refl;
       };
     }
 

@@ -1,3 +1,4 @@
+use Rattle.std.proofs.Common.{rules}
 use Rattle.sqlite.specs.Held.{state}
 use Rattle.pw_schema.proofs.Outcomes.{early}
 use Rattle.pw_store.proofs.Inside.{mode_is}
@@ -25,3 +26,6 @@ pub returns-in-Ok-clause-stays : goal.returns-in-Ok-clause-stays
 returns-in-Ok-clause-stays g c clean =
     let self = c.args.self.now in
     left_stays (state g.S.Store self.conn) (state g.S.Store c.commit.new.conn) (state g.S.Store self.base.value) (c.in-Ok.ensures.done clean).was_open (c.in-Ok.ensures.stays clean)
+
+pub returns-in-Ok-clause-store : goal.returns-in-Ok-clause-store
+returns-in-Ok-clause-store g c = search rules

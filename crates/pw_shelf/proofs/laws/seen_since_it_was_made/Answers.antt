@@ -1,0 +1,5 @@
+use Rattle.std.proofs.Common.{rules}
+use Rattle.pw_shelf.proofs.laws.seen_since_it_was_made.Goals as goal
+
+pub returns : goal.returns
+returns g c = search rules
