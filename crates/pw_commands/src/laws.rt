@@ -38,7 +38,7 @@ pub fn stores_survive_a_crash<S: Alter, T: Alter>(
     found: Connection<T>,
 ) -> Result<
     (SqlShelf<S>, Result<SqlShelf<T>, (OpenFault, Connection<T>)>),
-    (OpenFault, Connection<S>),
+    (OpenFault, Connection<S>, Connection<T>),
 >
     requires office { IsOfficeOf text.now office }
     requires limit { IsLimit limit }
@@ -54,6 +54,6 @@ pub fn stores_survive_a_crash<S: Alter, T: Alter>(
             let again = left_is_opened_again(alloc, &left, found, text);
             Ok((left, again))
         }
-        Err(refused) => Err(refused),
+        Err((fault, connection)) => Err((fault, connection, found)),
     }
 }
