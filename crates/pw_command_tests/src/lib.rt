@@ -1,17 +1,8 @@
-//! Tests of the book over each store, of the store over SQL and of the commands, by public calls alone.
+//! Tests of the commands, by public calls alone: of streams that fail, and of connections. What commands show of files and
+//! stores stands in the cases.
 #![tactic(auto)]
 
 #[cfg(test)]
-mod book;
+mod pipes;
 #[cfg(test)]
-mod disk;
-#[cfg(test)]
-mod entries;
-#[cfg(test)]
-mod program;
-#[cfg(test)]
-mod schema;
-#[cfg(test)]
-mod sql_stores;
-#[cfg(test)]
-mod store;
+mod server;

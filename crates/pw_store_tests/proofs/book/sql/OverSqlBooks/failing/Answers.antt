@@ -3,7 +3,7 @@ use Rattle.pw_tariff.specs.Office.{office_of}
 use Rattle.pw_model.specs.Office.{AllOfOffice}
 use Rattle.pw_model.specs.Shelf.{IsTrueContent}
 use Rattle.pw_shelf.specs.State.{State}
-use Rattle.pw_command_tests.proofs.book.sql.OverSqlBooks.failing.Goals as goal
+use Rattle.pw_store_tests.proofs.book.sql.OverSqlBooks.failing.Goals as goal
 
 pub book_over-requires-clause-of_office : goal.book_over-requires-clause-of_office
 book_over-requires-clause-of_office g c = λ clean.
