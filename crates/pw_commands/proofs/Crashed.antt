@@ -1,9 +1,8 @@
 -- What a crash leaves of a store that was opened, and to which uploads were posted.
-use Rattle.std.proofs.Common.{◌≡◌, ◌⊎◌, List, ℕ, refl, sym, subst, Result, IfOk}
+use Rattle.std.proofs.Common.{◌≡◌, List, ℕ, refl, sym, subst, Result, IfOk}
 use Rattle.std.proofs.lemmas.Result.{IfOk-weaker}
 use Rattle.sqlite.specs.Effect.{Database}
 use Rattle.sqlite.specs.State.{State as Sql}
-use Rattle.sqlite.specs.Tree.{Trees}
 use Rattle.pw_tariff.specs.Office.{OfficeFile, office_of}
 use Rattle.pw_tariff.specs.Text.{IsOfficeOf}
 use Rattle.pw_model.specs.Shelf.{ShelfContent}
