@@ -28,11 +28,6 @@ abbrev pub Tells : Option (List ℕ) → List ℕ → Type 0
 Tells None stream = Unit {0}
 Tells (Some bytes) stream = bytes ≡ stream
 
--- exchanges one behind another, each of which does so much
-abbrev pub Chain : {S : Type 0} → (S → Asked → Reply → S → Type 0) → S → List (Asked × Reply) → S → Type 0
-Chain does old [] new = new ≡ old
-Chain {S} does old (e ∷ es) new = (mid : S) × does old e.0 e.1 mid × Chain does mid es new
-
 -- requests with their replies
 abbrev pub pairs : List Request → List Reply → List (Asked × Reply)
 pairs [] replies = []
@@ -103,6 +98,13 @@ module _ {S : Type 0} (serves : S → Asking → Reply → S → Type 0) where
     pub step : Step mid asked reply new
     pub taken : ℕ
     pub text_is : text ≡ before ++ take taken (reply_bytes (is_last asked) reply)
+
+  -- each request that was told of with its reply; and of a conversation that was cut, the one whose reply is cut too
+  abbrev pub told_exchanges : {old new : S} {got text rest : List ℕ} {count : ℕ} → Told old got text count new rest → List (Asked × Reply)
+  told_exchanges t = pairs t.requests t.replies
+
+  abbrev pub cut_exchanges : {old new : S} {stream text : List ℕ} → Cut old stream text new → List (Asked × Reply)
+  cut_exchanges c = told_exchanges c.told ++ (c.asked, c.reply) ∷ []
 
   -- the requests whose head and body were wholly read were answered, and no others
   pub record Interrupted (unread left known after : Option (List ℕ)) (old new : S) : Type 0 where

@@ -1,7 +1,6 @@
 //! A book as a service, and conversations with it.
 
-ghost use Rattle.std.specs.Prelude.{IfOk};
-ghost use Rattle.pw_http.specs.Headline.{IsHeadline};
+ghost use Rattle.pw_http.specs.Headline.{HasHeadline};
 ghost use Rattle.pw_http.specs.Runs.{IsTalk};
 ghost use Rattle.pw_http.specs.Steps.{Answers};
 ghost use Rattle.pw_http.specs.inner.Answered.{reply_of};
@@ -68,10 +67,12 @@ fn reply_to<S: Shelf>(
 /// that was wholly read is answered, behind 81, `Write`, the last reply may be lost. The book is as after the uploads
 /// accepted so far.
 ///
-/// After Ok, of a book that isn't shut and over a store that returned what was written: each figure that the book then
-/// answers is the definition's, for the records held before with those of the uploads that were answered 200. An
-/// upload is answered 400 where the office file, its path and its body alone refuse it, and nowhere else, unless 62
-/// stands in its place. Whatever wasn't answered 200 left records, points, starts and totals as they were.
+/// Each answer is fair, by the book that answers it and the one behind it: an upload is answered 400 where the office
+/// file, its path and its body alone refuse it, and nowhere else, unless 62 stands in its place; whatever wasn't answered
+/// 200 left records, points, starts and totals as they were, unless an `abandon` failed in it. Behind Ok, and behind 80,
+/// 81 and 82 too, of a book that isn't shut and over a store that returned what was written: each figure that the book
+/// then answers is the definition's, for the records held before with those of the uploads that were answered 200. Behind
+/// 81 the one whose reply is cut is among them.
 pub fn converse_within<S: Shelf, R: Read, W: Write>(
     alloc: Global,
     book: &mut Book<S>,
@@ -80,7 +81,7 @@ pub fn converse_within<S: Shelf, R: Read, W: Write>(
     turns: u32,
 ) -> Result<Served, WireFault>
     ensures talk { IsTalk (Answers S.Shelf) (R.remaining reader.old) (R.remaining reader.new) (W.contents writer.old) (W.contents writer.new) book.old book.new turns result }
-    ensures headline { IfOk result (λ served. IsHeadline S.Shelf (R.remaining reader.old) (W.contents writer.old) (W.contents writer.new) book.old book.new served.requests) }
+    ensures headline { HasHeadline S.Shelf (R.remaining reader.old) (R.remaining reader.new) (W.contents writer.old) (W.contents writer.new) book.old book.new result }
 {
     let Ok(routes) = Routes::new(alloc) else {
         return Err(WireFault::Memory);
@@ -96,7 +97,7 @@ pub fn converse<S: Shelf, R: Read, W: Write>(
     writer: &mut W,
 ) -> Result<Served, WireFault>
     ensures talk { IsTalk (Answers S.Shelf) (R.remaining reader.old) (R.remaining reader.new) (W.contents writer.old) (W.contents writer.new) book.old book.new MOST_TURNS result }
-    ensures headline { IfOk result (λ served. IsHeadline S.Shelf (R.remaining reader.old) (W.contents writer.old) (W.contents writer.new) book.old book.new served.requests) }
+    ensures headline { HasHeadline S.Shelf (R.remaining reader.old) (R.remaining reader.new) (W.contents writer.old) (W.contents writer.new) book.old book.new result }
 {
     converse_within(alloc, book, reader, writer, MOST_TURNS)
 }
