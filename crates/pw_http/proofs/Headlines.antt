@@ -10,6 +10,7 @@ use Rattle.pw_shelf.specs.declared.shelf.Shelf.{Ghosts}
 use Rattle.pw_book.specs.After.{After}
 use Rattle.pw_book.specs.declared.book.Book.{Book}
 use Rattle.pw_book.proofs.Order.{in-order, one-after}
+use Rattle.pw_http.specs.declared.audience.Audience.{Audience}
 use Rattle.pw_http.specs.declared.fault.WireFault.{WireFault}
 use Rattle.pw_http.specs.declared.fault.WireFault.TheVariants.{Read, Write, TooManyTurns, Memory}
 use Rattle.pw_http.specs.declared.served.Served.{Served}
@@ -95,20 +96,21 @@ module _ {S : Type 0} (shelf : Ghosts S) where
         figures = λ k records h. order_counts_nothing (office_of a.office) (held shelf c).records records (one-after a.office (held shelf a).records (accepted es) (held shelf c).records records (after k) h);
       }
 
-  headline-of : (stream text : List ℕ) (count : ℕ) (a c : Book S shelf) → Conversation (Answers shelf) a stream text count c → Headline shelf stream text count a c
-  headline-of stream text count a c talk =
-      let fair : Conversation (AnswersFairly shelf) a stream text count c = talk-also (Answers shelf) (AnswersFairly shelf) fairly a c stream text count talk in
-      record { talk = fair; comes = comes-to a c (exchanges (AnswersFairly shelf) fair) (chain-of (AnswersFairly shelf) a c stream text count fair) }
+  headline-of : (audience : Audience) (stream text : List ℕ) (count : ℕ) (a c : Book S shelf) → Conversation audience (Answers shelf) a stream text count c → Headline shelf audience stream text count a c
+  headline-of audience stream text count a c talk =
+      let fair : Conversation audience (AnswersFairly shelf) a stream text count c = talk-also audience (Answers shelf) (AnswersFairly shelf) fairly a c stream text count talk in
+      record { talk = fair; comes = comes-to a c (exchanges audience (AnswersFairly shelf) fair) (chain-of audience (AnswersFairly shelf) a c stream text count fair) }
 
-  headline-cut : (stream text : List ℕ) (a c : Book S shelf) → Cut (Answers shelf) a stream text c → (talk : Cut (AnswersFairly shelf) a stream text c) × ComesTo shelf a (cut_exchanges (AnswersFairly shelf) talk) c
-  headline-cut stream text a c talk =
-      let fair : Cut (AnswersFairly shelf) a stream text c = cut-also (Answers shelf) (AnswersFairly shelf) fairly a c stream text talk in
-      (fair, comes-to a c (cut_exchanges (AnswersFairly shelf) fair) (chain-cut (AnswersFairly shelf) a c stream text fair))
+  headline-cut : (audience : Audience) (stream text : List ℕ) (a c : Book S shelf) → Cut audience (Answers shelf) a stream text c
+      → (talk : Cut audience (AnswersFairly shelf) a stream text c) × ComesTo shelf a (cut_exchanges audience (AnswersFairly shelf) talk) c
+  headline-cut audience stream text a c talk =
+      let fair : Cut audience (AnswersFairly shelf) a stream text c = cut-also audience (Answers shelf) (AnswersFairly shelf) fairly a c stream text talk in
+      (fair, comes-to a c (cut_exchanges audience (AnswersFairly shelf) fair) (chain-cut audience (AnswersFairly shelf) a c stream text fair))
 
-  headline-so-far : (unread left known after : Option (List ℕ)) (a c : Book S shelf) → Interrupted (Answers shelf) unread left known after a c → IsHeadlineSoFar shelf unread left known after a c
-  headline-so-far unread left known after a c talk =
-      let fair : Interrupted (AnswersFairly shelf) unread left known after a c = interrupted-also (Answers shelf) (AnswersFairly shelf) fairly unread left known after a c talk in
-      (fair, comes-to a c (told_exchanges (AnswersFairly shelf) fair.told) (chain-told (AnswersFairly shelf) a c fair.got fair.text fair.count fair.rest fair.told))
+  headline-so-far : (audience : Audience) (unread left known after : Option (List ℕ)) (a c : Book S shelf) → Interrupted audience (Answers shelf) unread left known after a c → IsHeadlineSoFar shelf audience unread left known after a c
+  headline-so-far audience unread left known after a c talk =
+      let fair : Interrupted audience (AnswersFairly shelf) unread left known after a c = interrupted-also audience (Answers shelf) (AnswersFairly shelf) fairly unread left known after a c talk in
+      (fair, comes-to a c (told_exchanges audience (AnswersFairly shelf) fair.told) (chain-told audience (AnswersFairly shelf) a c fair.got fair.text fair.count fair.rest fair.told))
 
   pub same-end : EndTheSame shelf
   same-end a b c d es fs one two same k l =
@@ -121,9 +123,10 @@ module _ {S : Type 0} (shelf : Ghosts S) where
       let members : SameMembers (held shelf b).records (held shelf d).records = one-after a.office (held shelf c).records vs (held shelf b).records (held shelf d).records y z in
       (members, order_counts_nothing (office_of a.office) (held shelf b).records (held shelf d).records members)
 
-  pub talk-headline : (unread left known after : Option (List ℕ)) (a c : Book S shelf) (turns : ℕ) (r : Result Served WireFault) → IsTalk (Answers shelf) unread left known after a c turns r → HasHeadline shelf unread left known after a c r
-  talk-headline unread left known after a c turns (Ok s) x = (x.0, x.1, x.2, x.3, headline-of x.0 x.1 s.requests a c x.4)
-  talk-headline unread left known after a c turns (Err Read) x = headline-so-far unread left known after a c x
-  talk-headline unread left known after a c turns (Err TooManyTurns) x = headline-so-far unread left known after a c x.0
-  talk-headline unread left known after a c turns (Err Write) x = let y = headline-cut x.0 x.1 a c x.4 in (x.0, x.1, x.2, x.3, y.0, y.1)
-  talk-headline unread left known after a c turns (Err Memory) x = x.2
+  pub talk-headline : (audience : Audience) (unread left known after : Option (List ℕ)) (a c : Book S shelf) (turns : ℕ) (r : Result Served WireFault) → IsTalk audience (Answers shelf) unread left known after a c turns r
+      → HasHeadline shelf audience unread left known after a c r
+  talk-headline audience unread left known after a c turns (Ok s) x = (x.0, x.1, x.2, x.3, headline-of audience x.0 x.1 s.requests a c x.4)
+  talk-headline audience unread left known after a c turns (Err Read) x = headline-so-far audience unread left known after a c x
+  talk-headline audience unread left known after a c turns (Err TooManyTurns) x = headline-so-far audience unread left known after a c x.0
+  talk-headline audience unread left known after a c turns (Err Write) x = let y = headline-cut audience x.0 x.1 a c x.4 in (x.0, x.1, x.2, x.3, y.0, y.1)
+  talk-headline audience unread left known after a c turns (Err Memory) x = x.2

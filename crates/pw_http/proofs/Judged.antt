@@ -22,7 +22,7 @@ use Rattle.pw_record.proofs.OneOutcome.{one-outcome}
 use Rattle.pw_report.specs.declared.page.Page.{Page}
 use Rattle.pw_report.specs.declared.page.Page.TheVariants as page
 use Rattle.pw_http.specs.declared.replies.Status.{Status}
-use Rattle.pw_http.specs.declared.replies.Status.TheVariants.{Fine, BadRequest, NotFound, MethodNotAllowed, PayloadTooLarge, NotImplemented, Unavailable, InsufficientStorage}
+use Rattle.pw_http.specs.declared.replies.Status.TheVariants.{Fine, BadRequest, Forbidden, NotFound, MethodNotAllowed, PayloadTooLarge, NotImplemented, Unavailable, InsufficientStorage}
 use Rattle.pw_http.specs.declared.routes.Place.{Place}
 use Rattle.pw_http.specs.declared.routes.Place.TheVariants.{NoPage, NoMethod, At}
 use Rattle.pw_http.specs.declared.routes.Route.TheVariants as route
@@ -110,6 +110,7 @@ judged-other file reply upload e = absurd (none-some upload e)
 if-not-fine : (s : Status) (sent : Option Upload) → (s ≡ Fine → ⊥) → if_fine s sent ≡ []
 if-not-fine Fine sent n = absurd (n refl)
 if-not-fine BadRequest sent n = refl
+if-not-fine Forbidden sent n = refl
 if-not-fine NotFound sent n = refl
 if-not-fine MethodNotAllowed sent n = refl
 if-not-fine PayloadTooLarge sent n = refl
@@ -120,6 +121,7 @@ if-not-fine InsufficientStorage sent n = refl
 if-nothing : (s : Status) → if_fine s None ≡ []
 if-nothing Fine = refl
 if-nothing BadRequest = refl
+if-nothing Forbidden = refl
 if-nothing NotFound = refl
 if-nothing MethodNotAllowed = refl
 if-nothing PayloadTooLarge = refl

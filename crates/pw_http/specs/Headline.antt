@@ -12,10 +12,12 @@ use Rattle.pw_record.specs.Uploads.{Upload, RefusesContent}
 use Rattle.pw_shelf.specs.declared.shelf.Shelf.{Ghosts}
 use Rattle.pw_book.specs.After.{After, Refused}
 use Rattle.pw_book.specs.declared.book.Book.{Book}
+use Rattle.pw_http.specs.declared.audience.Audience.{Audience}
+use Rattle.pw_http.specs.declared.audience.Audience.TheVariants.{Everybody}
 use Rattle.pw_http.specs.declared.fault.WireFault.{WireFault}
 use Rattle.pw_http.specs.declared.fault.WireFault.TheVariants.{Read, Write, TooManyTurns, Memory}
 use Rattle.pw_http.specs.declared.replies.Status.{Status}
-use Rattle.pw_http.specs.declared.replies.Status.TheVariants.{Fine, BadRequest, NotFound, MethodNotAllowed, PayloadTooLarge, NotImplemented, Unavailable, InsufficientStorage}
+use Rattle.pw_http.specs.declared.replies.Status.TheVariants.{Fine, BadRequest, Forbidden, NotFound, MethodNotAllowed, PayloadTooLarge, NotImplemented, Unavailable, InsufficientStorage}
 use Rattle.pw_http.specs.declared.served.Served.{Served}
 use Rattle.pw_http.specs.Replies.{Reply}
 use Rattle.pw_http.specs.Requests.{Asked, Whole, Faulty}
@@ -33,6 +35,7 @@ abbrev pub if_fine : Status → Option Upload → List Upload
 if_fine Fine (Some upload) = upload ∷ []
 if_fine Fine None = []
 if_fine BadRequest sent = []
+if_fine Forbidden sent = []
 if_fine NotFound sent = []
 if_fine MethodNotAllowed sent = []
 if_fine PayloadTooLarge sent = []
@@ -85,33 +88,37 @@ module _ {S : Type 0} (shelf : Ghosts S) where
         HaveSameAnswers (office_of old.office) (held shelf new).records records
 
   -- the bytes written are the replies of one run over the requests of the stream, each of whose steps is fair
-  pub record Headline (stream text : List ℕ) (count : ℕ) (old new : Book S shelf) : Type 0 where
-    pub talk : Conversation AnswersFairly old stream text count new
-    pub comes : ComesTo old (exchanges AnswersFairly talk) new
+  pub record Headline (audience : Audience) (stream text : List ℕ) (count : ℕ) (old new : Book S shelf) : Type 0 where
+    pub talk : Conversation audience AnswersFairly old stream text count new
+    pub comes : ComesTo old (exchanges audience AnswersFairly talk) new
 
   -- the same of what was read and written
+  abbrev pub IsHeadlineFor : Audience → Option (List ℕ) → Option (List ℕ) → Option (List ℕ) → Book S shelf → Book S shelf → ℕ → Type 0
+  IsHeadlineFor audience unread known after old new count =
+      (stream : List ℕ) × (text : List ℕ) × Tells unread stream × Appends known after text × Headline audience stream text count old new
+
+  -- and where everybody is let in
   abbrev pub IsHeadline : Option (List ℕ) → Option (List ℕ) → Option (List ℕ) → Book S shelf → Book S shelf → ℕ → Type 0
-  IsHeadline unread known after old new count =
-      (stream : List ℕ) × (text : List ℕ) × Tells unread stream × Appends known after text × Headline stream text count old new
+  IsHeadline = IsHeadlineFor Everybody
 
   -- where the reader failed, or was called too often: of the requests that were wholly read
-  abbrev pub IsHeadlineSoFar : Option (List ℕ) → Option (List ℕ) → Option (List ℕ) → Option (List ℕ) → Book S shelf → Book S shelf → Type 0
-  IsHeadlineSoFar unread left known after old new =
-      (talk : Interrupted AnswersFairly unread left known after old new) × ComesTo old (told_exchanges AnswersFairly talk.told) new
+  abbrev pub IsHeadlineSoFar : Audience → Option (List ℕ) → Option (List ℕ) → Option (List ℕ) → Option (List ℕ) → Book S shelf → Book S shelf → Type 0
+  IsHeadlineSoFar audience unread left known after old new =
+      (talk : Interrupted audience AnswersFairly unread left known after old new) × ComesTo old (told_exchanges audience AnswersFairly talk.told) new
 
   -- where the writer failed: of the requests that were answered, the one whose reply is cut among them
-  abbrev pub IsHeadlineCut : Option (List ℕ) → Option (List ℕ) → Option (List ℕ) → Book S shelf → Book S shelf → Type 0
-  IsHeadlineCut unread known after old new =
+  abbrev pub IsHeadlineCut : Audience → Option (List ℕ) → Option (List ℕ) → Option (List ℕ) → Book S shelf → Book S shelf → Type 0
+  IsHeadlineCut audience unread known after old new =
       (stream : List ℕ) × (text : List ℕ) × Tells unread stream × Appends known after text
-      × (talk : Cut AnswersFairly old stream text new) × ComesTo old (cut_exchanges AnswersFairly talk) new
+      × (talk : Cut audience AnswersFairly old stream text new) × ComesTo old (cut_exchanges audience AnswersFairly talk) new
 
   -- whatever the conversation answers
-  abbrev pub HasHeadline : Option (List ℕ) → Option (List ℕ) → Option (List ℕ) → Option (List ℕ) → Book S shelf → Book S shelf → Result Served WireFault → Type 0
-  HasHeadline unread left known after old new (Ok served) = IsHeadline unread known after old new served.requests
-  HasHeadline unread left known after old new (Err Read) = IsHeadlineSoFar unread left known after old new
-  HasHeadline unread left known after old new (Err TooManyTurns) = IsHeadlineSoFar unread left known after old new
-  HasHeadline unread left known after old new (Err Write) = IsHeadlineCut unread known after old new
-  HasHeadline unread left known after old new (Err Memory) = new ≡ old
+  abbrev pub HasHeadline : Audience → Option (List ℕ) → Option (List ℕ) → Option (List ℕ) → Option (List ℕ) → Book S shelf → Book S shelf → Result Served WireFault → Type 0
+  HasHeadline audience unread left known after old new (Ok served) = IsHeadlineFor audience unread known after old new served.requests
+  HasHeadline audience unread left known after old new (Err Read) = IsHeadlineSoFar audience unread left known after old new
+  HasHeadline audience unread left known after old new (Err TooManyTurns) = IsHeadlineSoFar audience unread left known after old new
+  HasHeadline audience unread left known after old new (Err Write) = IsHeadlineCut audience unread known after old new
+  HasHeadline audience unread left known after old new (Err Memory) = new ≡ old
 
   -- ---- two conversations, each ended or cut
   -- from books with the same records; the uploads that were answered 200 are the same set, in whatever order and

@@ -3,10 +3,35 @@
 //! Each function changes nothing. What counts is its contract, a law of the definitions in `specs/`.
 
 ghost use Rattle.pw_http.specs.Headline.{AnswersAreFair, EndTheSame};
-ghost use Rattle.pw_http.specs.Laws.{PathsReachRoutes, StreamsHaveOneReading};
+ghost use Rattle.pw_http.specs.Laws.{HasOneReading, PathsReachRoutes, StreamsHaveOneReading};
 
+use crate::audience::Audience;
+use crate::heads::MOST_FIELDS;
+use crate::requests::{Next, ask_next};
+use httparse::spans::EMPTY_HEADER_SPAN;
 use pw_book::Book;
 use pw_shelf::Shelf;
+
+/// Each stream of bytes has one list of requests, and one end, whoever is let in.
+pub fn each_stream_has_one_reading(audience: Audience, stream: &[u8])
+    ensures { HasOneReading audience.entry stream.now }
+{
+    let mut headers = [EMPTY_HEADER_SPAN; MOST_FIELDS];
+    let mut at = 0;
+    'requests: loop {
+        match ask_next(audience, &stream[at..], true, &mut headers) {
+            Next::Nothing => return,
+            Next::More => return,
+            Next::Refused(_) => return,
+            Next::Ready(whole) => {
+                if whole.closes {
+                    return;
+                }
+                at += whole.len;
+            }
+        }
+    }
+}
 
 /// A stream has one list of requests at most, and one end, whatever pieces it comes in.
 pub fn streams_have_one_reading()
