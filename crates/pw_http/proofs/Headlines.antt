@@ -1,6 +1,5 @@
 -- What a conversation with a book comes to.
 use Rattle.std.proofs.Common.{◌≡◌, ◌≤◌, ◌∙◌, ℕ, List, [], ◌∷◌, ◌++◌, Option, Result, Ok, Err, refl, sym, subst, append_assoc, arith, false, inl, inr}
-use Rattle.std.specs.Prelude.{IfOk}
 use Rattle.std.proofs.lemmas.List.{append-nil}
 use Rattle.pw_tariff.specs.Office.{OfficeFile, office_of}
 use Rattle.pw_model.specs.declared.records.Entry.{Entry}
@@ -11,15 +10,17 @@ use Rattle.pw_shelf.specs.declared.shelf.Shelf.{Ghosts}
 use Rattle.pw_book.specs.After.{After}
 use Rattle.pw_book.specs.declared.book.Book.{Book}
 use Rattle.pw_book.proofs.Order.{in-order, one-after}
+use Rattle.pw_http.specs.declared.audience.Audience.{Audience}
 use Rattle.pw_http.specs.declared.fault.WireFault.{WireFault}
+use Rattle.pw_http.specs.declared.fault.WireFault.TheVariants.{Read, Write, TooManyTurns, Memory}
 use Rattle.pw_http.specs.declared.served.Served.{Served}
-use Rattle.pw_http.specs.Headline.{EndTheSame, Headline, IsFair, IsHeadline, IsKnown, accepted, if_fine, sent_by}
+use Rattle.pw_http.specs.Headline.{AnswersAreFair, AnswersFairly, ComesTo, EndTheSame, HasHeadline, Headline, IsHeadlineSoFar, IsKnown, accepted, if_fine, sent_by}
 use Rattle.pw_http.specs.Replies.{Reply}
 use Rattle.pw_http.specs.Requests.{Asked}
-use Rattle.pw_http.specs.Runs.{Chain, Conversation, IsTalk, Step, exchanges}
-use Rattle.pw_http.specs.Steps.{Answers, held}
-use Rattle.pw_http.proofs.Exchanges.{chain-less, chain-of}
-use Rattle.pw_http.proofs.Judged.{Comes, step-comes}
+use Rattle.pw_http.specs.Runs.{Asking, Conversation, Cut, Interrupted, IsTalk, Step, cut_exchanges, exchanges, told_exchanges}
+use Rattle.pw_http.specs.Steps.{Answers, held, upload_of}
+use Rattle.pw_http.proofs.Exchanges.{Chain, chain-cut, chain-of, chain-told, cut-also, interrupted-also, talk-also}
+use Rattle.pw_http.proofs.Judged.{Comes, asked-comes, step-comes}
 
 behind-nothing : (file : OfficeFile) (s : List Entry) → After file s [] s
 behind-nothing file s x = (λ m. inl m, λ m. elim m [ inl b ↦ b | inr b ↦ absurd b.1 ])
@@ -32,10 +33,13 @@ from-same file s s' us t h a x = (
 
 module _ {S : Type 0} (shelf : Ghosts S) where
   abbrev Does : Book S shelf → Asked → Reply → Book S shelf → Type 0
-  Does = Step (Answers shelf)
+  Does = Step (AnswersFairly shelf)
 
-  fair : (a : Book S shelf) (asked : Asked) (reply : Reply) (b : Book S shelf) → Does a asked reply b → IsFair shelf a asked reply b
-  fair a asked reply b x = let y : Comes shelf a (sent_by asked) reply b = step-comes shelf a asked reply b x in record { judged = y.judged; kept = y.kept }
+  pub always-fair : AnswersAreFair shelf
+  always-fair a asking reply b x = let y : Comes shelf a (upload_of asking) reply b = asked-comes shelf a asking reply b x in record { judged = y.judged; kept = y.kept }
+
+  fairly : (a : Book S shelf) (asking : Asking) (reply : Reply) (b : Book S shelf) → Answers shelf a asking reply b → AnswersFairly shelf a asking reply b
+  fairly a asking reply b x = record { answers = x; fair = always-fair a asking reply b x }
 
   known-before : (a c : Book S shelf) (es : List (Asked × Reply)) → Chain Does a es c → IsKnown shelf c → IsKnown shelf a
   known-before a c [] x k = let P : Book S shelf → Type 0 = IsKnown shelf in subst P x k
@@ -81,25 +85,37 @@ module _ {S : Type 0} (shelf : Ghosts S) where
       let later : (shelf.state c.shelf).failed_abandons ≡ (shelf.state b.shelf).failed_abandons = omega (arith, f, r, l) in
       stays-open b c es more (y.stays_open o first) later
 
-  pub headline-of : (stream text : List ℕ) (count : ℕ) (a c : Book S shelf) → Conversation (Answers shelf) a stream text count c → Headline shelf stream text count a c
-  headline-of stream text count a c talk =
-      let es : List (Asked × Reply) = exchanges (Answers shelf) talk in
-      let chain : Chain Does a es c = chain-of (Answers shelf) a c stream text count talk in
+  comes-to : (a c : Book S shelf) (es : List (Asked × Reply)) → Chain Does a es c → ComesTo shelf a es c
+  comes-to a c es chain =
       let after : IsKnown shelf c → After a.office (held shelf a).records (accepted es) (held shelf c).records =
       λ k. after-chain a c es (held shelf a).records [] chain k (behind-nothing a.office (held shelf a).records) in
       record {
-        talk = talk;
-        fair = chain-less Does (IsFair shelf) fair a c es chain;
         office = one-office a c es chain;
         stays_open = stays-open a c es chain;
         after = after;
         figures = λ k records h. order_counts_nothing (office_of a.office) (held shelf c).records records (one-after a.office (held shelf a).records (accepted es) (held shelf c).records records (after k) h);
       }
 
+  headline-of : (audience : Audience) (stream text : List ℕ) (count : ℕ) (a c : Book S shelf) → Conversation audience (Answers shelf) a stream text count c → Headline shelf audience stream text count a c
+  headline-of audience stream text count a c talk =
+      let fair : Conversation audience (AnswersFairly shelf) a stream text count c = talk-also audience (Answers shelf) (AnswersFairly shelf) fairly a c stream text count talk in
+      record { talk = fair; comes = comes-to a c (exchanges audience (AnswersFairly shelf) fair) (chain-of audience (AnswersFairly shelf) a c stream text count fair) }
+
+  headline-cut : (audience : Audience) (stream text : List ℕ) (a c : Book S shelf) → Cut audience (Answers shelf) a stream text c
+      → (talk : Cut audience (AnswersFairly shelf) a stream text c) × ComesTo shelf a (cut_exchanges audience (AnswersFairly shelf) talk) c
+  headline-cut audience stream text a c talk =
+      let fair : Cut audience (AnswersFairly shelf) a stream text c = cut-also audience (Answers shelf) (AnswersFairly shelf) fairly a c stream text talk in
+      (fair, comes-to a c (cut_exchanges audience (AnswersFairly shelf) fair) (chain-cut audience (AnswersFairly shelf) a c stream text fair))
+
+  headline-so-far : (audience : Audience) (unread left known after : Option (List ℕ)) (a c : Book S shelf) → Interrupted audience (Answers shelf) unread left known after a c → IsHeadlineSoFar shelf audience unread left known after a c
+  headline-so-far audience unread left known after a c talk =
+      let fair : Interrupted audience (AnswersFairly shelf) unread left known after a c = interrupted-also audience (Answers shelf) (AnswersFairly shelf) fairly unread left known after a c talk in
+      (fair, comes-to a c (told_exchanges audience (AnswersFairly shelf) fair.told) (chain-told audience (AnswersFairly shelf) a c fair.got fair.text fair.count fair.rest fair.told))
+
   pub same-end : EndTheSame shelf
-  same-end stream text other more count number a b c d one two same k l =
-      let us : List Upload = accepted (exchanges (Answers shelf) one.talk) in
-      let vs : List Upload = accepted (exchanges (Answers shelf) two.talk) in
+  same-end a b c d es fs one two same k l =
+      let us : List Upload = accepted es in
+      let vs : List Upload = accepted fs in
       let P : OfficeFile → Type 0 = λ file. After file (held shelf c).records vs (held shelf d).records in
       let x : After a.office (held shelf a).records vs (held shelf b).records = in-order a.office (held shelf a).records us vs (held shelf b).records same.uploads (one.after k) in
       let y : After a.office (held shelf c).records vs (held shelf b).records = from-same a.office (held shelf a).records (held shelf c).records vs (held shelf b).records same.records x in
@@ -107,6 +123,10 @@ module _ {S : Type 0} (shelf : Ghosts S) where
       let members : SameMembers (held shelf b).records (held shelf d).records = one-after a.office (held shelf c).records vs (held shelf b).records (held shelf d).records y z in
       (members, order_counts_nothing (office_of a.office) (held shelf b).records (held shelf d).records members)
 
-  pub talk-headline : (unread left known after : Option (List ℕ)) (a c : Book S shelf) (turns : ℕ) (r : Result Served WireFault) → IsTalk (Answers shelf) unread left known after a c turns r → IfOk r (λ served. IsHeadline shelf unread known after a c served.requests)
-  talk-headline unread left known after a c turns (Ok s) x = (x.0, x.1, x.2, x.3, headline-of x.0 x.1 s.requests a c x.4)
-  talk-headline unread left known after a c turns (Err e) x = tt
+  pub talk-headline : (audience : Audience) (unread left known after : Option (List ℕ)) (a c : Book S shelf) (turns : ℕ) (r : Result Served WireFault) → IsTalk audience (Answers shelf) unread left known after a c turns r
+      → HasHeadline shelf audience unread left known after a c r
+  talk-headline audience unread left known after a c turns (Ok s) x = (x.0, x.1, x.2, x.3, headline-of audience x.0 x.1 s.requests a c x.4)
+  talk-headline audience unread left known after a c turns (Err Read) x = headline-so-far audience unread left known after a c x
+  talk-headline audience unread left known after a c turns (Err TooManyTurns) x = headline-so-far audience unread left known after a c x.0
+  talk-headline audience unread left known after a c turns (Err Write) x = let y = headline-cut audience x.0 x.1 a c x.4 in (x.0, x.1, x.2, x.3, y.0, y.1)
+  talk-headline audience unread left known after a c turns (Err Memory) x = x.2

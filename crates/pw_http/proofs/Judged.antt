@@ -22,16 +22,16 @@ use Rattle.pw_record.proofs.OneOutcome.{one-outcome}
 use Rattle.pw_report.specs.declared.page.Page.{Page}
 use Rattle.pw_report.specs.declared.page.Page.TheVariants as page
 use Rattle.pw_http.specs.declared.replies.Status.{Status}
-use Rattle.pw_http.specs.declared.replies.Status.TheVariants.{Fine, BadRequest, NotFound, MethodNotAllowed, PayloadTooLarge, NotImplemented, Unavailable, InsufficientStorage}
+use Rattle.pw_http.specs.declared.replies.Status.TheVariants.{Fine, BadRequest, Forbidden, NotFound, MethodNotAllowed, PayloadTooLarge, NotImplemented, Unavailable, InsufficientStorage}
 use Rattle.pw_http.specs.declared.routes.Place.{Place}
 use Rattle.pw_http.specs.declared.routes.Place.TheVariants.{NoPage, NoMethod, At}
 use Rattle.pw_http.specs.declared.routes.Route.TheVariants as route
-use Rattle.pw_http.specs.Headline.{IsJudged, if_fine, sent_by}
+use Rattle.pw_http.specs.Headline.{AnswersFairly, IsJudged, if_fine, sent_by}
 use Rattle.pw_http.specs.Replies.{Reply}
 use Rattle.pw_http.specs.Requests.{Asked, Whole, Faulty}
 use Rattle.pw_http.specs.Routes.{account_in, meter_in, place_of}
-use Rattle.pw_http.specs.Runs.{Step}
-use Rattle.pw_http.specs.Steps.{Answers, AnswersAt, ArePosted, IsTaken, Shows, ShowsAccount, Takes, held, posted_reply, refused_status, upload_at, upload_reply}
+use Rattle.pw_http.specs.Runs.{Asking, Step, asking_of}
+use Rattle.pw_http.specs.Steps.{Answers, AnswersAt, ArePosted, IsTaken, Shows, ShowsAccount, Takes, held, posted_reply, refused_status, upload_at, upload_of, upload_reply}
 
 -- ---- want of memory
 memory-or-not : (c : Cause) → (c ≡ cause.Memory) ⊎ (refused_status c ≡ BadRequest)
@@ -110,6 +110,7 @@ judged-other file reply upload e = absurd (none-some upload e)
 if-not-fine : (s : Status) (sent : Option Upload) → (s ≡ Fine → ⊥) → if_fine s sent ≡ []
 if-not-fine Fine sent n = absurd (n refl)
 if-not-fine BadRequest sent n = refl
+if-not-fine Forbidden sent n = refl
 if-not-fine NotFound sent n = refl
 if-not-fine MethodNotAllowed sent n = refl
 if-not-fine PayloadTooLarge sent n = refl
@@ -120,6 +121,7 @@ if-not-fine InsufficientStorage sent n = refl
 if-nothing : (s : Status) → if_fine s None ≡ []
 if-nothing Fine = refl
 if-nothing BadRequest = refl
+if-nothing Forbidden = refl
 if-nothing NotFound = refl
 if-nothing MethodNotAllowed = refl
 if-nothing PayloadTooLarge = refl
@@ -276,7 +278,10 @@ module _ {S : Type 0} (shelf : Ghosts S) where
   answer-comes (At route.ReadingsExport) target body a reply b x = shows-comes page.Readings a reply b x
   answer-comes (At route.EnergyExport) target body a reply b x = shows-comes page.Energies a reply b x
 
+  pub asked-comes : (a : Book S shelf) (asking : Asking) (reply : Reply) (b : Book S shelf) → Answers shelf a asking reply b → Comes a (upload_of asking) reply b
+  asked-comes a asking reply b x = answer-comes (place_of asking.method asking.target) asking.target asking.body a reply b x
+
   -- of whatever stands in a stream
-  pub step-comes : (a : Book S shelf) (asked : Asked) (reply : Reply) (b : Book S shelf) → Step (Answers shelf) a asked reply b → Comes a (sent_by asked) reply b
-  step-comes a (Whole r) reply b x = answer-comes (place_of r.head.method r.head.target) r.head.target r.body a reply b x
+  pub step-comes : (a : Book S shelf) (asked : Asked) (reply : Reply) (b : Book S shelf) → Step (AnswersFairly shelf) a asked reply b → Comes a (sent_by asked) reply b
+  step-comes a (Whole r) reply b x = asked-comes a (asking_of r) reply b x.answers
   step-comes a (Faulty why) reply b x = nothing-comes a reply b x.1

@@ -6,9 +6,11 @@ pub mod Judged
 pub mod KnownLemmas
 pub mod Numbers
 pub mod Paths
+pub mod Readings
 pub mod Shown
 pub mod Streaming
 pub mod Talks
 pub mod Turns
 pub mod Unique
+pub mod Values
 pub mod Written

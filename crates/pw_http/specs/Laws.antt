@@ -4,11 +4,19 @@ use Rattle.matchit.specs.Seek.{has_slash}
 use Rattle.pw_http.specs.declared.routes.Route.TheVariants.{Telegrams, Readouts, Assignments, TopUps, Accounts, Account, Falls, Disputes, ReadingsExport, EnergyExport}
 use Rattle.pw_http.specs.Routes.{account_in, meter_in, route_at}
 use Rattle.pw_http.specs.Requests.{Request, Asked, Requests}
+use Rattle.pw_http.specs.declared.audience.Audience.{Audience}
 
--- a stream has one list of requests at most, and one end
+-- a stream has one list of requests at most, and one end, whoever is let in
 abbrev pub StreamsHaveOneReading : Type 0
-StreamsHaveOneReading = (stream : List ℕ) (requests others : List Request) (last end : Option Asked) →
-    Requests stream requests last → Requests stream others end → (requests ≡ others) × (last ≡ end)
+StreamsHaveOneReading = (audience : Audience) (stream : List ℕ) (requests others : List Request) (last end : Option Asked) →
+    Requests audience stream requests last → Requests audience stream others end → (requests ≡ others) × (last ≡ end)
+
+-- a stream has one list of requests, and one end
+pub record HasOneReading (audience : Audience) (stream : List ℕ) : Type 0 where
+  pub requests : List Request
+  pub last : Option Asked
+  pub are : Requests audience stream requests last
+  pub only : (others : List Request) (end : Option Asked) → Requests audience stream others end → (others ≡ requests) × (end ≡ last)
 
 -- each route is reached by its path, where the word in braces is any text of one byte or more without a slash; and this
 -- text is what the path names

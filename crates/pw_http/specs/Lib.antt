@@ -1,5 +1,6 @@
 -- Read these, in this order:
 -- Heads: the head of a request
+-- Audience: who is let in
 -- Requests: what a stream of bytes asks
 -- Replies: the bytes of a reply
 -- Runs: what a service answers, and what a conversation is
@@ -8,6 +9,7 @@
 -- Headline: what a conversation with a book comes to
 -- Laws: a stream has one list of requests
 pub mod Heads
+pub mod Audience
 pub mod Requests
 pub mod Replies
 pub mod Runs

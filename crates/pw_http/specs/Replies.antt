@@ -3,14 +3,15 @@ use Rattle.std.specs.Prelude.{ℕ, List, Bool, [], ◌++◌, length, codes, deci
 use Rattle.pw_http.specs.declared.replies.ContentType.{ContentType}
 use Rattle.pw_http.specs.declared.replies.ContentType.TheVariants.{Plain, Csv}
 use Rattle.pw_http.specs.declared.replies.Status.{Status}
-use Rattle.pw_http.specs.declared.replies.Status.TheVariants.{Fine, BadRequest, NotFound, MethodNotAllowed, PayloadTooLarge, NotImplemented, Unavailable, InsufficientStorage}
+use Rattle.pw_http.specs.declared.replies.Status.TheVariants.{Fine, BadRequest, Forbidden, NotFound, MethodNotAllowed, PayloadTooLarge, NotImplemented, Unavailable, InsufficientStorage}
 use Rattle.pw_http.specs.declared.requests.Refusal.{Refusal}
-use Rattle.pw_http.specs.declared.requests.Refusal.TheVariants.{BadHead, NotSupported, BodyTooLarge, BadBody}
+use Rattle.pw_http.specs.declared.requests.Refusal.TheVariants.{BadHead, NotForThisServer, NotSupported, BodyTooLarge, BadBody}
 
 -- ---- the status
 abbrev pub status_number : Status → ℕ
 status_number Fine = 200
 status_number BadRequest = 400
+status_number Forbidden = 403
 status_number NotFound = 404
 status_number MethodNotAllowed = 405
 status_number PayloadTooLarge = 413
@@ -21,6 +22,7 @@ status_number InsufficientStorage = 507
 abbrev pub status_phrase : Status → List ℕ
 status_phrase Fine = codes "OK"
 status_phrase BadRequest = codes "Bad Request"
+status_phrase Forbidden = codes "Forbidden"
 status_phrase NotFound = codes "Not Found"
 status_phrase MethodNotAllowed = codes "Method Not Allowed"
 status_phrase PayloadTooLarge = codes "Payload Too Large"
@@ -55,12 +57,14 @@ reply_bytes closing r = reply_head r.status r.content (length r.body) closing ++
 -- ---- the reply to what is no whole request
 abbrev pub refusal_status : Refusal → Status
 refusal_status BadHead = BadRequest
+refusal_status NotForThisServer = Forbidden
 refusal_status NotSupported = NotImplemented
 refusal_status BodyTooLarge = PayloadTooLarge
 refusal_status BadBody = BadRequest
 
 abbrev pub refusal_line : Refusal → List ℕ
 refusal_line BadHead = codes "bad head\n"
+refusal_line NotForThisServer = codes "not for this server\n"
 refusal_line NotSupported = codes "not supported\n"
 refusal_line BodyTooLarge = codes "body too large\n"
 refusal_line BadBody = codes "bad body\n"

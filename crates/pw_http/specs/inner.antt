@@ -1,3 +1,4 @@
 pub mod Received
+pub mod Fields
 pub mod Turns
 pub mod Answered

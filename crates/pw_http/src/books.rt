@@ -1,12 +1,13 @@
 //! A book as a service, and conversations with it.
 
-ghost use Rattle.std.specs.Prelude.{IfOk};
-ghost use Rattle.pw_http.specs.Headline.{IsHeadline};
+ghost use Rattle.pw_http.specs.declared.audience.Audience.TheVariants.{Everybody};
+ghost use Rattle.pw_http.specs.Headline.{HasHeadline};
 ghost use Rattle.pw_http.specs.Runs.{IsTalk};
 ghost use Rattle.pw_http.specs.Steps.{Answers};
 ghost use Rattle.pw_http.specs.inner.Answered.{reply_of};
 
 use crate::answers::{Answer, answer_at, said};
+use crate::audience::Audience;
 use crate::conversation::serve_within;
 use crate::fault::WireFault;
 use crate::replies::Status;
@@ -61,6 +62,23 @@ fn reply_to<S: Shelf>(
     }
 }
 
+fn converse_for<S: Shelf, R: Read, W: Write>(
+    alloc: Global,
+    book: &mut Book<S>,
+    audience: Audience,
+    reader: &mut R,
+    writer: &mut W,
+    turns: u32,
+) -> Result<Served, WireFault>
+    ensures talk { IsTalk audience.entry (Answers S.Shelf) (R.remaining reader.old) (R.remaining reader.new) (W.contents writer.old) (W.contents writer.new) book.old book.new turns result }
+    ensures headline { HasHeadline S.Shelf audience.entry (R.remaining reader.old) (R.remaining reader.new) (W.contents writer.old) (W.contents writer.new) book.old book.new result }
+{
+    let Ok(routes) = Routes::new(alloc) else {
+        return Err(WireFault::Memory);
+    };
+    serve_within(alloc, book, &routes, audience, reader, writer, turns)
+}
+
 /// Reads requests and writes what a book replies, by at most `turns` calls of `read`, until the stream or the
 /// conversation ends (RFC 9112, in this project's profile).
 ///
@@ -68,10 +86,12 @@ fn reply_to<S: Shelf>(
 /// that was wholly read is answered, behind 81, `Write`, the last reply may be lost. The book is as after the uploads
 /// accepted so far.
 ///
-/// After Ok, of a book that isn't shut and over a store that returned what was written: each figure that the book then
-/// answers is the definition's, for the records held before with those of the uploads that were answered 200. An
-/// upload is answered 400 where the office file, its path and its body alone refuse it, and nowhere else, unless 62
-/// stands in its place. Whatever wasn't answered 200 left records, points, starts and totals as they were.
+/// Each answer is fair, by the book that answers it and the one behind it: an upload is answered 400 where the office
+/// file, its path and its body alone refuse it, and nowhere else, unless 62 stands in its place; whatever wasn't answered
+/// 200 left records, points, starts and totals as they were, unless an `abandon` failed in it. Behind Ok, and behind 80,
+/// 81 and 82 too, of a book that isn't shut and over a store that returned what was written: each figure that the book
+/// then answers is the definition's, for the records held before with those of the uploads that were answered 200. Behind
+/// 81 the one whose reply is cut is among them.
 pub fn converse_within<S: Shelf, R: Read, W: Write>(
     alloc: Global,
     book: &mut Book<S>,
@@ -79,13 +99,10 @@ pub fn converse_within<S: Shelf, R: Read, W: Write>(
     writer: &mut W,
     turns: u32,
 ) -> Result<Served, WireFault>
-    ensures talk { IsTalk (Answers S.Shelf) (R.remaining reader.old) (R.remaining reader.new) (W.contents writer.old) (W.contents writer.new) book.old book.new turns result }
-    ensures headline { IfOk result (λ served. IsHeadline S.Shelf (R.remaining reader.old) (W.contents writer.old) (W.contents writer.new) book.old book.new served.requests) }
+    ensures talk { IsTalk Everybody (Answers S.Shelf) (R.remaining reader.old) (R.remaining reader.new) (W.contents writer.old) (W.contents writer.new) book.old book.new turns result }
+    ensures headline { HasHeadline S.Shelf Everybody (R.remaining reader.old) (R.remaining reader.new) (W.contents writer.old) (W.contents writer.new) book.old book.new result }
 {
-    let Ok(routes) = Routes::new(alloc) else {
-        return Err(WireFault::Memory);
-    };
-    serve_within(alloc, book, &routes, reader, writer, turns)
+    converse_for(alloc, book, Audience::Everybody, reader, writer, turns)
 }
 
 /// Reads requests and writes what a book replies, by at most 16,777,216 calls of `read`: [`converse_within`].
@@ -95,8 +112,25 @@ pub fn converse<S: Shelf, R: Read, W: Write>(
     reader: &mut R,
     writer: &mut W,
 ) -> Result<Served, WireFault>
-    ensures talk { IsTalk (Answers S.Shelf) (R.remaining reader.old) (R.remaining reader.new) (W.contents writer.old) (W.contents writer.new) book.old book.new MOST_TURNS result }
-    ensures headline { IfOk result (λ served. IsHeadline S.Shelf (R.remaining reader.old) (W.contents writer.old) (W.contents writer.new) book.old book.new served.requests) }
+    ensures talk { IsTalk Everybody (Answers S.Shelf) (R.remaining reader.old) (R.remaining reader.new) (W.contents writer.old) (W.contents writer.new) book.old book.new MOST_TURNS result }
+    ensures headline { HasHeadline S.Shelf Everybody (R.remaining reader.old) (R.remaining reader.new) (W.contents writer.old) (W.contents writer.new) book.old book.new result }
 {
     converse_within(alloc, book, reader, writer, MOST_TURNS)
+}
+
+/// Reads requests and writes what a book replies to those that are let in: [`converse`] for an audience.
+///
+/// Any other request is answered 403 before its body is read, and the conversation ends, so that its body is never
+/// taken for a request. No memory is taken for it.
+pub fn converse_with<S: Shelf, R: Read, W: Write>(
+    alloc: Global,
+    book: &mut Book<S>,
+    audience: Audience,
+    reader: &mut R,
+    writer: &mut W,
+) -> Result<Served, WireFault>
+    ensures talk { IsTalk audience.entry (Answers S.Shelf) (R.remaining reader.old) (R.remaining reader.new) (W.contents writer.old) (W.contents writer.new) book.old book.new MOST_TURNS result }
+    ensures headline { HasHeadline S.Shelf audience.entry (R.remaining reader.old) (R.remaining reader.new) (W.contents writer.old) (W.contents writer.new) book.old book.new result }
+{
+    converse_for(alloc, book, audience, reader, writer, MOST_TURNS)
 }

@@ -5,6 +5,7 @@ ghost use Rattle.pw_http.specs.Heads.{most_fields};
 ghost use Rattle.pw_http.specs.Runs.{IsTalk};
 ghost use Rattle.pw_http.specs.inner.Turns.{IsBatch, IsTurn};
 
+use crate::audience::Audience;
 use crate::fault::WireFault;
 use crate::heads::MOST_FIELDS;
 use crate::inbox::Inbox;
@@ -42,16 +43,17 @@ fn take_turn<S: Service, W: Write>(
     alloc: Global,
     service: &mut S,
     routes: &Routes,
+    audience: Audience,
     inbox: &mut Inbox,
     ended: bool,
     writer: &mut W,
     headers: &mut [HeaderSpan],
 ) -> Result<Turn, WireFault>
     requires room { length headers.old ≡ most_fields }
-    ensures turn { IsTurn S.serves service.old inbox.old ended (W.contents writer.old) (W.contents writer.new) service.new inbox.new result }
+    ensures turn { IsTurn audience.entry S.serves service.old inbox.old ended (W.contents writer.old) (W.contents writer.new) service.new inbox.new result }
     ensures room { length headers.new ≡ most_fields }
 {
-    let whole = match ask_next(inbox.unread(), ended, headers) {
+    let whole = match ask_next(audience, inbox.unread(), ended, headers) {
         Next::Nothing => return Ok(Turn::Over),
         Next::More => return Ok(Turn::Waits),
         Next::Refused(why) => {
@@ -85,6 +87,7 @@ fn answer_all<S: Service, W: Write>(
     alloc: Global,
     service: &mut S,
     routes: &Routes,
+    audience: Audience,
     inbox: &mut Inbox,
     ended: bool,
     writer: &mut W,
@@ -92,13 +95,15 @@ fn answer_all<S: Service, W: Write>(
 ) -> Result<Batch, WireFault>
     requires room { length headers.old ≡ most_fields }
     requires fits { length inbox.old ≤ ROOM }
-    ensures batch { IsBatch S.serves service.old inbox.old ended (W.contents writer.old) (W.contents writer.new) service.new inbox.new result }
+    ensures batch { IsBatch audience.entry S.serves service.old inbox.old ended (W.contents writer.old) (W.contents writer.new) service.new inbox.new result }
     ensures room { length headers.new ≡ most_fields }
     ensures few { IfOk result (λ b. b.replies ≤ ROOM + 1) }
 {
     let mut replies = 0;
     loop {
-        let turn = match take_turn(alloc, service, routes, inbox, ended, writer, headers) {
+        let turn = match take_turn(
+            alloc, service, routes, audience, inbox, ended, writer, headers,
+        ) {
             Ok(turn) => turn,
             Err(_) => return Err(WireFault::Write),
         };
@@ -127,7 +132,7 @@ fn answer_all<S: Service, W: Write>(
 }
 
 /// Reads requests and writes what a service replies, by at most `turns` calls of `read`, until the stream or the
-/// conversation ends.
+/// conversation ends. Who isn't let in is answered 403, and the conversation ends.
 ///
 /// `Memory` is answered only before anything is read. Behind `Read` and `TooManyTurns` each request that was wholly
 /// read is answered, behind `Write` the last reply may be lost.
@@ -135,11 +140,12 @@ pub fn serve_within<S: Service, R: Read, W: Write>(
     alloc: Global,
     service: &mut S,
     routes: &Routes,
+    audience: Audience,
     reader: &mut R,
     writer: &mut W,
     turns: u32,
 ) -> Result<Served, WireFault>
-    ensures talk { IsTalk S.serves (R.remaining reader.old) (R.remaining reader.new) (W.contents writer.old) (W.contents writer.new) service.old service.new turns result }
+    ensures talk { IsTalk audience.entry S.serves (R.remaining reader.old) (R.remaining reader.new) (W.contents writer.old) (W.contents writer.new) service.old service.new turns result }
 {
     let mut inbox = match Inbox::new(alloc) {
         Ok(inbox) => inbox,
@@ -156,6 +162,7 @@ pub fn serve_within<S: Service, R: Read, W: Write>(
             alloc,
             service,
             routes,
+            audience,
             &mut inbox,
             count == 0,
             writer,

@@ -3,6 +3,7 @@
 #![tactic(auto)]
 
 mod answers;
+mod audience;
 mod books;
 mod conversation;
 mod fault;
@@ -17,7 +18,8 @@ mod send;
 mod served;
 mod service;
 
-pub use books::{MOST_TURNS, converse, converse_within};
+pub use audience::{Audience, Origin, Scheme};
+pub use books::{MOST_TURNS, converse, converse_with, converse_within};
 pub use conversation::serve_within;
 pub use fault::WireFault;
 pub use heads::{LONGEST_HEAD, MOST_FIELDS};

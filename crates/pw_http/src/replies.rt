@@ -13,6 +13,7 @@ use std::marker::Model;
 pub enum Status {
     Fine,
     BadRequest,
+    Forbidden,
     NotFound,
     MethodNotAllowed,
     PayloadTooLarge,
@@ -79,6 +80,7 @@ impl Status {
         match self {
             Status::Fine => 200,
             Status::BadRequest => 400,
+            Status::Forbidden => 403,
             Status::NotFound => 404,
             Status::MethodNotAllowed => 405,
             Status::PayloadTooLarge => 413,
@@ -153,6 +155,7 @@ pub(crate) fn status_of(why: Refusal) -> Status
 {
     match why {
         Refusal::BadHead | Refusal::BadBody => Status::BadRequest,
+        Refusal::NotForThisServer => Status::Forbidden,
         Refusal::NotSupported => Status::NotImplemented,
         Refusal::BodyTooLarge => Status::PayloadTooLarge,
     }
@@ -164,6 +167,7 @@ pub(crate) fn line_of(why: Refusal) -> &'static str
 {
     match why {
         Refusal::BadHead => "bad head\n",
+        Refusal::NotForThisServer => "not for this server\n",
         Refusal::NotSupported => "not supported\n",
         Refusal::BodyTooLarge => "body too large\n",
         Refusal::BadBody => "bad body\n",

@@ -3,10 +3,11 @@
 ghost use Rattle.std.specs.Prelude.{◌≡◌, ◌≤◌, ◌<◌, length, map, codes, take, All, IfSome};
 ghost use Rattle.std.specs.List.{list_any};
 ghost use Rattle.httparse.specs.Spans.{IsHeaderWithin, header_bytes, span_bytes, IsWithin};
-ghost use Rattle.pw_http.specs.Heads.{most_fields};
-ghost use Rattle.pw_http.specs.Requests.{asks_close, is_named, length_said, number_of, values_of};
+ghost use Rattle.pw_http.specs.Heads.{is_named, most_fields, values_of};
+ghost use Rattle.pw_http.specs.Requests.{asks_close, length_said, number_of};
 ghost use Rattle.pw_http.specs.inner.Received.{IsNext};
 
+use crate::audience::{Audience, is_let_in, is_name};
 use crate::heads::{LONGEST_HEAD, Outcome, look};
 use httparse::spans::{HeaderSpan, Span};
 
@@ -21,6 +22,8 @@ pub const ROOM: usize = 270_336;
 pub enum Refusal {
     /// No head comes, or what it says of the body's length is no length.
     BadHead,
+    /// It is no request of this machine, nor of a page that is let in.
+    NotForThisServer,
     /// The body is coded.
     NotSupported,
     /// The body is longer than the longest.
@@ -50,13 +53,6 @@ pub(crate) enum Next {
     More,
     Refused(Refusal),
     Ready(Places),
-}
-
-fn is_name(buf: &[u8], span: HeaderSpan, name: &[u8]) -> bool
-    requires { IsHeaderWithin (length buf.now) span }
-    ensures { result ≡ is_named name.now (header_bytes buf.now span) }
-{
-    span.name.of(buf).eq_ignore_ascii_case(name)
 }
 
 /// Whether a header has this name.
@@ -132,9 +128,14 @@ fn said_length(buf: &[u8], spans: &[HeaderSpan]) -> Option<u64>
 }
 
 /// The next request, where `ended` says that no more bytes come.
-pub(crate) fn ask_next(buf: &[u8], ended: bool, headers: &mut [HeaderSpan]) -> Next
+pub(crate) fn ask_next(
+    audience: Audience,
+    buf: &[u8],
+    ended: bool,
+    headers: &mut [HeaderSpan],
+) -> Next
     requires room { length headers.old ≡ most_fields }
-    ensures next { IsNext buf.now ended result }
+    ensures next { IsNext audience.entry buf.now ended result }
     ensures room { length headers.new ≡ most_fields }
 {
     if buf.is_empty() {
@@ -152,6 +153,9 @@ pub(crate) fn ask_next(buf: &[u8], ended: bool, headers: &mut [HeaderSpan]) -> N
         }
         Outcome::Head(head) => {
             let fields = &headers[..head.headers];
+            if !is_let_in(audience, front, fields) {
+                return Next::Refused(Refusal::NotForThisServer);
+            }
             if has_named(front, fields, b"transfer-encoding") {
                 return Next::Refused(Refusal::NotSupported);
             }

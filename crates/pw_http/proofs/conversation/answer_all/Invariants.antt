@@ -9,7 +9,7 @@ use Rattle.pw_http.proofs.conversation.answer_all.Given as goal
 abbrev pub invariant-loop-turn : goal.invariant-loop-turn
 invariant-loop-turn g l = record {
   text : List ℕ;
-  told : Told g.S.Service.serves l.fn.service l.fn.inbox text l.replies l.service l.inbox;
+  told : Told l.fn.audience g.S.Service.serves l.fn.service l.fn.inbox text l.replies l.service l.inbox;
   written : Appends (g.W.Write.contents l.fn.writer) (g.W.Write.contents l.writer) text;
   room : length l.headers ≡ most_fields;
   few : l.replies + length l.inbox ≤ length l.fn.inbox;

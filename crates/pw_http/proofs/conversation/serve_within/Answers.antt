@@ -9,10 +9,10 @@ pub loop-init : goal.loop-init
 loop-init g c = rw c.in-Ok.ensures (record {
   got = [];
   text = [];
-  told = Told-nothing _ _ _;
+  told = Told-nothing _ _ _ _;
   consumed = Consumes-nothing _;
   written = Appends-nothing _;
-  no_other = none_in_nothing;
+  no_other = none_in_nothing _;
   waits = omega arith;
   room = refl;
   turns = omega arith;
@@ -29,7 +29,7 @@ loop-preserved g c =
     record {
       got = i.got ++ f.piece;
       text = i.text ++ b.0;
-      told = Told-then _ _ _ _ i.got c.loop.inbox f.piece _ i.text b.0 _ _ i.told (rw f.new_is at b.2);
+      told = Told-then _ _ _ _ _ i.got c.loop.inbox f.piece _ i.text b.0 _ _ i.told (rw f.new_is at b.2);
       consumed = Consumes-then _ _ _ i.got f.piece i.consumed f.consumed;
       written = Appends-then _ _ _ i.text b.0 i.written b.1;
       no_other = b.3;
@@ -43,13 +43,13 @@ pub returns-then-batch : goal.returns-then-batch
 returns-then-batch g c =
     let i = c.loop.invariant in
     let b = rw c.if-batch.true at c.in-Ok-answer_all.ensures.batch in
-    record { talk = ends_here _ _ _ _ i.got i.text c.loop.inbox _ _ _ _ _ _ _ _ _ _ i.told i.consumed i.written c.in-Ok-fill.ensures.filled b }
+    record { talk = ends_here _ _ _ _ _ i.got i.text c.loop.inbox _ _ _ _ _ _ _ _ _ _ i.told i.consumed i.written c.in-Ok-fill.ensures.filled b }
 
 pub returns-in-Err-answer_all : goal.returns-in-Err-answer_all
 returns-in-Err-answer_all g c =
     let i = c.loop.invariant in
     let b = c.in-Err-answer_all.ensures.batch in
-    record { talk = cut_here _ _ _ _ i.got i.text c.loop.inbox _ _ _ _ _ _ _ _ _ i.told i.consumed i.written c.in-Ok-fill.ensures.filled (b.0, b.1, b.2) }
+    record { talk = cut_here _ _ _ _ _ i.got i.text c.loop.inbox _ _ _ _ _ _ _ _ _ i.told i.consumed i.written c.in-Ok-fill.ensures.filled (b.0, b.1, b.2) }
 
 pub returns : goal.returns
 returns g c =

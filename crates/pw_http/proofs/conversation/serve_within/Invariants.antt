@@ -11,10 +11,10 @@ abbrev pub invariant-loop : goal.invariant-loop
 invariant-loop g l = record {
   got : List ℕ;
   text : List ℕ;
-  told : Told g.S.Service.serves l.fn.service got text l.requests l.service l.inbox;
+  told : Told l.fn.audience g.S.Service.serves l.fn.service got text l.requests l.service l.inbox;
   consumed : Consumes (g.R.Read.remaining l.fn.reader) (g.R.Read.remaining l.reader) got;
   written : Appends (g.W.Write.contents l.fn.writer) (g.W.Write.contents l.writer) text;
-  no_other : HasNoWhole l.inbox;
+  no_other : HasNoWhole l.fn.audience l.inbox;
   waits : length l.inbox < ROOM;
   room : length l.headers ≡ most_fields;
   turns : l.counter ≤ length got;

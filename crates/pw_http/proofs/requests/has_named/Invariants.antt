@@ -1,7 +1,7 @@
 use Rattle.std.proofs.Common.{◌≡◌, map, take}
 use Rattle.std.specs.List.{list_any}
 use Rattle.httparse.specs.Spans.{header_bytes}
-use Rattle.pw_http.specs.Requests.{is_named}
+use Rattle.pw_http.specs.Heads.{is_named}
 use Rattle.pw_http.proofs.requests.has_named.Given as goal
 
 abbrev pub invariant-loop-span : goal.invariant-loop-span
