@@ -14,3 +14,8 @@ pub mod OneByOne
 pub mod Deciding
 pub mod Compared
 pub mod Taken
+pub mod Comparing
+pub mod Scans
+pub mod Queries
+pub mod Listed
+pub mod Conflicting

@@ -1,5 +1,5 @@
 -- What the row of `office` makes of the empty tables.
-use Rattle.std.proofs.Common.{◌≡◌, ℕ, pos, List, [], ◌∷◌, codes, Bool, true, false, cond, None, Ok, Err, Result, OnOk, IsTrue, refl, subst, ◌∙◌, arith}
+use Rattle.std.proofs.Common.{◌≡◌, ℕ, pos, List, [], ◌∷◌, codes, Bool, true, false, cond, None, Ok, Err, Result, OnOk, IsTrue, refl, ap, subst, ◌∙◌, arith}
 use Rattle.std.specs.List.{AllByRecursion}
 use Rattle.sqlite.specs.declared.types.Value.{Value}
 use Rattle.sqlite.specs.declared.types.Value.TheVariants.{Null, Int, Blob}
@@ -14,7 +14,7 @@ use Rattle.sqlite.specs.Edit.{Applies, edit_of}
 use Rattle.sqlite.specs.Cast.{cast}
 use Rattle.sqlite.specs.Rowids.TheVariants.{Chosen}
 use Rattle.sqlite.specs.Does.{Does}
-use Rattle.sqlite.specs.State.{State, mode_of, Executes, Shows, KeepsCommit}
+use Rattle.sqlite.specs.State.{State, mode_of, Executes, Shows, KeepsCommit, HasCleanDisk, Survives, CommitsBy}
 use Rattle.sqlite.specs.Listing.{understood}
 use Rattle.sqlite_tied.specs.Compute.{everything}
 use Rattle.sqlite.proofs.Callers.{runs_as, statement_of, command_of, IsPlain}
@@ -23,7 +23,7 @@ use Rattle.pw_schema.specs.Fresh.{office_row, IsFresh}
 use Rattle.pw_schema.specs.inner.Stages.{IsBlank, IsMaking, stage8}
 use Rattle.pw_schema.proofs.Steps.{one_insert, uncounted}
 use Rattle.pw_schema.proofs.Making.{stages}
-use Rattle.pw_schema.proofs.Outcomes.{fails}
+use Rattle.pw_schema.proofs.Outcomes.{fails, keeps_commit}
 use Rattle.sqlite.proofs.InsideLemmas.{unchanged_keeps}
 
 abbrev pub put_office_text : List ℕ
@@ -100,3 +100,7 @@ office_kept old new body (Err e) making h = unchanged_keeps old new (fails old n
 pub fresh_if : (old new : State) (body : List ℕ) (out : Result ℕ Error) → IsMaking stage8 old → Executes put_office_text (Blob body ∷ []) old new out → OnOk out (IsFresh body new.now)
 fresh_if old new body (Ok n) making h = fresh old new body n making.blank h
 fresh_if old new body (Err e) making h = tt
+
+pub office_survives : (old new : State) (body : List ℕ) → (HasCleanDisk old → IsMaking stage8 old) → Survives old new (CommitsBy put_office_text (Blob body ∷ []) old) → Survives old new (λ _. ⊥)
+office_survives old new body making =
+    keeps_commit old new put_office_text (Blob body ∷ []) (Insert 0 (Values terms 4)) (λ clean. ap (λ s. command_of (understood s put_office_text)) ((making clean).blank.schema_is ∙ stages) ∙ put_office_is) (λ name e. absurd cc) (λ e. absurd cc) (λ clean. (making clean).inside)

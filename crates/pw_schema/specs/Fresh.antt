@@ -4,7 +4,9 @@ use Rattle.std.specs.Prelude.{◌≡◌, ℕ, pos, false, [], ◌∷◌, List, I
 use Rattle.sqlite.specs.declared.types.Value.TheVariants.{Null, Int, Blob}
 use Rattle.sqlite.specs.Order.{Row}
 use Rattle.sqlite.specs.Effect.{Database}
+use Rattle.sqlite.specs.Tree.{Trees}
 use Rattle.sqlite.specs.State.{State}
+use Rattle.pw_schema.specs.Conflicts.{AreWithoutConflict}
 use Rattle.pw_schema.specs.Tables.{ours_with, only_one}
 
 -- the one row of `office`: its id, which is the rowid and kept as NULL, version 1, and the office file's bytes
@@ -22,6 +24,15 @@ pub record IsFresh (body : List ℕ) (db : Database) : Type 0 where
   pub start : db.trees 9 ≡ []
   pub total : db.trees 11 ≡ []
   pub total_topup : db.trees 13 ≡ []
+
+-- such a database, in whose texts no conflict is spoken of
+pub record IsNew (body : List ℕ) (db : Database) : Type 0 where
+  pub fresh : IsFresh body db
+  pub plain : AreWithoutConflict db.trees
+
+-- the trees of one
+abbrev pub AreNew : List ℕ → Trees → Type 0
+AreNew body trees = (db : Database) × IsNew body db × (trees ≡ db.trees)
 
 -- a connection that is open, outside of a transaction, with nothing that waits to be committed
 pub record IsIdleAt (s : State) : Type 0 where

@@ -79,6 +79,10 @@ pub record AreRowids (rows : List Row) : Type 0 where
 abbrev pub KeepsOffice : List ℕ → List Row → Type 0
 KeepsOffice body rows = (row : Row) × (rows ≡ row ∷ []) × (column row 0 ≡ Int (pos 1)) × (column row 1 ≡ Blob body)
 
+-- there is a row, of version 1
+abbrev pub HasVersion : List Row → Type 0
+HasVersion rows = (row : Row) × (rows ≡ row ∷ []) × (column row 0 ≡ Int (pos 1))
+
 -- there is a row, of another version
 abbrev pub HasOtherVersion : List Row → Type 0
 HasOtherVersion rows = (row : Row) × (rows ≡ row ∷ []) × ((column row 0 ≡ Int (pos 1)) → ⊥)

@@ -1,7 +1,7 @@
 -- The eight tables.
 -- (A format of this project. Trees are numbered by the place of their object in the file's list of objects, from 0; an
 -- index that SQLite makes for a key stands directly behind its table.)
-use Rattle.std.specs.Prelude.{◌≡◌, ℕ, ◌+◌, pos, true, false, [], ◌∷◌, Some, None, codes, List}
+use Rattle.std.specs.Prelude.{◌≡◌, ℕ, ◌+◌, pos, true, false, [], ◌∷◌, Some, None, codes, List, take}
 use Rattle.sqlite.specs.Collation.TheVariants.{Binary}
 use Rattle.sqlite.specs.declared.types.Value.TheVariants.{Null, Int}
 use Rattle.sqlite.specs.Table.{Table}
@@ -95,7 +95,7 @@ abbrev pub index_of : List ℕ → ℕ → List ℕ → Index
 index_of name tree places = record { name = name; tree = tree + 1; table = tree; columns = places; order = plain; is_unique = true }
 
 -- ---- all of them
--- the schema, whatever the check of `office` says; in a store that was made here it is `only_one`
+-- the schema, by what the check of `office` says
 abbrev pub ours_with : List Term → Schema
 ours_with checks = record {
   tables = office_at 0 checks ∷ reading_at 1 ∷ assignment_at 3 ∷ topup_at 5 ∷ point_at 7 ∷ start_at 9 ∷ total_at 11 ∷ total_topup_at 13 ∷ [];
@@ -114,14 +114,11 @@ ours_with checks = record {
 abbrev pub no_schema : Schema
 no_schema = record { tables = []; indexes = []; views = [] }
 
-abbrev pub first_checks : List Table → List Term
-first_checks [] = []
-first_checks (t ∷ ts) = t.checks
-
--- the checks of the first table, which is `office` where the tables are ours
-abbrev pub checks_of : Schema → List Term
-checks_of s = first_checks s.tables
-
 -- the schema is ours: an equation, so it has one proof at most
 abbrev pub IsOurs : Schema → Type 0
-IsOurs s = s ≡ ours_with (checks_of s)
+IsOurs s = s ≡ ours_with only_one
+
+-- the first eight tables and the first six indexes are ours, whatever stands behind them
+pub record BeginsAsOurs (s : Schema) : Type 0 where
+  pub tables : take 8 s.tables ≡ (ours_with only_one).tables
+  pub indexes : take 6 s.indexes ≡ (ours_with only_one).indexes

@@ -1,7 +1,7 @@
 //! Whether indexes are those of a store.
 
 ghost use Rattle.std.specs.Prelude.{◌≡◌, ◌<◌, [], ◌∷◌, IsTrue, codes};
-ghost use Rattle.pw_schema.specs.Tables.{index_of, ours_with};
+ghost use Rattle.pw_schema.specs.Tables.{index_of, only_one, ours_with};
 
 use sqlite_schema::schema::Index;
 use sqlite_value::keys::Order;
@@ -92,8 +92,8 @@ fn is_total_index(index: &Index) -> bool
 }
 
 pub(crate) fn are_indexes(indexes: &[Index]) -> bool
-    ensures is { IsTrue result → indexes.now ≡ (ours_with []).indexes }
-    ensures all { indexes.now ≡ (ours_with []).indexes → IsTrue result }
+    ensures is { IsTrue result → indexes.now ≡ (ours_with only_one).indexes }
+    ensures all { indexes.now ≡ (ours_with only_one).indexes → IsTrue result }
 {
     let [reading, assignment, topup, point, start, total] = indexes else {
         return false;

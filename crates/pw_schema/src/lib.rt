@@ -2,7 +2,9 @@
 #![tactic(auto)]
 
 mod cells;
+mod checks;
 mod columns;
+mod conflicts;
 mod indexes;
 mod judge;
 mod judging;
@@ -21,16 +23,17 @@ mod transactions;
 mod values;
 
 pub use cells::{amount_at, instant_at, number_at, owner_at, wh_at};
+pub use conflicts::has_no_conflict;
 pub use judge::{Judge, JudgeFault};
 pub use judging::{record_in, total_in};
 pub use kept::{KeptEntries, KeptTotals};
 pub use kind::{RecordKind, TotalKind};
 pub use make::create;
-pub use office::{OfficeFault, judge_office};
+pub use office::{OfficeFault, judge_version, keeps_office};
 pub use reading::{ReadFault, contents_in, entry_of, read_rows};
 pub use records::Records;
 pub use rowids::Rowids;
-pub use shape::{is_nothing, is_ours};
+pub use shape::{begins_as_ours, is_nothing, is_ours};
 pub use totals::total_of;
 pub use transactions::{begin, commit, roll_back};
 pub use values::{direction_place, integer, owner_place, register_place, wide, words};

@@ -2,13 +2,15 @@
 
 ghost use Rattle.std.specs.Prelude.{◌≡◌, OnErr, OnOk, IsTrue};
 ghost use Rattle.sqlite.specs.Held.{state};
-ghost use Rattle.sqlite.specs.State.{HasCleanDisk, KeepsCommit, Shows, Survives};
-ghost use Rattle.pw_schema.specs.Fresh.{IsFresh, IsIdleAt};
-ghost use Rattle.pw_schema.specs.Tables.{no_schema};
+ghost use Rattle.sqlite.specs.State.{HasCleanDisk, IsUnchanged, KeepsCommit, Shows, Survives};
+ghost use Rattle.pw_schema.specs.Conflicts.{AreWithoutConflict};
+ghost use Rattle.pw_schema.specs.Fresh.{AreNew, IsFresh, IsIdleAt, IsNew};
+ghost use Rattle.pw_schema.specs.Tables.{IsOurs, no_schema};
 ghost use Rattle.pw_schema.specs.inner.Stages.{IsMaking, stage1, stage2, stage3, stage4, stage5, stage6, stage7, stage8};
 
+use crate::conflicts::has_no_conflict;
 use crate::transactions::{begin, commit};
-use sqlite::{Alter, Connection, Error, params};
+use sqlite::{Alter, Connection, Error, ErrorCode, params};
 
 fn make_office<S: Alter>(conn: &mut Connection<S>) -> Result<usize, Error>
     requires { HasCleanDisk (state S.Store conn.old) → IsMaking no_schema (state S.Store conn.old) }
@@ -138,7 +140,7 @@ fn put_office<S: Alter>(conn: &mut Connection<S>, body: &[u8]) -> Result<usize, 
     ensures made { HasCleanDisk (state S.Store conn.new) → OnOk result (IsFresh body.now (state S.Store conn.new).now) }
     ensures inside { HasCleanDisk (state S.Store conn.new) → OnOk result (IsTrue (state S.Store conn.new).is_open) }
     ensures kept { HasCleanDisk (state S.Store conn.new) → KeepsCommit (state S.Store conn.old) (state S.Store conn.new) }
-    ensures clean { HasCleanDisk (state S.Store conn.new) → HasCleanDisk (state S.Store conn.old) }
+    ensures crash { Survives (state S.Store conn.old) (state S.Store conn.new) (λ _. ⊥) }
 {
     conn.execute(
         "INSERT INTO office (id, version, body) VALUES (1, 1, ?1)",
@@ -146,18 +148,48 @@ fn put_office<S: Alter>(conn: &mut Connection<S>, body: &[u8]) -> Result<usize, 
     )
 }
 
-/// Makes our tables where there was nothing.
-pub fn create<S: Alter>(conn: &mut Connection<S>, body: &[u8]) -> Result<(), Error>
-    requires { HasCleanDisk (state S.Store conn.old) → (state S.Store conn.old).now.schema ≡ no_schema }
-    ensures made { HasCleanDisk (state S.Store conn.new) → OnOk result (IsFresh body.now (state S.Store conn.new).now) }
-    ensures idle { HasCleanDisk (state S.Store conn.new) → OnOk result (IsIdleAt (state S.Store conn.new)) }
-    ensures kept { HasCleanDisk (state S.Store conn.new) → OnErr result (KeepsCommit (state S.Store conn.old) (state S.Store conn.new)) }
-    ensures clean { HasCleanDisk (state S.Store conn.new) → HasCleanDisk (state S.Store conn.old) }
+// Sees that the texts which the engine has kept are such as an opening takes.
+fn see_texts<S: Alter>(conn: &mut Connection<S>) -> Result<(), Error>
+    requires { HasCleanDisk (state S.Store conn.old) → IsOurs (state S.Store conn.old).now.schema }
+    ensures plain { HasCleanDisk (state S.Store conn.new) → OnOk result (AreWithoutConflict (state S.Store conn.new).now.trees) }
+    ensures same { HasCleanDisk (state S.Store conn.new) → OnOk result (IsUnchanged (state S.Store conn.old) (state S.Store conn.new)) }
+    ensures kept { HasCleanDisk (state S.Store conn.new) → KeepsCommit (state S.Store conn.old) (state S.Store conn.new) }
+    ensures crash { Survives (state S.Store conn.old) (state S.Store conn.new) (λ _. ⊥) }
 {
-    begin(conn)?;
+    if has_no_conflict(conn)? {
+        Ok(())
+    } else {
+        Err(Error::SqliteFailure(ErrorCode::DatabaseCorrupt))
+    }
+}
+
+// The tables and the office's text, within a transaction.
+fn fill<S: Alter>(conn: &mut Connection<S>, body: &[u8]) -> Result<(), Error>
+    requires { HasCleanDisk (state S.Store conn.old) → IsMaking no_schema (state S.Store conn.old) }
+    ensures made { HasCleanDisk (state S.Store conn.new) → OnOk result (IsNew body.now (state S.Store conn.new).now) }
+    ensures inside { HasCleanDisk (state S.Store conn.new) → OnOk result (IsTrue (state S.Store conn.new).is_open) }
+    ensures kept { HasCleanDisk (state S.Store conn.new) → KeepsCommit (state S.Store conn.old) (state S.Store conn.new) }
+    ensures crash { Survives (state S.Store conn.old) (state S.Store conn.new) (λ _. ⊥) }
+{
     make_records(conn)?;
     make_sums(conn)?;
     put_office(conn, body)?;
+    see_texts(conn)?;
+    Ok(())
+}
+
+/// Makes our tables where there was nothing. Where it fails, they may have been committed all the same: a crash then leaves
+/// what it could leave before, or these tables whole.
+pub fn create<S: Alter>(conn: &mut Connection<S>, body: &[u8]) -> Result<(), Error>
+    requires { HasCleanDisk (state S.Store conn.old) → (state S.Store conn.old).now.schema ≡ no_schema }
+    ensures made { HasCleanDisk (state S.Store conn.new) → OnOk result (IsNew body.now (state S.Store conn.new).now) }
+    ensures idle { HasCleanDisk (state S.Store conn.new) → OnOk result (IsIdleAt (state S.Store conn.new)) }
+    ensures kept { HasCleanDisk (state S.Store conn.new) → OnErr result (KeepsCommit (state S.Store conn.old) (state S.Store conn.new)) }
+    ensures clean { HasCleanDisk (state S.Store conn.new) → HasCleanDisk (state S.Store conn.old) }
+    ensures crash { Survives (state S.Store conn.old) (state S.Store conn.new) (AreNew body.now) }
+{
+    begin(conn)?;
+    fill(conn, body)?;
     commit(conn)?;
     Ok(())
 }

@@ -3,20 +3,18 @@
 ghost use Rattle.std.specs.Prelude.{◌≡◌, ◌↔◌, [], ◌∷◌, Err, IsTrue, OnOk, pos};
 ghost use Rattle.sqlite.specs.Order.{Row as RowSpec, column};
 ghost use Rattle.sqlite.specs.declared.types.Value.TheVariants.{Blob, Int};
-ghost use Rattle.pw_schema.specs.Judging.{HasOtherText, HasOtherVersion, KeepsOffice};
+ghost use Rattle.pw_schema.specs.Judging.{HasOtherVersion, HasVersion, KeepsOffice};
 
 use sqlite::Row;
 use sqlite::types::ValueRef;
 
-/// Why the row of `office` isn't that of a store of this version and this text.
+/// Why the row of `office` isn't that of a store of this version.
 #[derive(Clone, Copy, Debug, PartialEq, Eq)]
 pub enum OfficeFault {
     /// There is no row.
     Missing,
     /// The row has another version.
     Version,
-    /// The row is of this version, and has another text.
-    Text,
 }
 
 fn has_version(row: &Row) -> bool
@@ -37,12 +35,11 @@ fn has_text(row: &Row, text: &[u8]) -> bool
     }
 }
 
-/// Whether the rows of `office`, of which there is one at most, keep version 1 and the text.
-pub fn judge_office(rows: &[Row], text: &[u8]) -> Result<(), OfficeFault>
-    ensures kept { OnOk result (KeepsOffice text.now rows.now) }
+/// Whether the rows of `office`, of which there is one at most, have version 1.
+pub fn judge_version(rows: &[Row]) -> Result<(), OfficeFault>
+    ensures version { OnOk result (HasVersion rows.now) }
     ensures missing { result ≡ Err OfficeFault.Missing → (row : RowSpec) → rows.now ≡ row ∷ [] → ⊥ }
-    ensures version { result ≡ Err OfficeFault.Version → HasOtherVersion rows.now }
-    ensures text { result ≡ Err OfficeFault.Text → HasOtherText text.now rows.now }
+    ensures other { result ≡ Err OfficeFault.Version → HasOtherVersion rows.now }
 {
     let [row] = rows else {
         return Err(OfficeFault::Missing);
@@ -50,8 +47,16 @@ pub fn judge_office(rows: &[Row], text: &[u8]) -> Result<(), OfficeFault>
     if !has_version(row) {
         return Err(OfficeFault::Version);
     }
-    if !has_text(row, text) {
-        return Err(OfficeFault::Text);
-    }
     Ok(())
+}
+
+/// Whether the rows of `office` keep version 1 and the text.
+pub fn keeps_office(rows: &[Row], text: &[u8]) -> bool
+    ensures is { IsTrue result → KeepsOffice text.now rows.now }
+    ensures all { KeepsOffice text.now rows.now → IsTrue result }
+{
+    let [row] = rows else {
+        return false;
+    };
+    has_version(row) && has_text(row, text)
 }

@@ -1,7 +1,7 @@
-//! Whether a file holds the tables of a store, or nothing.
+//! Whether a file holds the tables of a store, these and more, or nothing.
 
 ghost use Rattle.std.specs.Prelude.{◌≡◌, ◌↔◌, IsTrue};
-ghost use Rattle.pw_schema.specs.Tables.{IsOurs, no_schema};
+ghost use Rattle.pw_schema.specs.Tables.{BeginsAsOurs, IsOurs, no_schema};
 
 use crate::indexes::are_indexes;
 use crate::tables::are_tables;
@@ -14,6 +14,21 @@ pub fn is_ours(schema: &Schema) -> bool
     schema.views.is_empty()
         && are_tables(schema.tables.as_slice())
         && are_indexes(schema.indexes.as_slice())
+}
+
+/// Whether the tables that `open` makes stand first, with their indexes, whatever stands behind them.
+pub fn begins_as_ours(schema: &Schema) -> bool
+    ensures { IsTrue result ↔ BeginsAsOurs schema.now }
+{
+    let tables = schema.tables.as_slice();
+    let indexes = schema.indexes.as_slice();
+    if tables.len() < 8 {
+        return false;
+    }
+    if indexes.len() < 6 {
+        return false;
+    }
+    are_tables(&tables[..8]) && are_indexes(&indexes[..6])
 }
 
 /// Whether there is nothing at all.

@@ -1,9 +1,9 @@
 //! Whether tables are those of a store.
 
-ghost use Rattle.std.specs.Prelude.{◌≡◌, [], List, IsTrue, false, map};
-ghost use Rattle.sqlite.specs.Term.{Term};
-ghost use Rattle.pw_schema.specs.Tables.{assignment_at, keyed, of_integers, office_at, ours_with, point_at, reading_at, start_at, topup_at, total_at, total_topup_at};
+ghost use Rattle.std.specs.Prelude.{◌≡◌, [], IsTrue, false, map};
+ghost use Rattle.pw_schema.specs.Tables.{assignment_at, keyed, of_integers, office_at, only_one, ours_with, point_at, reading_at, start_at, topup_at, total_at, total_topup_at};
 
+use crate::checks::is_only_one;
 use crate::columns::{are_integers, are_office_columns, are_sum_columns, are_topup_columns};
 use crate::keys::{has_key, is_rowid_table};
 use sqlite_schema::schema::{Stamps, Table};
@@ -151,17 +151,18 @@ fn is_total_topup(table: &Table) -> bool
 }
 
 fn is_office(table: &Table) -> bool
-    ensures is { IsTrue result → table.now ≡ office_at 0 table.now.checks }
-    ensures all { table.now ≡ office_at 0 table.now.checks → IsTrue result }
+    ensures is { IsTrue result → table.now ≡ office_at 0 only_one }
+    ensures all { table.now ≡ office_at 0 only_one → IsTrue result }
 {
     is_plain(table, b"office".as_slice(), 0)
+        && is_only_one(&table.checks)
         && is_rowid_table(table)
         && are_office_columns(table.columns.as_slice())
 }
 
 pub(crate) fn are_tables(tables: &[Table]) -> bool
-    ensures is { IsTrue result → (checks : List Term) × (tables.now ≡ (ours_with checks).tables) }
-    ensures all { (checks : List Term) → tables.now ≡ (ours_with checks).tables → IsTrue result }
+    ensures is { IsTrue result → tables.now ≡ (ours_with only_one).tables }
+    ensures all { tables.now ≡ (ours_with only_one).tables → IsTrue result }
 {
     let [
         office,

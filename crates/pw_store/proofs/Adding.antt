@@ -29,7 +29,7 @@ use Rattle.pw_tariff.specs.Office.{register_place}
 use Rattle.pw_tariff.specs.Cells.{owner_place}
 use Rattle.pw_model.specs.Counting.{Member, IsInserted}
 use Rattle.pw_shelf.proofs.InOrder.{inserted-once}
-use Rattle.pw_schema.specs.Tables.{ours_with, checks_of, IsOurs, topup_at, reading_at, assignment_at}
+use Rattle.pw_schema.specs.Tables.{ours_with, only_one, IsOurs, topup_at, reading_at, assignment_at}
 use Rattle.pw_schema.specs.Rows.{register_at, owner_at}
 use Rattle.pw_store.specs.Content.{content_of, records_of, reading_in, assignment_in, topup_in, energy_in, payment_in, IsReadingRow, IsAssignmentRow, IsTopupRow, reading_tree, assignment_tree, topup_tree}
 use Rattle.pw_store.specs.inner.Records.{reading_row, assignment_row, reading_entry, assignment_entry, topup_row, topup_entry}
@@ -65,13 +65,10 @@ and_first true b e = refl
 and_first false b e = e
 
 -- a schema that is that of our tables with some checks is ours
-pub ours_is : (s : Schema) (checks : List Term) → s ≡ ours_with checks → IsOurs s
-ours_is s checks e = e ∙ ap (λ t. ours_with (checks_of t)) (sym e)
-
 -- ---- any statement that inserts
 module _ (text : List ℕ) (at width : ℕ) (terms : List Term) (it : IsInsert text at width terms) (old new : State) (ours : IsOurs old.now.schema) (params : Row) where
   abbrev checks : List Term
-  checks = checks_of old.now.schema
+  checks = only_one
 
   pub insert_inside : (count : ℕ) → Executes text params old new (Ok count) → IsTrue old.in_transaction → Shows old new new.now old.committed true
   insert_inside count h inside =
@@ -85,12 +82,12 @@ insert_fails text old new params (Err e) h = fails old new text params e h
 
 pub insert_survives : (text : List ℕ) (at width : ℕ) (terms : List Term) → IsInsert text at width terms → (old new : State) (params : Row) → (HasCleanDisk old → IsOurs old.now.schema) → (HasCleanDisk old → IsTrue old.in_transaction) → Survives old new (CommitsBy text params old) → Survives old new (λ _. ⊥)
 insert_survives text at width terms it old new params ours inside =
-    keeps_commit old new text params (Insert at (Values terms width)) (λ clean. ap (λ s. command_of (understood s text)) (ours clean) ∙ it.is (checks_of old.now.schema)) (λ name e. absurd cc) (λ e. absurd cc) inside
+    keeps_commit old new text params (Insert at (Values terms width)) (λ clean. ap (λ s. command_of (understood s text)) (ours clean) ∙ it.is only_one) (λ name e. absurd cc) (λ e. absurd cc) inside
 
 -- ---- a top-up
 module _ (old new : State) (t : List ℕ) (a c i count : ℕ) (store : IsStore old.now) (h : Executes add_topup_text (topup_row t a c i) old new (Ok count)) where
   abbrev own : List Term
-  own = checks_of old.now.schema
+  own = only_one
 
   abbrev table : Table
   table = topup_at topup_tree
@@ -133,7 +130,7 @@ module _ (old new : State) (t : List ℕ) (a c i count : ℕ) (store : IsStore o
 
   pub stores_topup : (Member (topup_in row) (records_of old.now.trees) → ⊥) → IsStore new.now
   stores_topup fresh = record {
-    ours = ours_is new.now.schema own applied.0;
+    ours = applied.0;
     readings = subst (AllByRecursion IsReadingRow) (sym readings) store.readings;
     assignments = subst (AllByRecursion IsAssignmentRow) (sym assignments) store.assignments;
     topups = subst (AllByRecursion IsTopupRow) (sym rows) (all-put_row IsTopupRow row (old.now.trees topup_tree) (refl, (refl, (refl, refl))) store.topups);
@@ -160,7 +157,7 @@ owner_back (Some a) = ap owner_at (add-one a.0)
 -- ---- a reading
 module _ (old new : State) (m : MeterId) (r : Register) (t v : ℕ) (count : ℕ) (store : IsStore old.now) (h : Executes add_reading_text (reading_row m.0 (register_place r) t v) old new (Ok count)) where
   abbrev own_reading : List Term
-  own_reading = checks_of old.now.schema
+  own_reading = only_one
 
   abbrev table_reading : Table
   table_reading = reading_at reading_tree
@@ -207,7 +204,7 @@ module _ (old new : State) (m : MeterId) (r : Register) (t v : ℕ) (count : ℕ
 
   pub stores_reading : (Member (reading_entry m r t v) (records_of old.now.trees) → ⊥) → IsStore new.now
   stores_reading fresh = record {
-    ours = ours_is new.now.schema own_reading applied_reading.0;
+    ours = applied_reading.0;
     readings = subst (AllByRecursion IsReadingRow) (sym rows_reading) (all-put_row IsReadingRow row_reading (old.now.trees reading_tree) (refl, (ap (λ (s : Register). Int (pos (register_place s))) (sym (register_back r)), (refl, refl))) store.readings);
     assignments = subst (AllByRecursion IsAssignmentRow) (sym assignments_reading) store.assignments;
     topups = subst (AllByRecursion IsTopupRow) (sym topups_reading) store.topups;
@@ -221,7 +218,7 @@ module _ (old new : State) (m : MeterId) (r : Register) (t v : ℕ) (count : ℕ
 -- ---- an assignment
 module _ (old new : State) (m : MeterId) (t : ℕ) (o : Option AccountId) (count : ℕ) (store : IsStore old.now) (h : Executes add_assignment_text (assignment_row m.0 t (owner_place o)) old new (Ok count)) where
   abbrev own_assignment : List Term
-  own_assignment = checks_of old.now.schema
+  own_assignment = only_one
 
   abbrev table_assignment : Table
   table_assignment = assignment_at assignment_tree
@@ -268,7 +265,7 @@ module _ (old new : State) (m : MeterId) (t : ℕ) (o : Option AccountId) (count
 
   pub stores_assignment : (Member (assignment_entry m t o) (records_of old.now.trees) → ⊥) → IsStore new.now
   stores_assignment fresh = record {
-    ours = ours_is new.now.schema own_assignment applied_assignment.0;
+    ours = applied_assignment.0;
     readings = subst (AllByRecursion IsReadingRow) (sym readings_assignment) store.readings;
     assignments = subst (AllByRecursion IsAssignmentRow) (sym rows_assignment) (all-put_row IsAssignmentRow row_assignment (old.now.trees assignment_tree) (refl, (refl, refl)) store.assignments);
     topups = subst (AllByRecursion IsTopupRow) (sym topups_assignment) store.topups;

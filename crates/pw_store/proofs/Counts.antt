@@ -25,7 +25,7 @@ use Rattle.sqlite.specs.Effect.{Database}
 use Rattle.sqlite.specs.State.{State, Shown, IsUnchanged}
 use Rattle.sqlite.specs.Program.{overlay}
 use Rattle.sqlite.proofs.Callers.{reads_as}
-use Rattle.pw_schema.specs.Tables.{ours_with, IsOurs, checks_of}
+use Rattle.pw_schema.specs.Tables.{ours_with, IsOurs, only_one}
 use Rattle.pw_store.specs.Content.{records_of, reading_in, assignment_in, topup_in}
 use Rattle.pw_store.proofs.Texts.{IsQuery}
 
@@ -106,21 +106,21 @@ counts tree db params rows a =
 pub counts_topups : {Z : Type 0} (old new : State) (r : Result (Vec Row Z) Error) → IsOurs old.now.schema → IfOk r (λ rows. Shown count_topups_text [] old new rows.items) → IfOk r (λ rows. rows.items ≡ (count (length (old.now.trees 5)) ∷ []) ∷ [])
 counts_topups old new (Err e) ours h = tt
 counts_topups old new (Ok rows) ours h =
-    let own = checks_of old.now.schema in
+    let own = only_one in
     let read = reads_as count_topups_text [] old new (ours_with own) ours (Select (record { lets = []; body = count_query 5 }) (codes "count(*)" ∷ [])) (count_topups_is.is own) (count_topups_is.plain own) (count_topups_is.unlisted own) rows.items h in
     counts 5 (overlay old.now.trees []) [] rows.items (read.answer Null)
 
 pub counts_readings : {Z : Type 0} (old new : State) (r : Result (Vec Row Z) Error) → IsOurs old.now.schema → IfOk r (λ rows. Shown count_readings_text [] old new rows.items) → IfOk r (λ rows. rows.items ≡ (count (length (old.now.trees 1)) ∷ []) ∷ [])
 counts_readings old new (Err e) ours h = tt
 counts_readings old new (Ok rows) ours h =
-    let own = checks_of old.now.schema in
+    let own = only_one in
     let read = reads_as count_readings_text [] old new (ours_with own) ours (Select (record { lets = []; body = count_query 1 }) (codes "count(*)" ∷ [])) (count_readings_is.is own) (count_readings_is.plain own) (count_readings_is.unlisted own) rows.items h in
     counts 1 (overlay old.now.trees []) [] rows.items (read.answer Null)
 
 pub counts_assignments : {Z : Type 0} (old new : State) (r : Result (Vec Row Z) Error) → IsOurs old.now.schema → IfOk r (λ rows. Shown count_assignments_text [] old new rows.items) → IfOk r (λ rows. rows.items ≡ (count (length (old.now.trees 3)) ∷ []) ∷ [])
 counts_assignments old new (Err e) ours h = tt
 counts_assignments old new (Ok rows) ours h =
-    let own = checks_of old.now.schema in
+    let own = only_one in
     let read = reads_as count_assignments_text [] old new (ours_with own) ours (Select (record { lets = []; body = count_query 3 }) (codes "count(*)" ∷ [])) (count_assignments_is.is own) (count_assignments_is.plain own) (count_assignments_is.unlisted own) rows.items h in
     counts 3 (overlay old.now.trees []) [] rows.items (read.answer Null)
 

@@ -32,7 +32,7 @@ use Rattle.pw_model.specs.declared.records.TotalKey.{TotalKey}
 use Rattle.pw_model.specs.declared.records.TotalKey.TheVariants as total
 use Rattle.pw_model.specs.Same.{direction_place}
 use Rattle.pw_shelf.specs.Changes.{same_total, totals_with, with_total}
-use Rattle.pw_schema.specs.Tables.{ours_with, checks_of, total_at}
+use Rattle.pw_schema.specs.Tables.{ours_with, only_one, total_at}
 use Rattle.pw_schema.specs.Rows.{number, direction_at}
 use Rattle.pw_schema.proofs.Steps.{one_delete, one_insert, uncounted}
 use Rattle.pw_store.specs.Content.{energy_in, payment_in, IsReadingRow, IsAssignmentRow, total_in, energy_told}
@@ -118,7 +118,7 @@ table = total_at 11
 -- ---- DELETE
 module _ (old new : State) (o : Option AccountId) (b : BandId) (d : Direction) (count : ℕ) (store : IsStore old.now) (inside : IsTrue old.in_transaction) (h : Executes delete_total_text (params o b d) old new (Ok count)) where
   abbrev own : List Term
-  own = checks_of old.now.schema
+  own = only_one
 
   deleted : (new.now.schema ≡ ours_with own) × ((rows : List Row) × Answers (record { schema = ours_with own; trees = old.now.trees }) (record { lets = []; body = delete_total_query }) (params o b d) rows × Applies (ours_with own) (mode_of old).keys old.now.trees (edit_of old.now.trees (uncounted table) (ids_of rows) Given 0 []) new.now.trees)
   deleted =
@@ -141,7 +141,7 @@ module _ (old new : State) (o : Option AccountId) (b : BandId) (d : Direction) (
 
   pub takes : Makes (λ c. with_total c (total.Energy o b d) 0) old new
   takes = record {
-    store = store_kept own old.now new.now deleted.0 (same_records own 11 old.now.trees new.now.trees (omega arith) others) store
+    store = store_kept old.now new.now deleted.0 (same_records own 11 old.now.trees new.now.trees (omega arith) others) store
         (subst (AreKeyed IsReadingRow key_in_point) (sym (others.1.1.1.1.0 (λ e. absurd (omega (arith, e))))) store.points)
         (subst (AreKeyed IsAssignmentRow key_in_start) (sym (others.1.1.1.1.1.0 (λ e. absurd (omega (arith, e))))) store.starts)
         (subst (AreKeyed IsEnergyRow energy_in) (sym left) (keyed_gone same_total same_total-decides energy_in (λ x. number (column x 4)) IsEnergyRow (total.Energy o b d) (old.now.trees 11) store.energies))
@@ -159,7 +159,7 @@ module _ (old new : State) (o : Option AccountId) (b : BandId) (d : Direction) (
 -- ---- INSERT
 module _ (old new : State) (o : Option AccountId) (b : BandId) (d : Direction) (v : ℕ) (count : ℕ) (above : 0 < v) (store : IsStore old.now) (inside : IsTrue old.in_transaction) (none : energy_told (old.now.trees 11) (total.Energy o b d) ≡ None) (h : Executes insert_total_text (reading_row (owner_place o) b.0 (direction_place d) v) old new (Ok count)) where
   abbrev checks : List Term
-  checks = checks_of old.now.schema
+  checks = only_one
 
   abbrev given : Row
   given = reading_row (owner_place o) b.0 (direction_place d) v
@@ -198,7 +198,7 @@ module _ (old new : State) (o : Option AccountId) (b : BandId) (d : Direction) (
 
   pub puts : Makes (λ c. with_total c (total.Energy o b d) v) old new
   puts = record {
-    store = store_kept checks old.now new.now inserted.0 (same_records checks 11 old.now.trees new.now.trees (omega arith) elsewhere) store
+    store = store_kept old.now new.now inserted.0 (same_records checks 11 old.now.trees new.now.trees (omega arith) elsewhere) store
         (subst (AreKeyed IsReadingRow key_in_point) (sym (elsewhere.1.1.1.1.0 (λ e. absurd (omega (arith, e))))) store.points)
         (subst (AreKeyed IsAssignmentRow key_in_start) (sym (elsewhere.1.1.1.1.1.0 (λ e. absurd (omega (arith, e))))) store.starts)
         (subst (AreKeyed IsEnergyRow energy_in) (sym put) (keyed_put same_total same_total-decides energy_in (λ x. number (column x 4)) IsEnergyRow (total.Energy o b d) row (old.now.trees 11) key_is (refl, (refl, (ap (λ (e : Direction). Int (pos (direction_place e))) (sym (direction_back d)), refl))) refl free unseen store.energies))

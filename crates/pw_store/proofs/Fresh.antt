@@ -9,7 +9,7 @@ use Rattle.sqlite.specs.State.{State}
 use Rattle.pw_tariff.specs.Office.{OfficeRules}
 use Rattle.pw_model.specs.Office.{most_records}
 use Rattle.pw_model.specs.Counting.{EachOnce, Member}
-use Rattle.pw_schema.specs.Fresh.{IsFresh, office_row}
+use Rattle.pw_schema.specs.Fresh.{IsFresh, IsNew, office_row}
 use Rattle.pw_schema.specs.Judging.{IsTotalOf, KeepsOffice}
 use Rattle.pw_schema.specs.Tables.{IsOurs, no_schema, only_one}
 use Rattle.pw_store.specs.Content.{records_of, energy_in, payment_in, IsReadingRow, IsAssignmentRow, IsTopupRow}
@@ -26,10 +26,12 @@ use Rattle.pw_store.specs.Content.{content_of}
 use Rattle.pw_store.specs.Opening.{KeepsText, offices, shown_office}
 use Rattle.pw_store.specs.inner.Opened.{MayOpen, IsOpened}
 use Rattle.pw_schema.specs.Fresh.{IsIdleAt}
-use Rattle.pw_store.proofs.Adding.{ours_is}
 use Rattle.pw_store.proofs.Scans.{equal_ints}
 
-module _ (body : List ℕ) (db : Database) (fresh : IsFresh body db) where
+module _ (body : List ℕ) (db : Database) (new : IsNew body db) where
+  fresh : IsFresh body db
+  fresh = new.fresh
+
   pub fresh_records : records_of db.trees ≡ []
   fresh_records = rw (fresh.reading, fresh.assignment, fresh.topup) refl
 
@@ -50,7 +52,7 @@ module _ (body : List ℕ) (db : Database) (fresh : IsFresh body db) where
 
   fresh_store : IsStore db
   fresh_store = record {
-    ours = ours_is db.schema only_one fresh.schema_is;
+    ours = fresh.schema_is;
     readings = subst (AllByRecursion IsReadingRow) (sym fresh.reading) tt;
     assignments = subst (AllByRecursion IsAssignmentRow) (sym fresh.assignment) tt;
     topups = subst (AllByRecursion IsTopupRow) (sym fresh.topup) tt;
@@ -67,6 +69,7 @@ module _ (body : List ℕ) (db : Database) (fresh : IsFresh body db) where
   pub fresh_opens : (office : OfficeRules) → MayOpen office body db
   fresh_opens office = record {
     store = fresh_store;
+    plain = new.plain;
     kept = (shown_office (office_row body) ∷ [], (subst (IsPermutation (offices db.trees)) fresh_offices (IsPermutation-refl (offices db.trees)), (shown_office (office_row body), refl, refl, refl)));
     named = record {
       energies = subst (AllByRecursion (λ r. IsTotalOf office (energy_in r))) (sym fresh.total) tt;
@@ -77,7 +80,7 @@ module _ (body : List ℕ) (db : Database) (fresh : IsFresh body db) where
     truth = subst (IsTrueContent office) (sym fresh_content) (empty-true office);
   }
 
-pub fresh_opened : (office : OfficeRules) (body : List ℕ) (old new : State) → IsIdleAt old → old.now.schema ≡ no_schema → IsFresh body new.now → IsIdleAt new → IsOpened office body old.committed new
+pub fresh_opened : (office : OfficeRules) (body : List ℕ) (old new : State) → IsIdleAt old → old.now.schema ≡ no_schema → IsNew body new.now → IsIdleAt new → IsOpened office body old.committed new
 fresh_opened office body old new idle none fresh now = record {
   is_open = now.is_open;
   outside = now.outside;
@@ -106,5 +109,5 @@ open_few s base office body before it = subst (λ b. length (records_of (cond b 
 pub open_truth : (s base : State) (office : OfficeRules) (body : List ℕ) (before : Database) → IsOpened office body before s → IsTrueContent office (held_of s base)
 open_truth s base office body before it = subst (λ b. IsTrueContent office (content_of (cond b s.now.trees base.committed.trees))) (sym it.is_open) it.may_open.truth
 
-pub open_text : (s : State) (office : OfficeRules) (body : List ℕ) (before : Database) → IsOpened office body before s → IsOurs s.now.schema × KeepsText (KeepsOffice body) s.now.trees
+pub open_text : (s : State) (office : OfficeRules) (body : List ℕ) (before : Database) → IsOpened office body before s → IsOurs s.now.schema × (KeepsText (KeepsOffice body) s.now.trees)
 open_text s office body before it = (it.may_open.store.ours, it.may_open.kept)

@@ -1,7 +1,7 @@
 -- What a crash may leave of a store opens again.
-use Rattle.std.proofs.Common.{◌≡◌, ◌⊎◌, inl, inr, ℕ, pos, ◌<◌, true, ◌&&◌, List, map, Option, Some, None, Result, Ok, Err, IfOk, IfErr, unwrap_or, refl, sym, ap, subst, ◌∙◌, arith}
+use Rattle.std.proofs.Common.{◌≡◌, ◌⊎◌, inl, inr, ℕ, pos, ◌<◌, true, ◌&&◌, List, [], map, Option, Some, None, Result, Ok, Err, IfOk, IfErr, unwrap_or, refl, sym, ap, subst, ◌∙◌, arith}
 use Rattle.std.proofs.lemmas.Bool.{cases_lt}
-use Rattle.std.specs.List.{filter}
+use Rattle.std.specs.List.{AllByRecursion, filter}
 use Rattle.std.specs.List.Sorted.{IsPermutation}
 use Rattle.sqlite.specs.declared.types.Value.TheVariants.{Int}
 use Rattle.sqlite.specs.Order.{Row, column}
@@ -24,6 +24,9 @@ use Rattle.pw_model.specs.Office.{AllOfOffice, HasBands, HasOwner}
 use Rattle.pw_model.specs.Shelf.{IsTrueContent, ShelfContent, no_content, total_among}
 use Rattle.pw_model.proofs.Foreign.{foreign-totals_are_none}
 use Rattle.pw_shelf.specs.Changes.{same_total}
+use Rattle.sqlite.specs.Listing.{shown}
+use Rattle.sqlite_rules.specs.Edit.{put_all}
+use Rattle.pw_schema.specs.Conflicts.{AreWithoutConflict, IsWithoutConflict, only_text}
 use Rattle.pw_schema.specs.Judging.{IsTotalOf}
 use Rattle.pw_schema.specs.Rows.{direction_at, number, owner_at}
 use Rattle.pw_schema.specs.Tables.{IsOurs, no_schema}
@@ -112,6 +115,10 @@ keeps_text Kept before db keeps text =
     let same : offices before ≡ offices db = ap (λ (rows : List Row). map shown_office (filter (λ r. is_true (binary (Compare Eq Binary) (column r 0) (Int (pos 1))) && true) rows)) (sym keeps.office) in
     (text.0, (subst (λ rows. IsPermutation rows text.0) same text.1.0, text.1.1))
 
+-- ---- and so are the texts of the objects
+keeps_plain : (before db : Trees) → Keeps before db → AreWithoutConflict before → AreWithoutConflict db
+keeps_plain before db keeps plain = subst (λ (rows : List Row). AllByRecursion IsWithoutConflict (map only_text (put_all [] (map shown rows)))) (sym keeps.listed) plain
+
 -- ---- what is left
 module _ (s opened : State) (was : KeepsOpened s opened) (office : OfficeFile) (body : List ℕ) (found : Database) (is : IsOfficeOf body office) (it : IsLeftSound s opened (office_of office) body found) where
   left : HasRows found.trees × Keeps opened.now.trees found.trees
@@ -122,10 +129,10 @@ module _ (s opened : State) (was : KeepsOpened s opened) (office : OfficeFile) (
 
   pub openable : IsOpenable (office_of office) body found
   openable = record {
-    ours = ours;
+    ours = record { schema_is = ours; plain = keeps_plain opened.now.trees found.trees left.1 it.text.1.1 };
     text = keeps_text _ opened.now.trees found.trees left.1 it.text.0;
     rows = left.0;
-    named = names (office_of office) (bands-of office (office-sound body office is)) found.trees it.sound.of_office opened.now.trees left.1 left.0 it.text.1 it.sound.truth;
+    named = names (office_of office) (bands-of office (office-sound body office is)) found.trees it.sound.of_office opened.now.trees left.1 left.0 it.text.1.0 it.sound.truth;
     of_office = it.sound.of_office;
     few = it.sound.few;
     truth = it.sound.truth;

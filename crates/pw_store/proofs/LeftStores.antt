@@ -73,7 +73,7 @@ pub opening_keeps : (s at : State) (office : OfficeRules) (body : List ℕ) (bef
 opening_keeps s at office body before is live it law = subst (KeepsOpened s) (sym is) (opened_keeps s live it.is_open it.settled it.may_open.store law)
 
 pub opening_text : (s at : State) (office : OfficeRules) (body : List ℕ) (before : Database) → at ≡ s → IsOpened office body before s → IsOfText office body at.now.trees
-opening_text s at office body before is it = subst (λ (o : State). IsOfText office body o.now.trees) (sym is) (it.may_open.kept, it.may_open.named)
+opening_text s at office body before is it = subst (λ (o : State). IsOfText office body o.now.trees) (sym is) (it.may_open.kept, (it.may_open.named, it.may_open.plain))
 
 -- ---- a call
 module _ (old new opened : State) (was : KeepsOpened old opened) where

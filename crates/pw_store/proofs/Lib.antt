@@ -24,6 +24,7 @@ pub mod OfMeter
 pub mod OfParts
 pub mod Once
 pub mod OneKind
+pub mod OfficeFirst
 pub mod OneOffice
 pub mod Openable
 pub mod Others

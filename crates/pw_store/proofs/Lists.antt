@@ -7,7 +7,7 @@ use Rattle.sqlite.specs.Order.{Row}
 use Rattle.sqlite.specs.Query.{Query, Output, output, page}
 use Rattle.sqlite.specs.Program.{overlay}
 use Rattle.sqlite.specs.State.{State, Shown}
-use Rattle.pw_schema.specs.Tables.{IsOurs, ours_with, checks_of}
+use Rattle.pw_schema.specs.Tables.{IsOurs, ours_with, only_one}
 use Rattle.sqlite.specs.Tree.{Trees}
 use Rattle.pw_model.specs.declared.records.Entry.{Entry}
 use Rattle.pw_model.specs.Counting.{Member, SameMembers}
@@ -18,9 +18,8 @@ use Rattle.pw_schema.specs.declared.kind.RecordKind.TheVariants.{Readings, Assig
 use Rattle.pw_store.specs.Shown.{entry_in, entries_of}
 use Rattle.pw_store.specs.inner.Lists.{shown, ShowsAll}
 use Rattle.pw_schema.specs.Rows.{told, ReadsRows}
-use Rattle.pw_store.specs.Opening.{offices, shown_office}
 use Rattle.pw_store.proofs.Once.{permuted}
-use Rattle.pw_store.proofs.Texts.{IsQuery, topups_text, topups_query, topups_is, all_readings_text, all_readings_query, all_readings_is, all_assignments_text, all_assignments_query, all_assignments_is, office_text, office_query, office_is}
+use Rattle.pw_store.proofs.Texts.{IsQuery, topups_text, topups_query, topups_is, all_readings_text, all_readings_query, all_readings_is, all_assignments_text, all_assignments_query, all_assignments_is}
 use Rattle.pw_store.proofs.Scans.{scan_of, answer_of, outputs}
 
 abbrev second : Output → Row
@@ -33,7 +32,7 @@ topups_shown (r ∷ rows) = ap (λ xs. shown TopUps r ∷ xs) (topups_shown rows
 pub shows_topups : (old new : State) (rows : List Row) → IsOurs old.now.schema → Shown topups_text [] old new rows → ShowsAll TopUps old.now.trees rows
 shows_topups old new rows ours h =
     let table = old.now.trees topup_tree in
-    let own = checks_of old.now.schema in
+    let own = only_one in
     let scan = answer_of (ours_with own) topups_text [] old new (codes "reference" ∷ codes "account" ∷ codes "cents" ∷ codes "instant" ∷ []) topup_tree topups_query rows ours (topups_is.is own) (topups_is.plain own) (topups_is.unlisted own) h in
     let same : IsPermutation (map second (outputs topups_query [] table)) (map second scan.ordered) = IsPermutation-map second (outputs topups_query [] table) scan.ordered scan.same in
     subst (λ xs. IsPermutation xs rows) (topups_shown table) (subst (IsPermutation (map second (outputs topups_query [] table))) (sym scan.shown) same)
@@ -100,7 +99,7 @@ lists_topups db rows found shows reads =
       );
     }
 
--- ---- the other whole tables, and the office's row
+-- ---- the other whole tables
 all_readings_shown : (rows : List Row) → map second (outputs all_readings_query [] rows) ≡ map (shown Readings) rows
 all_readings_shown [] = refl
 all_readings_shown (r ∷ rows) = ap (λ xs. shown Readings r ∷ xs) (all_readings_shown rows)
@@ -109,15 +108,11 @@ all_assignments_shown : (rows : List Row) → map second (outputs all_assignment
 all_assignments_shown [] = refl
 all_assignments_shown (r ∷ rows) = ap (λ xs. shown Assignments r ∷ xs) (all_assignments_shown rows)
 
-office_shown : (rows : List Row) → map second (map (output (scan_of 0 office_query)) (map (λ r. [] ∷ r ∷ []) rows)) ≡ map shown_office rows
-office_shown [] = refl
-office_shown (r ∷ rows) = ap (λ xs. shown_office r ∷ xs) (office_shown rows)
-
 -- what a query over one table shows, where it has no LIMIT
 module _ (text : List ℕ) (tree : ℕ) (q : Query) (names : List (List ℕ)) (it : IsQuery text (scan_of tree q) names) (params : Row) (old new : State) (rows : List Row) (ours : IsOurs old.now.schema) (h : Shown text params old new rows) where
   pub seen : (ordered : List Output) × IsPermutation (map second (outputs (scan_of tree q) params (overlay old.now.trees [] tree))) (map second ordered) × (rows ≡ page (scan_of tree q) params (map second ordered))
   seen =
-      let own = checks_of old.now.schema in
+      let own = only_one in
       let scan = answer_of (ours_with own) text params old new names tree q rows ours (it.is own) (it.plain own) (it.unlisted own) h in
       (scan.ordered, IsPermutation-map second (outputs (scan_of tree q) params (overlay old.now.trees [] tree)) scan.ordered scan.same, scan.shown)
 
@@ -130,11 +125,6 @@ pub shows_assignments : (old new : State) (rows : List Row) → IsOurs old.now.s
 shows_assignments old new rows ours h =
     let s = seen all_assignments_text 3 all_assignments_query _ all_assignments_is [] old new rows ours h in
     subst₂ IsPermutation (all_assignments_shown _) (sym s.2) s.1
-
-pub shows_office : (old new : State) (rows : List Row) → IsOurs old.now.schema → Shown office_text [] old new rows → IsPermutation (offices old.now.trees) rows
-shows_office old new rows ours h =
-    let s = seen office_text 0 office_query _ office_is [] old new rows ours h in
-    subst₂ IsPermutation (office_shown _) (sym s.2) s.1
 
 pub if_ok : {E Z : Type 0} (P Q : List Row → Type 0) → ((rows : List Row) → P rows → Q rows) → (r : Result (Vec Row Z) E) → IfOk r (λ rows. P rows.items) → IfOk r (λ rows. Q rows.items)
 if_ok P Q f (Ok rows) h = f rows.items h

@@ -27,7 +27,7 @@ use Rattle.pw_model.specs.Counting.{EachOnce, Member, SameMembers, reading_key, 
 use Rattle.pw_model.specs.Same.{same_key}
 use Rattle.pw_model.proofs.Same.{same_key-decides}
 use Rattle.pw_shelf.specs.Seconds.{IsBefore, IsBehind}
-use Rattle.pw_schema.specs.Tables.{ours_with, checks_of}
+use Rattle.pw_schema.specs.Tables.{ours_with, only_one}
 use Rattle.pw_schema.specs.Rows.{number, register_at, owner_at}
 use Rattle.pw_store.specs.Content.{IsReadingRow, IsAssignmentRow, point_in, start_in}
 use Rattle.pw_store.specs.Kept.{IsStore, key_in_point, key_in_start}
@@ -415,7 +415,7 @@ pub before_if : {Z : Type 0} (old new : State) (m : ℕ) (g : Register) (t : ℕ
     → IfOk out (λ rows. IsBefore (point_in (old.now.trees 7) m g) t (first_point rows.items))
 before_if old new m g t (Err e) store h = tt
 before_if old new m g t (Ok rows) store h =
-    let own = checks_of old.now.schema in
+    let own = only_one in
     before_is_last m g t (old.now.trees 7) store.points.each store.points.once rows.items
     (answer_of (ours_with own) before_text (params m g t) old new (codes "instant" ∷ codes "wh" ∷ []) 7 before_query rows.items store.ours (before_is.is own) (before_is.plain own) (before_is.unlisted own) h)
 
@@ -423,7 +423,7 @@ pub after_if : {Z : Type 0} (old new : State) (m : ℕ) (g : Register) (t : ℕ)
     → IfOk out (λ rows. IsBehind (point_in (old.now.trees 7) m g) t (first_point rows.items))
 after_if old new m g t (Err e) store h = tt
 after_if old new m g t (Ok rows) store h =
-    let own = checks_of old.now.schema in
+    let own = only_one in
     after_is_first m g t (old.now.trees 7) store.points.each store.points.once rows.items
     (answer_of (ours_with own) after_text (params m g t) old new (codes "instant" ∷ codes "wh" ∷ []) 7 after_query rows.items store.ours (after_is.is own) (after_is.plain own) (after_is.unlisted own) h)
 

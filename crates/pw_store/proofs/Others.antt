@@ -23,7 +23,7 @@ use Rattle.pw_model.specs.declared.records.TotalKey.TheVariants as total
 use Rattle.pw_model.specs.Counting.{IsInserted}
 use Rattle.pw_shelf.specs.State.{IsWithRecord}
 use Rattle.pw_schema.proofs.TotalKeys.{totals_one}
-use Rattle.pw_schema.specs.Tables.{IsOurs, ours_with, checks_of}
+use Rattle.pw_schema.specs.Tables.{IsOurs, ours_with, only_one}
 use Rattle.pw_store.specs.Content.{content_of, records_of, energy_in, payment_in, IsReadingRow, IsAssignmentRow, IsTopupRow, point_in, start_in, total_in, energy_told, payment_told, reading_tree, assignment_tree, topup_tree, point_tree, start_tree, total_tree, payment_tree}
 
 -- the trees of points, starts and totals are the same
@@ -76,15 +76,11 @@ same_records checks tree old new high t = record {
 pub records_kept : (old new : Trees) → SameRecords old new → records_of new ≡ records_of old
 records_kept old new same = rw (same.reading, same.assignment, same.topup) refl
 
--- a schema that is that of our tables with some checks is ours
-ours_is : (schema : _) (checks : List Term) → schema ≡ ours_with checks → IsOurs schema
-ours_is schema checks e = e ∙ ap (λ t. ours_with (checks_of t)) (sym e)
-
-pub store_kept : (checks : List Term) (old new : Database) → new.schema ≡ ours_with checks → SameRecords old.trees new.trees → IsStore old
+pub store_kept : (old new : Database) → IsOurs new.schema → SameRecords old.trees new.trees → IsStore old
     → AreKeyed IsReadingRow key_in_point (new.trees point_tree) → AreKeyed IsAssignmentRow key_in_start (new.trees start_tree)
     → AreKeyed IsEnergyRow energy_in (new.trees total_tree) → AreKeyed IsPaymentRow payment_in (new.trees payment_tree) → IsStore new
-store_kept checks old new is same store p s e y = record {
-  ours = ours_is new.schema checks is;
+store_kept old new is same store p s e y = record {
+  ours = is;
   readings = subst (AllByRecursion IsReadingRow) (sym same.reading) store.readings;
   assignments = subst (AllByRecursion IsAssignmentRow) (sym same.assignment) store.assignments;
   topups = subst (AllByRecursion IsTopupRow) (sym same.topup) store.topups;

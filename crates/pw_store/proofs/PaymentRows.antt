@@ -27,7 +27,7 @@ use Rattle.pw_tariff.specs.declared.ids.AccountId.{AccountId}
 use Rattle.pw_model.specs.declared.records.TotalKey.{TotalKey}
 use Rattle.pw_model.specs.declared.records.TotalKey.TheVariants as total
 use Rattle.pw_shelf.specs.Changes.{same_total, totals_with, with_total}
-use Rattle.pw_schema.specs.Tables.{ours_with, checks_of, total_topup_at}
+use Rattle.pw_schema.specs.Tables.{ours_with, only_one, total_topup_at}
 use Rattle.pw_schema.specs.Rows.{number}
 use Rattle.pw_schema.proofs.Steps.{one_delete, one_insert, uncounted}
 use Rattle.pw_store.specs.Content.{energy_in, payment_in, IsReadingRow, IsAssignmentRow, total_in, payment_told}
@@ -92,7 +92,7 @@ table = total_topup_at 13
 -- ---- DELETE
 module _ (old new : State) (a : AccountId) (count : ℕ) (store : IsStore old.now) (inside : IsTrue old.in_transaction) (h : Executes delete_payment_text (params a) old new (Ok count)) where
   abbrev own : List Term
-  own = checks_of old.now.schema
+  own = only_one
 
   deleted : (new.now.schema ≡ ours_with own) × ((rows : List Row) × Answers (record { schema = ours_with own; trees = old.now.trees }) (record { lets = []; body = delete_payment_query }) (params a) rows × Applies (ours_with own) (mode_of old).keys old.now.trees (edit_of old.now.trees (uncounted table) (ids_of rows) Given 0 []) new.now.trees)
   deleted =
@@ -115,7 +115,7 @@ module _ (old new : State) (a : AccountId) (count : ℕ) (store : IsStore old.no
 
   pub takes : Makes (λ c. with_total c (total.TopUps a) 0) old new
   takes = record {
-    store = store_kept own old.now new.now deleted.0 (same_records own 13 old.now.trees new.now.trees (omega arith) others) store
+    store = store_kept old.now new.now deleted.0 (same_records own 13 old.now.trees new.now.trees (omega arith) others) store
         (subst (AreKeyed IsReadingRow key_in_point) (sym (others.1.1.1.1.0 (λ e. absurd (omega (arith, e))))) store.points)
         (subst (AreKeyed IsAssignmentRow key_in_start) (sym (others.1.1.1.1.1.0 (λ e. absurd (omega (arith, e))))) store.starts)
         (subst (AreKeyed IsEnergyRow energy_in) (sym (others.1.1.1.1.1.1.0 (λ e. absurd (omega (arith, e))))) store.energies)
@@ -133,7 +133,7 @@ module _ (old new : State) (a : AccountId) (count : ℕ) (store : IsStore old.no
 -- ---- INSERT
 module _ (old new : State) (a : AccountId) (v : ℕ) (count : ℕ) (above : 0 < v) (store : IsStore old.now) (inside : IsTrue old.in_transaction) (none : payment_told (old.now.trees 13) (total.TopUps a) ≡ None) (h : Executes insert_payment_text (Int (pos a.0) ∷ Int (pos v) ∷ []) old new (Ok count)) where
   abbrev checks : List Term
-  checks = checks_of old.now.schema
+  checks = only_one
 
   abbrev given : Row
   given = Int (pos a.0) ∷ Int (pos v) ∷ []
@@ -172,7 +172,7 @@ module _ (old new : State) (a : AccountId) (v : ℕ) (count : ℕ) (above : 0 < 
 
   pub puts : Makes (λ c. with_total c (total.TopUps a) v) old new
   puts = record {
-    store = store_kept checks old.now new.now inserted.0 (same_records checks 13 old.now.trees new.now.trees (omega arith) elsewhere) store
+    store = store_kept old.now new.now inserted.0 (same_records checks 13 old.now.trees new.now.trees (omega arith) elsewhere) store
         (subst (AreKeyed IsReadingRow key_in_point) (sym (elsewhere.1.1.1.1.0 (λ e. absurd (omega (arith, e))))) store.points)
         (subst (AreKeyed IsAssignmentRow key_in_start) (sym (elsewhere.1.1.1.1.1.0 (λ e. absurd (omega (arith, e))))) store.starts)
         (subst (AreKeyed IsEnergyRow energy_in) (sym (elsewhere.1.1.1.1.1.1.0 (λ e. absurd (omega (arith, e))))) store.energies)

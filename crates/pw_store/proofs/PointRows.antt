@@ -30,7 +30,7 @@ use Rattle.pw_model.specs.Counting.{reading_key}
 use Rattle.pw_model.specs.Same.{same_key}
 use Rattle.pw_model.proofs.Same.{same_key-decides}
 use Rattle.pw_shelf.specs.Changes.{points_with, with_point}
-use Rattle.pw_schema.specs.Tables.{ours_with, checks_of, point_at}
+use Rattle.pw_schema.specs.Tables.{ours_with, only_one, point_at}
 use Rattle.pw_schema.specs.Rows.{number, register_at}
 use Rattle.pw_schema.proofs.Steps.{one_delete, one_insert, uncounted}
 use Rattle.pw_store.specs.Content.{energy_in, payment_in, IsReadingRow, IsAssignmentRow, point_in}
@@ -98,7 +98,7 @@ table = point_at 7
 -- ---- DELETE
 module _ (old new : State) (m : ℕ) (g : Register) (i : ℕ) (count : ℕ) (store : IsStore old.now) (inside : IsTrue old.in_transaction) (h : Executes delete_point_text (params m g i) old new (Ok count)) where
   abbrev own : List Term
-  own = checks_of old.now.schema
+  own = only_one
 
   deleted : (new.now.schema ≡ ours_with own) × ((rows : List Row) × Answers (record { schema = ours_with own; trees = old.now.trees }) (record { lets = []; body = delete_point_query }) (params m g i) rows × Applies (ours_with own) (mode_of old).keys old.now.trees (edit_of old.now.trees (uncounted table) (ids_of rows) Given 0 []) new.now.trees)
   deleted =
@@ -121,7 +121,7 @@ module _ (old new : State) (m : ℕ) (g : Register) (i : ℕ) (count : ℕ) (sto
 
   pub takes : Makes (λ c. with_point c m g i None) old new
   takes = record {
-    store = store_kept own old.now new.now deleted.0 (same_records own 7 old.now.trees new.now.trees (omega arith) others) store
+    store = store_kept old.now new.now deleted.0 (same_records own 7 old.now.trees new.now.trees (omega arith) others) store
         (subst (AreKeyed IsReadingRow key_in_point) (sym left) (keyed_gone same_key same_key-decides key_in_point (λ x. number (column x 4)) IsReadingRow (reading_key m g i) (old.now.trees 7) store.points))
         (subst (AreKeyed IsAssignmentRow key_in_start) (sym (others.1.1.1.1.1.0 (λ e. absurd (omega (arith, e))))) store.starts)
         (subst (AreKeyed IsEnergyRow energy_in) (sym (others.1.1.1.1.1.1.0 (λ e. absurd (omega (arith, e))))) store.energies)
@@ -137,7 +137,7 @@ module _ (old new : State) (m : ℕ) (g : Register) (i : ℕ) (count : ℕ) (sto
 -- ---- INSERT
 module _ (old new : State) (m : ℕ) (g : Register) (i : ℕ) (v : ℕ) (count : ℕ) (store : IsStore old.now) (inside : IsTrue old.in_transaction) (none : point_in (old.now.trees 7) m g i ≡ None) (h : Executes insert_point_text (reading_row m (register_place g) i v) old new (Ok count)) where
   abbrev checks : List Term
-  checks = checks_of old.now.schema
+  checks = only_one
 
   abbrev given : Row
   given = reading_row m (register_place g) i v
@@ -176,7 +176,7 @@ module _ (old new : State) (m : ℕ) (g : Register) (i : ℕ) (v : ℕ) (count :
 
   pub puts : Makes (λ c. with_point c m g i (Some v)) old new
   puts = record {
-    store = store_kept checks old.now new.now inserted.0 (same_records checks 7 old.now.trees new.now.trees (omega arith) elsewhere) store
+    store = store_kept old.now new.now inserted.0 (same_records checks 7 old.now.trees new.now.trees (omega arith) elsewhere) store
         (subst (AreKeyed IsReadingRow key_in_point) (sym put) (keyed_put same_key same_key-decides key_in_point (λ x. number (column x 4)) IsReadingRow (reading_key m g i) row (old.now.trees 7) key_is (refl, (ap (λ (s : Register). Int (pos (register_place s))) (sym (register_back g)), (refl, refl))) refl free unseen store.points))
         (subst (AreKeyed IsAssignmentRow key_in_start) (sym (elsewhere.1.1.1.1.1.0 (λ e. absurd (omega (arith, e))))) store.starts)
         (subst (AreKeyed IsEnergyRow energy_in) (sym (elsewhere.1.1.1.1.1.1.0 (λ e. absurd (omega (arith, e))))) store.energies)

@@ -1,13 +1,13 @@
 -- A store that was closed holds, when it is opened again, what was committed last.
 use Rattle.std.proofs.Common.{◌≡◌, ◌⊎◌, inl, inr, [], Result, Ok, Err, IfOk, sym, ap, ◌∙◌}
 use Rattle.sqlite.specs.Schema.{Schema}
-use Rattle.pw_schema.specs.Tables.{IsOurs, no_schema, ours_with, checks_of}
+use Rattle.pw_schema.specs.Tables.{IsOurs, no_schema, ours_with, only_one}
 use Rattle.pw_model.specs.Shelf.{ShelfContent, no_content}
 
 -- our tables are something
 pub not_nothing : (s : Schema) → IsOurs s → s ≡ no_schema → ⊥
 not_nothing s ours none =
-    let e : [] ≡ (ours_with (checks_of s)).tables = sym (ap (λ (x : Schema). x.tables) none) ∙ ap (λ (x : Schema). x.tables) ours in
+    let e : [] ≡ (ours_with only_one).tables = sym (ap (λ (x : Schema). x.tables) none) ∙ ap (λ (x : Schema). x.tables) ours in
     cc
 
 module _ {A E : Type 0} (Clean Open : Type 0) (CleanAt : A → Type 0) (held : A → ShelfContent) (found last : ShelfContent) (s : Schema) where

@@ -16,7 +16,7 @@ use Rattle.sqlite.specs.Query.{Query}
 use Rattle.sqlite.specs.Schema.{Schema}
 use Rattle.sqlite.proofs.StateLemmas.{survives_then}
 use Rattle.pw_schema.proofs.Outcomes.{fails_query, read_survives}
-use Rattle.pw_schema.specs.Tables.{IsOurs, checks_of, ours_with}
+use Rattle.pw_schema.specs.Tables.{IsOurs, only_one, ours_with}
 use Rattle.pw_store.specs.inner.Scanning.{HasTaken, IsOneQuery, IsSelect}
 use Rattle.pw_store.proofs.Texts.{IsQuery}
 
@@ -83,7 +83,7 @@ one_query (Ok c) q names plain is = (plain, subst IsSelect (sym is) refl)
 one_query (Err e) q names plain is = absurd plain
 
 pub ours_one : {text : List ℕ} {q : Query} {names : List (List ℕ)} → IsQuery text q names → (s : Schema) → IsOurs s → IsOneQuery (understood s text)
-ours_one {text} {q} {names} it s ours = subst (λ t. IsOneQuery (understood t text)) (sym ours) (one_query (understood (ours_with (checks_of s)) text) q names (it.plain (checks_of s)) (it.is (checks_of s)))
+ours_one {text} {q} {names} it s ours = subst (λ t. IsOneQuery (understood t text)) (sym ours) (one_query (understood (ours_with only_one) text) q names (it.plain only_one) (it.is only_one))
 
 -- the same rows were taken, of which more is known
 pub taken_if : {J A E : Type 0} (took : J → List Row → J → Type 0) (P Q : List Row → Type 0) (old new : J) (r : Result A E) → ((rows : List Row) → P rows → Q rows) → OnOk r (HasTaken took P old new) → OnOk r (HasTaken took Q old new)

@@ -30,7 +30,7 @@ use Rattle.pw_model.specs.Counting.{assignment_key}
 use Rattle.pw_model.specs.Same.{same_key}
 use Rattle.pw_model.proofs.Same.{same_key-decides}
 use Rattle.pw_shelf.specs.Changes.{starts_with, with_start}
-use Rattle.pw_schema.specs.Tables.{ours_with, checks_of, start_at}
+use Rattle.pw_schema.specs.Tables.{ours_with, only_one, start_at}
 use Rattle.pw_schema.specs.Rows.{number, owner_at}
 use Rattle.pw_schema.proofs.Steps.{one_delete, one_insert, uncounted}
 use Rattle.pw_store.specs.Content.{energy_in, payment_in, IsReadingRow, IsAssignmentRow, start_in}
@@ -95,7 +95,7 @@ table = start_at 9
 -- ---- DELETE
 module _ (old new : State) (m i : ℕ) (count : ℕ) (store : IsStore old.now) (inside : IsTrue old.in_transaction) (h : Executes delete_start_text (params m i) old new (Ok count)) where
   abbrev own : List Term
-  own = checks_of old.now.schema
+  own = only_one
 
   deleted : (new.now.schema ≡ ours_with own) × ((rows : List Row) × Answers (record { schema = ours_with own; trees = old.now.trees }) (record { lets = []; body = delete_start_query }) (params m i) rows × Applies (ours_with own) (mode_of old).keys old.now.trees (edit_of old.now.trees (uncounted table) (ids_of rows) Given 0 []) new.now.trees)
   deleted =
@@ -118,7 +118,7 @@ module _ (old new : State) (m i : ℕ) (count : ℕ) (store : IsStore old.now) (
 
   pub takes : Makes (λ c. with_start c m i None) old new
   takes = record {
-    store = store_kept own old.now new.now deleted.0 (same_records own 9 old.now.trees new.now.trees (omega arith) others) store
+    store = store_kept old.now new.now deleted.0 (same_records own 9 old.now.trees new.now.trees (omega arith) others) store
         (subst (AreKeyed IsReadingRow key_in_point) (sym (others.1.1.1.1.0 (λ e. absurd (omega (arith, e))))) store.points)
         (subst (AreKeyed IsAssignmentRow key_in_start) (sym left) (keyed_gone same_key same_key-decides key_in_start (λ x. owner_at (number (column x 3))) IsAssignmentRow (assignment_key m i) (old.now.trees 9) store.starts))
         (subst (AreKeyed IsEnergyRow energy_in) (sym (others.1.1.1.1.1.1.0 (λ e. absurd (omega (arith, e))))) store.energies)
@@ -134,7 +134,7 @@ module _ (old new : State) (m i : ℕ) (count : ℕ) (store : IsStore old.now) (
 -- ---- INSERT
 module _ (old new : State) (m i : ℕ) (o : Option AccountId) (count : ℕ) (store : IsStore old.now) (inside : IsTrue old.in_transaction) (none : start_in (old.now.trees 9) m i ≡ None) (h : Executes insert_start_text (assignment_row m i (owner_place o)) old new (Ok count)) where
   abbrev checks : List Term
-  checks = checks_of old.now.schema
+  checks = only_one
 
   abbrev given : Row
   given = assignment_row m i (owner_place o)
@@ -173,7 +173,7 @@ module _ (old new : State) (m i : ℕ) (o : Option AccountId) (count : ℕ) (sto
 
   pub puts : Makes (λ c. with_start c m i (Some o)) old new
   puts = record {
-    store = store_kept checks old.now new.now inserted.0 (same_records checks 9 old.now.trees new.now.trees (omega arith) elsewhere) store
+    store = store_kept old.now new.now inserted.0 (same_records checks 9 old.now.trees new.now.trees (omega arith) elsewhere) store
         (subst (AreKeyed IsReadingRow key_in_point) (sym (elsewhere.1.1.1.1.0 (λ e. absurd (omega (arith, e))))) store.points)
         (subst (AreKeyed IsAssignmentRow key_in_start) (sym put) (keyed_put same_key same_key-decides key_in_start (λ x. owner_at (number (column x 3))) IsAssignmentRow (assignment_key m i) row (old.now.trees 9) key_is (refl, (refl, refl)) refl free unseen store.starts))
         (subst (AreKeyed IsEnergyRow energy_in) (sym (elsewhere.1.1.1.1.1.1.0 (λ e. absurd (omega (arith, e))))) store.energies)

@@ -7,20 +7,20 @@ use Rattle.sqlite.specs.Command.TheVariants.{Delete}
 use Rattle.sqlite.specs.Listing.{understood}
 use Rattle.sqlite.specs.State.{State, Shows, HasCleanDisk, Executes, Survives, CommitsBy}
 use Rattle.sqlite.proofs.Callers.{command_of, runs_as}
-use Rattle.pw_schema.specs.Tables.{ours_with, checks_of, IsOurs}
+use Rattle.pw_schema.specs.Tables.{ours_with, only_one, IsOurs}
 use Rattle.pw_schema.proofs.Outcomes.{keeps_commit}
 use Rattle.pw_store.proofs.KeptTexts.{IsDelete}
 
 pub delete_inside : (text : List ℕ) (at : ℕ) (q : Query) → IsDelete text at q → (old new : State) → IsOurs old.now.schema → (params : Row) (count : ℕ) → Executes text params old new (Ok count) → IsTrue old.in_transaction → Shows old new new.now old.committed true
 delete_inside text at q it old new ours params count h inside =
-    let own : List Term = checks_of old.now.schema in
+    let own : List Term = only_one in
     let w = runs_as text params old new (ours_with own) ours (Delete at (record { lets = []; body = q })) (it.is own) (it.plain own) count h in
     let is : old.in_transaction ≡ true = inside in
     subst (λ b. Shows old new new.now (cond b old.committed new.now) b) is w.shown
 
 pub delete_survives : (text : List ℕ) (at : ℕ) (q : Query) → IsDelete text at q → (old new : State) (params : Row) → (HasCleanDisk old → IsOurs old.now.schema) → (HasCleanDisk old → IsTrue old.in_transaction) → Survives old new (CommitsBy text params old) → Survives old new (λ _. ⊥)
 delete_survives text at q it old new params ours inside =
-    keeps_commit old new text params (Delete at (record { lets = []; body = q })) (λ clean. ap (λ s. command_of (understood s text)) (ours clean) ∙ it.is (checks_of old.now.schema)) (λ name e. absurd cc) (λ e. absurd cc) inside
+    keeps_commit old new text params (Delete at (record { lets = []; body = q })) (λ clean. ap (λ s. command_of (understood s text)) (ours clean) ∙ it.is only_one) (λ name e. absurd cc) (λ e. absurd cc) inside
 
 pub both_true : (a b : Bool) → (a ≡ true → b ≡ true) → (b ≡ true → a ≡ true) → a ≡ b
 both_true true b f g = sym (f refl)

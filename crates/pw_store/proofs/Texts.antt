@@ -131,10 +131,6 @@ office_text = codes "SELECT version, body FROM office WHERE id = 1"
 abbrev pub office_query : Query
 office_query = plain_query 0 (op2 (Compare Eq Binary) (col 1 0) (lit (Int (pos 1))) ∷ []) (col 1 2 ∷ col 1 3 ∷ [])
 
-pub office_is : IsQuery office_text office_query (codes "version" ∷ codes "body" ∷ [])
-unfolding understood everything
-office_is = record { is = λ checks. refl; unlisted = λ checks. refl; plain = λ checks. (refl, refl) }
-
 abbrev pub has_reading_text : List ℕ
 has_reading_text = codes "SELECT wh FROM record_reading WHERE meter = ?1 AND register = ?2 AND instant = ?3 AND wh = ?4"
 

@@ -11,9 +11,11 @@ use Rattle.pw_tariff.specs.Office.{OfficeFile, OfficeRules, office_of}
 use Rattle.pw_tariff.specs.Text.{IsOfficeOf}
 use Rattle.pw_model.specs.Office.{AllOfOffice, most_records}
 use Rattle.pw_model.specs.Shelf.{IsTrueContent, ShelfContent}
+use Rattle.pw_schema.specs.Conflicts.{AreWithoutConflict}
 use Rattle.pw_schema.specs.Judging.{KeepsOffice}
 use Rattle.pw_schema.specs.Rows.{number}
-use Rattle.pw_schema.specs.Tables.{IsOurs}
+use Rattle.pw_schema.specs.Fresh.{AreNew}
+use Rattle.pw_schema.specs.Tables.{IsOurs, no_schema}
 use Rattle.pw_store.specs.Content.{content_of, energy_in, energy_told, payment_in, payment_told, payment_tree, total_tree}
 use Rattle.pw_store.specs.declared.fault.OpenFault.{OpenFault}
 use Rattle.pw_store.specs.declared.fault.OpenFault.TheVariants.{Store, Memory}
@@ -45,10 +47,15 @@ pub record IsLeftOf (s opened : Sql) : Type 0 where
 abbrev pub KeepsOpened : Sql → Sql → Type 0
 KeepsOpened s opened = HasCleanDisk s → IsLeftOf s opened
 
+-- ---- what a refused opening may leave behind a crash
+-- the tables of a new store with this text, where nothing was there
+abbrev pub MayBeNew : List ℕ → Sql → Trees → Type 0
+MayBeNew body s db = (s.committed.schema ≡ no_schema) × AreNew body db
+
 -- ---- what a crash leaves opens again
 -- the tables of a store of this office and text
 abbrev pub IsOfText : OfficeRules → List ℕ → Trees → Type 0
-IsOfText office body db = KeepsText (KeepsOffice body) db × NamesOffice office db
+IsOfText office body db = KeepsText (KeepsOffice body) db × (NamesOffice office db × AreWithoutConflict db)
 
 -- a true content of at most 10,000,000 entries of the office
 pub record IsSoundOf (office : OfficeRules) (c : ShelfContent) : Type 0 where

@@ -19,8 +19,9 @@ use Rattle.pw_schema.specs.declared.kind.RecordKind.TheVariants.{Readings, Assig
 use Rattle.pw_model.specs.declared.records.TotalKey.{TotalKey}
 use Rattle.pw_schema.specs.declared.kind.TotalKind.{TotalKind}
 use Rattle.pw_schema.specs.declared.kind.TotalKind.TheVariants.{Energies, Payments}
-use Rattle.pw_schema.specs.Judging.{HasOtherText, HasOtherVersion, IsTotalOf, KeepsOffice}
-use Rattle.pw_schema.specs.Tables.{IsOurs, no_schema}
+use Rattle.pw_schema.specs.Judging.{HasOtherText, HasOtherVersion, HasVersion, IsTotalOf, KeepsOffice}
+use Rattle.pw_schema.specs.Conflicts.{AreWithoutConflict}
+use Rattle.pw_schema.specs.Tables.{BeginsAsOurs, IsOurs, no_schema}
 use Rattle.pw_store.specs.declared.fault.OpenFault.{OpenFault}
 use Rattle.pw_store.specs.declared.fault.OpenFault.TheVariants.{Store, Memory, OfficeDiffers, Version, Unclean}
 use Rattle.pw_model.specs.Shelf.{IsTrueContent}
@@ -93,22 +94,30 @@ IsSpoilt office db =
     (HoldsAllRecords office db → ⊥)
     ⊎ (HoldsTooMany db ⊎ ((HoldsSums office db → ⊥) ⊎ (IsTrueContent office (content_of db) → ⊥)))
 
--- of a database whose tables are ours: another version is told before another text, and both before other rows
-abbrev pub OursRefuses : OfficeRules → List ℕ → Trees → OpenFault → Type 0
-OursRefuses office body db Store = Unit {0}
-OursRefuses office body db Memory = Unit {0}
-OursRefuses office body db OfficeDiffers = KeepsText (HasOtherText body) db
-OursRefuses office body db Version = KeepsText HasOtherVersion db
-OursRefuses office body db Unclean = KeepsText HasNoRow db ⊎ (KeepsText (KeepsOffice body) db × IsSpoilt office db)
+-- the tables are ours alone, and no text of theirs speaks of a conflict
+pub record HoldsOurs (db : Database) : Type 0 where
+  pub schema_is : IsOurs db.schema
+  pub plain : AreWithoutConflict db.trees
 
--- of any database: there is something else than our tables, or they are ours and what they hold refuses
+-- of a database that begins with our tables: another version is told before what stands behind them, and a clause of
+-- theirs, these before another text, and all of them before other rows
+abbrev pub BegunRefuses : OfficeRules → List ℕ → Database → OpenFault → Type 0
+BegunRefuses office body db Store = Unit {0}
+BegunRefuses office body db Memory = Unit {0}
+BegunRefuses office body db Version = KeepsText HasOtherVersion db.trees
+BegunRefuses office body db OfficeDiffers = HoldsOurs db × KeepsText (HasOtherText body) db.trees
+BegunRefuses office body db Unclean =
+    KeepsText HasNoRow db.trees
+    ⊎ ((KeepsText HasVersion db.trees × (HoldsOurs db → ⊥)) ⊎ (HoldsOurs db × (KeepsText (KeepsOffice body) db.trees × IsSpoilt office db.trees)))
+
+-- of any database: there is something, and it doesn't begin with our tables; or it does, and what it holds refuses
 abbrev pub Refuses : OfficeRules → List ℕ → Database → OpenFault → Type 0
 Refuses office body db Store = Unit {0}
 Refuses office body db Memory = Unit {0}
-Refuses office body db OfficeDiffers = IsOurs db.schema × OursRefuses office body db.trees OfficeDiffers
-Refuses office body db Version = IsOurs db.schema × OursRefuses office body db.trees Version
+Refuses office body db OfficeDiffers = BeginsAsOurs db.schema × BegunRefuses office body db OfficeDiffers
+Refuses office body db Version = BeginsAsOurs db.schema × BegunRefuses office body db Version
 Refuses office body db Unclean =
-    (((db.schema ≡ no_schema) → ⊥) × (IsOurs db.schema → ⊥)) ⊎ (IsOurs db.schema × OursRefuses office body db.trees Unclean)
+    (((db.schema ≡ no_schema) → ⊥) × (BeginsAsOurs db.schema → ⊥)) ⊎ (BeginsAsOurs db.schema × BegunRefuses office body db Unclean)
 
 -- ---- what opens
 -- rows of the kinds asked for, with no key twice
@@ -134,7 +143,7 @@ pub record NamesOffice (office : OfficeRules) (db : Trees) : Type 0 where
 
 -- our tables, of this version and this text, whose content is true and has entries of the office, and not too many
 pub record IsOpenable (office : OfficeRules) (body : List ℕ) (db : Database) : Type 0 where
-  pub ours : IsOurs db.schema
+  pub ours : HoldsOurs db
   pub text : KeepsText (KeepsOffice body) db.trees
   pub rows : HasRows db.trees
   pub named : NamesOffice office db.trees

@@ -2,7 +2,7 @@
 
 ghost use Rattle.std.specs.Prelude.{◌≡◌, ◌⊎◌, IfOk, IfErr, IsTrue, None, false, ◌≤◌, length};
 ghost use Rattle.sqlite.specs.Held.{state};
-ghost use Rattle.sqlite.specs.State.{HasCleanDisk, KeepsCommit};
+ghost use Rattle.sqlite.specs.State.{HasCleanDisk, KeepsCommit, Survives};
 ghost use Rattle.pw_tariff.specs.Office.{OfficeFile, office_of};
 ghost use Rattle.pw_tariff.specs.Text.{IsOfficeOf};
 ghost use Rattle.pw_model.specs.Shelf.{IsTrueContent, no_content};
@@ -12,7 +12,7 @@ ghost use Rattle.pw_shelf.specs.Left.{LeavesOnly};
 ghost use Rattle.pw_schema.specs.Tables.{IsOurs, no_schema};
 ghost use Rattle.pw_store.specs.Content.{content_of};
 ghost use Rattle.pw_store.specs.Kept.{held_of, left_of, state_of};
-ghost use Rattle.pw_store.specs.Left.{IsOfText};
+ghost use Rattle.pw_store.specs.Left.{IsOfText, MayBeNew};
 ghost use Rattle.pw_store.specs.Opening.{KeepsText, Refuses};
 ghost use Rattle.pw_schema.specs.Judging.{KeepsOffice};
 
@@ -29,7 +29,8 @@ use std::snapshot::Snapshot;
 impl<S: Alter> SqlShelf<S> {
     /// Opens a connection as a store of the office of a text: rolls back a transaction that the connection is inside of,
     /// makes the tables where nothing is there, and else judges what is there. A refused connection is given back, with
-    /// what was committed.
+    /// what was committed. Where nothing was there, a crash behind a refusal may leave the tables that were being made,
+    /// whole.
     pub fn open(
         alloc: Global,
         connection: Connection<S>,
@@ -48,6 +49,7 @@ impl<S: Alter> SqlShelf<S> {
         ensures left { IfOk result (λ s. HasCleanDisk (state S.Store s.conn) → LeavesOnly (held_of (state S.Store s.conn) (state S.Store s.base.value)) (left_of (state S.Store s.conn))) }
         ensures cause { IfErr result (λ e. HasCleanDisk (state S.Store e.1) → (office : OfficeFile) × IsOfficeOf office_text.now office × Refuses (office_of office) office_text.now (state S.Store connection).committed e.0) }
         ensures refused { IfErr result (λ e. HasCleanDisk (state S.Store e.1) → KeepsCommit (state S.Store connection) (state S.Store e.1) ⊎ (e.1 ≡ connection)) }
+        ensures crash { IfErr result (λ e. Survives (state S.Store connection) (state S.Store e.1) (MayBeNew office_text.now (state S.Store connection))) }
     {
         SqlShelf::open_watched(alloc, connection, office_text, &mut Unwatched)
     }
@@ -72,6 +74,7 @@ impl<S: Alter> SqlShelf<S> {
         ensures left { IfOk result (λ s. HasCleanDisk (state S.Store s.conn) → LeavesOnly (held_of (state S.Store s.conn) (state S.Store s.base.value)) (left_of (state S.Store s.conn))) }
         ensures cause { IfErr result (λ e. HasCleanDisk (state S.Store e.1) → (office : OfficeFile) × IsOfficeOf office_text.now office × Refuses (office_of office) office_text.now (state S.Store connection).committed e.0) }
         ensures refused { IfErr result (λ e. HasCleanDisk (state S.Store e.1) → KeepsCommit (state S.Store connection) (state S.Store e.1) ⊎ (e.1 ≡ connection)) }
+        ensures crash { IfErr result (λ e. Survives (state S.Store connection) (state S.Store e.1) (MayBeNew office_text.now (state S.Store connection))) }
     {
         match Office::read(alloc, office_text) {
             Ok(office) => SqlShelf::open_for(alloc, connection, &office, office_text, watch),
@@ -99,6 +102,7 @@ impl<S: Alter> SqlShelf<S> {
         ensures left { IfOk result (λ s. HasCleanDisk (state S.Store s.conn) → LeavesOnly (held_of (state S.Store s.conn) (state S.Store s.base.value)) (left_of (state S.Store s.conn))) }
         ensures cause { IfErr result (λ e. HasCleanDisk (state S.Store e.1) → Refuses (office_of office.now) office_text.now (state S.Store connection).committed e.0) }
         ensures refused { IfErr result (λ e. HasCleanDisk (state S.Store e.1) → KeepsCommit (state S.Store connection) (state S.Store e.1)) }
+        ensures crash { IfErr result (λ e. Survives (state S.Store connection) (state S.Store e.1) (MayBeNew office_text.now (state S.Store connection))) }
     {
         match prepare(alloc, &mut connection, office, office_text, watch) {
             Ok(()) => {

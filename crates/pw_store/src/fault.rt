@@ -60,8 +60,8 @@ pub enum OpenFault {
     OfficeDiffers,
     /// Another schema version.
     Version,
-    /// The tables aren't those of a store, a row is no record of the office, or points, starts and totals aren't those of
-    /// the records.
+    /// The tables aren't those of a store, or aren't alone, a row is no record of the office, or points, starts and totals
+    /// aren't those of the records.
     Unclean,
 }
 

@@ -8,11 +8,12 @@ ghost use Rattle.pw_tariff.specs.Office.{office_of};
 ghost use Rattle.pw_model.specs.Office.{AllOfOffice};
 ghost use Rattle.pw_schema.specs.Fresh.{IsIdleAt};
 ghost use Rattle.pw_store.specs.Content.{records_of};
-ghost use Rattle.pw_schema.specs.Judging.{KeepsOffice};
-ghost use Rattle.pw_schema.specs.Tables.{IsOurs, no_schema};
-ghost use Rattle.pw_store.specs.Opening.{HoldsAllRecords, HoldsRecords, KeepsText, OursRefuses, Refuses};
+ghost use Rattle.pw_schema.specs.Judging.{HasVersion, KeepsOffice};
+ghost use Rattle.pw_schema.specs.Tables.{BeginsAsOurs, IsOurs, no_schema};
+ghost use Rattle.pw_store.specs.Left.{MayBeNew};
+ghost use Rattle.pw_store.specs.Opening.{BegunRefuses, HoldsAllRecords, HoldsOurs, HoldsRecords, KeepsText, Refuses, offices};
 ghost use Rattle.pw_store.specs.Shown.{entries_of};
-ghost use Rattle.pw_store.specs.inner.Opened.{IsOpened, IsSettled, MayOpen, RecordsRefuse, RowRefuses, TableRefuses};
+ghost use Rattle.pw_store.specs.inner.Opened.{IsOpened, IsSettled, MayOpen, RecordsRefuse, RowRefuses, TableRefuses, VersionRefuses};
 
 use crate::fault::{OpenFault, fault_in};
 use crate::sums::read_sums;
@@ -22,22 +23,21 @@ use crate::waking::wake;
 use crate::watch::{Part, Watch};
 use pw_model::Entry;
 use pw_schema::{
-    OfficeFault, RecordKind, Records, create, is_nothing, is_ours, judge_office, roll_back,
+    OfficeFault, RecordKind, Records, begins_as_ours, create, has_no_conflict, is_nothing, is_ours,
+    judge_version, keeps_office, roll_back,
 };
 use pw_tariff::Office;
-use sqlite::{Alter, Connection, Error};
+use sqlite::{Alter, Connection, Error, Row};
 use std::alloc::{AllocError, Global};
 
 // Why the row of `office` refuses an opening.
 fn fault_of_office(fault: OfficeFault) -> OpenFault
-    ensures version { result ≡ OpenFault.Version → fault ≡ OfficeFault.Version }
-    ensures text { result ≡ OpenFault.OfficeDiffers → fault ≡ OfficeFault.Text }
-    ensures missing { result ≡ OpenFault.Unclean → fault ≡ OfficeFault.Missing }
+    ensures version { fault ≡ OfficeFault.Version → result ≡ OpenFault.Version }
+    ensures missing { fault ≡ OfficeFault.Missing → result ≡ OpenFault.Unclean }
 {
     match fault {
         OfficeFault::Missing => OpenFault::Unclean,
         OfficeFault::Version => OpenFault::Version,
-        OfficeFault::Text => OpenFault::OfficeDiffers,
     }
 }
 
@@ -169,11 +169,12 @@ fn check_topups<S: Alter>(
     }
 }
 
-// The version and the text of the office, judged.
-fn check_office<S: Alter>(conn: &mut Connection<S>, text: &[u8]) -> Result<(), OpenFault>
-    requires ours { HasCleanDisk (state S.Store conn.old) → IsOurs (state S.Store conn.old).now.schema }
-    ensures kept_text { HasCleanDisk (state S.Store conn.new) → OnOk result (KeepsText (KeepsOffice text.now) (state S.Store conn.new).now.trees) }
-    ensures cause { HasCleanDisk (state S.Store conn.new) → IfErr result (RowRefuses text.now (state S.Store conn.old).now.trees) }
+// The row of `office`, whose version is judged, whatever stands behind our tables.
+fn read_office<S: Alter>(conn: &mut Connection<S>) -> Result<Vec<Row>, OpenFault>
+    requires begun { HasCleanDisk (state S.Store conn.old) → BeginsAsOurs (state S.Store conn.old).now.schema }
+    ensures rows { HasCleanDisk (state S.Store conn.new) → IfOk result (λ rows. IsPermutation (offices (state S.Store conn.old).now.trees) rows.items) }
+    ensures version { IfOk result (λ rows. HasVersion rows.items) }
+    ensures cause { HasCleanDisk (state S.Store conn.new) → IfErr result (VersionRefuses (state S.Store conn.old).now.trees) }
     ensures same { HasCleanDisk (state S.Store conn.new) → OnOk result (IsUnchanged (state S.Store conn.old) (state S.Store conn.new)) }
     ensures kept { HasCleanDisk (state S.Store conn.new) → KeepsCommit (state S.Store conn.old) (state S.Store conn.new) }
     ensures crash { Survives (state S.Store conn.old) (state S.Store conn.new) (λ _. ⊥) }
@@ -182,13 +183,54 @@ fn check_office<S: Alter>(conn: &mut Connection<S>, text: &[u8]) -> Result<(), O
         Ok(rows) => rows,
         Err(error) => return Err(fault_in(error)),
     };
-    match judge_office(rows.as_slice(), text) {
-        Ok(()) => Ok(()),
+    match judge_version(rows.as_slice()) {
+        Ok(()) => Ok(rows),
         Err(fault) => Err(fault_of_office(fault)),
     }
 }
 
-// What is there, judged.
+// Whether there are our tables alone, and no text of theirs speaks of a conflict.
+fn holds_ours<S: Alter>(conn: &mut Connection<S>) -> Result<bool, Error>
+    ensures is { HasCleanDisk (state S.Store conn.new) → IfOk result (λ alone. IsTrue alone → HoldsOurs (state S.Store conn.old).now) }
+    ensures all { HasCleanDisk (state S.Store conn.new) → IfOk result (λ alone. HoldsOurs (state S.Store conn.old).now → IsTrue alone) }
+    ensures same { HasCleanDisk (state S.Store conn.new) → IfOk result (λ alone. IsTrue alone → IsUnchanged (state S.Store conn.old) (state S.Store conn.new)) }
+    ensures kept { HasCleanDisk (state S.Store conn.new) → KeepsCommit (state S.Store conn.old) (state S.Store conn.new) }
+    ensures crash { Survives (state S.Store conn.old) (state S.Store conn.new) (λ _. ⊥) }
+{
+    if !is_ours(conn.schema()) {
+        return Ok(false);
+    }
+    has_no_conflict(conn)
+}
+
+// The version, what stands beside our tables, and the text of the office, judged.
+fn check_office<S: Alter>(conn: &mut Connection<S>, text: &[u8]) -> Result<(), OpenFault>
+    requires begun { HasCleanDisk (state S.Store conn.old) → BeginsAsOurs (state S.Store conn.old).now.schema }
+    ensures ours { HasCleanDisk (state S.Store conn.new) → OnOk result (HoldsOurs (state S.Store conn.new).now) }
+    ensures kept_text { HasCleanDisk (state S.Store conn.new) → OnOk result (KeepsText (KeepsOffice text.now) (state S.Store conn.new).now.trees) }
+    ensures cause { HasCleanDisk (state S.Store conn.new) → IfErr result (RowRefuses text.now (state S.Store conn.old).now) }
+    ensures same { HasCleanDisk (state S.Store conn.new) → OnOk result (IsUnchanged (state S.Store conn.old) (state S.Store conn.new)) }
+    ensures kept { HasCleanDisk (state S.Store conn.new) → KeepsCommit (state S.Store conn.old) (state S.Store conn.new) }
+    ensures crash { Survives (state S.Store conn.old) (state S.Store conn.new) (λ _. ⊥) }
+{
+    let rows = match read_office(conn) {
+        Ok(rows) => rows,
+        Err(fault) => return Err(fault),
+    };
+    let alone = match holds_ours(conn) {
+        Ok(alone) => alone,
+        Err(error) => return Err(fault_in(error)),
+    };
+    if !alone {
+        return Err(OpenFault::Unclean);
+    }
+    if !keeps_office(rows.as_slice(), text) {
+        return Err(OpenFault::OfficeDiffers);
+    }
+    Ok(())
+}
+
+// What is there, behind our tables and in them, judged.
 fn check<S: Alter, W: Watch>(
     alloc: Global,
     conn: &mut Connection<S>,
@@ -196,9 +238,9 @@ fn check<S: Alter, W: Watch>(
     text: &[u8],
     watch: &mut W,
 ) -> Result<(), OpenFault>
-    requires ours { HasCleanDisk (state S.Store conn.old) → IsOurs (state S.Store conn.old).now.schema }
+    requires begun { HasCleanDisk (state S.Store conn.old) → BeginsAsOurs (state S.Store conn.old).now.schema }
     ensures may_open { HasCleanDisk (state S.Store conn.new) → OnOk result (MayOpen (office_of office.now) text.now (state S.Store conn.new).now) }
-    ensures cause { HasCleanDisk (state S.Store conn.new) → IfErr result (OursRefuses (office_of office.now) text.now (state S.Store conn.old).now.trees) }
+    ensures cause { HasCleanDisk (state S.Store conn.new) → IfErr result (BegunRefuses (office_of office.now) text.now (state S.Store conn.old).now) }
     ensures same { HasCleanDisk (state S.Store conn.new) → OnOk result (IsUnchanged (state S.Store conn.old) (state S.Store conn.new)) }
     ensures kept { HasCleanDisk (state S.Store conn.new) → KeepsCommit (state S.Store conn.old) (state S.Store conn.new) }
     ensures crash { Survives (state S.Store conn.old) (state S.Store conn.new) (λ _. ⊥) }
@@ -234,13 +276,14 @@ fn make_or_check<S: Alter, W: Watch>(
     ensures cause { HasCleanDisk (state S.Store conn.new) → IfErr result (Refuses (office_of office.now) text.now (state S.Store conn.old).committed) }
     ensures kept { HasCleanDisk (state S.Store conn.new) → OnErr result (KeepsCommit (state S.Store conn.old) (state S.Store conn.new)) }
     ensures clean { HasCleanDisk (state S.Store conn.new) → HasCleanDisk (state S.Store conn.old) }
+    ensures crash { OnErr result (Survives (state S.Store conn.old) (state S.Store conn.new) (MayBeNew text.now (state S.Store conn.old))) }
 {
     match look(conn) {
         Found::Nothing => match create(conn, text) {
             Ok(()) => Ok(()),
             Err(error) => Err(fault_in(error)),
         },
-        Found::Ours => check(alloc, conn, office, text, watch),
+        Found::Begun => check(alloc, conn, office, text, watch),
         Found::Other => Err(OpenFault::Unclean),
     }
 }
@@ -248,23 +291,23 @@ fn make_or_check<S: Alter, W: Watch>(
 #[derive(Clone, Copy, Debug, PartialEq, Eq)]
 enum Found {
     Nothing,
-    Ours,
+    Begun,
     Other,
 }
 
 // What tables are there.
 fn look<S: Alter>(conn: &Connection<S>) -> Found
     ensures nothing { result ≡ Found.Nothing → (state S.Store conn.now).now.schema ≡ no_schema }
-    ensures ours { result ≡ Found.Ours → IsOurs (state S.Store conn.now).now.schema }
+    ensures begun { result ≡ Found.Begun → BeginsAsOurs (state S.Store conn.now).now.schema }
     ensures not_nothing { result ≡ Found.Other → (state S.Store conn.now).now.schema ≡ no_schema → ⊥ }
-    ensures not_ours { result ≡ Found.Other → IsOurs (state S.Store conn.now).now.schema → ⊥ }
+    ensures not_begun { result ≡ Found.Other → BeginsAsOurs (state S.Store conn.now).now.schema → ⊥ }
 {
     let schema = conn.schema();
     if is_nothing(schema) {
         return Found::Nothing;
     }
-    if is_ours(schema) {
-        return Found::Ours;
+    if begins_as_ours(schema) {
+        return Found::Begun;
     }
     Found::Other
 }
@@ -282,6 +325,7 @@ pub(crate) fn prepare<S: Alter, W: Watch>(
     ensures was_open { HasCleanDisk (state S.Store conn.new) → OnOk result (IsTrue (state S.Store conn.old).is_open) }
     ensures kept { HasCleanDisk (state S.Store conn.new) → OnErr result (KeepsCommit (state S.Store conn.old) (state S.Store conn.new)) }
     ensures clean { HasCleanDisk (state S.Store conn.new) → HasCleanDisk (state S.Store conn.old) }
+    ensures crash { OnErr result (Survives (state S.Store conn.old) (state S.Store conn.new) (MayBeNew text.now (state S.Store conn.old))) }
 {
     if let Err(error) = settle(conn) {
         return Err(fault_in(error));

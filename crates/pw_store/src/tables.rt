@@ -4,7 +4,7 @@ ghost use Rattle.std.specs.Prelude.{◌≡◌, ◌⊎◌, [], Err, OnOk, OnErr, 
 ghost use Rattle.std.specs.List.Sorted.{IsPermutation};
 ghost use Rattle.sqlite.specs.Held.{state};
 ghost use Rattle.sqlite.specs.State.{HasCleanDisk, IsUnchanged, IsRolledBack, KeepsCommit, Survives};
-ghost use Rattle.pw_schema.specs.Tables.{IsOurs};
+ghost use Rattle.pw_schema.specs.Tables.{BeginsAsOurs, IsOurs};
 ghost use Rattle.pw_store.specs.inner.Lists.{ShowsAll};
 ghost use Rattle.pw_store.specs.Opening.{offices};
 ghost use Rattle.pw_store.specs.inner.Scanning.{HasRefused, HasTaken, IsOther};
@@ -14,9 +14,9 @@ use crate::scan::judge_each;
 use pw_schema::{Judge, RecordKind};
 use sqlite::{Alter, Connection, Error, Row};
 
-/// The version and the text of the office.
+/// The version and the text of the office, whatever stands behind our tables.
 pub(crate) fn office_rows<S: Alter>(conn: &mut Connection<S>) -> Result<Vec<Row>, Error>
-    requires ours { HasCleanDisk (state S.Store conn.old) → IsOurs (state S.Store conn.old).now.schema }
+    requires begun { HasCleanDisk (state S.Store conn.old) → BeginsAsOurs (state S.Store conn.old).now.schema }
     ensures rows { HasCleanDisk (state S.Store conn.new) → IfOk result (λ rows. IsPermutation (offices (state S.Store conn.old).now.trees) rows.items) }
     ensures same { HasCleanDisk (state S.Store conn.new) → OnOk result (IsUnchanged (state S.Store conn.old) (state S.Store conn.new)) }
     ensures failed { HasCleanDisk (state S.Store conn.new) → OnErr result (IsUnchanged (state S.Store conn.old) (state S.Store conn.new) ⊎ IsRolledBack (state S.Store conn.old) (state S.Store conn.new)) }

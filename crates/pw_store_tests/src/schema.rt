@@ -2,8 +2,8 @@
 
 use pw_model::Entry;
 use pw_schema::{
-    Judge, JudgeFault, ReadFault, RecordKind, Records, Rowids, begin, commit, create, is_nothing,
-    is_ours, judge_office, read_rows, roll_back,
+    Judge, JudgeFault, OfficeFault, ReadFault, RecordKind, Records, Rowids, begin, begins_as_ours,
+    commit, create, is_nothing, is_ours, judge_version, keeps_office, read_rows, roll_back,
 };
 use pw_tariff::Office;
 use sqlite::{Connection, Error, MemStore, Row};
@@ -77,18 +77,36 @@ fn are_ours_behind(rt: &impl Abort, conn: &mut Connection<MemStore>, statement: 
     is_ours(conn.schema())
 }
 
-// Whether the text of the office is kept.
-fn is_text_kept(rt: &impl Abort, conn: &mut Connection<MemStore>) -> bool {
+// The rows of `office`.
+fn office_rows(rt: &impl Abort, conn: &mut Connection<MemStore>) -> Vec<Row> {
     let asked = "SELECT version, body FROM office WHERE id = 1";
-    let kept = conn.query_all(asked, &[]).expect(rt, "rows");
-    judge_office(kept.as_slice(), b"text".as_slice()).is_ok()
+    conn.query_all(asked, &[]).expect(rt, "rows")
+}
+
+// Whether the text of the office is kept, and no other.
+fn is_text_kept(rt: &impl Abort, conn: &mut Connection<MemStore>) -> bool {
+    let kept = office_rows(rt, conn);
+    let rows = kept.as_slice();
+    keeps_office(rows, b"text".as_slice()) && !keeps_office(rows, b"test".as_slice())
+}
+
+// What is told of the version behind a statement.
+fn version_behind(
+    rt: &impl Abort,
+    conn: &mut Connection<MemStore>,
+    statement: &str,
+) -> Result<(), OfficeFault> {
+    conn.execute(statement, &[]).expect(rt, "a statement");
+    judge_version(office_rows(rt, conn).as_slice())
 }
 
 // bears on: pw_schema make.rt create made
 // bears on: pw_schema make.rt create memory
-// bears on: pw_schema office.rt judge_office text
-// bears on: pw_schema office.rt judge_office version
+// bears on: pw_schema office.rt keeps_office all
+// bears on: pw_schema office.rt keeps_office is
+// bears on: pw_schema shape.rt begins_as_ours ensures
 // bears on: pw_schema shape.rt is_nothing ensures
+// bears on: pw_schema shape.rt is_ours ensures
 #[test]
 fn tables_that_are_made_are_ours(rt: HostRuntime) {
     let conn = memory(&rt, rt.alloc());
@@ -98,6 +116,30 @@ fn tables_that_are_made_are_ours(rt: HostRuntime) {
     assert!(rt; is_text_kept(&rt, &mut conn));
     let other = "CREATE TABLE other (id INTEGER) STRICT";
     assert!(rt; !are_ours_behind(&rt, &mut conn, other));
+    assert!(rt; begins_as_ours(conn.schema()));
+}
+
+// bears on: pw_schema office.rt judge_version missing
+// bears on: pw_schema office.rt judge_version other
+// bears on: pw_schema office.rt judge_version version
+#[test]
+fn versions_other_than_1(rt: HostRuntime) {
+    let mut conn = new_store(&rt, rt.alloc());
+    for (statement, told) in [
+        ("UPDATE office SET version = 1", Ok(())),
+        ("UPDATE office SET version = 2", Err(OfficeFault::Version)),
+        ("DELETE FROM office", Err(OfficeFault::Missing)),
+    ] {
+        assert!(rt; version_behind(&rt, &mut conn, statement) == told);
+    }
+}
+
+#[test]
+fn a_check_of_another_kind_is_not_ours(rt: HostRuntime) {
+    let mut conn = memory(&rt, rt.alloc());
+    let office =
+        "CREATE TABLE office (id INTEGER PRIMARY KEY CHECK (id = 2), version INTEGER NOT NULL, body BLOB NOT NULL) STRICT";
+    assert!(rt; !are_ours_behind(&rt, &mut conn, office) && !begins_as_ours(conn.schema()));
 }
 
 #[test]

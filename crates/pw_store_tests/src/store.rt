@@ -266,8 +266,8 @@ fn numbers_and_names(rt: HostRuntime) {
     }
 }
 
-// bears on: pw_schema office.rt judge_office kept
-// bears on: pw_schema office.rt judge_office missing
+// bears on: pw_schema office.rt judge_version missing
+// bears on: pw_schema office.rt judge_version other
 // bears on: pw_store door.rt SqlShelf::open cause
 // bears on: pw_store door.rt SqlShelf::open content
 // bears on: pw_store door.rt SqlShelf::open of_office
@@ -451,6 +451,41 @@ fn a_total_of_0_at_any_key_opens_again(rt: HostRuntime) {
     assert!(rt; committed_total_of_0(&mut shelf).is_ok());
     let mut again = shelf_of(&rt, rt.alloc(), shelf.close());
     assert!(rt; again.total(&NOBODY) == Ok(0));
+}
+
+// Why a new store, in which two statements were run, isn't opened, if it isn't.
+fn refusal_behind_both(
+    rt: &impl Abort,
+    alloc: Global,
+    first: &str,
+    second: &str,
+) -> Option<OpenFault> {
+    let mut connection = empty_shelf(rt, alloc).close();
+    execute(rt, &mut connection, first);
+    execute(rt, &mut connection, second);
+    refusal(rt, alloc, connection)
+}
+
+// bears on: pw_schema shape.rt begins_as_ours ensures
+// bears on: pw_store door.rt SqlShelf::open cause
+// bears on: pw_store door.rt SqlShelf::open_watched cause
+#[test]
+fn a_version_is_told_between_missing_tables_and_others(rt: HostRuntime) {
+    let later = "CREATE TABLE withdrawn_reading (wh INTEGER NOT NULL) STRICT";
+    let version = "UPDATE office SET version = 2";
+    for (first, second, fault) in [
+        (later, version, OpenFault::Version),
+        (version, "DROP TABLE total_topup", OpenFault::Unclean),
+        (later, "DELETE FROM office", OpenFault::Unclean),
+        (later, "UPDATE office SET body = X'00'", OpenFault::Unclean),
+        (
+            version,
+            "UPDATE office SET body = X'00'",
+            OpenFault::Version,
+        ),
+    ] {
+        assert!(rt; refusal_behind_both(&rt, rt.alloc(), first, second) == Some(fault));
+    }
 }
 
 #[test]

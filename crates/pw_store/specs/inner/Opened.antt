@@ -11,14 +11,15 @@ use Rattle.pw_schema.specs.declared.kind.RecordKind.{RecordKind}
 use Rattle.pw_schema.specs.declared.kind.TotalKind.{TotalKind}
 use Rattle.pw_schema.specs.declared.kind.TotalKind.TheVariants.{Energies, Payments}
 use Rattle.pw_schema.specs.Rows.{number}
-use Rattle.pw_schema.specs.Judging.{HasOtherText, HasOtherVersion, KeepsOffice}
+use Rattle.pw_schema.specs.Judging.{HasOtherText, HasOtherVersion, HasVersion, KeepsOffice}
+use Rattle.pw_schema.specs.Conflicts.{AreWithoutConflict}
 use Rattle.pw_schema.specs.Tables.{no_schema}
 use Rattle.pw_store.specs.declared.fault.OpenFault.{OpenFault}
 use Rattle.pw_store.specs.declared.fault.OpenFault.TheVariants.{Store, Memory, OfficeDiffers, Version, Unclean}
 use Rattle.pw_model.specs.Shelf.{no_content, IsTrueContent}
 use Rattle.pw_store.specs.Content.{content_of, records_of}
 use Rattle.pw_store.specs.Kept.{IsStore}
-use Rattle.pw_store.specs.Opening.{KeepsText, NamesOffice, HoldsRecords, HoldsKept, HoldsTotals, HoldsSums, HasNoRow, HoldsAllRecords}
+use Rattle.pw_store.specs.Opening.{KeepsText, NamesOffice, HoldsRecords, HoldsKept, HoldsTotals, HoldsSums, HasNoRow, HoldsAllRecords, HoldsOurs}
 
 -- a connection that was open and is, and inside of no transaction
 pub record IsSettled (old new : State) : Type 0 where
@@ -35,6 +36,7 @@ amount_of_total Payments r = number (column r 2)
 -- what a database has to be, to be opened
 pub record MayOpen (office : OfficeRules) (body : List ℕ) (db : Database) : Type 0 where
   pub store : IsStore db
+  pub plain : AreWithoutConflict db.trees
   pub kept : KeepsText (KeepsOffice body) db.trees
   pub named : NamesOffice office db.trees
   pub of_office : AllOfOffice office (records_of db.trees)
@@ -49,13 +51,21 @@ pub record IsOpened (office : OfficeRules) (body : List ℕ) (before : Database)
   pub may_open : MayOpen office body s.now
   pub found : (s.now ≡ before) ⊎ ((before.schema ≡ no_schema) × (content_of s.now.trees ≡ no_content))
 
--- what is known of the row of `office` where it refuses an opening
-abbrev pub RowRefuses : List ℕ → Trees → OpenFault → Type 0
+-- what is known of the version in the row of `office` where it refuses an opening
+abbrev pub VersionRefuses : Trees → OpenFault → Type 0
+VersionRefuses db Store = Unit {0}
+VersionRefuses db Memory = Unit {0}
+VersionRefuses db OfficeDiffers = ⊥
+VersionRefuses db Version = KeepsText HasOtherVersion db
+VersionRefuses db Unclean = KeepsText HasNoRow db
+
+-- of that row, and of what stands beside our tables
+abbrev pub RowRefuses : List ℕ → Database → OpenFault → Type 0
 RowRefuses body db Store = Unit {0}
 RowRefuses body db Memory = Unit {0}
-RowRefuses body db OfficeDiffers = KeepsText (HasOtherText body) db
-RowRefuses body db Version = KeepsText HasOtherVersion db
-RowRefuses body db Unclean = KeepsText HasNoRow db
+RowRefuses body db OfficeDiffers = HoldsOurs db × KeepsText (HasOtherText body) db.trees
+RowRefuses body db Version = KeepsText HasOtherVersion db.trees
+RowRefuses body db Unclean = KeepsText HasNoRow db.trees ⊎ (KeepsText HasVersion db.trees × (HoldsOurs db → ⊥))
 
 -- of the points or starts of a table
 abbrev pub KeptRefuses : OfficeRules → RecordKind → List Row → OpenFault → Type 0

@@ -1,6 +1,6 @@
 use Rattle.sqlite.specs.Held.{state}
 use Rattle.pw_schema.proofs.Outcomes.{early}
-use Rattle.pw_schema.proofs.OfficeRow.{fresh_if, open_if, office_kept}
+use Rattle.pw_schema.proofs.OfficeRow.{fresh_if, open_if, office_kept, office_survives}
 use Rattle.pw_schema.proofs.make.put_office.Goals as goal
 
 pub returns-clause-made : goal.returns-clause-made
@@ -12,5 +12,5 @@ returns-clause-inside g c clean = open_if (state g.S.Store c.args.conn.now) (sta
 pub returns-clause-kept : goal.returns-clause-kept
 returns-clause-kept g c clean = office_kept (state g.S.Store c.args.conn.now) (state g.S.Store c.execute.new.self) c.args.body.now c.execute.result (c.requires (early (state g.S.Store c.args.conn.now) (state g.S.Store c.execute.new.self) c.execute.ensures.survives clean)) (rw (c.params-to_sql.ensures) at (c.execute.ensures.runs clean))
 
-pub returns-clause-clean : goal.returns-clause-clean
-returns-clause-clean g c clean = (early (state g.S.Store c.args.conn.now) (state g.S.Store c.execute.new.self) c.execute.ensures.survives clean)
+pub returns-clause-crash : goal.returns-clause-crash
+returns-clause-crash g c = office_survives (state g.S.Store c.args.conn.now) (state g.S.Store c.execute.new.self) c.args.body.now c.requires (rw (c.params-to_sql.ensures) at c.execute.ensures.survives)

@@ -3,26 +3,27 @@ use Rattle.std.specs.List.Sorted.{IsPermutation}
 use Rattle.sqlite.specs.Held.{state}
 use Rattle.sqlite.specs.State.{Shown}
 use Rattle.pw_store.specs.Opening.{offices}
-use Rattle.pw_store.proofs.Texts.{office_text, office_is}
-use Rattle.pw_store.proofs.Querying.{ours_plain, stays_if, fails_if, survives_if}
-use Rattle.pw_store.proofs.Lists.{shows_office, if_ok}
+use Rattle.pw_store.proofs.Texts.{office_text}
+use Rattle.pw_store.proofs.Querying.{stays_if, fails_if, survives_if}
+use Rattle.pw_store.proofs.Lists.{if_ok}
+use Rattle.pw_store.proofs.OfficeFirst.{first_plain, shows_office}
 use Rattle.pw_schema.proofs.Outcomes.{early}
 use Rattle.pw_store.proofs.tables.office_rows.Goals as goal
 
 pub returns-clause-rows : goal.returns-clause-rows
 returns-clause-rows g c clean =
     let before = early (state g.S.Store c.args.conn.now) (state g.S.Store c.query_all.new.self) c.query_all.ensures.survives clean in
-    if_ok (Shown office_text [] (state g.S.Store c.args.conn.now) (state g.S.Store c.query_all.new.self)) (IsPermutation (offices (state g.S.Store c.args.conn.now).now.trees)) (λ rows h. shows_office (state g.S.Store c.args.conn.now) (state g.S.Store c.query_all.new.self) rows (c.requires.ours before) h) c.query_all.result (c.query_all.ensures.ok clean)
+    if_ok (Shown office_text [] (state g.S.Store c.args.conn.now) (state g.S.Store c.query_all.new.self)) (IsPermutation (offices (state g.S.Store c.args.conn.now).now.trees)) (λ rows h. shows_office (state g.S.Store c.args.conn.now) (state g.S.Store c.query_all.new.self) rows (c.requires.begun before) h) c.query_all.result (c.query_all.ensures.ok clean)
 
 pub returns-clause-same : goal.returns-clause-same
 returns-clause-same g c clean =
     let before = early (state g.S.Store c.args.conn.now) (state g.S.Store c.query_all.new.self) c.query_all.ensures.survives clean in
-    stays_if office_text [] (state g.S.Store c.args.conn.now) (state g.S.Store c.query_all.new.self) c.query_all.result (ours_plain office_is _ (c.requires.ours before)) (c.query_all.ensures.ok clean)
+    stays_if office_text [] (state g.S.Store c.args.conn.now) (state g.S.Store c.query_all.new.self) c.query_all.result (first_plain _ (c.requires.begun before)) (c.query_all.ensures.ok clean)
 
 pub returns-clause-failed : goal.returns-clause-failed
 returns-clause-failed g c clean =
     let before = early (state g.S.Store c.args.conn.now) (state g.S.Store c.query_all.new.self) c.query_all.ensures.survives clean in
-    fails_if office_text [] (state g.S.Store c.args.conn.now) (state g.S.Store c.query_all.new.self) c.query_all.result (ours_plain office_is _ (c.requires.ours before)) (c.query_all.ensures.err clean)
+    fails_if office_text [] (state g.S.Store c.args.conn.now) (state g.S.Store c.query_all.new.self) c.query_all.result (first_plain _ (c.requires.begun before)) (c.query_all.ensures.err clean)
 
 pub returns-clause-crash : goal.returns-clause-crash
-returns-clause-crash g c = survives_if office_text [] (state g.S.Store c.args.conn.now) (state g.S.Store c.query_all.new.self) (λ clean. ours_plain office_is _ (c.requires.ours clean)) c.query_all.ensures.survives
+returns-clause-crash g c = survives_if office_text [] (state g.S.Store c.args.conn.now) (state g.S.Store c.query_all.new.self) (λ clean. first_plain _ (c.requires.begun clean)) c.query_all.ensures.survives

@@ -1,0 +1,74 @@
+-- What the query on the list of objects shows.
+use Rattle.std.proofs.Common.{◌≡◌, pos, negsuc, List, ℕ, [], ◌∷◌, map, codes, true, false, None, refl, sym, ap, subst, subst₂, ◌∙◌}
+use Rattle.std.specs.List.Sorted.{IsPermutation}
+use Rattle.std.proofs.lemmas.List.Sorted.{IsPermutation-map}
+use Rattle.sqlite.specs.declared.types.Value.TheVariants.{Null, Int}
+use Rattle.sqlite.specs.Order.{Row}
+use Rattle.sqlite.specs.Schema.{Schema}
+use Rattle.sqlite.specs.Term.{lit, col}
+use Rattle.sqlite.specs.Query.{Query, Output, inner, end}
+use Rattle.sqlite.specs.Program.{overlay}
+use Rattle.sqlite.specs.Command.TheVariants.{Select}
+use Rattle.sqlite.specs.Effect.{Database, Reads}
+use Rattle.sqlite.specs.Listing.{understood, reads_listing, listing_schema, IsSourceOf}
+use Rattle.sqlite.specs.State.{State, Shown}
+use Rattle.sqlite_tied.specs.Compute.{everything}
+use Rattle.sqlite.proofs.Callers.{IsPlain, command_of}
+use Rattle.pw_schema.specs.Conflicts.{listing, only_text}
+use Rattle.pw_schema.specs.Tables.{IsOurs, ours_with, only_one}
+use Rattle.pw_schema.specs.inner.Listed.{ShowsTexts}
+use Rattle.pw_schema.proofs.Scans.{outputs, scan_of, scans}
+
+abbrev pub texts_text : List ℕ
+texts_text = codes "SELECT sql FROM sqlite_schema"
+
+abbrev texts_query : Query
+texts_query = record {
+  from = inner 0 end;
+  filter = [];
+  group = None;
+  project = col 1 5 ∷ [];
+  distinct = false;
+  collations = [];
+  order = [];
+  limit = lit (Int (negsuc 0));
+  offset = lit (Int (pos 0));
+}
+
+texts_is : command_of (understood (ours_with only_one) texts_text) ≡ Select (record { lets = []; body = texts_query }) (codes "sql" ∷ [])
+unfolding understood everything listing_schema
+texts_is = refl
+
+texts_plain : IsPlain (understood (ours_with only_one) texts_text)
+unfolding understood everything listing_schema
+texts_plain = (refl, refl)
+
+texts_listed : reads_listing (ours_with only_one) texts_text ≡ true
+unfolding understood everything
+texts_listed = refl
+
+pub ours_plain : (s : Schema) → IsOurs s → IsPlain (understood s texts_text)
+ours_plain s ours = subst (λ t. IsPlain (understood t texts_text)) (sym ours) texts_plain
+
+reads_texts : (old new : State) (rows : List Row) → IsOurs old.now.schema → Shown texts_text [] old new rows
+    → (db : Database) × (db.trees 0 ≡ listing old.now.trees) × Reads (Select (record { lets = []; body = texts_query }) (codes "sql" ∷ [])) db [] rows
+unfolding Shown
+reads_texts old new rows ours h =
+    let known = sym h.1.is ∙ ap (λ s. understood s texts_text) ours in
+    let bare = subst IsPlain (sym known) texts_plain in
+    let it = rw (bare.0, bare.1) at h.2 in
+    let source : IsSourceOf true old.now it.0 = subst (λ b. IsSourceOf b old.now it.0) (ap (λ s. reads_listing s texts_text) ours ∙ texts_listed) it.1 in
+    (it.0, source.1, subst (λ k. Reads k it.0 [] rows) (ap command_of known ∙ texts_is) it.2)
+
+abbrev second : Output → Row
+second o = o.1
+
+texts_shown : (rows : List Row) → map second (outputs texts_query [] rows) ≡ map only_text rows
+texts_shown [] = refl
+texts_shown (r ∷ rows) = ap (λ xs. only_text r ∷ xs) (texts_shown rows)
+
+pub shows_texts : (old new : State) (rows : List Row) → IsOurs old.now.schema → Shown texts_text [] old new rows → ShowsTexts old.now.trees rows
+shows_texts old new rows ours h =
+    let read = reads_texts old new rows ours h in
+    let scan = scans 0 texts_query (overlay read.0.trees []) [] rows (read.2.answer Null) in
+    subst₂ IsPermutation (texts_shown (read.0.trees 0) ∙ ap (map only_text) read.1) (sym scan.shown) (IsPermutation-map second _ _ scan.same)
