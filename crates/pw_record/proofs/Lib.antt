@@ -24,3 +24,4 @@ pub mod Finding
 pub mod EachListed
 pub mod EachRow
 pub mod EachRows
+pub mod EachOutcome
