@@ -43,7 +43,7 @@ not-memory file source frame cause x e = let P : Cause → Type 0 = λ c. Refuse
 abbrev HasOutcome : OfficeFile → Upload → Type 0
 HasOutcome file upload = ((entries : List Entry) × Gives file upload entries) ⊎ ((fault : UploadFault) × RefusesContent file upload fault)
 
-only-one : (file : OfficeFile) (upload : Upload) → HasNoTwoOutcomes file upload → (one other : Result (List Entry) UploadFault) → IsOutcome file upload one → IsOutcome file upload other → one ≡ other
+pub only-one : (file : OfficeFile) (upload : Upload) → HasNoTwoOutcomes file upload → (one other : Result (List Entry) UploadFault) → IsOutcome file upload one → IsOutcome file upload other → one ≡ other
 only-one file upload n (Ok a) (Ok b) x y = ap Ok (n.entries a b x y)
 only-one file upload n (Ok a) (Err b) x y = absurd (n.either a b x y)
 only-one file upload n (Err a) (Ok b) x y = absurd (n.either b a y x)
