@@ -9,7 +9,7 @@ use Rattle.pw_model.proofs.Answers.{order_counts_nothing}
 use Rattle.pw_record.specs.declared.fault.UploadFault.{UploadFault}
 use Rattle.pw_record.specs.declared.laws.UploadBytes.{UploadBytes}
 use Rattle.pw_record.specs.Uploads.{Upload, RefusesContent}
-use Rattle.pw_record.specs.Laws.{IsOutcome, HasOneOutcome, upload_of}
+use Rattle.pw_record.specs.Laws.{HasOneOutcome, upload_of}
 use Rattle.pw_record.proofs.EachOutcome.{only-one}
 use Rattle.pw_book.specs.After.{Brings, After, AreOutcomes, given_by, after_of, HaveOneAfter}
 use Rattle.pw_book.proofs.Order.{AreOne, one-after}

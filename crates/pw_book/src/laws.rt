@@ -14,11 +14,10 @@ mod crashes;
 
 use crate::book::Book;
 pub use crashes::{Sent, uploads_survive_a_crash};
-use pw_record::laws::each_upload_has_one_outcome;
 pub use pw_record::laws::UploadBytes;
+use pw_record::laws::each_upload_has_one_outcome;
 use pw_shelf::Shelf;
 use pw_tariff::Office;
-use pw_time::Zone;
 
 /// Conservation of energy: in a book that isn't shut, over a store that returned what was written, over all owners with
 /// nobody and all bands, the energies of a direction, which `energy` answers, add up to the rises of all neighbouring
@@ -62,11 +61,11 @@ pub fn order_of_uploads_counts_nothing(office: &Office)
 /// Any list of uploads has one outcome of each, and so records after it: whatever was held before, they are that and all
 /// that the uploads give. No other set is, so that what uploads leave is a function of the office, of what was held before,
 /// and of the uploads.
-pub fn uploads_have_one_after(office: &Office, zone: &Zone, uploads: &[UploadBytes])
+pub fn uploads_have_one_after(office: &Office, uploads: &[UploadBytes])
     ensures { HaveOneAfter office.now (map upload_of uploads.now) }
 {
     let _ = office.bands();
     for upload in uploads {
-        each_upload_has_one_outcome(office, zone, *upload);
+        each_upload_has_one_outcome(office, *upload);
     }
 }

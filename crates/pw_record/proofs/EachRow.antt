@@ -1,5 +1,5 @@
 -- A row gives an entry, or is refused for its content.
-use Rattle.std.proofs.Common.{◌≡◌, ℕ, zero, suc, ◌+◌, ◌<◌, ◌≤◌, ◌⊎◌, inl, inr, Bool, true, false, Option, Some, None, option_map, List, [], ◌∷◌, length, slice_get, refl, sym, ap, subst, ◌∙◌, Ok, Err, arith}
+use Rattle.std.proofs.Common.{◌≡◌, ℕ, zero, suc, ◌≤◌, ◌⊎◌, inl, inr, Bool, true, Option, Some, None, option_map, List, [], ◌∷◌, length, slice_get, refl, sym, ap, subst, ◌∙◌, arith}
 use Rattle.std.specs.List.{AllPass}
 use Rattle.std.specs.Char.{digit_value}
 use Rattle.std.specs.Str.Parse.{AllDigits, digits_value}
@@ -7,8 +7,7 @@ use Rattle.std.proofs.lemmas.Bool.{cases_Bool, true≢false}
 use Rattle.std.proofs.lemmas.Option.{none-some, same_Some}
 use Rattle.pw_tariff.specs.declared.ids.AccountId.{AccountId}
 use Rattle.pw_tariff.specs.Office.{OfficeFile, MeterText}
-use Rattle.pw_time.specs.Outcomes.{IsUtcOutcome}
-use Rattle.pw_time.proofs.Deciding.{both, three, known-by, below-known, most-known, text-known}
+use Rattle.pw_time.proofs.Deciding.{both, three, below-known, most-known, text-known}
 use Rattle.pw_time.proofs.EachUtc.{utc-there_is}
 use Rattle.pw_model.specs.declared.records.Key.TheVariants as key
 use Rattle.pw_model.specs.declared.records.Content.TheVariants as content
@@ -22,8 +21,8 @@ use Rattle.pw_record.specs.declared.row.RowKind.{RowKind}
 use Rattle.pw_record.specs.declared.row.RowKind.TheVariants.{Assignment, TopUp}
 use Rattle.pw_record.specs.Names.{HasId, IsUnknownId, HasName, IsUnknownName, IsOwner, IsUnknownOwner}
 use Rattle.pw_record.specs.Cents.{IsCents}
-use Rattle.pw_record.specs.Row.{Row, IsWrongAssignment, RefusesAssignment, IsWrongTopUp, RefusesTopUp, GivesEntry, RefusesRow}
-use Rattle.pw_record.proofs.Finding.{HasText, place-known}
+use Rattle.pw_record.specs.Row.{Row, GivesEntry, RefusesRow}
+use Rattle.pw_record.proofs.Finding.{place-known}
 
 -- ---- names
 mapped : {X : Type 0} (f : X → List ℕ) (o : Option X) (y : List ℕ) → option_map f o ≡ Some y → (x : X) × (o ≡ Some x) × (f x ≡ y)
@@ -100,19 +99,22 @@ of-three file id start account =
         | inr f ↦ inr (Instant f.0, (id, start, account, refl, (m, f.1)), λ e. cc)
         | inl t ↦ elim (owner-known file account) [
           | inr n ↦ inr (UnknownAccount, (id, start, account, refl, (m, t, n)), λ e. cc)
-          | inl o ↦ inl (record { key = assignment_key m.0 t.0; content = content.Assignment o.0 }, record {
-            id = id;
-            start = start;
-            account = account;
-            meter = m.0;
-            instant = t.0;
-            owner = o.0;
-            row_is = refl;
-            meter_is = m.1;
-            start_is = t.1;
-            owner_is = o.1;
-            entry_is = refl;
-          })
+          | inl o ↦ inl (
+            record { key = assignment_key m.0 t.0; content = content.Assignment o.0 },
+            record {
+              id = id;
+              start = start;
+              account = account;
+              meter = m.0;
+              instant = t.0;
+              owner = o.0;
+              row_is = refl;
+              meter_is = m.1;
+              start_is = t.1;
+              owner_is = o.1;
+              entry_is = refl;
+            },
+          )
         ]
       ]
     ]
@@ -127,21 +129,24 @@ of-four file reference name amount when =
           | inr n ↦ inr (Cents, (reference, name, amount, when, refl, (r, a, n)), λ e. cc)
           | inl c ↦ elim (utc-there_is when) [
             | inr f ↦ inr (Instant f.0, (reference, name, amount, when, refl, (r, a, c, f.1)), λ e. cc)
-            | inl t ↦ inl (record { key = key.TopUp reference; content = content.TopUp (record { 0 = a.0 }) c.0 t.0 }, record {
-              reference = reference;
-              name = name;
-              amount = amount;
-              when = when;
-              account = a.0;
-              cents = c.0;
-              instant = t.0;
-              row_is = refl;
-              reference_is = r;
-              account_is = a.1;
-              cents_are = c.1;
-              instant_is = t.1;
-              entry_is = refl;
-            })
+            | inl t ↦ inl (
+              record { key = key.TopUp reference; content = content.TopUp (record { 0 = a.0 }) c.0 t.0 },
+              record {
+                reference = reference;
+                name = name;
+                amount = amount;
+                when = when;
+                account = a.0;
+                cents = c.0;
+                instant = t.0;
+                row_is = refl;
+                reference_is = r;
+                account_is = a.1;
+                cents_are = c.1;
+                instant_is = t.1;
+                entry_is = refl;
+              },
+            )
           ]
         ]
       ]

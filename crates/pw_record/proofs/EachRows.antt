@@ -1,7 +1,6 @@
 -- A body of rows gives entries, or is refused for its content.
-use Rattle.std.proofs.Common.{◌≡◌, ℕ, zero, suc, ◌<◌, ◌⊎◌, inl, inr, Bool, true, false, cond, Option, Some, None, List, [], ◌∷◌, ◌++◌, length, refl, sym, ap, subst, ◌∙◌, arith}
+use Rattle.std.proofs.Common.{◌≡◌, ℕ, zero, suc, ◌<◌, ◌⊎◌, inl, inr, Bool, true, false, cond, Option, Some, None, List, [], ◌∷◌, ◌++◌, length, refl, sym, ap, subst, arith}
 use Rattle.std.proofs.lemmas.Bool.{cases_lt}
-use Rattle.std.proofs.lemmas.List.{length-append}
 use Rattle.std.proofs.lemmas.Option.{none-some, same_Some}
 use Rattle.csv.specs.Machine.{Read, next_record, ends_at_end, step, is_end, fields_after, field_after}
 use Rattle.csv.specs.Reading.{Reached, default_config, strip_bom}
@@ -113,15 +112,19 @@ module _ (file : OfficeFile) (kind : RowKind) where
               let row : Row = p.0.0 in
               let front = reached-more default_config st.StartRecord s (strip_bom body) ys before p.0 r p.1 in
               elim (record-there_is (length before) row given) [
-                | inr f ↦ inr (record { part = length before; cause = f.0 }, inr (inr (record {
-                  before = before;
-                  given = given;
-                  row = row;
-                  front = record { state = p.0.1; rest = p.0.2; reached = front };
-                  good = g;
-                  part_is = refl;
-                  refused = f.1;
-                })), of-content (length before) f.0 f.2)
+                | inr f ↦ inr (
+                  record { part = length before; cause = f.0 },
+                  inr (inr (record {
+                    before = before;
+                    given = given;
+                    row = row;
+                    front = record { state = p.0.1; rest = p.0.2; reached = front };
+                    good = g;
+                    part_is = refl;
+                    refused = f.1;
+                  })),
+                  of-content (length before) f.0 f.2,
+                )
                 | inl t ↦
                     walk n (before ++ row ∷ []) t.0 p.0.1 p.0.2 front (good-more file kind before row (length before) given t.0 refl g t.1)
                     (elim (goes-on default_config s [] [] ys p.0 p.1) [

@@ -1,6 +1,6 @@
 //! The laws of uploads.
 //!
-//! Each function changes nothing. What counts is its contract.
+//! Each function changes nothing. What counts is its contract; its body makes the calls that show it.
 
 ghost use Rattle.pw_record.specs.Laws.{HasNoTwoOutcomes, HasOneOutcome, upload_of};
 ghost use Rattle.pw_record.specs.Uploads.{Upload};
@@ -33,13 +33,13 @@ pub fn no_upload_has_two_outcomes(office: &Office)
 
 /// Each upload has one outcome: by the office file, where it is sent, and its bytes it gives one list of entries, or is
 /// refused for one content fault in one part; never both, and never neither.
-pub fn each_upload_has_one_outcome(office: &Office, zone: &Zone, upload: UploadBytes)
+pub fn each_upload_has_one_outcome(office: &Office, upload: UploadBytes)
     ensures { HasOneOutcome office.now (upload_of upload.entry) }
 {
     let _ = office.bands();
     match upload {
         UploadBytes::Telegrams(body) => {
-            frames_have_an_outcome(office, zone, Source::Telegrams, body);
+            frames_have_an_outcome(office, Source::Telegrams, body);
         }
         UploadBytes::Readouts(id, body) => {
             let Some(meter) = office.meter(id) else {
@@ -49,7 +49,7 @@ pub fn each_upload_has_one_outcome(office: &Office, zone: &Zone, upload: UploadB
             if clock == Clock::Marked {
                 return;
             }
-            frames_have_an_outcome(office, zone, Source::Readouts(meter, clock), body);
+            frames_have_an_outcome(office, Source::Readouts(meter, clock), body);
         }
         UploadBytes::Assignments(_) => {}
         UploadBytes::TopUps(_) => {}
@@ -57,10 +57,11 @@ pub fn each_upload_has_one_outcome(office: &Office, zone: &Zone, upload: UploadB
 }
 
 /// Frames give readings, or one is refused: it reads them to their end or to the first that is refused.
-fn frames_have_an_outcome(office: &Office, zone: &Zone, source: Source, body: &[u8])
+fn frames_have_an_outcome(office: &Office, source: Source, body: &[u8])
     requires { IsSourceOf office.now source }
     ensures { HasBodyOutcome office.now source body.now }
 {
+    let zone = Zone::central();
     let mut frames = Frames::new(body);
     let mut part = 1;
     'frames: while let Some(next) = frames.next_frame() {
@@ -71,7 +72,7 @@ fn frames_have_an_outcome(office: &Office, zone: &Zone, source: Source, body: &[
             Ok(frame) => frame,
             Err(_) => return,
         };
-        match read_frame(office, zone, source, &frame) {
+        match read_frame(office, &zone, source, &frame) {
             Ok(_) => {}
             Err(_) => return,
         }

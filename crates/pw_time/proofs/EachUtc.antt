@@ -1,5 +1,5 @@
 -- A text in UTC tells one instant, or why it tells none.
-use Rattle.std.proofs.Common.{◌≡◌, ◌≢◌, ℕ, ◌+◌, ◌-◌, ◌*◌, ◌/◌, ◌%◌, ◌<◌, ◌≤◌, ◌⊎◌, inl, inr, ℤ, pos, negsuc, ◌+ℤ◌, ◌≤ℤ◌, neg_ℤ, List, [], ◌∷◌, ◌++◌, get_or, Ok, Err, refl, sym, ap, subst, ◌∙◌, arith}
+use Rattle.std.proofs.Common.{◌≡◌, ◌≢◌, ℕ, ◌+◌, ◌-◌, ◌*◌, ◌/◌, ◌%◌, ◌<◌, ◌⊎◌, inl, inr, ℤ, pos, negsuc, ◌+ℤ◌, ◌≤ℤ◌, neg_ℤ, List, [], ◌∷◌, ◌++◌, get_or, Ok, Err, refl, sym, ap, subst, ◌∙◌, arith}
 use Rattle.std.proofs.lemmas.Int.{ints}
 use Rattle.pw_time.specs.declared.civil.CivilTime.{CivilTime}
 use Rattle.pw_time.specs.declared.fault.StampFault.{StampFault}
@@ -56,7 +56,7 @@ digits-known : (c : CivilTime) → HasDigits c ⊎ (HasDigits c → ⊥)
 digits-known c =
     known-by
     (λ (h : ((c.year < 10_000) × (c.month < 100) × (c.day < 100)) × ((c.hour < 100) × (c.minute < 100) × (c.second < 100))).
-      record { year = h.0.0; month = h.0.1; day = h.0.2; hour = h.1.0; minute = h.1.1; second = h.1.2 })
+    record { year = h.0.0; month = h.0.1; day = h.0.2; hour = h.1.0; minute = h.1.1; second = h.1.2 })
     (λ (h : HasDigits c). ((h.year, h.month, h.day), (h.hour, h.minute, h.second)))
     (both (three (below-known c.year 10_000) (below-known c.month 100) (below-known c.day 100)) (three (below-known c.hour 100) (below-known c.minute 100) (below-known c.second 100)))
 

@@ -5,8 +5,7 @@ use Rattle.pw_model.specs.declared.records.Entry.{Entry}
 use Rattle.pw_record.specs.declared.fault.Cause.{Cause}
 use Rattle.pw_record.specs.declared.fault.Cause.TheVariants.{Memory}
 use Rattle.pw_record.specs.declared.origin.Source.{Source}
-use Rattle.pw_record.specs.Frames.{FramesGive, BodyGives, BodyStops}
-use Rattle.pw_frame.specs.Frame.{FrameText}
+use Rattle.pw_record.specs.Frames.{BodyGives, BodyStops}
 
 -- the body gives entries, or is refused for a cause that isn't want of memory
 abbrev pub HasBodyOutcome : OfficeFile → Source → List ℕ → Type 0

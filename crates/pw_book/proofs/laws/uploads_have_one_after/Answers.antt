@@ -1,4 +1,4 @@
-use Rattle.std.proofs.Common.{length, arith}
+use Rattle.std.proofs.Common.{arith}
 use Rattle.pw_tariff.specs.Office.{IsSound}
 use Rattle.pw_record.proofs.OneOutcome.{one-outcome}
 use Rattle.pw_book.proofs.Outcomes.{have-one-after}

@@ -1,11 +1,8 @@
 use Rattle.std.proofs.Common.{◌≡◌, refl, subst, inl, inr, rules}
-use Rattle.pw_frame.specs.Frame.{frame_text}
 use Rattle.pw_obis.specs.declared.reference.Register.{Register}
-use Rattle.pw_record.specs.declared.fault.Cause.TheVariants.{NoRegister}
 use Rattle.pw_record.specs.Origin.{kind_of}
-use Rattle.pw_record.specs.Shown.{IsShown, readings_of}
+use Rattle.pw_record.specs.Shown.{IsShown}
 use Rattle.pw_record.specs.inner.Shown.{shown_in}
-use Rattle.pw_record.specs.Frames.{RefusesFrame}
 use Rattle.pw_record.proofs.FrameFacts.{origin-within}
 use Rattle.pw_record.proofs.frames.read_frame.Goals as goal
 

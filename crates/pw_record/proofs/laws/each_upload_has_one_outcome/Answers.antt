@@ -1,5 +1,4 @@
 use Rattle.std.proofs.Common.{◌≡◌, rules, sym, subst, ap, ◌∙◌, Some}
-use Rattle.pw_time.specs.declared.zone.Clock.{Clock}
 use Rattle.pw_time.specs.declared.zone.Clock.TheVariants.{Marked}
 use Rattle.pw_tariff.specs.Office.{MeterText}
 use Rattle.pw_record.specs.declared.laws.UploadBytes.{UploadBytes}
