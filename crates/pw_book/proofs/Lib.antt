@@ -26,3 +26,4 @@ pub mod WindowPairs
 pub mod StartChanged
 pub mod Putting
 pub mod Spending
+pub mod Outcomes

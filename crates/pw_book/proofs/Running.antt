@@ -16,7 +16,7 @@ refused-same : (file : OfficeFile) (old new : ShelfContent) (us : List Upload) (
 refused-same file old new us t e a = let P : ShelfContent → Type 0 = λ c. After file c.records us t in subst P e a
 
 -- an accepted one adds what it gives
-accepted-first : (file : OfficeFile) → AreOne file → (v : Upload) (entries old mid t : List Entry) (us : List Upload) → Gives file v entries → SameMembers mid (old ++ entries) → After file mid us t → After file old (v ∷ us) t
+pub accepted-first : (file : OfficeFile) → AreOne file → (v : Upload) (entries old mid t : List Entry) (us : List Upload) → Gives file v entries → SameMembers mid (old ++ entries) → After file mid us t → After file old (v ∷ us) t
 accepted-first file one v entries old mid t us g same a x = (
   λ m. elim ((a x).0 m) [
     | inl b ↦ elim (member-split x old entries ((same x).0 b)) [ inl c ↦ inl c | inr c ↦ inr (v, inl refl, (entries, g, c)) ]
@@ -40,7 +40,7 @@ one-step file one limit v (Posted (Err Device)) old mid us t s a = refused-same 
 one-step file one limit v (Posted (Err Memory)) old mid us t s a = refused-same file old mid us t s.2 a
 one-step file one limit v (Posted (Err Reopen)) old mid us t s a = absurd (s.3 refl)
 
-behind-nothing : (file : OfficeFile) (s : List Entry) → After file s [] s
+pub behind-nothing : (file : OfficeFile) (s : List Entry) → After file s [] s
 behind-nothing file s x = (λ m. inl m, λ m. elim m [ inl b ↦ b | inr b ↦ absurd b.1 ])
 
 run-after : (file : OfficeFile) → AreOne file → (limit : ℕ) (run : List (Upload × Outcome)) (old new : ShelfContent) → IsRun file limit run old new → After file old.records (accepted_in run) new.records

@@ -1,6 +1,7 @@
 -- The records after uploads, whatever their order.
 -- (Definitions of this project.)
 use Rattle.std.specs.Prelude.{◌≡◌, ◌↔◌, ℕ, List, [], ◌∷◌, ◌++◌, ◌⊎◌, Result, Ok, Err, IsErrOf}
+use Rattle.std.specs.List.{flat_map}
 use Rattle.pw_tariff.specs.Office.{OfficeFile, office_of}
 use Rattle.pw_model.specs.declared.records.Entry.{Entry}
 use Rattle.pw_model.specs.Counting.{Member, SameMembers}
@@ -8,6 +9,7 @@ use Rattle.pw_model.specs.Laws.{HaveSameAnswers}
 use Rattle.pw_model.specs.Shelf.{ShelfContent}
 use Rattle.pw_record.specs.declared.fault.UploadFault.{UploadFault}
 use Rattle.pw_record.specs.Uploads.{Upload, Gives, Refuses, RefusesContent}
+use Rattle.pw_record.specs.Laws.{IsOutcome}
 use Rattle.pw_book.specs.declared.book.Accepted.{Accepted}
 use Rattle.pw_book.specs.declared.fault.PostFault.{PostFault}
 use Rattle.pw_book.specs.declared.fault.PostFault.TheVariants.{Reopen}
@@ -88,3 +90,29 @@ pub record HaveTheSameAfter (file : OfficeFile) (before : List Entry) (others : 
 abbrev pub OrderOfUploadsCountsNothing : OfficeFile → Type 0
 OrderOfUploadsCountsNothing file = (before : List Entry) (uploads others : List Upload) (records : List Entry) →
     SameMembers uploads others → After file before uploads records → HaveTheSameAfter file before others records
+
+-- ---- the records after uploads, from what comes of each
+-- what comes of uploads: of each its outcome
+abbrev pub AreOutcomes : OfficeFile → List Upload → List (Result (List Entry) UploadFault) → Type 0
+AreOutcomes file [] outcomes = outcomes ≡ []
+AreOutcomes file (upload ∷ uploads) [] = ⊥
+AreOutcomes file (upload ∷ uploads) (outcome ∷ outcomes) = IsOutcome file upload outcome × AreOutcomes file uploads outcomes
+
+-- the entries that an upload gives; none where it is refused
+abbrev pub given_by : Result (List Entry) UploadFault → List Entry
+given_by (Ok entries) = entries
+given_by (Err fault) = []
+
+-- the records before uploads, and all that the uploads give
+abbrev pub after_of : List Entry → List (Result (List Entry) UploadFault) → List Entry
+after_of before outcomes = before ++ flat_map given_by outcomes
+
+-- uploads have one list of outcomes; whatever the records before them, those that it makes are the records after them, and
+-- any others that are have the same members and the same answers
+pub record HaveOneAfter (file : OfficeFile) (uploads : List Upload) : Type 0 where
+  pub outcomes : List (Result (List Entry) UploadFault)
+  pub each : AreOutcomes file uploads outcomes
+  pub only : (others : List (Result (List Entry) UploadFault)) → AreOutcomes file uploads others → outcomes ≡ others
+  pub after : (before : List Entry) → After file before uploads (after_of before outcomes)
+  pub alone : (before records : List Entry) → After file before uploads records →
+      SameMembers (after_of before outcomes) records × HaveSameAnswers (office_of file) (after_of before outcomes) records

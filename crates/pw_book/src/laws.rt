@@ -2,17 +2,20 @@
 //!
 //! Each function changes nothing. What counts is its contract.
 
-ghost use Rattle.std.specs.Prelude.{◌≡◌, false};
+ghost use Rattle.std.specs.Prelude.{◌≡◌, false, map};
 ghost use Rattle.pw_model.specs.Counting.{contents_at};
 ghost use Rattle.pw_model.specs.Energy.{all_rises, energy, over_bands, over_owners};
 ghost use Rattle.pw_tariff.specs.Office.{office_of};
 ghost use Rattle.pw_tariff.specs.declared.ids.Direction.{Direction};
-ghost use Rattle.pw_book.specs.After.{LeavesAfter, OrderOfUploadsCountsNothing, RunsLeaveAfter};
+ghost use Rattle.pw_record.specs.Laws.{upload_of};
+ghost use Rattle.pw_book.specs.After.{HaveOneAfter, LeavesAfter, OrderOfUploadsCountsNothing, RunsLeaveAfter};
 
 mod crashes;
 
 use crate::book::Book;
 pub use crashes::{Sent, uploads_survive_a_crash};
+pub use pw_record::laws::UploadBytes;
+use pw_record::laws::each_upload_has_one_outcome;
 use pw_shelf::Shelf;
 use pw_tariff::Office;
 
@@ -53,4 +56,16 @@ pub fn order_of_uploads_counts_nothing(office: &Office)
     ensures { OrderOfUploadsCountsNothing office.now }
 {
     let _ = office.bands();
+}
+
+/// Any list of uploads has one outcome of each, and so records after it: whatever was held before, they are that and all
+/// that the uploads give. No other set is, so that what uploads leave is a function of the office, of what was held before,
+/// and of the uploads.
+pub fn uploads_have_one_after(office: &Office, uploads: &[UploadBytes])
+    ensures { HaveOneAfter office.now (map upload_of uploads.now) }
+{
+    let _ = office.bands();
+    for upload in uploads {
+        each_upload_has_one_outcome(office, *upload);
+    }
 }

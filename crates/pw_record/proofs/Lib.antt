@@ -20,3 +20,8 @@ pub mod OneReading
 pub mod OneEntry
 pub mod OneRows
 pub mod OneOutcome
+pub mod Finding
+pub mod EachListed
+pub mod EachRow
+pub mod EachRows
+pub mod EachOutcome

@@ -7,12 +7,14 @@ ghost use Rattle.pw_obis.specs.Line.{SetText};
 ghost use Rattle.pw_tariff.specs.Office.{office_of};
 ghost use Rattle.pw_model.specs.Office.{AllOfOffice};
 ghost use Rattle.pw_record.specs.inner.Steps.{IsSourceOf};
+ghost use Rattle.pw_record.specs.inner.Shown.{shown_in};
+ghost use Rattle.pw_record.specs.Shown.{readings_of};
 ghost use Rattle.pw_record.specs.Frames.{BodyGives, BodyRefused, FrameGives, ReadoutsGive, ReadoutsRefused, RefusesFrame, TelegramsGive, TelegramsRefused};
 
 use crate::fault::{Cause, Halt, MEMORY_FAULT, UploadFault};
 use crate::order::in_order;
-use crate::origin::{Source, block_origin};
-use crate::shown::{all_shown, is_nothing_shown, put_readings};
+use crate::origin::{Origin, Source, block_origin};
+use crate::shown::{Shown, all_shown, is_nothing_shown, put_readings};
 use pw_frame::{Frame, Frames};
 use pw_model::Entry;
 use pw_obis::{LineFault, Sets};
@@ -118,27 +120,45 @@ fn put_frame(
     ensures ok { OnOk result ((more : List Entry) × FrameGives office.now source (frame_text frame.now) more × (given.new.items ≡ given.old.items ++ more)) }
     ensures err { (cause : Cause) → result ≡ Err (Halt.Refused cause) → RefusesFrame office.now source (frame_text frame.now) cause }
 {
-    if frame.kind != source.kind() {
-        return Err(Halt::Refused(Cause::WrongKind));
-    }
-    if let Err(fault) = check_lines(frame.block) {
-        return Err(Halt::Refused(Cause::Line(fault)));
-    }
-    let origin = match block_origin(office, zone, source, frame.block) {
-        Ok(origin) => origin,
+    let (origin, shown) = match read_frame(office, zone, source, frame) {
+        Ok(read) => read,
         Err(cause) => return Err(Halt::Refused(cause)),
     };
-    let shown = match all_shown(office, origin.meter, frame.block) {
-        Ok(shown) => shown,
-        Err(cause) => return Err(Halt::Refused(cause)),
-    };
-    if is_nothing_shown(&shown) {
-        return Err(Halt::Refused(Cause::NoRegister));
-    }
     if put_readings(given, &origin, &shown).is_err() {
         return Err(Halt::Memory);
     }
     Ok(())
+}
+
+/// Whose the readings of a frame are and when they were taken, and what it shows; or why it is refused.
+pub fn read_frame(
+    office: &Office,
+    zone: &Zone,
+    source: Source,
+    frame: &Frame,
+) -> Result<(Origin, Shown), Cause>
+    requires { IsSourceOf office.now source }
+    ensures ok { IfOk result (λ read. FrameGives office.now source (frame_text frame.now) (readings_of read.0.meter.0 read.0.instant (shown_in read.1))) }
+    ensures err { IfErr result (λ cause. RefusesFrame office.now source (frame_text frame.now) cause) }
+{
+    if frame.kind != source.kind() {
+        return Err(Cause::WrongKind);
+    }
+    if let Err(fault) = check_lines(frame.block) {
+        return Err(Cause::Line(fault));
+    }
+    let origin = match block_origin(office, zone, source, frame.block) {
+        Ok(origin) => origin,
+        Err(cause) => return Err(cause),
+    };
+    let shown = match all_shown(office, origin.meter, frame.block) {
+        Ok(shown) => shown,
+        Err(cause) => return Err(cause),
+    };
+    if is_nothing_shown(&shown) {
+        return Err(Cause::NoRegister);
+    }
+    Ok((origin, shown))
 }
 
 /// Whether all lines of a block are in the grammar, or the first that isn't.

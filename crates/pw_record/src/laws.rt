@@ -1,11 +1,27 @@
-//! The law of uploads.
+//! The laws of uploads.
 //!
-//! The function changes nothing. What counts is its contract.
+//! Each function changes nothing. What counts is its contract; its body makes the calls that show it.
 
-ghost use Rattle.pw_record.specs.Laws.{HasNoTwoOutcomes};
+ghost use Rattle.pw_record.specs.Laws.{HasNoTwoOutcomes, HasOneOutcome, upload_of};
 ghost use Rattle.pw_record.specs.Uploads.{Upload};
+ghost use Rattle.pw_record.specs.inner.Outcomes.{HasBodyOutcome};
+ghost use Rattle.pw_record.specs.inner.Steps.{IsSourceOf};
 
+use crate::frames::{MOST_FRAMES, read_frame};
+use crate::origin::Source;
+use pw_frame::Frames;
 use pw_tariff::Office;
+use pw_time::{Clock, Zone};
+
+/// An upload as bytes.
+#[derive(Clone, Copy, Debug)]
+pub enum UploadBytes<'a> {
+    Telegrams(&'a [u8]),
+    /// The id of a meter, and a body of its readouts.
+    Readouts(&'a [u8], &'a [u8]),
+    Assignments(&'a [u8]),
+    TopUps(&'a [u8]),
+}
 
 /// No upload has two outcomes: by the office file, where it is sent, and its bytes it gives one list of entries at most,
 /// or is refused for one content fault in one part at most, and not both.
@@ -13,4 +29,53 @@ pub fn no_upload_has_two_outcomes(office: &Office)
     ensures { (upload : Upload) → HasNoTwoOutcomes office.now upload }
 {
     let _ = office.bands();
+}
+
+/// Each upload has one outcome: by the office file, where it is sent, and its bytes it gives one list of entries, or is
+/// refused for one content fault in one part; never both, and never neither.
+pub fn each_upload_has_one_outcome(office: &Office, upload: UploadBytes)
+    ensures { HasOneOutcome office.now (upload_of upload.entry) }
+{
+    let _ = office.bands();
+    match upload {
+        UploadBytes::Telegrams(body) => {
+            frames_have_an_outcome(office, Source::Telegrams, body);
+        }
+        UploadBytes::Readouts(id, body) => {
+            let Some(meter) = office.meter(id) else {
+                return;
+            };
+            let clock = office.clock(meter);
+            if clock == Clock::Marked {
+                return;
+            }
+            frames_have_an_outcome(office, Source::Readouts(meter, clock), body);
+        }
+        UploadBytes::Assignments(_) => {}
+        UploadBytes::TopUps(_) => {}
+    }
+}
+
+/// Frames give readings, or one is refused: it reads them to their end or to the first that is refused.
+fn frames_have_an_outcome(office: &Office, source: Source, body: &[u8])
+    requires { IsSourceOf office.now source }
+    ensures { HasBodyOutcome office.now source body.now }
+{
+    let zone = Zone::central();
+    let mut frames = Frames::new(body);
+    let mut part = 1;
+    'frames: while let Some(next) = frames.next_frame() {
+        if part > MOST_FRAMES {
+            return;
+        }
+        let frame = match next {
+            Ok(frame) => frame,
+            Err(_) => return,
+        };
+        match read_frame(office, &zone, source, &frame) {
+            Ok(_) => {}
+            Err(_) => return,
+        }
+        part += 1;
+    }
 }

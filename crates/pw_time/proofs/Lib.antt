@@ -6,3 +6,5 @@ pub mod TextFacts
 pub mod UniqueOutcomes
 pub mod UniqueTexts
 pub mod WrittenDays
+pub mod Deciding
+pub mod EachUtc

@@ -1,67 +1,7 @@
-use Rattle.std.proofs.Common.{◌≡◌, refl, subst, inl, inr, rules}
-use Rattle.pw_frame.specs.Frame.{frame_text}
-use Rattle.pw_obis.specs.declared.reference.Register.{Register}
-use Rattle.pw_record.specs.declared.fault.Cause.TheVariants.{NoRegister}
-use Rattle.pw_record.specs.Origin.{kind_of}
-use Rattle.pw_record.specs.Shown.{IsShown, readings_of}
+use Rattle.std.proofs.Common.{rules}
+use Rattle.pw_record.specs.Shown.{readings_of}
 use Rattle.pw_record.specs.inner.Shown.{shown_in}
-use Rattle.pw_record.specs.Frames.{RefusesFrame}
-use Rattle.pw_record.proofs.FrameFacts.{origin-within}
 use Rattle.pw_record.proofs.frames.put_frame.Goals as goal
 
-pub all_shown-requires-clause-meter : goal.all_shown-requires-clause-meter
-all_shown-requires-clause-meter c =
-    let s = c.in_default.ensures.ok in
-    origin-within c.args.office.now c.args.source s.0 c.in-Ok.origin.meter.0 c.in-Ok.origin.instant c.requires (c.in-Ok.ensures.ok s.0 s.1)
-
-pub returns-in-Err-all_shown-clause-err : goal.returns-in-Err-all_shown-clause-err
-returns-in-Err-all_shown-clause-err c = λ cause e.
-    let s = c.in_default.ensures.ok in
-    let same : c.in-Err-all_shown.cause ≡ cause = cc in
-    let kind : c.args.frame.now.kind ≡ kind_of c.args.source = search rules in
-    subst (RefusesFrame c.args.office.now c.args.source (frame_text c.args.frame.now)) same (inr (inr (inr (record {
-      sets = s.0;
-      meter = c.in-Ok.origin.meter.0;
-      instant = c.in-Ok.origin.instant;
-      kind_is = kind;
-      has = s.1;
-      origin = c.in-Ok.ensures.ok s.0 s.1;
-      wrong = inl (c.in-Err-all_shown.ensures.err s.0 s.1);
-    }))))
-
-pub returns-then-is_nothing_shown-clause-err : goal.returns-then-is_nothing_shown-clause-err
-returns-then-is_nothing_shown-clause-err c = λ cause e.
-    let s = c.in_default.ensures.ok in
-    let same : NoRegister ≡ cause = cc in
-    let kind : c.args.frame.now.kind ≡ kind_of c.args.source = search rules in
-    let nothing = λ (r : Register). subst (IsShown c.args.office.now c.in-Ok.origin.meter.0 s.0 r) (c.if-is_nothing_shown.ensures.nothing r) (c.in-Ok-all_shown.ensures.ok s.0 s.1 r) in
-    subst (RefusesFrame c.args.office.now c.args.source (frame_text c.args.frame.now)) same (inr (inr (inr (record {
-      sets = s.0;
-      meter = c.in-Ok.origin.meter.0;
-      instant = c.in-Ok.origin.instant;
-      kind_is = kind;
-      has = s.1;
-      origin = c.in-Ok.ensures.ok s.0 s.1;
-      wrong = inr (nothing, refl);
-    }))))
-
 pub returns-clause-ok : goal.returns-clause-ok
-returns-clause-ok c =
-    let s = c.in_default.ensures.ok in
-    let kind : c.args.frame.now.kind ≡ kind_of c.args.source = search rules in
-    let put = c.put_readings.ensures in (
-      readings_of c.in-Ok.origin.meter.0 c.in-Ok.origin.instant (shown_in c.in-Ok-all_shown.shown),
-      record {
-        sets = s.0;
-        meter = c.in-Ok.origin.meter.0;
-        instant = c.in-Ok.origin.instant;
-        shown = shown_in c.in-Ok-all_shown.shown;
-        kind_is = kind;
-        has = s.1;
-        origin = c.in-Ok.ensures.ok s.0 s.1;
-        shown_are = c.in-Ok-all_shown.ensures.ok s.0 s.1;
-        some = c.if-is_nothing_shown.ensures.some;
-        given_are = refl;
-      },
-      search rules,
-    )
+returns-clause-ok c = (readings_of c.in-Ok.read.0.meter.0 c.in-Ok.read.0.instant (shown_in c.in-Ok.read.1), c.in-Ok.ensures.ok, search rules)
