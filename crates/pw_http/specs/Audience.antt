@@ -1,6 +1,6 @@
 -- Who is let in. A browser says in `Host` which server it means, and in `Origin` which page asks.
 -- (RFC 9110, 7.2: Host. RFC 6454, 7: Origin. RFC 3986, 3.2: host and port. Who is let in is this project's choice.)
-use Rattle.std.specs.Prelude.{true, false, ◌≡◌, ◌==◌, ◌||◌, ◌&&◌, ℕ, List, Bool, [], ◌∷◌, length, take, drop, codes, Option, Some, None, if◌then◌else◌, nat_le}
+use Rattle.std.specs.Prelude.{true, false, ◌≡◌, ◌==◌, ◌||◌, ◌&&◌, ℕ, List, Bool, [], ◌∷◌, length, take, drop, codes, Option, Some, None, nat_le}
 use Rattle.std.specs.List.{list_any, list_all}
 use Rattle.std.specs.Char.{is_ascii_digit, is_ascii_alphanumeric}
 use Rattle.pw_http.specs.Heads.{same_name, values_of}

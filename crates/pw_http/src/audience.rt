@@ -175,8 +175,7 @@ fn is_known_host(origins: &[Origin], host: &[u8]) -> bool
 fn is_let_by(host: &[u8], page: &[u8], origin: &Origin) -> bool
     ensures { result ≡ lets_by host.now page.now origin.now }
 {
-    is_page_of(origin.scheme, origin.host, page)
-        && (is_here(host) || is_host_of(host, origin))
+    is_page_of(origin.scheme, origin.host, page) && (is_here(host) || is_host_of(host, origin))
 }
 
 /// Whether a page may ask at this Host by one of the origins.
@@ -249,7 +248,10 @@ pub(crate) fn is_let_in(audience: Audience, buf: &[u8], spans: &[HeaderSpan]) ->
     };
     let host = value_of(buf, spans, b"host");
     let page = value_of(buf, spans, b"origin");
-    match (count_of(buf, spans, b"host"), count_of(buf, spans, b"origin")) {
+    match (
+        count_of(buf, spans, b"host"),
+        count_of(buf, spans, b"origin"),
+    ) {
         (0, 0) => true,
         (1, 0) => is_known_host(origins, host),
         (1, 1) => is_known_page(origins, host, page),

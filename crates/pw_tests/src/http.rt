@@ -1,9 +1,12 @@
 //! Conversations: with a service that gives one answer to all, and with a book over a store in memory.
 
+mod audience;
 mod books;
 mod wire;
 
-use pw_http::{ContentType, Routes, Served, Service, Status, WireFault, send_reply, serve_within};
+use pw_http::{
+    Audience, ContentType, Routes, Served, Service, Status, WireFault, send_reply, serve_within,
+};
 use std::alloc::Global;
 use std::io::Write;
 use std::test::Fail;
@@ -41,7 +44,15 @@ fn said(alloc: Global, stream: &[u8], turns: u32) -> (Result<Served, WireFault>,
     let Ok(routes) = Routes::new(alloc) else {
         return (Err(WireFault::Memory), text);
     };
-    let served = serve_within(alloc, &mut Yes, &routes, &mut reader, &mut text, turns);
+    let served = serve_within(
+        alloc,
+        &mut Yes,
+        &routes,
+        Audience::Everybody,
+        &mut reader,
+        &mut text,
+        turns,
+    );
     (served, text)
 }
 

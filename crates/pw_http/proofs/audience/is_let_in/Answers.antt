@@ -1,4 +1,4 @@
-use Rattle.std.proofs.Common.{◌≡◌, ◌∙◌, sym, ap, length, codes, map, ℕ, List}
+use Rattle.std.proofs.Common.{◌∙◌, sym, ap, length, codes, map, ℕ, List}
 use Rattle.std.specs.Prelude.{◌≢◌}
 use Rattle.httparse.specs.Spans.{header_bytes}
 use Rattle.pw_http.specs.Audience.{is_known_host, is_known_page}

@@ -1,6 +1,5 @@
-use Rattle.std.proofs.Common.{◌≡◌, ◌≤◌, ◌-◌, ◌+◌, ◌∙◌, ◌++◌, ◌∷◌, [], ap, sym, subst, List, ℕ, drop, take, length, length-drop, true, false, true≢false, refl, arith}
+use Rattle.std.proofs.Common.{◌++◌, ◌∷◌, [], drop, length-drop, true≢false, refl, arith}
 use Rattle.std.proofs.lemmas.List.{drop-drop, take_rest}
-use Rattle.pw_http.specs.Requests.{Begins}
 use Rattle.pw_http.proofs.Readings.{begin, read-last, read-nothing, read-on, read-refused}
 use Rattle.pw_http.proofs.laws.each_stream_has_one_reading.Goals as goal
 
