@@ -88,6 +88,8 @@ fn refused_office_told(rt: HostRuntime) -> Result<(), Fail> {
     let (mut out, mut err) = (Vec::new(rt.alloc()), Vec::new(rt.alloc()));
     let office = b"accounts = []".as_slice();
     let status = pipe_run(rt.alloc(), office, LIMIT, &mut reader, &mut out, &mut err);
-    assert!(rt; status == 1 && out.is_empty() && err.as_slice() == b"refused 37 Empty\n".as_slice());
+    assert!(rt;
+        status == 1 && out.is_empty() && err.as_slice() == b"refused 37 Empty\n".as_slice()
+    );
     Ok(())
 }

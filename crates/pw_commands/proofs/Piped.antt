@@ -21,5 +21,5 @@ piped shelf text unread known after flushed old new count office empty shut h ke
   office = office;
   empty = empty;
   headline = (h.0, h.1, h.2, Appends-kept known after flushed h.1 h.3 kept, h.4);
-  is_known = (clean, h.4.stays_open shut abandons);
+  is_known = (clean, h.4.comes.stays_open shut abandons);
 }
