@@ -5,7 +5,7 @@ use Rattle.std.proofs.lemmas.List.Sorted.{IsPermutation-sym}
 use Rattle.sqlite.specs.Order.{Row}
 use Rattle.sqlite.specs.Tree.{Trees}
 use Rattle.sqlite_trees.proofs.ListLemmas.{all-permutation}
-use Rattle.pw_schema.specs.Conflicts.{AreWithoutConflict, IsWithoutConflict, listing, only_text}
+use Rattle.pw_schema.specs.Conflicts.{AreWithoutConflict, IsWithoutConflict}
 use Rattle.pw_schema.specs.inner.Listed.{ShowsTexts}
 
 pub from_shown : (db : Trees) (rows : List Row) → ShowsTexts db rows → AllByRecursion IsWithoutConflict rows → AreWithoutConflict db

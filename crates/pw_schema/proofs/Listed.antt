@@ -17,7 +17,7 @@ use Rattle.sqlite.proofs.Callers.{IsPlain, command_of}
 use Rattle.pw_schema.specs.Conflicts.{listing, only_text}
 use Rattle.pw_schema.specs.Tables.{IsOurs, ours_with, only_one}
 use Rattle.pw_schema.specs.inner.Listed.{ShowsTexts}
-use Rattle.pw_schema.proofs.Scans.{outputs, scan_of, scans}
+use Rattle.pw_schema.proofs.Scans.{outputs, scans}
 
 abbrev pub texts_text : List ℕ
 texts_text = codes "SELECT sql FROM sqlite_schema"

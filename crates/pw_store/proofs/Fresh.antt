@@ -11,7 +11,7 @@ use Rattle.pw_model.specs.Office.{most_records}
 use Rattle.pw_model.specs.Counting.{EachOnce, Member}
 use Rattle.pw_schema.specs.Fresh.{IsFresh, IsNew, office_row}
 use Rattle.pw_schema.specs.Judging.{IsTotalOf, KeepsOffice}
-use Rattle.pw_schema.specs.Tables.{IsOurs, no_schema, only_one}
+use Rattle.pw_schema.specs.Tables.{IsOurs, no_schema}
 use Rattle.pw_store.specs.Content.{records_of, energy_in, payment_in, IsReadingRow, IsAssignmentRow, IsTopupRow}
 use Rattle.pw_shelf.specs.Left.{LeavesOnly}
 use Rattle.sqlite.specs.Order.{Row}

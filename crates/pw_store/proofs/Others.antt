@@ -23,7 +23,7 @@ use Rattle.pw_model.specs.declared.records.TotalKey.TheVariants as total
 use Rattle.pw_model.specs.Counting.{IsInserted}
 use Rattle.pw_shelf.specs.State.{IsWithRecord}
 use Rattle.pw_schema.proofs.TotalKeys.{totals_one}
-use Rattle.pw_schema.specs.Tables.{IsOurs, ours_with, only_one}
+use Rattle.pw_schema.specs.Tables.{IsOurs, ours_with}
 use Rattle.pw_store.specs.Content.{content_of, records_of, energy_in, payment_in, IsReadingRow, IsAssignmentRow, IsTopupRow, point_in, start_in, total_in, energy_told, payment_told, reading_tree, assignment_tree, topup_tree, point_tree, start_tree, total_tree, payment_tree}
 
 -- the trees of points, starts and totals are the same

@@ -1,13 +1,9 @@
 -- What queries over our tables leave of the connection.
-use Rattle.std.proofs.Common.{codes, Vec, ◌⊎◌, ℕ, List, Ok, Err, Result, refl, sym, subst, IfOk, IfErr, OnOk, OnErr}
-use Rattle.sqlite.specs.Order.{Row}
+use Rattle.std.proofs.Common.{codes, ℕ, List, refl, sym, subst}
 use Rattle.sqlite.specs.Schema.{Schema}
 use Rattle.sqlite_tied.specs.Compute.{everything}
 use Rattle.sqlite.specs.Listing.{understood}
-use Rattle.sqlite.specs.declared.error.Error.{Error}
-use Rattle.sqlite.specs.State.{State, HasCleanDisk, Shown, IsUnchanged, IsRolledBack, Survives, CommitsShowing, FailsToQuery}
 use Rattle.sqlite.proofs.Callers.{IsPlain}
-use Rattle.pw_schema.proofs.Outcomes.{fails_query, read_survives}
 use Rattle.sqlite.specs.Query.{Query}
 use Rattle.pw_schema.specs.Tables.{IsOurs, only_one}
 use Rattle.pw_store.proofs.Texts.{IsQuery}
