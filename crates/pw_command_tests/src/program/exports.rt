@@ -63,7 +63,7 @@ fn is_exported(rt: &HostRuntime, room: &Place, what: &str, text: &str) -> bool {
 
 // bears on: pw_commands commands.rt entries_of entries
 // bears on: pw_commands commands.rt entries_of of_office
-// bears on: pw_commands store.rt open_book book
+// bears on: pw_commands store.rt open_book office
 // bears on: pw_shelf shelf.rt Shelf::points_between memory
 #[test]
 fn a_statement_is_printed(rt: HostRuntime) -> Result<(), Fail> {
