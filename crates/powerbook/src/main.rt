@@ -19,7 +19,7 @@ fn status_of(rt: &HostRuntime) -> u8 {
     let owned = match words_of(rt) {
         Ok(words) => words,
         Err(error) if error.kind() == ErrorKind::OutOfMemory => {
-            return tell(Fault::Memory, &mut err);
+            return tell(rt.alloc(), Fault::Memory, &mut err);
         }
         Err(_) => {
             let _ = err.write_all(b"powerbook: a word isn't UTF-8\n");
@@ -29,7 +29,7 @@ fn status_of(rt: &HostRuntime) -> u8 {
     let mut words = Vec::new(rt.alloc());
     for word in owned.iter() {
         if words.push(word.as_str()).is_err() {
-            return tell(Fault::Memory, &mut err);
+            return tell(rt.alloc(), Fault::Memory, &mut err);
         }
     }
     if !err.is_terminal() {

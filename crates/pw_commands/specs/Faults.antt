@@ -1,7 +1,8 @@
 -- Why a command is refused: the line, and the exit status. One table over all faults.
 -- (A format of this project.)
-use Rattle.std.specs.Prelude.{◌≡◌, ◌⊎◌, ℕ, List, Option, ◌++◌, codes}
+use Rattle.std.specs.Prelude.{◌≡◌, ◌⊎◌, ℕ, List, Option, Result, Ok, Err, ◌++◌, codes}
 use Rattle.std.specs.Io.KnownBytes.{Appends}
+use Rattle.pw_read.specs.Run.{WritesFront}
 use Rattle.pw_tariff.specs.Faults as office_fault
 use Rattle.pw_tariff.specs.declared.fault.OfficeFault.{OfficeFault}
 use Rattle.pw_tariff.specs.declared.fault.OfficeFault.TheVariants as office
@@ -85,6 +86,22 @@ fault_text (fault.Wire of_wire) = wire_fault.wire_line of_wire
 fault_text fault.Device = codes "device failed"
 fault_text fault.Memory = codes "refused 62 Memory"
 
--- its line is written, and its status answered; or the line couldn't be written, and 3 is
+-- with its end
+abbrev pub fault_line : Fault → List ℕ
+fault_line given = fault_text given ++ codes "\n"
+
+-- bytes are written, or after an error a front of them
+abbrev pub Writes : {T E : Type 0} → Option (List ℕ) → Option (List ℕ) → List ℕ → Result T E → Type 0
+Writes old new bytes (Ok done) = Appends old new bytes
+Writes old new bytes (Err error) = WritesFront old new bytes
+
+-- a line is written, and this status answered; or the writer fails within the line, and 3 is
+abbrev pub TellsLine : List ℕ → ℕ → Option (List ℕ) → Option (List ℕ) → ℕ → Type 0
+TellsLine line told before after status =
+    ((status ≡ told) × Appends before after line) ⊎ ((status ≡ 3) × WritesFront before after line)
+
+-- the line of a fault is told, with its status; want of memory may be told in its place
 abbrev pub IsTold : Fault → Option (List ℕ) → Option (List ℕ) → ℕ → Type 0
-IsTold given before after status = ((status ≡ fault_status given) × Appends before after (fault_text given ++ codes "\n")) ⊎ (status ≡ 3)
+IsTold given before after status =
+    TellsLine (fault_line given) (fault_status given) before after status
+    ⊎ TellsLine (fault_line fault.Memory) 3 before after status

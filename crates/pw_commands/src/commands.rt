@@ -1,12 +1,12 @@
 //! The commands.
 
-ghost use Rattle.std.specs.Prelude.{◌≡◌, ◌<◌, List, Some, ℕ, IfOk, IfErr, length};
+ghost use Rattle.std.specs.Prelude.{◌≡◌, ◌⊎◌, ◌<◌, List, Some, ℕ, IfOk, IfErr, length};
 ghost use Rattle.pw_tariff.specs.Office.{office_of};
 ghost use Rattle.pw_model.specs.Office.{AllOfOffice};
 ghost use Rattle.pw_read.specs.Run.{IsRun};
 ghost use Rattle.pw_commands.specs.Loads.{Gives, Refused, page_of as the_page_of};
 ghost use Rattle.pw_time.specs.declared.zone.Clock.{Clock};
-ghost use Rattle.pw_words.specs.Words.{IsLimit, IsSound};
+ghost use Rattle.pw_words.specs.Words.{IsLimit, IsRefusal, IsSound};
 ghost use Rattle.pw_words.specs.declared.commands.Command.TheVariants.{Read};
 
 use crate::fault::Fault;
@@ -18,6 +18,7 @@ use crate::store::{FileBook, close_book, open_book};
 use crate::telling::{finish, tell};
 use pw_book::{Book, BookFault};
 use pw_found::Purpose;
+use pw_http::{Audience, Origin};
 use pw_model::Entry;
 use pw_read::read_run;
 use pw_record::{
@@ -27,9 +28,10 @@ use pw_report::{Page, page_text, statement};
 use pw_store::{SqlShelf, Unwatched, Watch};
 use pw_tariff::{AccountId, Office};
 use pw_time::Zone;
-use pw_words::words::command;
+use pw_words::words::{command, no_origin};
 use pw_words::{Command, Kind, What, WordsFault};
 use sqlite::Alter;
+use std::alloc::Global;
 use std::io::{Read, Write};
 
 /// No line of an accepted upload is longer, in bytes.
@@ -66,16 +68,41 @@ pub fn run_watched<I: Read, O: Write, E: Write, W: Watch>(
 ) -> u8 {
     match command(rt.alloc(), words) {
         Ok(asked) => obey(rt, asked, input, out, err, watch),
-        Err(WordsFault::Help { text }) => match out.write_all(text.as_bytes()) {
+        Err(fault) => not_asked(rt.alloc(), fault, out, err),
+    }
+}
+
+// Tells why words give no command, and answers the exit status.
+fn not_asked<O: Write, E: Write>(alloc: Global, fault: WordsFault, out: &mut O, err: &mut E) -> u8
+    ensures { IsRefusal fault → (result ≡ 2) ⊎ (result ≡ 3) }
+{
+    match fault {
+        WordsFault::Help { text } => match out.write_all(text.as_bytes()) {
             Ok(()) => 0,
-            Err(_) => tell(Fault::Device, err),
+            Err(_) => tell(alloc, Fault::Device, err),
         },
-        Err(WordsFault::Words { text }) => {
+        WordsFault::Words { text } => {
             let _ = err.write_all(text.as_bytes());
             WRONG_WORDS
         }
-        Err(WordsFault::Memory) => tell(Fault::Memory, err),
+        WordsFault::Memory => tell(alloc, Fault::Memory, err),
     }
+}
+
+// The origins of these words; a word that is none is refused.
+fn origins_of<'a>(alloc: Global, urls: &[&'a str]) -> Result<Vec<Origin<'a>>, WordsFault>
+    ensures { IfErr result IsRefusal }
+{
+    let mut origins = Vec::with_capacity(alloc, urls.len())?;
+    for url in urls {
+        let Some(origin) = Origin::of(url.as_bytes()) else {
+            return Err(no_origin(alloc, url));
+        };
+        if origins.push(origin).is_err() {
+            return Err(WordsFault::Memory);
+        }
+    }
+    Ok(origins)
 }
 
 // Does what a command asks for, and answers the exit status.
@@ -94,34 +121,54 @@ fn obey<I: Read, O: Write, E: Write, W: Watch>(
     match asked {
         Command::Read { clock } => read_run(rt.alloc(), clock, input, out, err),
         Command::Pipe { office, limit } => pipe(rt, office, limit, input, out, err),
-        Command::Check { office } => finish(check(rt, office), out, err),
+        Command::Check { office } => finish(rt.alloc(), check(rt, office), out, err),
         Command::Load {
             office,
             store,
             kind,
             file,
             limit,
-        } => { finish(load(rt, office, store, kind, file, limit, watch), out, err) }
+        } => {
+            finish(
+                rt.alloc(),
+                load(rt, office, store, kind, file, limit, watch),
+                out,
+                err,
+            )
+        }
         Command::Statement {
             office,
             store,
             account,
-        } => { finish(statement_of(rt, office, store, account, watch), out, err) }
+        } => {
+            finish(
+                rt.alloc(),
+                statement_of(rt, office, store, account, watch),
+                out,
+                err,
+            )
+        }
         Command::Export {
             office,
             store,
             what,
-        } => finish(export(rt, office, store, what, watch), out, err),
+        } => finish(rt.alloc(), export(rt, office, store, what, watch), out, err),
         Command::Serve {
             office,
             store,
             count,
             port,
             limit,
+            origins,
         } => {
+            let origins = match origins_of(rt.alloc(), origins.as_slice()) {
+                Ok(origins) => origins,
+                Err(fault) => return not_asked(rt.alloc(), fault, out, err),
+            };
+            let audience = Audience::Here(origins.as_slice());
             match book_at(rt, office, store, Purpose::Take, limit, watch) {
-                Ok(book) => serve(rt, book, count, port, out, err),
-                Err(fault) => tell(fault, err),
+                Ok(book) => serve(rt, book, audience, count, port, out, err),
+                Err(fault) => tell(rt.alloc(), fault, err),
             }
         }
     }
@@ -142,7 +189,7 @@ fn pipe<I: Read, O: Write, E: Write>(
         None => pipe_run(rt.alloc(), SAMPLE.as_bytes(), limit, input, out, err),
         Some(path) => match read_file(rt, path, LONGEST_OFFICE) {
             Ok(text) => pipe_run(rt.alloc(), text.as_slice(), limit, input, out, err),
-            Err(fault) => tell(fault, err),
+            Err(fault) => tell(rt.alloc(), fault, err),
         },
     }
 }

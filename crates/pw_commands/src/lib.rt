@@ -1,11 +1,14 @@
 //! What the program's commands do, over files, stores, streams and connections.
 #![tactic(auto)]
 
+mod accepting;
+mod client;
 mod commands;
 mod fault;
 mod files;
 mod hints;
 pub mod laws;
+mod limits;
 mod pipe;
 mod progress;
 mod sample;
@@ -21,5 +24,5 @@ pub use pipe::pipe_run;
 pub use progress::Progress;
 pub use sample::SAMPLE;
 pub use serving::{serve, serve_on};
-pub use store::{FileBook, close_book, connection_in, open_book};
+pub use store::{FileBook, close_book, connection_in, open_book, open_from};
 pub use telling::{finish, tell, write_whole};

@@ -1,8 +1,11 @@
 //! The command `pipe`.
 
-ghost use Rattle.std.specs.Prelude.{◌≡◌, ◌⊎◌};
+ghost use Rattle.std.specs.Prelude.{◌≡◌, ◌⊎◌, List, ℕ};
+ghost use Rattle.std.specs.Io.KnownBytes.{Appends};
+ghost use Rattle.pw_http.specs.declared.served.Served.{Served};
+ghost use Rattle.pw_tariff.specs.Text.{IsOfficeOf};
 ghost use Rattle.pw_words.specs.Words.{IsLimit};
-ghost use Rattle.pw_commands.specs.Pipe.{IsPiped, RefusesOffice};
+ghost use Rattle.pw_commands.specs.Pipe.{IsDone, IsStopped, Pipes, RefusesOffice};
 
 use crate::fault::Fault;
 use crate::telling::tell;
@@ -18,7 +21,7 @@ use std::io::{Read, Write};
 /// whose records stand in memory.
 ///
 /// Answers the exit status: 0; 1 where the text is refused as an office file; 3 where a stream or memory failed. With 1 and
-/// 3 the fault is a line to `err`.
+/// 3 the fault is a line to `err`, of which with 3 a front may be written alone.
 pub fn pipe_run<R: Read, O: Write, E: Write>(
     alloc: Global,
     office: &[u8],
@@ -29,20 +32,37 @@ pub fn pipe_run<R: Read, O: Write, E: Write>(
 ) -> u8
     requires { IsLimit limit }
     ensures status { (result ≡ 0) ⊎ ((result ≡ 1) ⊎ (result ≡ 3)) }
-    ensures refused { result ≡ 1 → RefusesOffice office.now }
-    ensures piped { result ≡ 0 → IsPiped ⟦<MemoryShelf as Shelf>⟧ office.now (R.remaining reader.old) (O.contents out.old) (O.contents out.new) }
+    ensures refused { result ≡ 1 → (out.new ≡ out.old) × RefusesOffice office.now (E.contents err.old) (E.contents err.new) }
+    ensures piped { result ≡ 0 → (err.new ≡ err.old) × IsDone ⟦<MemoryShelf as Shelf>⟧ office.now (R.remaining reader.old) (R.remaining reader.new) (O.contents out.old) (O.contents out.new) }
+    ensures stopped { result ≡ 3 → IsStopped ⟦<MemoryShelf as Shelf>⟧ office.now (R.remaining reader.old) (R.remaining reader.new) (O.contents out.old) (O.contents out.new) (E.contents err.old) (E.contents err.new) }
 {
     let office = match Office::read(alloc, office) {
         Ok(office) => office,
-        Err(fault) => return tell(Fault::Office(fault), err),
+        Err(fault) => return tell(alloc, Fault::Office(fault), err),
     };
+    match pipe_in(alloc, office, limit, reader, out) {
+        Ok(()) => 0,
+        Err(fault) => tell(alloc, Fault::Wire(fault), err),
+    }
+}
+
+// The conversation, whose replies are seen to leave.
+fn pipe_in<R: Read, O: Write>(
+    alloc: Global,
+    office: Office,
+    limit: u32,
+    reader: &mut R,
+    out: &mut O,
+) -> Result<(), WireFault>
+    requires { IsLimit limit }
+    ensures { (text : List ℕ) → IsOfficeOf text office → Pipes ⟦<MemoryShelf as Shelf>⟧ text (R.remaining reader.old) (R.remaining reader.new) (O.contents out.old) (O.contents out.new) result }
+{
     let mut book = Book::new(office, Zone::central(), MemoryShelf::new(alloc), limit);
-    let fault = match converse(alloc, &mut book, reader, out) {
-        Err(fault) => fault,
+    match converse(alloc, &mut book, reader, out) {
+        Err(fault) => Err(fault),
         Ok(_) => match out.flush() {
-            Ok(()) => return 0,
-            Err(_) => WireFault::Write,
+            Ok(()) => Ok(()),
+            Err(_) => Err(WireFault::Write),
         },
-    };
-    tell(Fault::Wire(fault), err)
+    }
 }

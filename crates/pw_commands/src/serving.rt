@@ -1,30 +1,29 @@
 //! The server: connections of this machine, one after the other.
 
-ghost use Rattle.std.specs.Prelude.{◌≡◌, ◌⊎◌, IfErr};
+ghost use Rattle.std.specs.Prelude.{◌≡◌, ◌⊎◌, None, IfErr};
+ghost use Rattle.pw_http.specs.Runs.{IsTalk};
+ghost use Rattle.pw_http.specs.Steps.{Answers};
 
+use crate::accepting::next_connection;
+use crate::client::Client;
 use crate::fault::Fault;
 use crate::store::{FileBook, close_book};
 use crate::telling::{tell, write_whole};
 use pw_book::Book;
-use pw_http::{WireFault, converse};
+use pw_http::{Audience, MOST_TURNS, Served, WireFault, converse_with};
 use pw_shelf::Shelf;
 use pw_store::SqlShelf;
 use sqlite::Alter;
 use std::alloc::Global;
-use std::io::{Read, Write};
-use std::net::{Shutdown, TcpListener, TcpStream};
-use std::time::Duration;
+use std::io::Write;
+use std::net::{TcpListener, TcpStream};
+use std::time::Clock;
 
-/// How long a client may be silent, in seconds, before the next one is served.
-const PATIENCE: u64 = 60;
-
-/// How many reads of what a client still sends behind the last reply.
-const LAST_READS: u32 = 1_024;
-
-/// Listens on a port of 127.0.0.1, says so on `out`, serves `count` connections of a book, and closes it.
+/// Listens on a port of 127.0.0.1, says so on `out`, serves `count` connections of a book to whom it is for, and closes it.
 pub fn serve<O: Write, E: Write>(
     rt: &HostRuntime,
     mut book: FileBook,
+    audience: Audience<'_>,
     count: u32,
     port: u16,
     out: &mut O,
@@ -32,9 +31,9 @@ pub fn serve<O: Write, E: Write>(
 ) -> u8
     ensures { (result ≡ 0) ⊎ (result ≡ 3) }
 {
-    let status = serve_book(rt, &mut book, count, port, out, err);
+    let status = serve_book(rt, &mut book, audience, count, port, out, err);
     match close_book(book) {
-        Err(fault) if status == 0 => tell(fault, err),
+        Err(fault) if status == 0 => tell(rt.alloc(), fault, err),
         _ => status,
     }
 }
@@ -43,6 +42,7 @@ pub fn serve<O: Write, E: Write>(
 fn serve_book<S: Alter, O: Write, E: Write>(
     rt: &HostRuntime,
     book: &mut Book<SqlShelf<S>>,
+    audience: Audience<'_>,
     count: u32,
     port: u16,
     out: &mut O,
@@ -51,8 +51,8 @@ fn serve_book<S: Alter, O: Write, E: Write>(
     ensures { (result ≡ 0) ⊎ (result ≡ 3) }
 {
     match listener_at(rt, port, out) {
-        Ok(listener) => serve_on(rt.alloc(), &listener, count, book, err),
-        Err(fault) => tell(fault, err),
+        Ok(listener) => serve_on(rt, rt.alloc(), &listener, audience, count, book, err),
+        Err(fault) => tell(rt.alloc(), fault, err),
     }
 }
 
@@ -69,13 +69,17 @@ fn listener_at<O: Write>(rt: &HostRuntime, port: u16, out: &mut O) -> Result<Tcp
     Ok(listener)
 }
 
-/// Serves `count` connections of a listener, one after the other: each is a conversation with the book, and why one
-/// stopped is a line to `err`.
+/// Serves `count` connections of a listener, one after the other: each is a conversation with the book, for an audience,
+/// and why one stopped is a line to `err`. A client is waited for by the clock, within limits of time: a minute for a
+/// read, for a write and for a whole request, and for a reply a second more for each 65,536 bytes of it.
 ///
-/// Answers 0; 3 where a connection can't be accepted, with `device failed` as the last line.
-pub fn serve_on<S: Shelf, E: Write>(
+/// A connection that is gone before it is accepted, or that no descriptor or no memory is free for, is not counted.
+/// Answers 0; 3 where the listener fails in another way, with `device failed` as the last line.
+pub fn serve_on<R: Clock, S: Shelf, E: Write>(
+    clock: &R,
     alloc: Global,
     listener: &TcpListener,
+    audience: Audience<'_>,
     count: u32,
     book: &mut Book<S>,
     err: &mut E,
@@ -83,41 +87,43 @@ pub fn serve_on<S: Shelf, E: Write>(
     ensures { (result ≡ 0) ⊎ (result ≡ 3) }
 {
     for _ in 0..count {
-        match listener.accept() {
-            Ok((stream, _)) => serve_one(alloc, &stream, book, err),
-            Err(_) => return tell(Fault::Device, err),
+        match next_connection(clock, listener) {
+            Ok(stream) => serve_one(clock, alloc, &stream, audience, book, err),
+            Err(fault) => return tell(alloc, fault, err),
         }
     }
     0
 }
 
-fn serve_one<S: Shelf, E: Write>(
+fn serve_one<'a, R: Clock, S: Shelf, E: Write>(
+    clock: &'a R,
     alloc: Global,
-    stream: &TcpStream,
+    stream: &'a TcpStream,
+    audience: Audience<'_>,
     book: &mut Book<S>,
     err: &mut E,
 ) {
     let _ = stream.set_nodelay(true);
-    let _ = stream.set_read_timeout(Some(Duration::from_secs(PATIENCE)));
-    if let Err(fault) = converse(alloc, book, &mut &*stream, &mut &*stream) {
-        tell(Fault::Wire(fault), err);
+    let Ok(client) = Client::new(clock, stream) else {
+        tell(alloc, Fault::Device, err);
+        return;
+    };
+    if let Err(fault) = serve_client(alloc, &client, audience, book) {
+        tell(alloc, Fault::Wire(fault), err);
         if fault == WireFault::Read || fault == WireFault::Write {
             return;
         }
     }
-    part(stream);
+    client.part();
 }
 
-/// Ends a connection so that the client still gets the last reply: what it goes on sending is read, up to a bound.
-fn part(stream: &TcpStream) {
-    if stream.shutdown(Shutdown::Write).is_err() {
-        return;
-    }
-    let mut unread = [0u8; 4_096];
-    for _ in 0..LAST_READS {
-        match (&mut &*stream).read(&mut unread) {
-            Ok(0) | Err(_) => return,
-            Ok(_) => {}
-        }
-    }
+fn serve_client<R: Clock, S: Shelf>(
+    alloc: Global,
+    client: &Client<'_, R>,
+    audience: Audience<'_>,
+    book: &mut Book<S>,
+) -> Result<Served, WireFault>
+    ensures { IsTalk audience.entry (Answers S.Shelf) None None None None book.old book.new MOST_TURNS result }
+{
+    converse_with(alloc, book, audience, &mut &*client, &mut &*client)
 }

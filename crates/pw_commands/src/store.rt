@@ -1,6 +1,7 @@
 //! A book over a store's files.
 
 ghost use Rattle.std.specs.Prelude.{◌≡◌, ◌≢◌, IfErr, IfOk, IsTrue, OnOk};
+ghost use Rattle.sqlite.specs.Held.{state};
 ghost use Rattle.sqlite.specs.State.{HasCleanDisk};
 ghost use Rattle.sqlite.specs.Files.{file_state, image_of};
 ghost use Rattle.sqlite.specs.Start.{FindsIn};
@@ -8,13 +9,16 @@ ghost use Rattle.sqlite_wal.specs.Reads.{OnlyReads};
 ghost use Rattle.pw_tariff.specs.Text.{IsOfficeOf};
 ghost use Rattle.pw_words.specs.Words.{IsLimit};
 ghost use Rattle.pw_schema.specs.Tables.{no_schema};
+ghost use Rattle.pw_commands.specs.Crashes.{WasHeld};
 ghost use Rattle.pw_commands.specs.Faults.{IsOfOpening};
+ghost use Rattle.pw_commands.specs.Stores.{OpensWith};
 ghost use Rattle.pw_found.specs.Verdicts.{MayOpen};
 
 use crate::fault::Fault;
 use pw_book::Book;
 use pw_found::{Cause, Place, Purpose, admit, refused};
 use pw_schema::is_nothing;
+use pw_shelf::Shelf;
 use pw_store::{OpenFault, SqlShelf, Watch};
 use pw_tariff::Office;
 use pw_time::Zone;
@@ -42,7 +46,8 @@ pub fn open_book<W: Watch>(
 ) -> Result<FileBook, Fault>
     requires office { IsOfficeOf text.now office }
     requires limit { IsLimit limit }
-    ensures book { IfOk result (λ book. book.office ≡ office) }
+    ensures office { IfOk result (λ book. book.office ≡ office) }
+    ensures limit { IfOk result (λ book. book.limit ≡ limit) }
     ensures cause { IfErr result IsOfOpening }
 {
     let place = match Place::at(rt, path) {
@@ -52,11 +57,24 @@ pub fn open_book<W: Watch>(
     if let Some(refusal) = refused(place.found(rt), purpose) {
         return Err(Fault::from(refusal));
     }
+    let Ok(random) = RandomState::new(rt) else {
+        return Err(Fault::Unopened(Cause::Disk));
+    };
+    let options = Options::new(random.hash_one(&0u8));
     let files = match place.open(rt, Wary) {
         Ok(files) => files,
         Err(refusal) => return Err(Fault::from(refusal)),
     };
-    match book_in(rt, files, purpose, office, text, limit, watch) {
+    match open_from(
+        rt.alloc(),
+        files,
+        options,
+        purpose,
+        office,
+        text,
+        limit,
+        watch,
+    ) {
         Ok(book) => Ok(book),
         Err((fault, files)) => {
             place.leave(rt, files);
@@ -65,10 +83,12 @@ pub fn open_book<W: Watch>(
     }
 }
 
-// A book over the files of a store, which are given back where it is refused.
-fn book_in<D: Disk + Drop, W: Watch>(
-    rt: &HostRuntime,
+/// Opens the files of a store as a book of the office of a text. A store that was there holds what its tables do; one is
+/// made to take uploads, where nothing is, and none to ask. Where the opening is refused the files are given back.
+pub fn open_from<D: Disk + Drop, W: Watch>(
+    alloc: Global,
     files: Files<D>,
+    options: Options,
     purpose: Purpose,
     office: Office,
     text: &[u8],
@@ -79,18 +99,17 @@ fn book_in<D: Disk + Drop, W: Watch>(
     requires db { IsTrue (D.Disk.is_usable files.db) }
     requires office { IsOfficeOf text.now office }
     requires limit { IsLimit limit }
-    ensures book { IfOk result (λ book. book.office ≡ office) }
+    ensures office { IfOk result (λ book. book.office ≡ office) }
+    ensures limit { IfOk result (λ book. book.limit ≡ limit) }
+    ensures content { IfOk result (λ book. HasCleanDisk (file_state book.shelf.conn) → OpensWith purpose (image_of D.Disk files) (⟦<SqlShelf<FileStore<D>> as Shelf>⟧.state book.shelf).content) }
     ensures cause { IfErr result (λ e. IsOfOpening e.0) }
+    ensures untouched { IfErr result (λ e. e.0 ≡ Fault.Unopened Cause.LogAlone → OnlyReads D.Disk files.log e.1.log × OnlyReads D.Disk files.db e.1.db) }
 {
-    let Ok(random) = RandomState::new(rt) else {
-        return Err((Fault::Unopened(Cause::Disk), files));
-    };
-    let options = Options::new(random.hash_one(&0u8));
-    let connection = match connection_in(rt.alloc(), files, options, purpose) {
+    let connection = match connection_in(alloc, files, options, purpose) {
         Ok(connection) => connection,
         Err(refused) => return Err(refused),
     };
-    match book_over(rt.alloc(), connection, office, text, limit, watch) {
+    match book_over(alloc, connection, office, text, limit, watch) {
         Ok(book) => Ok(book),
         Err((fault, connection)) => Err((Fault::Store(fault), files_under(connection))),
     }
@@ -165,7 +184,9 @@ fn book_over<S: Alter, W: Watch>(
 ) -> Result<Book<SqlShelf<S>>, (OpenFault, Connection<S>)>
     requires office { IsOfficeOf text.now office }
     requires limit { IsLimit limit }
-    ensures { IfOk result (λ book. book.office ≡ office) }
+    ensures office { IfOk result (λ book. book.office ≡ office) }
+    ensures limit { IfOk result (λ book. book.limit ≡ limit) }
+    ensures content { IfOk result (λ book. HasCleanDisk (state S.Store book.shelf.conn) → HasCleanDisk (state S.Store connection) × WasHeld (state S.Store connection).committed (⟦<SqlShelf<S> as Shelf>⟧.state book.shelf).content) }
 {
     match SqlShelf::open_watched(alloc, connection, text, watch) {
         Ok(shelf) => Ok(Book::new(office, Zone::central(), shelf, limit)),

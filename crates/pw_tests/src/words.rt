@@ -2,6 +2,7 @@
 
 use pw_words::Command;
 use pw_words::words::command;
+use std::alloc::Global;
 use std::test::Fail;
 
 const LIMIT: u32 = 1_000_000;
@@ -21,13 +22,14 @@ fn no_words(rt: HostRuntime) -> Result<(), Fail> {
     Ok(())
 }
 
-fn serve<'a>(count: u32, port: u16) -> Command<'a> {
+fn serve<'a>(alloc: Global, count: u32, port: u16) -> Command<'a> {
     Command::Serve {
         office: "o",
         store: "s",
         count,
         port,
         limit: LIMIT,
+        origins: Vec::new(alloc),
     }
 }
 
@@ -36,15 +38,15 @@ fn words_of_servers(rt: HostRuntime) -> Result<(), Fail> {
     let cases = [
         (
             ["serve", "o", "s", "--count", "0"].as_slice(),
-            serve(0, 8_460),
+            serve(rt.alloc(), 0, 8_460),
         ),
         (
             ["serve", "o", "s", "--count", "4294967295", "--port", "1"].as_slice(),
-            serve(u32::MAX, 1),
+            serve(rt.alloc(), u32::MAX, 1),
         ),
         (
             ["serve", "o", "s", "--port=65535", "--count=2"].as_slice(),
-            serve(2, 65_535),
+            serve(rt.alloc(), 2, 65_535),
         ),
     ];
     for (words, wanted) in cases {

@@ -5,6 +5,8 @@ use Rattle.pw_time.specs.declared.zone.Clock.{Clock}
 use Rattle.pw_time.specs.declared.zone.Clock.TheVariants.{Marked, Winter, Local}
 use Rattle.pw_words.specs.declared.commands.Command.{Command}
 use Rattle.pw_words.specs.declared.commands.Command.TheVariants as command
+use Rattle.pw_words.specs.declared.fault.WordsFault.{WordsFault}
+use Rattle.pw_words.specs.declared.fault.WordsFault.TheVariants as fault
 
 -- a clock's word; a clock that marks its times is none of a readout
 abbrev pub IsClockWord : Clock → List ℕ → Type 0
@@ -38,4 +40,9 @@ IsSound (command.Pipe office limit) = IsLimit limit
 IsSound (command.Load office store kind file limit) = IsLimit limit
 IsSound (command.Statement office store account) = ⊤
 IsSound (command.Export office store what) = ⊤
-IsSound (command.Serve office store count port limit) = IsLimit limit × (1 ≤ port)
+IsSound (command.Serve office store count port limit origins) = IsLimit limit × (1 ≤ port)
+
+-- why words give no command, where they ask for no help
+abbrev pub IsRefusal : WordsFault → Type 0
+IsRefusal (fault.Help text) = ⊥
+IsRefusal f = ⊤

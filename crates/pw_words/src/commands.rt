@@ -31,7 +31,7 @@ pub enum What {
 }
 
 /// What the program's words ask for. Files are told by their paths; a limit is 1 to 10,000,000 records.
-#[derive(Clone, Copy, Debug, PartialEq, Eq)]
+#[derive(Debug, Drop, PartialEq, Eq)]
 pub enum Command<'a> {
     /// The frames of a body are printed, with the clock that readouts tell their time by.
     Read {
@@ -66,12 +66,14 @@ pub enum Command<'a> {
         store: &'a str,
         what: What,
     },
-    /// `count` connections to a port of this machine are served.
+    /// `count` connections to a port of this machine are served; pages of these origins, as their words stand, may ask
+    /// too.
     Serve {
         office: &'a str,
         store: &'a str,
         count: u32,
         port: u16,
         limit: u32,
+        origins: Vec<&'a str>,
     },
 }

@@ -1,5 +1,9 @@
 //! Why words give no command.
 
+ghost use Rattle.std.specs.Prelude.{◌≢◌};
+ghost use Rattle.clap.specs.Values.{kind_of};
+ghost use Rattle.pw_words.specs.Words.{IsRefusal};
+
 use clap::Error;
 use clap::error::ErrorKind;
 use std::alloc::{AllocError, Global};
@@ -27,7 +31,9 @@ impl From<AllocError> for WordsFault {
 }
 
 /// What an error of the parser means: help where the parser would end well, else wrong words.
-pub(crate) fn fault_of(alloc: Global, error: &Error) -> WordsFault {
+pub(crate) fn fault_of(alloc: Global, error: &Error) -> WordsFault
+    ensures { (kind_of error.now ≢ ErrorKind.DisplayHelp) → (kind_of error.now ≢ ErrorKind.DisplayVersion) → IsRefusal result }
+{
     if error.kind() == ErrorKind::OutOfMemory {
         return WordsFault::Memory;
     }

@@ -1,6 +1,6 @@
 //! The parser of the program's words.
 
-use clap::{Arg, Command, value_parser};
+use clap::{Arg, ArgAction, Command, value_parser};
 use std::alloc::{AllocError, Global};
 
 /// The words of the two clocks that a readout may tell its time by.
@@ -27,6 +27,7 @@ enum Word {
     Clock,
     Count,
     Port,
+    Origin,
 }
 
 /// A command: its name, what it does, how it ends with an example, and the words that it takes.
@@ -92,6 +93,7 @@ static COMMANDS: [Asked; 7] = [
             Word::Count,
             Word::Port,
             Word::Limit,
+            Word::Origin,
         ],
     },
 ];
@@ -156,6 +158,16 @@ fn port<'a>(alloc: Global) -> Arg<'a> {
         .help("The port on 127.0.0.1")
 }
 
+fn origin<'a>(alloc: Global) -> Arg<'a> {
+    Arg::new(alloc, "origin")
+        .long("origin")
+        .value_name("URL")
+        .action(ArgAction::Append)
+        .help(
+            "Whose pages may ask too: http:// or https://, a host, and its port; may stand more than once",
+        )
+}
+
 fn meter<'a>(alloc: Global) -> Result<Arg<'a>, AllocError> {
     Arg::new(alloc, "meter")
         .long("meter")
@@ -178,6 +190,7 @@ fn argument<'a>(alloc: Global, word: Word) -> Result<Arg<'a>, AllocError> {
         Word::Clock => Ok(clock(alloc)),
         Word::Count => Ok(count(alloc)),
         Word::Port => Ok(port(alloc)),
+        Word::Origin => Ok(origin(alloc)),
     }
 }
 
@@ -195,7 +208,7 @@ fn command<'a>(alloc: Global, asked: &Asked) -> Result<Command<'a>, AllocError> 
 // The parser without its commands.
 fn empty_parser<'a>(alloc: Global) -> Result<Command<'a>, AllocError> {
     Command::new(alloc, "powerbook")
-        .version("1.1.0")
+        .version("1.2.0")
         .about("Meter readings and prepaid accounts of an electricity cooperative")
         .after_help(
             "Without a command it acts as pipe. Each command tells more: powerbook load --help.",

@@ -2,20 +2,24 @@
 
 ghost use Rattle.std.specs.Prelude.{◌≡◌, ◌↔◌, IfOk, IfSome, IfNone, IsTrue, None, Ok, map, option_map};
 ghost use Rattle.pw_time.specs.declared.zone.Clock.{Clock};
-ghost use Rattle.pw_words.specs.Words.{AsksToPipe, IsClockWord, IsLimit, IsSound, StatesClock};
+ghost use Rattle.clap.specs.Values.{kind_of};
+ghost use Rattle.pw_words.specs.Words.{AsksToPipe, IsClockWord, IsLimit, IsRefusal, IsSound, StatesClock};
 ghost use Rattle.pw_words.specs.declared.commands.Command.TheVariants as asks;
 ghost use Rattle.pw_words.specs.inner.Told.{IsKindWord, IsTableWord};
 
 use crate::commands::{Command, Kind, What};
 use crate::fault::{WordsFault, fault_of};
 use crate::parser::parser;
-use clap::ArgMatches;
 use clap::error::ErrorKind;
+use clap::{ArgMatches, Error};
 use pw_time::Clock;
 use std::alloc::{AllocError, Global};
 
 /// The most records of a book, where the words don't state it.
 const USUAL_LIMIT: u32 = 1_000_000;
+
+/// What an origin is.
+const ORIGIN_FORM: &str = "an origin is http:// or https://, a host, and its port, if any";
 
 /// The command that the words behind the program's name ask for. No word asks for `pipe`.
 ///
@@ -49,10 +53,28 @@ fn parsed<'a>(alloc: Global, words: &'a [&'a str]) -> Result<Command<'a>, WordsF
         Ok(matches) => matches,
         Err(error) => return Err(fault_of(alloc, &error)),
     };
-    match command_of(&matches) {
+    let origins = origins_of(alloc, &matches)?;
+    match command_of(&matches, origins) {
         Some(command) => Ok(command),
         None => Err(word_missing(alloc)?),
     }
+}
+
+/// What is told of a word of `--origin` that is no origin: `Words`, or `Memory`.
+pub fn no_origin(alloc: Global, url: &str) -> WordsFault
+    ensures { IsRefusal result }
+{
+    match wrong_origin(alloc, url) {
+        Ok(error) => fault_of(alloc, &error),
+        Err(_) => WordsFault::Memory,
+    }
+}
+
+fn wrong_origin(alloc: Global, url: &str) -> Result<Error, AllocError>
+    ensures { IfOk result (λ e. kind_of e ≡ ErrorKind.ValueValidation) }
+{
+    let why = format!(in alloc; "invalid value '{url}' for '--origin <URL>': {ORIGIN_FORM}")?;
+    parser(alloc)?.error(ErrorKind::ValueValidation, why.as_str())
 }
 
 // That the parser asks for no word which a command needs: the text is its own.
@@ -92,7 +114,18 @@ fn stated_clock(words: &[&str]) -> Option<Clock>
     }
 }
 
-fn command_of<'a>(matches: &ArgMatches<'a>) -> Option<Command<'a>>
+// The words of `--origin`, of which `serve` alone has any.
+fn origins_of<'a>(alloc: Global, matches: &ArgMatches<'a>) -> Result<Vec<&'a str>, AllocError> {
+    let mut origins = Vec::new(alloc);
+    if let Some(("serve", words)) = matches.subcommand() {
+        if let Some(urls) = words.get_strs("origin") {
+            origins.extend_from_slice(urls)?;
+        }
+    }
+    Ok(origins)
+}
+
+fn command_of<'a>(matches: &ArgMatches<'a>, origins: Vec<&'a str>) -> Option<Command<'a>>
     ensures { IfSome result IsSound }
 {
     match matches.subcommand() {
@@ -113,7 +146,7 @@ fn command_of<'a>(matches: &ArgMatches<'a>) -> Option<Command<'a>>
         Some(("load", words)) => load_of(words),
         Some(("statement", words)) => statement_of(words),
         Some(("export", words)) => export_of(words),
-        Some(("serve", words)) => serve_of(words),
+        Some(("serve", words)) => serve_of(words, origins),
         Some(_) => None,
     }
 }
@@ -150,7 +183,7 @@ fn export_of<'a>(words: &ArgMatches<'a>) -> Option<Command<'a>>
     })
 }
 
-fn serve_of<'a>(words: &ArgMatches<'a>) -> Option<Command<'a>>
+fn serve_of<'a>(words: &ArgMatches<'a>, origins: Vec<&'a str>) -> Option<Command<'a>>
     ensures { IfSome result IsSound }
 {
     let port = words.get_one::<u16>("port")?;
@@ -163,6 +196,7 @@ fn serve_of<'a>(words: &ArgMatches<'a>) -> Option<Command<'a>>
         count: words.get_one::<u32>("count")?,
         port,
         limit: limit_of(words)?,
+        origins,
     })
 }
 

@@ -6,4 +6,4 @@ use Rattle.pw_commands.proofs.commands.load.Goals as goal
 pub post-line-requires : goal.post-line-requires
 post-line-requires g c =
     subst (λ entries. AllOfOffice (office_of c.in_ok-book.book.office) entries) (sym c.as_slice-4.ensures.value)
-    (subst (λ office. AllOfOffice (office_of office) c.in_ok-entries.entries.items) (sym c.in_ok-book.ensures.book) c.in_ok-entries.ensures.of_office)
+    (subst (λ office. AllOfOffice (office_of office) c.in_ok-entries.entries.items) (sym c.in_ok-book.ensures.office) c.in_ok-entries.ensures.of_office)

@@ -4,5 +4,5 @@ use Rattle.pw_commands.proofs.commands.statement_of.Goals as goal
 
 pub statement_text-page-requires : goal.statement_text-page-requires
 statement_text-page-requires g c =
-    subst (λ office. c.in-Some.account.0 < length office.accounts) (sym c.in_ok-book.ensures.book)
+    subst (λ office. c.in-Some.account.0 < length office.accounts) (sym c.in_ok-book.ensures.office)
     (slice_get_within c.in_ok-office.office.accounts c.in-Some.account.0 _ c.in-Some.ensures.some)

@@ -1,8 +1,10 @@
-use Rattle.std.proofs.Common.{rules}
+use Rattle.std.proofs.Common.{ap, rules}
+use Rattle.pw_commands.specs.Faults.{fault_status}
+use Rattle.pw_commands.proofs.Told.{told-three}
 use Rattle.pw_commands.proofs.serving.serve_on.Goals as goal
 
 pub returns-in-Err : goal.returns-in-Err
-returns-in-Err g c = search rules
+returns-in-Err g c = told-three c.in-Err.fault _ _ _ (ap fault_status c.in-Err.ensures) c.tell.ensures
 
 pub returns : goal.returns
 returns g c = search rules
