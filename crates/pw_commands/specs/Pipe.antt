@@ -1,6 +1,6 @@
 -- What `pipe` comes to.
 -- (Definitions of this project.)
-use Rattle.std.specs.Prelude.{◌≡◌, ◌⊎◌, ℕ, List, Option, Result, Ok, Err}
+use Rattle.std.specs.Prelude.{◌≡◌, ◌⊎◌, ℕ, List, Option, Result, Ok}
 use Rattle.std.specs.Io.KnownBytes.{Appends}
 use Rattle.pw_read.specs.Run.{WritesFront}
 use Rattle.pw_model.specs.Shelf.{no_content}
@@ -44,11 +44,6 @@ module _ (shelf : Ghosts MemoryShelf) where
   -- it ended well
   abbrev pub IsDone : List ℕ → Option (List ℕ) → Option (List ℕ) → Option (List ℕ) → Option (List ℕ) → Type 0
   IsDone text unread left known after = (served : Served) × IsPiped text unread left known after (Ok served)
-
-  -- or it was cut, or what it wrote couldn't be seen to leave
-  abbrev pub Pipes : {T : Type 0} → List ℕ → Option (List ℕ) → Option (List ℕ) → Option (List ℕ) → Option (List ℕ) → Result T WireFault → Type 0
-  Pipes text unread left known after (Ok done) = IsDone text unread left known after
-  Pipes text unread left known after (Err why) = (outcome : Result Served WireFault) × IsPiped text unread left known after outcome
 
   -- a front of the line of one fault is told; and a conversation wrote what it did, or nothing was written
   pub record IsStopped (text : List ℕ) (unread left known after told_before told_after : Option (List ℕ)) : Type 0 where

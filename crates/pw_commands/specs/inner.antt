@@ -2,3 +2,5 @@
 pub mod Limits
 -- Accepting: why no connection is accepted
 pub mod Accepting
+-- Piping: what the conversation of `pipe` comes to
+pub mod Piping

@@ -5,7 +5,8 @@ ghost use Rattle.std.specs.Io.KnownBytes.{Appends};
 ghost use Rattle.pw_http.specs.declared.served.Served.{Served};
 ghost use Rattle.pw_tariff.specs.Text.{IsOfficeOf};
 ghost use Rattle.pw_words.specs.Words.{IsLimit};
-ghost use Rattle.pw_commands.specs.Pipe.{IsDone, IsStopped, Pipes, RefusesOffice};
+ghost use Rattle.pw_commands.specs.Pipe.{IsDone, IsStopped, RefusesOffice};
+ghost use Rattle.pw_commands.specs.inner.Piping.{Pipes};
 
 use crate::fault::Fault;
 use crate::telling::tell;

@@ -13,7 +13,6 @@ use Rattle.pw_shelf.specs.declared.shelf.Shelf.{Ghosts}
 use Rattle.pw_book.specs.After.{After, Refused}
 use Rattle.pw_book.specs.declared.book.Book.{Book}
 use Rattle.pw_http.specs.declared.audience.Audience.{Audience}
-use Rattle.pw_http.specs.declared.audience.Audience.TheVariants.{Everybody}
 use Rattle.pw_http.specs.declared.fault.WireFault.{WireFault}
 use Rattle.pw_http.specs.declared.fault.WireFault.TheVariants.{Read, Write, TooManyTurns, Memory}
 use Rattle.pw_http.specs.declared.replies.Status.{Status}
@@ -93,13 +92,9 @@ module _ {S : Type 0} (shelf : Ghosts S) where
     pub comes : ComesTo old (exchanges audience AnswersFairly talk) new
 
   -- the same of what was read and written
-  abbrev pub IsHeadlineFor : Audience → Option (List ℕ) → Option (List ℕ) → Option (List ℕ) → Book S shelf → Book S shelf → ℕ → Type 0
-  IsHeadlineFor audience unread known after old new count =
+  abbrev pub IsHeadline : Audience → Option (List ℕ) → Option (List ℕ) → Option (List ℕ) → Book S shelf → Book S shelf → ℕ → Type 0
+  IsHeadline audience unread known after old new count =
       (stream : List ℕ) × (text : List ℕ) × Tells unread stream × Appends known after text × Headline audience stream text count old new
-
-  -- and where everybody is let in
-  abbrev pub IsHeadline : Option (List ℕ) → Option (List ℕ) → Option (List ℕ) → Book S shelf → Book S shelf → ℕ → Type 0
-  IsHeadline = IsHeadlineFor Everybody
 
   -- where the reader failed, or was called too often: of the requests that were wholly read
   abbrev pub IsHeadlineSoFar : Audience → Option (List ℕ) → Option (List ℕ) → Option (List ℕ) → Option (List ℕ) → Book S shelf → Book S shelf → Type 0
@@ -114,7 +109,7 @@ module _ {S : Type 0} (shelf : Ghosts S) where
 
   -- whatever the conversation answers
   abbrev pub HasHeadline : Audience → Option (List ℕ) → Option (List ℕ) → Option (List ℕ) → Option (List ℕ) → Book S shelf → Book S shelf → Result Served WireFault → Type 0
-  HasHeadline audience unread left known after old new (Ok served) = IsHeadlineFor audience unread known after old new served.requests
+  HasHeadline audience unread left known after old new (Ok served) = IsHeadline audience unread known after old new served.requests
   HasHeadline audience unread left known after old new (Err Read) = IsHeadlineSoFar audience unread left known after old new
   HasHeadline audience unread left known after old new (Err TooManyTurns) = IsHeadlineSoFar audience unread left known after old new
   HasHeadline audience unread left known after old new (Err Write) = IsHeadlineCut audience unread known after old new
