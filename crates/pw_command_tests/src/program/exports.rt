@@ -64,6 +64,7 @@ fn is_exported(rt: &HostRuntime, room: &Place, what: &str, text: &str) -> bool {
 // bears on: pw_commands commands.rt entries_of entries
 // bears on: pw_commands commands.rt entries_of of_office
 // bears on: pw_commands store.rt open_book office
+// bears on: pw_commands store.rt open_from office
 // bears on: pw_shelf shelf.rt Shelf::points_between memory
 #[test]
 fn a_statement_is_printed(rt: HostRuntime) -> Result<(), Fail> {
@@ -93,7 +94,7 @@ fn tables_are_printed(rt: HostRuntime) -> Result<(), Fail> {
 // bears on: pw_commands telling.rt finish text
 // bears on: pw_shelf shelf.rt Shelf::readings_of memory
 // bears on: pw_shelf shelf.rt Shelf::readings_of rows
-// bears on: pw_commands telling.rt write_whole ok
+// bears on: pw_commands telling.rt write_whole written
 #[test]
 fn exports_are_printed(rt: HostRuntime) -> Result<(), Fail> {
     let room = filled(&rt, "exports")?;

@@ -123,6 +123,8 @@ fn is_full_behind_one(rt: &HostRuntime, room: &Place) -> io::Result<bool> {
 
 // bears on: pw_shelf shelf.rt Shelf::count number
 // bears on: pw_commands fault.rt Fault from_gives
+// bears on: pw_commands store.rt open_book limit
+// bears on: pw_commands store.rt open_from limit
 #[test]
 fn a_full_book(rt: HostRuntime) -> Result<(), Fail> {
     let room = room(&rt, "full")?;
