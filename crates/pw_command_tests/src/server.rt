@@ -28,7 +28,8 @@ topped up EUR 50.00
 balance EUR 50.00
 ";
 
-/// A clock that is so many seconds ahead each time it is read.
+// A clock that is so many seconds ahead each time it is read.
+#[derive(Drop)]
 struct Leaping {
     seconds: Cell<u64>,
     leap: u64,
@@ -46,7 +47,7 @@ impl Clock for Leaping {
     }
 }
 
-fn leaping(leap: u64) -> Leaping {
+fn leaping_by(leap: u64) -> Leaping {
     Leaping {
         seconds: Cell::new(0),
         leap,
@@ -136,19 +137,22 @@ fn said_by<R: Clock>(
 // bears on: pw_commands serving.rt serve_on times
 #[test]
 fn a_request_takes_a_minute_at_most(rt: HostRuntime) -> Result<(), Fail> {
-    let (refusal, told) = said_by(&rt, &leaping(59), b"GET /acc")?;
+    let (refusal, told) = said_by(&rt, &leaping_by(59), b"GET /acc")?;
     assert!(rt; refusal.as_slice().ends_with(b"bad head\n") && told.is_empty());
-    let (refusal, told) = said_by(&rt, &leaping(60), b"GET /acc")?;
-    assert!(rt; refusal.is_empty() && told.as_slice() == b"refused 80 Read\n");
+    let (refusal, told) = said_by(&rt, &leaping_by(60), b"GET /acc")?;
+    assert!(rt; refusal.is_empty() && told.as_slice() == b"refused 80 Read\n".as_slice());
     Ok(())
 }
 
 // bears on: pw_commands serving.rt serve_on times
 #[test]
 fn a_short_reply_takes_a_minute_at_most(rt: HostRuntime) -> Result<(), Fail> {
-    let (all, told) = said_by(&rt, &leaping(59), REQUESTS)?;
+    let (all, told) = said_by(&rt, &leaping_by(59), REQUESTS)?;
     assert!(rt; all.as_slice() == REPLIES.as_bytes() && told.is_empty());
-    let (head, told) = said_by(&rt, &leaping(60), REQUESTS)?;
-    assert!(rt; head.as_slice().ends_with(b"\r\n\r\n") && told.as_slice() == b"refused 81 Write\n");
+    let (head, told) = said_by(&rt, &leaping_by(60), REQUESTS)?;
+    assert!(rt;
+        head.as_slice().ends_with(b"\r\n\r\n")
+            && told.as_slice() == b"refused 81 Write\n".as_slice()
+    );
     Ok(())
 }
