@@ -52,6 +52,7 @@ def exported(crate):
             names = set()
             for part in re.findall(r"pub use ([^;]+);", text):
                 names.update(re.findall(r"\w+", part))
+            names.update(re.findall(r"^pub (?:fn|struct|enum|trait) (\w+)", text, re.M))
             return names, set(re.findall(r"^pub mod (\w+)", text, re.M))
     return set(), set()
 

@@ -1,12 +1,13 @@
 -- Totals that change one after the other.
-use Rattle.std.proofs.Common.{◌≡◌, ℕ, ◌+◌, ◌≤◌, ◌⊎◌, true, cond, Option, Some, None, refl, ap, sym, subst, ◌∙◌, arith, inl, inr, ◌↔◌}
-use Rattle.std.proofs.lemmas.Bool.{cases_lt}
+use Rattle.std.proofs.Common.{◌≡◌, ℕ, ◌+◌, ◌<◌, ◌≤◌, ◌⊎◌, Bool, IsTrue, true, cond, Option, Some, None, refl, ap, sym, subst, ◌∙◌, arith, inl, inr, ◌↔◌}
 use Rattle.pw_tariff.specs.declared.ids.AccountId.{AccountId}
 use Rattle.pw_tariff.specs.declared.ids.BandId.{BandId}
 use Rattle.pw_tariff.specs.declared.ids.Direction.{Direction}
 use Rattle.pw_tariff.specs.declared.ids.Direction.TheVariants.{Import, Export}
+use Rattle.pw_tariff.specs.Office.{OfficeRules}
 use Rattle.pw_model.specs.declared.records.TotalKey.{TotalKey}
 use Rattle.pw_model.specs.declared.records.TotalKey.TheVariants.{Energy, TopUps}
+use Rattle.pw_model.specs.Office.{HasOwner}
 use Rattle.pw_model.specs.Shelf.{ShelfContent}
 use Rattle.pw_shelf.specs.Changes.{same_total, with_total}
 use Rattle.pw_book.specs.inner.Moves.{MovesTotals, InDirection, OfOwner, OfOwners, most_total}
@@ -79,94 +80,40 @@ moves-at key more less a b c d p q f = record {
   elsewhere = f.elsewhere;
 }
 
--- ---- one band more
-abbrev band_in : TotalKey → ℕ
+-- ---- which totals are moved
+pub in-office : (office : OfficeRules) (o : Option AccountId) (b : BandId) (d : Direction) → HasOwner office o → b.0 < office.bands → OfOwners office.bands office.accounts (Energy o b d)
+in-office office None b Import h l = inl (inl (b, l, refl))
+in-office office None b Export h l = inl (inr (b, l, refl))
+in-office office (Some a) b Import h l = inr (a, h, inl (b, l, refl))
+in-office office (Some a) b Export h l = inr (a, h, inr (b, l, refl))
+
+-- an energy key that moves is one of the office
+abbrev pub is-energy : TotalKey → ℕ
+is-energy (Energy o b d) = 1
+is-energy (TopUps a) = 0
+
+abbrev pub band_in : TotalKey → ℕ
 band_in (Energy o b d) = b.0
 band_in (TopUps a) = 0
 
-abbrev place_in : TotalKey → ℕ
-place_in (Energy None b d) = 0
-place_in (Energy (Some a) b d) = a.0 + 1
-place_in (TopUps a) = 0
+abbrev pub owner_in : TotalKey → Option AccountId
+owner_in (Energy o b d) = o
+owner_in (TopUps a) = None
 
-abbrev way_in : TotalKey → ℕ
-way_in (Energy o b Import) = 1
-way_in (Energy o b Export) = 2
-way_in (TopUps a) = 0
+owner-direction : (bands : ℕ) (o : Option AccountId) (d : Direction) (k : TotalKey) → InDirection o d bands k → (is-energy k ≡ 1) × (band_in k < bands) × (owner_in k ≡ o)
+owner-direction bands o d k i = (ap is-energy i.2, (let e = ap band_in i.2 in let l = i.1 in omega (arith, e, l)), ap owner_in i.2)
 
-abbrev band : ℕ → BandId
-band n = record { 0 = n }
+of-owner : (bands : ℕ) (o : Option AccountId) (k : TotalKey) → OfOwner bands o k → (is-energy k ≡ 1) × (band_in k < bands) × (owner_in k ≡ o)
+of-owner bands o k (inl i) = owner-direction bands o Import k i
+of-owner bands o k (inr i) = owner-direction bands o Export k i
 
-pub moves-band : (o : Option AccountId) (d : Direction) (more less : TotalKey → ℕ) (n : ℕ) (a b : ℕ) (was mid now : ShelfContent) →
-    MovesTotals (InDirection o d n) more less was mid → a ≡ more (Energy o (band n) d) → b ≡ less (Energy o (band n) d) →
-    MovesTotals (λ k. k ≡ Energy o (band n) d) (λ k. a) (λ k. b) mid now → MovesTotals (InDirection o d (n + 1)) more less was now
-moves-band o d more less n a b was mid now f p q g =
-    let key : TotalKey = Energy o (band n) d in
-    moves-told (λ k. InDirection o d n k ⊎ (k ≡ key)) (InDirection o d (n + 1)) more less was now
-    (λ k. (
-      λ t. elim t [
-        | inl i ↦ (i.0, (let l = i.1 in omega (arith, l)), i.2)
-        | inr e ↦ (band n, omega arith, e)
-      ],
-      λ i. elim (cases_lt i.0.0 n) [
-        | inl l ↦ inl (i.0, l, i.2)
-        | inr g ↦ (
-            let l = i.1 in
-            let e : i.0.0 ≡ n = omega (arith, l, g) in
-            inr (i.2 ∙ ap (λ m. Energy o (band m) d) e))
-      ],
-    ))
-    (moves-then (InDirection o d n) (λ k. k ≡ key) more less was mid now
-    (λ k i e. (
-    let s : i.0.0 ≡ n = ap band_in (sym i.2 ∙ e) in
-    let l = i.1 in
-    absurd (omega (arith, s, l))))
-    f (moves-at key more less a b mid now p q g))
+pub of-owners : (office : OfficeRules) (k : TotalKey) → OfOwners office.bands office.accounts k → (is-energy k ≡ 1) × (band_in k < office.bands) × HasOwner office (owner_in k)
+of-owners office k (inl i) = (let r = of-owner office.bands None k i in (r.0, r.1, subst (HasOwner office) (sym r.2) tt))
+of-owners office k (inr i) = (let r = of-owner office.bands (Some i.0) k i.2 in (r.0, r.1, subst (HasOwner office) (sym r.2) i.1))
 
--- ---- both directions
-pub moves-both : (o : Option AccountId) (more less : TotalKey → ℕ) (n : ℕ) (was mid now : ShelfContent) →
-    MovesTotals (InDirection o Import n) more less was mid → MovesTotals (InDirection o Export n) more less mid now → MovesTotals (OfOwner n o) more less was now
-moves-both o more less n was mid now f g = moves-then (InDirection o Import n) (InDirection o Export n) more less was mid now
-    (λ k i j. (let e = ap way_in (sym i.2 ∙ j.2) in absurd (omega (arith, e)))) f g
-
--- ---- one account more
-owner-place : (n : ℕ) (o : Option AccountId) (k : TotalKey) → OfOwner n o k → place_in k ≡ place_in (Energy o (band 0) Import)
-owner-place n None k (inl i) = ap place_in i.2
-owner-place n None k (inr i) = ap place_in i.2
-owner-place n (Some a) k (inl i) = ap place_in i.2
-owner-place n (Some a) k (inr i) = ap place_in i.2
-
-pub moves-nobody : (more less : TotalKey → ℕ) (n : ℕ) (was now : ShelfContent) → MovesTotals (OfOwner n None) more less was now → MovesTotals (OfOwners n 0) more less was now
-moves-nobody more less n was now f = moves-told (OfOwner n None) (OfOwners n 0) more less was now
-    (λ k. (λ t. inl t, λ t. elim t [ inl i ↦ i | inr j ↦ (let l = j.1 in absurd (omega (arith, l))) ])) f
-
-pub moves-account : (more less : TotalKey → ℕ) (n a : ℕ) (was mid now : ShelfContent) →
-    MovesTotals (OfOwners n a) more less was mid → MovesTotals (OfOwner n (Some (record { 0 = a }))) more less mid now → MovesTotals (OfOwners n (a + 1)) more less was now
-moves-account more less n a was mid now f g =
-    let last : AccountId = record { 0 = a } in
-    moves-told (λ k. OfOwners n a k ⊎ OfOwner n (Some last) k) (OfOwners n (a + 1)) more less was now
-    (λ k. (
-      λ t. elim t [
-        | inl i ↦ elim i [ inl x ↦ inl x | inr y ↦ inr (y.0, (let l = y.1 in omega (arith, l)), y.2) ]
-        | inr j ↦ inr (last, omega arith, j)
-      ],
-      λ t. elim t [
-        | inl x ↦ inl (inl x)
-        | inr y ↦ elim (cases_lt y.0.0 a) [
-          | inl l ↦ inl (inr (y.0, l, y.2))
-          | inr g ↦ (
-              let l = y.1 in
-              let e : y.0.0 ≡ a = omega (arith, l, g) in
-              let P : ℕ → Type 0 = λ m. let x : AccountId = record { 0 = m } in OfOwner n (Some x) k in
-              inr (subst P e y.2))
-        ]
-      ],
-    ))
-    (moves-then (OfOwners n a) (OfOwner n (Some last)) more less was mid now
-    (λ k i j. (
-    let p = owner-place n (Some last) k j in
-    elim i [
-      | inl x ↦ (let q = owner-place n None k x in absurd (omega (arith, p, q)))
-      | inr y ↦ (let q = owner-place n (Some y.0) k y.2 in let l = y.1 in absurd (omega (arith, p, q, l)))
-    ]))
-    f g)
+-- whether an energy is one of the office is told by its owner, where its band is one
+pub energy-told : (office : OfficeRules) (k : TotalKey) (o : Option AccountId) (b : BandId) (d : Direction) (known : Bool) → k ≡ Energy o b d → b.0 < office.bands → IsTrue known ↔ HasOwner office o →
+    IsTrue known ↔ OfOwners office.bands office.accounts k
+energy-told office k o b d known e l h =
+    let P : TotalKey → Type 0 = λ x. IsTrue known ↔ OfOwners office.bands office.accounts x in
+    subst P (sym e) (λ t. in-office office o b d (h.0 t) l, λ i. h.1 (of-owners office (Energy o b d) i).2)

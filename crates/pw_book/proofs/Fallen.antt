@@ -1,5 +1,5 @@
 -- The falls of all registers, one register behind the other.
-use Rattle.std.proofs.Common.{◌≡◌, ℕ, ◌+◌, ◌*◌, ◌<◌, Some, List, [], ◌∷◌, ◌++◌, ◌↔◌, ap, sym, subst, inl, inr, arith, Less}
+use Rattle.std.proofs.Common.{◌≡◌, ℕ, ◌+◌, ◌*◌, ◌<◌, Option, Some, List, [], ◌∷◌, ◌++◌, ◌↔◌, ◌∙◌, ap, sym, subst, inl, inr, arith, Less}
 use Rattle.pw_flow.specs.Flow.{AreNeighbours}
 use Rattle.pw_obis.specs.declared.reference.Register.{Register}
 use Rattle.pw_tariff.specs.declared.ids.MeterId.{MeterId}
@@ -10,12 +10,15 @@ use Rattle.pw_model.specs.declared.records.Fall.{Fall}
 use Rattle.pw_model.specs.Counting.{contents_at, point, reading_key}
 use Rattle.pw_model.specs.Lists.{Lists, IsFall, fall_order, fall_numbers, AreFalls}
 use Rattle.pw_model.specs.Office.{AllOfOffice, IsOfOffice}
-use Rattle.pw_model.specs.Shelf.{ShelfContent}
+use Rattle.pw_model.specs.Shelf.{IsTrueContent, ShelfContent}
 use Rattle.pw_model.proofs.Counting.{entry}
 use Rattle.pw_model.proofs.Found.{point-member}
 use Rattle.pw_model.proofs.Same.{register-one}
 use Rattle.pw_book.specs.inner.Counted.{IsFallOf}
-use Rattle.pw_book.specs.inner.Places.{FallsBefore, fall_place}
+use Rattle.pw_book.specs.inner.Places.{FallsBefore, TellsPoints, fall_place}
+use Rattle.pw_shelf.specs.Seconds.{ListsSeconds, ListsSecondsWithin}
+use Rattle.pw_time.specs.declared.instant.TheConstants.{FIRST_SECOND, LAST_SECOND}
+use Rattle.pw_time.specs.Instants.{IsInstant}
 use Rattle.pw_book.proofs.Segments.{segment-more, segment-all, first-less, then-less, place-few, places-split, places-same}
 
 -- the falls of one register are those at its place
@@ -71,10 +74,27 @@ pub falls-at : (s : List Entry) (m n : ℕ) (falls : List Fall) → m ≡ n → 
 falls-at s m n falls e a = let F : ℕ → Type 0 = λ k. FallsBefore s k falls in subst F e a
 
 -- a step over what a shelf tells: its content is as it was
-pub falls-next : (office : OfficeRules) (was now : ShelfContent) (from to after next : ℕ) (old new : List Fall) → now ≡ was → to ≡ from → after ≡ next → AllOfOffice office was.records → FallsBefore was.records from old →
-    (AllOfOffice office now.records → FallsBefore now.records to old → FallsBefore now.records after new) → FallsBefore was.records next new
-falls-next office was now from to after next old new e p q o b h =
-    let A : ShelfContent → Type 0 = λ c. AllOfOffice office c.records in
+pub falls-next : (was now : ShelfContent) (from to after next : ℕ) (old new : List Fall) → now ≡ was → to ≡ from → after ≡ next → TellsPoints was → FallsBefore was.records from old →
+    (TellsPoints now → FallsBefore now.records to old → FallsBefore now.records after new) → FallsBefore was.records next new
+falls-next was now from to after next old new e p q o b h =
     let B : ShelfContent → Type 0 = λ c. FallsBefore c.records to old in
     let C : ShelfContent → Type 0 = λ c. FallsBefore c.records after new in
-    falls-at was.records after next new q (subst C e (h (subst A (sym e) o) (subst B (sym e) (falls-at was.records from to old (sym p) b))))
+    falls-at was.records after next new q (subst C e (h (subst TellsPoints (sym e) o) (subst B (sym e) (falls-at was.records from to old (sym p) b))))
+
+-- ---- the points of a register
+-- a true content tells them
+pub tells-points : (office : OfficeRules) (c : ShelfContent) → AllOfOffice office c.records → IsTrueContent office c → TellsPoints c
+tells-points office c o t = record {
+  points = t.points;
+  instants = λ m r u w e.
+      let h : point (contents_at c.records) m r u ≡ Some w = ap (λ (p : ℕ → Register → ℕ → Option ℕ). p m r u) (sym t.points) ∙ e in
+      let i : IsOfOffice office (entry (reading_key m r u) (content.Reading w)) = o (entry (reading_key m r u) (content.Reading w)) (point-member c.records m r u w h) in
+      i.2;
+}
+
+-- those between the first and the last instant are all of them
+pub whole-listed : (told : ℕ → Option ℕ) (points : List (ℕ × ℕ)) → ((t w : ℕ) → told t ≡ Some w → IsInstant t) → ListsSecondsWithin FIRST_SECOND LAST_SECOND told points → ListsSeconds told points
+whole-listed told points i l = record {
+  rising = l.rising;
+  members = λ a. (λ m. ((l.members a).0 m).2, λ e. (let h = i a.0 a.1 e in (l.members a).1 (h.0, h.1, e)));
+}

@@ -1,8 +1,10 @@
 -- Energy gathered by total.
-use Rattle.std.proofs.Common.{◌≡◌, ◌==◌, ◌&&◌, ℕ, zero, suc, ◌+◌, ◌<◌, ◌≤◌, Bool, true, false, cond, Option, Some, None, List, [], ◌∷◌, length, drop, get_or, set, refl, ap, sym, subst, ◌∙◌, arith, inl, inr}
+use Rattle.std.proofs.Common.{◌≡◌, ◌==◌, ◌&&◌, ℕ, zero, suc, ◌+◌, ◌<◌, ◌≤◌, Bool, true, false, cond, Option, Some, None, List, [], ◌∷◌, length, drop, get_or, refl, ap, sym, ◌∙◌, arith, inl, inr}
+use Rattle.std.specs.BTreeMap.{BTreeMap, Updates, get}
 use Rattle.std.specs.List.{sum_by}
+use Rattle.std.specs.Ordering.{is_eq}
 use Rattle.std.proofs.lemmas.Bool.{cases_Bool, true≢false, eq-eqb, eqb-true}
-use Rattle.std.proofs.lemmas.List.Sums.{sum_by-set, sum_by-cons}
+use Rattle.std.proofs.lemmas.List.Sums.{sum_by-cons}
 use Rattle.std.proofs.Math.Seq.{drop-nil}
 use Rattle.pw_tariff.specs.declared.ids.AccountId.{AccountId}
 use Rattle.pw_tariff.specs.declared.ids.BandId.{BandId}
@@ -15,40 +17,51 @@ use Rattle.pw_model.specs.declared.records.TotalKey.{TotalKey}
 use Rattle.pw_model.specs.declared.records.TotalKey.TheVariants.{Energy, TopUps}
 use Rattle.pw_model.specs.Same.{direction_place, same_direction}
 use Rattle.pw_shelf.specs.Changes.{same_total}
-use Rattle.pw_book.specs.declared.sums.Sum.{Sum}
+use Rattle.pw_book.specs.declared.changes.Change.{Change}
+use Rattle.pw_book.specs.declared.changes.Side.{Side}
 use Rattle.pw_obis.specs.declared.energy.TheConstants.{LARGEST_WATT_HOURS}
 use Rattle.pw_tariff.specs.Office.{OfficeFile}
 use Rattle.pw_tariff.specs.Shares.{class_seconds}
-use Rattle.pw_book.specs.inner.Sums.{gathered, gathered_in_all, cells_for, pairs_for}
+use Rattle.pw_book.specs.inner.Sums.{amount_on, amount_told, gathered, cells_for, pairs_for}
+use Rattle.pw_parts.specs.inner.Totals.{total_key_order}
 use Rattle.pw_parts.proofs.Chart.{pairs-ended}
-use Rattle.pw_book.proofs.TotalKeys.{same_total-decides, total-apart}
+use Rattle.pw_book.proofs.TotalKeys.{same_total-decides, total-apart, total-itself, total-tested}
 
 -- ---- one energy more
--- one sum gains energy
-pub gathered-set : (sums : List Sum) (i : ℕ) (s d : Sum) (wh : ℕ) (k : TotalKey) → i < length sums → s ≡ get_or sums i d →
-    gathered (set sums i (record { key = s.key; wh = s.wh + wh })) k ≡ gathered sums k + cond (same_total s.key k) wh 0
-gathered-set sums i s d wh k l g =
-    let f : Sum → ℕ = λ x. cond (same_total x.key k) x.wh 0 in
-    let e = sum_by-set f sums i (record { key = s.key; wh = s.wh + wh }) d l in
-    let h : f (get_or sums i d) ≡ f s = ap f (sym g) in
-    elim (cases_Bool (same_total s.key k)) [
-      | inl y ↦ (let a : f s ≡ s.wh = rw y refl in
-          let b : f (record { key = s.key; wh = s.wh + wh }) ≡ s.wh + wh = rw y refl in
-          rw y (omega (arith, e, h, a, b)))
-      | inr n ↦ (let a : f s ≡ 0 = rw n refl in
-          let b : f (record { key = s.key; wh = s.wh + wh }) ≡ 0 = rw n refl in
-          rw n (omega (arith, e, h, a, b)))
+chosen : (side : Side) (b : Bool) (c : Change) (o : Option Change) → amount_told side (cond b (Some c) o) ≡ cond b (amount_on side c) (amount_told side o)
+chosen side true c o = refl
+chosen side false c o = refl
+
+changed : (side : Side) (old new : BTreeMap TotalKey Change) (k : TotalKey) (c : Change) → Updates total_key_order old new k (Some c) → (l : TotalKey) → gathered side new l ≡ cond (same_total k l) (amount_on side c) (gathered side old l)
+changed side old new k c h l = ap (amount_told side) (h.0 l)
+    ∙ chosen side (is_eq (total_key_order k l)) c (get total_key_order old l)
+    ∙ ap (λ (b : Bool). cond b (amount_on side c) (gathered side old l)) (total-tested k l)
+
+-- a total has so much more on a side
+pub gathered-more : (side : Side) (old new : BTreeMap TotalKey Change) (k : TotalKey) (c : Change) (wh : ℕ) → amount_on side c ≡ gathered side old k + wh → Updates total_key_order old new k (Some c) → (l : TotalKey) →
+    gathered side new l ≡ gathered side old l + cond (same_total k l) wh 0
+gathered-more side old new k c wh e h l =
+    let g = changed side old new k c h l in
+    elim (cases_Bool (same_total k l)) [
+      | inl t ↦ (
+          let same : gathered side old k ≡ gathered side old l = ap (gathered side old) ((same_total-decides k l).0 t) in
+          let d : gathered side new l ≡ amount_on side c = rw t at g in
+          rw t (omega (arith, d, e, same)))
+      | inr f ↦ (let d : gathered side new l ≡ gathered side old l = rw f at g in rw f (omega (arith, d)))
     ]
 
--- the sum at the place that was found
-pub gathered-add : (items lent : List Sum) (i : ℕ) (s : Sum) (key : TotalKey) (more wh : ℕ) (k : TotalKey) → lent ≡ items → i < length items → s ≡ get_or items i s →
-    ((d : Sum) → i < length lent → same_total (get_or lent i d).key key ≡ true) → more ≡ wh →
-    gathered (set items i (record { key = s.key; wh = s.wh + more })) k ≡ gathered items k + cond (same_total key k) wh 0
-gathered-add items lent i s key more wh k e l g t m =
-    let P : List Sum → Type 0 = λ xs. (d : Sum) → i < length xs → same_total (get_or xs i d).key key ≡ true in
-    let f : same_total (get_or items i s).key key ≡ true = subst P e t s l in
-    let q : s.key ≡ key = ap (λ (x : Sum). x.key) g ∙ (same_total-decides (get_or items i s).key key).0 f in
-    gathered-set items i s s more k l g ∙ (λ j. gathered items k + cond (same_total (q j) k) (m j) 0)
+-- or as much as before
+pub gathered-same : (side : Side) (old new : BTreeMap TotalKey Change) (k : TotalKey) (c : Change) → amount_on side c ≡ gathered side old k → Updates total_key_order old new k (Some c) → (l : TotalKey) →
+    gathered side new l ≡ gathered side old l
+gathered-same side old new k c e h l =
+    let g = changed side old new k c h l in
+    elim (cases_Bool (same_total k l)) [
+      | inl t ↦ (
+          let same : gathered side old k ≡ gathered side old l = ap (gathered side old) ((same_total-decides k l).0 t) in
+          let d : gathered side new l ≡ amount_on side c = rw t at g in
+          omega (arith, d, e, same))
+      | inr f ↦ (let d : gathered side new l ≡ gathered side old l = rw f at g in d)
+    ]
 
 -- ---- cells
 -- what a cell of a direction gives to a total
@@ -182,43 +195,46 @@ cells-whole [] = refl
 cells-whole (c ∷ cells) = let r = cells-whole cells in let e = sum_by-cons (λ (x : Cell). x.wh) c cells in omega (arith, r, e)
 
 -- ---- how much
-abbrev part : TotalKey → Sum → ℕ
-part k s = cond (same_total s.key k) s.wh 0
+cell-part : (d : Direction) (k : TotalKey) (c : Cell) → cell_for d k c ≤ c.wh
+cell-part d k c = elim (cases_Bool (same_total (Energy c.owner c.band d) k)) [ inl y ↦ rw y (omega arith) | inr n ↦ rw n (omega arith) ]
 
-part-within : (s : Sum) (k : TotalKey) → part k s ≤ s.wh
-part-within s k = elim (cases_Bool (same_total s.key k)) [ inl y ↦ rw y (omega arith) | inr n ↦ rw n (omega arith) ]
-
-pub gathered-within : (sums : List Sum) (k : TotalKey) → gathered sums k ≤ gathered_in_all sums
-gathered-within [] k = omega arith
-gathered-within (s ∷ sums) k =
-    let r = gathered-within sums k in
-    let a = sum_by-cons (part k) s sums in
-    let b = sum_by-cons (λ (x : Sum). x.wh) s sums in
-    let w = part-within s k in
+cells-part : (d : Direction) (k : TotalKey) (cells : List Cell) → sum_by (cell_for d k) cells ≤ sum_by (λ (c : Cell). c.wh) cells
+cells-part d k [] = omega arith
+cells-part d k (c ∷ cells) =
+    let r = cells-part d k cells in
+    let a = sum_by-cons (cell_for d k) c cells in
+    let b = sum_by-cons (λ (x : Cell). x.wh) c cells in
+    let w = cell-part d k c in
     omega (arith, r, a, b, w)
 
--- a sum of the total, from a place on, is a part of it
-pub gathered-here : (sums : List Sum) (i : ℕ) (d : Sum) (k : TotalKey) → i < length sums → same_total (get_or sums i d).key k ≡ true →
-    (get_or sums i d).wh ≤ gathered (drop i sums) k
-gathered-here [] i d k l e = absurd (omega (arith, l))
-gathered-here (s ∷ sums) zero d k l e =
-    let a = sum_by-cons (part k) s sums in
-    let q : part k s ≡ s.wh = ap (λ b. cond b s.wh 0) e in
-    omega (arith, a, q)
-gathered-here (s ∷ sums) (suc i) d k l e = gathered-here sums i d k (omega (arith, l)) e
+-- a total gets no more than all together
+pub cells-bound : (d : Direction) (k : TotalKey) (cells : List Cell) → AreInOrder cells → cells_for d cells k ≤ energy_of_all cells
+cells-bound d k cells h =
+    let g = cells-give d k cells h in
+    let p = cells-part d k cells in
+    let w = cells-whole cells in
+    omega (arith, g, p, w)
 
 -- ---- one cell after the other
-sum-here : (cells : List Cell) (i : ℕ) (d : Cell) → i < length cells → (get_or cells i d).wh ≤ sum_by (λ (c : Cell). c.wh) (drop i cells)
-sum-here [] i d l = absurd (omega (arith, l))
-sum-here (c ∷ cells) zero d l = let e = sum_by-cons (λ (x : Cell). x.wh) c cells in omega (arith, e)
-sum-here (c ∷ cells) (suc i) d l = sum-here cells i d (omega (arith, l))
+cell-itself : (d : Direction) (c : Cell) → cell_for d (Energy c.owner c.band d) c ≡ c.wh
+cell-itself d c = ap (λ b. cond b c.wh 0) (total-itself (Energy c.owner c.band d))
 
-pub cell-fits : (cells : List Cell) (i : ℕ) (d : Cell) (now was most : ℕ) → i < length cells →
-    now + sum_by (λ (c : Cell). c.wh) (drop i cells) ≡ was + sum_by (λ (c : Cell). c.wh) cells → was + energy_of_all cells < most → now + (get_or cells i d).wh < most
-cell-fits cells i d now was most l e f =
-    let h = sum-here cells i d l in
+cell-here : (d : Direction) (cells : List Cell) (i : ℕ) (x : Cell) → i < length cells → (get_or cells i x).wh ≤ sum_by (cell_for d (Energy (get_or cells i x).owner (get_or cells i x).band d)) (drop i cells)
+cell-here d [] i x l = absurd (omega (arith, l))
+cell-here d (c ∷ cells) zero x l =
+    let a = sum_by-cons (cell_for d (Energy c.owner c.band d)) c cells in
+    let b = cell-itself d c in
+    omega (arith, a, b)
+cell-here d (c ∷ cells) (suc i) x l = cell-here d cells i x (omega (arith, l))
+
+pub cell-fits : (d : Direction) (cells : List Cell) (i : ℕ) (x : Cell) (now was most : ℕ) → i < length cells →
+    let k : TotalKey = Energy (get_or cells i x).owner (get_or cells i x).band d in
+    now + sum_by (cell_for d k) (drop i cells) ≡ was + sum_by (cell_for d k) cells → was + energy_of_all cells < most → now + (get_or cells i x).wh < most
+cell-fits d cells i x now was most l e f =
+    let h = cell-here d cells i x l in
+    let p = cells-part d (Energy (get_or cells i x).owner (get_or cells i x).band d) cells in
     let w = cells-whole cells in
-    omega (arith, e, f, h, w)
+    omega (arith, e, f, h, p, w)
 
 none-left : (X : Type 0) (f : X → ℕ) (xs : List X) (i : ℕ) → length xs ≤ i → sum_by f (drop i xs) ≡ 0
 none-left X f [] i l = rw (drop-nil i) refl
@@ -231,13 +247,6 @@ cells-ended d k cells i now was h l e =
     let n = none-left Cell (cell_for d k) cells i l in
     let g = cells-give d k cells h in
     omega (arith, e, n, g)
-
-pub whole-ended : (cells : List Cell) (i now was : ℕ) → length cells ≤ i →
-    now + sum_by (λ (c : Cell). c.wh) (drop i cells) ≡ was + sum_by (λ (c : Cell). c.wh) cells → now ≡ was + energy_of_all cells
-whole-ended cells i now was l e =
-    let n = none-left Cell (λ (c : Cell). c.wh) cells i l in
-    let w = cells-whole cells in
-    omega (arith, e, n, w)
 
 -- ---- no cells, no pairs
 pub none-in-all : (cells : List Cell) → cells ≡ [] → energy_of_all cells ≤ LARGEST_WATT_HOURS

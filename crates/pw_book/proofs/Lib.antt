@@ -18,6 +18,7 @@ pub mod Crashing
 pub mod TotalKeys
 pub mod Gathering
 pub mod Changing
+pub mod Walking
 pub mod Neighbouring
 pub mod Following
 pub mod Truthful

@@ -22,12 +22,12 @@ use Rattle.pw_model.specs.Energy.{Asked, of_band, over_registers, owner_at, shar
 use Rattle.pw_model.specs.Shelf.{ShelfContent}
 use Rattle.pw_model.proofs.Assignments.{one-more_assignment}
 use Rattle.pw_shelf.specs.Changes.{starts_with, with_start}
-use Rattle.pw_book.specs.declared.sums.Sum.{Sum}
 use Rattle.pw_book.specs.inner.Counted.{ListsSeconds}
 use Rattle.pw_book.specs.inner.Moves.{MovesTotals, OfOwners}
 use Rattle.pw_book.specs.Cost.{HasStarts}
 use Rattle.pw_book.specs.inner.Settling.{EndsBefore, EndsBeforeNext, HavePoints, IsSettled, IsStartChanged, ListsUpToNextStart, register_told}
-use Rattle.pw_book.specs.inner.Sums.{AreDifferences, energy_told, gathered}
+use Rattle.pw_book.specs.inner.Sums.{energy_told}
+use Rattle.pw_book.proofs.Following.{Differ}
 use Rattle.pw_parts.proofs.Owning.{owners-told, starts-rise}
 
 -- ---- one register more
@@ -83,15 +83,15 @@ registers-told : (office : OfficeRules) (at : Key → Contents) (m : ℕ) (o : O
 registers-told office at m o b Import = omega arith
 registers-told office at m o b Export = omega arith
 
-pub all-moved : (office : OfficeRules) (was is : Key → Contents) (m z i : ℕ) (taken given : List Sum) → IsOtherStart was is m z → m < office.meters → 6 ≤ i → i ≤ 6 →
-    ((k : TotalKey) → gathered given k + sum_by (register_told office was m k) (take i registers) ≡ gathered taken k + sum_by (register_told office is m k) (take i registers)) → AreDifferences office was is taken given
-all-moved office was is m z i taken given o l f g h (TopUps a) =
+pub all-moved : (office : OfficeRules) (was is : Key → Contents) (m z i : ℕ) (less more : TotalKey → ℕ) → IsOtherStart was is m z → m < office.meters → 6 ≤ i → i ≤ 6 →
+    ((k : TotalKey) → more k + sum_by (register_told office was m k) (take i registers) ≡ less k + sum_by (register_told office is m k) (take i registers)) → Differ office was is less more
+all-moved office was is m z i less more o l f g h (TopUps a) =
     let e : i ≡ 6 = omega (arith, f, g) in
     let x = ap (λ (n : ℕ). sum_by (register_told office was m (TopUps a)) (take n registers)) e in
     let y = ap (λ (n : ℕ). sum_by (register_told office is m (TopUps a)) (take n registers)) e in
     let t = h (TopUps a) in
     omega (arith, x, y, t)
-all-moved office was is m z i taken given o l f g h (Energy p b d) =
+all-moved office was is m z i less more o l f g h (Energy p b d) =
     let e : i ≡ 6 = omega (arith, f, g) in
     let x = ap (λ (n : ℕ). sum_by (register_told office was m (Energy p b d)) (take n registers)) e ∙ registers-told office was m p b d in
     let y = ap (λ (n : ℕ). sum_by (register_told office is m (Energy p b d)) (take n registers)) e ∙ registers-told office is m p b d in
@@ -143,16 +143,9 @@ start-changed c d was is m z until owner owners others old_lent new_lent old_sta
     })
 
 -- ---- totals and the start changed
-pub differences-lent : (office : OfficeRules) (was is : Key → Contents) (taken given lent_taken lent_given : List Sum) → lent_taken ≡ taken → lent_given ≡ given → AreDifferences office was is taken given → AreDifferences office was is lent_taken lent_given
-differences-lent office was is taken given lent_taken lent_given e f h = λ k.
-    let x = ap (λ (sums : List Sum). gathered sums k) e in
-    let y = ap (λ (sums : List Sum). gathered sums k) f in
-    let d = h k in
-    omega (arith, x, y, d)
-
-pub start-settled : (office : OfficeRules) (was is : Key → Contents) (b c d e f : ShelfContent) (taken given : List Sum) (m z : ℕ) (owner : Option (Option AccountId)) → c ≡ b → d ≡ c → AreDifferences office was is taken given →
-    MovesTotals (OfOwners office.bands office.accounts) (gathered given) (gathered taken) d e → f ≡ with_start e m z owner → IsSettled office was is b f
-start-settled office was is b c d e f taken given m z owner x y differ moves q =
+pub start-settled : (office : OfficeRules) (was is : Key → Contents) (b c d e f : ShelfContent) (less more : TotalKey → ℕ) (m z : ℕ) (owner : Option (Option AccountId)) → c ≡ b → d ≡ c → Differ office was is less more →
+    MovesTotals (OfOwners office.bands office.accounts) more less d e → f ≡ with_start e m z owner → IsSettled office was is b f
+start-settled office was is b c d e f less more m z owner x y differ moves q =
     let p = y ∙ x in
     record {
       records = ap (λ (s : ShelfContent). s.records) q ∙ moves.records ∙ ap (λ (s : ShelfContent). s.records) p;

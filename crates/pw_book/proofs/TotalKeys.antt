@@ -1,6 +1,7 @@
 -- The test on keys of totals decides whether two are equal.
-use Rattle.std.proofs.Common.{◌≡◌, ℕ, ◌+◌, Some, None, true, false, refl, ap, Decides, arith, inl, inr}
-use Rattle.std.specs.Cmp.Lexicographic.{bytes_decides}
+use Rattle.std.proofs.Common.{◌≡◌, ℕ, ◌+◌, Some, None, true, false, refl, ap, sym, ◌∙◌, Decides, arith, inl, inr}
+use Rattle.std.specs.Cmp.Lexicographic.{bytes_decides, texts_ties}
+use Rattle.std.specs.Ordering.{is_eq}
 use Rattle.std.proofs.lemmas.Bool.{cases_Bool}
 use Rattle.std.proofs.lemmas.Bool.Decides.{Decides-like}
 use Rattle.pw_tariff.specs.declared.ids.AccountId.{AccountId}
@@ -10,6 +11,8 @@ use Rattle.pw_tariff.specs.declared.ids.Direction.TheVariants.{Import, Export}
 use Rattle.pw_model.specs.declared.records.TotalKey.{TotalKey}
 use Rattle.pw_model.specs.declared.records.TotalKey.TheVariants.{Energy, TopUps}
 use Rattle.pw_model.specs.Same.{total_numbers, direction_place, same_direction}
+use Rattle.pw_model.proofs.InKeyOrder.{totals-ordered}
+use Rattle.pw_parts.specs.inner.Totals.{total_key_order}
 use Rattle.pw_shelf.specs.Changes.{same_total}
 
 abbrev account : ℕ → AccountId
@@ -55,3 +58,7 @@ total-apart k l n = elim (cases_Bool (same_total k l)) [ inl y ↦ absurd (n ((s
 
 pub total-itself : (k : TotalKey) → same_total k k ≡ true
 total-itself k = (same_total-decides k k).1 refl
+
+-- and so does the order of the program's maps
+pub total-tested : (k l : TotalKey) → is_eq (total_key_order k l) ≡ same_total k l
+total-tested k l = ap is_eq (totals-ordered k l) ∙ sym (texts_ties (total_numbers k) (total_numbers l))

@@ -1,11 +1,10 @@
 -- Points, starts and totals stay those of the records.
-use Rattle.std.proofs.Common.{◌≡◌, ◌==◌, ℕ, ◌+◌, ◌<◌, ◌≤◌, ◌⊎◌, Bool, true, false, cond, Option, Some, None, List, length, Result, Ok, Err, OnOk, refl, ap, sym, subst, ◌∙◌, arith, inl, inr}
+use Rattle.std.proofs.Common.{◌≡◌, ◌==◌, ℕ, ◌+◌, ◌≤◌, ◌⊎◌, Bool, true, false, cond, Option, Some, None, List, length, Result, Ok, Err, OnOk, refl, ap, sym, subst, ◌∙◌, arith, inl, inr}
 use Rattle.std.proofs.lemmas.Bool.{cases_Bool, cases_lt, cases_eq, eq-eqb, ne_eqb, true≢false}
 use Rattle.pw_obis.specs.declared.reference.Register.{Register}
 use Rattle.pw_tariff.specs.declared.ids.AccountId.{AccountId}
 use Rattle.pw_tariff.specs.declared.ids.BandId.{BandId}
 use Rattle.pw_tariff.specs.declared.ids.Direction.{Direction}
-use Rattle.pw_tariff.specs.declared.ids.Direction.TheVariants.{Import, Export}
 use Rattle.pw_tariff.specs.Office.{OfficeRules}
 use Rattle.pw_model.specs.declared.records.Key.{Key}
 use Rattle.pw_model.specs.declared.records.Key.TheVariants as key
@@ -33,11 +32,12 @@ use Rattle.pw_model.proofs.Payments.{one-more_payment}
 use Rattle.pw_model.proofs.Same.{same_key-decides, same_content-decides}
 use Rattle.pw_model.proofs.Truth.{true-bounded}
 use Rattle.pw_shelf.specs.Changes.{points_with, starts_with}
-use Rattle.pw_book.specs.inner.Moves.{MovesTotals, OfOwner, OfOwners, InDirection, most_total}
+use Rattle.pw_book.specs.inner.Moves.{MovesTotals, OfOwners, most_total}
 use Rattle.pw_book.specs.declared.around.Counted.{Counted}
 use Rattle.pw_book.specs.declared.settling.Given.{Given}
 use Rattle.pw_book.specs.inner.Added.{IsJustAdded, IsPaid, assignment_of, reading_of}
 use Rattle.pw_book.specs.inner.Settling.{EndsBefore, IsSettled}
+use Rattle.pw_book.proofs.Changing.{in-office, is-energy, of-owners}
 use Rattle.pw_parts.proofs.Sharing.{points-end}
 
 -- ---- the records before
@@ -55,39 +55,9 @@ apart-before s e d n h = elim (cases_Bool (same_content e.content d)) [
 ]
 
 -- ---- totals that may be asked of the office
-in-office : (office : OfficeRules) (o : Option AccountId) (b : BandId) (d : Direction) → HasOwner office o → b.0 < office.bands → OfOwners office.bands office.accounts (Energy o b d)
-in-office office None b Import h l = inl (inl (b, l, refl))
-in-office office None b Export h l = inl (inr (b, l, refl))
-in-office office (Some a) b Import h l = inr (a, h, inl (b, l, refl))
-in-office office (Some a) b Export h l = inr (a, h, inr (b, l, refl))
-
 owner-known : (office : OfficeRules) (o : Option AccountId) → HasOwner office o ⊎ (HasOwner office o → ⊥)
 owner-known office None = inl tt
 owner-known office (Some a) = elim (cases_lt a.0 office.accounts) [ inl l ↦ inl l | inr m ↦ inr (λ l. absurd (omega (arith, l, m))) ]
-
--- an energy key that moves is one of the office
-abbrev is-energy : TotalKey → ℕ
-is-energy (Energy o b d) = 1
-is-energy (TopUps a) = 0
-
-abbrev band_in : TotalKey → ℕ
-band_in (Energy o b d) = b.0
-band_in (TopUps a) = 0
-
-abbrev owner_in : TotalKey → Option AccountId
-owner_in (Energy o b d) = o
-owner_in (TopUps a) = None
-
-owner-direction : (bands : ℕ) (o : Option AccountId) (d : Direction) (k : TotalKey) → InDirection o d bands k → (is-energy k ≡ 1) × (band_in k < bands) × (owner_in k ≡ o)
-owner-direction bands o d k i = (ap is-energy i.2, (let e = ap band_in i.2 in let l = i.1 in omega (arith, e, l)), ap owner_in i.2)
-
-of-owner : (bands : ℕ) (o : Option AccountId) (k : TotalKey) → OfOwner bands o k → (is-energy k ≡ 1) × (band_in k < bands) × (owner_in k ≡ o)
-of-owner bands o k (inl i) = owner-direction bands o Import k i
-of-owner bands o k (inr i) = owner-direction bands o Export k i
-
-of-owners : (office : OfficeRules) (k : TotalKey) → OfOwners office.bands office.accounts k → (is-energy k ≡ 1) × (band_in k < office.bands) × HasOwner office (owner_in k)
-of-owners office k (inl i) = (let r = of-owner office.bands None k i in (r.0, r.1, subst (HasOwner office) (sym r.2) tt))
-of-owners office k (inr i) = (let r = of-owner office.bands (Some i.0) k i.2 in (r.0, r.1, subst (HasOwner office) (sym r.2) i.1))
 
 -- ---- truth
 -- totals among a list fit

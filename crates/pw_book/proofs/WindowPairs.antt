@@ -30,8 +30,7 @@ use Rattle.pw_shelf.specs.Rows.{rows_found}
 use Rattle.pw_shelf.specs.Seconds.{IsBefore, IsBehind, ListsSecondsWithin}
 use Rattle.pw_book.specs.inner.Counted.{by_second}
 use Rattle.pw_book.specs.inner.Settling.{EndsBefore, EndsBeforeNext, IsStartChanged, ListsUpToNextStart, register_told}
-use Rattle.pw_book.specs.inner.Sums.{gathered, pairs_for, point_listed}
-use Rattle.pw_book.specs.declared.sums.Sum.{Sum}
+use Rattle.pw_book.specs.inner.Sums.{pairs_for, point_listed}
 use Rattle.pw_parts.proofs.Chart.{less-is}
 use Rattle.pw_model.proofs.InOrder.{before-member}
 use Rattle.pw_model.proofs.EntryOrder.{before-all}
@@ -225,14 +224,14 @@ register-moved file c was is m z until owners others r ps y h t (Energy o b e) =
 
 -- the same, with the energies that it is gathered to
 pub register-gathered : (file : OfficeFile) (c d e : ShelfContent) (was is : Key → Contents) (m z until : ℕ) (owners others : List (ℕ × Option AccountId)) (r : Register) (way : Direction)
-    (before : Option (ℕ × ℕ)) (within lent : List (ℕ × ℕ)) (after : Option (ℕ × ℕ)) (points first second : List (ℕ × ℕ)) (was_taken now_taken was_given now_given : List Sum) → counts_at file m r ≡ true →
+    (before : Option (ℕ × ℕ)) (within lent : List (ℕ × ℕ)) (after : Option (ℕ × ℕ)) (points first second : List (ℕ × ℕ)) (was_less mid_less now_less was_more mid_more now_more : TotalKey → ℕ) → counts_at file m r ≡ true →
     d ≡ c → e ≡ d → IsStartChanged c was is m z until owners others →
     IsBefore (c.point m r) z before → IsBehind (d.point m r) until after → ListsSecondsWithin z until (e.point m r) within → lent ≡ within →
     points ≡ point_listed before (lent ++ point_listed after []) → first ≡ points → second ≡ points → way ≡ direction_of r →
-    (IsInOrder by_second first → (k : TotalKey) → gathered now_taken k ≡ gathered was_taken k + pairs_for file owners way first k) →
-    (IsInOrder by_second second → (k : TotalKey) → gathered now_given k ≡ gathered was_given k + pairs_for file others way second k) → (k : TotalKey) →
-    gathered now_given k + gathered was_taken k + register_told (office_of file) was m k r ≡ gathered now_taken k + gathered was_given k + register_told (office_of file) is m k r
-register-gathered file c d e was is m z until owners others r way before within lent after points first second was_taken now_taken was_given now_given y p q h b a l x v f s w t g k =
+    (IsInOrder by_second first → (k : TotalKey) → mid_less k ≡ was_less k + pairs_for file owners way first k) → ((k : TotalKey) → mid_more k ≡ was_more k) →
+    (IsInOrder by_second second → (k : TotalKey) → now_more k ≡ mid_more k + pairs_for file others way second k) → ((k : TotalKey) → now_less k ≡ mid_less k) → (k : TotalKey) →
+    now_more k + was_less k + register_told (office_of file) was m k r ≡ now_less k + was_more k + register_told (office_of file) is m k r
+register-gathered file c d e was is m z until owners others r way before within lent after points first second was_less mid_less now_less was_more mid_more now_more y p q h b a l x v f s w t u g j k =
     let told = point was m r in
     let P : (ℕ → Option ℕ) → Type 0 = λ u. IsBefore u z before in
     let Q : (ℕ → Option ℕ) → Type 0 = λ u. IsBehind u until after in
@@ -249,7 +248,9 @@ register-gathered file c d e was is m z until owners others r way before within 
     let lost = t (subst O (sym (f ∙ whole)) rises) k in
     let won = g (subst O (sym (s ∙ whole)) rises) k in
     let moved = register-moved file c was is m z until owners others r full y h all k in
-    omega (arith, one, two, lost, won, moved)
+    let more = u k in
+    let less = j k in
+    omega (arith, one, two, lost, won, moved, more, less)
 
 -- ---- how many points are read
 none-last : (told : ℕ → Option ℕ) (until : ℕ) (after : Option (ℕ × ℕ)) (x : ℕ × ℕ) → IsBehind told until after → ((b : ℕ × ℕ) → after ≡ Some b → b.0 ≤ LAST_SECOND) → until ≡ LAST_SECOND → until < x.0 → told x.0 ≡ Some x.1 → ⊥

@@ -1,6 +1,7 @@
 -- The numbers, names and lines of the book's faults.
 -- (A format of this project.)
 use Rattle.std.specs.Prelude.{ℕ, List, ◌++◌, codes, decimal}
+use Rattle.pw_line.specs.Refused.{refused_line}
 use Rattle.pw_shelf.specs.declared.fault.ShelfFault.{ShelfFault}
 use Rattle.pw_shelf.specs.declared.fault.ShelfFault.TheVariants as shelf
 use Rattle.pw_book.specs.declared.fault.PostFault.{PostFault}
@@ -21,11 +22,14 @@ post_name post.Device = codes "Device"
 post_name post.Memory = codes "Memory"
 post_name post.Reopen = codes "Reopen"
 
+-- behind the number and the name, that of the records held and the limit
+abbrev pub full_line : ℕ → List ℕ → ℕ → ℕ → List ℕ
+full_line number name held limit =
+    refused_line number name ++ (codes " held " ++ (decimal held ++ (codes " limit " ++ decimal limit)))
+
 abbrev pub post_line : PostFault → List ℕ
-post_line (post.Full held limit) = codes "refused 60 Full held " ++ (decimal held ++ (codes " limit " ++ decimal limit))
-post_line post.Device = codes "refused 61 Device"
-post_line post.Memory = codes "refused 62 Memory"
-post_line post.Reopen = codes "refused 63 Reopen"
+post_line (post.Full held limit) = full_line 60 (codes "Full") held limit
+post_line fault = refused_line (post_number fault) (post_name fault)
 
 abbrev pub post_fault : ShelfFault → PostFault
 post_fault shelf.Memory = post.Memory
@@ -43,9 +47,7 @@ book_name book.Memory = codes "Memory"
 book_name book.Reopen = codes "Reopen"
 
 abbrev pub book_line : BookFault → List ℕ
-book_line book.Device = codes "refused 61 Device"
-book_line book.Memory = codes "refused 62 Memory"
-book_line book.Reopen = codes "refused 63 Reopen"
+book_line fault = refused_line (book_number fault) (book_name fault)
 
 abbrev pub book_fault : ShelfFault → BookFault
 book_fault shelf.Memory = book.Memory

@@ -12,14 +12,15 @@ ghost use Rattle.pw_shelf.specs.Calls.{GoesOn, failures_told};
 ghost use Rattle.pw_shelf.specs.Changes.{points_with};
 ghost use Rattle.pw_tariff.specs.Office.{counts_at, office_of};
 ghost use Rattle.pw_tariff.specs.Owners.{StartsIncrease};
+ghost use Rattle.pw_book.specs.declared.changes.Side.{Side as ASide};
 ghost use Rattle.pw_book.specs.inner.Counted.{by_second};
-ghost use Rattle.pw_book.specs.Cost.{HasStarts};
+ghost use Rattle.pw_book.specs.Cost.{HasStarts, classes_of};
 ghost use Rattle.pw_book.specs.inner.Settling.{EndsBefore, IsSettled};
-ghost use Rattle.pw_book.specs.inner.Sums.{AreDifferences, gathered, gathered_in_all, pairs_for, point_listed};
+ghost use Rattle.pw_book.specs.inner.Sums.{AreDifferences, gathered, other_side, pairs_for, point_listed};
 
+use crate::changes::{Changes, Side};
 use crate::moving::move_energies;
 use crate::pairs::{Point, add_pairs};
-use crate::sums::Sum;
 use pw_obis::{Register, WattHours};
 use pw_shelf::{Shelf, ShelfFault};
 use pw_tariff::{Direction, MeterId, Office, Owner, Owners};
@@ -49,11 +50,11 @@ pub(crate) fn begin_to_count<S: Shelf>(
     ensures settled { S.clean shelf.new → (was is : AnyKey → AnyContents) → (S.state shelf.old).content.point ≡ point_told was → (S.state shelf.old).content.start ≡ start_told was → IsOneMoreReading was is reading.now.meter.0 reading.now.register reading.now.instant reading.now.wh → EndsBefore (office_of office.now).end (point_told is reading.now.meter.0 reading.now.register) → OnOk result (IsSettled (office_of office.now) was is (S.state shelf.old).content (S.state shelf.new).content) }
     ensures point { S.clean shelf.new → OnOk result ((S.state shelf.new).content.point ≡ points_with (S.state shelf.old).content.point reading.now.meter.0 reading.now.register reading.now.instant (Some reading.now.wh)) }
     ensures start { S.clean shelf.new → OnOk result ((S.state shelf.new).content.start ≡ (S.state shelf.old).content.start) }
-    ensures tally { S.clean shelf.new → (starts : ℕ) → HasStarts (S.state shelf.old).content reading.now.meter.0 starts → (S.state shelf.new).tally ≤ (S.state shelf.old).tally + (6 + starts) + 6 * (length office.now.bands * (length office.now.accounts + 1)) }
+    ensures tally { S.clean shelf.new → (starts : ℕ) → HasStarts (S.state shelf.old).content reading.now.meter.0 starts → (S.state shelf.new).tally ≤ (S.state shelf.old).tally + (6 + starts) + 6 * classes_of (office_of office.now) }
     ensures kept { GoesOn S.state S.left S.clean S.same_store (failures_told result) shelf.old shelf.new }
 {
-    let (without, with) = weigh_around(shelf, alloc, office, zone, reading)?;
-    move_energies(shelf, office, &without, &with)?;
+    let changes = weigh_around(shelf, alloc, office, zone, reading)?;
+    move_energies(shelf, office, &changes, Side::Loses)?;
     shelf.point_put(reading.meter, reading.register, reading.instant, reading.wh)
 }
 
@@ -71,28 +72,27 @@ pub(crate) fn cease_to_count<S: Shelf>(
     ensures settled { S.clean shelf.new → (was is : AnyKey → AnyContents) → (S.state shelf.old).content.point ≡ point_told was → (S.state shelf.old).content.start ≡ start_told was → IsOneMoreReading is was reading.now.meter.0 reading.now.register reading.now.instant reading.now.wh → EndsBefore (office_of office.now).end (point_told was reading.now.meter.0 reading.now.register) → OnOk result (IsSettled (office_of office.now) was is (S.state shelf.old).content (S.state shelf.new).content) }
     ensures point { S.clean shelf.new → OnOk result ((S.state shelf.new).content.point ≡ points_with (S.state shelf.old).content.point reading.now.meter.0 reading.now.register reading.now.instant None) }
     ensures start { S.clean shelf.new → OnOk result ((S.state shelf.new).content.start ≡ (S.state shelf.old).content.start) }
-    ensures tally { S.clean shelf.new → (starts : ℕ) → HasStarts (S.state shelf.old).content reading.now.meter.0 starts → (S.state shelf.new).tally ≤ (S.state shelf.old).tally + (6 + starts) + 6 * (length office.now.bands * (length office.now.accounts + 1)) }
+    ensures tally { S.clean shelf.new → (starts : ℕ) → HasStarts (S.state shelf.old).content reading.now.meter.0 starts → (S.state shelf.new).tally ≤ (S.state shelf.old).tally + (6 + starts) + 6 * classes_of (office_of office.now) }
     ensures kept { GoesOn S.state S.left S.clean S.same_store (failures_told result) shelf.old shelf.new }
 {
-    let (without, with) = weigh_around(shelf, alloc, office, zone, reading)?;
-    move_energies(shelf, office, &with, &without)?;
+    let changes = weigh_around(shelf, alloc, office, zone, reading)?;
+    move_energies(shelf, office, &changes, Side::Gains)?;
     shelf.point_del(reading.meter, reading.register, reading.instant)
 }
 
-// What the pairs of a register round an instant give to each total, without a reading there and with it.
+// What each total loses and gains by the pairs of a register round an instant, where a reading begins to count there.
 fn weigh_around<S: Shelf>(
     shelf: &mut S,
     alloc: Global,
     office: &Office,
     zone: &Zone,
     reading: &Counted,
-) -> Result<(Vec<Sum>, Vec<Sum>), ShelfFault>
+) -> Result<Changes, ShelfFault>
     requires begun { IsSome (S.state shelf.old).begun }
     requires meter { reading.now.meter.0 < length office.now.meters }
     requires counts { counts_at office.now reading.now.meter.0 reading.now.register ≡ true }
-    ensures without { IfOk result (λ around. gathered_in_all around.0.items < 2 ^ 127) }
-    ensures with_it { IfOk result (λ around. gathered_in_all around.1.items < 2 ^ 127) }
-    ensures around { S.clean shelf.new → (free is : AnyKey → AnyContents) → ((u : ℕ) → (u ≡ reading.now.instant → ⊥) → (S.state shelf.old).content.point reading.now.meter.0 reading.now.register u ≡ point_told free reading.now.meter.0 reading.now.register u) → (S.state shelf.old).content.start reading.now.meter.0 ≡ start_told free reading.now.meter.0 → IsOneMoreReading free is reading.now.meter.0 reading.now.register reading.now.instant reading.now.wh → EndsBefore (office_of office.now).end (point_told is reading.now.meter.0 reading.now.register) → IfOk result (λ around. AreDifferences (office_of office.now) free is around.0.items around.1.items) }
+    ensures few { IfOk result (λ changes. (side : ASide) (k : AnyTotal) → gathered side changes.rows k < 2 ^ 127) }
+    ensures around { S.clean shelf.new → (free is : AnyKey → AnyContents) → ((u : ℕ) → (u ≡ reading.now.instant → ⊥) → (S.state shelf.old).content.point reading.now.meter.0 reading.now.register u ≡ point_told free reading.now.meter.0 reading.now.register u) → (S.state shelf.old).content.start reading.now.meter.0 ≡ start_told free reading.now.meter.0 → IsOneMoreReading free is reading.now.meter.0 reading.now.register reading.now.instant reading.now.wh → EndsBefore (office_of office.now).end (point_told is reading.now.meter.0 reading.now.register) → IfOk result (λ changes. AreDifferences (office_of office.now) free is changes.rows) }
     ensures same { S.clean shelf.new → OnOk result ((S.state shelf.new).content ≡ (S.state shelf.old).content) }
     ensures tally { S.clean shelf.new → (starts : ℕ) → HasStarts (S.state shelf.old).content reading.now.meter.0 starts → (S.state shelf.new).tally ≤ (S.state shelf.old).tally + (5 + starts) }
     ensures kept { GoesOn S.state S.left S.clean S.same_store (failures_told result) shelf.old shelf.new }
@@ -104,9 +104,30 @@ fn weigh_around<S: Shelf>(
     let apart = listed(alloc, &below, &None, &above)?;
     let here = Some((reading.instant, reading.wh));
     let joined = listed(alloc, &below, &here, &above)?;
-    let without = sums_of(alloc, office, zone, &starts, direction, &apart)?;
-    let with = sums_of(alloc, office, zone, &starts, direction, &joined)?;
-    Ok((without, with))
+    let mut changes = Changes::new(alloc);
+    let loses = Side::Loses;
+    add_points(
+        alloc,
+        office,
+        zone,
+        &starts,
+        direction,
+        &apart,
+        loses,
+        &mut changes,
+    )?;
+    let gains = Side::Gains;
+    add_points(
+        alloc,
+        office,
+        zone,
+        &starts,
+        direction,
+        &joined,
+        gains,
+        &mut changes,
+    )?;
+    Ok(changes)
 }
 
 // The direction of a register.
@@ -144,24 +165,28 @@ fn add_if_there(points: &mut Vec<Point>, point: &Option<Point>) -> Result<(), Al
     Ok(())
 }
 
-// What the neighbouring pairs of a short list of points give to each total, of a register of the direction and a meter
-// with these starts.
-fn sums_of(
+// Gathers what the neighbouring pairs of a short list of points give, of a register of the direction and a meter with
+// these starts: nothing where the starts don't rise, as only those of a store that isn't clean can.
+fn add_points(
     alloc: Global,
     office: &Office,
     zone: &Zone,
     starts: &[(Instant, Owner)],
     direction: Direction,
     points: &[Point],
-) -> Result<Vec<Sum>, AllocError>
+    side: Side,
+    changes: &mut Changes,
+) -> Result<(), AllocError>
     requires short { length points.now ≤ 3 }
-    ensures gathered { StartsIncrease starts.now → IsInOrder by_second points.now → IfOk result (λ sums. (k : AnyTotal) → gathered sums.items k ≡ pairs_for office.now starts.now direction points.now k) }
-    ensures few { IfOk result (λ sums. gathered_in_all sums.items < 2 ^ 127) }
+    requires none { (k : AnyTotal) → gathered side changes.old.rows k ≡ 0 }
+    ensures gathered { StartsIncrease starts.now → IsInOrder by_second points.now → OnOk result ((k : AnyTotal) → gathered side changes.new.rows k ≡ pairs_for office.now starts.now direction points.now k) }
+    ensures other { OnOk result ((k : AnyTotal) → gathered (other_side side) changes.new.rows k ≡ gathered (other_side side) changes.old.rows k) }
+    ensures few { OnOk result ((k : AnyTotal) → gathered side changes.new.rows k < 2 ^ 127) }
 {
-    let mut sums = Vec::new(alloc);
     let Some(owners) = Owners::of(starts) else {
-        return Ok(sums);
+        return Ok(());
     };
-    add_pairs(alloc, office, zone, &owners, direction, points, &mut sums)?;
-    Ok(sums)
+    add_pairs(
+        alloc, office, zone, &owners, direction, points, side, changes,
+    )
 }

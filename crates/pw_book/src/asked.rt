@@ -5,12 +5,14 @@ ghost use Rattle.pw_model.specs.Payments.{stands_in};
 ghost use Rattle.pw_model.specs.Same.{same_entry};
 ghost use Rattle.pw_shelf.specs.Rows.{ListsAssignments, ListsReadings, ListsTopUps};
 ghost use Rattle.pw_shelf.specs.Calls.{failures_told};
+ghost use Rattle.pw_shelf.specs.Seconds.{ListsSecondsWithin};
 ghost use Rattle.pw_book.specs.Asking.{IsOnlyAsked};
 
 use pw_model::{Entry, TotalKey};
-use pw_obis::Register;
+use pw_obis::{Register, WattHours};
 use pw_shelf::{Shelf, ShelfFault};
 use pw_tariff::MeterId;
+use pw_time::{FIRST_SECOND, Instant, LAST_SECOND};
 use std::alloc::Global;
 
 pub(crate) fn count_held<S: Shelf>(shelf: &mut S) -> Result<u32, ShelfFault>
@@ -33,6 +35,22 @@ pub(crate) fn readings_held<S: Shelf>(
     ensures asked { IsOnlyAsked S.Shelf (failures_told result) shelf.old shelf.new }
 {
     shelf.readings_of(alloc, meter, register)
+}
+
+// The points of a register.
+pub(crate) fn points_held<S: Shelf>(
+    shelf: &mut S,
+    alloc: Global,
+    meter: MeterId,
+    register: Register,
+) -> Result<Vec<(Instant, WattHours)>, ShelfFault>
+    requires { IsNone (S.state shelf.old).begun }
+    ensures rows { S.clean shelf.new → IfOk result (λ points. ListsSecondsWithin FIRST_SECOND LAST_SECOND ((S.state shelf.old).content.point meter.0 register) points.items) }
+    ensures asked { IsOnlyAsked S.Shelf (failures_told result) shelf.old shelf.new }
+{
+    let from = Instant::of(FIRST_SECOND).unwrap();
+    let to = Instant::of(LAST_SECOND).unwrap();
+    shelf.points_between(alloc, meter, register, from, to)
 }
 
 pub(crate) fn is_held<S: Shelf>(shelf: &mut S, entry: &Entry) -> Result<bool, ShelfFault>

@@ -1,6 +1,8 @@
 //! The book over a store of records.
 
-ghost use Rattle.std.specs.Prelude.{◌≡◌, ◌+◌, ◌<◌, ◌≤◌, ◌↔◌, ◌⊎◌, None, IsErrOf, IsNone, IsTrue, true, false, length};
+ghost use Rattle.arrayvec.specs.ArrayString.{array_string_len};
+ghost use Rattle.pw_book.specs.Acceptance.{acceptance_line};
+ghost use Rattle.std.specs.Prelude.{◌≡◌, ◌+◌, ◌<◌, ◌≤◌, ◌↔◌, ◌⊎◌, None, Some, IsErrOf, IsNone, IsTrue, true, false, length};
 ghost use Rattle.std.proofs.Props.{props};
 ghost use mathlib.Core.HLevel.{Π_prop};
 ghost use Rattle.pw_tariff.specs.Office.{office_of};
@@ -15,6 +17,7 @@ mod questions;
 
 use crate::fault::PostFault;
 use crate::posting::post_to;
+use pw_line::{Line, ROOM, line_of, push_number};
 use pw_model::Entry;
 use pw_shelf::Shelf;
 use pw_tariff::Office;
@@ -29,7 +32,22 @@ pub struct Accepted {
     pub repeated: u32,
 }
 
-/// The acceptance line without its end: how many entries were fresh, and how many repeated.
+impl Accepted {
+    /// The acceptance line without its end: how many entries were fresh, and how many repeated.
+    pub fn line(self) -> Line
+        ensures text { result.bytes ≡ acceptance_line self }
+        ensures fits { array_string_len result < ROOM }
+    {
+        let Accepted { fresh, repeated } = self;
+        let mut line = line_of("accepted fresh ");
+        push_number(&mut line, fresh as u64);
+        line.push_str(" repeated ");
+        push_number(&mut line, repeated as u64);
+        line
+    }
+}
+
+/// The acceptance line without its end.
 impl fmt::Display for Accepted {
     ghost use Rattle.std.specs.Prelude.{Some};
     ghost use Rattle.pw_book.specs.Acceptance.{acceptance_line};
@@ -37,8 +55,7 @@ impl fmt::Display for Accepted {
     ghost output = { λ accepted. Some (acceptance_line accepted) };
 
     fn fmt<W: fmt::Write>(&self, f: &mut fmt::Formatter<W>) -> fmt::Result {
-        let Accepted { fresh, repeated } = *self;
-        write!(f, "accepted fresh {fresh} repeated {repeated}")
+        f.write_str(self.line().as_str())
     }
 }
 
@@ -131,6 +148,7 @@ impl<S: Shelf> Book<S> {
         ensures abandons { (S.state self.new.shelf).failed_abandons ≡ (S.state self.old.shelf).failed_abandons + failed_in self.old.shut result }
         ensures untouched { self.old.shut ≡ true → self.new.shelf ≡ self.old.shelf }
         ensures shut { (self.new.shut ≡ true) ↔ IsErrOf result PostFault.Reopen }
+        ensures begun { S.clean self.new.shelf → self.old.shut ≡ false → IsErrOf result PostFault.Reopen → (S.state self.new.shelf).begun ≡ Some (S.state self.old.shelf).content }
         ensures failures { FailuresPosted result (S.state self.old.shelf).failures (S.state self.new.shelf).failures }
         ensures cleanness { S.clean self.new.shelf → S.clean self.old.shelf }
         ensures store { S.same_store self.old.shelf self.new.shelf }

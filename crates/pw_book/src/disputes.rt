@@ -156,7 +156,8 @@ pub(crate) fn disputes_of(alloc: Global, records: &[Entry]) -> Result<Vec<Disput
     Ok(disputes)
 }
 
-// What a record and some behind it dispute. (No set of records has so many that their number isn't a u32.)
+// What a record and some behind it dispute. (Only a store that isn't clean lists so many that their number isn't a u32:
+// then it is capped.)
 fn dispute(first: &Entry, behind: usize) -> Dispute
     ensures { IsDisputeOf first.now behind result }
 {

@@ -3,14 +3,14 @@
 ghost use Rattle.std.specs.Prelude.{◌≡◌, ◌+◌, ◌*◌, ◌<◌, ℕ, Option, Some, IfOk, OnOk, IsNone};
 ghost use Rattle.pw_model.specs.Lists.{AreFalls, Lists, fall_order};
 ghost use Rattle.pw_model.specs.Office.{AllOfOffice};
+ghost use Rattle.pw_model.specs.Shelf.{IsTrueContent};
 ghost use Rattle.pw_shelf.specs.Calls.{failures_told};
-ghost use Rattle.pw_tariff.specs.Office.{OfficeRules as AnOffice, office_of, register_place};
+ghost use Rattle.pw_tariff.specs.Office.{office_of, register_place};
 ghost use Rattle.pw_book.specs.Asking.{IsOnlyAsked};
 ghost use Rattle.pw_book.specs.inner.Counted.{IsFallOf, ListsSeconds};
-ghost use Rattle.pw_book.specs.inner.Places.{FallsBefore};
+ghost use Rattle.pw_book.specs.inner.Places.{FallsBefore, TellsPoints};
 
-use crate::asked::readings_held;
-use crate::told::points_of;
+use crate::asked::points_held;
 use pw_model::Fall;
 use pw_obis::{Register, WattHours};
 use pw_shelf::{Shelf, ShelfFault};
@@ -26,6 +26,7 @@ pub(crate) fn falls_held<S: Shelf>(
 ) -> Result<Vec<Fall>, ShelfFault>
     requires idle { IsNone (S.state shelf.old).begun }
     requires of_office { S.clean shelf.old → AllOfOffice (office_of office.now) (S.state shelf.old).content.records }
+    requires truth { S.clean shelf.old → IsTrueContent (office_of office.now) (S.state shelf.old).content }
     ensures falls { S.clean shelf.new → IfOk result (λ falls. AreFalls (S.state shelf.old).content.records falls.items) }
     ensures asked { IsOnlyAsked S.Shelf (failures_told result) shelf.old shelf.new }
 {
@@ -44,7 +45,7 @@ fn add_meter<S: Shelf>(
     falls: &mut Vec<Fall>,
 ) -> Result<(), ShelfFault>
     requires { IsNone (S.state shelf.old).begun }
-    ensures falls { S.clean shelf.new → (office : AnOffice) → AllOfOffice office (S.state shelf.old).content.records → FallsBefore (S.state shelf.old).content.records (6 * meter.0) falls.old.items → OnOk result (FallsBefore (S.state shelf.old).content.records (6 * meter.0 + 6) falls.new.items) }
+    ensures falls { S.clean shelf.new → TellsPoints (S.state shelf.old).content → FallsBefore (S.state shelf.old).content.records (6 * meter.0) falls.old.items → OnOk result (FallsBefore (S.state shelf.old).content.records (6 * meter.0 + 6) falls.new.items) }
     ensures asked { IsOnlyAsked S.Shelf (failures_told result) shelf.old shelf.new }
 {
     for register in &Register::ALL {
@@ -62,11 +63,10 @@ fn add_register<S: Shelf>(
     falls: &mut Vec<Fall>,
 ) -> Result<(), ShelfFault>
     requires { IsNone (S.state shelf.old).begun }
-    ensures falls { S.clean shelf.new → (office : AnOffice) → AllOfOffice office (S.state shelf.old).content.records → FallsBefore (S.state shelf.old).content.records (6 * meter.0 + register_place register) falls.old.items → OnOk result (FallsBefore (S.state shelf.old).content.records (6 * meter.0 + register_place register + 1) falls.new.items) }
+    ensures falls { S.clean shelf.new → TellsPoints (S.state shelf.old).content → FallsBefore (S.state shelf.old).content.records (6 * meter.0 + register_place register) falls.old.items → OnOk result (FallsBefore (S.state shelf.old).content.records (6 * meter.0 + register_place register + 1) falls.new.items) }
     ensures asked { IsOnlyAsked S.Shelf (failures_told result) shelf.old shelf.new }
 {
-    let readings = readings_held(shelf, alloc, meter, register)?;
-    let points = points_of(alloc, &readings)?;
+    let points = points_held(shelf, alloc, meter, register)?;
     let more = falls_of(alloc, meter, register, &points)?;
     falls.extend_from_slice(&more)?;
     Ok(())

@@ -1,5 +1,10 @@
 //! Why a call of the book fails.
 
+ghost use Rattle.std.specs.Prelude.{◌≡◌, ◌<◌};
+ghost use Rattle.arrayvec.specs.ArrayString.{array_string_len};
+ghost use Rattle.pw_book.specs.Faults.{book_line, book_name, book_number, full_line, post_line, post_name, post_number};
+
+use pw_line::{Line, ROOM, push_number, refused};
 use pw_shelf::ShelfFault;
 use std::alloc::AllocError;
 use std::fmt;
@@ -29,9 +34,6 @@ pub enum BookFault {
 }
 
 impl PostFault {
-    ghost use Rattle.std.specs.Prelude.{◌≡◌};
-    ghost use Rattle.pw_book.specs.Faults.{post_name, post_number};
-
     /// The number under which the fault is reported: 60 to 63.
     pub fn number(self) -> u8
         ensures { result ≡ post_number self }
@@ -55,12 +57,35 @@ impl PostFault {
             PostFault::Reopen => "Reopen",
         }
     }
+
+    /// The fault line without its end: `refused`, the number, the name; behind a full book's the number held and the
+    /// limit.
+    pub fn line(self) -> Line
+        ensures text { result.bytes ≡ post_line self }
+        ensures fits { array_string_len result < ROOM }
+    {
+        match self {
+            PostFault::Full { held, limit } => full_line_of(self, held, limit),
+            PostFault::Device => BookFault::Device.line(),
+            PostFault::Memory => BookFault::Memory.line(),
+            PostFault::Reopen => BookFault::Reopen.line(),
+        }
+    }
+}
+
+fn full_line_of(fault: PostFault, held: u32, limit: u32) -> Line
+    ensures text { result.bytes ≡ full_line (post_number fault) (post_name fault) held limit }
+    ensures fits { array_string_len result < ROOM }
+{
+    let mut line = refused(fault.number(), fault.name());
+    line.push_str(" held ");
+    push_number(&mut line, held as u64);
+    line.push_str(" limit ");
+    push_number(&mut line, limit as u64);
+    line
 }
 
 impl BookFault {
-    ghost use Rattle.std.specs.Prelude.{◌≡◌};
-    ghost use Rattle.pw_book.specs.Faults.{book_name, book_number};
-
     /// The number under which the fault is reported: 61 to 63.
     pub fn number(self) -> u8
         ensures { result ≡ book_number self }
@@ -82,9 +107,17 @@ impl BookFault {
             BookFault::Reopen => "Reopen",
         }
     }
+
+    /// The fault line without its end: `refused`, the number and the name.
+    pub fn line(self) -> Line
+        ensures text { result.bytes ≡ book_line self }
+        ensures fits { array_string_len result < ROOM }
+    {
+        refused(self.number(), self.name())
+    }
 }
 
-/// The fault line without its end: `refused`, the number, the name; behind a full book's the number held and the limit.
+/// The fault line without its end.
 impl fmt::Display for PostFault {
     ghost use Rattle.std.specs.Prelude.{Some};
     ghost use Rattle.pw_book.specs.Faults.{post_line};
@@ -92,18 +125,11 @@ impl fmt::Display for PostFault {
     ghost output = { λ fault. Some (post_line fault) };
 
     fn fmt<W: fmt::Write>(&self, f: &mut fmt::Formatter<W>) -> fmt::Result {
-        match *self {
-            PostFault::Full { held, limit } => {
-                write!(f, "refused 60 Full held {held} limit {limit}")
-            }
-            PostFault::Device => write!(f, "refused 61 Device"),
-            PostFault::Memory => write!(f, "refused 62 Memory"),
-            PostFault::Reopen => write!(f, "refused 63 Reopen"),
-        }
+        f.write_str(self.line().as_str())
     }
 }
 
-/// The fault line without its end: `refused`, the number and the name.
+/// The fault line without its end.
 impl fmt::Display for BookFault {
     ghost use Rattle.std.specs.Prelude.{Some};
     ghost use Rattle.pw_book.specs.Faults.{book_line};
@@ -111,11 +137,7 @@ impl fmt::Display for BookFault {
     ghost output = { λ fault. Some (book_line fault) };
 
     fn fmt<W: fmt::Write>(&self, f: &mut fmt::Formatter<W>) -> fmt::Result {
-        match *self {
-            BookFault::Device => write!(f, "refused 61 Device"),
-            BookFault::Memory => write!(f, "refused 62 Memory"),
-            BookFault::Reopen => write!(f, "refused 63 Reopen"),
-        }
+        f.write_str(self.line().as_str())
     }
 }
 

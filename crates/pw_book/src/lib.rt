@@ -5,6 +5,7 @@ mod around;
 mod asked;
 mod balances;
 mod book;
+mod changes;
 mod disputes;
 mod distinct;
 mod falls;
@@ -16,8 +17,6 @@ mod posting;
 mod rows;
 mod settling;
 mod starts;
-mod sums;
-mod told;
 mod upload;
 mod window;
 

@@ -1,20 +1,26 @@
 //! Totals changed within an upload.
 
-ghost use Rattle.std.specs.Prelude.{◌≡◌, ℕ, ◌+◌, ◌*◌, ◌<◌, ◌≤◌, ◌^◌, OnOk, IsSome, length};
+ghost use Rattle.std.specs.Prelude.{◌≡◌, ℕ, ◌+◌, ◌*◌, ◌<◌, ◌≤◌, ◌^◌, ◌↔◌, IsTrue, OnOk, IsSome, length};
+ghost use Rattle.pw_model.specs.declared.records.TotalKey.{TotalKey as AnyTotal};
+ghost use Rattle.pw_model.specs.Office.{HasOwner};
 ghost use Rattle.pw_shelf.specs.Calls.{GoesOn, failures_told};
-ghost use Rattle.pw_book.specs.inner.Moves.{InDirection, MovesTotals, OfOwner, OfOwners, most_total};
-ghost use Rattle.pw_book.specs.inner.Sums.{gathered, gathered_in_all};
+ghost use Rattle.pw_tariff.specs.Office.{office_of};
+ghost use Rattle.pw_book.specs.Cost.{classes_of};
+ghost use Rattle.pw_book.specs.declared.changes.Side.{Side as ASide};
+ghost use Rattle.pw_book.specs.inner.Moves.{MovesTotals, OfOwners, most_total};
+ghost use Rattle.pw_book.specs.inner.Sums.{gathered, other_side};
 
-use crate::sums::{Sum, amount_of};
+use crate::changes::{Changes, Side};
 use pw_model::TotalKey;
 use pw_obis::LARGEST_WATT_HOURS;
 use pw_shelf::{Shelf, ShelfFault};
-use pw_tariff::{AccountId, BandId, Direction, Office, Owner};
+use pw_tariff::{Office, Owner};
 
 // The greatest amount of a total: that of 10,000,000 records of the largest reading.
 const MOST_TOTAL: u64 = 10_000_000 * LARGEST_WATT_HOURS;
 
-// A total that gains and loses such amounts, where the outcome is an amount of a total.
+// A total that gains and loses such amounts, where the outcome is an amount of a total. (Only over a store that isn't
+// clean it can be another: then it is capped.)
 fn settled(total: u64, more: u128, less: u128) -> u64
     requires { more < 2 ^ 127 }
     ensures settled { (n : ℕ) → total + more ≡ n + less → n ≤ most_total → result ≡ n }
@@ -44,73 +50,46 @@ pub(crate) fn change_total<S: Shelf>(
     shelf.total_put(key, settled(total, more, less))
 }
 
-// Changes the energies of an owner in a direction: each loses what is gathered as taken, and gains what is gathered as
-// given.
-fn move_direction<S: Shelf>(
-    shelf: &mut S,
-    office: &Office,
-    owner: Owner,
-    direction: Direction,
-    taken: &[Sum],
-    given: &[Sum],
-) -> Result<(), ShelfFault>
-    requires begun { IsSome (S.state shelf.old).begun }
-    requires taken { gathered_in_all taken.now < 2 ^ 127 }
-    requires given { gathered_in_all given.now < 2 ^ 127 }
-    ensures moved { S.clean shelf.new → OnOk result (MovesTotals (InDirection owner direction (length office.now.bands)) (gathered given.now) (gathered taken.now) (S.state shelf.old).content (S.state shelf.new).content) }
-    ensures tally { (S.state shelf.new).tally ≤ (S.state shelf.old).tally + 3 * length office.now.bands }
-    ensures kept { GoesOn S.state S.left S.clean S.same_store (failures_told result) shelf.old shelf.new }
+// Whether an account is one of the office, or none is named.
+fn is_owner_of(office: &Office, owner: Owner) -> bool
+    ensures { IsTrue result ↔ HasOwner (office_of office.now) owner }
 {
-    for band in 0..office.bands() {
-        let key = TotalKey::Energy {
-            owner,
-            band: BandId(band),
-            direction,
-        };
-        let more = amount_of(given, &key);
-        let less = amount_of(taken, &key);
-        change_total(shelf, &key, more, less)?;
+    match owner {
+        None => true,
+        Some(account) => account.0 < office.accounts(),
     }
-    Ok(())
 }
 
-// Changes the energies of an owner.
-fn move_owner<S: Shelf>(
-    shelf: &mut S,
-    office: &Office,
-    owner: Owner,
-    taken: &[Sum],
-    given: &[Sum],
-) -> Result<(), ShelfFault>
-    requires begun { IsSome (S.state shelf.old).begun }
-    requires taken { gathered_in_all taken.now < 2 ^ 127 }
-    requires given { gathered_in_all given.now < 2 ^ 127 }
-    ensures moved { S.clean shelf.new → OnOk result (MovesTotals (OfOwner (length office.now.bands) owner) (gathered given.now) (gathered taken.now) (S.state shelf.old).content (S.state shelf.new).content) }
-    ensures tally { (S.state shelf.new).tally ≤ (S.state shelf.old).tally + 6 * length office.now.bands }
-    ensures kept { GoesOn S.state S.left S.clean S.same_store (failures_told result) shelf.old shelf.new }
+// Whether a total is an energy of the office.
+fn is_energy_of(office: &Office, key: &TotalKey) -> bool
+    ensures { IsTrue result ↔ OfOwners (length office.now.bands) (length office.now.accounts) key.now }
 {
-    move_direction(shelf, office, owner, Direction::Import, taken, given)?;
-    move_direction(shelf, office, owner, Direction::Export, taken, given)
+    match key {
+        TotalKey::Energy { owner, band, .. } => {
+            band.0 < office.bands() && is_owner_of(office, *owner)
+        }
+        TotalKey::TopUps { .. } => false,
+    }
 }
 
-// Changes the energies of all owners of the office: each loses what is gathered as taken, and gains what is gathered as
-// given.
+// Changes the energies that are gathered: each loses what is gathered on one side, and gains what is gathered on the
+// other. (A store alone that isn't clean names owners that the office doesn't have; their energies stay as they are.)
 pub(crate) fn move_energies<S: Shelf>(
     shelf: &mut S,
     office: &Office,
-    taken: &[Sum],
-    given: &[Sum],
+    changes: &Changes,
+    taken: Side,
 ) -> Result<(), ShelfFault>
     requires begun { IsSome (S.state shelf.old).begun }
-    requires taken { gathered_in_all taken.now < 2 ^ 127 }
-    requires given { gathered_in_all given.now < 2 ^ 127 }
-    ensures moved { S.clean shelf.new → OnOk result (MovesTotals (OfOwners (length office.now.bands) (length office.now.accounts)) (gathered given.now) (gathered taken.now) (S.state shelf.old).content (S.state shelf.new).content) }
-    ensures tally { (S.state shelf.new).tally ≤ (S.state shelf.old).tally + 6 * (length office.now.bands * (length office.now.accounts + 1)) }
+    requires few { (side : ASide) (k : AnyTotal) → gathered side changes.now.rows k < 2 ^ 127 }
+    ensures moved { S.clean shelf.new → OnOk result (MovesTotals (OfOwners (length office.now.bands) (length office.now.accounts)) (gathered (other_side taken) changes.now.rows) (gathered taken changes.now.rows) (S.state shelf.old).content (S.state shelf.new).content) }
+    ensures tally { (S.state shelf.new).tally ≤ (S.state shelf.old).tally + 6 * classes_of (office_of office.now) }
     ensures kept { GoesOn S.state S.left S.clean S.same_store (failures_told result) shelf.old shelf.new }
 {
-    move_owner(shelf, office, None, taken, given)?;
-    for account in 0..office.accounts() {
-        move_owner(shelf, office, Some(AccountId(account)), taken, given)?;
+    for (key, change) in &changes.rows {
+        if is_energy_of(office, key) {
+            change_total(shelf, key, change.on(taken.other()), change.on(taken))?;
+        }
     }
     Ok(())
 }

@@ -1,6 +1,6 @@
 //! The energy that pairs of readings give to owners and bands.
 
-ghost use Rattle.std.specs.Prelude.{◌≡◌, ℕ, ◌+◌, ◌*◌, ◌<◌, ◌≤◌, ◌^◌, Option, IfOk, length};
+ghost use Rattle.std.specs.Prelude.{◌≡◌, ℕ, ◌+◌, ◌*◌, ◌<◌, ◌≤◌, ◌^◌, Option, IfOk, OnOk, length};
 ghost use Rattle.pw_flow.specs.Energy.{cell};
 ghost use Rattle.pw_model.specs.declared.records.TotalKey.{TotalKey as AnyTotal};
 ghost use Rattle.pw_model.specs.Lists.{IsInOrder};
@@ -9,9 +9,9 @@ ghost use Rattle.pw_tariff.specs.declared.ids.AccountId.{AccountId as AnAccount}
 ghost use Rattle.pw_tariff.specs.Cells.{AreInOrder, energy_in, energy_of_all};
 ghost use Rattle.pw_tariff.specs.Shares.{class_seconds};
 ghost use Rattle.pw_book.specs.inner.Counted.{by_second};
-ghost use Rattle.pw_book.specs.inner.Sums.{gathered, gathered_in_all, pairs_for};
+ghost use Rattle.pw_book.specs.inner.Sums.{gathered, other_side, pairs_for};
 
-use crate::sums::{Sum, add_cells};
+use crate::changes::{Changes, Side};
 use pw_obis::WattHours;
 use pw_tariff::{Cell, Direction, Office, Owners, Span, apportion};
 use pw_time::{Instant, Zone};
@@ -29,15 +29,17 @@ pub(crate) fn add_pairs(
     owners: &Owners,
     direction: Direction,
     points: &[Point],
-    sums: &mut Vec<Sum>,
+    side: Side,
+    changes: &mut Changes,
 ) -> Result<(), AllocError>
-    requires few { gathered_in_all sums.old.items < 2 ^ 120 }
-    ensures gathered { IsInOrder by_second points.now → IfOk result (λ _. (k : AnyTotal) → gathered sums.new.items k ≡ gathered sums.old.items k + pairs_for office.now owners.now direction points.now k) }
-    ensures all { IfOk result (λ _. gathered_in_all sums.new.items ≤ gathered_in_all sums.old.items + length points.now * LARGEST_WATT_HOURS) }
+    requires few { (k : AnyTotal) → gathered side changes.old.rows k < 2 ^ 120 }
+    ensures gathered { IsInOrder by_second points.now → OnOk result ((k : AnyTotal) → gathered side changes.new.rows k ≡ gathered side changes.old.rows k + pairs_for office.now owners.now direction points.now k) }
+    ensures other { OnOk result ((k : AnyTotal) → gathered (other_side side) changes.new.rows k ≡ gathered (other_side side) changes.old.rows k) }
+    ensures all { OnOk result ((k : AnyTotal) → gathered side changes.new.rows k ≤ gathered side changes.old.rows k + length points.now * LARGEST_WATT_HOURS) }
 {
     for pair in points.windows(2) {
         let cells = cells_of_pair(alloc, office, zone, owners, pair[0], pair[1])?;
-        add_cells(sums, direction, &cells)?;
+        changes.add_cells(side, direction, &cells)?;
     }
     Ok(())
 }

@@ -1,6 +1,6 @@
 //! An upload's way to a shelf: weighed first, then written.
 
-ghost use Rattle.std.specs.Prelude.{◌≡◌, ◌+◌, ◌<◌, ◌≤◌, ◌^◌, IfOk, IsErrOf, IsNone, MatchResult, length};
+ghost use Rattle.std.specs.Prelude.{◌≡◌, ◌+◌, ◌<◌, ◌≤◌, ◌^◌, IfOk, IsErrOf, IsNone, MatchResult, Some, length};
 ghost use Rattle.pw_model.specs.Counting.{EachOnce};
 ghost use Rattle.pw_model.specs.Lists.{record_count};
 ghost use Rattle.pw_model.specs.Office.{AllOfOffice, most_records};
@@ -44,6 +44,7 @@ pub(crate) fn post_to<S: Shelf>(
     ensures idle { (IsErrOf result Reopen → ⊥) → IsNone (S.state shelf.new).begun }
     ensures undone { (IsErrOf result Reopen → ⊥) → (S.state shelf.new).failed_abandons ≡ (S.state shelf.old).failed_abandons }
     ensures reopen { IsErrOf result Reopen → (S.state shelf.new).failed_abandons ≡ (S.state shelf.old).failed_abandons + 1 }
+    ensures begun { S.clean shelf.new → IsErrOf result Reopen → (S.state shelf.new).begun ≡ Some (S.state shelf.old).content }
     ensures failures { FailuresPosted result (S.state shelf.old).failures (S.state shelf.new).failures }
     ensures cleanness { S.clean shelf.new → S.clean shelf.old }
     ensures store { S.same_store shelf.old shelf.new }

@@ -157,7 +157,7 @@ pub(crate) fn settle<S: Shelf>(
             instant,
         } => {
             let Content::Reading { wh } = &entry.content else {
-                return Ok(());
+                unreachable!();
             };
             let reading = Counted {
                 meter: *meter,
@@ -169,7 +169,7 @@ pub(crate) fn settle<S: Shelf>(
         }
         Key::Assignment { meter, start } => {
             let Content::Assignment { owner } = &entry.content else {
-                return Ok(());
+                unreachable!();
             };
             let given = Given {
                 meter: *meter,
@@ -180,7 +180,7 @@ pub(crate) fn settle<S: Shelf>(
         }
         Key::TopUp { .. } => {
             let Content::TopUp { account, cents, .. } = &entry.content else {
-                return Ok(());
+                unreachable!();
             };
             top_up_added(shelf, *account, *cents, before)
         }

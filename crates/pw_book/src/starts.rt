@@ -68,7 +68,7 @@ pub(crate) fn until_next(starts: &[Start], from: Instant) -> Instant
     Instant::of(LAST_SECOND).unwrap()
 }
 
-// The owners with these starts: none where the starts don't rise.
+// The owners with these starts: none where the starts don't rise, as only those of a store that isn't clean can.
 pub(crate) fn owners_of<'a>(starts: &'a [Start]) -> Owners<'a>
     ensures { StartsIncrease starts.now → result ≡ starts.now }
 {

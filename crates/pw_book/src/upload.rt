@@ -1,6 +1,6 @@
 //! One upload to a shelf, written and committed, or taken back.
 
-ghost use Rattle.std.specs.Prelude.{◌≡◌, ℕ, ◌+◌, ◌*◌, ◌<◌, ◌≤◌, ◌++◌, [], ◌∷◌, None, OnOk, OnErr, IsErrOf, IsNone, IsSome, length};
+ghost use Rattle.std.specs.Prelude.{◌≡◌, ℕ, ◌+◌, ◌*◌, ◌<◌, ◌≤◌, ◌++◌, [], ◌∷◌, None, Some, OnOk, OnErr, IsErrOf, IsNone, IsSome, length};
 ghost use Rattle.pw_model.specs.Counting.{Member};
 ghost use Rattle.pw_model.specs.Lists.{record_count};
 ghost use Rattle.pw_model.specs.Office.{AllOfOffice, IsOfOffice, most_records};
@@ -42,6 +42,7 @@ pub(crate) fn upload<S: Shelf>(
     ensures idle { (IsErrOf result Reopen → ⊥) → IsNone (S.state shelf.new).begun }
     ensures undone { (IsErrOf result Reopen → ⊥) → (S.state shelf.new).failed_abandons ≡ (S.state shelf.old).failed_abandons }
     ensures reopen { IsErrOf result Reopen → (S.state shelf.new).failed_abandons ≡ (S.state shelf.old).failed_abandons + 1 }
+    ensures begun { IsErrOf result Reopen → (S.state shelf.new).begun ≡ Some (S.state shelf.old).content }
     ensures failures { FailuresUploaded result (S.state shelf.old).failures (S.state shelf.new).failures }
     ensures kept { S.clean shelf.new → OnOk result (LeavesOnly (S.state shelf.new).content (S.left shelf.new)) }
     ensures left { S.clean shelf.new → OnErr result (LeavesWithUpload (office_of office.now) entries.now (S.state shelf.old).content (S.left shelf.old) (S.left shelf.new)) }

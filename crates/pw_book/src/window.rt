@@ -12,15 +12,17 @@ ghost use Rattle.pw_model.specs.Counting.{point as point_told, start as start_to
 ghost use Rattle.pw_model.specs.Energy.{over_registers};
 ghost use Rattle.pw_shelf.specs.Calls.{GoesOn, failures_told};
 ghost use Rattle.pw_shelf.specs.Changes.{starts_with, with_start as with_start_of};
-ghost use Rattle.pw_book.specs.Cost.{HasStarts};
+ghost use Rattle.pw_book.specs.Cost.{HasStarts, classes_of};
+ghost use Rattle.pw_book.specs.declared.changes.Side.{Side as ASide};
+ghost use Rattle.pw_book.specs.declared.changes.Side.TheVariants.{Loses, Gains};
 ghost use Rattle.pw_book.specs.inner.Settling.{EndsBefore, EndsBeforeNext, HavePoints, IsSettled, IsStartChanged, ListsUpToNextStart, register_told};
-ghost use Rattle.pw_book.specs.inner.Sums.{AreDifferences, gathered, gathered_in_all, point_listed};
+ghost use Rattle.pw_book.specs.inner.Sums.{AreDifferences, gathered, point_listed};
 
 use crate::around::direction_of;
+use crate::changes::{Changes, Side};
 use crate::moving::move_energies;
 use crate::pairs::{Point, add_pairs};
 use crate::starts::{owners_of, until_next, with_start};
-use crate::sums::Sum;
 use pw_obis::Register;
 use pw_shelf::{Shelf, ShelfFault};
 use pw_tariff::{Direction, MeterId, Office, Owner, Owners};
@@ -36,13 +38,6 @@ struct Window<'a> {
     until: Instant,
     before: Owners<'a>,
     after: Owners<'a>,
-}
-
-// What the pairs that overlap a window gave to each total before the change, and what they give after it.
-#[derive(Drop)]
-struct Moved {
-    taken: Vec<Sum>,
-    given: Vec<Sum>,
 }
 
 // Keeps the start of a meter at an instant as this owner's, or takes it away, and changes the energies of the pairs that
@@ -61,7 +56,7 @@ pub(crate) fn change_start<S: Shelf>(
     ensures settled { S.clean shelf.new → (was is : AnyKey → AnyContents) → (S.state shelf.old).content.point ≡ point_told was → (S.state shelf.old).content.start ≡ start_told was → IsOtherStart was is meter.0 start → start_told is meter.0 start ≡ owner → ((r : AnyRegister) → EndsBefore (office_of office.now).end (point_told was meter.0 r)) → OnOk result (IsSettled (office_of office.now) was is (S.state shelf.old).content (S.state shelf.new).content) }
     ensures point { S.clean shelf.new → OnOk result ((S.state shelf.new).content.point ≡ (S.state shelf.old).content.point) }
     ensures start { S.clean shelf.new → OnOk result ((S.state shelf.new).content.start ≡ starts_with (S.state shelf.old).content.start meter.0 start owner) }
-    ensures tally { S.clean shelf.new → (starts : ℕ) (points : AnyRegister → ℕ) → HasStarts (S.state shelf.old).content meter.0 starts → HavePoints (S.state shelf.old).content meter.0 start points → (S.state shelf.new).tally ≤ (S.state shelf.old).tally + (32 + starts) + (over_registers Import points + over_registers Export points) + 6 * (length office.now.bands * (length office.now.accounts + 1)) }
+    ensures tally { S.clean shelf.new → (starts : ℕ) (points : AnyRegister → ℕ) → HasStarts (S.state shelf.old).content meter.0 starts → HavePoints (S.state shelf.old).content meter.0 start points → (S.state shelf.new).tally ≤ (S.state shelf.old).tally + (32 + starts) + (over_registers Import points + over_registers Export points) + 6 * classes_of (office_of office.now) }
     ensures kept { GoesOn S.state S.left S.clean S.same_store (failures_told result) shelf.old shelf.new }
 {
     let old = shelf.starts_of(alloc, meter)?;
@@ -73,8 +68,8 @@ pub(crate) fn change_start<S: Shelf>(
         before: owners_of(&old),
         after: owners_of(&new),
     };
-    let moved = weigh_window(shelf, alloc, office, zone, &window)?;
-    move_energies(shelf, office, &moved.taken, &moved.given)?;
+    let changes = weigh_window(shelf, alloc, office, zone, &window)?;
+    move_energies(shelf, office, &changes, Side::Loses)?;
     keep_start(shelf, meter, start, owner)
 }
 
@@ -96,31 +91,27 @@ fn keep_start<S: Shelf>(
     }
 }
 
-// What the pairs that overlap a window gave to each total, and what they give.
+// What each total loses and gains by the pairs that overlap a window: what they gave, and what they give.
 fn weigh_window<S: Shelf>(
     shelf: &mut S,
     alloc: Global,
     office: &Office,
     zone: &Zone,
     window: &Window,
-) -> Result<Moved, ShelfFault>
+) -> Result<Changes, ShelfFault>
     requires begun { IsSome (S.state shelf.old).begun }
     requires meter { window.now.meter.0 < length office.now.meters }
-    ensures taken { IfOk result (λ moved. gathered_in_all moved.taken.items < 2 ^ 127) }
-    ensures given { IfOk result (λ moved. gathered_in_all moved.given.items < 2 ^ 127) }
-    ensures moved { S.clean shelf.new → (was is : AnyKey → AnyContents) → IsStartChanged (S.state shelf.old).content was is window.now.meter.0 window.now.from window.now.until window.now.before window.now.after → IfOk result (λ moved. AreDifferences (office_of office.now) was is moved.taken.items moved.given.items) }
+    ensures few { IfOk result (λ changes. (side : ASide) (k : AnyTotal) → gathered side changes.rows k < 2 ^ 127) }
+    ensures moved { S.clean shelf.new → (was is : AnyKey → AnyContents) → IsStartChanged (S.state shelf.old).content was is window.now.meter.0 window.now.from window.now.until window.now.before window.now.after → IfOk result (λ changes. AreDifferences (office_of office.now) was is changes.rows) }
     ensures same { S.clean shelf.new → OnOk result ((S.state shelf.new).content ≡ (S.state shelf.old).content) }
     ensures tally { S.clean shelf.new → (points : AnyRegister → ℕ) → EndsBeforeNext ((S.state shelf.old).content.start window.now.meter.0) window.now.from window.now.until → HavePoints (S.state shelf.old).content window.now.meter.0 window.now.from points → (S.state shelf.new).tally ≤ (S.state shelf.old).tally + 30 + (over_registers Import points + over_registers Export points) }
     ensures kept { GoesOn S.state S.left S.clean S.same_store (failures_told result) shelf.old shelf.new }
 {
-    let mut taken = Vec::new(alloc);
-    let mut given = Vec::new(alloc);
+    let mut changes = Changes::new(alloc);
     for register in &Register::ALL {
-        add_register(
-            shelf, alloc, office, zone, window, *register, &mut taken, &mut given,
-        )?;
+        add_register(shelf, alloc, office, zone, window, *register, &mut changes)?;
     }
-    Ok(Moved { taken, given })
+    Ok(changes)
 }
 
 // Gathers what the pairs of a register that overlap a window gave, and what they give: nothing where the register
@@ -132,16 +123,13 @@ fn add_register<S: Shelf>(
     zone: &Zone,
     window: &Window,
     register: Register,
-    taken: &mut Vec<Sum>,
-    given: &mut Vec<Sum>,
+    changes: &mut Changes,
 ) -> Result<(), ShelfFault>
     requires begun { IsSome (S.state shelf.old).begun }
     requires meter { window.now.meter.0 < length office.now.meters }
-    requires taken { gathered_in_all taken.old.items < 2 ^ 120 }
-    requires given { gathered_in_all given.old.items < 2 ^ 120 }
-    ensures taken { OnOk result (gathered_in_all taken.new.items ≤ gathered_in_all taken.old.items + 2 ^ 110) }
-    ensures given { OnOk result (gathered_in_all given.new.items ≤ gathered_in_all given.old.items + 2 ^ 110) }
-    ensures moved { S.clean shelf.new → (was is : AnyKey → AnyContents) → IsStartChanged (S.state shelf.old).content was is window.now.meter.0 window.now.from window.now.until window.now.before window.now.after → OnOk result ((k : AnyTotal) → gathered given.new.items k + gathered taken.old.items k + register_told (office_of office.now) was window.now.meter.0 k register ≡ gathered taken.new.items k + gathered given.old.items k + register_told (office_of office.now) is window.now.meter.0 k register) }
+    requires few { (side : ASide) (k : AnyTotal) → gathered side changes.old.rows k < 2 ^ 120 }
+    ensures few { OnOk result ((side : ASide) (k : AnyTotal) → gathered side changes.new.rows k ≤ gathered side changes.old.rows k + 2 ^ 110) }
+    ensures moved { S.clean shelf.new → (was is : AnyKey → AnyContents) → IsStartChanged (S.state shelf.old).content was is window.now.meter.0 window.now.from window.now.until window.now.before window.now.after → OnOk result ((k : AnyTotal) → gathered Gains changes.new.rows k + gathered Loses changes.old.rows k + register_told (office_of office.now) was window.now.meter.0 k register ≡ gathered Loses changes.new.rows k + gathered Gains changes.old.rows k + register_told (office_of office.now) is window.now.meter.0 k register) }
     ensures same { S.clean shelf.new → OnOk result ((S.state shelf.new).content ≡ (S.state shelf.old).content) }
     ensures tally { S.clean shelf.new → (most : ℕ) → EndsBeforeNext ((S.state shelf.old).content.start window.now.meter.0) window.now.from window.now.until → ((points : List (ℕ × ℕ)) → ListsUpToNextStart (S.state shelf.old).content window.now.meter.0 register window.now.from points → length points ≤ most) → (S.state shelf.new).tally ≤ (S.state shelf.old).tally + 5 + most }
     ensures kept { GoesOn S.state S.left S.clean S.same_store (failures_told result) shelf.old shelf.new }
@@ -161,7 +149,8 @@ fn add_register<S: Shelf>(
         &window.before,
         direction,
         &points,
-        taken,
+        Side::Loses,
+        changes,
     )?;
     add_pairs(
         alloc,
@@ -170,7 +159,8 @@ fn add_register<S: Shelf>(
         &window.after,
         direction,
         &points,
-        given,
+        Side::Gains,
+        changes,
     )?;
     Ok(())
 }

@@ -3,6 +3,7 @@
 ghost use Rattle.std.specs.Prelude.{◌≡◌, ◌≢◌, IfErr, IfOk, IsTrue, OnOk};
 ghost use Rattle.sqlite.specs.Held.{state};
 ghost use Rattle.sqlite.specs.State.{HasCleanDisk};
+ghost use Rattle.sqlite.specs.Effect.{IsDatabase};
 ghost use Rattle.sqlite.specs.Files.{file_state, image_of};
 ghost use Rattle.sqlite.specs.Start.{FindsIn};
 ghost use Rattle.sqlite_wal.specs.Reads.{OnlyReads};
@@ -84,7 +85,7 @@ pub fn open_book<W: Watch>(
 }
 
 /// Opens the files of a store as a book of the office of a text. A store that was there holds what its tables do; one is
-/// made to take uploads, where nothing is, and none to ask. Where the opening is refused the files are given back.
+/// made to take uploads, where nothing is; to ask, none is made, and no database without a table is taken. Where the opening is refused the files are given back.
 pub fn open_from<D: Disk + Drop, W: Watch>(
     alloc: Global,
     files: Files<D>,
@@ -127,6 +128,8 @@ pub fn connection_in<D: Disk + Drop>(
     requires db { IsTrue (D.Disk.is_usable files.db) }
     ensures kept { IfOk result (λ c. HasCleanDisk (file_state c) → MayOpen purpose (image_of D.Disk files)) }
     ensures found { IfOk result (λ c. HasCleanDisk (file_state c) → FindsIn (image_of D.Disk files) (file_state c)) }
+    ensures settled { IfOk result (λ c. HasCleanDisk (file_state c) → (file_state c).now ≡ (file_state c).committed) }
+    ensures database { IfOk result (λ c. HasCleanDisk (file_state c) → IsDatabase (file_state c).committed) }
     ensures asked { IfOk result (λ c. purpose ≡ Purpose.Ask → (file_state c).now.schema ≢ no_schema) }
     ensures cause { IfErr result (λ e. IsOfOpening e.0) }
     ensures untouched { IfErr result (λ e. e.0 ≡ Fault.Unopened Cause.LogAlone → OnlyReads D.Disk files.log e.1.log × OnlyReads D.Disk files.db e.1.db) }

@@ -1,13 +1,15 @@
 //! How faults are reported.
 
+ghost use Rattle.std.specs.Prelude.{◌≡◌, ◌≤◌, ◌++◌};
+ghost use Rattle.arrayvec.specs.ArrayString.{array_string_len};
+ghost use Rattle.pw_frame.specs.Faults.{checks_text, frame_fault_details, frame_fault_name, frame_fault_number, place_text};
+
 use crate::frame::FrameFault;
-use crate::hexadecimal::{FourDigits, TwoDigits};
+use crate::hexadecimal::{four_digits, two_digits};
+use pw_line::{Line, push_number};
 use std::fmt;
 
 impl FrameFault {
-    ghost use Rattle.std.specs.Prelude.{◌≡◌};
-    ghost use Rattle.pw_frame.specs.Faults.{frame_fault_name, frame_fault_number};
-
     /// The number under which the fault is reported, from 10 to 15.
     pub fn number(self) -> u8
         ensures { result ≡ frame_fault_number self }
@@ -35,10 +37,57 @@ impl FrameFault {
             FrameFault::HighBit { .. } => "HighBit",
         }
     }
+
+    /// What is told behind the name: `at` with the place, and for `Crc` and `BlockCheck` then `stated` and `computed`
+    /// with the two checks in capital hexadecimal digits.
+    pub fn details(self) -> Line
+        ensures text { result.bytes ≡ frame_fault_details self }
+        ensures fits { array_string_len result ≤ 49 }
+    {
+        match self {
+            FrameFault::Crc {
+                at,
+                stated,
+                computed,
+            } => place_and_checks(at, &four_digits(stated), &four_digits(computed)),
+            FrameFault::BlockCheck {
+                at,
+                stated,
+                computed,
+            } => place_and_checks(at, &two_digits(stated), &two_digits(computed)),
+            FrameFault::Header { at }
+            | FrameFault::NoEnd { at }
+            | FrameFault::Trailer { at }
+            | FrameFault::HighBit { at } => place(at),
+        }
+    }
 }
 
-/// What is told behind the name: `at` with the place, and for `Crc` and `BlockCheck` then `stated` and `computed` with
-/// the two checks in capital hexadecimal digits.
+fn place(at: usize) -> Line
+    ensures text { result.bytes ≡ place_text at }
+    ensures fits { array_string_len result ≤ 23 }
+{
+    let mut line = Line::new();
+    line.push_str("at ");
+    push_number(&mut line, at as u64);
+    line
+}
+
+fn place_and_checks(at: usize, stated: &Line, computed: &Line) -> Line
+    requires stated { array_string_len stated.now ≤ 4 }
+    requires computed { array_string_len computed.now ≤ 4 }
+    ensures text { result.bytes ≡ place_text at ++ checks_text stated.now.bytes computed.now.bytes }
+    ensures fits { array_string_len result ≤ 49 }
+{
+    let mut line = place(at);
+    line.push_str(" stated ");
+    line.push_str(stated.as_str());
+    line.push_str(" computed ");
+    line.push_str(computed.as_str());
+    line
+}
+
+/// What is told behind the name.
 impl fmt::Display for FrameFault {
     ghost use Rattle.std.specs.Prelude.{Some};
     ghost use Rattle.pw_frame.specs.Faults.{frame_fault_details};
@@ -46,27 +95,6 @@ impl fmt::Display for FrameFault {
     ghost output = { λ fault. Some (frame_fault_details fault) };
 
     fn fmt<W: fmt::Write>(&self, f: &mut fmt::Formatter<W>) -> fmt::Result {
-        match *self {
-            FrameFault::Crc {
-                at,
-                stated,
-                computed,
-            } => {
-                let (stated, computed) = (FourDigits(stated), FourDigits(computed));
-                write!(f, "at {at} stated {stated} computed {computed}")
-            }
-            FrameFault::BlockCheck {
-                at,
-                stated,
-                computed,
-            } => {
-                let (stated, computed) = (TwoDigits(stated), TwoDigits(computed));
-                write!(f, "at {at} stated {stated} computed {computed}")
-            }
-            FrameFault::Header { at }
-            | FrameFault::NoEnd { at }
-            | FrameFault::Trailer { at }
-            | FrameFault::HighBit { at } => write!(f, "at {at}"),
-        }
+        f.write_str(self.details().as_str())
     }
 }

@@ -1,48 +1,47 @@
-ghost use Rattle.std.specs.Prelude.{◌≡◌, ◌<◌};
-ghost use Rattle.pw_frame.specs.Hexadecimal.{digit_character as character_of};
+ghost use Rattle.std.specs.Prelude.{◌≡◌, ◌+◌, ◌<◌, ◌≤◌, ◌++◌, ◌∷◌, []};
+ghost use Rattle.arrayvec.specs.ArrayString.{array_string_len};
+ghost use Rattle.pw_frame.specs.Hexadecimal.{digit_character, four_digits as digits_of_word, two_digits as digits_of_byte};
 
-use std::fmt;
+use pw_line::{Line, ROOM};
 
 /// A byte as two capital hexadecimal digits.
-#[derive(Clone, Copy)]
-pub struct TwoDigits(pub u8);
-
-impl fmt::Display for TwoDigits {
-    ghost use Rattle.std.specs.Prelude.{Some};
-    ghost use Rattle.pw_frame.specs.Hexadecimal.{two_digits};
-
-    ghost output = { λ number. Some (two_digits number.0) };
-
-    fn fmt<W: fmt::Write>(&self, f: &mut fmt::Formatter<W>) -> fmt::Result {
-        let (high, low) = (digit_character(self.0 / 16), digit_character(self.0 % 16));
-        write!(f, "{high}{low}")
-    }
+pub fn two_digits(byte: u8) -> Line
+    ensures text { result.bytes ≡ digits_of_byte byte }
+    ensures fits { array_string_len result ≤ 2 }
+{
+    let mut digits = Line::new();
+    push_digit(&mut digits, byte / 16);
+    push_digit(&mut digits, byte % 16);
+    digits
 }
 
 /// A word as four capital hexadecimal digits.
-#[derive(Clone, Copy)]
-pub struct FourDigits(pub u16);
-
-impl fmt::Display for FourDigits {
-    ghost use Rattle.std.specs.Prelude.{Some};
-    ghost use Rattle.pw_frame.specs.Hexadecimal.{four_digits};
-
-    ghost output = { λ number. Some (four_digits number.0) };
-
-    fn fmt<W: fmt::Write>(&self, f: &mut fmt::Formatter<W>) -> fmt::Result {
-        let high = TwoDigits((self.0 / 256) as u8);
-        let low = TwoDigits((self.0 % 256) as u8);
-        write!(f, "{high}{low}")
-    }
+pub fn four_digits(word: u16) -> Line
+    ensures text { result.bytes ≡ digits_of_word word }
+    ensures fits { array_string_len result ≤ 4 }
+{
+    let mut digits = two_digits((word / 256) as u8);
+    digits.push_str(two_digits((word % 256) as u8).as_str());
+    digits
 }
 
-fn digit_character(digit: u8) -> char
-    requires { digit < 16 }
-    ensures { result ≡ character_of digit }
+fn push_digit(line: &mut Line, value: u8)
+    requires digit { value < 16 }
+    requires room { array_string_len line.old < ROOM }
+    ensures text { line.new.bytes ≡ line.old.bytes ++ digit_character value ∷ [] }
+    ensures fits { array_string_len line.new ≡ array_string_len line.old + 1 }
 {
-    if digit < 10 {
-        (b'0' + digit) as char
+    line.push(digit(value) as char);
+}
+
+fn digit(value: u8) -> u8
+    requires { value < 16 }
+    ensures text { result ≡ digit_character value }
+    ensures ascii { result < 128 }
+{
+    if value < 10 {
+        b'0' + value
     } else {
-        (b'A' + (digit - 10)) as char
+        b'A' + (value - 10)
     }
 }

@@ -1,6 +1,7 @@
 -- The numbers, names and lines of the faults of a stream.
 -- (A format of this project.)
 use Rattle.std.specs.Prelude.{ℕ, List, codes}
+use Rattle.pw_line.specs.Refused.{refused_line}
 use Rattle.pw_http.specs.declared.fault.WireFault.{WireFault}
 use Rattle.pw_http.specs.declared.fault.WireFault.TheVariants.{Read, Write, TooManyTurns, Memory}
 
@@ -17,7 +18,4 @@ wire_name TooManyTurns = codes "TooManyTurns"
 wire_name Memory = codes "Memory"
 
 abbrev pub wire_line : WireFault → List ℕ
-wire_line Read = codes "refused 80 Read"
-wire_line Write = codes "refused 81 Write"
-wire_line TooManyTurns = codes "refused 82 TooManyTurns"
-wire_line Memory = codes "refused 62 Memory"
+wire_line fault = refused_line (wire_number fault) (wire_name fault)

@@ -44,13 +44,14 @@ abbrev pub refused_status : Cause → Status
 refused_status cause.Memory = Unavailable
 refused_status _ = BadRequest
 
--- to an upload that is posted
+-- to an upload that is posted: a full book has no room for it
+abbrev pub posted_status : PostFault → Status
+posted_status (post.Full held limit) = InsufficientStorage
+posted_status _ = Unavailable
+
 abbrev pub posted_reply : Result Accepted PostFault → Reply
 posted_reply (Ok accepted) = line_reply Fine (acceptance_line accepted)
-posted_reply (Err (post.Full held limit)) = line_reply InsufficientStorage (post_line (post.Full held limit))
-posted_reply (Err post.Device) = line_reply Unavailable (post_line post.Device)
-posted_reply (Err post.Memory) = line_reply Unavailable (post_line post.Memory)
-posted_reply (Err post.Reopen) = line_reply Unavailable (post_line post.Reopen)
+posted_reply (Err fault) = line_reply (posted_status fault) (post_line fault)
 
 abbrev pub upload_reply : Outcome → Reply
 upload_reply (Refused fault) = line_reply (refused_status fault.cause) (fault_line fault)

@@ -1,22 +1,19 @@
 //! What a book answers: to an upload, and to a question for a page.
 
-ghost use Rattle.std.specs.Prelude.{◌≡◌, ◌≤◌, IfOk, List, ℕ, MatchResult, length};
+ghost use Rattle.arrayvec.specs.ArrayString.{array_string_len};
+ghost use Rattle.std.specs.Prelude.{◌≡◌, ◌<◌, ◌≤◌, length};
 ghost use Rattle.pw_book.specs.After.{Refused};
-ghost use Rattle.pw_model.specs.Office.{AllOfOffice};
-ghost use Rattle.pw_record.specs.Uploads.{Gives, Refuses, Upload};
+ghost use Rattle.pw_record.specs.Laws.{upload_of};
 ghost use Rattle.pw_report.specs.Pages.{IsPageOf};
-ghost use Rattle.pw_tariff.specs.Office.{office_of};
-ghost use Rattle.pw_http.specs.Steps.{AnswersAt, Shows, ShowsAccount, Takes, line_reply, page_content, posted_reply, refused_status as status_refused, upload_reply};
+ghost use Rattle.pw_http.specs.Steps.{AnswersAt, Shows, ShowsAccount, Takes, line_reply, page_content, posted_reply, posted_status as status_posted, refused_status as status_refused, upload_reply};
 ghost use Rattle.pw_http.specs.declared.routes.Place.TheVariants.{At};
 ghost use Rattle.pw_http.specs.inner.Answered.{body_text, reply_of};
 
-use crate::lines::{accepted_line, book_fault_line, full_line, line_of, refused_line};
-use crate::replies::{ContentType, Status, Text};
+use crate::replies::{ContentType, Status};
 use crate::routes::{Route, account_in, meter_in};
-use pw_book::{Accepted, Book, BookFault, Entry, PostFault};
-use pw_record::{
-    Cause, UploadFault, assignment_records, readout_records, telegram_records, topup_records,
-};
+use pw_book::{Accepted, Book, PostFault};
+use pw_line::{Line, ROOM, ended, line_of};
+use pw_record::{Cause, UploadBytes, UploadFault, upload_records};
 use pw_report::{Page, page_text};
 use pw_shelf::Shelf;
 use std::alloc::Global;
@@ -24,7 +21,7 @@ use std::alloc::Global;
 /// The body of an answer. Only a page takes memory.
 #[derive(Drop)]
 pub(crate) enum Body {
-    Line(Text),
+    Line(Line),
     Page(Vec<u8>),
 }
 
@@ -37,13 +34,15 @@ pub(crate) struct Answer {
 }
 
 impl Answer {
-    fn line(status: Status, line: Text) -> Answer
-        ensures { reply_of result ≡ record { status = status; content = ContentType.Plain; body = line } }
+    // A line, with its end.
+    fn of_line(status: Status, line: Line) -> Answer
+        requires { array_string_len line < ROOM }
+        ensures { reply_of result ≡ line_reply status line.bytes }
     {
         Answer {
             status,
             content: ContentType::Plain,
-            body: Body::Line(line),
+            body: Body::Line(ended(line)),
         }
     }
 
@@ -52,18 +51,18 @@ impl Answer {
         ensures { result.now ≡ body_text self.now.body }
     {
         match &self.body {
-            Body::Line(line) => line.as_bytes(),
+            Body::Line(line) => line.as_str().as_bytes(),
             Body::Page(text) => text,
         }
     }
 }
 
 /// What is said where nothing is asked of the book.
-pub(crate) fn said(status: Status, text: &[u8]) -> Answer
+pub(crate) fn said(status: Status, text: &str) -> Answer
     requires { length text.now ≤ 40 }
     ensures { reply_of result ≡ line_reply status text.now }
 {
-    Answer::line(status, line_of(text))
+    Answer::of_line(status, line_of(text))
 }
 
 fn refused_status(cause: Cause) -> Status
@@ -79,7 +78,16 @@ fn refused_status(cause: Cause) -> Status
 fn refused(fault: UploadFault) -> Answer
     ensures { reply_of result ≡ upload_reply (Refused fault) }
 {
-    Answer::line(refused_status(fault.cause), refused_line(fault))
+    Answer::of_line(refused_status(fault.cause), fault.line())
+}
+
+fn posted_status(fault: PostFault) -> Status
+    ensures { result ≡ status_posted fault }
+{
+    match fault {
+        PostFault::Full { .. } => Status::InsufficientStorage,
+        PostFault::Device | PostFault::Memory | PostFault::Reopen => Status::Unavailable,
+    }
 }
 
 /// What is answered to an upload that was posted.
@@ -87,28 +95,16 @@ fn posted(answer: Result<Accepted, PostFault>) -> Answer
     ensures { reply_of result ≡ posted_reply answer }
 {
     match answer {
-        Ok(accepted) => Answer::line(Status::Fine, accepted_line(accepted)),
-        Err(fault) => match fault {
-            PostFault::Full { held, limit } => {
-                Answer::line(Status::InsufficientStorage, full_line(held, limit))
-            }
-            PostFault::Device => said(Status::Unavailable, b"refused 61 Device"),
-            PostFault::Memory => said(Status::Unavailable, b"refused 62 Memory"),
-            PostFault::Reopen => said(Status::Unavailable, b"refused 63 Reopen"),
-        },
+        Ok(accepted) => Answer::of_line(Status::Fine, accepted.line()),
+        Err(fault) => Answer::of_line(posted_status(fault), fault.line()),
     }
 }
 
-/// Takes an upload, whose body was read.
-fn take<S: Shelf>(
-    book: &mut Book<S>,
-    alloc: Global,
-    given: Result<Vec<Entry>, UploadFault>,
-) -> Answer
-    requires { IfOk given (λ entries. AllOfOffice (office_of book.old.office) entries.items) }
-    ensures { (upload : Upload) → MatchResult given (λ entries. Gives book.old.office upload entries.items) (λ fault. Refuses book.old.office upload fault) → Takes S.Shelf upload book.old (reply_of result) book.new }
+/// Takes an upload.
+fn take<S: Shelf>(book: &mut Book<S>, alloc: Global, upload: UploadBytes) -> Answer
+    ensures { Takes S.Shelf (upload_of upload.entry) book.old (reply_of result) book.new }
 {
-    match given {
+    match upload_records(alloc, book.office(), book.zone(), upload) {
         Err(fault) => refused(fault),
         Ok(entries) => posted(book.post(alloc, &entries)),
     }
@@ -134,7 +130,7 @@ fn show<S: Shelf>(book: &mut Book<S>, alloc: Global, page: Page) -> Answer
             content: content_of(page),
             body: Body::Page(text),
         },
-        Err(fault) => Answer::line(Status::Unavailable, book_fault_line(fault)),
+        Err(fault) => Answer::of_line(Status::Unavailable, fault.line()),
     }
 }
 
@@ -144,7 +140,7 @@ fn show_account<S: Shelf>(book: &mut Book<S>, alloc: Global, name: &[u8]) -> Ans
 {
     match book.office().account(name) {
         Some(account) => show(book, alloc, Page::Statement(account)),
-        None => said(Status::NotFound, b"no such account"),
+        None => said(Status::NotFound, "no such account"),
     }
 }
 
@@ -159,23 +155,10 @@ pub(crate) fn answer_at<S: Shelf>(
     ensures { AnswersAt S.Shelf (At route) target.now body.now book.old (reply_of result) book.new }
 {
     match route {
-        Route::Telegrams => {
-            let given = telegram_records(alloc, book.office(), book.zone(), body);
-            take(book, alloc, given)
-        }
-        Route::Readouts => {
-            let meter = meter_in(target);
-            let given = readout_records(alloc, meter, book.office(), book.zone(), body);
-            take(book, alloc, given)
-        }
-        Route::Assignments => {
-            let given = assignment_records(alloc, book.office(), body);
-            take(book, alloc, given)
-        }
-        Route::TopUps => {
-            let given = topup_records(alloc, book.office(), body);
-            take(book, alloc, given)
-        }
+        Route::Telegrams => take(book, alloc, UploadBytes::Telegrams(body)),
+        Route::Readouts => take(book, alloc, UploadBytes::Readouts(meter_in(target), body)),
+        Route::Assignments => take(book, alloc, UploadBytes::Assignments(body)),
+        Route::TopUps => take(book, alloc, UploadBytes::TopUps(body)),
         Route::Accounts => show(book, alloc, Page::Accounts),
         Route::Account => show_account(book, alloc, account_in(target)),
         Route::Falls => show(book, alloc, Page::Falls),

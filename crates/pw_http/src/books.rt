@@ -56,8 +56,8 @@ fn reply_to<S: Shelf>(
     ensures { Answers S.Shelf book.old (record { method = method.now; target = target.now; body = body.now }) (reply_of result) book.new }
 {
     match routes.place(method, target) {
-        Place::NoPage => said(Status::NotFound, b"no such page"),
-        Place::NoMethod => said(Status::MethodNotAllowed, b"no such method"),
+        Place::NoPage => said(Status::NotFound, "no such page"),
+        Place::NoMethod => said(Status::MethodNotAllowed, "no such method"),
         Place::At(route) => answer_at(book, alloc, route, target, body),
     }
 }

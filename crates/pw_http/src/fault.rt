@@ -1,5 +1,6 @@
 //! Why a conversation stops.
 
+use pw_line::refused;
 use std::fmt;
 
 /// Why a conversation stops before its end.
@@ -52,11 +53,6 @@ impl fmt::Display for WireFault {
     ghost output = { λ fault. Some (wire_line fault) };
 
     fn fmt<W: fmt::Write>(&self, f: &mut fmt::Formatter<W>) -> fmt::Result {
-        match *self {
-            WireFault::Read => write!(f, "refused 80 Read"),
-            WireFault::Write => write!(f, "refused 81 Write"),
-            WireFault::TooManyTurns => write!(f, "refused 82 TooManyTurns"),
-            WireFault::Memory => write!(f, "refused 62 Memory"),
-        }
+        f.write_str(refused(self.number(), self.name()).as_str())
     }
 }

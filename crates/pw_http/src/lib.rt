@@ -10,7 +10,6 @@ mod fault;
 mod heads;
 mod inbox;
 pub mod laws;
-mod lines;
 mod replies;
 mod requests;
 mod routes;

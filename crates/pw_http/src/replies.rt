@@ -1,12 +1,11 @@
 //! The text of a reply. It takes no memory.
 
-ghost use Rattle.std.specs.Prelude.{◌≡◌, ◌≤◌, ◌+◌, ℕ, List, [], ◌++◌, length, codes, decimal};
+ghost use Rattle.std.specs.Prelude.{◌≡◌, ◌≤◌, length};
 ghost use Rattle.pw_http.specs.Replies.{close_line, content_name, refusal_line, refusal_status, reply_head, status_number, status_phrase};
 
 use crate::requests::Refusal;
 use http::StatusCode;
-use itoa::Buffer;
-use std::marker::Model;
+use pw_line::{Line, push_number};
 
 /// The status of a reply.
 #[derive(Clone, Copy, Debug, PartialEq, Eq)]
@@ -27,49 +26,6 @@ pub enum Status {
 pub enum ContentType {
     Plain,
     Csv,
-}
-
-/// A short text on the stack.
-#[derive(Drop)]
-pub(crate) struct Text {
-    bytes: [u8; 192],
-    len: usize,
-}
-
-impl Model for Text {
-    ghost use Rattle.std.specs.Prelude.{◌≤◌, ℕ, List, take};
-
-    ghost Value = { List ℕ };
-
-    ghost view = { λ t. take t.len t.bytes };
-
-    ghost invariant = { λ t. t.len ≤ 192 };
-}
-
-impl Text {
-    pub(crate) fn new() -> Text
-        ensures { result ≡ [] }
-    {
-        Text {
-            bytes: [0; 192],
-            len: 0,
-        }
-    }
-
-    pub(crate) fn as_bytes(&self) -> &[u8]
-        ensures { result.now ≡ self.now }
-    {
-        &self.bytes[..self.len]
-    }
-
-    pub(crate) fn push(&mut self, more: &[u8])
-        requires { length self.old + length more.now ≤ 192 }
-        ensures { self.new ≡ self.old ++ more.now }
-    {
-        let end = self.len + more.len();
-        self.bytes[self.len..end].copy_from_slice(more);
-        self.len = end;
-    }
 }
 
 impl Status {
@@ -129,24 +85,21 @@ fn closing_line(closing: bool) -> &'static str
 }
 
 /// The head of a reply with a body of this size.
-pub(crate) fn head(status: Status, content: ContentType, size: usize, closing: bool) -> Text
-    ensures { result ≡ reply_head status content size closing }
+pub(crate) fn head(status: Status, content: ContentType, size: usize, closing: bool) -> Line
+    ensures { result.bytes ≡ reply_head status content size closing }
 {
-    let mut number = Buffer::new();
-    let mut digits = Buffer::new();
-    let mut text = Text::new();
-    text.push(b"HTTP/1.1 ");
-    text.push(number.format(status.number()).as_bytes());
-    text.push(b" ");
-    text.push(status.phrase().as_bytes());
-    text.push(b"\r\nContent-Type: ");
-    text.push(content_text(content).as_bytes());
-    text.push(b"\r\nContent-Length: ");
-    text.push(digits.format(size).as_bytes());
-    text.push(b"\r\n");
-    text.push(closing_line(closing).as_bytes());
-    text.push(b"\r\n");
-    text
+    let mut line = pw_line::line_of("HTTP/1.1 ");
+    push_number(&mut line, status.number() as u64);
+    line.push_str(" ");
+    line.push_str(status.phrase());
+    line.push_str("\r\nContent-Type: ");
+    line.push_str(content_text(content));
+    line.push_str("\r\nContent-Length: ");
+    push_number(&mut line, size as u64);
+    line.push_str("\r\n");
+    line.push_str(closing_line(closing));
+    line.push_str("\r\n");
+    line
 }
 
 /// The status of the reply to what is no whole request.

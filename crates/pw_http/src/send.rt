@@ -37,7 +37,7 @@ pub fn send_reply<W: Write>(
     ensures fault { IfErr result (λ e. e ≡ WriteFault) }
 {
     let text = head(status, content, body.len(), closing);
-    match send(writer, text.as_bytes()) {
+    match send(writer, text.as_str().as_bytes()) {
         Ok(()) => send(writer, body),
         Err(_) => Err(WireFault::Write),
     }

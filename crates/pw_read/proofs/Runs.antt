@@ -1,5 +1,5 @@
 -- A run that ends in a failure.
-use Rattle.std.proofs.Common.{◌≡◌, ◌≤◌, ℕ, List, length, Option, inl, inr, refl, sym, ◌∙◌, subst, arith}
+use Rattle.std.proofs.Common.{◌≡◌, ◌≤◌, ℕ, List, length, Option, inl, inr, refl, sym, ◌∙◌, arith}
 use Rattle.std.proofs.Math.Seq.{take-length}
 use Rattle.std.specs.Io.KnownBytes.{Appends}
 use Rattle.pw_read.specs.declared.fault.ReadFault.TheVariants.{Memory, Refused}
@@ -44,7 +44,7 @@ pub run_told : (clock : Clock) (body : List ℕ) (failure : Failure)
     (out old_line new_line : Option (List ℕ)) (status : ℕ)
     → IsFailure clock body failure → Tells failure old_line new_line status
     → IsRun clock body out out old_line new_line status
-run_told clock body failure out old_line new_line status is (inl told) = record {
+run_told clock body failure out old_line new_line status is told = record {
   printed = λ e. absurd (other_status (failure_line failure) _ status 0 old_line new_line told (never_0 failure) (λ f. cc) e);
   refused = λ e. elim told [
     | inl whole ↦ (failure, is, sym whole.0 ∙ e, refl, whole.1)
@@ -54,29 +54,15 @@ run_told clock body failure out old_line new_line status is (inl told) = record 
       let line = line_front (failure_line failure) (failure_status failure) status old_line new_line told in
       (failure, is, nothing_printed clock body failure out, line);
 }
-run_told clock body failure out old_line new_line status is (inr memory) = record {
-  printed = λ e. absurd (other_status _ 3 status 0 old_line new_line memory.1 (λ f. cc) (λ f. cc) e);
-  refused = λ e. absurd (other_status _ 3 status 1 old_line new_line memory.1 (λ f. cc) (λ f. cc) e);
-  failed = λ e. (Body Memory, tt, refl, line_front (failure_line (Body Memory)) 3 status old_line new_line memory.1);
-}
 
 -- where the text's writer failed
 pub run_cut : (clock : Clock) (body text : List ℕ) (old new old_line new_line : Option (List ℕ)) (status : ℕ)
     → length body ≤ LONGEST_BODY → BodyShows clock body text → WritesFront old new text
     → Tells Device old_line new_line status
     → IsRun clock body old new old_line new_line status
-run_cut clock body text old new old_line new_line status short shown front (inl told) = record {
+run_cut clock body text old new old_line new_line status short shown front told = record {
   printed = λ e. absurd (other_status _ 3 status 0 old_line new_line told (λ f. cc) (λ f. cc) e);
   refused = λ e. absurd (other_status _ 3 status 1 old_line new_line told (λ f. cc) (λ f. cc) e);
   failed = λ e.
       (Device, tt, inr (short, (text, shown, front)), line_front (failure_line Device) 3 status old_line new_line told);
 }
-run_cut clock body text old new old_line new_line status short shown front (inr memory) = absurd memory.0
-
--- a failure's line is told with its status
-pub tells_line : (failure : Failure) (line : List ℕ) (told : ℕ) (old new : Option (List ℕ)) (status : ℕ)
-    → failure_line failure ≡ line → told ≡ failure_status failure → TellsLine line told old new status
-    → Tells failure old new status
-tells_line failure line told old new status e f told_line =
-    let P : ℕ → Type 0 = λ k. TellsLine line k old new status in
-    inl (rw e (subst P f told_line))

@@ -1,6 +1,7 @@
 -- The line that tells why a body is refused: `refused`, the number, the name, `part` with its number; for 10 to 15 then
 -- `at` with the place; for 12 and 14 then the stated and the computed check. Single spaces stand between.
 use Rattle.std.specs.Prelude.{ℕ, List, [], ◌++◌, codes, decimal}
+use Rattle.pw_line.specs.Refused.{refused_line}
 use Rattle.pw_frame.specs.Faults as frame_fault
 use Rattle.pw_obis.specs.Faults as obis_fault
 use Rattle.pw_time.specs.Faults as stamp_fault
@@ -29,5 +30,5 @@ cause_details (Instant fault) = []
 
 abbrev pub fault_line : Refusal → List ℕ
 fault_line refusal =
-    codes "refused " ++ (decimal (cause_number refusal.cause) ++ (codes " " ++ (cause_name refusal.cause
-    ++ (codes " part " ++ (decimal refusal.part ++ cause_details refusal.cause)))))
+    refused_line (cause_number refusal.cause) (cause_name refusal.cause)
+    ++ (codes " part " ++ (decimal refusal.part ++ cause_details refusal.cause))

@@ -1,6 +1,7 @@
 -- What a run of `read` does: it prints a body's text on one stream, or one line on the other.
 use Rattle.std.specs.Prelude.{◌≡◌, ℕ, ◌<◌, ◌≤◌, ◌⊎◌, List, ◌++◌, length, take, Option, codes}
 use Rattle.std.specs.Io.KnownBytes.{Appends}
+use Rattle.pw_line.specs.Refused.{memory_line}
 use Rattle.pw_read.specs.declared.fault.ReadFault.TheVariants.{Memory, Refused}
 use Rattle.pw_read.specs.declared.run.Failure.{Failure}
 use Rattle.pw_read.specs.declared.run.Failure.TheVariants.{Body, TooLarge, Device}
@@ -19,7 +20,7 @@ IsFailure clock body Device = Unit {0}
 -- the line of a failure
 abbrev pub failure_line : Failure → List ℕ
 failure_line (Body (Refused refusal)) = fault_line refusal ++ codes "\n"
-failure_line (Body Memory) = codes "refused 62 Memory\n"
+failure_line (Body Memory) = memory_line ++ codes "\n"
 failure_line TooLarge = codes "body too large\n"
 failure_line Device = codes "device failed\n"
 

@@ -1,7 +1,9 @@
-ghost use Rattle.std.specs.Prelude.{◌≡◌};
-ghost use Rattle.pw_read.specs.FaultLine.{cause_name, cause_number};
+ghost use Rattle.std.specs.Prelude.{◌≡◌, ◌<◌, ◌≤◌, ◌++◌};
+ghost use Rattle.arrayvec.specs.ArrayString.{array_string_len};
+ghost use Rattle.pw_read.specs.FaultLine.{cause_details, cause_name, cause_number, fault_line};
 
 use pw_frame::FrameFault;
+use pw_line::{Line, ROOM, push_number, refused};
 use pw_obis::ValueFault;
 use pw_time::StampFault;
 use std::alloc::AllocError;
@@ -78,26 +80,35 @@ impl Cause {
     }
 }
 
-/// What the fault line tells behind the part's number: the place, and the checks.
-#[derive(Clone, Copy)]
-struct Details(Cause);
+// Appends what the fault line tells behind the part's number: the place, and the checks.
+fn push_details(line: &mut Line, cause: Cause)
+    requires { array_string_len line.old ≤ 100 }
+    ensures text { line.new.bytes ≡ line.old.bytes ++ cause_details cause }
+    ensures fits { array_string_len line.new ≤ 150 }
+{
+    let Cause::Frame(fault) = cause else {
+        return;
+    };
+    line.push_str(" ");
+    line.push_str(fault.details().as_str());
+}
 
-impl fmt::Display for Details {
-    ghost use Rattle.std.specs.Prelude.{Some};
-    ghost use Rattle.pw_read.specs.FaultLine.{cause_details};
-
-    ghost output = { λ details. Some (cause_details details.0) };
-
-    fn fmt<W: fmt::Write>(&self, f: &mut fmt::Formatter<W>) -> fmt::Result {
-        let Cause::Frame(fault) = self.0 else {
-            return Ok(());
-        };
-        write!(f, " {fault}")
+impl Refusal {
+    /// The fault line without its end: `refused`, the number, the name, and `part` with its number; for 10 to 15 `at`
+    /// with the place, and for 12 and 14 the stated and the computed check.
+    pub fn line(self) -> Line
+        ensures text { result.bytes ≡ fault_line self }
+        ensures fits { array_string_len result < ROOM }
+    {
+        let mut line = refused(self.cause.number(), self.cause.name());
+        line.push_str(" part ");
+        push_number(&mut line, self.part as u64);
+        push_details(&mut line, self.cause);
+        line
     }
 }
 
-/// The fault line without its end: `refused`, the number, the name, and `part` with its number; for 10 to 15 `at` with
-/// the place, and for 12 and 14 the stated and the computed check.
+/// The fault line without its end.
 impl fmt::Display for Refusal {
     ghost use Rattle.std.specs.Prelude.{Some};
     ghost use Rattle.pw_read.specs.FaultLine.{fault_line};
@@ -105,10 +116,6 @@ impl fmt::Display for Refusal {
     ghost output = { λ refusal. Some (fault_line refusal) };
 
     fn fmt<W: fmt::Write>(&self, f: &mut fmt::Formatter<W>) -> fmt::Result {
-        let number = self.cause.number();
-        let name = self.cause.name();
-        let part = self.part;
-        let details = Details(self.cause);
-        write!(f, "refused {number} {name} part {part}{details}")
+        f.write_str(self.line().as_str())
     }
 }

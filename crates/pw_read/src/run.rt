@@ -1,13 +1,12 @@
 ghost use Rattle.std.specs.Prelude.{◌≡◌, ◌⊎◌, ℕ, ◌<◌, ◌≤◌, List, Some, length, MatchResult};
 ghost use Rattle.pw_read.specs.Text.{BodyShows};
-ghost use Rattle.pw_read.specs.Run.{IsFailure, failure_status, IsRun};
-ghost use Rattle.pw_read.specs.inner.Run.{Tells};
-ghost use Rattle.pw_read.specs.inner.Run.{TellsLine};
-ghost use Rattle.pw_read.specs.inner.Run.{Writes};
+ghost use Rattle.pw_read.specs.Run.{IsFailure, IsRun, failure_line, failure_status};
+ghost use Rattle.pw_read.specs.inner.Run.{Tells, TellsLine, Writes};
 ghost use Rattle.pw_time.specs.declared.zone.Clock.{Clock};
 
 use crate::fault::ReadFault;
 use crate::frame_text::body_text;
+use pw_line::{Line, ended, line_of, memory_refused};
 use pw_time::{Clock, Zone};
 use std::alloc::Global;
 use std::io;
@@ -15,9 +14,6 @@ use std::io::{ErrorKind, Read, Write};
 
 /// The longest body, in bytes.
 const LONGEST_BODY: usize = 262_144;
-
-/// The line of a run for which memory is refused.
-const OUT_OF_MEMORY: &[u8] = b"refused 62 Memory\n";
 
 /// What came of a run, beside the text of a body.
 #[derive(Drop)]
@@ -48,11 +44,11 @@ pub fn read_run<R: Read, O: Write, E: Write>(
 {
     let text = match text_of(alloc, clock, reader) {
         Ok(text) => text,
-        Err(failure) => return tell(alloc, &failure, err),
+        Err(failure) => return tell(&failure, err),
     };
     match write(out, text.as_slice()) {
         Ok(()) => 0,
-        Err(_) => tell(alloc, &Failure::Device, err),
+        Err(_) => tell(&Failure::Device, err),
     }
 }
 
@@ -107,19 +103,22 @@ fn write<W: Write>(writer: &mut W, bytes: &[u8]) -> io::Result<()>
     Err(io::Error::from(ErrorKind::TimedOut))
 }
 
-/// Writes the line of a failure, and answers its exit status. Where memory for a refusal's line is refused, tells that.
-fn tell<E: Write>(alloc: Global, failure: &Failure, err: &mut E) -> u8
+/// Writes the line of a failure, and answers its exit status. It takes no memory.
+fn tell<E: Write>(failure: &Failure, err: &mut E) -> u8
     ensures { Tells failure.now (E.contents err.old) (E.contents err.new) result }
 {
-    let status = status_of(failure);
+    let line = line_with_end(failure);
+    tell_line(line.as_str().as_bytes(), status_of(failure), err)
+}
+
+fn line_with_end(failure: &Failure) -> Line
+    ensures { result.bytes ≡ failure_line failure.now }
+{
     match failure {
-        Failure::Body(ReadFault::Refused(refusal)) => match format!(in alloc; "{refusal}\n") {
-            Ok(line) => tell_line(line.as_bytes(), status, err),
-            Err(_) => tell_line(OUT_OF_MEMORY, 3, err),
-        },
-        Failure::Body(ReadFault::Memory) => tell_line(OUT_OF_MEMORY, status, err),
-        Failure::TooLarge => tell_line(b"body too large\n", status, err),
-        Failure::Device => tell_line(b"device failed\n", status, err),
+        Failure::Body(ReadFault::Refused(refusal)) => ended(refusal.line()),
+        Failure::Body(ReadFault::Memory) => ended(memory_refused()),
+        Failure::TooLarge => line_of("body too large\n"),
+        Failure::Device => line_of("device failed\n"),
     }
 }
 

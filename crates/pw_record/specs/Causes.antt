@@ -1,6 +1,7 @@
 -- The line that tells why an upload is refused: `refused`, the number, the name, `part` with its number; for 10 to 15 then
 -- `at` with the place; for 12 and 14 then the stated and the computed check. Single spaces stand between.
 use Rattle.std.specs.Prelude.{ℕ, List, [], ◌++◌, codes, decimal}
+use Rattle.pw_line.specs.Refused.{refused_line}
 use Rattle.pw_frame.specs.Faults as frame_fault
 use Rattle.pw_obis.specs.Faults as obis_fault
 use Rattle.pw_time.specs.Faults as stamp_fault
@@ -55,8 +56,8 @@ cause_details _ = []
 
 abbrev pub fault_line : UploadFault → List ℕ
 fault_line fault =
-    codes "refused " ++ (decimal (cause_number fault.cause) ++ (codes " " ++ (cause_name fault.cause
-    ++ (codes " part " ++ (decimal fault.part ++ cause_details fault.cause)))))
+    refused_line (cause_number fault.cause) (cause_name fault.cause)
+    ++ (codes " part " ++ (decimal fault.part ++ cause_details fault.cause))
 
 -- want of memory: its part is always 0
 abbrev pub want_of_memory : UploadFault

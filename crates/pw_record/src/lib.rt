@@ -11,8 +11,11 @@ mod row;
 mod rows;
 mod shown;
 mod told;
+mod uploads;
 
 pub use fault::{Cause, UploadFault};
 pub use frames::{MOST_FRAMES, readout_records, telegram_records};
+pub use laws::UploadBytes;
 pub use pw_model::{Content, Entry, Key, Reference};
 pub use rows::{MOST_ROWS, assignment_records, topup_records};
+pub use uploads::upload_records;

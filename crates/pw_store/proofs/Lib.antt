@@ -4,7 +4,7 @@ pub mod Amounts
 pub mod AtMeter
 pub mod AtTopup
 pub mod Checked
-pub mod Counts
+pub mod Counted
 pub mod EnergyRows
 pub mod Finding
 pub mod Fresh

@@ -1,6 +1,6 @@
 -- What is known of a store over SQL: of its connection, and of the connection as it was when the last upload ended.
 -- (Definitions of this project.)
-use Rattle.std.specs.Prelude.{◌≡◌, ℕ, Bool, true, false, cond, Option, Some, None, IsTrue, refl}
+use Rattle.std.specs.Prelude.{◌≡◌, ℕ, Bool, true, false, cond, length, Option, Some, None, IsTrue, refl}
 use Rattle.std.proofs.Math.Logic.{∥∥₁_elim}
 use Rattle.std.specs.List.{AllByRecursion}
 use mathlib.Core.HLevel.{⊥_prop}
@@ -61,6 +61,14 @@ IsInside s = HasCleanDisk s → s.in_transaction ≡ true → IsTrue s.is_open
 -- the connection is open, unless a statement has failed since it was last known to be
 abbrev pub IsAwake : Sql → Bool → Type 0
 IsAwake s doubtful = HasCleanDisk s → doubtful ≡ false → IsTrue s.is_open
+
+-- so many records were committed last, also when the connection is shut
+abbrev pub BaseIsCounted : Sql → ℕ → Sql → Type 0
+BaseIsCounted s held base = HasCleanDisk s → length (records_of base.committed.trees) ≡ held
+
+-- so many stand inside a transaction
+abbrev pub NowIsCounted : Sql → ℕ → Type 0
+NowIsCounted s within = HasCleanDisk s → s.in_transaction ≡ true → length (records_of s.now.trees) ≡ within
 
 -- ---- the three members
 -- While the connection is open its tables are what is held. Once it is shut, that is what was committed last.

@@ -1,6 +1,6 @@
 //! Questions about records, each over statements that are run once the connection is known to be open.
 
-ghost use Rattle.std.specs.Prelude.{◌≡◌, ◌⊎◌, ◌↔◌, IfOk, OnErr, OnOk, IsTrue, length};
+ghost use Rattle.std.specs.Prelude.{◌≡◌, ◌⊎◌, ◌↔◌, IfOk, OnErr, OnOk, IsTrue};
 ghost use Rattle.sqlite.specs.Held.{state};
 ghost use Rattle.sqlite.specs.State.{HasCleanDisk, IsRolledBack, IsUnchanged, Survives};
 ghost use Rattle.pw_model.specs.Counting.{Member, contents_at};
@@ -9,7 +9,6 @@ ghost use Rattle.pw_schema.specs.Rows.{ReadsRows};
 ghost use Rattle.pw_store.specs.Content.{records_of};
 ghost use Rattle.pw_store.specs.Kept.{IsAwake, NowIsStore};
 
-use crate::counting::count_all;
 use crate::fault::AskFault;
 use crate::keys::contents_of_key;
 use crate::meters::{assignment_rows, has_assignment, has_reading, reading_rows};
@@ -159,25 +158,6 @@ pub(crate) fn topups<S: Alter>(
     }
     match topup_rows(conn) {
         Ok(rows) => read(alloc, RecordKind::TopUps, rows.as_slice()),
-        Err(error) => Err(AskFault::Statement(error)),
-    }
-}
-
-/// How many records are held.
-pub(crate) fn count<S: Alter>(conn: &mut Connection<S>, doubtful: bool) -> Result<u32, AskFault>
-    requires awake { IsAwake (state S.Store conn.old) doubtful }
-    requires store { NowIsStore (state S.Store conn.old) }
-    ensures number { HasCleanDisk (state S.Store conn.new) → IfOk result (λ held. held ≡ length (records_of (state S.Store conn.old).now.trees)) }
-    ensures same { HasCleanDisk (state S.Store conn.new) → OnOk result (IsUnchanged (state S.Store conn.old) (state S.Store conn.new)) }
-    ensures failed { HasCleanDisk (state S.Store conn.new) → OnErr result (IsUnchanged (state S.Store conn.old) (state S.Store conn.new) ⊎ IsRolledBack (state S.Store conn.old) (state S.Store conn.new)) }
-    ensures crash { Survives (state S.Store conn.old) (state S.Store conn.new) (λ _. ⊥) }
-{
-    if let Err(error) = wake(conn, doubtful) {
-        return Err(AskFault::Statement(error));
-    }
-    match count_all(conn) {
-        Ok(Some(number)) => Ok(number),
-        Ok(None) => Err(AskFault::Unreadable),
         Err(error) => Err(AskFault::Statement(error)),
     }
 }

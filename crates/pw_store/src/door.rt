@@ -105,7 +105,7 @@ impl<S: Alter> SqlShelf<S> {
         ensures crash { IfErr result (λ e. Survives (state S.Store connection) (state S.Store e.1) (MayBeNew office_text.now (state S.Store connection))) }
     {
         match prepare(alloc, &mut connection, office, office_text, watch) {
-            Ok(()) => {
+            Ok(held) => {
                 // it says that the file lists these tables
                 let _ = connection.schema();
                 let base = Snapshot::of(&connection);
@@ -116,6 +116,8 @@ impl<S: Alter> SqlShelf<S> {
                     opened,
                     begun: false,
                     doubtful: false,
+                    held,
+                    within: held,
                     failures: zero(),
                     failed_abandons: zero(),
                     tally: zero(),
@@ -136,6 +138,8 @@ impl<S: Alter> SqlShelf<S> {
             opened: _,
             begun: _,
             doubtful: _,
+            held: _,
+            within: _,
             failures: _,
             failed_abandons: _,
             tally: _,

@@ -4,7 +4,6 @@
 mod asking;
 mod calls;
 mod changes;
-mod counting;
 mod door;
 mod entries;
 mod fault;

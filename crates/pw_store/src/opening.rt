@@ -1,6 +1,6 @@
 //! Making a connection ready to be a store, or finding why it can't be one.
 
-ghost use Rattle.std.specs.Prelude.{◌≡◌, ◌++◌, IfErr, IfOk, IsTrue, OnErr, OnOk};
+ghost use Rattle.std.specs.Prelude.{◌≡◌, ◌++◌, IfErr, IfOk, IsTrue, OnErr, OnOk, length};
 ghost use Rattle.std.specs.List.Sorted.{IsPermutation};
 ghost use Rattle.sqlite.specs.Held.{state};
 ghost use Rattle.sqlite.specs.State.{HasCleanDisk, IsUnchanged, KeepsCommit, Survives};
@@ -230,15 +230,16 @@ fn check_office<S: Alter>(conn: &mut Connection<S>, text: &[u8]) -> Result<(), O
     Ok(())
 }
 
-// What is there, behind our tables and in them, judged.
+// What is there, behind our tables and in them, judged: how many records there are.
 fn check<S: Alter, W: Watch>(
     alloc: Global,
     conn: &mut Connection<S>,
     office: &Office,
     text: &[u8],
     watch: &mut W,
-) -> Result<(), OpenFault>
+) -> Result<u32, OpenFault>
     requires begun { HasCleanDisk (state S.Store conn.old) → BeginsAsOurs (state S.Store conn.old).now.schema }
+    ensures counted { HasCleanDisk (state S.Store conn.new) → IfOk result (λ held. length (records_of (state S.Store conn.new).now.trees) ≡ held) }
     ensures may_open { HasCleanDisk (state S.Store conn.new) → OnOk result (MayOpen (office_of office.now) text.now (state S.Store conn.new).now) }
     ensures cause { HasCleanDisk (state S.Store conn.new) → IfErr result (BegunRefuses (office_of office.now) text.now (state S.Store conn.old).now) }
     ensures same { HasCleanDisk (state S.Store conn.new) → OnOk result (IsUnchanged (state S.Store conn.old) (state S.Store conn.new)) }
@@ -252,26 +253,28 @@ fn check<S: Alter, W: Watch>(
         Ok(records) => records,
         Err(fault) => return Err(fault),
     };
+    let held = records.len();
     let parts = match parts_of(alloc, office, records) {
         Ok(parts) => parts,
         Err(fault) => return Err(fault),
     };
     match read_sums(conn, office, &parts, watch) {
-        Ok(true) => Ok(()),
+        Ok(true) => Ok(held as u32),
         Ok(false) => Err(OpenFault::Unclean),
         Err(fault) => Err(fault),
     }
 }
 
-// Makes the tables where nothing is there, else judges what is there.
+// Makes the tables where nothing is there, else judges what is there: how many records there are.
 fn make_or_check<S: Alter, W: Watch>(
     alloc: Global,
     conn: &mut Connection<S>,
     office: &Office,
     text: &[u8],
     watch: &mut W,
-) -> Result<(), OpenFault>
+) -> Result<u32, OpenFault>
     requires { HasCleanDisk (state S.Store conn.old) → IsIdleAt (state S.Store conn.old) }
+    ensures counted { HasCleanDisk (state S.Store conn.new) → IfOk result (λ held. length (records_of (state S.Store conn.new).now.trees) ≡ held) }
     ensures opened { HasCleanDisk (state S.Store conn.new) → OnOk result (IsOpened (office_of office.now) text.now (state S.Store conn.old).committed (state S.Store conn.new)) }
     ensures cause { HasCleanDisk (state S.Store conn.new) → IfErr result (Refuses (office_of office.now) text.now (state S.Store conn.old).committed) }
     ensures kept { HasCleanDisk (state S.Store conn.new) → OnErr result (KeepsCommit (state S.Store conn.old) (state S.Store conn.new)) }
@@ -280,7 +283,7 @@ fn make_or_check<S: Alter, W: Watch>(
 {
     match look(conn) {
         Found::Nothing => match create(conn, text) {
-            Ok(()) => Ok(()),
+            Ok(()) => Ok(0),
             Err(error) => Err(fault_in(error)),
         },
         Found::Begun => check(alloc, conn, office, text, watch),
@@ -312,14 +315,15 @@ fn look<S: Alter>(conn: &Connection<S>) -> Found
     Found::Other
 }
 
-/// Makes a connection ready to be a store, or says why it can't be one.
+/// Makes a connection ready to be a store, and says how many records it holds, or why it can't be one.
 pub(crate) fn prepare<S: Alter, W: Watch>(
     alloc: Global,
     conn: &mut Connection<S>,
     office: &Office,
     text: &[u8],
     watch: &mut W,
-) -> Result<(), OpenFault>
+) -> Result<u32, OpenFault>
+    ensures counted { HasCleanDisk (state S.Store conn.new) → IfOk result (λ held. length (records_of (state S.Store conn.new).now.trees) ≡ held) }
     ensures opened { HasCleanDisk (state S.Store conn.new) → OnOk result (IsOpened (office_of office.now) text.now (state S.Store conn.old).committed (state S.Store conn.new)) }
     ensures cause { HasCleanDisk (state S.Store conn.new) → IfErr result (Refuses (office_of office.now) text.now (state S.Store conn.old).committed) }
     ensures was_open { HasCleanDisk (state S.Store conn.new) → OnOk result (IsTrue (state S.Store conn.old).is_open) }

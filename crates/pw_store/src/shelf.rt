@@ -1,8 +1,8 @@
 //! The store over SQL, and what it keeps to.
 
 ghost use Rattle.sqlite.specs.Held.{state};
-ghost use Rattle.pw_store.specs.Kept.{BaseIsOnce, NowIsStore, CommittedIsStore, IsSinceBase, IsIdle, IsInside, IsAwake};
-ghost use Rattle.pw_store.specs.lemmas.OneProof.{BaseIsOnce-prop, NowIsStore-prop, CommittedIsStore-prop, IsSinceBase-prop, IsIdle-prop, IsInside-prop, IsAwake-prop, KeepsOpened-prop};
+ghost use Rattle.pw_store.specs.Kept.{BaseIsOnce, NowIsStore, CommittedIsStore, IsSinceBase, IsIdle, IsInside, IsAwake, BaseIsCounted, NowIsCounted};
+ghost use Rattle.pw_store.specs.lemmas.OneProof.{BaseIsOnce-prop, NowIsStore-prop, CommittedIsStore-prop, IsSinceBase-prop, IsIdle-prop, IsInside-prop, IsAwake-prop, BaseIsCounted-prop, NowIsCounted-prop, KeepsOpened-prop};
 ghost use Rattle.pw_store.specs.Left.{KeepsOpened};
 
 use pw_shelf::Tally;
@@ -20,6 +20,10 @@ pub struct SqlShelf<S: Alter> {
     pub(crate) begun: bool,
     // a statement has failed, so the connection may be shut
     pub(crate) doubtful: bool,
+    // how many records there were when the last upload ended
+    pub(crate) held: u32,
+    // how many there are inside the transaction, if there is one
+    pub(crate) within: u32,
     pub(crate) failures: Tally,
     pub(crate) failed_abandons: Tally,
     pub(crate) tally: Tally,
@@ -30,5 +34,7 @@ pub struct SqlShelf<S: Alter> {
     ghost idle: { IsIdle (state S.Store conn) begun } by { IsIdle-prop (state S.Store conn) begun },
     ghost inside: { IsInside (state S.Store conn) } by { IsInside-prop (state S.Store conn) },
     ghost awake: { IsAwake (state S.Store conn) doubtful } by { IsAwake-prop (state S.Store conn) doubtful },
+    ghost base_counted: { BaseIsCounted (state S.Store conn) held (state S.Store base.value) } by { BaseIsCounted-prop (state S.Store conn) held (state S.Store base.value) },
+    ghost now_counted: { NowIsCounted (state S.Store conn) within } by { NowIsCounted-prop (state S.Store conn) within },
     ghost keeps: { KeepsOpened (state S.Store conn) (state S.Store opened.value) } by { KeepsOpened-prop (state S.Store conn) (state S.Store opened.value) },
 }

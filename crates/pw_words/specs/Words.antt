@@ -5,6 +5,7 @@ use Rattle.pw_time.specs.declared.zone.Clock.{Clock}
 use Rattle.pw_time.specs.declared.zone.Clock.TheVariants.{Marked, Winter, Local}
 use Rattle.pw_words.specs.declared.commands.Command.{Command}
 use Rattle.pw_words.specs.declared.commands.Command.TheVariants as command
+use Rattle.pw_words.specs.declared.commands.TheConstants.{MOST_RECORDS}
 use Rattle.pw_words.specs.declared.fault.WordsFault.{WordsFault}
 use Rattle.pw_words.specs.declared.fault.WordsFault.TheVariants as fault
 
@@ -30,7 +31,7 @@ AsksToPipe (command ∷ other ∷ words) = ⊥
 
 -- the most records of a book
 abbrev pub IsLimit : ℕ → Type 0
-IsLimit limit = (1 ≤ limit) × (limit ≤ 10_000_000)
+IsLimit limit = (1 ≤ limit) × (limit ≤ MOST_RECORDS)
 
 -- a limit that a book takes, and a port that can be listened on
 abbrev pub IsSound : Command → Type 0

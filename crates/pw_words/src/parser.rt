@@ -1,5 +1,6 @@
 //! The parser of the program's words.
 
+use crate::commands::MOST_RECORDS;
 use clap::{Arg, ArgAction, Command, value_parser};
 use std::alloc::{AllocError, Global};
 
@@ -126,7 +127,7 @@ fn limit<'a>(alloc: Global) -> Arg<'a> {
     Arg::new(alloc, "limit")
         .long("limit")
         .value_name("N")
-        .value_parser(value_parser!(u32).range(1..=10_000_000))
+        .value_parser(value_parser!(u32).range(1..=i64::from(MOST_RECORDS)))
         .default_value("1000000")
         .help("The most records of the book")
 }
@@ -208,7 +209,7 @@ fn command<'a>(alloc: Global, asked: &Asked) -> Result<Command<'a>, AllocError> 
 // The parser without its commands.
 fn empty_parser<'a>(alloc: Global) -> Result<Command<'a>, AllocError> {
     Command::new(alloc, "powerbook")
-        .version("1.2.0")
+        .version("1.2.1")
         .about("Meter readings and prepaid accounts of an electricity cooperative")
         .after_help(
             "Without a command it acts as pipe. Each command tells more: powerbook load --help.",

@@ -7,7 +7,7 @@ ghost use Rattle.pw_words.specs.Words.{AsksToPipe, IsClockWord, IsLimit, IsRefus
 ghost use Rattle.pw_words.specs.declared.commands.Command.TheVariants as asks;
 ghost use Rattle.pw_words.specs.inner.Told.{IsKindWord, IsTableWord};
 
-use crate::commands::{Command, Kind, What};
+use crate::commands::{Command, Kind, MOST_RECORDS, What};
 use crate::fault::{WordsFault, fault_of};
 use crate::parser::parser;
 use clap::error::ErrorKind;
@@ -204,7 +204,7 @@ fn limit_of(words: &ArgMatches<'_>) -> Option<u32>
     ensures { IfSome result IsLimit }
 {
     let limit = words.get_one::<u32>("limit")?;
-    if 1 <= limit && limit <= 10_000_000 {
+    if 1 <= limit && limit <= MOST_RECORDS {
         Some(limit)
     } else {
         None

@@ -1,7 +1,7 @@
--- Energy gathered by total. It serves `src/sums.rt`, `src/pairs.rt`, `src/around.rt` and `src/window.rt`.
+-- Energy gathered by total. It serves `src/changes.rt`, `src/pairs.rt`, `src/around.rt` and `src/window.rt`.
 -- (Definitions of this project.)
 use Rattle.std.specs.Prelude.{◌≡◌, ℕ, ◌+◌, cond, Option, Some, None, List, ◌∷◌}
-use Rattle.std.specs.List.{sum_by}
+use Rattle.std.specs.BTreeMap.{BTreeMap, get}
 use Rattle.pw_flow.specs.Pairs.{pairs_sum}
 use Rattle.pw_tariff.specs.declared.ids.AccountId.{AccountId}
 use Rattle.pw_tariff.specs.declared.ids.Direction.{Direction}
@@ -15,16 +15,28 @@ use Rattle.pw_model.specs.declared.records.TotalKey.{TotalKey}
 use Rattle.pw_model.specs.declared.records.TotalKey.TheVariants.{Energy, TopUps}
 use Rattle.pw_model.specs.Energy.{energy_where, of_band}
 use Rattle.pw_model.specs.Same.{same_direction}
-use Rattle.pw_shelf.specs.Changes.{same_total}
-use Rattle.pw_book.specs.declared.sums.Sum.{Sum}
+use Rattle.pw_parts.specs.inner.Totals.{total_key_order}
+use Rattle.pw_book.specs.declared.changes.Change.{Change}
+use Rattle.pw_book.specs.declared.changes.Side.{Side}
+use Rattle.pw_book.specs.declared.changes.Side.TheVariants.{Loses, Gains}
 
--- what is gathered for a total
-abbrev pub gathered : List Sum → TotalKey → ℕ
-gathered sums k = sum_by (λ s. cond (same_total s.key k) s.wh 0) sums
+-- what a total loses, or what it gains
+abbrev pub amount_on : Side → Change → ℕ
+amount_on Loses c = c.less
+amount_on Gains c = c.more
 
--- what is gathered for all
-abbrev pub gathered_in_all : List Sum → ℕ
-gathered_in_all sums = sum_by (λ s. s.wh) sums
+abbrev pub other_side : Side → Side
+other_side Loses = Gains
+other_side Gains = Loses
+
+-- none that is there is 0
+abbrev pub amount_told : Side → Option Change → ℕ
+amount_told side None = 0
+amount_told side (Some c) = amount_on side c
+
+-- what is gathered on a side for a total
+abbrev pub gathered : Side → BTreeMap TotalKey Change → TotalKey → ℕ
+gathered side rows k = amount_told side (get total_key_order rows k)
 
 -- what cells of a direction give to a total
 abbrev pub cells_for : Direction → List Cell → TotalKey → ℕ
@@ -46,7 +58,7 @@ abbrev pub energy_told : OfficeRules → (Key → Contents) → TotalKey → ℕ
 energy_told office at (Energy o b d) = energy_where office at d (of_band office o b.0)
 energy_told office at (TopUps a) = 0
 
--- from the one to the other, each energy loses what is gathered as taken and gains what is gathered as given
-abbrev pub AreDifferences : OfficeRules → (Key → Contents) → (Key → Contents) → List Sum → List Sum → Type 0
-AreDifferences office was is taken given = (k : TotalKey) →
-    energy_told office was k + gathered given k ≡ energy_told office is k + gathered taken k
+-- from the one to the other, each energy loses and gains what is gathered
+abbrev pub AreDifferences : OfficeRules → (Key → Contents) → (Key → Contents) → BTreeMap TotalKey Change → Type 0
+AreDifferences office was is rows = (k : TotalKey) →
+    energy_told office was k + gathered Gains rows k ≡ energy_told office is k + gathered Loses rows k

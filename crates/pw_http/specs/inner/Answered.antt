@@ -6,7 +6,7 @@ use Rattle.pw_http.specs.declared.answers.Body.TheVariants.{Line, Page}
 use Rattle.pw_http.specs.Replies.{Reply}
 
 abbrev pub body_text : Body → List ℕ
-body_text (Line text) = text
+body_text (Line line) = line.bytes
 body_text (Page text) = text.items
 
 abbrev pub reply_of : Answer → Reply

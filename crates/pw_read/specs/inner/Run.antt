@@ -1,9 +1,7 @@
 -- What writing bytes, and telling a line, does to a stream. It serves `src/run.rt`.
 use Rattle.std.specs.Prelude.{◌≡◌, ℕ, ◌⊎◌, List, Option, Result, Ok, Err}
 use Rattle.std.specs.Io.KnownBytes.{Appends}
-use Rattle.pw_read.specs.declared.fault.ReadFault.TheVariants.{Memory, Refused}
 use Rattle.pw_read.specs.declared.run.Failure.{Failure}
-use Rattle.pw_read.specs.declared.run.Failure.TheVariants.{Body, TooLarge, Device}
 use Rattle.pw_read.specs.Run.{WritesFront, failure_line, failure_status}
 
 -- the bytes are written, or after an error a front of them
@@ -16,14 +14,6 @@ abbrev pub TellsLine : List ℕ → ℕ → Option (List ℕ) → Option (List �
 TellsLine line told old new status =
     ((status ≡ told) × Appends old new line) ⊎ ((status ≡ 3) × WritesFront old new line)
 
-abbrev pub IsRefusal : Failure → Type 0
-IsRefusal (Body (Refused refusal)) = Unit {0}
-IsRefusal (Body Memory) = ⊥
-IsRefusal TooLarge = ⊥
-IsRefusal Device = ⊥
-
--- the line of a failure is told; for a refusal want of memory may be told in its place
+-- the line of a failure is told
 abbrev pub Tells : Failure → Option (List ℕ) → Option (List ℕ) → ℕ → Type 0
-Tells failure old new status =
-    TellsLine (failure_line failure) (failure_status failure) old new status
-    ⊎ (IsRefusal failure × TellsLine (failure_line (Body Memory)) 3 old new status)
+Tells failure old new status = TellsLine (failure_line failure) (failure_status failure) old new status

@@ -1,8 +1,9 @@
 -- What is kept of a store has one proof at most.
-use Rattle.std.specs.Prelude.{◌≡◌, List, map, Bool, true}
+use Rattle.std.specs.Prelude.{◌≡◌, ℕ, List, length, map, Bool, true}
 use mathlib.Core.HLevel.{⊥_prop}
 use Rattle.std.specs.Coded.{×_prop, Π_prop, Coded-set}
 use mathlib.Core.Bool.{Bool-set}
+use native.Mathlib.Nat.{ℕ_set}
 use Rattle.sqlite.specs.Order.{Row}
 use Rattle.sqlite.specs.Tree.{Trees, rowid}
 use Rattle.sqlite_trees.specs.Objects.{catalog_tree}
@@ -17,7 +18,7 @@ use Rattle.pw_store.specs.Content.{IsReadingRow, IsAssignmentRow, IsTopupRow, en
 use Rattle.pw_store.specs.Keyed.{AreKeyed, HasRowid, IsEnergyRow, IsPaymentRow}
 use Rattle.pw_store.specs.Opening.{AreRows, HasRows}
 use Rattle.pw_store.specs.Left.{IsOldEnergy, IsOldPayment, Keeps, IsLeftOf, KeepsOpened}
-use Rattle.pw_store.specs.Kept.{key_in_point, key_in_start, IsStore, BaseIsOnce, NowIsStore, CommittedIsStore, IsSinceBase, IsIdle, IsInside, IsAwake}
+use Rattle.pw_store.specs.Kept.{key_in_point, key_in_start, IsStore, BaseIsOnce, NowIsStore, CommittedIsStore, IsSinceBase, IsIdle, IsInside, IsAwake, BaseIsCounted, NowIsCounted}
 
 -- ---- a fact has one proof at most
 same_value : {a b : Value} → IsProp (a ≡ b)
@@ -79,6 +80,12 @@ IsInside-prop s = Π_prop λ _. Π_prop λ _. Bool-set s.is_open true
 
 pub IsAwake-prop : (s : Sql) (doubtful : Bool) → IsProp (IsAwake s doubtful)
 IsAwake-prop s doubtful = Π_prop λ _. Π_prop λ _. Bool-set s.is_open true
+
+pub BaseIsCounted-prop : (s : Sql) (held : ℕ) (base : Sql) → IsProp (BaseIsCounted s held base)
+BaseIsCounted-prop s held base = Π_prop λ _. ℕ_set (length (records_of base.committed.trees)) held
+
+pub NowIsCounted-prop : (s : Sql) (within : ℕ) → IsProp (NowIsCounted s within)
+NowIsCounted-prop s within = Π_prop λ _. Π_prop λ _. ℕ_set (length (records_of s.now.trees)) within
 
 -- ---- what is kept of the store that was opened
 AreRows-prop : {K : Type 0} (IsRow : Row → Type 0) → ((r : Row) → IsProp (IsRow r)) → (key_in : Row → K) (rows : List Row) → IsProp (AreRows IsRow key_in rows)

@@ -1,3 +1,4 @@
+use Rattle.std.proofs.Common.{◌∙◌}
 use Rattle.pw_book.proofs.Neighbouring.{around-sums}
 use Rattle.pw_book.proofs.around.weigh_around.Goals as goal
 
@@ -6,9 +7,9 @@ returns-clause-around g c = λ k free is same start_is more ends.
     let second = c.point_after.ensures.asked.kept.clean k in
     let first = c.point_before.ensures.asked.kept.clean second in
     around-sums c.args.office.now free is c.args.reading.now.meter.0 c.args.reading.now.register c.args.reading.now.instant c.args.reading.now.wh
-    (g.S.Shelf.state c.args.shelf.now).content _ _ c.direction_of-direction.result c.in_ok-starts.starts.items _ _ c.in_ok-below.below c.in_ok-above.above _ _ _ _ c.in_ok-without.without.items c.in_ok-with.with.items
+    (g.S.Shelf.state c.args.shelf.now).content _ _ c.direction_of-direction.result c.in_ok-starts.starts.items _ _ c.in_ok-below.below c.in_ok-above.above _ _ _ _ _ _
     (c.in_ok-starts.ensures.asked.same first) (c.in_ok-below.ensures.asked.same second) c.direction_of-direction.ensures
     c.requires.meter c.requires.counts same start_is more ends (c.in_ok-starts.ensures.rows first) c.deref.ensures.value c.deref-3.ensures.value
     (c.in_ok-below.ensures.row second) (c.in_ok-above.ensures.row k)
     c.in_ok-apart.ensures c.deref-2.ensures.value c.in_ok-joined.ensures c.deref-4.ensures.value
-    c.in_ok-without.ensures.gathered c.in_ok-with.ensures.gathered
+    (λ s o t. c.in_ok-add_points-2.ensures.other t ∙ c.in_ok-add_points.ensures.gathered s o t) c.in_ok-add_points-2.ensures.gathered

@@ -1,7 +1,7 @@
 use Rattle.std.proofs.Common.{◌≡◌, ℕ, ◌+◌, ◌*◌, refl, ap, arith}
 use Rattle.pw_tariff.specs.Office.{office_of}
 use Rattle.pw_book.proofs.Chains.{asked-then}
-use Rattle.pw_book.proofs.Fallen.{falls-next, falls-at, falls-all}
+use Rattle.pw_book.proofs.Fallen.{falls-next, falls-at, falls-all, tells-points}
 use Rattle.pw_book.proofs.falls.falls_held.Goals as goal
 
 pub loop-meter-preserved : goal.loop-meter-preserved
@@ -9,8 +9,8 @@ loop-meter-preserved g c = record {
   falls = λ k.
       let before = c.add_meter.ensures.asked.kept.clean k in
       let start = c.loop-meter.invariant.asked.kept.clean before in
-      falls-next (office_of c.args.office.now) _ _ (6 * c.loop-meter.meter) (6 * c.loop-meter.meter) (6 * c.loop-meter.meter + 6) (6 * (c.loop-meter.meter + 1)) c.loop-meter.falls.items c.add_meter.new.falls.items
-      (c.loop-meter.invariant.asked.content before) refl (omega arith) (c.requires.of_office start) (c.loop-meter.invariant.falls before) (c.in_ok-add_meter.ensures.falls k (office_of c.args.office.now));
+      falls-next _ _ (6 * c.loop-meter.meter) (6 * c.loop-meter.meter) (6 * c.loop-meter.meter + 6) (6 * (c.loop-meter.meter + 1)) c.loop-meter.falls.items c.add_meter.new.falls.items
+      (c.loop-meter.invariant.asked.content before) refl (omega arith) (tells-points (office_of c.args.office.now) _ (c.requires.of_office start) (c.requires.truth start)) (c.loop-meter.invariant.falls before) (c.in_ok-add_meter.ensures.falls k);
   asked = asked-then _ g.met.S.Shelf.same_then _ _ _ _ c.loop-meter.invariant.asked c.in_ok-add_meter.ensures.asked;
 }
 

@@ -1,12 +1,16 @@
-use Rattle.std.proofs.Common.{◌+◌, ◌*◌, ◌≤◌, length}
+use Rattle.pw_tariff.specs.Office.{office_of}
+use Rattle.std.proofs.Common.{length}
 use Rattle.pw_shelf.specs.Calls.{GoesOn}
-use Rattle.pw_book.specs.inner.Moves.{MovesTotals, OfOwners}
-use Rattle.pw_book.specs.inner.Sums.{gathered}
+use Rattle.pw_book.specs.inner.Moves.{MovesTotals}
+use Rattle.pw_book.specs.inner.Sums.{gathered, other_side}
+use Rattle.pw_book.proofs.Walking.{HasTaken, IsRest, Moved}
 use Rattle.pw_book.proofs.moving.move_energies.Given as goal
 
-abbrev pub invariant-loop-account : goal.invariant-loop-account
-invariant-loop-account g l = record {
-  moved : g.S.Shelf.clean l.shelf → MovesTotals (OfOwners (length l.office.bands) l.account) (gathered l.given) (gathered l.taken) (g.S.Shelf.state l.fn.shelf).content (g.S.Shelf.state l.shelf).content;
-  tally : (g.S.Shelf.state l.shelf).tally ≤ (g.S.Shelf.state l.fn.shelf).tally + 6 * (length l.office.bands * (l.account + 1));
-  kept : GoesOn g.S.Shelf.state g.S.Shelf.left g.S.Shelf.clean g.S.Shelf.same_store 0 l.fn.shelf l.shelf;
+-- the totals are moved of which no change is still to come
+abbrev pub invariant-loop-key : goal.invariant-loop-key
+invariant-loop-key g l = record {
+  rest : IsRest l.changes.rows l.key-iterator;
+  moved : g.S.Shelf.clean l.shelf → MovesTotals (Moved (length l.office.bands) (length l.office.accounts) l.key-iterator) (gathered (other_side l.taken) l.changes.rows) (gathered l.taken l.changes.rows) (g.S.Shelf.state l.initial.shelf).content (g.S.Shelf.state l.shelf).content;
+  tally : HasTaken (office_of l.office) l.key-iterator (g.S.Shelf.state l.initial.shelf).tally (g.S.Shelf.state l.shelf).tally;
+  kept : GoesOn g.S.Shelf.state g.S.Shelf.left g.S.Shelf.clean g.S.Shelf.same_store 0 l.initial.shelf l.shelf;
 }

@@ -5,7 +5,7 @@ use Rattle.pw_book.proofs.pairs.add_pairs.Goals as goal
 
 pub returns-clause-gathered : goal.returns-clause-gathered
 returns-clause-gathered c = λ r k.
-    let so_far = c.loop-pair.invariant.gathered r k in
+    let so_far = c.loop-pair.invariant.told r k in
     let ended = pairs-ended-for c.args.office.now c.args.owners.now c.args.direction (windows_rest c.loop-pair.pair-iterator) k (omega (arith, c.in-None.ensures.steps.1.0)) in
     omega (arith, so_far, ended)
 

@@ -4,7 +4,7 @@ use Rattle.pw_obis.specs.declared.energy.TheConstants.{LARGEST_WATT_HOURS}
 use Rattle.pw_model.specs.declared.records.TotalKey.{TotalKey}
 use Rattle.pw_model.specs.Lists.{IsInOrder}
 use Rattle.pw_book.specs.inner.Counted.{by_second}
-use Rattle.pw_book.specs.inner.Sums.{gathered, gathered_in_all, pairs_for}
+use Rattle.pw_book.specs.inner.Sums.{gathered, other_side, pairs_for}
 use Rattle.pw_book.proofs.pairs.add_pairs.Given as goal
 
 abbrev pub invariant-loop-pair : goal.invariant-loop-pair
@@ -14,7 +14,8 @@ invariant-loop-pair l = record {
   of_two : windows_size l.pair-iterator ≡ 2;
   rising : IsInOrder by_second l.points → IsInOrder by_second (windows_rest l.pair-iterator);
   -- what the pairs so far gave, with what is still to come
-  gathered : IsInOrder by_second l.points → (k : TotalKey) →
-      gathered l.sums.items k + pairs_for l.office l.owners l.direction (windows_rest l.pair-iterator) k ≡ gathered l.initial.sums.items k + pairs_for l.office l.owners l.direction l.points k;
-  all : gathered_in_all l.sums.items + length (windows_rest l.pair-iterator) * LARGEST_WATT_HOURS ≤ gathered_in_all l.initial.sums.items + length l.points * LARGEST_WATT_HOURS;
+  told : IsInOrder by_second l.points → (k : TotalKey) →
+      gathered l.side l.changes.rows k + pairs_for l.office l.owners l.direction (windows_rest l.pair-iterator) k ≡ gathered l.side l.initial.changes.rows k + pairs_for l.office l.owners l.direction l.points k;
+  other : (k : TotalKey) → gathered (other_side l.side) l.changes.rows k ≡ gathered (other_side l.side) l.initial.changes.rows k;
+  all : (k : TotalKey) → gathered l.side l.changes.rows k + length (windows_rest l.pair-iterator) * LARGEST_WATT_HOURS ≤ gathered l.side l.initial.changes.rows k + length l.points * LARGEST_WATT_HOURS;
 }

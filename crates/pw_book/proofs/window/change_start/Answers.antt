@@ -3,7 +3,7 @@ use Rattle.std.proofs.lemmas.Result.{on_ok_weaker}
 use Rattle.pw_tariff.specs.declared.ids.AccountId.{AccountId}
 use Rattle.pw_tariff.specs.Office.{office_of}
 use Rattle.pw_shelf.specs.Seconds.{ListsSeconds}
-use Rattle.pw_book.proofs.StartChanged.{differences-lent, point-kept, start-changed, start-kept, start-settled, window-counted}
+use Rattle.pw_book.proofs.StartChanged.{point-kept, start-changed, start-kept, start-settled, window-counted}
 use Rattle.pw_book.proofs.window.change_start.Goals as goal
 
 pub returns-clause-settled : goal.returns-clause-settled
@@ -21,9 +21,9 @@ returns-clause-settled g c = λ k was is p s o h e.
     let others = c.in_ok-new.ensures (content.start m) (subst P (sym c.deref.ensures.value) listed) in
     let changed = start-changed content _ was is m z c.until_next.result c.args.owner c.owners_of.result c.owners_of-2.result c.deref-3.result.now c.deref-4.result.now c.in_ok-old.old.items c.in_ok-new.new.items
     (c.in_ok-old.ensures.asked.same first) p s o h e listed until others c.owners_of.ensures c.deref-3.ensures.value c.owners_of-2.ensures c.deref-4.ensures.value in
-    let differ = differences-lent office was is c.in_ok-moved.moved.taken.items c.in_ok-moved.moved.given.items c.deref-5.result.now c.deref-6.result.now c.deref-5.ensures.value c.deref-6.ensures.value (c.in_ok-moved.ensures.moved second was is changed) in
+    let differ = c.in_ok-changes.ensures.moved second was is changed in
     on_ok_weaker c.keep_start.result
-    (λ q. start-settled office was is _ _ _ _ _ c.deref-5.result.now c.deref-6.result.now m z c.args.owner (c.in_ok-old.ensures.asked.same first) (c.in_ok-moved.ensures.same second) differ (c.in_ok-move_energies.ensures.moved third) q)
+    (λ q. start-settled office was is _ _ _ _ _ _ _ m z c.args.owner (c.in_ok-old.ensures.asked.same first) (c.in_ok-changes.ensures.same second) differ (c.in_ok-move_energies.ensures.moved third) q)
     (c.keep_start.ensures.kept_start k)
 
 pub returns-clause-point : goal.returns-clause-point
@@ -32,7 +32,7 @@ returns-clause-point g c = λ k.
     let second = c.move_energies.ensures.kept.clean third in
     let first = c.weigh_window.ensures.kept.clean second in
     on_ok_weaker c.keep_start.result
-    (λ q. point-kept _ _ _ _ _ _ _ _ c.args.meter.0 c.args.start c.args.owner (c.in_ok-old.ensures.asked.same first) (c.in_ok-moved.ensures.same second) (c.in_ok-move_energies.ensures.moved third) q)
+    (λ q. point-kept _ _ _ _ _ _ _ _ c.args.meter.0 c.args.start c.args.owner (c.in_ok-old.ensures.asked.same first) (c.in_ok-changes.ensures.same second) (c.in_ok-move_energies.ensures.moved third) q)
     (c.keep_start.ensures.kept_start k)
 
 pub returns-clause-start : goal.returns-clause-start
@@ -41,11 +41,11 @@ returns-clause-start g c = λ k.
     let second = c.move_energies.ensures.kept.clean third in
     let first = c.weigh_window.ensures.kept.clean second in
     on_ok_weaker c.keep_start.result
-    (λ q. start-kept _ _ _ _ _ _ _ _ c.args.meter.0 c.args.start c.args.owner (c.in_ok-old.ensures.asked.same first) (c.in_ok-moved.ensures.same second) (c.in_ok-move_energies.ensures.moved third) q)
+    (λ q. start-kept _ _ _ _ _ _ _ _ c.args.meter.0 c.args.start c.args.owner (c.in_ok-old.ensures.asked.same first) (c.in_ok-changes.ensures.same second) (c.in_ok-move_energies.ensures.moved third) q)
     (c.keep_start.ensures.kept_start k)
 
-pub returns-in_err-moved-clause-tally : goal.returns-in_err-moved-clause-tally
-returns-in_err-moved-clause-tally g c = λ k starts points h w.
+pub returns-in_err-changes-clause-tally : goal.returns-in_err-changes-clause-tally
+returns-in_err-changes-clause-tally g c = λ k starts points h w.
     let first = c.weigh_window.ensures.kept.clean k in
     let read = window-counted _ _ c.args.meter.0 c.args.start c.until_next.result starts _ points c.deref.result.now c.deref-2.result.now c.in_ok-old.old.items _ _ _ (c.in_ok-old.ensures.asked.same first) (c.in_ok-old.ensures.rows first)
     c.deref.ensures.len c.deref.ensures.value c.deref-2.ensures.value c.until_next.ensures c.in_ok-old.ensures.asked.tally (c.weigh_window.ensures.tally k) h w in

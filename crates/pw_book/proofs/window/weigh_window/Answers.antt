@@ -1,6 +1,8 @@
 use Rattle.std.proofs.Common.{◌+◌, arith, ◌∙◌}
 use Rattle.pw_tariff.specs.Office.{office_of}
+use Rattle.pw_book.specs.declared.changes.Side.TheVariants.{Loses, Gains}
 use Rattle.pw_book.specs.inner.Settling.{register_told}
+use Rattle.pw_book.specs.inner.Sums.{gathered}
 use Rattle.pw_book.proofs.Chains.{kept-then}
 use Rattle.pw_book.proofs.StartChanged.{all-moved, changed-there, moved-more, tally-all, tally-more, tally-there}
 use Rattle.pw_book.proofs.window.weigh_window.Goals as goal
@@ -14,8 +16,7 @@ returns-in_err-add_register-clause-tally g c = λ k points w h.
 
 pub loop-register-preserved : goal.loop-register-preserved
 loop-register-preserved g c = record {
-  taken = let a = c.loop-register.invariant.taken in let b = c.in_ok-add_register.ensures.taken in omega (arith, a, b);
-  given = let a = c.loop-register.invariant.given in let b = c.in_ok-add_register.ensures.given in omega (arith, a, b);
+  few = λ side t. (let a = c.loop-register.invariant.few side t in let b = c.in_ok-add_register.ensures.few side t in omega (arith, a, b));
   moved = λ k was is h t.
       let before = c.add_register.ensures.kept.clean k in
       let office = office_of c.args.office.now in
@@ -32,7 +33,7 @@ loop-register-preserved g c = record {
 
 pub returns-clause-moved : goal.returns-clause-moved
 returns-clause-moved g c = λ k was is h.
-    all-moved (office_of c.args.office.now) was is c.args.window.now.meter.0 c.args.window.now.from c.loop-register.register-index c.loop-register.taken.items c.loop-register.given.items h.other c.requires.meter
+    all-moved (office_of c.args.office.now) was is c.args.window.now.meter.0 c.args.window.now.from c.loop-register.register-index (gathered Loses c.loop-register.changes.rows) (gathered Gains c.loop-register.changes.rows) h.other c.requires.meter
     c.loop-register-test.false c.loop-register.auto.register-index-end (c.loop-register.invariant.moved k was is h)
 
 pub returns-clause-tally : goal.returns-clause-tally

@@ -7,19 +7,20 @@ use Rattle.pw_model.specs.declared.records.Contents.{Contents}
 use Rattle.pw_model.specs.declared.records.Key.{Key}
 use Rattle.pw_model.specs.declared.records.TotalKey.{TotalKey}
 use Rattle.pw_shelf.specs.Calls.{GoesOn}
+use Rattle.pw_book.specs.declared.changes.Side.{Side}
+use Rattle.pw_book.specs.declared.changes.Side.TheVariants.{Loses, Gains}
 use Rattle.pw_book.specs.inner.Settling.{EndsBeforeNext, HavePoints, IsStartChanged, register_told}
-use Rattle.pw_book.specs.inner.Sums.{gathered, gathered_in_all}
+use Rattle.pw_book.specs.inner.Sums.{gathered}
 use Rattle.pw_book.proofs.window.weigh_window.Given as goal
 
 abbrev pub invariant-loop-register : goal.invariant-loop-register
 invariant-loop-register g l = record {
-  taken : gathered_in_all l.taken.items ≤ l.register-index * 2 ^ 110;
-  given : gathered_in_all l.given.items ≤ l.register-index * 2 ^ 110;
+  few : (side : Side) (k : TotalKey) → gathered side l.changes.rows k ≤ l.register-index * 2 ^ 110;
   -- what the registers so far gave and give
   moved : g.S.Shelf.clean l.shelf → (was is : Key → Contents) →
       IsStartChanged (g.S.Shelf.state l.initial.shelf).content was is l.window.meter.0 l.window.from l.window.until l.window.before l.window.after → (k : TotalKey) →
-      gathered l.given.items k + sum_by (register_told (office_of l.office) was l.window.meter.0 k) (take l.register-index registers)
-      ≡ gathered l.taken.items k + sum_by (register_told (office_of l.office) is l.window.meter.0 k) (take l.register-index registers);
+      gathered Gains l.changes.rows k + sum_by (register_told (office_of l.office) was l.window.meter.0 k) (take l.register-index registers)
+      ≡ gathered Loses l.changes.rows k + sum_by (register_told (office_of l.office) is l.window.meter.0 k) (take l.register-index registers);
   same : g.S.Shelf.clean l.shelf → (g.S.Shelf.state l.shelf).content ≡ (g.S.Shelf.state l.initial.shelf).content;
   tally : g.S.Shelf.clean l.shelf → (points : Register → ℕ) → EndsBeforeNext ((g.S.Shelf.state l.initial.shelf).content.start l.window.meter.0) l.window.from l.window.until →
       HavePoints (g.S.Shelf.state l.initial.shelf).content l.window.meter.0 l.window.from points →

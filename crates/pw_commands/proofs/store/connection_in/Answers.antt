@@ -19,6 +19,18 @@ returns-in-Ok-clause-found g c =
     (record { holds = found.holds; reads = found.reads })
     )
 
+pub returns-in-Ok-clause-settled : goal.returns-in-Ok-clause-settled
+returns-in-Ok-clause-settled g c =
+    at_ok _ c.if_asked.result c.in-Ok.connection c.if_asked.ensures.same (λ clean. (c.in-Ok.ensures.opened clean).0.clean)
+
+pub returns-in-Ok-clause-database : goal.returns-in-Ok-clause-database
+returns-in-Ok-clause-database g c =
+    at_ok _ c.if_asked.result c.in-Ok.connection c.if_asked.ensures.same (
+    λ clean.
+    let opened = c.in-Ok.ensures.opened clean in
+    (opened.1 opened.0.is_open).1
+    )
+
 pub returns-in-Ok-clause-asked : goal.returns-in-Ok-clause-asked
 returns-in-Ok-clause-asked g c =
     at_ok_where _ c.if_asked.result c.in-Ok.connection c.if_asked.ensures.same c.if_asked.ensures.asked (λ asked. asked)

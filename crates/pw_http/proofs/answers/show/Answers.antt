@@ -17,7 +17,7 @@ returns-in-Ok g c = (
 pub returns-in-Err : goal.returns-in-Err
 returns-in-Err g c = (
   Err c.in-Err.fault,
-  rw c.book_fault_line.ensures at c.line.ensures,
+  rw c.line.ensures.text at c.of_line.ensures,
   record {
     text = λ k. tt;
     report = report-err g.S.Shelf c.in-Err.fault c.args.book.now c.page_text.new.book c.in-Err.ensures.report;

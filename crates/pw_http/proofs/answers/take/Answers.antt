@@ -3,15 +3,15 @@ use Rattle.pw_book.specs.After.{Refused, Posted}
 use Rattle.pw_http.proofs.answers.take.Goals as goal
 
 pub returns-in-Err : goal.returns-in-Err
-returns-in-Err g c = λ upload m. (Refused c.in-Err.fault, c.refused.ensures, (rw c.in-Err.is at m, refl))
+returns-in-Err g c = (Refused c.in-Err.fault, c.refused.ensures, (rw c.office.ensures at c.in-Err.ensures.refused, refl))
 
 pub returns-in-Ok : goal.returns-in-Ok
-returns-in-Ok g c = λ upload m. (
+returns-in-Ok g c = (
   Posted c.post.result,
   c.posted.ensures,
   (
     c.in-Ok.entries.items,
-    rw c.in-Ok.is at m,
+    rw c.office.ensures at c.in-Ok.ensures.entries,
     record {
       posted = rw c.deref.ensures.value at c.post.ensures.posted;
       left = rw c.deref.ensures.value at c.post.ensures.left;

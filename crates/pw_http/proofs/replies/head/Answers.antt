@@ -1,13 +1,12 @@
-use Rattle.std.proofs.Common.{◌≡◌, ◌∙◌, List, ℕ, [], ◌++◌, ap, codes}
+use Rattle.std.proofs.Common.{◌≡◌, ◌∙◌, List, ℕ, ◌++◌, ap, codes}
 use Rattle.std.specs.Prelude.{decimal}
-use Rattle.pw_http.specs.Replies.{close_line, content_name, reply_head, status_number, status_phrase}
+use Rattle.pw_http.specs.Replies.{reply_head, status_number}
 use Rattle.pw_http.proofs.replies.head.Goals as goal
 
 -- eleven texts, one behind another
-joined : (t0 t1 t2 t3 t4 t5 t6 t7 t8 t9 t10 t11 a b c d e f g h i j k : List ℕ) → t0 ≡ [] → t1 ≡ t0 ++ a → t2 ≡ t1 ++ b → t3 ≡ t2 ++ c → t4 ≡ t3 ++ d → t5 ≡ t4 ++ e → t6 ≡ t5 ++ f → t7 ≡ t6 ++ g
+joined : (t1 t2 t3 t4 t5 t6 t7 t8 t9 t10 t11 b c d e f g h i j k : List ℕ) {a : List ℕ} → t1 ≡ a → t2 ≡ t1 ++ b → t3 ≡ t2 ++ c → t4 ≡ t3 ++ d → t5 ≡ t4 ++ e → t6 ≡ t5 ++ f → t7 ≡ t6 ++ g
     → t8 ≡ t7 ++ h → t9 ≡ t8 ++ i → t10 ≡ t9 ++ j → t11 ≡ t10 ++ k → t11 ≡ a ++ b ++ c ++ d ++ e ++ f ++ g ++ h ++ i ++ j ++ k
-joined t0 t1 t2 t3 t4 t5 t6 t7 t8 t9 t10 t11 a b c d e f g h i j k e0 e1 e2 e3 e4 e5 e6 e7 e8 e9 e10 e11 =
-    let f1 : t1 ≡ a = e1 ∙ ap (λ t. t ++ a) e0 in
+joined t1 t2 t3 t4 t5 t6 t7 t8 t9 t10 t11 b c d e f g h i j k f1 e2 e3 e4 e5 e6 e7 e8 e9 e10 e11 =
     let f2 = e2 ∙ ap (λ t. t ++ b) f1 in
     let f3 = e3 ∙ ap (λ t. t ++ c) f2 in
     let f4 = e4 ∙ ap (λ t. t ++ d) f3 in
@@ -22,10 +21,9 @@ joined t0 t1 t2 t3 t4 t5 t6 t7 t8 t9 t10 t11 a b c d e f g h i j k e0 e1 e2 e3 e
 pub returns : goal.returns
 unfolding reply_head
 returns c =
-    let number : c.as_bytes.result.now ≡ decimal (status_number c.args.status) = c.as_bytes.ensures.value ∙ c.format.ensures.text ∙ ap decimal c.number.ensures in
-    let phrase : c.as_bytes-2.result.now ≡ status_phrase c.args.status = c.as_bytes-2.ensures.value ∙ c.phrase.ensures.text in
-    let content : c.as_bytes-3.result.now ≡ content_name c.args.content = c.as_bytes-3.ensures.value ∙ c.content_text.ensures.text in
-    let size : c.as_bytes-4.result.now ≡ decimal c.args.size = c.as_bytes-4.ensures.value ∙ c.format-2.ensures.text in
-    let close : c.as_bytes-5.result.now ≡ close_line c.args.closing = c.as_bytes-5.ensures.value ∙ c.closing_line.ensures.text in
-    joined _ _ _ _ _ _ _ _ _ _ _ _ _ _ _ _ _ _ _ _ _ _ _ c.new-text.ensures c.push.ensures c.push-2.ensures c.push-3.ensures c.push-4.ensures c.push-5.ensures c.push-6.ensures c.push-7.ensures c.push-8.ensures c.push-9.ensures c.push-10.ensures c.push-11.ensures
-    ∙ (λ i. codes "HTTP/1.1 " ++ number i ++ codes " " ++ phrase i ++ codes "\r\nContent-Type: " ++ content i ++ codes "\r\nContent-Length: " ++ size i ++ codes "\r\n" ++ close i ++ codes "\r\n")
+    let number : decimal c.number.result ≡ decimal (status_number c.args.status) = ap decimal c.number.ensures in
+    let phrase = c.phrase.ensures.text in
+    let content = c.content_text.ensures.text in
+    let close = c.closing_line.ensures.text in
+    joined _ _ _ _ _ _ _ _ _ _ _ _ _ _ _ _ _ _ _ _ _ c.line_of-line.ensures.text c.push_number.ensures.text c.push_str.ensures.bytes c.push_str-2.ensures.bytes c.push_str-3.ensures.bytes c.push_str-4.ensures.bytes c.push_str-5.ensures.bytes c.push_number-2.ensures.text c.push_str-6.ensures.bytes c.push_str-7.ensures.bytes c.push_str-8.ensures.bytes
+    ∙ (λ i. codes "HTTP/1.1 " ++ number i ++ codes " " ++ phrase i ++ codes "\r\nContent-Type: " ++ content i ++ codes "\r\nContent-Length: " ++ decimal c.args.size ++ codes "\r\n" ++ close i ++ codes "\r\n")

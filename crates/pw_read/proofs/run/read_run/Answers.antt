@@ -1,4 +1,3 @@
-use Rattle.std.proofs.Common.{rules}
 use Rattle.pw_read.proofs.Runs.{run_told, run_cut}
 use Rattle.pw_read.proofs.run.read_run.Goals as goal
 

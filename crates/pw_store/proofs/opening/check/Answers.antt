@@ -1,7 +1,8 @@
-use Rattle.std.proofs.Common.{◌≡◌, true, false, sym, ◌∙◌}
+use Rattle.std.proofs.Common.{◌≡◌, true, false, length, rules, sym, ◌∙◌}
 use Rattle.sqlite.specs.Held.{state}
 use Rattle.pw_tariff.specs.Office.{office_of}
 use Rattle.pw_schema.proofs.Outcomes.{early}
+use Rattle.pw_store.proofs.Counted.{counted_listed}
 use Rattle.pw_store.proofs.Judged.{judged, judged_others, parts_refused, sums_refused}
 use Rattle.pw_store.proofs.opening.check.Goals as goal
 
@@ -52,3 +53,12 @@ returns-clause-cause g c clean =
     let clean2 = early s2 s3 c.in-Err-read_sums.ensures.crash clean in
     let clean1 = early s1 s2 c.in-Ok.ensures.crash clean2 in
     sums_refused (office_of c.args.office.now) c.args.text.now s0 s1 s2 c.in-Err-read_sums.fault (c.in_default.ensures.same clean1) (c.in-Ok.ensures.same clean2) (c.in_default.ensures.ours clean1) (c.in_default.ensures.kept_text clean1) (c.in-Err-read_sums.ensures.cause clean)
+
+pub returns-in-Ok-true-clause-counted : goal.returns-in-Ok-true-clause-counted
+returns-in-Ok-true-clause-counted g c clean =
+    let s1 = state g.S.Store c.check_office.new.conn in
+    let s2 = state g.S.Store c.check_records.new.conn in
+    let s3 = state g.S.Store c.read_sums.new.conn in
+    let clean2 = early s2 s3 c.in-Ok-true.ensures.crash clean in
+    let told : length c.in-Ok.records.items ≡ c.len-held.result = search rules in
+    counted_listed s1 s2 s3 c.in-Ok.records.items (c.in-Ok.ensures.listed clean2) (c.in-Ok.ensures.same clean2) (c.in-Ok-true.ensures.same clean) ∙ told

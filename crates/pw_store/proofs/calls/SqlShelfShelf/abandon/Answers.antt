@@ -1,4 +1,5 @@
 use Rattle.sqlite.specs.Held.{state}
+use Rattle.pw_store.proofs.Counted.{counted_failed}
 use Rattle.pw_store.proofs.LeftStores.{keeps_failed, keeps_undone}
 use Rattle.pw_store.proofs.calls.SqlShelfShelf.abandon.Goals as goal
 
@@ -11,3 +12,8 @@ pub invariant_of-self-in-Err-clause-keeps : goal.invariant_of-self-in-Err-clause
 invariant_of-self-in-Err-clause-keeps g c =
     let self = c.args.self.now in
     keeps_failed (state g.S.Store self.conn) (state g.S.Store c.roll_back.new.conn) (state g.S.Store self.opened.value) self.keeps c.in-Err.ensures.crash c.in-Err.ensures.failed
+
+pub invariant_of-self-in-Err-clause-now_counted : goal.invariant_of-self-in-Err-clause-now_counted
+invariant_of-self-in-Err-clause-now_counted g c =
+    let self = c.args.self.now in
+    counted_failed (state g.S.Store self.conn) (state g.S.Store c.roll_back.new.conn) self.within self.now_counted c.in-Err.ensures.crash c.in-Err.ensures.failed

@@ -1,34 +1,14 @@
-use Rattle.std.proofs.Common.{refl}
 use Rattle.sqlite.specs.Held.{state}
-use Rattle.pw_schema.proofs.Outcomes.{early}
-use Rattle.pw_store.proofs.Keeping.{failed_same, left_no_more}
-use Rattle.pw_store.proofs.LeftStores.{keeps_failed, keeps_same}
+use Rattle.pw_store.proofs.Counted.{inside_counted, outside_counted}
+use Rattle.pw_store.proofs.Inside.{mode_is}
 use Rattle.pw_store.proofs.calls.SqlShelfShelf.count.Goals as goal
 
-pub returns-in-Err-clause-asked : goal.returns-in-Err-clause-asked
-returns-in-Err-clause-asked g c =
+pub returns-then-is_autocommit-clause-number : goal.returns-then-is_autocommit-clause-number
+returns-then-is_autocommit-clause-number g c clean =
     let self = c.args.self.now in
-    let old = state g.S.Store self.conn in
-    let new = state g.S.Store c.count.new.conn in
-    record {
-      same = λ clean. tt;
-      failed = λ clean none. failed_same old new (state g.S.Store self.base.value) self.begun 0 0 0 (g.met.S.Store.shut_if_dirty self.conn.store) self.since self.idle (c.in-Err.ensures.failed clean) none;
-      tally = c.tick-in-Err.ensures;
-      kept = record {
-        upload = refl;
-        counts = record { failures = c.fault_of_ask.ensures; failed_abandons = refl };
-        left = left_no_more old new c.in-Err.ensures.crash;
-        clean = early old new c.in-Err.ensures.crash;
-        store = refl;
-      };
-    }
+    outside_counted (state g.S.Store self.conn) (state g.S.Store self.base.value) self.held self.since self.base_counted (c.is_autocommit.ensures.settled c.if-is_autocommit.true) clean
 
-pub invariant_of-self-clause-keeps : goal.invariant_of-self-clause-keeps
-invariant_of-self-clause-keeps g c =
+pub returns-clause-number : goal.returns-clause-number
+returns-clause-number g c clean =
     let self = c.args.self.now in
-    keeps_same (state g.S.Store self.conn) (state g.S.Store c.count.new.conn) (state g.S.Store self.opened.value) self.keeps c.in-Ok.ensures.crash c.in-Ok.ensures.same
-
-pub invariant_of-self-in-Err-clause-keeps : goal.invariant_of-self-in-Err-clause-keeps
-invariant_of-self-in-Err-clause-keeps g c =
-    let self = c.args.self.now in
-    keeps_failed (state g.S.Store self.conn) (state g.S.Store c.count.new.conn) (state g.S.Store self.opened.value) self.keeps c.in-Err.ensures.crash c.in-Err.ensures.failed
+    inside_counted (state g.S.Store self.conn) (state g.S.Store self.base.value) self.within self.inside self.now_counted (mode_is _ _ c.if-is_autocommit.false c.is_autocommit.ensures.value) clean

@@ -1,6 +1,7 @@
 use Rattle.std.proofs.Common.{refl}
 use Rattle.sqlite.specs.Held.{state}
 use Rattle.pw_schema.proofs.Outcomes.{early}
+use Rattle.pw_store.proofs.Counted.{counted_failed, counted_same}
 use Rattle.pw_store.proofs.Keeping.{failed_same, left_no_more}
 use Rattle.pw_store.proofs.LeftStores.{keeps_failed, keeps_same}
 use Rattle.pw_store.proofs.calls.SqlShelfShelf.points_between.Goals as goal
@@ -32,3 +33,13 @@ pub invariant_of-self-in-Err-clause-keeps : goal.invariant_of-self-in-Err-clause
 invariant_of-self-in-Err-clause-keeps g c =
     let self = c.args.self.now in
     keeps_failed (state g.S.Store self.conn) (state g.S.Store c.points_between.new.conn) (state g.S.Store self.opened.value) self.keeps c.in-Err.ensures.crash c.in-Err.ensures.failed
+
+pub invariant_of-self-in-Err-clause-now_counted : goal.invariant_of-self-in-Err-clause-now_counted
+invariant_of-self-in-Err-clause-now_counted g c =
+    let self = c.args.self.now in
+    counted_failed (state g.S.Store self.conn) (state g.S.Store c.points_between.new.conn) self.within self.now_counted c.in-Err.ensures.crash c.in-Err.ensures.failed
+
+pub invariant_of-self-clause-now_counted : goal.invariant_of-self-clause-now_counted
+invariant_of-self-clause-now_counted g c =
+    let self = c.args.self.now in
+    counted_same (state g.S.Store self.conn) (state g.S.Store c.points_between.new.conn) self.within self.now_counted c.in-Ok.ensures.crash c.in-Ok.ensures.same

@@ -1,6 +1,8 @@
 use Rattle.std.proofs.Common.{rules}
 use Rattle.sqlite.specs.Held.{state}
 use Rattle.pw_store.specs.inner.Changing.{changed}
+use Rattle.pw_store.proofs.Counted.{counted_changed, counted_failed}
+use Rattle.pw_store.proofs.Inside.{mode_is}
 use Rattle.pw_store.proofs.Keeping.{held_made}
 use Rattle.pw_store.proofs.LeftStores.{keeps_failed, keeps_written}
 use Rattle.pw_store.proofs.shelf.SqlShelf.change.Goals as goal
@@ -25,3 +27,13 @@ invariant_of-self-in-Err-clause-awake g c = search rules
 
 pub make-requires-clause-inside : goal.make-requires-clause-inside
 make-requires-clause-inside g c = search rules
+
+pub invariant_of-self-in-Ok-clause-now_counted : goal.invariant_of-self-in-Ok-clause-now_counted
+invariant_of-self-in-Ok-clause-now_counted g c =
+    let self = c.args.self.now in
+    counted_changed (state g.S.Store self.conn) (state g.S.Store c.make.new.conn) self.within c.args.change self.now_counted (mode_is _ _ c.if-is_autocommit.false c.is_autocommit.ensures.value) c.in-Ok.ensures.crash c.in-Ok.ensures.done
+
+pub invariant_of-self-in-Err-clause-now_counted : goal.invariant_of-self-in-Err-clause-now_counted
+invariant_of-self-in-Err-clause-now_counted g c =
+    let self = c.args.self.now in
+    counted_failed (state g.S.Store self.conn) (state g.S.Store c.make.new.conn) self.within self.now_counted c.in-Err.ensures.crash c.in-Err.ensures.failed

@@ -1,5 +1,6 @@
 use Rattle.sqlite.specs.Held.{state}
 use Rattle.pw_tariff.specs.Office.{office_of}
+use Rattle.pw_store.proofs.Counted.{counted_opened}
 use Rattle.pw_store.proofs.Fresh.{left_alone, open_content, open_few, open_text, open_truth}
 use Rattle.std.proofs.Common.{ap, rules}
 use Rattle.pw_store.proofs.LeftStores.{opening_keeps, opening_text}
@@ -31,3 +32,7 @@ returns-in-Ok-clause-opened g c clean =
 
 pub returns-in-Ok-clause-idle : goal.returns-in-Ok-clause-idle
 returns-in-Ok-clause-idle g c = search rules
+
+pub invariant_of-result-clause-base_counted : goal.invariant_of-result-clause-base_counted
+invariant_of-result-clause-base_counted g c =
+    counted_opened (state g.S.Store c.prepare.new.conn) (state g.S.Store c.of-base.result.value) c.in-Ok.held (office_of c.args.office.now) c.args.office_text.now (state g.S.Store c.args.connection).committed (ap (state g.S.Store) c.of-base.ensures) c.in-Ok.ensures.opened c.in-Ok.ensures.counted

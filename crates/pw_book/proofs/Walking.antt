@@ -1,0 +1,244 @@
+-- Changes that are walked in the order of their totals.
+use Rattle.std.proofs.Common.{◌≡◌, ℕ, ◌+◌, ◌*◌, ◌<◌, ◌≤◌, ◌⊎◌, Option, Some, None, List, [], ◌∷◌, Ordering, Less, Equal, Greater, refl, ap, sym, subst, ◌∙◌, arith, inl, inr}
+use Rattle.std.specs.FinMap.{nat_cmp-IsAntisymmetric}
+use Rattle.std.specs.List.{AllByRecursion}
+use Rattle.std.specs.List.Sorted.{IsStrictlySortedBy}
+use Rattle.std.specs.Map.{keys_of, lookup}
+use Rattle.std.specs.BTreeMap.{BTreeMap, IsOrdered, get, is_at}
+use Rattle.std.specs.Ordering.{is_eq, nat_cmp, ordering_reverse, ordering_then}
+use Rattle.std.proofs.lemmas.Bool.{cases_Bool, true≢false}
+use Rattle.std.proofs.lemmas.Cmp.{tied_itself}
+use Rattle.std.proofs.lemmas.Nat.{mul-add-lt, row_fits}
+use Rattle.pw_tariff.specs.declared.ids.AccountId.{AccountId}
+use Rattle.pw_tariff.specs.declared.ids.BandId.{BandId}
+use Rattle.pw_tariff.specs.declared.ids.Direction.{Direction}
+use Rattle.pw_tariff.specs.declared.ids.Direction.TheVariants.{Import, Export}
+use Rattle.pw_tariff.specs.Cells.{owner_place}
+use Rattle.pw_model.specs.contracts.records.TotalKeyOrd.TheImpl.Laws as total_laws
+use Rattle.pw_model.specs.declared.records.TotalKey.{TotalKey}
+use Rattle.pw_model.specs.declared.records.TotalKey.TheVariants.{Energy, TopUps}
+use Rattle.pw_model.specs.Counting.{Member}
+use Rattle.pw_model.specs.Office.{HasOwner}
+use Rattle.pw_model.specs.Same.{direction_place, total_numbers, total_order}
+use Rattle.pw_model.specs.Shelf.{ShelfContent}
+use Rattle.pw_model.proofs.InKeyOrder.{totals-ordered}
+use Rattle.pw_parts.specs.inner.Totals.{total_key_order}
+use Rattle.pw_parts.proofs.Chart.{less-is}
+use Rattle.pw_shelf.specs.Changes.{same_total}
+use Rattle.pw_tariff.specs.Office.{OfficeRules}
+use Rattle.pw_book.specs.declared.changes.Change.{Change}
+use Rattle.pw_book.specs.declared.changes.Side.{Side}
+use Rattle.pw_book.specs.inner.Moves.{MovesTotals, OfOwners}
+use Rattle.pw_book.specs.inner.Sums.{amount_told, gathered}
+use Rattle.pw_book.proofs.Changing.{moves-at, moves-none, moves-then, moves-told, of-owners}
+use Rattle.pw_book.proofs.TotalKeys.{same_total-decides, total-tested}
+
+-- ---- the changes that are still to come
+-- none of them is the total's
+abbrev pub IsApart : TotalKey → List (TotalKey × Change) → Type 0
+IsApart k [] = Unit {0}
+IsApart k (e ∷ es) = (e.0 ≡ k → ⊥) × IsApart k es
+
+-- the last ones of a map's rows, in their order
+pub record IsRest (rows : BTreeMap TotalKey Change) (rest : List (TotalKey × Change)) : Type 0 where
+  pub rises : IsStrictlySortedBy total_key_order (keys_of rest)
+  pub held : (e : TotalKey × Change) → Member e rest → get total_key_order rows e.0 ≡ Some e.1
+
+all-key : (P : TotalKey → Type 0) (es : List (TotalKey × Change)) (t : TotalKey × Change) → AllByRecursion P (keys_of es) → Member t es → P t.0
+all-key P [] t h m = absurd m
+all-key P (e ∷ es) t h m = elim m [
+  | inl i ↦ subst P (sym (ap (λ (a : TotalKey × Change). a.0) i)) h.0
+  | inr n ↦ all-key P es t h.1 n
+]
+
+member-found : (es : List (TotalKey × Change)) → IsStrictlySortedBy total_key_order (keys_of es) → (t : TotalKey × Change) → Member t es → lookup (is_at (total_key_order t.0)) es ≡ Some t.1
+unfolding IsStrictlySortedBy
+member-found [] s t m = absurd m
+member-found (e ∷ es) s t m =
+    elim m [
+      | inl i ↦ (let j : total_key_order t.0 e.0 ≡ Equal = ap (λ (a : TotalKey × Change). total_key_order t.0 a.0) (sym i) ∙ tied_itself total_laws.total-law t.0 in
+          let v : e.1 ≡ t.1 = ap (λ (a : TotalKey × Change). a.1) (sym i) in rw j (ap (λ (a : Change). Some a) v))
+      | inr n ↦ (let less : total_key_order e.0 t.0 ≡ Less = all-key (λ y. total_key_order e.0 y ≡ Less) es t s.0 n in
+          let greater : total_key_order t.0 e.0 ≡ Greater = total_laws.total-law.antisymm t.0 e.0 ∙ ap ordering_reverse less in
+          rw greater (member-found es s.1 t n))
+    ]
+
+-- at first, all of them
+pub rest-all : (rows : BTreeMap TotalKey Change) (rest : List (TotalKey × Change)) → IsOrdered total_key_order rows → rest ≡ rows.entries → IsRest rows rest
+rest-all rows rest s e =
+    let P : List (TotalKey × Change) → Type 0 = λ es. IsRest rows es in
+    subst P (sym e) (record { rises = s; held = λ t m. member-found rows.entries s t m })
+
+-- one behind another
+pub rest-next : (rows : BTreeMap TotalKey Change) (e : TotalKey × Change) (rest : List (TotalKey × Change)) → IsRest rows (e ∷ rest) → IsRest rows rest
+unfolding IsStrictlySortedBy
+rest-next rows e rest r = record { rises = r.rises.1; held = λ t m. r.held t (inr m) }
+
+-- what is gathered for the first of them
+pub first-gathered : (side : Side) (rows : BTreeMap TotalKey Change) (e : TotalKey × Change) (rest : List (TotalKey × Change)) → IsRest rows (e ∷ rest) → amount_told side (Some e.1) ≡ gathered side rows e.0
+first-gathered side rows e rest r = ap (amount_told side) (sym (r.held e (inl refl)))
+
+-- where none is a total's, nothing is gathered for it
+apart-none : (k : TotalKey) (es : List (TotalKey × Change)) → IsApart k es → lookup (is_at (total_key_order k)) es ≡ None
+apart-none k [] h = refl
+apart-none k (e ∷ es) h =
+    elim (cases_Bool (is_eq (total_key_order k e.0))) [
+      | inl t ↦ absurd (h.0 (sym ((same_total-decides k e.0).0 (sym (total-tested k e.0) ∙ t))))
+      | inr f ↦ rw f (apart-none k es h.1)
+    ]
+
+none-gathered : (side : Side) (rows : BTreeMap TotalKey Change) (k : TotalKey) → IsApart k rows.entries → gathered side rows k ≡ 0
+none-gathered side rows k h = ap (amount_told side) (apart-none k rows.entries h)
+
+-- the first is apart from those behind it
+behind-apart : (k : TotalKey) (es : List (TotalKey × Change)) → AllByRecursion (λ y. total_key_order k y ≡ Less) (keys_of es) → IsApart k es
+behind-apart k [] h = tt
+behind-apart k (e ∷ es) h = (
+  λ q. (
+      let a : total_key_order k k ≡ Less = ap (λ (l : TotalKey). total_key_order k l) (sym q) ∙ h.0 in
+      let b : Less ≡ Equal = sym a ∙ tied_itself total_laws.total-law k in
+      cc),
+  behind-apart k es h.1,
+)
+
+first-apart : (rows : BTreeMap TotalKey Change) (e : TotalKey × Change) (rest : List (TotalKey × Change)) → IsRest rows (e ∷ rest) → IsApart e.0 rest
+unfolding IsStrictlySortedBy
+first-apart rows e rest r = behind-apart e.0 rest r.rises.0
+
+-- ---- totals that are moved so far: those of the office of which no change is still to come
+abbrev pub Moved : ℕ → ℕ → List (TotalKey × Change) → TotalKey → Type 0
+Moved bands accounts rest k = OfOwners bands accounts k × IsApart k rest
+
+pub walk-begins : (bands accounts : ℕ) (more less : Side) (rows : BTreeMap TotalKey Change) (rest : List (TotalKey × Change)) (c d : ShelfContent) → d ≡ c → rest ≡ rows.entries →
+    MovesTotals (Moved bands accounts rest) (gathered more rows) (gathered less rows) c d
+walk-begins bands accounts more less rows rest c d q e =
+    moves-none (Moved bands accounts rest) (gathered more rows) (gathered less rows) c d q (λ k t. (
+    let P : List (TotalKey × Change) → Type 0 = λ es. IsApart k es in
+    let a : IsApart k rows.entries = subst P e t.1 in
+    let x = none-gathered more rows k a in
+    let y = none-gathered less rows k a in
+    omega (arith, x, y)))
+
+-- one that is of the office
+pub walk-moves : (bands accounts : ℕ) (more less : Side) (rows : BTreeMap TotalKey Change) (e : TotalKey × Change) (rest : List (TotalKey × Change)) (a b : ℕ) (was mid now : ShelfContent) → IsRest rows (e ∷ rest) → OfOwners bands accounts e.0 →
+    a ≡ gathered more rows e.0 → b ≡ gathered less rows e.0 →
+    MovesTotals (Moved bands accounts (e ∷ rest)) (gathered more rows) (gathered less rows) was mid → MovesTotals (λ k. k ≡ e.0) (λ k. a) (λ k. b) mid now →
+    MovesTotals (Moved bands accounts rest) (gathered more rows) (gathered less rows) was now
+walk-moves bands accounts more less rows e rest a b was mid now r o p q f g =
+    moves-told (λ k. Moved bands accounts (e ∷ rest) k ⊎ (k ≡ e.0)) (Moved bands accounts rest) (gathered more rows) (gathered less rows) was now
+    (λ k. (
+      λ t. elim t [
+        | inl i ↦ (i.0, i.1.1)
+        | inr j ↦ (let P : TotalKey → Type 0 = Moved bands accounts rest in subst P (sym j) (o, first-apart rows e rest r))
+      ],
+      λ t. elim (cases_Bool (same_total e.0 k)) [
+        | inl y ↦ inr (sym ((same_total-decides e.0 k).0 y))
+        | inr n ↦ inl (t.0, ((λ j. true≢false (sym ((same_total-decides e.0 k).1 j) ∙ n)), t.1))
+      ],
+    ))
+    (moves-then (Moved bands accounts (e ∷ rest)) (λ k. k ≡ e.0) (gathered more rows) (gathered less rows) was mid now
+    (λ k i j. i.1.0 (sym j))
+    f (moves-at e.0 (gathered more rows) (gathered less rows) a b mid now p q g))
+
+-- one that isn't is passed over
+pub walk-passes : (bands accounts : ℕ) (more less : Side) (rows : BTreeMap TotalKey Change) (e : TotalKey × Change) (rest : List (TotalKey × Change)) (was now : ShelfContent) → (OfOwners bands accounts e.0 → ⊥) →
+    MovesTotals (Moved bands accounts (e ∷ rest)) (gathered more rows) (gathered less rows) was now → MovesTotals (Moved bands accounts rest) (gathered more rows) (gathered less rows) was now
+walk-passes bands accounts more less rows e rest was now n f =
+    moves-told (Moved bands accounts (e ∷ rest)) (Moved bands accounts rest) (gathered more rows) (gathered less rows) was now
+    (λ k. (
+      λ t. (t.0, t.1.1),
+      λ t. (t.0, ((λ j. n (let P : TotalKey → Type 0 = OfOwners bands accounts in subst P (sym j) t.0)), t.1)),
+    ))
+    f
+
+pub walk-ends : (bands accounts : ℕ) (more less : TotalKey → ℕ) (rest : List (TotalKey × Change)) (was now : ShelfContent) → rest ≡ [] →
+    MovesTotals (Moved bands accounts rest) more less was now → MovesTotals (OfOwners bands accounts) more less was now
+walk-ends bands accounts more less rest was now e f =
+    moves-told (Moved bands accounts rest) (OfOwners bands accounts) more less was now
+    (λ k. (λ t. t.0, λ t. (t, (let P : List (TotalKey × Change) → Type 0 = λ es. IsApart k es in subst P (sym e) tt)))) f
+
+-- ---- how many calls and rows
+-- the place of an energy of the office among all of them
+abbrev pub place : ℕ → TotalKey → ℕ
+place bands (Energy o b d) = (owner_place o * bands + b.0) * 2 + direction_place d
+place bands (TopUps a) = 0
+
+then-less : (o p : Ordering) → ordering_then o p ≡ Less → (o ≡ Less) ⊎ ((o ≡ Equal) × (p ≡ Less))
+then-less Less p h = inl refl
+then-less Equal p h = inr (refl, h)
+then-less Greater p h = absurd (let b : Greater ≡ Less = h in cc)
+
+one-of_two : (d : Direction) → direction_place d ≤ 1
+one-of_two Import = omega arith
+one-of_two Export = omega arith
+
+-- energies are placed in their order
+place-rises : (bands : ℕ) (o p : Option AccountId) (b c : BandId) (d e : Direction) → b.0 < bands → c.0 < bands → total_order (Energy o b d) (Energy p c e) ≡ Less → place bands (Energy o b d) < place bands (Energy p c e)
+unfolding total_numbers
+place-rises bands o p b c d e l m h =
+    let x = one-of_two d in
+    let y = one-of_two e in
+    elim (then-less (nat_cmp (owner_place o) (owner_place p)) _ h) [
+      | inl i ↦ (
+          let z = row_fits (owner_place o) bands (owner_place p) bands (less-is (owner_place o) (owner_place p) i) (omega arith) in
+          omega (arith, l, m, x, y, z))
+      | inr i ↦ (
+          let q : owner_place o * bands ≡ owner_place p * bands = ap (λ (n : ℕ). n * bands) (nat_cmp-IsAntisymmetric (owner_place o) (owner_place p) i.0) in
+          elim (then-less (nat_cmp b.0 c.0) _ i.1) [
+            | inl j ↦ (let k = less-is b.0 c.0 j in omega (arith, q, k, x, y))
+            | inr j ↦ (
+                let k : b.0 ≡ c.0 = nat_cmp-IsAntisymmetric b.0 c.0 j.0 in
+                elim (then-less (nat_cmp (direction_place d) (direction_place e)) _ j.1) [
+                  | inl n ↦ (let v = less-is (direction_place d) (direction_place e) n in omega (arith, q, k, v))
+                  | inr n ↦ absurd (let w : Equal ≡ Less = n.1 in cc)
+                ])
+          ])
+    ]
+
+owner-within : (office : OfficeRules) (o : Option AccountId) → HasOwner office o → owner_place o < office.accounts + 1
+owner-within office None h = omega arith
+owner-within office (Some a) h = omega (arith, h)
+
+pub place-within : (office : OfficeRules) (k : TotalKey) → OfOwners office.bands office.accounts k → place office.bands k < 2 * (office.bands * (office.accounts + 1))
+place-within office (TopUps a) h = absurd (let z : 0 ≡ 1 = (of-owners office (TopUps a) h).0 in omega (arith, z))
+place-within office (Energy o b d) h =
+    let i = of-owners office (Energy o b d) h in
+    let w = mul-add-lt (owner_place o) office.bands b.0 (office.accounts + 1) (owner-within office o i.2) i.1 in
+    let x = one-of_two d in
+    omega (arith, w, x)
+
+-- calls and rows so far: three for each place that was passed
+pub record HasTaken (office : OfficeRules) (rest : List (TotalKey × Change)) (was now : ℕ) : Type 0 where
+  pub far : ℕ
+  pub taken : now ≤ was + 3 * far
+  pub within : far ≤ 2 * (office.bands * (office.accounts + 1))
+  pub ahead : (e : TotalKey × Change) → Member e rest → OfOwners office.bands office.accounts e.0 → far ≤ place office.bands e.0
+
+pub taken-none : (office : OfficeRules) (rest : List (TotalKey × Change)) (was now : ℕ) → now ≤ was → HasTaken office rest was now
+taken-none office rest was now l = record { far = 0; taken = omega (arith, l); within = omega arith; ahead = λ e m o. omega arith }
+
+energy-behind : (office : OfficeRules) (k l : TotalKey) → OfOwners office.bands office.accounts k → OfOwners office.bands office.accounts l → total_key_order k l ≡ Less → place office.bands k < place office.bands l
+energy-behind office (TopUps a) l h i o = absurd (let z : 0 ≡ 1 = (of-owners office (TopUps a) h).0 in omega (arith, z))
+energy-behind office (Energy p b d) (TopUps a) h i o = absurd (let z : 0 ≡ 1 = (of-owners office (TopUps a) i).0 in omega (arith, z))
+energy-behind office (Energy p b d) (Energy q c e) h i o =
+    place-rises office.bands p q b c d e (of-owners office (Energy p b d) h).1 (of-owners office (Energy q c e) i).1 (sym (totals-ordered (Energy p b d) (Energy q c e)) ∙ o)
+
+pub taken-more : (office : OfficeRules) (rows : BTreeMap TotalKey Change) (e : TotalKey × Change) (rest : List (TotalKey × Change)) (was mid now : ℕ) → IsRest rows (e ∷ rest) → OfOwners office.bands office.accounts e.0 →
+    HasTaken office (e ∷ rest) was mid → now ≤ mid + 3 → HasTaken office rest was now
+unfolding IsStrictlySortedBy
+taken-more office rows e rest was mid now r o t l =
+    let a = t.ahead e (inl refl) o in
+    let b = t.taken in
+    let c = place-within office e.0 o in
+    record {
+      far = place office.bands e.0 + 1;
+      taken = omega (arith, a, b, l);
+      within = omega (arith, c);
+      ahead = λ f m p. (let q = energy-behind office e.0 f.0 o p (all-key (λ y. total_key_order e.0 y ≡ Less) rest f r.rises.0 m) in omega (arith, q));
+    }
+
+pub taken-past : (office : OfficeRules) (e : TotalKey × Change) (rest : List (TotalKey × Change)) (was now : ℕ) → HasTaken office (e ∷ rest) was now → HasTaken office rest was now
+taken-past office e rest was now t = record { far = t.far; taken = t.taken; within = t.within; ahead = λ f m. t.ahead f (inr m) }
+
+pub taken-all : (office : OfficeRules) (rest : List (TotalKey × Change)) (was now : ℕ) → HasTaken office rest was now → now ≤ was + 6 * (office.bands * (office.accounts + 1))
+taken-all office rest was now t = let a = t.taken in let b = t.within in omega (arith, a, b)

@@ -1,5 +1,0 @@
-use Rattle.std.proofs.Common.{rules}
-use Rattle.pw_http.proofs.fault.WireFaultDisplay.fmt.Goals as goal
-
-pub returns-in-Write-clause-writes : goal.returns-in-Write-clause-writes
-returns-in-Write-clause-writes g c = search rules
