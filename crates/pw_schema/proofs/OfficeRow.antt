@@ -14,6 +14,7 @@ use Rattle.sqlite.specs.Edit.{Applies, edit_of}
 use Rattle.sqlite.specs.Cast.{cast}
 use Rattle.sqlite.specs.Rowids.TheVariants.{Chosen}
 use Rattle.sqlite.specs.Does.{Does}
+use Rattle.sqlite.specs.Effect.{IsDatabase}
 use Rattle.sqlite.specs.State.{State, mode_of, Executes, Shows, KeepsCommit, HasCleanDisk, Survives, CommitsBy}
 use Rattle.sqlite.specs.Listing.{understood}
 use Rattle.sqlite_tied.specs.Compute.{everything}
@@ -85,6 +86,9 @@ module _ (old new : State) (body : List ℕ) (count : ℕ) (blank : IsBlank stag
         total_topup = t.1.1.1.1.1.1.1.0 (λ e. absurd (omega (arith, e))) ∙ empty.1.1.1.1.1.1.1.0;
       }
 
+  pub listed : IsDatabase new.now
+  listed = (runs_as put_office_text (Blob body ∷ []) old new (ours_with only_one) has (Insert 0 (Values terms 4)) put_office_is put_office_plain count h).sound
+
   pub shown : Shows old new new.now (cond old.in_transaction old.committed new.now) old.in_transaction
   shown = (runs_as put_office_text (Blob body ∷ []) old new (ours_with only_one) has (Insert 0 (Values terms 4)) put_office_is put_office_plain count h).shown
 
@@ -100,6 +104,10 @@ office_kept old new body (Err e) making h = unchanged_keeps old new (fails old n
 pub fresh_if : (old new : State) (body : List ℕ) (out : Result ℕ Error) → IsMaking stage8 old → Executes put_office_text (Blob body ∷ []) old new out → OnOk out (IsFresh body new.now)
 fresh_if old new body (Ok n) making h = fresh old new body n making.blank h
 fresh_if old new body (Err e) making h = tt
+
+pub listed_if : (old new : State) (body : List ℕ) (out : Result ℕ Error) → IsMaking stage8 old → Executes put_office_text (Blob body ∷ []) old new out → OnOk out (IsDatabase new.now)
+listed_if old new body (Ok n) making h = listed old new body n making.blank h
+listed_if old new body (Err e) making h = tt
 
 pub office_survives : (old new : State) (body : List ℕ) → (HasCleanDisk old → IsMaking stage8 old) → Survives old new (CommitsBy put_office_text (Blob body ∷ []) old) → Survives old new (λ _. ⊥)
 office_survives old new body making =

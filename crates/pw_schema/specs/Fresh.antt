@@ -3,7 +3,7 @@
 use Rattle.std.specs.Prelude.{◌≡◌, ℕ, pos, false, [], ◌∷◌, List, IsTrue}
 use Rattle.sqlite.specs.declared.types.Value.TheVariants.{Null, Int, Blob}
 use Rattle.sqlite.specs.Order.{Row}
-use Rattle.sqlite.specs.Effect.{Database}
+use Rattle.sqlite.specs.Effect.{Database, IsDatabase}
 use Rattle.sqlite.specs.Tree.{Trees}
 use Rattle.sqlite.specs.State.{State}
 use Rattle.pw_schema.specs.Conflicts.{AreWithoutConflict}
@@ -25,9 +25,10 @@ pub record IsFresh (body : List ℕ) (db : Database) : Type 0 where
   pub total : db.trees 11 ≡ []
   pub total_topup : db.trees 13 ≡ []
 
--- such a database, in whose texts no conflict is spoken of
+-- such a database, whose file lists these tables, in whose texts no conflict is spoken of
 pub record IsNew (body : List ℕ) (db : Database) : Type 0 where
   pub fresh : IsFresh body db
+  pub listed : IsDatabase db
   pub plain : AreWithoutConflict db.trees
 
 -- the trees of one

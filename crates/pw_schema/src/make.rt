@@ -1,6 +1,7 @@
 //! The tables, each made by its own text.
 
 ghost use Rattle.std.specs.Prelude.{◌≡◌, OnErr, OnOk, IsTrue};
+ghost use Rattle.sqlite.specs.Effect.{IsDatabase};
 ghost use Rattle.sqlite.specs.Held.{state};
 ghost use Rattle.sqlite.specs.State.{HasCleanDisk, IsUnchanged, KeepsCommit, Shows, Survives};
 ghost use Rattle.pw_schema.specs.Conflicts.{AreWithoutConflict};
@@ -138,6 +139,7 @@ fn make_sums<S: Alter>(conn: &mut Connection<S>) -> Result<(), Error>
 fn put_office<S: Alter>(conn: &mut Connection<S>, body: &[u8]) -> Result<usize, Error>
     requires { HasCleanDisk (state S.Store conn.old) → IsMaking stage8 (state S.Store conn.old) }
     ensures made { HasCleanDisk (state S.Store conn.new) → OnOk result (IsFresh body.now (state S.Store conn.new).now) }
+    ensures listed { HasCleanDisk (state S.Store conn.new) → OnOk result (IsDatabase (state S.Store conn.new).now) }
     ensures inside { HasCleanDisk (state S.Store conn.new) → OnOk result (IsTrue (state S.Store conn.new).is_open) }
     ensures kept { HasCleanDisk (state S.Store conn.new) → KeepsCommit (state S.Store conn.old) (state S.Store conn.new) }
     ensures crash { Survives (state S.Store conn.old) (state S.Store conn.new) (λ _. ⊥) }
