@@ -11,12 +11,9 @@ ghost use Rattle.pw_tariff.specs.Office.{office_of};
 ghost use Rattle.pw_book.specs.Asking.{IsOnlyAsked};
 
 use crate::asked::total_held;
-use pw_model::TotalKey;
+use pw_model::{NANO_IN_CENT, TotalKey};
 use pw_shelf::{Shelf, ShelfFault};
 use pw_tariff::{AccountId, BandId, Direction, Office};
-
-// Nano-euro in a cent.
-const NANO_IN_CENT: u128 = 10_000_000;
 
 // The balance of an account, in nano-euro: what was topped up, less what its imported energy costs, plus what its exported
 // energy does.

@@ -11,13 +11,13 @@ ghost use Rattle.pw_book.specs.inner.Moves.{MovesTotals, OfOwners, most_total};
 ghost use Rattle.pw_book.specs.inner.Sums.{gathered, other_side};
 
 use crate::changes::{Changes, Side};
-use pw_model::TotalKey;
+use pw_model::{MOST_RECORDS, TotalKey};
 use pw_obis::LARGEST_WATT_HOURS;
 use pw_shelf::{Shelf, ShelfFault};
 use pw_tariff::{Office, Owner};
 
 // The greatest amount of a total: that of 10,000,000 records of the largest reading.
-const MOST_TOTAL: u64 = 10_000_000 * LARGEST_WATT_HOURS;
+const MOST_TOTAL: u64 = MOST_RECORDS as u64 * LARGEST_WATT_HOURS;
 
 // A total that gains and loses such amounts, where the outcome is an amount of a total. (Only over a store that isn't
 // clean it can be another: then it is capped.)

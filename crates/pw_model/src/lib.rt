@@ -3,6 +3,7 @@
 
 mod compare;
 pub mod laws;
+mod limits;
 pub mod plain;
 mod records;
 mod reference;
@@ -10,5 +11,6 @@ mod reference;
 pub use compare::{
     compare_entries, compare_keys, compare_totals, is_same_content, is_same_entry, is_same_key,
 };
+pub use limits::{MOST_CENTS, MOST_RECORDS, NANO_IN_CENT};
 pub use records::{Content, Contents, Dispute, Entry, Fall, Key, ReadingRow, TotalKey};
 pub use reference::{LONGEST_REFERENCE, Reference};

@@ -6,11 +6,9 @@ ghost use Rattle.pw_report.specs.Amounts.{balance_text as text_of_balance, cents
 ghost use Rattle.pw_report.specs.Layout.{instant_text as text_of_instant, left, right};
 
 use itoa::Buffer;
+use pw_model::NANO_IN_CENT;
 use pw_time::{Instant, write_utc};
 use std::alloc::{AllocError, Global};
-
-// Nano-euro in a cent.
-const NANO_IN_CENT: i128 = 10_000_000;
 
 /// A text in so many places at least, with spaces behind it.
 pub(crate) fn put_left(text: &mut Vec<u8>, width: usize, field: &[u8]) -> Result<(), AllocError>
@@ -69,7 +67,7 @@ pub(crate) fn put_euro(text: &mut Vec<u8>, cents: u128) -> Result<(), AllocError
 pub(crate) fn balance_text(alloc: Global, nano: i128) -> Result<Vec<u8>, AllocError>
     ensures { IfOk result (λ text. text.items ≡ text_of_balance nano) }
 {
-    let cents = nano.div_euclid(NANO_IN_CENT);
+    let cents = nano.div_euclid(NANO_IN_CENT as i128);
     let mut text = Vec::new(alloc);
     if cents < 0 {
         text.push(b'-')?;

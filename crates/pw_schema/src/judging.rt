@@ -9,7 +9,7 @@ ghost use Rattle.pw_schema.specs.Rows.{told, told_amount, told_key};
 use crate::kind::{RecordKind, TotalKind};
 use crate::reading::entry_of;
 use crate::totals::total_of;
-use pw_model::{Content, Entry, Key, TotalKey};
+use pw_model::{Content, Entry, Key, MOST_CENTS, TotalKey};
 use pw_tariff::{Office, Owner};
 use sqlite::Row;
 
@@ -53,7 +53,7 @@ fn is_of_office(office: &Office, entry: &Entry) -> bool
         ) => {
             let _text = reference.bytes();
             let _second = instant.seconds();
-            account.0 < office.accounts() && 1 <= *cents && *cents <= 100_000_000
+            account.0 < office.accounts() && 1 <= *cents && *cents <= MOST_CENTS
         }
         _ => false,
     }

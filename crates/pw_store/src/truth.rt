@@ -6,7 +6,7 @@ ghost use Rattle.pw_model.specs.Office.{AllOfOffice, most_records};
 ghost use Rattle.pw_parts.specs.Parts.{IsPartsOf};
 
 use crate::fault::OpenFault;
-use pw_model::Entry;
+use pw_model::{Entry, MOST_RECORDS};
 use pw_parts::{Parts, true_parts};
 use pw_tariff::Office;
 use pw_time::Zone;
@@ -24,7 +24,7 @@ pub(crate) fn parts_of(
     ensures many { result ≡ Err OpenFault.Unclean → most_records < length records.items }
     ensures others { OnErr result ((result ≡ Err OpenFault.Unclean) ⊎ (result ≡ Err OpenFault.Memory)) }
 {
-    if records.len() > 10_000_000 {
+    if records.len() > MOST_RECORDS as usize {
         return Err(OpenFault::Unclean);
     }
     match true_parts(alloc, office, &Zone::central(), records.as_slice()) {

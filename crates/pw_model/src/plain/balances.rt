@@ -9,6 +9,7 @@ ghost use Rattle.pw_model.specs.Payments.{balance as balance_of};
 use super::energies::energy;
 use super::payments::topped_up;
 use super::terms::Terms;
+use crate::limits::NANO_IN_CENT;
 use crate::records::Entry;
 use pw_tariff::{AccountId, BandId, Direction};
 use std::alloc::{AllocError, Global};
@@ -27,7 +28,7 @@ pub fn balance<T: Terms>(
 {
     let imported = cost(alloc, terms, entries, account, Direction::Import)?;
     let exported = cost(alloc, terms, entries, account, Direction::Export)?;
-    let paid = 10_000_000 * topped_up(entries, account);
+    let paid = NANO_IN_CENT * topped_up(entries, account);
     Ok(difference(paid, imported, exported))
 }
 

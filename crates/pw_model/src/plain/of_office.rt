@@ -4,6 +4,7 @@ ghost use Rattle.std.specs.Prelude.{IsTrue, ◌↔◌};
 ghost use Rattle.pw_model.specs.Office.{AllOfOffice, HasOwner, IsOfOffice};
 
 use super::terms::Terms;
+use crate::limits::MOST_CENTS;
 use crate::records::{Content, Entry, Key};
 use pw_tariff::Owner;
 
@@ -42,7 +43,7 @@ pub fn is_entry_of_office<T: Terms>(terms: &T, entry: &Entry) -> bool
             };
             let _second = instant.seconds();
             let _text = reference.bytes();
-            account.0 < terms.accounts() && 1 <= *cents && *cents <= 100_000_000
+            account.0 < terms.accounts() && 1 <= *cents && *cents <= MOST_CENTS
         }
     }
 }
