@@ -2,10 +2,10 @@
 
 ghost use Rattle.std.specs.Prelude.{◌≡◌, ℕ, ◌≤◌, ◌<◌, IfSome, IfNone};
 ghost use Rattle.std.specs.Str.Parse.{AllDigits, digits_value_after};
+ghost use Rattle.pw_model.specs.declared.limits.TheConstants.{MOST_CENTS};
 ghost use Rattle.pw_record.specs.Cents.{IsCents};
 
-/// The most cents of one top-up.
-pub const MOST_CENTS: u32 = 100_000_000;
+use pw_model::MOST_CENTS;
 
 /// The most digits in which cents are written.
 pub const MOST_DIGITS: usize = 9;

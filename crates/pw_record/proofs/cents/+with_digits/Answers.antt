@@ -1,6 +1,6 @@
 use Rattle.std.proofs.Common.{arith}
 use Rattle.pw_obis.proofs.Decimals.{past_most}
-use Rattle.pw_record.specs.declared.cents.TheConstants.{MOST_CENTS}
+use Rattle.pw_model.specs.declared.limits.TheConstants.{MOST_CENTS}
 use Rattle.pw_record.proofs.cents.+with_digits.Goals as goal
 
 pub returns-then-more-gt-MOST_CENTS-clause-none : goal.returns-then-more-gt-MOST_CENTS-clause-none
