@@ -6,6 +6,9 @@ use crate::frame::{Frame, FrameFault};
 use crate::whole::first_frame;
 use std::marker::Model;
 
+/// The most bytes of a body that is taken: 256 KiB.
+pub const LONGEST_BODY: usize = 262_144;
+
 /// The frames of a body, in order, up to the first fault.
 #[derive(Drop)]
 pub struct Frames<'a> {

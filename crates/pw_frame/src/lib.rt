@@ -18,6 +18,6 @@ mod words;
 
 pub use crc::{crc_update, crc16};
 pub use frame::{Frame, FrameFault, Kind};
-pub use frames::Frames;
+pub use frames::{Frames, LONGEST_BODY};
 pub use parity::block_check;
 pub use words::CRC_WORDS;

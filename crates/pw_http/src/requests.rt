@@ -10,9 +10,7 @@ ghost use Rattle.pw_http.specs.inner.Received.{IsNext};
 use crate::audience::{Audience, is_let_in, is_name};
 use crate::heads::{LONGEST_HEAD, Outcome, look};
 use httparse::spans::{HeaderSpan, Span};
-
-/// The longest body, in bytes.
-pub const LONGEST_BODY: usize = 262_144;
+use pw_frame::LONGEST_BODY;
 
 /// The most bytes of one request.
 pub const ROOM: usize = 270_336;

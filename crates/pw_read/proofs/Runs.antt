@@ -5,7 +5,7 @@ use Rattle.std.specs.Io.KnownBytes.{Appends}
 use Rattle.pw_read.specs.declared.fault.ReadFault.TheVariants.{Memory, Refused}
 use Rattle.pw_read.specs.declared.run.Failure.{Failure}
 use Rattle.pw_read.specs.declared.run.Failure.TheVariants.{Body, TooLarge, Device}
-use Rattle.pw_read.specs.declared.run.TheConstants.{LONGEST_BODY}
+use Rattle.pw_frame.specs.declared.frames.TheConstants.{LONGEST_BODY}
 use Rattle.pw_time.specs.declared.zone.Clock.{Clock}
 use Rattle.pw_read.specs.Text.{BodyShows}
 use Rattle.pw_read.specs.Run.{IsFailure, failure_line, failure_status, WritesFront, PrintsFront, IsRun}

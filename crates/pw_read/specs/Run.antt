@@ -5,7 +5,7 @@ use Rattle.pw_line.specs.Refused.{memory_line}
 use Rattle.pw_read.specs.declared.fault.ReadFault.TheVariants.{Memory, Refused}
 use Rattle.pw_read.specs.declared.run.Failure.{Failure}
 use Rattle.pw_read.specs.declared.run.Failure.TheVariants.{Body, TooLarge, Device}
-use Rattle.pw_read.specs.declared.run.TheConstants.{LONGEST_BODY}
+use Rattle.pw_frame.specs.declared.frames.TheConstants.{LONGEST_BODY}
 use Rattle.pw_time.specs.declared.zone.Clock.{Clock}
 use Rattle.pw_read.specs.FaultLine.{fault_line}
 use Rattle.pw_read.specs.Text.{BodyShows, BodyRefused}

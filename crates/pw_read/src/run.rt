@@ -1,4 +1,5 @@
 ghost use Rattle.std.specs.Prelude.{◌≡◌, ◌⊎◌, ℕ, ◌<◌, ◌≤◌, List, Some, length, MatchResult};
+ghost use Rattle.pw_frame.specs.declared.frames.TheConstants.{LONGEST_BODY};
 ghost use Rattle.pw_read.specs.Text.{BodyShows};
 ghost use Rattle.pw_read.specs.Run.{IsFailure, IsRun, failure_line, failure_status};
 ghost use Rattle.pw_read.specs.inner.Run.{Tells, TellsLine, Writes};
@@ -6,14 +7,12 @@ ghost use Rattle.pw_time.specs.declared.zone.Clock.{Clock};
 
 use crate::fault::ReadFault;
 use crate::frame_text::body_text;
+use pw_frame::LONGEST_BODY;
 use pw_line::{Line, ended, line_of, memory_refused};
 use pw_time::{Clock, Zone};
 use std::alloc::Global;
 use std::io;
 use std::io::{ErrorKind, Read, Write};
-
-/// The longest body, in bytes.
-const LONGEST_BODY: usize = 262_144;
 
 /// What came of a run, beside the text of a body.
 #[derive(Drop)]

@@ -5,7 +5,7 @@ use Rattle.pw_time.specs.declared.zone.Clock.{Clock}
 use Rattle.pw_time.specs.declared.zone.Clock.TheVariants.{Marked, Winter, Local}
 use Rattle.pw_words.specs.declared.commands.Command.{Command}
 use Rattle.pw_words.specs.declared.commands.Command.TheVariants as command
-use Rattle.pw_words.specs.declared.commands.TheConstants.{MOST_RECORDS}
+use Rattle.pw_model.specs.declared.limits.TheConstants.{MOST_RECORDS}
 use Rattle.pw_words.specs.declared.fault.WordsFault.{WordsFault}
 use Rattle.pw_words.specs.declared.fault.WordsFault.TheVariants as fault
 

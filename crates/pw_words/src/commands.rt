@@ -2,9 +2,6 @@
 
 use pw_time::Clock;
 
-/// The most records of a book.
-pub const MOST_RECORDS: u32 = 10_000_000;
-
 /// What the file of an upload holds.
 #[derive(Clone, Copy, Debug, PartialEq, Eq)]
 pub enum Kind<'a> {

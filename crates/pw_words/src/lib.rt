@@ -6,5 +6,5 @@ mod fault;
 mod parser;
 pub mod words;
 
-pub use commands::{Command, Kind, MOST_RECORDS, What};
+pub use commands::{Command, Kind, What};
 pub use fault::WordsFault;

@@ -1,7 +1,7 @@
 //! The parser of the program's words.
 
-use crate::commands::MOST_RECORDS;
 use clap::{Arg, ArgAction, Command, value_parser};
+use pw_model::MOST_RECORDS;
 use std::alloc::{AllocError, Global};
 
 /// The words of the two clocks that a readout may tell its time by.

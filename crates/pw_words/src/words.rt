@@ -7,11 +7,12 @@ ghost use Rattle.pw_words.specs.Words.{AsksToPipe, IsClockWord, IsLimit, IsRefus
 ghost use Rattle.pw_words.specs.declared.commands.Command.TheVariants as asks;
 ghost use Rattle.pw_words.specs.inner.Told.{IsKindWord, IsTableWord};
 
-use crate::commands::{Command, Kind, MOST_RECORDS, What};
+use crate::commands::{Command, Kind, What};
 use crate::fault::{WordsFault, fault_of};
 use crate::parser::parser;
 use clap::error::ErrorKind;
 use clap::{ArgMatches, Error};
+use pw_model::MOST_RECORDS;
 use pw_time::Clock;
 use std::alloc::{AllocError, Global};
 
