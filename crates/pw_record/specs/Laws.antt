@@ -1,11 +1,12 @@
 -- What follows from the definitions alone.
 -- (Definitions of this project.)
-use Rattle.std.specs.Prelude.{◌≡◌, List, Result, Ok, Err}
+use Rattle.std.specs.Prelude.{◌≡◌, ℕ, List, Result, Ok, Err}
 use Rattle.pw_tariff.specs.Office.{OfficeFile}
 use Rattle.pw_model.specs.declared.records.Entry.{Entry}
 use Rattle.pw_record.specs.declared.fault.UploadFault.{UploadFault}
 use Rattle.pw_record.specs.declared.laws.UploadBytes.{UploadBytes}
-use Rattle.pw_record.specs.declared.laws.UploadBytes.TheVariants as bytes
+use Rattle.pw_record.specs.declared.laws.UploadKind.{UploadKind}
+use Rattle.pw_record.specs.declared.laws.UploadKind.TheVariants as kind
 use Rattle.pw_record.specs.Uploads.{Upload, Telegrams, Readouts, Assignments, TopUps, Gives, RefusesContent}
 
 -- an upload gives at most one list of entries, or is refused for at most one content fault in one part, and not both
@@ -25,9 +26,13 @@ pub record HasOneOutcome (file : OfficeFile) (upload : Upload) : Type 0 where
   pub holds : IsOutcome file upload outcome
   pub only : (other : Result (List Entry) UploadFault) → IsOutcome file upload other → outcome ≡ other
 
+-- the upload of a kind with a body
+abbrev pub upload_with : UploadKind → List ℕ → Upload
+upload_with kind.Telegrams body = Telegrams body
+upload_with (kind.Readouts id) body = Readouts id.now body
+upload_with kind.Assignments body = Assignments body
+upload_with kind.TopUps body = TopUps body
+
 -- the upload that bytes are
 abbrev pub upload_of : UploadBytes → Upload
-upload_of (bytes.Telegrams body) = Telegrams body.now
-upload_of (bytes.Readouts id body) = Readouts id.now body.now
-upload_of (bytes.Assignments body) = Assignments body.now
-upload_of (bytes.TopUps body) = TopUps body.now
+upload_of bytes = upload_with bytes.kind bytes.body.now

@@ -13,14 +13,24 @@ use pw_frame::Frames;
 use pw_tariff::Office;
 use pw_time::{Clock, Zone};
 
+/// What an upload holds.
+#[derive(Clone, Copy, Debug, PartialEq, Eq)]
+pub enum UploadKind<'a> {
+    /// DSMR P1 telegrams.
+    Telegrams,
+    /// IEC 62056-21 readouts of the meter with this id.
+    Readouts(&'a [u8]),
+    /// Rows that assign meters to accounts.
+    Assignments,
+    /// Rows of top-ups.
+    TopUps,
+}
+
 /// An upload as bytes.
 #[derive(Clone, Copy, Debug)]
-pub enum UploadBytes<'a> {
-    Telegrams(&'a [u8]),
-    /// The id of a meter, and a body of its readouts.
-    Readouts(&'a [u8], &'a [u8]),
-    Assignments(&'a [u8]),
-    TopUps(&'a [u8]),
+pub struct UploadBytes<'a> {
+    pub kind: UploadKind<'a>,
+    pub body: &'a [u8],
 }
 
 /// No upload has two outcomes: by the office file, where it is sent, and its bytes it gives one list of entries at most,
@@ -37,11 +47,11 @@ pub fn each_upload_has_one_outcome(office: &Office, upload: UploadBytes)
     ensures { HasOneOutcome office.now (upload_of upload.entry) }
 {
     let _ = office.bands();
-    match upload {
-        UploadBytes::Telegrams(body) => {
-            frames_have_an_outcome(office, Source::Telegrams, body);
+    match upload.kind {
+        UploadKind::Telegrams => {
+            frames_have_an_outcome(office, Source::Telegrams, upload.body);
         }
-        UploadBytes::Readouts(id, body) => {
+        UploadKind::Readouts(id) => {
             let Some(meter) = office.meter(id) else {
                 return;
             };
@@ -49,10 +59,10 @@ pub fn each_upload_has_one_outcome(office: &Office, upload: UploadBytes)
             if clock == Clock::Marked {
                 return;
             }
-            frames_have_an_outcome(office, Source::Readouts(meter, clock), body);
+            frames_have_an_outcome(office, Source::Readouts(meter, clock), upload.body);
         }
-        UploadBytes::Assignments(_) => {}
-        UploadBytes::TopUps(_) => {}
+        UploadKind::Assignments => {}
+        UploadKind::TopUps => {}
     }
 }
 

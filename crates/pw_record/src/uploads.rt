@@ -8,7 +8,7 @@ ghost use Rattle.pw_record.specs.Uploads.{Gives, Refuses};
 
 use crate::fault::UploadFault;
 use crate::frames::{readout_records, telegram_records};
-use crate::laws::UploadBytes;
+use crate::laws::{UploadBytes, UploadKind};
 use crate::rows::{assignment_records, topup_records};
 use pw_model::Entry;
 use pw_tariff::Office;
@@ -28,10 +28,11 @@ pub fn upload_records(
     ensures of_office { IfOk result (λ entries. AllOfOffice (office_of office.now) entries.items) }
     ensures refused { IfErr result (λ fault. Refuses office.now (upload_of upload.entry) fault) }
 {
-    match upload {
-        UploadBytes::Telegrams(body) => telegram_records(alloc, office, zone, body),
-        UploadBytes::Readouts(meter, body) => readout_records(alloc, meter, office, zone, body),
-        UploadBytes::Assignments(body) => assignment_records(alloc, office, body),
-        UploadBytes::TopUps(body) => topup_records(alloc, office, body),
+    let body = upload.body;
+    match upload.kind {
+        UploadKind::Telegrams => telegram_records(alloc, office, zone, body),
+        UploadKind::Readouts(meter) => readout_records(alloc, meter, office, zone, body),
+        UploadKind::Assignments => assignment_records(alloc, office, body),
+        UploadKind::TopUps => topup_records(alloc, office, body),
     }
 }
