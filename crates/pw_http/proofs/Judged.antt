@@ -271,12 +271,8 @@ module _ {S : Type 0} (shelf : Ghosts S) where
   answer-comes (At route.Readouts) target body a reply b x = takes-comes (Readouts (meter_in target) body) a reply b x
   answer-comes (At route.Assignments) target body a reply b x = takes-comes (Assignments body) a reply b x
   answer-comes (At route.TopUps) target body a reply b x = takes-comes (TopUps body) a reply b x
-  answer-comes (At route.Accounts) target body a reply b x = shows-comes page.Accounts a reply b x
   answer-comes (At route.Account) target body a reply b x = account-comes (account_in target) a reply b x
-  answer-comes (At route.Falls) target body a reply b x = shows-comes page.Falls a reply b x
-  answer-comes (At route.Disputes) target body a reply b x = shows-comes page.Disputes a reply b x
-  answer-comes (At route.ReadingsExport) target body a reply b x = shows-comes page.Readings a reply b x
-  answer-comes (At route.EnergyExport) target body a reply b x = shows-comes page.Energies a reply b x
+  answer-comes (At (route.Table table)) target body a reply b x = shows-comes (page.Table table) a reply b x
 
   pub asked-comes : (a : Book S shelf) (asking : Asking) (reply : Reply) (b : Book S shelf) → Answers shelf a asking reply b → Comes a (upload_of asking) reply b
   asked-comes a asking reply b x = answer-comes (place_of asking.method asking.target) asking.target asking.body a reply b x

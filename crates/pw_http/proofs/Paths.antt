@@ -11,7 +11,8 @@ use Rattle.matchit.specs.Router.{RouteOf}
 use Rattle.pw_http.specs.Routes.{meter_in, route_table, route_at, row_value}
 use Rattle.pw_http.specs.Laws.{PathsReachRoutes}
 use Rattle.pw_http.specs.declared.routes.Route.{Route}
-use Rattle.pw_http.specs.declared.routes.Route.TheVariants.{Telegrams, Readouts, Assignments, TopUps, Accounts, Account, Falls, Disputes, ReadingsExport, EnergyExport}
+use Rattle.pw_http.specs.declared.routes.Route.TheVariants.{Telegrams, Readouts, Assignments, TopUps, Account, Table}
+use Rattle.pw_report.specs.declared.page.Table.TheVariants.{Accounts, Falls, Disputes, Readings, Energies}
 
 abbrev Row : Type 0
 Row = RowsOf (RouteOf Route)
@@ -160,23 +161,23 @@ at_top_ups : route_at (codes "/topups") ≡ Some TopUps
 unfolding route_table matchit_on_literals
 at_top_ups = refl
 
-at_accounts : route_at (codes "/accounts") ≡ Some Accounts
+at_accounts : route_at (codes "/accounts") ≡ Some (Table Accounts)
 unfolding route_table matchit_on_literals
 at_accounts = refl
 
-at_falls : route_at (codes "/falls") ≡ Some Falls
+at_falls : route_at (codes "/falls") ≡ Some (Table Falls)
 unfolding route_table matchit_on_literals
 at_falls = refl
 
-at_disputes : route_at (codes "/disputes") ≡ Some Disputes
+at_disputes : route_at (codes "/disputes") ≡ Some (Table Disputes)
 unfolding route_table matchit_on_literals
 at_disputes = refl
 
-at_readings : route_at (codes "/export/readings") ≡ Some ReadingsExport
+at_readings : route_at (codes "/export/readings") ≡ Some (Table Readings)
 unfolding route_table matchit_on_literals
 at_readings = refl
 
-at_energy : route_at (codes "/export/energy") ≡ Some EnergyExport
+at_energy : route_at (codes "/export/energy") ≡ Some (Table Energies)
 unfolding route_table matchit_on_literals
 at_energy = refl
 

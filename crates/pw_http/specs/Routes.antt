@@ -9,7 +9,8 @@ use Rattle.matchit.specs.Route.{Scan, parse_route}
 use Rattle.matchit.specs.Router.{RouteOf, route_from}
 use Rattle.matchit.specs.declared.error.InsertError.{InsertError}
 use Rattle.pw_http.specs.declared.routes.Route.{Route}
-use Rattle.pw_http.specs.declared.routes.Route.TheVariants.{Telegrams, Readouts, Assignments, TopUps, Accounts, Account, Falls, Disputes, ReadingsExport, EnergyExport}
+use Rattle.pw_http.specs.declared.routes.Route.TheVariants.{Telegrams, Readouts, Assignments, TopUps, Account, Table}
+use Rattle.pw_report.specs.declared.page.Table.TheVariants.{Accounts, Falls, Disputes, Readings, Energies}
 use Rattle.pw_http.specs.declared.routes.Place.{Place}
 use Rattle.pw_http.specs.declared.routes.Place.TheVariants.{NoPage, NoMethod, At}
 
@@ -19,24 +20,20 @@ method_name Telegrams = codes "POST"
 method_name Readouts = codes "POST"
 method_name Assignments = codes "POST"
 method_name TopUps = codes "POST"
-method_name Accounts = codes "GET"
 method_name Account = codes "GET"
-method_name Falls = codes "GET"
-method_name Disputes = codes "GET"
-method_name ReadingsExport = codes "GET"
-method_name EnergyExport = codes "GET"
+method_name (Table table) = codes "GET"
 
 abbrev pub route_text : Route → List ℕ
 route_text Telegrams = codes "/telegrams"
 route_text Readouts = codes "/meters/{meter}/readouts"
 route_text Assignments = codes "/assignments"
 route_text TopUps = codes "/topups"
-route_text Accounts = codes "/accounts"
+route_text (Table Accounts) = codes "/accounts"
 route_text Account = codes "/accounts/{account}"
-route_text Falls = codes "/falls"
-route_text Disputes = codes "/disputes"
-route_text ReadingsExport = codes "/export/readings"
-route_text EnergyExport = codes "/export/energy"
+route_text (Table Falls) = codes "/falls"
+route_text (Table Disputes) = codes "/disputes"
+route_text (Table Readings) = codes "/export/readings"
+route_text (Table Energies) = codes "/export/energy"
 
 -- ---- as `matchit` keeps it
 -- the rows with one more route, where its text reads as a route
@@ -49,7 +46,7 @@ added rows route = added_read (parse_route (route_text route)) route rows
 
 unfoldable pub route_table : RowsOf (RouteOf Route)
 route_table =
-    added (added (added (added (added (added (added (added (added (added [] Telegrams) Readouts) Assignments) TopUps) Accounts) Falls) Disputes) Account) ReadingsExport) EnergyExport
+    added (added (added (added (added (added (added (added (added (added [] Telegrams) Readouts) Assignments) TopUps) (Table Accounts)) (Table Falls)) (Table Disputes)) Account) (Table Readings)) (Table Energies)
 
 abbrev pub row_value : RouteOf Route → Route
 row_value r = r.value

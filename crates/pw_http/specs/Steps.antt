@@ -21,6 +21,7 @@ use Rattle.pw_book.specs.declared.fault.PostFault.{PostFault}
 use Rattle.pw_book.specs.declared.fault.PostFault.TheVariants as post
 use Rattle.pw_report.specs.declared.page.Page.{Page}
 use Rattle.pw_report.specs.declared.page.Page.TheVariants as page
+use Rattle.pw_report.specs.declared.page.Table.TheVariants as table
 use Rattle.pw_report.specs.Pages.{IsAnswer}
 use Rattle.pw_report.specs.Reports.{IsReport}
 use Rattle.pw_http.specs.declared.replies.ContentType.{ContentType}
@@ -60,11 +61,11 @@ upload_reply (Posted answer) = posted_reply answer
 -- exports are CSV
 abbrev pub page_content : Page → ContentType
 page_content (page.Statement account) = Plain
-page_content page.Accounts = Plain
-page_content page.Falls = Plain
-page_content page.Disputes = Plain
-page_content page.Readings = Csv
-page_content page.Energies = Csv
+page_content (page.Table table.Accounts) = Plain
+page_content (page.Table table.Falls) = Plain
+page_content (page.Table table.Disputes) = Plain
+page_content (page.Table table.Readings) = Csv
+page_content (page.Table table.Energies) = Csv
 
 -- to a question for a page
 abbrev pub page_reply : Page → Result (List ℕ) BookFault → Reply
@@ -143,12 +144,8 @@ module _ {S : Type 0} (shelf : Ghosts S) where
   AnswersAt (At route.Readouts) target body = Takes (Readouts (meter_in target) body)
   AnswersAt (At route.Assignments) target body = Takes (Assignments body)
   AnswersAt (At route.TopUps) target body = Takes (TopUps body)
-  AnswersAt (At route.Accounts) target body = Shows page.Accounts
   AnswersAt (At route.Account) target body = ShowsAccount (account_in target)
-  AnswersAt (At route.Falls) target body = Shows page.Falls
-  AnswersAt (At route.Disputes) target body = Shows page.Disputes
-  AnswersAt (At route.ReadingsExport) target body = Shows page.Readings
-  AnswersAt (At route.EnergyExport) target body = Shows page.Energies
+  AnswersAt (At (route.Table table)) target body = Shows (page.Table table)
 
   -- one step: what a book answers to a request, and what it is behind it
   abbrev pub Answers : Book S shelf → Asking → Reply → Book S shelf → Type 0

@@ -3,7 +3,7 @@
 ghost use Rattle.arrayvec.specs.ArrayString.{array_string_len};
 ghost use Rattle.std.specs.Prelude.{◌≡◌, ◌<◌, ◌≤◌, length};
 ghost use Rattle.pw_book.specs.After.{Refused};
-ghost use Rattle.pw_record.specs.Laws.{upload_of};
+ghost use Rattle.pw_record.specs.Laws.{upload_with};
 ghost use Rattle.pw_report.specs.Pages.{IsPageOf};
 ghost use Rattle.pw_http.specs.Steps.{AnswersAt, Shows, ShowsAccount, Takes, line_reply, page_content, posted_reply, posted_status as status_posted, refused_status as status_refused, upload_reply};
 ghost use Rattle.pw_http.specs.declared.routes.Place.TheVariants.{At};
@@ -13,8 +13,8 @@ use crate::replies::{ContentType, Status};
 use crate::routes::{Route, account_in, meter_in};
 use pw_book::{Accepted, Book, PostFault};
 use pw_line::{Line, ROOM, ended, line_of};
-use pw_record::{Cause, UploadBytes, UploadFault, upload_records};
-use pw_report::{Page, page_text};
+use pw_record::{Cause, UploadBytes, UploadFault, UploadKind, upload_records};
+use pw_report::{Page, Table, page_text};
 use pw_shelf::Shelf;
 use std::alloc::Global;
 
@@ -101,9 +101,10 @@ fn posted(answer: Result<Accepted, PostFault>) -> Answer
 }
 
 /// Takes an upload.
-fn take<S: Shelf>(book: &mut Book<S>, alloc: Global, upload: UploadBytes) -> Answer
-    ensures { Takes S.Shelf (upload_of upload.entry) book.old (reply_of result) book.new }
+fn take<S: Shelf>(book: &mut Book<S>, alloc: Global, kind: UploadKind, body: &[u8]) -> Answer
+    ensures { Takes S.Shelf (upload_with kind.entry body.now) book.old (reply_of result) book.new }
 {
+    let upload = UploadBytes { kind, body };
     match upload_records(alloc, book.office(), book.zone(), upload) {
         Err(fault) => refused(fault),
         Ok(entries) => posted(book.post(alloc, &entries)),
@@ -114,8 +115,8 @@ fn content_of(page: Page) -> ContentType
     ensures { result ≡ page_content page }
 {
     match page {
-        Page::Statement(_) | Page::Accounts | Page::Falls | Page::Disputes => ContentType::Plain,
-        Page::Readings | Page::Energies => ContentType::Csv,
+        Page::Table(Table::Readings | Table::Energies) => ContentType::Csv,
+        Page::Statement(_) | Page::Table(_) => ContentType::Plain,
     }
 }
 
@@ -155,15 +156,11 @@ pub(crate) fn answer_at<S: Shelf>(
     ensures { AnswersAt S.Shelf (At route) target.now body.now book.old (reply_of result) book.new }
 {
     match route {
-        Route::Telegrams => take(book, alloc, UploadBytes::Telegrams(body)),
-        Route::Readouts => take(book, alloc, UploadBytes::Readouts(meter_in(target), body)),
-        Route::Assignments => take(book, alloc, UploadBytes::Assignments(body)),
-        Route::TopUps => take(book, alloc, UploadBytes::TopUps(body)),
-        Route::Accounts => show(book, alloc, Page::Accounts),
+        Route::Telegrams => take(book, alloc, UploadKind::Telegrams, body),
+        Route::Readouts => take(book, alloc, UploadKind::Readouts(meter_in(target)), body),
+        Route::Assignments => take(book, alloc, UploadKind::Assignments, body),
+        Route::TopUps => take(book, alloc, UploadKind::TopUps, body),
         Route::Account => show_account(book, alloc, account_in(target)),
-        Route::Falls => show(book, alloc, Page::Falls),
-        Route::Disputes => show(book, alloc, Page::Disputes),
-        Route::ReadingsExport => show(book, alloc, Page::Readings),
-        Route::EnergyExport => show(book, alloc, Page::Energies),
+        Route::Table(table) => show(book, alloc, Page::Table(table)),
     }
 }

@@ -4,6 +4,7 @@ ghost use Rattle.std.specs.Prelude.{◌≡◌, IfOk, drop};
 ghost use Rattle.pw_http.specs.Routes.{account_in as account_of, by_method, meter_in as meter_of, method_name, place_of, route_at, route_table};
 
 use matchit::{InsertError, Router};
+use pw_report::Table;
 use std::alloc::Global;
 use std::str::from_utf8;
 
@@ -18,18 +19,10 @@ pub enum Route {
     Assignments,
     /// Takes rows of top-ups.
     TopUps,
-    /// The table of accounts.
-    Accounts,
     /// An account's statement.
     Account,
-    /// The table of falls.
-    Falls,
-    /// The table of disputes.
-    Disputes,
-    /// The export of readings.
-    ReadingsExport,
-    /// The export of energies.
-    EnergyExport,
+    /// A table of the book.
+    Table(Table),
 }
 
 /// Where a request goes.
@@ -76,12 +69,12 @@ fn ten_routes(alloc: Global) -> Result<Router<Route>, InsertError>
     router.insert("/meters/{meter}/readouts", Route::Readouts)?;
     router.insert("/assignments", Route::Assignments)?;
     router.insert("/topups", Route::TopUps)?;
-    router.insert("/accounts", Route::Accounts)?;
-    router.insert("/falls", Route::Falls)?;
-    router.insert("/disputes", Route::Disputes)?;
+    router.insert("/accounts", Route::Table(Table::Accounts))?;
+    router.insert("/falls", Route::Table(Table::Falls))?;
+    router.insert("/disputes", Route::Table(Table::Disputes))?;
     router.insert("/accounts/{account}", Route::Account)?;
-    router.insert("/export/readings", Route::ReadingsExport)?;
-    router.insert("/export/energy", Route::EnergyExport)?;
+    router.insert("/export/readings", Route::Table(Table::Readings))?;
+    router.insert("/export/energy", Route::Table(Table::Energies))?;
     Ok(router)
 }
 
@@ -116,12 +109,7 @@ fn method_of(route: Route) -> &'static [u8]
 {
     match route {
         Route::Telegrams | Route::Readouts | Route::Assignments | Route::TopUps => b"POST",
-        Route::Accounts
-        | Route::Account
-        | Route::Falls
-        | Route::Disputes
-        | Route::ReadingsExport
-        | Route::EnergyExport => b"GET",
+        Route::Account | Route::Table(_) => b"GET",
     }
 }
 

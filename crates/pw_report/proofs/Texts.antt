@@ -12,7 +12,8 @@ use Rattle.pw_model.specs.Laws.{HaveSameAnswers}
 use Rattle.pw_model.proofs.Answers.{lists-are_at_most_one, order_counts_nothing}
 use Rattle.pw_model.proofs.Existence.{lists-exist}
 use Rattle.pw_report.specs.declared.page.Page.{Page}
-use Rattle.pw_report.specs.declared.page.Page.TheVariants.{Statement, Accounts, Falls, Disputes, Readings, Energies}
+use Rattle.pw_report.specs.declared.page.Page.TheVariants.{Statement, Table}
+use Rattle.pw_report.specs.declared.page.Table.TheVariants.{Accounts, Falls, Disputes, Readings, Energies}
 use Rattle.pw_report.specs.Amounts.{balance_text, euro_text}
 use Rattle.pw_report.specs.Exports.{EnergyRow, csv_line, energies_header, energies_text, energy_row_line, energy_rows, owner_rows, readings_text}
 use Rattle.pw_report.specs.Laws.{EachPageHasOneText}
@@ -24,20 +25,20 @@ use Rattle.pw_report.specs.Tables.{account_line, accounts_text, band_line, dispu
 -- ---- one
 exists : (page : Page) (file : OfficeFile) (s : List Entry) → (text : List ℕ) × IsAnswer page file s text
 exists (Statement a) file s = (statement_text file s a.0, refl)
-exists Accounts file s = (accounts_text file s, refl)
-exists Falls file s = let l = (lists-exist s).falls in (falls_text file l.0, (l.0, l.1, refl))
-exists Disputes file s = let l = (lists-exist s).disputes in (disputes_text file l.0, (l.0, l.1, refl))
-exists Readings file s = (readings_text file (λ m r. ((lists-exist s).readings m r).0), ((λ m r. ((lists-exist s).readings m r).0), (λ m r. ((lists-exist s).readings m r).1), refl))
-exists Energies file s = (energies_text file s, refl)
+exists (Table Accounts) file s = (accounts_text file s, refl)
+exists (Table Falls) file s = let l = (lists-exist s).falls in (falls_text file l.0, (l.0, l.1, refl))
+exists (Table Disputes) file s = let l = (lists-exist s).disputes in (disputes_text file l.0, (l.0, l.1, refl))
+exists (Table Readings) file s = (readings_text file (λ m r. ((lists-exist s).readings m r).0), ((λ m r. ((lists-exist s).readings m r).0), (λ m r. ((lists-exist s).readings m r).1), refl))
+exists (Table Energies) file s = (energies_text file s, refl)
 
 -- ---- and no other
 only : (page : Page) (file : OfficeFile) (s : List Entry) (a b : List ℕ) → IsAnswer page file s a → IsAnswer page file s b → a ≡ b
 only (Statement x) file s a b p q = p ∙ sym q
-only Accounts file s a b p q = p ∙ sym q
-only Falls file s a b p q = p.2 ∙ ap (falls_text file) ((lists-are_at_most_one s).falls _ _ p.1 q.1) ∙ sym q.2
-only Disputes file s a b p q = p.2 ∙ ap (disputes_text file) ((lists-are_at_most_one s).disputes _ _ p.1 q.1) ∙ sym q.2
-only Readings file s a b p q = p.2 ∙ (λ i. readings_text file (λ m r. (lists-are_at_most_one s).readings m r _ _ (p.1 m r) (q.1 m r) i)) ∙ sym q.2
-only Energies file s a b p q = p ∙ sym q
+only (Table Accounts) file s a b p q = p ∙ sym q
+only (Table Falls) file s a b p q = p.2 ∙ ap (falls_text file) ((lists-are_at_most_one s).falls _ _ p.1 q.1) ∙ sym q.2
+only (Table Disputes) file s a b p q = p.2 ∙ ap (disputes_text file) ((lists-are_at_most_one s).disputes _ _ p.1 q.1) ∙ sym q.2
+only (Table Readings) file s a b p q = p.2 ∙ (λ i. readings_text file (λ m r. (lists-are_at_most_one s).readings m r _ _ (p.1 m r) (q.1 m r) i)) ∙ sym q.2
+only (Table Energies) file s a b p q = p ∙ sym q
 
 -- ---- whatever the order of the records
 module _ (file : OfficeFile) (s t : List Entry) (h : HaveSameAnswers (office_of file) s t) where
@@ -62,19 +63,19 @@ module _ (file : OfficeFile) (s t : List Entry) (h : HaveSameAnswers (office_of 
 
 there : (page : Page) (file : OfficeFile) (s t : List Entry) (text : List ℕ) → HaveSameAnswers (office_of file) s t → IsAnswer page file s text → IsAnswer page file t text
 there (Statement a) file s t text h p = p ∙ statement-same file s t h a.0
-there Accounts file s t text h p = p ∙ accounts-same file s t h
-there Falls file s t text h p = (p.0, (h.falls p.0).0 p.1, p.2)
-there Disputes file s t text h p = (p.0, (h.disputes p.0).0 p.1, p.2)
-there Readings file s t text h p = (p.0, (λ m r. (h.readings m r (p.0 m r)).0 (p.1 m r)), p.2)
-there Energies file s t text h p = p ∙ energies-same file s t h
+there (Table Accounts) file s t text h p = p ∙ accounts-same file s t h
+there (Table Falls) file s t text h p = (p.0, (h.falls p.0).0 p.1, p.2)
+there (Table Disputes) file s t text h p = (p.0, (h.disputes p.0).0 p.1, p.2)
+there (Table Readings) file s t text h p = (p.0, (λ m r. (h.readings m r (p.0 m r)).0 (p.1 m r)), p.2)
+there (Table Energies) file s t text h p = p ∙ energies-same file s t h
 
 back : (page : Page) (file : OfficeFile) (s t : List Entry) (text : List ℕ) → HaveSameAnswers (office_of file) s t → IsAnswer page file t text → IsAnswer page file s text
 back (Statement a) file s t text h p = p ∙ sym (statement-same file s t h a.0)
-back Accounts file s t text h p = p ∙ sym (accounts-same file s t h)
-back Falls file s t text h p = (p.0, (h.falls p.0).1 p.1, p.2)
-back Disputes file s t text h p = (p.0, (h.disputes p.0).1 p.1, p.2)
-back Readings file s t text h p = (p.0, (λ m r. (h.readings m r (p.0 m r)).1 (p.1 m r)), p.2)
-back Energies file s t text h p = p ∙ sym (energies-same file s t h)
+back (Table Accounts) file s t text h p = p ∙ sym (accounts-same file s t h)
+back (Table Falls) file s t text h p = (p.0, (h.falls p.0).1 p.1, p.2)
+back (Table Disputes) file s t text h p = (p.0, (h.disputes p.0).1 p.1, p.2)
+back (Table Readings) file s t text h p = (p.0, (λ m r. (h.readings m r (p.0 m r)).1 (p.1 m r)), p.2)
+back (Table Energies) file s t text h p = p ∙ sym (energies-same file s t h)
 
 pub each-page-has-one-text : EachPageHasOneText
 each-page-has-one-text page file s = record {

@@ -9,18 +9,15 @@ use Rattle.pw_model.specs.declared.records.Dispute.{Dispute}
 use Rattle.pw_model.specs.declared.records.ReadingRow.{ReadingRow}
 use Rattle.pw_model.specs.Lists.{AreDisputes, AreFalls, AreReadings}
 use Rattle.pw_report.specs.declared.page.Page.{Page}
-use Rattle.pw_report.specs.declared.page.Page.TheVariants.{Statement, Accounts, Falls, Disputes, Readings, Energies}
+use Rattle.pw_report.specs.declared.page.Page.TheVariants.{Statement, Table}
+use Rattle.pw_report.specs.declared.page.Table.TheVariants.{Accounts, Falls, Disputes, Readings, Energies}
 use Rattle.pw_report.specs.Exports.{energies_text, readings_text}
 use Rattle.pw_report.specs.Tables.{accounts_text, disputes_text, falls_text, statement_text}
 
 -- the page is one of the office's
 abbrev pub IsPageOf : OfficeFile → Page → Type 0
 IsPageOf file (Statement a) = a.0 < length file.accounts
-IsPageOf file Accounts = Unit {0}
-IsPageOf file Falls = Unit {0}
-IsPageOf file Disputes = Unit {0}
-IsPageOf file Readings = Unit {0}
-IsPageOf file Energies = Unit {0}
+IsPageOf file (Table table) = Unit {0}
 
 -- the text of the falls, of the disputes, of the readings that a set of records has
 abbrev pub IsFallsText : OfficeFile → List Entry → List ℕ → Type 0
@@ -36,8 +33,8 @@ IsReadingsText file s text =
 -- the text of a page
 abbrev pub IsAnswer : Page → OfficeFile → List Entry → List ℕ → Type 0
 IsAnswer (Statement a) file s text = text ≡ statement_text file s a.0
-IsAnswer Accounts file s text = text ≡ accounts_text file s
-IsAnswer Falls file s text = IsFallsText file s text
-IsAnswer Disputes file s text = IsDisputesText file s text
-IsAnswer Readings file s text = IsReadingsText file s text
-IsAnswer Energies file s text = text ≡ energies_text file s
+IsAnswer (Table Accounts) file s text = text ≡ accounts_text file s
+IsAnswer (Table Falls) file s text = IsFallsText file s text
+IsAnswer (Table Disputes) file s text = IsDisputesText file s text
+IsAnswer (Table Readings) file s text = IsReadingsText file s text
+IsAnswer (Table Energies) file s text = text ≡ energies_text file s

@@ -18,6 +18,6 @@ pub use accounts::accounts_table;
 pub use disputes::disputes_table;
 pub use energies::export_energy;
 pub use falls::falls_table;
-pub use page::{Page, page_text};
+pub use page::{Page, Table, page_text};
 pub use readings::export_readings;
 pub use statements::statement;

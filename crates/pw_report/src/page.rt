@@ -15,11 +15,9 @@ use pw_shelf::Shelf;
 use pw_tariff::AccountId;
 use std::alloc::Global;
 
-/// A page of a book.
+/// A table of a whole book.
 #[derive(Clone, Copy, Debug, PartialEq, Eq)]
-pub enum Page {
-    /// The statement of an account.
-    Statement(AccountId),
+pub enum Table {
     /// The accounts with their balances.
     Accounts,
     /// The falls.
@@ -30,6 +28,14 @@ pub enum Page {
     Readings,
     /// The export of energies, as CSV.
     Energies,
+}
+
+/// A page of a book.
+#[derive(Clone, Copy, Debug, PartialEq, Eq)]
+pub enum Page {
+    /// The statement of an account.
+    Statement(AccountId),
+    Table(Table),
 }
 
 /// The text of a page, by the records held. It asks for a page of the office: a statement of one of its accounts.
@@ -46,10 +52,10 @@ pub fn page_text<S: Shelf>(
 {
     match page {
         Page::Statement(account) => statement(book, alloc, account),
-        Page::Accounts => accounts_table(book, alloc),
-        Page::Falls => falls_table(book, alloc),
-        Page::Disputes => disputes_table(book, alloc),
-        Page::Readings => export_readings(book, alloc),
-        Page::Energies => export_energy(book, alloc),
+        Page::Table(Table::Accounts) => accounts_table(book, alloc),
+        Page::Table(Table::Falls) => falls_table(book, alloc),
+        Page::Table(Table::Disputes) => disputes_table(book, alloc),
+        Page::Table(Table::Readings) => export_readings(book, alloc),
+        Page::Table(Table::Energies) => export_energy(book, alloc),
     }
 }

@@ -3,7 +3,7 @@
 use crate::posts::post;
 use crate::shelves::{book_over, payment};
 use pw_book::{Book, BookFault, PostFault};
-use pw_report::{Page, page_text};
+use pw_report::{Page, Table, page_text};
 use pw_shelf::{CountShelf, MemoryShelf, Shelf};
 use pw_tariff::{AccountId, Office};
 use std::alloc::Global;
@@ -13,11 +13,11 @@ const FAILING: u32 = 4;
 
 const PAGES: [Page; 6] = [
     Page::Statement(AccountId(0)),
-    Page::Accounts,
-    Page::Falls,
-    Page::Disputes,
-    Page::Readings,
-    Page::Energies,
+    Page::Table(Table::Accounts),
+    Page::Table(Table::Falls),
+    Page::Table(Table::Disputes),
+    Page::Table(Table::Readings),
+    Page::Table(Table::Energies),
 ];
 
 /// A book whose upload failed, and couldn't be taken back.

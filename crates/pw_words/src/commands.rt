@@ -1,34 +1,8 @@
 //! The commands of the program.
 
+use pw_record::UploadKind;
+use pw_report::Table;
 use pw_time::Clock;
-
-/// What the file of an upload holds.
-#[derive(Clone, Copy, Debug, PartialEq, Eq)]
-pub enum Kind<'a> {
-    /// DSMR P1 telegrams.
-    Telegrams,
-    /// IEC 62056-21 readouts of the meter with this id.
-    Readouts { meter: &'a str },
-    /// Rows that assign meters to accounts.
-    Assignments,
-    /// Rows of top-ups.
-    TopUps,
-}
-
-/// What is exported.
-#[derive(Clone, Copy, Debug, PartialEq, Eq)]
-pub enum What {
-    /// The readings held, as CSV.
-    Readings,
-    /// The energies and their costs, as CSV.
-    Energy,
-    /// The accounts with their balances.
-    Accounts,
-    /// The falls.
-    Falls,
-    /// The disputes.
-    Disputes,
-}
 
 /// What the program's words ask for. Files are told by their paths; a limit is 1 to 10,000,000 records.
 #[derive(Debug, Drop, PartialEq, Eq)]
@@ -50,7 +24,7 @@ pub enum Command<'a> {
     Load {
         office: &'a str,
         store: &'a str,
-        kind: Kind<'a>,
+        kind: UploadKind<'a>,
         file: &'a str,
         limit: u32,
     },
@@ -64,7 +38,7 @@ pub enum Command<'a> {
     Export {
         office: &'a str,
         store: &'a str,
-        what: What,
+        what: Table,
     },
     /// `count` connections to a port of this machine are served; pages of these origins, as their words stand, may ask
     /// too.

@@ -6,5 +6,5 @@ mod fault;
 mod parser;
 pub mod words;
 
-pub use commands::{Command, Kind, What};
+pub use commands::Command;
 pub use fault::WordsFault;

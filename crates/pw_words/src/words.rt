@@ -7,12 +7,14 @@ ghost use Rattle.pw_words.specs.Words.{AsksToPipe, IsClockWord, IsLimit, IsRefus
 ghost use Rattle.pw_words.specs.declared.commands.Command.TheVariants as asks;
 ghost use Rattle.pw_words.specs.inner.Told.{IsKindWord, IsTableWord};
 
-use crate::commands::{Command, Kind, What};
+use crate::commands::Command;
 use crate::fault::{WordsFault, fault_of};
 use crate::parser::parser;
 use clap::error::ErrorKind;
 use clap::{ArgMatches, Error};
 use pw_model::MOST_RECORDS;
+use pw_record::UploadKind;
+use pw_report::Table;
 use pw_time::Clock;
 use std::alloc::{AllocError, Global};
 
@@ -223,27 +225,27 @@ fn clock_named(name: &str) -> Option<Clock>
     }
 }
 
-fn kind_named<'a>(name: &str, meter: Option<&'a str>) -> Option<Kind<'a>>
+fn kind_named<'a>(name: &str, meter: Option<&'a str>) -> Option<UploadKind<'a>>
     ensures { IfSome result (λ kind. IsKindWord kind name.now (option_map (λ id. id.now) meter.entry)) }
 {
     match name {
-        "telegrams" => Some(Kind::Telegrams),
-        "readouts" => Some(Kind::Readouts { meter: meter? }),
-        "assignments" => Some(Kind::Assignments),
-        "topups" => Some(Kind::TopUps),
+        "telegrams" => Some(UploadKind::Telegrams),
+        "readouts" => Some(UploadKind::Readouts(meter?.as_bytes())),
+        "assignments" => Some(UploadKind::Assignments),
+        "topups" => Some(UploadKind::TopUps),
         _ => None,
     }
 }
 
-fn table_named(name: &str) -> Option<What>
+fn table_named(name: &str) -> Option<Table>
     ensures { IfSome result (λ what. IsTableWord what name.now) }
 {
     match name {
-        "readings" => Some(What::Readings),
-        "energy" => Some(What::Energy),
-        "accounts" => Some(What::Accounts),
-        "falls" => Some(What::Falls),
-        "disputes" => Some(What::Disputes),
+        "readings" => Some(Table::Readings),
+        "energy" => Some(Table::Energies),
+        "accounts" => Some(Table::Accounts),
+        "falls" => Some(Table::Falls),
+        "disputes" => Some(Table::Disputes),
         _ => None,
     }
 }

@@ -4,7 +4,7 @@ use super::page_of;
 use crate::books::empty_book;
 use crate::sample::{FIRST, sample_office};
 use pw_book::{Book, BookFault};
-use pw_report::Page;
+use pw_report::{Page, Table};
 use pw_shelf::{CountShelf, MemoryShelf, Shelf};
 use pw_tariff::OfficeFault;
 use std::alloc::Global;
@@ -48,11 +48,11 @@ fn calls_of(rt: &impl Abort, alloc: Global, page: Page) -> Result<u32, OfficeFau
 fn failing_device(rt: HostRuntime) -> Result<(), Fail> {
     for page in [
         Page::Statement(FIRST),
-        Page::Accounts,
-        Page::Falls,
-        Page::Disputes,
-        Page::Readings,
-        Page::Energies,
+        Page::Table(Table::Accounts),
+        Page::Table(Table::Falls),
+        Page::Table(Table::Disputes),
+        Page::Table(Table::Readings),
+        Page::Table(Table::Energies),
     ] {
         assert!(rt; 2 < calls_of(&rt, rt.alloc(), page)?);
     }

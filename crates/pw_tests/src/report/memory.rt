@@ -5,7 +5,7 @@ use super::{Upload, book_behind, page_of};
 use crate::sample::FIRST;
 use crate::uploads::{BESIDE, BETWEEN, TOPUP, TWO_READINGS};
 use pw_book::{Book, BookFault};
-use pw_report::Page;
+use pw_report::{Page, Table};
 use pw_shelf::Shelf;
 use std::alloc::Global;
 use std::process::Abort;
@@ -40,11 +40,11 @@ fn has_length<S: Shelf>(
 
 const PAGES: &[(Page, usize)] = &[
     (Page::Statement(FIRST), 160),
-    (Page::Accounts, 147),
-    (Page::Falls, 29),
-    (Page::Disputes, 51),
-    (Page::Readings, 190),
-    (Page::Energies, 239),
+    (Page::Table(Table::Accounts), 147),
+    (Page::Table(Table::Falls), 29),
+    (Page::Table(Table::Disputes), 51),
+    (Page::Table(Table::Readings), 190),
+    (Page::Table(Table::Energies), 239),
 ];
 
 fn have_lengths<S: Shelf>(rt: &impl Abort, alloc: Global, book: &mut Book<S>) -> bool {
