@@ -1,5 +1,5 @@
 use Rattle.std.proofs.Common.{rules}
 use Rattle.pw_http.proofs.answers.answer_at.Goals as goal
 
-pub returns-in-Falls : goal.returns-in-Falls
-returns-in-Falls g c = search rules
+pub returns-in-Table : goal.returns-in-Table
+returns-in-Table g c = search rules

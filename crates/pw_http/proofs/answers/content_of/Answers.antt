@@ -1,5 +1,5 @@
 use Rattle.std.proofs.Common.{rules}
 use Rattle.pw_http.proofs.answers.content_of.Goals as goal
 
-pub returns-in-Readings : goal.returns-in-Readings
-returns-in-Readings c = search rules
+pub returns-in-Table-Readings : goal.returns-in-Table-Readings
+returns-in-Table-Readings c = search rules
