@@ -7,6 +7,7 @@ pub mod Creating
 pub mod Making
 pub mod OfficeRow
 pub mod Shapes
+pub mod Stripped
 pub mod TotalKeys
 pub mod Keyed
 pub mod Rising

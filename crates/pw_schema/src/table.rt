@@ -1,7 +1,7 @@
 //! The tables of a store, as values.
 
-ghost use Rattle.std.specs.Prelude.{◌≡◌};
-ghost use Rattle.pw_schema.specs.inner.Stages.{text_of};
+ghost use Rattle.std.specs.Prelude.{◌≡◌, ◌<◌};
+ghost use Rattle.pw_schema.specs.inner.Stages.{stored, text_of, tree_of};
 
 /// A table of a store.
 #[derive(Clone, Copy, Debug, PartialEq, Eq)]
@@ -58,6 +58,53 @@ impl StoreTable {
             StoreTable::TotalTopUps => {
                 "CREATE TABLE total_topup (account INTEGER PRIMARY KEY, cents INTEGER NOT NULL) STRICT"
             }
+        }
+    }
+
+    /// The table's name.
+    pub(crate) fn name(self) -> &'static [u8]
+        ensures { result.now ≡ (stored self).name }
+    {
+        match self {
+            StoreTable::Office => b"office".as_slice(),
+            StoreTable::Readings => b"record_reading".as_slice(),
+            StoreTable::Assignments => b"record_assignment".as_slice(),
+            StoreTable::TopUps => b"record_topup".as_slice(),
+            StoreTable::Points => b"point".as_slice(),
+            StoreTable::Starts => b"start".as_slice(),
+            StoreTable::Totals => b"total".as_slice(),
+            StoreTable::TotalTopUps => b"total_topup".as_slice(),
+        }
+    }
+
+    /// The tree at which the table stands in a store.
+    pub(crate) fn tree(self) -> u32
+        ensures is { result ≡ tree_of self }
+        ensures low { result < 100 }
+    {
+        match self {
+            StoreTable::Office => 0,
+            StoreTable::Readings => 1,
+            StoreTable::Assignments => 3,
+            StoreTable::TopUps => 5,
+            StoreTable::Points => 7,
+            StoreTable::Starts => 9,
+            StoreTable::Totals => 11,
+            StoreTable::TotalTopUps => 13,
+        }
+    }
+
+    /// The places of the columns that are the table's key: 0 is the rowid.
+    pub(crate) fn key(self) -> &'static [usize]
+        ensures { result.now ≡ (stored self).primary }
+    {
+        match self {
+            StoreTable::Office | StoreTable::TotalTopUps => [0].as_slice(),
+            StoreTable::Starts => [1, 2].as_slice(),
+            StoreTable::Assignments | StoreTable::Points | StoreTable::Totals => {
+                [1, 2, 3].as_slice()
+            }
+            StoreTable::Readings | StoreTable::TopUps => [1, 2, 3, 4].as_slice(),
         }
     }
 }

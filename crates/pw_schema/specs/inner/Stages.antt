@@ -1,29 +1,37 @@
--- The tables as values, and the schema after so many of them. It serves `src/table.rt` and `src/make.rt`.
-use Rattle.std.specs.Prelude.{◌≡◌, ℕ, true, List, [], ◌∷◌, codes, take, IsTrue}
+-- The tables as values, and the schema after so many of them. It serves `src/table.rt`, `src/make.rt`,
+-- `src/tables.rt` and `src/indexes.rt`.
+use Rattle.std.specs.Prelude.{◌≡◌, ℕ, true, List, [], ◌∷◌, ◌++◌, codes, take, IsTrue}
 use Rattle.std.specs.List.{AllByRecursion}
 use Rattle.sqlite.specs.Table.{Table}
+use Rattle.sqlite_schema.specs.declared.schema.Index.{Index}
 use Rattle.sqlite.specs.Schema.{Schema}
 use Rattle.sqlite.specs.Change.{created}
 use Rattle.sqlite.specs.Effect.{Database}
 use Rattle.sqlite.specs.State.{State}
 use Rattle.pw_schema.specs.declared.table.StoreTable.{StoreTable}
 use Rattle.pw_schema.specs.declared.table.StoreTable.TheVariants.{Office, Readings, Assignments, TopUps, Points, Starts, Totals, TotalTopUps}
-use Rattle.pw_schema.specs.Tables.{no_schema, only_one, office_at, reading_at, assignment_at, topup_at, point_at, start_at, total_at, total_topup_at}
+use Rattle.pw_schema.specs.Tables.{no_schema, only_one, office_at, reading_at, assignment_at, topup_at, point_at, start_at, total_at, total_topup_at, index_of}
 
 -- the tables in the order in which they are made
 abbrev pub all_tables : List StoreTable
 all_tables = Office ∷ Readings ∷ Assignments ∷ TopUps ∷ Points ∷ Starts ∷ Totals ∷ TotalTopUps ∷ []
 
--- the place of a table among them, from 0
+-- the place of a table among them, and the tree at which it stands in a store, both from 0
+abbrev pub places : StoreTable → ℕ × ℕ
+places Office = (0, 0)
+places Readings = (1, 1)
+places Assignments = (2, 3)
+places TopUps = (3, 5)
+places Points = (4, 7)
+places Starts = (5, 9)
+places Totals = (6, 11)
+places TotalTopUps = (7, 13)
+
 abbrev pub place : StoreTable → ℕ
-place Office = 0
-place Readings = 1
-place Assignments = 2
-place TopUps = 3
-place Points = 4
-place Starts = 5
-place Totals = 6
-place TotalTopUps = 7
+place t = (places t).0
+
+abbrev pub tree_of : StoreTable → ℕ
+tree_of t = (places t).1
 
 -- the text that makes it
 abbrev pub text_of : StoreTable → List ℕ
@@ -46,6 +54,14 @@ table_at Points tree = point_at tree
 table_at Starts tree = start_at tree
 table_at Totals tree = total_at tree
 table_at TotalTopUps tree = total_topup_at tree
+
+-- the table as it stands in a store
+abbrev pub stored : StoreTable → Table
+stored t = table_at t (tree_of t)
+
+-- the index that SQLite makes for the key of a table
+abbrev pub index_at : StoreTable → Index
+index_at t = index_of (codes "sqlite_autoindex_" ++ (stored t).name ++ codes "_1") (tree_of t) (stored t).primary
 
 -- a schema with more tables, made one behind the other
 abbrev pub with_tables : Schema → List StoreTable → Schema
