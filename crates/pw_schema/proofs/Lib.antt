@@ -1,12 +1,14 @@
 pub mod Outcomes
 pub mod ThreeTexts
 pub mod Steps
+pub mod Pushed
 pub mod InTurn
 pub mod Judged
 pub mod Creating
 pub mod Making
 pub mod OfficeRow
 pub mod Shapes
+pub mod Stripped
 pub mod TotalKeys
 pub mod Keyed
 pub mod Rising

@@ -21,9 +21,8 @@ use Rattle.sqlite_tied.specs.Compute.{everything}
 use Rattle.sqlite.proofs.Callers.{runs_as, statement_of, command_of, IsPlain}
 use Rattle.pw_schema.specs.Tables.{ours_with, only_one, office_at}
 use Rattle.pw_schema.specs.Fresh.{office_row, IsFresh}
-use Rattle.pw_schema.specs.inner.Stages.{IsBlank, IsMaking, stage8}
+use Rattle.pw_schema.specs.inner.Stages.{IsBlank, IsMaking}
 use Rattle.pw_schema.proofs.Steps.{one_insert, uncounted}
-use Rattle.pw_schema.proofs.Making.{stages}
 use Rattle.pw_schema.proofs.Outcomes.{fails, keeps_commit}
 use Rattle.sqlite.proofs.InsideLemmas.{unchanged_keeps}
 
@@ -56,12 +55,12 @@ cast_int n = either _ (Int (pos n))
 abbrev ours : Table
 ours = office_at 0 only_one
 
-module _ (old new : State) (body : List ℕ) (count : ℕ) (blank : IsBlank stage8 old.now) (h : Executes put_office_text (Blob body ∷ []) old new (Ok count)) where
+module _ (old new : State) (body : List ℕ) (count : ℕ) (blank : IsBlank (ours_with only_one) old.now) (h : Executes put_office_text (Blob body ∷ []) old new (Ok count)) where
   has : old.now.schema ≡ ours_with only_one
-  has = blank.schema_is ∙ stages
+  has = blank.schema_is
 
   empty : AllByRecursion (λ t. old.now.trees t.tree ≡ []) (ours_with only_one).tables
-  empty = subst (λ s. AllByRecursion (λ t. old.now.trees t.tree ≡ []) s.tables) stages blank.empty
+  empty = blank.empty
 
   applied : (new.now.schema ≡ ours_with only_one) × Applies (ours_with only_one) (mode_of old).keys old.now.trees (edit_of old.now.trees (uncounted ours) [] Chosen 0 (office_row body ∷ [])) new.now.trees
   applied =
@@ -92,23 +91,23 @@ module _ (old new : State) (body : List ℕ) (count : ℕ) (blank : IsBlank stag
   pub shown : Shows old new new.now (cond old.in_transaction old.committed new.now) old.in_transaction
   shown = (runs_as put_office_text (Blob body ∷ []) old new (ours_with only_one) has (Insert 0 (Values terms 4)) put_office_is put_office_plain count h).shown
 
-pub open_if : (old new : State) (body : List ℕ) (out : Result ℕ Error) → IsMaking stage8 old → Executes put_office_text (Blob body ∷ []) old new out → OnOk out (IsTrue new.is_open)
+pub open_if : (old new : State) (body : List ℕ) (out : Result ℕ Error) → IsMaking (ours_with only_one) old → Executes put_office_text (Blob body ∷ []) old new out → OnOk out (IsTrue new.is_open)
 open_if old new body (Ok n) making h = (shown old new body n making.blank h).is_open
 open_if old new body (Err e) making h = tt
 
-pub office_kept : (old new : State) (body : List ℕ) (out : Result ℕ Error) → IsMaking stage8 old → Executes put_office_text (Blob body ∷ []) old new out → KeepsCommit old new
+pub office_kept : (old new : State) (body : List ℕ) (out : Result ℕ Error) → IsMaking (ours_with only_one) old → Executes put_office_text (Blob body ∷ []) old new out → KeepsCommit old new
 office_kept old new body (Ok n) making h =
     let s = subst (λ b. Shows old new new.now (cond b old.committed new.now) b) making.inside (shown old new body n making.blank h) in record { was_open = λ _. s.was_open; committed = λ _. s.committed_is }
 office_kept old new body (Err e) making h = unchanged_keeps old new (fails old new put_office_text (Blob body ∷ []) e h)
 
-pub fresh_if : (old new : State) (body : List ℕ) (out : Result ℕ Error) → IsMaking stage8 old → Executes put_office_text (Blob body ∷ []) old new out → OnOk out (IsFresh body new.now)
+pub fresh_if : (old new : State) (body : List ℕ) (out : Result ℕ Error) → IsMaking (ours_with only_one) old → Executes put_office_text (Blob body ∷ []) old new out → OnOk out (IsFresh body new.now)
 fresh_if old new body (Ok n) making h = fresh old new body n making.blank h
 fresh_if old new body (Err e) making h = tt
 
-pub listed_if : (old new : State) (body : List ℕ) (out : Result ℕ Error) → IsMaking stage8 old → Executes put_office_text (Blob body ∷ []) old new out → OnOk out (IsDatabase new.now)
+pub listed_if : (old new : State) (body : List ℕ) (out : Result ℕ Error) → IsMaking (ours_with only_one) old → Executes put_office_text (Blob body ∷ []) old new out → OnOk out (IsDatabase new.now)
 listed_if old new body (Ok n) making h = listed old new body n making.blank h
 listed_if old new body (Err e) making h = tt
 
-pub office_survives : (old new : State) (body : List ℕ) → (HasCleanDisk old → IsMaking stage8 old) → Survives old new (CommitsBy put_office_text (Blob body ∷ []) old) → Survives old new (λ _. ⊥)
+pub office_survives : (old new : State) (body : List ℕ) → (HasCleanDisk old → IsMaking (ours_with only_one) old) → Survives old new (CommitsBy put_office_text (Blob body ∷ []) old) → Survives old new (λ _. ⊥)
 office_survives old new body making =
-    keeps_commit old new put_office_text (Blob body ∷ []) (Insert 0 (Values terms 4)) (λ clean. ap (λ s. command_of (understood s put_office_text)) ((making clean).blank.schema_is ∙ stages) ∙ put_office_is) (λ name e. absurd cc) (λ e. absurd cc) (λ clean. (making clean).inside)
+    keeps_commit old new put_office_text (Blob body ∷ []) (Insert 0 (Values terms 4)) (λ clean. ap (λ s. command_of (understood s put_office_text)) (making clean).blank.schema_is ∙ put_office_is) (λ name e. absurd cc) (λ e. absurd cc) (λ clean. (making clean).inside)

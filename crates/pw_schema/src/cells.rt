@@ -60,13 +60,21 @@ pub(crate) fn reference_at(row: &Row, at: usize) -> Option<Reference>
     }
 }
 
+// The position of an account or a meter that stands at a place of a row, if one does that fits.
+fn position_at(row: &Row, at: usize) -> Option<u16>
+    ensures some { IfSome result (λ position. column row.now at ≡ Int (pos position)) }
+    ensures none { IfNone result ((n : ℕ) → n < 2 ^ 16 → column row.now at ≡ Int (pos n) → ⊥) }
+{
+    let number = number_at(row, at)?;
+    u16::try_from(number).ok()
+}
+
 /// The account that stands at a place of a row, by its position, if one does that fits.
 pub(crate) fn account_at(row: &Row, at: usize) -> Option<AccountId>
     ensures some { IfSome result (λ account. column row.now at ≡ Int (pos account.0)) }
     ensures none { IfNone result ((n : ℕ) → n < 2 ^ 16 → column row.now at ≡ Int (pos n) → ⊥) }
 {
-    let number = number_at(row, at)?;
-    let position = u16::try_from(number).ok()?;
+    let position = position_at(row, at)?;
     Some(AccountId(position))
 }
 
@@ -75,8 +83,7 @@ pub(crate) fn meter_at(row: &Row, at: usize) -> Option<MeterId>
     ensures some { IfSome result (λ meter. column row.now at ≡ Int (pos meter.0)) }
     ensures none { IfNone result ((n : ℕ) → n < 2 ^ 16 → column row.now at ≡ Int (pos n) → ⊥) }
 {
-    let number = number_at(row, at)?;
-    let position = u16::try_from(number).ok()?;
+    let position = position_at(row, at)?;
     Some(MeterId(position))
 }
 

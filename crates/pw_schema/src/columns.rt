@@ -2,7 +2,9 @@
 
 ghost use Rattle.std.specs.Prelude.{◌≡◌, ◌↔◌, [], ◌∷◌, IsTrue, codes, map};
 ghost use Rattle.pw_schema.specs.Tables.{column_of, of_integers, rowid_column};
+ghost use Rattle.pw_schema.specs.inner.Stages.{stored};
 
+use crate::table::StoreTable;
 use sqlite_schema::schema::{Column, Kind};
 use sqlite_value::keys::Collation;
 use sqlite_value::value::Value;
@@ -40,7 +42,7 @@ fn is_rowid_column(column: &Column, name: &[u8]) -> bool
         && has_no_default(column)
 }
 
-pub(crate) fn are_integers(columns: &[Column], names: &[&[u8]]) -> bool
+fn are_integers(columns: &[Column], names: &[&[u8]]) -> bool
     ensures is { IsTrue result → columns.now ≡ of_integers (map (λ n. n.now) names.now) }
     ensures all { columns.now ≡ of_integers (map (λ n. n.now) names.now) → IsTrue result }
 {
@@ -53,7 +55,7 @@ pub(crate) fn are_integers(columns: &[Column], names: &[&[u8]]) -> bool
     is_column(column, name, Kind::Integer) && are_integers(columns, names)
 }
 
-pub(crate) fn are_topup_columns(columns: &[Column]) -> bool
+fn are_topup_columns(columns: &[Column]) -> bool
     ensures is { IsTrue result → columns.now ≡ column_of (codes "reference") Kind.Text ∷ of_integers (codes "account" ∷ codes "cents" ∷ codes "instant" ∷ []) }
     ensures all { columns.now ≡ column_of (codes "reference") Kind.Text ∷ of_integers (codes "account" ∷ codes "cents" ∷ codes "instant" ∷ []) → IsTrue result }
 {
@@ -72,7 +74,7 @@ pub(crate) fn are_topup_columns(columns: &[Column]) -> bool
         )
 }
 
-pub(crate) fn are_sum_columns(columns: &[Column]) -> bool
+fn are_sum_columns(columns: &[Column]) -> bool
     ensures is { IsTrue result → columns.now ≡ rowid_column (codes "account") ∷ of_integers (codes "cents" ∷ []) }
     ensures all { columns.now ≡ rowid_column (codes "account") ∷ of_integers (codes "cents" ∷ []) → IsTrue result }
 {
@@ -83,7 +85,7 @@ pub(crate) fn are_sum_columns(columns: &[Column]) -> bool
         && are_integers(numbers, [b"cents".as_slice()].as_slice())
 }
 
-pub(crate) fn are_office_columns(columns: &[Column]) -> bool
+fn are_office_columns(columns: &[Column]) -> bool
     ensures is { IsTrue result → columns.now ≡ rowid_column (codes "id") ∷ column_of (codes "version") Kind.Integer ∷ column_of (codes "body") Kind.Blob ∷ [] }
     ensures all { columns.now ≡ rowid_column (codes "id") ∷ column_of (codes "version") Kind.Integer ∷ column_of (codes "body") Kind.Blob ∷ [] → IsTrue result }
 {
@@ -99,4 +101,30 @@ pub(crate) fn are_office_columns(columns: &[Column]) -> bool
     is_rowid_column(id, b"id".as_slice())
         && is_column(version, b"version".as_slice(), Kind::Integer)
         && is_column(body, b"body".as_slice(), Kind::Blob)
+}
+
+/// Whether the columns are a table's.
+pub(crate) fn are_columns(columns: &[Column], table: StoreTable) -> bool
+    ensures is { IsTrue result → columns.now ≡ (stored table).columns }
+    ensures all { columns.now ≡ (stored table).columns → IsTrue result }
+{
+    let meter = b"meter".as_slice();
+    let owner = b"owner".as_slice();
+    let wh = b"wh".as_slice();
+    match table {
+        StoreTable::Office => are_office_columns(columns),
+        StoreTable::TopUps => are_topup_columns(columns),
+        StoreTable::TotalTopUps => are_sum_columns(columns),
+        StoreTable::Readings | StoreTable::Points => are_integers(
+            columns,
+            [meter, b"register".as_slice(), b"instant".as_slice(), wh].as_slice(),
+        ),
+        StoreTable::Assignments | StoreTable::Starts => {
+            are_integers(columns, [meter, b"start".as_slice(), owner].as_slice())
+        }
+        StoreTable::Totals => are_integers(
+            columns,
+            [owner, b"band".as_slice(), b"direction".as_slice(), wh].as_slice(),
+        ),
+    }
 }

@@ -1,117 +1,55 @@
 //! Whether indexes are those of a store.
 
-ghost use Rattle.std.specs.Prelude.{◌≡◌, ◌<◌, [], ◌∷◌, IsTrue, codes};
-ghost use Rattle.pw_schema.specs.Tables.{index_of, only_one, ours_with};
+ghost use Rattle.std.specs.Prelude.{◌≡◌, ◌↔◌, ◌++◌, IsTrue, codes, map};
+ghost use Rattle.pw_schema.specs.Tables.{only_one, ours_with};
+ghost use Rattle.pw_schema.specs.inner.Stages.{index_at};
 
+use crate::table::StoreTable;
 use sqlite_schema::schema::Index;
 use sqlite_value::keys::Order;
 
-fn is_index(index: &Index, name: &[u8], tree: u32, places: &[usize]) -> bool
-    requires { tree < 100 }
-    ensures is { IsTrue result → index.now ≡ index_of name.now tree places.now }
-    ensures all { index.now ≡ index_of name.now tree places.now → IsTrue result }
+// Whether a name is that of the index which SQLite makes for the key of a table of this name.
+fn is_name(found: &[u8], table: &[u8]) -> bool
+    ensures { IsTrue result ↔ (found.now ≡ codes "sqlite_autoindex_" ++ table.now ++ codes "_1") }
 {
-    index.name.as_slice() == name
-        && index.tree == tree + 1
-        && index.table == tree
-        && index.columns.as_slice() == places
-        && index.order == Order::PLAIN
-        && index.is_unique
-}
-
-fn is_reading_index(index: &Index) -> bool
-    ensures is { IsTrue result → index.now ≡ index_of (codes "sqlite_autoindex_record_reading_1") 1 (1 ∷ 2 ∷ 3 ∷ 4 ∷ []) }
-    ensures all { index.now ≡ index_of (codes "sqlite_autoindex_record_reading_1") 1 (1 ∷ 2 ∷ 3 ∷ 4 ∷ []) → IsTrue result }
-{
-    is_index(
-        index,
-        b"sqlite_autoindex_record_reading_1".as_slice(),
-        1,
-        [1, 2, 3, 4].as_slice(),
-    )
-}
-
-fn is_assignment_index(index: &Index) -> bool
-    ensures is { IsTrue result → index.now ≡ index_of (codes "sqlite_autoindex_record_assignment_1") 3 (1 ∷ 2 ∷ 3 ∷ []) }
-    ensures all { index.now ≡ index_of (codes "sqlite_autoindex_record_assignment_1") 3 (1 ∷ 2 ∷ 3 ∷ []) → IsTrue result }
-{
-    is_index(
-        index,
-        b"sqlite_autoindex_record_assignment_1".as_slice(),
-        3,
-        [1, 2, 3].as_slice(),
-    )
-}
-
-fn is_topup_index(index: &Index) -> bool
-    ensures is { IsTrue result → index.now ≡ index_of (codes "sqlite_autoindex_record_topup_1") 5 (1 ∷ 2 ∷ 3 ∷ 4 ∷ []) }
-    ensures all { index.now ≡ index_of (codes "sqlite_autoindex_record_topup_1") 5 (1 ∷ 2 ∷ 3 ∷ 4 ∷ []) → IsTrue result }
-{
-    is_index(
-        index,
-        b"sqlite_autoindex_record_topup_1".as_slice(),
-        5,
-        [1, 2, 3, 4].as_slice(),
-    )
-}
-
-fn is_point_index(index: &Index) -> bool
-    ensures is { IsTrue result → index.now ≡ index_of (codes "sqlite_autoindex_point_1") 7 (1 ∷ 2 ∷ 3 ∷ []) }
-    ensures all { index.now ≡ index_of (codes "sqlite_autoindex_point_1") 7 (1 ∷ 2 ∷ 3 ∷ []) → IsTrue result }
-{
-    is_index(
-        index,
-        b"sqlite_autoindex_point_1".as_slice(),
-        7,
-        [1, 2, 3].as_slice(),
-    )
-}
-
-fn is_start_index(index: &Index) -> bool
-    ensures is { IsTrue result → index.now ≡ index_of (codes "sqlite_autoindex_start_1") 9 (1 ∷ 2 ∷ []) }
-    ensures all { index.now ≡ index_of (codes "sqlite_autoindex_start_1") 9 (1 ∷ 2 ∷ []) → IsTrue result }
-{
-    is_index(
-        index,
-        b"sqlite_autoindex_start_1".as_slice(),
-        9,
-        [1, 2].as_slice(),
-    )
-}
-
-fn is_total_index(index: &Index) -> bool
-    ensures is { IsTrue result → index.now ≡ index_of (codes "sqlite_autoindex_total_1") 11 (1 ∷ 2 ∷ 3 ∷ []) }
-    ensures all { index.now ≡ index_of (codes "sqlite_autoindex_total_1") 11 (1 ∷ 2 ∷ 3 ∷ []) → IsTrue result }
-{
-    is_index(
-        index,
-        b"sqlite_autoindex_total_1".as_slice(),
-        11,
-        [1, 2, 3].as_slice(),
-    )
-}
-
-pub(crate) fn are_indexes(indexes: &[Index]) -> bool
-    ensures is { IsTrue result → indexes.now ≡ (ours_with only_one).indexes }
-    ensures all { indexes.now ≡ (ours_with only_one).indexes → IsTrue result }
-{
-    let [reading, assignment, topup, point, start, total] = indexes else {
+    let Some(rest) = found.strip_prefix(b"sqlite_autoindex_".as_slice()) else {
         return false;
     };
-    if !is_reading_index(reading) {
+    let Some(name) = rest.strip_suffix(b"_1".as_slice()) else {
         return false;
-    }
-    if !is_assignment_index(assignment) {
+    };
+    name == table
+}
+
+fn is_index(found: &Index, table: StoreTable) -> bool
+    ensures is { IsTrue result → found.now ≡ index_at table }
+    ensures all { found.now ≡ index_at table → IsTrue result }
+{
+    is_name(found.name.as_slice(), table.name())
+        && found.tree == table.tree() + 1
+        && found.table == table.tree()
+        && found.columns.as_slice() == table.key()
+        && found.order == Order::PLAIN
+        && found.is_unique
+}
+
+fn are_these(found: &[Index], tables: &[StoreTable]) -> bool
+    ensures is { IsTrue result → found.now ≡ map index_at tables.now }
+    ensures all { found.now ≡ map index_at tables.now → IsTrue result }
+{
+    let [first, found @ ..] = found else {
+        return tables.is_empty();
+    };
+    let [table, tables @ ..] = tables else {
         return false;
-    }
-    if !is_topup_index(topup) {
-        return false;
-    }
-    if !is_point_index(point) {
-        return false;
-    }
-    if !is_start_index(start) {
-        return false;
-    }
-    is_total_index(total)
+    };
+    is_index(first, *table) && are_these(found, tables)
+}
+
+pub(crate) fn are_indexes(found: &[Index]) -> bool
+    ensures is { IsTrue result → found.now ≡ (ours_with only_one).indexes }
+    ensures all { found.now ≡ (ours_with only_one).indexes → IsTrue result }
+{
+    // the keys of the first table and of the last are rowids, which have no index
+    are_these(found, &StoreTable::ALL[1..7])
 }

@@ -2,7 +2,9 @@
 
 ghost use Rattle.std.specs.Prelude.{◌≡◌, [], ◌∷◌, IsTrue, None, Some};
 ghost use Rattle.sqlite_value.specs.Keys.{plain};
+ghost use Rattle.pw_schema.specs.inner.Stages.{stored};
 
+use crate::table::StoreTable;
 use sqlite_items::Items;
 use sqlite_schema::schema::Table;
 use sqlite_value::keys::Order;
@@ -34,7 +36,7 @@ fn is_plain_only(orders: &[Order]) -> bool
     }
 }
 
-pub(crate) fn has_key(table: &Table, places: &[usize]) -> bool
+fn is_indexed_table(table: &Table, places: &[usize]) -> bool
     ensures key { IsTrue result → table.now.key ≡ None }
     ensures primary { IsTrue result → table.now.primary ≡ places.now }
     ensures uniques { IsTrue result → table.now.uniques ≡ places.now ∷ [] }
@@ -47,7 +49,7 @@ pub(crate) fn has_key(table: &Table, places: &[usize]) -> bool
         && is_only(table.uniques.as_slice(), places)
 }
 
-pub(crate) fn is_rowid_table(table: &Table) -> bool
+fn is_rowid_table(table: &Table) -> bool
     ensures key { IsTrue result → table.now.key ≡ Some 0 }
     ensures primary { IsTrue result → table.now.primary ≡ 0 ∷ [] }
     ensures uniques { IsTrue result → table.now.uniques ≡ [] }
@@ -58,4 +60,15 @@ pub(crate) fn is_rowid_table(table: &Table) -> bool
         && table.primary.as_slice() == [0].as_slice()
         && table.uniques.is_empty()
         && table.orders.is_empty()
+}
+
+/// Whether the key is a table's.
+pub(crate) fn has_key(found: &Table, table: StoreTable) -> bool
+    ensures is { IsTrue result → (found.now.key ≡ (stored table).key) × (found.now.primary ≡ (stored table).primary) × (found.now.uniques ≡ (stored table).uniques) × (found.now.orders ≡ (stored table).orders) }
+    ensures all { found.now.key ≡ (stored table).key → found.now.primary ≡ (stored table).primary → found.now.uniques ≡ (stored table).uniques → found.now.orders ≡ (stored table).orders → IsTrue result }
+{
+    match table {
+        StoreTable::Office | StoreTable::TotalTopUps => is_rowid_table(found),
+        _ => is_indexed_table(found, table.key()),
+    }
 }

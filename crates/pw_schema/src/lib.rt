@@ -17,6 +17,7 @@ mod reading;
 mod records;
 mod rowids;
 mod shape;
+mod table;
 mod tables;
 mod totals;
 mod transactions;

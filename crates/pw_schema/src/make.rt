@@ -1,143 +1,46 @@
-//! The tables, each made by its own text.
+//! A new store: its tables, each made by its own text, and its office.
 
 ghost use Rattle.std.specs.Prelude.{◌≡◌, OnErr, OnOk, IsTrue};
 ghost use Rattle.sqlite.specs.Effect.{IsDatabase};
 ghost use Rattle.sqlite.specs.Held.{state};
-ghost use Rattle.sqlite.specs.State.{HasCleanDisk, IsUnchanged, KeepsCommit, Shows, Survives};
+ghost use Rattle.sqlite.specs.State.{HasCleanDisk, KeepsCommit, Survives};
+ghost use Rattle.pw_schema.specs.Calls.{Looks};
 ghost use Rattle.pw_schema.specs.Conflicts.{AreWithoutConflict};
 ghost use Rattle.pw_schema.specs.Fresh.{AreNew, IsFresh, IsIdleAt, IsNew};
-ghost use Rattle.pw_schema.specs.Tables.{IsOurs, no_schema};
-ghost use Rattle.pw_schema.specs.inner.Stages.{IsMaking, stage1, stage2, stage3, stage4, stage5, stage6, stage7, stage8};
+ghost use Rattle.pw_schema.specs.Tables.{IsOurs, no_schema, only_one, ours_with};
+ghost use Rattle.pw_schema.specs.inner.Stages.{IsMaking, before, behind};
 
 use crate::conflicts::has_no_conflict;
+use crate::table::StoreTable;
 use crate::transactions::{begin, commit};
 use sqlite::{Alter, Connection, Error, ErrorCode, params};
 
-fn make_office<S: Alter>(conn: &mut Connection<S>) -> Result<usize, Error>
+// Makes a table.
+fn make<S: Alter>(conn: &mut Connection<S>, table: StoreTable) -> Result<usize, Error>
+    requires { HasCleanDisk (state S.Store conn.old) → IsMaking (before table) (state S.Store conn.old) }
+    ensures made { HasCleanDisk (state S.Store conn.new) → OnOk result (IsMaking (behind table) (state S.Store conn.new)) }
+    ensures kept { HasCleanDisk (state S.Store conn.new) → KeepsCommit (state S.Store conn.old) (state S.Store conn.new) }
+    ensures crash { Survives (state S.Store conn.old) (state S.Store conn.new) (λ _. ⊥) }
+{
+    conn.execute(table.text(), &[])
+}
+
+// Makes the tables, one behind the other.
+fn make_all<S: Alter>(conn: &mut Connection<S>) -> Result<(), Error>
     requires { HasCleanDisk (state S.Store conn.old) → IsMaking no_schema (state S.Store conn.old) }
-    ensures made { HasCleanDisk (state S.Store conn.new) → OnOk result (IsMaking stage1 (state S.Store conn.new)) }
+    ensures made { HasCleanDisk (state S.Store conn.new) → OnOk result (IsMaking (ours_with only_one) (state S.Store conn.new)) }
     ensures kept { HasCleanDisk (state S.Store conn.new) → KeepsCommit (state S.Store conn.old) (state S.Store conn.new) }
     ensures crash { Survives (state S.Store conn.old) (state S.Store conn.new) (λ _. ⊥) }
 {
-    conn.execute(
-        "CREATE TABLE office (id INTEGER PRIMARY KEY CHECK (id = 1), version INTEGER NOT NULL, body BLOB NOT NULL) STRICT",
-        &[],
-    )
-}
-
-fn make_reading<S: Alter>(conn: &mut Connection<S>) -> Result<usize, Error>
-    requires { HasCleanDisk (state S.Store conn.old) → IsMaking stage1 (state S.Store conn.old) }
-    ensures made { HasCleanDisk (state S.Store conn.new) → OnOk result (IsMaking stage2 (state S.Store conn.new)) }
-    ensures kept { HasCleanDisk (state S.Store conn.new) → KeepsCommit (state S.Store conn.old) (state S.Store conn.new) }
-    ensures crash { Survives (state S.Store conn.old) (state S.Store conn.new) (λ _. ⊥) }
-{
-    conn.execute(
-        "CREATE TABLE record_reading (meter INTEGER NOT NULL, register INTEGER NOT NULL, instant INTEGER NOT NULL, wh INTEGER NOT NULL, PRIMARY KEY (meter, register, instant, wh)) STRICT",
-        &[],
-    )
-}
-
-fn make_assignment<S: Alter>(conn: &mut Connection<S>) -> Result<usize, Error>
-    requires { HasCleanDisk (state S.Store conn.old) → IsMaking stage2 (state S.Store conn.old) }
-    ensures made { HasCleanDisk (state S.Store conn.new) → OnOk result (IsMaking stage3 (state S.Store conn.new)) }
-    ensures kept { HasCleanDisk (state S.Store conn.new) → KeepsCommit (state S.Store conn.old) (state S.Store conn.new) }
-    ensures crash { Survives (state S.Store conn.old) (state S.Store conn.new) (λ _. ⊥) }
-{
-    conn.execute(
-        "CREATE TABLE record_assignment (meter INTEGER NOT NULL, start INTEGER NOT NULL, owner INTEGER NOT NULL, PRIMARY KEY (meter, start, owner)) STRICT",
-        &[],
-    )
-}
-
-fn make_topup<S: Alter>(conn: &mut Connection<S>) -> Result<usize, Error>
-    requires { HasCleanDisk (state S.Store conn.old) → IsMaking stage3 (state S.Store conn.old) }
-    ensures made { HasCleanDisk (state S.Store conn.new) → OnOk result (IsMaking stage4 (state S.Store conn.new)) }
-    ensures kept { HasCleanDisk (state S.Store conn.new) → KeepsCommit (state S.Store conn.old) (state S.Store conn.new) }
-    ensures crash { Survives (state S.Store conn.old) (state S.Store conn.new) (λ _. ⊥) }
-{
-    conn.execute(
-        "CREATE TABLE record_topup (reference TEXT NOT NULL, account INTEGER NOT NULL, cents INTEGER NOT NULL, instant INTEGER NOT NULL, PRIMARY KEY (reference, account, cents, instant)) STRICT",
-        &[],
-    )
-}
-
-fn make_point<S: Alter>(conn: &mut Connection<S>) -> Result<usize, Error>
-    requires { HasCleanDisk (state S.Store conn.old) → IsMaking stage4 (state S.Store conn.old) }
-    ensures made { HasCleanDisk (state S.Store conn.new) → OnOk result (IsMaking stage5 (state S.Store conn.new)) }
-    ensures kept { HasCleanDisk (state S.Store conn.new) → KeepsCommit (state S.Store conn.old) (state S.Store conn.new) }
-    ensures crash { Survives (state S.Store conn.old) (state S.Store conn.new) (λ _. ⊥) }
-{
-    conn.execute(
-        "CREATE TABLE point (meter INTEGER NOT NULL, register INTEGER NOT NULL, instant INTEGER NOT NULL, wh INTEGER NOT NULL, PRIMARY KEY (meter, register, instant)) STRICT",
-        &[],
-    )
-}
-
-fn make_start<S: Alter>(conn: &mut Connection<S>) -> Result<usize, Error>
-    requires { HasCleanDisk (state S.Store conn.old) → IsMaking stage5 (state S.Store conn.old) }
-    ensures made { HasCleanDisk (state S.Store conn.new) → OnOk result (IsMaking stage6 (state S.Store conn.new)) }
-    ensures kept { HasCleanDisk (state S.Store conn.new) → KeepsCommit (state S.Store conn.old) (state S.Store conn.new) }
-    ensures crash { Survives (state S.Store conn.old) (state S.Store conn.new) (λ _. ⊥) }
-{
-    conn.execute(
-        "CREATE TABLE start (meter INTEGER NOT NULL, start INTEGER NOT NULL, owner INTEGER NOT NULL, PRIMARY KEY (meter, start)) STRICT",
-        &[],
-    )
-}
-
-fn make_total<S: Alter>(conn: &mut Connection<S>) -> Result<usize, Error>
-    requires { HasCleanDisk (state S.Store conn.old) → IsMaking stage6 (state S.Store conn.old) }
-    ensures made { HasCleanDisk (state S.Store conn.new) → OnOk result (IsMaking stage7 (state S.Store conn.new)) }
-    ensures kept { HasCleanDisk (state S.Store conn.new) → KeepsCommit (state S.Store conn.old) (state S.Store conn.new) }
-    ensures crash { Survives (state S.Store conn.old) (state S.Store conn.new) (λ _. ⊥) }
-{
-    conn.execute(
-        "CREATE TABLE total (owner INTEGER NOT NULL, band INTEGER NOT NULL, direction INTEGER NOT NULL, wh INTEGER NOT NULL, PRIMARY KEY (owner, band, direction)) STRICT",
-        &[],
-    )
-}
-
-fn make_total_topup<S: Alter>(conn: &mut Connection<S>) -> Result<usize, Error>
-    requires { HasCleanDisk (state S.Store conn.old) → IsMaking stage7 (state S.Store conn.old) }
-    ensures made { HasCleanDisk (state S.Store conn.new) → OnOk result (IsMaking stage8 (state S.Store conn.new)) }
-    ensures kept { HasCleanDisk (state S.Store conn.new) → KeepsCommit (state S.Store conn.old) (state S.Store conn.new) }
-    ensures crash { Survives (state S.Store conn.old) (state S.Store conn.new) (λ _. ⊥) }
-{
-    conn.execute(
-        "CREATE TABLE total_topup (account INTEGER PRIMARY KEY, cents INTEGER NOT NULL) STRICT",
-        &[],
-    )
-}
-
-fn make_records<S: Alter>(conn: &mut Connection<S>) -> Result<(), Error>
-    requires { HasCleanDisk (state S.Store conn.old) → IsMaking no_schema (state S.Store conn.old) }
-    ensures made { HasCleanDisk (state S.Store conn.new) → OnOk result (IsMaking stage4 (state S.Store conn.new)) }
-    ensures kept { HasCleanDisk (state S.Store conn.new) → KeepsCommit (state S.Store conn.old) (state S.Store conn.new) }
-    ensures crash { Survives (state S.Store conn.old) (state S.Store conn.new) (λ _. ⊥) }
-{
-    make_office(conn)?;
-    make_reading(conn)?;
-    make_assignment(conn)?;
-    make_topup(conn)?;
-    Ok(())
-}
-
-fn make_sums<S: Alter>(conn: &mut Connection<S>) -> Result<(), Error>
-    requires { HasCleanDisk (state S.Store conn.old) → IsMaking stage4 (state S.Store conn.old) }
-    ensures made { HasCleanDisk (state S.Store conn.new) → OnOk result (IsMaking stage8 (state S.Store conn.new)) }
-    ensures kept { HasCleanDisk (state S.Store conn.new) → KeepsCommit (state S.Store conn.old) (state S.Store conn.new) }
-    ensures crash { Survives (state S.Store conn.old) (state S.Store conn.new) (λ _. ⊥) }
-{
-    make_point(conn)?;
-    make_start(conn)?;
-    make_total(conn)?;
-    make_total_topup(conn)?;
+    for table in &StoreTable::ALL {
+        make(conn, *table)?;
+    }
     Ok(())
 }
 
 /// Keeps the office's text.
 fn put_office<S: Alter>(conn: &mut Connection<S>, body: &[u8]) -> Result<usize, Error>
-    requires { HasCleanDisk (state S.Store conn.old) → IsMaking stage8 (state S.Store conn.old) }
+    requires { HasCleanDisk (state S.Store conn.old) → IsMaking (ours_with only_one) (state S.Store conn.old) }
     ensures made { HasCleanDisk (state S.Store conn.new) → OnOk result (IsFresh body.now (state S.Store conn.new).now) }
     ensures listed { HasCleanDisk (state S.Store conn.new) → OnOk result (IsDatabase (state S.Store conn.new).now) }
     ensures inside { HasCleanDisk (state S.Store conn.new) → OnOk result (IsTrue (state S.Store conn.new).is_open) }
@@ -154,9 +57,7 @@ fn put_office<S: Alter>(conn: &mut Connection<S>, body: &[u8]) -> Result<usize, 
 fn see_texts<S: Alter>(conn: &mut Connection<S>) -> Result<(), Error>
     requires { HasCleanDisk (state S.Store conn.old) → IsOurs (state S.Store conn.old).now.schema }
     ensures plain { HasCleanDisk (state S.Store conn.new) → OnOk result (AreWithoutConflict (state S.Store conn.new).now.trees) }
-    ensures same { HasCleanDisk (state S.Store conn.new) → OnOk result (IsUnchanged (state S.Store conn.old) (state S.Store conn.new)) }
-    ensures kept { HasCleanDisk (state S.Store conn.new) → KeepsCommit (state S.Store conn.old) (state S.Store conn.new) }
-    ensures crash { Survives (state S.Store conn.old) (state S.Store conn.new) (λ _. ⊥) }
+    ensures looks { Looks result (state S.Store conn.old) (state S.Store conn.new) }
 {
     if has_no_conflict(conn)? {
         Ok(())
@@ -173,8 +74,7 @@ fn fill<S: Alter>(conn: &mut Connection<S>, body: &[u8]) -> Result<(), Error>
     ensures kept { HasCleanDisk (state S.Store conn.new) → KeepsCommit (state S.Store conn.old) (state S.Store conn.new) }
     ensures crash { Survives (state S.Store conn.old) (state S.Store conn.new) (λ _. ⊥) }
 {
-    make_records(conn)?;
-    make_sums(conn)?;
+    make_all(conn)?;
     put_office(conn, body)?;
     see_texts(conn)?;
     Ok(())

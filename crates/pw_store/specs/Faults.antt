@@ -1,6 +1,7 @@
 -- The numbers, names and lines of an opening's faults.
 -- (A format of this project.)
 use Rattle.std.specs.Prelude.{ℕ, List, codes}
+use Rattle.pw_line.specs.Refused.{refused_line}
 use Rattle.pw_store.specs.declared.fault.OpenFault.{OpenFault}
 use Rattle.pw_store.specs.declared.fault.OpenFault.TheVariants.{Store, Memory, OfficeDiffers, Version, Unclean}
 
@@ -19,8 +20,4 @@ open_name Version = codes "Version"
 open_name Unclean = codes "Unclean"
 
 abbrev pub open_line : OpenFault → List ℕ
-open_line Store = codes "refused 70 Store"
-open_line Memory = codes "refused 62 Memory"
-open_line OfficeDiffers = codes "refused 71 OfficeDiffers"
-open_line Version = codes "refused 72 Version"
-open_line Unclean = codes "refused 73 Unclean"
+open_line fault = refused_line (open_number fault) (open_name fault)

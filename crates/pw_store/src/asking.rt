@@ -21,8 +21,8 @@ use pw_tariff::MeterId;
 use sqlite::{Alter, Connection, Error, Row};
 use std::alloc::Global;
 
-/// Whether a record is held.
-pub(crate) fn has_entry<S: Alter>(
+// Whether a record is held, once the connection is known to be open.
+fn has_entry<S: Alter>(
     conn: &mut Connection<S>,
     doubtful: bool,
     entry: &Entry,
@@ -56,6 +56,25 @@ pub(crate) fn has_entry<S: Alter>(
             } => has_topup(conn, reference, *account, *cents, *instant),
             _ => Ok(false),
         },
+    }
+}
+
+/// Whether a record is held.
+pub(crate) fn holds<S: Alter>(
+    conn: &mut Connection<S>,
+    doubtful: bool,
+    entry: &Entry,
+) -> Result<bool, AskFault>
+    requires awake { IsAwake (state S.Store conn.old) doubtful }
+    requires store { NowIsStore (state S.Store conn.old) }
+    ensures found { HasCleanDisk (state S.Store conn.new) → IfOk result (λ held. IsTrue held ↔ Member entry.now (records_of (state S.Store conn.old).now.trees)) }
+    ensures same { HasCleanDisk (state S.Store conn.new) → OnOk result (IsUnchanged (state S.Store conn.old) (state S.Store conn.new)) }
+    ensures failed { HasCleanDisk (state S.Store conn.new) → OnErr result (IsUnchanged (state S.Store conn.old) (state S.Store conn.new) ⊎ IsRolledBack (state S.Store conn.old) (state S.Store conn.new)) }
+    ensures crash { Survives (state S.Store conn.old) (state S.Store conn.new) (λ _. ⊥) }
+{
+    match has_entry(conn, doubtful, entry) {
+        Ok(held) => Ok(held),
+        Err(error) => Err(AskFault::Statement(error)),
     }
 }
 

@@ -7,7 +7,7 @@ ghost use Rattle.sqlite.specs.State.{HasCleanDisk};
 ghost use Rattle.pw_shelf.specs.Rows.{rows_at, rows_found, rows_total};
 ghost use Rattle.pw_store.specs.Kept.{left_of, once_held, state_of, survives_left};
 
-use crate::asking::{assignments, contents, has_entry, readings, topups};
+use crate::asking::{assignments, contents, holds, readings, topups};
 use crate::changes::Change;
 use crate::entries::add_entry;
 use crate::fault::{device_fault, fault_of, fault_of_ask};
@@ -22,6 +22,25 @@ use pw_time::Instant;
 use sqlite::Alter;
 use std::alloc::Global;
 use std::snapshot::Snapshot;
+
+// What a question is answered. An answer is so many rows, which are counted, and the connection is known to be open.
+// Behind a fault it may be shut, and a failure of the device is counted.
+macro_rules! answered {
+    ($store:expr, $asked:expr, $found:ident, $rows:expr) => {
+        match $asked {
+            Ok($found) => {
+                $store.tally.tick($rows);
+                $store.doubtful = false;
+                Ok($found)
+            }
+            Err(fault) => {
+                $store.tally.tick(0);
+                $store.doubtful = true;
+                Err(fault_of_ask(fault, &mut $store.failures))
+            }
+        }
+    };
+}
 
 impl<S: Alter> Shelf for SqlShelf<S> {
     ghost state = { λ s. state_of (state S.Store s.conn) (state S.Store s.base.value) s.begun s.failures.count s.failed_abandons.count s.tally.count };
@@ -89,32 +108,13 @@ impl<S: Alter> Shelf for SqlShelf<S> {
     }
 
     fn holds(&mut self, entry: &Entry) -> Result<bool, ShelfFault> {
-        self.tally.tick(0);
-        match has_entry(&mut self.conn, self.doubtful, entry) {
-            Ok(held) => {
-                self.doubtful = false;
-                Ok(held)
-            }
-            Err(error) => {
-                self.doubtful = true;
-                Err(fault_of(error, &mut self.failures))
-            }
-        }
+        let asked = holds(&mut self.conn, self.doubtful, entry);
+        answered!(self, asked, held, 0)
     }
 
     fn contents_at(&mut self, key: &Key) -> Result<Contents, ShelfFault> {
-        match contents(&mut self.conn, self.doubtful, key) {
-            Ok(found) => {
-                self.tally.tick(rows_in(&found));
-                self.doubtful = false;
-                Ok(found)
-            }
-            Err(fault) => {
-                self.tally.tick(0);
-                self.doubtful = true;
-                Err(fault_of_ask(fault, &mut self.failures))
-            }
-        }
+        let asked = contents(&mut self.conn, self.doubtful, key);
+        answered!(self, asked, found, rows_in(&found))
     }
 
     fn add(&mut self, entry: &Entry) -> Result<(), ShelfFault> {
@@ -141,48 +141,18 @@ impl<S: Alter> Shelf for SqlShelf<S> {
         meter: MeterId,
         register: Register,
     ) -> Result<Vec<Entry>, ShelfFault> {
-        match readings(&mut self.conn, self.doubtful, alloc, meter, register) {
-            Ok(found) => {
-                self.tally.tick(found.len() as u64);
-                self.doubtful = false;
-                Ok(found)
-            }
-            Err(fault) => {
-                self.tally.tick(0);
-                self.doubtful = true;
-                Err(fault_of_ask(fault, &mut self.failures))
-            }
-        }
+        let asked = readings(&mut self.conn, self.doubtful, alloc, meter, register);
+        answered!(self, asked, found, found.len() as u64)
     }
 
     fn assignments_of(&mut self, alloc: Global, meter: MeterId) -> Result<Vec<Entry>, ShelfFault> {
-        match assignments(&mut self.conn, self.doubtful, alloc, meter) {
-            Ok(found) => {
-                self.tally.tick(found.len() as u64);
-                self.doubtful = false;
-                Ok(found)
-            }
-            Err(fault) => {
-                self.tally.tick(0);
-                self.doubtful = true;
-                Err(fault_of_ask(fault, &mut self.failures))
-            }
-        }
+        let asked = assignments(&mut self.conn, self.doubtful, alloc, meter);
+        answered!(self, asked, found, found.len() as u64)
     }
 
     fn topups(&mut self, alloc: Global) -> Result<Vec<Entry>, ShelfFault> {
-        match topups(&mut self.conn, self.doubtful, alloc) {
-            Ok(found) => {
-                self.tally.tick(found.len() as u64);
-                self.doubtful = false;
-                Ok(found)
-            }
-            Err(fault) => {
-                self.tally.tick(0);
-                self.doubtful = true;
-                Err(fault_of_ask(fault, &mut self.failures))
-            }
-        }
+        let asked = topups(&mut self.conn, self.doubtful, alloc);
+        answered!(self, asked, found, found.len() as u64)
     }
 
     // No statement is run: the number is kept, also of a connection that is shut.
@@ -237,18 +207,8 @@ impl<S: Alter> Shelf for SqlShelf<S> {
         register: Register,
         instant: Instant,
     ) -> Result<Option<(Instant, WattHours)>, ShelfFault> {
-        match point_before(&mut self.conn, self.doubtful, meter, register, instant) {
-            Ok(found) => {
-                self.tally.tick(rows_found(&found));
-                self.doubtful = false;
-                Ok(found)
-            }
-            Err(fault) => {
-                self.tally.tick(0);
-                self.doubtful = true;
-                Err(fault_of_ask(fault, &mut self.failures))
-            }
-        }
+        let asked = point_before(&mut self.conn, self.doubtful, meter, register, instant);
+        answered!(self, asked, found, rows_found(&found))
     }
 
     fn point_after(
@@ -257,18 +217,8 @@ impl<S: Alter> Shelf for SqlShelf<S> {
         register: Register,
         instant: Instant,
     ) -> Result<Option<(Instant, WattHours)>, ShelfFault> {
-        match point_after(&mut self.conn, self.doubtful, meter, register, instant) {
-            Ok(found) => {
-                self.tally.tick(rows_found(&found));
-                self.doubtful = false;
-                Ok(found)
-            }
-            Err(fault) => {
-                self.tally.tick(0);
-                self.doubtful = true;
-                Err(fault_of_ask(fault, &mut self.failures))
-            }
-        }
+        let asked = point_after(&mut self.conn, self.doubtful, meter, register, instant);
+        answered!(self, asked, found, rows_found(&found))
     }
 
     fn points_between(
@@ -279,7 +229,7 @@ impl<S: Alter> Shelf for SqlShelf<S> {
         from: Instant,
         to: Instant,
     ) -> Result<Vec<(Instant, WattHours)>, ShelfFault> {
-        match points_between(
+        let asked = points_between(
             &mut self.conn,
             self.doubtful,
             alloc,
@@ -287,18 +237,8 @@ impl<S: Alter> Shelf for SqlShelf<S> {
             register,
             from,
             to,
-        ) {
-            Ok(found) => {
-                self.tally.tick(found.len() as u64);
-                self.doubtful = false;
-                Ok(found)
-            }
-            Err(fault) => {
-                self.tally.tick(0);
-                self.doubtful = true;
-                Err(fault_of_ask(fault, &mut self.failures))
-            }
-        }
+        );
+        answered!(self, asked, found, found.len() as u64)
     }
 
     fn start_put(
@@ -328,33 +268,13 @@ impl<S: Alter> Shelf for SqlShelf<S> {
         alloc: Global,
         meter: MeterId,
     ) -> Result<Vec<(Instant, Owner)>, ShelfFault> {
-        match starts_of(&mut self.conn, self.doubtful, alloc, meter) {
-            Ok(found) => {
-                self.tally.tick(found.len() as u64);
-                self.doubtful = false;
-                Ok(found)
-            }
-            Err(fault) => {
-                self.tally.tick(0);
-                self.doubtful = true;
-                Err(fault_of_ask(fault, &mut self.failures))
-            }
-        }
+        let asked = starts_of(&mut self.conn, self.doubtful, alloc, meter);
+        answered!(self, asked, found, found.len() as u64)
     }
 
     fn total(&mut self, key: &TotalKey) -> Result<u64, ShelfFault> {
-        match total(&mut self.conn, self.doubtful, key) {
-            Ok(amount) => {
-                self.tally.tick(rows_of_total(amount));
-                self.doubtful = false;
-                Ok(amount)
-            }
-            Err(fault) => {
-                self.tally.tick(0);
-                self.doubtful = true;
-                Err(fault_of_ask(fault, &mut self.failures))
-            }
-        }
+        let asked = total(&mut self.conn, self.doubtful, key);
+        answered!(self, asked, amount, rows_of_total(amount))
     }
 
     fn total_put(&mut self, key: &TotalKey, amount: u64) -> Result<(), ShelfFault> {

@@ -4,6 +4,7 @@ ghost use Rattle.std.specs.Prelude.{◌≡◌, ◌+◌, ◌⊎◌};
 ghost use Rattle.pw_shelf.specs.Calls.{failures_in};
 ghost use Rattle.pw_shelf.specs.declared.fault.ShelfFault.TheVariants.{Device};
 
+use pw_line::refused;
 use pw_schema::JudgeFault;
 use pw_shelf::{ShelfFault, Tally};
 use sqlite::{Error, ErrorCode};
@@ -103,13 +104,7 @@ impl fmt::Display for OpenFault {
     ghost output = { λ fault. Some (open_line fault) };
 
     fn fmt<W: fmt::Write>(&self, f: &mut fmt::Formatter<W>) -> fmt::Result {
-        match *self {
-            OpenFault::Store => write!(f, "refused 70 Store"),
-            OpenFault::Memory => write!(f, "refused 62 Memory"),
-            OpenFault::OfficeDiffers => write!(f, "refused 71 OfficeDiffers"),
-            OpenFault::Version => write!(f, "refused 72 Version"),
-            OpenFault::Unclean => write!(f, "refused 73 Unclean"),
-        }
+        f.write_str(refused(self.number(), self.name()).as_str())
     }
 }
 

@@ -1,35 +1,83 @@
--- The schema after so many tables. It serves `src/make.rt`.
-use Rattle.std.specs.Prelude.{◌≡◌, true, [], IsTrue}
+-- The tables as values, and the schema after so many of them. It serves `src/table.rt`, `src/make.rt`,
+-- `src/tables.rt` and `src/indexes.rt`.
+use Rattle.std.specs.Prelude.{◌≡◌, ℕ, true, List, [], ◌∷◌, ◌++◌, codes, take, IsTrue}
 use Rattle.std.specs.List.{AllByRecursion}
+use Rattle.sqlite.specs.Table.{Table}
+use Rattle.sqlite_schema.specs.declared.schema.Index.{Index}
 use Rattle.sqlite.specs.Schema.{Schema}
 use Rattle.sqlite.specs.Change.{created}
 use Rattle.sqlite.specs.Effect.{Database}
 use Rattle.sqlite.specs.State.{State}
-use Rattle.pw_schema.specs.Tables.{no_schema, only_one, office_at, reading_at, assignment_at, topup_at, point_at, start_at, total_at, total_topup_at}
+use Rattle.pw_schema.specs.declared.table.StoreTable.{StoreTable}
+use Rattle.pw_schema.specs.declared.table.StoreTable.TheVariants.{Office, Readings, Assignments, TopUps, Points, Starts, Totals, TotalTopUps}
+use Rattle.pw_schema.specs.Tables.{no_schema, only_one, office_at, reading_at, assignment_at, topup_at, point_at, start_at, total_at, total_topup_at, index_of}
 
-abbrev pub stage1 : Schema
-stage1 = created no_schema (office_at 0 only_one)
+-- the tables in the order in which they are made
+abbrev pub all_tables : List StoreTable
+all_tables = Office ∷ Readings ∷ Assignments ∷ TopUps ∷ Points ∷ Starts ∷ Totals ∷ TotalTopUps ∷ []
 
-abbrev pub stage2 : Schema
-stage2 = created stage1 (reading_at 0)
+-- the place of a table among them, and the tree at which it stands in a store, both from 0
+abbrev pub places : StoreTable → ℕ × ℕ
+places Office = (0, 0)
+places Readings = (1, 1)
+places Assignments = (2, 3)
+places TopUps = (3, 5)
+places Points = (4, 7)
+places Starts = (5, 9)
+places Totals = (6, 11)
+places TotalTopUps = (7, 13)
 
-abbrev pub stage3 : Schema
-stage3 = created stage2 (assignment_at 0)
+abbrev pub place : StoreTable → ℕ
+place t = (places t).0
 
-abbrev pub stage4 : Schema
-stage4 = created stage3 (topup_at 0)
+abbrev pub tree_of : StoreTable → ℕ
+tree_of t = (places t).1
 
-abbrev pub stage5 : Schema
-stage5 = created stage4 (point_at 0)
+-- the text that makes it
+abbrev pub text_of : StoreTable → List ℕ
+text_of Office = codes "CREATE TABLE office (id INTEGER PRIMARY KEY CHECK (id = 1), version INTEGER NOT NULL, body BLOB NOT NULL) STRICT"
+text_of Readings = codes "CREATE TABLE record_reading (meter INTEGER NOT NULL, register INTEGER NOT NULL, instant INTEGER NOT NULL, wh INTEGER NOT NULL, PRIMARY KEY (meter, register, instant, wh)) STRICT"
+text_of Assignments = codes "CREATE TABLE record_assignment (meter INTEGER NOT NULL, start INTEGER NOT NULL, owner INTEGER NOT NULL, PRIMARY KEY (meter, start, owner)) STRICT"
+text_of TopUps = codes "CREATE TABLE record_topup (reference TEXT NOT NULL, account INTEGER NOT NULL, cents INTEGER NOT NULL, instant INTEGER NOT NULL, PRIMARY KEY (reference, account, cents, instant)) STRICT"
+text_of Points = codes "CREATE TABLE point (meter INTEGER NOT NULL, register INTEGER NOT NULL, instant INTEGER NOT NULL, wh INTEGER NOT NULL, PRIMARY KEY (meter, register, instant)) STRICT"
+text_of Starts = codes "CREATE TABLE start (meter INTEGER NOT NULL, start INTEGER NOT NULL, owner INTEGER NOT NULL, PRIMARY KEY (meter, start)) STRICT"
+text_of Totals = codes "CREATE TABLE total (owner INTEGER NOT NULL, band INTEGER NOT NULL, direction INTEGER NOT NULL, wh INTEGER NOT NULL, PRIMARY KEY (owner, band, direction)) STRICT"
+text_of TotalTopUps = codes "CREATE TABLE total_topup (account INTEGER PRIMARY KEY, cents INTEGER NOT NULL) STRICT"
 
-abbrev pub stage6 : Schema
-stage6 = created stage5 (start_at 0)
+-- the table itself, at a tree
+abbrev pub table_at : StoreTable → ℕ → Table
+table_at Office tree = office_at tree only_one
+table_at Readings tree = reading_at tree
+table_at Assignments tree = assignment_at tree
+table_at TopUps tree = topup_at tree
+table_at Points tree = point_at tree
+table_at Starts tree = start_at tree
+table_at Totals tree = total_at tree
+table_at TotalTopUps tree = total_topup_at tree
 
-abbrev pub stage7 : Schema
-stage7 = created stage6 (total_at 0)
+-- the table as it stands in a store
+abbrev pub stored : StoreTable → Table
+stored t = table_at t (tree_of t)
 
-abbrev pub stage8 : Schema
-stage8 = created stage7 (total_topup_at 0)
+-- the index that SQLite makes for the key of a table
+abbrev pub index_at : StoreTable → Index
+index_at t = index_of (codes "sqlite_autoindex_" ++ (stored t).name ++ codes "_1") (tree_of t) (stored t).primary
+
+-- a schema with more tables, made one behind the other
+abbrev pub with_tables : Schema → List StoreTable → Schema
+with_tables schema [] = schema
+with_tables schema (t ∷ ts) = with_tables (created schema (table_at t 0)) ts
+
+-- the schema after so many tables
+abbrev pub stage : ℕ → Schema
+stage n = with_tables no_schema (take n all_tables)
+
+-- the schema in which a table is made, and that which it makes of it
+abbrev pub before : StoreTable → Schema
+before t = stage (place t)
+
+abbrev pub behind : StoreTable → Schema
+behind t = created (before t) (table_at t 0)
 
 -- the tables are those of the schema, and have no rows
 pub record IsBlank (schema : Schema) (db : Database) : Type 0 where

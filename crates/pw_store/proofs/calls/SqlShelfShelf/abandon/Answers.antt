@@ -6,14 +6,14 @@ use Rattle.pw_store.proofs.calls.SqlShelfShelf.abandon.Goals as goal
 pub invariant_of-self-in-Ok-clause-keeps : goal.invariant_of-self-in-Ok-clause-keeps
 invariant_of-self-in-Ok-clause-keeps g c =
     let self = c.args.self.now in
-    keeps_undone (state g.S.Store self.conn) (state g.S.Store c.roll_back.new.conn) (state g.S.Store self.opened.value) self.keeps c.in-Ok.ensures.crash c.in-Ok.ensures.undone
+    keeps_undone (state g.S.Store self.conn) (state g.S.Store c.roll_back.new.conn) (state g.S.Store self.opened.value) self.keeps c.in-Ok.ensures.writes.crash c.in-Ok.ensures.undone
 
 pub invariant_of-self-in-Err-clause-keeps : goal.invariant_of-self-in-Err-clause-keeps
 invariant_of-self-in-Err-clause-keeps g c =
     let self = c.args.self.now in
-    keeps_failed (state g.S.Store self.conn) (state g.S.Store c.roll_back.new.conn) (state g.S.Store self.opened.value) self.keeps c.in-Err.ensures.crash c.in-Err.ensures.failed
+    keeps_failed (state g.S.Store self.conn) (state g.S.Store c.roll_back.new.conn) (state g.S.Store self.opened.value) self.keeps c.in-Err.ensures.writes.crash c.in-Err.ensures.writes.failed
 
 pub invariant_of-self-in-Err-clause-now_counted : goal.invariant_of-self-in-Err-clause-now_counted
 invariant_of-self-in-Err-clause-now_counted g c =
     let self = c.args.self.now in
-    counted_failed (state g.S.Store self.conn) (state g.S.Store c.roll_back.new.conn) self.within self.now_counted c.in-Err.ensures.crash c.in-Err.ensures.failed
+    counted_failed (state g.S.Store self.conn) (state g.S.Store c.roll_back.new.conn) self.within self.now_counted c.in-Err.ensures.writes.crash c.in-Err.ensures.writes.failed
