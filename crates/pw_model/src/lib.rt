@@ -6,9 +6,11 @@ pub mod laws;
 pub mod plain;
 mod records;
 mod reference;
+mod registers;
 
 pub use compare::{
     compare_entries, compare_keys, compare_totals, is_same_content, is_same_entry, is_same_key,
 };
 pub use records::{Content, Contents, Dispute, Entry, Fall, Key, ReadingRow, TotalKey};
 pub use reference::{LONGEST_REFERENCE, Reference};
+pub use registers::direction_of;
