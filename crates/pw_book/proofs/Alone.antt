@@ -9,6 +9,7 @@ use Rattle.pw_model.specs.Same.{same_key, entry_order}
 use Rattle.pw_model.proofs.Same.{same_key-decides}
 use Rattle.pw_book.specs.inner.Groups.{IsFirstOf, IsLastOf, has_same_key}
 use Rattle.pw_parts.proofs.Keys.{between, entry-apart}
+use Rattle.pw_model.proofs.Counting.{standing-part, standing-member}
 use Rattle.pw_model.proofs.Places.{member-left, member-right, member-split}
 use Rattle.pw_model.proofs.InOrder.{before-member}
 use Rattle.pw_parts.proofs.Groups.{rising-right, rising-across}
@@ -17,12 +18,12 @@ use Rattle.pw_parts.proofs.Groups.{rising-right, rising-across}
 pub shared : (all : List Entry) (a b : Entry) → Member b all → entry_order a b ≡ Less → b.key ≡ a.key → Counts all a → ⊥
 shared all a b m o k c =
     let P : Entry → Type 0 = λ x. entry_order a x ≡ Less in
-    entry-apart a (subst P (c.1 b m k) o)
+    entry-apart a (subst P (c.1 b (standing-member all b m) k) o)
 
 pub shared-behind : (all : List Entry) (a b : Entry) → Member a all → entry_order a b ≡ Less → b.key ≡ a.key → Counts all b → ⊥
 shared-behind all a b m o k c =
     let P : Entry → Type 0 = λ x. entry_order x b ≡ Less in
-    entry-apart b (subst P (c.1 a m (sym k)) o)
+    entry-apart b (subst P (c.1 a (standing-member all a m) (sym k)) o)
 
 -- no record before has the key
 abbrev FrontApart : List Entry → Entry → Type 0
@@ -30,8 +31,8 @@ FrontApart done e = (x : Entry) → Member x done → x.key ≡ e.key → ⊥
 
 pub counts-alone : (done others : List Entry) (e : Entry) → FrontApart done e → FrontApart others e → Counts (done ++ e ∷ others) e
 counts-alone done others e f g = (
-  member-right e done (e ∷ others) (inl refl),
-  λ x m k. elim (member-split x done (e ∷ others) m) [
+  standing-member (done ++ e ∷ others) e (member-right e done (e ∷ others) (inl refl)),
+  λ x m k. elim (member-split x done (e ∷ others) (standing-part (done ++ e ∷ others) x m)) [
     | inl d ↦ absurd (f x d k)
     | inr (inl i) ↦ i
     | inr (inr t) ↦ absurd (g x t k)

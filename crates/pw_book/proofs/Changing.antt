@@ -9,9 +9,10 @@ use Rattle.pw_model.specs.declared.records.TotalKey.{TotalKey}
 use Rattle.pw_model.specs.declared.records.TotalKey.TheVariants.{Energy, TopUps}
 use Rattle.pw_model.specs.Office.{HasOwner}
 use Rattle.pw_model.specs.Shelf.{ShelfContent}
-use Rattle.pw_shelf.specs.Changes.{same_total, with_total}
+use Rattle.pw_model.specs.Same.{same_total}
+use Rattle.pw_shelf.specs.Changes.{with_total}
 use Rattle.pw_book.specs.inner.Moves.{MovesTotals, InDirection, OfOwner, OfOwners, most_total}
-use Rattle.pw_book.proofs.TotalKeys.{same_total-decides, total-apart}
+use Rattle.pw_model.proofs.TotalKeys.{same_total-decides, total-apart}
 
 -- none is changed
 pub moves-none : (these : TotalKey → Type 0) (more less : TotalKey → ℕ) (c d : ShelfContent) → d ≡ c → ((k : TotalKey) → these k → more k ≡ less k) → MovesTotals these more less c d

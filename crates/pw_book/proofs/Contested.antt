@@ -1,5 +1,5 @@
 -- The disputes of all keys, those of one kind behind those of another.
-use Rattle.std.proofs.Common.{◌≡◌, ℕ, ◌+◌, ◌*◌, ◌<◌, ◌≤◌, ◌^◌, List, [], ◌∷◌, ◌++◌, ◌↔◌, length, refl, ap, sym, subst, inl, inr, arith, Less}
+use Rattle.std.proofs.Common.{◌≡◌, ℕ, ◌+◌, ◌*◌, ◌<◌, ◌≤◌, ◌^◌, List, [], ◌∷◌, ◌++◌, ◌↔◌, length, refl, ap, sym, ◌∙◌, subst, inl, inr, arith, Less}
 use Rattle.pw_obis.specs.declared.reference.Register.{Register}
 use Rattle.pw_tariff.specs.declared.ids.MeterId.{MeterId}
 use Rattle.pw_tariff.specs.Office.{OfficeRules, register_place}
@@ -14,9 +14,9 @@ use Rattle.pw_model.specs.Office.{AllOfOffice, IsOf, most_records}
 use Rattle.pw_model.specs.Same.{key_order, key_numbers}
 use Rattle.pw_model.specs.Shelf.{ShelfContent}
 use Rattle.pw_model.proofs.Same.{register-one}
-use Rattle.pw_shelf.specs.Rows.{ListsHeld, IsReadingOf, IsAssignmentOf, IsTopUp}
+use Rattle.pw_model.specs.Kinds.{ListsHeld, IsReadingOf, IsAssignmentOf, IsTopUp}
 use Rattle.pw_book.specs.inner.Places.{DisputesBefore, key_place, IsWithin, AreWithin}
-use Rattle.pw_book.proofs.Disputed.{held-disputes, held-few, count, count-some}
+use Rattle.pw_book.proofs.Disputed.{held-disputes, held-few, count, count-all, count-some}
 use Rattle.pw_book.proofs.Segments.{segment-more, segment-all, segment-none, first-less, then-less, place-few, places-split, places-same}
 
 -- ---- the records of an office
@@ -33,10 +33,9 @@ pub all-within : (office : OfficeRules) (s : List Entry) → length s ≤ most_r
 all-within office s l h = record { few = l; keys = λ e m. key-within office e.key e.content (h e m) }
 
 dispute-within : (meters : ℕ) (s : List Entry) (d : Dispute) → AreWithin meters s → IsDispute s d → IsWithin meters d.key
-unfolding records_at count
 dispute-within meters s d w h =
     let several = h.several in
-    let number : d.contents ≡ count d.key s = h.number in
+    let number : d.contents ≡ count d.key s = h.number ∙ count-all s d.key in
     let some = count-some d.key s (omega (arith, several, number)) in
     subst (IsWithin meters) some.2 (w.keys some.0 some.1)
 

@@ -10,8 +10,9 @@ use Rattle.pw_model.specs.Lists.{IsInOrder, Lists, IsDispute, records_at, disput
 use Rattle.pw_model.specs.Payments.{stands_in, sum_once}
 use Rattle.pw_model.specs.Same.{same_key, same_entry, key_order, entry_order}
 use Rattle.pw_model.proofs.Same.{same_key-decides, same_entry-decides}
+use Rattle.pw_model.proofs.Answers.{records-all}
 use Rattle.pw_model.proofs.Once.{once-same, stands-decides}
-use Rattle.pw_shelf.specs.Rows.{ListsHeld}
+use Rattle.pw_model.specs.Kinds.{ListsHeld}
 use Rattle.pw_parts.specs.Groups.{HasSameKey}
 use Rattle.pw_book.specs.inner.Groups.{IsDisputeOf}
 use Rattle.pw_parts.proofs.Keys.{entry-apart, key-apart}
@@ -34,6 +35,11 @@ one-elsewhere k e h = elim (cases_Bool (same_key e.key k)) [
 
 unfoldable pub count : Key → List Entry → ℕ
 count k es = sum_once same_entry (one_at k) es
+
+-- all records stand, so all with the key are counted
+pub count-all : (s : List Entry) (k : Key) → records_at s k ≡ count k s
+unfolding count
+count-all = records-all
 
 -- what stands in front and is told again, or has another key, adds nothing
 count-front : (k : Key) (xs ys : List Entry) → ((x : Entry) → Member x xs → (Member x ys → ⊥) → one_at k x ≡ 0) → count k (xs ++ ys) ≡ count k ys
@@ -116,7 +122,6 @@ count-some k (e ∷ es) h = elim (cases_Bool (same_key e.key k)) [
 -- ---- the records of one key
 -- how many have the key of a group
 group-number : (all done others : List Entry) (first : Entry) (n : ℕ) → IsInOrder entry_order all → all ≡ done ++ first ∷ others → AreApart done (first ∷ others) → HasSameKey first others n → records_at all first.key ≡ suc n
-unfolding records_at count
 group-number all done others first n r e a h =
     let split : first ∷ others ≡ (first ∷ take n others) ++ drop n others = ap (λ xs. first ∷ xs) (sym (take-append-drop n others)) in
     let whole : all ≡ done ++ ((first ∷ take n others) ++ drop n others) = e ∙ ap (λ xs. done ++ xs) split in
@@ -128,7 +133,7 @@ group-number all done others first n r e a h =
     count-group first.key (first ∷ take n others) (drop n others) (rising-right entry_order done _ up)
     (λ x m. elim m [ inl i ↦ ap (λ (y : Entry). y.key) i | inr t ↦ h.same x t ]) h.apart in
     let three : length (take n others) ≡ n = (let w = h.within in length-take-le n others w) in
-    ap (λ xs. count first.key xs) whole ∙ one ∙ two ∙ ap suc three
+    count-all all first.key ∙ ap (λ xs. count first.key xs) whole ∙ one ∙ two ∙ ap suc three
 
 -- a dispute over a key that is met so far
 abbrev IsMet : List Entry → List Entry → Dispute → Type 0
@@ -209,14 +214,13 @@ met-many all rest others first n ds d r q s h few g =
     )
 
 pub all-met : (all rest : List Entry) (ds : List Dispute) → length rest ≡ 0 → DisputesSoFar all rest ds → Lists dispute_order (IsDispute all) ds
-unfolding records_at count
 all-met all [] ds e s = record {
   rising = s.3.rising;
   members = λ d. (
     λ m. ((s.3.members d).0 m).0,
     λ h.
         let several = h.several in
-        let number : d.contents ≡ count d.key all = h.number in
+        let number : d.contents ≡ count d.key all = h.number ∙ count-all all d.key in
         let some = count-some d.key all (omega (arith, several, number)) in
         let P : List Entry → Type 0 = λ xs. Member some.0 xs in
         (s.3.members d).1 (h, (some.0, subst P (s.1 ∙ append-nil s.0) some.1, some.2)),
@@ -237,40 +241,41 @@ step-many all rest others first (suc n) ds new d r q s h z few g e = rw (take_re
 
 -- ---- the records held with some keys
 pub held-number : (Of : Key → Type 0) (s records : List Entry) → ListsHeld Of s records → (k : Key) → Of k → records_at s k ≡ records_at records k
-unfolding records_at count
+unfolding count
 held-number Of s records h k o =
     let both : SameMembers s (s ++ records) = λ x. (
       λ m. member-left x s records m,
       λ m. elim (member-split x s records m) [ inl i ↦ i | inr j ↦ ((h.members x).0 j).0 ],
     ) in
-    once-same same_entry same_entry-decides (one_at k) s (s ++ records) both
+    count-all s k
+    ∙ once-same same_entry same_entry-decides (one_at k) s (s ++ records) both
     ∙ count-front k s records (λ x m n. one-elsewhere k x (λ i. n ((h.members x).1 (m, subst Of (sym i) o))))
+    ∙ sym (count-all records k)
 
 -- fewer than the largest u32 where fewer are held
 pub held-few : (Of : Key → Type 0) (s records : List Entry) → ListsHeld Of s records → length s < 2 ^ 32 → (k : Key) → records_at records k < 2 ^ 32
-unfolding records_at count
 held-few Of s records h l k = elim (cases_lt 0 (count k records)) [
   | inl p ↦ (
       let some = count-some k records (omega (arith, p)) in
       let same : records_at s k ≡ records_at records k = held-number Of s records h k (subst Of some.2 ((h.members some.0).0 some.1).1) in
+      let all = count-all s k in
       let most = count-most k s in
-      omega (arith, same, most, l))
-  | inr p ↦ omega (arith, p)
+      omega (arith, same, all, most, l))
+  | inr p ↦ (let all = count-all records k in omega (arith, all, p))
 ]
 
 -- the disputes among records held with some keys are those of the whole set over such keys
 pub held-disputes : (Of : Key → Type 0) (s records : List Entry) (ds : List Dispute) → ListsHeld Of s records → Lists dispute_order (IsDispute records) ds → Lists dispute_order (λ d. IsDispute s d × Of d.key) ds
-unfolding records_at count
 held-disputes Of s records ds h l = record {
   rising = l.rising;
   members = λ d. (
     λ m.
         let k = (l.members d).0 m in
         let several = k.several in
-        let number : d.contents ≡ count d.key records = k.number in
+        let number : d.contents ≡ count d.key records = k.number ∙ count-all records d.key in
         let some = count-some d.key records (omega (arith, several, number)) in
         let o : Of d.key = subst Of some.2 ((h.members some.0).0 some.1).1 in
-        (record { several = several; number = number ∙ sym (held-number Of s records h d.key o) }, o),
+        (record { several = several; number = k.number ∙ sym (held-number Of s records h d.key o) }, o),
     λ k. (l.members d).1 (record { several = k.0.several; number = k.0.number ∙ held-number Of s records h d.key k.1 }),
   );
 }

@@ -16,7 +16,8 @@ use Rattle.pw_model.proofs.Found.{point-member}
 use Rattle.pw_model.proofs.Same.{register-one}
 use Rattle.pw_book.specs.inner.Counted.{IsFallOf}
 use Rattle.pw_book.specs.inner.Places.{FallsBefore, TellsPoints, fall_place}
-use Rattle.pw_shelf.specs.Seconds.{ListsSeconds, ListsSecondsWithin}
+use Rattle.pw_model.specs.Seconds.{ListsSeconds}
+use Rattle.pw_shelf.specs.Seconds.{ListsSecondsWithin}
 use Rattle.pw_time.specs.declared.instant.TheConstants.{FIRST_SECOND, LAST_SECOND}
 use Rattle.pw_time.specs.Instants.{IsInstant}
 use Rattle.pw_book.proofs.Segments.{segment-more, segment-all, first-less, then-less, place-few, places-split, places-same}

@@ -11,7 +11,8 @@ use Rattle.pw_tariff.specs.Office.{register_place}
 use Rattle.pw_model.specs.declared.records.Fall.{Fall}
 use Rattle.pw_model.specs.Counting.{Member}
 use Rattle.pw_model.specs.Lists.{IsInOrder, Lists, fall_order, fall_numbers}
-use Rattle.pw_book.specs.inner.Counted.{IsFallOf, ListsSeconds}
+use Rattle.pw_model.specs.Seconds.{ListsSeconds}
+use Rattle.pw_book.specs.inner.Counted.{IsFallOf}
 use Rattle.pw_model.proofs.EntryOrder.{before-all}
 use Rattle.pw_parts.proofs.Chart.{listed}
 

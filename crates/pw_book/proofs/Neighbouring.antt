@@ -22,7 +22,8 @@ use Rattle.pw_model.specs.Energy.{asked_seconds, of_band, owner_at as owner_told
 use Rattle.pw_model.specs.Lists.{IsInOrder}
 use Rattle.pw_model.specs.Same.{direction_of, same_direction}
 use Rattle.pw_model.proofs.Energy.{one-more_reading}
-use Rattle.pw_shelf.specs.Seconds.{IsBefore, IsBehind, ListsSeconds, by_second}
+use Rattle.pw_model.specs.Seconds.{ListsSeconds, by_second}
+use Rattle.pw_shelf.specs.Seconds.{IsBefore, IsBehind}
 use Rattle.pw_book.specs.inner.Settling.{EndsBefore}
 use Rattle.pw_model.specs.Shelf.{ShelfContent}
 use Rattle.pw_book.specs.inner.Sums.{energy_told, pairs_for, point_listed}

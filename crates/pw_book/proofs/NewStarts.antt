@@ -11,7 +11,7 @@ use Rattle.pw_time.specs.declared.instant.TheConstants.{LAST_SECOND}
 use Rattle.pw_tariff.specs.declared.ids.AccountId.{AccountId}
 use Rattle.pw_model.specs.Counting.{Member}
 use Rattle.pw_model.specs.Lists.{IsInOrder}
-use Rattle.pw_book.specs.inner.Counted.{ListsSeconds, by_second}
+use Rattle.pw_model.specs.Seconds.{ListsSeconds, by_second}
 use Rattle.pw_book.specs.inner.Settling.{EndsBeforeNext}
 use Rattle.pw_parts.proofs.Chart.{less-is}
 use Rattle.pw_model.proofs.Places.{member-left, member-right, member-split}

@@ -14,7 +14,8 @@ use Rattle.pw_model.specs.declared.records.ReadingRow.{ReadingRow}
 use Rattle.pw_model.specs.Counting.{Member, Counts}
 use Rattle.pw_model.specs.Lists.{IsInOrder, Lists, AreReadings, reading_entry, reading_order, reading_numbers}
 use Rattle.pw_model.specs.Same.{entry_order, key_numbers, content_numbers}
-use Rattle.pw_shelf.specs.Rows.{IsReadingOf, ListsReadings}
+use Rattle.pw_model.specs.Kinds.{IsReadingOf}
+use Rattle.pw_shelf.specs.Rows.{ListsReadings}
 use Rattle.pw_parts.specs.Shown.{shown}
 use Rattle.pw_book.specs.inner.Counted.{row_of_reading}
 use Rattle.pw_book.specs.inner.Groups.{IsLastOf}

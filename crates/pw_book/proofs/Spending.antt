@@ -2,14 +2,15 @@
 use Rattle.std.proofs.Common.{◌≡◌, ℕ, ◌+◌, ◌*◌, ◌<◌, ◌≤◌, Option, List, [], ◌∷◌, length, mul-le-mul_right, mul-le-mul_left, refl, inl, inr, ap, sym, subst, ◌∙◌, arith}
 use Rattle.pw_obis.specs.declared.reference.Register.{Register}
 use Rattle.pw_tariff.specs.Office.{OfficeRules}
+use Rattle.pw_model.specs.Kinds.{IsReading, IsTopUp, IsAssignment}
 use Rattle.pw_model.specs.declared.records.Key.{Key}
 use Rattle.pw_model.specs.declared.records.Key.TheVariants as key
 use Rattle.pw_model.specs.declared.records.Entry.{Entry}
 use Rattle.pw_model.specs.Counting.{Member, EachOnce, SameMembers}
 use Rattle.pw_model.specs.Lists.{record_count}
 use Rattle.pw_model.specs.Shelf.{ShelfContent}
-use Rattle.pw_book.specs.Cost.{AreAssignmentsWith, AreReadingsWith, AreTopUps, HasPoints, HasStarts, HasStartsOf, IsAssignmentUpToNext, IsAssignmentWith, IsCheap, IsReading, IsTopUp, IsUpToNextStart, classes_of}
-use Rattle.pw_book.specs.inner.Added.{ChangesOneStart, CostsAtMost, IsAssignment, TakesAtMost}
+use Rattle.pw_book.specs.Cost.{AreAssignmentsWith, AreReadingsWith, AreTopUps, HasPoints, HasStarts, HasStartsOf, IsAssignmentUpToNext, IsAssignmentWith, IsCheap, IsUpToNextStart, classes_of}
+use Rattle.pw_book.specs.inner.Added.{ChangesOneStart, CostsAtMost, TakesAtMost}
 use Rattle.pw_book.specs.inner.Settling.{HavePoints}
 use Rattle.pw_book.proofs.NewStarts.{starts-more}
 use Rattle.pw_book.proofs.Putting.{starts-same}

@@ -22,7 +22,7 @@ use Rattle.pw_model.specs.Energy.{Asked, of_band, over_registers, owner_at, shar
 use Rattle.pw_model.specs.Shelf.{ShelfContent}
 use Rattle.pw_model.proofs.Assignments.{one-more_assignment}
 use Rattle.pw_shelf.specs.Changes.{starts_with, with_start}
-use Rattle.pw_book.specs.inner.Counted.{ListsSeconds}
+use Rattle.pw_model.specs.Seconds.{ListsSeconds}
 use Rattle.pw_book.specs.inner.Moves.{MovesTotals, OfOwners}
 use Rattle.pw_book.specs.Cost.{HasStarts}
 use Rattle.pw_book.specs.inner.Settling.{EndsBefore, EndsBeforeNext, HavePoints, IsSettled, IsStartChanged, ListsUpToNextStart, register_told}

@@ -26,7 +26,7 @@ use Rattle.pw_model.specs.Payments.{cents_for, topped_up}
 use Rattle.pw_model.specs.Same.{same_key, same_content}
 use Rattle.pw_model.specs.Shelf.{IsTrueContent, ShelfContent, total_among}
 use Rattle.pw_model.proofs.Bounded.{ToldOf, contents-of}
-use Rattle.pw_model.proofs.Counting.{entry, inserted-same, one-is_counting, one-more_record}
+use Rattle.pw_model.proofs.Counting.{entry, standing-part, inserted-same, one-is_counting, one-more_record}
 use Rattle.pw_model.proofs.Foreign.{foreign-totals_are_none}
 use Rattle.pw_model.proofs.Payments.{one-more_payment}
 use Rattle.pw_model.proofs.Same.{same_key-decides, same_content-decides}
@@ -50,7 +50,7 @@ apart-before s e d n h = elim (cases_Bool (same_content e.content d)) [
   | inl y ↦ (
       let q : e.content ≡ d = (same_content-decides e.content d).0 y in
       let c : contents_at s e.key ≡ One e.content = h ∙ ap One (sym q) in
-      absurd (n ((one-is_counting s e).0 c).0))
+      absurd (n (standing-part s e ((one-is_counting s e).0 c).0)))
   | inr f ↦ ap (λ b. cond b (One d) Several) f
 ]
 

@@ -19,19 +19,18 @@ use Rattle.pw_model.specs.declared.records.TotalKey.{TotalKey}
 use Rattle.pw_model.specs.declared.records.TotalKey.TheVariants.{Energy, TopUps}
 use Rattle.pw_model.specs.Counting.{Member}
 use Rattle.pw_model.specs.Office.{HasOwner}
-use Rattle.pw_model.specs.Same.{direction_place, total_numbers, total_order}
+use Rattle.pw_model.specs.Same.{direction_place, total_numbers, total_order, same_total}
 use Rattle.pw_model.specs.Shelf.{ShelfContent}
 use Rattle.pw_model.proofs.InKeyOrder.{totals-ordered}
 use Rattle.pw_parts.specs.inner.Totals.{total_key_order}
 use Rattle.pw_parts.proofs.Chart.{less-is}
-use Rattle.pw_shelf.specs.Changes.{same_total}
 use Rattle.pw_tariff.specs.Office.{OfficeRules}
 use Rattle.pw_book.specs.declared.changes.Change.{Change}
 use Rattle.pw_book.specs.declared.changes.Side.{Side}
 use Rattle.pw_book.specs.inner.Moves.{MovesTotals, OfOwners}
 use Rattle.pw_book.specs.inner.Sums.{amount_told, gathered}
 use Rattle.pw_book.proofs.Changing.{moves-at, moves-none, moves-then, moves-told, of-owners}
-use Rattle.pw_book.proofs.TotalKeys.{same_total-decides, total-tested}
+use Rattle.pw_model.proofs.TotalKeys.{same_total-decides, total-tested}
 
 -- ---- the changes that are still to come
 -- none of them is the total's

@@ -28,7 +28,7 @@ use Rattle.pw_model.proofs.Assignments.{points-same}
 use Rattle.pw_model.proofs.Windows.{other-window}
 use Rattle.pw_shelf.specs.Rows.{rows_found}
 use Rattle.pw_shelf.specs.Seconds.{IsBefore, IsBehind, ListsSecondsWithin}
-use Rattle.pw_book.specs.inner.Counted.{by_second}
+use Rattle.pw_model.specs.Seconds.{by_second}
 use Rattle.pw_book.specs.inner.Settling.{EndsBefore, EndsBeforeNext, IsStartChanged, ListsUpToNextStart, register_told}
 use Rattle.pw_book.specs.inner.Sums.{pairs_for, point_listed}
 use Rattle.pw_parts.proofs.Chart.{less-is}

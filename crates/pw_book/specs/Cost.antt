@@ -10,9 +10,10 @@ use Rattle.pw_model.specs.declared.records.Key.TheVariants as key
 use Rattle.pw_model.specs.declared.records.Entry.{Entry}
 use Rattle.pw_model.specs.Counting.{Member, SameMembers}
 use Rattle.pw_model.specs.Energy.{over_registers}
+use Rattle.pw_model.specs.Kinds.{IsReading, IsTopUp}
 use Rattle.pw_model.specs.Lists.{IsInOrder, record_count}
 use Rattle.pw_model.specs.Shelf.{ShelfContent}
-use Rattle.pw_shelf.specs.Seconds.{ListsSeconds, by_second}
+use Rattle.pw_model.specs.Seconds.{ListsSeconds, by_second}
 
 -- the totals of energy of a direction: one for each band, of nobody and of each account
 abbrev pub classes_of : OfficeRules → ℕ
@@ -27,10 +28,6 @@ abbrev pub RisesAtMost : ℕ → ℕ → ℕ → Type 0
 RisesAtMost most old new = new ≤ old + most
 
 -- ---- readings
-abbrev pub IsReading : Key → Type 0
-IsReading (key.Reading m r t) = Unit {0}
-IsReading _ = ⊥
-
 -- the meter of a reading has so many counting starts at most
 abbrev pub HasStartsOf : ShelfContent → ℕ → Key → Type 0
 HasStartsOf c most (key.Reading m r t) = HasStarts c m.0 most
@@ -41,10 +38,6 @@ abbrev pub AreReadingsWith : ShelfContent → ℕ → List Entry → Type 0
 AreReadingsWith c most entries = (e : Entry) → Member e entries → IsReading e.key × HasStartsOf c most e.key
 
 -- ---- top-ups
-abbrev pub IsTopUp : Key → Type 0
-IsTopUp (key.TopUp r) = Unit {0}
-IsTopUp _ = ⊥
-
 abbrev pub AreTopUps : List Entry → Type 0
 AreTopUps entries = (e : Entry) → Member e entries → IsTopUp e.key
 

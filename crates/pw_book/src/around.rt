@@ -7,13 +7,12 @@ ghost use Rattle.pw_model.specs.declared.records.TotalKey.{TotalKey as AnyTotal}
 ghost use Rattle.pw_model.specs.Lists.{IsInOrder};
 ghost use Rattle.pw_model.specs.Changes.{IsOneMoreReading};
 ghost use Rattle.pw_model.specs.Counting.{point as point_told, start as start_told};
-ghost use Rattle.pw_model.specs.Same.{direction_of as direction_told};
 ghost use Rattle.pw_shelf.specs.Calls.{GoesOn, failures_told};
 ghost use Rattle.pw_shelf.specs.Changes.{points_with};
 ghost use Rattle.pw_tariff.specs.Office.{counts_at, office_of};
 ghost use Rattle.pw_tariff.specs.Owners.{StartsIncrease};
 ghost use Rattle.pw_book.specs.declared.changes.Side.{Side as ASide};
-ghost use Rattle.pw_book.specs.inner.Counted.{by_second};
+ghost use Rattle.pw_model.specs.Seconds.{by_second};
 ghost use Rattle.pw_book.specs.Cost.{HasStarts, classes_of};
 ghost use Rattle.pw_book.specs.inner.Settling.{EndsBefore, IsSettled};
 ghost use Rattle.pw_book.specs.inner.Sums.{AreDifferences, gathered, other_side, pairs_for, point_listed};
@@ -21,6 +20,7 @@ ghost use Rattle.pw_book.specs.inner.Sums.{AreDifferences, gathered, other_side,
 use crate::changes::{Changes, Side};
 use crate::moving::move_energies;
 use crate::pairs::{Point, add_pairs};
+use pw_model::direction_of;
 use pw_obis::{Register, WattHours};
 use pw_shelf::{Shelf, ShelfFault};
 use pw_tariff::{Direction, MeterId, Office, Owner, Owners};
@@ -128,16 +128,6 @@ fn weigh_around<S: Shelf>(
         &mut changes,
     )?;
     Ok(changes)
-}
-
-// The direction of a register.
-pub(crate) fn direction_of(register: Register) -> Direction
-    ensures { result ≡ direction_told register }
-{
-    match register {
-        Register::I0 | Register::I1 | Register::I2 => Direction::Import,
-        Register::E0 | Register::E1 | Register::E2 => Direction::Export,
-    }
 }
 
 // The points that are there, one behind another.

@@ -2,7 +2,7 @@
 
 ghost use Rattle.std.specs.Prelude.{◌≡◌, ℕ, ◌+◌, ◌<◌, ◌≤◌, ◌^◌, OnOk, cond};
 ghost use Rattle.pw_model.specs.declared.records.TotalKey.{TotalKey as AnyTotal};
-ghost use Rattle.pw_shelf.specs.Changes.{same_total};
+ghost use Rattle.pw_model.specs.Same.{same_total};
 ghost use Rattle.pw_tariff.specs.Cells.{AreInOrder, energy_of_all};
 ghost use Rattle.pw_book.specs.inner.Sums.{amount_on, cells_for, gathered, other_side};
 

@@ -7,7 +7,8 @@ ghost use Rattle.pw_model.specs.Shelf.{IsTrueContent};
 ghost use Rattle.pw_shelf.specs.Calls.{failures_told};
 ghost use Rattle.pw_tariff.specs.Office.{office_of, register_place};
 ghost use Rattle.pw_book.specs.Asking.{IsOnlyAsked};
-ghost use Rattle.pw_book.specs.inner.Counted.{IsFallOf, ListsSeconds};
+ghost use Rattle.pw_model.specs.Seconds.{ListsSeconds};
+ghost use Rattle.pw_book.specs.inner.Counted.{IsFallOf};
 ghost use Rattle.pw_book.specs.inner.Places.{FallsBefore, TellsPoints};
 
 use crate::asked::points_held;

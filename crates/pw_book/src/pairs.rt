@@ -8,7 +8,7 @@ ghost use Rattle.pw_obis.specs.declared.energy.TheConstants.{LARGEST_WATT_HOURS}
 ghost use Rattle.pw_tariff.specs.declared.ids.AccountId.{AccountId as AnAccount};
 ghost use Rattle.pw_tariff.specs.Cells.{AreInOrder, energy_in, energy_of_all};
 ghost use Rattle.pw_tariff.specs.Shares.{class_seconds};
-ghost use Rattle.pw_book.specs.inner.Counted.{by_second};
+ghost use Rattle.pw_model.specs.Seconds.{by_second};
 ghost use Rattle.pw_book.specs.inner.Sums.{gathered, other_side, pairs_for};
 
 use crate::changes::{Changes, Side};

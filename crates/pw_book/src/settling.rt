@@ -9,7 +9,8 @@ ghost use Rattle.pw_model.specs.Shelf.{IsTrueContent};
 ghost use Rattle.pw_shelf.specs.Calls.{GoesOn, failures_told};
 ghost use Rattle.pw_tariff.specs.Office.{IsSound, counts_at, office_of};
 ghost use Rattle.pw_book.specs.inner.Added.{ChangesOneStart, IsJustAdded, IsPaid, TakesAtMost, assignment_of, reading_of};
-ghost use Rattle.pw_book.specs.Cost.{HasStarts, IsReading, classes_of};
+ghost use Rattle.pw_model.specs.Kinds.{IsReading};
+ghost use Rattle.pw_book.specs.Cost.{HasStarts, classes_of};
 
 use crate::around::{Counted, begin_to_count, cease_to_count};
 use crate::moving::change_total;

@@ -4,7 +4,7 @@ ghost use Rattle.std.specs.Prelude.{◌≡◌, ◌==◌, ◌++◌, ℕ, Option, 
 ghost use Rattle.std.specs.List.{filter};
 ghost use Rattle.pw_tariff.specs.declared.ids.AccountId.{AccountId as AnAccount};
 ghost use Rattle.pw_tariff.specs.Owners.{StartsIncrease};
-ghost use Rattle.pw_book.specs.inner.Counted.{ListsSeconds};
+ghost use Rattle.pw_model.specs.Seconds.{ListsSeconds};
 ghost use Rattle.pw_book.specs.inner.Settling.{EndsBeforeNext};
 
 use pw_tariff::{Owner, Owners};

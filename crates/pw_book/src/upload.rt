@@ -2,6 +2,7 @@
 
 ghost use Rattle.std.specs.Prelude.{◌≡◌, ℕ, ◌+◌, ◌*◌, ◌<◌, ◌≤◌, ◌++◌, [], ◌∷◌, None, Some, OnOk, OnErr, IsErrOf, IsNone, IsSome, length};
 ghost use Rattle.pw_model.specs.Counting.{Member};
+ghost use Rattle.pw_model.specs.Kinds.{IsReading};
 ghost use Rattle.pw_model.specs.Lists.{record_count};
 ghost use Rattle.pw_model.specs.Office.{AllOfOffice, IsOfOffice, most_records};
 ghost use Rattle.pw_model.specs.Shelf.{IsTrueContent};
@@ -9,7 +10,6 @@ ghost use Rattle.pw_shelf.specs.Left.{LeavesOnly};
 ghost use Rattle.pw_shelf.specs.Calls.{GoesOn, failures_told};
 ghost use Rattle.pw_shelf.specs.State.{CountsFailures};
 ghost use Rattle.pw_tariff.specs.Office.{IsSound, office_of};
-ghost use Rattle.pw_book.specs.Cost.{IsReading};
 ghost use Rattle.pw_book.specs.Posting.{IsWithUpload};
 ghost use Rattle.pw_book.specs.inner.Added.{ChangesOneStart, CostsAtMost, IsPut, LeavesWithUpload, TakesAtMost};
 ghost use Rattle.pw_book.specs.inner.Failures.{FailuresUploaded};

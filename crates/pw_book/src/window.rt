@@ -18,11 +18,11 @@ ghost use Rattle.pw_book.specs.declared.changes.Side.TheVariants.{Loses, Gains};
 ghost use Rattle.pw_book.specs.inner.Settling.{EndsBefore, EndsBeforeNext, HavePoints, IsSettled, IsStartChanged, ListsUpToNextStart, register_told};
 ghost use Rattle.pw_book.specs.inner.Sums.{AreDifferences, gathered, point_listed};
 
-use crate::around::direction_of;
 use crate::changes::{Changes, Side};
 use crate::moving::move_energies;
 use crate::pairs::{Point, add_pairs};
 use crate::starts::{owners_of, until_next, with_start};
+use pw_model::direction_of;
 use pw_obis::Register;
 use pw_shelf::{Shelf, ShelfFault};
 use pw_tariff::{Direction, MeterId, Office, Owner, Owners};

@@ -20,7 +20,7 @@ use Rattle.pw_model.specs.Lists.{Lists, IsFall, IsDispute, IsReading, fall_numbe
 use Rattle.pw_model.specs.inner.Search.{AreSorted}
 use Rattle.pw_model.specs.Laws.{OrderCountsNothing, CountIsLength, ListsAreAtMostOne}
 use Rattle.pw_model.proofs.Same.{same_key-decides, same_entry-decides}
-use Rattle.pw_model.proofs.Counting.{contents-same, standing-same}
+use Rattle.pw_model.proofs.Counting.{contents-same, standing-same, standing-all}
 use Rattle.pw_model.proofs.Once.{once-same, stands-decides}
 use Rattle.pw_model.proofs.InOrder.{by-numbers, lists-one}
 
@@ -65,6 +65,11 @@ records-same : (s t : List Entry) → SameMembers s t → (k : Key) → records_
 unfolding records_at
 records-same s t h k = once-same same_entry same_entry-decides (λ e. cond (same_key e.key k) 1 0) (standing s) (standing t) (standing-same s t h)
 
+-- all records stand, so all with the key are counted
+pub records-all : (s : List Entry) (k : Key) → records_at s k ≡ sum_once same_entry (λ e. cond (same_key e.key k) 1 0) s
+unfolding records_at
+records-all s k = ap (sum_once same_entry (λ e. cond (same_key e.key k) 1 0)) (standing-all s)
+
 count-same : (s t : List Entry) → SameMembers s t → record_count s ≡ record_count t
 unfolding record_count
 count-same s t h = once-same same_entry same_entry-decides (λ e. 1) s t h
@@ -86,8 +91,8 @@ disputes-half s t h ds a = record {
   members = λ d. (λ m. dispute-half s t h d ((a.members d).0 m), λ x. (a.members d).1 (dispute-half t s (members-back s t h) d x));
 }
 
-counts-half : (s t : List Entry) → SameMembers s t → (e : Entry) → Counts s e → Counts t e
-counts-half s t h e c = ((h e).0 c.0, λ f m i. c.1 f ((h f).1 m) i)
+pub counts-half : (s t : List Entry) → SameMembers s t → (e : Entry) → Counts s e → Counts t e
+counts-half s t h e c = let g = standing-same s t h in ((g e).0 c.0, λ f m i. c.1 f ((g f).1 m) i)
 
 reading-half : (s t : List Entry) → SameMembers s t → (m : ℕ) (r : Register) (row : ReadingRow) → IsReading s m r row → IsReading t m r row
 reading-half s t h m r row x = record {

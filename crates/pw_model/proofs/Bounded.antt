@@ -14,7 +14,7 @@ use Rattle.pw_model.specs.declared.records.Contents.{Contents}
 use Rattle.pw_model.specs.declared.records.Contents.TheVariants.{Nothing, One, Several}
 use Rattle.pw_model.specs.declared.records.Entry.{Entry}
 use Rattle.pw_model.specs.Same.{same_key, same_content, same_direction, direction_of}
-use Rattle.pw_model.specs.Counting.{contents_at, contents_among, joined, point, wh_of, reading_key}
+use Rattle.pw_model.specs.Counting.{standing, contents_at, contents_among, joined, point, wh_of, reading_key}
 use Rattle.pw_tariff.specs.Office.{OfficeRules}
 use Rattle.pw_model.specs.Office.{AllOfOffice, IsOf, most_cents}
 use Rattle.pw_model.specs.Energy.{Asked, asked_seconds, over_registers, share_of, meter_share, energy_where}
@@ -25,7 +25,7 @@ use Rattle.pw_model.specs.Changes.{IsOneMoreReading}
 use Rattle.pw_model.specs.Bounds.{TotalsAreBounded}
 use Rattle.pw_time.specs.declared.instant.TheConstants.{END_SECOND}
 use Rattle.pw_model.proofs.Same.{same_key-decides}
-use Rattle.pw_model.proofs.Counting.{entry, one-is_counting, one-more_record}
+use Rattle.pw_model.proofs.Counting.{entry, standing-part, one-is_counting, one-more_record}
 use Rattle.pw_model.proofs.Energy.{one-more_reading}
 use Rattle.pw_model.proofs.Payments.{one-more_payment}
 use Rattle.pw_flow.specs.Time.{last, next, sum_over}
@@ -90,7 +90,7 @@ registers-zero Import f h = omega (arith, h I0, h I1, h I2)
 registers-zero Export f h = omega (arith, h E0, h E1, h E2)
 
 pub none-held : (office : OfficeRules) (d : Direction) → energy_where office (contents_at []) d always ≡ 0
-unfolding energy_where contents_at contents_among
+unfolding energy_where contents_at contents_among standing
 none-held office d = sum-none _ 0 office.meters (λ m x y. registers-zero d _ (λ r. cond-zero (office.counts m r) _ (no-energy (point (contents_at []) m r) office.end (λ s. refl))))
 
 -- ---- values of counting readings
@@ -110,7 +110,7 @@ ToldOf office k Several = Unit {0}
 
 told-of : (office : OfficeRules) (s : List Entry) (k : Key) (r : Contents) → AllOfOffice office s → contents_at s k ≡ r → ToldOf office k r
 told-of office s k Nothing h e = tt
-told-of office s k (One c) h e = h (entry k c) ((one-is_counting s (entry k c)).0 e).0
+told-of office s k (One c) h e = h (entry k c) (standing-part s (entry k c) ((one-is_counting s (entry k c)).0 e).0)
 told-of office s k Several h e = tt
 
 pub contents-of : (office : OfficeRules) (s : List Entry) (k : Key) → AllOfOffice office s → ToldOf office k (contents_at s k)

@@ -18,7 +18,7 @@ use Rattle.pw_model.specs.inner.Search.{IsAt, IsLatestAmong, IsStartIn, later_of
 use Rattle.pw_model.specs.Same.{same_key, same_content}
 use Rattle.pw_model.specs.Changes.{ChangesAtOneKey}
 use Rattle.pw_model.proofs.Same.{same_key-decides, same_content-decides}
-use Rattle.pw_model.proofs.Counting.{entry, one-is_counting, one-more_record}
+use Rattle.pw_model.proofs.Counting.{entry, standing-part, one-is_counting, one-more_record}
 use Rattle.pw_model.proofs.Places.{taken-to, taken-whole, taken-inserted}
 use Rattle.pw_flow.proofs.Points.{LastIs, option-cases, last-told}
 
@@ -38,10 +38,14 @@ wh-back (One (content.Assignment p)) w e = cc
 
 -- a counting start or reading is a member
 start-member : (s : List Entry) (m t : ℕ) (o : Option AccountId) → start (contents_at s) m t ≡ Some o → Member (entry (assignment_key m t) (content.Assignment o)) s
-start-member s m t o e = ((one-is_counting s (entry (assignment_key m t) (content.Assignment o))).0 (owner-back (contents_at s (assignment_key m t)) o e)).0
+start-member s m t o e =
+    let here : Entry = entry (assignment_key m t) (content.Assignment o) in
+    standing-part s here ((one-is_counting s here).0 (owner-back (contents_at s (assignment_key m t)) o e)).0
 
 pub point-member : (s : List Entry) (m : ℕ) (r : Register) (t w : ℕ) → point (contents_at s) m r t ≡ Some w → Member (entry (reading_key m r t) (content.Reading w)) s
-point-member s m r t w e = ((one-is_counting s (entry (reading_key m r t) (content.Reading w))).0 (wh-back (contents_at s (reading_key m r t)) w e)).0
+point-member s m r t w e =
+    let here : Entry = entry (reading_key m r t) (content.Reading w) in
+    standing-part s here ((one-is_counting s here).0 (wh-back (contents_at s (reading_key m r t)) w e)).0
 
 -- where no record is a counting reading, none stands
 pub no-point : (s : List Entry) (m : ℕ) (r : Register) (x y t : ℕ) → NoPoint (contents_at s) m r x y s → x ≤ t → t < y → point (contents_at s) m r t ≡ None

@@ -29,3 +29,4 @@ pub mod SoundOffice
 pub mod Existence
 pub mod Foreign
 pub mod TopUps
+pub mod TotalKeys

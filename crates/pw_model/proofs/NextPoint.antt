@@ -17,7 +17,7 @@ use Rattle.pw_model.specs.Lists.{IsInOrder, reading_entry}
 use Rattle.pw_model.specs.inner.Search.{IsAt, NoPoint, IsEarliestAmong}
 use Rattle.pw_flow.proofs.Points.{option-cases}
 use Rattle.pw_model.proofs.Same.{register-one}
-use Rattle.pw_model.proofs.Counting.{one-is_counting}
+use Rattle.pw_model.proofs.Counting.{standing-member, one-is_counting}
 use Rattle.pw_model.proofs.Found.{second_of, wh-back}
 use Rattle.pw_model.proofs.InKeyOrder.{cmp-less, cmp-greater}
 use Rattle.pw_model.proofs.Places.{KeyUpTo, up-to-one, at-member, member-at, at-one, at-there, at-up_to, entry-apart}
@@ -81,7 +81,7 @@ not-point s m r t e mem k n =
       | inl q ↦ q
       | inr f ↦ (
           let c : Counts s (reading_entry m r t f.0) = (one-is_counting s (reading_entry m r t f.0)).0 (wh-back (contents_at s (reading_key m r t)) f.0 f.1) in
-          let same : e ≡ reading_entry m r t f.0 = c.1 e mem k in
+          let same : e ≡ reading_entry m r t f.0 = c.1 e (standing-member s e mem) k in
           let P : Entry → Type 0 = λ v. Counts s v in
           absurd (n (subst P (sym same) c) f.0 (ap (λ (v : Entry). v.content) same)))
     ]
@@ -130,7 +130,7 @@ next-here s m r x i j t w y b e h a k o c l =
     let R : Key → Type 0 = λ v. KeyUpTo (reading_key m r x) v in
     let up : x ≤ t = reading-up_to m r x t (subst R k (subst Q h.key (at-up_to s i j b e h.rising h.at a (let g = h.later in omega (arith, g))))) in
     let apart : x ≡ t → ⊥ = λ q. (
-    let one : b ≡ e = c.1 b (at-member s i b h.at) (h.key ∙ ap (λ (v : ℕ). reading_key m r v) q ∙ sym k) in
+    let one : b ≡ e = c.1 b (standing-member s b (at-member s i b h.at)) (h.key ∙ ap (λ (v : ℕ). reading_key m r v) q ∙ sym k) in
     let S : Entry → Type 0 = λ v. IsAt s j v in
     apart-places s i j b h (subst S (sym one) a)) in (
       ap wh_of ((one-is_counting s (reading_entry m r t w)).1 (subst P same c)),

@@ -13,6 +13,7 @@ use Rattle.pw_model.specs.Lists.{IsInOrder}
 use Rattle.pw_model.specs.inner.Search.{IsAt, IsKeyBehind}
 use Rattle.pw_model.proofs.Same.{same_key-decides}
 use Rattle.pw_model.proofs.InOrder.{IsStrict, by-numbers, before-member}
+use Rattle.pw_model.proofs.Counting.{standing-part, standing-member}
 use Rattle.pw_model.proofs.EntryOrder.{keys-tie, entry-strict}
 
 -- ---- places
@@ -240,9 +241,9 @@ key-before s p i j e f r n a b l q =
 
 pub alone-counts : (s : List Entry) (i : ℕ) (e : Entry) → IsInOrder entry_order s → IsAt s i e → ((p : ℕ) → p + 1 ≡ i → IsKeyBehind s p → ⊥) → (IsKeyBehind s i → ⊥) → Counts s e
 alone-counts s i e r a before behind = (
-  at-member s i e a,
+  standing-member s e (at-member s i e a),
   λ f m q.
-      let w : (j : ℕ) × IsAt s j f = member-at s f m in
+      let w : (j : ℕ) × IsAt s j f = member-at s f (standing-part s f m) in
       elim (cases_lt w.0 i) [
         | inl l ↦ (let p : (v : ℕ) × (v + 1 ≡ i) = pred-of i w.0 l in absurd (before p.0 p.1 (key-before s p.0 i w.0 e f r p.1 a w.1 l q)))
         | inr l ↦ elim (cases_lt i w.0) [
@@ -262,14 +263,14 @@ alone-counts s i e r a before behind = (
 pub counts-alone : (s : List Entry) (i : ℕ) (e : Entry) → IsInOrder entry_order s → IsAt s i e → Counts s e → IsKeyBehind s i → ⊥
 counts-alone s i e r a c b =
     let one : b.0 ≡ e = at-one s i b.0 e b.2 a in
-    let two : b.1 ≡ e = c.1 b.1 (at-member s (i + 1) b.1 b.3) (sym b.4 ∙ ap (λ (v : Entry). v.key) one) in
+    let two : b.1 ≡ e = c.1 b.1 (standing-member s b.1 (at-member s (i + 1) b.1 b.3)) (sym b.4 ∙ ap (λ (v : Entry). v.key) one) in
     places-apart s i b.0 b.1 r b.2 b.3 (one ∙ sym two)
 
 pub counts-first : (s : List Entry) (p i : ℕ) (e : Entry) → IsInOrder entry_order s → p + 1 ≡ i → IsAt s i e → Counts s e → IsKeyBehind s p → ⊥
 counts-first s p i e r n a c b =
     let P : ℕ → Type 0 = λ v. IsAt s v b.1 in
     let two : b.1 ≡ e = at-one s i b.1 e (subst P n b.3) a in
-    let one : b.0 ≡ e = c.1 b.0 (at-member s p b.0 b.2) (b.4 ∙ ap (λ (v : Entry). v.key) two) in
+    let one : b.0 ≡ e = c.1 b.0 (standing-member s b.0 (at-member s p b.0 b.2)) (b.4 ∙ ap (λ (v : Entry). v.key) two) in
     places-apart s p b.0 b.1 r b.2 b.3 (one ∙ sym two)
 
 -- the test that answers by them

@@ -15,7 +15,7 @@ use Rattle.pw_model.specs.inner.Search.{IsAt, IsKeyBehind, DisputesUnder, AreSor
 use Rattle.pw_model.proofs.Same.{same_key-decides, same_entry-decides}
 use Rattle.pw_model.proofs.Counting.{inserted-same}
 use Rattle.pw_model.proofs.Once.{stands-decides, once-same, once-fresh, once-behind, once-zero}
-use Rattle.pw_model.proofs.Answers.{key-to, key-back}
+use Rattle.pw_model.proofs.Answers.{key-to, key-back, records-all}
 use Rattle.pw_model.proofs.InOrder.{before-member}
 use Rattle.pw_model.proofs.EntryOrder.{before-all, keys-tie}
 use Rattle.pw_model.proofs.Places.{at-one, drop-at, dropped-at, at-dropped, taken-at, taken-inserted, parts-same, rising-drop, entry-apart, same-between, key-behind}
@@ -97,12 +97,10 @@ disputes-few s e some others ds n i h few l =
     absurd (omega arith))) l
 
 pub is-dispute : (s : List Entry) (k : Key) (n : ℕ) → n ≡ sum_once same_entry (λ e. cond (same_key e.key k) 1 0) s → 2 ≤ n → IsDispute s (dispute k n)
-unfolding records_at
-is-dispute s k n h two = record { several = two; number = h }
+is-dispute s k n h two = record { several = two; number = h ∙ sym (records-all s k) }
 
 pub records-told : (s : List Entry) (k : Key) (n : ℕ) → n ≡ sum_once same_entry (λ e. cond (same_key e.key k) 1 0) s → n ≡ records_at s k
-unfolding records_at
-records-told s k n h = h
+records-told s k n h = h ∙ sym (records-all s k)
 
 -- a key that some record has
 has-one : (s : List Entry) (k : Key) → 1 ≤ sum_once same_entry (λ e. cond (same_key e.key k) 1 0) s → Member k (keys s)
@@ -117,8 +115,7 @@ has-one (e ∷ s) k h =
     ]
 
 dispute-key : (s : List Entry) (d : Dispute) → IsDispute s d → Member d.key (keys s)
-unfolding records_at
-dispute-key s d a = has-one s d.key (let n = a.number in let two = a.several in omega (arith, n, two))
+dispute-key s d a = has-one s d.key (let n = a.number in let all = records-all s d.key in let two = a.several in omega (arith, n, all, two))
 
 disputes-whole : (s sorted : List Entry) (ds : List Dispute) → AreSorted s sorted → DisputesUnder s sorted ds → AreDisputes s ds
 disputes-whole s sorted ds a l = record {
@@ -189,14 +186,13 @@ count-none s i e r a n = record {
 }
 
 pub count-whole : (s : List Entry) (i n : ℕ) (e : Entry) → IsInOrder entry_order s → IsAt s i e → IsCountUp s i n → (IsKeyBehind s i → ⊥) → n + 1 ≡ records_at s e.key
-unfolding records_at
 count-whole s i n e r a h none =
     let f : Entry → ℕ = has_key e.key in
     let parts = once-same same_entry same_entry-decides f s (drop (i + 1) s ++ take (i + 1) s) (parts-same s (i + 1)) in
     let behind = once-behind same_entry f (drop (i + 1) s) (take (i + 1) s) (λ x m. none-with e.key x (λ k.
     let p = dropped-at s (i + 1) x m in
     none (key-behind s i p.0 e x r a p.2 (let l = p.1 in omega (arith, l)) k))) in
-    count-here s i n e r a h ∙ sym behind ∙ sym parts
+    count-here s i n e r a h ∙ sym behind ∙ sym parts ∙ sym (records-all s e.key)
 
 -- ---- the list of records in order, as far as it has come
 pub disputes-pass_again : (s : List Entry) (i : ℕ) (e : Entry) (ds : List Dispute) → IsAt s i e → IsKeyBehind s i → IsSoFar (DisputesUnder s) s i ds → IsSoFar (DisputesUnder s) s (i + 1) ds

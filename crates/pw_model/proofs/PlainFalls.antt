@@ -17,7 +17,7 @@ use Rattle.pw_model.specs.Same.{entry_order, key_numbers, content_numbers}
 use Rattle.pw_model.specs.Counting.{Member, Counts, contents_at, wh_of, point, reading_key}
 use Rattle.pw_model.specs.Lists.{IsInOrder, IsFall, fall_order, fall_numbers, reading_entry, AreFalls}
 use Rattle.pw_model.specs.inner.Search.{IsEarliestAmong, IsAt, FallsFrom, high_reading, AreSorted}
-use Rattle.pw_model.proofs.Counting.{one-is_counting}
+use Rattle.pw_model.proofs.Counting.{standing-part, one-is_counting}
 use Rattle.pw_model.proofs.Found.{no-point, wh-back}
 use Rattle.pw_model.proofs.InOrder.{before-member}
 use Rattle.pw_model.proofs.EntryOrder.{before-all}
@@ -192,7 +192,7 @@ falls-whole s sorted fs a l = record {
   rising = l.rising;
   members = λ f. (
     λ m. ((l.members f).0 m).0,
-    λ h. (l.members f).1 (h, (a.members (high_reading f)).1 (high-counts s f h).0),
+    λ h. (l.members f).1 (h, (a.members (high_reading f)).1 (standing-part s (high_reading f) (high-counts s f h).0)),
   );
 }
 

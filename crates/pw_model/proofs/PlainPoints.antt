@@ -18,7 +18,7 @@ use Rattle.pw_model.specs.declared.records.ReadingRow.{ReadingRow}
 use Rattle.pw_model.specs.Counting.{Member, Counts, contents_at, wh_of, point, reading_key}
 use Rattle.pw_model.specs.Lists.{IsInOrder, reading_order, reading_numbers, reading_entry, IsReading, AreReadings}
 use Rattle.pw_model.specs.inner.Search.{IsAt}
-use Rattle.pw_model.proofs.Counting.{one-is_counting}
+use Rattle.pw_model.proofs.Counting.{standing-part, standing-member, one-is_counting}
 use Rattle.pw_model.proofs.Found.{wh-back}
 use Rattle.pw_model.proofs.InOrder.{by-numbers, before-member}
 use Rattle.pw_model.proofs.InKeyOrder.{cmp-less, cmp-greater}
@@ -113,7 +113,7 @@ readings-apart s m r rows h a b k l t u e =
     let x : IsReading s m r a = (h.members a).0 k in
     let y : IsReading s m r b = (h.members b).0 l in
     let q : reading_key m r b.instant ≡ reading_key m r a.instant = ap (λ (v : ℕ). reading_key m r v) (sym e) in
-    let same : reading_entry m r b.instant b.wh ≡ reading_entry m r a.instant a.wh = (x.counted.0 t).1 (reading_entry m r b.instant b.wh) y.held q in
+    let same : reading_entry m r b.instant b.wh ≡ reading_entry m r a.instant a.wh = (x.counted.0 t).1 (reading_entry m r b.instant b.wh) (standing-member s (reading_entry m r b.instant b.wh) y.held) q in
     rows-one s m r a b (sym same) x.counted y.counted
 
 pub points-rise : (s : List Entry) (m : ℕ) (r : Register) (rows : List ReadingRow) → AreReadings s m r rows → IsStrictlyIncreasing (times_of (counted rows))
@@ -130,7 +130,7 @@ points-told s m r rows t h =
       | inr f ↦ (
           let c : Counts s (reading_entry m r t f.0) = (one-is_counting s (reading_entry m r t f.0)).0 (wh-back (contents_at s (reading_key m r t)) f.0 f.1) in
           let a : ReadingRow = record { instant = t; wh = f.0; counted = true } in
-          let k : Member a rows = (h.members a).1 (record { held = c.0; counted = (λ x. c, λ x. refl) }) in
+          let k : Member a rows = (h.members a).1 (record { held = standing-part s (reading_entry m r t f.0) c.0; counted = (λ x. c, λ x. refl) }) in
           value-some a rows (readings-apart s m r rows h) k refl ∙ sym f.1)
     ]
 

@@ -15,7 +15,7 @@ use Rattle.pw_model.specs.Lists.{IsInOrder}
 use Rattle.pw_model.specs.Payments.{sum_once, keys, cents_for, cents_in, IsTopUpFor, topped_up}
 use Rattle.pw_model.specs.Laws.{AreTopUps, TopUpsAddUp}
 use Rattle.pw_model.proofs.Same.{same_key-decides}
-use Rattle.pw_model.proofs.Counting.{entry, one-is_counting, counts-known}
+use Rattle.pw_model.proofs.Counting.{entry, standing-part, one-is_counting, counts-known}
 use Rattle.pw_model.proofs.Once.{stands-decides, once-same, once-nothing, once-fresh}
 use Rattle.pw_model.proofs.Answers.{key-to, key-back}
 use Rattle.pw_model.proofs.InOrder.{before-member}
@@ -74,7 +74,7 @@ sum-told : (s : List Entry) (a : ℕ) (es : List Entry) → AreTopUps s a es →
 unfolding topped_up
 sum-told s a es h =
     sum-part (λ k. cents_for a (contents_at s k)) (keys s) (keys es)
-    (λ k m. let g = key-to k es m in let P : Key → Type 0 = λ v. Member v (keys s) in subst P g.1.1 (key-back g.0 s ((h.members g.0).0 g.1.0).0.0))
+    (λ k m. let g = key-to k es m in let P : Key → Type 0 = λ v. Member v (keys s) in subst P g.1.1 (key-back g.0 s (standing-part s g.0 ((h.members g.0).0 g.1.0).0.0)))
     (λ k m n. other-key s a k (contents_at s k) refl (λ c i t. n (key-back (entry k c) es ((h.members (entry k c)).1 (i, t)))))
     ∙ sum-keys s a es h.once (λ e m. (h.members e).0 m)
 
@@ -138,7 +138,7 @@ top-ups-there_are s a =
         once = p.1.once;
         members = λ e. (
           λ m. let r = (p.1.members e).0 m in (r.1, r.2),
-          λ q. (p.1.members e).1 ((t.1.members e).1 q.0.0, q.0, q.1),
+          λ q. (p.1.members e).1 ((t.1.members e).1 (standing-part s e q.0.0), q.0, q.1),
         );
       },
     )

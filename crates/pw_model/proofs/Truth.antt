@@ -6,7 +6,7 @@ use Rattle.pw_model.specs.declared.records.Contents.{Contents}
 use Rattle.pw_model.specs.declared.records.TotalKey.{TotalKey}
 use Rattle.pw_model.specs.declared.records.TotalKey.TheVariants.{Energy, TopUps}
 use Rattle.pw_model.specs.declared.records.Entry.{Entry}
-use Rattle.pw_model.specs.Counting.{SameMembers, contents_at, contents_among, point, start}
+use Rattle.pw_model.specs.Counting.{SameMembers, standing, contents_at, contents_among, point, start}
 use Rattle.pw_tariff.specs.Office.{OfficeRules}
 use Rattle.pw_model.specs.Office.{IsOffice, AllOfOffice, most_records}
 use Rattle.pw_model.specs.Energy.{of_band}
@@ -26,7 +26,7 @@ no-total office (Energy o b d) =
 no-total office (TopUps a) = refl
 
 pub empty-true : EmptyIsTrue
-unfolding contents_at contents_among
+unfolding contents_at contents_among standing
 empty-true office = record { points = refl; starts = refl; totals = no-total office }
 
 totals-same : (office : OfficeRules) (s t : List Entry) → SameMembers s t → (k : TotalKey) → total_among office s k ≡ total_among office t k

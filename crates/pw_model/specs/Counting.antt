@@ -31,7 +31,7 @@ abbrev pub IsInserted : {X : Type 0} → X → List X → List X → Type 0
 IsInserted {X} x old new = (xs : List X) × (ys : List X) × (old ≡ xs ++ ys) × (new ≡ xs ++ x ∷ ys)
 
 -- the records that stand: all of them
-abbrev pub standing : List Entry → List Entry
+unfoldable pub standing : List Entry → List Entry
 standing s = s
 
 -- a record counts when it stands and no other that stands has its key

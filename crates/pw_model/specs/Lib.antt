@@ -19,9 +19,13 @@ pub mod Lists
 pub mod Shelf
 pub mod Laws
 pub mod Bounds
--- and these where a file above names them:
+-- and these where a contract of another crate names them:
 -- Changes: what one more record changes, for the proofs of a book
+-- Kinds: the records of a kind in a list
+-- Seconds: what a function of the second tells, in order
 pub mod Changes
+pub mod Kinds
+pub mod Seconds
 -- named by private functions, tests and proofs alone
 pub mod inner
 -- lemmas that stand here since a model or a kept fact names them

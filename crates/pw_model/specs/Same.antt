@@ -70,5 +70,8 @@ unfoldable pub total_numbers : TotalKey → List ℕ
 total_numbers (Energy o b d) = 0 ∷ owner_place o ∷ b.0 ∷ direction_place d ∷ []
 total_numbers (TopUps a) = 1 ∷ a.0 ∷ []
 
+abbrev pub same_total : TotalKey → TotalKey → Bool
+same_total k l = pointwise ◌==◌ (total_numbers k) (total_numbers l)
+
 abbrev pub total_order : TotalKey → TotalKey → Ordering
 total_order k l = slice_cmp nat_cmp (total_numbers k) (total_numbers l)

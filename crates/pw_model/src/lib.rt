@@ -7,6 +7,7 @@ mod limits;
 pub mod plain;
 mod records;
 mod reference;
+mod registers;
 
 pub use compare::{
     compare_entries, compare_keys, compare_totals, is_same_content, is_same_entry, is_same_key,
@@ -14,3 +15,4 @@ pub use compare::{
 pub use limits::{MOST_CENTS, MOST_RECORDS, NANO_IN_CENT};
 pub use records::{Content, Contents, Dispute, Entry, Fall, Key, ReadingRow, TotalKey};
 pub use reference::{LONGEST_REFERENCE, Reference};
+pub use registers::direction_of;

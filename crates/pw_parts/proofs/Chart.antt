@@ -8,7 +8,7 @@ use Rattle.pw_flow.specs.Pairs.{pairs_sum}
 use Rattle.pw_flow.proofs.Points.{option-cases}
 use Rattle.pw_model.specs.Counting.{Member}
 use Rattle.pw_model.specs.Lists.{IsInOrder}
-use Rattle.pw_parts.specs.inner.Counted.{ListsSeconds, by_second}
+use Rattle.pw_model.specs.Seconds.{ListsSeconds, by_second}
 use Rattle.pw_model.proofs.InOrder.{before-member}
 
 pub less-is : (x y : ℕ) → nat_cmp x y ≡ Less → x < y

@@ -8,6 +8,8 @@ use Rattle.pw_model.specs.declared.records.Entry.{Entry}
 use Rattle.pw_model.specs.Counting.{Member, SameMembers, Counts}
 use Rattle.pw_model.specs.Lists.{IsInOrder, Lists}
 use Rattle.pw_model.specs.Same.{same_key, entry_order}
+use Rattle.pw_model.proofs.Answers.{counts-half}
+use Rattle.pw_model.proofs.Counting.{standing-part, standing-member}
 use Rattle.pw_model.proofs.Same.{same_key-decides}
 use Rattle.pw_model.proofs.Places.{member-left, member-right, member-split}
 use Rattle.pw_model.proofs.InOrder.{before-member}
@@ -104,9 +106,10 @@ joined-up done others first count all e =
 -- a record with a key of its own counts
 pub alone-counts : (done others : List Entry) (first : Entry) (all : List Entry) → all ≡ done ++ first ∷ others → AreApart done (first ∷ others) → HasSameKey first others 0 → Counts all first
 alone-counts done others first all e a h = (
-  (let P : List Entry → Type 0 = λ xs. Member first xs in subst P (sym e) (member-right first done (first ∷ others) (inl refl))),
+  (let P : List Entry → Type 0 = λ xs. Member first xs in standing-member all first (subst P (sym e) (member-right first done (first ∷ others) (inl refl)))),
   λ f m k. (
-      let n : Member f (done ++ first ∷ others) = rw e at m in
+      let P : List Entry → Type 0 = λ xs. Member f xs in
+      let n : Member f (done ++ first ∷ others) = subst P e (standing-part all f m) in
       elim (member-split f done (first ∷ others) n) [
         | inl d ↦ absurd (a f first d (inl refl) (sym k))
         | inr (inl i) ↦ i
@@ -126,8 +129,8 @@ together-don't done (second ∷ others) first count all r e h x m c =
     let two : Member second all = subst Q (sym e) (member-right second done (first ∷ second ∷ others) (inr (inl refl))) in
     let alike : second.key ≡ first.key = h.same second (inl refl) in
     let key : x.key ≡ first.key = elim m [ inl i ↦ ap (λ (f : Entry). f.key) i | inr t ↦ h.same x t ] in
-    let a : first ≡ x = c.1 first one (sym key) in
-    let b : second ≡ x = c.1 second two (alike ∙ sym key) in
+    let a : first ≡ x = c.1 first (standing-member all first one) (sym key) in
+    let b : second ≡ x = c.1 second (standing-member all second two) (alike ∙ sym key) in
     not-before-itself first second rest.0.0 (a ∙ sym b)
 
 -- a step over records of one key
@@ -172,7 +175,7 @@ all-done all done counted e l = record {
   rising = l.rising;
   members = λ x. (
     λ m. ((l.members x).0 m).1,
-    λ c. (l.members x).1 ((let P : List Entry → Type 0 = λ xs. Member x xs in subst P (e ∙ append-nil done) c.0), c),
+    λ c. (l.members x).1 ((let P : List Entry → Type 0 = λ xs. Member x xs in subst P (e ∙ append-nil done) (standing-part all x c.0)), c),
   );
 }
 
@@ -239,11 +242,8 @@ few-skip records rest others counted new first n e l h i =
     omega (arith, a, b, f, h)
 
 -- ---- of a list of the same members
-pub counts-among : (s t : List Entry) (e : Entry) → SameMembers s t → Counts s e → Counts t e
-counts-among s t e h c = ((h e).0 c.0, λ f m k. c.1 f ((h f).1 m) k)
-
 pub counts-sorted : (s t : List Entry) (counted : List Entry) → SameMembers t s → Lists entry_order (Counts t) counted → Lists entry_order (Counts s) counted
 counts-sorted s t counted h l = record {
   rising = l.rising;
-  members = λ e. (λ m. counts-among t s e h ((l.members e).0 m), λ c. (l.members e).1 (counts-among s t e (λ f. ((h f).1, (h f).0)) c));
+  members = λ e. (λ m. counts-half t s h e ((l.members e).0 m), λ c. (l.members e).1 (counts-half s t (λ f. ((h f).1, (h f).0)) e c));
 }

@@ -5,7 +5,6 @@ use Rattle.std.specs.List.{AllByRecursion}
 use Rattle.std.specs.List.Sorted.{IsStrictlySortedBy}
 use Rattle.std.specs.Map.{keys_of, lookup}
 use Rattle.std.specs.BTreeMap.{BTreeMap, IsOrdered, IsUnchanged, Updates, get, is_at}
-use Rattle.std.specs.Cmp.Lexicographic.{bytes_decides, texts_ties}
 use Rattle.std.specs.Result.{OnOk, OnErr}
 use Rattle.std.specs.Ordering.{is_eq, ordering_reverse}
 use Rattle.std.specs.declared.cmp.Ordering.{Ordering}
@@ -13,49 +12,15 @@ use Rattle.std.specs.declared.cmp.Ordering.TheVariants.{Less, Equal, Greater}
 use Rattle.std.proofs.lemmas.Bool.{cases_Bool}
 use Rattle.std.proofs.lemmas.Cmp.{tied_itself}
 use Rattle.std.proofs.lemmas.Option.{same_Some}
-use Rattle.pw_tariff.specs.declared.ids.AccountId.{AccountId}
-use Rattle.pw_tariff.specs.declared.ids.Direction.{Direction}
-use Rattle.pw_tariff.specs.declared.ids.Direction.TheVariants.{Import, Export}
-use Rattle.pw_tariff.specs.Cells.{owner_place}
 use Rattle.pw_model.specs.declared.records.TotalKey.{TotalKey}
-use Rattle.pw_model.specs.declared.records.TotalKey.TheVariants.{Energy, TopUps}
 use Rattle.pw_model.specs.contracts.records.TotalKeyOrd.TheImpl.Laws as total_laws
 use Rattle.pw_model.specs.Counting.{Member}
 use Rattle.pw_model.specs.Lists.{IsBeforeAll, IsInOrder, Lists}
-use Rattle.pw_model.specs.Same.{total_numbers, direction_place}
+use Rattle.pw_model.specs.Same.{same_total}
 use Rattle.pw_model.proofs.InKeyOrder.{totals-ordered}
+use Rattle.pw_model.proofs.TotalKeys.{same_total-decides, total-itself, total-tested}
 use Rattle.pw_parts.specs.Parts.{by_total}
-use Rattle.pw_parts.specs.inner.Totals.{total_key_order, same_total, total_in, AreAboveZero, given_at, IsGiven}
-
--- ---- keys and their numbers
-owners-one : (o p : Option AccountId) → owner_place o ≡ owner_place p → o ≡ p
-owners-one None None e = refl
-owners-one None (Some b) e = absurd (omega arith)
-owners-one (Some a) None e = absurd (omega arith)
-owners-one (Some a) (Some b) e = let f : a.0 ≡ b.0 = omega arith in λ i. Some (record { 0 = f i })
-
-directions-one : (d e : Direction) → direction_place d ≡ direction_place e → d ≡ e
-directions-one Import Import h = refl
-directions-one Import Export h = absurd (omega arith)
-directions-one Export Import h = absurd (omega arith)
-directions-one Export Export h = refl
-
-pub totals-one : (k l : TotalKey) → total_numbers k ≡ total_numbers l → k ≡ l
-unfolding total_numbers
-totals-one (Energy o b d) (Energy p c e) h =
-    let i : owner_place o ≡ owner_place p = cc in
-    let j : b.0 ≡ c.0 = cc in
-    let k : direction_place d ≡ direction_place e = cc in
-    λ n. Energy (owners-one o p i n) (record { 0 = j n }) (directions-one d e k n)
-totals-one (TopUps a) (TopUps b) h = let i : a.0 ≡ b.0 = cc in λ n. TopUps (record { 0 = i n })
-totals-one (Energy o b d) (TopUps a) h = cc
-totals-one (TopUps a) (Energy o b d) h = cc
-
-pub total-decides : (k l : TotalKey) → same_total k l ≡ true → k ≡ l
-total-decides k l h = totals-one k l ((bytes_decides (total_numbers k) (total_numbers l)).0 h)
-
-total-tested : (k l : TotalKey) → is_eq (total_key_order k l) ≡ same_total k l
-total-tested k l = ap is_eq (totals-ordered k l) ∙ sym (texts_ties (total_numbers k) (total_numbers l))
+use Rattle.pw_parts.specs.inner.Totals.{total_key_order, total_in, AreAboveZero, given_at, IsGiven}
 
 -- ---- one total changed
 chosen : (b : Bool) (a : ℕ) (o : Option ℕ) → unwrap_or (cond b (Some a) o) 0 ≡ cond b a (unwrap_or o 0)
@@ -72,7 +37,7 @@ added old new k a sum e h l =
     let c = changed old new k sum h l in
     elim (cases_Bool (same_total k l)) [
       | inl t ↦ (
-          let same : total_in old k ≡ total_in old l = ap (total_in old) (total-decides k l t) in
+          let same : total_in old k ≡ total_in old l = ap (total_in old) ((same_total-decides k l).0 t) in
           let d : total_in new l ≡ sum = rw t at c in
           rw t (omega (arith, d, e, same)))
       | inr f ↦ (let d : total_in new l ≡ total_in old l = rw f at c in rw f (omega (arith, d)))
@@ -82,7 +47,7 @@ pub none-added : (rows : BTreeMap TotalKey ℕ) (k : TotalKey) (a : ℕ) → a �
 none-added rows k a e l = elim (cases_Bool (same_total k l)) [ inl t ↦ rw t (omega (arith, e)) | inr f ↦ rw f (omega arith) ]
 
 pub given-here : (k : TotalKey) (a : ℕ) → given_at k a k ≡ a
-given-here k a = rw ((bytes_decides (total_numbers k) (total_numbers k)).1 refl) refl
+given-here k a = rw (total-itself k) refl
 
 -- ---- each that is there is above 0
 above-more : (old new : BTreeMap TotalKey ℕ) (k : TotalKey) (a : ℕ) → Updates total_key_order old new k (Some a) → 0 < a → AreAboveZero old → AreAboveZero new
@@ -106,7 +71,7 @@ at-is Equal h = refl
 at-is Greater h = cc
 
 exact : (k l : TotalKey) → total_key_order k l ≡ Equal → k ≡ l
-exact k l h = total-decides k l (sym (total-tested k l) ∙ ap is_eq h)
+exact k l h = (same_total-decides k l).0 (sym (total-tested k l) ∙ ap is_eq h)
 
 lookup-member : (k : TotalKey) (es : List (TotalKey × ℕ)) (n : ℕ) → lookup (is_at (total_key_order k)) es ≡ Some n → Member (k, n) es
 lookup-member k [] n h = cc

@@ -24,11 +24,13 @@ use Rattle.pw_model.specs.Counting.{Counts, Member, contents_at, point, start}
 use Rattle.pw_model.specs.Energy.{owner_at as owner_told, energy_where, of_band, share_of}
 use Rattle.pw_model.specs.Office.{AllOfOffice}
 use Rattle.pw_model.specs.Same.{direction_of, total_numbers}
+use Rattle.pw_model.proofs.Counting.{standing-part}
 use Rattle.pw_model.proofs.PlainEnergy.{sum-next, sum-to}
 use Rattle.pw_parts.specs.Shown.{shown}
-use Rattle.pw_parts.specs.inner.Counted.{ListsCounting, ListsSeconds, given}
+use Rattle.pw_model.specs.Seconds.{ListsSeconds}
+use Rattle.pw_parts.specs.inner.Counted.{ListsCounting, given}
 use Rattle.pw_parts.specs.inner.Given.{in_way, pairs_given, register_given, registers_given, meter_given, energies_given, payment_given, AreCounted}
-use Rattle.pw_parts.specs.inner.Kinds.{ListsHeld, IsReadingOf, IsAssignmentOf}
+use Rattle.pw_model.specs.Kinds.{ListsHeld, IsReadingOf, IsAssignmentOf}
 use Rattle.pw_parts.specs.inner.Totals.{given_at}
 use Rattle.pw_parts.proofs.Chart.{listed}
 use Rattle.pw_parts.proofs.Seconds.{seconds-given, seconds-shown}
@@ -41,7 +43,7 @@ all-count Of records found c l = record {
   rising = l.rising;
   members = λ e. (
     λ m. (let a = (l.members e).0 m in (c e a.0, a.1)),
-    λ a. (l.members e).1 (a.0.0, a.1),
+    λ a. (l.members e).1 (standing-part records e a.0.0, a.1),
   );
 }
 

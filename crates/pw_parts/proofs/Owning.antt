@@ -10,7 +10,7 @@ use Rattle.pw_model.specs.declared.records.Contents.{Contents}
 use Rattle.pw_model.specs.Counting.{Member, start}
 use Rattle.pw_model.specs.Energy.{owner_at as owner_told}
 use Rattle.pw_model.specs.Lists.{IsInOrder}
-use Rattle.pw_parts.specs.inner.Counted.{ListsSeconds, by_second}
+use Rattle.pw_model.specs.Seconds.{ListsSeconds, by_second}
 use Rattle.pw_parts.proofs.Chart.{less-is}
 use Rattle.pw_model.proofs.InOrder.{before-member}
 

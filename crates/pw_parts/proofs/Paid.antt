@@ -17,10 +17,10 @@ use Rattle.pw_model.specs.Office.{AllOfOffice, IsOf}
 use Rattle.pw_model.specs.Payments.{stands_in, sum_once, keys, cents_for, topped_up}
 use Rattle.pw_model.specs.Same.{same_key, entry_order}
 use Rattle.pw_model.proofs.Same.{same_key-decides}
-use Rattle.pw_model.proofs.Counting.{entry, one-is_counting}
+use Rattle.pw_model.proofs.Counting.{entry, standing-part, one-is_counting}
 use Rattle.pw_model.proofs.Once.{once-same, stands-decides}
 use Rattle.pw_model.proofs.Answers.{key-back}
-use Rattle.pw_parts.specs.inner.Kinds.{IsTopUp}
+use Rattle.pw_model.specs.Kinds.{IsTopUp}
 use Rattle.pw_parts.specs.inner.Counted.{ListsCounting}
 use Rattle.pw_parts.proofs.Keys.{entry-apart}
 use Rattle.pw_model.proofs.Places.{member-left, member-right, member-split}
@@ -89,14 +89,14 @@ topped-up-is office s counted a o l =
     let inside : (k : Key) → Member k (keys counted) → Member k (keys s) = λ k m. (
     let r = key-of k counted m in
     let P : Key → Type 0 = λ x. Member x (keys s) in
-    subst P r.2 (key-back r.0 s ((l.members r.0).0 r.1).0.0)) in
+    subst P r.2 (key-back r.0 s (standing-part s r.0 ((l.members r.0).0 r.1).0.0))) in
     let both : SameMembers (keys s) (keys s ++ keys counted) = λ k. (
       λ m. member-left k (keys s) (keys counted) m,
       λ m. elim (member-split k (keys s) (keys counted) m) [ inl i ↦ i | inr j ↦ inside k j ],
     ) in
     let zero : (k : Key) → Member k (keys s) → (Member k (keys counted) → ⊥) → f k ≡ 0 = λ k m n.
     gives-nothing a k (contents_at s k)
-    (λ d i. kind-of office a k d (o (entry k d) ((one-is_counting s (entry k d)).0 i).0))
+    (λ d i. kind-of office a k d (o (entry k d) (standing-part s (entry k d) ((one-is_counting s (entry k d)).0 i).0)))
     (λ t d i. n (key-back (entry k d) counted ((l.members (entry k d)).1 ((one-is_counting s (entry k d)).0 i, t)))) in
     let each = once-each f counted l.rising (λ x y m n i. ((l.members y).0 n).0.1 x ((l.members x).0 m).0.0 i) in
     let same : sum_by (λ (e : Entry). cents_for a (One e.content)) counted ≡ sum_by (λ (e : Entry). f e.key) counted =

@@ -16,8 +16,7 @@ use Rattle.pw_model.specs.declared.records.Key.TheVariants as key
 use Rattle.pw_model.specs.declared.records.Content.{Content}
 use Rattle.pw_model.specs.declared.records.Content.TheVariants as content
 use Rattle.pw_model.specs.Office.{AllOfOffice, IsOf}
-use Rattle.pw_parts.specs.Parts.{IsReading, IsAssignment}
-use Rattle.pw_parts.specs.inner.Kinds.{IsReadingOf, IsAssignmentOf, IsTopUp, ListsHeld}
+use Rattle.pw_model.specs.Kinds.{IsReadingOf, IsAssignmentOf, IsTopUp, ListsHeld, IsReading, IsAssignment}
 use Rattle.pw_model.specs.declared.records.Entry.{Entry}
 use Rattle.pw_model.specs.Counting.{Member}
 use Rattle.pw_model.specs.Lists.{IsInOrder, Lists}

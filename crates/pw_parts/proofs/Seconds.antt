@@ -17,10 +17,11 @@ use Rattle.pw_model.specs.declared.records.Contents.TheVariants.{Nothing, One, S
 use Rattle.pw_model.specs.Counting.{Member, Counts, contents_at, point, start, wh_of, owner_of, reading_key, assignment_key}
 use Rattle.pw_model.specs.Lists.{IsInOrder, Lists}
 use Rattle.pw_model.specs.Same.{key_order, key_numbers, entry_order}
-use Rattle.pw_model.proofs.Counting.{entry, one-is_counting}
-use Rattle.pw_parts.specs.inner.Kinds.{IsReadingOf, IsAssignmentOf, ListsHeld}
+use Rattle.pw_model.proofs.Counting.{entry, standing-part, standing-member, one-is_counting}
+use Rattle.pw_model.specs.Kinds.{IsReadingOf, IsAssignmentOf, ListsHeld}
 use Rattle.pw_parts.specs.Shown.{shown, shown_at}
-use Rattle.pw_parts.specs.inner.Counted.{ListsCounting, ListsSeconds, by_second, given, given_at}
+use Rattle.pw_model.specs.Seconds.{ListsSeconds, by_second}
+use Rattle.pw_parts.specs.inner.Counted.{ListsCounting, given, given_at}
 use Rattle.pw_flow.proofs.Points.{option-cases}
 use Rattle.pw_parts.proofs.Keys.{keys-apart, key-less}
 use Rattle.pw_model.proofs.InOrder.{before-member}
@@ -30,9 +31,17 @@ use Rattle.pw_model.proofs.EntryOrder.{before-all}
 pub counts-held : (Of : Key → Type 0) (s records : List Entry) → ListsHeld Of s records → (e : Entry) → Counts records e ↔ (Counts s e × Of e.key)
 counts-held Of s records h e = (
   λ c.
-      let held = (h.members e).0 c.0 in
-      ((held.0, λ f m k. c.1 f ((h.members f).1 (m, subst Of (sym k) held.1)) k), held.1),
-  λ c. ((h.members e).1 (c.0.0, c.1), λ f m k. c.0.1 f ((h.members f).0 m).0 k),
+      let held = (h.members e).0 (standing-part records e c.0) in (
+        (
+          standing-member s e held.0,
+          λ f m k. c.1 f (standing-member records f ((h.members f).1 (standing-part s f m, subst Of (sym k) held.1))) k,
+        ),
+        held.1,
+      ),
+  λ c. (
+    standing-member records e ((h.members e).1 (standing-part s e c.0.0, c.1)),
+    λ f m k. c.0.1 f (standing-member s f ((h.members f).0 (standing-part records f m)).0) k,
+  ),
 )
 
 pub lists-counting : (Of : Key → Type 0) (s records counted : List Entry) → ListsHeld Of s records → Lists entry_order (Counts records) counted → ListsCounting Of s counted

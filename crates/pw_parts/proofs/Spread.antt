@@ -16,7 +16,7 @@ use Rattle.pw_model.specs.declared.records.TotalKey.{TotalKey}
 use Rattle.pw_model.specs.declared.records.TotalKey.TheVariants.{Energy, TopUps}
 use Rattle.pw_model.specs.Lists.{IsInOrder}
 use Rattle.pw_model.specs.Same.{same_direction, direction_place, total_numbers}
-use Rattle.pw_parts.specs.inner.Counted.{by_second}
+use Rattle.pw_model.specs.Seconds.{by_second}
 use Rattle.pw_parts.specs.inner.Given.{to_energies, in_way, cells_given, pair_given, pairs_given}
 use Rattle.pw_parts.specs.inner.Totals.{given_at}
 use Rattle.pw_parts.proofs.Chart.{less-is}

@@ -4,6 +4,7 @@ use Rattle.std.proofs.lemmas.Bool.{cases_lt}
 use Rattle.pw_obis.specs.declared.reference.Register.{Register}
 use Rattle.pw_tariff.specs.declared.ids.AccountId.{AccountId}
 use Rattle.pw_tariff.specs.Office.{OfficeRules}
+use Rattle.pw_model.specs.Kinds.{IsReading, IsAssignment}
 use Rattle.pw_model.specs.declared.records.Content.TheVariants as content
 use Rattle.pw_model.specs.declared.records.Contents.TheVariants.{One}
 use Rattle.pw_model.specs.declared.records.Entry.{Entry}
@@ -13,13 +14,12 @@ use Rattle.pw_model.specs.Counting.{Member, SameMembers, Counts, contents_at, po
 use Rattle.pw_model.specs.Lists.{reading_entry}
 use Rattle.pw_model.specs.Same.{key_numbers, total_numbers}
 use Rattle.pw_model.specs.Shelf.{total_among}
-use Rattle.pw_model.proofs.Answers.{energy-same, topped-same}
+use Rattle.pw_model.proofs.Answers.{counts-half, energy-same, topped-same}
 use Rattle.pw_model.proofs.Counting.{one-is_counting}
 use Rattle.pw_model.proofs.InOrder.{by-numbers, lists-one}
 use Rattle.pw_parts.specs.declared.parts.Parts.{Parts}
-use Rattle.pw_parts.specs.Parts.{IsPartsOf, IsReading, IsAssignment, by_key, by_total}
+use Rattle.pw_parts.specs.Parts.{IsPartsOf, by_key, by_total}
 use Rattle.pw_parts.specs.Laws.{PartsAreAtMostOne, TrueExactlyWhereTold, assignment_entry}
-use Rattle.pw_parts.proofs.Groups.{counts-among}
 use Rattle.pw_parts.proofs.Seconds.{wh-one, owner-one}
 use Rattle.pw_parts.proofs.Whole.{options-same}
 
@@ -28,7 +28,7 @@ back : {X : Type 0} (s t : List X) → SameMembers s t → SameMembers t s
 back s t h x = ((h x).1, (h x).0)
 
 counts-same : (s t : List Entry) → SameMembers s t → (Of : Entry → Type 0) (e : Entry) → (Counts s e × Of e) ↔ (Counts t e × Of e)
-counts-same s t h Of e = (λ p. (counts-among s t e h p.0, p.1), λ p. (counts-among t s e (back s t h) p.0, p.1))
+counts-same s t h Of e = (λ p. (counts-half s t h e p.0, p.1), λ p. (counts-half t s (back s t h) e p.0, p.1))
 
 totals-same : (office : OfficeRules) (s t : List Entry) → SameMembers s t → (k : TotalKey) → total_among office s k ≡ total_among office t k
 totals-same office s t h (Energy o b d) = energy-same office s t h o b.0 d

@@ -21,12 +21,12 @@ use Rattle.pw_model.specs.Office.{AllOfOffice, IsOffice, most_records}
 use Rattle.pw_model.specs.Payments.{topped_up}
 use Rattle.pw_model.specs.Same.{entry_order}
 use Rattle.pw_model.specs.Shelf.{total_among}
-use Rattle.pw_model.proofs.Counting.{entry, one-is_counting}
+use Rattle.pw_model.proofs.Counting.{entry, standing-part, standing-member, one-is_counting}
 use Rattle.pw_model.proofs.PlainEnergy.{energy-fits, topped-fits}
 use Rattle.pw_model.proofs.TopUps.{top-ups_add_up}
 use Rattle.pw_parts.specs.Parts.{by_key}
 use Rattle.pw_parts.specs.inner.Given.{AreCounted, energies_given, payments_given}
-use Rattle.pw_parts.specs.inner.Kinds.{IsTopUp, ListsHeld}
+use Rattle.pw_model.specs.Kinds.{IsTopUp, ListsHeld}
 use Rattle.pw_parts.proofs.Keys.{keys-apart}
 use Rattle.pw_parts.proofs.Meters.{all-count}
 use Rattle.pw_parts.proofs.Paid.{topped-up-is}
@@ -58,15 +58,15 @@ module _ (s counted : List Entry) (l : Lists entry_order (Counts s) counted) whe
   -- ---- what counts among those that count
   pub counted-counts : (e : Entry) → Counts counted e ↔ Counts s e
   counted-counts e = (
-    λ c. (l.members e).0 c.0,
-    λ c. ((l.members e).1 c, λ f m k. c.1 f ((l.members f).0 m).0 k),
+    λ c. (l.members e).0 (standing-part counted e c.0),
+    λ c. (standing-member counted e ((l.members e).1 c), λ f m k. c.1 f ((l.members f).0 (standing-part counted f m)).0 k),
   )
 
   pub are-counted : (office : OfficeRules) → AllOfOffice office s → AreCounted office counted
   are-counted office h = record {
     rising = l.rising;
     counting = λ e m. (counted-counts e).1 ((l.members e).0 m);
-    of_office = λ e m. h e ((l.members e).0 m).0;
+    of_office = λ e m. h e (standing-part s e ((l.members e).0 m).0);
   }
 
   pub kind-listed : (Of : Key → Type 0) (found : List Entry) → ListsHeld Of counted found → Lists by_key (λ e. Counts s e × Of e.key) found

@@ -3,25 +3,14 @@
 use Rattle.std.specs.Prelude.{◌≡◌, ℕ, ◌<◌, List}
 use Rattle.std.specs.declared.cmp.Ordering.{Ordering}
 use Rattle.pw_tariff.specs.Office.{OfficeRules}
-use Rattle.pw_model.specs.declared.records.Key.{Key}
-use Rattle.pw_model.specs.declared.records.Key.TheVariants as key
 use Rattle.pw_model.specs.declared.records.TotalKey.{TotalKey}
 use Rattle.pw_model.specs.declared.records.Entry.{Entry}
 use Rattle.pw_model.specs.Counting.{Counts}
+pub use Rattle.pw_model.specs.Kinds.{IsReading, IsAssignment}
 use Rattle.pw_model.specs.Lists.{Lists}
 use Rattle.pw_model.specs.Same.{key_order, total_order}
 use Rattle.pw_model.specs.Shelf.{total_among}
 use Rattle.pw_parts.specs.declared.parts.Parts.{Parts}
-
--- the key of a reading
-abbrev pub IsReading : Key → Type 0
-IsReading (key.Reading m r t) = Unit {0}
-IsReading _ = ⊥
-
--- the key of an assignment
-abbrev pub IsAssignment : Key → Type 0
-IsAssignment (key.Assignment m t) = Unit {0}
-IsAssignment _ = ⊥
 
 -- in the order of their keys
 abbrev pub by_key : Entry → Entry → Ordering

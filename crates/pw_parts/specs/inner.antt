@@ -1,4 +1,3 @@
-pub mod Kinds
 pub mod Counted
 pub mod Places
 pub mod Totals

@@ -3,7 +3,6 @@
 ghost use Rattle.std.specs.Prelude.{◌≡◌, ℕ, ◌<◌, OnOk, length};
 ghost use Rattle.pw_model.specs.Counting.{contents_at as held_at};
 ghost use Rattle.pw_model.specs.Energy.{owner_at as owner_told};
-ghost use Rattle.pw_model.specs.Same.{direction_of as direction_told};
 ghost use Rattle.pw_tariff.specs.Office.{office_of};
 ghost use Rattle.pw_tariff.specs.Owners.{owner_by_starts};
 ghost use Rattle.pw_parts.specs.inner.Given.{AreCounted, energies_given, meter_given, register_given};
@@ -13,9 +12,9 @@ use crate::energy::add_points;
 use crate::places::{assignments_of, readings_of};
 use crate::told::{readings_shown, starts_given};
 use crate::totals::Totals;
-use pw_model::Entry;
+use pw_model::{Entry, direction_of};
 use pw_obis::Register;
-use pw_tariff::{Direction, MeterId, Office, Owners};
+use pw_tariff::{MeterId, Office, Owners};
 use pw_time::Zone;
 use std::alloc::{AllocError, Global};
 
@@ -89,13 +88,4 @@ fn add_register(
     let points = readings_shown(alloc, readings)?;
     let direction = direction_of(register);
     add_points(totals, alloc, office, zone, owners, direction, &points)
-}
-
-fn direction_of(register: Register) -> Direction
-    ensures { result ≡ direction_told register }
-{
-    match register {
-        Register::I0 | Register::I1 | Register::I2 => Direction::Import,
-        Register::E0 | Register::E1 | Register::E2 => Direction::Export,
-    }
 }

@@ -3,7 +3,7 @@
 ghost use Rattle.std.specs.Prelude.{◌<◌, OnOk};
 ghost use Rattle.pw_model.specs.Lists.{IsInOrder};
 ghost use Rattle.pw_tariff.specs.Cells.{AreInOrder};
-ghost use Rattle.pw_parts.specs.inner.Counted.{by_second};
+ghost use Rattle.pw_model.specs.Seconds.{by_second};
 ghost use Rattle.pw_parts.specs.inner.Given.{cells_given, pair_given, pairs_given};
 ghost use Rattle.pw_parts.specs.inner.Totals.{HasRoom, IsGiven};
 

@@ -4,8 +4,7 @@ ghost use Rattle.std.specs.Prelude.{◌≡◌, ◌<◌, ◌^◌};
 ghost use Rattle.pw_model.specs.Lists.{IsInOrder};
 ghost use Rattle.pw_model.specs.Same.{entry_order};
 ghost use Rattle.pw_tariff.specs.Office.{register_place};
-ghost use Rattle.pw_parts.specs.Parts.{IsAssignment, IsReading};
-ghost use Rattle.pw_parts.specs.inner.Kinds.{IsAssignmentOf, IsReadingOf, IsTopUp, ListsHeld};
+ghost use Rattle.pw_model.specs.Kinds.{IsAssignmentOf, IsReadingOf, IsTopUp, ListsHeld, IsAssignment, IsReading};
 ghost use Rattle.pw_parts.specs.inner.Places.{AreWithin, ListsBefore, ListsBetween, ListsFrom, key_place};
 
 use pw_model::{Entry, Key};

@@ -19,10 +19,10 @@ use Rattle.pw_model.specs.declared.records.Entry.{Entry}
 use Rattle.pw_model.specs.contracts.records.KeyOrd.TheImpl as derived_key
 use Rattle.pw_model.specs.contracts.records.KeyOrd.TheImpl.Laws as key_laws
 use Rattle.pw_model.specs.contracts.records.ContentOrd.TheImpl as derived_content
-use Rattle.pw_model.specs.Counting.{Member, contents_at}
+use Rattle.pw_model.specs.Counting.{Member, standing, contents_at}
 use Rattle.pw_model.proofs.Alike.{keys-alike}
 use Rattle.pw_model.proofs.Same.{same_key-decides}
-use Rattle.pw_model.proofs.Counting.{entry, Tells, tells, tells-one}
+use Rattle.pw_model.proofs.Counting.{entry, Tells, standing-part, standing-member, tells, tells-one}
 use Rattle.pw_shelf.specs.inner.Kinds.{lowest}
 use Rattle.pw_shelf.proofs.InOrder.{order, order_total}
 
@@ -121,7 +121,7 @@ module _ (keys : List Entry) (sorted : IsStrictlySortedBy order keys) (k : Key) 
   in_order = subst (IsStrictlySortedBy order) (sym is) (sorted-kept (from k) keys sorted)
 
   told : (found : Contents) → Tells keys k found → found ≡ contents_at keys k
-  told a h = tells-one keys keys k a (contents_at keys k) (λ x. (λ m. m, λ m. m)) h (tells keys k)
+  told a h = tells-one keys (standing keys) k a (contents_at keys k) (λ x. (standing-member keys x, standing-part keys x)) h (tells keys k)
 
   pub none-there : rows ≡ [] → Nothing ≡ contents_at keys k
   none-there i = told Nothing (λ c m. let P : List Entry → Type 0 = Member (entry k c) in subst P i (found c m))

@@ -17,7 +17,7 @@ use Rattle.pw_model.specs.Same.{entry_order}
 use Rattle.pw_model.specs.inner.Keys.{HasReference}
 use Rattle.pw_model.proofs.InKeyOrder.{entries-ordered}
 use Rattle.pw_shelf.specs.inner.Held.{AreNamed, IsNamed}
-use Rattle.pw_shelf.specs.Rows.{ListsHeld}
+use Rattle.pw_model.specs.Kinds.{ListsHeld}
 use Rattle.pw_shelf.proofs.InOrder.{order}
 
 -- ---- the derived order and the model's

@@ -25,7 +25,7 @@ use Rattle.pw_shelf.specs.declared.lists.Kind.{Kind}
 use Rattle.pw_shelf.specs.declared.lists.Kind.TheVariants.{Readings, Assignments, TopUps}
 use Rattle.pw_shelf.specs.inner.Held.{IsNamed, AreNamed}
 use Rattle.pw_shelf.specs.inner.Kinds.{IsOfKind, lowest, lowest_key}
-use Rattle.pw_shelf.specs.Rows.{ListsHeld}
+use Rattle.pw_model.specs.Kinds.{ListsHeld}
 use Rattle.pw_shelf.proofs.InOrder.{order}
 use Rattle.pw_shelf.proofs.AtKey.{key_order, content-lowest, from, and-both, from-le, kept-member, member-kept, sorted-kept, all-member}
 use Rattle.pw_shelf.proofs.Listing.{reference, member-front}

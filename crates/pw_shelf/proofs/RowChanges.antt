@@ -19,7 +19,8 @@ use Rattle.pw_shelf.specs.Standing.{meter_id, point_now, start_now, total_now}
 use Rattle.pw_shelf.specs.Table.{at_now}
 use Rattle.pw_shelf.specs.inner.Held.{AreDated}
 use Rattle.pw_shelf.specs.inner.Table.{TellsAt}
-use Rattle.pw_shelf.proofs.RowKeys.{point-tested, start-tested, total-tested}
+use Rattle.pw_model.proofs.TotalKeys.{total-tested}
+use Rattle.pw_shelf.proofs.RowKeys.{point-tested, start-tested}
 
 -- ---- what is told by meter, register and second, and so on
 pub points-same : (f g : MeterId × Register × ℕ → Option ℕ) → ((k : MeterId × Register × ℕ) → f k ≡ g k) →

@@ -14,10 +14,9 @@ use Rattle.pw_model.specs.declared.records.Key.TheVariants as key
 use Rattle.pw_model.specs.declared.records.TotalKey.{TotalKey}
 use Rattle.pw_model.specs.contracts.records.KeyOrd.TheImpl.Laws as key_laws
 use Rattle.pw_model.specs.Counting.{assignment_key, reading_key}
-use Rattle.pw_model.specs.Same.{same_key, total_numbers}
+use Rattle.pw_model.specs.Same.{same_key, total_numbers, same_total}
 use Rattle.pw_model.proofs.Alike.{keys-alike}
 use Rattle.pw_model.proofs.InKeyOrder.{totals-ordered}
-use Rattle.pw_shelf.specs.Changes.{same_total}
 use Rattle.pw_shelf.specs.Orders.{total_key_order, point_order, start_order}
 use Rattle.pw_shelf.specs.Standing.{meter_id}
 use Rattle.pw_shelf.proofs.AtKey.{key_exact}
@@ -39,9 +38,6 @@ pub start-tested : (m t n u : ℕ) → is_eq (start_order (meter_id m, t) (meter
     (assignment_key n u)
 start-tested m t n u = sym (key_laws.matches_eq-law (assignment_key m t) (assignment_key n u))
     ∙ keys-alike (assignment_key m t) (assignment_key n u)
-
-pub total-tested : (k l : TotalKey) → is_eq (total_key_order k l) ≡ same_total k l
-total-tested k l = ap is_eq (totals-ordered k l) ∙ sym (texts_ties (total_numbers k) (total_numbers l))
 
 -- ---- the orders' laws
 -- by meter and register

@@ -15,7 +15,7 @@ use Rattle.std.proofs.lemmas.Cmp.{tied_itself}
 use Rattle.pw_model.specs.Counting.{Member}
 use Rattle.pw_model.specs.Lists.{IsBeforeAll, IsInOrder, Lists}
 use Rattle.pw_shelf.specs.declared.table.Table.{Table}
-use Rattle.pw_shelf.specs.Seconds.{by_second}
+use Rattle.pw_model.specs.Seconds.{by_second}
 use Rattle.pw_shelf.specs.Table.{at_now, is_taken}
 use Rattle.pw_shelf.specs.inner.Table.{rows_between}
 use Rattle.pw_shelf.proofs.AtKey.{kept-member, member-kept}

@@ -15,7 +15,8 @@ use Rattle.pw_time.specs.Instants.{IsInstant}
 use Rattle.pw_time.specs.declared.instant.TheConstants.{FIRST_SECOND, LAST_SECOND}
 use Rattle.pw_shelf.specs.declared.table.Table.{Table}
 use Rattle.pw_shelf.specs.Orders.{point_order, start_order}
-use Rattle.pw_shelf.specs.Seconds.{ListsSeconds, ListsSecondsWithin}
+use Rattle.pw_model.specs.Seconds.{ListsSeconds}
+use Rattle.pw_shelf.specs.Seconds.{ListsSecondsWithin}
 use Rattle.pw_shelf.specs.Standing.{point_now, start_now}
 use Rattle.pw_shelf.specs.inner.Held.{AreDated}
 use Rattle.pw_shelf.specs.inner.Table.{rows_between}

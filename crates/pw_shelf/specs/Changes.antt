@@ -1,17 +1,13 @@
 -- A content with one point, one start or one total changed.
 -- (Definitions of this project.)
-use Rattle.std.specs.Prelude.{◌==◌, ℕ, Bool, cond, Option}
-use Rattle.std.specs.Cmp.Lexicographic.{pointwise}
+use Rattle.std.specs.Prelude.{ℕ, cond, Option}
 use Rattle.pw_obis.specs.declared.reference.Register.{Register}
 use Rattle.pw_tariff.specs.declared.ids.AccountId.{AccountId}
 use Rattle.pw_model.specs.declared.records.TotalKey.{TotalKey}
 use Rattle.pw_model.specs.Counting.{assignment_key, reading_key}
-use Rattle.pw_model.specs.Same.{same_key, total_numbers}
+use Rattle.pw_model.specs.Same.{same_key}
 use Rattle.pw_model.specs.Shelf.{ShelfContent}
-
--- two keys of totals are one
-abbrev pub same_total : TotalKey → TotalKey → Bool
-same_total k l = pointwise ◌==◌ (total_numbers k) (total_numbers l)
+pub use Rattle.pw_model.specs.Same.{same_total}
 
 -- ---- each function with another value at one place
 abbrev pub points_with : (ℕ → Register → ℕ → Option ℕ) → ℕ → Register → ℕ → Option ℕ → ℕ → Register → ℕ → Option ℕ

@@ -4,36 +4,13 @@ use Rattle.std.specs.Prelude.{◌≡◌, ℕ, zero, suc, List, Option, Some, Non
 use Rattle.std.specs.Global.{Global}
 use Rattle.pw_obis.specs.declared.reference.Register.{Register}
 use Rattle.pw_tariff.specs.declared.ids.MeterId.{MeterId}
-use Rattle.pw_model.specs.declared.records.Key.{Key}
-use Rattle.pw_model.specs.declared.records.Key.TheVariants as key
 use Rattle.pw_model.specs.declared.records.Entry.{Entry}
 use Rattle.pw_model.specs.declared.records.Contents.{Contents}
 use Rattle.pw_model.specs.declared.records.Contents.TheVariants.{Nothing, One, Several}
-use Rattle.pw_model.specs.Same.{entry_order}
-use Rattle.pw_model.specs.Counting.{Member}
-use Rattle.pw_model.specs.Lists.{Lists}
+pub use Rattle.pw_model.specs.Kinds.{IsReadingOf, IsAssignmentOf, IsTopUp, ListsHeld}
 use Rattle.pw_shelf.specs.declared.fault.ShelfFault.{ShelfFault}
 
 -- ---- which records a list has
--- the key of a reading of the register
-abbrev pub IsReadingOf : MeterId → Register → Key → Type 0
-IsReadingOf m r (key.Reading n s t) = (n ≡ m) × (s ≡ r)
-IsReadingOf m r _ = ⊥
-
--- the key of an assignment of the meter
-abbrev pub IsAssignmentOf : MeterId → Key → Type 0
-IsAssignmentOf m (key.Assignment n t) = n ≡ m
-IsAssignmentOf m _ = ⊥
-
--- the key of a top-up
-abbrev pub IsTopUp : Key → Type 0
-IsTopUp (key.TopUp r) = Unit {0}
-IsTopUp _ = ⊥
-
--- the records held with such a key, sorted by key and content
-abbrev pub ListsHeld : (Key → Type 0) → List Entry → List Entry → Type 0
-ListsHeld Of records = Lists entry_order (λ e. Member e records × Of e.key)
-
 abbrev pub ListsReadings : List Entry → MeterId → Register → List Entry → Type 0
 ListsReadings records m r = ListsHeld (IsReadingOf m r) records
 

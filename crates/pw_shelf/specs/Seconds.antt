@@ -1,20 +1,11 @@
 -- What a function of the second tells: in order, and next to a second.
 -- (Definitions of this project.)
 use Rattle.std.specs.Prelude.{◌≡◌, ◌<◌, ◌≤◌, ℕ, Option, Some, None, List}
-use Rattle.std.specs.Ordering.{nat_cmp}
-use Rattle.std.specs.declared.cmp.Ordering.{Ordering}
 use Rattle.pw_model.specs.Lists.{Lists}
+pub use Rattle.pw_model.specs.Seconds.{ListsSeconds, by_second}
 
 -- ---- in order
--- by the second
-abbrev pub by_second : {X : Type 0} → ℕ × X → ℕ × X → Ordering
-by_second a b = nat_cmp a.0 b.0
-
--- each second at which a function tells something, with what it tells, in order
-abbrev pub ListsSeconds : {X : Type 0} → (ℕ → Option X) → List (ℕ × X) → Type 0
-ListsSeconds told = Lists by_second (λ a. told a.0 ≡ Some a.1)
-
--- each of these from one second to another, both included
+-- each second at which a function tells something, with what it tells, from one second to another, both included
 abbrev pub ListsSecondsWithin : {X : Type 0} → ℕ → ℕ → (ℕ → Option X) → List (ℕ × X) → Type 0
 ListsSecondsWithin from to told = Lists by_second (λ a. (from ≤ a.0) × (a.0 ≤ to) × (told a.0 ≡ Some a.1))
 

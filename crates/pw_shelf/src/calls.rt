@@ -3,7 +3,8 @@
 ghost use Rattle.std.specs.Prelude.{IfOk, refl};
 ghost use Rattle.pw_shelf.specs.Calls.{IsAsking};
 ghost use Rattle.pw_shelf.specs.inner.Kinds.{IsOfKind};
-ghost use Rattle.pw_shelf.specs.Rows.{ListsHeld, rows_listed};
+ghost use Rattle.pw_model.specs.Kinds.{ListsHeld};
+ghost use Rattle.pw_shelf.specs.Rows.{rows_listed};
 ghost use Rattle.pw_shelf.specs.Memory.{state_of, left_of, clean_of, same_of};
 ghost use Rattle.pw_shelf.specs.State.{committed};
 

@@ -2,7 +2,7 @@
 
 ghost use Rattle.std.specs.Prelude.{◌≡◌, IfOk, IfErr, IsTrue, ◌↔◌};
 ghost use Rattle.pw_model.specs.Counting.{contents_at as held_at};
-ghost use Rattle.pw_shelf.specs.Rows.{IsAssignmentOf, IsReadingOf, ListsHeld};
+ghost use Rattle.pw_model.specs.Kinds.{IsAssignmentOf, IsReadingOf, ListsHeld};
 ghost use Rattle.pw_shelf.specs.inner.Kinds.{IsOfKind, lowest, lowest_key};
 ghost use Rattle.pw_shelf.specs.declared.fault.ShelfFault.TheVariants.{Memory};
 

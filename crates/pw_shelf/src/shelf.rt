@@ -12,7 +12,8 @@ ghost use Rattle.pw_shelf.specs.Changes.{with_point, with_start, with_total};
 ghost use Rattle.pw_shelf.specs.State.{State, CountsFailures, IsWithRecord};
 ghost use Rattle.pw_shelf.specs.Left.{LeavesNoMore, LeavesNoMoreOr, LeavesOnly};
 ghost use Rattle.pw_shelf.specs.Rows.{ListsAssignments, ListsReadings, ListsTopUps, no_rows, rows_at, rows_found, rows_listed, rows_total};
-ghost use Rattle.pw_shelf.specs.Seconds.{IsBefore, IsBehind, ListsSeconds, ListsSecondsWithin};
+ghost use Rattle.pw_model.specs.Seconds.{ListsSeconds};
+ghost use Rattle.pw_shelf.specs.Seconds.{IsBefore, IsBehind, ListsSecondsWithin};
 
 use crate::fault::ShelfFault;
 use pw_model::{Contents, Entry, Key, TotalKey};

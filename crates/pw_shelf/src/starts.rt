@@ -6,7 +6,7 @@ ghost use Rattle.std.specs.BTreeMap.Range.{IsLeBy};
 ghost use Rattle.std.specs.declared.ops.Bound.TheVariants.{Included};
 ghost use Rattle.pw_shelf.specs.Changes.{starts_with};
 ghost use Rattle.pw_shelf.specs.Orders.{start_order};
-ghost use Rattle.pw_shelf.specs.Seconds.{ListsSeconds};
+ghost use Rattle.pw_model.specs.Seconds.{ListsSeconds};
 ghost use Rattle.pw_shelf.specs.Standing.{start_now, start_then};
 ghost use Rattle.pw_shelf.specs.inner.Held.{AreDated};
 ghost use Rattle.pw_shelf.specs.inner.Table.{CanGoBack, rows_between};

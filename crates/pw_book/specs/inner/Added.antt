@@ -68,10 +68,6 @@ TakesAtMost beside office c (key.Assignment m t) old new = (starts : ℕ) (point
     new ≤ old + beside + (32 + starts) + (over_registers Import points + over_registers Export points) + 6 * classes_of office
 TakesAtMost beside office c (key.TopUp r) old new = new ≤ old + beside + 3
 
-abbrev pub IsAssignment : Key → Type 0
-IsAssignment (key.Assignment m t) = Unit {0}
-IsAssignment _ = ⊥
-
 -- behind an assignment the points are as before, and the starts at each other key
 abbrev pub ChangesOneStart : Key → ShelfContent → ShelfContent → Type 0
 ChangesOneStart (key.Assignment m t) old new = (new.point ≡ old.point) × ((n s : ℕ) → ((n ≡ m.0) × (s ≡ t) → ⊥) → new.start n s ≡ old.start n s)

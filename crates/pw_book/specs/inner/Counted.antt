@@ -6,7 +6,6 @@ use Rattle.pw_obis.specs.declared.reference.Register.{Register}
 use Rattle.pw_tariff.specs.declared.ids.MeterId.{MeterId}
 use Rattle.pw_model.specs.declared.records.Fall.{Fall}
 use Rattle.pw_model.specs.declared.records.ReadingRow.{ReadingRow}
-pub use Rattle.pw_shelf.specs.Seconds.{ListsSeconds, by_second}
 
 -- a row_of_reading of what a reading shows
 abbrev pub row_of_reading : ℕ × ℕ → Bool → ReadingRow

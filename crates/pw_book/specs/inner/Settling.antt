@@ -16,7 +16,7 @@ use Rattle.pw_model.specs.Counting.{point, start}
 use Rattle.pw_model.specs.Energy.{of_band, owner_at, share_of}
 use Rattle.pw_model.specs.Lists.{Lists}
 use Rattle.pw_model.specs.Shelf.{ShelfContent}
-use Rattle.pw_shelf.specs.Seconds.{by_second}
+use Rattle.pw_model.specs.Seconds.{by_second}
 use Rattle.pw_book.specs.Cost.{IsBeforeNextStart}
 use Rattle.pw_book.specs.inner.Moves.{OfOwners, most_total}
 use Rattle.pw_book.specs.inner.Sums.{energy_told}

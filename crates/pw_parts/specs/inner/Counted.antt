@@ -1,8 +1,6 @@
 -- The records that count, and what they tell by the second. It serves `src/told.rt` and `src/energy.rt`.
 -- (Definitions of this project.)
-use Rattle.std.specs.Prelude.{◌≡◌, ℕ, Option, Some, None, List}
-use Rattle.std.specs.Ordering.{nat_cmp}
-use Rattle.std.specs.declared.cmp.Ordering.{Ordering}
+use Rattle.std.specs.Prelude.{ℕ, Option, Some, None, List}
 use Rattle.pw_tariff.specs.declared.ids.AccountId.{AccountId}
 use Rattle.pw_model.specs.declared.records.Key.{Key}
 use Rattle.pw_model.specs.declared.records.Key.TheVariants as key
@@ -18,14 +16,6 @@ abbrev pub ListsCounting : (Key → Type 0) → List Entry → List Entry → Ty
 ListsCounting Of s = Lists entry_order (λ e. Counts s e × Of e.key)
 
 -- ---- what is told by the second
--- by the second
-abbrev pub by_second : {X : Type 0} → ℕ × X → ℕ × X → Ordering
-by_second a b = nat_cmp a.0 b.0
-
--- each second at which a function tells something, with what it tells, in order
-abbrev pub ListsSeconds : {X : Type 0} → (ℕ → Option X) → List (ℕ × X) → Type 0
-ListsSeconds told = Lists by_second (λ a. told a.0 ≡ Some a.1)
-
 -- from when on an assignment gives a meter to whom
 abbrev pub given_at : Key → Content → Option (ℕ × Option AccountId)
 given_at (key.Assignment m t) (content.Assignment o) = Some (t, o)

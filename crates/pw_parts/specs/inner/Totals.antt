@@ -1,20 +1,15 @@
 -- What kept totals tell. It serves `src/totals.rt`.
 -- (Definitions of this project.)
-use Rattle.std.specs.Prelude.{◌≡◌, ◌==◌, ℕ, ◌+◌, ◌^◌, ◌<◌, Bool, cond, Some, unwrap_or}
+use Rattle.std.specs.Prelude.{◌≡◌, ℕ, ◌+◌, ◌^◌, ◌<◌, cond, Some, unwrap_or}
 use Rattle.std.specs.BTreeMap.{BTreeMap, get}
-use Rattle.std.specs.Cmp.Lexicographic.{pointwise}
 use Rattle.std.specs.declared.cmp.Ordering.{Ordering}
 use Rattle.pw_model.specs.declared.records.TotalKey.{TotalKey}
 use Rattle.pw_model.specs.contracts.records.TotalKeyOrd.TheImpl as total_key
-use Rattle.pw_model.specs.Same.{total_numbers}
+use Rattle.pw_model.specs.Same.{same_total}
 
 -- the order of the program's map
 abbrev pub total_key_order : TotalKey → TotalKey → Ordering
 total_key_order = total_key.ghosts.cmp
-
--- two keys of totals are one
-abbrev pub same_total : TotalKey → TotalKey → Bool
-same_total k l = pointwise ◌==◌ (total_numbers k) (total_numbers l)
 
 -- absent is 0
 abbrev pub total_in : BTreeMap TotalKey ℕ → TotalKey → ℕ

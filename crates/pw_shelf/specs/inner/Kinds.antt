@@ -8,7 +8,7 @@ use Rattle.pw_model.specs.declared.records.Content.TheVariants as content
 use Rattle.pw_model.specs.declared.records.Entry.{Entry}
 use Rattle.pw_shelf.specs.declared.lists.Kind.{Kind}
 use Rattle.pw_shelf.specs.declared.lists.Kind.TheVariants.{Readings, Assignments, TopUps}
-use Rattle.pw_shelf.specs.Rows.{IsReadingOf, IsAssignmentOf, IsTopUp}
+use Rattle.pw_model.specs.Kinds.{IsReadingOf, IsAssignmentOf, IsTopUp}
 
 abbrev pub IsOfKind : Kind → Key → Type 0
 IsOfKind (Readings m r) k = IsReadingOf m r k

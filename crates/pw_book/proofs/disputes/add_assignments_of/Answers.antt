@@ -1,7 +1,7 @@
 use Rattle.std.proofs.Common.{◌+◌, ◌*◌, List, ◌++◌, sym, ◌∙◌, ap, subst, arith}
 use Rattle.pw_model.specs.declared.records.Dispute.{Dispute}
 use Rattle.pw_model.specs.declared.records.Entry.{Entry}
-use Rattle.pw_shelf.specs.Rows.{ListsHeld, IsAssignmentOf}
+use Rattle.pw_model.specs.Kinds.{ListsHeld, IsAssignmentOf}
 use Rattle.pw_book.specs.inner.Places.{DisputesBefore}
 use Rattle.pw_book.proofs.Contested.{disputes-more, disputes-at, assignment-place}
 use Rattle.pw_book.proofs.disputes.add_assignments_of.Goals as goal

@@ -2,7 +2,7 @@ use Rattle.std.proofs.Common.{◌+◌, ◌*◌, List, ◌++◌, sym, ◌∙◌, 
 use Rattle.pw_tariff.specs.Office.{register_place}
 use Rattle.pw_model.specs.declared.records.Dispute.{Dispute}
 use Rattle.pw_model.specs.declared.records.Entry.{Entry}
-use Rattle.pw_shelf.specs.Rows.{ListsHeld, IsReadingOf}
+use Rattle.pw_model.specs.Kinds.{ListsHeld, IsReadingOf}
 use Rattle.pw_book.specs.inner.Places.{DisputesBefore}
 use Rattle.pw_book.proofs.Contested.{disputes-more, reading-place}
 use Rattle.pw_book.proofs.disputes.add_readings_of.Goals as goal

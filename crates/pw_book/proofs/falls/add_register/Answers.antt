@@ -4,7 +4,7 @@ use Rattle.pw_time.specs.declared.instant.TheConstants.{END_SECOND}
 use Rattle.pw_tariff.specs.Office.{register_place}
 use Rattle.pw_model.specs.declared.records.Fall.{Fall}
 use Rattle.pw_model.specs.Counting.{contents_at, point}
-use Rattle.pw_book.specs.inner.Counted.{ListsSeconds}
+use Rattle.pw_model.specs.Seconds.{ListsSeconds}
 use Rattle.pw_book.specs.inner.Places.{FallsBefore}
 use Rattle.pw_book.proofs.Fallen.{falls-more, whole-listed}
 use Rattle.pw_book.proofs.falls.add_register.Goals as goal

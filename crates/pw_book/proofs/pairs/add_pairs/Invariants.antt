@@ -3,7 +3,7 @@ use Rattle.std.specs.Slice.Iter.{windows_rest, windows_size}
 use Rattle.pw_obis.specs.declared.energy.TheConstants.{LARGEST_WATT_HOURS}
 use Rattle.pw_model.specs.declared.records.TotalKey.{TotalKey}
 use Rattle.pw_model.specs.Lists.{IsInOrder}
-use Rattle.pw_book.specs.inner.Counted.{by_second}
+use Rattle.pw_model.specs.Seconds.{by_second}
 use Rattle.pw_book.specs.inner.Sums.{gathered, other_side, pairs_for}
 use Rattle.pw_book.proofs.pairs.add_pairs.Given as goal
 

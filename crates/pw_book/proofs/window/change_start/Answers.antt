@@ -2,7 +2,7 @@ use Rattle.std.proofs.Common.{ℕ, Option, List, sym, subst, arith}
 use Rattle.std.proofs.lemmas.Result.{on_ok_weaker}
 use Rattle.pw_tariff.specs.declared.ids.AccountId.{AccountId}
 use Rattle.pw_tariff.specs.Office.{office_of}
-use Rattle.pw_shelf.specs.Seconds.{ListsSeconds}
+use Rattle.pw_model.specs.Seconds.{ListsSeconds}
 use Rattle.pw_book.proofs.StartChanged.{point-kept, start-changed, start-kept, start-settled, window-counted}
 use Rattle.pw_book.proofs.window.change_start.Goals as goal
 

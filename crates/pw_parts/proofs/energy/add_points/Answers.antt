@@ -3,7 +3,7 @@ use Rattle.std.specs.Slice.Iter.{windows_rest, windows_size}
 use Rattle.pw_model.specs.declared.records.TotalKey.{TotalKey}
 use Rattle.pw_model.specs.Lists.{IsInOrder}
 use Rattle.pw_model.proofs.Places.{rising-drop}
-use Rattle.pw_parts.specs.inner.Counted.{by_second}
+use Rattle.pw_model.specs.Seconds.{by_second}
 use Rattle.pw_parts.specs.inner.Given.{pairs_given}
 use Rattle.pw_parts.specs.inner.Totals.{total_in}
 use Rattle.pw_parts.proofs.Spread.{IsWindow, window, pairs-none, pair-earlier, pair-room, pair-next}

@@ -2,7 +2,7 @@ use Rattle.std.proofs.Common.{◌≡◌, ◌+◌}
 use Rattle.std.specs.Slice.Iter.{windows_rest, windows_size}
 use Rattle.pw_model.specs.declared.records.TotalKey.{TotalKey}
 use Rattle.pw_model.specs.Lists.{IsInOrder}
-use Rattle.pw_parts.specs.inner.Counted.{by_second}
+use Rattle.pw_model.specs.Seconds.{by_second}
 use Rattle.pw_parts.specs.inner.Given.{pairs_given}
 use Rattle.pw_parts.specs.inner.Totals.{total_in}
 use Rattle.pw_parts.proofs.energy.add_points.Given as goal

@@ -1,4 +1,5 @@
 use Rattle.std.proofs.Common.{◌≡◌, ℕ, ◌<◌, List, sym, ◌∙◌, subst}
+use Rattle.pw_model.specs.Kinds.{IsAssignment, IsReading}
 use Rattle.pw_model.specs.declared.records.Entry.{Entry}
 use Rattle.pw_model.specs.declared.records.TotalKey.{TotalKey}
 use Rattle.pw_model.specs.Counting.{Counts}
@@ -6,7 +7,7 @@ use Rattle.pw_model.specs.Lists.{Lists}
 use Rattle.pw_model.specs.Same.{entry_order}
 use Rattle.pw_model.specs.Shelf.{total_among}
 use Rattle.pw_tariff.specs.Office.{office_of}
-use Rattle.pw_parts.specs.Parts.{IsAssignment, IsReading, by_key, by_total}
+use Rattle.pw_parts.specs.Parts.{by_key, by_total}
 use Rattle.pw_parts.proofs.Parted.{within-office}
 use Rattle.pw_parts.proofs.Whole.{are-counted, kind-listed, lists-alike, totals-same}
 use Rattle.pw_parts.proofs.parts.true_parts.Goals as goal

@@ -1,5 +1,5 @@
 use Rattle.std.proofs.Common.{◌*◌, arith}
-use Rattle.pw_parts.specs.Parts.{IsAssignment}
+use Rattle.pw_model.specs.Kinds.{IsAssignment}
 use Rattle.pw_parts.proofs.Parted.{kind-between, assignments-between}
 use Rattle.pw_parts.proofs.places.assignments_among.Goals as goal
 

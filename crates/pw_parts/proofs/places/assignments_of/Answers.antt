@@ -1,5 +1,5 @@
 use Rattle.std.proofs.Common.{◌+◌, ◌*◌, arith}
-use Rattle.pw_parts.specs.inner.Kinds.{IsAssignmentOf}
+use Rattle.pw_model.specs.Kinds.{IsAssignmentOf}
 use Rattle.pw_parts.proofs.Parted.{kind-between, meter-between}
 use Rattle.pw_parts.proofs.places.assignments_of.Goals as goal
 

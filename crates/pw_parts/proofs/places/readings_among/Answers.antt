@@ -1,5 +1,5 @@
 use Rattle.std.proofs.Common.{◌*◌, arith}
-use Rattle.pw_parts.specs.Parts.{IsReading}
+use Rattle.pw_model.specs.Kinds.{IsReading}
 use Rattle.pw_parts.proofs.Parted.{kind-between, readings-between}
 use Rattle.pw_parts.proofs.places.readings_among.Goals as goal
 

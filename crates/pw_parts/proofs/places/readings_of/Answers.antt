@@ -1,6 +1,6 @@
 use Rattle.std.proofs.Common.{◌+◌, ◌*◌, arith}
 use Rattle.pw_tariff.specs.Office.{register_place}
-use Rattle.pw_parts.specs.inner.Kinds.{IsReadingOf}
+use Rattle.pw_model.specs.Kinds.{IsReadingOf}
 use Rattle.pw_parts.proofs.Parted.{kind-between, register-between}
 use Rattle.pw_parts.proofs.places.readings_of.Goals as goal
 

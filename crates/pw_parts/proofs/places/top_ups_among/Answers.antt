@@ -1,5 +1,5 @@
 use Rattle.std.proofs.Common.{◌+◌, ◌*◌, arith}
-use Rattle.pw_parts.specs.inner.Kinds.{IsTopUp}
+use Rattle.pw_model.specs.Kinds.{IsTopUp}
 use Rattle.pw_parts.proofs.Parted.{kind-between, top-ups-between}
 use Rattle.pw_parts.proofs.places.top_ups_among.Goals as goal
 

@@ -1,12 +1,12 @@
 use Rattle.std.proofs.Common.{refl, ap, sym, ◌∙◌}
-use Rattle.pw_model.specs.Counting.{contents_at, contents_among, joined}
+use Rattle.pw_model.specs.Counting.{standing, contents_at, contents_among, joined}
 use Rattle.pw_model.proofs.Places.{at-told, take-all}
 use Rattle.pw_model.proofs.Found.{contents-next}
 use Rattle.pw_model.proofs.plain.search.contents_at.Goals as goal
 use Rattle.pw_model.proofs.plain.search.contents_at.Goals.{then-is_same_key, else-is_same_key}
 
 pub loop-entry-init : goal.loop-entry-init
-unfolding contents_at contents_among
+unfolding contents_at contents_among standing
 loop-entry-init c = refl
 
 pub loop-entry-preserved : goal.loop-entry-preserved

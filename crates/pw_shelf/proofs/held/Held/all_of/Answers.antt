@@ -6,7 +6,7 @@ use Rattle.std.specs.BTreeMap.Range.{range_contains}
 use Rattle.std.proofs.lemmas.Map.Iter.{iter_end}
 use Rattle.pw_model.specs.declared.records.Entry.{Entry}
 use Rattle.pw_shelf.specs.inner.Kinds.{IsOfKind, lowest_key}
-use Rattle.pw_shelf.specs.Rows.{ListsHeld}
+use Rattle.pw_model.specs.Kinds.{ListsHeld}
 use Rattle.pw_shelf.proofs.InOrder.{order}
 use Rattle.pw_shelf.proofs.AtKey.{from}
 use Rattle.pw_shelf.proofs.Listing.{split, turn-take}

@@ -4,7 +4,7 @@ use Rattle.pw_tariff.specs.declared.ids.AccountId.{AccountId}
 use Rattle.pw_tariff.specs.declared.ids.MeterId.{MeterId}
 use Rattle.pw_time.specs.declared.instant.TheConstants.{FIRST_SECOND, LAST_SECOND}
 use Rattle.pw_shelf.specs.Orders.{start_order}
-use Rattle.pw_shelf.specs.Seconds.{ListsSeconds}
+use Rattle.pw_model.specs.Seconds.{ListsSeconds}
 use Rattle.pw_shelf.specs.Standing.{start_now}
 use Rattle.pw_shelf.specs.inner.Table.{rows_between}
 use Rattle.pw_shelf.proofs.Within.{starts-all}

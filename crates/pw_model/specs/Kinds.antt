@@ -1,4 +1,4 @@
--- Which records a list has. It serves the proofs.
+-- The records of a kind in a list, told by their keys.
 -- (Definitions of this project.)
 use Rattle.std.specs.Prelude.{◌≡◌, List}
 use Rattle.pw_obis.specs.declared.reference.Register.{Register}
@@ -10,12 +10,22 @@ use Rattle.pw_model.specs.Counting.{Member}
 use Rattle.pw_model.specs.Lists.{Lists}
 use Rattle.pw_model.specs.Same.{entry_order}
 
--- the key of a reading of the register
+-- the key of a reading
+abbrev pub IsReading : Key → Type 0
+IsReading (key.Reading m r t) = Unit {0}
+IsReading _ = ⊥
+
+-- that of a reading of the register
 abbrev pub IsReadingOf : MeterId → Register → Key → Type 0
 IsReadingOf m r (key.Reading n s t) = (n ≡ m) × (s ≡ r)
 IsReadingOf m r _ = ⊥
 
--- the key of an assignment of the meter
+-- the key of an assignment
+abbrev pub IsAssignment : Key → Type 0
+IsAssignment (key.Assignment m t) = Unit {0}
+IsAssignment _ = ⊥
+
+-- that of an assignment of the meter
 abbrev pub IsAssignmentOf : MeterId → Key → Type 0
 IsAssignmentOf m (key.Assignment n t) = n ≡ m
 IsAssignmentOf m _ = ⊥

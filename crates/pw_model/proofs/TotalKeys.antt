@@ -10,10 +10,9 @@ use Rattle.pw_tariff.specs.declared.ids.Direction.{Direction}
 use Rattle.pw_tariff.specs.declared.ids.Direction.TheVariants.{Import, Export}
 use Rattle.pw_model.specs.declared.records.TotalKey.{TotalKey}
 use Rattle.pw_model.specs.declared.records.TotalKey.TheVariants.{Energy, TopUps}
-use Rattle.pw_model.specs.Same.{total_numbers, direction_place, same_direction}
+use Rattle.pw_model.specs.Same.{total_numbers, direction_place, same_direction, same_total}
 use Rattle.pw_model.proofs.InKeyOrder.{totals-ordered}
-use Rattle.pw_parts.specs.inner.Totals.{total_key_order}
-use Rattle.pw_shelf.specs.Changes.{same_total}
+use Rattle.pw_model.specs.contracts.records.TotalKeyOrd.TheImpl as derived_total
 
 abbrev account : ℕ → AccountId
 account n = record { 0 = n }
@@ -60,5 +59,5 @@ pub total-itself : (k : TotalKey) → same_total k k ≡ true
 total-itself k = (same_total-decides k k).1 refl
 
 -- and so does the order of the program's maps
-pub total-tested : (k l : TotalKey) → is_eq (total_key_order k l) ≡ same_total k l
+pub total-tested : (k l : TotalKey) → is_eq (derived_total.ghosts.cmp k l) ≡ same_total k l
 total-tested k l = ap is_eq (totals-ordered k l) ∙ sym (texts_ties (total_numbers k) (total_numbers l))
