@@ -16,7 +16,7 @@ use Rattle.pw_schema.specs.declared.kept.KeptTotals.{KeptTotals}
 use Rattle.pw_schema.specs.Judges.{HasCompared, HasSummed, IsRest, is_above_zero}
 use Rattle.pw_schema.specs.Judging.{IsRecord, IsTotal, by_key, by_total, told_total}
 use Rattle.pw_schema.specs.Rows.{told}
-use Rattle.pw_schema.proofs.Judged.{all_push}
+use Rattle.pw_schema.proofs.Pushed.{all_push}
 use Rattle.pw_schema.proofs.Keyed.{key_push, some_mapped, told_on}
 use Rattle.pw_schema.proofs.TotalKeys.{totals_one}
 

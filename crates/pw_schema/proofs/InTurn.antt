@@ -1,50 +1,22 @@
 -- Rows that are read one by one.
-use Rattle.std.proofs.Common.{◌≡◌, ◌<◌, ◌+◌, ℕ, List, [], ◌∷◌, ◌++◌, map, length, take, drop, get_or, Option, Some, None, Bool, true, IsTrue, refl, sym, ap, subst, ◌∙◌, inl, inr, IfSome}
-use Rattle.std.specs.List.{AllByRecursion}
+use Rattle.std.proofs.Common.{◌≡◌, ◌<◌, ◌+◌, ℕ, List, [], ◌∷◌, ◌++◌, map, length, take, drop, get_or, Option, Some, None, Bool, true, IsTrue, sym, ap, subst, ◌∙◌, IfSome}
 use Rattle.std.proofs.lemmas.List.{map-append, take_more, take-append-drop}
 use Rattle.std.specs.declared.cmp.Ordering.TheVariants.{Less}
 use Rattle.sqlite.specs.Order.{Row}
 use Rattle.pw_model.specs.declared.records.Entry.{Entry}
 use Rattle.pw_model.specs.Same.{entry_order}
-use Rattle.pw_model.specs.Counting.{Member}
-use Rattle.pw_model.specs.Lists.{IsInOrder, IsBeforeAll}
+use Rattle.pw_model.specs.Lists.{IsInOrder}
 use Rattle.pw_model.proofs.EntryOrder.{entry-total}
 use Rattle.pw_schema.specs.declared.kind.RecordKind.{RecordKind}
 use Rattle.pw_schema.specs.Judges.{IsLast}
 use Rattle.pw_schema.specs.Rows.{told, Tells, ReadsRows}
-
-all_push : {X : Type 0} (P : X → Type 0) (x : X) (xs : List X) → AllByRecursion P xs → P x → AllByRecursion P (xs ++ x ∷ [])
-all_push P x [] all one = (one, tt)
-all_push P x (y ∷ xs) all one = (all.0, all_push P x xs all.1 one)
-
--- what stands behind the last stands behind all
-all_before : (last : Option Entry) (xs : List Entry) (e : Entry) → IsInOrder entry_order xs → IsLast last xs → IfSome last (λ l. entry_order l e ≡ Less) → (x : Entry) → Member x xs → entry_order x e ≡ Less
-all_before None xs e rising is h x m = absurd (subst (Member x) is m)
-all_before (Some l) xs e rising is h x m = go is.0 (subst (IsInOrder entry_order) is.1 rising) (subst (Member x) is.1 m)
-  where
-    go : (front : List Entry) → IsInOrder entry_order (front ++ l ∷ []) → Member x (front ++ l ∷ []) → entry_order x e ≡ Less
-    go [] r (inl i) = subst (λ y. entry_order y e ≡ Less) (sym i) h
-    go [] r (inr n) = absurd n
-    go (z ∷ front) r (inl i) = subst (λ y. entry_order y e ≡ Less) (sym i) (entry-total.trans z l e (ends front r.0) h)
-      where
-        ends : (ys : List Entry) → IsBeforeAll entry_order z (ys ++ l ∷ []) → entry_order z l ≡ Less
-        ends [] b = b.0
-        ends (y ∷ ys) b = ends ys b.1
-    go (z ∷ front) r (inr n) = go front r.1 n
-
-before_push : (x e : Entry) (xs : List Entry) → IsBeforeAll entry_order x xs → entry_order x e ≡ Less → IsBeforeAll entry_order x (xs ++ e ∷ [])
-before_push x e [] h l = (l, tt)
-before_push x e (z ∷ xs) h l = (h.0, before_push x e xs h.1 l)
-
-rising_push : (e : Entry) (xs : List Entry) → IsInOrder entry_order xs → ((x : Entry) → Member x xs → entry_order x e ≡ Less) → IsInOrder entry_order (xs ++ e ∷ [])
-rising_push e [] h l = (tt, tt)
-rising_push e (z ∷ xs) h l = (before_push z e xs h.0 (l z (inl refl)), rising_push e xs h.1 (λ x m. l x (inr m)))
+use Rattle.pw_schema.proofs.Pushed.{all_push, behind_push}
 
 pub read_push : (k : RecordKind) (rows : List Row) (found : List Entry) (last : Option Entry) (row : Row) (e : Entry) → ReadsRows k rows found → IsLast last found → Tells k row → e ≡ told k row → IfSome last (λ l. entry_order l e ≡ Less) → ReadsRows k (rows ++ row ∷ []) (found ++ e ∷ [])
 read_push k rows found last row e so is kind one behind = record {
   are = ap (λ xs. xs ++ e ∷ []) so.are ∙ ap (λ x. map (told k) rows ++ x ∷ []) one ∙ sym (map-append (told k) rows (row ∷ []));
   kinds = all_push (Tells k) row rows so.kinds kind;
-  rising = rising_push e found so.rising (all_before last found e so.rising is behind);
+  rising = behind_push entry_order entry-total.trans last found e so.rising is behind;
 }
 
 pub turned : {X : Type 0} (xs : List X) (i : ℕ) (x : X) → i < length xs → x ≡ get_or xs i x → take (i + 1) xs ≡ take i xs ++ x ∷ []

@@ -6,11 +6,12 @@ use Rattle.std.proofs.lemmas.Cmp.{tied_itself}
 use Rattle.std.specs.declared.cmp.Ordering.TheVariants.{Less}
 use Rattle.sqlite.specs.Order.{Row}
 use Rattle.pw_model.specs.Counting.{Member, EachOnce}
-use Rattle.pw_model.specs.Lists.{IsInOrder, IsBeforeAll}
+use Rattle.pw_model.specs.Lists.{IsInOrder}
 use Rattle.pw_model.proofs.EntryOrder.{numbers-tie}
 use Rattle.pw_model.proofs.InOrder.{before-member}
 use Rattle.pw_schema.specs.Judges.{IsLastKey}
 use Rattle.pw_schema.proofs.OneByOne.{once_mid}
+use Rattle.pw_schema.proofs.Pushed.{first_push, last_push}
 
 module _ {X K : Type 0} (f : X → K) (num : K → List ℕ) (one : (k l : K) → num k ≡ num l → k ≡ l) where
   abbrev order : X → X → Ordering
@@ -19,28 +20,12 @@ module _ {X K : Type 0} (f : X → K) (num : K → List ℕ) (one : (k l : K) �
   apart : (x y : X) → order x y ≡ Less → f x ≡ f y → ⊥
   apart x y less same = let tie : order x y ≡ Equal = ap (λ k. slice_cmp nat_cmp (num (f x)) (num k)) (sym same) ∙ tied_itself nat_list_cmp_total (num (f x)) in cc
 
-  ends : (z l : X) (front : List X) → IsBeforeAll order z (front ++ l ∷ []) → order z l ≡ Less
-  ends z l [] b = b.0
-  ends z l (y ∷ front) b = ends z l front b.1
-
-  all_before : (front : List X) (l e : X) → IsInOrder order (front ++ l ∷ []) → order l e ≡ Less → (x : X) → Member x (front ++ l ∷ []) → order x e ≡ Less
-  all_before [] l e r h x (inl i) = subst (λ y. order y e ≡ Less) (sym i) h
-  all_before [] l e r h x (inr n) = absurd n
-  all_before (z ∷ front) l e r h x (inl i) = subst (λ y. order y e ≡ Less) (sym i) (nat_list_cmp_total.trans (num (f z)) (num (f l)) (num (f e)) (ends z l front r.0) h)
-  all_before (z ∷ front) l e r h x (inr n) = all_before front l e r.1 h x n
-
-  before_push : (x e : X) (xs : List X) → IsBeforeAll order x xs → order x e ≡ Less → IsBeforeAll order x (xs ++ e ∷ [])
-  before_push x e [] h l = (l, tt)
-  before_push x e (z ∷ xs) h l = (h.0, before_push x e xs h.1 l)
-
-  rising_push : (e : X) (xs : List X) → IsInOrder order xs → ((x : X) → Member x xs → order x e ≡ Less) → IsInOrder order (xs ++ e ∷ [])
-  rising_push e [] h l = (tt, tt)
-  rising_push e (z ∷ xs) h l = (before_push z e xs h.0 (l z (inl refl)), rising_push e xs h.1 (λ x m. l x (inr m)))
+  after : (x y z : X) → order x y ≡ Less → order y z ≡ Less → order x z ≡ Less
+  after x y z = nat_list_cmp_total.trans (num (f x)) (num (f y)) (num (f z))
 
   pub key_push : (last : Option K) (found : List X) (e : X) → IsInOrder order found → IsLastKey f last found → IfSome last (λ l. slice_cmp nat_cmp (num l) (num (f e)) ≡ Less) → IsInOrder order (found ++ e ∷ [])
-  key_push None found e rising is low = subst (λ xs. IsInOrder order (xs ++ e ∷ [])) (sym is) (tt, tt)
-  key_push (Some k) found e rising is low =
-      rising_push e found rising (λ x m. all_before is.0 is.1 e (subst (IsInOrder order) is.3 rising) (subst (λ j. slice_cmp nat_cmp (num j) (num (f e)) ≡ Less) (sym is.2) low) x (subst (Member x) is.3 m))
+  key_push None found e rising is low = first_push order after found e is
+  key_push (Some k) found e rising is low = last_push order after found is.0 is.1 e is.3 rising (subst (λ j. slice_cmp nat_cmp (num j) (num (f e)) ≡ Less) (sym is.2) low)
 
   keys_member : (x : X) (xs : List X) → Member (f x) (map f xs) → (y : X) × Member y xs × (f x ≡ f y)
   keys_member x [] m = absurd m
@@ -58,6 +43,10 @@ module _ {X K : Type 0} (f : X → K) (num : K → List ℕ) (one : (k l : K) �
   member_key [] x = inl refl
   member_key (y ∷ front) x = inr (member_key front x)
 
+  twice : (told : Row → X) (rs : List Row) → map f (map told rs) ≡ map (λ r. f (told r)) rs
+  twice told [] = refl
+  twice told (r ∷ rs) = ap (λ xs. f (told r) ∷ xs) (twice told rs)
+
   -- the key of the last that was read stands there again
   pub key_twice : (told : Row → X) (rows tail : List Row) (row : Row) (last : Option K) (e : X) → IsLastKey f last (map told rows) → e ≡ told row
       → IfSome last (λ l. slice_cmp nat_cmp (num l) (num (f e)) ≡ Equal) → IfNone last (Equal ≡ Less) → EachOnce (map (λ r. f (told r)) (rows ++ row ∷ tail)) → ⊥
@@ -67,17 +56,9 @@ module _ {X K : Type 0} (f : X → K) (num : K → List ℕ) (one : (k l : K) �
       let there : Member (f ends_at.1) (map f (map told rows)) = subst (λ xs. Member (f ends_at.1) (map f xs)) (sym ends_at.3) (member_key ends_at.0 ends_at.1) in
       let here : Member (f (told row)) (map f (map told rows)) = subst (λ j. Member j (map f (map told rows))) (ends_at.2 ∙ same) there in
       once_mid (λ r. f (told r)) row rows tail once (subst (Member (f (told row))) (twice told rows) here)
-    where
-      twice : (told : Row → X) (rs : List Row) → map f (map told rs) ≡ map (λ r. f (told r)) rs
-      twice told [] = refl
-      twice told (r ∷ rs) = ap (λ xs. f (told r) ∷ xs) (twice told rs)
 
   pub keys_told : (told : Row → X) (rows : List Row) (found : List X) → found ≡ map told rows → IsInOrder order found → EachOnce (map (λ r. f (told r)) rows)
   keys_told told rows found are rising = subst EachOnce (ap (map f) are ∙ twice told rows) (keys_once found rising)
-    where
-      twice : (told : Row → X) (rs : List Row) → map f (map told rs) ≡ map (λ r. f (told r)) rs
-      twice told [] = refl
-      twice told (r ∷ rs) = ap (λ xs. f (told r) ∷ xs) (twice told rs)
 
 pub told_on : {X : Type 0} (told : Row → X) (rows : List Row) (row : Row) → map told (rows ++ row ∷ []) ≡ map told rows ++ told row ∷ []
 told_on told rows row = map-append told rows (row ∷ [])

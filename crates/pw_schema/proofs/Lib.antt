@@ -1,6 +1,7 @@
 pub mod Outcomes
 pub mod ThreeTexts
 pub mod Steps
+pub mod Pushed
 pub mod InTurn
 pub mod Judged
 pub mod Creating

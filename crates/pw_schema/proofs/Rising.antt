@@ -1,40 +1,18 @@
 -- Rowids that are read one by one.
-use Rattle.std.proofs.Common.{◌≡◌, ◌++◌, ℤ, Bool, true, false, is_some, not, List, [], ◌∷◌, Option, Some, None, IfSome, refl, sym, ap, subst, ◌∙◌, inl, inr, Equal}
+use Rattle.std.proofs.Common.{◌≡◌, ◌++◌, ℤ, Bool, true, false, is_some, not, List, [], ◌∷◌, Option, Some, None, IfSome, refl, sym, ap, subst, ◌∙◌, Equal}
 use Rattle.std.proofs.lemmas.List.{map-append}
 use Rattle.std.specs.Ordering.{int_cmp}
 use Rattle.std.proofs.lemmas.Cmp.{int_cmp_total, tied_itself}
 use Rattle.std.specs.declared.cmp.Ordering.TheVariants.{Less}
 use Rattle.sqlite.specs.declared.types.Value.TheVariants.{Int}
 use Rattle.sqlite.specs.Order.{Row, column}
-use Rattle.pw_model.specs.Counting.{Member, EachOnce}
-use Rattle.pw_model.specs.Lists.{IsInOrder, IsBeforeAll}
+use Rattle.pw_model.specs.Counting.{EachOnce}
+use Rattle.pw_model.specs.Lists.{IsInOrder}
 use Rattle.pw_model.proofs.InOrder.{before-member}
 use Rattle.pw_schema.specs.Judging.{id_of}
-use Rattle.pw_schema.specs.Judges.{ids_in, IsLast, HasRisen}
+use Rattle.pw_schema.specs.Judges.{ids_in, HasRisen}
 use Rattle.pw_schema.specs.declared.rowids.Rowids.{Rowids}
-use Rattle.pw_schema.proofs.Judged.{all_push}
-
-ends : (z l : ℤ) (front : List ℤ) → IsBeforeAll int_cmp z (front ++ l ∷ []) → int_cmp z l ≡ Less
-ends z l [] b = b.0
-ends z l (y ∷ front) b = ends z l front b.1
-
-all_before : (front : List ℤ) (l e : ℤ) → IsInOrder int_cmp (front ++ l ∷ []) → int_cmp l e ≡ Less → (x : ℤ) → Member x (front ++ l ∷ []) → int_cmp x e ≡ Less
-all_before [] l e r h x (inl i) = subst (λ y. int_cmp y e ≡ Less) (sym i) h
-all_before [] l e r h x (inr n) = absurd n
-all_before (z ∷ front) l e r h x (inl i) = subst (λ y. int_cmp y e ≡ Less) (sym i) (int_cmp_total.trans z l e (ends z l front r.0) h)
-all_before (z ∷ front) l e r h x (inr n) = all_before front l e r.1 h x n
-
-before_push : (x e : ℤ) (xs : List ℤ) → IsBeforeAll int_cmp x xs → int_cmp x e ≡ Less → IsBeforeAll int_cmp x (xs ++ e ∷ [])
-before_push x e [] h l = (l, tt)
-before_push x e (z ∷ xs) h l = (h.0, before_push x e xs h.1 l)
-
-rising_push : (e : ℤ) (xs : List ℤ) → IsInOrder int_cmp xs → ((x : ℤ) → Member x xs → int_cmp x e ≡ Less) → IsInOrder int_cmp (xs ++ e ∷ [])
-rising_push e [] h l = (tt, tt)
-rising_push e (z ∷ xs) h l = (before_push z e xs h.0 (l z (inl refl)), rising_push e xs h.1 (λ x m. l x (inr m)))
-
-pub id_push : (last : Option ℤ) (xs : List ℤ) (e : ℤ) → IsInOrder int_cmp xs → IsLast last xs → IfSome last (λ l. int_cmp l e ≡ Less) → IsInOrder int_cmp (xs ++ e ∷ [])
-id_push None xs e rising is low = subst (λ ys. IsInOrder int_cmp (ys ++ e ∷ [])) (sym is) (tt, tt)
-id_push (Some l) xs e rising is low = rising_push e xs rising (λ x m. all_before is.0 l e (subst (IsInOrder int_cmp) is.1 rising) low x (subst (Member x) is.1 m))
+use Rattle.pw_schema.proofs.Pushed.{all_push, behind_push}
 
 pub ids_push : (rows more : List Row) (row : Row) (e : ℤ) → e ≡ id_of (column row 0) → more ≡ rows ++ row ∷ [] → ids_in more ≡ ids_in rows ++ e ∷ []
 ids_push rows more row e one is = ap ids_in is ∙ map-append (λ r. id_of (column r 0)) rows (row ∷ []) ∙ ap (λ x. ids_in rows ++ x ∷ []) (sym one)
@@ -55,7 +33,7 @@ rises first old None rows row some so shown above = absurd (some refl)
 rises first old (Some id) rows row some so shown above =
     let one : id_of (column row 0) ≡ id = ap id_of shown in
     let ids = ids_push rows (rows ++ row ∷ []) row id (sym one) refl in
-    let rising = subst (IsInOrder int_cmp) (sym ids) (id_push old.last (ids_in rows) id so.rising so.behind above) in record {
+    let rising = subst (IsInOrder int_cmp) (sym ids) (behind_push int_cmp int_cmp_total.trans old.last (ids_in rows) id so.rising so.behind above) in record {
       are = record { each = all_push IsIdRow row rows so.are.each (shown ∙ ap Int (sym one)); once = ids_once _ rising };
       rising = rising;
       behind = (ids_in rows, ids);

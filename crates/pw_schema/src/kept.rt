@@ -6,7 +6,7 @@ ghost use Rattle.std.specs.declared.cmp.Ordering.TheVariants.{Less};
 ghost use Rattle.pw_model.specs.Same.{key_order, total_order};
 ghost use Rattle.pw_schema.specs.Judges.{HasCompared, HasSummed, IsRest, is_above_zero};
 
-use crate::judge::{Judge, JudgeFault};
+use crate::judge::{Judge, JudgeFault, see_behind};
 use crate::judging::{record_in, total_in};
 use crate::kind::{RecordKind, TotalKind};
 use pw_model::{Entry, TotalKey, compare_keys, compare_totals};
@@ -165,11 +165,7 @@ impl Judge for KeptEntries<'_> {
         let Some(entry) = record_in(self.office, self.kind, row) else {
             return Err(JudgeFault::Foreign);
         };
-        match place_of_key(&self.last, &entry) {
-            Ordering::Less => {}
-            Ordering::Equal => return Err(JudgeFault::Foreign),
-            Ordering::Greater => return Err(JudgeFault::Unordered),
-        }
+        see_behind(place_of_key(&self.last, &entry))?;
         self.rest = behind_entry(self.rest, &entry);
         self.last = Some(entry);
         Ok(())
@@ -189,11 +185,7 @@ impl Judge for KeptTotals<'_> {
             return Err(JudgeFault::Foreign);
         };
         let key = total.0;
-        match place_of_total(&self.last, &key) {
-            Ordering::Less => {}
-            Ordering::Equal => return Err(JudgeFault::Foreign),
-            Ordering::Greater => return Err(JudgeFault::Unordered),
-        }
+        see_behind(place_of_total(&self.last, &key))?;
         self.rest = behind_total(self.rest, &total);
         self.last = Some(key);
         Ok(())

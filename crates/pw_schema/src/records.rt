@@ -5,7 +5,7 @@ ghost use Rattle.std.specs.declared.cmp.Ordering.TheVariants.{Less};
 ghost use Rattle.pw_model.specs.Same.{entry_order};
 ghost use Rattle.pw_schema.specs.Judges.{HasRead};
 
-use crate::judge::{Judge, JudgeFault};
+use crate::judge::{Judge, JudgeFault, see_behind};
 use crate::judging::record_in;
 use crate::kind::RecordKind;
 use pw_model::{Entry, compare_entries};
@@ -69,11 +69,7 @@ impl Judge for Records<'_> {
         let Some(entry) = record_in(self.office, self.kind, row) else {
             return Err(JudgeFault::Foreign);
         };
-        match place_of(&self.last, &entry) {
-            Ordering::Less => {}
-            Ordering::Equal => return Err(JudgeFault::Foreign),
-            Ordering::Greater => return Err(JudgeFault::Unordered),
-        }
+        see_behind(place_of(&self.last, &entry))?;
         match self.found.push(entry) {
             Ok(()) => {}
             Err(_) => return Err(JudgeFault::Memory),
