@@ -1,3 +1,4 @@
 pub mod Stages
 pub mod Checks
 pub mod Listed
+pub mod Told

@@ -7,6 +7,7 @@ ghost use Rattle.pw_model.specs.Office.{IsOffice};
 ghost use Rattle.pw_model.specs.Same.{entry_order};
 ghost use Rattle.pw_schema.specs.Judging.{AreInOrder, IsRecord};
 ghost use Rattle.pw_schema.specs.Rows.{ReadsRows, Tells, contents_of, told, told_content};
+ghost use Rattle.pw_schema.specs.inner.Told.{ReadsEntry};
 
 use crate::cells::{
     account_at, instant_at, meter_at, number_at, owner_at, reference_at, register_at, wh_at,
@@ -49,9 +50,7 @@ impl<T: Drop> From<AllocFailed<T>> for ReadFault {
 }
 
 fn reading_of(row: &Row) -> Option<Entry>
-    ensures told { IfSome result (λ entry. entry ≡ told RecordKind.Readings row.now) }
-    ensures kinds { IfSome result (λ entry. Tells RecordKind.Readings row.now) }
-    ensures none { IfNone result ((office : OfficeRules) → IsOffice office → IsRecord office RecordKind.Readings row.now → ⊥) }
+    ensures { ReadsEntry RecordKind.Readings row.now result }
 {
     let meter = meter_at(row, 0)?;
     let register = register_at(row, 1)?;
@@ -68,9 +67,7 @@ fn reading_of(row: &Row) -> Option<Entry>
 }
 
 fn assignment_of(row: &Row) -> Option<Entry>
-    ensures told { IfSome result (λ entry. entry ≡ told RecordKind.Assignments row.now) }
-    ensures kinds { IfSome result (λ entry. Tells RecordKind.Assignments row.now) }
-    ensures none { IfNone result ((office : OfficeRules) → IsOffice office → IsRecord office RecordKind.Assignments row.now → ⊥) }
+    ensures { ReadsEntry RecordKind.Assignments row.now result }
 {
     let meter = meter_at(row, 0)?;
     let start = instant_at(row, 1)?;
@@ -82,9 +79,7 @@ fn assignment_of(row: &Row) -> Option<Entry>
 }
 
 fn topup_of(row: &Row) -> Option<Entry>
-    ensures told { IfSome result (λ entry. entry ≡ told RecordKind.TopUps row.now) }
-    ensures kinds { IfSome result (λ entry. Tells RecordKind.TopUps row.now) }
-    ensures none { IfNone result ((office : OfficeRules) → IsOffice office → IsRecord office RecordKind.TopUps row.now → ⊥) }
+    ensures { ReadsEntry RecordKind.TopUps row.now result }
 {
     let reference = reference_at(row, 0)?;
     let account = account_at(row, 1)?;

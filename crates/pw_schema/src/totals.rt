@@ -5,6 +5,7 @@ ghost use Rattle.pw_tariff.specs.Office.{OfficeRules};
 ghost use Rattle.pw_model.specs.Office.{IsOffice};
 ghost use Rattle.pw_schema.specs.Judging.{IsTotal};
 ghost use Rattle.pw_schema.specs.Rows.{TellsTotal, told_amount, told_key};
+ghost use Rattle.pw_schema.specs.inner.Told.{ReadsTotal};
 
 use crate::cells::{account_at, amount_at, band_at, direction_at, owner_at};
 use crate::kind::TotalKind;
@@ -12,9 +13,7 @@ use pw_model::TotalKey;
 use sqlite::Row;
 
 fn energy_of(row: &Row) -> Option<(TotalKey, u64)>
-    ensures told { IfSome result (λ total. (total.0 ≡ told_key TotalKind.Energies row.now) × (total.1 ≡ told_amount TotalKind.Energies row.now)) }
-    ensures kinds { IfSome result (λ total. TellsTotal TotalKind.Energies row.now) }
-    ensures none { IfNone result ((office : OfficeRules) → IsOffice office → IsTotal office TotalKind.Energies row.now → ⊥) }
+    ensures { ReadsTotal TotalKind.Energies row.now result }
 {
     let owner = owner_at(row, 0)?;
     let band = band_at(row, 1)?;
@@ -31,9 +30,7 @@ fn energy_of(row: &Row) -> Option<(TotalKey, u64)>
 }
 
 fn payments_of(row: &Row) -> Option<(TotalKey, u64)>
-    ensures told { IfSome result (λ total. (total.0 ≡ told_key TotalKind.Payments row.now) × (total.1 ≡ told_amount TotalKind.Payments row.now)) }
-    ensures kinds { IfSome result (λ total. TellsTotal TotalKind.Payments row.now) }
-    ensures none { IfNone result ((office : OfficeRules) → IsOffice office → IsTotal office TotalKind.Payments row.now → ⊥) }
+    ensures { ReadsTotal TotalKind.Payments row.now result }
 {
     let account = account_at(row, 0)?;
     let amount = amount_at(row, 1)?;
