@@ -6,7 +6,8 @@ use Rattle.sqlite.specs.Clock.{timed}
 use Rattle.sqlite.specs.declared.error.Error.{Error}
 use Rattle.sqlite.specs.State.{State, HasCleanDisk, Shown, ShowsRows, IsUnchanged, IsRolledBack, Survives, CommitsShowing, FailsToQuery}
 use Rattle.sqlite.proofs.Callers.{IsPlain}
-use Rattle.pw_schema.proofs.Outcomes.{fails_query, read_survives}
+use Rattle.pw_schema.specs.Calls.{Asks}
+use Rattle.pw_schema.proofs.Outcomes.{early, fails_query, read_survives}
 
 -- the connection is as it was after a query
 pub stays : (sql : List ℕ) (params : Row) (old new : State) (rows : List Row) → IsPlain (understood old.now.schema sql) → Shown sql params old new rows → IsUnchanged old new
@@ -26,3 +27,11 @@ module _ (sql : List ℕ) (params : Row) (old new : State) where
 
   pub survives_if : (HasCleanDisk old → IsPlain (understood old.now.schema sql)) → Survives old new (CommitsShowing sql params old) → Survives old new (λ _. ⊥)
   survives_if plain s = read_survives old new sql params plain s
+
+  -- all that a query leaves
+  pub asks_if : {Z : Type 0} (r : Result (Vec Row Z) Error) → (HasCleanDisk old → IsPlain (understood old.now.schema sql)) → (HasCleanDisk new → IfOk r (λ rows. Shown sql params old new rows.items)) → (HasCleanDisk new → IfErr r (FailsToQuery sql params old new)) → Survives old new (CommitsShowing sql params old) → Asks r old new
+  asks_if r plain ok err s = record {
+    same = λ clean. stays_if r (plain (early old new s clean)) (ok clean);
+    failed = λ clean. fails_if r (plain (early old new s clean)) (err clean);
+    crash = survives_if plain s;
+  }

@@ -1,11 +1,12 @@
 //! Whether the texts of a file's objects say what becomes of a row that breaks a rule.
 
-ghost use Rattle.std.specs.Prelude.{◌≡◌, ◌⊎◌, ◌↔◌, IfOk, IsTrue, OnErr, OnOk, codes, false};
+ghost use Rattle.std.specs.Prelude.{◌≡◌, ◌↔◌, IfOk, IsTrue, codes, false};
 ghost use Rattle.std.specs.List.{AllByRecursion};
 ghost use Rattle.sqlite.specs.Held.{state};
 ghost use Rattle.sqlite.specs.Order.{bytes, column};
-ghost use Rattle.sqlite.specs.State.{HasCleanDisk, IsRolledBack, IsUnchanged, KeepsCommit, Survives};
+ghost use Rattle.sqlite.specs.State.{HasCleanDisk};
 ghost use Rattle.sqlite_catalog.specs.Listing.{mentions};
+ghost use Rattle.pw_schema.specs.Calls.{Asks, Looks};
 ghost use Rattle.pw_schema.specs.Conflicts.{AreWithoutConflict, IsWithoutConflict};
 ghost use Rattle.pw_schema.specs.inner.Listed.{ShowsTexts};
 ghost use Rattle.pw_schema.specs.Tables.{IsOurs};
@@ -53,9 +54,7 @@ fn are_without_conflict(rows: &[Row]) -> bool
 fn text_rows<S: Alter>(conn: &mut Connection<S>) -> Result<Vec<Row>, Error>
     requires ours { HasCleanDisk (state S.Store conn.old) → IsOurs (state S.Store conn.old).now.schema }
     ensures rows { HasCleanDisk (state S.Store conn.new) → IfOk result (λ rows. ShowsTexts (state S.Store conn.old).now.trees rows.items) }
-    ensures same { HasCleanDisk (state S.Store conn.new) → OnOk result (IsUnchanged (state S.Store conn.old) (state S.Store conn.new)) }
-    ensures failed { HasCleanDisk (state S.Store conn.new) → OnErr result (IsUnchanged (state S.Store conn.old) (state S.Store conn.new) ⊎ IsRolledBack (state S.Store conn.old) (state S.Store conn.new)) }
-    ensures crash { Survives (state S.Store conn.old) (state S.Store conn.new) (λ _. ⊥) }
+    ensures asks { Asks result (state S.Store conn.old) (state S.Store conn.new) }
 {
     conn.query_all("SELECT sql FROM sqlite_schema", &[])
 }
@@ -64,9 +63,7 @@ fn text_rows<S: Alter>(conn: &mut Connection<S>) -> Result<Vec<Row>, Error>
 pub fn has_no_conflict<S: Alter>(conn: &mut Connection<S>) -> Result<bool, Error>
     requires ours { HasCleanDisk (state S.Store conn.old) → IsOurs (state S.Store conn.old).now.schema }
     ensures told { HasCleanDisk (state S.Store conn.new) → IfOk result (λ none. IsTrue none ↔ AreWithoutConflict (state S.Store conn.old).now.trees) }
-    ensures same { HasCleanDisk (state S.Store conn.new) → OnOk result (IsUnchanged (state S.Store conn.old) (state S.Store conn.new)) }
-    ensures kept { HasCleanDisk (state S.Store conn.new) → KeepsCommit (state S.Store conn.old) (state S.Store conn.new) }
-    ensures crash { Survives (state S.Store conn.old) (state S.Store conn.new) (λ _. ⊥) }
+    ensures looks { Looks result (state S.Store conn.old) (state S.Store conn.new) }
 {
     let rows = text_rows(conn)?;
     Ok(are_without_conflict(rows.as_slice()))

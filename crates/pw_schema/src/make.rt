@@ -3,7 +3,8 @@
 ghost use Rattle.std.specs.Prelude.{◌≡◌, OnErr, OnOk, IsTrue};
 ghost use Rattle.sqlite.specs.Effect.{IsDatabase};
 ghost use Rattle.sqlite.specs.Held.{state};
-ghost use Rattle.sqlite.specs.State.{HasCleanDisk, IsUnchanged, KeepsCommit, Shows, Survives};
+ghost use Rattle.sqlite.specs.State.{HasCleanDisk, KeepsCommit, Survives};
+ghost use Rattle.pw_schema.specs.Calls.{Looks};
 ghost use Rattle.pw_schema.specs.Conflicts.{AreWithoutConflict};
 ghost use Rattle.pw_schema.specs.Fresh.{AreNew, IsFresh, IsIdleAt, IsNew};
 ghost use Rattle.pw_schema.specs.Tables.{IsOurs, no_schema, only_one, ours_with};
@@ -56,9 +57,7 @@ fn put_office<S: Alter>(conn: &mut Connection<S>, body: &[u8]) -> Result<usize, 
 fn see_texts<S: Alter>(conn: &mut Connection<S>) -> Result<(), Error>
     requires { HasCleanDisk (state S.Store conn.old) → IsOurs (state S.Store conn.old).now.schema }
     ensures plain { HasCleanDisk (state S.Store conn.new) → OnOk result (AreWithoutConflict (state S.Store conn.new).now.trees) }
-    ensures same { HasCleanDisk (state S.Store conn.new) → OnOk result (IsUnchanged (state S.Store conn.old) (state S.Store conn.new)) }
-    ensures kept { HasCleanDisk (state S.Store conn.new) → KeepsCommit (state S.Store conn.old) (state S.Store conn.new) }
-    ensures crash { Survives (state S.Store conn.old) (state S.Store conn.new) (λ _. ⊥) }
+    ensures looks { Looks result (state S.Store conn.old) (state S.Store conn.new) }
 {
     if has_no_conflict(conn)? {
         Ok(())

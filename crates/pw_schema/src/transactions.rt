@@ -4,14 +4,14 @@ ghost use Rattle.std.specs.Prelude.{◌≡◌, ◌⊎◌, OnOk, OnErr, IsTrue, t
 ghost use Rattle.sqlite.specs.Held.{state};
 ghost use Rattle.sqlite.specs.Tree.{Trees};
 ghost use Rattle.sqlite.specs.State.{HasCleanDisk, IsUnchanged, IsRolledBack, Shows, Survives};
+ghost use Rattle.pw_schema.specs.Calls.{Writes};
 
 use sqlite::{Alter, Connection, Error};
 
 /// Begins a transaction.
 pub fn begin<S: Alter>(conn: &mut Connection<S>) -> Result<(), Error>
     ensures begun { HasCleanDisk (state S.Store conn.new) → OnOk result (Shows (state S.Store conn.old) (state S.Store conn.new) (state S.Store conn.old).now (state S.Store conn.old).committed true) }
-    ensures failed { HasCleanDisk (state S.Store conn.new) → OnErr result (IsUnchanged (state S.Store conn.old) (state S.Store conn.new) ⊎ IsRolledBack (state S.Store conn.old) (state S.Store conn.new)) }
-    ensures crash { Survives (state S.Store conn.old) (state S.Store conn.new) (λ _. ⊥) }
+    ensures writes { Writes result (state S.Store conn.old) (state S.Store conn.new) }
 {
     conn.execute("BEGIN", &[])?;
     Ok(())
@@ -32,8 +32,7 @@ pub fn commit<S: Alter>(conn: &mut Connection<S>) -> Result<(), Error>
 /// Undoes the transaction.
 pub fn roll_back<S: Alter>(conn: &mut Connection<S>) -> Result<(), Error>
     ensures undone { HasCleanDisk (state S.Store conn.new) → OnOk result (IsRolledBack (state S.Store conn.old) (state S.Store conn.new)) }
-    ensures failed { HasCleanDisk (state S.Store conn.new) → OnErr result (IsUnchanged (state S.Store conn.old) (state S.Store conn.new) ⊎ IsRolledBack (state S.Store conn.old) (state S.Store conn.new)) }
-    ensures crash { Survives (state S.Store conn.old) (state S.Store conn.new) (λ _. ⊥) }
+    ensures writes { Writes result (state S.Store conn.old) (state S.Store conn.new) }
 {
     conn.execute("ROLLBACK", &[])?;
     Ok(())

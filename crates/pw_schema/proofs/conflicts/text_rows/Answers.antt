@@ -5,7 +5,7 @@ use Rattle.pw_schema.specs.inner.Listed.{ShowsTexts}
 use Rattle.pw_schema.proofs.Conflicting.{if_ok}
 use Rattle.pw_schema.proofs.Listed.{texts_text, ours_plain, shows_texts}
 use Rattle.pw_schema.proofs.Outcomes.{early}
-use Rattle.pw_schema.proofs.Queries.{stays_if, fails_if, survives_if}
+use Rattle.pw_schema.proofs.Queries.{asks_if}
 use Rattle.pw_schema.proofs.conflicts.text_rows.Goals as goal
 
 pub returns-clause-rows : goal.returns-clause-rows
@@ -14,18 +14,6 @@ returns-clause-rows g c clean =
     let new = state g.S.Store c.query_all.new.self in
     if_ok (Shown texts_text [] old new) (ShowsTexts old.now.trees) (λ rows h. shows_texts old new rows (c.requires.ours (early old new c.query_all.ensures.survives clean)) h) c.query_all.result (c.query_all.ensures.ok clean)
 
-pub returns-clause-same : goal.returns-clause-same
-returns-clause-same g c clean =
-    let old = state g.S.Store c.args.conn.now in
-    let new = state g.S.Store c.query_all.new.self in
-    stays_if texts_text [] old new c.query_all.result (ours_plain _ (c.requires.ours (early old new c.query_all.ensures.survives clean))) (c.query_all.ensures.ok clean)
-
-pub returns-clause-failed : goal.returns-clause-failed
-returns-clause-failed g c clean =
-    let old = state g.S.Store c.args.conn.now in
-    let new = state g.S.Store c.query_all.new.self in
-    fails_if texts_text [] old new c.query_all.result (ours_plain _ (c.requires.ours (early old new c.query_all.ensures.survives clean))) (c.query_all.ensures.err clean)
-
-pub returns-clause-crash : goal.returns-clause-crash
-returns-clause-crash g c =
-    survives_if texts_text [] (state g.S.Store c.args.conn.now) (state g.S.Store c.query_all.new.self) (λ clean. ours_plain _ (c.requires.ours clean)) c.query_all.ensures.survives
+pub returns-clause-asks : goal.returns-clause-asks
+returns-clause-asks g c =
+    asks_if texts_text [] (state g.S.Store c.args.conn.now) (state g.S.Store c.query_all.new.self) c.query_all.result (λ clean. ours_plain _ (c.requires.ours clean)) c.query_all.ensures.ok c.query_all.ensures.err c.query_all.ensures.survives
