@@ -1,5 +1,5 @@
 -- Rowids that are read one by one.
-use Rattle.std.proofs.Common.{◌≡◌, ◌++◌, ℤ, Bool, true, false, is_some, not, List, [], ◌∷◌, Option, Some, None, IfSome, refl, sym, ap, subst, ◌∙◌, inl, inr, Equal}
+use Rattle.std.proofs.Common.{◌≡◌, ◌++◌, ℤ, Bool, true, false, is_some, not, List, [], ◌∷◌, Option, Some, None, IfSome, refl, sym, ap, subst, ◌∙◌, Equal}
 use Rattle.std.proofs.lemmas.List.{map-append}
 use Rattle.std.specs.Ordering.{int_cmp}
 use Rattle.std.proofs.lemmas.Cmp.{int_cmp_total, tied_itself}
@@ -10,7 +10,7 @@ use Rattle.pw_model.specs.Counting.{EachOnce}
 use Rattle.pw_model.specs.Lists.{IsInOrder}
 use Rattle.pw_model.proofs.InOrder.{before-member}
 use Rattle.pw_schema.specs.Judging.{id_of}
-use Rattle.pw_schema.specs.Judges.{ids_in, IsLast, HasRisen}
+use Rattle.pw_schema.specs.Judges.{ids_in, HasRisen}
 use Rattle.pw_schema.specs.declared.rowids.Rowids.{Rowids}
 use Rattle.pw_schema.proofs.Pushed.{all_push, behind_push}
 
