@@ -14,7 +14,6 @@ pub mod Rows
 pub mod Calls
 pub mod Memory
 -- and these where a file above names them:
--- Once: adding a record in an upload of its own
 -- Orders: the orders of the maps that a store in memory keeps
 -- Content: what a store in memory keeps, now, and when its upload began
 -- Standing: what its parts tell
@@ -22,7 +21,6 @@ pub mod Memory
 -- Table: what a map tells, some of whose keys an upload has changed
 -- Count: what a shelf that counts its calls knows
 -- Plan: when such a shelf fails
-pub mod Once
 pub mod Orders
 pub mod Content
 pub mod Standing

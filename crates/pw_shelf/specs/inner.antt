@@ -1,5 +1,4 @@
 pub mod Kinds
 pub mod Held
-pub mod Adding
 pub mod Plan
 pub mod Table

@@ -1,20 +1,21 @@
 //! Each call over the trait's bound with ample memory, and what stays where memory is refused.
 
-ghost use Rattle.std.specs.Prelude.{◌≡◌, ◌<◌, None, IsSome, IsTrue, OnOk, length};
-ghost use Rattle.pw_model.specs.Shelf.{no_content};
+ghost use Rattle.std.specs.Prelude.{◌≡◌, ◌<◌, None, IsErrOf, IsSome, IsTrue, OnErr, OnOk, length};
+ghost use Rattle.pw_shelf.specs.declared.fault.ShelfFault.TheVariants.{Device};
 
+use crate::books::empty_book;
 use crate::entries::{assigned, at, exported, paid, reading, shown, wh};
-use crate::sample::{FIRST, FIVE, METER, SECOND, SEVEN, SIX};
+use crate::sample::{FIRST, FIVE, METER, SECOND, SEVEN, SIX, are_of_office, sample_office};
+use pw_book::{Book, PostFault};
 use pw_model::{Entry, Key};
 use pw_obis::{Register, WattHours};
 use pw_shelf::laws::memory_abandons;
-use pw_shelf::{
-    AddFault, Contents, CountShelf, MemoryShelf, Shelf, ShelfFault, TotalKey, add_once,
-};
-use pw_tariff::{AccountId, MeterId, Owner};
+use pw_shelf::{Contents, CountShelf, MemoryShelf, Shelf, ShelfFault, TotalKey};
+use pw_tariff::{AccountId, MeterId, OfficeFault, Owner};
 use pw_time::Instant;
 use std::alloc::Global;
 use std::process::Abort;
+use std::test::Fail;
 
 const TOPUPS: TotalKey = TotalKey::TopUps {
     account: AccountId(0),
@@ -95,21 +96,6 @@ fn unlisted<S: Shelf>(alloc: Global, shelf: &mut S) -> bool {
         && lists(shelf.assignments_of(alloc, MeterId(1)), &[])
 }
 
-// Adds a record in an upload of its own.
-fn added<S: Shelf>(shelf: &mut S, entry: &Entry) -> Result<bool, ShelfFault>
-    requires { (S.state shelf.old).begun ≡ None }
-    ensures { OnOk result ((S.state shelf.new).begun ≡ None) }
-{
-    if 10 <= shelf.count()? {
-        return Ok(false);
-    }
-    match add_once(shelf, entry) {
-        Ok(fresh) => Ok(fresh),
-        Err(AddFault::Memory) => Err(ShelfFault::Memory),
-        Err(_) => Err(ShelfFault::Device),
-    }
-}
-
 // Two readings of the first register.
 fn two_readings(rt: &impl Abort) -> [Entry; 2] {
     [reading(rt, FIVE, 1_000_000), reading(rt, SIX, 1_001_000)]
@@ -145,14 +131,16 @@ fn begun_and_given_up(shelf: &mut MemoryShelf) -> Result<(), ShelfFault>
     memory_abandons(shelf)
 }
 
-// Whether a record is new once.
+// Whether a record is new in an upload of its own, and isn't in the next, which adds nothing.
 fn added_once<S: Shelf>(shelf: &mut S, entry: &Entry) -> bool
     requires { (S.state shelf.old).begun ≡ None }
 {
-    match added(shelf, entry) {
-        Ok(true) => added(shelf, entry) == Ok(false),
-        _ => false,
-    }
+    shelf.begin().is_ok()
+        && put(shelf, entry)
+        && shelf.commit().is_ok()
+        && shelf.begin().is_ok()
+        && shelf.holds(entry) == Ok(true)
+        && shelf.commit().is_ok()
 }
 
 // Whether each question is answered by the six records, and one of another register.
@@ -187,8 +175,6 @@ fn calls_answered(rt: &impl Abort, alloc: Global, mut shelf: MemoryShelf) -> boo
 // bears on: pw_shelf laws.rt memory_abandons succeeds
 // bears on: pw_shelf laws.rt records_are_each_once ensures
 // bears on: pw_shelf memory.rt MemoryShelf::new begun
-// bears on: pw_shelf once.rt add_once added
-// bears on: pw_shelf once.rt add_once memory
 // bears on: pw_shelf shelf.rt Shelf once
 // bears on: pw_shelf shelf.rt Shelf::abandon back
 // bears on: pw_shelf shelf.rt Shelf::abandon ended
@@ -244,11 +230,37 @@ fn added_to<S: Shelf>(shelf: &mut S, entry: &Entry, before: u32) -> bool
     requires held { S.clean shelf.old → length (S.state shelf.old).content.records ≡ before }
     ensures { IsTrue result → (S.state shelf.new).begun ≡ None }
 {
-    match add_once(shelf, entry) {
-        Ok(fresh) => fresh && shelf.count() == Ok(before + 1),
-        Err(AddFault::Memory) => is_as_before(shelf, entry, before),
-        Err(_) => false,
+    match add_alone(shelf, entry) {
+        Ok(()) => shelf.count() == Ok(before + 1),
+        Err(ShelfFault::Memory) => is_as_before(shelf, entry, before),
+        Err(ShelfFault::Device) => false,
     }
+}
+
+// Adds a record in an upload of its own, which is given up where a call fails.
+fn add_alone<S: Shelf>(shelf: &mut S, entry: &Entry) -> Result<(), ShelfFault>
+    requires idle { (S.state shelf.old).begun ≡ None }
+    requires few { S.clean shelf.old → length (S.state shelf.old).content.records < 10 }
+    ensures { (IsErrOf result Device → ⊥) → (S.state shelf.new).begun ≡ None }
+{
+    shelf.begin()?;
+    match add_and_commit(shelf, entry) {
+        Ok(()) => Ok(()),
+        Err(fault) => match shelf.abandon() {
+            Ok(()) => Err(fault),
+            Err(_) => Err(ShelfFault::Device),
+        },
+    }
+}
+
+fn add_and_commit<S: Shelf>(shelf: &mut S, entry: &Entry) -> Result<(), ShelfFault>
+    requires begun { IsSome (S.state shelf.old).begun }
+    requires few { S.clean shelf.old → length (S.state shelf.old).content.records < 10 }
+    ensures ended { OnOk result ((S.state shelf.new).begun ≡ None) }
+    ensures begun { OnErr result ((S.state shelf.new).begun ≡ (S.state shelf.old).begun) }
+{
+    shelf.add(entry)?;
+    shelf.commit()
 }
 
 // Whether at most one record is listed, or memory was refused.
@@ -278,7 +290,7 @@ fn nothing_changed<S: Shelf + Drop>(rt: &impl Abort, alloc: Global, mut shelf: S
         && lists_change_nothing(alloc, &mut shelf)
 }
 
-// bears on: pw_shelf once.rt add_once same
+// bears on: pw_shelf shelf.rt Shelf::abandon back
 #[test]
 fn refused_memory_changes_nothing(rt: HostRuntime) {
     assert!(rt; nothing_changed(&rt, rt.alloc(), MemoryShelf::new(rt.alloc())));
@@ -662,36 +674,45 @@ fn failure_of_the_store_inside(rt: HostRuntime) {
     assert!(rt; fails_inside(rt.alloc(), MemoryShelf::new(rt.alloc())));
 }
 
-// Whether adding to an empty store whose call fails tells this fault, and adds nothing where the upload was given up.
-fn adding_tells<S: Shelf + Drop>(
-    inner: S,
-    entry: &Entry,
-    fail_at: u32,
-    abandon_fails: bool,
-    fault: AddFault,
-) -> bool
-    requires idle { (S.state inner).begun ≡ None }
-    requires empty { (S.state inner).content ≡ no_content }
-{
-    let mut shelf = CountShelf::failing(inner, fail_at, abandon_fails);
-    add_once(&mut shelf, entry).err() == Some(fault)
-        && (fault != AddFault::Device || shelf.count() == Ok(0))
+// Why a book doesn't take an upload of one entry of its office.
+fn refused_by<S: Shelf>(alloc: Global, book: &mut Book<S>, entry: Entry) -> Option<PostFault> {
+    let entries = [entry];
+    if !are_of_office(book.office(), book.zone(), &entries) {
+        return None;
+    }
+    book.post(alloc, &entries).err()
 }
 
-// The calls are `begin`, `holds`, `add` and `commit`.
-// bears on: pw_shelf once.rt add_once failures
-// bears on: pw_shelf once.rt add_once kept
-// bears on: pw_shelf once.rt add_once reopen
+// A book over an empty store whose call fails.
+fn failing_book(
+    alloc: Global,
+    fail_at: u32,
+    abandon_fails: bool,
+) -> Result<Book<CountShelf<MemoryShelf>>, OfficeFault> {
+    let office = sample_office(alloc)?;
+    let shelf = CountShelf::failing(MemoryShelf::new(alloc), fail_at, abandon_fails);
+    Ok(empty_book(office, shelf, 10))
+}
+
+// The calls are `count`, `holds`, `begin`, `holds`, `contents_at`, `add`, `total`, `total_put` and `commit`. Nothing is
+// held where the upload was given up.
+// bears on: pw_book book.rt Book::post failures
+// bears on: pw_book book.rt Book::post posted
+// bears on: pw_book book.rt Book::post reopen
 #[test]
-fn adding_with_a_call_that_fails(rt: HostRuntime) {
+fn posting_with_a_call_that_fails(rt: HostRuntime) -> Result<(), Fail> {
     let payment = paid(&rt, b"P1", FIRST, 2_000);
     for (fail_at, abandon_fails, fault) in [
-        (1, true, AddFault::Device),
-        (2, true, AddFault::Reopen),
-        (2, false, AddFault::Device),
-        (4, false, AddFault::Device),
+        (3, true, PostFault::Device),
+        (4, true, PostFault::Reopen),
+        (4, false, PostFault::Device),
+        (9, false, PostFault::Device),
     ] {
-        let shelf = MemoryShelf::new(rt.alloc());
-        assert!(rt; adding_tells(shelf, &payment, fail_at, abandon_fails, fault));
+        let mut book = failing_book(rt.alloc(), fail_at, abandon_fails)?;
+        assert!(rt; refused_by(rt.alloc(), &mut book, payment) == Some(fault));
+        assert!(rt; fault != PostFault::Device || book.count() == Ok(0));
     }
+    let mut book = failing_book(rt.alloc(), 10, false)?;
+    assert!(rt; refused_by(rt.alloc(), &mut book, payment).is_none());
+    Ok(())
 }
