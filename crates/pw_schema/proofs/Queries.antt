@@ -6,7 +6,7 @@ use Rattle.sqlite.specs.Clock.{timed}
 use Rattle.sqlite.specs.declared.error.Error.{Error}
 use Rattle.sqlite.specs.State.{State, HasCleanDisk, Shown, ShowsRows, IsUnchanged, IsRolledBack, Survives, CommitsShowing, FailsToQuery}
 use Rattle.sqlite.proofs.Callers.{IsPlain}
-use Rattle.pw_schema.specs.Calls.{Asks}
+use Rattle.pw_schema.specs.inner.Calls.{Asks}
 use Rattle.pw_schema.proofs.Outcomes.{early, fails_query, read_survives}
 
 -- the connection is as it was after a query

@@ -4,12 +4,6 @@ use Rattle.std.specs.Prelude.{◌⊎◌, OnErr, OnOk, Result}
 use Rattle.sqlite.specs.State.{State, HasCleanDisk, IsRolledBack, IsUnchanged, KeepsCommit, Survives}
 
 module _ {T E : Type 0} (answer : Result T E) (old new : State) where
-  -- a call that asks: it changes nothing, and with a fault it may have undone the transaction
-  pub record Asks : Type 0 where
-    pub same : HasCleanDisk new → OnOk answer (IsUnchanged old new)
-    pub failed : HasCleanDisk new → OnErr answer (IsUnchanged old new ⊎ IsRolledBack old new)
-    pub crash : Survives old new (λ _. ⊥)
-
   -- a call that asks, of whose fault no more is known than that what is committed stays so
   pub record Looks : Type 0 where
     pub same : HasCleanDisk new → OnOk answer (IsUnchanged old new)

@@ -6,8 +6,9 @@ ghost use Rattle.sqlite.specs.Held.{state};
 ghost use Rattle.sqlite.specs.Order.{bytes, column};
 ghost use Rattle.sqlite.specs.State.{HasCleanDisk};
 ghost use Rattle.sqlite_catalog.specs.Listing.{mentions};
-ghost use Rattle.pw_schema.specs.Calls.{Asks, Looks};
+ghost use Rattle.pw_schema.specs.Calls.{Looks};
 ghost use Rattle.pw_schema.specs.Conflicts.{AreWithoutConflict, IsWithoutConflict};
+ghost use Rattle.pw_schema.specs.inner.Calls.{Asks};
 ghost use Rattle.pw_schema.specs.inner.Listed.{ShowsTexts};
 ghost use Rattle.pw_schema.specs.Tables.{IsOurs};
 
