@@ -1,103 +1,116 @@
 -- Records in order stand by their places.
-use Rattle.std.proofs.Common.{◌≡◌, ℕ, zero, suc, ◌+◌, ◌*◌, ◌<◌, ◌≤◌, true, false, ltb, List, [], ◌∷◌, ◌++◌, get_or, take, drop, ◌↔◌, refl, sym, ap, subst, ◌∙◌, inl, inr, ◌⊎◌, arith, Ordering, Less, Equal}
-use Rattle.std.specs.Cmp.{nat_cmp_is}
-use Rattle.std.specs.Cmp.Lexicographic.{slice_cmp}
-use Rattle.std.specs.Ordering.{nat_cmp}
-use Rattle.std.specs.List.Sorted.{IsNonDecreasingBy, IsPartitionPoint}
-use Rattle.std.proofs.lemmas.Bool.{cases_lt, true≢false, lt-ltb, ltb-true}
+use Rattle.std.proofs.Common.{◌≡◌, ℕ, ◌+◌, ◌<◌, ◌≤◌, Bool, true, false, List, [], ◌∷◌, ◌++◌, length, get_or, take, drop, ◌↔◌, refl, sym, ap, subst, ◌∙◌, inl, inr, ◌⊎◌, arith, Ordering, Less, Equal, Greater}
+use Rattle.std.specs.Cmp.{IsTotalOrder, nat_cmp_is}
+use Rattle.std.specs.Ordering.{nat_cmp, ordering_then, ordering_reverse, is_eq, is_gt, is_lt}
+use Rattle.std.specs.List.Sorted.{IsPartitionPoint, IsPartitionedBy}
+use Rattle.std.proofs.lemmas.Bool.{cases_Bool, cases_lt, true≢false}
+use Rattle.std.proofs.lemmas.Cmp.{alike_right, tied_itself, upto}
 use Rattle.std.proofs.lemmas.List.{take-append-drop}
 use Rattle.pw_obis.specs.declared.reference.Register.{Register}
-use Rattle.pw_obis.specs.declared.reference.Register.TheVariants.{I0, I1, I2, E0, E1, E2}
-use Rattle.pw_tariff.specs.Office.{register_place}
-use Rattle.pw_tariff.specs.Office.{OfficeRules}
+use Rattle.pw_obis.specs.contracts.reference.RegisterOrd.TheImpl as register
 use Rattle.pw_tariff.specs.declared.ids.MeterId.{MeterId}
+use Rattle.pw_model.specs.contracts.records.KeyOrd.TheImpl as derived_key
+use Rattle.pw_model.specs.contracts.records.KeyOrd.TheImpl.Laws as key_laws
 use Rattle.pw_model.specs.declared.records.Key.{Key}
 use Rattle.pw_model.specs.declared.records.Key.TheVariants as key
-use Rattle.pw_model.specs.declared.records.Content.{Content}
-use Rattle.pw_model.specs.declared.records.Content.TheVariants as content
-use Rattle.pw_model.specs.Office.{AllOfOffice, IsOf}
-use Rattle.pw_model.specs.Kinds.{IsReadingOf, IsAssignmentOf, IsTopUp, ListsHeld, IsReading, IsAssignment}
 use Rattle.pw_model.specs.declared.records.Entry.{Entry}
 use Rattle.pw_model.specs.Counting.{Member}
+use Rattle.pw_model.specs.Kinds.{IsReading, IsAssignment, IsReadingOf, IsAssignmentOf, IsTopUp, ListsHeld}
 use Rattle.pw_model.specs.Lists.{IsInOrder, Lists}
-use Rattle.pw_model.specs.Same.{key_numbers, key_order, entry_order}
+use Rattle.pw_model.specs.Same.{key_numbers, key_order, same_key, entry_order}
 use Rattle.pw_model.specs.inner.Search.{IsAt}
-use Rattle.pw_model.proofs.Places.{at-member, member-at, at-some, taken-at, at-taken, dropped-at, at-dropped, rising-at, rising-drop, entry-up_to, member-left}
-use Rattle.pw_parts.specs.inner.Places.{key_place, IsWithin, AreWithin, ListsBefore, ListsFrom, ListsBetween}
-use Rattle.pw_parts.proofs.Keys.{not-both}
-use Rattle.pw_model.proofs.InOrder.{before-member}
+use Rattle.pw_model.proofs.Alike.{keys-alike}
 use Rattle.pw_model.proofs.EntryOrder.{before-all}
+use Rattle.pw_model.proofs.InKeyOrder.{keys-ordered}
+use Rattle.pw_model.proofs.InOrder.{before-member}
+use Rattle.pw_model.proofs.Places.{KeyUpTo, at-member, member-at, at-some, at-up_to, taken-at, at-taken, dropped-at, at-dropped, rising-drop, member-left}
+use Rattle.pw_model.proofs.Same.{same_key-decides}
+use Rattle.pw_parts.specs.contracts.place.PlaceOrd.TheImpl.Laws as place_laws
+use Rattle.pw_parts.specs.declared.place.Place.{Place}
+use Rattle.pw_parts.specs.declared.place.Place.TheVariants as place
+use Rattle.pw_parts.specs.inner.Places.{place_of, place_order, is_before, is_at}
 
--- ---- numbers compared one after the other
-first-less : (a b : ℕ) (xs ys : List ℕ) → a < b → slice_cmp nat_cmp (a ∷ xs) (b ∷ ys) ≡ Less
-first-less a b xs ys l = rw (sym (nat_cmp_is a b Less l)) refl
+-- ---- places in the order of keys
+then-up_to : (o p q : Ordering) → ordering_then o (ordering_then p q) ≡ Less → is_gt (ordering_then o p) ≡ false
+then-up_to Less p q h = refl
+then-up_to Equal Less q h = refl
+then-up_to Equal Equal q h = refl
+then-up_to Equal Greater q h = absurd (let b : Greater ≡ Less = h in cc)
+then-up_to Greater p q h = absurd (let b : Greater ≡ Less = h in cc)
 
-then-less : (a b : ℕ) (xs ys : List ℕ) → a ≡ b → slice_cmp nat_cmp xs ys ≡ Less → slice_cmp nat_cmp (a ∷ xs) (b ∷ ys) ≡ Less
-then-less a b xs ys e h = rw (sym (nat_cmp_is a b Equal e)) h
+up-to : (o q : Ordering) → ordering_then o q ≡ Less → is_gt o ≡ false
+up-to Less q h = refl
+up-to Equal q h = refl
+up-to Greater q h = absurd (let b : Greater ≡ Less = h in cc)
 
--- ---- places
-pub place-few : (r : Register) → register_place r < 6
-place-few I0 = omega arith
-place-few I1 = omega arith
-place-few I2 = omega arith
-place-few E0 = omega arith
-place-few E1 = omega arith
-place-few E2 = omega arith
-
--- the meter, and then the register, tell two places apart
-places-split : (m n p q : ℕ) → p < 6 → q < 6 → 6 * m + p < 6 * n + q → (m < n) ⊎ ((m ≡ n) × (p < q))
-places-split m n p q a b l = elim (cases_lt m n) [
-  | inl h ↦ inl h
-  | inr h ↦ elim (cases_lt n m) [
-    | inl k ↦ absurd (omega (arith, a, b, l, k))
-    | inr k ↦ inr (omega (arith, h, k), omega (arith, a, b, l, h, k))
-  ]
-]
-
-pub places-same : (m n p q : ℕ) → p < 6 → q < 6 → 6 * m + p ≡ 6 * n + q → (m ≡ n) × (p ≡ q)
-places-same m n p q a b e = (omega (arith, a, b, e), omega (arith, a, b, e))
-
-not-behind : (k l : Key) → key_order k l ≡ Less → key_order l k ≡ Less → ⊥
-not-behind k l h i = not-both k l h (inl i)
-
-place-rises : (meters : ℕ) (k l : Key) → key_order k l ≡ Less → IsWithin meters k → IsWithin meters l → key_place meters k ≤ key_place meters l
+keys-places : (k l : Key) → key_order k l ≡ Less → is_gt (place_order (place_of k) (place_of l)) ≡ false
 unfolding key_numbers
-place-rises meters (key.Reading m r t) (key.Reading n s u) h a b =
-    elim (cases_lt (6 * n.0 + register_place s) (6 * m.0 + register_place r)) [
-      | inr l ↦ l
-      | inl l ↦ absurd (elim (places-split n.0 m.0 (register_place s) (register_place r) (place-few s) (place-few r) l) [
-        | inl i ↦ not-behind (key.Reading m r t) (key.Reading n s u) h (first-less n.0 m.0 (register_place s ∷ u ∷ []) (register_place r ∷ t ∷ []) i)
-        | inr i ↦ not-behind (key.Reading m r t) (key.Reading n s u) h (then-less n.0 m.0 (register_place s ∷ u ∷ []) (register_place r ∷ t ∷ []) i.0 (first-less (register_place s) (register_place r) (u ∷ []) (t ∷ []) i.1))
-      ])
-    ]
-place-rises meters (key.Reading m r t) (key.Assignment n u) h a b = let f = place-few r in omega (arith, f, a)
-place-rises meters (key.Reading m r t) (key.TopUp s) h a b = let f = place-few r in omega (arith, f, a)
-place-rises meters (key.Assignment m t) (key.Reading n s u) h a b = cc
-place-rises meters (key.Assignment m t) (key.Assignment n u) h a b =
-    elim (cases_lt n.0 m.0) [
-      | inr l ↦ omega (arith, l)
-      | inl l ↦ absurd (not-behind (key.Assignment m t) (key.Assignment n u) h (first-less n.0 m.0 (u ∷ []) (t ∷ []) l))
-    ]
-place-rises meters (key.Assignment m t) (key.TopUp s) h a b = omega (arith, a)
-place-rises meters (key.TopUp q) (key.Reading n s u) h a b = cc
-place-rises meters (key.TopUp q) (key.Assignment n u) h a b = cc
-place-rises meters (key.TopUp q) (key.TopUp s) h a b = omega arith
+keys-places (key.Reading m r t) (key.Reading n s u) h =
+    then-up_to (nat_cmp m.0 n.0) (register.ghosts.cmp r s) (nat_cmp t u) (keys-ordered (key.Reading m r t) (key.Reading n s u) tt tt ∙ h)
+keys-places (key.Reading m r t) (key.Assignment n u) h = refl
+keys-places (key.Reading m r t) (key.TopUp s) h = refl
+keys-places (key.Assignment m t) (key.Reading n s u) h = absurd (let b : Greater ≡ Less = h in cc)
+keys-places (key.Assignment m t) (key.Assignment n u) h =
+    up-to (nat_cmp m.0 n.0) (nat_cmp t u) (keys-ordered (key.Assignment m t) (key.Assignment n u) tt tt ∙ h)
+keys-places (key.Assignment m t) (key.TopUp s) h = refl
+keys-places (key.TopUp q) (key.Reading n s u) h = absurd (let b : Greater ≡ Less = h in cc)
+keys-places (key.TopUp q) (key.Assignment n u) h = absurd (let b : Greater ≡ Less = h in cc)
+keys-places (key.TopUp q) (key.TopUp s) h = refl
 
--- ---- records in order
-place-at_most : (meters : ℕ) (xs : List Entry) (i j : ℕ) (x y : Entry) → IsInOrder entry_order xs → AreWithin meters xs → IsAt xs i x → IsAt xs j y → i < j → key_place meters x.key ≤ key_place meters y.key
-place-at_most meters xs i j x y r w a b l =
-    elim (entry-up_to x y (rising-at entry_order xs i j x y r a b l)) [
-      | inl o ↦ place-rises meters x.key y.key o (w x (at-member xs i x a)) (w y (at-member xs j y b))
-      | inr e ↦ (let f : key_place meters x.key ≡ key_place meters y.key = ap (key_place meters) e in omega (arith, f))
-    ]
+keys-up_to : (k l : Key) → KeyUpTo k l → is_gt (place_order (place_of k) (place_of l)) ≡ false
+keys-up_to k l (inl h) = keys-places k l h
+keys-up_to k l (inr e) =
+    let P : Key → Type 0 = λ v. is_gt (place_order (place_of k) (place_of v)) ≡ false in
+    subst P e (ap is_gt (tied_itself place_laws.total-law (place_of k)))
 
-pub places-rise : (meters : ℕ) (xs : List Entry) → IsInOrder entry_order xs → AreWithin meters xs → IsNonDecreasingBy (λ (e : Entry). key_place meters e.key) xs
-places-rise meters xs r w i j d a b =
-    elim (cases_lt i j) [
-      | inl l ↦ place-at_most meters xs i j (get_or xs i d) (get_or xs j d) r w (at-some xs i d (omega (arith, l, b))) (at-some xs j d b) l
-      | inr l ↦ (let e : i ≡ j = omega (arith, a, l) in
-          let f : key_place meters (get_or xs i d).key ≡ key_place meters (get_or xs j d).key = ap (λ n. key_place meters (get_or xs n d).key) e in omega (arith, f))
-    ]
+-- where a place is up to one that is before another, it is before that other
+before-back : (a b p : Place) → is_gt (place_order a b) ≡ false → is_lt (place_order b p) ≡ true → is_lt (place_order a p) ≡ true
+before-back a b p g l = told (place_order a p) (upto place_laws.total-law a b p g (not-gt (place_order b p) l)) (λ e. (
+    let same : place_order a b ≡ place_order p b = place_laws.total-law.congr a p b e in
+    let back : place_order p b ≡ ordering_reverse (place_order b p) = place_laws.total-law.antisymm p b in
+    true≢false (sym (turned (place_order b p) l) ∙ ap is_gt (sym back) ∙ ap is_gt (sym same) ∙ g)))
+  where
+    not-gt : (o : Ordering) → is_lt o ≡ true → is_gt o ≡ false
+    not-gt Less h = refl
+    not-gt Equal h = refl
+    not-gt Greater h = absurd (true≢false (sym h))
+
+    turned : (o : Ordering) → is_lt o ≡ true → is_gt (ordering_reverse o) ≡ true
+    turned Less h = refl
+    turned Equal h = absurd (true≢false (sym h))
+    turned Greater h = absurd (true≢false (sym h))
+
+    told : (o : Ordering) → is_gt o ≡ false → (o ≡ Equal → ⊥) → is_lt o ≡ true
+    told Less g n = refl
+    told Equal g n = absurd (n refl)
+    told Greater g n = absurd (true≢false g)
+
+-- one that isn't before it, and is up to one that stands there, stands there too
+at-back : (a b p : Place) → is_gt (place_order a b) ≡ false → is_lt (place_order a p) ≡ false → is_eq (place_order b p) ≡ true → is_eq (place_order a p) ≡ true
+at-back a b p g l e = told (place_order a p) l (ap is_gt (sym (alike_right place_laws.total-law b p a (equal (place_order b p) e))) ∙ g)
+  where
+    equal : (o : Ordering) → is_eq o ≡ true → o ≡ Equal
+    equal Less h = absurd (true≢false (sym h))
+    equal Equal h = refl
+    equal Greater h = absurd (true≢false (sym h))
+
+    told : (o : Ordering) → is_lt o ≡ false → is_gt o ≡ false → is_eq o ≡ true
+    told Less l g = absurd (true≢false l)
+    told Equal l g = refl
+    told Greater l g = absurd (true≢false g)
+
+-- ---- where a list is parted
+places-up_to : (xs : List Entry) (i j : ℕ) (d : Entry) → IsInOrder entry_order xs → i ≤ j → j < length xs → is_gt (place_order (place_of (get_or xs i d).key) (place_of (get_or xs j d).key)) ≡ false
+places-up_to xs i j d r a b =
+    keys-up_to (get_or xs i d).key (get_or xs j d).key (at-up_to xs i j (get_or xs i d) (get_or xs j d) r (at-some xs i d (omega (arith, a, b))) (at-some xs j d b) a)
+
+pub before-parts : (p : Place) (xs : List Entry) → IsInOrder entry_order xs → IsPartitionedBy (λ (e : Entry). is_before p e.key) xs
+before-parts p xs r i j d a b h = before-back (place_of (get_or xs i d).key) (place_of (get_or xs j d).key) p (places-up_to xs i j d r a b) h
+
+pub at-parts : (p : Place) (xs ys : List Entry) → ListsHeld (λ k. is_before p k ≡ false) xs ys → IsPartitionedBy (λ (e : Entry). is_at p e.key) ys
+at-parts p xs ys l i j d a b h =
+    let behind = ((l.members (get_or ys i d)).0 (at-member ys i (get_or ys i d) (at-some ys i d (omega (arith, a, b))))).1 in
+    at-back (place_of (get_or ys i d).key) (place_of (get_or ys j d).key) p (places-up_to ys i j d l.rising a b) behind h
 
 rising-left : {X : Type 0} (order : X → X → Ordering) (xs ys : List X) → IsInOrder order (xs ++ ys) → IsInOrder order xs
 rising-left order [] ys h = tt
@@ -106,146 +119,142 @@ rising-left order (x ∷ xs) ys h = (before-all order x xs (λ z m. before-membe
 rising-take : (n : ℕ) (xs : List Entry) → IsInOrder entry_order xs → IsInOrder entry_order (take n xs)
 rising-take n xs r = rising-left entry_order (take n xs) (drop n xs) (let P : List Entry → Type 0 = IsInOrder entry_order in subst P (sym (take-append-drop n xs)) r)
 
--- ---- where a list is parted
-abbrev pub IsParted : ℕ → ℕ → List Entry → ℕ → Type 0
-IsParted meters place xs n = IsPartitionPoint (λ (e : Entry). ltb (key_place meters e.key) place ≡ true) (λ (e : Entry). ltb (key_place meters e.key) place ≡ false) xs n
+-- by a test of keys
+abbrev pub IsParted : (Key → Bool) → List Entry → ℕ → Type 0
+IsParted p xs n = IsPartitionPoint (λ (e : Entry). p e.key ≡ true) (λ (e : Entry). p e.key ≡ false) xs n
 
 read : (xs : List Entry) (P : Entry → Type 0) (j : ℕ) (x : Entry) → IsAt xs j x → P (get_or xs j x) → P x
 read xs P j x a h = subst P a.1 h
 
-pub parted-before : (meters place n : ℕ) (xs : List Entry) → IsInOrder entry_order xs → IsParted meters place xs n → ListsBefore meters place xs (take n xs)
-parted-before meters place n xs r p = record {
+pub parted-front : (p : Key → Bool) (n : ℕ) (xs : List Entry) → IsInOrder entry_order xs → IsParted p xs n → ListsHeld (λ k. p k ≡ true) xs (take n xs)
+parted-front p n xs r h = record {
   rising = rising-take n xs r;
   members = λ x. (
     λ m.
         let t = taken-at xs n x m in
-        let q = read xs (λ (e : Entry). ltb (key_place meters e.key) place ≡ true) t.0 x t.2 (p.0 t.0 x (omega arith) t.1) in
-        (at-member xs t.0 x t.2, ltb-true _ _ q),
-    λ h.
-        let t = member-at xs x h.0 in
+        (at-member xs t.0 x t.2, read xs (λ (e : Entry). p e.key ≡ true) t.0 x t.2 (h.0 t.0 x (omega arith) t.1)),
+    λ m.
+        let t = member-at xs x m.0 in
         elim (cases_lt t.0 n) [
           | inl l ↦ at-taken xs n t.0 x l t.1
-          | inr l ↦ (
-              let q = read xs (λ (e : Entry). ltb (key_place meters e.key) place ≡ false) t.0 x t.1 (p.1 t.0 x l t.1.0) in
-              absurd (true≢false (sym (lt-ltb _ _ h.1) ∙ q)))
+          | inr l ↦ absurd (true≢false (sym m.1 ∙ read xs (λ (e : Entry). p e.key ≡ false) t.0 x t.1 (h.1 t.0 x l t.1.0)))
         ],
   );
 }
 
-pub parted-behind : (meters place n : ℕ) (xs : List Entry) → IsInOrder entry_order xs → IsParted meters place xs n → ListsFrom meters place xs (drop n xs)
-parted-behind meters place n xs r p = record {
+pub parted-behind : (p : Key → Bool) (n : ℕ) (xs : List Entry) → IsInOrder entry_order xs → IsParted p xs n → ListsHeld (λ k. p k ≡ false) xs (drop n xs)
+parted-behind p n xs r h = record {
   rising = rising-drop entry_order xs n r;
   members = λ x. (
     λ m.
         let t = dropped-at xs n x m in
-        let q = read xs (λ (e : Entry). ltb (key_place meters e.key) place ≡ false) t.0 x t.2 (p.1 t.0 x t.1 t.2.0) in
-        (at-member xs t.0 x t.2, elim (cases_lt (key_place meters x.key) place) [ inl l ↦ absurd (true≢false (sym (lt-ltb _ _ l) ∙ q)) | inr l ↦ l ]),
-    λ h.
-        let t = member-at xs x h.0 in
+        (at-member xs t.0 x t.2, read xs (λ (e : Entry). p e.key ≡ false) t.0 x t.2 (h.1 t.0 x t.1 t.2.0)),
+    λ m.
+        let t = member-at xs x m.0 in
         elim (cases_lt t.0 n) [
           | inr l ↦ at-dropped xs n t.0 x l t.1
-          | inl l ↦ (
-              let q = read xs (λ (e : Entry). ltb (key_place meters e.key) place ≡ true) t.0 x t.1 (p.0 t.0 x (omega arith) l) in
-              let k = ltb-true _ _ q in
-              let g = h.1 in
-              absurd (omega (arith, k, g)))
+          | inl l ↦ absurd (true≢false (sym (read xs (λ (e : Entry). p e.key ≡ true) t.0 x t.1 (h.0 t.0 x (omega arith) l)) ∙ m.1))
         ],
   );
 }
 
--- ---- two parts together
-pub within-part : (meters : ℕ) (P : Entry → Type 0) (xs ys : List Entry) → AreWithin meters xs → Lists entry_order (λ e. Member e xs × P e) ys → AreWithin meters ys
-within-part meters P xs ys w l e m = w e ((l.members e).0 m).0
-
-pub between-both : (meters from to : ℕ) (xs ys zs : List Entry) → ListsFrom meters from xs ys → ListsBefore meters to ys zs → ListsBetween meters from to xs zs
-between-both meters from to xs ys zs f g = record {
+-- ---- records of records
+pub held-both : (Of And Is : Key → Type 0) (xs ys zs : List Entry) → ListsHeld Of xs ys → ListsHeld And ys zs → ((k : Key) → Is k ↔ (Of k × And k)) → ListsHeld Is xs zs
+held-both Of And Is xs ys zs f g h = record {
   rising = g.rising;
   members = λ x. (
-    λ m. (let b = (g.members x).0 m in let a = (f.members x).0 b.0 in (a.0, a.1, b.1)),
-    λ h. (g.members x).1 ((f.members x).1 (h.0, h.1), h.2),
+    λ m. (let b = (g.members x).0 m in let a = (f.members x).0 b.0 in (a.0, (h x.key).1 (a.1, b.1))),
+    λ m. (let w = (h x.key).0 m.1 in (g.members x).1 ((f.members x).1 (m.0, w.0), w.1)),
   );
 }
 
--- ---- which keys stand between two places
-pub kind-between : (Of : Key → Type 0) (meters from to p q : ℕ) (xs ys : List Entry) → AreWithin meters xs → p ≡ from → q ≡ to → ListsBetween meters p q xs ys →
-    ((k : Key) → IsWithin meters k → Of k ↔ ((from ≤ key_place meters k) × (key_place meters k < to))) → ListsHeld Of xs ys
-kind-between Of meters from to p q xs ys w i j l h = record {
-  rising = l.rising;
-  members = λ e. (
-    λ m. (let a = (l.members e).0 m in let b = a.1 in let c = a.2 in (a.0, (h e.key (w e a.0)).1 (omega (arith, b, i), omega (arith, c, j)))),
-    λ a. (let b = (h e.key (w e a.0)).0 a.1 in let c = b.0 in let d = b.1 in (l.members e).1 (a.0, omega (arith, c, i), omega (arith, d, j))),
+-- what stands there isn't before it
+at-behind : (o : Ordering) → is_eq o ≡ true → is_lt o ≡ false
+at-behind Less h = absurd (true≢false (sym h))
+at-behind Equal h = refl
+at-behind Greater h = refl
+
+pub held-within : (p : Place) (xs ys zs : List Entry) → ListsHeld (λ k. is_before p k ≡ false) xs ys → ListsHeld (λ k. is_at p k ≡ true) ys zs → ListsHeld (λ k. is_at p k ≡ true) xs zs
+held-within p xs ys zs f g =
+    held-both (λ k. is_before p k ≡ false) (λ k. is_at p k ≡ true) (λ k. is_at p k ≡ true) xs ys zs f g (λ k. ((λ h. (at-behind (place_order (place_of k) p) h, h)), (λ h. h.1)))
+
+pub held-as : (Of Is : Key → Type 0) (xs ys : List Entry) → ListsHeld Of xs ys → ((k : Key) → Is k ↔ Of k) → ListsHeld Is xs ys
+held-as Of Is xs ys f h = record {
+  rising = f.rising;
+  members = λ x. (
+    λ m. (let a = (f.members x).0 m in (a.0, (h x.key).1 a.1)),
+    λ m. (f.members x).1 (m.0, (h x.key).0 m.1),
   );
 }
 
-pub readings-between : (meters : ℕ) (k : Key) → IsWithin meters k → IsReading k ↔ ((0 ≤ key_place meters k) × (key_place meters k < 6 * meters))
-readings-between meters (key.Reading m r t) w = (λ o. (omega arith, let f = place-few r in omega (arith, f, w)), λ h. tt)
-readings-between meters (key.Assignment m t) w = (λ o. absurd o, λ h. absurd (let l = h.1 in omega (arith, l)))
-readings-between meters (key.TopUp q) w = (λ o. absurd o, λ h. absurd (let l = h.1 in omega (arith, l)))
+-- ---- which keys stand where
+first-meter : (n : ℕ) → is_lt (nat_cmp n 0) ≡ false
+first-meter n = elim (cases_lt 0 n) [
+  | inl l ↦ ap is_lt (sym (nat_cmp_is n 0 Greater l))
+  | inr l ↦ (let e : n ≡ 0 = omega (arith, l) in ap is_lt (sym (nat_cmp_is n 0 Equal e)))
+]
 
-register_at : ℕ → Register
-register_at zero = I0
-register_at (suc zero) = I1
-register_at (suc (suc zero)) = I2
-register_at (suc (suc (suc zero))) = E0
-register_at (suc (suc (suc (suc zero)))) = E1
-register_at (suc (suc (suc (suc (suc i))))) = E2
+abbrev pub first : Place
+first = place.Assignments (record { 0 = 0 })
 
-register-back : (r : Register) → register_at (register_place r) ≡ r
-unfolding register_at
-register-back I0 = refl
-register-back I1 = refl
-register-back I2 = refl
-register-back E0 = refl
-register-back E1 = refl
-register-back E2 = refl
+pub readings-first : (k : Key) → IsReading k ↔ (is_before first k ≡ true)
+readings-first (key.Reading m r t) = (λ o. refl, λ h. tt)
+readings-first (key.Assignment m t) = (λ o. absurd o, λ h. absurd (true≢false (sym h ∙ first-meter m.0)))
+readings-first (key.TopUp q) = (λ o. absurd o, λ h. absurd (true≢false (sym h)))
 
-register-one : (r s : Register) → register_place r ≡ register_place s → r ≡ s
-register-one r s e = sym (register-back r) ∙ ap register_at e ∙ register-back s
+pub assignments-next : (k : Key) → IsAssignment k ↔ ((is_before first k ≡ false) × (is_before place.TopUps k ≡ true))
+assignments-next (key.Reading m r t) = (λ o. absurd o, λ h. absurd (true≢false h.0))
+assignments-next (key.Assignment m t) = (λ o. (first-meter m.0, refl), λ h. tt)
+assignments-next (key.TopUp q) = (λ o. absurd o, λ h. absurd (true≢false (sym h.1)))
 
-pub register-between : (meters : ℕ) (m : MeterId) (r : Register) → m.0 < meters → (k : Key) → IsWithin meters k →
-    IsReadingOf m r k ↔ ((6 * m.0 + register_place r ≤ key_place meters k) × (key_place meters k < 6 * m.0 + register_place r + 1))
-register-between meters m r l (key.Reading n s t) w = (
-  λ o. (
-      let e : 6 * n.0 + register_place s ≡ 6 * m.0 + register_place r = λ i. 6 * (o.0 i).0 + register_place (o.1 i) in
-      (omega (arith, e), omega (arith, e))),
-  λ h. (
-      let a = h.0 in
-      let b = h.1 in
-      let p = places-same n.0 m.0 (register_place s) (register_place r) (place-few s) (place-few r) (omega (arith, a, b)) in
-      let q = p.0 in
-      ((λ i. record { 0 = q i }), register-one s r p.1)),
+then-equal : (o : Ordering) → ordering_then o Equal ≡ o
+then-equal Less = refl
+then-equal Equal = refl
+then-equal Greater = refl
+
+-- two places of registers, or of meters, are one where these keys are
+abbrev reading_from : MeterId → Register → Key
+reading_from m r = key.Reading m r 0
+
+abbrev assignment_from : MeterId → Key
+assignment_from m = key.Assignment m 0
+
+registers-tested : (m n : MeterId) (r s : Register) → is_eq (place_order (place.Readings n s) (place.Readings m r)) ≡ same_key (reading_from n s) (reading_from m r)
+registers-tested m n r s =
+    ap (λ o. is_eq (ordering_then (nat_cmp n.0 m.0) o)) (sym (then-equal (register.ghosts.cmp s r)))
+    ∙ sym (key_laws.matches_eq-law (reading_from n s) (reading_from m r))
+    ∙ keys-alike (reading_from n s) (reading_from m r)
+
+meters-tested : (m n : MeterId) → is_eq (place_order (place.Assignments n) (place.Assignments m)) ≡ same_key (assignment_from n) (assignment_from m)
+meters-tested m n =
+    ap is_eq (sym (then-equal (nat_cmp n.0 m.0)))
+    ∙ sym (key_laws.matches_eq-law (assignment_from n) (assignment_from m))
+    ∙ keys-alike (assignment_from n) (assignment_from m)
+
+pub register-there : (m : MeterId) (r : Register) (k : Key) → IsReadingOf m r k ↔ (is_at (place.Readings m r) k ≡ true)
+register-there m r (key.Reading n s t) = (
+  λ o. registers-tested m n r s ∙ (same_key-decides (reading_from n s) (reading_from m r)).1 (λ i. reading_from (o.0 i) (o.1 i)),
+  λ h.
+      let e : reading_from n s ≡ reading_from m r = (same_key-decides (reading_from n s) (reading_from m r)).0 (sym (registers-tested m n r s) ∙ h) in
+      let p : n ≡ m = cc in
+      let q : s ≡ r = cc in
+      (p, q),
 )
-register-between meters m r l (key.Assignment n t) w = (λ o. absurd o, λ h. absurd (let a = h.1 in let f = place-few r in omega (arith, a, f, l)))
-register-between meters m r l (key.TopUp q) w = (λ o. absurd o, λ h. absurd (let a = h.1 in let f = place-few r in omega (arith, a, f, l)))
+register-there m r (key.Assignment n t) = (λ o. absurd o, λ h. absurd (true≢false (sym h)))
+register-there m r (key.TopUp q) = (λ o. absurd o, λ h. absurd (true≢false (sym h)))
 
-pub assignments-between : (meters : ℕ) (k : Key) → IsWithin meters k → IsAssignment k ↔ ((6 * meters ≤ key_place meters k) × (key_place meters k < 7 * meters))
-assignments-between meters (key.Reading m r t) w = (λ o. absurd o, λ h. absurd (let a = h.0 in let f = place-few r in omega (arith, a, f, w)))
-assignments-between meters (key.Assignment m t) w = (λ o. (omega arith, omega (arith, w)), λ h. tt)
-assignments-between meters (key.TopUp q) w = (λ o. absurd o, λ h. absurd (let a = h.1 in omega (arith, a)))
-
-pub meter-between : (meters : ℕ) (m : MeterId) → m.0 < meters → (k : Key) → IsWithin meters k →
-    IsAssignmentOf m k ↔ ((6 * meters + m.0 ≤ key_place meters k) × (key_place meters k < 6 * meters + m.0 + 1))
-meter-between meters m l (key.Reading n s t) w = (λ o. absurd o, λ h. absurd (let a = h.0 in let f = place-few s in omega (arith, a, f, w)))
-meter-between meters m l (key.Assignment n t) w = (
-  λ o. (let e : n.0 ≡ m.0 = ap (λ (x : MeterId). x.0) o in (omega (arith, e), omega (arith, e))),
-  λ h. (let a = h.0 in let b = h.1 in let q : n.0 ≡ m.0 = omega (arith, a, b) in λ i. record { 0 = q i }),
+pub meter-there : (m : MeterId) (k : Key) → IsAssignmentOf m k ↔ (is_at (place.Assignments m) k ≡ true)
+meter-there m (key.Reading n s t) = (λ o. absurd o, λ h. absurd (true≢false (sym h)))
+meter-there m (key.Assignment n t) = (
+  λ o. meters-tested m n ∙ (same_key-decides (assignment_from n) (assignment_from m)).1 (ap assignment_from o),
+  λ h.
+      let e : assignment_from n ≡ assignment_from m = (same_key-decides (assignment_from n) (assignment_from m)).0 (sym (meters-tested m n) ∙ h) in
+      let p : n ≡ m = cc in
+      p,
 )
-meter-between meters m l (key.TopUp q) w = (λ o. absurd o, λ h. absurd (let a = h.1 in omega (arith, a, l)))
+meter-there m (key.TopUp q) = (λ o. absurd o, λ h. absurd (true≢false (sym h)))
 
-pub top-ups-between : (meters : ℕ) (k : Key) → IsWithin meters k → IsTopUp k ↔ ((7 * meters ≤ key_place meters k) × (key_place meters k < 7 * meters + 1))
-top-ups-between meters (key.Reading m r t) w = (λ o. absurd o, λ h. absurd (let a = h.0 in let f = place-few r in omega (arith, a, f, w)))
-top-ups-between meters (key.Assignment m t) w = (λ o. absurd o, λ h. absurd (let a = h.0 in omega (arith, a, w)))
-top-ups-between meters (key.TopUp q) w = (λ o. (omega arith, omega arith), λ h. tt)
-
--- records of the office are of its meters
-of-meters : (office : OfficeRules) (k : Key) (c : Content) → IsOf office k c → IsWithin office.meters k
-of-meters office (key.Reading m r t) (content.Reading w) h = h.0
-of-meters office (key.Reading m r t) (content.Assignment o) h = absurd h
-of-meters office (key.Reading m r t) (content.TopUp a c u) h = absurd h
-of-meters office (key.Assignment m t) (content.Assignment o) h = h.0
-of-meters office (key.Assignment m t) (content.Reading w) h = absurd h
-of-meters office (key.Assignment m t) (content.TopUp a c u) h = absurd h
-of-meters office (key.TopUp q) c h = tt
-
-pub within-office : (office : OfficeRules) (meters : ℕ) (s : List Entry) → meters ≡ office.meters → AllOfOffice office s → AreWithin meters s
-within-office office meters s e h x m = let P : ℕ → Type 0 = λ n. IsWithin n x.key in subst P (sym e) (of-meters office x.key x.content (h x m))
+pub top-ups-there : (k : Key) → IsTopUp k ↔ (is_at place.TopUps k ≡ true)
+top-ups-there (key.Reading m r t) = (λ o. absurd o, λ h. absurd (true≢false (sym h)))
+top-ups-there (key.Assignment m t) = (λ o. absurd o, λ h. absurd (true≢false (sym h)))
+top-ups-there (key.TopUp q) = (λ o. refl, λ h. tt)

@@ -50,7 +50,7 @@ fn add_meter(
     requires room { HasRoom (meter_given (office_of office.now) records.now meter.0) totals.old.rows }
     ensures { OnOk result (IsGiven (meter_given (office_of office.now) records.now meter.0) totals.old.rows totals.new.rows) }
 {
-    let assignments = assignments_of(records, office.meters(), meter);
+    let assignments = assignments_of(records, meter);
     let starts = starts_given(alloc, assignments)?;
     let Some(owners) = Owners::of(&starts) else {
         unreachable!();
@@ -84,7 +84,7 @@ fn add_register(
     if !office.counts(meter, register) {
         return Ok(());
     }
-    let readings = readings_of(records, office.meters(), meter, register);
+    let readings = readings_of(records, meter, register);
     let points = readings_shown(alloc, readings)?;
     let direction = direction_of(register);
     add_points(totals, alloc, office, zone, owners, direction, &points)

@@ -7,6 +7,7 @@ mod energy;
 pub mod laws;
 mod parts;
 mod payments;
+mod place;
 mod places;
 mod told;
 mod totals;

@@ -47,9 +47,8 @@ pub fn true_parts(
 {
     let counted = counting(alloc, entries)?;
     let totals = totals_of(alloc, office, zone, &counted)?;
-    let meters = office.meters();
-    let points = Vec::from_slice(alloc, readings_among(&counted, meters))?;
-    let starts = Vec::from_slice(alloc, assignments_among(&counted, meters))?;
+    let points = Vec::from_slice(alloc, readings_among(&counted))?;
+    let starts = Vec::from_slice(alloc, assignments_among(&counted))?;
     Ok(Parts {
         points,
         starts,
@@ -68,9 +67,10 @@ fn totals_of(
     requires few { length records.now ≤ most_records }
     ensures { IfOk result (λ totals. Lists by_total (λ t. (t.1 ≡ total_among (office_of office.now) records.now t.0) × (0 < t.1)) totals.items) }
 {
-    let meters = office.meters();
+    // an office is sound, so that no total is too large
+    let _meters = office.meters();
     let mut totals = Totals::new(alloc);
     add_meters(&mut totals, alloc, office, zone, records)?;
-    add_payments(&mut totals, top_ups_among(records, meters))?;
+    add_payments(&mut totals, top_ups_among(records))?;
     totals.listed(alloc)
 }

@@ -1,131 +1,104 @@
 //! The records of a register, of a meter and of all top-ups, among records in their order.
 
-ghost use Rattle.std.specs.Prelude.{◌≡◌, ◌<◌, ◌^◌};
+ghost use Rattle.std.specs.Prelude.{◌≡◌, true, false};
+ghost use Rattle.pw_model.specs.Kinds.{IsAssignment, IsAssignmentOf, IsReading, IsReadingOf, IsTopUp, ListsHeld};
 ghost use Rattle.pw_model.specs.Lists.{IsInOrder};
 ghost use Rattle.pw_model.specs.Same.{entry_order};
-ghost use Rattle.pw_tariff.specs.Office.{register_place};
-ghost use Rattle.pw_model.specs.Kinds.{IsAssignmentOf, IsReadingOf, IsTopUp, ListsHeld, IsAssignment, IsReading};
-ghost use Rattle.pw_parts.specs.inner.Places.{AreWithin, ListsBefore, ListsBetween, ListsFrom, key_place};
+ghost use Rattle.pw_parts.specs.inner.Places.{is_at, is_before, place_of as place_told};
 
+use crate::place::Place;
 use pw_model::{Entry, Key};
 use pw_obis::Register;
 use pw_tariff::MeterId;
 
-// The readings among records in order of so many meters.
-pub(crate) fn readings_among(records: &[Entry], meters: u16) -> &[Entry]
-    requires rising { IsInOrder entry_order records.now }
-    requires within { AreWithin meters records.now }
+const FIRST_METER: MeterId = MeterId(0);
+
+// The readings among records in order.
+pub(crate) fn readings_among(records: &[Entry]) -> &[Entry]
+    requires { IsInOrder entry_order records.now }
     ensures { ListsHeld IsReading records.now result.now }
 {
-    between(records, meters, 0, 6 * u32::from(meters))
+    let (readings, _) = parted(records, Place::Assignments(FIRST_METER));
+    readings
 }
 
 // The readings of a register among them.
-pub(crate) fn readings_of(
-    records: &[Entry],
-    meters: u16,
-    meter: MeterId,
-    register: Register,
-) -> &[Entry]
-    requires rising { IsInOrder entry_order records.now }
-    requires within { AreWithin meters records.now }
-    requires meter { meter.0 < meters }
+pub(crate) fn readings_of(records: &[Entry], meter: MeterId, register: Register) -> &[Entry]
+    requires { IsInOrder entry_order records.now }
     ensures { ListsHeld (IsReadingOf meter register) records.now result.now }
 {
-    let place = 6 * number_of(meter) + place_among(register);
-    between(records, meters, place, place + 1)
+    at_place(records, Place::Readings(meter, register))
 }
 
 // The assignments among them.
-pub(crate) fn assignments_among(records: &[Entry], meters: u16) -> &[Entry]
-    requires rising { IsInOrder entry_order records.now }
-    requires within { AreWithin meters records.now }
+pub(crate) fn assignments_among(records: &[Entry]) -> &[Entry]
+    requires { IsInOrder entry_order records.now }
     ensures { ListsHeld IsAssignment records.now result.now }
 {
-    between(
-        records,
-        meters,
-        6 * u32::from(meters),
-        7 * u32::from(meters),
-    )
+    let (_, rest) = parted(records, Place::Assignments(FIRST_METER));
+    let (assignments, _) = parted(rest, Place::TopUps);
+    assignments
 }
 
 // The assignments of a meter among them.
-pub(crate) fn assignments_of(records: &[Entry], meters: u16, meter: MeterId) -> &[Entry]
-    requires rising { IsInOrder entry_order records.now }
-    requires within { AreWithin meters records.now }
-    requires meter { meter.0 < meters }
+pub(crate) fn assignments_of(records: &[Entry], meter: MeterId) -> &[Entry]
+    requires { IsInOrder entry_order records.now }
     ensures { ListsHeld (IsAssignmentOf meter) records.now result.now }
 {
-    let place = 6 * u32::from(meters) + number_of(meter);
-    between(records, meters, place, place + 1)
+    at_place(records, Place::Assignments(meter))
 }
 
 // The top-ups among them.
-pub(crate) fn top_ups_among(records: &[Entry], meters: u16) -> &[Entry]
-    requires rising { IsInOrder entry_order records.now }
-    requires within { AreWithin meters records.now }
+pub(crate) fn top_ups_among(records: &[Entry]) -> &[Entry]
+    requires { IsInOrder entry_order records.now }
     ensures { ListsHeld IsTopUp records.now result.now }
 {
-    let place = 7 * u32::from(meters);
-    between(records, meters, place, place + 1)
+    at_place(records, Place::TopUps)
 }
 
-// The records from one place up to and without another, among records in order of so many meters.
-fn between(records: &[Entry], meters: u16, from: u32, to: u32) -> &[Entry]
-    requires rising { IsInOrder entry_order records.now }
-    requires within { AreWithin meters records.now }
-    ensures { ListsBetween meters from to records.now result.now }
+// The records at a place, among records in order.
+fn at_place(records: &[Entry], place: Place) -> &[Entry]
+    requires { IsInOrder entry_order records.now }
+    ensures { ListsHeld (λ k. is_at place k ≡ true) records.now result.now }
 {
-    let (_, rest) = parted(records, meters, from);
-    let (found, _) = parted(rest, meters, to);
+    let (_, rest) = parted(records, place);
+    let count = rest.partition_point(|entry| stands_at(&entry.key, place));
+    let (found, _) = rest.split_at(count);
     found
 }
 
 // The records before a place, and those from there on.
-fn parted(records: &[Entry], meters: u16, place: u32) -> (&[Entry], &[Entry])
-    requires rising { IsInOrder entry_order records.now }
-    requires within { AreWithin meters records.now }
-    ensures before { ListsBefore meters place records.now result.0.now }
-    ensures behind { ListsFrom meters place records.now result.1.now }
+fn parted(records: &[Entry], place: Place) -> (&[Entry], &[Entry])
+    requires { IsInOrder entry_order records.now }
+    ensures before { ListsHeld (λ k. is_before place k ≡ true) records.now result.0.now }
+    ensures behind { ListsHeld (λ k. is_before place k ≡ false) records.now result.1.now }
 {
-    let count = records.partition_point(|entry| place_of(meters, &entry.key) < place);
+    let count = records.partition_point(|entry| stands_before(&entry.key, place));
     records.split_at(count)
 }
 
-// The place of a key: the registers of all meters stand first, then the meters, then the top-ups.
-fn place_of(meters: u16, key: &Key) -> u32
-    ensures { result ≡ key_place meters key.now }
+fn stands_before(key: &Key, place: Place) -> bool
+    ensures { result ≡ is_before place key.now }
+{
+    place_of(key).cmp(&place).is_lt()
+}
+
+fn stands_at(key: &Key, place: Place) -> bool
+    ensures { result ≡ is_at place key.now }
+{
+    place_of(key).cmp(&place).is_eq()
+}
+
+fn place_of(key: &Key) -> Place
+    ensures { result ≡ place_told key.now }
 {
     match key {
         Key::Reading {
             meter,
             register,
-            instant: _,
-        } => 6 * number_of(*meter) + place_among(*register),
-        Key::Assignment { meter, start: _ } => 6 * u32::from(meters) + number_of(*meter),
-        Key::TopUp { reference: _ } => 7 * u32::from(meters),
-    }
-}
-
-fn number_of(meter: MeterId) -> u32
-    ensures number { result ≡ meter.0 }
-    ensures few { result < 2 ^ 16 }
-{
-    u32::from(meter.0)
-}
-
-// The place of a register among the six of a meter.
-fn place_among(register: Register) -> u32
-    ensures place { result ≡ register_place register }
-    ensures few { result < 6 }
-{
-    match register {
-        Register::I0 => 0,
-        Register::I1 => 1,
-        Register::I2 => 2,
-        Register::E0 => 3,
-        Register::E1 => 4,
-        Register::E2 => 5,
+            ..
+        } => Place::Readings(*meter, *register),
+        Key::Assignment { meter, .. } => Place::Assignments(*meter),
+        Key::TopUp { .. } => Place::TopUps,
     }
 }

@@ -5,6 +5,8 @@ use Rattle.std.specs.Prelude.{◌≡◌, ℕ, ◌+◌, ◌*◌, ◌<◌, ◌≤�
 use Rattle.pw_obis.specs.declared.reference.Register.{Register}
 use Rattle.pw_time.specs.Instants.{IsInstant}
 use Rattle.pw_model.specs.declared.records.Entry.{Entry}
+use Rattle.pw_model.specs.declared.records.Key.{Key}
+use Rattle.pw_model.specs.declared.records.Key.TheVariants as key
 use Rattle.pw_model.specs.declared.records.Fall.{Fall}
 use Rattle.pw_model.specs.declared.records.Dispute.{Dispute}
 use Rattle.pw_model.specs.Counting.{Member, contents_at, point}
@@ -12,7 +14,19 @@ use Rattle.pw_model.specs.Lists.{Lists, IsFall, fall_order, IsDispute, dispute_o
 use Rattle.pw_model.specs.Office.{most_records}
 use Rattle.pw_model.specs.Shelf.{ShelfContent}
 use Rattle.pw_tariff.specs.Office.{register_place}
-pub use Rattle.pw_parts.specs.inner.Places.{IsWithin, key_place}
+
+-- ---- places
+-- the registers of all meters first, then the meters, then the top-ups
+abbrev pub key_place : ℕ → Key → ℕ
+key_place meters (key.Reading m r t) = 6 * m.0 + register_place r
+key_place meters (key.Assignment m t) = 6 * meters + m.0
+key_place meters (key.TopUp r) = 7 * meters
+
+-- a key of one of so many meters, or of a top-up
+abbrev pub IsWithin : ℕ → Key → Type 0
+IsWithin meters (key.Reading m r t) = m.0 < meters
+IsWithin meters (key.Assignment m t) = m.0 < meters
+IsWithin meters (key.TopUp r) = Unit {0}
 
 -- the place of a fall's register among the six of each meter
 abbrev pub fall_place : Fall → ℕ

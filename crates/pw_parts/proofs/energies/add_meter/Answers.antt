@@ -8,11 +8,7 @@ use Rattle.pw_model.specs.Counting.{contents_at}
 use Rattle.pw_model.specs.Energy.{owner_at as owner_told}
 use Rattle.pw_parts.proofs.Meters.{registers-more, starts-told}
 use Rattle.pw_parts.proofs.Owning.{owners-told, starts-rise}
-use Rattle.pw_parts.proofs.Parted.{within-office}
 use Rattle.pw_parts.proofs.energies.add_meter.Goals as goal
-
-pub assignments_of-assignments-requires-clause-within : goal.assignments_of-assignments-requires-clause-within
-assignments_of-assignments-requires-clause-within c = within-office (office_of c.args.office.now) c.meters.result c.args.records.now c.meters.ensures.count c.requires.counted.of_office
 
 pub unreachable-requires : goal.unreachable-requires
 unreachable-requires c =

@@ -3,16 +3,12 @@ use Rattle.std.proofs.lemmas.Result.{on_ok_weaker}
 use Rattle.pw_tariff.specs.Office.{office_of}
 use Rattle.pw_parts.specs.inner.Totals.{total_in}
 use Rattle.pw_parts.proofs.Meters.{points-told, register-is, register-none}
-use Rattle.pw_parts.proofs.Parted.{within-office}
 use Rattle.pw_parts.proofs.energies.add_register.Goals as goal
 
 pub returns-then-not-counts : goal.returns-then-not-counts
 returns-then-not-counts c = λ k.
     let z = register-none c.args.office.now c.args.records.now c.args.meter.0 c.args.register (sym c.counts.ensures ∙ c.if-not-counts.true) k in
     omega (arith, z)
-
-pub readings_of-readings-requires-clause-within : goal.readings_of-readings-requires-clause-within
-readings_of-readings-requires-clause-within c = within-office (office_of c.args.office.now) c.meters.result c.args.records.now c.meters.ensures.count c.requires.counted.of_office
 
 pub add_points-requires-clause-rising : goal.add_points-requires-clause-rising
 add_points-requires-clause-rising c =

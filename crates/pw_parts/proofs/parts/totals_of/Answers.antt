@@ -6,7 +6,6 @@ use Rattle.pw_model.proofs.SoundOffice.{sound-office}
 use Rattle.pw_tariff.specs.Office.{office_of}
 use Rattle.pw_parts.specs.Parts.{by_total}
 use Rattle.pw_parts.specs.inner.Totals.{total_in}
-use Rattle.pw_parts.proofs.Parted.{within-office}
 use Rattle.pw_parts.proofs.Whole.{lists-alike, totals-whole, total-fits, energies-fit}
 use Rattle.pw_parts.proofs.parts.totals_of.Goals as goal
 
@@ -15,9 +14,6 @@ add_meters-requires-clause-room c = λ k.
     let z = c.new-totals.ensures k in
     let f = energies-fit (office_of c.args.office.now) c.args.records.now k (sound-office c.args.office.now c.meters-meters.ensures.sound) c.requires.counted.of_office c.requires.few in
     omega (arith, z, f)
-
-pub top_ups_among-requires-clause-within : goal.top_ups_among-requires-clause-within
-top_ups_among-requires-clause-within c = within-office (office_of c.args.office.now) c.meters-meters.result c.args.records.now c.meters-meters.ensures.count c.requires.counted.of_office
 
 pub add_payments-requires : goal.add_payments-requires
 add_payments-requires c = λ k.

@@ -8,22 +8,11 @@ use Rattle.pw_model.specs.Same.{entry_order}
 use Rattle.pw_model.specs.Shelf.{total_among}
 use Rattle.pw_tariff.specs.Office.{office_of}
 use Rattle.pw_parts.specs.Parts.{by_key, by_total}
-use Rattle.pw_parts.proofs.Parted.{within-office}
 use Rattle.pw_parts.proofs.Whole.{are-counted, kind-listed, lists-alike, totals-same}
 use Rattle.pw_parts.proofs.parts.true_parts.Goals as goal
 
 pub totals_of-requires-clause-counted : goal.totals_of-requires-clause-counted
 totals_of-requires-clause-counted c = are-counted c.args.entries.now c.deref.result.now (rw c.deref.ensures.value c.in_ok-counted.ensures.counting) (office_of c.args.office.now) c.requires.of_office
-
-pub readings_among-requires-clause-within : goal.readings_among-requires-clause-within
-readings_among-requires-clause-within c =
-    let counted = are-counted c.args.entries.now c.deref-2.result.now (rw c.deref-2.ensures.value c.in_ok-counted.ensures.counting) (office_of c.args.office.now) c.requires.of_office in
-    within-office (office_of c.args.office.now) c.meters-meters.result c.deref-2.result.now c.meters-meters.ensures.count counted.of_office
-
-pub assignments_among-requires-clause-within : goal.assignments_among-requires-clause-within
-assignments_among-requires-clause-within c =
-    let counted = are-counted c.args.entries.now c.deref-3.result.now (rw c.deref-3.ensures.value c.in_ok-counted.ensures.counting) (office_of c.args.office.now) c.requires.of_office in
-    within-office (office_of c.args.office.now) c.meters-meters.result c.deref-3.result.now c.meters-meters.ensures.count counted.of_office
 
 pub returns : goal.returns
 returns c =

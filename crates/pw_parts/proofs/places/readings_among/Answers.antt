@@ -1,7 +1,8 @@
-use Rattle.std.proofs.Common.{◌*◌, arith}
+use Rattle.std.proofs.Common.{◌≡◌, true}
 use Rattle.pw_model.specs.Kinds.{IsReading}
-use Rattle.pw_parts.proofs.Parted.{kind-between, readings-between}
+use Rattle.pw_parts.specs.inner.Places.{is_before}
+use Rattle.pw_parts.proofs.Parted.{first, held-as, readings-first}
 use Rattle.pw_parts.proofs.places.readings_among.Goals as goal
 
 pub returns : goal.returns
-returns c = kind-between IsReading c.args.meters 0 (6 * c.args.meters) 0 (6 * c.from.result) c.args.records.now c.between.result.now c.requires.within (omega (arith, c.from.ensures)) (omega (arith, c.from.ensures)) c.between.ensures (readings-between c.args.meters)
+returns c = held-as (λ k. is_before first k ≡ true) IsReading c.args.records.now c.parted.result.0.now c.parted.ensures.before readings-first
