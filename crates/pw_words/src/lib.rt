@@ -4,7 +4,9 @@
 mod commands;
 mod fault;
 mod parser;
+mod sample;
 pub mod words;
 
 pub use commands::Command;
 pub use fault::WordsFault;
+pub use sample::SAMPLE;

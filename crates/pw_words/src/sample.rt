@@ -1,6 +1,7 @@
-//! The sample office.
+//! The office that `pipe` takes where the words name none.
 
-/// An office file: that of `examples/sample.toml`.
+/// An office file, that of `examples/sample.toml`: two accounts, two bands, and three meters, one that marks its times,
+/// one on winter time and one on local time.
 pub const SAMPLE: &str = r#"accounts = ["A1", "A2"]
 week = [
   "LLLLLLLHHHHHHHHHHHHHHHHL",
