@@ -1,6 +1,7 @@
 //! What `pipe` answers.
 
-use pw_commands::{SAMPLE, pipe_run};
+use pw_commands::pipe_run;
+use pw_tests::offices::SAMPLE;
 use std::alloc::Global;
 use std::io::{self, ErrorKind, Read, Write};
 use std::test::Fail;

@@ -1,10 +1,11 @@
 //! Connections that are served.
 
 use pw_book::Book;
-use pw_commands::{SAMPLE, serve_on};
+use pw_commands::serve_on;
 use pw_http::Audience;
 use pw_shelf::Shelf;
 use pw_tests::books::book_of;
+use pw_tests::offices::SAMPLE;
 use std::cell::Cell;
 use std::io::{self, Read, Write};
 use std::net::{Shutdown, TcpListener, TcpStream};
