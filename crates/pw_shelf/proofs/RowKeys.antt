@@ -1,7 +1,6 @@
 -- The orders of a store in memory tell the keys of its points, starts and totals apart, as the model's tests do.
 use Rattle.std.proofs.Common.{◌≡◌, ℕ, refl, sym, ap, ◌∙◌}
 use Rattle.std.specs.Cmp.{IsTotalOrder}
-use Rattle.std.specs.Cmp.Lexicographic.{texts_ties}
 use Rattle.std.specs.Ordering.{is_eq, nat_cmp, ordering_then}
 use Rattle.std.specs.declared.cmp.Ordering.{Ordering}
 use Rattle.std.specs.declared.cmp.Ordering.TheVariants.{Less, Equal, Greater}
@@ -11,13 +10,11 @@ use Rattle.pw_obis.specs.contracts.reference.RegisterOrd.TheImpl as register
 use Rattle.pw_obis.specs.contracts.reference.RegisterOrd.TheImpl.Laws as register_laws
 use Rattle.pw_tariff.specs.declared.ids.MeterId.{MeterId}
 use Rattle.pw_model.specs.declared.records.Key.TheVariants as key
-use Rattle.pw_model.specs.declared.records.TotalKey.{TotalKey}
 use Rattle.pw_model.specs.contracts.records.KeyOrd.TheImpl.Laws as key_laws
 use Rattle.pw_model.specs.Counting.{assignment_key, reading_key}
-use Rattle.pw_model.specs.Same.{same_key, total_numbers, same_total}
+use Rattle.pw_model.specs.Same.{same_key}
 use Rattle.pw_model.proofs.Alike.{keys-alike}
-use Rattle.pw_model.proofs.InKeyOrder.{totals-ordered}
-use Rattle.pw_shelf.specs.Orders.{total_key_order, point_order, start_order}
+use Rattle.pw_shelf.specs.Orders.{point_order, start_order}
 use Rattle.pw_shelf.specs.Standing.{meter_id}
 use Rattle.pw_shelf.proofs.AtKey.{key_exact}
 

@@ -1,6 +1,6 @@
 -- The rows that an answer gives.
 -- (Definitions of this project.)
-use Rattle.std.specs.Prelude.{◌≡◌, ℕ, zero, suc, List, Option, Some, None, Vec, Result, Ok, Err, vec_len}
+use Rattle.std.specs.Prelude.{ℕ, zero, suc, List, Option, Some, None, Vec, Result, Ok, Err, vec_len}
 use Rattle.std.specs.Global.{Global}
 use Rattle.pw_obis.specs.declared.reference.Register.{Register}
 use Rattle.pw_tariff.specs.declared.ids.MeterId.{MeterId}

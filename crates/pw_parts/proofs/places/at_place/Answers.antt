@@ -1,7 +1,7 @@
-use Rattle.std.proofs.Common.{◌≡◌, true, false, rules}
+use Rattle.std.proofs.Common.{rules}
 use Rattle.std.proofs.lemmas.List.Sorted.{IsPartitionPoint-from_clause}
 use Rattle.pw_model.specs.declared.records.Entry.{Entry}
-use Rattle.pw_parts.specs.inner.Places.{is_at, is_before}
+use Rattle.pw_parts.specs.inner.Places.{is_at}
 use Rattle.pw_parts.proofs.Parted.{IsParted, at-parts, held-within, parted-front}
 use Rattle.pw_parts.proofs.places.at_place.Goals as goal
 
