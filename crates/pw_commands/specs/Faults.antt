@@ -2,6 +2,7 @@
 -- (A format of this project.)
 use Rattle.std.specs.Prelude.{◌≡◌, ◌⊎◌, ℕ, List, Option, Result, Ok, Err, ◌++◌, codes}
 use Rattle.std.specs.Io.KnownBytes.{Appends}
+use Rattle.pw_line.specs.Refused.{memory_line}
 use Rattle.pw_read.specs.Run.{WritesFront}
 use Rattle.pw_tariff.specs.Faults as office_fault
 use Rattle.pw_tariff.specs.declared.fault.OfficeFault.{OfficeFault}
@@ -84,7 +85,7 @@ fault_text (fault.Post of_post) = book_fault.post_line of_post
 fault_text (fault.Book of_book) = book_fault.book_line of_book
 fault_text (fault.Wire of_wire) = wire_fault.wire_line of_wire
 fault_text fault.Device = codes "device failed"
-fault_text fault.Memory = codes "refused 62 Memory"
+fault_text fault.Memory = memory_line
 
 -- with its end
 abbrev pub fault_line : Fault → List ℕ

@@ -4,28 +4,28 @@ ghost use Rattle.std.specs.Prelude.{◌≡◌, ◌⊎◌, ◌<◌, List, Some, �
 ghost use Rattle.pw_tariff.specs.Office.{office_of};
 ghost use Rattle.pw_model.specs.Office.{AllOfOffice};
 ghost use Rattle.pw_read.specs.Run.{IsRun};
-ghost use Rattle.pw_commands.specs.Loads.{Gives, Refused, page_of as the_page_of};
+ghost use Rattle.pw_report.specs.Pages.{IsPageOf};
+ghost use Rattle.pw_record.specs.Laws.{upload_of};
+ghost use Rattle.pw_commands.specs.Loads.{Gives, Refused, page_of as the_page_of, upload_in as the_upload_in};
 ghost use Rattle.pw_time.specs.declared.zone.Clock.{Clock};
 ghost use Rattle.pw_words.specs.Words.{IsLimit, IsRefusal, IsSound};
 ghost use Rattle.pw_words.specs.declared.commands.Command.TheVariants.{Read};
 
 use crate::fault::Fault;
-use crate::files::{LONGEST_BODY, LONGEST_OFFICE, read_file};
+use crate::files::{LONGEST_OFFICE, read_file};
 use crate::pipe::pipe_run;
 use crate::serving::serve;
 use crate::store::{FileBook, close_book, open_book};
 use crate::telling::{finish, tell};
 use pw_book::{Book, BookFault};
 use pw_found::Purpose;
-use pw_http::{Audience, Origin};
-use pw_model::Entry;
+use pw_http::{Audience, LONGEST_BODY, Origin};
+use pw_model::{Entry, MOST_RECORDS};
 use pw_read::read_run;
-use pw_record::{
-    UploadFault, assignment_records, readout_records, telegram_records, topup_records,
-};
-use pw_report::{Page, page_text, statement};
+use pw_record::{UploadBytes, UploadFault, upload_records};
+use pw_report::{Page, page_text};
 use pw_store::{SqlShelf, Unwatched, Watch};
-use pw_tariff::{AccountId, Office};
+use pw_tariff::Office;
 use pw_time::Zone;
 use pw_words::words::{command, no_origin};
 use pw_words::{Command, Kind, SAMPLE, What, WordsFault};
@@ -35,9 +35,6 @@ use std::io::{Read, Write};
 
 /// No line of an accepted upload is longer, in bytes.
 const LONGEST_LINE: usize = 64;
-
-/// The most records of a book that takes no upload.
-const MOST_RECORDS: u32 = 10_000_000;
 
 /// The exit status for words that no command has.
 const WRONG_WORDS: u8 = 2;
@@ -218,7 +215,7 @@ fn load<W: Watch>(
 {
     let text = read_file(rt, office, LONGEST_OFFICE)?;
     let office = Office::read(rt.alloc(), text.as_slice())?;
-    let body = read_file(rt, file, LONGEST_BODY)?;
+    let body = read_file(rt, file, LONGEST_BODY as u32)?;
     let entries = entries_of(rt, &office, kind, body.as_slice())?;
     let mut book = open_book(
         rt,
@@ -263,12 +260,18 @@ pub fn entries_of(
     ensures of_office { IfOk result (λ entries. AllOfOffice (office_of office.now) entries.items) }
     ensures refused { IfErr result (λ fault. Refused office.now kind.entry body.now fault) }
 {
-    let (alloc, zone) = (rt.alloc(), Zone::central());
+    upload_records(rt.alloc(), office, &Zone::central(), upload_in(kind, body))
+}
+
+/// The upload that a file of a kind is.
+fn upload_in<'a>(kind: Kind<'a>, body: &'a [u8]) -> UploadBytes<'a>
+    ensures { upload_of result ≡ the_upload_in kind.entry body.now }
+{
     match kind {
-        Kind::Telegrams => telegram_records(alloc, office, &zone, body),
-        Kind::Readouts { meter } => readout_records(alloc, meter.as_bytes(), office, &zone, body),
-        Kind::Assignments => assignment_records(alloc, office, body),
-        Kind::TopUps => topup_records(alloc, office, body),
+        Kind::Telegrams => UploadBytes::Telegrams(body),
+        Kind::Readouts { meter } => UploadBytes::Readouts(meter.as_bytes(), body),
+        Kind::Assignments => UploadBytes::Assignments(body),
+        Kind::TopUps => UploadBytes::TopUps(body),
     }
 }
 
@@ -308,19 +311,9 @@ fn statement_of<W: Watch>(
         MOST_RECORDS,
         watch,
     )?;
-    let page = statement_text(rt, &mut book, account);
+    let page = shown(rt, &mut book, Page::Statement(account));
     close_book(book)?;
     Ok(page?)
-}
-
-fn statement_text<S: Alter>(
-    rt: &HostRuntime,
-    book: &mut Book<SqlShelf<S>>,
-    account: AccountId,
-) -> Result<Vec<u8>, BookFault>
-    requires { account.0 < length book.old.office.accounts }
-{
-    statement(book, rt.alloc(), account)
 }
 
 fn export<W: Watch>(
@@ -331,17 +324,19 @@ fn export<W: Watch>(
     watch: &mut W,
 ) -> Result<Vec<u8>, Fault> {
     let mut book = book_at(rt, office, store, Purpose::Ask, MOST_RECORDS, watch)?;
-    let text = export_text(rt, &mut book, what);
+    let text = shown(rt, &mut book, page_of(what));
     close_book(book)?;
     Ok(text?)
 }
 
-fn export_text<S: Alter>(
+fn shown<S: Alter>(
     rt: &HostRuntime,
     book: &mut Book<SqlShelf<S>>,
-    what: What,
-) -> Result<Vec<u8>, BookFault> {
-    page_text(book, rt.alloc(), page_of(what))
+    page: Page,
+) -> Result<Vec<u8>, BookFault>
+    requires { IsPageOf book.old.office page }
+{
+    page_text(book, rt.alloc(), page)
 }
 
 /// The page that an export is.

@@ -6,6 +6,7 @@ ghost use Rattle.pw_commands.specs.Faults.{fault_status};
 use pw_book::{BookFault, PostFault};
 use pw_found::{Cause, Refusal};
 use pw_http::WireFault;
+use pw_line::memory_refused;
 use pw_record::{Cause as UploadCause, UploadFault};
 use pw_store::OpenFault;
 use pw_tariff::OfficeFault;
@@ -87,7 +88,7 @@ impl fmt::Display for Fault {
             Fault::Book(fault) => write!(f, "{fault}"),
             Fault::Wire(fault) => write!(f, "{fault}"),
             Fault::Device => write!(f, "device failed"),
-            Fault::Memory => write!(f, "refused 62 Memory"),
+            Fault::Memory => f.write_str(memory_refused().as_str()),
         }
     }
 }

@@ -10,9 +10,6 @@ use std::io::{ErrorKind, Read};
 /// The longest office file, in bytes.
 pub const LONGEST_OFFICE: u32 = 1_048_576;
 
-/// The longest body of an upload, in bytes.
-pub const LONGEST_BODY: u32 = 262_144;
-
 /// The bytes of a file. `TooLarge` where there are more than `most`; `Memory`; `Device` where it can't be read.
 pub fn read_file(rt: &HostRuntime, path: &str, most: u32) -> Result<Vec<u8>, Fault>
     ensures size { IfOk result (λ bytes. length bytes.items ≤ most) }

@@ -17,7 +17,7 @@ mod telling;
 
 pub use commands::{entries_of, page_of, run, run_watched};
 pub use fault::Fault;
-pub use files::{LONGEST_BODY, LONGEST_OFFICE, read_file};
+pub use files::{LONGEST_OFFICE, read_file};
 pub use hints::name_unreadable;
 pub use pipe::pipe_run;
 pub use progress::Progress;

@@ -1,6 +1,6 @@
 //! A book over a store's files.
 
-ghost use Rattle.std.specs.Prelude.{◌≡◌, ◌≢◌, IfErr, IfOk, IsTrue, OnOk};
+ghost use Rattle.std.specs.Prelude.{◌≡◌, ◌≢◌, ◌≤◌, IfErr, IfOk, IsTrue, OnOk};
 ghost use Rattle.sqlite.specs.Held.{state};
 ghost use Rattle.sqlite.specs.State.{HasCleanDisk};
 ghost use Rattle.sqlite.specs.Effect.{IsDatabase};
@@ -30,6 +30,12 @@ use sqlite_std_file::{FileFrom, Wary};
 use sqlite_store::FileStore;
 use std::alloc::Global;
 use std::hash::{BuildHasher, RandomState};
+
+/// The size of a page, in bytes.
+const PAGE: usize = 4_096;
+
+/// The most pages of a store that are kept in memory.
+const MOST_KEPT: usize = 16_000;
 
 /// A book whose records stand in a file.
 pub type FileBook = Book<SqlShelf<FileStore<FileFrom<Wary>>>>;
@@ -61,11 +67,11 @@ pub fn open_book<W: Watch>(
     let Ok(random) = RandomState::new(rt) else {
         return Err(Fault::Unopened(Cause::Disk));
     };
-    let options = Options::new(random.hash_one(&0u8));
-    let files = match place.open(rt, Wary) {
+    let mut files = match place.open(rt, Wary) {
         Ok(files) => files,
         Err(refusal) => return Err(Fault::from(refusal)),
     };
+    let options = options_for(random.hash_one(&0u8), &mut files.db);
     match open_from(
         rt.alloc(),
         files,
@@ -82,6 +88,20 @@ pub fn open_book<W: Watch>(
             Err(fault)
         }
     }
+}
+
+// How a store's file is opened: so many pages are kept in memory as it has, within bounds. Memory is asked for each as it
+// is opened, so a small one has no more than 2,000.
+fn options_for<D: Disk>(seed: u64, file: &mut D) -> Options
+    requires { IsTrue (D.Disk.is_usable file.old) }
+    ensures usable { IsTrue (D.Disk.is_usable file.new) }
+    ensures kept { (2_000 ≤ result.cache_pages) × (result.cache_pages ≤ MOST_KEPT) }
+{
+    let mut options = Options::new(seed);
+    if let Ok(size) = file.len() {
+        options.cache_pages = (size / PAGE).max(options.cache_pages).min(MOST_KEPT);
+    }
+    options
 }
 
 /// Opens the files of a store as a book of the office of a text. A store that was there holds what its tables do; one is

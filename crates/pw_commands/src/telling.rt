@@ -6,11 +6,9 @@ ghost use Rattle.pw_read.specs.Run.{WritesFront};
 ghost use Rattle.pw_commands.specs.Faults.{IsTold, TellsLine, Writes};
 
 use crate::fault::Fault;
+use pw_line::{ended, memory_refused};
 use std::alloc::Global;
 use std::io::{ErrorKind, Write};
-
-/// The line of a fault for whose line memory is refused.
-const OUT_OF_MEMORY: &[u8] = b"refused 62 Memory\n";
 
 /// Writes the text of a command to `out`, or why there is none as a line to `err`.
 ///
@@ -41,7 +39,7 @@ pub fn tell<E: Write>(alloc: Global, fault: Fault, err: &mut E) -> u8
 {
     match format!(in alloc; "{fault}\n") {
         Ok(line) => tell_line(line.as_bytes(), fault.status(), err),
-        Err(_) => tell_line(OUT_OF_MEMORY, 3, err),
+        Err(_) => tell_line(ended(memory_refused()).as_str().as_bytes(), 3, err),
     }
 }
 
