@@ -5,8 +5,7 @@ ghost use Rattle.pw_tariff.specs.Office.{office_of};
 ghost use Rattle.pw_model.specs.Office.{AllOfOffice};
 ghost use Rattle.pw_read.specs.Run.{IsRun};
 ghost use Rattle.pw_report.specs.Pages.{IsPageOf};
-ghost use Rattle.pw_record.specs.Laws.{upload_of};
-ghost use Rattle.pw_commands.specs.Loads.{Gives, Refused, page_of as the_page_of, upload_in as the_upload_in};
+ghost use Rattle.pw_commands.specs.Loads.{Gives, Refused};
 ghost use Rattle.pw_time.specs.declared.zone.Clock.{Clock};
 ghost use Rattle.pw_words.specs.Words.{IsLimit, IsRefusal, IsSound};
 ghost use Rattle.pw_words.specs.declared.commands.Command.TheVariants.{Read};
@@ -22,13 +21,13 @@ use pw_found::Purpose;
 use pw_http::{Audience, LONGEST_BODY, Origin};
 use pw_model::{Entry, MOST_RECORDS};
 use pw_read::read_run;
-use pw_record::{UploadBytes, UploadFault, upload_records};
-use pw_report::{Page, page_text};
+use pw_record::{UploadBytes, UploadFault, UploadKind, upload_records};
+use pw_report::{Page, Table, page_text};
 use pw_store::{SqlShelf, Unwatched, Watch};
 use pw_tariff::Office;
 use pw_time::Zone;
 use pw_words::words::{command, no_origin};
-use pw_words::{Command, Kind, SAMPLE, What, WordsFault};
+use pw_words::{Command, SAMPLE, WordsFault};
 use sqlite::Alter;
 use std::alloc::Global;
 use std::io::{Read, Write};
@@ -206,7 +205,7 @@ fn load<W: Watch>(
     rt: &HostRuntime,
     office: &str,
     store: &str,
-    kind: Kind<'_>,
+    kind: UploadKind<'_>,
     file: &str,
     limit: u32,
     watch: &mut W,
@@ -253,26 +252,15 @@ fn post<S: Alter>(
 pub fn entries_of(
     rt: &HostRuntime,
     office: &Office,
-    kind: Kind<'_>,
+    kind: UploadKind<'_>,
     body: &[u8],
 ) -> Result<Vec<Entry>, UploadFault>
     ensures entries { IfOk result (λ entries. Gives office.now kind.entry body.now entries.items) }
     ensures of_office { IfOk result (λ entries. AllOfOffice (office_of office.now) entries.items) }
     ensures refused { IfErr result (λ fault. Refused office.now kind.entry body.now fault) }
 {
-    upload_records(rt.alloc(), office, &Zone::central(), upload_in(kind, body))
-}
-
-/// The upload that a file of a kind is.
-fn upload_in<'a>(kind: Kind<'a>, body: &'a [u8]) -> UploadBytes<'a>
-    ensures { upload_of result ≡ the_upload_in kind.entry body.now }
-{
-    match kind {
-        Kind::Telegrams => UploadBytes::Telegrams(body),
-        Kind::Readouts { meter } => UploadBytes::Readouts(meter.as_bytes(), body),
-        Kind::Assignments => UploadBytes::Assignments(body),
-        Kind::TopUps => UploadBytes::TopUps(body),
-    }
+    let upload = UploadBytes { kind, body };
+    upload_records(rt.alloc(), office, &Zone::central(), upload)
 }
 
 fn book_at<W: Watch>(
@@ -320,11 +308,11 @@ fn export<W: Watch>(
     rt: &HostRuntime,
     office: &str,
     store: &str,
-    what: What,
+    table: Table,
     watch: &mut W,
 ) -> Result<Vec<u8>, Fault> {
     let mut book = book_at(rt, office, store, Purpose::Ask, MOST_RECORDS, watch)?;
-    let text = shown(rt, &mut book, page_of(what));
+    let text = shown(rt, &mut book, Page::Table(table));
     close_book(book)?;
     Ok(text?)
 }
@@ -337,17 +325,4 @@ fn shown<S: Alter>(
     requires { IsPageOf book.old.office page }
 {
     page_text(book, rt.alloc(), page)
-}
-
-/// The page that an export is.
-pub fn page_of(what: What) -> Page
-    ensures { result ≡ the_page_of what }
-{
-    match what {
-        What::Readings => Page::Readings,
-        What::Energy => Page::Energies,
-        What::Accounts => Page::Accounts,
-        What::Falls => Page::Falls,
-        What::Disputes => Page::Disputes,
-    }
 }

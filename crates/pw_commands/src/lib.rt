@@ -15,7 +15,7 @@ mod serving;
 mod store;
 mod telling;
 
-pub use commands::{entries_of, page_of, run, run_watched};
+pub use commands::{entries_of, run, run_watched};
 pub use fault::Fault;
 pub use files::{LONGEST_OFFICE, read_file};
 pub use hints::name_unreadable;
