@@ -5,6 +5,7 @@ ghost use Rattle.sqlite.specs.Held.{state};
 ghost use Rattle.sqlite.specs.State.{HasCleanDisk, IsRolledBack, IsUnchanged, Survives};
 ghost use Rattle.pw_tariff.specs.declared.ids.AccountId.{AccountId as Account};
 ghost use Rattle.pw_model.specs.Counting.{Member};
+ghost use Rattle.pw_schema.specs.Calls.{Asks};
 ghost use Rattle.pw_store.specs.Content.{start_in, start_tree};
 ghost use Rattle.pw_store.specs.Kept.{IsStore};
 ghost use Rattle.pw_store.specs.inner.Changing.{IsFree, IsTaken, Makes, changed};
@@ -66,9 +67,7 @@ pub(crate) fn start_rows<S: Alter>(
 ) -> Result<Vec<Row>, Error>
     requires store { HasCleanDisk (state S.Store conn.old) → IsStore (state S.Store conn.old).now }
     ensures rows { HasCleanDisk (state S.Store conn.new) → IfOk result (λ rows. (x : ℕ × Option Account) → Member x (map start_told rows.items) ↔ (start_in ((state S.Store conn.old).now.trees start_tree) meter.0 x.0 ≡ Some x.1)) }
-    ensures same { HasCleanDisk (state S.Store conn.new) → OnOk result (IsUnchanged (state S.Store conn.old) (state S.Store conn.new)) }
-    ensures failed { HasCleanDisk (state S.Store conn.new) → OnErr result (IsUnchanged (state S.Store conn.old) (state S.Store conn.new) ⊎ IsRolledBack (state S.Store conn.old) (state S.Store conn.new)) }
-    ensures crash { Survives (state S.Store conn.old) (state S.Store conn.new) (λ _. ⊥) }
+    ensures asks { Asks result (state S.Store conn.old) (state S.Store conn.new) }
 {
     conn.query_all(
         "SELECT start, owner FROM start WHERE meter = ?1 ORDER BY start",

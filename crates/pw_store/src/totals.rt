@@ -4,6 +4,7 @@ ghost use Rattle.std.specs.Prelude.{◌≡◌, ◌⊎◌, ◌≤◌, IfOk, OnErr
 ghost use Rattle.sqlite.specs.Held.{state};
 ghost use Rattle.sqlite.specs.State.{HasCleanDisk, IsRolledBack, IsUnchanged, Survives};
 ghost use Rattle.pw_model.specs.declared.records.TotalKey.TheVariants as total;
+ghost use Rattle.pw_schema.specs.Calls.{Asks};
 ghost use Rattle.pw_store.specs.Content.{total_in};
 ghost use Rattle.pw_store.specs.Kept.{IsStore};
 ghost use Rattle.pw_store.specs.inner.Changing.{Fits, IsFree, IsTaken, Makes, changed};
@@ -74,9 +75,7 @@ pub(crate) fn energy_rows<S: Alter>(
 ) -> Result<Vec<Row>, Error>
     requires store { HasCleanDisk (state S.Store conn.old) → IsStore (state S.Store conn.old).now }
     ensures amount { HasCleanDisk (state S.Store conn.new) → IfOk result (λ rows. length rows.items ≤ 1 → first_amount rows.items ≡ total_in (state S.Store conn.old).now.trees (total.Energy owner band direction)) }
-    ensures same { HasCleanDisk (state S.Store conn.new) → OnOk result (IsUnchanged (state S.Store conn.old) (state S.Store conn.new)) }
-    ensures failed { HasCleanDisk (state S.Store conn.new) → OnErr result (IsUnchanged (state S.Store conn.old) (state S.Store conn.new) ⊎ IsRolledBack (state S.Store conn.old) (state S.Store conn.new)) }
-    ensures crash { Survives (state S.Store conn.old) (state S.Store conn.new) (λ _. ⊥) }
+    ensures asks { Asks result (state S.Store conn.old) (state S.Store conn.new) }
 {
     conn.query_all(
         "SELECT wh FROM total WHERE owner = ?1 AND band = ?2 AND direction = ?3",
@@ -133,9 +132,7 @@ pub(crate) fn payment_rows<S: Alter>(
 ) -> Result<Vec<Row>, Error>
     requires store { HasCleanDisk (state S.Store conn.old) → IsStore (state S.Store conn.old).now }
     ensures amount { HasCleanDisk (state S.Store conn.new) → IfOk result (λ rows. length rows.items ≤ 1 → first_amount rows.items ≡ total_in (state S.Store conn.old).now.trees (total.TopUps account)) }
-    ensures same { HasCleanDisk (state S.Store conn.new) → OnOk result (IsUnchanged (state S.Store conn.old) (state S.Store conn.new)) }
-    ensures failed { HasCleanDisk (state S.Store conn.new) → OnErr result (IsUnchanged (state S.Store conn.old) (state S.Store conn.new) ⊎ IsRolledBack (state S.Store conn.old) (state S.Store conn.new)) }
-    ensures crash { Survives (state S.Store conn.old) (state S.Store conn.new) (λ _. ⊥) }
+    ensures asks { Asks result (state S.Store conn.old) (state S.Store conn.new) }
 {
     conn.query_all(
         "SELECT cents FROM total_topup WHERE account = ?1",
