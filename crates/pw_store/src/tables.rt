@@ -3,8 +3,8 @@
 ghost use Rattle.std.specs.Prelude.{◌≡◌, [], Err, OnOk, OnErr, IfOk};
 ghost use Rattle.std.specs.List.Sorted.{IsPermutation};
 ghost use Rattle.sqlite.specs.Held.{state};
-ghost use Rattle.sqlite.specs.State.{HasCleanDisk, IsUnchanged, KeepsCommit, Survives};
-ghost use Rattle.pw_schema.specs.Calls.{Asks};
+ghost use Rattle.sqlite.specs.State.{HasCleanDisk};
+ghost use Rattle.pw_schema.specs.Calls.{Asks, Looks};
 ghost use Rattle.pw_schema.specs.Tables.{BeginsAsOurs, IsOurs};
 ghost use Rattle.pw_store.specs.inner.Lists.{ShowsAll};
 ghost use Rattle.pw_store.specs.Opening.{offices};
@@ -34,9 +34,7 @@ pub(crate) fn all_readings<S: Alter, J: Judge>(
     ensures took { OnOk result (HasTaken J.took (λ rows. HasCleanDisk (state S.Store conn.new) → ShowsAll RecordKind.Readings (state S.Store conn.old).now.trees rows) judge.old judge.new) }
     ensures refused { HasCleanDisk (state S.Store conn.new) → result ≡ Err OpenFault.Unclean → HasRefused J.refuses (ShowsAll RecordKind.Readings (state S.Store conn.old).now.trees) judge.old }
     ensures others { OnErr result (IsOther result) }
-    ensures same { HasCleanDisk (state S.Store conn.new) → OnOk result (IsUnchanged (state S.Store conn.old) (state S.Store conn.new)) }
-    ensures kept { HasCleanDisk (state S.Store conn.new) → KeepsCommit (state S.Store conn.old) (state S.Store conn.new) }
-    ensures crash { Survives (state S.Store conn.old) (state S.Store conn.new) (λ _. ⊥) }
+    ensures looks { Looks result (state S.Store conn.old) (state S.Store conn.new) }
 {
     judge_each(
         conn,
@@ -55,9 +53,7 @@ pub(crate) fn all_assignments<S: Alter, J: Judge>(
     ensures took { OnOk result (HasTaken J.took (λ rows. HasCleanDisk (state S.Store conn.new) → ShowsAll RecordKind.Assignments (state S.Store conn.old).now.trees rows) judge.old judge.new) }
     ensures refused { HasCleanDisk (state S.Store conn.new) → result ≡ Err OpenFault.Unclean → HasRefused J.refuses (ShowsAll RecordKind.Assignments (state S.Store conn.old).now.trees) judge.old }
     ensures others { OnErr result (IsOther result) }
-    ensures same { HasCleanDisk (state S.Store conn.new) → OnOk result (IsUnchanged (state S.Store conn.old) (state S.Store conn.new)) }
-    ensures kept { HasCleanDisk (state S.Store conn.new) → KeepsCommit (state S.Store conn.old) (state S.Store conn.new) }
-    ensures crash { Survives (state S.Store conn.old) (state S.Store conn.new) (λ _. ⊥) }
+    ensures looks { Looks result (state S.Store conn.old) (state S.Store conn.new) }
 {
     judge_each(
         conn,
@@ -76,9 +72,7 @@ pub(crate) fn all_topups<S: Alter, J: Judge>(
     ensures took { OnOk result (HasTaken J.took (λ rows. HasCleanDisk (state S.Store conn.new) → ShowsAll RecordKind.TopUps (state S.Store conn.old).now.trees rows) judge.old judge.new) }
     ensures refused { HasCleanDisk (state S.Store conn.new) → result ≡ Err OpenFault.Unclean → HasRefused J.refuses (ShowsAll RecordKind.TopUps (state S.Store conn.old).now.trees) judge.old }
     ensures others { OnErr result (IsOther result) }
-    ensures same { HasCleanDisk (state S.Store conn.new) → OnOk result (IsUnchanged (state S.Store conn.old) (state S.Store conn.new)) }
-    ensures kept { HasCleanDisk (state S.Store conn.new) → KeepsCommit (state S.Store conn.old) (state S.Store conn.new) }
-    ensures crash { Survives (state S.Store conn.old) (state S.Store conn.new) (λ _. ⊥) }
+    ensures looks { Looks result (state S.Store conn.old) (state S.Store conn.new) }
 {
     judge_each(
         conn,
