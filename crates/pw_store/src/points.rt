@@ -1,11 +1,11 @@
 //! Points, each statement run by its own text.
 
-ghost use Rattle.std.specs.Prelude.{◌≡◌, ◌⊎◌, ◌↔◌, ◌≤◌, ℕ, Some, IfOk, OnErr, OnOk, IsTrue, map};
+ghost use Rattle.std.specs.Prelude.{◌≡◌, ◌↔◌, ◌≤◌, ℕ, Some, IfOk, OnOk, IsTrue, map};
 ghost use Rattle.sqlite.specs.Held.{state};
-ghost use Rattle.sqlite.specs.State.{HasCleanDisk, IsRolledBack, IsUnchanged, Survives};
+ghost use Rattle.sqlite.specs.State.{HasCleanDisk};
 ghost use Rattle.pw_model.specs.Counting.{Member};
 ghost use Rattle.pw_shelf.specs.Seconds.{IsBefore, IsBehind};
-ghost use Rattle.pw_schema.specs.Calls.{Asks};
+ghost use Rattle.pw_schema.specs.Calls.{Asks, Writes};
 ghost use Rattle.pw_store.specs.Content.{point_in, point_tree};
 ghost use Rattle.pw_store.specs.Kept.{IsStore};
 ghost use Rattle.pw_store.specs.inner.Changing.{IsFree, IsTaken, Makes, changed};
@@ -29,8 +29,7 @@ pub(crate) fn take_point<S: Alter>(
     requires store { HasCleanDisk (state S.Store conn.old) → IsStore (state S.Store conn.old).now }
     ensures done { HasCleanDisk (state S.Store conn.new) → OnOk result (Makes (changed (Change.TakePoint meter register instant)) (state S.Store conn.old) (state S.Store conn.new)) }
     ensures taken { HasCleanDisk (state S.Store conn.new) → OnOk result (IsTaken (Change.TakePoint meter register instant) (state S.Store conn.new).now.trees) }
-    ensures failed { HasCleanDisk (state S.Store conn.new) → OnErr result (IsUnchanged (state S.Store conn.old) (state S.Store conn.new) ⊎ IsRolledBack (state S.Store conn.old) (state S.Store conn.new)) }
-    ensures crash { Survives (state S.Store conn.old) (state S.Store conn.new) (λ _. ⊥) }
+    ensures writes { Writes result (state S.Store conn.old) (state S.Store conn.new) }
 {
     conn.execute(
         "DELETE FROM point WHERE meter = ?1 AND register = ?2 AND instant = ?3",
@@ -54,8 +53,7 @@ pub(crate) fn put_point<S: Alter>(
     requires store { HasCleanDisk (state S.Store conn.old) → IsStore (state S.Store conn.old).now }
     requires free { HasCleanDisk (state S.Store conn.old) → IsFree (Change.PutPoint meter register instant wh) (state S.Store conn.old).now.trees }
     ensures done { HasCleanDisk (state S.Store conn.new) → OnOk result (Makes (changed (Change.PutPoint meter register instant wh)) (state S.Store conn.old) (state S.Store conn.new)) }
-    ensures failed { HasCleanDisk (state S.Store conn.new) → OnErr result (IsUnchanged (state S.Store conn.old) (state S.Store conn.new) ⊎ IsRolledBack (state S.Store conn.old) (state S.Store conn.new)) }
-    ensures crash { Survives (state S.Store conn.old) (state S.Store conn.new) (λ _. ⊥) }
+    ensures writes { Writes result (state S.Store conn.old) (state S.Store conn.new) }
 {
     conn.execute(
         "INSERT INTO point (meter, register, instant, wh) VALUES (?1, ?2, ?3, ?4)",

@@ -1,11 +1,11 @@
 //! Starts, each statement run by its own text.
 
-ghost use Rattle.std.specs.Prelude.{◌≡◌, ◌⊎◌, ◌↔◌, ℕ, Option, Some, IfOk, OnErr, OnOk, IsTrue, map};
+ghost use Rattle.std.specs.Prelude.{◌≡◌, ◌↔◌, ℕ, Option, Some, IfOk, OnOk, IsTrue, map};
 ghost use Rattle.sqlite.specs.Held.{state};
-ghost use Rattle.sqlite.specs.State.{HasCleanDisk, IsRolledBack, IsUnchanged, Survives};
+ghost use Rattle.sqlite.specs.State.{HasCleanDisk};
 ghost use Rattle.pw_tariff.specs.declared.ids.AccountId.{AccountId as Account};
 ghost use Rattle.pw_model.specs.Counting.{Member};
-ghost use Rattle.pw_schema.specs.Calls.{Asks};
+ghost use Rattle.pw_schema.specs.Calls.{Asks, Writes};
 ghost use Rattle.pw_store.specs.Content.{start_in, start_tree};
 ghost use Rattle.pw_store.specs.Kept.{IsStore};
 ghost use Rattle.pw_store.specs.inner.Changing.{IsFree, IsTaken, Makes, changed};
@@ -27,8 +27,7 @@ pub(crate) fn take_start<S: Alter>(
     requires store { HasCleanDisk (state S.Store conn.old) → IsStore (state S.Store conn.old).now }
     ensures done { HasCleanDisk (state S.Store conn.new) → OnOk result (Makes (changed (Change.TakeStart meter start)) (state S.Store conn.old) (state S.Store conn.new)) }
     ensures taken { HasCleanDisk (state S.Store conn.new) → OnOk result (IsTaken (Change.TakeStart meter start) (state S.Store conn.new).now.trees) }
-    ensures failed { HasCleanDisk (state S.Store conn.new) → OnErr result (IsUnchanged (state S.Store conn.old) (state S.Store conn.new) ⊎ IsRolledBack (state S.Store conn.old) (state S.Store conn.new)) }
-    ensures crash { Survives (state S.Store conn.old) (state S.Store conn.new) (λ _. ⊥) }
+    ensures writes { Writes result (state S.Store conn.old) (state S.Store conn.new) }
 {
     conn.execute(
         "DELETE FROM start WHERE meter = ?1 AND start = ?2",
@@ -47,8 +46,7 @@ pub(crate) fn put_start<S: Alter>(
     requires store { HasCleanDisk (state S.Store conn.old) → IsStore (state S.Store conn.old).now }
     requires free { HasCleanDisk (state S.Store conn.old) → IsFree (Change.PutStart meter start owner) (state S.Store conn.old).now.trees }
     ensures done { HasCleanDisk (state S.Store conn.new) → OnOk result (Makes (changed (Change.PutStart meter start owner)) (state S.Store conn.old) (state S.Store conn.new)) }
-    ensures failed { HasCleanDisk (state S.Store conn.new) → OnErr result (IsUnchanged (state S.Store conn.old) (state S.Store conn.new) ⊎ IsRolledBack (state S.Store conn.old) (state S.Store conn.new)) }
-    ensures crash { Survives (state S.Store conn.old) (state S.Store conn.new) (λ _. ⊥) }
+    ensures writes { Writes result (state S.Store conn.old) (state S.Store conn.new) }
 {
     conn.execute(
         "INSERT INTO start (meter, start, owner) VALUES (?1, ?2, ?3)",
