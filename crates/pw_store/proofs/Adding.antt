@@ -28,6 +28,7 @@ use Rattle.pw_tariff.specs.Office.{register_place}
 use Rattle.pw_tariff.specs.Cells.{owner_place}
 use Rattle.pw_model.specs.Counting.{Member, IsInserted}
 use Rattle.pw_shelf.proofs.InOrder.{inserted-once}
+use Rattle.pw_schema.specs.Calls.{Writes}
 use Rattle.pw_schema.specs.Tables.{ours_with, only_one, IsOurs, topup_at, reading_at, assignment_at}
 use Rattle.pw_schema.specs.Rows.{register_at, owner_at}
 use Rattle.pw_store.specs.Content.{content_of, records_of, reading_in, assignment_in, topup_in, energy_in, payment_in, IsReadingRow, IsAssignmentRow, IsTopupRow, reading_tree, assignment_tree, topup_tree}
@@ -79,9 +80,15 @@ pub insert_fails : (text : List ℕ) (old new : State) (params : Row) (r : Resul
 insert_fails text old new params (Ok n) h = tt
 insert_fails text old new params (Err e) h = fails old new text params e h
 
-pub insert_survives : (text : List ℕ) (at width : ℕ) (terms : List Term) → IsInsert text at width terms → (old new : State) (params : Row) → (HasCleanDisk old → IsOurs old.now.schema) → (HasCleanDisk old → IsTrue old.in_transaction) → Survives old new (CommitsBy text params old) → Survives old new (λ _. ⊥)
+insert_survives : (text : List ℕ) (at width : ℕ) (terms : List Term) → IsInsert text at width terms → (old new : State) (params : Row) → (HasCleanDisk old → IsOurs old.now.schema) → (HasCleanDisk old → IsTrue old.in_transaction) → Survives old new (CommitsBy text params old) → Survives old new (λ _. ⊥)
 insert_survives text at width terms it old new params ours inside =
     keeps_commit old new text params (Insert at (Values terms width)) (λ clean. ap (λ s. command_of (understood s text)) (ours clean) ∙ it.is only_one) (λ name e. absurd cc) (λ e. absurd cc) inside
+
+pub inserts_if : (text : List ℕ) (at width : ℕ) (terms : List Term) → IsInsert text at width terms → (old new : State) (params : Row) (r : Result ℕ Error) → (HasCleanDisk old → IsOurs old.now.schema) → (HasCleanDisk old → IsTrue old.in_transaction) → (HasCleanDisk new → Executes text params old new r) → Survives old new (CommitsBy text params old) → Writes r old new
+inserts_if text at width terms it old new params r ours inside runs s = record {
+  failed = λ clean. insert_fails text old new params r (runs clean);
+  crash = insert_survives text at width terms it old new params ours inside s;
+}
 
 -- ---- a top-up
 module _ (old new : State) (t : List ℕ) (a c i count : ℕ) (store : IsStore old.now) (h : Executes add_topup_text (topup_row t a c i) old new (Ok count)) where

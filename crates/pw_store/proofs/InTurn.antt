@@ -1,5 +1,5 @@
 -- Seconds that are read one by one, and what a question finds behind a statement that changes nothing.
-use Rattle.std.proofs.Common.{◌≡◌, ◌<◌, ◌≤◌, ◌↔◌, ℕ, List, [], ◌∷◌, ◌++◌, map, length, Option, Some, None, Vec, Result, Ok, Err, IfOk, IfSome, refl, sym, ap, subst, ◌∙◌, inl, inr, arith}
+use Rattle.std.proofs.Common.{◌≡◌, ◌<◌, ◌≤◌, ◌↔◌, ℕ, List, [], ◌∷◌, ◌++◌, map, length, Option, Some, None, Vec, Result, Ok, Err, IfOk, IfSome, sym, ap, subst, ◌∙◌, arith}
 use Rattle.std.proofs.lemmas.List.{map-append}
 use Rattle.std.specs.Cmp.{ranked, nat_cmp_is}
 use Rattle.std.specs.declared.cmp.Ordering.TheVariants.{Less}
@@ -8,8 +8,9 @@ use Rattle.sqlite.specs.Tree.{Trees}
 use Rattle.sqlite.specs.Effect.{Database}
 use Rattle.sqlite.specs.State.{State, IsUnchanged}
 use Rattle.pw_model.specs.Counting.{Member}
-use Rattle.pw_model.specs.Lists.{IsInOrder, IsBeforeAll}
+use Rattle.pw_model.specs.Lists.{IsInOrder}
 use Rattle.pw_shelf.specs.Seconds.{by_second, ListsSeconds, ListsSecondsWithin}
+use Rattle.pw_schema.proofs.Pushed.{first_push, last_push}
 use Rattle.pw_store.specs.inner.Seconds.{first_amount, first_point}
 
 -- the last second of a list, if it has one
@@ -24,29 +25,12 @@ module _ {X : Type 0} where
   in_time : (x y : ℕ × X) → x.0 < y.0 → by_second x y ≡ Less
   in_time x y l = sym (nat_cmp_is x.0 y.0 Less l)
 
-  ends : (x y : ℕ × X) (front : List (ℕ × X)) → IsBeforeAll by_second x (front ++ y ∷ []) → x.0 < y.0
-  ends x y [] b = earlier x y b.0
-  ends x y (z ∷ front) b = ends x y front b.1
-
-  -- what stands behind the last stands behind all
-  all_before : (front : List (ℕ × X)) (l e : ℕ × X) → IsInOrder by_second (front ++ l ∷ []) → l.0 < e.0 → (x : ℕ × X) → Member x (front ++ l ∷ []) → by_second x e ≡ Less
-  all_before [] l e rising low x (inl i) = in_time x e (subst (λ (y : ℕ × X). y.0 < e.0) (sym i) low)
-  all_before [] l e rising low x (inr m) = absurd m
-  all_before (z ∷ front) l e rising low x (inl i) = in_time x e (subst (λ (y : ℕ × X). y.0 < e.0) (sym i) (let first = ends z l front rising.0 in omega (arith, first, low)))
-  all_before (z ∷ front) l e rising low x (inr m) = all_before front l e rising.1 low x m
-
-  before_push : (x e : ℕ × X) (xs : List (ℕ × X)) → IsBeforeAll by_second x xs → by_second x e ≡ Less → IsBeforeAll by_second x (xs ++ e ∷ [])
-  before_push x e [] h l = (l, tt)
-  before_push x e (z ∷ xs) h l = (h.0, before_push x e xs h.1 l)
-
-  rising_push : (e : ℕ × X) (xs : List (ℕ × X)) → IsInOrder by_second xs → ((x : ℕ × X) → Member x xs → by_second x e ≡ Less) → IsInOrder by_second (xs ++ e ∷ [])
-  rising_push e [] h l = (tt, tt)
-  rising_push e (z ∷ xs) h l = (before_push z e xs h.0 (l z (inl refl)), rising_push e xs h.1 (λ x m. l x (inr m)))
+  in_turn : (x y z : ℕ × X) → by_second x y ≡ Less → by_second y z ≡ Less → by_second x z ≡ Less
+  in_turn x y z a b = in_time x z (let near = earlier x y a in let far = earlier y z b in omega (arith, near, far))
 
   pub second_push : (last : Option ℕ) (found : List (ℕ × X)) (e : ℕ × X) → IsInOrder by_second found → IsLastSecond last found → IfSome last (λ l. l < e.0) → IsInOrder by_second (found ++ e ∷ [])
-  second_push None found e rising is low = subst (λ xs. IsInOrder by_second (xs ++ e ∷ [])) (sym is) (tt, tt)
-  second_push (Some t) found e rising is low =
-      rising_push e found rising (λ x m. all_before is.0 (t, is.1) e (subst (IsInOrder by_second) is.2 rising) low x (subst (Member x) is.2 m))
+  second_push None found e rising is low = first_push by_second in_turn found e is
+  second_push (Some t) found e rising is low = last_push by_second in_turn found is.0 (t, is.1) e is.2 rising (in_time (t, is.1) e low)
 
   pub told_push : (told : Row → ℕ × X) (rows more : List Row) (row : Row) (found new : List (ℕ × X)) (e : ℕ × X) → found ≡ map told rows → e ≡ told row → new ≡ found ++ e ∷ [] → more ≡ rows ++ row ∷ [] → new ≡ map told more
   told_push told rows more row found new e so one is more_is =

@@ -23,7 +23,7 @@ use Rattle.pw_model.specs.Office.{AllOfOffice, IsOf}
 use Rattle.pw_model.specs.Same.{same_key, key_numbers, total_numbers, total_order}
 use Rattle.pw_model.specs.Shelf.{IsTrueContent, ShelfContent, total_among}
 use Rattle.pw_model.proofs.Answers.{energy-same, topped-same}
-use Rattle.pw_model.proofs.Counting.{contents-same}
+use Rattle.pw_model.proofs.Counting.{contents-same, standing-part}
 use Rattle.pw_model.proofs.InOrder.{by-numbers, rising-one}
 use Rattle.pw_model.proofs.Same.{same_key-decides}
 use Rattle.pw_parts.specs.declared.parts.Parts.{Parts}
@@ -224,7 +224,7 @@ module _ (office : OfficeRules) (db : Trees) (records : List Entry) (sums : List
     }
 
     record_of : (e : Entry) → Counts records e → IsOf office e.key e.content
-    record_of e c = of e ((permuted (records_of db) records same e).1 c.0)
+    record_of e c = of e ((permuted (records_of db) records same e).1 (standing-part records e c.0))
 
     read_by : IsToldBy now parts → AreRead parts sums
     read_by told = record {

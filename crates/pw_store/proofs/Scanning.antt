@@ -15,7 +15,8 @@ use Rattle.sqlite_sql.specs.Program.{Ends}
 use Rattle.sqlite.specs.Query.{Query}
 use Rattle.sqlite.specs.Schema.{Schema}
 use Rattle.sqlite.proofs.StateLemmas.{survives_then}
-use Rattle.pw_schema.proofs.Outcomes.{fails_query, read_survives}
+use Rattle.pw_schema.proofs.Outcomes.{early, fails_query, read_survives}
+use Rattle.pw_schema.specs.Calls.{Looks}
 use Rattle.pw_schema.specs.Tables.{IsOurs, only_one, ours_with}
 use Rattle.pw_store.specs.inner.Scanning.{HasTaken, IsOneQuery, IsSelect}
 use Rattle.pw_store.proofs.Texts.{IsQuery}
@@ -93,3 +94,16 @@ taken_if took P Q old new (Err e) f h = tt
 -- ---- one after the other
 pub survives_on : (a b c : State) → Survives a b (λ _. ⊥) → Survives b c (λ _. ⊥) → Survives a c (λ _. ⊥)
 survives_on a b c = survives_then a b c (λ _. ⊥) (λ _. ⊥) (λ _. ⊥) (λ clean db it. it) (λ clean db it. it)
+
+-- a look behind one that found the connection unchanged
+pub looks_on : {T E : Type 0} (r : Result T E) (a b c : State) → (HasCleanDisk b → IsUnchanged a b) → Survives a b (λ _. ⊥) → Looks r b c → Looks r a c
+looks_on (Ok x) a b c same crash look = record {
+  same = λ clean. unchanged_then a b c (same (early b c look.crash clean)) (look.same clean);
+  kept = λ clean. keeps_on a b c (same (early b c look.crash clean)) (look.kept clean);
+  crash = survives_on a b c crash look.crash;
+}
+looks_on (Err e) a b c same crash look = record {
+  same = λ clean. tt;
+  kept = λ clean. keeps_on a b c (same (early b c look.crash clean)) (look.kept clean);
+  crash = survives_on a b c crash look.crash;
+}

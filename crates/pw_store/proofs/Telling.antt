@@ -10,7 +10,7 @@ use Rattle.pw_model.specs.declared.records.Content.{Content}
 use Rattle.pw_model.specs.declared.records.Entry.{Entry}
 use Rattle.pw_model.specs.declared.records.Contents.{Contents}
 use Rattle.pw_model.specs.declared.records.Contents.TheVariants.{Nothing, One, Several}
-use Rattle.pw_model.specs.Counting.{Member, EachOnce, contents_at}
+use Rattle.pw_model.specs.Counting.{Member, EachOnce, contents_at, standing}
 use Rattle.pw_model.proofs.Counting.{entry, Tells, tells, tells-one}
 use Rattle.pw_schema.specs.Rows.{contents_of}
 use Rattle.pw_store.proofs.Once.{once-permuted, permuted}
@@ -64,6 +64,7 @@ module _ (k : Key) (f : Row → Entry) (p : Row → Bool) (show : Row → Row) (
   pub told_at : (table : List Row) (ordered rows : List Row) (s : List Entry) → AllByRecursion IsRow table → EachOnce (map f table)
       → ((c : Content) → (Member (entry k c) (map f table) → Member (entry k c) s) × (Member (entry k c) s → Member (entry k c) (map f table)))
       → IsPermutation (map show (filter p table)) ordered → rows ≡ take 2 ordered → contents_of (map content_in rows) ≡ contents_at s k
+  unfolding standing
   told_at table ordered rows s all once both perm is =
       let shown = map content_in ordered in
       let kept = once_kept p f table once in

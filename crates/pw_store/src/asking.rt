@@ -1,10 +1,11 @@
 //! Questions about records, each over statements that are run once the connection is known to be open.
 
-ghost use Rattle.std.specs.Prelude.{◌≡◌, ◌⊎◌, ◌↔◌, IfOk, OnErr, OnOk, IsTrue};
+ghost use Rattle.std.specs.Prelude.{◌≡◌, ◌↔◌, IfOk, IsTrue};
 ghost use Rattle.sqlite.specs.Held.{state};
-ghost use Rattle.sqlite.specs.State.{HasCleanDisk, IsRolledBack, IsUnchanged, Survives};
+ghost use Rattle.sqlite.specs.State.{HasCleanDisk};
 ghost use Rattle.pw_model.specs.Counting.{Member, contents_at};
 ghost use Rattle.pw_shelf.specs.Rows.{ListsAssignments, ListsReadings, ListsTopUps};
+ghost use Rattle.pw_schema.specs.Calls.{Asks};
 ghost use Rattle.pw_schema.specs.Rows.{ReadsRows};
 ghost use Rattle.pw_store.specs.Content.{records_of};
 ghost use Rattle.pw_store.specs.Kept.{IsAwake, NowIsStore};
@@ -30,9 +31,7 @@ fn has_entry<S: Alter>(
     requires awake { IsAwake (state S.Store conn.old) doubtful }
     requires store { NowIsStore (state S.Store conn.old) }
     ensures found { HasCleanDisk (state S.Store conn.new) → IfOk result (λ held. IsTrue held ↔ Member entry.now (records_of (state S.Store conn.old).now.trees)) }
-    ensures same { HasCleanDisk (state S.Store conn.new) → OnOk result (IsUnchanged (state S.Store conn.old) (state S.Store conn.new)) }
-    ensures failed { HasCleanDisk (state S.Store conn.new) → OnErr result (IsUnchanged (state S.Store conn.old) (state S.Store conn.new) ⊎ IsRolledBack (state S.Store conn.old) (state S.Store conn.new)) }
-    ensures crash { Survives (state S.Store conn.old) (state S.Store conn.new) (λ _. ⊥) }
+    ensures asks { Asks result (state S.Store conn.old) (state S.Store conn.new) }
 {
     wake(conn, doubtful)?;
     match &entry.key {
@@ -68,9 +67,7 @@ pub(crate) fn holds<S: Alter>(
     requires awake { IsAwake (state S.Store conn.old) doubtful }
     requires store { NowIsStore (state S.Store conn.old) }
     ensures found { HasCleanDisk (state S.Store conn.new) → IfOk result (λ held. IsTrue held ↔ Member entry.now (records_of (state S.Store conn.old).now.trees)) }
-    ensures same { HasCleanDisk (state S.Store conn.new) → OnOk result (IsUnchanged (state S.Store conn.old) (state S.Store conn.new)) }
-    ensures failed { HasCleanDisk (state S.Store conn.new) → OnErr result (IsUnchanged (state S.Store conn.old) (state S.Store conn.new) ⊎ IsRolledBack (state S.Store conn.old) (state S.Store conn.new)) }
-    ensures crash { Survives (state S.Store conn.old) (state S.Store conn.new) (λ _. ⊥) }
+    ensures asks { Asks result (state S.Store conn.old) (state S.Store conn.new) }
 {
     match has_entry(conn, doubtful, entry) {
         Ok(held) => Ok(held),
@@ -87,9 +84,7 @@ pub(crate) fn contents<S: Alter>(
     requires awake { IsAwake (state S.Store conn.old) doubtful }
     requires store { NowIsStore (state S.Store conn.old) }
     ensures told { HasCleanDisk (state S.Store conn.new) → IfOk result (λ found. found ≡ contents_at (records_of (state S.Store conn.old).now.trees) key.now) }
-    ensures same { HasCleanDisk (state S.Store conn.new) → OnOk result (IsUnchanged (state S.Store conn.old) (state S.Store conn.new)) }
-    ensures failed { HasCleanDisk (state S.Store conn.new) → OnErr result (IsUnchanged (state S.Store conn.old) (state S.Store conn.new) ⊎ IsRolledBack (state S.Store conn.old) (state S.Store conn.new)) }
-    ensures crash { Survives (state S.Store conn.old) (state S.Store conn.new) (λ _. ⊥) }
+    ensures asks { Asks result (state S.Store conn.old) (state S.Store conn.new) }
 {
     if let Err(error) = wake(conn, doubtful) {
         return Err(AskFault::Statement(error));
@@ -123,9 +118,7 @@ pub(crate) fn readings<S: Alter>(
     requires awake { IsAwake (state S.Store conn.old) doubtful }
     requires store { NowIsStore (state S.Store conn.old) }
     ensures rows { HasCleanDisk (state S.Store conn.new) → IfOk result (λ found. ListsReadings (records_of (state S.Store conn.old).now.trees) meter register found.items) }
-    ensures same { HasCleanDisk (state S.Store conn.new) → OnOk result (IsUnchanged (state S.Store conn.old) (state S.Store conn.new)) }
-    ensures failed { HasCleanDisk (state S.Store conn.new) → OnErr result (IsUnchanged (state S.Store conn.old) (state S.Store conn.new) ⊎ IsRolledBack (state S.Store conn.old) (state S.Store conn.new)) }
-    ensures crash { Survives (state S.Store conn.old) (state S.Store conn.new) (λ _. ⊥) }
+    ensures asks { Asks result (state S.Store conn.old) (state S.Store conn.new) }
 {
     if let Err(error) = wake(conn, doubtful) {
         return Err(AskFault::Statement(error));
@@ -146,9 +139,7 @@ pub(crate) fn assignments<S: Alter>(
     requires awake { IsAwake (state S.Store conn.old) doubtful }
     requires store { NowIsStore (state S.Store conn.old) }
     ensures rows { HasCleanDisk (state S.Store conn.new) → IfOk result (λ found. ListsAssignments (records_of (state S.Store conn.old).now.trees) meter found.items) }
-    ensures same { HasCleanDisk (state S.Store conn.new) → OnOk result (IsUnchanged (state S.Store conn.old) (state S.Store conn.new)) }
-    ensures failed { HasCleanDisk (state S.Store conn.new) → OnErr result (IsUnchanged (state S.Store conn.old) (state S.Store conn.new) ⊎ IsRolledBack (state S.Store conn.old) (state S.Store conn.new)) }
-    ensures crash { Survives (state S.Store conn.old) (state S.Store conn.new) (λ _. ⊥) }
+    ensures asks { Asks result (state S.Store conn.old) (state S.Store conn.new) }
 {
     if let Err(error) = wake(conn, doubtful) {
         return Err(AskFault::Statement(error));
@@ -168,9 +159,7 @@ pub(crate) fn topups<S: Alter>(
     requires awake { IsAwake (state S.Store conn.old) doubtful }
     requires store { NowIsStore (state S.Store conn.old) }
     ensures rows { HasCleanDisk (state S.Store conn.new) → IfOk result (λ found. ListsTopUps (records_of (state S.Store conn.old).now.trees) found.items) }
-    ensures same { HasCleanDisk (state S.Store conn.new) → OnOk result (IsUnchanged (state S.Store conn.old) (state S.Store conn.new)) }
-    ensures failed { HasCleanDisk (state S.Store conn.new) → OnErr result (IsUnchanged (state S.Store conn.old) (state S.Store conn.new) ⊎ IsRolledBack (state S.Store conn.old) (state S.Store conn.new)) }
-    ensures crash { Survives (state S.Store conn.old) (state S.Store conn.new) (λ _. ⊥) }
+    ensures asks { Asks result (state S.Store conn.old) (state S.Store conn.new) }
 {
     if let Err(error) = wake(conn, doubtful) {
         return Err(AskFault::Statement(error));

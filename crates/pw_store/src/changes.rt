@@ -1,8 +1,9 @@
 //! What is changed of points, starts and totals, one row at a time.
 
-ghost use Rattle.std.specs.Prelude.{◌≡◌, ◌⊎◌, OnErr, OnOk, IsTrue};
+ghost use Rattle.std.specs.Prelude.{◌≡◌, OnOk, IsTrue};
 ghost use Rattle.sqlite.specs.Held.{state};
-ghost use Rattle.sqlite.specs.State.{HasCleanDisk, IsRolledBack, IsUnchanged, Survives};
+ghost use Rattle.sqlite.specs.State.{HasCleanDisk};
+ghost use Rattle.pw_schema.specs.Calls.{Writes};
 ghost use Rattle.pw_store.specs.Kept.{IsStore};
 ghost use Rattle.pw_store.specs.inner.Changing.{Fits, IsFree, IsTaken, Makes, changed};
 
@@ -65,8 +66,7 @@ pub(crate) fn make<S: Alter>(conn: &mut Connection<S>, change: Change) -> Result
     requires fits { Fits change }
     ensures done { HasCleanDisk (state S.Store conn.new) → OnOk result (Makes (changed change) (state S.Store conn.old) (state S.Store conn.new)) }
     ensures taken { HasCleanDisk (state S.Store conn.new) → OnOk result (IsTaken change (state S.Store conn.new).now.trees) }
-    ensures failed { HasCleanDisk (state S.Store conn.new) → OnErr result (IsUnchanged (state S.Store conn.old) (state S.Store conn.new) ⊎ IsRolledBack (state S.Store conn.old) (state S.Store conn.new)) }
-    ensures crash { Survives (state S.Store conn.old) (state S.Store conn.new) (λ _. ⊥) }
+    ensures writes { Writes result (state S.Store conn.old) (state S.Store conn.new) }
 {
     match change {
         Change::TakePoint {

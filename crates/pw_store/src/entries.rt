@@ -1,10 +1,11 @@
 //! Adding a record of any kind.
 
-ghost use Rattle.std.specs.Prelude.{◌≡◌, ◌⊎◌, IfOk, OnErr, OnOk, IsTrue, false, true};
+ghost use Rattle.std.specs.Prelude.{◌≡◌, IfOk, OnOk, IsTrue, false, true};
 ghost use Rattle.sqlite.specs.Held.{state};
-ghost use Rattle.sqlite.specs.State.{HasCleanDisk, IsRolledBack, IsUnchanged, Shows, Survives};
+ghost use Rattle.sqlite.specs.State.{HasCleanDisk, Shows};
 ghost use Rattle.pw_model.specs.Counting.{Member};
 ghost use Rattle.pw_shelf.specs.State.{IsWithRecord};
+ghost use Rattle.pw_schema.specs.Calls.{Writes};
 ghost use Rattle.pw_store.specs.Content.{content_of, records_of};
 ghost use Rattle.pw_store.specs.Kept.{IsStore};
 ghost use Rattle.pw_store.specs.inner.Changing.{StillKeeps};
@@ -24,8 +25,7 @@ pub(crate) fn add_entry<S: Alter>(conn: &mut Connection<S>, entry: &Entry) -> Re
     ensures added { HasCleanDisk (state S.Store conn.new) → IfOk result (λ added. IsTrue added → IsWithRecord (content_of (state S.Store conn.old).now.trees) entry.now (content_of (state S.Store conn.new).now.trees)) }
     ensures inside { HasCleanDisk (state S.Store conn.new) → IfOk result (λ added. IsTrue added → Shows (state S.Store conn.old) (state S.Store conn.new) (state S.Store conn.new).now (state S.Store conn.old).committed true) }
     ensures foreign { HasCleanDisk (state S.Store conn.new) → IfOk result (λ added. (added ≡ false) → conn.new ≡ conn.old) }
-    ensures failed { HasCleanDisk (state S.Store conn.new) → OnErr result (IsUnchanged (state S.Store conn.old) (state S.Store conn.new) ⊎ IsRolledBack (state S.Store conn.old) (state S.Store conn.new)) }
-    ensures crash { Survives (state S.Store conn.old) (state S.Store conn.new) (λ _. ⊥) }
+    ensures writes { Writes result (state S.Store conn.old) (state S.Store conn.new) }
 {
     match (&entry.key, &entry.content) {
         (

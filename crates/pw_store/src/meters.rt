@@ -1,8 +1,8 @@
 //! Readings and assignments, each added by its own text.
 
-ghost use Rattle.std.specs.Prelude.{◌≡◌, ◌⊎◌, ◌<◌, ◌↔◌, OnOk, OnErr, IfOk, IsTrue, length, map, true};
+ghost use Rattle.std.specs.Prelude.{◌≡◌, ◌<◌, ◌↔◌, OnOk, IfOk, IsTrue, length, map, true};
 ghost use Rattle.sqlite.specs.Held.{state};
-ghost use Rattle.sqlite.specs.State.{HasCleanDisk, IsUnchanged, IsRolledBack, Shows, Survives};
+ghost use Rattle.sqlite.specs.State.{HasCleanDisk, Shows};
 ghost use Rattle.pw_model.specs.Counting.{Member, contents_at};
 ghost use Rattle.pw_shelf.specs.Rows.{IsAssignmentOf, IsReadingOf};
 ghost use Rattle.pw_store.specs.Kept.{IsStore};
@@ -11,6 +11,7 @@ ghost use Rattle.pw_store.specs.inner.Lists.{ShowsKept};
 ghost use Rattle.pw_schema.specs.Rows.{contents_of, told_content};
 ghost use Rattle.pw_model.specs.declared.records.Key.TheVariants as key;
 ghost use Rattle.pw_shelf.specs.State.{IsWithRecord};
+ghost use Rattle.pw_schema.specs.Calls.{Asks, Writes};
 ghost use Rattle.pw_store.specs.Content.{content_of, records_of};
 ghost use Rattle.pw_store.specs.inner.Records.{reading_entry, assignment_entry};
 
@@ -35,8 +36,7 @@ pub(crate) fn add_reading<S: Alter>(
     ensures keeps { HasCleanDisk (state S.Store conn.new) → OnOk result (StillKeeps (state S.Store conn.old).now.trees (state S.Store conn.new).now.trees) }
     ensures added { HasCleanDisk (state S.Store conn.new) → OnOk result (IsWithRecord (content_of (state S.Store conn.old).now.trees) (reading_entry meter register instant wh) (content_of (state S.Store conn.new).now.trees)) }
     ensures inside { HasCleanDisk (state S.Store conn.new) → OnOk result (Shows (state S.Store conn.old) (state S.Store conn.new) (state S.Store conn.new).now (state S.Store conn.old).committed true) }
-    ensures failed { HasCleanDisk (state S.Store conn.new) → OnErr result (IsUnchanged (state S.Store conn.old) (state S.Store conn.new) ⊎ IsRolledBack (state S.Store conn.old) (state S.Store conn.new)) }
-    ensures crash { Survives (state S.Store conn.old) (state S.Store conn.new) (λ _. ⊥) }
+    ensures writes { Writes result (state S.Store conn.old) (state S.Store conn.new) }
 {
     conn.execute(
         "INSERT INTO record_reading (meter, register, instant, wh) VALUES (?1, ?2, ?3, ?4)",
@@ -63,8 +63,7 @@ pub(crate) fn add_assignment<S: Alter>(
     ensures keeps { HasCleanDisk (state S.Store conn.new) → OnOk result (StillKeeps (state S.Store conn.old).now.trees (state S.Store conn.new).now.trees) }
     ensures added { HasCleanDisk (state S.Store conn.new) → OnOk result (IsWithRecord (content_of (state S.Store conn.old).now.trees) (assignment_entry meter start owner) (content_of (state S.Store conn.new).now.trees)) }
     ensures inside { HasCleanDisk (state S.Store conn.new) → OnOk result (Shows (state S.Store conn.old) (state S.Store conn.new) (state S.Store conn.new).now (state S.Store conn.old).committed true) }
-    ensures failed { HasCleanDisk (state S.Store conn.new) → OnErr result (IsUnchanged (state S.Store conn.old) (state S.Store conn.new) ⊎ IsRolledBack (state S.Store conn.old) (state S.Store conn.new)) }
-    ensures crash { Survives (state S.Store conn.old) (state S.Store conn.new) (λ _. ⊥) }
+    ensures writes { Writes result (state S.Store conn.old) (state S.Store conn.new) }
 {
     conn.execute(
         "INSERT INTO record_assignment (meter, start, owner) VALUES (?1, ?2, ?3)",
@@ -86,9 +85,7 @@ fn rows_of_reading<S: Alter>(
 ) -> Result<Vec<Row>, Error>
     requires store { HasCleanDisk (state S.Store conn.old) → IsStore (state S.Store conn.old).now }
     ensures found { HasCleanDisk (state S.Store conn.new) → IfOk result (λ rows. 0 < length rows.items ↔ Member (reading_entry meter register instant wh) (records_of (state S.Store conn.old).now.trees)) }
-    ensures same { HasCleanDisk (state S.Store conn.new) → OnOk result (IsUnchanged (state S.Store conn.old) (state S.Store conn.new)) }
-    ensures failed { HasCleanDisk (state S.Store conn.new) → OnErr result (IsUnchanged (state S.Store conn.old) (state S.Store conn.new) ⊎ IsRolledBack (state S.Store conn.old) (state S.Store conn.new)) }
-    ensures crash { Survives (state S.Store conn.old) (state S.Store conn.new) (λ _. ⊥) }
+    ensures asks { Asks result (state S.Store conn.old) (state S.Store conn.new) }
 {
     conn.query_all(
         "SELECT wh FROM record_reading WHERE meter = ?1 AND register = ?2 AND instant = ?3 AND wh = ?4",
@@ -111,9 +108,7 @@ pub(crate) fn has_reading<S: Alter>(
 ) -> Result<bool, Error>
     requires store { HasCleanDisk (state S.Store conn.old) → IsStore (state S.Store conn.old).now }
     ensures found { HasCleanDisk (state S.Store conn.new) → IfOk result (λ held. IsTrue held ↔ Member (reading_entry meter register instant wh) (records_of (state S.Store conn.old).now.trees)) }
-    ensures same { HasCleanDisk (state S.Store conn.new) → OnOk result (IsUnchanged (state S.Store conn.old) (state S.Store conn.new)) }
-    ensures failed { HasCleanDisk (state S.Store conn.new) → OnErr result (IsUnchanged (state S.Store conn.old) (state S.Store conn.new) ⊎ IsRolledBack (state S.Store conn.old) (state S.Store conn.new)) }
-    ensures crash { Survives (state S.Store conn.old) (state S.Store conn.new) (λ _. ⊥) }
+    ensures asks { Asks result (state S.Store conn.old) (state S.Store conn.new) }
 {
     let rows = rows_of_reading(conn, meter, register, instant, wh)?;
     Ok(0 < rows.len())
@@ -128,9 +123,7 @@ fn rows_of_assignment<S: Alter>(
 ) -> Result<Vec<Row>, Error>
     requires store { HasCleanDisk (state S.Store conn.old) → IsStore (state S.Store conn.old).now }
     ensures found { HasCleanDisk (state S.Store conn.new) → IfOk result (λ rows. 0 < length rows.items ↔ Member (assignment_entry meter start owner) (records_of (state S.Store conn.old).now.trees)) }
-    ensures same { HasCleanDisk (state S.Store conn.new) → OnOk result (IsUnchanged (state S.Store conn.old) (state S.Store conn.new)) }
-    ensures failed { HasCleanDisk (state S.Store conn.new) → OnErr result (IsUnchanged (state S.Store conn.old) (state S.Store conn.new) ⊎ IsRolledBack (state S.Store conn.old) (state S.Store conn.new)) }
-    ensures crash { Survives (state S.Store conn.old) (state S.Store conn.new) (λ _. ⊥) }
+    ensures asks { Asks result (state S.Store conn.old) (state S.Store conn.new) }
 {
     conn.query_all(
         "SELECT owner FROM record_assignment WHERE meter = ?1 AND start = ?2 AND owner = ?3",
@@ -151,9 +144,7 @@ pub(crate) fn has_assignment<S: Alter>(
 ) -> Result<bool, Error>
     requires store { HasCleanDisk (state S.Store conn.old) → IsStore (state S.Store conn.old).now }
     ensures found { HasCleanDisk (state S.Store conn.new) → IfOk result (λ held. IsTrue held ↔ Member (assignment_entry meter start owner) (records_of (state S.Store conn.old).now.trees)) }
-    ensures same { HasCleanDisk (state S.Store conn.new) → OnOk result (IsUnchanged (state S.Store conn.old) (state S.Store conn.new)) }
-    ensures failed { HasCleanDisk (state S.Store conn.new) → OnErr result (IsUnchanged (state S.Store conn.old) (state S.Store conn.new) ⊎ IsRolledBack (state S.Store conn.old) (state S.Store conn.new)) }
-    ensures crash { Survives (state S.Store conn.old) (state S.Store conn.new) (λ _. ⊥) }
+    ensures asks { Asks result (state S.Store conn.old) (state S.Store conn.new) }
 {
     let rows = rows_of_assignment(conn, meter, start, owner)?;
     Ok(0 < rows.len())
@@ -167,9 +158,7 @@ pub(crate) fn reading_rows<S: Alter>(
 ) -> Result<Vec<Row>, Error>
     requires store { HasCleanDisk (state S.Store conn.old) → IsStore (state S.Store conn.old).now }
     ensures rows { HasCleanDisk (state S.Store conn.new) → IfOk result (λ rows. ShowsKept RecordKind.Readings (IsReadingOf meter register) (state S.Store conn.old).now.trees rows.items) }
-    ensures same { HasCleanDisk (state S.Store conn.new) → OnOk result (IsUnchanged (state S.Store conn.old) (state S.Store conn.new)) }
-    ensures failed { HasCleanDisk (state S.Store conn.new) → OnErr result (IsUnchanged (state S.Store conn.old) (state S.Store conn.new) ⊎ IsRolledBack (state S.Store conn.old) (state S.Store conn.new)) }
-    ensures crash { Survives (state S.Store conn.old) (state S.Store conn.new) (λ _. ⊥) }
+    ensures asks { Asks result (state S.Store conn.old) (state S.Store conn.new) }
 {
     conn.query_all(
         "SELECT meter, register, instant, wh FROM record_reading WHERE meter = ?1 AND register = ?2 ORDER BY instant, wh",
@@ -187,9 +176,7 @@ pub(crate) fn assignment_rows<S: Alter>(
 ) -> Result<Vec<Row>, Error>
     requires store { HasCleanDisk (state S.Store conn.old) → IsStore (state S.Store conn.old).now }
     ensures rows { HasCleanDisk (state S.Store conn.new) → IfOk result (λ rows. ShowsKept RecordKind.Assignments (IsAssignmentOf meter) (state S.Store conn.old).now.trees rows.items) }
-    ensures same { HasCleanDisk (state S.Store conn.new) → OnOk result (IsUnchanged (state S.Store conn.old) (state S.Store conn.new)) }
-    ensures failed { HasCleanDisk (state S.Store conn.new) → OnErr result (IsUnchanged (state S.Store conn.old) (state S.Store conn.new) ⊎ IsRolledBack (state S.Store conn.old) (state S.Store conn.new)) }
-    ensures crash { Survives (state S.Store conn.old) (state S.Store conn.new) (λ _. ⊥) }
+    ensures asks { Asks result (state S.Store conn.old) (state S.Store conn.new) }
 {
     conn.query_all(
         "SELECT meter, start, owner FROM record_assignment WHERE meter = ?1 ORDER BY start, owner",
@@ -206,9 +193,7 @@ pub(crate) fn reading_at<S: Alter>(
 ) -> Result<Vec<Row>, Error>
     requires store { HasCleanDisk (state S.Store conn.old) → IsStore (state S.Store conn.old).now }
     ensures told { HasCleanDisk (state S.Store conn.new) → IfOk result (λ rows. contents_of (map (told_content RecordKind.Readings) rows.items) ≡ contents_at (records_of (state S.Store conn.old).now.trees) (key.Reading meter register instant)) }
-    ensures same { HasCleanDisk (state S.Store conn.new) → OnOk result (IsUnchanged (state S.Store conn.old) (state S.Store conn.new)) }
-    ensures failed { HasCleanDisk (state S.Store conn.new) → OnErr result (IsUnchanged (state S.Store conn.old) (state S.Store conn.new) ⊎ IsRolledBack (state S.Store conn.old) (state S.Store conn.new)) }
-    ensures crash { Survives (state S.Store conn.old) (state S.Store conn.new) (λ _. ⊥) }
+    ensures asks { Asks result (state S.Store conn.old) (state S.Store conn.new) }
 {
     conn.query_all(
         "SELECT wh FROM record_reading WHERE meter = ?1 AND register = ?2 AND instant = ?3 LIMIT 2",
@@ -228,9 +213,7 @@ pub(crate) fn assignment_at<S: Alter>(
 ) -> Result<Vec<Row>, Error>
     requires store { HasCleanDisk (state S.Store conn.old) → IsStore (state S.Store conn.old).now }
     ensures told { HasCleanDisk (state S.Store conn.new) → IfOk result (λ rows. contents_of (map (told_content RecordKind.Assignments) rows.items) ≡ contents_at (records_of (state S.Store conn.old).now.trees) (key.Assignment meter start)) }
-    ensures same { HasCleanDisk (state S.Store conn.new) → OnOk result (IsUnchanged (state S.Store conn.old) (state S.Store conn.new)) }
-    ensures failed { HasCleanDisk (state S.Store conn.new) → OnErr result (IsUnchanged (state S.Store conn.old) (state S.Store conn.new) ⊎ IsRolledBack (state S.Store conn.old) (state S.Store conn.new)) }
-    ensures crash { Survives (state S.Store conn.old) (state S.Store conn.new) (λ _. ⊥) }
+    ensures asks { Asks result (state S.Store conn.old) (state S.Store conn.new) }
 {
     conn.query_all(
         "SELECT owner FROM record_assignment WHERE meter = ?1 AND start = ?2 LIMIT 2",

@@ -6,6 +6,7 @@ ghost use Rattle.sqlite.specs.Held.{state};
 ghost use Rattle.sqlite.specs.State.{HasCleanDisk, IsUnchanged, KeepsCommit, Survives};
 ghost use Rattle.pw_tariff.specs.Office.{office_of};
 ghost use Rattle.pw_model.specs.Office.{AllOfOffice};
+ghost use Rattle.pw_schema.specs.Calls.{Looks};
 ghost use Rattle.pw_schema.specs.Fresh.{IsIdleAt};
 ghost use Rattle.pw_store.specs.Content.{records_of};
 ghost use Rattle.pw_schema.specs.Judging.{HasVersion, KeepsOffice};
@@ -81,9 +82,7 @@ fn check_records<S: Alter, W: Watch>(
     ensures listed { HasCleanDisk (state S.Store conn.new) → IfOk result (λ found. IsPermutation (records_of (state S.Store conn.old).now.trees) found.items) }
     ensures of_office { IfOk result (λ found. AllOfOffice (office_of office.now) found.items) }
     ensures cause { HasCleanDisk (state S.Store conn.new) → IfErr result (RecordsRefuse (office_of office.now) (state S.Store conn.old).now.trees) }
-    ensures same { HasCleanDisk (state S.Store conn.new) → OnOk result (IsUnchanged (state S.Store conn.old) (state S.Store conn.new)) }
-    ensures kept { HasCleanDisk (state S.Store conn.new) → KeepsCommit (state S.Store conn.old) (state S.Store conn.new) }
-    ensures crash { Survives (state S.Store conn.old) (state S.Store conn.new) (λ _. ⊥) }
+    ensures looks { Looks result (state S.Store conn.old) (state S.Store conn.new) }
 {
     let readings = match check_readings(alloc, conn, office) {
         Ok(readings) => readings,
@@ -116,9 +115,7 @@ fn check_readings<S: Alter>(
     ensures listed { HasCleanDisk (state S.Store conn.new) → IfOk result (λ found. IsPermutation (entries_of RecordKind.Readings (state S.Store conn.old).now.trees) found.items) }
     ensures of_office { IfOk result (λ found. AllOfOffice (office_of office.now) found.items) }
     ensures cause { HasCleanDisk (state S.Store conn.new) → IfErr result (TableRefuses (office_of office.now) RecordKind.Readings (state S.Store conn.old).now.trees) }
-    ensures same { HasCleanDisk (state S.Store conn.new) → OnOk result (IsUnchanged (state S.Store conn.old) (state S.Store conn.new)) }
-    ensures kept { HasCleanDisk (state S.Store conn.new) → KeepsCommit (state S.Store conn.old) (state S.Store conn.new) }
-    ensures crash { Survives (state S.Store conn.old) (state S.Store conn.new) (λ _. ⊥) }
+    ensures looks { Looks result (state S.Store conn.old) (state S.Store conn.new) }
 {
     let mut readings = Records::new(alloc, office, RecordKind::Readings);
     match all_readings(conn, &mut readings) {
@@ -137,9 +134,7 @@ fn check_assignments<S: Alter>(
     ensures listed { HasCleanDisk (state S.Store conn.new) → IfOk result (λ found. IsPermutation (entries_of RecordKind.Assignments (state S.Store conn.old).now.trees) found.items) }
     ensures of_office { IfOk result (λ found. AllOfOffice (office_of office.now) found.items) }
     ensures cause { HasCleanDisk (state S.Store conn.new) → IfErr result (TableRefuses (office_of office.now) RecordKind.Assignments (state S.Store conn.old).now.trees) }
-    ensures same { HasCleanDisk (state S.Store conn.new) → OnOk result (IsUnchanged (state S.Store conn.old) (state S.Store conn.new)) }
-    ensures kept { HasCleanDisk (state S.Store conn.new) → KeepsCommit (state S.Store conn.old) (state S.Store conn.new) }
-    ensures crash { Survives (state S.Store conn.old) (state S.Store conn.new) (λ _. ⊥) }
+    ensures looks { Looks result (state S.Store conn.old) (state S.Store conn.new) }
 {
     let mut assignments = Records::new(alloc, office, RecordKind::Assignments);
     match all_assignments(conn, &mut assignments) {
@@ -158,9 +153,7 @@ fn check_topups<S: Alter>(
     ensures listed { HasCleanDisk (state S.Store conn.new) → IfOk result (λ found. IsPermutation (entries_of RecordKind.TopUps (state S.Store conn.old).now.trees) found.items) }
     ensures of_office { IfOk result (λ found. AllOfOffice (office_of office.now) found.items) }
     ensures cause { HasCleanDisk (state S.Store conn.new) → IfErr result (TableRefuses (office_of office.now) RecordKind.TopUps (state S.Store conn.old).now.trees) }
-    ensures same { HasCleanDisk (state S.Store conn.new) → OnOk result (IsUnchanged (state S.Store conn.old) (state S.Store conn.new)) }
-    ensures kept { HasCleanDisk (state S.Store conn.new) → KeepsCommit (state S.Store conn.old) (state S.Store conn.new) }
-    ensures crash { Survives (state S.Store conn.old) (state S.Store conn.new) (λ _. ⊥) }
+    ensures looks { Looks result (state S.Store conn.old) (state S.Store conn.new) }
 {
     let mut topups = Records::new(alloc, office, RecordKind::TopUps);
     match all_topups(conn, &mut topups) {
@@ -175,9 +168,7 @@ fn read_office<S: Alter>(conn: &mut Connection<S>) -> Result<Vec<Row>, OpenFault
     ensures rows { HasCleanDisk (state S.Store conn.new) → IfOk result (λ rows. IsPermutation (offices (state S.Store conn.old).now.trees) rows.items) }
     ensures version { IfOk result (λ rows. HasVersion rows.items) }
     ensures cause { HasCleanDisk (state S.Store conn.new) → IfErr result (VersionRefuses (state S.Store conn.old).now.trees) }
-    ensures same { HasCleanDisk (state S.Store conn.new) → OnOk result (IsUnchanged (state S.Store conn.old) (state S.Store conn.new)) }
-    ensures kept { HasCleanDisk (state S.Store conn.new) → KeepsCommit (state S.Store conn.old) (state S.Store conn.new) }
-    ensures crash { Survives (state S.Store conn.old) (state S.Store conn.new) (λ _. ⊥) }
+    ensures looks { Looks result (state S.Store conn.old) (state S.Store conn.new) }
 {
     let rows = match office_rows(conn) {
         Ok(rows) => rows,
@@ -209,9 +200,7 @@ fn check_office<S: Alter>(conn: &mut Connection<S>, text: &[u8]) -> Result<(), O
     ensures ours { HasCleanDisk (state S.Store conn.new) → OnOk result (HoldsOurs (state S.Store conn.new).now) }
     ensures kept_text { HasCleanDisk (state S.Store conn.new) → OnOk result (KeepsText (KeepsOffice text.now) (state S.Store conn.new).now.trees) }
     ensures cause { HasCleanDisk (state S.Store conn.new) → IfErr result (RowRefuses text.now (state S.Store conn.old).now) }
-    ensures same { HasCleanDisk (state S.Store conn.new) → OnOk result (IsUnchanged (state S.Store conn.old) (state S.Store conn.new)) }
-    ensures kept { HasCleanDisk (state S.Store conn.new) → KeepsCommit (state S.Store conn.old) (state S.Store conn.new) }
-    ensures crash { Survives (state S.Store conn.old) (state S.Store conn.new) (λ _. ⊥) }
+    ensures looks { Looks result (state S.Store conn.old) (state S.Store conn.new) }
 {
     let rows = match read_office(conn) {
         Ok(rows) => rows,
@@ -242,9 +231,7 @@ fn check<S: Alter, W: Watch>(
     ensures counted { HasCleanDisk (state S.Store conn.new) → IfOk result (λ held. length (records_of (state S.Store conn.new).now.trees) ≡ held) }
     ensures may_open { HasCleanDisk (state S.Store conn.new) → OnOk result (MayOpen (office_of office.now) text.now (state S.Store conn.new).now) }
     ensures cause { HasCleanDisk (state S.Store conn.new) → IfErr result (BegunRefuses (office_of office.now) text.now (state S.Store conn.old).now) }
-    ensures same { HasCleanDisk (state S.Store conn.new) → OnOk result (IsUnchanged (state S.Store conn.old) (state S.Store conn.new)) }
-    ensures kept { HasCleanDisk (state S.Store conn.new) → KeepsCommit (state S.Store conn.old) (state S.Store conn.new) }
-    ensures crash { Survives (state S.Store conn.old) (state S.Store conn.new) (λ _. ⊥) }
+    ensures looks { Looks result (state S.Store conn.old) (state S.Store conn.new) }
 {
     if let Err(fault) = check_office(conn, text) {
         return Err(fault);

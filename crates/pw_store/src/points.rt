@@ -1,10 +1,11 @@
 //! Points, each statement run by its own text.
 
-ghost use Rattle.std.specs.Prelude.{◌≡◌, ◌⊎◌, ◌↔◌, ◌≤◌, ℕ, Some, IfOk, OnErr, OnOk, IsTrue, map};
+ghost use Rattle.std.specs.Prelude.{◌≡◌, ◌↔◌, ◌≤◌, ℕ, Some, IfOk, OnOk, IsTrue, map};
 ghost use Rattle.sqlite.specs.Held.{state};
-ghost use Rattle.sqlite.specs.State.{HasCleanDisk, IsRolledBack, IsUnchanged, Survives};
+ghost use Rattle.sqlite.specs.State.{HasCleanDisk};
 ghost use Rattle.pw_model.specs.Counting.{Member};
 ghost use Rattle.pw_shelf.specs.Seconds.{IsBefore, IsBehind};
+ghost use Rattle.pw_schema.specs.Calls.{Asks, Writes};
 ghost use Rattle.pw_store.specs.Content.{point_in, point_tree};
 ghost use Rattle.pw_store.specs.Kept.{IsStore};
 ghost use Rattle.pw_store.specs.inner.Changing.{IsFree, IsTaken, Makes, changed};
@@ -28,8 +29,7 @@ pub(crate) fn take_point<S: Alter>(
     requires store { HasCleanDisk (state S.Store conn.old) → IsStore (state S.Store conn.old).now }
     ensures done { HasCleanDisk (state S.Store conn.new) → OnOk result (Makes (changed (Change.TakePoint meter register instant)) (state S.Store conn.old) (state S.Store conn.new)) }
     ensures taken { HasCleanDisk (state S.Store conn.new) → OnOk result (IsTaken (Change.TakePoint meter register instant) (state S.Store conn.new).now.trees) }
-    ensures failed { HasCleanDisk (state S.Store conn.new) → OnErr result (IsUnchanged (state S.Store conn.old) (state S.Store conn.new) ⊎ IsRolledBack (state S.Store conn.old) (state S.Store conn.new)) }
-    ensures crash { Survives (state S.Store conn.old) (state S.Store conn.new) (λ _. ⊥) }
+    ensures writes { Writes result (state S.Store conn.old) (state S.Store conn.new) }
 {
     conn.execute(
         "DELETE FROM point WHERE meter = ?1 AND register = ?2 AND instant = ?3",
@@ -53,8 +53,7 @@ pub(crate) fn put_point<S: Alter>(
     requires store { HasCleanDisk (state S.Store conn.old) → IsStore (state S.Store conn.old).now }
     requires free { HasCleanDisk (state S.Store conn.old) → IsFree (Change.PutPoint meter register instant wh) (state S.Store conn.old).now.trees }
     ensures done { HasCleanDisk (state S.Store conn.new) → OnOk result (Makes (changed (Change.PutPoint meter register instant wh)) (state S.Store conn.old) (state S.Store conn.new)) }
-    ensures failed { HasCleanDisk (state S.Store conn.new) → OnErr result (IsUnchanged (state S.Store conn.old) (state S.Store conn.new) ⊎ IsRolledBack (state S.Store conn.old) (state S.Store conn.new)) }
-    ensures crash { Survives (state S.Store conn.old) (state S.Store conn.new) (λ _. ⊥) }
+    ensures writes { Writes result (state S.Store conn.old) (state S.Store conn.new) }
 {
     conn.execute(
         "INSERT INTO point (meter, register, instant, wh) VALUES (?1, ?2, ?3, ?4)",
@@ -76,9 +75,7 @@ pub(crate) fn before_rows<S: Alter>(
 ) -> Result<Vec<Row>, Error>
     requires store { HasCleanDisk (state S.Store conn.old) → IsStore (state S.Store conn.old).now }
     ensures row { HasCleanDisk (state S.Store conn.new) → IfOk result (λ rows. IsBefore (point_in ((state S.Store conn.old).now.trees point_tree) meter.0 register) instant (first_point rows.items)) }
-    ensures same { HasCleanDisk (state S.Store conn.new) → OnOk result (IsUnchanged (state S.Store conn.old) (state S.Store conn.new)) }
-    ensures failed { HasCleanDisk (state S.Store conn.new) → OnErr result (IsUnchanged (state S.Store conn.old) (state S.Store conn.new) ⊎ IsRolledBack (state S.Store conn.old) (state S.Store conn.new)) }
-    ensures crash { Survives (state S.Store conn.old) (state S.Store conn.new) (λ _. ⊥) }
+    ensures asks { Asks result (state S.Store conn.old) (state S.Store conn.new) }
 {
     conn.query_all(
         "SELECT instant, wh FROM point WHERE meter = ?1 AND register = ?2 AND instant < ?3 ORDER BY instant DESC LIMIT 1",
@@ -99,9 +96,7 @@ pub(crate) fn after_rows<S: Alter>(
 ) -> Result<Vec<Row>, Error>
     requires store { HasCleanDisk (state S.Store conn.old) → IsStore (state S.Store conn.old).now }
     ensures row { HasCleanDisk (state S.Store conn.new) → IfOk result (λ rows. IsBehind (point_in ((state S.Store conn.old).now.trees point_tree) meter.0 register) instant (first_point rows.items)) }
-    ensures same { HasCleanDisk (state S.Store conn.new) → OnOk result (IsUnchanged (state S.Store conn.old) (state S.Store conn.new)) }
-    ensures failed { HasCleanDisk (state S.Store conn.new) → OnErr result (IsUnchanged (state S.Store conn.old) (state S.Store conn.new) ⊎ IsRolledBack (state S.Store conn.old) (state S.Store conn.new)) }
-    ensures crash { Survives (state S.Store conn.old) (state S.Store conn.new) (λ _. ⊥) }
+    ensures asks { Asks result (state S.Store conn.old) (state S.Store conn.new) }
 {
     conn.query_all(
         "SELECT instant, wh FROM point WHERE meter = ?1 AND register = ?2 AND instant > ?3 ORDER BY instant LIMIT 1",
@@ -123,9 +118,7 @@ pub(crate) fn between_rows<S: Alter>(
 ) -> Result<Vec<Row>, Error>
     requires store { HasCleanDisk (state S.Store conn.old) → IsStore (state S.Store conn.old).now }
     ensures rows { HasCleanDisk (state S.Store conn.new) → IfOk result (λ rows. (x : ℕ × ℕ) → Member x (map point_told rows.items) ↔ ((from ≤ x.0) × (x.0 ≤ to) × ((point_in ((state S.Store conn.old).now.trees point_tree) meter.0 register) x.0 ≡ Some x.1))) }
-    ensures same { HasCleanDisk (state S.Store conn.new) → OnOk result (IsUnchanged (state S.Store conn.old) (state S.Store conn.new)) }
-    ensures failed { HasCleanDisk (state S.Store conn.new) → OnErr result (IsUnchanged (state S.Store conn.old) (state S.Store conn.new) ⊎ IsRolledBack (state S.Store conn.old) (state S.Store conn.new)) }
-    ensures crash { Survives (state S.Store conn.old) (state S.Store conn.new) (λ _. ⊥) }
+    ensures asks { Asks result (state S.Store conn.old) (state S.Store conn.new) }
 {
     conn.query_all(
         "SELECT instant, wh FROM point WHERE meter = ?1 AND register = ?2 AND instant >= ?3 AND instant <= ?4 ORDER BY instant",

@@ -3,7 +3,8 @@
 ghost use Rattle.std.specs.Prelude.{◌≡◌, [], Err, OnErr, OnOk};
 ghost use Rattle.sqlite.specs.Held.{state};
 ghost use Rattle.sqlite.specs.Listing.{understood};
-ghost use Rattle.sqlite.specs.State.{HasCleanDisk, IsUnchanged, KeepsCommit, Shown, Survives};
+ghost use Rattle.sqlite.specs.State.{HasCleanDisk, Shown};
+ghost use Rattle.pw_schema.specs.Calls.{Looks};
 ghost use Rattle.pw_store.specs.inner.Scanning.{HasRefused, HasTaken, IsOneQuery, IsOther};
 
 use crate::fault::{OpenFault, fault_in, fault_of_rows};
@@ -22,9 +23,7 @@ pub(crate) fn judge_each<S: Alter, J: Judge>(
     ensures took { OnOk result (HasTaken J.took (λ rows. HasCleanDisk (state S.Store conn.new) → Shown text.now [] (state S.Store conn.old) (state S.Store conn.new) rows) judge.old judge.new) }
     ensures refused { HasCleanDisk (state S.Store conn.new) → result ≡ Err OpenFault.Unclean → HasRefused J.refuses (Shown text.now [] (state S.Store conn.old) (state S.Store conn.new)) judge.old }
     ensures others { OnErr result (IsOther result) }
-    ensures same { HasCleanDisk (state S.Store conn.new) → OnOk result (IsUnchanged (state S.Store conn.old) (state S.Store conn.new)) }
-    ensures kept { HasCleanDisk (state S.Store conn.new) → KeepsCommit (state S.Store conn.old) (state S.Store conn.new) }
-    ensures crash { Survives (state S.Store conn.old) (state S.Store conn.new) (λ _. ⊥) }
+    ensures looks { Looks result (state S.Store conn.old) (state S.Store conn.new) }
 {
     let mut rows = match conn.query(text, &[]) {
         Ok(rows) => rows,

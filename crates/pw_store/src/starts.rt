@@ -1,10 +1,11 @@
 //! Starts, each statement run by its own text.
 
-ghost use Rattle.std.specs.Prelude.{◌≡◌, ◌⊎◌, ◌↔◌, ℕ, Option, Some, IfOk, OnErr, OnOk, IsTrue, map};
+ghost use Rattle.std.specs.Prelude.{◌≡◌, ◌↔◌, ℕ, Option, Some, IfOk, OnOk, IsTrue, map};
 ghost use Rattle.sqlite.specs.Held.{state};
-ghost use Rattle.sqlite.specs.State.{HasCleanDisk, IsRolledBack, IsUnchanged, Survives};
+ghost use Rattle.sqlite.specs.State.{HasCleanDisk};
 ghost use Rattle.pw_tariff.specs.declared.ids.AccountId.{AccountId as Account};
 ghost use Rattle.pw_model.specs.Counting.{Member};
+ghost use Rattle.pw_schema.specs.Calls.{Asks, Writes};
 ghost use Rattle.pw_store.specs.Content.{start_in, start_tree};
 ghost use Rattle.pw_store.specs.Kept.{IsStore};
 ghost use Rattle.pw_store.specs.inner.Changing.{IsFree, IsTaken, Makes, changed};
@@ -26,8 +27,7 @@ pub(crate) fn take_start<S: Alter>(
     requires store { HasCleanDisk (state S.Store conn.old) → IsStore (state S.Store conn.old).now }
     ensures done { HasCleanDisk (state S.Store conn.new) → OnOk result (Makes (changed (Change.TakeStart meter start)) (state S.Store conn.old) (state S.Store conn.new)) }
     ensures taken { HasCleanDisk (state S.Store conn.new) → OnOk result (IsTaken (Change.TakeStart meter start) (state S.Store conn.new).now.trees) }
-    ensures failed { HasCleanDisk (state S.Store conn.new) → OnErr result (IsUnchanged (state S.Store conn.old) (state S.Store conn.new) ⊎ IsRolledBack (state S.Store conn.old) (state S.Store conn.new)) }
-    ensures crash { Survives (state S.Store conn.old) (state S.Store conn.new) (λ _. ⊥) }
+    ensures writes { Writes result (state S.Store conn.old) (state S.Store conn.new) }
 {
     conn.execute(
         "DELETE FROM start WHERE meter = ?1 AND start = ?2",
@@ -46,8 +46,7 @@ pub(crate) fn put_start<S: Alter>(
     requires store { HasCleanDisk (state S.Store conn.old) → IsStore (state S.Store conn.old).now }
     requires free { HasCleanDisk (state S.Store conn.old) → IsFree (Change.PutStart meter start owner) (state S.Store conn.old).now.trees }
     ensures done { HasCleanDisk (state S.Store conn.new) → OnOk result (Makes (changed (Change.PutStart meter start owner)) (state S.Store conn.old) (state S.Store conn.new)) }
-    ensures failed { HasCleanDisk (state S.Store conn.new) → OnErr result (IsUnchanged (state S.Store conn.old) (state S.Store conn.new) ⊎ IsRolledBack (state S.Store conn.old) (state S.Store conn.new)) }
-    ensures crash { Survives (state S.Store conn.old) (state S.Store conn.new) (λ _. ⊥) }
+    ensures writes { Writes result (state S.Store conn.old) (state S.Store conn.new) }
 {
     conn.execute(
         "INSERT INTO start (meter, start, owner) VALUES (?1, ?2, ?3)",
@@ -66,9 +65,7 @@ pub(crate) fn start_rows<S: Alter>(
 ) -> Result<Vec<Row>, Error>
     requires store { HasCleanDisk (state S.Store conn.old) → IsStore (state S.Store conn.old).now }
     ensures rows { HasCleanDisk (state S.Store conn.new) → IfOk result (λ rows. (x : ℕ × Option Account) → Member x (map start_told rows.items) ↔ (start_in ((state S.Store conn.old).now.trees start_tree) meter.0 x.0 ≡ Some x.1)) }
-    ensures same { HasCleanDisk (state S.Store conn.new) → OnOk result (IsUnchanged (state S.Store conn.old) (state S.Store conn.new)) }
-    ensures failed { HasCleanDisk (state S.Store conn.new) → OnErr result (IsUnchanged (state S.Store conn.old) (state S.Store conn.new) ⊎ IsRolledBack (state S.Store conn.old) (state S.Store conn.new)) }
-    ensures crash { Survives (state S.Store conn.old) (state S.Store conn.new) (λ _. ⊥) }
+    ensures asks { Asks result (state S.Store conn.old) (state S.Store conn.new) }
 {
     conn.query_all(
         "SELECT start, owner FROM start WHERE meter = ?1 ORDER BY start",

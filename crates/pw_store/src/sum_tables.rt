@@ -3,7 +3,8 @@
 ghost use Rattle.std.specs.Prelude.{◌≡◌, [], Err, OnErr, OnOk, map};
 ghost use Rattle.std.specs.List.Sorted.{IsPermutation};
 ghost use Rattle.sqlite.specs.Held.{state};
-ghost use Rattle.sqlite.specs.State.{HasCleanDisk, IsUnchanged, KeepsCommit, Survives};
+ghost use Rattle.sqlite.specs.State.{HasCleanDisk};
+ghost use Rattle.pw_schema.specs.Calls.{Looks};
 ghost use Rattle.pw_schema.specs.Tables.{IsOurs};
 ghost use Rattle.pw_store.specs.Content.{payment_tree, point_tree, start_tree, total_tree};
 ghost use Rattle.pw_store.specs.inner.Lists.{shown};
@@ -25,9 +26,7 @@ pub(crate) fn all_points<S: Alter, J: Judge>(
     ensures took { OnOk result (HasTaken J.took (λ rows. HasCleanDisk (state S.Store conn.new) → IsPermutation (map (shown RecordKind.Readings) ((state S.Store conn.old).now.trees point_tree)) rows) judge.old judge.new) }
     ensures refused { HasCleanDisk (state S.Store conn.new) → result ≡ Err OpenFault.Unclean → HasRefused J.refuses (IsPermutation (map (shown RecordKind.Readings) ((state S.Store conn.old).now.trees point_tree))) judge.old }
     ensures others { OnErr result (IsOther result) }
-    ensures same { HasCleanDisk (state S.Store conn.new) → OnOk result (IsUnchanged (state S.Store conn.old) (state S.Store conn.new)) }
-    ensures kept { HasCleanDisk (state S.Store conn.new) → KeepsCommit (state S.Store conn.old) (state S.Store conn.new) }
-    ensures crash { Survives (state S.Store conn.old) (state S.Store conn.new) (λ _. ⊥) }
+    ensures looks { Looks result (state S.Store conn.old) (state S.Store conn.new) }
 {
     judge_each(
         conn,
@@ -46,9 +45,7 @@ pub(crate) fn all_starts<S: Alter, J: Judge>(
     ensures took { OnOk result (HasTaken J.took (λ rows. HasCleanDisk (state S.Store conn.new) → IsPermutation (map (shown RecordKind.Assignments) ((state S.Store conn.old).now.trees start_tree)) rows) judge.old judge.new) }
     ensures refused { HasCleanDisk (state S.Store conn.new) → result ≡ Err OpenFault.Unclean → HasRefused J.refuses (IsPermutation (map (shown RecordKind.Assignments) ((state S.Store conn.old).now.trees start_tree))) judge.old }
     ensures others { OnErr result (IsOther result) }
-    ensures same { HasCleanDisk (state S.Store conn.new) → OnOk result (IsUnchanged (state S.Store conn.old) (state S.Store conn.new)) }
-    ensures kept { HasCleanDisk (state S.Store conn.new) → KeepsCommit (state S.Store conn.old) (state S.Store conn.new) }
-    ensures crash { Survives (state S.Store conn.old) (state S.Store conn.new) (λ _. ⊥) }
+    ensures looks { Looks result (state S.Store conn.old) (state S.Store conn.new) }
 {
     judge_each(
         conn,
@@ -67,9 +64,7 @@ pub(crate) fn all_energies<S: Alter, J: Judge>(
     ensures took { OnOk result (HasTaken J.took (λ rows. HasCleanDisk (state S.Store conn.new) → IsPermutation (map (shown_total TotalKind.Energies) ((state S.Store conn.old).now.trees total_tree)) rows) judge.old judge.new) }
     ensures refused { HasCleanDisk (state S.Store conn.new) → result ≡ Err OpenFault.Unclean → HasRefused J.refuses (IsPermutation (map (shown_total TotalKind.Energies) ((state S.Store conn.old).now.trees total_tree))) judge.old }
     ensures others { OnErr result (IsOther result) }
-    ensures same { HasCleanDisk (state S.Store conn.new) → OnOk result (IsUnchanged (state S.Store conn.old) (state S.Store conn.new)) }
-    ensures kept { HasCleanDisk (state S.Store conn.new) → KeepsCommit (state S.Store conn.old) (state S.Store conn.new) }
-    ensures crash { Survives (state S.Store conn.old) (state S.Store conn.new) (λ _. ⊥) }
+    ensures looks { Looks result (state S.Store conn.old) (state S.Store conn.new) }
 {
     judge_each(
         conn,
@@ -88,9 +83,7 @@ pub(crate) fn all_payments<S: Alter, J: Judge>(
     ensures took { OnOk result (HasTaken J.took (λ rows. HasCleanDisk (state S.Store conn.new) → IsPermutation (map (shown_total TotalKind.Payments) ((state S.Store conn.old).now.trees payment_tree)) rows) judge.old judge.new) }
     ensures refused { HasCleanDisk (state S.Store conn.new) → result ≡ Err OpenFault.Unclean → HasRefused J.refuses (IsPermutation (map (shown_total TotalKind.Payments) ((state S.Store conn.old).now.trees payment_tree))) judge.old }
     ensures others { OnErr result (IsOther result) }
-    ensures same { HasCleanDisk (state S.Store conn.new) → OnOk result (IsUnchanged (state S.Store conn.old) (state S.Store conn.new)) }
-    ensures kept { HasCleanDisk (state S.Store conn.new) → KeepsCommit (state S.Store conn.old) (state S.Store conn.new) }
-    ensures crash { Survives (state S.Store conn.old) (state S.Store conn.new) (λ _. ⊥) }
+    ensures looks { Looks result (state S.Store conn.old) (state S.Store conn.new) }
 {
     judge_each(
         conn,
@@ -109,9 +102,7 @@ pub(crate) fn point_ids<S: Alter, J: Judge>(
     ensures took { OnOk result (HasTaken J.took (λ rows. HasCleanDisk (state S.Store conn.new) → IsPermutation (map shown_id ((state S.Store conn.old).now.trees point_tree)) rows) judge.old judge.new) }
     ensures refused { HasCleanDisk (state S.Store conn.new) → result ≡ Err OpenFault.Unclean → HasRefused J.refuses (IsPermutation (map shown_id ((state S.Store conn.old).now.trees point_tree))) judge.old }
     ensures others { OnErr result (IsOther result) }
-    ensures same { HasCleanDisk (state S.Store conn.new) → OnOk result (IsUnchanged (state S.Store conn.old) (state S.Store conn.new)) }
-    ensures kept { HasCleanDisk (state S.Store conn.new) → KeepsCommit (state S.Store conn.old) (state S.Store conn.new) }
-    ensures crash { Survives (state S.Store conn.old) (state S.Store conn.new) (λ _. ⊥) }
+    ensures looks { Looks result (state S.Store conn.old) (state S.Store conn.new) }
 {
     judge_each(conn, "SELECT rowid FROM point ORDER BY rowid", judge)
 }
@@ -126,9 +117,7 @@ pub(crate) fn start_ids<S: Alter, J: Judge>(
     ensures took { OnOk result (HasTaken J.took (λ rows. HasCleanDisk (state S.Store conn.new) → IsPermutation (map shown_id ((state S.Store conn.old).now.trees start_tree)) rows) judge.old judge.new) }
     ensures refused { HasCleanDisk (state S.Store conn.new) → result ≡ Err OpenFault.Unclean → HasRefused J.refuses (IsPermutation (map shown_id ((state S.Store conn.old).now.trees start_tree))) judge.old }
     ensures others { OnErr result (IsOther result) }
-    ensures same { HasCleanDisk (state S.Store conn.new) → OnOk result (IsUnchanged (state S.Store conn.old) (state S.Store conn.new)) }
-    ensures kept { HasCleanDisk (state S.Store conn.new) → KeepsCommit (state S.Store conn.old) (state S.Store conn.new) }
-    ensures crash { Survives (state S.Store conn.old) (state S.Store conn.new) (λ _. ⊥) }
+    ensures looks { Looks result (state S.Store conn.old) (state S.Store conn.new) }
 {
     judge_each(conn, "SELECT rowid FROM start ORDER BY rowid", judge)
 }
@@ -143,9 +132,7 @@ pub(crate) fn energy_ids<S: Alter, J: Judge>(
     ensures took { OnOk result (HasTaken J.took (λ rows. HasCleanDisk (state S.Store conn.new) → IsPermutation (map shown_id ((state S.Store conn.old).now.trees total_tree)) rows) judge.old judge.new) }
     ensures refused { HasCleanDisk (state S.Store conn.new) → result ≡ Err OpenFault.Unclean → HasRefused J.refuses (IsPermutation (map shown_id ((state S.Store conn.old).now.trees total_tree))) judge.old }
     ensures others { OnErr result (IsOther result) }
-    ensures same { HasCleanDisk (state S.Store conn.new) → OnOk result (IsUnchanged (state S.Store conn.old) (state S.Store conn.new)) }
-    ensures kept { HasCleanDisk (state S.Store conn.new) → KeepsCommit (state S.Store conn.old) (state S.Store conn.new) }
-    ensures crash { Survives (state S.Store conn.old) (state S.Store conn.new) (λ _. ⊥) }
+    ensures looks { Looks result (state S.Store conn.old) (state S.Store conn.new) }
 {
     judge_each(conn, "SELECT rowid FROM total ORDER BY rowid", judge)
 }

@@ -1,12 +1,13 @@
 //! Points, starts and totals of a store that is opened, judged and compared with the parts of its records.
 
-ghost use Rattle.std.specs.Prelude.{◌≡◌, ◌↔◌, ℕ, [], Err, IfErr, IfOk, IsTrue, List, OnErr, OnOk, Some, filter};
+ghost use Rattle.std.specs.Prelude.{◌≡◌, ◌↔◌, ℕ, [], Err, IfErr, IfOk, IsTrue, List, OnOk, Some, filter};
 ghost use Rattle.std.specs.Option.{option_copied};
 ghost use Rattle.sqlite.specs.Held.{state};
-ghost use Rattle.sqlite.specs.State.{HasCleanDisk, IsUnchanged, KeepsCommit, Survives};
+ghost use Rattle.sqlite.specs.State.{HasCleanDisk};
 ghost use Rattle.pw_tariff.specs.Office.{office_of};
 ghost use Rattle.pw_model.specs.declared.records.Entry.{Entry as EntrySpec};
 ghost use Rattle.pw_model.specs.declared.records.TotalKey.{TotalKey as TotalKeySpec};
+ghost use Rattle.pw_schema.specs.Calls.{Looks};
 ghost use Rattle.pw_schema.specs.Judges.{IsRest, is_above_zero};
 ghost use Rattle.pw_schema.specs.Tables.{IsOurs};
 ghost use Rattle.pw_store.specs.Content.{payment_tree, point_tree, start_tree, total_tree};
@@ -37,9 +38,7 @@ fn read_points<S: Alter>(
     ensures numbered { HasCleanDisk (state S.Store conn.new) → OnOk result (AreNumbered ((state S.Store conn.old).now.trees point_tree)) }
     ensures tells { HasCleanDisk (state S.Store conn.new) → IfOk result (λ read. (found : List EntrySpec) × TellsKept RecordKind.Readings ((state S.Store conn.old).now.trees point_tree) found × (IsTrue read.1 ↔ expected.now ≡ found)) }
     ensures cause { HasCleanDisk (state S.Store conn.new) → IfErr result (KeptRefuses (office_of office.now) RecordKind.Readings ((state S.Store conn.old).now.trees point_tree)) }
-    ensures same { HasCleanDisk (state S.Store conn.new) → OnOk result (IsUnchanged (state S.Store conn.old) (state S.Store conn.new)) }
-    ensures kept { HasCleanDisk (state S.Store conn.new) → KeepsCommit (state S.Store conn.old) (state S.Store conn.new) }
-    ensures crash { Survives (state S.Store conn.old) (state S.Store conn.new) (λ _. ⊥) }
+    ensures looks { Looks result (state S.Store conn.old) (state S.Store conn.new) }
 {
     let mut points = KeptEntries::new(office, RecordKind::Readings, expected);
     let count = match all_points(conn, &mut points) {
@@ -64,9 +63,7 @@ fn read_starts<S: Alter>(
     ensures numbered { HasCleanDisk (state S.Store conn.new) → OnOk result (AreNumbered ((state S.Store conn.old).now.trees start_tree)) }
     ensures tells { HasCleanDisk (state S.Store conn.new) → IfOk result (λ read. (found : List EntrySpec) × TellsKept RecordKind.Assignments ((state S.Store conn.old).now.trees start_tree) found × (IsTrue read.1 ↔ expected.now ≡ found)) }
     ensures cause { HasCleanDisk (state S.Store conn.new) → IfErr result (KeptRefuses (office_of office.now) RecordKind.Assignments ((state S.Store conn.old).now.trees start_tree)) }
-    ensures same { HasCleanDisk (state S.Store conn.new) → OnOk result (IsUnchanged (state S.Store conn.old) (state S.Store conn.new)) }
-    ensures kept { HasCleanDisk (state S.Store conn.new) → KeepsCommit (state S.Store conn.old) (state S.Store conn.new) }
-    ensures crash { Survives (state S.Store conn.old) (state S.Store conn.new) (λ _. ⊥) }
+    ensures looks { Looks result (state S.Store conn.old) (state S.Store conn.new) }
 {
     let mut starts = KeptEntries::new(office, RecordKind::Assignments, expected);
     let count = match all_starts(conn, &mut starts) {
@@ -91,9 +88,7 @@ fn read_energies<'a, S: Alter>(
     ensures numbered { HasCleanDisk (state S.Store conn.new) → OnOk result (AreNumbered ((state S.Store conn.old).now.trees total_tree)) }
     ensures tells { HasCleanDisk (state S.Store conn.new) → IfOk result (λ read. (found : List (TotalKeySpec × ℕ)) × TellsTotals TotalKind.Energies ((state S.Store conn.old).now.trees total_tree) found × IsRest (Some expected.now) (filter is_above_zero found) (option_copied read.1)) }
     ensures cause { HasCleanDisk (state S.Store conn.new) → IfErr result (TotalsRefuse (office_of office.now) TotalKind.Energies ((state S.Store conn.old).now.trees total_tree)) }
-    ensures same { HasCleanDisk (state S.Store conn.new) → OnOk result (IsUnchanged (state S.Store conn.old) (state S.Store conn.new)) }
-    ensures kept { HasCleanDisk (state S.Store conn.new) → KeepsCommit (state S.Store conn.old) (state S.Store conn.new) }
-    ensures crash { Survives (state S.Store conn.old) (state S.Store conn.new) (λ _. ⊥) }
+    ensures looks { Looks result (state S.Store conn.old) (state S.Store conn.new) }
 {
     let mut energies = KeptTotals::new(office, TotalKind::Energies, Some(expected));
     let count = match all_energies(conn, &mut energies) {
@@ -128,9 +123,7 @@ fn read_payments<S: Alter>(
     ensures numbered { HasCleanDisk (state S.Store conn.new) → OnOk result (AreNumbered ((state S.Store conn.old).now.trees payment_tree)) }
     ensures tells { HasCleanDisk (state S.Store conn.new) → IfOk result (λ read. (found : List (TotalKeySpec × ℕ)) × TellsTotals TotalKind.Payments ((state S.Store conn.old).now.trees payment_tree) found × (IsTrue read.1 ↔ option_copied expected.entry ≡ Some (filter is_above_zero found))) }
     ensures cause { HasCleanDisk (state S.Store conn.new) → IfErr result (TotalsRefuse (office_of office.now) TotalKind.Payments ((state S.Store conn.old).now.trees payment_tree)) }
-    ensures same { HasCleanDisk (state S.Store conn.new) → OnOk result (IsUnchanged (state S.Store conn.old) (state S.Store conn.new)) }
-    ensures kept { HasCleanDisk (state S.Store conn.new) → KeepsCommit (state S.Store conn.old) (state S.Store conn.new) }
-    ensures crash { Survives (state S.Store conn.old) (state S.Store conn.new) (λ _. ⊥) }
+    ensures looks { Looks result (state S.Store conn.old) (state S.Store conn.new) }
 {
     let mut payments = KeptTotals::new(office, TotalKind::Payments, expected);
     match all_payments(conn, &mut payments) {
@@ -157,9 +150,7 @@ pub(crate) fn read_sums<S: Alter, W: Watch>(
     ensures numbered { HasCleanDisk (state S.Store conn.new) → OnOk result (AreAllNumbered (state S.Store conn.old).now.trees) }
     ensures tells { HasCleanDisk (state S.Store conn.new) → IfOk result (λ same. (sums : Listed) × TellsSums (state S.Store conn.old).now.trees sums × (IsTrue same ↔ AreRead parts.now sums)) }
     ensures cause { HasCleanDisk (state S.Store conn.new) → IfErr result (SumsRefuse (office_of office.now) (state S.Store conn.old).now.trees) }
-    ensures same { HasCleanDisk (state S.Store conn.new) → OnOk result (IsUnchanged (state S.Store conn.old) (state S.Store conn.new)) }
-    ensures kept { HasCleanDisk (state S.Store conn.new) → KeepsCommit (state S.Store conn.old) (state S.Store conn.new) }
-    ensures crash { Survives (state S.Store conn.old) (state S.Store conn.new) (λ _. ⊥) }
+    ensures looks { Looks result (state S.Store conn.old) (state S.Store conn.new) }
 {
     let points = match read_points(conn, office, parts.points.as_slice()) {
         Ok(points) => points,

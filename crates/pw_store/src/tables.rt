@@ -1,9 +1,10 @@
 //! The whole tables of records, each handed to a judge by its own text, and the office's row.
 
-ghost use Rattle.std.specs.Prelude.{◌≡◌, ◌⊎◌, [], Err, OnOk, OnErr, IfOk};
+ghost use Rattle.std.specs.Prelude.{◌≡◌, [], Err, OnOk, OnErr, IfOk};
 ghost use Rattle.std.specs.List.Sorted.{IsPermutation};
 ghost use Rattle.sqlite.specs.Held.{state};
-ghost use Rattle.sqlite.specs.State.{HasCleanDisk, IsUnchanged, IsRolledBack, KeepsCommit, Survives};
+ghost use Rattle.sqlite.specs.State.{HasCleanDisk};
+ghost use Rattle.pw_schema.specs.Calls.{Asks, Looks};
 ghost use Rattle.pw_schema.specs.Tables.{BeginsAsOurs, IsOurs};
 ghost use Rattle.pw_store.specs.inner.Lists.{ShowsAll};
 ghost use Rattle.pw_store.specs.Opening.{offices};
@@ -18,9 +19,7 @@ use sqlite::{Alter, Connection, Error, Row};
 pub(crate) fn office_rows<S: Alter>(conn: &mut Connection<S>) -> Result<Vec<Row>, Error>
     requires begun { HasCleanDisk (state S.Store conn.old) → BeginsAsOurs (state S.Store conn.old).now.schema }
     ensures rows { HasCleanDisk (state S.Store conn.new) → IfOk result (λ rows. IsPermutation (offices (state S.Store conn.old).now.trees) rows.items) }
-    ensures same { HasCleanDisk (state S.Store conn.new) → OnOk result (IsUnchanged (state S.Store conn.old) (state S.Store conn.new)) }
-    ensures failed { HasCleanDisk (state S.Store conn.new) → OnErr result (IsUnchanged (state S.Store conn.old) (state S.Store conn.new) ⊎ IsRolledBack (state S.Store conn.old) (state S.Store conn.new)) }
-    ensures crash { Survives (state S.Store conn.old) (state S.Store conn.new) (λ _. ⊥) }
+    ensures asks { Asks result (state S.Store conn.old) (state S.Store conn.new) }
 {
     conn.query_all("SELECT version, body FROM office WHERE id = 1", &[])
 }
@@ -35,9 +34,7 @@ pub(crate) fn all_readings<S: Alter, J: Judge>(
     ensures took { OnOk result (HasTaken J.took (λ rows. HasCleanDisk (state S.Store conn.new) → ShowsAll RecordKind.Readings (state S.Store conn.old).now.trees rows) judge.old judge.new) }
     ensures refused { HasCleanDisk (state S.Store conn.new) → result ≡ Err OpenFault.Unclean → HasRefused J.refuses (ShowsAll RecordKind.Readings (state S.Store conn.old).now.trees) judge.old }
     ensures others { OnErr result (IsOther result) }
-    ensures same { HasCleanDisk (state S.Store conn.new) → OnOk result (IsUnchanged (state S.Store conn.old) (state S.Store conn.new)) }
-    ensures kept { HasCleanDisk (state S.Store conn.new) → KeepsCommit (state S.Store conn.old) (state S.Store conn.new) }
-    ensures crash { Survives (state S.Store conn.old) (state S.Store conn.new) (λ _. ⊥) }
+    ensures looks { Looks result (state S.Store conn.old) (state S.Store conn.new) }
 {
     judge_each(
         conn,
@@ -56,9 +53,7 @@ pub(crate) fn all_assignments<S: Alter, J: Judge>(
     ensures took { OnOk result (HasTaken J.took (λ rows. HasCleanDisk (state S.Store conn.new) → ShowsAll RecordKind.Assignments (state S.Store conn.old).now.trees rows) judge.old judge.new) }
     ensures refused { HasCleanDisk (state S.Store conn.new) → result ≡ Err OpenFault.Unclean → HasRefused J.refuses (ShowsAll RecordKind.Assignments (state S.Store conn.old).now.trees) judge.old }
     ensures others { OnErr result (IsOther result) }
-    ensures same { HasCleanDisk (state S.Store conn.new) → OnOk result (IsUnchanged (state S.Store conn.old) (state S.Store conn.new)) }
-    ensures kept { HasCleanDisk (state S.Store conn.new) → KeepsCommit (state S.Store conn.old) (state S.Store conn.new) }
-    ensures crash { Survives (state S.Store conn.old) (state S.Store conn.new) (λ _. ⊥) }
+    ensures looks { Looks result (state S.Store conn.old) (state S.Store conn.new) }
 {
     judge_each(
         conn,
@@ -77,9 +72,7 @@ pub(crate) fn all_topups<S: Alter, J: Judge>(
     ensures took { OnOk result (HasTaken J.took (λ rows. HasCleanDisk (state S.Store conn.new) → ShowsAll RecordKind.TopUps (state S.Store conn.old).now.trees rows) judge.old judge.new) }
     ensures refused { HasCleanDisk (state S.Store conn.new) → result ≡ Err OpenFault.Unclean → HasRefused J.refuses (ShowsAll RecordKind.TopUps (state S.Store conn.old).now.trees) judge.old }
     ensures others { OnErr result (IsOther result) }
-    ensures same { HasCleanDisk (state S.Store conn.new) → OnOk result (IsUnchanged (state S.Store conn.old) (state S.Store conn.new)) }
-    ensures kept { HasCleanDisk (state S.Store conn.new) → KeepsCommit (state S.Store conn.old) (state S.Store conn.new) }
-    ensures crash { Survives (state S.Store conn.old) (state S.Store conn.new) (λ _. ⊥) }
+    ensures looks { Looks result (state S.Store conn.old) (state S.Store conn.new) }
 {
     judge_each(
         conn,

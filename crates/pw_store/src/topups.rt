@@ -1,14 +1,15 @@
 //! Top-ups, each statement run by its own text.
 
-ghost use Rattle.std.specs.Prelude.{◌≡◌, ◌⊎◌, ◌<◌, OnOk, OnErr, IfOk, IfErr, IsTrue, ◌↔◌, length, map, true};
+ghost use Rattle.std.specs.Prelude.{◌≡◌, ◌<◌, OnOk, IfOk, IfErr, IsTrue, ◌↔◌, length, map, true};
 ghost use Rattle.sqlite.specs.Held.{state};
-ghost use Rattle.sqlite.specs.State.{HasCleanDisk, IsUnchanged, IsRolledBack, Shows, Survives};
+ghost use Rattle.sqlite.specs.State.{HasCleanDisk, Shows};
 ghost use Rattle.pw_model.specs.Counting.{Member, contents_at};
 ghost use Rattle.pw_model.specs.declared.records.Key.TheVariants as key;
 ghost use Rattle.pw_store.specs.Kept.{IsStore};
 ghost use Rattle.pw_store.specs.inner.Changing.{StillKeeps};
 ghost use Rattle.pw_schema.specs.Tables.{IsOurs};
 ghost use Rattle.pw_shelf.specs.State.{IsWithRecord};
+ghost use Rattle.pw_schema.specs.Calls.{Asks, Writes};
 ghost use Rattle.pw_store.specs.Content.{content_of, records_of};
 ghost use Rattle.pw_store.specs.inner.Records.{topup_entry};
 ghost use Rattle.pw_store.specs.inner.Lists.{ShowsAll};
@@ -35,8 +36,7 @@ pub(crate) fn add_topup<S: Alter>(
     ensures keeps { HasCleanDisk (state S.Store conn.new) → OnOk result (StillKeeps (state S.Store conn.old).now.trees (state S.Store conn.new).now.trees) }
     ensures added { HasCleanDisk (state S.Store conn.new) → OnOk result (IsWithRecord (content_of (state S.Store conn.old).now.trees) (topup_entry reference.now account cents instant) (content_of (state S.Store conn.new).now.trees)) }
     ensures inside { HasCleanDisk (state S.Store conn.new) → OnOk result (Shows (state S.Store conn.old) (state S.Store conn.new) (state S.Store conn.new).now (state S.Store conn.old).committed true) }
-    ensures failed { HasCleanDisk (state S.Store conn.new) → OnErr result (IsUnchanged (state S.Store conn.old) (state S.Store conn.new) ⊎ IsRolledBack (state S.Store conn.old) (state S.Store conn.new)) }
-    ensures crash { Survives (state S.Store conn.old) (state S.Store conn.new) (λ _. ⊥) }
+    ensures writes { Writes result (state S.Store conn.old) (state S.Store conn.new) }
 {
     conn.execute(
         "INSERT INTO record_topup (reference, account, cents, instant) VALUES (?1, ?2, ?3, ?4)",
@@ -53,9 +53,7 @@ pub(crate) fn add_topup<S: Alter>(
 pub(crate) fn topup_rows<S: Alter>(conn: &mut Connection<S>) -> Result<Vec<Row>, Error>
     requires ours { HasCleanDisk (state S.Store conn.old) → IsOurs (state S.Store conn.old).now.schema }
     ensures rows { HasCleanDisk (state S.Store conn.new) → IfOk result (λ rows. ShowsAll RecordKind.TopUps (state S.Store conn.old).now.trees rows.items) }
-    ensures same { HasCleanDisk (state S.Store conn.new) → OnOk result (IsUnchanged (state S.Store conn.old) (state S.Store conn.new)) }
-    ensures failed { HasCleanDisk (state S.Store conn.new) → OnErr result (IsUnchanged (state S.Store conn.old) (state S.Store conn.new) ⊎ IsRolledBack (state S.Store conn.old) (state S.Store conn.new)) }
-    ensures crash { Survives (state S.Store conn.old) (state S.Store conn.new) (λ _. ⊥) }
+    ensures asks { Asks result (state S.Store conn.old) (state S.Store conn.new) }
 {
     conn.query_all(
         "SELECT reference, account, cents, instant FROM record_topup ORDER BY reference, account, cents, instant",
@@ -73,9 +71,7 @@ fn rows_of_topup<S: Alter>(
 ) -> Result<Vec<Row>, Error>
     requires store { HasCleanDisk (state S.Store conn.old) → IsStore (state S.Store conn.old).now }
     ensures found { HasCleanDisk (state S.Store conn.new) → IfOk result (λ rows. 0 < length rows.items ↔ Member (topup_entry reference.now account cents instant) (records_of (state S.Store conn.old).now.trees)) }
-    ensures same { HasCleanDisk (state S.Store conn.new) → OnOk result (IsUnchanged (state S.Store conn.old) (state S.Store conn.new)) }
-    ensures failed { HasCleanDisk (state S.Store conn.new) → OnErr result (IsUnchanged (state S.Store conn.old) (state S.Store conn.new) ⊎ IsRolledBack (state S.Store conn.old) (state S.Store conn.new)) }
-    ensures crash { Survives (state S.Store conn.old) (state S.Store conn.new) (λ _. ⊥) }
+    ensures asks { Asks result (state S.Store conn.old) (state S.Store conn.new) }
 {
     conn.query_all(
         "SELECT account FROM record_topup WHERE reference = ?1 AND account = ?2 AND cents = ?3 AND instant = ?4",
@@ -98,9 +94,7 @@ pub(crate) fn has_topup<S: Alter>(
 ) -> Result<bool, Error>
     requires store { HasCleanDisk (state S.Store conn.old) → IsStore (state S.Store conn.old).now }
     ensures found { HasCleanDisk (state S.Store conn.new) → IfOk result (λ held. IsTrue held ↔ Member (topup_entry reference.now account cents instant) (records_of (state S.Store conn.old).now.trees)) }
-    ensures same { HasCleanDisk (state S.Store conn.new) → OnOk result (IsUnchanged (state S.Store conn.old) (state S.Store conn.new)) }
-    ensures failed { HasCleanDisk (state S.Store conn.new) → OnErr result (IsUnchanged (state S.Store conn.old) (state S.Store conn.new) ⊎ IsRolledBack (state S.Store conn.old) (state S.Store conn.new)) }
-    ensures crash { Survives (state S.Store conn.old) (state S.Store conn.new) (λ _. ⊥) }
+    ensures asks { Asks result (state S.Store conn.old) (state S.Store conn.new) }
 {
     let rows = rows_of_topup(conn, reference, account, cents, instant)?;
     Ok(0 < rows.len())
@@ -113,9 +107,7 @@ pub(crate) fn topup_at<S: Alter>(
 ) -> Result<Vec<Row>, Error>
     requires store { HasCleanDisk (state S.Store conn.old) → IsStore (state S.Store conn.old).now }
     ensures told { HasCleanDisk (state S.Store conn.new) → IfOk result (λ rows. contents_of (map (told_content RecordKind.TopUps) rows.items) ≡ contents_at (records_of (state S.Store conn.old).now.trees) (key.TopUp reference.now)) }
-    ensures same { HasCleanDisk (state S.Store conn.new) → OnOk result (IsUnchanged (state S.Store conn.old) (state S.Store conn.new)) }
-    ensures failed { HasCleanDisk (state S.Store conn.new) → OnErr result (IsUnchanged (state S.Store conn.old) (state S.Store conn.new) ⊎ IsRolledBack (state S.Store conn.old) (state S.Store conn.new)) }
-    ensures crash { Survives (state S.Store conn.old) (state S.Store conn.new) (λ _. ⊥) }
+    ensures asks { Asks result (state S.Store conn.old) (state S.Store conn.new) }
 {
     conn.query_all(
         "SELECT account, cents, instant FROM record_topup WHERE reference = ?1 LIMIT 2",

@@ -9,6 +9,6 @@ use Rattle.pw_store.proofs.asking.readings.Goals as goal
 
 pub returns-in-Ok-clause-rows : goal.returns-in-Ok-clause-rows
 returns-in-Ok-clause-rows g c clean =
-    let before = early (state g.S.Store c.wake.new.conn) (state g.S.Store c.reading_rows.new.conn) c.in-Ok.ensures.crash clean in
-    let same = records_same (state g.S.Store c.args.conn.now) (state g.S.Store c.wake.new.conn) (c.in_default.ensures.same before) in
+    let before = early (state g.S.Store c.wake.new.conn) (state g.S.Store c.reading_rows.new.conn) c.in-Ok.ensures.asks.crash clean in
+    let same = records_same (state g.S.Store c.args.conn.now) (state g.S.Store c.wake.new.conn) (c.in_default.ensures.asks.same before) in
     read_if Readings c.in-Ok.rows.items c.as_slice.result.now c.read.result (λ (records : List Entry) (found : List Entry). ListsReadings records c.args.meter c.args.register found) _ _ c.as_slice.ensures.value same (c.in-Ok.ensures.rows clean) c.read.ensures

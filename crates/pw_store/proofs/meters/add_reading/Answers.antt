@@ -1,6 +1,6 @@
 use Rattle.sqlite.specs.Held.{state}
 use Rattle.pw_store.proofs.Texts.{add_reading_text, add_reading_is, four_terms}
-use Rattle.pw_store.proofs.Adding.{stores_reading_if, adds_reading_if, keeps_reading_if, inside_if, insert_fails, insert_survives}
+use Rattle.pw_store.proofs.Adding.{stores_reading_if, adds_reading_if, keeps_reading_if, inside_if, inserts_if}
 use Rattle.pw_schema.proofs.Outcomes.{early}
 use Rattle.pw_store.proofs.meters.add_reading.Goals as goal
 
@@ -27,8 +27,5 @@ returns-clause-inside g c clean =
     let before = early (state g.S.Store c.args.conn.now) (state g.S.Store c.execute.new.self) c.execute.ensures.survives clean in
     inside_if add_reading_text 1 5 four_terms add_reading_is (state g.S.Store c.args.conn.now) (state g.S.Store c.execute.new.self) (c.requires.store before).ours _ c.execute.result (c.execute.ensures.runs clean) (c.requires.inside before)
 
-pub returns-clause-failed : goal.returns-clause-failed
-returns-clause-failed g c clean = insert_fails add_reading_text (state g.S.Store c.args.conn.now) (state g.S.Store c.execute.new.self) _ c.execute.result (c.execute.ensures.runs clean)
-
-pub returns-clause-crash : goal.returns-clause-crash
-returns-clause-crash g c = insert_survives add_reading_text 1 5 four_terms add_reading_is (state g.S.Store c.args.conn.now) (state g.S.Store c.execute.new.self) _ (λ clean. (c.requires.store clean).ours) c.requires.inside c.execute.ensures.survives
+pub returns-clause-writes : goal.returns-clause-writes
+returns-clause-writes g c = inserts_if add_reading_text 1 5 four_terms add_reading_is (state g.S.Store c.args.conn.now) (state g.S.Store c.execute.new.self) _ c.execute.result (λ clean. (c.requires.store clean).ours) c.requires.inside c.execute.ensures.runs c.execute.ensures.survives

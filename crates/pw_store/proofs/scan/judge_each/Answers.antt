@@ -7,19 +7,16 @@ use Rattle.pw_schema.proofs.Outcomes.{early}
 use Rattle.pw_store.proofs.Scanning.{begun_whole, err_is, fails_keeping, plain_of, shown_first, survives_one}
 use Rattle.pw_store.proofs.scan.judge_each.Goals as goal
 
-pub returns-in-Err-clause-kept : goal.returns-in-Err-clause-kept
-returns-in-Err-clause-kept g c clean =
+pub returns-in-Err-clause-looks : goal.returns-in-Err-clause-looks
+returns-in-Err-clause-looks g c =
     let old = state g.S.Store c.args.conn.now in
     let new = state g.S.Store c.query.follows.lender-at-none in
     let held = rw c.in-Err.is at c.query.follows.holds-at-none in
-    fails_keeping c.args.text.now old new c.in-Err.error (c.requires.query (early old new held.survives clean)) (held.err clean)
-
-pub returns-in-Err-clause-crash : goal.returns-in-Err-clause-crash
-returns-in-Err-clause-crash g c =
-    let old = state g.S.Store c.args.conn.now in
-    let new = state g.S.Store c.query.follows.lender-at-none in
-    let held = rw c.in-Err.is at c.query.follows.holds-at-none in
-    survives_one c.args.text.now old new c.requires.query held.survives
+    record {
+      same = λ clean. tt;
+      kept = λ clean. fails_keeping c.args.text.now old new c.in-Err.error (c.requires.query (early old new held.survives clean)) (held.err clean);
+      crash = survives_one c.args.text.now old new c.requires.query held.survives;
+    }
 
 pub loop-count-init : goal.loop-count-init
 loop-count-init g c =
@@ -50,6 +47,13 @@ returns-in-Ok-None-clause-took g c =
           search rules
           ),
     )
+
+pub returns-in-Ok-None-clause-looks : goal.returns-in-Ok-None-clause-looks
+returns-in-Ok-None-clause-looks g c = record {
+  same = search rules;
+  kept = search rules;
+  crash = search rules;
+}
 
 pub returns-in-Err-take-clause-refused : goal.returns-in-Err-take-clause-refused
 returns-in-Err-take-clause-refused g c late is =

@@ -1,7 +1,7 @@
 use Rattle.sqlite.specs.Held.{state}
 use Rattle.pw_store.proofs.Texts.{three_terms}
 use Rattle.pw_store.proofs.KeptTexts.{insert_start_text, insert_start_is}
-use Rattle.pw_store.proofs.Adding.{insert_fails, insert_survives}
+use Rattle.pw_store.proofs.Adding.{inserts_if}
 use Rattle.pw_store.proofs.StartRows.{puts_if}
 use Rattle.pw_schema.proofs.Outcomes.{early}
 use Rattle.pw_store.proofs.starts.put_start.Goals as goal
@@ -12,8 +12,5 @@ returns-clause-done g c clean =
     puts_if (state g.S.Store c.args.conn.now) (state g.S.Store c.execute.new.self) c.args.meter.0 c.args.start c.args.owner c.execute.result (c.requires.store before) (c.requires.inside before) (c.requires.free before)
     (rw (c.integer.ensures, c.integer-2.ensures, c.integer-3.ensures, c.from.ensures, c.seconds.ensures.value, c.owner_place.ensures) at (c.execute.ensures.runs clean))
 
-pub returns-clause-failed : goal.returns-clause-failed
-returns-clause-failed g c clean = insert_fails insert_start_text (state g.S.Store c.args.conn.now) (state g.S.Store c.execute.new.self) _ c.execute.result (c.execute.ensures.runs clean)
-
-pub returns-clause-crash : goal.returns-clause-crash
-returns-clause-crash g c = insert_survives insert_start_text 5 4 three_terms insert_start_is (state g.S.Store c.args.conn.now) (state g.S.Store c.execute.new.self) _ (λ clean. (c.requires.store clean).ours) c.requires.inside c.execute.ensures.survives
+pub returns-clause-writes : goal.returns-clause-writes
+returns-clause-writes g c = inserts_if insert_start_text 5 4 three_terms insert_start_is (state g.S.Store c.args.conn.now) (state g.S.Store c.execute.new.self) _ c.execute.result (λ clean. (c.requires.store clean).ours) c.requires.inside c.execute.ensures.runs c.execute.ensures.survives

@@ -1,7 +1,6 @@
 use Rattle.sqlite.specs.Held.{state}
 use Rattle.pw_store.proofs.KeptTexts.{delete_start_text, delete_start_query, delete_start_is}
-use Rattle.pw_store.proofs.Adding.{insert_fails}
-use Rattle.pw_store.proofs.Taking.{delete_survives}
+use Rattle.pw_store.proofs.Taking.{deletes_if}
 use Rattle.pw_store.proofs.StartRows.{takes_if, taken_if}
 use Rattle.pw_schema.proofs.Outcomes.{early}
 use Rattle.pw_store.proofs.starts.take_start.Goals as goal
@@ -18,8 +17,5 @@ returns-clause-taken g c clean =
     taken_if (state g.S.Store c.args.conn.now) (state g.S.Store c.execute.new.self) c.args.meter.0 c.args.start c.execute.result (c.requires.store before) (c.requires.inside before)
     (rw (c.integer.ensures, c.integer-2.ensures, c.from.ensures, c.seconds.ensures.value) at (c.execute.ensures.runs clean))
 
-pub returns-clause-failed : goal.returns-clause-failed
-returns-clause-failed g c clean = insert_fails delete_start_text (state g.S.Store c.args.conn.now) (state g.S.Store c.execute.new.self) _ c.execute.result (c.execute.ensures.runs clean)
-
-pub returns-clause-crash : goal.returns-clause-crash
-returns-clause-crash g c = delete_survives delete_start_text 5 delete_start_query delete_start_is (state g.S.Store c.args.conn.now) (state g.S.Store c.execute.new.self) _ (λ clean. (c.requires.store clean).ours) c.requires.inside c.execute.ensures.survives
+pub returns-clause-writes : goal.returns-clause-writes
+returns-clause-writes g c = deletes_if delete_start_text 5 delete_start_query delete_start_is (state g.S.Store c.args.conn.now) (state g.S.Store c.execute.new.self) _ c.execute.result (λ clean. (c.requires.store clean).ours) c.requires.inside c.execute.ensures.runs c.execute.ensures.survives

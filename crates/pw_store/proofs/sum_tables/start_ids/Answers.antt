@@ -18,11 +18,11 @@ returns-clause-took g c =
     let old = state g.S.Store c.args.conn.now in
     let new = state g.S.Store c.judge_each.new.conn in
     taken_if g.J.Judge.took (λ rows. HasCleanDisk new → Shown start_ids_text [] old new rows) (λ rows. HasCleanDisk new → IsPermutation (map shown_id (old.now.trees start_tree)) rows) c.args.judge.now c.judge_each.new.judge c.judge_each.result
-    (λ rows h clean. shows_start_ids old new rows (c.requires.ours (early old new c.judge_each.ensures.crash clean)) (h clean)) c.judge_each.ensures.took
+    (λ rows h clean. shows_start_ids old new rows (c.requires.ours (early old new c.judge_each.ensures.looks.crash clean)) (h clean)) c.judge_each.ensures.took
 
 pub returns-clause-refused : goal.returns-clause-refused
 returns-clause-refused g c clean is =
     let old = state g.S.Store c.args.conn.now in
     let new = state g.S.Store c.judge_each.new.conn in
     let it = c.judge_each.ensures.refused clean is in
-    (it.0, it.1, shows_start_ids old new it.0 (c.requires.ours (early old new c.judge_each.ensures.crash clean)) it.2)
+    (it.0, it.1, shows_start_ids old new it.0 (c.requires.ours (early old new c.judge_each.ensures.looks.crash clean)) it.2)

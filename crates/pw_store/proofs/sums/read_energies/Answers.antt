@@ -21,22 +21,22 @@ returns-in-Err-clause-cause g c clean =
 
 pub returns-in-Ok-energy_ids-clause-holds : goal.returns-in-Ok-energy_ids-clause-holds
 returns-in-Ok-energy_ids-clause-holds g c clean =
-    let before = early (state g.S.Store c.all_energies.new.conn) (state g.S.Store c.energy_ids.new.conn) c.in-Ok-energy_ids.ensures.crash clean in
+    let before = early (state g.S.Store c.all_energies.new.conn) (state g.S.Store c.energy_ids.new.conn) c.in-Ok-energy_ids.ensures.looks.crash clean in
     let table : List Row = (state g.S.Store c.args.conn.now).now.trees total_tree in
     let it = c.in-Ok.ensures.took in
     totals_hold (office_of c.args.office.now) Energies table c.new-energies.result (ap office_of c.new-energies.ensures.office) c.new-energies.ensures.kind c.all_energies.new.judge it.0 it.1 (it.2 before)
 
 pub returns-in-Ok-energy_ids-clause-numbered : goal.returns-in-Ok-energy_ids-clause-numbered
 returns-in-Ok-energy_ids-clause-numbered g c clean =
-    let before = early (state g.S.Store c.all_energies.new.conn) (state g.S.Store c.energy_ids.new.conn) c.in-Ok-energy_ids.ensures.crash clean in
+    let before = early (state g.S.Store c.all_energies.new.conn) (state g.S.Store c.energy_ids.new.conn) c.in-Ok-energy_ids.ensures.looks.crash clean in
     let table : List Row = (state g.S.Store c.args.conn.now).now.trees total_tree in
-    let same = trees_same (state g.S.Store c.args.conn.now) (state g.S.Store c.all_energies.new.conn) (c.in-Ok.ensures.same before) in
+    let same = trees_same (state g.S.Store c.args.conn.now) (state g.S.Store c.all_energies.new.conn) (c.in-Ok.ensures.looks.same before) in
     let it = c.in-Ok-energy_ids.ensures.took in
     are_numbered table it.0 (subst (λ db. IsPermutation (map shown_id (db total_tree)) it.0) same (it.2 clean)) it.1.are
 
 pub returns-in-Ok-energy_ids-clause-tells : goal.returns-in-Ok-energy_ids-clause-tells
 returns-in-Ok-energy_ids-clause-tells g c clean =
-    let before = early (state g.S.Store c.all_energies.new.conn) (state g.S.Store c.energy_ids.new.conn) c.in-Ok-energy_ids.ensures.crash clean in
+    let before = early (state g.S.Store c.all_energies.new.conn) (state g.S.Store c.energy_ids.new.conn) c.in-Ok-energy_ids.ensures.looks.crash clean in
     let table : List Row = (state g.S.Store c.args.conn.now).now.trees total_tree in
     let it = c.in-Ok.ensures.took in
     let told = totals_tell (office_of c.args.office.now) Energies table c.new-energies.result (ap office_of c.new-energies.ensures.office) c.new-energies.ensures.kind c.all_energies.new.judge it.0 it.1 (it.2 before) (Some c.args.expected.now) (ap option_copied c.new-energies.ensures.rest) in

@@ -19,22 +19,22 @@ returns-in-Err-clause-cause g c clean =
 
 pub returns-in-Ok-start_ids-clause-holds : goal.returns-in-Ok-start_ids-clause-holds
 returns-in-Ok-start_ids-clause-holds g c clean =
-    let before = early (state g.S.Store c.all_starts.new.conn) (state g.S.Store c.start_ids.new.conn) c.in-Ok-start_ids.ensures.crash clean in
+    let before = early (state g.S.Store c.all_starts.new.conn) (state g.S.Store c.start_ids.new.conn) c.in-Ok-start_ids.ensures.looks.crash clean in
     let table : List Row = (state g.S.Store c.args.conn.now).now.trees start_tree in
     let it = c.in-Ok.ensures.took in
     kept_holds (office_of c.args.office.now) Assignments table c.new-starts.result (ap office_of c.new-starts.ensures.office) c.new-starts.ensures.kind c.all_starts.new.judge it.0 it.1 (it.2 before)
 
 pub returns-in-Ok-start_ids-clause-numbered : goal.returns-in-Ok-start_ids-clause-numbered
 returns-in-Ok-start_ids-clause-numbered g c clean =
-    let before = early (state g.S.Store c.all_starts.new.conn) (state g.S.Store c.start_ids.new.conn) c.in-Ok-start_ids.ensures.crash clean in
+    let before = early (state g.S.Store c.all_starts.new.conn) (state g.S.Store c.start_ids.new.conn) c.in-Ok-start_ids.ensures.looks.crash clean in
     let table : List Row = (state g.S.Store c.args.conn.now).now.trees start_tree in
-    let same = trees_same (state g.S.Store c.args.conn.now) (state g.S.Store c.all_starts.new.conn) (c.in-Ok.ensures.same before) in
+    let same = trees_same (state g.S.Store c.args.conn.now) (state g.S.Store c.all_starts.new.conn) (c.in-Ok.ensures.looks.same before) in
     let it = c.in-Ok-start_ids.ensures.took in
     are_numbered table it.0 (subst (λ db. IsPermutation (map shown_id (db start_tree)) it.0) same (it.2 clean)) it.1.are
 
 pub returns-in-Ok-start_ids-clause-tells : goal.returns-in-Ok-start_ids-clause-tells
 returns-in-Ok-start_ids-clause-tells g c clean =
-    let before = early (state g.S.Store c.all_starts.new.conn) (state g.S.Store c.start_ids.new.conn) c.in-Ok-start_ids.ensures.crash clean in
+    let before = early (state g.S.Store c.all_starts.new.conn) (state g.S.Store c.start_ids.new.conn) c.in-Ok-start_ids.ensures.looks.crash clean in
     let table : List Row = (state g.S.Store c.args.conn.now).now.trees start_tree in
     let it = c.in-Ok.ensures.took in
     kept_tells (office_of c.args.office.now) Assignments table c.new-starts.result (ap office_of c.new-starts.ensures.office) c.new-starts.ensures.kind c.all_starts.new.judge it.0 it.1 (it.2 before) c.args.expected.now c.is_at_end.result c.new-starts.ensures.rest c.is_at_end.ensures

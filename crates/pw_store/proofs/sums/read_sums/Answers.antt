@@ -1,4 +1,4 @@
-use Rattle.std.proofs.Common.{◌≡◌, ◌↔◌, Some, IsTrue, filter, subst, ◌∙◌}
+use Rattle.std.proofs.Common.{◌≡◌, ◌↔◌, Some, Ok, Err, IsTrue, filter, subst, ◌∙◌}
 use Rattle.std.specs.Option.{option_copied}
 use Rattle.sqlite.specs.Held.{state}
 use Rattle.pw_schema.specs.declared.kind.RecordKind.TheVariants.{Assignments}
@@ -9,26 +9,34 @@ use Rattle.pw_store.specs.Content.{start_tree, total_tree, payment_tree}
 use Rattle.pw_store.specs.inner.Sums.{TellsKept, TellsTotals}
 use Rattle.pw_store.proofs.Compared.{all_read}
 use Rattle.pw_store.proofs.InTurn.{trees_same}
-use Rattle.pw_store.proofs.Scanning.{survives_on}
+use Rattle.pw_store.proofs.Scanning.{looks_on}
 use Rattle.pw_store.proofs.sums.read_sums.Goals as goal
 
-pub returns-in-Err-read_payments-clause-crash : goal.returns-in-Err-read_payments-clause-crash
-returns-in-Err-read_payments-clause-crash g c =
+pub returns-in-Err-read_payments-clause-looks : goal.returns-in-Err-read_payments-clause-looks
+returns-in-Err-read_payments-clause-looks g c =
     let s0 = state g.S.Store c.args.conn.now in
     let s1 = state g.S.Store c.read_points.new.conn in
     let s2 = state g.S.Store c.read_starts.new.conn in
     let s3 = state g.S.Store c.read_energies.new.conn in
     let s4 = state g.S.Store c.read_payments.new.conn in
-    survives_on s0 s2 s4 (survives_on s0 s1 s2 c.in-Ok.ensures.crash c.in-Ok-read_starts.ensures.crash) (survives_on s2 s3 s4 c.in-Ok-read_energies.ensures.crash c.in-Err-read_payments.ensures.crash)
+    let points = c.in-Ok.ensures.looks in
+    let starts = c.in-Ok-read_starts.ensures.looks in
+    let energies = c.in-Ok-read_energies.ensures.looks in
+    let payments = c.in-Err-read_payments.ensures.looks in
+    looks_on (Err c.in-Err-read_payments.fault) s0 s1 s4 points.same points.crash (looks_on (Err c.in-Err-read_payments.fault) s1 s2 s4 starts.same starts.crash (looks_on (Err c.in-Err-read_payments.fault) s2 s3 s4 energies.same energies.crash (record { same = λ clean. tt; kept = payments.kept; crash = payments.crash })))
 
-pub returns-clause-crash : goal.returns-clause-crash
-returns-clause-crash g c =
+pub returns-clause-looks : goal.returns-clause-looks
+returns-clause-looks g c =
     let s0 = state g.S.Store c.args.conn.now in
     let s1 = state g.S.Store c.read_points.new.conn in
     let s2 = state g.S.Store c.read_starts.new.conn in
     let s3 = state g.S.Store c.read_energies.new.conn in
     let s4 = state g.S.Store c.read_payments.new.conn in
-    survives_on s0 s2 s4 (survives_on s0 s1 s2 c.in-Ok.ensures.crash c.in-Ok-read_starts.ensures.crash) (survives_on s2 s3 s4 c.in-Ok-read_energies.ensures.crash c.in-Ok-read_payments.ensures.crash)
+    let points = c.in-Ok.ensures.looks in
+    let starts = c.in-Ok-read_starts.ensures.looks in
+    let energies = c.in-Ok-read_energies.ensures.looks in
+    let payments = c.in-Ok-read_payments.ensures.looks in
+    looks_on (Ok c.are_all.result) s0 s1 s4 points.same points.crash (looks_on (Ok c.are_all.result) s1 s2 s4 starts.same starts.crash (looks_on (Ok c.are_all.result) s2 s3 s4 energies.same energies.crash (record { same = payments.same; kept = payments.kept; crash = payments.crash })))
 
 pub returns-clause-tells : goal.returns-clause-tells
 returns-clause-tells g c clean =
@@ -37,12 +45,12 @@ returns-clause-tells g c clean =
     let s2 = state g.S.Store c.read_starts.new.conn in
     let s3 = state g.S.Store c.read_energies.new.conn in
     let s4 = state g.S.Store c.read_payments.new.conn in
-    let clean3 = early s3 s4 c.in-Ok-read_payments.ensures.crash clean in
-    let clean2 = early s2 s3 c.in-Ok-read_energies.ensures.crash clean3 in
-    let clean1 = early s1 s2 c.in-Ok-read_starts.ensures.crash clean2 in
-    let same1 = trees_same s0 s1 (c.in-Ok.ensures.same clean1) in
-    let same2 = trees_same s1 s2 (c.in-Ok-read_starts.ensures.same clean2) ∙ same1 in
-    let same3 = trees_same s2 s3 (c.in-Ok-read_energies.ensures.same clean3) ∙ same2 in
+    let clean3 = early s3 s4 c.in-Ok-read_payments.ensures.looks.crash clean in
+    let clean2 = early s2 s3 c.in-Ok-read_energies.ensures.looks.crash clean3 in
+    let clean1 = early s1 s2 c.in-Ok-read_starts.ensures.looks.crash clean2 in
+    let same1 = trees_same s0 s1 (c.in-Ok.ensures.looks.same clean1) in
+    let same2 = trees_same s1 s2 (c.in-Ok-read_starts.ensures.looks.same clean2) ∙ same1 in
+    let same3 = trees_same s2 s3 (c.in-Ok-read_energies.ensures.looks.same clean3) ∙ same2 in
     let p = c.in-Ok.ensures.tells clean1 in
     let s = c.in-Ok-read_starts.ensures.tells clean2 in
     let e = c.in-Ok-read_energies.ensures.tells clean3 in

@@ -1,7 +1,7 @@
 use Rattle.std.proofs.Common.{[]}
 use Rattle.sqlite.specs.Held.{state}
 use Rattle.pw_store.proofs.Texts.{topups_text, topups_is}
-use Rattle.pw_store.proofs.Querying.{ours_plain, stays_if, fails_if, survives_if}
+use Rattle.pw_store.proofs.Querying.{ours_plain, asks_if}
 use Rattle.pw_store.proofs.Lists.{shows_topups_if}
 use Rattle.pw_schema.proofs.Outcomes.{early}
 use Rattle.pw_store.proofs.topups.topup_rows.Goals as goal
@@ -11,15 +11,5 @@ returns-clause-rows g c clean =
     let before = early (state g.S.Store c.args.conn.now) (state g.S.Store c.query_all.new.self) c.query_all.ensures.survives clean in
     shows_topups_if (state g.S.Store c.args.conn.now) (state g.S.Store c.query_all.new.self) c.query_all.result (c.requires.ours before) (c.query_all.ensures.ok clean)
 
-pub returns-clause-same : goal.returns-clause-same
-returns-clause-same g c clean =
-    let before = early (state g.S.Store c.args.conn.now) (state g.S.Store c.query_all.new.self) c.query_all.ensures.survives clean in
-    stays_if topups_text [] (state g.S.Store c.args.conn.now) (state g.S.Store c.query_all.new.self) c.query_all.result (ours_plain topups_is _ (c.requires.ours before)) (c.query_all.ensures.ok clean)
-
-pub returns-clause-failed : goal.returns-clause-failed
-returns-clause-failed g c clean =
-    let before = early (state g.S.Store c.args.conn.now) (state g.S.Store c.query_all.new.self) c.query_all.ensures.survives clean in
-    fails_if topups_text [] (state g.S.Store c.args.conn.now) (state g.S.Store c.query_all.new.self) c.query_all.result (ours_plain topups_is _ (c.requires.ours before)) (c.query_all.ensures.err clean)
-
-pub returns-clause-crash : goal.returns-clause-crash
-returns-clause-crash g c = survives_if topups_text [] (state g.S.Store c.args.conn.now) (state g.S.Store c.query_all.new.self) (λ clean. ours_plain topups_is _ (c.requires.ours clean)) c.query_all.ensures.survives
+pub returns-clause-asks : goal.returns-clause-asks
+returns-clause-asks g c = asks_if topups_text [] (state g.S.Store c.args.conn.now) (state g.S.Store c.query_all.new.self) c.query_all.result (λ clean. ours_plain topups_is _ (c.requires.ours clean)) c.query_all.ensures.ok c.query_all.ensures.err c.query_all.ensures.survives

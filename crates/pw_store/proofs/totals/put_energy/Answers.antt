@@ -1,7 +1,7 @@
 use Rattle.sqlite.specs.Held.{state}
 use Rattle.pw_store.proofs.Texts.{four_terms}
 use Rattle.pw_store.proofs.KeptTexts.{insert_total_text, insert_total_is}
-use Rattle.pw_store.proofs.Adding.{insert_fails, insert_survives}
+use Rattle.pw_store.proofs.Adding.{inserts_if}
 use Rattle.pw_store.proofs.EnergyRows.{puts_if}
 use Rattle.pw_schema.proofs.Outcomes.{early}
 use Rattle.pw_store.proofs.totals.put_energy.Goals as goal
@@ -12,8 +12,5 @@ returns-clause-done g c clean =
     puts_if (state g.S.Store c.args.conn.now) (state g.S.Store c.execute.new.self) c.args.owner c.args.band c.args.direction c.args.wh c.execute.result c.requires.fits.0 (c.requires.store before) (c.requires.inside before) (c.requires.free before)
     (rw (c.integer.ensures, c.integer-2.ensures, c.integer-3.ensures, c.owner_place.ensures, c.from.ensures, c.direction_place.ensures, c.wide.ensures) at (c.execute.ensures.runs clean))
 
-pub returns-clause-failed : goal.returns-clause-failed
-returns-clause-failed g c clean = insert_fails insert_total_text (state g.S.Store c.args.conn.now) (state g.S.Store c.execute.new.self) _ c.execute.result (c.execute.ensures.runs clean)
-
-pub returns-clause-crash : goal.returns-clause-crash
-returns-clause-crash g c = insert_survives insert_total_text 6 5 four_terms insert_total_is (state g.S.Store c.args.conn.now) (state g.S.Store c.execute.new.self) _ (λ clean. (c.requires.store clean).ours) c.requires.inside c.execute.ensures.survives
+pub returns-clause-writes : goal.returns-clause-writes
+returns-clause-writes g c = inserts_if insert_total_text 6 5 four_terms insert_total_is (state g.S.Store c.args.conn.now) (state g.S.Store c.execute.new.self) _ c.execute.result (λ clean. (c.requires.store clean).ours) c.requires.inside c.execute.ensures.runs c.execute.ensures.survives

@@ -1,7 +1,6 @@
 use Rattle.sqlite.specs.Held.{state}
 use Rattle.pw_store.proofs.KeptTexts.{delete_total_text, delete_total_query, delete_total_is}
-use Rattle.pw_store.proofs.Adding.{insert_fails}
-use Rattle.pw_store.proofs.Taking.{delete_survives}
+use Rattle.pw_store.proofs.Taking.{deletes_if}
 use Rattle.pw_store.proofs.EnergyRows.{takes_if, taken_if}
 use Rattle.pw_schema.proofs.Outcomes.{early}
 use Rattle.pw_store.proofs.totals.take_energy.Goals as goal
@@ -18,8 +17,5 @@ returns-clause-taken g c clean =
     taken_if (state g.S.Store c.args.conn.now) (state g.S.Store c.execute.new.self) c.args.owner c.args.band c.args.direction c.execute.result (c.requires.store before) (c.requires.inside before)
     (rw (c.integer.ensures, c.integer-2.ensures, c.integer-3.ensures, c.owner_place.ensures, c.from.ensures, c.direction_place.ensures) at (c.execute.ensures.runs clean))
 
-pub returns-clause-failed : goal.returns-clause-failed
-returns-clause-failed g c clean = insert_fails delete_total_text (state g.S.Store c.args.conn.now) (state g.S.Store c.execute.new.self) _ c.execute.result (c.execute.ensures.runs clean)
-
-pub returns-clause-crash : goal.returns-clause-crash
-returns-clause-crash g c = delete_survives delete_total_text 6 delete_total_query delete_total_is (state g.S.Store c.args.conn.now) (state g.S.Store c.execute.new.self) _ (λ clean. (c.requires.store clean).ours) c.requires.inside c.execute.ensures.survives
+pub returns-clause-writes : goal.returns-clause-writes
+returns-clause-writes g c = deletes_if delete_total_text 6 delete_total_query delete_total_is (state g.S.Store c.args.conn.now) (state g.S.Store c.execute.new.self) _ c.execute.result (λ clean. (c.requires.store clean).ours) c.requires.inside c.execute.ensures.runs c.execute.ensures.survives

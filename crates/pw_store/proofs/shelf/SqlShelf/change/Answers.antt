@@ -10,12 +10,12 @@ use Rattle.pw_store.proofs.shelf.SqlShelf.change.Goals as goal
 pub invariant_of-self-in-Ok-clause-keeps : goal.invariant_of-self-in-Ok-clause-keeps
 invariant_of-self-in-Ok-clause-keeps g c =
     let self = c.args.self.now in
-    keeps_written (state g.S.Store self.conn) (state g.S.Store c.make.new.conn) (state g.S.Store self.opened.value) self.keeps c.in-Ok.ensures.crash (λ clean. (c.in-Ok.ensures.done clean).shows) (λ clean. (c.in-Ok.ensures.done clean).keeps)
+    keeps_written (state g.S.Store self.conn) (state g.S.Store c.make.new.conn) (state g.S.Store self.opened.value) self.keeps c.in-Ok.ensures.writes.crash (λ clean. (c.in-Ok.ensures.done clean).shows) (λ clean. (c.in-Ok.ensures.done clean).keeps)
 
 pub invariant_of-self-in-Err-clause-keeps : goal.invariant_of-self-in-Err-clause-keeps
 invariant_of-self-in-Err-clause-keeps g c =
     let self = c.args.self.now in
-    keeps_failed (state g.S.Store self.conn) (state g.S.Store c.make.new.conn) (state g.S.Store self.opened.value) self.keeps c.in-Err.ensures.crash c.in-Err.ensures.failed
+    keeps_failed (state g.S.Store self.conn) (state g.S.Store c.make.new.conn) (state g.S.Store self.opened.value) self.keeps c.in-Err.ensures.writes.crash c.in-Err.ensures.writes.failed
 
 pub returns-in-Ok-clause-content : goal.returns-in-Ok-clause-content
 returns-in-Ok-clause-content g c clean =
@@ -31,9 +31,9 @@ make-requires-clause-inside g c = search rules
 pub invariant_of-self-in-Ok-clause-now_counted : goal.invariant_of-self-in-Ok-clause-now_counted
 invariant_of-self-in-Ok-clause-now_counted g c =
     let self = c.args.self.now in
-    counted_changed (state g.S.Store self.conn) (state g.S.Store c.make.new.conn) self.within c.args.change self.now_counted (mode_is _ _ c.if-is_autocommit.false c.is_autocommit.ensures.value) c.in-Ok.ensures.crash c.in-Ok.ensures.done
+    counted_changed (state g.S.Store self.conn) (state g.S.Store c.make.new.conn) self.within c.args.change self.now_counted (mode_is _ _ c.if-is_autocommit.false c.is_autocommit.ensures.value) c.in-Ok.ensures.writes.crash c.in-Ok.ensures.done
 
 pub invariant_of-self-in-Err-clause-now_counted : goal.invariant_of-self-in-Err-clause-now_counted
 invariant_of-self-in-Err-clause-now_counted g c =
     let self = c.args.self.now in
-    counted_failed (state g.S.Store self.conn) (state g.S.Store c.make.new.conn) self.within self.now_counted c.in-Err.ensures.crash c.in-Err.ensures.failed
+    counted_failed (state g.S.Store self.conn) (state g.S.Store c.make.new.conn) self.within self.now_counted c.in-Err.ensures.writes.crash c.in-Err.ensures.writes.failed
