@@ -5,7 +5,7 @@ ghost use Rattle.sqlite.specs.Held.{state};
 ghost use Rattle.sqlite.specs.State.{HasCleanDisk};
 ghost use Rattle.pw_model.specs.Counting.{Member, contents_at};
 ghost use Rattle.pw_shelf.specs.Rows.{ListsAssignments, ListsReadings, ListsTopUps};
-ghost use Rattle.pw_schema.specs.Calls.{Asks};
+ghost use Rattle.pw_schema.specs.inner.Calls.{Asks};
 ghost use Rattle.pw_schema.specs.Rows.{ReadsRows};
 ghost use Rattle.pw_store.specs.Content.{records_of};
 ghost use Rattle.pw_store.specs.Kept.{IsAwake, NowIsStore};

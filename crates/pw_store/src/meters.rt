@@ -11,7 +11,8 @@ ghost use Rattle.pw_store.specs.inner.Lists.{ShowsKept};
 ghost use Rattle.pw_schema.specs.Rows.{contents_of, told_content};
 ghost use Rattle.pw_model.specs.declared.records.Key.TheVariants as key;
 ghost use Rattle.pw_shelf.specs.State.{IsWithRecord};
-ghost use Rattle.pw_schema.specs.Calls.{Asks, Writes};
+ghost use Rattle.pw_schema.specs.Calls.{Writes};
+ghost use Rattle.pw_schema.specs.inner.Calls.{Asks};
 ghost use Rattle.pw_store.specs.Content.{content_of, records_of};
 ghost use Rattle.pw_store.specs.inner.Records.{reading_entry, assignment_entry};
 

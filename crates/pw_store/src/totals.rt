@@ -4,7 +4,8 @@ ghost use Rattle.std.specs.Prelude.{◌≡◌, ◌≤◌, IfOk, OnOk, IsTrue, le
 ghost use Rattle.sqlite.specs.Held.{state};
 ghost use Rattle.sqlite.specs.State.{HasCleanDisk};
 ghost use Rattle.pw_model.specs.declared.records.TotalKey.TheVariants as total;
-ghost use Rattle.pw_schema.specs.Calls.{Asks, Writes};
+ghost use Rattle.pw_schema.specs.Calls.{Writes};
+ghost use Rattle.pw_schema.specs.inner.Calls.{Asks};
 ghost use Rattle.pw_store.specs.Content.{total_in};
 ghost use Rattle.pw_store.specs.Kept.{IsStore};
 ghost use Rattle.pw_store.specs.inner.Changing.{Fits, IsFree, IsTaken, Makes, changed};
