@@ -105,7 +105,8 @@ fn options_for<D: Disk>(seed: u64, file: &mut D) -> Options
 }
 
 /// Opens the files of a store as a book of the office of a text. A store that was there holds what its tables do; one is
-/// made to take uploads, where nothing is; to ask, none is made, and no database without a table is taken. Where the opening is refused the files are given back.
+/// made to take uploads, where nothing is; to ask, none is made, and no database without a table is taken. Where the
+/// opening is refused the files are given back.
 pub fn open_from<D: Disk + Drop, W: Watch>(
     alloc: Global,
     files: Files<D>,
