@@ -1,6 +1,6 @@
 //! What is changed of points, starts and totals, one row at a time.
 
-ghost use Rattle.std.specs.Prelude.{◌≡◌, OnOk, IsTrue};
+ghost use Rattle.std.specs.Prelude.{OnOk, IsTrue};
 ghost use Rattle.sqlite.specs.Held.{state};
 ghost use Rattle.sqlite.specs.State.{HasCleanDisk};
 ghost use Rattle.pw_schema.specs.Calls.{Writes};
