@@ -6,40 +6,14 @@ use pw_schema::{
     commit, create, is_nothing, is_ours, judge_version, keeps_office, read_rows, roll_back,
 };
 use pw_tariff::Office;
+use pw_tests::offices::ONE_METER;
 use sqlite::{Connection, Error, MemStore, Row};
 use std::alloc::Global;
 use std::process::Abort;
 use std::test::Fail;
 
-const TEXT: &str = r#"accounts = ["A1", "A2"]
-week = [
-  "LLLLLLLHHHHHHHHHHHHHHHHL",
-  "LLLLLLLHHHHHHHHHHHHHHHHL",
-  "LLLLLLLHHHHHHHHHHHHHHHHL",
-  "LLLLLLLHHHHHHHHHHHHHHHHL",
-  "LLLLLLLHHHHHHHHHHHHHHHHL",
-  "LLLLLLLLLLLLLLLLLLLLLLLL",
-  "LLLLLLLLLLLLLLLLLLLLLLLL",
-]
-
-[[band]]
-name = "L"
-import = 200000
-export = 50000
-
-[[band]]
-name = "H"
-import = 300000
-export = 50000
-
-[[meter]]
-id = "4D31"
-clock = "marked"
-registers = ["I1", "I2", "E1", "E2"]
-"#;
-
 fn office(rt: &impl Abort, alloc: Global) -> Office {
-    Office::read(alloc, TEXT.as_bytes()).expect(rt, "an office")
+    Office::read(alloc, ONE_METER.as_bytes()).expect(rt, "an office")
 }
 
 fn rows(rt: &impl Abort, alloc: Global, text: &str) -> Vec<Row> {

@@ -10,38 +10,12 @@ use pw_shelf::{Shelf, ShelfFault};
 use pw_store::laws::{closed_is_opened_again, left_is_opened_again};
 use pw_store::{OpenFault, SqlShelf};
 use pw_tariff::{AccountId, BandId, Direction, MeterId, Office};
+use pw_tests::offices::ONE_METER;
 use pw_time::Instant;
 use sqlite::{Connection, MemStore};
 use std::alloc::Global;
 use std::process::Abort;
 use std::test::Fail;
-
-const TEXT: &str = r#"accounts = ["A1", "A2"]
-week = [
-  "LLLLLLLHHHHHHHHHHHHHHHHL",
-  "LLLLLLLHHHHHHHHHHHHHHHHL",
-  "LLLLLLLHHHHHHHHHHHHHHHHL",
-  "LLLLLLLHHHHHHHHHHHHHHHHL",
-  "LLLLLLLHHHHHHHHHHHHHHHHL",
-  "LLLLLLLLLLLLLLLLLLLLLLLL",
-  "LLLLLLLLLLLLLLLLLLLLLLLL",
-]
-
-[[band]]
-name = "L"
-import = 200000
-export = 50000
-
-[[band]]
-name = "H"
-import = 300000
-export = 50000
-
-[[meter]]
-id = "4D31"
-clock = "marked"
-registers = ["I1", "I2", "E1", "E2"]
-"#;
 
 const METER: MeterId = MeterId(0);
 
@@ -75,8 +49,8 @@ fn opened(
 ) -> Result<SqlShelf<MemStore>, (OpenFault, Connection<MemStore>)>
     ensures { IfOk result (λ shelf. shelf.begun ≡ false) }
 {
-    let _office = Office::read(alloc, TEXT.as_bytes()).expect(rt, "an office");
-    SqlShelf::open(alloc, connection, TEXT.as_bytes())
+    let _office = Office::read(alloc, ONE_METER.as_bytes()).expect(rt, "an office");
+    SqlShelf::open(alloc, connection, ONE_METER.as_bytes())
 }
 
 // The store of a connection.
@@ -211,14 +185,14 @@ fn is_opened_behind(
     shelf: &SqlShelf<MemStore>,
     left: Connection<MemStore>,
 ) -> bool {
-    let _office = Office::read(alloc, TEXT.as_bytes()).expect(rt, "an office");
-    left_is_opened_again(alloc, shelf, left, TEXT.as_bytes()).is_ok()
+    let _office = Office::read(alloc, ONE_METER.as_bytes()).expect(rt, "an office");
+    left_is_opened_again(alloc, shelf, left, ONE_METER.as_bytes()).is_ok()
 }
 
 // The store, closed and opened again.
 fn reopened(rt: &impl Abort, alloc: Global, shelf: SqlShelf<MemStore>) -> SqlShelf<MemStore> {
-    let _office = Office::read(alloc, TEXT.as_bytes()).expect(rt, "an office");
-    match closed_is_opened_again(alloc, shelf, TEXT.as_bytes()) {
+    let _office = Office::read(alloc, ONE_METER.as_bytes()).expect(rt, "an office");
+    match closed_is_opened_again(alloc, shelf, ONE_METER.as_bytes()) {
         Ok(again) => again,
         Err(_) => panic!(rt; "not opened"),
     }
