@@ -7,11 +7,12 @@
 
 ghost use Rattle.std.specs.Prelude.{◌≡◌, IsSome, None, OnOk};
 
-use super::{METER, TEXT, begun_total, empty_shelf, memory, shelf_of};
+use super::{METER, begun_total, empty_shelf, memory, shelf_of};
 use pw_obis::{Register, WattHours};
 use pw_shelf::{Shelf, ShelfFault};
 use pw_store::{OpenFault, SqlShelf};
 use pw_tariff::Office;
+use pw_tests::offices::ONE_METER;
 use pw_time::{FIRST_SECOND, Instant, LAST_SECOND};
 use sqlite::{Connection, MemStore};
 use std::alloc::Global;
@@ -37,10 +38,10 @@ fn is_new(rt: &impl Abort, alloc: Global, connection: Connection<MemStore>) -> b
 
 // Whether a new store is opened: at once, or, where it is refused for want of memory, at the next try.
 fn is_opened<O: Write>(rt: &impl Abort, alloc: Global, out: &mut O) -> bool {
-    let _office = Office::read(alloc, TEXT.as_bytes()).expect(rt, "an office");
+    let _office = Office::read(alloc, ONE_METER.as_bytes()).expect(rt, "an office");
     let connection = memory(rt, alloc);
     tell(out, b"one may be refused\n");
-    let opened = SqlShelf::open(alloc, connection, TEXT.as_bytes());
+    let opened = SqlShelf::open(alloc, connection, ONE_METER.as_bytes());
     tell(out, b"all is given\n");
     match opened {
         Ok(mut store) => store.count() == Ok(0),
