@@ -259,7 +259,9 @@ fn add_and_commit<S: Shelf>(shelf: &mut S, entry: &Entry) -> Result<(), ShelfFau
     ensures ended { OnOk result ((S.state shelf.new).begun ≡ None) }
     ensures begun { OnErr result ((S.state shelf.new).begun ≡ (S.state shelf.old).begun) }
 {
-    shelf.add(entry)?;
+    if !shelf.holds(entry)? {
+        shelf.add(entry)?;
+    }
     shelf.commit()
 }
 
