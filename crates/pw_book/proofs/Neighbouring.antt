@@ -25,7 +25,8 @@ use Rattle.pw_model.specs.Seconds.{ListsSeconds, by_second}
 use Rattle.pw_shelf.specs.Seconds.{IsBefore, IsBehind}
 use Rattle.pw_book.specs.inner.Settling.{EndsBefore}
 use Rattle.pw_model.specs.Shelf.{ShelfContent}
-use Rattle.pw_book.specs.inner.Sums.{energy_told, pairs_for, point_listed}
+use Rattle.pw_parts.specs.Changes.{pairs_for}
+use Rattle.pw_book.specs.inner.Sums.{energy_told, point_listed}
 use Rattle.pw_book.proofs.Following.{Differ}
 use Rattle.pw_parts.proofs.Owning.{owners-told, starts-rise}
 

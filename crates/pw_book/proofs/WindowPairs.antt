@@ -29,7 +29,8 @@ use Rattle.pw_shelf.specs.Rows.{rows_found}
 use Rattle.pw_shelf.specs.Seconds.{IsBefore, IsBehind, ListsSecondsWithin}
 use Rattle.pw_model.specs.Seconds.{by_second}
 use Rattle.pw_book.specs.inner.Settling.{EndsBefore, EndsBeforeNext, IsStartChanged, ListsUpToNextStart, register_told}
-use Rattle.pw_book.specs.inner.Sums.{pairs_for, point_listed}
+use Rattle.pw_parts.specs.Changes.{pairs_for}
+use Rattle.pw_book.specs.inner.Sums.{point_listed}
 use Rattle.pw_parts.proofs.Chart.{less-is}
 use Rattle.pw_model.proofs.InOrder.{before-member}
 use Rattle.pw_model.proofs.EntryOrder.{before-all}
