@@ -19,15 +19,15 @@ use Rattle.pw_model.specs.declared.records.TotalKey.{TotalKey}
 use Rattle.pw_model.specs.declared.records.TotalKey.TheVariants.{Energy, TopUps}
 use Rattle.pw_model.specs.Counting.{Member}
 use Rattle.pw_model.specs.Office.{HasOwner}
-use Rattle.pw_model.specs.Same.{direction_place, total_numbers, total_order, same_total}
+use Rattle.pw_model.specs.Same.{direction_place, total_key_order, total_numbers, total_order, same_total}
 use Rattle.pw_model.specs.Shelf.{ShelfContent}
 use Rattle.pw_model.proofs.InKeyOrder.{totals-ordered}
-use Rattle.pw_parts.specs.Changes.{total_key_order}
 use Rattle.pw_parts.proofs.Chart.{less-is}
 use Rattle.pw_parts.proofs.Kept.{all-key, member-lookup}
 use Rattle.pw_tariff.specs.Office.{OfficeRules}
 use Rattle.pw_parts.specs.declared.changes.Change.{Change}
 use Rattle.pw_parts.specs.declared.changes.Side.{Side}
+use Rattle.pw_book.specs.Cost.{classes_of}
 use Rattle.pw_book.specs.inner.Moves.{MovesTotals, OfOwners}
 use Rattle.pw_parts.specs.Changes.{amount_told, gathered}
 use Rattle.pw_book.proofs.Changing.{moves-at, moves-none, moves-then, moves-told, of-owners}
@@ -180,7 +180,7 @@ owner-within : (office : OfficeRules) (o : Option AccountId) → HasOwner office
 owner-within office None h = omega arith
 owner-within office (Some a) h = omega (arith, h)
 
-pub place-within : (office : OfficeRules) (k : TotalKey) → OfOwners office.bands office.accounts k → place office.bands k < 2 * (office.bands * (office.accounts + 1))
+pub place-within : (office : OfficeRules) (k : TotalKey) → OfOwners office.bands office.accounts k → place office.bands k < 2 * classes_of office
 place-within office (TopUps a) h = absurd (let z : 0 ≡ 1 = (of-owners office (TopUps a) h).0 in omega (arith, z))
 place-within office (Energy o b d) h =
     let i = of-owners office (Energy o b d) h in
@@ -192,7 +192,7 @@ place-within office (Energy o b d) h =
 pub record HasTaken (office : OfficeRules) (rest : List (TotalKey × Change)) (was now : ℕ) : Type 0 where
   pub far : ℕ
   pub taken : now ≤ was + 3 * far
-  pub within : far ≤ 2 * (office.bands * (office.accounts + 1))
+  pub within : far ≤ 2 * classes_of office
   pub ahead : (e : TotalKey × Change) → Member e rest → OfOwners office.bands office.accounts e.0 → far ≤ place office.bands e.0
 
 pub taken-none : (office : OfficeRules) (rest : List (TotalKey × Change)) (was now : ℕ) → now ≤ was → HasTaken office rest was now
@@ -221,5 +221,5 @@ taken-more office rows e rest was mid now r o t l =
 pub taken-past : (office : OfficeRules) (e : TotalKey × Change) (rest : List (TotalKey × Change)) (was now : ℕ) → HasTaken office (e ∷ rest) was now → HasTaken office rest was now
 taken-past office e rest was now t = record { far = t.far; taken = t.taken; within = t.within; ahead = λ f m. t.ahead f (inr m) }
 
-pub taken-all : (office : OfficeRules) (rest : List (TotalKey × Change)) (was now : ℕ) → HasTaken office rest was now → now ≤ was + 6 * (office.bands * (office.accounts + 1))
+pub taken-all : (office : OfficeRules) (rest : List (TotalKey × Change)) (was now : ℕ) → HasTaken office rest was now → now ≤ was + 6 * classes_of office
 taken-all office rest was now t = let a = t.taken in let b = t.within in omega (arith, a, b)

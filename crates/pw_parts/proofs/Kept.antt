@@ -13,9 +13,10 @@ use Rattle.pw_model.specs.declared.records.TotalKey.{TotalKey}
 use Rattle.pw_model.specs.contracts.records.TotalKeyOrd.TheImpl.Laws as total_laws
 use Rattle.pw_model.specs.Counting.{Member}
 use Rattle.pw_model.specs.Lists.{IsBeforeAll, IsInOrder, Lists}
+use Rattle.pw_model.specs.Same.{total_key_order}
 use Rattle.pw_model.proofs.InKeyOrder.{totals-ordered}
 use Rattle.pw_model.proofs.TotalKeys.{same_total-decides, total-tested}
-use Rattle.pw_parts.specs.Changes.{amount_told, total_key_order}
+use Rattle.pw_parts.specs.Changes.{amount_told}
 use Rattle.pw_parts.specs.Parts.{by_total}
 use Rattle.pw_parts.specs.declared.changes.Change.{Change}
 use Rattle.pw_parts.specs.declared.changes.Side.TheVariants.{Gains}

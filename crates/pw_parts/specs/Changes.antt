@@ -2,7 +2,6 @@
 -- (Definitions of this project.)
 use Rattle.std.specs.Prelude.{ℕ, cond, Option, Some, None, List}
 use Rattle.std.specs.BTreeMap.{BTreeMap, get}
-use Rattle.std.specs.declared.cmp.Ordering.{Ordering}
 use Rattle.pw_flow.specs.Pairs.{pairs_sum}
 use Rattle.pw_tariff.specs.declared.ids.AccountId.{AccountId}
 use Rattle.pw_tariff.specs.declared.ids.Direction.{Direction}
@@ -10,8 +9,7 @@ use Rattle.pw_tariff.specs.Office.{OfficeFile}
 use Rattle.pw_tariff.specs.Shares.{class_seconds}
 use Rattle.pw_model.specs.declared.records.TotalKey.{TotalKey}
 use Rattle.pw_model.specs.declared.records.TotalKey.TheVariants.{Energy, TopUps}
-use Rattle.pw_model.specs.contracts.records.TotalKeyOrd.TheImpl as total_key
-use Rattle.pw_model.specs.Same.{same_direction}
+use Rattle.pw_model.specs.Same.{same_direction, total_key_order}
 use Rattle.pw_parts.specs.declared.changes.Change.{Change}
 use Rattle.pw_parts.specs.declared.changes.Side.{Side}
 use Rattle.pw_parts.specs.declared.changes.Side.TheVariants.{Loses, Gains}
@@ -29,10 +27,6 @@ other_side Gains = Loses
 abbrev pub amount_told : Side → Option Change → ℕ
 amount_told side None = 0
 amount_told side (Some c) = amount_on side c
-
--- the order of the program's map
-abbrev pub total_key_order : TotalKey → TotalKey → Ordering
-total_key_order = total_key.ghosts.cmp
 
 -- what is gathered on a side for a total
 abbrev pub gathered : Side → BTreeMap TotalKey Change → TotalKey → ℕ

@@ -1,13 +1,13 @@
 //! What totals lose and gain.
 
-ghost use Rattle.std.specs.Prelude.{◌≡◌, ℕ, ◌+◌, ◌<◌, ◌≤◌, ◌^◌, IfOk, OnOk, cond};
+ghost use Rattle.std.specs.Prelude.{◌≡◌, ◌+◌, ◌<◌, ◌≤◌, ◌^◌, IfOk, OnOk, cond};
 ghost use Rattle.std.specs.BTreeMap.{IsOrdered};
 ghost use Rattle.std.specs.List.{filter_map};
 ghost use Rattle.pw_model.specs.declared.records.TotalKey.{TotalKey as AnyTotal};
 ghost use Rattle.pw_model.specs.Lists.{Lists};
-ghost use Rattle.pw_model.specs.Same.{same_total};
+ghost use Rattle.pw_model.specs.Same.{same_total, total_key_order};
 ghost use Rattle.pw_tariff.specs.Cells.{AreInOrder, energy_of_all};
-ghost use Rattle.pw_parts.specs.Changes.{amount_on, gathered, other_side, total_key_order};
+ghost use Rattle.pw_parts.specs.Changes.{amount_on, gathered, other_side};
 ghost use Rattle.pw_parts.specs.inner.Given.{cells_for};
 ghost use Rattle.pw_parts.specs.inner.Totals.{gain, total_in};
 

@@ -1,26 +1,14 @@
-//! The records of a list in their order.
+//! Whether records in their order stand alone.
 
-ghost use Rattle.std.specs.Prelude.{◌<◌, ◌≤◌, ◌↔◌, IfOk, IsTrue, length};
+ghost use Rattle.std.specs.Prelude.{◌<◌, ◌↔◌, IsTrue, length};
 ghost use Rattle.pw_model.specs.Counting.{Counts};
 ghost use Rattle.pw_model.specs.Lists.{IsInOrder};
 ghost use Rattle.pw_model.specs.Same.{entry_order};
-ghost use Rattle.pw_model.specs.inner.Search.{AreSorted, IsAt, IsKeyBehind};
+ghost use Rattle.pw_model.specs.inner.Search.{IsAt, IsKeyBehind};
 ghost use Rattle.pw_model.specs.declared.records.Entry.{Entry};
 
-use crate::compare::{compare_entries, is_same_key};
+use crate::compare::is_same_key;
 use crate::records::Entry;
-use std::alloc::{AllocError, Global};
-
-// The records of a list in the order of their keys, then of their contents, each once.
-pub(crate) fn sorted(alloc: Global, entries: &[Entry]) -> Result<Vec<Entry>, AllocError>
-    ensures sorted { IfOk result (λ all. AreSorted entries.now all.items) }
-    ensures few { IfOk result (λ all. length all.items ≤ length entries.now) }
-{
-    let mut all = Vec::from_slice(alloc, entries)?;
-    all.sort_unstable_by(|a, b| compare_entries(a, b));
-    all.dedup();
-    Ok(all)
-}
 
 // Whether a record of some in order counts among them: neither of its neighbours has its key.
 pub(crate) fn stands_alone(in_order: &[Entry], index: usize) -> bool

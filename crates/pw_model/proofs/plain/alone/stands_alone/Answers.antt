@@ -2,8 +2,8 @@ use Rattle.std.proofs.Common.{◌≡◌, ℕ, ◌-◌, sym, subst, ◌∙◌, ar
 use Rattle.std.proofs.lemmas.Bool.{true≢false}
 use Rattle.pw_model.specs.inner.Search.{IsKeyBehind}
 use Rattle.pw_model.proofs.Places.{alone-told, not-alone}
-use Rattle.pw_model.proofs.plain.sorted.stands_alone.Goals as goal
-use Rattle.pw_model.proofs.plain.sorted.stands_alone.Goals.{else-index-gt0-via-then-index-gt0+else-has_key_behind, else-index-gt0-via-else-index-gt0}
+use Rattle.pw_model.proofs.plain.alone.stands_alone.Goals as goal
+use Rattle.pw_model.proofs.plain.alone.stands_alone.Goals.{else-index-gt0-via-then-index-gt0+else-has_key_behind, else-index-gt0-via-else-index-gt0}
 
 pub returns-then-has_key_behind : goal.returns-then-has_key_behind
 returns-then-has_key_behind c =

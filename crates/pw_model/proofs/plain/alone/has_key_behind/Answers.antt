@@ -1,5 +1,5 @@
 use Rattle.pw_model.proofs.Places.{behind-told}
-use Rattle.pw_model.proofs.plain.sorted.has_key_behind.Goals as goal
+use Rattle.pw_model.proofs.plain.alone.has_key_behind.Goals as goal
 
 pub returns-then-behind-in_order : goal.returns-then-behind-in_order
 returns-then-behind-in_order c =

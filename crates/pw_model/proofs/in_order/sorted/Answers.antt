@@ -5,7 +5,7 @@ use Rattle.std.proofs.lemmas.List.Sorted.{answers_always}
 use Rattle.pw_model.specs.declared.records.Entry.{Entry}
 use Rattle.pw_model.specs.Same.{entry_order}
 use Rattle.pw_model.proofs.SortedRecords.{entry-ranks, sorted-told}
-use Rattle.pw_parts.proofs.counting.sorted.Goals as goal
+use Rattle.pw_model.proofs.in_order.sorted.Goals as goal
 
 pub returns-clause-sorted : goal.returns-clause-sorted
 returns-clause-sorted c =
