@@ -29,7 +29,7 @@ pub empty-true : EmptyIsTrue
 unfolding contents_at contents_among standing
 empty-true office = record { points = refl; starts = refl; totals = no-total office }
 
-totals-same : (office : OfficeRules) (s t : List Entry) → SameMembers s t → (k : TotalKey) → total_among office s k ≡ total_among office t k
+pub totals-same : (office : OfficeRules) (s t : List Entry) → SameMembers s t → (k : TotalKey) → total_among office s k ≡ total_among office t k
 totals-same office s t h (Energy o b d) = energy-same office s t h o b.0 d
 totals-same office s t h (TopUps a) = topped-same s t h a.0
 

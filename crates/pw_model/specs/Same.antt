@@ -15,6 +15,7 @@ use Rattle.pw_model.specs.declared.records.Content.TheVariants as content
 use Rattle.pw_model.specs.declared.records.Entry.{Entry}
 use Rattle.pw_model.specs.declared.records.TotalKey.{TotalKey}
 use Rattle.pw_model.specs.declared.records.TotalKey.TheVariants.{Energy, TopUps}
+use Rattle.pw_model.specs.contracts.records.TotalKeyOrd.TheImpl as derived_total
 use Rattle.pw_tariff.specs.Office.{register_place}
 use Rattle.pw_tariff.specs.Cells.{owner_place}
 
@@ -75,3 +76,7 @@ same_total k l = pointwise ◌==◌ (total_numbers k) (total_numbers l)
 
 abbrev pub total_order : TotalKey → TotalKey → Ordering
 total_order k l = slice_cmp nat_cmp (total_numbers k) (total_numbers l)
+
+-- the order of the program's maps: the same
+abbrev pub total_key_order : TotalKey → TotalKey → Ordering
+total_key_order = derived_total.ghosts.cmp

@@ -2,6 +2,7 @@
 #![tactic(auto)]
 
 mod compare;
+mod in_order;
 pub mod laws;
 mod limits;
 pub mod plain;
@@ -12,6 +13,7 @@ mod registers;
 pub use compare::{
     compare_entries, compare_keys, compare_totals, is_same_content, is_same_entry, is_same_key,
 };
+pub use in_order::sorted;
 pub use limits::{MOST_CENTS, MOST_RECORDS, NANO_IN_CENT};
 pub use records::{Content, Contents, Dispute, Entry, Fall, Key, ReadingRow, TotalKey};
 pub use reference::{LONGEST_REFERENCE, Reference};

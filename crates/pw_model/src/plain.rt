@@ -4,6 +4,7 @@
 //! balances look at each second by itself, and pass over the records for each, so they are meant for short spans. What
 //! is topped up passes over the records for each top-up of the account.
 
+mod alone;
 mod balances;
 mod dispute_list;
 mod energies;
@@ -13,7 +14,6 @@ mod payments;
 mod points;
 mod reading_list;
 mod search;
-mod sorted;
 mod terms;
 
 pub use balances::balance;

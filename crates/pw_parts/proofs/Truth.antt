@@ -9,14 +9,14 @@ use Rattle.pw_model.specs.declared.records.Content.TheVariants as content
 use Rattle.pw_model.specs.declared.records.Contents.TheVariants.{One}
 use Rattle.pw_model.specs.declared.records.Entry.{Entry}
 use Rattle.pw_model.specs.declared.records.TotalKey.{TotalKey}
-use Rattle.pw_model.specs.declared.records.TotalKey.TheVariants.{Energy, TopUps}
 use Rattle.pw_model.specs.Counting.{Member, SameMembers, Counts, contents_at, point, start, reading_key, assignment_key}
 use Rattle.pw_model.specs.Lists.{reading_entry}
 use Rattle.pw_model.specs.Same.{key_numbers, total_numbers}
 use Rattle.pw_model.specs.Shelf.{total_among}
-use Rattle.pw_model.proofs.Answers.{counts-half, energy-same, topped-same}
+use Rattle.pw_model.proofs.Answers.{counts-half}
 use Rattle.pw_model.proofs.Counting.{one-is_counting}
 use Rattle.pw_model.proofs.InOrder.{by-numbers, lists-one}
+use Rattle.pw_model.proofs.Truth.{totals-same}
 use Rattle.pw_parts.specs.declared.parts.Parts.{Parts}
 use Rattle.pw_parts.specs.Parts.{IsPartsOf, by_key, by_total}
 use Rattle.pw_parts.specs.Laws.{PartsAreAtMostOne, TrueExactlyWhereTold, assignment_entry}
@@ -29,10 +29,6 @@ back s t h x = ((h x).1, (h x).0)
 
 counts-same : (s t : List Entry) → SameMembers s t → (Of : Entry → Type 0) (e : Entry) → (Counts s e × Of e) ↔ (Counts t e × Of e)
 counts-same s t h Of e = (λ p. (counts-half s t h e p.0, p.1), λ p. (counts-half t s (back s t h) e p.0, p.1))
-
-totals-same : (office : OfficeRules) (s t : List Entry) → SameMembers s t → (k : TotalKey) → total_among office s k ≡ total_among office t k
-totals-same office s t h (Energy o b d) = energy-same office s t h o b.0 d
-totals-same office s t h (TopUps a) = topped-same s t h a.0
 
 pub at-most_one : PartsAreAtMostOne
 at-most_one office s t a b h p q = record {

@@ -1,12 +1,12 @@
 //! Which records of a list count.
 
 ghost use Rattle.std.specs.Prelude.{◌≤◌, ◌∷◌, IfOk, length};
-ghost use Rattle.pw_model.specs.Counting.{Counts, Member};
+ghost use Rattle.pw_model.specs.Counting.{Counts};
 ghost use Rattle.pw_model.specs.Lists.{IsInOrder, Lists};
 ghost use Rattle.pw_model.specs.Same.{entry_order};
 ghost use Rattle.pw_parts.specs.Groups.{HasSameKey};
 
-use pw_model::{Entry, compare_entries, is_same_key};
+use pw_model::{Entry, is_same_key, sorted};
 use std::alloc::{AllocError, Global};
 
 // The records of a list that count, in order: those whose key no other record has.
@@ -17,17 +17,6 @@ pub(crate) fn counting(alloc: Global, entries: &[Entry]) -> Result<Vec<Entry>, A
     let in_order = sorted(alloc, entries)?;
     let counted = counting_among(alloc, &in_order)?;
     Ok(counted)
-}
-
-// The records of a list in their order, each once.
-fn sorted(alloc: Global, entries: &[Entry]) -> Result<Vec<Entry>, AllocError>
-    ensures sorted { IfOk result (λ all. Lists entry_order (λ e. Member e entries.now) all.items) }
-    ensures few { IfOk result (λ all. length all.items ≤ length entries.now) }
-{
-    let mut all = Vec::from_slice(alloc, entries)?;
-    all.sort_unstable_by(|a, b| compare_entries(a, b));
-    all.dedup();
-    Ok(all)
 }
 
 /// The records that count among records in order: those whose key no other record has.

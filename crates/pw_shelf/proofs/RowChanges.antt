@@ -14,7 +14,8 @@ use Rattle.pw_model.specs.Same.{same_key}
 use Rattle.pw_model.proofs.Same.{same_key-decides}
 use Rattle.pw_shelf.specs.declared.table.Table.{Table}
 use Rattle.pw_shelf.specs.Changes.{points_with, starts_with, totals_with}
-use Rattle.pw_shelf.specs.Orders.{total_key_order, point_order, start_order}
+use Rattle.pw_model.specs.Same.{total_key_order}
+use Rattle.pw_shelf.specs.Orders.{point_order, start_order}
 use Rattle.pw_shelf.specs.Standing.{meter_id, point_now, start_now, total_now}
 use Rattle.pw_shelf.specs.Table.{at_now}
 use Rattle.pw_shelf.specs.inner.Held.{AreDated}

@@ -1,4 +1,5 @@
--- The orders in which a store in memory keeps records, points, starts and totals, as those of their keys in the program.
+-- The orders in which a store in memory keeps records, points and starts, as those of their keys in the program. (That of
+-- totals is pw_model's.)
 -- (Definitions of this project.)
 use Rattle.std.specs.Prelude.{ℕ}
 use Rattle.std.specs.Ordering.{nat_cmp, ordering_then}
@@ -7,9 +8,7 @@ use Rattle.pw_obis.specs.declared.reference.Register.{Register}
 use Rattle.pw_obis.specs.contracts.reference.RegisterOrd.TheImpl as register
 use Rattle.pw_tariff.specs.declared.ids.MeterId.{MeterId}
 use Rattle.pw_model.specs.declared.records.Entry.{Entry}
-use Rattle.pw_model.specs.declared.records.TotalKey.{TotalKey}
 use Rattle.pw_model.specs.contracts.records.EntryOrd.TheImpl as entry
-use Rattle.pw_model.specs.contracts.records.TotalKeyOrd.TheImpl as total_key
 
 -- by meter, register and second
 abbrev pub point_order : MeterId × Register × ℕ → MeterId × Register × ℕ → Ordering
@@ -18,9 +17,6 @@ point_order a b = ordering_then (ordering_then (nat_cmp a.0.0 b.0.0) (register.g
 -- by meter and second
 abbrev pub start_order : MeterId × ℕ → MeterId × ℕ → Ordering
 start_order a b = ordering_then (nat_cmp a.0.0 b.0.0) (nat_cmp a.1 b.1)
-
-abbrev pub total_key_order : TotalKey → TotalKey → Ordering
-total_key_order = total_key.ghosts.cmp
 
 abbrev pub record_order : Entry → Entry → Ordering
 record_order = entry.ghosts.cmp

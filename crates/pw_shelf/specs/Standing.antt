@@ -9,7 +9,8 @@ use Rattle.pw_model.specs.declared.records.TotalKey.{TotalKey}
 use Rattle.pw_shelf.specs.declared.held.Held.{Held}
 use Rattle.pw_shelf.specs.declared.table.Table.{Table}
 use Rattle.pw_shelf.specs.Added.{without}
-use Rattle.pw_shelf.specs.Orders.{total_key_order, point_order, start_order}
+use Rattle.pw_model.specs.Same.{total_key_order}
+use Rattle.pw_shelf.specs.Orders.{point_order, start_order}
 use Rattle.pw_shelf.specs.Table.{at_begin, at_now}
 
 abbrev pub meter_id : ℕ → MeterId

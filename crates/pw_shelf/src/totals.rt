@@ -3,7 +3,7 @@
 ghost use Rattle.std.specs.Prelude.{◌≡◌, IfErr, OnOk};
 ghost use Rattle.pw_shelf.specs.Changes.{totals_with};
 ghost use Rattle.pw_shelf.specs.Standing.{total_now, total_then};
-ghost use Rattle.pw_shelf.specs.Orders.{total_key_order};
+ghost use Rattle.pw_model.specs.Same.{total_key_order};
 ghost use Rattle.pw_shelf.specs.inner.Table.{CanGoBack};
 ghost use Rattle.pw_shelf.specs.declared.fault.ShelfFault.TheVariants.{Memory};
 

@@ -5,7 +5,8 @@ ghost use Rattle.pw_model.specs.Lists.{AreDisputes, IsInOrder};
 ghost use Rattle.pw_model.specs.Office.{most_records};
 ghost use Rattle.pw_model.specs.Same.{entry_order};
 
-use super::sorted::{has_key_behind, sorted};
+use super::alone::has_key_behind;
+use crate::in_order::sorted;
 use crate::records::{Dispute, Entry};
 use std::alloc::{AllocError, Global};
 

@@ -9,8 +9,9 @@ ghost use Rattle.pw_model.specs.inner.Search.{IsAt, IsEarliestAmong, high_readin
 ghost use Rattle.pw_model.specs.declared.records.Entry.{Entry};
 ghost use Rattle.pw_model.specs.declared.records.Fall.{Fall};
 
+use super::alone::stands_alone;
 use super::search::instant_of;
-use super::sorted::{sorted, stands_alone};
+use crate::in_order::sorted;
 use crate::records::{Content, Entry, Fall, Key};
 use pw_obis::{Register, WattHours};
 use pw_tariff::MeterId;

@@ -4,8 +4,9 @@ ghost use Rattle.std.specs.Prelude.{◌≡◌, ℕ, IfOk, IfSome, IfNone};
 ghost use Rattle.pw_model.specs.Lists.{AreReadings, IsInOrder, reading_entry};
 ghost use Rattle.pw_model.specs.Same.{entry_order};
 
+use super::alone::stands_alone;
 use super::search::instant_of;
-use super::sorted::{sorted, stands_alone};
+use crate::in_order::sorted;
 use crate::records::{Content, Entry, ReadingRow};
 use pw_obis::Register;
 use pw_tariff::MeterId;
