@@ -56,7 +56,7 @@ pub cast_int : (n : ℕ) → cast Integer (Int (pos n)) ≡ Int (pos n)
 unfolding unary
 cast_int n = either _ (Int (pos n))
 
-was_not : (b : Bool) → not b ≡ true → b ≡ false
+pub was_not : (b : Bool) → not b ≡ true → b ≡ false
 was_not true e = absurd (let f : true ≡ false = sym e in cc)
 was_not false e = refl
 
@@ -76,9 +76,9 @@ module _ (text : List ℕ) (at width : ℕ) (terms : List Term) (it : IsInsert t
       let is : old.in_transaction ≡ true = inside in
       subst (λ b. Shows old new new.now (cond b old.committed new.now) b) is w.shown
 
-pub insert_fails : (text : List ℕ) (old new : State) (params : Row) (r : Result ℕ Error) → Executes text params old new r → OnErr r (IsUnchanged old new ⊎ IsRolledBack old new)
-insert_fails text old new params (Ok n) h = tt
-insert_fails text old new params (Err e) h = fails old new text params e h
+pub execute_fails : (text : List ℕ) (old new : State) (params : Row) (r : Result ℕ Error) → Executes text params old new r → OnErr r (IsUnchanged old new ⊎ IsRolledBack old new)
+execute_fails text old new params (Ok n) h = tt
+execute_fails text old new params (Err e) h = fails old new text params e h
 
 insert_survives : (text : List ℕ) (at width : ℕ) (terms : List Term) → IsInsert text at width terms → (old new : State) (params : Row) → (HasCleanDisk old → IsOurs old.now.schema) → (HasCleanDisk old → IsTrue old.in_transaction) → Survives old new (CommitsBy text params old) → Survives old new (λ _. ⊥)
 insert_survives text at width terms it old new params ours inside =
@@ -86,7 +86,7 @@ insert_survives text at width terms it old new params ours inside =
 
 pub inserts_if : (text : List ℕ) (at width : ℕ) (terms : List Term) → IsInsert text at width terms → (old new : State) (params : Row) (r : Result ℕ Error) → (HasCleanDisk old → IsOurs old.now.schema) → (HasCleanDisk old → IsTrue old.in_transaction) → (HasCleanDisk new → Executes text params old new r) → Survives old new (CommitsBy text params old) → Writes r old new
 inserts_if text at width terms it old new params r ours inside runs s = record {
-  failed = λ clean. insert_fails text old new params r (runs clean);
+  failed = λ clean. execute_fails text old new params r (runs clean);
   crash = insert_survives text at width terms it old new params ours inside s;
 }
 

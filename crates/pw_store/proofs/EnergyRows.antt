@@ -44,7 +44,7 @@ use Rattle.pw_store.proofs.Texts.{four_terms}
 use Rattle.pw_store.proofs.KeptTexts.{delete_total_text, delete_total_query, delete_total_is, insert_total_text, insert_total_is}
 use Rattle.pw_store.proofs.Scans.{equal_ints, tied, scans, scan_of, outputs, IsScan}
 use Rattle.pw_store.proofs.Finding.{first, second, same_number, owner_one, place_one}
-use Rattle.pw_store.proofs.Adding.{cast_null, cast_int, owner_back, insert_inside}
+use Rattle.pw_store.proofs.Adding.{cast_null, cast_int, owner_back, insert_inside, was_not}
 use Rattle.pw_store.specs.Left.{IsOldEnergy, IsOldPayment}
 use Rattle.pw_store.proofs.StillKept.{fewer, keeps_rows, more}
 use Rattle.pw_store.proofs.Others.{AreElseSame, same_records, store_kept, same_total-decides, energies_with, content_with_total}
@@ -173,10 +173,6 @@ module _ (old new : State) (o : Option AccountId) (b : BandId) (d : Direction) (
 
   abbrev row : Row
   row = Int (next_rowid (old.now.trees 11)) ∷ given
-
-  was_not : (b : Bool) → not b ≡ true → b ≡ false
-  was_not true e = absurd (let f : true ≡ false = sym e in cc)
-  was_not false e = refl
 
   free : is_taken (old.now.trees 11) row ≡ false
   free = let fresh = rw cast_null at inserted.1.fresh in was_not _ (first _ _ fresh)

@@ -18,6 +18,7 @@ pub mod KeyedRows
 pub mod LeftOpening
 pub mod LeftStores
 pub mod Lists
+pub mod Listed
 pub mod Neighbours
 pub mod OfContent
 pub mod OfMeter
@@ -38,7 +39,6 @@ pub mod Scans
 pub mod Sound
 pub mod StartRows
 pub mod StillKept
-pub mod SumTables
 pub mod Taking
 pub mod Telling
 pub mod Texts

@@ -37,7 +37,7 @@ use Rattle.pw_store.specs.inner.Changing.{Makes}
 use Rattle.pw_store.proofs.KeptTexts.{delete_payment_text, delete_payment_query, delete_payment_is, insert_payment_text, insert_payment_is, payment_terms}
 use Rattle.pw_store.proofs.Scans.{equal_ints, tied, scans, scan_of, outputs, IsScan}
 use Rattle.pw_store.proofs.Finding.{first, same_number}
-use Rattle.pw_store.proofs.Adding.{cast_null, cast_int, insert_inside}
+use Rattle.pw_store.proofs.Adding.{cast_null, cast_int, insert_inside, was_not}
 use Rattle.pw_store.specs.Left.{IsOldEnergy, IsOldPayment}
 use Rattle.pw_store.proofs.StillKept.{fewer, keeps_rows, more}
 use Rattle.pw_store.proofs.Others.{AreElseSame, same_records, store_kept, same_total-decides, payments_with, content_with_total}
@@ -147,10 +147,6 @@ module _ (old new : State) (a : AccountId) (v : ℕ) (count : ℕ) (above : 0 < 
 
   abbrev row : Row
   row = Int (pos a.0) ∷ Null ∷ Int (pos v) ∷ []
-
-  was_not : (b : Bool) → not b ≡ true → b ≡ false
-  was_not true e = absurd (let f : true ≡ false = sym e in cc)
-  was_not false e = refl
 
   free : is_taken (old.now.trees 13) row ≡ false
   free = let fresh = rw (cast_int a.0) at inserted.1.fresh in was_not _ (first _ _ fresh)

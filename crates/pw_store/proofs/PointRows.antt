@@ -42,7 +42,7 @@ use Rattle.pw_store.proofs.Texts.{four_terms}
 use Rattle.pw_store.proofs.KeptTexts.{delete_point_text, delete_point_query, delete_point_is, insert_point_text, insert_point_is}
 use Rattle.pw_store.proofs.Scans.{equal_ints, tied, scans, scan_of, outputs, IsScan}
 use Rattle.pw_store.proofs.Finding.{first, second, same_number, meter_of, register_of, second_of}
-use Rattle.pw_store.proofs.Adding.{cast_null, cast_int, register_back, insert_inside}
+use Rattle.pw_store.proofs.Adding.{cast_null, cast_int, register_back, insert_inside, was_not}
 use Rattle.pw_store.proofs.StillKept.{keeps_sums}
 use Rattle.pw_store.proofs.Others.{AreElseSame, same_records, store_kept, content_with_point}
 use Rattle.pw_store.proofs.KeptRows.{ids, leaves, find_gone, gone_told, put_told, keyed_gone, keyed_put}
@@ -151,10 +151,6 @@ module _ (old new : State) (m : ℕ) (g : Register) (i : ℕ) (v : ℕ) (count :
 
   abbrev row : Row
   row = Int (next_rowid (old.now.trees 7)) ∷ given
-
-  was_not : (b : Bool) → not b ≡ true → b ≡ false
-  was_not true e = absurd (let f : true ≡ false = sym e in cc)
-  was_not false e = refl
 
   free : is_taken (old.now.trees 7) row ≡ false
   free = let fresh = rw cast_null at inserted.1.fresh in was_not _ (first _ _ fresh)

@@ -42,7 +42,7 @@ use Rattle.pw_store.proofs.Texts.{three_terms}
 use Rattle.pw_store.proofs.KeptTexts.{delete_start_text, delete_start_query, delete_start_is, insert_start_text, insert_start_is}
 use Rattle.pw_store.proofs.Scans.{equal_ints, tied, scans, scan_of, outputs, IsScan}
 use Rattle.pw_store.proofs.Finding.{first, second, same_number, meter_of, second_of}
-use Rattle.pw_store.proofs.Adding.{cast_null, cast_int, owner_back, insert_inside}
+use Rattle.pw_store.proofs.Adding.{cast_null, cast_int, owner_back, insert_inside, was_not}
 use Rattle.pw_store.proofs.StillKept.{keeps_sums}
 use Rattle.pw_store.proofs.Others.{AreElseSame, same_records, store_kept, content_with_start}
 use Rattle.pw_store.proofs.KeptRows.{ids, leaves, find_gone, gone_told, put_told, keyed_gone, keyed_put}
@@ -148,10 +148,6 @@ module _ (old new : State) (m i : ℕ) (o : Option AccountId) (count : ℕ) (sto
 
   abbrev row : Row
   row = Int (next_rowid (old.now.trees 9)) ∷ given
-
-  was_not : (b : Bool) → not b ≡ true → b ≡ false
-  was_not true e = absurd (let f : true ≡ false = sym e in cc)
-  was_not false e = refl
 
   free : is_taken (old.now.trees 9) row ≡ false
   free = let fresh = rw cast_null at inserted.1.fresh in was_not _ (first _ _ fresh)

@@ -13,9 +13,10 @@ ghost use Rattle.pw_schema.specs.Calls.{Writes};
 ghost use Rattle.pw_schema.specs.inner.Calls.{Asks};
 ghost use Rattle.pw_store.specs.Content.{content_of, records_of};
 ghost use Rattle.pw_store.specs.inner.Records.{topup_entry};
-ghost use Rattle.pw_store.specs.inner.Lists.{ShowsAll};
+ghost use Rattle.pw_store.specs.inner.Listings.{ShowsAll};
 ghost use Rattle.pw_schema.specs.Rows.{contents_of, told_content};
 
+use crate::listings::Listing;
 use pw_model::Reference;
 use pw_schema::{RecordKind, integer, words};
 use pw_tariff::AccountId;
@@ -53,13 +54,10 @@ pub(crate) fn add_topup<S: Alter>(
 /// All top-ups, in order.
 pub(crate) fn topup_rows<S: Alter>(conn: &mut Connection<S>) -> Result<Vec<Row>, Error>
     requires ours { HasCleanDisk (state S.Store conn.old) → IsOurs (state S.Store conn.old).now.schema }
-    ensures rows { HasCleanDisk (state S.Store conn.new) → IfOk result (λ rows. ShowsAll RecordKind.TopUps (state S.Store conn.old).now.trees rows.items) }
+    ensures rows { HasCleanDisk (state S.Store conn.new) → IfOk result (λ rows. ShowsAll (Listing.Records RecordKind.TopUps) (state S.Store conn.old).now.trees rows.items) }
     ensures asks { Asks result (state S.Store conn.old) (state S.Store conn.new) }
 {
-    conn.query_all(
-        "SELECT reference, account, cents, instant FROM record_topup ORDER BY reference, account, cents, instant",
-        &[],
-    )
+    conn.query_all(Listing::Records(RecordKind::TopUps).text(), &[])
 }
 
 // Rows for a top-up, if it is held.
