@@ -24,6 +24,7 @@ pub mod OfContent
 pub mod OfMeter
 pub mod OfParts
 pub mod Once
+pub mod OneTable
 pub mod OneKind
 pub mod OfficeFirst
 pub mod OneOffice

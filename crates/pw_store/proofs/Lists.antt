@@ -27,7 +27,7 @@ abbrev pub second : Output → Row
 second o = o.1
 
 -- no table that is computed stands at a tree
-plainly : (db : Trees) (tree : ℕ) → overlay db [] tree ≡ db tree
+pub plainly : (db : Trees) (tree : ℕ) → overlay db [] tree ≡ db tree
 plainly db tree = elim (nat_le (2 ^ 31) tree) as (λ b. unwrap_or (if b then slice_get [] (tree - 2 ^ 31) else None) (db tree) ≡ db tree) [ true ↦ refl | false ↦ refl ]
 
 -- what a query over one table shows, where it has no LIMIT

@@ -126,3 +126,14 @@ looks_on (Err e) a b c same crash look = record {
   kept = λ clean. keeps_on a b c (same (early b c look.crash clean)) (look.kept clean);
   crash = survives_on a b c crash look.crash;
 }
+
+-- what a look that answered Ok leaves
+abbrev pub HasLooked : State → State → Type 0
+HasLooked a b = (HasCleanDisk b → IsUnchanged a b) × Survives a b (λ _. ⊥)
+
+pub looked : {T E : Type 0} (x : T) (a b : State) → Looks {T = T} {E = E} (Ok x) a b → HasLooked a b
+looked x a b look = (look.same, look.crash)
+
+-- a look behind three
+pub looks_last : {T E : Type 0} (r : Result T E) (a b c d e : State) → HasLooked a b → HasLooked b c → HasLooked c d → Looks r d e → Looks r a e
+looks_last r a b c d e first second third look = looks_on r a b e first.0 first.1 (looks_on r b c e second.0 second.1 (looks_on r c d e third.0 third.1 look))

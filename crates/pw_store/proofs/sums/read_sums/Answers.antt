@@ -9,34 +9,18 @@ use Rattle.pw_store.specs.Content.{start_tree, total_tree, payment_tree}
 use Rattle.pw_store.specs.inner.Sums.{TellsKept, TellsTotals}
 use Rattle.pw_store.proofs.Compared.{all_read}
 use Rattle.pw_store.proofs.InTurn.{trees_same}
-use Rattle.pw_store.proofs.Scanning.{looks_on}
+use Rattle.pw_store.proofs.Scanning.{looked, looks_last}
 use Rattle.pw_store.proofs.sums.read_sums.Goals as goal
 
 pub returns-in-Err-read_payments-clause-looks : goal.returns-in-Err-read_payments-clause-looks
 returns-in-Err-read_payments-clause-looks g c =
-    let s0 = state g.S.Store c.args.conn.now in
-    let s1 = state g.S.Store c.read_kept.new.conn in
-    let s2 = state g.S.Store c.read_kept-2.new.conn in
-    let s3 = state g.S.Store c.read_energies.new.conn in
-    let s4 = state g.S.Store c.read_payments.new.conn in
-    let points = c.in-Ok.ensures.looks in
-    let starts = c.in-Ok-read_kept.ensures.looks in
-    let energies = c.in-Ok-read_energies.ensures.looks in
-    let payments = c.in-Err-read_payments.ensures.looks in
-    looks_on (Err c.in-Err-read_payments.fault) s0 s1 s4 points.same points.crash (looks_on (Err c.in-Err-read_payments.fault) s1 s2 s4 starts.same starts.crash (looks_on (Err c.in-Err-read_payments.fault) s2 s3 s4 energies.same energies.crash (record { same = λ clean. tt; kept = payments.kept; crash = payments.crash })))
+    looks_last (Err c.in-Err-read_payments.fault) (state g.S.Store c.args.conn.now) (state g.S.Store c.read_kept.new.conn) (state g.S.Store c.read_kept-2.new.conn) (state g.S.Store c.read_energies.new.conn) (state g.S.Store c.read_payments.new.conn)
+    (looked _ _ _ c.in-Ok.ensures.looks) (looked _ _ _ c.in-Ok-read_kept.ensures.looks) (looked _ _ _ c.in-Ok-read_energies.ensures.looks) (record { same = λ clean. tt; kept = c.in-Err-read_payments.ensures.looks.kept; crash = c.in-Err-read_payments.ensures.looks.crash })
 
 pub returns-clause-looks : goal.returns-clause-looks
 returns-clause-looks g c =
-    let s0 = state g.S.Store c.args.conn.now in
-    let s1 = state g.S.Store c.read_kept.new.conn in
-    let s2 = state g.S.Store c.read_kept-2.new.conn in
-    let s3 = state g.S.Store c.read_energies.new.conn in
-    let s4 = state g.S.Store c.read_payments.new.conn in
-    let points = c.in-Ok.ensures.looks in
-    let starts = c.in-Ok-read_kept.ensures.looks in
-    let energies = c.in-Ok-read_energies.ensures.looks in
-    let payments = c.in-Ok-read_payments.ensures.looks in
-    looks_on (Ok c.are_all.result) s0 s1 s4 points.same points.crash (looks_on (Ok c.are_all.result) s1 s2 s4 starts.same starts.crash (looks_on (Ok c.are_all.result) s2 s3 s4 energies.same energies.crash (record { same = payments.same; kept = payments.kept; crash = payments.crash })))
+    looks_last (Ok c.are_all.result) (state g.S.Store c.args.conn.now) (state g.S.Store c.read_kept.new.conn) (state g.S.Store c.read_kept-2.new.conn) (state g.S.Store c.read_energies.new.conn) (state g.S.Store c.read_payments.new.conn)
+    (looked _ _ _ c.in-Ok.ensures.looks) (looked _ _ _ c.in-Ok-read_kept.ensures.looks) (looked _ _ _ c.in-Ok-read_energies.ensures.looks) (record { same = c.in-Ok-read_payments.ensures.looks.same; kept = c.in-Ok-read_payments.ensures.looks.kept; crash = c.in-Ok-read_payments.ensures.looks.crash })
 
 pub returns-clause-tells : goal.returns-clause-tells
 returns-clause-tells g c clean =
