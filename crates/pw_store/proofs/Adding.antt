@@ -1,5 +1,5 @@
 -- What INSERT makes of the records.
-use Rattle.std.proofs.Common.{arith, add-one, Option, ◌≡◌, ◌⊎◌, ℕ, pos, List, [], ◌∷◌, ◌++◌, map, Bool, true, false, cond, not, ◌&&◌, Some, None, Ok, Err, Result, OnOk, OnErr, IsTrue, refl, sym, ap, subst, ◌∙◌}
+use Rattle.std.proofs.Common.{arith, add-one, Option, ◌≡◌, ◌⊎◌, ℕ, pos, List, ◌∷◌, ◌++◌, map, Bool, true, false, cond, not, ◌&&◌, Some, None, Ok, Err, Result, OnOk, OnErr, IsTrue, refl, sym, ap, subst, ◌∙◌}
 use Rattle.std.specs.List.{AllByRecursion}
 use Rattle.sqlite.specs.declared.types.Value.{Value}
 use Rattle.sqlite.specs.declared.types.Value.TheVariants.{Null, Int}
@@ -10,15 +10,13 @@ use Rattle.sqlite.specs.Table.{Table}
 use Rattle.sqlite.specs.Kind.TheVariants.{Integer}
 use Rattle.sqlite.specs.Source.TheVariants.{Values}
 use Rattle.sqlite.specs.Command.TheVariants.{Insert}
-use Rattle.sqlite.specs.Edit.{Applies, edit_of, is_taken, next_rowid}
+use Rattle.sqlite.specs.Edit.{is_taken, next_rowid}
 use Rattle.sqlite.specs.Cast.{cast}
-use Rattle.sqlite.specs.Rowids.TheVariants.{Chosen}
-use Rattle.sqlite.specs.Does.{Does}
 use Rattle.sqlite.specs.Tree.{put_row}
 use Rattle.sqlite.specs.declared.error.Error.{Error}
 use Rattle.sqlite.specs.Listing.{understood}
-use Rattle.sqlite.specs.State.{State, Shows, HasCleanDisk, mode_of, Executes, IsUnchanged, IsRolledBack, Survives, CommitsBy}
-use Rattle.sqlite.proofs.Callers.{command_of, statement_of, runs_as}
+use Rattle.sqlite.specs.State.{State, Shows, HasCleanDisk, Executes, IsUnchanged, IsRolledBack, Survives, CommitsBy}
+use Rattle.sqlite.proofs.Callers.{command_of, runs_as}
 use Rattle.sqlite_trees.proofs.TreeLemmas.{all-put_row}
 use Rattle.pw_obis.specs.declared.reference.Register.{Register}
 use Rattle.pw_obis.specs.declared.reference.Register.TheVariants.{I0, I1, I2, E0, E1, E2}
@@ -31,17 +29,16 @@ use Rattle.pw_shelf.proofs.InOrder.{inserted-once}
 use Rattle.pw_schema.specs.Calls.{Writes}
 use Rattle.pw_schema.specs.Tables.{ours_with, only_one, IsOurs, topup_at, reading_at, assignment_at}
 use Rattle.pw_schema.specs.Rows.{register_at, owner_at}
-use Rattle.pw_store.specs.Content.{content_of, records_of, reading_in, assignment_in, topup_in, energy_in, payment_in, IsReadingRow, IsAssignmentRow, IsTopupRow, reading_tree, assignment_tree, topup_tree}
+use Rattle.pw_store.specs.Content.{records_of, reading_in, assignment_in, topup_in, energy_in, payment_in, IsReadingRow, IsAssignmentRow, IsTopupRow, reading_tree, assignment_tree, topup_tree}
 use Rattle.pw_store.specs.inner.Records.{reading_row, assignment_row, reading_entry, assignment_entry, topup_row, topup_entry}
-use Rattle.pw_shelf.specs.State.{IsWithRecord}
 use Rattle.pw_store.specs.Kept.{IsStore, key_in_point, key_in_start}
 use Rattle.pw_store.specs.Keyed.{AreKeyed, IsEnergyRow, IsPaymentRow}
-use Rattle.pw_store.specs.inner.Changing.{StillKeeps}
+use Rattle.pw_store.specs.inner.Changing.{Adds, StillKeeps}
 use Rattle.pw_store.proofs.StillKept.{keeps_sums}
 use Rattle.pw_store.proofs.Others.{SameSums, same_sums, with_record}
 use Rattle.pw_store.proofs.Texts.{IsInsert, add_topup_text, add_topup_is, four_terms, add_reading_text, add_reading_is, add_assignment_text, add_assignment_is, three_terms}
 use Rattle.pw_schema.proofs.Outcomes.{fails, keeps_commit}
-use Rattle.pw_schema.proofs.Steps.{one_insert, uncounted}
+use Rattle.pw_store.proofs.OneTable.{HasInserted, inserts}
 use Rattle.pw_store.proofs.Placing.{put_inserts, behind, before}
 
 either : (b : Bool) (x : Value) → cond b x x ≡ x
@@ -56,7 +53,7 @@ pub cast_int : (n : ℕ) → cast Integer (Int (pos n)) ≡ Int (pos n)
 unfolding unary
 cast_int n = either _ (Int (pos n))
 
-was_not : (b : Bool) → not b ≡ true → b ≡ false
+pub was_not : (b : Bool) → not b ≡ true → b ≡ false
 was_not true e = absurd (let f : true ≡ false = sym e in cc)
 was_not false e = refl
 
@@ -76,9 +73,9 @@ module _ (text : List ℕ) (at width : ℕ) (terms : List Term) (it : IsInsert t
       let is : old.in_transaction ≡ true = inside in
       subst (λ b. Shows old new new.now (cond b old.committed new.now) b) is w.shown
 
-pub insert_fails : (text : List ℕ) (old new : State) (params : Row) (r : Result ℕ Error) → Executes text params old new r → OnErr r (IsUnchanged old new ⊎ IsRolledBack old new)
-insert_fails text old new params (Ok n) h = tt
-insert_fails text old new params (Err e) h = fails old new text params e h
+pub execute_fails : (text : List ℕ) (old new : State) (params : Row) (r : Result ℕ Error) → Executes text params old new r → OnErr r (IsUnchanged old new ⊎ IsRolledBack old new)
+execute_fails text old new params (Ok n) h = tt
+execute_fails text old new params (Err e) h = fails old new text params e h
 
 insert_survives : (text : List ℕ) (at width : ℕ) (terms : List Term) → IsInsert text at width terms → (old new : State) (params : Row) → (HasCleanDisk old → IsOurs old.now.schema) → (HasCleanDisk old → IsTrue old.in_transaction) → Survives old new (CommitsBy text params old) → Survives old new (λ _. ⊥)
 insert_survives text at width terms it old new params ours inside =
@@ -86,7 +83,7 @@ insert_survives text at width terms it old new params ours inside =
 
 pub inserts_if : (text : List ℕ) (at width : ℕ) (terms : List Term) → IsInsert text at width terms → (old new : State) (params : Row) (r : Result ℕ Error) → (HasCleanDisk old → IsOurs old.now.schema) → (HasCleanDisk old → IsTrue old.in_transaction) → (HasCleanDisk new → Executes text params old new r) → Survives old new (CommitsBy text params old) → Writes r old new
 inserts_if text at width terms it old new params r ours inside runs s = record {
-  failed = λ clean. insert_fails text old new params r (runs clean);
+  failed = λ clean. execute_fails text old new params r (runs clean);
   crash = insert_survives text at width terms it old new params ours inside s;
 }
 
@@ -98,12 +95,8 @@ module _ (old new : State) (t : List ℕ) (a c i count : ℕ) (store : IsStore o
   abbrev table : Table
   table = topup_at topup_tree
 
-  applied : (new.now.schema ≡ ours_with own) × Applies (ours_with own) (mode_of old).keys old.now.trees (edit_of old.now.trees (uncounted table) [] Chosen 0 ((Null ∷ topup_row t a c i) ∷ [])) new.now.trees
-  applied =
-      let w = runs_as add_topup_text (topup_row t a c i) old new (ours_with own) store.ours (Insert 3 (Values four_terms 5)) (add_topup_is.is own) (add_topup_is.plain own) count h in
-      let text = statement_of add_topup_text (understood (ours_with own) add_topup_text) in
-      one_insert old.step_limit (mode_of old).keys (ours_with own) table (topup_row t a c i) (mode_of old) old.now.trees 3 5 four_terms ((Null ∷ topup_row t a c i) ∷ []) w.tally new.now refl (λ _. refl)
-      (subst (λ s. Does old.step_limit (mode_of old) (topup_row t a c i) (record old.now { schema = s }) text None (Insert 3 (Values four_terms 5)) (Ok (w.tally, new.now))) store.ours w.changed)
+  applied : HasInserted table (Null ∷ topup_row t a c i) old new
+  applied = inserts add_topup_text 3 (topup_row t a c i) old new store.ours count h table 5 four_terms (Null ∷ topup_row t a c i) add_topup_is (λ out does. does) (λ _. refl) refl
 
   abbrev row : Row
   row = Int (next_rowid (old.now.trees topup_tree)) ∷ topup_row t a c i
@@ -123,18 +116,18 @@ module _ (old new : State) (t : List ℕ) (a c i count : ℕ) (store : IsStore o
   all : records_of new.now.trees ≡ map reading_in (old.now.trees reading_tree) ++ (map assignment_in (old.now.trees assignment_tree) ++ map topup_in (put_row row (old.now.trees topup_tree)))
   all = rw (readings, assignments, rows) refl
 
-  pub adds_topup : IsInserted (topup_in row) (records_of old.now.trees) (records_of new.now.trees)
+  adds_topup : IsInserted (topup_in row) (records_of old.now.trees) (records_of new.now.trees)
   adds_topup =
       let one = put_inserts topup_in row (old.now.trees topup_tree) free in
       subst (IsInserted (topup_in row) (records_of old.now.trees)) (sym all) (behind _ (map reading_in (old.now.trees reading_tree)) _ _ (behind _ (map assignment_in (old.now.trees assignment_tree)) _ _ one))
 
-  pub sums_topup : SameSums old.now.trees new.now.trees
+  sums_topup : SameSums old.now.trees new.now.trees
   sums_topup = same_sums own topup_tree old.now.trees new.now.trees (omega arith) applied.1.tables
 
-  pub keeps_topup : StillKeeps old.now.trees new.now.trees
+  keeps_topup : StillKeeps old.now.trees new.now.trees
   keeps_topup = keeps_sums own _ old.now.trees new.now.trees _ applied.1 (omega arith) (omega arith) sums_topup.total sums_topup.payment
 
-  pub stores_topup : (Member (topup_in row) (records_of old.now.trees) → ⊥) → IsStore new.now
+  stores_topup : (Member (topup_in row) (records_of old.now.trees) → ⊥) → IsStore new.now
   stores_topup fresh = record {
     ours = applied.0;
     readings = subst (AllByRecursion IsReadingRow) (sym readings) store.readings;
@@ -168,12 +161,8 @@ module _ (old new : State) (m : MeterId) (r : Register) (t v : ℕ) (count : ℕ
   abbrev table_reading : Table
   table_reading = reading_at reading_tree
 
-  applied_reading : (new.now.schema ≡ ours_with own_reading) × Applies (ours_with own_reading) (mode_of old).keys old.now.trees (edit_of old.now.trees (uncounted table_reading) [] Chosen 0 ((Null ∷ reading_row m.0 (register_place r) t v) ∷ [])) new.now.trees
-  applied_reading =
-      let w = runs_as add_reading_text (reading_row m.0 (register_place r) t v) old new (ours_with own_reading) store.ours (Insert 1 (Values four_terms 5)) (add_reading_is.is own_reading) (add_reading_is.plain own_reading) count h in
-      let text = statement_of add_reading_text (understood (ours_with own_reading) add_reading_text) in
-      one_insert old.step_limit (mode_of old).keys (ours_with own_reading) table_reading (reading_row m.0 (register_place r) t v) (mode_of old) old.now.trees 1 5 four_terms ((Null ∷ reading_row m.0 (register_place r) t v) ∷ []) w.tally new.now refl (λ _. refl)
-      (subst (λ s. Does old.step_limit (mode_of old) (reading_row m.0 (register_place r) t v) (record old.now { schema = s }) text None (Insert 1 (Values four_terms 5)) (Ok (w.tally, new.now))) store.ours w.changed)
+  applied_reading : HasInserted table_reading (Null ∷ reading_row m.0 (register_place r) t v) old new
+  applied_reading = inserts add_reading_text 1 (reading_row m.0 (register_place r) t v) old new store.ours count h table_reading 5 four_terms (Null ∷ reading_row m.0 (register_place r) t v) add_reading_is (λ out does. does) (λ _. refl) refl
 
   abbrev row_reading : Row
   row_reading = Int (next_rowid (old.now.trees reading_tree)) ∷ reading_row m.0 (register_place r) t v
@@ -196,19 +185,19 @@ module _ (old new : State) (m : MeterId) (r : Register) (t v : ℕ) (count : ℕ
   one_reading : reading_in row_reading ≡ reading_entry m r t v
   one_reading = ap (λ (s : Register). reading_entry m s t v) (register_back r)
 
-  pub adds_reading : IsInserted (reading_entry m r t v) (records_of old.now.trees) (records_of new.now.trees)
+  adds_reading : IsInserted (reading_entry m r t v) (records_of old.now.trees) (records_of new.now.trees)
   adds_reading =
       let one = put_inserts reading_in row_reading (old.now.trees reading_tree) free_reading in
       subst (λ e. IsInserted e (records_of old.now.trees) (records_of new.now.trees)) one_reading
       (subst (IsInserted (reading_in row_reading) (records_of old.now.trees)) (sym all_reading) (before _ (map assignment_in (old.now.trees assignment_tree) ++ map topup_in (old.now.trees topup_tree)) _ _ one))
 
-  pub sums_reading : SameSums old.now.trees new.now.trees
+  sums_reading : SameSums old.now.trees new.now.trees
   sums_reading = same_sums own_reading reading_tree old.now.trees new.now.trees (omega arith) applied_reading.1.tables
 
-  pub keeps_reading : StillKeeps old.now.trees new.now.trees
+  keeps_reading : StillKeeps old.now.trees new.now.trees
   keeps_reading = keeps_sums own_reading _ old.now.trees new.now.trees _ applied_reading.1 (omega arith) (omega arith) sums_reading.total sums_reading.payment
 
-  pub stores_reading : (Member (reading_entry m r t v) (records_of old.now.trees) → ⊥) → IsStore new.now
+  stores_reading : (Member (reading_entry m r t v) (records_of old.now.trees) → ⊥) → IsStore new.now
   stores_reading fresh = record {
     ours = applied_reading.0;
     readings = subst (AllByRecursion IsReadingRow) (sym rows_reading) (all-put_row IsReadingRow row_reading (old.now.trees reading_tree) (refl, (ap (λ (s : Register). Int (pos (register_place s))) (sym (register_back r)), (refl, refl))) store.readings);
@@ -229,12 +218,8 @@ module _ (old new : State) (m : MeterId) (t : ℕ) (o : Option AccountId) (count
   abbrev table_assignment : Table
   table_assignment = assignment_at assignment_tree
 
-  applied_assignment : (new.now.schema ≡ ours_with own_assignment) × Applies (ours_with own_assignment) (mode_of old).keys old.now.trees (edit_of old.now.trees (uncounted table_assignment) [] Chosen 0 ((Null ∷ assignment_row m.0 t (owner_place o)) ∷ [])) new.now.trees
-  applied_assignment =
-      let w = runs_as add_assignment_text (assignment_row m.0 t (owner_place o)) old new (ours_with own_assignment) store.ours (Insert 2 (Values three_terms 4)) (add_assignment_is.is own_assignment) (add_assignment_is.plain own_assignment) count h in
-      let text = statement_of add_assignment_text (understood (ours_with own_assignment) add_assignment_text) in
-      one_insert old.step_limit (mode_of old).keys (ours_with own_assignment) table_assignment (assignment_row m.0 t (owner_place o)) (mode_of old) old.now.trees 2 4 three_terms ((Null ∷ assignment_row m.0 t (owner_place o)) ∷ []) w.tally new.now refl (λ _. refl)
-      (subst (λ s. Does old.step_limit (mode_of old) (assignment_row m.0 t (owner_place o)) (record old.now { schema = s }) text None (Insert 2 (Values three_terms 4)) (Ok (w.tally, new.now))) store.ours w.changed)
+  applied_assignment : HasInserted table_assignment (Null ∷ assignment_row m.0 t (owner_place o)) old new
+  applied_assignment = inserts add_assignment_text 2 (assignment_row m.0 t (owner_place o)) old new store.ours count h table_assignment 4 three_terms (Null ∷ assignment_row m.0 t (owner_place o)) add_assignment_is (λ out does. does) (λ _. refl) refl
 
   abbrev row_assignment : Row
   row_assignment = Int (next_rowid (old.now.trees assignment_tree)) ∷ assignment_row m.0 t (owner_place o)
@@ -257,19 +242,19 @@ module _ (old new : State) (m : MeterId) (t : ℕ) (o : Option AccountId) (count
   one_assignment : assignment_in row_assignment ≡ assignment_entry m t o
   one_assignment = ap (λ (p : Option AccountId). assignment_entry m t p) (owner_back o)
 
-  pub adds_assignment : IsInserted (assignment_entry m t o) (records_of old.now.trees) (records_of new.now.trees)
+  adds_assignment : IsInserted (assignment_entry m t o) (records_of old.now.trees) (records_of new.now.trees)
   adds_assignment =
       let one = put_inserts assignment_in row_assignment (old.now.trees assignment_tree) free_assignment in
       subst (λ e. IsInserted e (records_of old.now.trees) (records_of new.now.trees)) one_assignment
       (subst (IsInserted (assignment_in row_assignment) (records_of old.now.trees)) (sym all_assignment) (behind _ (map reading_in (old.now.trees reading_tree)) _ _ (before _ (map topup_in (old.now.trees topup_tree)) _ _ one)))
 
-  pub sums_assignment : SameSums old.now.trees new.now.trees
+  sums_assignment : SameSums old.now.trees new.now.trees
   sums_assignment = same_sums own_assignment assignment_tree old.now.trees new.now.trees (omega arith) applied_assignment.1.tables
 
-  pub keeps_assignment : StillKeeps old.now.trees new.now.trees
+  keeps_assignment : StillKeeps old.now.trees new.now.trees
   keeps_assignment = keeps_sums own_assignment _ old.now.trees new.now.trees _ applied_assignment.1 (omega arith) (omega arith) sums_assignment.total sums_assignment.payment
 
-  pub stores_assignment : (Member (assignment_entry m t o) (records_of old.now.trees) → ⊥) → IsStore new.now
+  stores_assignment : (Member (assignment_entry m t o) (records_of old.now.trees) → ⊥) → IsStore new.now
   stores_assignment fresh = record {
     ours = applied_assignment.0;
     readings = subst (AllByRecursion IsReadingRow) (sym readings_assignment) store.readings;
@@ -283,42 +268,29 @@ module _ (old new : State) (m : MeterId) (t : ℕ) (o : Option AccountId) (count
   }
 
 -- ---- whether it answered Ok or not
-pub stores_topup_if : (old new : State) (t : List ℕ) (a c i : ℕ) (r : Result ℕ Error) → IsStore old.now → (Member (topup_entry t (record { 0 = a }) c i) (records_of old.now.trees) → ⊥) → Executes add_topup_text (topup_row t a c i) old new r → OnOk r (IsStore new.now)
-stores_topup_if old new t a c i (Ok n) store fresh h = stores_topup old new t a c i n store h fresh
-stores_topup_if old new t a c i (Err e) store fresh h = tt
+pub adds_topup_if : (old new : State) (t : List ℕ) (a c i : ℕ) (r : Result ℕ Error) → IsStore old.now → IsTrue old.in_transaction → (Member (topup_entry t (record { 0 = a }) c i) (records_of old.now.trees) → ⊥) → Executes add_topup_text (topup_row t a c i) old new r → OnOk r (Adds (topup_entry t (record { 0 = a }) c i) old new)
+adds_topup_if old new t a c i (Err e) store inside fresh h = tt
+adds_topup_if old new t a c i (Ok n) store inside fresh h = record {
+  store = stores_topup old new t a c i n store h fresh;
+  keeps = keeps_topup old new t a c i n store h;
+  content = with_record (topup_entry t (record { 0 = a }) c i) old.now.trees new.now.trees (adds_topup old new t a c i n store h) (sums_topup old new t a c i n store h);
+  shows = insert_inside add_topup_text 3 5 four_terms add_topup_is old new store.ours (topup_row t a c i) n h inside;
+}
 
-pub adds_topup_if : (old new : State) (t : List ℕ) (a c i : ℕ) (r : Result ℕ Error) → IsStore old.now → Executes add_topup_text (topup_row t a c i) old new r → OnOk r (IsWithRecord (content_of old.now.trees) (topup_entry t (record { 0 = a }) c i) (content_of new.now.trees))
-adds_topup_if old new t a c i (Ok n) store h = with_record (topup_entry t (record { 0 = a }) c i) old.now.trees new.now.trees (adds_topup old new t a c i n store h) (sums_topup old new t a c i n store h)
-adds_topup_if old new t a c i (Err e) store h = tt
+pub adds_reading_if : (old new : State) (m : MeterId) (r : Register) (t w : ℕ) (out : Result ℕ Error) → IsStore old.now → IsTrue old.in_transaction → (Member (reading_entry m r t w) (records_of old.now.trees) → ⊥) → Executes add_reading_text (reading_row m.0 (register_place r) t w) old new out → OnOk out (Adds (reading_entry m r t w) old new)
+adds_reading_if old new m r t w (Err e) store inside fresh h = tt
+adds_reading_if old new m r t w (Ok n) store inside fresh h = record {
+  store = stores_reading old new m r t w n store h fresh;
+  keeps = keeps_reading old new m r t w n store h;
+  content = with_record (reading_entry m r t w) old.now.trees new.now.trees (adds_reading old new m r t w n store h) (sums_reading old new m r t w n store h);
+  shows = insert_inside add_reading_text 1 5 four_terms add_reading_is old new store.ours (reading_row m.0 (register_place r) t w) n h inside;
+}
 
-pub inside_if : (text : List ℕ) (at width : ℕ) (terms : List Term) → IsInsert text at width terms → (old new : State) → IsOurs old.now.schema → (params : Row) (r : Result ℕ Error) → Executes text params old new r → IsTrue old.in_transaction → OnOk r (Shows old new new.now old.committed true)
-inside_if text at width terms it old new ours params (Ok n) h inside = insert_inside text at width terms it old new ours params n h inside
-inside_if text at width terms it old new ours params (Err e) h inside = tt
-
-pub stores_reading_if : (old new : State) (m : MeterId) (r : Register) (t w : ℕ) (out : Result ℕ Error) → IsStore old.now → (Member (reading_entry m r t w) (records_of old.now.trees) → ⊥) → Executes add_reading_text (reading_row m.0 (register_place r) t w) old new out → OnOk out (IsStore new.now)
-stores_reading_if old new m r t w (Ok n) store fresh h = stores_reading old new m r t w n store h fresh
-stores_reading_if old new m r t w (Err e) store fresh h = tt
-
-pub adds_reading_if : (old new : State) (m : MeterId) (r : Register) (t w : ℕ) (out : Result ℕ Error) → IsStore old.now → Executes add_reading_text (reading_row m.0 (register_place r) t w) old new out → OnOk out (IsWithRecord (content_of old.now.trees) (reading_entry m r t w) (content_of new.now.trees))
-adds_reading_if old new m r t w (Ok n) store h = with_record (reading_entry m r t w) old.now.trees new.now.trees (adds_reading old new m r t w n store h) (sums_reading old new m r t w n store h)
-adds_reading_if old new m r t w (Err e) store h = tt
-
-pub stores_assignment_if : (old new : State) (m : MeterId) (t : ℕ) (o : Option AccountId) (out : Result ℕ Error) → IsStore old.now → (Member (assignment_entry m t o) (records_of old.now.trees) → ⊥) → Executes add_assignment_text (assignment_row m.0 t (owner_place o)) old new out → OnOk out (IsStore new.now)
-stores_assignment_if old new m t o (Ok n) store fresh h = stores_assignment old new m t o n store h fresh
-stores_assignment_if old new m t o (Err e) store fresh h = tt
-
-pub adds_assignment_if : (old new : State) (m : MeterId) (t : ℕ) (o : Option AccountId) (out : Result ℕ Error) → IsStore old.now → Executes add_assignment_text (assignment_row m.0 t (owner_place o)) old new out → OnOk out (IsWithRecord (content_of old.now.trees) (assignment_entry m t o) (content_of new.now.trees))
-adds_assignment_if old new m t o (Ok n) store h = with_record (assignment_entry m t o) old.now.trees new.now.trees (adds_assignment old new m t o n store h) (sums_assignment old new m t o n store h)
-adds_assignment_if old new m t o (Err e) store h = tt
-
-pub keeps_topup_if : (old new : State) (t : List ℕ) (a c i : ℕ) (r : Result ℕ Error) → IsStore old.now → Executes add_topup_text (topup_row t a c i) old new r → OnOk r (StillKeeps old.now.trees new.now.trees)
-keeps_topup_if old new t a c i (Ok n) store h = keeps_topup old new t a c i n store h
-keeps_topup_if old new t a c i (Err e) store h = tt
-
-pub keeps_reading_if : (old new : State) (m : MeterId) (r : Register) (t w : ℕ) (out : Result ℕ Error) → IsStore old.now → Executes add_reading_text (reading_row m.0 (register_place r) t w) old new out → OnOk out (StillKeeps old.now.trees new.now.trees)
-keeps_reading_if old new m r t w (Ok n) store h = keeps_reading old new m r t w n store h
-keeps_reading_if old new m r t w (Err e) store h = tt
-
-pub keeps_assignment_if : (old new : State) (m : MeterId) (t : ℕ) (o : Option AccountId) (out : Result ℕ Error) → IsStore old.now → Executes add_assignment_text (assignment_row m.0 t (owner_place o)) old new out → OnOk out (StillKeeps old.now.trees new.now.trees)
-keeps_assignment_if old new m t o (Ok n) store h = keeps_assignment old new m t o n store h
-keeps_assignment_if old new m t o (Err e) store h = tt
+pub adds_assignment_if : (old new : State) (m : MeterId) (t : ℕ) (o : Option AccountId) (out : Result ℕ Error) → IsStore old.now → IsTrue old.in_transaction → (Member (assignment_entry m t o) (records_of old.now.trees) → ⊥) → Executes add_assignment_text (assignment_row m.0 t (owner_place o)) old new out → OnOk out (Adds (assignment_entry m t o) old new)
+adds_assignment_if old new m t o (Err e) store inside fresh h = tt
+adds_assignment_if old new m t o (Ok n) store inside fresh h = record {
+  store = stores_assignment old new m t o n store h fresh;
+  keeps = keeps_assignment old new m t o n store h;
+  content = with_record (assignment_entry m t o) old.now.trees new.now.trees (adds_assignment old new m t o n store h) (sums_assignment old new m t o n store h);
+  shows = insert_inside add_assignment_text 2 4 three_terms add_assignment_is old new store.ours (assignment_row m.0 t (owner_place o)) n h inside;
+}

@@ -59,7 +59,7 @@ pub energy_if : {Z : Type 0} (old new : State) (o : Option AccountId) (b : BandI
 energy_if old new o b d (Err e) store h = tt
 energy_if old new o b d (Ok rows) store h = λ few.
     let table = old.now.trees 11 in
-    let s = seen total_text 11 total_query _ total_is (energy.params o b d) old new rows.items store.ours h in
+    let s = seen total_text 11 total_query total_is (energy.params o b d) old new rows.items store.ours h in
     let same = filter_same (energy.passes o b d) (energy.at_key o b d) table (all_weaker IsEnergyRow (λ row. energy.passes o b d row ≡ energy.at_key o b d row) (energy.passes_at o b d) table store.energies.each) in
     let perm : IsPermutation (map (λ r. column r 4 ∷ []) (filter (energy.at_key o b d) table)) rows.items = subst₂ IsPermutation (energies_shown o b d (filter (energy.passes o b d) table) ∙ ap (map (λ r. column r 4 ∷ [])) same) (sym s.2) s.1 in
     one_amount (λ r. column r 4 ∷ []) (λ r. number (column r 4)) (λ r. refl) (filter (energy.at_key o b d) table) rows.items perm few
@@ -76,7 +76,7 @@ pub payment_if : {Z : Type 0} (old new : State) (a : AccountId) (out : Result (V
 payment_if old new a (Err e) store h = tt
 payment_if old new a (Ok rows) store h = λ few.
     let table = old.now.trees 13 in
-    let s = seen payment_text 13 payment_query _ payment_is (payment.params a) old new rows.items store.ours h in
+    let s = seen payment_text 13 payment_query payment_is (payment.params a) old new rows.items store.ours h in
     let same = filter_same (payment.passes a) (payment.at_key a) table (all_weaker IsPaymentRow (λ row. payment.passes a row ≡ payment.at_key a row) (payment.passes_at a) table store.payments.each) in
     let perm : IsPermutation (map (λ r. column r 2 ∷ []) (filter (payment.at_key a) table)) rows.items = subst₂ IsPermutation (payments_shown a (filter (payment.passes a) table) ∙ ap (map (λ r. column r 2 ∷ [])) same) (sym s.2) s.1 in
     one_amount (λ r. column r 2 ∷ []) (λ r. number (column r 2)) (λ r. refl) (filter (payment.at_key a) table) rows.items perm few

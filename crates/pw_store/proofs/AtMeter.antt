@@ -76,7 +76,7 @@ module _ (m : MeterId) (g : Register) (i : ℕ) where
   pub reading_told : (old new : State) (rows : List Row) → IsStore old.now → Shown reading_at_text params old new rows → contents_of (map (told_content Readings) rows) ≡ contents_at (records_of old.now.trees) (key.Reading m g i)
   reading_told old new rows store h =
       let table = old.now.trees reading_tree in
-      let s = seen reading_at_text 1 reading_at_query _ reading_at_is params old new rows store.ours h in
+      let s = seen reading_at_text 1 reading_at_query reading_at_is params old new rows store.ours h in
       let ordered = map (λ (o : Output). o.1) s.0 in
       told_at (key.Reading m g i) reading_in passes show_wh (told_content Readings) IsReadingRow hits misses table ordered rows (records_of old.now.trees) store.readings
       (once_front (map reading_in table) _ store.once)
@@ -123,7 +123,7 @@ module _ (m : MeterId) (i : ℕ) where
   pub assignment_told : (old new : State) (rows : List Row) → IsStore old.now → Shown assignment_at_text own_params old new rows → contents_of (map (told_content Assignments) rows) ≡ contents_at (records_of old.now.trees) (key.Assignment m i)
   assignment_told old new rows store h =
       let table = old.now.trees assignment_tree in
-      let s = seen assignment_at_text 3 assignment_at_query _ assignment_at_is own_params old new rows store.ours h in
+      let s = seen assignment_at_text 3 assignment_at_query assignment_at_is own_params old new rows store.ours h in
       let ordered = map (λ (o : Output). o.1) s.0 in
       told_at (key.Assignment m i) assignment_in own_passes show_owner (told_content Assignments) IsAssignmentRow own_hits own_misses table ordered rows (records_of old.now.trees) store.assignments
       (once_front (map assignment_in table) _ (once_behind (map reading_in (old.now.trees reading_tree)) _ store.once))

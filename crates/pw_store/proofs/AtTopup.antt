@@ -52,7 +52,7 @@ once_behind (x ∷ xs) ys h = once_behind xs ys h.1
 pub topup_told : (old new : State) (t : List ℕ) (rows : List Row) → IsStore old.now → Shown topup_at_text (Text t ∷ []) old new rows → contents_of (map (told_content TopUps) rows) ≡ contents_at (records_of old.now.trees) (key.TopUp t)
 topup_told old new t rows store h =
     let table = old.now.trees topup_tree in
-    let s = seen topup_at_text 5 topup_at_query _ topup_at_is (Text t ∷ []) old new rows store.ours h in
+    let s = seen topup_at_text 5 topup_at_query topup_at_is (Text t ∷ []) old new rows store.ours h in
     let ordered = map (λ (o : Output). o.1) s.0 in
     told_at (key.TopUp t) topup_in (passes t) show (told_content TopUps) IsTopupRow (hits t) (misses t) table ordered rows (records_of old.now.trees) store.topups
     (once_behind (map assignment_in (old.now.trees assignment_tree)) _ (once_behind (map reading_in (old.now.trees reading_tree)) _ store.once))

@@ -1,5 +1,5 @@
 -- What the tables of points, starts and totals hold, where a judge took their rows or refused them.
-use Rattle.std.proofs.Common.{◌≡◌, ◌↔◌, inl, inr, ℕ, Bool, List, [], ◌++◌, map, filter, append-nil, Option, Some, None, Result, Err, IsTrue, refl, sym, ap, subst, subst₂, ◌∙◌}
+use Rattle.std.proofs.Common.{◌≡◌, ◌↔◌, ℕ, Bool, List, [], ◌++◌, map, filter, append-nil, Option, Some, None, Result, Err, IsTrue, refl, sym, ap, subst, subst₂, ◌∙◌}
 use Rattle.std.proofs.lemmas.List.{append_cancel_left}
 use Rattle.std.proofs.lemmas.List.Elements.{filter-append}
 use Rattle.std.specs.List.Sorted.{IsPermutation}
@@ -19,13 +19,14 @@ use Rattle.pw_schema.specs.Judging.{AreKept, AreTotals, by_key, by_total, told_t
 use Rattle.pw_schema.specs.Rows.{told}
 use Rattle.pw_schema.proofs.Taken.{took_kept, took_totals}
 use Rattle.pw_store.specs.declared.fault.OpenFault.{OpenFault}
-use Rattle.pw_store.specs.declared.fault.OpenFault.TheVariants.{Store, Memory, OfficeDiffers, Version, Unclean}
+use Rattle.pw_store.specs.declared.fault.OpenFault.TheVariants.{Unclean}
 use Rattle.pw_store.specs.Opening.{HoldsKept, HoldsTotals}
 use Rattle.pw_store.specs.inner.Lists.{shown}
-use Rattle.pw_store.specs.inner.Opened.{KeptRefuses, TotalsRefuse}
+use Rattle.pw_store.specs.inner.Opened.{RefusesUnless}
 use Rattle.pw_store.specs.inner.Scanning.{HasRefused, IsOther}
 use Rattle.pw_store.specs.inner.Sums.{TellsKept, TellsTotals, shown_total}
 use Rattle.pw_store.specs.inner.Truth.{AreRead}
+use Rattle.pw_store.proofs.Scanning.{refuses_unless}
 use Rattle.pw_store.proofs.Checked.{back_kept, back_totals, good_kept, good_totals, tells_kept, tells_totals}
 
 some_is : {X : Type 0} (x y : X) → Some x ≡ Some y → x ≡ y
@@ -65,12 +66,8 @@ module _ (office : OfficeRules) (k : RecordKind) (table : List Row) (first : Kep
           (λ t. some_is expected found (met.0 t), λ e. met.1 (ap Some e)),
         )
 
-  pub kept_refuses : (fault : OpenFault) → IsOther {A = ℕ} (Err fault) → (◌≡◌ {A = Result ℕ OpenFault} (Err fault) (Err Unclean) → HasRefused (λ (f : KeptEntries) rows. AreKept (office_of f.office.now) f.kind rows → ⊥) (IsPermutation (map (shown k) table)) first) → KeptRefuses office k table fault
-  kept_refuses Store other refused = tt
-  kept_refuses Memory other refused = tt
-  kept_refuses OfficeDiffers other refused = elim other [ inl i ↦ cc | inr more ↦ elim more [ inl i ↦ cc | inr i ↦ cc ] ]
-  kept_refuses Version other refused = elim other [ inl i ↦ cc | inr more ↦ elim more [ inl i ↦ cc | inr i ↦ cc ] ]
-  kept_refuses Unclean other refused = λ held. (let it = refused refl in it.1 (subst₂ (λ o j. AreKept o j it.0) (sym of) (sym kind) (back_kept office k table it.0 it.2 held)))
+  pub kept_refuses : (fault : OpenFault) → IsOther {A = ℕ} (Err fault) → (◌≡◌ {A = Result ℕ OpenFault} (Err fault) (Err Unclean) → HasRefused (λ (f : KeptEntries) rows. AreKept (office_of f.office.now) f.kind rows → ⊥) (IsPermutation (map (shown k) table)) first) → RefusesUnless (HoldsKept office k table) fault
+  kept_refuses fault other refused = refuses_unless (HoldsKept office k table) fault other (λ is held. (let it = refused is in it.1 (subst₂ (λ o j. AreKept o j it.0) (sym of) (sym kind) (back_kept office k table it.0 it.2 held))))
 
 -- ---- totals
 module _ (office : OfficeRules) (k : TotalKind) (table : List Row) (first : KeptTotals) (of : office_of first.office.now ≡ office) (kind : first.kind ≡ k) where
@@ -87,12 +84,8 @@ module _ (office : OfficeRules) (k : TotalKind) (table : List Row) (first : Kept
           subst₂ (λ all j. IsRest all (filter is_above_zero (map (told_total j) rows)) (option_copied judge.rest)) starts same it.left,
         )
 
-  pub totals_refuse : (fault : OpenFault) → IsOther {A = ℕ} (Err fault) → (◌≡◌ {A = Result ℕ OpenFault} (Err fault) (Err Unclean) → HasRefused (λ (f : KeptTotals) rows. AreTotals (office_of f.office.now) f.kind rows → ⊥) (IsPermutation (map (shown_total k) table)) first) → TotalsRefuse office k table fault
-  totals_refuse Store other refused = tt
-  totals_refuse Memory other refused = tt
-  totals_refuse OfficeDiffers other refused = elim other [ inl i ↦ cc | inr more ↦ elim more [ inl i ↦ cc | inr i ↦ cc ] ]
-  totals_refuse Version other refused = elim other [ inl i ↦ cc | inr more ↦ elim more [ inl i ↦ cc | inr i ↦ cc ] ]
-  totals_refuse Unclean other refused = λ held. (let it = refused refl in it.1 (subst₂ (λ o j. AreTotals o j it.0) (sym of) (sym kind) (back_totals office k table it.0 it.2 held)))
+  pub totals_refuse : (fault : OpenFault) → IsOther {A = ℕ} (Err fault) → (◌≡◌ {A = Result ℕ OpenFault} (Err fault) (Err Unclean) → HasRefused (λ (f : KeptTotals) rows. AreTotals (office_of f.office.now) f.kind rows → ⊥) (IsPermutation (map (shown_total k) table)) first) → RefusesUnless (HoldsTotals office k table) fault
+  totals_refuse fault other refused = refuses_unless (HoldsTotals office k table) fault other (λ is held. (let it = refused is in it.1 (subst₂ (λ o j. AreTotals o j it.0) (sym of) (sym kind) (back_totals office k table it.0 it.2 held))))
 
 -- ---- all of them
 pub all_read : (parts : Parts) (points starts : List Entry) (energies payments : List (TotalKey × ℕ)) (rest : Option (List (TotalKey × ℕ))) (a b c d : Bool) → IsTrue d ↔ (IsTrue a × IsTrue b × IsTrue c) → IsTrue a ↔ parts.points.items ≡ points → IsTrue b ↔ parts.starts.items ≡ starts

@@ -22,7 +22,7 @@ use Rattle.pw_store.specs.inner.Changing.{Makes, changed}
 use Rattle.pw_store.specs.inner.Opened.{IsOpened}
 use Rattle.pw_store.proofs.Fresh.{fresh_records}
 use Rattle.pw_store.proofs.Inside.{held_live}
-use Rattle.pw_store.proofs.Sound.{trees_is}
+use Rattle.pw_store.proofs.InTurn.{trees_same}
 
 abbrev pub records_in : Trees → ℕ
 records_in db = length (records_of db)
@@ -52,7 +52,7 @@ module _ (old new : State) where
   -- it changes nothing, or fails, or undoes the transaction
   pub counted_failed : {P : Trees → Type 0} (within : ℕ) → NowIsCounted old within → Survives old new P → (HasCleanDisk new → IsUnchanged old new ⊎ IsRolledBack old new) → NowIsCounted new within
   counted_failed within was s how clean mode = elim (how clean) [
-    | inl same ↦ ap records_in (trees_is old new same) ∙ was (early old new s clean) (sym same.0.mode ∙ mode)
+    | inl same ↦ ap records_in (trees_same old new same) ∙ was (early old new s clean) (sym same.0.mode ∙ mode)
     | inr back ↦ absurd (let bad : true ≡ false = sym mode ∙ back.autocommit in cc)
   ]
 
@@ -101,4 +101,4 @@ pub counted_opened : (s at : State) (held : ℕ) (office : OfficeRules) (body : 
 counted_opened s at held office body before is opened counted = counted_snapshot s at held is (λ clean. ap (λ (d : Database). records_in d.trees) (sym (opened clean).settled) ∙ counted clean)
 
 pub counted_listed : (s1 s2 s3 : State) (records : List Entry) → IsPermutation (records_of s1.now.trees) records → IsUnchanged s1 s2 → IsUnchanged s2 s3 → records_in s3.now.trees ≡ length records
-counted_listed s1 s2 s3 records listed b c = ap records_in (trees_is s2 s3 c ∙ trees_is s1 s2 b) ∙ sym (length_permutation (records_of s1.now.trees) records listed)
+counted_listed s1 s2 s3 records listed b c = ap records_in (trees_same s2 s3 c ∙ trees_same s1 s2 b) ∙ sym (length_permutation (records_of s1.now.trees) records listed)

@@ -1,28 +1,15 @@
 -- What DELETE and INSERT make of the totals of energy.
-use Rattle.std.proofs.Common.{◌≡◌, ◌<◌, ℕ, pos, List, [], ◌∷◌, map, find, Bool, true, false, not, ◌&&◌, Option, option_map, Some, None, Ok, Err, Result, OnOk, IsTrue, refl, sym, ap, subst, subst₂, ◌∙◌, nat_cmp, arith}
+use Rattle.std.proofs.Common.{◌≡◌, ◌<◌, ℕ, pos, List, [], ◌∷◌, find, Bool, true, false, not, ◌&&◌, Option, option_map, Some, None, Ok, Err, Result, OnOk, IsTrue, refl, sym, ap, subst, ◌∙◌, nat_cmp, arith}
 use Rattle.std.specs.List.{AllByRecursion, list_all, filter}
-use Rattle.std.specs.List.Sorted.{IsPermutation}
-use Rattle.std.proofs.lemmas.List.Sorted.{IsPermutation-map}
 use Rattle.std.specs.Ordering.{is_eq}
 use Rattle.sqlite.specs.declared.types.Value.TheVariants.{Null, Int}
 use Rattle.sqlite.specs.declared.error.Error.{Error}
 use Rattle.sqlite.specs.Order.{Row, column}
 use Rattle.sqlite.specs.Term.{Term, holds}
 use Rattle.sqlite.specs.Table.{Table}
-use Rattle.sqlite.specs.Tree.{rowid, put_row}
-use Rattle.sqlite.specs.Edit.{Applies, edit_of, id_in, is_taken, next_rowid}
-use Rattle.sqlite.specs.Rowids.TheVariants.{Given, Chosen}
-use Rattle.sqlite.specs.Source.TheVariants.{Values}
-use Rattle.sqlite.specs.Command.TheVariants.{Delete, Insert}
-use Rattle.sqlite.specs.Query.{Output, output}
-use Rattle.sqlite.specs.Effect.{Answers}
-use Rattle.sqlite.specs.Does.{Does}
-use Rattle.sqlite.specs.State.{State, mode_of, Executes}
-use Rattle.sqlite.specs.Listing.{understood}
-use Rattle.sqlite.specs.Program.{overlay}
-use Rattle.sqlite.proofs.Callers.{runs_as, statement_of}
-use Rattle.sqlite_rules.specs.Calls.{ids_of}
-use Rattle.sqlite_trees.proofs.ListLemmas.{map-map, filter_same, all_weaker}
+use Rattle.sqlite.specs.Tree.{put_row}
+use Rattle.sqlite.specs.Edit.{is_taken, next_rowid}
+use Rattle.sqlite.specs.State.{State, Executes}
 use Rattle.pw_tariff.specs.declared.ids.AccountId.{AccountId}
 use Rattle.pw_tariff.specs.declared.ids.BandId.{BandId}
 use Rattle.pw_tariff.specs.declared.ids.Direction.{Direction}
@@ -32,9 +19,8 @@ use Rattle.pw_model.specs.declared.records.TotalKey.{TotalKey}
 use Rattle.pw_model.specs.declared.records.TotalKey.TheVariants as total
 use Rattle.pw_model.specs.Same.{direction_place}
 use Rattle.pw_shelf.specs.Changes.{same_total, totals_with, with_total}
-use Rattle.pw_schema.specs.Tables.{ours_with, only_one, total_at}
+use Rattle.pw_schema.specs.Tables.{only_one, total_at}
 use Rattle.pw_schema.specs.Rows.{number, direction_at}
-use Rattle.pw_schema.proofs.Steps.{one_delete, one_insert, uncounted}
 use Rattle.pw_store.specs.Content.{energy_in, payment_in, IsReadingRow, IsAssignmentRow, total_in, energy_told}
 use Rattle.pw_store.specs.inner.Records.{reading_row}
 use Rattle.pw_store.specs.Keyed.{AreKeyed, IsEnergyRow, IsPaymentRow}
@@ -42,13 +28,14 @@ use Rattle.pw_store.specs.Kept.{IsStore, key_in_point, key_in_start}
 use Rattle.pw_store.specs.inner.Changing.{Makes}
 use Rattle.pw_store.proofs.Texts.{four_terms}
 use Rattle.pw_store.proofs.KeptTexts.{delete_total_text, delete_total_query, delete_total_is, insert_total_text, insert_total_is}
-use Rattle.pw_store.proofs.Scans.{equal_ints, tied, scans, scan_of, outputs, IsScan}
+use Rattle.pw_store.proofs.Scans.{equal_ints, tied}
 use Rattle.pw_store.proofs.Finding.{first, second, same_number, owner_one, place_one}
-use Rattle.pw_store.proofs.Adding.{cast_null, cast_int, owner_back, insert_inside}
+use Rattle.pw_store.proofs.Adding.{cast_null, cast_int, owner_back, insert_inside, was_not}
 use Rattle.pw_store.specs.Left.{IsOldEnergy, IsOldPayment}
 use Rattle.pw_store.proofs.StillKept.{fewer, keeps_rows, more}
 use Rattle.pw_store.proofs.Others.{AreElseSame, same_records, store_kept, same_total-decides, energies_with, content_with_total}
-use Rattle.pw_store.proofs.KeptRows.{ids, leaves, find_gone, gone_told, put_told, keyed_gone, keyed_put}
+use Rattle.pw_store.proofs.KeptRows.{find_gone, gone_told, put_told, keyed_gone, keyed_put}
+use Rattle.pw_store.proofs.OneTable.{HasDeleted, HasInserted, deletes, inserts, others_left}
 use Rattle.pw_store.proofs.Taking.{delete_inside, both_true, none_found}
 
 -- ---- parts of a key
@@ -101,17 +88,6 @@ module _ (o : Option AccountId) (b : BandId) (d : Direction) where
   pub passes_at : (r : Row) → IsEnergyRow r → passes r ≡ at_key o b d r
   passes_at r it = both_true (passes r) (at_key o b d r) (λ hit. (same_total-decides (total.Energy o b d) (energy_in r)).1 (hits r it hit)) (λ same. misses r it ((same_total-decides (total.Energy o b d) (energy_in r)).0 same))
 
-  shown_ids : (rows : List Row) → map (λ (o : Output). id_in (rowid o.1)) (map (output (scan_of 11 delete_total_query)) (map (λ row. params o b d ∷ row ∷ []) rows)) ≡ ids rows
-  shown_ids [] = refl
-  shown_ids (row ∷ rows) = ap (λ more. id_in (rowid row) ∷ more) (shown_ids rows)
-
-  found : (table rows : List Row) → AllByRecursion IsEnergyRow table → IsScan (scan_of 11 delete_total_query) (params o b d) table rows → IsPermutation (ids (filter (at_key o b d) table)) (ids_of rows)
-  found table rows all s =
-      let same = filter_same passes (at_key o b d) table (all_weaker IsEnergyRow (λ row. passes row ≡ at_key o b d row) passes_at table all) in
-      let moved = IsPermutation-map (λ (o : Output). id_in (rowid o.1)) (outputs (scan_of 11 delete_total_query) (params o b d) table) s.ordered s.same in
-      let last : ids_of rows ≡ map (λ (o : Output). id_in (rowid o.1)) s.ordered = ap ids_of s.shown ∙ map-map (λ r. id_in (rowid r)) (λ (o : Output). o.1) s.ordered in
-      subst₂ IsPermutation (shown_ids (filter passes table) ∙ ap ids same) (sym last) moved
-
 abbrev table : Table
 table = total_at 11
 
@@ -120,18 +96,11 @@ module _ (old new : State) (o : Option AccountId) (b : BandId) (d : Direction) (
   abbrev own : List Term
   own = only_one
 
-  deleted : (new.now.schema ≡ ours_with own) × ((rows : List Row) × Answers (record { schema = ours_with own; trees = old.now.trees }) (record { lets = []; body = delete_total_query }) (params o b d) rows × Applies (ours_with own) (mode_of old).keys old.now.trees (edit_of old.now.trees (uncounted table) (ids_of rows) Given 0 []) new.now.trees)
-  deleted =
-      let w = runs_as delete_total_text (params o b d) old new (ours_with own) store.ours (Delete 6 (record { lets = []; body = delete_total_query })) (delete_total_is.is own) (delete_total_is.plain own) count h in
-      let text = statement_of delete_total_text (understood (ours_with own) delete_total_text) in
-      one_delete old.step_limit (mode_of old).keys (ours_with own) table (params o b d) (mode_of old) old.now.trees 6 (record { lets = []; body = delete_total_query }) w.tally new.now (λ _. refl)
-      (subst (λ s. Does old.step_limit (mode_of old) (params o b d) (record old.now { schema = s }) text None (Delete 6 (record { lets = []; body = delete_total_query })) (Ok (w.tally, new.now))) store.ours w.changed)
+  deleted : HasDeleted table delete_total_query.filter (params o b d) old new
+  deleted = deletes delete_total_text 6 (params o b d) old new store.ours count h table delete_total_query.filter delete_total_is (λ out does. does) (λ _. refl)
 
   left : new.now.trees 11 ≡ filter (λ row. not (at_key o b d row)) (old.now.trees 11)
-  left =
-      let it = deleted.1 in
-      let scan = scans 11 delete_total_query (overlay old.now.trees []) (params o b d) it.0 (it.1.answer Null) in
-      it.2.rows ∙ leaves (at_key o b d) (old.now.trees 11) (ids_of it.0) store.energies.numbered store.energies.ids (found o b d (old.now.trees 11) it.0 store.energies.each scan)
+  left = others_left table delete_total_query.filter (params o b d) IsEnergyRow (at_key o b d) (passes_at o b d) energy_in old new deleted store.energies
 
   others : AreElseSame own 11 old.now.trees new.now.trees
   others = deleted.1.2.tables
@@ -164,19 +133,11 @@ module _ (old new : State) (o : Option AccountId) (b : BandId) (d : Direction) (
   abbrev given : Row
   given = reading_row (owner_place o) b.0 (direction_place d) v
 
-  inserted : (new.now.schema ≡ ours_with checks) × Applies (ours_with checks) (mode_of old).keys old.now.trees (edit_of old.now.trees (uncounted table) [] Chosen 0 ((Null ∷ reading_row (owner_place o) b.0 (direction_place d) v) ∷ [])) new.now.trees
-  inserted =
-      let w = runs_as insert_total_text given old new (ours_with checks) store.ours (Insert 6 (Values four_terms 5)) (insert_total_is.is checks) (insert_total_is.plain checks) count h in
-      let text = statement_of insert_total_text (understood (ours_with checks) insert_total_text) in
-      one_insert old.step_limit (mode_of old).keys (ours_with checks) table given (mode_of old) old.now.trees 6 5 four_terms ((Null ∷ reading_row (owner_place o) b.0 (direction_place d) v) ∷ []) w.tally new.now refl (λ _. refl)
-      (subst (λ s. Does old.step_limit (mode_of old) given (record old.now { schema = s }) text None (Insert 6 (Values four_terms 5)) (Ok (w.tally, new.now))) store.ours w.changed)
+  inserted : HasInserted table (Null ∷ given) old new
+  inserted = inserts insert_total_text 6 given old new store.ours count h table 5 four_terms (Null ∷ given) insert_total_is (λ out does. does) (λ _. refl) refl
 
   abbrev row : Row
   row = Int (next_rowid (old.now.trees 11)) ∷ given
-
-  was_not : (b : Bool) → not b ≡ true → b ≡ false
-  was_not true e = absurd (let f : true ≡ false = sym e in cc)
-  was_not false e = refl
 
   free : is_taken (old.now.trees 11) row ≡ false
   free = let fresh = rw cast_null at inserted.1.fresh in was_not _ (first _ _ fresh)

@@ -103,11 +103,11 @@ second_of (key.Reading m r t) = t
 second_of (key.Assignment m t) = t
 second_of _ = 0
 
-abbrev wh_in : Content → ℕ
+abbrev pub wh_in : Content → ℕ
 wh_in (content.Reading w) = w
 wh_in _ = 0
 
-abbrev owner_in : Content → Option AccountId
+abbrev pub owner_in : Content → Option AccountId
 owner_in (content.Assignment o) = o
 owner_in _ = None
 
@@ -150,7 +150,7 @@ pub finds_topup : (old new : State) (t : List ℕ) (a c i : ℕ) (rows : List Ro
 finds_topup old new t a c i rows store h =
     let table = old.now.trees topup_tree in
     let e = topup_entry t (record { 0 = a }) c i in
-    let s = seen has_topup_text 5 has_topup_query _ has_topup_is (topup_row t a c i) old new rows store.ours h in
+    let s = seen has_topup_text 5 has_topup_query has_topup_is (topup_row t a c i) old new rows store.ours h in
     let many : length rows ≡ length (filter (passes t a c i) table) = ap length s.2 ∙ length_permutation _ _ s.1 ∙ shown_many has_topup_query 5 (topup_row t a c i) table in (
       λ lt. records_topup old.now.trees e (some_member topup_in (passes t a c i) IsTopupRow e (each_topup t a c i) table store.topups (omega (arith, lt, many))),
       λ m. (let lt = member_some topup_in (passes t a c i) IsTopupRow e (each_topup t a c i) table store.topups (topup_records old.now.trees e m tt) in omega (arith, lt, many)),
@@ -237,7 +237,7 @@ pub finds_reading : (old new : State) (m : MeterId) (g : Register) (i v : ℕ) (
 finds_reading old new m g i v rows store h =
     let table = old.now.trees reading_tree in
     let e = reading_entry m g i v in
-    let s = seen has_reading_text 1 has_reading_query _ has_reading_is (reading_row m.0 (register_place g) i v) old new rows store.ours h in
+    let s = seen has_reading_text 1 has_reading_query has_reading_is (reading_row m.0 (register_place g) i v) old new rows store.ours h in
     let many : length rows ≡ length (filter (passes_reading m g i v) table) = ap length s.2 ∙ length_permutation _ _ s.1 ∙ shown_many has_reading_query 1 (reading_row m.0 (register_place g) i v) table in (
       λ lt. records_reading old.now.trees e (some_member reading_in (passes_reading m g i v) IsReadingRow e (each_reading m g i v) table store.readings (omega (arith, lt, many))),
       λ k. (let lt = member_some reading_in (passes_reading m g i v) IsReadingRow e (each_reading m g i v) table store.readings (reading_records old.now.trees e k tt) in omega (arith, lt, many)),
@@ -285,7 +285,7 @@ pub finds_assignment : (old new : State) (m : MeterId) (i : ℕ) (o : Option Acc
 finds_assignment old new m i o rows store h =
     let table = old.now.trees assignment_tree in
     let e = assignment_entry m i o in
-    let s = seen has_assignment_text 3 has_assignment_query _ has_assignment_is (assignment_row m.0 i (owner_place o)) old new rows store.ours h in
+    let s = seen has_assignment_text 3 has_assignment_query has_assignment_is (assignment_row m.0 i (owner_place o)) old new rows store.ours h in
     let many : length rows ≡ length (filter (passes_assignment m i o) table) = ap length s.2 ∙ length_permutation _ _ s.1 ∙ shown_many has_assignment_query 3 (assignment_row m.0 i (owner_place o)) table in (
       λ lt. records_assignment old.now.trees e (some_member assignment_in (passes_assignment m i o) IsAssignmentRow e (each_assignment m i o) table store.assignments (omega (arith, lt, many))),
       λ k. (let lt = member_some assignment_in (passes_assignment m i o) IsAssignmentRow e (each_assignment m i o) table store.assignments (assignment_records old.now.trees e k tt) in omega (arith, lt, many)),

@@ -15,12 +15,13 @@ use Rattle.pw_store.specs.declared.fault.OpenFault.{OpenFault}
 use Rattle.pw_store.specs.declared.fault.OpenFault.TheVariants.{Store, Memory, OfficeDiffers, Version, Unclean}
 use Rattle.pw_store.specs.Content.{records_of}
 use Rattle.pw_store.specs.Opening.{BegunRefuses, HoldsAllRecords, HoldsOurs, HoldsSums, IsSpoilt, KeepsText}
-use Rattle.pw_store.specs.inner.Opened.{MayOpen, SumsRefuse}
+use Rattle.pw_store.specs.inner.Opened.{MayOpen, RefusesUnless}
 use Rattle.pw_store.specs.inner.Sums.{AreAllNumbered, Listed, TellsSums}
 use Rattle.pw_store.specs.inner.Truth.{HaveParts, HaveOtherParts}
 use Rattle.pw_store.proofs.OfParts.{have_truth, have_none}
 use Rattle.pw_store.proofs.OfContent.{names_office}
-use Rattle.pw_store.proofs.Sound.{sound_store, sound_office, trees_is}
+use Rattle.pw_store.proofs.InTurn.{trees_same}
+use Rattle.pw_store.proofs.Sound.{sound_store, sound_office}
 
 spoilt : (office : OfficeRules) (body : List ℕ) (db : Database) → HoldsOurs db → KeepsText (KeepsOffice body) db.trees → IsSpoilt office db.trees → BegunRefuses office body db Unclean
 spoilt office body db ours text bad = inr (inr (ours, (text, bad)))
@@ -34,7 +35,7 @@ module _ (office : OfficeRules) (body : List ℕ) (s0 s1 s2 s3 : State) (records
   db = s3.now.trees
 
   first : s1.now.trees ≡ db
-  first = sym (trees_is s2 s3 c ∙ trees_is s1 s2 b)
+  first = sym (trees_same s2 s3 c ∙ trees_same s1 s2 b)
 
   ours_now : IsOurs s3.now.schema
   ours_now = subst IsOurs (sym (ap (λ (d : Database). d.schema) (c.0.now_is ∙ b.0.now_is))) ours.schema_is
@@ -52,13 +53,13 @@ module _ (office : OfficeRules) (body : List ℕ) (s0 s1 s2 s3 : State) (records
   listed_now = subst (λ d. IsPermutation (records_of d) records) first listed
 
   holds_now : HoldsSums office db
-  holds_now = subst (HoldsSums office) (sym (trees_is s2 s3 c)) holds
+  holds_now = subst (HoldsSums office) (sym (trees_same s2 s3 c)) holds
 
   numbered_now : AreAllNumbered db
-  numbered_now = subst AreAllNumbered (sym (trees_is s2 s3 c)) numbered
+  numbered_now = subst AreAllNumbered (sym (trees_same s2 s3 c)) numbered
 
   tells_now : TellsSums db sums
-  tells_now = subst (λ d. TellsSums d sums) (sym (trees_is s2 s3 c)) tells
+  tells_now = subst (λ d. TellsSums d sums) (sym (trees_same s2 s3 c)) tells
 
   of_office : AllOfOffice office (records_of db)
   of_office = sound_office office s3.now ours_now records_now.readings records_now.assignments records_now.topups holds_now numbered_now
@@ -94,10 +95,10 @@ parts_refused office body s0 s1 records Unclean a ours text listed many others =
     subst (λ (d : Database). BegunRefuses office body d Unclean) a.0.now_is (spoilt office body s1.now ours text (inr (inl (omega (arith, much, same)))))
 
 -- points, starts and totals were refused
-pub sums_refused : (office : OfficeRules) (body : List ℕ) (s0 s1 s2 : State) (fault : OpenFault) → IsUnchanged s0 s1 → IsUnchanged s1 s2 → HoldsOurs s1.now → KeepsText (KeepsOffice body) s1.now.trees → SumsRefuse office s2.now.trees fault → BegunRefuses office body s0.now fault
+pub sums_refused : (office : OfficeRules) (body : List ℕ) (s0 s1 s2 : State) (fault : OpenFault) → IsUnchanged s0 s1 → IsUnchanged s1 s2 → HoldsOurs s1.now → KeepsText (KeepsOffice body) s1.now.trees → RefusesUnless (HoldsSums office s2.now.trees) fault → BegunRefuses office body s0.now fault
 sums_refused office body s0 s1 s2 Store a b ours text refuse = tt
 sums_refused office body s0 s1 s2 Memory a b ours text refuse = tt
 sums_refused office body s0 s1 s2 OfficeDiffers a b ours text refuse = absurd refuse
 sums_refused office body s0 s1 s2 Version a b ours text refuse = absurd refuse
 sums_refused office body s0 s1 s2 Unclean a b ours text refuse =
-    subst (λ (d : Database). BegunRefuses office body d Unclean) a.0.now_is (spoilt office body s1.now ours text (inr (inr (inl (subst (λ d. HoldsSums office d → ⊥) (trees_is s1 s2 b) refuse)))))
+    subst (λ (d : Database). BegunRefuses office body d Unclean) a.0.now_is (spoilt office body s1.now ours text (inr (inr (inl (subst (λ d. HoldsSums office d → ⊥) (trees_same s1 s2 b) refuse)))))

@@ -17,7 +17,7 @@ use Rattle.sqlite_trees.proofs.ListLemmas.{filter_same, filter_all, all_weaker, 
 use Rattle.pw_model.specs.Counting.{Member, EachOnce}
 use Rattle.pw_shelf.proofs.InOrder.{inserted-once}
 use Rattle.pw_store.specs.Keyed.{AreKeyed, HasRowid}
-use Rattle.pw_store.proofs.Placing.{put_inserts}
+use Rattle.pw_store.proofs.Placing.{not_first, not_second, put_inserts}
 
 abbrev pub ids : List Row → List ℤ
 ids = map (λ r. id_in (rowid r))
@@ -126,14 +126,6 @@ find_other p q apart (r ∷ rows) = go (find_other p q apart rows) (q r) refl (p
     go more true e false f = rw e refl
     go more false e true f = more
     go more false e false f = rw e more
-
-not_first : (a b : Bool) → (a || b) ≡ false → a ≡ false
-not_first true b e = e
-not_first false b e = refl
-
-not_second : (a b : Bool) → (a || b) ≡ false → b ≡ false
-not_second true b e = absurd (let f : true ≡ false = e in cc)
-not_second false b e = e
 
 module _ (q : Row → Bool) (new : Row) where
   find_beside : q new ≡ false → (rows : List Row) → is_taken rows new ≡ false → find q (put_row new rows) ≡ find q rows

@@ -1,29 +1,23 @@
 -- What the statements on points, starts and totals mean, whatever the check of `office` says.
-use Rattle.std.proofs.Common.{◌≡◌, ℕ, pos, List, [], ◌∷◌, codes, true, false, refl}
+use Rattle.std.proofs.Common.{◌≡◌, ℕ, pos, List, [], ◌∷◌, codes, true, refl}
 use Rattle.sqlite.specs.declared.types.Value.TheVariants.{Null, Int}
 use Rattle.sqlite.specs.Term.{Term, lit, col, op2}
 use Rattle.sqlite_value.specs.declared.keys.Key.{Key}
 use Rattle.sqlite_value.specs.declared.keys.Collation.TheVariants.{Binary}
 use Rattle.sqlite_sql.specs.declared.ops.BinaryOp.TheVariants.{Compare}
-use Rattle.sqlite_sql.specs.declared.ops.CompareOp.TheVariants.{Eq, Lt, Gt, Le, Ge}
+use Rattle.sqlite_sql.specs.declared.ops.CompareOp.TheVariants.{Lt, Gt, Le, Ge}
 use Rattle.sqlite.specs.Query.{Query}
 use Rattle.sqlite.specs.Command.TheVariants.{Delete}
 use Rattle.sqlite_tied.specs.Compute.{everything}
 use Rattle.sqlite.specs.Listing.{understood}
 use Rattle.sqlite.proofs.Callers.{IsPlain, command_of}
 use Rattle.pw_schema.specs.Tables.{ours_with}
-use Rattle.pw_store.proofs.Texts.{IsInsert, IsQuery, plain_query, four_terms, three_terms}
+use Rattle.pw_store.proofs.Texts.{IsInsert, IsQuery, eq, four_terms, plain_query, three_terms, up}
 
 -- a text that deletes from the table at this place the rows that the query finds
 pub record IsDelete (text : List ℕ) (at : ℕ) (q : Query) : Type 0 where
   pub is : (checks : List Term) → command_of (understood (ours_with checks) text) ≡ Delete at (record { lets = []; body = q })
   pub plain : (checks : List Term) → IsPlain (understood (ours_with checks) text)
-
-abbrev eq : ℕ → ℕ → Term
-eq at param = op2 (Compare Eq Binary) (col 1 at) (col 0 param)
-
-abbrev up : Key
-up = record { collation = Binary; descending = false }
 
 abbrev down : Key
 down = record { collation = Binary; descending = true }
@@ -52,9 +46,9 @@ before_text = codes "SELECT instant, wh FROM point WHERE meter = ?1 AND register
 abbrev pub before_query : Query
 before_query = record (plain_query 7 (eq 1 0 ∷ eq 2 1 ∷ op2 (Compare Lt Binary) (col 1 3) (col 0 2) ∷ []) (col 1 3 ∷ col 1 4 ∷ [])) { order = (col 1 3, down) ∷ []; limit = lit (Int (pos 1)) }
 
-pub before_is : IsQuery before_text before_query (codes "instant" ∷ codes "wh" ∷ [])
+pub before_is : IsQuery before_text before_query
 unfolding understood everything
-before_is = record { is = λ checks. refl; unlisted = λ checks. refl; plain = λ checks. (refl, refl) }
+before_is = record { names = codes "instant" ∷ codes "wh" ∷ []; is = λ checks. refl; unlisted = λ checks. refl; plain = λ checks. (refl, refl) }
 
 abbrev pub after_text : List ℕ
 after_text = codes "SELECT instant, wh FROM point WHERE meter = ?1 AND register = ?2 AND instant > ?3 ORDER BY instant LIMIT 1"
@@ -62,9 +56,9 @@ after_text = codes "SELECT instant, wh FROM point WHERE meter = ?1 AND register 
 abbrev pub after_query : Query
 after_query = record (plain_query 7 (eq 1 0 ∷ eq 2 1 ∷ op2 (Compare Gt Binary) (col 1 3) (col 0 2) ∷ []) (col 1 3 ∷ col 1 4 ∷ [])) { order = (col 1 3, up) ∷ []; limit = lit (Int (pos 1)) }
 
-pub after_is : IsQuery after_text after_query (codes "instant" ∷ codes "wh" ∷ [])
+pub after_is : IsQuery after_text after_query
 unfolding understood everything
-after_is = record { is = λ checks. refl; unlisted = λ checks. refl; plain = λ checks. (refl, refl) }
+after_is = record { names = codes "instant" ∷ codes "wh" ∷ []; is = λ checks. refl; unlisted = λ checks. refl; plain = λ checks. (refl, refl) }
 
 abbrev pub between_text : List ℕ
 between_text = codes "SELECT instant, wh FROM point WHERE meter = ?1 AND register = ?2 AND instant >= ?3 AND instant <= ?4 ORDER BY instant"
@@ -72,9 +66,9 @@ between_text = codes "SELECT instant, wh FROM point WHERE meter = ?1 AND registe
 abbrev pub between_query : Query
 between_query = record (plain_query 7 (eq 1 0 ∷ eq 2 1 ∷ op2 (Compare Ge Binary) (col 1 3) (col 0 2) ∷ op2 (Compare Le Binary) (col 1 3) (col 0 3) ∷ []) (col 1 3 ∷ col 1 4 ∷ [])) { order = (col 1 3, up) ∷ [] }
 
-pub between_is : IsQuery between_text between_query (codes "instant" ∷ codes "wh" ∷ [])
+pub between_is : IsQuery between_text between_query
 unfolding understood everything
-between_is = record { is = λ checks. refl; unlisted = λ checks. refl; plain = λ checks. (refl, refl) }
+between_is = record { names = codes "instant" ∷ codes "wh" ∷ []; is = λ checks. refl; unlisted = λ checks. refl; plain = λ checks. (refl, refl) }
 
 -- ---- starts
 abbrev pub delete_start_text : List ℕ
@@ -100,9 +94,9 @@ starts_text = codes "SELECT start, owner FROM start WHERE meter = ?1 ORDER BY st
 abbrev pub starts_query : Query
 starts_query = record (plain_query 9 (eq 1 0 ∷ []) (col 1 2 ∷ col 1 3 ∷ [])) { order = (col 1 2, up) ∷ [] }
 
-pub starts_is : IsQuery starts_text starts_query (codes "start" ∷ codes "owner" ∷ [])
+pub starts_is : IsQuery starts_text starts_query
 unfolding understood everything
-starts_is = record { is = λ checks. refl; unlisted = λ checks. refl; plain = λ checks. (refl, refl) }
+starts_is = record { names = codes "start" ∷ codes "owner" ∷ []; is = λ checks. refl; unlisted = λ checks. refl; plain = λ checks. (refl, refl) }
 
 -- ---- totals of energy
 abbrev pub delete_total_text : List ℕ
@@ -128,9 +122,9 @@ total_text = codes "SELECT wh FROM total WHERE owner = ?1 AND band = ?2 AND dire
 abbrev pub total_query : Query
 total_query = plain_query 11 (eq 1 0 ∷ eq 2 1 ∷ eq 3 2 ∷ []) (col 1 4 ∷ [])
 
-pub total_is : IsQuery total_text total_query (codes "wh" ∷ [])
+pub total_is : IsQuery total_text total_query
 unfolding understood everything
-total_is = record { is = λ checks. refl; unlisted = λ checks. refl; plain = λ checks. (refl, refl) }
+total_is = record { names = codes "wh" ∷ []; is = λ checks. refl; unlisted = λ checks. refl; plain = λ checks. (refl, refl) }
 
 -- ---- totals of top-ups: the account is the rowid
 abbrev pub delete_payment_text : List ℕ
@@ -159,77 +153,6 @@ payment_text = codes "SELECT cents FROM total_topup WHERE account = ?1"
 abbrev pub payment_query : Query
 payment_query = plain_query 13 (eq 0 0 ∷ []) (col 1 2 ∷ [])
 
-pub payment_is : IsQuery payment_text payment_query (codes "cents" ∷ [])
+pub payment_is : IsQuery payment_text payment_query
 unfolding understood everything
-payment_is = record { is = λ checks. refl; unlisted = λ checks. refl; plain = λ checks. (refl, refl) }
-
--- ---- whole tables, and their rowids
-abbrev pub all_points_text : List ℕ
-all_points_text = codes "SELECT meter, register, instant, wh FROM point ORDER BY meter, register, instant"
-
-abbrev pub all_points_query : Query
-all_points_query = record (plain_query 7 [] (col 1 1 ∷ col 1 2 ∷ col 1 3 ∷ col 1 4 ∷ [])) { order = (col 1 1, up) ∷ (col 1 2, up) ∷ (col 1 3, up) ∷ [] }
-
-pub all_points_is : IsQuery all_points_text all_points_query (codes "meter" ∷ codes "register" ∷ codes "instant" ∷ codes "wh" ∷ [])
-unfolding understood everything
-all_points_is = record { is = λ checks. refl; unlisted = λ checks. refl; plain = λ checks. (refl, refl) }
-
-abbrev pub all_starts_text : List ℕ
-all_starts_text = codes "SELECT meter, start, owner FROM start ORDER BY meter, start"
-
-abbrev pub all_starts_query : Query
-all_starts_query = record (plain_query 9 [] (col 1 1 ∷ col 1 2 ∷ col 1 3 ∷ [])) { order = (col 1 1, up) ∷ (col 1 2, up) ∷ [] }
-
-pub all_starts_is : IsQuery all_starts_text all_starts_query (codes "meter" ∷ codes "start" ∷ codes "owner" ∷ [])
-unfolding understood everything
-all_starts_is = record { is = λ checks. refl; unlisted = λ checks. refl; plain = λ checks. (refl, refl) }
-
-abbrev pub all_energies_text : List ℕ
-all_energies_text = codes "SELECT owner, band, direction, wh FROM total ORDER BY owner, band, direction"
-
-abbrev pub all_energies_query : Query
-all_energies_query = record (plain_query 11 [] (col 1 1 ∷ col 1 2 ∷ col 1 3 ∷ col 1 4 ∷ [])) { order = (col 1 1, up) ∷ (col 1 2, up) ∷ (col 1 3, up) ∷ [] }
-
-pub all_energies_is : IsQuery all_energies_text all_energies_query (codes "owner" ∷ codes "band" ∷ codes "direction" ∷ codes "wh" ∷ [])
-unfolding understood everything
-all_energies_is = record { is = λ checks. refl; unlisted = λ checks. refl; plain = λ checks. (refl, refl) }
-
-abbrev pub all_payments_text : List ℕ
-all_payments_text = codes "SELECT account, cents FROM total_topup ORDER BY account"
-
-abbrev pub all_payments_query : Query
-all_payments_query = record (plain_query 13 [] (col 1 0 ∷ col 1 2 ∷ [])) { order = (col 1 0, up) ∷ [] }
-
-pub all_payments_is : IsQuery all_payments_text all_payments_query (codes "account" ∷ codes "cents" ∷ [])
-unfolding understood everything
-all_payments_is = record { is = λ checks. refl; unlisted = λ checks. refl; plain = λ checks. (refl, refl) }
-
-abbrev pub point_ids_text : List ℕ
-point_ids_text = codes "SELECT rowid FROM point ORDER BY rowid"
-
-abbrev pub point_ids_query : Query
-point_ids_query = record (plain_query 7 [] (col 1 0 ∷ [])) { order = (col 1 0, up) ∷ [] }
-
-pub point_ids_is : IsQuery point_ids_text point_ids_query (codes "rowid" ∷ [])
-unfolding understood everything
-point_ids_is = record { is = λ checks. refl; unlisted = λ checks. refl; plain = λ checks. (refl, refl) }
-
-abbrev pub start_ids_text : List ℕ
-start_ids_text = codes "SELECT rowid FROM start ORDER BY rowid"
-
-abbrev pub start_ids_query : Query
-start_ids_query = record (plain_query 9 [] (col 1 0 ∷ [])) { order = (col 1 0, up) ∷ [] }
-
-pub start_ids_is : IsQuery start_ids_text start_ids_query (codes "rowid" ∷ [])
-unfolding understood everything
-start_ids_is = record { is = λ checks. refl; unlisted = λ checks. refl; plain = λ checks. (refl, refl) }
-
-abbrev pub energy_ids_text : List ℕ
-energy_ids_text = codes "SELECT rowid FROM total ORDER BY rowid"
-
-abbrev pub energy_ids_query : Query
-energy_ids_query = record (plain_query 11 [] (col 1 0 ∷ [])) { order = (col 1 0, up) ∷ [] }
-
-pub energy_ids_is : IsQuery energy_ids_text energy_ids_query (codes "rowid" ∷ [])
-unfolding understood everything
-energy_ids_is = record { is = λ checks. refl; unlisted = λ checks. refl; plain = λ checks. (refl, refl) }
+payment_is = record { names = codes "cents" ∷ []; is = λ checks. refl; unlisted = λ checks. refl; plain = λ checks. (refl, refl) }

@@ -18,11 +18,13 @@ pub mod KeyedRows
 pub mod LeftOpening
 pub mod LeftStores
 pub mod Lists
+pub mod Listed
 pub mod Neighbours
 pub mod OfContent
 pub mod OfMeter
 pub mod OfParts
 pub mod Once
+pub mod OneTable
 pub mod OneKind
 pub mod OfficeFirst
 pub mod OneOffice
@@ -38,7 +40,6 @@ pub mod Scans
 pub mod Sound
 pub mod StartRows
 pub mod StillKept
-pub mod SumTables
 pub mod Taking
 pub mod Telling
 pub mod Texts

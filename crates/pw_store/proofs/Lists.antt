@@ -1,8 +1,7 @@
 -- What the queries that list records show.
-use Rattle.std.proofs.Common.{Vec, ◌≡◌, ◌⊎◌, inl, inr, ℕ, List, [], ◌∷◌, ◌++◌, map, Ok, Err, Result, IfOk, refl, sym, ap, subst, subst₂, codes}
+use Rattle.std.proofs.Common.{Vec, ◌≡◌, ◌⊎◌, inl, inr, ℕ, ◌-◌, ◌^◌, nat_le, if◌then◌else◌, true, false, None, unwrap_or, slice_get, List, [], ◌∷◌, ◌++◌, map, Ok, Err, Result, IfOk, refl, sym, ap, subst}
 use Rattle.std.specs.List.Sorted.{IsPermutation}
 use Rattle.std.proofs.lemmas.List.Sorted.{IsPermutation-map}
-use Rattle.sqlite.specs.declared.error.Error.{Error}
 use Rattle.sqlite.specs.Order.{Row}
 use Rattle.sqlite.specs.Query.{Query, Output, page}
 use Rattle.sqlite.specs.Program.{overlay}
@@ -16,30 +15,29 @@ use Rattle.pw_store.specs.Content.{records_of, reading_in, assignment_in, topup_
 use Rattle.pw_schema.specs.declared.kind.RecordKind.{RecordKind}
 use Rattle.pw_schema.specs.declared.kind.RecordKind.TheVariants.{Readings, Assignments, TopUps}
 use Rattle.pw_store.specs.Shown.{entry_in, entries_of}
-use Rattle.pw_store.specs.inner.Lists.{shown, ShowsAll}
+use Rattle.pw_store.specs.declared.listings.Listing.TheVariants as listing
+use Rattle.pw_store.specs.inner.Lists.{shown}
+use Rattle.pw_store.specs.inner.Listings.{ShowsAll}
 use Rattle.pw_schema.specs.Rows.{told, ReadsRows}
 use Rattle.pw_store.proofs.Once.{permuted}
-use Rattle.pw_store.proofs.Texts.{IsQuery, topups_text, topups_query, topups_is, all_readings_text, all_readings_query, all_readings_is, all_assignments_text, all_assignments_query, all_assignments_is}
+use Rattle.pw_store.proofs.Texts.{IsQuery}
 use Rattle.pw_store.proofs.Scans.{scan_of, answer_of, outputs}
 
-abbrev second : Output → Row
+abbrev pub second : Output → Row
 second o = o.1
 
-topups_shown : (rows : List Row) → map second (outputs topups_query [] rows) ≡ map (shown TopUps) rows
-topups_shown [] = refl
-topups_shown (r ∷ rows) = ap (λ xs. shown TopUps r ∷ xs) (topups_shown rows)
+-- no table that is computed stands at a tree
+pub plainly : (db : Trees) (tree : ℕ) → overlay db [] tree ≡ db tree
+plainly db tree = elim (nat_le (2 ^ 31) tree) as (λ b. unwrap_or (if b then slice_get [] (tree - 2 ^ 31) else None) (db tree) ≡ db tree) [ true ↦ refl | false ↦ refl ]
 
-pub shows_topups : (old new : State) (rows : List Row) → IsOurs old.now.schema → Shown topups_text [] old new rows → ShowsAll TopUps old.now.trees rows
-shows_topups old new rows ours h =
-    let table = old.now.trees topup_tree in
-    let own = only_one in
-    let scan = answer_of (ours_with own) topups_text [] old new (codes "reference" ∷ codes "account" ∷ codes "cents" ∷ codes "instant" ∷ []) topup_tree topups_query rows ours (topups_is.is own) (topups_is.plain own) (topups_is.unlisted own) h in
-    let same : IsPermutation (map second (outputs topups_query [] table)) (map second scan.ordered) = IsPermutation-map second (outputs topups_query [] table) scan.ordered scan.same in
-    subst (λ xs. IsPermutation xs rows) (topups_shown table) (subst (IsPermutation (map second (outputs topups_query [] table))) (sym scan.shown) same)
-
-pub shows_topups_if : {Z : Type 0} (old new : State) (r : Result (Vec Row Z) Error) → IsOurs old.now.schema → IfOk r (λ rows. Shown topups_text [] old new rows.items) → IfOk r (λ rows. ShowsAll TopUps old.now.trees rows.items)
-shows_topups_if old new (Ok rows) ours h = shows_topups old new rows.items ours h
-shows_topups_if old new (Err e) ours h = tt
+-- what a query over one table shows, where it has no LIMIT
+module _ (text : List ℕ) (tree : ℕ) (q : Query) (it : IsQuery text (scan_of tree q)) (params : Row) (old new : State) (rows : List Row) (ours : IsOurs old.now.schema) (h : Shown text params old new rows) where
+  pub seen : (ordered : List Output) × IsPermutation (map second (outputs (scan_of tree q) params (old.now.trees tree))) (map second ordered) × (rows ≡ page (scan_of tree q) params (map second ordered))
+  seen =
+      let own = only_one in
+      let scan = answer_of (ours_with own) text params old new it.names tree q rows ours (it.is own) (it.plain own) (it.unlisted own) h in
+      let same = subst (λ table. IsPermutation (outputs (scan_of tree q) params table) scan.ordered) (plainly old.now.trees tree) scan.same in
+      (scan.ordered, IsPermutation-map second (outputs (scan_of tree q) params (old.now.trees tree)) scan.ordered same, scan.shown)
 
 -- ---- from the rows that were read to the list of the records
 -- none of the other tables' records is a top-up
@@ -88,7 +86,7 @@ told_in TopUps (r ∷ rows) = ap (λ xs. entry_in TopUps r ∷ xs) (told_in TopU
 pub told_permuted : (k : RecordKind) (table rows : List Row) → IsPermutation (map (shown k) table) rows → IsPermutation (map (entry_in k) table) (map (told k) rows)
 told_permuted k table rows h = subst (λ xs. IsPermutation xs (map (told k) rows)) (told_in k table) (IsPermutation-map (told k) (map (shown k) table) rows h)
 
-pub lists_topups : (db : Trees) (rows : List Row) (found : List Entry) → ShowsAll TopUps db rows → ReadsRows TopUps rows found → ListsTopUps (records_of db) found
+pub lists_topups : (db : Trees) (rows : List Row) (found : List Entry) → ShowsAll (listing.Records TopUps) db rows → ReadsRows TopUps rows found → ListsTopUps (records_of db) found
 lists_topups db rows found shows reads =
     let same : SameMembers (entries_of TopUps db) found = subst (SameMembers (entries_of TopUps db)) (sym reads.are) (permuted (entries_of TopUps db) (map (told TopUps) rows) (told_permuted TopUps (db topup_tree) rows shows)) in
     record {
@@ -98,33 +96,6 @@ lists_topups db rows found shows reads =
         λ m. (same x).0 (topup_records db x m.0 m.1),
       );
     }
-
--- ---- the other whole tables
-all_readings_shown : (rows : List Row) → map second (outputs all_readings_query [] rows) ≡ map (shown Readings) rows
-all_readings_shown [] = refl
-all_readings_shown (r ∷ rows) = ap (λ xs. shown Readings r ∷ xs) (all_readings_shown rows)
-
-all_assignments_shown : (rows : List Row) → map second (outputs all_assignments_query [] rows) ≡ map (shown Assignments) rows
-all_assignments_shown [] = refl
-all_assignments_shown (r ∷ rows) = ap (λ xs. shown Assignments r ∷ xs) (all_assignments_shown rows)
-
--- what a query over one table shows, where it has no LIMIT
-module _ (text : List ℕ) (tree : ℕ) (q : Query) (names : List (List ℕ)) (it : IsQuery text (scan_of tree q) names) (params : Row) (old new : State) (rows : List Row) (ours : IsOurs old.now.schema) (h : Shown text params old new rows) where
-  pub seen : (ordered : List Output) × IsPermutation (map second (outputs (scan_of tree q) params (overlay old.now.trees [] tree))) (map second ordered) × (rows ≡ page (scan_of tree q) params (map second ordered))
-  seen =
-      let own = only_one in
-      let scan = answer_of (ours_with own) text params old new names tree q rows ours (it.is own) (it.plain own) (it.unlisted own) h in
-      (scan.ordered, IsPermutation-map second (outputs (scan_of tree q) params (overlay old.now.trees [] tree)) scan.ordered scan.same, scan.shown)
-
-pub shows_readings : (old new : State) (rows : List Row) → IsOurs old.now.schema → Shown all_readings_text [] old new rows → ShowsAll Readings old.now.trees rows
-shows_readings old new rows ours h =
-    let s = seen all_readings_text 1 all_readings_query _ all_readings_is [] old new rows ours h in
-    subst₂ IsPermutation (all_readings_shown _) (sym s.2) s.1
-
-pub shows_assignments : (old new : State) (rows : List Row) → IsOurs old.now.schema → Shown all_assignments_text [] old new rows → ShowsAll Assignments old.now.trees rows
-shows_assignments old new rows ours h =
-    let s = seen all_assignments_text 3 all_assignments_query _ all_assignments_is [] old new rows ours h in
-    subst₂ IsPermutation (all_assignments_shown _) (sym s.2) s.1
 
 pub if_ok : {E Z : Type 0} (P Q : List Row → Type 0) → ((rows : List Row) → P rows → Q rows) → (r : Result (Vec Row Z) E) → IfOk r (λ rows. P rows.items) → IfOk r (λ rows. Q rows.items)
 if_ok P Q f (Ok rows) h = f rows.items h

@@ -1,5 +1,5 @@
 -- What the queries for points next to an instant, for points between two and for starts give.
-use Rattle.std.proofs.Common.{◌≡◌, ◌↔◌, ◌≤◌, ◌<◌, ◌+◌, ◌&&◌, inl, inr, ℕ, pos, List, [], ◌∷◌, map, find, take, codes, Bool, true, false, cond, Option, option_map, Some, None, Ok, Err, Result, Vec, IfOk, refl, sym, ap, subst, subst₂, ◌∙◌, nat_cmp, Ordering, Less, Equal, Greater, arith, add-one}
+use Rattle.std.proofs.Common.{◌≡◌, ◌↔◌, ◌≤◌, ◌<◌, ◌+◌, ◌&&◌, inl, inr, ℕ, pos, List, [], ◌∷◌, map, find, take, Bool, true, false, cond, Option, option_map, Some, None, Ok, Err, Result, Vec, IfOk, refl, sym, ap, subst, subst₂, ◌∙◌, nat_cmp, Ordering, Less, Equal, Greater, arith, add-one}
 use Rattle.std.proofs.lemmas.Bool.{cases_Bool}
 use Rattle.std.specs.List.{AllByRecursion, list_all, filter}
 use Rattle.std.specs.List.Sorted.{IsPermutation, IsSorted}
@@ -417,7 +417,7 @@ before_if old new m g t (Err e) store h = tt
 before_if old new m g t (Ok rows) store h =
     let own = only_one in
     before_is_last m g t (old.now.trees 7) store.points.each store.points.once rows.items
-    (answer_of (ours_with own) before_text (params m g t) old new (codes "instant" ∷ codes "wh" ∷ []) 7 before_query rows.items store.ours (before_is.is own) (before_is.plain own) (before_is.unlisted own) h)
+    (answer_of (ours_with own) before_text (params m g t) old new before_is.names 7 before_query rows.items store.ours (before_is.is own) (before_is.plain own) (before_is.unlisted own) h)
 
 pub after_if : {Z : Type 0} (old new : State) (m : ℕ) (g : Register) (t : ℕ) (out : Result (Vec Row Z) Error) → IsStore old.now → IfOk out (λ rows. Shown after_text (params m g t) old new rows.items)
     → IfOk out (λ rows. IsBehind (point_in (old.now.trees 7) m g) t (first_point rows.items))
@@ -425,7 +425,7 @@ after_if old new m g t (Err e) store h = tt
 after_if old new m g t (Ok rows) store h =
     let own = only_one in
     after_is_first m g t (old.now.trees 7) store.points.each store.points.once rows.items
-    (answer_of (ours_with own) after_text (params m g t) old new (codes "instant" ∷ codes "wh" ∷ []) 7 after_query rows.items store.ours (after_is.is own) (after_is.plain own) (after_is.unlisted own) h)
+    (answer_of (ours_with own) after_text (params m g t) old new after_is.names 7 after_query rows.items store.ours (after_is.is own) (after_is.plain own) (after_is.unlisted own) h)
 
 -- ---- points between two seconds
 module _ (m : ℕ) (g : Register) (from to : ℕ) where
@@ -460,7 +460,7 @@ pub between_if : {Z : Type 0} (old new : State) (m : ℕ) (g : Register) (from t
 between_if old new m g from to (Err e) store h = tt
 between_if old new m g from to (Ok rows) store h =
     let table = old.now.trees 7 in
-    let s = seen between_text 7 between_query _ between_is (bounds m g from to) old new rows.items store.ours h in
+    let s = seen between_text 7 between_query between_is (bounds m g from to) old new rows.items store.ours h in
     let moved = IsPermutation-map point_told _ _ s.1 in
     let same = permuted _ _ (subst₂ IsPermutation (pairs_between m g from to (filter (passes_between m g from to) table)) (ap (map point_told) (sym s.2)) moved) in
     let spec = seconds key_in_point wh_at second_at (reading_key m g) (λ u. (from ≤ u) × (u ≤ to)) (passes_between m g from to) IsReadingRow (hits_between m g from to) (misses_between m g from to) table store.points.each store.points.once in
@@ -508,7 +508,7 @@ pub starts_if : {Z : Type 0} (old new : State) (m : ℕ) (out : Result (Vec Row 
 starts_if old new m (Err e) store h = tt
 starts_if old new m (Ok rows) store h =
     let table = old.now.trees 9 in
-    let s = seen starts_text 9 starts_query _ starts_is (meter m) old new rows.items store.ours h in
+    let s = seen starts_text 9 starts_query starts_is (meter m) old new rows.items store.ours h in
     let moved = IsPermutation-map start_told _ _ s.1 in
     let same = permuted _ _ (subst₂ IsPermutation (pairs_start m (filter (passes_start m) table)) (ap (map start_told) (sym s.2)) moved) in
     let spec = seconds key_in_start owner_of_row start_at (assignment_key m) (λ u. Unit {0}) (passes_start m) IsAssignmentRow (hits_start m) (misses_start m) table store.starts.each store.starts.once in

@@ -97,7 +97,7 @@ module _ (m : MeterId) (g : Register) where
   pub shows_readings_of : (old new : State) (rows : List Row) → IsStore old.now → Shown list_readings_text params old new rows → ShowsKept Readings (IsReadingOf m g) old.now.trees rows
   shows_readings_of old new rows store h found reads =
       let table = old.now.trees reading_tree in
-      let s = seen list_readings_text 1 list_readings_query _ list_readings_is params old new rows store.ours h in
+      let s = seen list_readings_text 1 list_readings_query list_readings_is params old new rows store.ours h in
       let perm : IsPermutation (map (shown Readings) (filter passes_reading table)) rows = subst₂ IsPermutation (shown_readings (filter passes_reading table)) (sym s.2) s.1 in
       record {
         rising = reads.rising;
@@ -138,7 +138,7 @@ module _ (m : MeterId) where
   pub shows_assignments_of : (old new : State) (rows : List Row) → IsStore old.now → Shown list_assignments_text meter_params old new rows → ShowsKept Assignments (IsAssignmentOf m) old.now.trees rows
   shows_assignments_of old new rows store h found reads =
       let table = old.now.trees assignment_tree in
-      let s = seen list_assignments_text 3 list_assignments_query _ list_assignments_is meter_params old new rows store.ours h in
+      let s = seen list_assignments_text 3 list_assignments_query list_assignments_is meter_params old new rows store.ours h in
       let perm : IsPermutation (map (shown Assignments) (filter passes_assignment table)) rows = subst₂ IsPermutation (shown_assignments (filter passes_assignment table)) (sym s.2) s.1 in
       record {
         rising = reads.rising;

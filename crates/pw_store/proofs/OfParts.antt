@@ -41,6 +41,7 @@ use Rattle.pw_store.specs.Opening.{HoldsSums, key_of_total}
 use Rattle.pw_store.specs.inner.Opened.{amount_of_total}
 use Rattle.pw_store.specs.inner.Sums.{Listed, TellsSums, total_in_row}
 use Rattle.pw_store.specs.inner.Truth.{AreRead, HaveParts, HaveOtherParts}
+use Rattle.pw_store.proofs.Finding.{owner_in, wh_in}
 use Rattle.pw_store.proofs.KeyedRows.{before_map, image, told_row, row_told}
 use Rattle.pw_store.proofs.Lists.{member_in, member_behind}
 use Rattle.pw_store.proofs.Once.{permuted}
@@ -99,14 +100,6 @@ no_payment_row o b d r e = cc
 some_amount : (q : Option ℕ) (n : ℕ) → 0 < n → unwrap_or q 0 ≡ n → q ≡ Some n
 some_amount None n l e = absurd (omega (arith, l, e))
 some_amount (Some v) n l e = ap Some e
-
-abbrev wh_in : Content → ℕ
-wh_in (content.Reading w) = w
-wh_in _ = 0
-
-abbrev owner_in : Content → Option AccountId
-owner_in (content.Assignment o) = o
-owner_in _ = None
 
 module _ (office : OfficeRules) (db : Trees) (records : List Entry) (sums : Listed) (holds : HoldsSums office db) (tells : TellsSums db sums) (same : IsPermutation (records_of db) records) (of : AllOfOffice office (records_of db)) where
   abbrev now : ShelfContent

@@ -1,47 +1,34 @@
 -- What DELETE and INSERT make of the totals of top-ups.
-use Rattle.std.proofs.Common.{◌≡◌, ◌<◌, ℕ, pos, List, [], ◌∷◌, map, find, Bool, true, false, not, ◌&&◌, option_map, Some, None, Ok, Err, Result, OnOk, IsTrue, refl, sym, ap, subst, subst₂, ◌∙◌, nat_cmp, arith}
+use Rattle.std.proofs.Common.{◌≡◌, ◌<◌, ℕ, pos, List, [], ◌∷◌, find, Bool, true, false, not, ◌&&◌, option_map, Some, None, Ok, Err, Result, OnOk, IsTrue, refl, sym, ap, subst, ◌∙◌, nat_cmp, arith}
 use Rattle.std.specs.List.{AllByRecursion, list_all, filter}
-use Rattle.std.specs.List.Sorted.{IsPermutation}
-use Rattle.std.proofs.lemmas.List.Sorted.{IsPermutation-map}
 use Rattle.std.specs.Ordering.{is_eq}
 use Rattle.sqlite.specs.declared.types.Value.TheVariants.{Null, Int}
 use Rattle.sqlite.specs.declared.error.Error.{Error}
 use Rattle.sqlite.specs.Order.{Row, column}
 use Rattle.sqlite.specs.Term.{Term, holds}
 use Rattle.sqlite.specs.Table.{Table}
-use Rattle.sqlite.specs.Tree.{rowid, put_row}
-use Rattle.sqlite.specs.Edit.{Applies, edit_of, id_in, is_taken}
-use Rattle.sqlite.specs.Rowids.TheVariants.{Given, Chosen}
-use Rattle.sqlite.specs.Source.TheVariants.{Values}
-use Rattle.sqlite.specs.Command.TheVariants.{Delete, Insert}
-use Rattle.sqlite.specs.Query.{Output, output}
-use Rattle.sqlite.specs.Effect.{Answers}
-use Rattle.sqlite.specs.Does.{Does}
-use Rattle.sqlite.specs.State.{State, mode_of, Executes}
-use Rattle.sqlite.specs.Listing.{understood}
-use Rattle.sqlite.specs.Program.{overlay}
-use Rattle.sqlite.proofs.Callers.{runs_as, statement_of}
-use Rattle.sqlite_rules.specs.Calls.{ids_of}
-use Rattle.sqlite_trees.proofs.ListLemmas.{map-map, filter_same, all_weaker}
+use Rattle.sqlite.specs.Tree.{put_row}
+use Rattle.sqlite.specs.Edit.{is_taken}
+use Rattle.sqlite.specs.State.{State, Executes}
 use Rattle.pw_tariff.specs.declared.ids.AccountId.{AccountId}
 use Rattle.pw_model.specs.declared.records.TotalKey.{TotalKey}
 use Rattle.pw_model.specs.declared.records.TotalKey.TheVariants as total
 use Rattle.pw_shelf.specs.Changes.{same_total, totals_with, with_total}
-use Rattle.pw_schema.specs.Tables.{ours_with, only_one, total_topup_at}
+use Rattle.pw_schema.specs.Tables.{only_one, total_topup_at}
 use Rattle.pw_schema.specs.Rows.{number}
-use Rattle.pw_schema.proofs.Steps.{one_delete, one_insert, uncounted}
 use Rattle.pw_store.specs.Content.{energy_in, payment_in, IsReadingRow, IsAssignmentRow, total_in, payment_told}
 use Rattle.pw_store.specs.Keyed.{AreKeyed, IsEnergyRow, IsPaymentRow}
 use Rattle.pw_store.specs.Kept.{IsStore, key_in_point, key_in_start}
 use Rattle.pw_store.specs.inner.Changing.{Makes}
 use Rattle.pw_store.proofs.KeptTexts.{delete_payment_text, delete_payment_query, delete_payment_is, insert_payment_text, insert_payment_is, payment_terms}
-use Rattle.pw_store.proofs.Scans.{equal_ints, tied, scans, scan_of, outputs, IsScan}
+use Rattle.pw_store.proofs.Scans.{equal_ints, tied}
 use Rattle.pw_store.proofs.Finding.{first, same_number}
-use Rattle.pw_store.proofs.Adding.{cast_null, cast_int, insert_inside}
+use Rattle.pw_store.proofs.Adding.{cast_null, cast_int, insert_inside, was_not}
 use Rattle.pw_store.specs.Left.{IsOldEnergy, IsOldPayment}
 use Rattle.pw_store.proofs.StillKept.{fewer, keeps_rows, more}
 use Rattle.pw_store.proofs.Others.{AreElseSame, same_records, store_kept, same_total-decides, payments_with, content_with_total}
-use Rattle.pw_store.proofs.KeptRows.{ids, leaves, find_gone, gone_told, put_told, keyed_gone, keyed_put}
+use Rattle.pw_store.proofs.KeptRows.{find_gone, gone_told, put_told, keyed_gone, keyed_put}
+use Rattle.pw_store.proofs.OneTable.{HasDeleted, HasInserted, deletes, inserts, others_left}
 use Rattle.pw_store.proofs.Taking.{delete_inside, both_true, none_found}
 
 abbrev account_of_total : TotalKey → ℕ
@@ -75,17 +62,6 @@ module _ (a : AccountId) where
   pub passes_at : (r : Row) → IsPaymentRow r → passes r ≡ at_key a r
   passes_at r it = both_true (passes r) (at_key a r) (λ hit. (same_total-decides (total.TopUps a) (payment_in r)).1 (hits r it hit)) (λ same. misses r it ((same_total-decides (total.TopUps a) (payment_in r)).0 same))
 
-  shown_ids : (rows : List Row) → map (λ (o : Output). id_in (rowid o.1)) (map (output (scan_of 13 delete_payment_query)) (map (λ row. params a ∷ row ∷ []) rows)) ≡ ids rows
-  shown_ids [] = refl
-  shown_ids (row ∷ rows) = ap (λ more. id_in (rowid row) ∷ more) (shown_ids rows)
-
-  found : (table rows : List Row) → AllByRecursion IsPaymentRow table → IsScan (scan_of 13 delete_payment_query) (params a) table rows → IsPermutation (ids (filter (at_key a) table)) (ids_of rows)
-  found table rows all s =
-      let same = filter_same passes (at_key a) table (all_weaker IsPaymentRow (λ row. passes row ≡ at_key a row) passes_at table all) in
-      let moved = IsPermutation-map (λ (o : Output). id_in (rowid o.1)) (outputs (scan_of 13 delete_payment_query) (params a) table) s.ordered s.same in
-      let last : ids_of rows ≡ map (λ (o : Output). id_in (rowid o.1)) s.ordered = ap ids_of s.shown ∙ map-map (λ r. id_in (rowid r)) (λ (o : Output). o.1) s.ordered in
-      subst₂ IsPermutation (shown_ids (filter passes table) ∙ ap ids same) (sym last) moved
-
 abbrev table : Table
 table = total_topup_at 13
 
@@ -94,18 +70,11 @@ module _ (old new : State) (a : AccountId) (count : ℕ) (store : IsStore old.no
   abbrev own : List Term
   own = only_one
 
-  deleted : (new.now.schema ≡ ours_with own) × ((rows : List Row) × Answers (record { schema = ours_with own; trees = old.now.trees }) (record { lets = []; body = delete_payment_query }) (params a) rows × Applies (ours_with own) (mode_of old).keys old.now.trees (edit_of old.now.trees (uncounted table) (ids_of rows) Given 0 []) new.now.trees)
-  deleted =
-      let w = runs_as delete_payment_text (params a) old new (ours_with own) store.ours (Delete 7 (record { lets = []; body = delete_payment_query })) (delete_payment_is.is own) (delete_payment_is.plain own) count h in
-      let text = statement_of delete_payment_text (understood (ours_with own) delete_payment_text) in
-      one_delete old.step_limit (mode_of old).keys (ours_with own) table (params a) (mode_of old) old.now.trees 7 (record { lets = []; body = delete_payment_query }) w.tally new.now (λ _. refl)
-      (subst (λ s. Does old.step_limit (mode_of old) (params a) (record old.now { schema = s }) text None (Delete 7 (record { lets = []; body = delete_payment_query })) (Ok (w.tally, new.now))) store.ours w.changed)
+  deleted : HasDeleted table delete_payment_query.filter (params a) old new
+  deleted = deletes delete_payment_text 7 (params a) old new store.ours count h table delete_payment_query.filter delete_payment_is (λ out does. does) (λ _. refl)
 
   left : new.now.trees 13 ≡ filter (λ row. not (at_key a row)) (old.now.trees 13)
-  left =
-      let it = deleted.1 in
-      let scan = scans 13 delete_payment_query (overlay old.now.trees []) (params a) it.0 (it.1.answer Null) in
-      it.2.rows ∙ leaves (at_key a) (old.now.trees 13) (ids_of it.0) store.payments.numbered store.payments.ids (found a (old.now.trees 13) it.0 store.payments.each scan)
+  left = others_left table delete_payment_query.filter (params a) IsPaymentRow (at_key a) (passes_at a) payment_in old new deleted store.payments
 
   others : AreElseSame own 13 old.now.trees new.now.trees
   others = deleted.1.2.tables
@@ -138,19 +107,11 @@ module _ (old new : State) (a : AccountId) (v : ℕ) (count : ℕ) (above : 0 < 
   abbrev given : Row
   given = Int (pos a.0) ∷ Int (pos v) ∷ []
 
-  inserted : (new.now.schema ≡ ours_with checks) × Applies (ours_with checks) (mode_of old).keys old.now.trees (edit_of old.now.trees (uncounted table) [] Chosen 0 ((Int (pos a.0) ∷ Null ∷ Int (pos v) ∷ []) ∷ [])) new.now.trees
-  inserted =
-      let w = runs_as insert_payment_text given old new (ours_with checks) store.ours (Insert 7 (Values payment_terms 3)) (insert_payment_is.is checks) (insert_payment_is.plain checks) count h in
-      let text = statement_of insert_payment_text (understood (ours_with checks) insert_payment_text) in
-      one_insert old.step_limit (mode_of old).keys (ours_with checks) table given (mode_of old) old.now.trees 7 3 payment_terms ((Int (pos a.0) ∷ Null ∷ Int (pos v) ∷ []) ∷ []) w.tally new.now refl (λ _. refl)
-      (subst (λ s. Does old.step_limit (mode_of old) given (record old.now { schema = s }) text None (Insert 7 (Values payment_terms 3)) (Ok (w.tally, new.now))) store.ours w.changed)
-
   abbrev row : Row
   row = Int (pos a.0) ∷ Null ∷ Int (pos v) ∷ []
 
-  was_not : (b : Bool) → not b ≡ true → b ≡ false
-  was_not true e = absurd (let f : true ≡ false = sym e in cc)
-  was_not false e = refl
+  inserted : HasInserted table row old new
+  inserted = inserts insert_payment_text 7 given old new store.ours count h table 3 payment_terms row insert_payment_is (λ out does. does) (λ _. refl) refl
 
   free : is_taken (old.now.trees 13) row ≡ false
   free = let fresh = rw (cast_int a.0) at inserted.1.fresh in was_not _ (first _ _ fresh)

@@ -17,5 +17,5 @@ unfolding understood everything
 one_plain s = (refl, refl)
 
 -- a query over our tables is plain under a schema that is ours
-pub ours_plain : {text : List ℕ} {q : Query} {names : List (List ℕ)} → IsQuery text q names → (s : Schema) → IsOurs s → IsPlain (understood s text)
+pub ours_plain : {text : List ℕ} {q : Query} → IsQuery text q → (s : Schema) → IsOurs s → IsPlain (understood s text)
 ours_plain {text} it s ours = subst (λ t. IsPlain (understood t text)) (sym ours) (it.plain only_one)

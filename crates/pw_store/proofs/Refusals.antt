@@ -1,5 +1,5 @@
 -- What the tables of records hold, where a judge took their rows or refused them.
-use Rattle.std.proofs.Common.{◌≡◌, inl, inr, ℕ, List, map, Result, Err, refl, sym, ap, subst, subst₂, ◌∙◌}
+use Rattle.std.proofs.Common.{◌≡◌, ℕ, List, map, Result, Err, sym, ap, subst, subst₂, ◌∙◌}
 use Rattle.std.specs.List.{AllByRecursion}
 use Rattle.std.specs.List.Sorted.{IsPermutation}
 use Rattle.sqlite.specs.Order.{Row}
@@ -13,12 +13,14 @@ use Rattle.pw_schema.specs.Judging.{AreRecords, IsRecord}
 use Rattle.pw_schema.specs.Rows.{told}
 use Rattle.pw_schema.proofs.Taken.{took_records}
 use Rattle.pw_store.specs.declared.fault.OpenFault.{OpenFault}
-use Rattle.pw_store.specs.declared.fault.OpenFault.TheVariants.{Store, Memory, OfficeDiffers, Version, Unclean}
+use Rattle.pw_store.specs.declared.fault.OpenFault.TheVariants.{Unclean}
 use Rattle.pw_store.specs.Opening.{HoldsRecords}
 use Rattle.pw_store.specs.Shown.{entries_of, tree_of}
-use Rattle.pw_store.specs.inner.Lists.{ShowsAll}
-use Rattle.pw_store.specs.inner.Opened.{TableRefuses}
+use Rattle.pw_store.specs.declared.listings.Listing.TheVariants as listing
+use Rattle.pw_store.specs.inner.Listings.{ShowsAll}
+use Rattle.pw_store.specs.inner.Opened.{RefusesUnless}
 use Rattle.pw_store.specs.inner.Scanning.{HasRefused, IsOther}
+use Rattle.pw_store.proofs.Scanning.{refuses_unless}
 use Rattle.pw_store.proofs.Lists.{told_permuted}
 use Rattle.pw_store.proofs.Sound.{good_back, good_records, told_of_office}
 
@@ -27,10 +29,10 @@ module _ (office : OfficeRules) (k : RecordKind) (first : Records) (of : office_
     same : judge.kind ≡ k
     same = it.same_kind ∙ kind
 
-    pub table_holds : (db : Trees) → ShowsAll k db rows → HoldsRecords office k db
+    pub table_holds : (db : Trees) → ShowsAll (listing.Records k) db rows → HoldsRecords office k db
     table_holds db shows = good_records office k db rows shows (subst₂ (λ o j. AreRecords o j rows) of kind (took_records first judge rows it))
 
-    pub table_listed : (db : Trees) → ShowsAll k db rows → IsPermutation (entries_of k db) judge.found.items
+    pub table_listed : (db : Trees) → ShowsAll (listing.Records k) db rows → IsPermutation (entries_of k db) judge.found.items
     table_listed db shows = subst (IsPermutation (entries_of k db)) (sym (it.read.are ∙ ap (λ j. map (told j) rows) same)) (told_permuted k (db (tree_of k)) rows shows)
 
     pub table_of_office : AllOfOffice office judge.found.items
@@ -38,9 +40,5 @@ module _ (office : OfficeRules) (k : RecordKind) (first : Records) (of : office_
         let each : AllByRecursion (IsRecord office judge.kind) rows = subst (λ o. AllByRecursion (IsRecord o judge.kind) rows) (ap office_of it.same_office ∙ of) it.each in
         subst (AllOfOffice office) (sym it.read.are) (told_of_office office judge.kind rows each)
 
-  pub table_refuses : (db : Trees) (fault : OpenFault) → IsOther {A = ℕ} (Err fault) → (◌≡◌ {A = Result ℕ OpenFault} (Err fault) (Err Unclean) → HasRefused (λ (f : Records) rows. AreRecords (office_of f.office.now) f.kind rows → ⊥) (ShowsAll k db) first) → TableRefuses office k db fault
-  table_refuses db Store other refused = tt
-  table_refuses db Memory other refused = tt
-  table_refuses db OfficeDiffers other refused = elim other [ inl i ↦ cc | inr more ↦ elim more [ inl i ↦ cc | inr i ↦ cc ] ]
-  table_refuses db Version other refused = elim other [ inl i ↦ cc | inr more ↦ elim more [ inl i ↦ cc | inr i ↦ cc ] ]
-  table_refuses db Unclean other refused = λ held. (let it = refused refl in it.1 (subst₂ (λ o j. AreRecords o j it.0) (sym of) (sym kind) (good_back office k db it.0 it.2 held)))
+  pub table_refuses : (db : Trees) (fault : OpenFault) → IsOther {A = ℕ} (Err fault) → (◌≡◌ {A = Result ℕ OpenFault} (Err fault) (Err Unclean) → HasRefused (λ (f : Records) rows. AreRecords (office_of f.office.now) f.kind rows → ⊥) (ShowsAll (listing.Records k) db) first) → RefusesUnless (HoldsRecords office k db) fault
+  table_refuses db fault other refused = refuses_unless (HoldsRecords office k db) fault other (λ is held. (let it = refused is in it.1 (subst₂ (λ o j. AreRecords o j it.0) (sym of) (sym kind) (good_back office k db it.0 it.2 held))))

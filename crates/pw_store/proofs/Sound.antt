@@ -1,5 +1,5 @@
 -- From rows that were read in order to the records of the tables, each once.
-use Rattle.std.proofs.Common.{◌≡◌, inl, inr, List, [], ◌∷◌, ◌++◌, map, refl, sym, ap, subst, ◌∙◌}
+use Rattle.std.proofs.Common.{◌≡◌, inl, inr, ℕ, zero, suc, ◌+◌, List, [], ◌∷◌, ◌++◌, map, append_assoc, refl, sym, ap, subst, subst₂, ◌∙◌}
 use Rattle.std.specs.List.{AllByRecursion}
 use Rattle.std.specs.List.Sorted.{IsPermutation}
 use Rattle.std.proofs.lemmas.List.Sorted.{IsPermutation-sym, IsPermutation-append}
@@ -20,13 +20,19 @@ use Rattle.pw_schema.specs.Tables.{IsOurs}
 use Rattle.pw_store.specs.Content.{records_of, total_tree, payment_tree}
 use Rattle.pw_store.specs.Kept.{IsStore}
 use Rattle.pw_store.specs.Shown.{IsRowOf, entries_of, entry_in, tree_of}
-use Rattle.pw_store.specs.inner.Lists.{ShowsAll, shown}
+use Rattle.pw_store.specs.declared.listings.Listing.TheVariants as listing
+use Rattle.pw_store.specs.inner.Lists.{shown}
+use Rattle.pw_store.specs.inner.Listings.{ShowsAll}
 use Rattle.pw_schema.specs.Rows.{Tells, told}
 use Rattle.pw_schema.specs.Judging.{AreRecords, IsRecord, IsTotalOf}
 use Rattle.pw_schema.specs.declared.kind.TotalKind.TheVariants.{Energies, Payments}
 use Rattle.pw_store.specs.Keyed.{IsEnergyRow, IsPaymentRow}
 use Rattle.pw_store.specs.inner.Sums.{AreAllNumbered}
 use Rattle.pw_store.specs.Opening.{HoldsRecords, HoldsAllRecords, HoldsSums, IsTotalRow, key_of_total}
+use Rattle.pw_store.specs.declared.fault.OpenFault.{OpenFault}
+use Rattle.pw_store.specs.inner.Opened.{RefusesUnless}
+use Rattle.pw_store.proofs.InTurn.{trees_same}
+use Rattle.pw_store.proofs.Scanning.{refuses_more}
 use Rattle.pw_store.proofs.Once.{once-permuted, permuted}
 use Rattle.pw_store.proofs.Lists.{told_permuted, member_in}
 
@@ -41,7 +47,7 @@ told_of_office office k [] all e m = absurd m
 told_of_office office k (r ∷ rows) all e (inl i) = subst (IsOfOffice office) (sym i) all.0.1
 told_of_office office k (r ∷ rows) all e (inr m) = told_of_office office k rows all.1 e m
 
-pub good_records : (office : OfficeRules) (k : RecordKind) (db : Trees) (rows : List Row) → ShowsAll k db rows → AreRecords office k rows → HoldsRecords office k db
+pub good_records : (office : OfficeRules) (k : RecordKind) (db : Trees) (rows : List Row) → ShowsAll (listing.Records k) db rows → AreRecords office k rows → HoldsRecords office k db
 good_records office k db rows shows good =
     let same = told_permuted k (db (tree_of k)) rows shows in
     let back = IsPermutation-sym (entries_of k db) (map (told k) rows) same in
@@ -59,7 +65,7 @@ to_shown office Readings (r ∷ rows) all of = ((all.0, of _ (inl refl)), to_sho
 to_shown office Assignments (r ∷ rows) all of = ((all.0, of _ (inl refl)), to_shown office Assignments rows all.1 (λ e m. of e (inr m)))
 to_shown office TopUps (r ∷ rows) all of = ((all.0, of _ (inl refl)), to_shown office TopUps rows all.1 (λ e m. of e (inr m)))
 
-pub good_back : (office : OfficeRules) (k : RecordKind) (db : Trees) (rows : List Row) → ShowsAll k db rows → HoldsRecords office k db → AreRecords office k rows
+pub good_back : (office : OfficeRules) (k : RecordKind) (db : Trees) (rows : List Row) → ShowsAll (listing.Records k) db rows → HoldsRecords office k db → AreRecords office k rows
 good_back office k db rows shows held = record {
   each = all-permutation (IsRecord office k) (map (shown k) (db (tree_of k))) rows shows (to_shown office k (db (tree_of k)) held.rows held.of_office);
   once = once-permuted (entries_of k db) (map (told k) rows) (told_permuted k (db (tree_of k)) rows shows) held.once;
@@ -124,23 +130,55 @@ module _ (office : OfficeRules) (db : Database) (ours : IsOurs db.schema) (r : H
   pub sound_office : AllOfOffice office (records_of db.trees)
   sound_office = all_both office (entries_of Readings db.trees) (entries_of Assignments db.trees ++ entries_of TopUps db.trees) r.of_office (all_both office (entries_of Assignments db.trees) (entries_of TopUps db.trees) a.of_office t.of_office)
 
-pub trees_is : (old new : State) → IsUnchanged old new → new.now.trees ≡ old.now.trees
-trees_is old new u = ap (λ (d : Database). d.trees) u.0.now_is
+-- ---- the kinds, checked one after the other
+-- the place of a kind among them
+abbrev pub place : RecordKind → ℕ
+place Readings = 0
+place Assignments = 1
+place TopUps = 2
 
--- the three kinds, read one after the other
-pub all_hold : (office : OfficeRules) (s0 s1 s2 : State) → IsUnchanged s0 s1 → IsUnchanged s1 s2 → HoldsRecords office Readings s0.now.trees → HoldsRecords office Assignments s1.now.trees → HoldsRecords office TopUps s2.now.trees
-    → HoldsAllRecords office s0.now.trees
-all_hold office s0 s1 s2 a b rs ss ts = record {
-  readings = rs;
-  assignments = subst (HoldsRecords office Assignments) (trees_is s0 s1 a) ss;
-  topups = subst (HoldsRecords office TopUps) (trees_is s1 s2 b ∙ trees_is s0 s1 a) ts;
-}
+-- of so many kinds: their records
+abbrev pub first_records : ℕ → Trees → List Entry
+first_records zero db = []
+first_records (suc zero) db = entries_of Readings db
+first_records (suc (suc zero)) db = entries_of Readings db ++ entries_of Assignments db
+first_records (suc (suc (suc n))) db = records_of db
 
-pub all_listed : (s0 s1 s2 : State) (rs ss ts all : List Entry) → IsUnchanged s0 s1 → IsUnchanged s1 s2 → IsPermutation (entries_of Readings s0.now.trees) rs → IsPermutation (entries_of Assignments s1.now.trees) ss → IsPermutation (entries_of TopUps s2.now.trees) ts
-    → all ≡ rs ++ (ss ++ ts) → IsPermutation (records_of s0.now.trees) all
-all_listed s0 s1 s2 rs ss ts all a b p q r is =
-    let db = s0.now.trees in
-    let second : IsPermutation (entries_of Assignments db) ss = subst (λ d. IsPermutation (entries_of Assignments d) ss) (trees_is s0 s1 a) q in
-    let third : IsPermutation (entries_of TopUps db) ts = subst (λ d. IsPermutation (entries_of TopUps d) ts) (trees_is s1 s2 b ∙ trees_is s0 s1 a) r in
-    subst (IsPermutation (records_of db)) (sym is)
-    (IsPermutation-append (entries_of Readings db) rs (entries_of Assignments db ++ entries_of TopUps db) (ss ++ ts) p (IsPermutation-append (entries_of Assignments db) ss (entries_of TopUps db) ts second third))
+-- and that they are those of the office, each once
+abbrev pub HoldsFirst : ℕ → OfficeRules → Trees → Type 0
+HoldsFirst zero office db = Unit {0}
+HoldsFirst (suc zero) office db = HoldsRecords office Readings db
+HoldsFirst (suc (suc zero)) office db = HoldsRecords office Readings db × HoldsRecords office Assignments db
+HoldsFirst (suc (suc (suc n))) office db = HoldsAllRecords office db
+
+next_hold : (k : RecordKind) (office : OfficeRules) (db : Trees) → HoldsFirst (place k) office db → HoldsRecords office k db → HoldsFirst (place k + 1) office db
+next_hold Readings office db before it = it
+next_hold Assignments office db before it = (before, it)
+next_hold TopUps office db before it = record { readings = before.0; assignments = before.1; topups = it }
+
+next_records : (k : RecordKind) (db : Trees) → first_records (place k) db ++ entries_of k db ≡ first_records (place k + 1) db
+next_records Readings db = refl
+next_records Assignments db = refl
+next_records TopUps db = append_assoc (entries_of Readings db) (entries_of Assignments db) (entries_of TopUps db)
+
+one_of_all : (k : RecordKind) (office : OfficeRules) (db : Trees) → HoldsAllRecords office db → HoldsRecords office k db
+one_of_all Readings office db all = all.readings
+one_of_all Assignments office db all = all.assignments
+one_of_all TopUps office db all = all.topups
+
+-- the next kind, checked at a connection that is as it was
+module _ (office : OfficeRules) (old now : State) (same : IsUnchanged old now) (k : RecordKind) (n : ℕ) (at : n ≡ place k) where
+  here : now.now.trees ≡ old.now.trees
+  here = trees_same old now same
+
+  pub one_more_holds : HoldsFirst n office old.now.trees → HoldsRecords office k now.now.trees → HoldsFirst (n + 1) office old.now.trees
+  one_more_holds before it = subst (λ m. HoldsFirst (m + 1) office old.now.trees) (sym at) (next_hold k office old.now.trees (subst (λ m. HoldsFirst m office old.now.trees) at before) (subst (HoldsRecords office k) here it))
+
+  pub one_more_listed : (all found more : List Entry) → IsPermutation (first_records n old.now.trees) all → IsPermutation (entries_of k now.now.trees) found → more ≡ all ++ found → IsPermutation (first_records (n + 1) old.now.trees) more
+  one_more_listed all found more before it is =
+      let db = old.now.trees in
+      let both = IsPermutation-append (first_records (place k) db) all (entries_of k db) found (subst (λ m. IsPermutation (first_records m db) all) at before) (subst (λ d. IsPermutation (entries_of k d) found) here it) in
+      subst₂ IsPermutation (next_records k db ∙ ap (λ m. first_records (m + 1) db) (sym at)) (sym is) both
+
+  pub one_refused : (fault : OpenFault) → RefusesUnless (HoldsRecords office k now.now.trees) fault → RefusesUnless (HoldsAllRecords office old.now.trees) fault
+  one_refused fault refused = refuses_more _ _ fault (λ all. subst (HoldsRecords office k) (sym here) (one_of_all k office old.now.trees all)) refused

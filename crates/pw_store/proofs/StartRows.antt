@@ -1,28 +1,15 @@
 -- What DELETE and INSERT make of the starts.
-use Rattle.std.proofs.Common.{◌≡◌, ℕ, pos, List, [], ◌∷◌, map, find, Bool, true, false, cond, not, ◌&&◌, Option, option_map, Some, None, Ok, Err, Result, OnOk, IsTrue, refl, sym, ap, subst, subst₂, ◌∙◌, nat_cmp, arith}
-use Rattle.std.specs.List.{AllByRecursion, list_all, filter}
-use Rattle.std.specs.List.Sorted.{IsPermutation}
-use Rattle.std.proofs.lemmas.List.Sorted.{IsPermutation-map}
+use Rattle.std.proofs.Common.{◌≡◌, ℕ, pos, List, [], ◌∷◌, find, Bool, true, false, cond, not, ◌&&◌, Option, option_map, Some, None, Ok, Err, Result, OnOk, IsTrue, refl, sym, ap, subst, ◌∙◌, nat_cmp, arith}
+use Rattle.std.specs.List.{list_all, filter}
 use Rattle.std.specs.Ordering.{is_eq}
 use Rattle.sqlite.specs.declared.types.Value.TheVariants.{Null, Int}
 use Rattle.sqlite.specs.declared.error.Error.{Error}
 use Rattle.sqlite.specs.Order.{Row, column}
 use Rattle.sqlite.specs.Term.{Term, holds}
 use Rattle.sqlite.specs.Table.{Table}
-use Rattle.sqlite.specs.Tree.{rowid, put_row}
-use Rattle.sqlite.specs.Edit.{Applies, edit_of, id_in, is_taken, next_rowid}
-use Rattle.sqlite.specs.Rowids.TheVariants.{Given, Chosen}
-use Rattle.sqlite.specs.Source.TheVariants.{Values}
-use Rattle.sqlite.specs.Command.TheVariants.{Delete, Insert}
-use Rattle.sqlite.specs.Query.{Output, output}
-use Rattle.sqlite.specs.Effect.{Answers}
-use Rattle.sqlite.specs.Does.{Does}
-use Rattle.sqlite.specs.State.{State, mode_of, Executes}
-use Rattle.sqlite.specs.Listing.{understood}
-use Rattle.sqlite.specs.Program.{overlay}
-use Rattle.sqlite.proofs.Callers.{runs_as, statement_of}
-use Rattle.sqlite_rules.specs.Calls.{ids_of}
-use Rattle.sqlite_trees.proofs.ListLemmas.{map-map, filter_same, all_weaker}
+use Rattle.sqlite.specs.Tree.{put_row}
+use Rattle.sqlite.specs.Edit.{is_taken, next_rowid}
+use Rattle.sqlite.specs.State.{State, Executes}
 use Rattle.pw_tariff.specs.declared.ids.AccountId.{AccountId}
 use Rattle.pw_tariff.specs.Cells.{owner_place}
 use Rattle.pw_model.specs.declared.records.Key.TheVariants as key
@@ -30,9 +17,8 @@ use Rattle.pw_model.specs.Counting.{assignment_key}
 use Rattle.pw_model.specs.Same.{same_key}
 use Rattle.pw_model.proofs.Same.{same_key-decides}
 use Rattle.pw_shelf.specs.Changes.{starts_with, with_start}
-use Rattle.pw_schema.specs.Tables.{ours_with, only_one, start_at}
+use Rattle.pw_schema.specs.Tables.{only_one, start_at}
 use Rattle.pw_schema.specs.Rows.{number, owner_at}
-use Rattle.pw_schema.proofs.Steps.{one_delete, one_insert, uncounted}
 use Rattle.pw_store.specs.Content.{energy_in, payment_in, IsReadingRow, IsAssignmentRow, start_in}
 use Rattle.pw_store.specs.inner.Records.{assignment_row}
 use Rattle.pw_store.specs.Keyed.{AreKeyed, IsEnergyRow, IsPaymentRow}
@@ -40,12 +26,13 @@ use Rattle.pw_store.specs.Kept.{IsStore, key_in_point, key_in_start}
 use Rattle.pw_store.specs.inner.Changing.{Makes}
 use Rattle.pw_store.proofs.Texts.{three_terms}
 use Rattle.pw_store.proofs.KeptTexts.{delete_start_text, delete_start_query, delete_start_is, insert_start_text, insert_start_is}
-use Rattle.pw_store.proofs.Scans.{equal_ints, tied, scans, scan_of, outputs, IsScan}
+use Rattle.pw_store.proofs.Scans.{equal_ints, tied}
 use Rattle.pw_store.proofs.Finding.{first, second, same_number, meter_of, second_of}
-use Rattle.pw_store.proofs.Adding.{cast_null, cast_int, owner_back, insert_inside}
+use Rattle.pw_store.proofs.Adding.{cast_null, cast_int, owner_back, insert_inside, was_not}
 use Rattle.pw_store.proofs.StillKept.{keeps_sums}
 use Rattle.pw_store.proofs.Others.{AreElseSame, same_records, store_kept, content_with_start}
-use Rattle.pw_store.proofs.KeptRows.{ids, leaves, find_gone, gone_told, put_told, keyed_gone, keyed_put}
+use Rattle.pw_store.proofs.KeptRows.{find_gone, gone_told, put_told, keyed_gone, keyed_put}
+use Rattle.pw_store.proofs.OneTable.{HasDeleted, HasInserted, deletes, inserts, others_left}
 use Rattle.pw_store.proofs.Taking.{delete_inside, both_true, none_found}
 
 abbrev pub at_key : ℕ → ℕ → Row → Bool
@@ -78,17 +65,6 @@ module _ (m i : ℕ) where
   pub passes_at : (r : Row) → IsAssignmentRow r → passes r ≡ at_key m i r
   passes_at r it = both_true (passes r) (at_key m i r) (λ hit. (same_key-decides (assignment_key m i) (key_in_start r)).1 (hits r it hit)) (λ same. misses r it ((same_key-decides (assignment_key m i) (key_in_start r)).0 same))
 
-  shown_ids : (rows : List Row) → map (λ (o : Output). id_in (rowid o.1)) (map (output (scan_of 9 delete_start_query)) (map (λ row. params m i ∷ row ∷ []) rows)) ≡ ids rows
-  shown_ids [] = refl
-  shown_ids (row ∷ rows) = ap (λ more. id_in (rowid row) ∷ more) (shown_ids rows)
-
-  found : (table rows : List Row) → AllByRecursion IsAssignmentRow table → IsScan (scan_of 9 delete_start_query) (params m i) table rows → IsPermutation (ids (filter (at_key m i) table)) (ids_of rows)
-  found table rows all s =
-      let same = filter_same passes (at_key m i) table (all_weaker IsAssignmentRow (λ row. passes row ≡ at_key m i row) passes_at table all) in
-      let moved = IsPermutation-map (λ (o : Output). id_in (rowid o.1)) (outputs (scan_of 9 delete_start_query) (params m i) table) s.ordered s.same in
-      let last : ids_of rows ≡ map (λ (o : Output). id_in (rowid o.1)) s.ordered = ap ids_of s.shown ∙ map-map (λ r. id_in (rowid r)) (λ (o : Output). o.1) s.ordered in
-      subst₂ IsPermutation (shown_ids (filter passes table) ∙ ap ids same) (sym last) moved
-
 abbrev table : Table
 table = start_at 9
 
@@ -97,18 +73,11 @@ module _ (old new : State) (m i : ℕ) (count : ℕ) (store : IsStore old.now) (
   abbrev own : List Term
   own = only_one
 
-  deleted : (new.now.schema ≡ ours_with own) × ((rows : List Row) × Answers (record { schema = ours_with own; trees = old.now.trees }) (record { lets = []; body = delete_start_query }) (params m i) rows × Applies (ours_with own) (mode_of old).keys old.now.trees (edit_of old.now.trees (uncounted table) (ids_of rows) Given 0 []) new.now.trees)
-  deleted =
-      let w = runs_as delete_start_text (params m i) old new (ours_with own) store.ours (Delete 5 (record { lets = []; body = delete_start_query })) (delete_start_is.is own) (delete_start_is.plain own) count h in
-      let text = statement_of delete_start_text (understood (ours_with own) delete_start_text) in
-      one_delete old.step_limit (mode_of old).keys (ours_with own) table (params m i) (mode_of old) old.now.trees 5 (record { lets = []; body = delete_start_query }) w.tally new.now (λ _. refl)
-      (subst (λ s. Does old.step_limit (mode_of old) (params m i) (record old.now { schema = s }) text None (Delete 5 (record { lets = []; body = delete_start_query })) (Ok (w.tally, new.now))) store.ours w.changed)
+  deleted : HasDeleted table delete_start_query.filter (params m i) old new
+  deleted = deletes delete_start_text 5 (params m i) old new store.ours count h table delete_start_query.filter delete_start_is (λ out does. does) (λ _. refl)
 
   left : new.now.trees 9 ≡ filter (λ row. not (at_key m i row)) (old.now.trees 9)
-  left =
-      let it = deleted.1 in
-      let scan = scans 9 delete_start_query (overlay old.now.trees []) (params m i) it.0 (it.1.answer Null) in
-      it.2.rows ∙ leaves (at_key m i) (old.now.trees 9) (ids_of it.0) store.starts.numbered store.starts.ids (found m i (old.now.trees 9) it.0 store.starts.each scan)
+  left = others_left table delete_start_query.filter (params m i) IsAssignmentRow (at_key m i) (passes_at m i) key_in_start old new deleted store.starts
 
   others : AreElseSame own 9 old.now.trees new.now.trees
   others = deleted.1.2.tables
@@ -139,19 +108,11 @@ module _ (old new : State) (m i : ℕ) (o : Option AccountId) (count : ℕ) (sto
   abbrev given : Row
   given = assignment_row m i (owner_place o)
 
-  inserted : (new.now.schema ≡ ours_with checks) × Applies (ours_with checks) (mode_of old).keys old.now.trees (edit_of old.now.trees (uncounted table) [] Chosen 0 ((Null ∷ assignment_row m i (owner_place o)) ∷ [])) new.now.trees
-  inserted =
-      let w = runs_as insert_start_text given old new (ours_with checks) store.ours (Insert 5 (Values three_terms 4)) (insert_start_is.is checks) (insert_start_is.plain checks) count h in
-      let text = statement_of insert_start_text (understood (ours_with checks) insert_start_text) in
-      one_insert old.step_limit (mode_of old).keys (ours_with checks) table given (mode_of old) old.now.trees 5 4 three_terms ((Null ∷ assignment_row m i (owner_place o)) ∷ []) w.tally new.now refl (λ _. refl)
-      (subst (λ s. Does old.step_limit (mode_of old) given (record old.now { schema = s }) text None (Insert 5 (Values three_terms 4)) (Ok (w.tally, new.now))) store.ours w.changed)
+  inserted : HasInserted table (Null ∷ given) old new
+  inserted = inserts insert_start_text 5 given old new store.ours count h table 4 three_terms (Null ∷ given) insert_start_is (λ out does. does) (λ _. refl) refl
 
   abbrev row : Row
   row = Int (next_rowid (old.now.trees 9)) ∷ given
-
-  was_not : (b : Bool) → not b ≡ true → b ≡ false
-  was_not true e = absurd (let f : true ≡ false = sym e in cc)
-  was_not false e = refl
 
   free : is_taken (old.now.trees 9) row ≡ false
   free = let fresh = rw cast_null at inserted.1.fresh in was_not _ (first _ _ fresh)

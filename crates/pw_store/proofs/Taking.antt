@@ -11,7 +11,7 @@ use Rattle.sqlite.proofs.Callers.{command_of, runs_as}
 use Rattle.pw_schema.specs.Calls.{Writes}
 use Rattle.pw_schema.specs.Tables.{ours_with, only_one, IsOurs}
 use Rattle.pw_schema.proofs.Outcomes.{keeps_commit}
-use Rattle.pw_store.proofs.Adding.{insert_fails}
+use Rattle.pw_store.proofs.Adding.{execute_fails}
 use Rattle.pw_store.proofs.KeptTexts.{IsDelete}
 
 pub delete_inside : (text : List ℕ) (at : ℕ) (q : Query) → IsDelete text at q → (old new : State) → IsOurs old.now.schema → (params : Row) (count : ℕ) → Executes text params old new (Ok count) → IsTrue old.in_transaction → Shows old new new.now old.committed true
@@ -27,7 +27,7 @@ delete_survives text at q it old new params ours inside =
 
 pub deletes_if : (text : List ℕ) (at : ℕ) (q : Query) → IsDelete text at q → (old new : State) (params : Row) (r : Result ℕ Error) → (HasCleanDisk old → IsOurs old.now.schema) → (HasCleanDisk old → IsTrue old.in_transaction) → (HasCleanDisk new → Executes text params old new r) → Survives old new (CommitsBy text params old) → Writes r old new
 deletes_if text at q it old new params r ours inside runs s = record {
-  failed = λ clean. insert_fails text old new params r (runs clean);
+  failed = λ clean. execute_fails text old new params r (runs clean);
   crash = delete_survives text at q it old new params ours inside s;
 }
 

@@ -15,7 +15,8 @@ use Rattle.sqlite.proofs.Callers.{IsPlain, command_of}
 use Rattle.pw_schema.specs.Tables.{ours_with}
 
 -- a text that is this query over our tables
-pub record IsQuery (text : List ℕ) (q : Query) (names : List (List ℕ)) : Type 0 where
+pub record IsQuery (text : List ℕ) (q : Query) : Type 0 where
+  pub names : List (List ℕ)
   pub is : (checks : List Term) → command_of (understood (ours_with checks) text) ≡ Select (record { lets = []; body = q }) names
   pub unlisted : (checks : List Term) → reads_listing (ours_with checks) text ≡ false
   pub plain : (checks : List Term) → IsPlain (understood (ours_with checks) text)
@@ -25,11 +26,11 @@ pub record IsInsert (text : List ℕ) (at width : ℕ) (terms : List Term) : Typ
   pub is : (checks : List Term) → command_of (understood (ours_with checks) text) ≡ Insert at (Values terms width)
   pub plain : (checks : List Term) → IsPlain (understood (ours_with checks) text)
 
-abbrev eq : ℕ → ℕ → Term
+abbrev pub eq : ℕ → ℕ → Term
 eq at param = op2 (Compare Eq Binary) (col 1 at) (col 0 param)
 
-abbrev by : Key
-by = record { collation = Binary; descending = false }
+abbrev pub up : Key
+up = record { collation = Binary; descending = false }
 
 abbrev pub plain_query : ℕ → List Term → List Term → Query
 plain_query tree filter project = record {
@@ -79,9 +80,9 @@ has_topup_text = codes "SELECT account FROM record_topup WHERE reference = ?1 AN
 abbrev pub has_topup_query : Query
 has_topup_query = plain_query 5 (eq 1 0 ∷ eq 2 1 ∷ eq 3 2 ∷ eq 4 3 ∷ []) (col 1 2 ∷ [])
 
-pub has_topup_is : IsQuery has_topup_text has_topup_query (codes "account" ∷ [])
+pub has_topup_is : IsQuery has_topup_text has_topup_query
 unfolding understood everything
-has_topup_is = record { is = λ checks. refl; unlisted = λ checks. refl; plain = λ checks. (refl, refl) }
+has_topup_is = record { names = codes "account" ∷ []; is = λ checks. refl; unlisted = λ checks. refl; plain = λ checks. (refl, refl) }
 
 -- ---- what is told of a key
 abbrev pub topup_at_text : List ℕ
@@ -90,40 +91,9 @@ topup_at_text = codes "SELECT account, cents, instant FROM record_topup WHERE re
 abbrev pub topup_at_query : Query
 topup_at_query = record (plain_query 5 (eq 1 0 ∷ []) (col 1 2 ∷ col 1 3 ∷ col 1 4 ∷ [])) { limit = lit (Int (pos 2)) }
 
-pub topup_at_is : IsQuery topup_at_text topup_at_query (codes "account" ∷ codes "cents" ∷ codes "instant" ∷ [])
+pub topup_at_is : IsQuery topup_at_text topup_at_query
 unfolding understood everything
-topup_at_is = record { is = λ checks. refl; unlisted = λ checks. refl; plain = λ checks. (refl, refl) }
-
--- ---- lists, in order
-abbrev pub topups_text : List ℕ
-topups_text = codes "SELECT reference, account, cents, instant FROM record_topup ORDER BY reference, account, cents, instant"
-
-abbrev pub topups_query : Query
-topups_query = record (plain_query 5 [] (col 1 1 ∷ col 1 2 ∷ col 1 3 ∷ col 1 4 ∷ [])) { order = (col 1 1, by) ∷ (col 1 2, by) ∷ (col 1 3, by) ∷ (col 1 4, by) ∷ [] }
-
-pub topups_is : IsQuery topups_text topups_query (codes "reference" ∷ codes "account" ∷ codes "cents" ∷ codes "instant" ∷ [])
-unfolding understood everything
-topups_is = record { is = λ checks. refl; unlisted = λ checks. refl; plain = λ checks. (refl, refl) }
-
-abbrev pub all_readings_text : List ℕ
-all_readings_text = codes "SELECT meter, register, instant, wh FROM record_reading ORDER BY meter, register, instant, wh"
-
-abbrev pub all_readings_query : Query
-all_readings_query = record (plain_query 1 [] (col 1 1 ∷ col 1 2 ∷ col 1 3 ∷ col 1 4 ∷ [])) { order = (col 1 1, by) ∷ (col 1 2, by) ∷ (col 1 3, by) ∷ (col 1 4, by) ∷ [] }
-
-pub all_readings_is : IsQuery all_readings_text all_readings_query (codes "meter" ∷ codes "register" ∷ codes "instant" ∷ codes "wh" ∷ [])
-unfolding understood everything
-all_readings_is = record { is = λ checks. refl; unlisted = λ checks. refl; plain = λ checks. (refl, refl) }
-
-abbrev pub all_assignments_text : List ℕ
-all_assignments_text = codes "SELECT meter, start, owner FROM record_assignment ORDER BY meter, start, owner"
-
-abbrev pub all_assignments_query : Query
-all_assignments_query = record (plain_query 3 [] (col 1 1 ∷ col 1 2 ∷ col 1 3 ∷ [])) { order = (col 1 1, by) ∷ (col 1 2, by) ∷ (col 1 3, by) ∷ [] }
-
-pub all_assignments_is : IsQuery all_assignments_text all_assignments_query (codes "meter" ∷ codes "start" ∷ codes "owner" ∷ [])
-unfolding understood everything
-all_assignments_is = record { is = λ checks. refl; unlisted = λ checks. refl; plain = λ checks. (refl, refl) }
+topup_at_is = record { names = codes "account" ∷ codes "cents" ∷ codes "instant" ∷ []; is = λ checks. refl; unlisted = λ checks. refl; plain = λ checks. (refl, refl) }
 
 abbrev pub office_text : List ℕ
 office_text = codes "SELECT version, body FROM office WHERE id = 1"
@@ -137,9 +107,9 @@ has_reading_text = codes "SELECT wh FROM record_reading WHERE meter = ?1 AND reg
 abbrev pub has_reading_query : Query
 has_reading_query = plain_query 1 (eq 1 0 ∷ eq 2 1 ∷ eq 3 2 ∷ eq 4 3 ∷ []) (col 1 4 ∷ [])
 
-pub has_reading_is : IsQuery has_reading_text has_reading_query (codes "wh" ∷ [])
+pub has_reading_is : IsQuery has_reading_text has_reading_query
 unfolding understood everything
-has_reading_is = record { is = λ checks. refl; unlisted = λ checks. refl; plain = λ checks. (refl, refl) }
+has_reading_is = record { names = codes "wh" ∷ []; is = λ checks. refl; unlisted = λ checks. refl; plain = λ checks. (refl, refl) }
 
 abbrev pub has_assignment_text : List ℕ
 has_assignment_text = codes "SELECT owner FROM record_assignment WHERE meter = ?1 AND start = ?2 AND owner = ?3"
@@ -147,32 +117,30 @@ has_assignment_text = codes "SELECT owner FROM record_assignment WHERE meter = ?
 abbrev pub has_assignment_query : Query
 has_assignment_query = plain_query 3 (eq 1 0 ∷ eq 2 1 ∷ eq 3 2 ∷ []) (col 1 3 ∷ [])
 
-pub has_assignment_is : IsQuery has_assignment_text has_assignment_query (codes "owner" ∷ [])
+pub has_assignment_is : IsQuery has_assignment_text has_assignment_query
 unfolding understood everything
-has_assignment_is = record { is = λ checks. refl; unlisted = λ checks. refl; plain = λ checks. (refl, refl) }
+has_assignment_is = record { names = codes "owner" ∷ []; is = λ checks. refl; unlisted = λ checks. refl; plain = λ checks. (refl, refl) }
 
-abbrev pub count_text : List ℕ
-count_text = codes "SELECT count(*) FROM record_topup"
-
+-- ---- lists, in order
 abbrev pub list_readings_text : List ℕ
 list_readings_text = codes "SELECT meter, register, instant, wh FROM record_reading WHERE meter = ?1 AND register = ?2 ORDER BY instant, wh"
 
 abbrev pub list_readings_query : Query
-list_readings_query = record (plain_query 1 (eq 1 0 ∷ eq 2 1 ∷ []) (col 1 1 ∷ col 1 2 ∷ col 1 3 ∷ col 1 4 ∷ [])) { order = (col 1 3, by) ∷ (col 1 4, by) ∷ [] }
+list_readings_query = record (plain_query 1 (eq 1 0 ∷ eq 2 1 ∷ []) (col 1 1 ∷ col 1 2 ∷ col 1 3 ∷ col 1 4 ∷ [])) { order = (col 1 3, up) ∷ (col 1 4, up) ∷ [] }
 
-pub list_readings_is : IsQuery list_readings_text list_readings_query (codes "meter" ∷ codes "register" ∷ codes "instant" ∷ codes "wh" ∷ [])
+pub list_readings_is : IsQuery list_readings_text list_readings_query
 unfolding understood everything
-list_readings_is = record { is = λ checks. refl; unlisted = λ checks. refl; plain = λ checks. (refl, refl) }
+list_readings_is = record { names = codes "meter" ∷ codes "register" ∷ codes "instant" ∷ codes "wh" ∷ []; is = λ checks. refl; unlisted = λ checks. refl; plain = λ checks. (refl, refl) }
 
 abbrev pub list_assignments_text : List ℕ
 list_assignments_text = codes "SELECT meter, start, owner FROM record_assignment WHERE meter = ?1 ORDER BY start, owner"
 
 abbrev pub list_assignments_query : Query
-list_assignments_query = record (plain_query 3 (eq 1 0 ∷ []) (col 1 1 ∷ col 1 2 ∷ col 1 3 ∷ [])) { order = (col 1 2, by) ∷ (col 1 3, by) ∷ [] }
+list_assignments_query = record (plain_query 3 (eq 1 0 ∷ []) (col 1 1 ∷ col 1 2 ∷ col 1 3 ∷ [])) { order = (col 1 2, up) ∷ (col 1 3, up) ∷ [] }
 
-pub list_assignments_is : IsQuery list_assignments_text list_assignments_query (codes "meter" ∷ codes "start" ∷ codes "owner" ∷ [])
+pub list_assignments_is : IsQuery list_assignments_text list_assignments_query
 unfolding understood everything
-list_assignments_is = record { is = λ checks. refl; unlisted = λ checks. refl; plain = λ checks. (refl, refl) }
+list_assignments_is = record { names = codes "meter" ∷ codes "start" ∷ codes "owner" ∷ []; is = λ checks. refl; unlisted = λ checks. refl; plain = λ checks. (refl, refl) }
 
 abbrev pub reading_at_text : List ℕ
 reading_at_text = codes "SELECT wh FROM record_reading WHERE meter = ?1 AND register = ?2 AND instant = ?3 LIMIT 2"
@@ -180,9 +148,9 @@ reading_at_text = codes "SELECT wh FROM record_reading WHERE meter = ?1 AND regi
 abbrev pub reading_at_query : Query
 reading_at_query = record (plain_query 1 (eq 1 0 ∷ eq 2 1 ∷ eq 3 2 ∷ []) (col 1 4 ∷ [])) { limit = lit (Int (pos 2)) }
 
-pub reading_at_is : IsQuery reading_at_text reading_at_query (codes "wh" ∷ [])
+pub reading_at_is : IsQuery reading_at_text reading_at_query
 unfolding understood everything
-reading_at_is = record { is = λ checks. refl; unlisted = λ checks. refl; plain = λ checks. (refl, refl) }
+reading_at_is = record { names = codes "wh" ∷ []; is = λ checks. refl; unlisted = λ checks. refl; plain = λ checks. (refl, refl) }
 
 abbrev pub assignment_at_text : List ℕ
 assignment_at_text = codes "SELECT owner FROM record_assignment WHERE meter = ?1 AND start = ?2 LIMIT 2"
@@ -190,6 +158,6 @@ assignment_at_text = codes "SELECT owner FROM record_assignment WHERE meter = ?1
 abbrev pub assignment_at_query : Query
 assignment_at_query = record (plain_query 3 (eq 1 0 ∷ eq 2 1 ∷ []) (col 1 3 ∷ [])) { limit = lit (Int (pos 2)) }
 
-pub assignment_at_is : IsQuery assignment_at_text assignment_at_query (codes "owner" ∷ [])
+pub assignment_at_is : IsQuery assignment_at_text assignment_at_query
 unfolding understood everything
-assignment_at_is = record { is = λ checks. refl; unlisted = λ checks. refl; plain = λ checks. (refl, refl) }
+assignment_at_is = record { names = codes "owner" ∷ []; is = λ checks. refl; unlisted = λ checks. refl; plain = λ checks. (refl, refl) }

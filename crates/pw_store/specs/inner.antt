@@ -4,5 +4,6 @@ pub mod Opened
 pub mod Changing
 pub mod Seconds
 pub mod Sums
+pub mod Listings
 pub mod Truth
 pub mod Scanning

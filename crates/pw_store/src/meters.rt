@@ -1,19 +1,18 @@
 //! Readings and assignments, each added by its own text.
 
-ghost use Rattle.std.specs.Prelude.{◌≡◌, ◌<◌, ◌↔◌, OnOk, IfOk, IsTrue, length, map, true};
+ghost use Rattle.std.specs.Prelude.{◌≡◌, ◌<◌, ◌↔◌, OnOk, IfOk, IsTrue, length, map};
 ghost use Rattle.sqlite.specs.Held.{state};
-ghost use Rattle.sqlite.specs.State.{HasCleanDisk, Shows};
+ghost use Rattle.sqlite.specs.State.{HasCleanDisk};
 ghost use Rattle.pw_model.specs.Counting.{Member, contents_at};
 ghost use Rattle.pw_shelf.specs.Rows.{IsAssignmentOf, IsReadingOf};
 ghost use Rattle.pw_store.specs.Kept.{IsStore};
-ghost use Rattle.pw_store.specs.inner.Changing.{StillKeeps};
+ghost use Rattle.pw_store.specs.inner.Changing.{Adds};
 ghost use Rattle.pw_store.specs.inner.Lists.{ShowsKept};
 ghost use Rattle.pw_schema.specs.Rows.{contents_of, told_content};
 ghost use Rattle.pw_model.specs.declared.records.Key.TheVariants as key;
-ghost use Rattle.pw_shelf.specs.State.{IsWithRecord};
 ghost use Rattle.pw_schema.specs.Calls.{Writes};
 ghost use Rattle.pw_schema.specs.inner.Calls.{Asks};
-ghost use Rattle.pw_store.specs.Content.{content_of, records_of};
+ghost use Rattle.pw_store.specs.Content.{records_of};
 ghost use Rattle.pw_store.specs.inner.Records.{reading_entry, assignment_entry};
 
 use pw_obis::{Register, WattHours};
@@ -33,10 +32,7 @@ pub(crate) fn add_reading<S: Alter>(
     requires inside { HasCleanDisk (state S.Store conn.old) → IsTrue (state S.Store conn.old).in_transaction }
     requires store { HasCleanDisk (state S.Store conn.old) → IsStore (state S.Store conn.old).now }
     requires fresh { HasCleanDisk (state S.Store conn.old) → Member (reading_entry meter register instant wh) (records_of (state S.Store conn.old).now.trees) → ⊥ }
-    ensures store { HasCleanDisk (state S.Store conn.new) → OnOk result (IsStore (state S.Store conn.new).now) }
-    ensures keeps { HasCleanDisk (state S.Store conn.new) → OnOk result (StillKeeps (state S.Store conn.old).now.trees (state S.Store conn.new).now.trees) }
-    ensures added { HasCleanDisk (state S.Store conn.new) → OnOk result (IsWithRecord (content_of (state S.Store conn.old).now.trees) (reading_entry meter register instant wh) (content_of (state S.Store conn.new).now.trees)) }
-    ensures inside { HasCleanDisk (state S.Store conn.new) → OnOk result (Shows (state S.Store conn.old) (state S.Store conn.new) (state S.Store conn.new).now (state S.Store conn.old).committed true) }
+    ensures done { HasCleanDisk (state S.Store conn.new) → OnOk result (Adds (reading_entry meter register instant wh) (state S.Store conn.old) (state S.Store conn.new)) }
     ensures writes { Writes result (state S.Store conn.old) (state S.Store conn.new) }
 {
     conn.execute(
@@ -60,10 +56,7 @@ pub(crate) fn add_assignment<S: Alter>(
     requires inside { HasCleanDisk (state S.Store conn.old) → IsTrue (state S.Store conn.old).in_transaction }
     requires store { HasCleanDisk (state S.Store conn.old) → IsStore (state S.Store conn.old).now }
     requires fresh { HasCleanDisk (state S.Store conn.old) → Member (assignment_entry meter start owner) (records_of (state S.Store conn.old).now.trees) → ⊥ }
-    ensures store { HasCleanDisk (state S.Store conn.new) → OnOk result (IsStore (state S.Store conn.new).now) }
-    ensures keeps { HasCleanDisk (state S.Store conn.new) → OnOk result (StillKeeps (state S.Store conn.old).now.trees (state S.Store conn.new).now.trees) }
-    ensures added { HasCleanDisk (state S.Store conn.new) → OnOk result (IsWithRecord (content_of (state S.Store conn.old).now.trees) (assignment_entry meter start owner) (content_of (state S.Store conn.new).now.trees)) }
-    ensures inside { HasCleanDisk (state S.Store conn.new) → OnOk result (Shows (state S.Store conn.old) (state S.Store conn.new) (state S.Store conn.new).now (state S.Store conn.old).committed true) }
+    ensures done { HasCleanDisk (state S.Store conn.new) → OnOk result (Adds (assignment_entry meter start owner) (state S.Store conn.old) (state S.Store conn.new)) }
     ensures writes { Writes result (state S.Store conn.old) (state S.Store conn.new) }
 {
     conn.execute(

@@ -14,11 +14,12 @@ ghost use Rattle.pw_schema.specs.Tables.{BeginsAsOurs, IsOurs, no_schema};
 ghost use Rattle.pw_store.specs.Left.{MayBeNew};
 ghost use Rattle.pw_store.specs.Opening.{BegunRefuses, HoldsAllRecords, HoldsOurs, HoldsRecords, KeepsText, Refuses, offices};
 ghost use Rattle.pw_store.specs.Shown.{entries_of};
-ghost use Rattle.pw_store.specs.inner.Opened.{IsOpened, IsSettled, MayOpen, RecordsRefuse, RowRefuses, TableRefuses, VersionRefuses};
+ghost use Rattle.pw_store.specs.inner.Opened.{IsOpened, IsSettled, MayOpen, RefusesUnless, RowRefuses, VersionRefuses};
 
 use crate::fault::{OpenFault, fault_in};
+use crate::listings::{Listing, judge_listing};
+use crate::office::office_rows;
 use crate::sums::read_sums;
-use crate::tables::{all_assignments, all_readings, all_topups, office_rows};
 use crate::truth::parts_of;
 use crate::waking::wake;
 use crate::watch::{Part, Watch};
@@ -29,7 +30,7 @@ use pw_schema::{
 };
 use pw_tariff::Office;
 use sqlite::{Alter, Connection, Error, Row};
-use std::alloc::{AllocError, Global};
+use std::alloc::Global;
 
 // Why the row of `office` refuses an opening.
 fn fault_of_office(fault: OfficeFault) -> OpenFault
@@ -54,21 +55,12 @@ fn settle<S: Alter>(conn: &mut Connection<S>) -> Result<(), Error>
     wake(conn, true)
 }
 
-// Three lists, one behind the other.
-fn joined(
-    readings: Vec<Entry>,
-    assignments: Vec<Entry>,
-    topups: Vec<Entry>,
-) -> Result<Vec<Entry>, AllocError>
-    ensures { IfOk result (λ all. all.items ≡ readings.items ++ (assignments.items ++ topups.items)) }
-{
-    let mut all = readings;
-    let mut second = assignments;
-    let mut third = topups;
-    all.append(&mut second)?;
-    all.append(&mut third)?;
-    Ok(all)
-}
+// The kinds of records in their order, each with the part of an opening that checks it.
+const KINDS: [(RecordKind, Part); 3] = [
+    (RecordKind::Readings, Part::Readings),
+    (RecordKind::Assignments, Part::Assignments),
+    (RecordKind::TopUps, Part::TopUps),
+];
 
 // The records of the three tables, judged.
 fn check_records<S: Alter, W: Watch>(
@@ -77,87 +69,45 @@ fn check_records<S: Alter, W: Watch>(
     office: &Office,
     watch: &mut W,
 ) -> Result<Vec<Entry>, OpenFault>
+    requires is_open { HasCleanDisk (state S.Store conn.old) → IsTrue (state S.Store conn.old).is_open }
     requires ours { HasCleanDisk (state S.Store conn.old) → IsOurs (state S.Store conn.old).now.schema }
     ensures sound { HasCleanDisk (state S.Store conn.new) → OnOk result (HoldsAllRecords (office_of office.now) (state S.Store conn.old).now.trees) }
     ensures listed { HasCleanDisk (state S.Store conn.new) → IfOk result (λ found. IsPermutation (records_of (state S.Store conn.old).now.trees) found.items) }
     ensures of_office { IfOk result (λ found. AllOfOffice (office_of office.now) found.items) }
-    ensures cause { HasCleanDisk (state S.Store conn.new) → IfErr result (RecordsRefuse (office_of office.now) (state S.Store conn.old).now.trees) }
+    ensures cause { HasCleanDisk (state S.Store conn.new) → IfErr result (RefusesUnless (HoldsAllRecords (office_of office.now) (state S.Store conn.old).now.trees)) }
     ensures looks { Looks result (state S.Store conn.old) (state S.Store conn.new) }
 {
-    let readings = match check_readings(alloc, conn, office) {
-        Ok(readings) => readings,
-        Err(fault) => return Err(fault),
-    };
-    watch.checked(Part::Readings, readings.len());
-    let assignments = match check_assignments(alloc, conn, office) {
-        Ok(assignments) => assignments,
-        Err(fault) => return Err(fault),
-    };
-    watch.checked(Part::Assignments, assignments.len());
-    let topups = match check_topups(alloc, conn, office) {
-        Ok(topups) => topups,
-        Err(fault) => return Err(fault),
-    };
-    watch.checked(Part::TopUps, topups.len());
-    match joined(readings, assignments, topups) {
-        Ok(all) => Ok(all),
-        Err(_) => Err(OpenFault::Memory),
+    let mut all = Vec::new(alloc);
+    for (kind, part) in &KINDS {
+        let mut found = match check_kind(alloc, conn, office, *kind) {
+            Ok(found) => found,
+            Err(fault) => return Err(fault),
+        };
+        watch.checked(*part, found.len());
+        if all.append(&mut found).is_err() {
+            return Err(OpenFault::Memory);
+        }
     }
+    Ok(all)
 }
 
-fn check_readings<S: Alter>(
+// The records of a kind, judged.
+fn check_kind<S: Alter>(
     alloc: Global,
     conn: &mut Connection<S>,
     office: &Office,
+    kind: RecordKind,
 ) -> Result<Vec<Entry>, OpenFault>
     requires ours { HasCleanDisk (state S.Store conn.old) → IsOurs (state S.Store conn.old).now.schema }
-    ensures good { HasCleanDisk (state S.Store conn.new) → OnOk result (HoldsRecords (office_of office.now) RecordKind.Readings (state S.Store conn.old).now.trees) }
-    ensures listed { HasCleanDisk (state S.Store conn.new) → IfOk result (λ found. IsPermutation (entries_of RecordKind.Readings (state S.Store conn.old).now.trees) found.items) }
+    ensures good { HasCleanDisk (state S.Store conn.new) → OnOk result (HoldsRecords (office_of office.now) kind (state S.Store conn.old).now.trees) }
+    ensures listed { HasCleanDisk (state S.Store conn.new) → IfOk result (λ found. IsPermutation (entries_of kind (state S.Store conn.old).now.trees) found.items) }
     ensures of_office { IfOk result (λ found. AllOfOffice (office_of office.now) found.items) }
-    ensures cause { HasCleanDisk (state S.Store conn.new) → IfErr result (TableRefuses (office_of office.now) RecordKind.Readings (state S.Store conn.old).now.trees) }
+    ensures cause { HasCleanDisk (state S.Store conn.new) → IfErr result (RefusesUnless (HoldsRecords (office_of office.now) kind (state S.Store conn.old).now.trees)) }
     ensures looks { Looks result (state S.Store conn.old) (state S.Store conn.new) }
 {
-    let mut readings = Records::new(alloc, office, RecordKind::Readings);
-    match all_readings(conn, &mut readings) {
-        Ok(_) => Ok(readings.into_entries()),
-        Err(fault) => Err(fault),
-    }
-}
-
-fn check_assignments<S: Alter>(
-    alloc: Global,
-    conn: &mut Connection<S>,
-    office: &Office,
-) -> Result<Vec<Entry>, OpenFault>
-    requires ours { HasCleanDisk (state S.Store conn.old) → IsOurs (state S.Store conn.old).now.schema }
-    ensures good { HasCleanDisk (state S.Store conn.new) → OnOk result (HoldsRecords (office_of office.now) RecordKind.Assignments (state S.Store conn.old).now.trees) }
-    ensures listed { HasCleanDisk (state S.Store conn.new) → IfOk result (λ found. IsPermutation (entries_of RecordKind.Assignments (state S.Store conn.old).now.trees) found.items) }
-    ensures of_office { IfOk result (λ found. AllOfOffice (office_of office.now) found.items) }
-    ensures cause { HasCleanDisk (state S.Store conn.new) → IfErr result (TableRefuses (office_of office.now) RecordKind.Assignments (state S.Store conn.old).now.trees) }
-    ensures looks { Looks result (state S.Store conn.old) (state S.Store conn.new) }
-{
-    let mut assignments = Records::new(alloc, office, RecordKind::Assignments);
-    match all_assignments(conn, &mut assignments) {
-        Ok(_) => Ok(assignments.into_entries()),
-        Err(fault) => Err(fault),
-    }
-}
-
-fn check_topups<S: Alter>(
-    alloc: Global,
-    conn: &mut Connection<S>,
-    office: &Office,
-) -> Result<Vec<Entry>, OpenFault>
-    requires ours { HasCleanDisk (state S.Store conn.old) → IsOurs (state S.Store conn.old).now.schema }
-    ensures good { HasCleanDisk (state S.Store conn.new) → OnOk result (HoldsRecords (office_of office.now) RecordKind.TopUps (state S.Store conn.old).now.trees) }
-    ensures listed { HasCleanDisk (state S.Store conn.new) → IfOk result (λ found. IsPermutation (entries_of RecordKind.TopUps (state S.Store conn.old).now.trees) found.items) }
-    ensures of_office { IfOk result (λ found. AllOfOffice (office_of office.now) found.items) }
-    ensures cause { HasCleanDisk (state S.Store conn.new) → IfErr result (TableRefuses (office_of office.now) RecordKind.TopUps (state S.Store conn.old).now.trees) }
-    ensures looks { Looks result (state S.Store conn.old) (state S.Store conn.new) }
-{
-    let mut topups = Records::new(alloc, office, RecordKind::TopUps);
-    match all_topups(conn, &mut topups) {
-        Ok(_) => Ok(topups.into_entries()),
+    let mut records = Records::new(alloc, office, kind);
+    match judge_listing(conn, Listing::Records(kind), &mut records) {
+        Ok(_) => Ok(records.into_entries()),
         Err(fault) => Err(fault),
     }
 }

@@ -1,21 +1,21 @@
 //! Top-ups, each statement run by its own text.
 
-ghost use Rattle.std.specs.Prelude.{◌≡◌, ◌<◌, OnOk, IfOk, IsTrue, ◌↔◌, length, map, true};
+ghost use Rattle.std.specs.Prelude.{◌≡◌, ◌<◌, OnOk, IfOk, IsTrue, ◌↔◌, length, map};
 ghost use Rattle.sqlite.specs.Held.{state};
-ghost use Rattle.sqlite.specs.State.{HasCleanDisk, Shows};
+ghost use Rattle.sqlite.specs.State.{HasCleanDisk};
 ghost use Rattle.pw_model.specs.Counting.{Member, contents_at};
 ghost use Rattle.pw_model.specs.declared.records.Key.TheVariants as key;
 ghost use Rattle.pw_store.specs.Kept.{IsStore};
-ghost use Rattle.pw_store.specs.inner.Changing.{StillKeeps};
+ghost use Rattle.pw_store.specs.inner.Changing.{Adds};
 ghost use Rattle.pw_schema.specs.Tables.{IsOurs};
-ghost use Rattle.pw_shelf.specs.State.{IsWithRecord};
 ghost use Rattle.pw_schema.specs.Calls.{Writes};
 ghost use Rattle.pw_schema.specs.inner.Calls.{Asks};
-ghost use Rattle.pw_store.specs.Content.{content_of, records_of};
+ghost use Rattle.pw_store.specs.Content.{records_of};
 ghost use Rattle.pw_store.specs.inner.Records.{topup_entry};
-ghost use Rattle.pw_store.specs.inner.Lists.{ShowsAll};
+ghost use Rattle.pw_store.specs.inner.Listings.{ShowsAll};
 ghost use Rattle.pw_schema.specs.Rows.{contents_of, told_content};
 
+use crate::listings::Listing;
 use pw_model::Reference;
 use pw_schema::{RecordKind, integer, words};
 use pw_tariff::AccountId;
@@ -33,10 +33,7 @@ pub(crate) fn add_topup<S: Alter>(
     requires inside { HasCleanDisk (state S.Store conn.old) → IsTrue (state S.Store conn.old).in_transaction }
     requires store { HasCleanDisk (state S.Store conn.old) → IsStore (state S.Store conn.old).now }
     requires fresh { HasCleanDisk (state S.Store conn.old) → Member (topup_entry reference.now account cents instant) (records_of (state S.Store conn.old).now.trees) → ⊥ }
-    ensures store { HasCleanDisk (state S.Store conn.new) → OnOk result (IsStore (state S.Store conn.new).now) }
-    ensures keeps { HasCleanDisk (state S.Store conn.new) → OnOk result (StillKeeps (state S.Store conn.old).now.trees (state S.Store conn.new).now.trees) }
-    ensures added { HasCleanDisk (state S.Store conn.new) → OnOk result (IsWithRecord (content_of (state S.Store conn.old).now.trees) (topup_entry reference.now account cents instant) (content_of (state S.Store conn.new).now.trees)) }
-    ensures inside { HasCleanDisk (state S.Store conn.new) → OnOk result (Shows (state S.Store conn.old) (state S.Store conn.new) (state S.Store conn.new).now (state S.Store conn.old).committed true) }
+    ensures done { HasCleanDisk (state S.Store conn.new) → OnOk result (Adds (topup_entry reference.now account cents instant) (state S.Store conn.old) (state S.Store conn.new)) }
     ensures writes { Writes result (state S.Store conn.old) (state S.Store conn.new) }
 {
     conn.execute(
@@ -53,13 +50,10 @@ pub(crate) fn add_topup<S: Alter>(
 /// All top-ups, in order.
 pub(crate) fn topup_rows<S: Alter>(conn: &mut Connection<S>) -> Result<Vec<Row>, Error>
     requires ours { HasCleanDisk (state S.Store conn.old) → IsOurs (state S.Store conn.old).now.schema }
-    ensures rows { HasCleanDisk (state S.Store conn.new) → IfOk result (λ rows. ShowsAll RecordKind.TopUps (state S.Store conn.old).now.trees rows.items) }
+    ensures rows { HasCleanDisk (state S.Store conn.new) → IfOk result (λ rows. ShowsAll (Listing.Records RecordKind.TopUps) (state S.Store conn.old).now.trees rows.items) }
     ensures asks { Asks result (state S.Store conn.old) (state S.Store conn.new) }
 {
-    conn.query_all(
-        "SELECT reference, account, cents, instant FROM record_topup ORDER BY reference, account, cents, instant",
-        &[],
-    )
+    conn.query_all(Listing::Records(RecordKind::TopUps).text(), &[])
 }
 
 // Rows for a top-up, if it is held.

@@ -4,9 +4,11 @@
 use Rattle.std.specs.Prelude.{◌≡◌, ◌<◌, ◌^◌, Some, None, true}
 use Rattle.sqlite.specs.Tree.{Trees}
 use Rattle.sqlite.specs.State.{State, Shows}
+use Rattle.pw_model.specs.declared.records.Entry.{Entry}
 use Rattle.pw_model.specs.declared.records.TotalKey.TheVariants as total
 use Rattle.pw_model.specs.Shelf.{ShelfContent}
 use Rattle.pw_shelf.specs.Changes.{with_point, with_start, with_total}
+use Rattle.pw_shelf.specs.State.{IsWithRecord}
 use Rattle.pw_store.specs.declared.changes.Change.{Change}
 use Rattle.pw_store.specs.declared.changes.Change.TheVariants.{TakePoint, PutPoint, TakeStart, PutStart, TakeEnergy, PutEnergy, TakePayment, PutPayment}
 use Rattle.pw_store.specs.Content.{content_of, point_in, start_in, energy_told, payment_told, point_tree, start_tree, total_tree, payment_tree}
@@ -22,6 +24,13 @@ pub record Makes (made : ShelfContent → ShelfContent) (old new : State) : Type
   pub store : IsStore new.now
   pub keeps : StillKeeps old.now.trees new.now.trees
   pub content : content_of new.now.trees ≡ made (content_of old.now.trees)
+  pub shows : Shows old new new.now old.committed true
+
+-- so it does with a record more
+pub record Adds (entry : Entry) (old new : State) : Type 0 where
+  pub store : IsStore new.now
+  pub keeps : StillKeeps old.now.trees new.now.trees
+  pub content : IsWithRecord (content_of old.now.trees) entry (content_of new.now.trees)
   pub shows : Shows old new new.now old.committed true
 
 -- ---- changes

@@ -1,7 +1,6 @@
--- What the rows that a query shows say of the records held. It serves `src/meters.rt`, `src/topups.rt` and `src/tables.rt`.
+-- What the rows that a query shows say of the records held. It serves `src/meters.rt`.
 -- (Definitions of this project.)
-use Rattle.std.specs.Prelude.{List, [], ◌∷◌, map}
-use Rattle.std.specs.List.Sorted.{IsPermutation}
+use Rattle.std.specs.Prelude.{List, [], ◌∷◌}
 use Rattle.sqlite.specs.Order.{Row, column}
 use Rattle.sqlite.specs.Tree.{Trees}
 use Rattle.pw_model.specs.declared.records.Key.{Key}
@@ -11,17 +10,12 @@ use Rattle.pw_schema.specs.declared.kind.RecordKind.{RecordKind}
 use Rattle.pw_schema.specs.declared.kind.RecordKind.TheVariants.{Readings, Assignments, TopUps}
 use Rattle.pw_schema.specs.Rows.{ReadsRows}
 use Rattle.pw_store.specs.Content.{records_of}
-use Rattle.pw_store.specs.Shown.{tree_of}
 
 -- ---- what is shown of a row: all but its rowid
 abbrev pub shown : RecordKind → Row → Row
 shown Readings r = column r 1 ∷ column r 2 ∷ column r 3 ∷ column r 4 ∷ []
 shown Assignments r = column r 1 ∷ column r 2 ∷ column r 3 ∷ []
 shown TopUps r = column r 1 ∷ column r 2 ∷ column r 3 ∷ column r 4 ∷ []
-
--- the rows shown are those of the table, in some order
-abbrev pub ShowsAll : RecordKind → Trees → List Row → Type 0
-ShowsAll k db rows = IsPermutation (map (shown k) (db (tree_of k))) rows
 
 -- whatever records are read from the rows, they are those of the tables that have such a key
 abbrev pub ShowsKept : RecordKind → (Key → Type 0) → Trees → List Row → Type 0

@@ -7,7 +7,6 @@ use Rattle.sqlite.specs.Effect.{Database}
 use Rattle.sqlite.specs.State.{State}
 use Rattle.pw_tariff.specs.Office.{OfficeRules}
 use Rattle.pw_model.specs.Office.{AllOfOffice, most_records}
-use Rattle.pw_schema.specs.declared.kind.RecordKind.{RecordKind}
 use Rattle.pw_schema.specs.declared.kind.TotalKind.{TotalKind}
 use Rattle.pw_schema.specs.declared.kind.TotalKind.TheVariants.{Energies, Payments}
 use Rattle.pw_schema.specs.Rows.{number}
@@ -19,7 +18,7 @@ use Rattle.pw_store.specs.declared.fault.OpenFault.TheVariants.{Store, Memory, O
 use Rattle.pw_model.specs.Shelf.{no_content, IsTrueContent}
 use Rattle.pw_store.specs.Content.{content_of, records_of}
 use Rattle.pw_store.specs.Kept.{IsStore}
-use Rattle.pw_store.specs.Opening.{KeepsText, NamesOffice, HoldsRecords, HoldsKept, HoldsTotals, HoldsSums, HasNoRow, HoldsAllRecords, HoldsOurs}
+use Rattle.pw_store.specs.Opening.{KeepsText, NamesOffice, HasNoRow, HoldsOurs}
 
 -- a connection that was open and is, and inside of no transaction
 pub record IsSettled (old new : State) : Type 0 where
@@ -67,42 +66,10 @@ RowRefuses body db OfficeDiffers = HoldsOurs db × KeepsText (HasOtherText body)
 RowRefuses body db Version = KeepsText HasOtherVersion db.trees
 RowRefuses body db Unclean = KeepsText HasNoRow db.trees ⊎ (KeepsText HasVersion db.trees × (HoldsOurs db → ⊥))
 
--- of the points or starts of a table
-abbrev pub KeptRefuses : OfficeRules → RecordKind → List Row → OpenFault → Type 0
-KeptRefuses office k table Store = Unit {0}
-KeptRefuses office k table Memory = Unit {0}
-KeptRefuses office k table OfficeDiffers = ⊥
-KeptRefuses office k table Version = ⊥
-KeptRefuses office k table Unclean = HoldsKept office k table → ⊥
-
--- of the totals of a table
-abbrev pub TotalsRefuse : OfficeRules → TotalKind → List Row → OpenFault → Type 0
-TotalsRefuse office k table Store = Unit {0}
-TotalsRefuse office k table Memory = Unit {0}
-TotalsRefuse office k table OfficeDiffers = ⊥
-TotalsRefuse office k table Version = ⊥
-TotalsRefuse office k table Unclean = HoldsTotals office k table → ⊥
-
--- of points, starts and totals
-abbrev pub SumsRefuse : OfficeRules → Trees → OpenFault → Type 0
-SumsRefuse office db Store = Unit {0}
-SumsRefuse office db Memory = Unit {0}
-SumsRefuse office db OfficeDiffers = ⊥
-SumsRefuse office db Version = ⊥
-SumsRefuse office db Unclean = HoldsSums office db → ⊥
-
--- of the records of a table
-abbrev pub TableRefuses : OfficeRules → RecordKind → Trees → OpenFault → Type 0
-TableRefuses office k db Store = Unit {0}
-TableRefuses office k db Memory = Unit {0}
-TableRefuses office k db OfficeDiffers = ⊥
-TableRefuses office k db Version = ⊥
-TableRefuses office k db Unclean = HoldsRecords office k db → ⊥
-
--- of the records
-abbrev pub RecordsRefuse : OfficeRules → Trees → OpenFault → Type 0
-RecordsRefuse office db Store = Unit {0}
-RecordsRefuse office db Memory = Unit {0}
-RecordsRefuse office db OfficeDiffers = ⊥
-RecordsRefuse office db Version = ⊥
-RecordsRefuse office db Unclean = HoldsAllRecords office db → ⊥
+-- of rows, where it asks of them that they be such
+abbrev pub RefusesUnless : Type 0 → OpenFault → Type 0
+RefusesUnless AreSuch Store = Unit {0}
+RefusesUnless AreSuch Memory = Unit {0}
+RefusesUnless AreSuch OfficeDiffers = ⊥
+RefusesUnless AreSuch Version = ⊥
+RefusesUnless AreSuch Unclean = AreSuch → ⊥

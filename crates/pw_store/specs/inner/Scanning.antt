@@ -1,4 +1,4 @@
--- What a judge was handed of the rows that a query shows. It serves `src/scan.rt`, `src/tables.rt` and `src/sum_tables.rt`.
+-- What a judge was handed of the rows that a query shows. It serves `src/scan.rt` and `src/listings.rt`.
 -- (Definitions of this project.)
 use Rattle.std.specs.Prelude.{◌≡◌, ◌⊎◌, List, [], Result, Ok, Err}
 use Rattle.sqlite.specs.Order.{Row}

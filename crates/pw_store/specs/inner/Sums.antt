@@ -1,4 +1,4 @@
--- What the rows of points, starts and totals are, as queries show them. It serves `src/sum_tables.rt` and `src/sums.rt`.
+-- What the rows of points, starts and totals are, as queries show them. It serves `src/sums.rt`.
 -- (Definitions of this project.)
 use Rattle.std.specs.Prelude.{ℕ, List, [], ◌∷◌, map}
 use Rattle.std.specs.List.{AllByRecursion}

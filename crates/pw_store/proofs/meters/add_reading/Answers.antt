@@ -1,31 +1,14 @@
 use Rattle.sqlite.specs.Held.{state}
 use Rattle.pw_store.proofs.Texts.{add_reading_text, add_reading_is, four_terms}
-use Rattle.pw_store.proofs.Adding.{stores_reading_if, adds_reading_if, keeps_reading_if, inside_if, inserts_if}
+use Rattle.pw_store.proofs.Adding.{adds_reading_if, inserts_if}
 use Rattle.pw_schema.proofs.Outcomes.{early}
 use Rattle.pw_store.proofs.meters.add_reading.Goals as goal
 
-pub returns-clause-store : goal.returns-clause-store
-returns-clause-store g c clean =
+pub returns-clause-done : goal.returns-clause-done
+returns-clause-done g c clean =
     let before = early (state g.S.Store c.args.conn.now) (state g.S.Store c.execute.new.self) c.execute.ensures.survives clean in
-    stores_reading_if (state g.S.Store c.args.conn.now) (state g.S.Store c.execute.new.self) c.args.meter c.args.register c.args.instant c.args.wh c.execute.result (c.requires.store before) (c.requires.fresh before)
+    adds_reading_if (state g.S.Store c.args.conn.now) (state g.S.Store c.execute.new.self) c.args.meter c.args.register c.args.instant c.args.wh c.execute.result (c.requires.store before) (c.requires.inside before) (c.requires.fresh before)
     (rw (c.integer.ensures, c.integer-2.ensures, c.integer-3.ensures, c.wide.ensures, c.from.ensures, c.register_place.ensures, c.seconds.ensures.value, c.get.ensures.value) at (c.execute.ensures.runs clean))
-
-pub returns-clause-added : goal.returns-clause-added
-returns-clause-added g c clean =
-    let before = early (state g.S.Store c.args.conn.now) (state g.S.Store c.execute.new.self) c.execute.ensures.survives clean in
-    adds_reading_if (state g.S.Store c.args.conn.now) (state g.S.Store c.execute.new.self) c.args.meter c.args.register c.args.instant c.args.wh c.execute.result (c.requires.store before)
-    (rw (c.integer.ensures, c.integer-2.ensures, c.integer-3.ensures, c.wide.ensures, c.from.ensures, c.register_place.ensures, c.seconds.ensures.value, c.get.ensures.value) at (c.execute.ensures.runs clean))
-
-pub returns-clause-keeps : goal.returns-clause-keeps
-returns-clause-keeps g c clean =
-    let before = early (state g.S.Store c.args.conn.now) (state g.S.Store c.execute.new.self) c.execute.ensures.survives clean in
-    keeps_reading_if (state g.S.Store c.args.conn.now) (state g.S.Store c.execute.new.self) c.args.meter c.args.register c.args.instant c.args.wh c.execute.result (c.requires.store before)
-    (rw (c.integer.ensures, c.integer-2.ensures, c.integer-3.ensures, c.wide.ensures, c.from.ensures, c.register_place.ensures, c.seconds.ensures.value, c.get.ensures.value) at (c.execute.ensures.runs clean))
-
-pub returns-clause-inside : goal.returns-clause-inside
-returns-clause-inside g c clean =
-    let before = early (state g.S.Store c.args.conn.now) (state g.S.Store c.execute.new.self) c.execute.ensures.survives clean in
-    inside_if add_reading_text 1 5 four_terms add_reading_is (state g.S.Store c.args.conn.now) (state g.S.Store c.execute.new.self) (c.requires.store before).ours _ c.execute.result (c.execute.ensures.runs clean) (c.requires.inside before)
 
 pub returns-clause-writes : goal.returns-clause-writes
 returns-clause-writes g c = inserts_if add_reading_text 1 5 four_terms add_reading_is (state g.S.Store c.args.conn.now) (state g.S.Store c.execute.new.self) _ c.execute.result (λ clean. (c.requires.store clean).ours) c.requires.inside c.execute.ensures.runs c.execute.ensures.survives

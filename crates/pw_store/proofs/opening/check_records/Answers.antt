@@ -1,30 +1,28 @@
-use Rattle.std.proofs.Common.{subst, sym, ◌++◌}
+use Rattle.std.proofs.Common.{◌≡◌, ◌++◌, rules, subst, sym}
 use Rattle.sqlite.specs.Held.{state}
+use Rattle.sqlite.specs.State.{HasCleanDisk}
+use Rattle.sqlite.proofs.Callers.{unchanged_then}
 use Rattle.pw_tariff.specs.Office.{office_of}
 use Rattle.pw_model.specs.Office.{AllOfOffice}
 use Rattle.pw_schema.proofs.Outcomes.{early}
-use Rattle.pw_store.proofs.Sound.{all_both, all_hold, all_listed}
+use Rattle.pw_store.proofs.Scanning.{survives_on}
+use Rattle.pw_store.proofs.Sound.{all_both, one_more_holds, one_more_listed}
 use Rattle.pw_store.proofs.opening.check_records.Goals as goal
 
-pub returns-in-Ok-joined-clause-sound : goal.returns-in-Ok-joined-clause-sound
-returns-in-Ok-joined-clause-sound g c clean =
-    let clean2 = early (state g.S.Store c.check_assignments.new.conn) (state g.S.Store c.check_topups.new.conn) c.in-Ok-check_topups.ensures.looks.crash clean in
-    let clean1 = early (state g.S.Store c.check_readings.new.conn) (state g.S.Store c.check_assignments.new.conn) c.in-Ok-check_assignments.ensures.looks.crash clean2 in
-    all_hold (office_of c.args.office.now) (state g.S.Store c.args.conn.now) (state g.S.Store c.check_readings.new.conn) (state g.S.Store c.check_assignments.new.conn)
-    (c.in-Ok.ensures.looks.same clean1) (c.in-Ok-check_assignments.ensures.looks.same clean2)
-    (c.in-Ok.ensures.good clean1) (c.in-Ok-check_assignments.ensures.good clean2) (c.in-Ok-check_topups.ensures.good clean)
-
-pub returns-in-Ok-joined-clause-listed : goal.returns-in-Ok-joined-clause-listed
-returns-in-Ok-joined-clause-listed g c clean =
-    let clean2 = early (state g.S.Store c.check_assignments.new.conn) (state g.S.Store c.check_topups.new.conn) c.in-Ok-check_topups.ensures.looks.crash clean in
-    let clean1 = early (state g.S.Store c.check_readings.new.conn) (state g.S.Store c.check_assignments.new.conn) c.in-Ok-check_assignments.ensures.looks.crash clean2 in
-    all_listed (state g.S.Store c.args.conn.now) (state g.S.Store c.check_readings.new.conn) (state g.S.Store c.check_assignments.new.conn)
-    c.in-Ok.readings.items c.in-Ok-check_assignments.assignments.items c.in-Ok-check_topups.topups.items c.in-Ok-joined.all.items
-    (c.in-Ok.ensures.looks.same clean1) (c.in-Ok-check_assignments.ensures.looks.same clean2)
-    (c.in-Ok.ensures.listed clean1) (c.in-Ok-check_assignments.ensures.listed clean2) (c.in-Ok-check_topups.ensures.listed clean) c.in-Ok-joined.ensures
-
-pub returns-in-Ok-joined-clause-of_office : goal.returns-in-Ok-joined-clause-of_office
-returns-in-Ok-joined-clause-of_office g c =
+pub loop-kind-preserved : goal.loop-kind-preserved
+loop-kind-preserved g c =
     let office = office_of c.args.office.now in
-    let second = all_both office c.in-Ok-check_assignments.assignments.items c.in-Ok-check_topups.topups.items c.in-Ok-check_assignments.ensures.of_office c.in-Ok-check_topups.ensures.of_office in
-    subst (AllOfOffice office) (sym c.in-Ok-joined.ensures) (all_both office c.in-Ok.readings.items (c.in-Ok-check_assignments.assignments.items ++ c.in-Ok-check_topups.topups.items) c.in-Ok.ensures.of_office second)
+    let old = state g.S.Store c.args.conn.now in
+    let now = state g.S.Store c.loop-kind.conn in
+    let new = state g.S.Store c.check_kind.new.conn in
+    let was = c.loop-kind.invariant in
+    let it = c.in-Ok.ensures in
+    let before : HasCleanDisk new → HasCleanDisk now = early now new {P = λ _. ⊥} it.looks.crash in
+    let grown : c.append.new.self.items ≡ c.loop-kind.all.items ++ c.in-Ok.found.items = search rules in
+    record {
+      hold = λ clean. one_more_holds office old now (was.same (before clean)) _ c.loop-kind.kind-index (search rules) (was.hold (before clean)) (it.good clean);
+      listed = λ clean. one_more_listed office old now (was.same (before clean)) _ c.loop-kind.kind-index (search rules) c.loop-kind.all.items c.in-Ok.found.items c.append.new.self.items (was.listed (before clean)) (it.listed clean) grown;
+      of_office = subst (AllOfOffice office) (sym grown) (all_both office c.loop-kind.all.items c.in-Ok.found.items was.of_office it.of_office);
+      same = λ clean. unchanged_then old now new (was.same (before clean)) (it.looks.same clean);
+      crash = survives_on old now new was.crash it.looks.crash;
+    }

@@ -1,7 +1,7 @@
 use Rattle.std.proofs.Common.{[], ◌∷◌, ◌++◌, Err, rules, refl, ap, subst, append_assoc}
 use Rattle.sqlite.specs.Held.{state}
 use Rattle.sqlite.specs.Order.{Row}
-use Rattle.sqlite.specs.State.{HasCleanDisk, IsUnchanged, Shown}
+use Rattle.sqlite.specs.State.{CommitsShowing, HasCleanDisk, IsUnchanged, Shown}
 use Rattle.sqlite.proofs.Callers.{begun_plain, given_begin, unchanged_then}
 use Rattle.pw_schema.proofs.Outcomes.{early}
 use Rattle.pw_store.proofs.Scanning.{begun_whole, err_is, fails_keeping, plain_of, shown_first, survives_one}
@@ -14,7 +14,7 @@ returns-in-Err-clause-looks g c =
     let held = rw c.in-Err.is at c.query.follows.holds-at-none in
     record {
       same = λ clean. tt;
-      kept = λ clean. fails_keeping c.args.text.now old new c.in-Err.error (c.requires.query (early old new held.survives clean)) (held.err clean);
+      kept = λ clean. fails_keeping c.args.text.now old new c.in-Err.error (c.requires.query (early old new {P = CommitsShowing c.args.text.now [] old} held.survives clean)) (held.err clean);
       crash = survives_one c.args.text.now old new c.requires.query held.survives;
     }
 
@@ -25,7 +25,7 @@ loop-count-init g c =
     let new = state g.S.Store c.in-Ok.rows.conn.now in (
       refl,
       survives_one c.args.text.now old new c.requires.query made.survives,
-      ([], c.requires.start, λ clean. begun_plain g.S.Store c.args.text.now [] c.args.conn.now c.in-Ok.rows.conn.now (plain_of _ (c.requires.query (early old new made.survives clean))) (made.begun clean)),
+      ([], c.requires.start, λ clean. begun_plain g.S.Store c.args.text.now [] c.args.conn.now c.in-Ok.rows.conn.now (plain_of _ (c.requires.query (early old new {P = CommitsShowing c.args.text.now [] old} made.survives clean))) (made.begun clean)),
     )
 
 pub returns-in-Ok-None-clause-took : goal.returns-in-Ok-None-clause-took

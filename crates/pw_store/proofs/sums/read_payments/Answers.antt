@@ -19,17 +19,17 @@ pub returns-in-Ok-clause-holds : goal.returns-in-Ok-clause-holds
 returns-in-Ok-clause-holds g c clean =
     let table : List Row = (state g.S.Store c.args.conn.now).now.trees payment_tree in
     let it = c.in-Ok.ensures.took in
-    totals_hold (office_of c.args.office.now) Payments table c.new-payments.result (ap office_of c.new-payments.ensures.office) c.new-payments.ensures.kind c.all_payments.new.judge it.0 it.1 (it.2 clean)
+    totals_hold (office_of c.args.office.now) Payments table c.new-payments.result (ap office_of c.new-payments.ensures.office) c.new-payments.ensures.kind c.judge_listing.new.judge it.0 it.1 (it.2 clean)
 
 pub returns-in-Ok-clause-numbered : goal.returns-in-Ok-clause-numbered
 returns-in-Ok-clause-numbered g c clean =
     let table : List Row = (state g.S.Store c.args.conn.now).now.trees payment_tree in
     let it = c.in-Ok.ensures.took in
-    payments_numbered (office_of c.args.office.now) table (totals_hold (office_of c.args.office.now) Payments table c.new-payments.result (ap office_of c.new-payments.ensures.office) c.new-payments.ensures.kind c.all_payments.new.judge it.0 it.1 (it.2 clean))
+    payments_numbered (office_of c.args.office.now) table (totals_hold (office_of c.args.office.now) Payments table c.new-payments.result (ap office_of c.new-payments.ensures.office) c.new-payments.ensures.kind c.judge_listing.new.judge it.0 it.1 (it.2 clean))
 
 pub returns-in-Ok-clause-tells : goal.returns-in-Ok-clause-tells
 returns-in-Ok-clause-tells g c clean =
     let table : List Row = (state g.S.Store c.args.conn.now).now.trees payment_tree in
     let it = c.in-Ok.ensures.took in
-    let told = totals_tell (office_of c.args.office.now) Payments table c.new-payments.result (ap office_of c.new-payments.ensures.office) c.new-payments.ensures.kind c.all_payments.new.judge it.0 it.1 (it.2 clean) (option_copied c.args.expected) (ap option_copied c.new-payments.ensures.rest) in
+    let told = totals_tell (office_of c.args.office.now) Payments table c.new-payments.result (ap office_of c.new-payments.ensures.office) c.new-payments.ensures.kind c.judge_listing.new.judge it.0 it.1 (it.2 clean) (option_copied c.args.expected) (ap option_copied c.new-payments.ensures.rest) in
     (told.0, told.1, met_is (option_copied c.args.expected) (filter is_above_zero told.0) (option_copied c.rest.result) c.is_at_end.result (subst (λ r. IsRest (option_copied c.args.expected) (filter is_above_zero told.0) (option_copied r)) (sym c.rest.ensures) told.2) c.is_at_end.ensures)

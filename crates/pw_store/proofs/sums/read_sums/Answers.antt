@@ -9,50 +9,34 @@ use Rattle.pw_store.specs.Content.{start_tree, total_tree, payment_tree}
 use Rattle.pw_store.specs.inner.Sums.{TellsKept, TellsTotals}
 use Rattle.pw_store.proofs.Compared.{all_read}
 use Rattle.pw_store.proofs.InTurn.{trees_same}
-use Rattle.pw_store.proofs.Scanning.{looks_on}
+use Rattle.pw_store.proofs.Scanning.{looked, looks_last}
 use Rattle.pw_store.proofs.sums.read_sums.Goals as goal
 
 pub returns-in-Err-read_payments-clause-looks : goal.returns-in-Err-read_payments-clause-looks
 returns-in-Err-read_payments-clause-looks g c =
-    let s0 = state g.S.Store c.args.conn.now in
-    let s1 = state g.S.Store c.read_points.new.conn in
-    let s2 = state g.S.Store c.read_starts.new.conn in
-    let s3 = state g.S.Store c.read_energies.new.conn in
-    let s4 = state g.S.Store c.read_payments.new.conn in
-    let points = c.in-Ok.ensures.looks in
-    let starts = c.in-Ok-read_starts.ensures.looks in
-    let energies = c.in-Ok-read_energies.ensures.looks in
-    let payments = c.in-Err-read_payments.ensures.looks in
-    looks_on (Err c.in-Err-read_payments.fault) s0 s1 s4 points.same points.crash (looks_on (Err c.in-Err-read_payments.fault) s1 s2 s4 starts.same starts.crash (looks_on (Err c.in-Err-read_payments.fault) s2 s3 s4 energies.same energies.crash (record { same = λ clean. tt; kept = payments.kept; crash = payments.crash })))
+    looks_last (Err c.in-Err-read_payments.fault) (state g.S.Store c.args.conn.now) (state g.S.Store c.read_kept.new.conn) (state g.S.Store c.read_kept-2.new.conn) (state g.S.Store c.read_energies.new.conn) (state g.S.Store c.read_payments.new.conn)
+    (looked _ _ _ c.in-Ok.ensures.looks) (looked _ _ _ c.in-Ok-read_kept.ensures.looks) (looked _ _ _ c.in-Ok-read_energies.ensures.looks) (record { same = λ clean. tt; kept = c.in-Err-read_payments.ensures.looks.kept; crash = c.in-Err-read_payments.ensures.looks.crash })
 
 pub returns-clause-looks : goal.returns-clause-looks
 returns-clause-looks g c =
-    let s0 = state g.S.Store c.args.conn.now in
-    let s1 = state g.S.Store c.read_points.new.conn in
-    let s2 = state g.S.Store c.read_starts.new.conn in
-    let s3 = state g.S.Store c.read_energies.new.conn in
-    let s4 = state g.S.Store c.read_payments.new.conn in
-    let points = c.in-Ok.ensures.looks in
-    let starts = c.in-Ok-read_starts.ensures.looks in
-    let energies = c.in-Ok-read_energies.ensures.looks in
-    let payments = c.in-Ok-read_payments.ensures.looks in
-    looks_on (Ok c.are_all.result) s0 s1 s4 points.same points.crash (looks_on (Ok c.are_all.result) s1 s2 s4 starts.same starts.crash (looks_on (Ok c.are_all.result) s2 s3 s4 energies.same energies.crash (record { same = payments.same; kept = payments.kept; crash = payments.crash })))
+    looks_last (Ok c.are_all.result) (state g.S.Store c.args.conn.now) (state g.S.Store c.read_kept.new.conn) (state g.S.Store c.read_kept-2.new.conn) (state g.S.Store c.read_energies.new.conn) (state g.S.Store c.read_payments.new.conn)
+    (looked _ _ _ c.in-Ok.ensures.looks) (looked _ _ _ c.in-Ok-read_kept.ensures.looks) (looked _ _ _ c.in-Ok-read_energies.ensures.looks) (record { same = c.in-Ok-read_payments.ensures.looks.same; kept = c.in-Ok-read_payments.ensures.looks.kept; crash = c.in-Ok-read_payments.ensures.looks.crash })
 
 pub returns-clause-tells : goal.returns-clause-tells
 returns-clause-tells g c clean =
     let s0 = state g.S.Store c.args.conn.now in
-    let s1 = state g.S.Store c.read_points.new.conn in
-    let s2 = state g.S.Store c.read_starts.new.conn in
+    let s1 = state g.S.Store c.read_kept.new.conn in
+    let s2 = state g.S.Store c.read_kept-2.new.conn in
     let s3 = state g.S.Store c.read_energies.new.conn in
     let s4 = state g.S.Store c.read_payments.new.conn in
     let clean3 = early s3 s4 c.in-Ok-read_payments.ensures.looks.crash clean in
     let clean2 = early s2 s3 c.in-Ok-read_energies.ensures.looks.crash clean3 in
-    let clean1 = early s1 s2 c.in-Ok-read_starts.ensures.looks.crash clean2 in
+    let clean1 = early s1 s2 c.in-Ok-read_kept.ensures.looks.crash clean2 in
     let same1 = trees_same s0 s1 (c.in-Ok.ensures.looks.same clean1) in
-    let same2 = trees_same s1 s2 (c.in-Ok-read_starts.ensures.looks.same clean2) ∙ same1 in
+    let same2 = trees_same s1 s2 (c.in-Ok-read_kept.ensures.looks.same clean2) ∙ same1 in
     let same3 = trees_same s2 s3 (c.in-Ok-read_energies.ensures.looks.same clean3) ∙ same2 in
     let p = c.in-Ok.ensures.tells clean1 in
-    let s = c.in-Ok-read_starts.ensures.tells clean2 in
+    let s = c.in-Ok-read_kept.ensures.tells clean2 in
     let e = c.in-Ok-read_energies.ensures.tells clean3 in
     let y = c.in-Ok-read_payments.ensures.tells clean in (
       record { points = p.0; starts = s.0; energies = e.0; payments = y.0 },
@@ -62,9 +46,9 @@ returns-clause-tells g c clean =
         energies_told = subst (λ db. TellsTotals Energies (db total_tree) e.0) same2 e.1;
         payments_told = subst (λ db. TellsTotals Payments (db payment_tree) y.0) same3 y.1;
       },
-      all_read c.args.parts.now p.0 s.0 e.0 y.0 (option_copied c.in-Ok-read_energies.energies.1) c.in-Ok.points.1 c.in-Ok-read_starts.starts.1 c.in-Ok-read_payments.payments.1 c.are_all.result c.are_all.ensures
+      all_read c.args.parts.now p.0 s.0 e.0 y.0 (option_copied c.in-Ok-read_energies.energies.1) c.in-Ok.points.1 c.in-Ok-read_kept.starts.1 c.in-Ok-read_payments.payments.1 c.are_all.result c.are_all.ensures
           (subst (λ l. IsTrue c.in-Ok.points.1 ↔ l ≡ p.0) c.as_slice.ensures.value p.2)
-          (subst (λ l. IsTrue c.in-Ok-read_starts.starts.1 ↔ l ≡ s.0) c.as_slice-2.ensures.value s.2)
+          (subst (λ l. IsTrue c.in-Ok-read_kept.starts.1 ↔ l ≡ s.0) c.as_slice-2.ensures.value s.2)
           (subst (λ l. IsRest (Some l) (filter is_above_zero e.0) (option_copied c.in-Ok-read_energies.energies.1)) c.as_slice-3.ensures.value e.2)
           y.2,
     )

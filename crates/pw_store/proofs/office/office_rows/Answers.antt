@@ -8,7 +8,7 @@ use Rattle.pw_store.proofs.Querying.{asks_if}
 use Rattle.pw_store.proofs.Lists.{if_ok}
 use Rattle.pw_store.proofs.OfficeFirst.{first_plain, shows_office}
 use Rattle.pw_schema.proofs.Outcomes.{early}
-use Rattle.pw_store.proofs.tables.office_rows.Goals as goal
+use Rattle.pw_store.proofs.office.office_rows.Goals as goal
 
 pub returns-clause-rows : goal.returns-clause-rows
 returns-clause-rows g c clean =

@@ -1,0 +1,93 @@
+//! The listings of whole tables, as values, and each handed to a judge row by row.
+
+ghost use Rattle.std.specs.Prelude.{◌≡◌, [], Err, OnErr, OnOk};
+ghost use Rattle.sqlite.specs.Held.{state};
+ghost use Rattle.sqlite.specs.State.{HasCleanDisk};
+ghost use Rattle.pw_schema.specs.Calls.{Looks};
+ghost use Rattle.pw_schema.specs.Tables.{IsOurs};
+ghost use Rattle.pw_store.specs.inner.Listings.{ShowsAll, kept_as, text_of};
+ghost use Rattle.pw_store.specs.inner.Scanning.{HasRefused, HasTaken, IsOther};
+
+use crate::fault::OpenFault;
+use crate::scan::judge_each;
+use pw_schema::{Judge, RecordKind, TotalKind};
+use sqlite::{Alter, Connection};
+
+/// What is kept of counting records, each in a table of its own.
+#[derive(Clone, Copy, Debug, PartialEq, Eq)]
+pub(crate) enum KeptKind {
+    Points,
+    Starts,
+}
+
+impl KeptKind {
+    /// The kind of records as which it is kept.
+    pub(crate) fn kind(self) -> RecordKind
+        ensures { result ≡ kept_as self }
+    {
+        match self {
+            KeptKind::Points => RecordKind::Readings,
+            KeptKind::Starts => RecordKind::Assignments,
+        }
+    }
+}
+
+/// A listing of a whole table: of its rows in the order of their keys, or of their rowids alone.
+#[derive(Clone, Copy, Debug, PartialEq, Eq)]
+pub(crate) enum Listing {
+    Records(RecordKind),
+    Kept(KeptKind),
+    Totals(TotalKind),
+    KeptRowids(KeptKind),
+    EnergyRowids,
+}
+
+impl Listing {
+    /// The text that asks for it.
+    pub(crate) fn text(self) -> &'static str
+        ensures { result.now ≡ text_of self }
+    {
+        match self {
+            Listing::Records(RecordKind::Readings) => {
+                "SELECT meter, register, instant, wh FROM record_reading ORDER BY meter, register, instant, wh"
+            }
+            Listing::Records(RecordKind::Assignments) => {
+                "SELECT meter, start, owner FROM record_assignment ORDER BY meter, start, owner"
+            }
+            Listing::Records(RecordKind::TopUps) => {
+                "SELECT reference, account, cents, instant FROM record_topup ORDER BY reference, account, cents, instant"
+            }
+            Listing::Kept(KeptKind::Points) => {
+                "SELECT meter, register, instant, wh FROM point ORDER BY meter, register, instant"
+            }
+            Listing::Kept(KeptKind::Starts) => {
+                "SELECT meter, start, owner FROM start ORDER BY meter, start"
+            }
+            Listing::Totals(TotalKind::Energies) => {
+                "SELECT owner, band, direction, wh FROM total ORDER BY owner, band, direction"
+            }
+            Listing::Totals(TotalKind::Payments) => {
+                "SELECT account, cents FROM total_topup ORDER BY account"
+            }
+            Listing::KeptRowids(KeptKind::Points) => "SELECT rowid FROM point ORDER BY rowid",
+            Listing::KeptRowids(KeptKind::Starts) => "SELECT rowid FROM start ORDER BY rowid",
+            Listing::EnergyRowids => "SELECT rowid FROM total ORDER BY rowid",
+        }
+    }
+}
+
+/// Hands each row of a listing to a judge, up to the first that it refuses, and answers how many they were.
+pub(crate) fn judge_listing<S: Alter, J: Judge>(
+    conn: &mut Connection<S>,
+    listing: Listing,
+    judge: &mut J,
+) -> Result<usize, OpenFault>
+    requires ours { HasCleanDisk (state S.Store conn.old) → IsOurs (state S.Store conn.old).now.schema }
+    requires start { J.took judge.old [] judge.old }
+    ensures took { OnOk result (HasTaken J.took (λ rows. HasCleanDisk (state S.Store conn.new) → ShowsAll listing (state S.Store conn.old).now.trees rows) judge.old judge.new) }
+    ensures refused { HasCleanDisk (state S.Store conn.new) → result ≡ Err OpenFault.Unclean → HasRefused J.refuses (ShowsAll listing (state S.Store conn.old).now.trees) judge.old }
+    ensures others { OnErr result (IsOther result) }
+    ensures looks { Looks result (state S.Store conn.old) (state S.Store conn.new) }
+{
+    judge_each(conn, listing.text(), judge)
+}
