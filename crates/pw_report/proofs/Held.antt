@@ -30,7 +30,9 @@ module _ (Of : Key → Type 0) (known : (k : Key) → Of k ⊎ (Of k → ⊥)) w
   part-there_is (e ∷ s) r =
       let w : (t : List Entry) × ListsHeld Of s t = part-there_is s r.1 in
       elim (known e.key) [
-        | inl y ↦ (e ∷ w.0, record {
+        | inl y ↦ (
+          e ∷ w.0,
+          record {
             rising = (before-all entry_order e w.0 (λ x m. before-member entry_order e x s r.0 ((w.1.members x).0 m).0), w.1.rising);
             members = λ x. (
               λ m. elim m [
@@ -39,8 +41,11 @@ module _ (Of : Key → Type 0) (known : (k : Key) → Of k ⊎ (Of k → ⊥)) w
               ],
               λ p. elim p.0 [ inl i ↦ inl i | inr k ↦ inr ((w.1.members x).1 (k, p.1)) ],
             );
-          })
-        | inr n ↦ (w.0, record {
+          },
+        )
+        | inr n ↦ (
+          w.0,
+          record {
             rising = w.1.rising;
             members = λ x. (
               λ m. (let q = (w.1.members x).0 m in (inr q.0, q.1)),
@@ -49,21 +54,24 @@ module _ (Of : Key → Type 0) (known : (k : Key) → Of k ⊎ (Of k → ⊥)) w
                 | inr k ↦ (w.1.members x).1 (k, p.1)
               ],
             );
-          })
+          },
+        )
       ]
 
   -- ---- those of a set
   pub held-there_is : (s : List Entry) → (t : List Entry) × ListsHeld Of s t
   held-there_is s =
       let sorted : (u : List Entry) × AreSorted s u = sorted-there_is s in
-      let w : (t : List Entry) × ListsHeld Of sorted.0 t = part-there_is sorted.0 sorted.1.rising in
-      (w.0, record {
-        rising = w.1.rising;
-        members = λ e. (
-          λ m. (let q = (w.1.members e).0 m in ((sorted.1.members e).0 q.0, q.1)),
-          λ p. (w.1.members e).1 ((sorted.1.members e).1 p.0, p.1),
-        );
-      })
+      let w : (t : List Entry) × ListsHeld Of sorted.0 t = part-there_is sorted.0 sorted.1.rising in (
+        w.0,
+        record {
+          rising = w.1.rising;
+          members = λ e. (
+            λ m. (let q = (w.1.members e).0 m in ((sorted.1.members e).0 q.0, q.1)),
+            λ p. (w.1.members e).1 ((sorted.1.members e).1 p.0, p.1),
+          );
+        },
+      )
 
 pub held-one : (Of : Key → Type 0) (s t u : List Entry) → ListsHeld Of s t → ListsHeld Of s u → t ≡ u
 held-one Of s t u a b = lists-one entry_order entry-strict (λ e. Member e s × Of e.key) (λ e. Member e s × Of e.key) (λ e. (λ h. h, λ h. h)) t u a b

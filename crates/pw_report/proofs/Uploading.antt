@@ -6,7 +6,8 @@ use Rattle.std.proofs.lemmas.List.Elements.{All-get_or}
 use Rattle.std.proofs.lemmas.Option.{slice_get_cases, unwrap_or-slice_get}
 use Rattle.std.specs.Prelude.{codes, decimal, slice_get, option_map, unwrap_or}
 use Rattle.std.specs.List.{flat_map}
-use Rattle.csv.specs.Reading.{AreRecords, Reached, default_config, next_record, strip_bom}
+use Rattle.csv.specs.Machine.{next_record}
+use Rattle.csv.specs.Reading.{AreRecords, Reached, default_config, strip_bom}
 use Rattle.csv.specs.Writing.{default_writer, read_back, row_text}
 use Rattle.csv.specs.declared.parser.State.TheVariants as st
 use Rattle.csv.proofs.RoundTrip.{read-write}
@@ -44,13 +45,13 @@ there (Some y) x d h = refl
 
 has-id : (file : OfficeFile) (m : ℕ) → m < length file.meters → HasId file (meter_name file m) m
 has-id file m l = elim (slice_get_cases file.meters m).1 [
-  | inl c ↦ there (option_map (λ t. t.id) (slice_get file.meters m)) c.0.id [] (ap (option_map (λ t. t.id)) c.2.0)
+  | inl c ↦ there (option_map (λ t. t.id) (slice_get file.meters m)) c.0.id [] (ap (option_map (λ t. t.id)) c.2)
   | inr c ↦ absurd (let k = c.0 in omega (arith, l, k))
 ]
 
 has-name : (file : OfficeFile) (a : ℕ) → a < length file.accounts → HasName file (account_name file a) a
 has-name file a l = elim (slice_get_cases file.accounts a).1 [
-  | inl c ↦ there (slice_get file.accounts a) c.0 [] c.2.0
+  | inl c ↦ there (slice_get file.accounts a) c.0 [] c.2
   | inr c ↦ absurd (let k = c.0 in omega (arith, l, k))
 ]
 

@@ -27,10 +27,7 @@ use std::alloc::Global;
 /// book. Disputed ones stand there too. By meter, start and owner (nobody first).
 ///
 /// `Device`, `Memory` and `Reopen` (of a shut book) leave the records as they are.
-pub fn export_assignments<S: Shelf>(
-    book: &mut Book<S>,
-    alloc: Global,
-) -> Result<Vec<u8>, BookFault>
+pub fn export_assignments<S: Shelf>(book: &mut Book<S>, alloc: Global) -> Result<Vec<u8>, BookFault>
     ensures text { S.clean book.new.shelf → IfOk result (λ text. IsRecordsText Assignment book.old.office (S.state book.old.shelf).content.records text.items) }
     ensures report { IsReport S.Shelf result book.old book.new }
 {
@@ -102,7 +99,13 @@ fn put_record(rows: &mut Rows, office: &Office, record: &Entry) -> Result<(), Bo
                 cents,
                 instant,
             },
-        ) => put_topup(rows, reference, account_name(office, *account), *cents, *instant),
+        ) => put_topup(
+            rows,
+            reference,
+            account_name(office, *account),
+            *cents,
+            *instant,
+        ),
         _ => rows.end(),
     }
 }
