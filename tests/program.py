@@ -371,7 +371,8 @@ def one_reply(connection):
     return int(lines[0].split()[1]), body.decode()
 
 
-PAGES = ["/accounts/A1", "/accounts/A2", "/accounts", "/falls", "/disputes", "/export/readings", "/export/energy"]
+PAGES = ["/accounts/A1", "/accounts/A2", "/accounts", "/falls", "/disputes", "/export/readings", "/export/energy",
+         "/export/assignments", "/export/topups"]
 
 
 def pages(connection):

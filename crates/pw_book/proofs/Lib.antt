@@ -12,6 +12,7 @@ pub mod Capped
 pub mod Segments
 pub mod Fallen
 pub mod Contested
+pub mod ByMeter
 pub mod Order
 pub mod Running
 pub mod Crashing

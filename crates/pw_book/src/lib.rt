@@ -3,6 +3,7 @@
 
 mod around;
 mod asked;
+mod assignments;
 mod balances;
 mod book;
 mod disputes;

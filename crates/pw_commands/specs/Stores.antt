@@ -13,7 +13,7 @@ use Rattle.pw_schema.specs.Tables.{no_schema}
 use Rattle.pw_commands.specs.Crashes.{WasHeld}
 
 -- what the tables in the files had, or nothing where they were made, which is done to take uploads alone: to ask, no
--- database without a table is taken
+-- database is taken that lists nothing
 pub record OpensWith (purpose : Purpose) (image : Image) (c : ShelfContent) : Type 0 where
   pub may : MayOpen purpose image
   pub found : Database

@@ -105,7 +105,7 @@ fn options_for<D: Disk>(seed: u64, file: &mut D) -> Options
 }
 
 /// Opens the files of a store as a book of the office of a text. A store that was there holds what its tables do; one is
-/// made to take uploads, where nothing is; to ask, none is made, and no database without a table is taken. Where the
+/// made to take uploads, where nothing is; to ask, none is made, and no database is taken that lists nothing. Where the
 /// opening is refused the files are given back.
 pub fn open_from<D: Disk + Drop, W: Watch>(
     alloc: Global,
@@ -164,7 +164,7 @@ pub fn connection_in<D: Disk + Drop>(
     }
 }
 
-// The connection, unless it is to a database without a table that is only asked.
+// The connection, unless it is to a database that lists nothing and is only asked.
 fn if_asked<D: Disk + Drop>(
     connection: Connection<FileStore<D>>,
     purpose: Purpose,

@@ -12,7 +12,7 @@ use Rattle.pw_http.specs.Routes.{meter_in, route_table, route_at, row_value}
 use Rattle.pw_http.specs.Laws.{PathsReachRoutes}
 use Rattle.pw_http.specs.declared.routes.Route.{Route}
 use Rattle.pw_http.specs.declared.routes.Route.TheVariants.{Telegrams, Readouts, Assignments, TopUps, Account, Table}
-use Rattle.pw_report.specs.declared.page.Table.TheVariants.{Accounts, Falls, Disputes, Readings, Energies}
+use Rattle.pw_report.specs.declared.page.Table.TheVariants as table
 
 abbrev Row : Type 0
 Row = RowsOf (RouteOf Route)
@@ -161,25 +161,33 @@ at_top_ups : route_at (codes "/topups") ≡ Some TopUps
 unfolding route_table matchit_on_literals
 at_top_ups = refl
 
-at_accounts : route_at (codes "/accounts") ≡ Some (Table Accounts)
+at_accounts : route_at (codes "/accounts") ≡ Some (Table table.Accounts)
 unfolding route_table matchit_on_literals
 at_accounts = refl
 
-at_falls : route_at (codes "/falls") ≡ Some (Table Falls)
+at_falls : route_at (codes "/falls") ≡ Some (Table table.Falls)
 unfolding route_table matchit_on_literals
 at_falls = refl
 
-at_disputes : route_at (codes "/disputes") ≡ Some (Table Disputes)
+at_disputes : route_at (codes "/disputes") ≡ Some (Table table.Disputes)
 unfolding route_table matchit_on_literals
 at_disputes = refl
 
-at_readings : route_at (codes "/export/readings") ≡ Some (Table Readings)
+at_readings : route_at (codes "/export/readings") ≡ Some (Table table.Readings)
 unfolding route_table matchit_on_literals
 at_readings = refl
 
-at_energy : route_at (codes "/export/energy") ≡ Some (Table Energies)
+at_energy : route_at (codes "/export/energy") ≡ Some (Table table.Energies)
 unfolding route_table matchit_on_literals
 at_energy = refl
+
+at_all_assignments : route_at (codes "/export/assignments") ≡ Some (Table table.Assignments)
+unfolding route_table matchit_on_literals
+at_all_assignments = refl
+
+at_all_top_ups : route_at (codes "/export/topups") ≡ Some (Table table.TopUps)
+unfolding route_table matchit_on_literals
+at_all_top_ups = refl
 
 pub paths-reach : PathsReachRoutes
 paths-reach = record {
@@ -193,4 +201,6 @@ paths-reach = record {
   disputes = at_disputes;
   readings = at_readings;
   energies = at_energy;
+  all_assignments = at_all_assignments;
+  all_top_ups = at_all_top_ups;
 }

@@ -2,7 +2,7 @@
 use Rattle.std.specs.Prelude.{◌≡◌, ◌<◌, ℕ, false, List, ◌∷◌, ◌++◌, Option, Some, codes}
 use Rattle.matchit.specs.Seek.{has_slash}
 use Rattle.pw_http.specs.declared.routes.Route.TheVariants.{Telegrams, Readouts, Assignments, TopUps, Account, Table}
-use Rattle.pw_report.specs.declared.page.Table.TheVariants.{Accounts, Falls, Disputes, Readings, Energies}
+use Rattle.pw_report.specs.declared.page.Table.TheVariants as table
 use Rattle.pw_http.specs.Routes.{account_in, meter_in, route_at}
 use Rattle.pw_http.specs.Requests.{Request, Asked, Requests}
 use Rattle.pw_http.specs.declared.audience.Audience.{Audience}
@@ -27,10 +27,12 @@ pub record PathsReachRoutes : Type 0 where
       (route_at (codes "/meters/" ++ b ∷ rest ++ codes "/readouts") ≡ Some Readouts) × (meter_in (codes "/meters/" ++ b ∷ rest ++ codes "/readouts") ≡ b ∷ rest)
   pub assignments : route_at (codes "/assignments") ≡ Some Assignments
   pub top_ups : route_at (codes "/topups") ≡ Some TopUps
-  pub accounts : route_at (codes "/accounts") ≡ Some (Table Accounts)
+  pub accounts : route_at (codes "/accounts") ≡ Some (Table table.Accounts)
   pub account : (b : ℕ) (rest : List ℕ) → b < 256 → has_slash (b ∷ rest) ≡ false →
       (route_at (codes "/accounts/" ++ b ∷ rest) ≡ Some Account) × (account_in (codes "/accounts/" ++ b ∷ rest) ≡ b ∷ rest)
-  pub falls : route_at (codes "/falls") ≡ Some (Table Falls)
-  pub disputes : route_at (codes "/disputes") ≡ Some (Table Disputes)
-  pub readings : route_at (codes "/export/readings") ≡ Some (Table Readings)
-  pub energies : route_at (codes "/export/energy") ≡ Some (Table Energies)
+  pub falls : route_at (codes "/falls") ≡ Some (Table table.Falls)
+  pub disputes : route_at (codes "/disputes") ≡ Some (Table table.Disputes)
+  pub readings : route_at (codes "/export/readings") ≡ Some (Table table.Readings)
+  pub energies : route_at (codes "/export/energy") ≡ Some (Table table.Energies)
+  pub all_assignments : route_at (codes "/export/assignments") ≡ Some (Table table.Assignments)
+  pub all_top_ups : route_at (codes "/export/topups") ≡ Some (Table table.TopUps)

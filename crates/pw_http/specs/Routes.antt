@@ -10,7 +10,7 @@ use Rattle.matchit.specs.Router.{RouteOf, route_from}
 use Rattle.matchit.specs.declared.error.InsertError.{InsertError}
 use Rattle.pw_http.specs.declared.routes.Route.{Route}
 use Rattle.pw_http.specs.declared.routes.Route.TheVariants.{Telegrams, Readouts, Assignments, TopUps, Account, Table}
-use Rattle.pw_report.specs.declared.page.Table.TheVariants.{Accounts, Falls, Disputes, Readings, Energies}
+use Rattle.pw_report.specs.declared.page.Table.TheVariants as table
 use Rattle.pw_http.specs.declared.routes.Place.{Place}
 use Rattle.pw_http.specs.declared.routes.Place.TheVariants.{NoPage, NoMethod, At}
 
@@ -28,12 +28,14 @@ route_text Telegrams = codes "/telegrams"
 route_text Readouts = codes "/meters/{meter}/readouts"
 route_text Assignments = codes "/assignments"
 route_text TopUps = codes "/topups"
-route_text (Table Accounts) = codes "/accounts"
+route_text (Table table.Accounts) = codes "/accounts"
 route_text Account = codes "/accounts/{account}"
-route_text (Table Falls) = codes "/falls"
-route_text (Table Disputes) = codes "/disputes"
-route_text (Table Readings) = codes "/export/readings"
-route_text (Table Energies) = codes "/export/energy"
+route_text (Table table.Falls) = codes "/falls"
+route_text (Table table.Disputes) = codes "/disputes"
+route_text (Table table.Readings) = codes "/export/readings"
+route_text (Table table.Energies) = codes "/export/energy"
+route_text (Table table.Assignments) = codes "/export/assignments"
+route_text (Table table.TopUps) = codes "/export/topups"
 
 -- ---- as `matchit` keeps it
 -- the rows with one more route, where its text reads as a route
@@ -46,7 +48,9 @@ added rows route = added_read (parse_route (route_text route)) route rows
 
 unfoldable pub route_table : RowsOf (RouteOf Route)
 route_table =
-    added (added (added (added (added (added (added (added (added (added [] Telegrams) Readouts) Assignments) TopUps) (Table Accounts)) (Table Falls)) (Table Disputes)) Account) (Table Readings)) (Table Energies)
+    added (added (added (added (added (added (added (added (added (added (added (added [] Telegrams) Readouts) Assignments) TopUps)
+    (Table table.Accounts)) (Table table.Falls)) (Table table.Disputes)) Account) (Table table.Readings)) (Table table.Energies))
+    (Table table.Assignments)) (Table table.TopUps)
 
 abbrev pub row_value : RouteOf Route → Route
 row_value r = r.value

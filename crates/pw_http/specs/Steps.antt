@@ -66,6 +66,8 @@ page_content (page.Table table.Falls) = Plain
 page_content (page.Table table.Disputes) = Plain
 page_content (page.Table table.Readings) = Csv
 page_content (page.Table table.Energies) = Csv
+page_content (page.Table table.Assignments) = Csv
+page_content (page.Table table.TopUps) = Csv
 
 -- to a question for a page
 abbrev pub page_reply : Page → Result (List ℕ) BookFault → Reply

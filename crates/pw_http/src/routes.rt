@@ -43,9 +43,9 @@ pub struct Routes {
 }
 
 impl Routes {
-    /// The ten routes. It takes all the memory that they need.
+    /// The twelve routes. It takes all the memory that they need.
     pub fn new(alloc: Global) -> Result<Routes, InsertError> {
-        let router = ten_routes(alloc)?;
+        let router = twelve_routes(alloc)?;
         Ok(Routes { router })
     }
 
@@ -60,8 +60,8 @@ impl Routes {
     }
 }
 
-/// The router of the ten routes.
-fn ten_routes(alloc: Global) -> Result<Router<Route>, InsertError>
+/// The router of the twelve routes.
+fn twelve_routes(alloc: Global) -> Result<Router<Route>, InsertError>
     ensures { IfOk result (λ router. router ≡ route_table) }
 {
     let mut router = Router::new(alloc);
@@ -75,6 +75,8 @@ fn ten_routes(alloc: Global) -> Result<Router<Route>, InsertError>
     router.insert("/accounts/{account}", Route::Account)?;
     router.insert("/export/readings", Route::Table(Table::Readings))?;
     router.insert("/export/energy", Route::Table(Table::Energies))?;
+    router.insert("/export/assignments", Route::Table(Table::Assignments))?;
+    router.insert("/export/topups", Route::Table(Table::TopUps))?;
     Ok(router)
 }
 

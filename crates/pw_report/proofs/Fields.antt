@@ -8,12 +8,15 @@ use Rattle.pw_obis.specs.Registers.{registers}
 use Rattle.pw_tariff.specs.Office.{OfficeFile}
 use Rattle.pw_model.specs.declared.records.Entry.{Entry}
 use Rattle.pw_model.specs.declared.records.ReadingRow.{ReadingRow}
+use Rattle.pw_model.specs.Kinds.{ListsHeld}
 use Rattle.pw_model.specs.Lists.{AreReadings}
 use Rattle.pw_model.specs.Shelf.{ShelfContent}
-use Rattle.pw_report.specs.Exports.{csv_line, meter_lines, reading_line, readings_header, readings_text}
+use Rattle.pw_record.specs.declared.row.RowKind.{RowKind}
+use Rattle.pw_record.specs.Row.{header_of}
+use Rattle.pw_report.specs.Exports.{csv_line, meter_lines, reading_line, readings_header, readings_text, record_line, records_text}
 use Rattle.pw_report.specs.Layout.{listed_below}
 use Rattle.pw_report.specs.Names.{meter_name}
-use Rattle.pw_report.specs.Pages.{IsReadingsText}
+use Rattle.pw_report.specs.Pages.{IsOfRow, IsReadingsText, IsRecordsText}
 use Rattle.pw_report.specs.declared.rows.Rows.{Rows}
 use Rattle.pw_report.specs.inner.Rows.{HasText}
 use Rattle.pw_report.proofs.Listed.{listed-next}
@@ -85,3 +88,9 @@ pub readings-told : {E : Type 0} (result : Result (Vec ℕ Global) E) (file : Of
 unfolding readings_text
 readings-told (Ok v) file s readings n e are h = (readings, are, h ∙ ap (λ k. csv_line readings_header ++ listed_below k (λ m. meter_lines (meter_name file m) (readings m))) e)
 readings-told (Err fault) file s readings n e are h = tt
+
+pub records-told : {E : Type 0} (result : Result (Vec ℕ Global) E) (kind : RowKind) (file now : OfficeFile) (s records shown : List Entry) → now ≡ file → shown ≡ records → ListsHeld (IsOfRow kind) s records →
+    IfOk result (λ v. v.items ≡ csv_line (header_of kind) ++ flat_map (record_line now) shown) → IfOk result (λ v. IsRecordsText kind file s v.items)
+unfolding records_text
+records-told (Ok v) kind file now s records shown o e held h = (records, held, h ∙ (λ i. csv_line (header_of kind) ++ flat_map (record_line (o i)) (e i)))
+records-told (Err fault) kind file now s records shown o e held h = tt

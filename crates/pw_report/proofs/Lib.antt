@@ -4,4 +4,6 @@ pub mod Lines
 pub mod Listed
 pub mod Parts
 pub mod Sums
+pub mod Held
+pub mod Uploading
 pub mod Texts

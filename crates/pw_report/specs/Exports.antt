@@ -1,4 +1,4 @@
--- The exports of readings and energies as CSV (RFC 4180, but that a line ends with LF).
+-- The exports of readings, energies, assignments and top-ups as CSV (RFC 4180, but that a line ends with LF).
 -- (Formats of this project.)
 use Rattle.std.specs.Prelude.{ℕ, ◌*◌, Bool, true, false, Option, Some, None, List, [], ◌∷◌, ◌++◌, length, codes, decimal}
 use Rattle.std.specs.List.{flat_map}
@@ -10,11 +10,17 @@ use Rattle.pw_tariff.specs.declared.ids.Direction.{Direction}
 use Rattle.pw_tariff.specs.declared.ids.Direction.TheVariants.{Import, Export}
 use Rattle.pw_tariff.specs.Ids.{direction_name}
 use Rattle.pw_tariff.specs.Office.{OfficeFile, office_of, price_at}
+use Rattle.pw_model.specs.declared.records.Key.{Key}
+use Rattle.pw_model.specs.declared.records.Key.TheVariants as key
+use Rattle.pw_model.specs.declared.records.Content.{Content}
+use Rattle.pw_model.specs.declared.records.Content.TheVariants as content
 use Rattle.pw_model.specs.declared.records.Entry.{Entry}
 use Rattle.pw_model.specs.declared.records.ReadingRow.{ReadingRow}
 use Rattle.pw_model.specs.Energy.{account, energy}
+use Rattle.pw_record.specs.declared.row.RowKind.{RowKind}
+use Rattle.pw_record.specs.Row.{header_of}
 use Rattle.pw_report.specs.Layout.{instant_text, listed_below}
-use Rattle.pw_report.specs.Names.{band_name, meter_name, owner_name}
+use Rattle.pw_report.specs.Names.{account_name, band_name, meter_name, owner_name}
 
 -- fields with commas between them, quoted where they call for it, and LF
 unfoldable pub csv_line : List (List ℕ) → List ℕ
@@ -73,3 +79,23 @@ energy_row_line file row =
 unfoldable pub energies_text : OfficeFile → List Entry → List ℕ
 energies_text file s =
     csv_line energies_header ++ flat_map (energy_row_line file) (energy_rows file s)
+
+-- ---- records as the rows of an upload
+-- an account's name, nothing for nobody
+abbrev pub given_name : OfficeFile → Option AccountId → List ℕ
+given_name file None = []
+given_name file (Some a) = account_name file a.0
+
+-- the row of an assignment, and that of a top-up. (No other record is shown so, and none of an office has a key and a
+-- content of two kinds.)
+abbrev pub record_fields : OfficeFile → Key → Content → List (List ℕ)
+record_fields file (key.Assignment m t) (content.Assignment o) = meter_name file m.0 ∷ instant_text t ∷ given_name file o ∷ []
+record_fields file (key.TopUp r) (content.TopUp a c t) = r ∷ account_name file a.0 ∷ decimal c ∷ instant_text t ∷ []
+record_fields file _ _ = []
+
+abbrev pub record_line : OfficeFile → Entry → List ℕ
+record_line file e = csv_line (record_fields file e.key e.content)
+
+-- below the header of their upload
+unfoldable pub records_text : OfficeFile → RowKind → List Entry → List ℕ
+records_text file kind records = csv_line (header_of kind) ++ flat_map (record_line file) records

@@ -1,18 +1,22 @@
 -- The laws of these texts. Each is the contract of a function of the module `laws`.
-use Rattle.std.specs.Prelude.{◌≡◌, ℕ, cond, List, ◌↔◌, ℤ, pos, ◌*ℤ◌, ◌+ℤ◌, ◌≤ℤ◌, ◌<ℤ◌}
+use Rattle.std.specs.Prelude.{◌≡◌, ℕ, ◌≤◌, cond, List, length, ◌↔◌, ℤ, pos, ◌*ℤ◌, ◌+ℤ◌, ◌≤ℤ◌, ◌<ℤ◌}
 use Rattle.std.specs.List.{sum_by}
 use Rattle.pw_tariff.specs.declared.ids.Direction.{Direction}
 use Rattle.pw_tariff.specs.Office.{IsSound, OfficeFile, office_of}
 use Rattle.pw_model.specs.declared.records.Entry.{Entry}
-use Rattle.pw_model.specs.Counting.{SameMembers, contents_at}
+use Rattle.pw_model.specs.Counting.{Member, SameMembers, contents_at}
 use Rattle.pw_model.specs.Energy.{all_rises}
 use Rattle.pw_model.specs.Office.{AllOfOffice}
 use Rattle.pw_model.specs.Payments.{nano_in_cent}
 use Rattle.pw_model.specs.Same.{same_direction}
+use Rattle.pw_record.specs.declared.row.RowKind.{RowKind}
+use Rattle.pw_record.specs.declared.rows.TheConstants.{MOST_ROWS}
+use Rattle.pw_record.specs.Listed.{AreListed}
+use Rattle.pw_record.specs.Rows.{RowsGive}
 use Rattle.pw_report.specs.declared.page.Page.{Page}
 use Rattle.pw_report.specs.Amounts.{cents_below}
-use Rattle.pw_report.specs.Exports.{energy_rows}
-use Rattle.pw_report.specs.Pages.{IsAnswer}
+use Rattle.pw_report.specs.Exports.{energy_rows, records_text}
+use Rattle.pw_report.specs.Pages.{IsAnswer, IsOfRow}
 
 -- ---- amounts
 -- so many cents aren't above the amount, and one more would be
@@ -32,6 +36,13 @@ pub record HasOneText (page : Page) (file : OfficeFile) (s : List Entry) : Type 
 
 abbrev pub EachPageHasOneText : Type 0
 EachPageHasOneText = (page : Page) (file : OfficeFile) (s : List Entry) → HasOneText page file s
+
+-- ---- what was exported as an upload
+-- at most 1,000 records of an office, shown as rows below their header, are an upload that gives just these
+abbrev pub ExportsAreUploads : Type 0
+ExportsAreUploads = (file : OfficeFile) (kind : RowKind) (records entries : List Entry) → IsSound file → AllOfOffice (office_of file) records →
+    ((e : Entry) → Member e records → IsOfRow kind e.key) → length records ≤ MOST_ROWS → AreListed records entries →
+    RowsGive file kind (records_text file kind records) entries
 
 -- ---- conservation
 -- the energies of a direction that are exported add up to all that its neighbours rise by

@@ -7,11 +7,15 @@ use Rattle.pw_model.specs.declared.records.Entry.{Entry}
 use Rattle.pw_model.specs.declared.records.Fall.{Fall}
 use Rattle.pw_model.specs.declared.records.Dispute.{Dispute}
 use Rattle.pw_model.specs.declared.records.ReadingRow.{ReadingRow}
+use Rattle.pw_model.specs.declared.records.Key.{Key}
+use Rattle.pw_model.specs.Kinds.{IsAssignment, IsTopUp, ListsHeld}
 use Rattle.pw_model.specs.Lists.{AreDisputes, AreFalls, AreReadings}
+use Rattle.pw_record.specs.declared.row.RowKind.{RowKind}
+use Rattle.pw_record.specs.declared.row.RowKind.TheVariants.{Assignment, TopUp}
 use Rattle.pw_report.specs.declared.page.Page.{Page}
 use Rattle.pw_report.specs.declared.page.Page.TheVariants.{Statement, Table}
-use Rattle.pw_report.specs.declared.page.Table.TheVariants.{Accounts, Falls, Disputes, Readings, Energies}
-use Rattle.pw_report.specs.Exports.{energies_text, readings_text}
+use Rattle.pw_report.specs.declared.page.Table.TheVariants.{Accounts, Falls, Disputes, Readings, Energies, Assignments, TopUps}
+use Rattle.pw_report.specs.Exports.{energies_text, readings_text, records_text}
 use Rattle.pw_report.specs.Tables.{accounts_text, disputes_text, falls_text, statement_text}
 
 -- the page is one of the office's
@@ -30,6 +34,15 @@ abbrev pub IsReadingsText : OfficeFile → List Entry → List ℕ → Type 0
 IsReadingsText file s text =
     (rows : ℕ → Register → List ReadingRow) × ((m : ℕ) (r : Register) → AreReadings s m r (rows m r)) × (text ≡ readings_text file rows)
 
+-- the key of a record that a row of the kind gives
+abbrev pub IsOfRow : RowKind → Key → Type 0
+IsOfRow Assignment k = IsAssignment k
+IsOfRow TopUp k = IsTopUp k
+
+-- the text of all records held that rows of the kind give
+abbrev pub IsRecordsText : RowKind → OfficeFile → List Entry → List ℕ → Type 0
+IsRecordsText kind file s text = (records : List Entry) × ListsHeld (IsOfRow kind) s records × (text ≡ records_text file kind records)
+
 -- the text of a page
 abbrev pub IsAnswer : Page → OfficeFile → List Entry → List ℕ → Type 0
 IsAnswer (Statement a) file s text = text ≡ statement_text file s a.0
@@ -38,3 +51,5 @@ IsAnswer (Table Falls) file s text = IsFallsText file s text
 IsAnswer (Table Disputes) file s text = IsDisputesText file s text
 IsAnswer (Table Readings) file s text = IsReadingsText file s text
 IsAnswer (Table Energies) file s text = text ≡ energies_text file s
+IsAnswer (Table Assignments) file s text = IsRecordsText Assignment file s text
+IsAnswer (Table TopUps) file s text = IsRecordsText TopUp file s text

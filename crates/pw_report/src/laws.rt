@@ -3,7 +3,7 @@
 //! Each function does nothing. What counts is its contract, a law of the definitions in `specs/`, which is proved for
 //! all sets of records.
 
-ghost use Rattle.pw_report.specs.Laws.{CentsAreGreatest, EachPageHasOneText, NothingIsLostInExport};
+ghost use Rattle.pw_report.specs.Laws.{CentsAreGreatest, EachPageHasOneText, ExportsAreUploads, NothingIsLostInExport};
 
 /// The cents of an amount are the greatest whole number of them that isn't above it.
 pub fn cents_are_greatest()
@@ -13,6 +13,12 @@ pub fn cents_are_greatest()
 /// A set of records has one text of each page, whatever the order in which its records are listed.
 pub fn each_page_has_one_text()
     ensures { EachPageHasOneText }
+{}
+
+/// What was exported of assignments or top-ups can be uploaded: any part of it of at most 1,000 rows below its header is an
+/// upload that gives the records that were exported, and no others, where these are of a sound office file.
+pub fn exports_are_uploads()
+    ensures { ExportsAreUploads }
 {}
 
 /// Conservation of energy: over all owners with nobody and all bands, the energies of a direction that are exported add up

@@ -11,6 +11,7 @@ mod names;
 mod page;
 mod put;
 mod readings;
+mod records;
 mod rows;
 mod statements;
 
@@ -20,4 +21,5 @@ pub use energies::export_energy;
 pub use falls::falls_table;
 pub use page::{Page, Table, page_text};
 pub use readings::export_readings;
+pub use records::{export_assignments, export_topups};
 pub use statements::statement;

@@ -5,12 +5,15 @@ ghost use Rattle.pw_report.specs.Names.{account_name as name_of_account, band_na
 
 use pw_tariff::{AccountId, BandId, MeterId, Office};
 
-/// The name of an account.
+/// The name of an account, nothing where the office has no such.
 pub(crate) fn account_name(office: &Office, account: AccountId) -> &[u8]
-    requires { account.0 < length office.now.accounts }
     ensures { result.now ≡ name_of_account office.now account.0 }
 {
-    office.account_name(account).as_bytes()
+    if account.0 < office.accounts() {
+        office.account_name(account).as_bytes()
+    } else {
+        b""
+    }
 }
 
 /// The id of a meter, nothing where the office has no such.

@@ -9,6 +9,7 @@ use crate::disputes::disputes_table;
 use crate::energies::export_energy;
 use crate::falls::falls_table;
 use crate::readings::export_readings;
+use crate::records::{export_assignments, export_topups};
 use crate::statements::statement;
 use pw_book::{Book, BookFault};
 use pw_shelf::Shelf;
@@ -28,6 +29,10 @@ pub enum Table {
     Readings,
     /// The export of energies, as CSV.
     Energies,
+    /// The export of assignments, as CSV in the form of their upload.
+    Assignments,
+    /// The export of top-ups, as CSV in the form of their upload.
+    TopUps,
 }
 
 /// A page of a book.
@@ -57,5 +62,7 @@ pub fn page_text<S: Shelf>(
         Page::Table(Table::Disputes) => disputes_table(book, alloc),
         Page::Table(Table::Readings) => export_readings(book, alloc),
         Page::Table(Table::Energies) => export_energy(book, alloc),
+        Page::Table(Table::Assignments) => export_assignments(book, alloc),
+        Page::Table(Table::TopUps) => export_topups(book, alloc),
     }
 }

@@ -11,13 +11,15 @@ use std::alloc::Global;
 // The call of the store that fails: an upload of one record is begun by the third.
 const FAILING: u32 = 4;
 
-const PAGES: [Page; 6] = [
+const PAGES: [Page; 8] = [
     Page::Statement(AccountId(0)),
     Page::Table(Table::Accounts),
     Page::Table(Table::Falls),
     Page::Table(Table::Disputes),
     Page::Table(Table::Readings),
     Page::Table(Table::Energies),
+    Page::Table(Table::Assignments),
+    Page::Table(Table::TopUps),
 ];
 
 /// A book whose upload failed, and couldn't be taken back.

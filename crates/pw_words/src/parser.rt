@@ -11,7 +11,15 @@ static CLOCKS: [&str; 2] = ["winter", "local"];
 static KINDS: [&str; 4] = ["telegrams", "readouts", "assignments", "topups"];
 
 /// The words of what can be exported.
-static TABLES: [&str; 5] = ["readings", "energy", "accounts", "falls", "disputes"];
+static TABLES: [&str; 7] = [
+    "readings",
+    "energy",
+    "assignments",
+    "topups",
+    "accounts",
+    "falls",
+    "disputes",
+];
 
 /// A word that a command takes: by its place, or behind a flag.
 #[derive(Clone, Copy)]
@@ -80,7 +88,7 @@ static COMMANDS: [Asked; 7] = [
     },
     Asked {
         name: "export",
-        about: "Prints a table of a store: readings and energy as CSV, accounts, falls and disputes as text",
+        about: "Prints a table of a store: readings, energy, assignments and topups as CSV, accounts, falls and disputes as text",
         end: "Exit status: 0; 1 refused; 2 wrong words; 3 a file, stream, store or memory failed.\nExample: powerbook export office.toml book.db readings > readings.csv",
         words: &[Word::Office, Word::Store, Word::Table],
     },
@@ -209,7 +217,7 @@ fn command<'a>(alloc: Global, asked: &Asked) -> Result<Command<'a>, AllocError> 
 // The parser without its commands.
 fn empty_parser<'a>(alloc: Global) -> Result<Command<'a>, AllocError> {
     Command::new(alloc, "powerbook")
-        .version("1.2.1")
+        .version("1.3.0")
         .about("Meter readings and prepaid accounts of an electricity cooperative")
         .after_help(
             "Without a command it acts as pipe. Each command tells more: powerbook load --help.",

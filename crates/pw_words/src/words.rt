@@ -243,6 +243,8 @@ fn table_named(name: &str) -> Option<Table>
     match name {
         "readings" => Some(Table::Readings),
         "energy" => Some(Table::Energies),
+        "assignments" => Some(Table::Assignments),
+        "topups" => Some(Table::TopUps),
         "accounts" => Some(Table::Accounts),
         "falls" => Some(Table::Falls),
         "disputes" => Some(Table::Disputes),

@@ -1,5 +1,5 @@
--- Falls and disputes, as far as registers, meters and kinds were looked through.
--- It serves `src/falls.rt` and `src/disputes.rt`.
+-- Falls, disputes and assignments, as far as registers, meters and kinds were looked through.
+-- It serves `src/falls.rt`, `src/disputes.rt` and `src/assignments.rt`.
 -- (Definitions of this project.)
 use Rattle.std.specs.Prelude.{◌≡◌, ℕ, ◌+◌, ◌*◌, ◌<◌, ◌≤◌, Some, List, length}
 use Rattle.pw_obis.specs.declared.reference.Register.{Register}
@@ -10,6 +10,8 @@ use Rattle.pw_model.specs.declared.records.Key.TheVariants as key
 use Rattle.pw_model.specs.declared.records.Fall.{Fall}
 use Rattle.pw_model.specs.declared.records.Dispute.{Dispute}
 use Rattle.pw_model.specs.Counting.{Member, contents_at, point}
+use Rattle.pw_model.specs.Kinds.{IsAssignment}
+use Rattle.pw_model.specs.Same.{entry_order}
 use Rattle.pw_model.specs.Lists.{Lists, IsFall, fall_order, IsDispute, dispute_order}
 use Rattle.pw_model.specs.Office.{most_records}
 use Rattle.pw_model.specs.Shelf.{ShelfContent}
@@ -49,3 +51,14 @@ DisputesBefore meters s n = Lists dispute_order (λ d. IsDispute s d × (key_pla
 pub record AreWithin (meters : ℕ) (s : List Entry) : Type 0 where
   pub few : length s ≤ most_records
   pub keys : (e : Entry) → Member e s → IsWithin meters e.key
+
+-- ---- assignments
+-- the number of a key's meter
+abbrev pub meter_place : Key → ℕ
+meter_place (key.Reading m r t) = m.0
+meter_place (key.Assignment m t) = m.0
+meter_place (key.TopUp r) = 0
+
+-- the assignments of the meters before a number
+abbrev pub AssignmentsBefore : List Entry → ℕ → List Entry → Type 0
+AssignmentsBefore s n = Lists entry_order (λ e. (Member e s × IsAssignment e.key) × (meter_place e.key < n))

@@ -3,6 +3,7 @@
 ghost use Rattle.std.specs.Prelude.{◌≡◌, ◌+◌, ◌*◌, ◌<◌, IfOk, MatchResult, true, false, length};
 ghost use Rattle.pw_tariff.specs.Office.{office_of};
 ghost use Rattle.pw_model.specs.Energy.{energy as energy_of};
+ghost use Rattle.pw_model.specs.Kinds.{IsAssignment, IsTopUp, ListsHeld};
 ghost use Rattle.pw_model.specs.Lists.{AreDisputes, AreFalls, AreReadings, record_count};
 ghost use Rattle.pw_model.specs.Office.{HasOwner};
 ghost use Rattle.pw_model.specs.Payments.{balance as balance_of, topped_up as cents_of};
@@ -10,13 +11,14 @@ ghost use Rattle.pw_book.specs.Cost.{RisesAtMost};
 ghost use Rattle.pw_book.specs.Questions.{IsQuestion};
 
 use super::Book;
-use crate::asked::{count_held, total_held};
+use crate::asked::{count_held, topups_held, total_held};
+use crate::assignments::all_assignments;
 use crate::balances::balance_held;
 use crate::disputes::disputes_held;
 use crate::falls::falls_held;
 use crate::fault::BookFault;
 use crate::rows::rows_held;
-use pw_model::{Dispute, Fall, ReadingRow, TotalKey};
+use pw_model::{Dispute, Entry, Fall, ReadingRow, TotalKey};
 use pw_obis::Register;
 use pw_shelf::Shelf;
 use pw_tariff::{AccountId, BandId, Direction, MeterId, Owner};
@@ -87,6 +89,26 @@ impl<S: Shelf> Book<S> {
         self.still_open()?;
         let rows = rows_held(&mut self.shelf, alloc, meter, register)?;
         Ok(rows)
+    }
+
+    /// The assignments held of all meters, disputed ones too: by meter, start and owner.
+    pub fn assignments(&mut self, alloc: Global) -> Result<Vec<Entry>, BookFault>
+        ensures assignments { S.clean self.new.shelf → IfOk result (λ held. ListsHeld IsAssignment (S.state self.old.shelf).content.records held.items) }
+        ensures question { IsQuestion S.Shelf result self.old self.new }
+    {
+        self.still_open()?;
+        let assignments = all_assignments(&mut self.shelf, alloc, &self.office)?;
+        Ok(assignments)
+    }
+
+    /// The top-ups held, disputed ones too: by reference, account, cents and instant.
+    pub fn topups(&mut self, alloc: Global) -> Result<Vec<Entry>, BookFault>
+        ensures topups { S.clean self.new.shelf → IfOk result (λ held. ListsHeld IsTopUp (S.state self.old.shelf).content.records held.items) }
+        ensures question { IsQuestion S.Shelf result self.old self.new }
+    {
+        self.still_open()?;
+        let topups = topups_held(&mut self.shelf, alloc)?;
+        Ok(topups)
     }
 
     /// The falls of all registers, by the records held: neighbouring readings of which the later shows less. By meter, register

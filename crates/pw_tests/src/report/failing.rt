@@ -56,5 +56,7 @@ fn failing_device(rt: HostRuntime) -> Result<(), Fail> {
     ] {
         assert!(rt; 2 < calls_of(&rt, rt.alloc(), page)?);
     }
+    assert!(rt; 0 < calls_of(&rt, rt.alloc(), Page::Table(Table::Assignments))?);
+    assert!(rt; 0 < calls_of(&rt, rt.alloc(), Page::Table(Table::TopUps))?);
     Ok(())
 }

@@ -45,6 +45,8 @@ const PAGES: &[(Page, usize)] = &[
     (Page::Table(Table::Disputes), 51),
     (Page::Table(Table::Readings), 190),
     (Page::Table(Table::Energies), 239),
+    (Page::Table(Table::Assignments), 49),
+    (Page::Table(Table::TopUps), 64),
 ];
 
 fn have_lengths<S: Shelf>(rt: &impl Abort, alloc: Global, book: &mut Book<S>) -> bool {

@@ -4,7 +4,7 @@ use Rattle.std.specs.Prelude.{◌≡◌, ℕ, List, Option, Some, codes}
 use Rattle.pw_record.specs.declared.laws.UploadKind.{UploadKind}
 use Rattle.pw_record.specs.declared.laws.UploadKind.TheVariants.{Telegrams, Readouts, Assignments, TopUps}
 use Rattle.pw_report.specs.declared.page.Table.{Table}
-use Rattle.pw_report.specs.declared.page.Table.TheVariants.{Readings, Energies, Accounts, Falls, Disputes}
+use Rattle.pw_report.specs.declared.page.Table.TheVariants as table
 
 -- the word of a kind of upload; of readouts the meter too
 abbrev pub IsKindWord : UploadKind → List ℕ → Option (List ℕ) → Type 0
@@ -15,8 +15,10 @@ IsKindWord TopUps word meter = word ≡ codes "topups"
 
 -- the word of a table
 abbrev pub IsTableWord : Table → List ℕ → Type 0
-IsTableWord Readings word = word ≡ codes "readings"
-IsTableWord Energies word = word ≡ codes "energy"
-IsTableWord Accounts word = word ≡ codes "accounts"
-IsTableWord Falls word = word ≡ codes "falls"
-IsTableWord Disputes word = word ≡ codes "disputes"
+IsTableWord table.Readings word = word ≡ codes "readings"
+IsTableWord table.Energies word = word ≡ codes "energy"
+IsTableWord table.Accounts word = word ≡ codes "accounts"
+IsTableWord table.Falls word = word ≡ codes "falls"
+IsTableWord table.Disputes word = word ≡ codes "disputes"
+IsTableWord table.Assignments word = word ≡ codes "assignments"
+IsTableWord table.TopUps word = word ≡ codes "topups"

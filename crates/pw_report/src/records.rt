@@ -1,0 +1,154 @@
+//! The exports of assignments and of top-ups, in the form of their uploads.
+
+ghost use Rattle.std.specs.Prelude.{◌≡◌, ◌∷◌, ◌++◌, ℕ, List, [], IfErr, IfOk, OnOk, decimal};
+ghost use Rattle.std.specs.List.{flat_map};
+ghost use Rattle.pw_book.specs.declared.fault.BookFault.TheVariants.{Memory};
+ghost use Rattle.pw_record.specs.Row.{header_of};
+ghost use Rattle.pw_record.specs.declared.row.RowKind.TheVariants.{Assignment, TopUp};
+ghost use Rattle.pw_report.specs.Exports.{csv_line, given_name, record_line};
+ghost use Rattle.pw_report.specs.Layout.{instant_text as text_of_instant};
+ghost use Rattle.pw_report.specs.Names.{meter_name as name_of_meter};
+ghost use Rattle.pw_report.specs.Pages.{IsRecordsText};
+ghost use Rattle.pw_report.specs.Reports.{IsReport};
+ghost use Rattle.pw_report.specs.inner.Rows.{HasText};
+
+use crate::names::{account_name, meter_name};
+use crate::put::instant_text;
+use crate::rows::Rows;
+use itoa::Buffer;
+use pw_book::{Book, BookFault};
+use pw_model::{Content, Entry, Key, Reference};
+use pw_shelf::Shelf;
+use pw_tariff::{MeterId, Office, Owner};
+use pw_time::Instant;
+use std::alloc::Global;
+
+/// All assignments held, as CSV under the header of their upload and in its form, so that they can be uploaded to another
+/// book. Disputed ones stand there too. By meter, start and owner (nobody first).
+///
+/// `Device`, `Memory` and `Reopen` (of a shut book) leave the records as they are.
+pub fn export_assignments<S: Shelf>(book: &mut Book<S>, alloc: Global) -> Result<Vec<u8>, BookFault>
+    ensures text { S.clean book.new.shelf → IfOk result (λ text. IsRecordsText Assignment book.old.office (S.state book.old.shelf).content.records text.items) }
+    ensures report { IsReport S.Shelf result book.old book.new }
+{
+    let assignments = book.assignments(alloc)?;
+    let mut rows = Rows::new(alloc);
+    put_assignments_header(&mut rows)?;
+    put_records(&mut rows, book.office(), &assignments)?;
+    rows.finish()
+}
+
+/// All top-ups held, as CSV under the header of their upload and in its form, so that they can be uploaded to another book.
+/// Disputed ones stand there too. By reference, account, cents and instant.
+///
+/// `Device`, `Memory` and `Reopen` (of a shut book) leave the records as they are.
+pub fn export_topups<S: Shelf>(book: &mut Book<S>, alloc: Global) -> Result<Vec<u8>, BookFault>
+    ensures text { S.clean book.new.shelf → IfOk result (λ text. IsRecordsText TopUp book.old.office (S.state book.old.shelf).content.records text.items) }
+    ensures report { IsReport S.Shelf result book.old book.new }
+{
+    let topups = book.topups(alloc)?;
+    let mut rows = Rows::new(alloc);
+    put_topups_header(&mut rows)?;
+    put_records(&mut rows, book.office(), &topups)?;
+    rows.finish()
+}
+
+fn put_assignments_header(rows: &mut Rows) -> Result<(), BookFault>
+    ensures text { (before : List ℕ) → HasText rows.old before [] → OnOk result (HasText rows.new (before ++ csv_line (header_of Assignment)) []) }
+    ensures fault { IfErr result (λ fault. fault ≡ Memory) }
+{
+    rows.put(b"meter")?;
+    rows.put(b"start")?;
+    rows.put(b"account")?;
+    rows.end()
+}
+
+fn put_topups_header(rows: &mut Rows) -> Result<(), BookFault>
+    ensures text { (before : List ℕ) → HasText rows.old before [] → OnOk result (HasText rows.new (before ++ csv_line (header_of TopUp)) []) }
+    ensures fault { IfErr result (λ fault. fault ≡ Memory) }
+{
+    rows.put(b"reference")?;
+    rows.put(b"account")?;
+    rows.put(b"cents")?;
+    rows.put(b"instant")?;
+    rows.end()
+}
+
+fn put_records(rows: &mut Rows, office: &Office, records: &[Entry]) -> Result<(), BookFault>
+    ensures text { (before : List ℕ) → HasText rows.old before [] → OnOk result (HasText rows.new (before ++ flat_map (record_line office.now) records.now) []) }
+    ensures fault { IfErr result (λ fault. fault ≡ Memory) }
+{
+    for record in records {
+        put_record(rows, office, record)?;
+    }
+    Ok(())
+}
+
+fn put_record(rows: &mut Rows, office: &Office, record: &Entry) -> Result<(), BookFault>
+    ensures text { (before : List ℕ) → HasText rows.old before [] → OnOk result (HasText rows.new (before ++ record_line office.now record.now) []) }
+    ensures fault { IfErr result (λ fault. fault ≡ Memory) }
+{
+    match (&record.key, &record.content) {
+        (Key::Assignment { meter, start }, Content::Assignment { owner }) => {
+            put_assignment(rows, office, *meter, *start, *owner)
+        }
+        (
+            Key::TopUp { reference },
+            Content::TopUp {
+                account,
+                cents,
+                instant,
+            },
+        ) => put_topup(
+            rows,
+            reference,
+            account_name(office, *account),
+            *cents,
+            *instant,
+        ),
+        _ => rows.end(),
+    }
+}
+
+fn put_assignment(
+    rows: &mut Rows,
+    office: &Office,
+    meter: MeterId,
+    start: Instant,
+    owner: Owner,
+) -> Result<(), BookFault>
+    ensures text { (before : List ℕ) → HasText rows.old before [] → OnOk result (HasText rows.new (before ++ csv_line (name_of_meter office.now meter.0 ∷ text_of_instant start ∷ given_name office.now owner ∷ [])) []) }
+    ensures fault { IfErr result (λ fault. fault ≡ Memory) }
+{
+    rows.put(meter_name(office, meter))?;
+    rows.put(&instant_text(start))?;
+    rows.put(given_name(office, owner))?;
+    rows.end()
+}
+
+fn put_topup(
+    rows: &mut Rows,
+    reference: &Reference,
+    account: &[u8],
+    cents: u32,
+    instant: Instant,
+) -> Result<(), BookFault>
+    ensures text { (before : List ℕ) → HasText rows.old before [] → OnOk result (HasText rows.new (before ++ csv_line (reference.now ∷ account.now ∷ decimal cents ∷ text_of_instant instant ∷ [])) []) }
+    ensures fault { IfErr result (λ fault. fault ≡ Memory) }
+{
+    rows.put(reference.bytes())?;
+    rows.put(account)?;
+    rows.put(Buffer::new().format(cents).as_bytes())?;
+    rows.put(&instant_text(instant))?;
+    rows.end()
+}
+
+// The name of an account, nothing for nobody.
+fn given_name(office: &Office, owner: Owner) -> &[u8]
+    ensures { result.now ≡ given_name office.now owner }
+{
+    match owner {
+        Some(account) => account_name(office, account),
+        None => b"",
+    }
+}
