@@ -17,7 +17,6 @@ pub mod Contested
 pub mod Order
 pub mod Running
 pub mod Crashing
-pub mod Gathering
 pub mod Changing
 pub mod Walking
 pub mod Neighbouring

@@ -12,12 +12,11 @@ use Rattle.pw_tariff.specs.Office.{OfficeFile, office_of, band_at}
 use Rattle.pw_tariff.specs.Owners.{StartsIncrease, owner_by_starts, same_owner}
 use Rattle.pw_tariff.specs.Shares.{class_seconds}
 use Rattle.pw_model.specs.declared.records.Key.{Key}
-use Rattle.pw_model.specs.declared.records.Key.TheVariants as key
 use Rattle.pw_model.specs.declared.records.Contents.{Contents}
 use Rattle.pw_model.specs.declared.records.TotalKey.{TotalKey}
 use Rattle.pw_model.specs.declared.records.TotalKey.TheVariants.{Energy, TopUps}
 use Rattle.pw_model.specs.Changes.{IsOneMoreReading, in_direction}
-use Rattle.pw_model.specs.Counting.{point, start, reading_key, assignment_key, wh_of, owner_of}
+use Rattle.pw_model.specs.Counting.{point, start}
 use Rattle.pw_model.specs.Energy.{asked_seconds, of_band, owner_at as owner_told}
 use Rattle.pw_model.specs.Lists.{IsInOrder}
 use Rattle.pw_model.specs.Same.{direction_of, same_direction}
@@ -26,7 +25,8 @@ use Rattle.pw_model.specs.Seconds.{ListsSeconds, by_second}
 use Rattle.pw_shelf.specs.Seconds.{IsBefore, IsBehind}
 use Rattle.pw_book.specs.inner.Settling.{EndsBefore}
 use Rattle.pw_model.specs.Shelf.{ShelfContent}
-use Rattle.pw_book.specs.inner.Sums.{energy_told, pairs_for, point_listed}
+use Rattle.pw_parts.specs.Changes.{pairs_for}
+use Rattle.pw_book.specs.inner.Sums.{energy_told, point_listed}
 use Rattle.pw_book.proofs.Following.{Differ}
 use Rattle.pw_parts.proofs.Owning.{owners-told, starts-rise}
 
@@ -95,11 +95,6 @@ pub seconds-told : (file : OfficeFile) (owners : List (ℕ × Option AccountId))
 seconds-told file owners at m owner band h = λ i t. (same_owner (h t i) owner && (band_at file t == band))
 
 -- ---- with a reading and without it
-abbrev second_in : Key → ℕ
-second_in (key.Reading m r t) = t
-second_in (key.Assignment m t) = 0
-second_in (key.TopUp r) = 0
-
 pub around-differ : (file : OfficeFile) (free is : Key → Contents) (m : ℕ) (r : Register) (z w : ℕ) (p : ℕ → Option ℕ) (owners : List (ℕ × Option AccountId)) (below above : Option (ℕ × ℕ)) (without with : List (ℕ × ℕ)) (k : TotalKey) →
     m < (office_of file).meters → (office_of file).counts m r ≡ true →
     ((u : ℕ) → (u ≡ z → ⊥) → p u ≡ point free m r u) → IsOneMoreReading free is m r z w → EndsBefore (office_of file).end (point is m r) → ((t : ℕ) → owner_by_starts owners t ≡ owner_told free m t) →
@@ -110,7 +105,7 @@ around-differ file free is m r z w p owners below above without with (TopUps a) 
 around-differ file free is m r z w p owners below above without with (Energy owner band d) l c s o e h b f g j =
     let office = office_of file in
     let asked = of_band office owner band.0 in
-    let same : (u : ℕ) → (u ≡ z → ⊥) → point free m r u ≡ point is m r u = λ u n i. wh_of (o.elsewhere (reading_key m r u) (λ q. n (ap second_in q)) i) in
+    let same : (u : ℕ) → (u ≡ z → ⊥) → point free m r u ≡ point is m r u = λ u n. o.elsewhere m r u (λ _ _. n) in
     let around = stand-around p (point free m r) (point is m r) office.end z w below above s same o.free o.here e b f in
     let law = one-more_reading office free is m r z w below above o around l c asked d in
     let keeps = class_seconds file owners owner band.0 in
@@ -187,7 +182,7 @@ around-sums file free is m r z w was one two d starts lent again below above apa
 
 -- elsewhere nothing else counts
 pub others-agree : (free is : Key → Contents) (m : ℕ) (r : Register) (z w : ℕ) → IsOneMoreReading free is m r z w → (u : ℕ) → (u ≡ z → ⊥) → point is m r u ≡ point free m r u
-others-agree free is m r z w o u n = λ i. wh_of (sym (o.elsewhere (reading_key m r u) (λ q. n (ap second_in q))) i)
+others-agree free is m r z w o u n = sym (o.elsewhere m r u (λ _ _. n))
 
 pub starts-agree : (free is : Key → Contents) (m : ℕ) (r : Register) (z w : ℕ) → IsOneMoreReading free is m r z w → start is m ≡ start free m
-starts-agree free is m r z w o = λ i t. owner_of (sym (o.elsewhere (assignment_key m t) (λ j. cc)) i)
+starts-agree free is m r z w o = λ i. sym o.starts i m

@@ -13,11 +13,10 @@ use Rattle.pw_tariff.specs.Office.{OfficeRules}
 use Rattle.pw_tariff.specs.Owners.{StartsIncrease, owner_by_starts}
 use Rattle.pw_model.specs.declared.records.Contents.{Contents}
 use Rattle.pw_model.specs.declared.records.Key.{Key}
-use Rattle.pw_model.specs.declared.records.Key.TheVariants as key
 use Rattle.pw_model.specs.declared.records.TotalKey.{TotalKey}
 use Rattle.pw_model.specs.declared.records.TotalKey.TheVariants.{Energy, TopUps}
 use Rattle.pw_model.specs.Changes.{IsOtherStart}
-use Rattle.pw_model.specs.Counting.{assignment_key, owner_of, point, start}
+use Rattle.pw_model.specs.Counting.{point, start}
 use Rattle.pw_model.specs.Energy.{Asked, of_band, over_registers, owner_at, share_of}
 use Rattle.pw_model.specs.Shelf.{ShelfContent}
 use Rattle.pw_model.proofs.Assignments.{one-more_assignment}
@@ -107,15 +106,11 @@ told-otherwise told others xs e l = record {
   members = λ x. (λ m. sym (e x.0) ∙ (l.members x).0 m, λ p. (l.members x).1 (e x.0 ∙ p));
 }
 
-abbrev second_in : Key → ℕ
-second_in (key.Assignment m t) = t
-second_in _ = 0
-
 starts-after : (was is : Key → Contents) (told : ℕ → Option (Option AccountId)) (m z : ℕ) (owner : Option (Option AccountId)) → IsOtherStart was is m z → start is m z ≡ owner → told ≡ start was m →
     (t : ℕ) → cond (t == z) owner (told t) ≡ start is m t
 starts-after was is told m z owner o h e t = elim (cases_eq t z) [
   | inl i ↦ rw (eq-eqb t z i) (sym h ∙ ap (start is m) (sym i))
-  | inr n ↦ rw (ne_eqb t z n) (ap (λ (f : ℕ → Option (Option AccountId)). f t) e ∙ ap owner_of (o.elsewhere (assignment_key m t) (λ j. n (ap second_in j))))
+  | inr n ↦ rw (ne_eqb t z n) (ap (λ (f : ℕ → Option (Option AccountId)). f t) e ∙ o.elsewhere m t (λ _. n))
 ]
 
 -- owners that are those of a list of starts, as far as the starts rise

@@ -17,16 +17,15 @@ use Rattle.pw_model.specs.declared.records.TotalKey.{TotalKey}
 use Rattle.pw_model.specs.declared.records.TotalKey.TheVariants.{Energy, TopUps}
 use Rattle.pw_model.specs.Changes.{ChangesAtOneKey, IsOneMoreReading, IsOtherStart}
 use Rattle.pw_model.specs.Counting.{IsInserted, Member, contents_at, joined, point, start, wh_of, owner_of, reading_key, assignment_key}
-use Rattle.pw_flow.specs.Energy.{register_energy}
-use Rattle.pw_flow.specs.Time.{last, sum_over}
-use Rattle.pw_tariff.specs.Owners.{owner_from}
-use Rattle.pw_model.specs.Energy.{Asked, energy_where, of_band, over_registers, owner_at}
+use Rattle.pw_model.specs.Energy.{energy_where, of_band}
 use Rattle.pw_model.specs.Office.{AllOfOffice, HasOwner, IsOf, IsOffice, most_records}
 use Rattle.pw_model.specs.Payments.{cents_for, topped_up}
 use Rattle.pw_model.specs.Same.{same_key, same_content}
 use Rattle.pw_model.specs.Shelf.{IsTrueContent, ShelfContent, total_among}
+use Rattle.pw_model.proofs.Assignments.{one-start}
 use Rattle.pw_model.proofs.Bounded.{ToldOf, contents-of}
 use Rattle.pw_model.proofs.Counting.{entry, standing-part, inserted-same, one-is_counting, one-more_record}
+use Rattle.pw_model.proofs.Energy.{energy-alike, one-reading}
 use Rattle.pw_model.proofs.Foreign.{foreign-totals_are_none}
 use Rattle.pw_model.proofs.Payments.{one-more_payment}
 use Rattle.pw_model.proofs.Same.{same_key-decides, same_content-decides}
@@ -184,18 +183,14 @@ module _ (office : OfficeRules) (o : IsOffice office) (s : List Entry) (c : Coun
   reading-ended t w h = rw o.end (points-end office s c.meter.0 c.register (of-office-before office s old.records e j.inserted j.of_office) t w h)
 
   pub reading-begins : before ≡ Nothing → IsOneMoreReading (contents_at s) (contents_at old.records) c.meter.0 c.register c.instant c.wh
-  reading-begins q = record {
-    free = ap wh_of (told-before office s e before old j Nothing q);
-    here = ap wh_of (told-now office s e before old j Nothing q);
-    elsewhere = λ k n. sym ((changed office s e before old j).elsewhere k n);
-  }
+  reading-begins q =
+      one-reading (contents_at s) (contents_at old.records) c.meter.0 c.register c.instant c.wh
+      (ap wh_of (told-before office s e before old j Nothing q)) (ap wh_of (told-now office s e before old j Nothing q)) (λ k n. sym ((changed office s e before old j).elsewhere k n))
 
   pub reading-ceases : (v : ℕ) → before ≡ One (content.Reading v) → IsOneMoreReading (contents_at old.records) (contents_at s) c.meter.0 c.register c.instant v
-  reading-ceases v q = record {
-    free = ap wh_of (told-several office s e before old j (content.Reading v) q);
-    here = ap wh_of (told-before office s e before old j (One (content.Reading v)) q);
-    elsewhere = λ k n. (changed office s e before old j).elsewhere k n;
-  }
+  reading-ceases v q =
+      one-reading (contents_at old.records) (contents_at s) c.meter.0 c.register c.instant v
+      (ap wh_of (told-several office s e before old j (content.Reading v) q)) (ap wh_of (told-before office s e before old j (One (content.Reading v)) q)) (changed office s e before old j).elsewhere
 
   point-at : (w : Option ℕ) → wh_of (contents_at old.records e.key) ≡ w → (n : ℕ) (q : Register) (u : ℕ) → points_with old.point c.meter.0 c.register c.instant w n q u ≡ point (contents_at old.records) n q u
   point-at w h n q u = elim (cases_Bool (same_key e.key (reading_key n q u))) [
@@ -236,18 +231,6 @@ none-of false = refl
 abbrev account-in : TotalKey → ℕ
 account-in (Energy o b d) = 0
 account-in (TopUps a) = a.0
-
--- energies go by points and starts alone
-energy-by : OfficeRules → (ℕ → Register → ℕ → Option ℕ) → (ℕ → ℕ → Option (Option AccountId)) → Direction → Asked → ℕ
-energy-by office p q d asked =
-    sum_over (λ m. over_registers d (λ r. cond (office.counts m r) (register_energy (λ t. asked (owner_from (last (q m) t)) t) (p m r) office.end) 0)) 0 office.meters
-
-energy-is : (office : OfficeRules) (at : Key → Contents) (d : Direction) (asked : Asked) → energy_where office at d asked ≡ energy-by office (point at) (start at) d asked
-unfolding energy_where owner_at energy-by
-energy-is office at d asked = refl
-
-pub energy-alike : (office : OfficeRules) (at bt : Key → Contents) (d : Direction) (asked : Asked) → point at ≡ point bt → start at ≡ start bt → energy_where office at d asked ≡ energy_where office bt d asked
-energy-alike office at bt d asked p q = energy-is office at d asked ∙ (λ i. energy-by office (p i) (q i) d asked) ∙ sym (energy-is office bt d asked)
 
 module _ (office : OfficeRules) (o : IsOffice office) (s : List Entry) (r : List ℕ) (account : AccountId) (cents instant : ℕ) (before : Contents) (old : ShelfContent)
     (j : IsJustAdded office s (entry (key.TopUp r) (content.TopUp account cents instant)) before old) where
@@ -332,7 +315,7 @@ module _ (office : OfficeRules) (o : IsOffice office) (s : List Entry) (g : Give
   assigned = assignment_of g
 
   pub other-start : IsOtherStart (contents_at s) (contents_at old.records) g.meter.0 g.start
-  other-start = record { elsewhere = λ k n. sym ((changed office s assigned before old j).elsewhere k n) }
+  other-start = one-start (contents_at s) (contents_at old.records) g.meter.0 g.start (λ k n. sym ((changed office s assigned before old j).elsewhere k n))
 
   pub start-begins : before ≡ Nothing → start (contents_at old.records) g.meter.0 g.start ≡ Some g.owner
   start-begins q = ap owner_of (told-now office s assigned before old j Nothing q)

@@ -5,7 +5,7 @@ use Rattle.std.specs.List.{AllByRecursion}
 use Rattle.std.specs.List.Sorted.{IsStrictlySortedBy}
 use Rattle.std.specs.Map.{keys_of, lookup}
 use Rattle.std.specs.BTreeMap.{BTreeMap, IsOrdered, get, is_at}
-use Rattle.std.specs.Ordering.{is_eq, nat_cmp, ordering_reverse, ordering_then}
+use Rattle.std.specs.Ordering.{is_eq, nat_cmp, ordering_then}
 use Rattle.std.proofs.lemmas.Bool.{cases_Bool, true≢false}
 use Rattle.std.proofs.lemmas.Cmp.{tied_itself}
 use Rattle.std.proofs.lemmas.Nat.{mul-add-lt, row_fits}
@@ -22,13 +22,14 @@ use Rattle.pw_model.specs.Office.{HasOwner}
 use Rattle.pw_model.specs.Same.{direction_place, total_numbers, total_order, same_total}
 use Rattle.pw_model.specs.Shelf.{ShelfContent}
 use Rattle.pw_model.proofs.InKeyOrder.{totals-ordered}
-use Rattle.pw_parts.specs.inner.Totals.{total_key_order}
+use Rattle.pw_parts.specs.Changes.{total_key_order}
 use Rattle.pw_parts.proofs.Chart.{less-is}
+use Rattle.pw_parts.proofs.Kept.{all-key, member-lookup}
 use Rattle.pw_tariff.specs.Office.{OfficeRules}
-use Rattle.pw_book.specs.declared.changes.Change.{Change}
-use Rattle.pw_book.specs.declared.changes.Side.{Side}
+use Rattle.pw_parts.specs.declared.changes.Change.{Change}
+use Rattle.pw_parts.specs.declared.changes.Side.{Side}
 use Rattle.pw_book.specs.inner.Moves.{MovesTotals, OfOwners}
-use Rattle.pw_book.specs.inner.Sums.{amount_told, gathered}
+use Rattle.pw_parts.specs.Changes.{amount_told, gathered}
 use Rattle.pw_book.proofs.Changing.{moves-at, moves-none, moves-then, moves-told, of-owners}
 use Rattle.pw_model.proofs.TotalKeys.{same_total-decides, total-tested}
 
@@ -43,30 +44,11 @@ pub record IsRest (rows : BTreeMap TotalKey Change) (rest : List (TotalKey × Ch
   pub rises : IsStrictlySortedBy total_key_order (keys_of rest)
   pub held : (e : TotalKey × Change) → Member e rest → get total_key_order rows e.0 ≡ Some e.1
 
-all-key : (P : TotalKey → Type 0) (es : List (TotalKey × Change)) (t : TotalKey × Change) → AllByRecursion P (keys_of es) → Member t es → P t.0
-all-key P [] t h m = absurd m
-all-key P (e ∷ es) t h m = elim m [
-  | inl i ↦ subst P (sym (ap (λ (a : TotalKey × Change). a.0) i)) h.0
-  | inr n ↦ all-key P es t h.1 n
-]
-
-member-found : (es : List (TotalKey × Change)) → IsStrictlySortedBy total_key_order (keys_of es) → (t : TotalKey × Change) → Member t es → lookup (is_at (total_key_order t.0)) es ≡ Some t.1
-unfolding IsStrictlySortedBy
-member-found [] s t m = absurd m
-member-found (e ∷ es) s t m =
-    elim m [
-      | inl i ↦ (let j : total_key_order t.0 e.0 ≡ Equal = ap (λ (a : TotalKey × Change). total_key_order t.0 a.0) (sym i) ∙ tied_itself total_laws.total-law t.0 in
-          let v : e.1 ≡ t.1 = ap (λ (a : TotalKey × Change). a.1) (sym i) in rw j (ap (λ (a : Change). Some a) v))
-      | inr n ↦ (let less : total_key_order e.0 t.0 ≡ Less = all-key (λ y. total_key_order e.0 y ≡ Less) es t s.0 n in
-          let greater : total_key_order t.0 e.0 ≡ Greater = total_laws.total-law.antisymm t.0 e.0 ∙ ap ordering_reverse less in
-          rw greater (member-found es s.1 t n))
-    ]
-
 -- at first, all of them
 pub rest-all : (rows : BTreeMap TotalKey Change) (rest : List (TotalKey × Change)) → IsOrdered total_key_order rows → rest ≡ rows.entries → IsRest rows rest
 rest-all rows rest s e =
     let P : List (TotalKey × Change) → Type 0 = λ es. IsRest rows es in
-    subst P (sym e) (record { rises = s; held = λ t m. member-found rows.entries s t m })
+    subst P (sym e) (record { rises = s; held = λ t m. member-lookup rows.entries s t m })
 
 -- one behind another
 pub rest-next : (rows : BTreeMap TotalKey Change) (e : TotalKey × Change) (rest : List (TotalKey × Change)) → IsRest rows (e ∷ rest) → IsRest rows rest

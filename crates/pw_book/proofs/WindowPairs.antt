@@ -24,13 +24,13 @@ use Rattle.pw_model.specs.Energy.{Asked, asked_seconds, of_band, owner_at}
 use Rattle.pw_model.specs.Lists.{IsInOrder}
 use Rattle.pw_model.specs.Same.{direction_of, same_direction}
 use Rattle.pw_model.specs.Shelf.{ShelfContent}
-use Rattle.pw_model.proofs.Assignments.{points-same}
 use Rattle.pw_model.proofs.Windows.{other-window}
 use Rattle.pw_shelf.specs.Rows.{rows_found}
 use Rattle.pw_shelf.specs.Seconds.{IsBefore, IsBehind, ListsSecondsWithin}
 use Rattle.pw_model.specs.Seconds.{by_second}
 use Rattle.pw_book.specs.inner.Settling.{EndsBefore, EndsBeforeNext, IsStartChanged, ListsUpToNextStart, register_told}
-use Rattle.pw_book.specs.inner.Sums.{pairs_for, point_listed}
+use Rattle.pw_parts.specs.Changes.{pairs_for}
+use Rattle.pw_book.specs.inner.Sums.{point_listed}
 use Rattle.pw_parts.proofs.Chart.{less-is}
 use Rattle.pw_model.proofs.InOrder.{before-member}
 use Rattle.pw_model.proofs.EntryOrder.{before-all}
@@ -197,7 +197,7 @@ taken-changes : (office : OfficeRules) (old new : Key → Contents) (m z : ℕ) 
     ≡ register_energy (asked_seconds new asked m) (point new m r) office.end + pairs_sum (asked_seconds old asked m) ps
 taken-changes office old new m z r asked [] o e t =
     let a = no-energy (asked_seconds old asked m) (point old m r) office.end t in
-    let b = no-energy (asked_seconds new asked m) (point new m r) office.end (λ s. ap (λ (f : ℕ → Option ℕ). f s) (sym (points-same old new m z o m r)) ∙ t s) in
+    let b = no-energy (asked_seconds new asked m) (point new m r) office.end (λ s. ap (λ (f : ℕ → Register → ℕ → Option ℕ). f m r s) (sym o.points) ∙ t s) in
     omega (arith, a, b)
 taken-changes office old new m z r asked (a ∷ ps) o e t =
     other-window office old new m z o r asked a ps t (e (last_of a ps).0 (last_of a ps).1 (chain-last (point old m r) a ps t.chain))

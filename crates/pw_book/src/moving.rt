@@ -6,13 +6,13 @@ ghost use Rattle.pw_model.specs.Office.{HasOwner};
 ghost use Rattle.pw_shelf.specs.Calls.{GoesOn, failures_told};
 ghost use Rattle.pw_tariff.specs.Office.{office_of};
 ghost use Rattle.pw_book.specs.Cost.{classes_of};
-ghost use Rattle.pw_book.specs.declared.changes.Side.{Side as ASide};
+ghost use Rattle.pw_parts.specs.declared.changes.Side.{Side as ASide};
 ghost use Rattle.pw_book.specs.inner.Moves.{MovesTotals, OfOwners, most_total};
-ghost use Rattle.pw_book.specs.inner.Sums.{gathered, other_side};
+ghost use Rattle.pw_parts.specs.Changes.{gathered, other_side};
 
-use crate::changes::{Changes, Side};
 use pw_model::{MOST_RECORDS, TotalKey};
 use pw_obis::LARGEST_WATT_HOURS;
+use pw_parts::{Changes, Side};
 use pw_shelf::{Shelf, ShelfFault};
 use pw_tariff::{Office, Owner};
 

@@ -26,7 +26,7 @@ use Rattle.pw_model.specs.Bounds.{TotalsAreBounded}
 use Rattle.pw_time.specs.declared.instant.TheConstants.{END_SECOND}
 use Rattle.pw_model.proofs.Same.{same_key-decides}
 use Rattle.pw_model.proofs.Counting.{entry, standing-part, one-is_counting, one-more_record}
-use Rattle.pw_model.proofs.Energy.{one-more_reading}
+use Rattle.pw_model.proofs.Energy.{one-reading, one-more_reading}
 use Rattle.pw_model.proofs.Payments.{one-more_payment}
 use Rattle.pw_flow.specs.Time.{last, next, sum_over}
 use Rattle.pw_flow.specs.Flow.{flow}
@@ -202,7 +202,7 @@ step office old new (key.TopUp x) c r d n h = same-total office old new d (λ a 
 step office old new (key.Reading m q t) (content.Assignment o) r d n h = absurd h.fits
 step office old new (key.Reading m q t) (content.TopUp a c i) r d n h = absurd h.fits
 step office old new (key.Reading m q t) (content.Reading w) Nothing d n h =
-    let more : IsOneMoreReading old new m.0 q t w = record { free = ap wh_of h.was; here = ap wh_of h.is; elsewhere = λ l x. sym (h.elsewhere l x) } in
+    let more : IsOneMoreReading old new m.0 q t w = one-reading old new m.0 q t w (ap wh_of h.was) (ap wh_of h.is) (λ l x. sym (h.elsewhere l x)) in
     (reading-near office old new m.0 q t w d more (omega (arith, n, h.fits.2.1)) h.fits.0 h.fits.1 h.fits.3 (h.old_points m.0 q)).up
 step office old new (key.Reading m q t) (content.Reading w) Several d n h =
     same-total office old new d (λ a p u. ap wh_of (sym (everywhere old new (key.Reading m q t) (h.is ∙ sym h.was) h.elsewhere (reading_key a p u))))
@@ -215,7 +215,7 @@ step office old new (key.Reading m q t) (content.Reading w) (One (content.Readin
           same-total office old new d (λ a p u. ap wh_of (sym (everywhere old new (key.Reading m q t) (is ∙ sym h.was) h.elsewhere (reading_key a p u)))))
       | inr f ↦ (
           let is : new (key.Reading m q t) ≡ Several = h.is ∙ ap (λ b. cond b (One (content.Reading v)) Several) f in
-          let less : IsOneMoreReading new old m.0 q t v = record { free = ap wh_of is; here = ap wh_of h.was; elsewhere = h.elsewhere } in
+          let less : IsOneMoreReading new old m.0 q t v = one-reading new old m.0 q t v (ap wh_of is) (ap wh_of h.was) h.elsewhere in
           (reading-near office new old m.0 q t v d less (omega (arith, n, h.fits.2.1)) h.fits.0 h.fits.1 h.was_fit.3 (h.new_points m.0 q)).down)
     ]
 

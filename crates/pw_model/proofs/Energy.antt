@@ -1,7 +1,8 @@
--- One more counting reading.
-use Rattle.std.proofs.Common.{◌≡◌, ℕ, ◌+◌, Bool, true, cond, Option, Some, ap, ◌∙◌, arith}
+-- Energies by points and starts, and one more counting reading.
+use Rattle.std.proofs.Common.{◌≡◌, ℕ, ◌+◌, Bool, true, cond, Option, Some, None, refl, ap, sym, ◌∙◌, arith}
 use Rattle.pw_obis.specs.declared.reference.Register.{Register}
 use Rattle.pw_obis.specs.declared.reference.Register.TheVariants.{I0, I1, I2, E0, E1, E2}
+use Rattle.pw_tariff.specs.declared.ids.AccountId.{AccountId}
 use Rattle.pw_tariff.specs.declared.ids.Direction.{Direction}
 use Rattle.pw_tariff.specs.declared.ids.Direction.TheVariants.{Import, Export}
 use Rattle.pw_model.specs.declared.records.Key.{Key}
@@ -14,7 +15,7 @@ use Rattle.pw_model.specs.Energy.{Asked, asked_seconds, owner_at, over_registers
 use Rattle.pw_model.specs.Changes.{OneMoreReading}
 use Rattle.pw_model.specs.Changes.{in_direction}
 use Rattle.pw_model.specs.Changes.{IsOneMoreReading}
-use Rattle.pw_flow.specs.Time.{last}
+use Rattle.pw_flow.specs.Time.{last, sum_over}
 use Rattle.pw_flow.specs.Energy.{register_energy}
 use Rattle.pw_flow.specs.Pairs.{StandAround}
 use Rattle.pw_flow.specs.Pairs.{IsMore}
@@ -22,6 +23,19 @@ use Rattle.pw_flow.specs.Pairs.{cell_between}
 use Rattle.pw_flow.proofs.Sums.{sum-change}
 use Rattle.pw_flow.proofs.Insert.{energy-more}
 
+-- ---- energies go by points and starts alone
+energy-by : OfficeRules → (ℕ → Register → ℕ → Option ℕ) → (ℕ → ℕ → Option (Option AccountId)) → Direction → Asked → ℕ
+energy-by office p q d asked =
+    sum_over (λ m. over_registers d (λ r. cond (office.counts m r) (register_energy (λ t. asked (owner_from (last (q m) t)) t) (p m r) office.end) 0)) 0 office.meters
+
+energy-is : (office : OfficeRules) (at : Key → Contents) (d : Direction) (asked : Asked) → energy_where office at d asked ≡ energy-by office (point at) (start at) d asked
+unfolding energy_where owner_at energy-by
+energy-is office at d asked = refl
+
+pub energy-alike : (office : OfficeRules) (at bt : Key → Contents) (d : Direction) (asked : Asked) → point at ≡ point bt → start at ≡ start bt → energy_where office at d asked ≡ energy_where office bt d asked
+energy-alike office at bt d asked p q = energy-is office at d asked ∙ (λ i. energy-by office (p i) (q i) d asked) ∙ sym (energy-is office bt d asked)
+
+-- ---- one counting reading more
 -- a sum over a direction's registers of which one changes
 pub registers-change : (d : Direction) (r : Register) (f g : Register → ℕ) (a b : ℕ) → ((s : Register) → (s ≡ r → ⊥) → f s ≡ g s) → g r + a ≡ f r + b →
     over_registers d g + in_direction d r a ≡ over_registers d f + in_direction d r b
@@ -51,16 +65,23 @@ abbrev instant_in : Key → ℕ
 instant_in (key.Reading m r t) = t
 instant_in _ = 0
 
+-- where all agrees at the other keys, one reading more is all that is told
+pub one-reading : (old new : Key → Contents) (m : ℕ) (r : Register) (z w : ℕ) → point old m r z ≡ None → point new m r z ≡ Some w → ((k : Key) → (k ≡ reading_key m r z → ⊥) → old k ≡ new k) → IsOneMoreReading old new m r z w
+one-reading old new m r z w f g h = record {
+  free = f;
+  here = g;
+  elsewhere = λ n q t d. ap wh_of (h (reading_key n q t) (λ j. d (ap meter_in j) (ap register_in j) (ap instant_in j)));
+  starts = λ i n t. owner_of (h (assignment_key n t) (λ j. cc) i);
+}
+
 -- the owners don't change
-pub seconds-same : (old new : Key → Contents) (m : ℕ) (r : Register) (z w : ℕ) → IsOneMoreReading old new m r z w → (asked : Asked) (n : ℕ) → asked_seconds old asked n ≡ asked_seconds new asked n
+seconds-same : (old new : Key → Contents) (m : ℕ) (r : Register) (z w : ℕ) → IsOneMoreReading old new m r z w → (asked : Asked) (n : ℕ) → asked_seconds old asked n ≡ asked_seconds new asked n
 unfolding owner_at
-seconds-same old new m r z w h asked n =
-    let s : start old n ≡ start new n = λ i t. owner_of (h.elsewhere (assignment_key n t) (λ j. cc) i) in
-    λ i t. asked (owner_from (last (s i) t)) t
+seconds-same old new m r z w h asked n = λ i t. asked (owner_from (last (h.starts i n) t)) t
 
 -- nor do the readings of other meters and registers
-pub point-same : (old new : Key → Contents) (m : ℕ) (r : Register) (z w : ℕ) → IsOneMoreReading old new m r z w → (n : ℕ) (s : Register) → (n ≡ m → s ≡ r → ⊥) → point old n s ≡ point new n s
-point-same old new m r z w h n s d = λ i t. wh_of (h.elsewhere (reading_key n s t) (λ j. d (ap meter_in j) (ap register_in j)) i)
+point-same : (old new : Key → Contents) (m : ℕ) (r : Register) (z w : ℕ) → IsOneMoreReading old new m r z w → (n : ℕ) (s : Register) → (n ≡ m → s ≡ r → ⊥) → point old n s ≡ point new n s
+point-same old new m r z w h n s d = λ i t. h.elsewhere n s t (λ a b _. d a b) i
 
 share-same : (office : OfficeRules) (old new : Key → Contents) (m : ℕ) (r : Register) (z w : ℕ) → IsOneMoreReading old new m r z w → (asked : Asked) (n : ℕ) (s : Register) → (n ≡ m → s ≡ r → ⊥) →
     share_of office old asked n s ≡ share_of office new asked n s
@@ -79,7 +100,7 @@ share-more : (office : OfficeRules) (old new : Key → Contents) (m : ℕ) (r : 
     share_of office new asked m r + cell_between (asked_seconds old asked m) below above
     ≡ share_of office old asked m r + (cell_between (asked_seconds old asked m) below (Some (z, w)) + cell_between (asked_seconds old asked m) (Some (z, w)) above)
 share-more office old new m r z w below above h g c asked =
-    let more : IsMore (point old m r) (point new m r) z w = record { free = h.free; here = h.here; same = λ s d. ap wh_of (h.elsewhere (reading_key m r s) (λ j. d (ap instant_in j))) } in
+    let more : IsMore (point old m r) (point new m r) z w = record { free = h.free; here = h.here; same = λ s d. h.elsewhere m r s (λ _ _. d) } in
     let e = energy-more (asked_seconds old asked m) (point old m r) (point new m r) office.end z w below above more g in
     rw (c, ← seconds-same old new m r z w h asked m) e
 

@@ -10,7 +10,7 @@ use Rattle.pw_model.specs.Energy.{Asked, owner_at, asked_seconds}
 use Rattle.pw_model.specs.Changes.{OtherStartWindow}
 use Rattle.pw_model.specs.Changes.{TakesIn}
 use Rattle.pw_model.specs.Changes.{IsOtherStart}
-use Rattle.pw_model.proofs.Assignments.{points-same, before-start, behind-next}
+use Rattle.pw_model.proofs.Assignments.{before-start, behind-next}
 use Rattle.pw_flow.specs.Flow.{flow}
 use Rattle.pw_flow.specs.Energy.{kept, register_energy}
 use Rattle.pw_flow.specs.Pairs.{last_of}
@@ -51,7 +51,7 @@ late-same office old new m z h r asked a ps w t l =
 
 pub other-window : OtherStartWindow
 other-window office old new m z h r asked a ps w l =
-    let same : point old m r ≡ point new m r = points-same old new m z h m r in
+    let same : point old m r ≡ point new m r = λ i. h.points i m r in
     energy-window (asked_seconds old asked m) (asked_seconds new asked m) (point old m r) office.end a ps w.chain l
     (early-same office old new m z h r asked a ps w) (late-same office old new m z h r asked a ps w)
     ∙ ap (λ (p : ℕ → Option ℕ). register_energy (asked_seconds new asked m) p office.end + pairs_sum (asked_seconds old asked m) (a ∷ ps)) same

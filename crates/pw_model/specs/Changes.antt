@@ -10,16 +10,18 @@ use Rattle.pw_model.specs.declared.records.Key.{Key}
 use Rattle.pw_model.specs.declared.records.Contents.{Contents}
 use Rattle.pw_model.specs.declared.records.Entry.{Entry}
 use Rattle.pw_model.specs.Same.{same_direction, direction_of}
-use Rattle.pw_model.specs.Counting.{IsInserted, joined, contents_at, point, start, reading_key, assignment_key}
+use Rattle.pw_model.specs.Counting.{IsInserted, joined, contents_at, point, start}
 use Rattle.pw_tariff.specs.Office.{OfficeRules}
 use Rattle.pw_model.specs.Energy.{Asked, owner_at, share_of, over_registers, asked_seconds, energy_where}
 use Rattle.pw_model.specs.Payments.{topped_up, cents_for}
 
--- at one key old has no reading that counts and new has this one, and elsewhere they agree
+-- of this meter, register and second old has no reading that counts and new has this one; the other readings that count are
+-- the same, and so are the assignments that count
 pub record IsOneMoreReading (old new : Key → Contents) (m : ℕ) (r : Register) (z w : ℕ) : Type 0 where
   pub free : point old m r z ≡ None
   pub here : point new m r z ≡ Some w
-  pub elsewhere : (k : Key) → (k ≡ reading_key m r z → ⊥) → old k ≡ new k
+  pub elsewhere : (n : ℕ) (q : Register) (t : ℕ) → (n ≡ m → q ≡ r → t ≡ z → ⊥) → point old n q t ≡ point new n q t
+  pub starts : start old ≡ start new
 
 -- n where the register is one of the direction
 abbrev pub in_direction : Direction → Register → ℕ → ℕ
@@ -48,9 +50,11 @@ abbrev pub OneMorePayment : Type 0
 OneMorePayment = (s t : List Entry) (e : Entry) → IsInserted e s t → (a : ℕ) →
     topped_up t a + cents_for a (contents_at s e.key) ≡ topped_up s a + cents_for a (contents_at t e.key)
 
--- one meter has another assignment from one second on, and elsewhere they agree
+-- of this meter another assignment may count from this second on; the other assignments that count are the same, and so are
+-- the readings that count
 pub record IsOtherStart (old new : Key → Contents) (m z : ℕ) : Type 0 where
-  pub elsewhere : (k : Key) → (k ≡ assignment_key m z → ⊥) → old k ≡ new k
+  pub points : point old ≡ point new
+  pub elsewhere : (n t : ℕ) → (n ≡ m → t ≡ z → ⊥) → start old n t ≡ start new n t
 
 -- its owners change from that second up to the next counting start alone, and the energies by what its registers change
 pub record HaveOtherOwners (office : OfficeRules) (old new : Key → Contents) (m z : ℕ) : Type 0 where

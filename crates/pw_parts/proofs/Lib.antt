@@ -7,7 +7,7 @@ pub mod Owning
 pub mod Paid
 pub mod Parted
 pub mod Kept
-pub mod Spread
+pub mod Gathering
 pub mod Sharing
 pub mod Meters
 pub mod Whole

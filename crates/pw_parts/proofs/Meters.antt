@@ -11,6 +11,7 @@ use Rattle.pw_obis.specs.declared.reference.Register.{Register}
 use Rattle.pw_time.specs.declared.instant.TheConstants.{END_SECOND}
 use Rattle.pw_tariff.specs.declared.ids.AccountId.{AccountId}
 use Rattle.pw_tariff.specs.declared.ids.Direction.{Direction}
+use Rattle.pw_tariff.specs.declared.ids.Direction.TheVariants.{Import, Export}
 use Rattle.pw_tariff.specs.declared.ids.MeterId.{MeterId}
 use Rattle.pw_tariff.specs.Office.{OfficeFile, OfficeRules, office_of}
 use Rattle.pw_tariff.specs.Owners.{owner_by_starts}
@@ -23,19 +24,18 @@ use Rattle.pw_model.specs.declared.records.TotalKey.TheVariants.{Energy, TopUps}
 use Rattle.pw_model.specs.Counting.{Counts, Member, contents_at, point, start}
 use Rattle.pw_model.specs.Energy.{owner_at as owner_told, energy_where, of_band, share_of}
 use Rattle.pw_model.specs.Office.{AllOfOffice}
-use Rattle.pw_model.specs.Same.{direction_of, total_numbers}
+use Rattle.pw_model.specs.Same.{direction_of, same_total, total_numbers}
 use Rattle.pw_model.proofs.Counting.{standing-part}
 use Rattle.pw_model.proofs.PlainEnergy.{sum-next, sum-to}
 use Rattle.pw_parts.specs.Shown.{shown}
 use Rattle.pw_model.specs.Seconds.{ListsSeconds}
+use Rattle.pw_parts.specs.Changes.{pairs_for}
 use Rattle.pw_parts.specs.inner.Counted.{ListsCounting, given}
-use Rattle.pw_parts.specs.inner.Given.{in_way, pairs_given, register_given, registers_given, meter_given, energies_given, payment_given, AreCounted}
+use Rattle.pw_parts.specs.inner.Given.{in_way, register_given, registers_given, meter_given, energies_given, payment_given, AreCounted}
 use Rattle.pw_model.specs.Kinds.{ListsHeld, IsReadingOf, IsAssignmentOf}
-use Rattle.pw_parts.specs.inner.Totals.{given_at}
 use Rattle.pw_parts.proofs.Chart.{listed}
 use Rattle.pw_parts.proofs.Seconds.{seconds-given, seconds-shown}
 use Rattle.pw_parts.proofs.Sharing.{points-end, counted-share, uncounted-share}
-use Rattle.pw_parts.proofs.Spread.{way-none}
 
 -- where all records count, those of a kind are those of the kind that count
 pub all-count : (Of : Key → Type 0) (records found : List Entry) → ((e : Entry) → Member e records → Counts records e) → ListsHeld Of records found → ListsCounting Of records found
@@ -48,6 +48,12 @@ all-count Of records found c l = record {
 }
 
 -- ---- a register
+way-none : (d e : Direction) → in_way d e 0 ≡ 0
+way-none Import Import = refl
+way-none Import Export = refl
+way-none Export Import = refl
+way-none Export Export = refl
+
 module _ (file : OfficeFile) (s : List Entry) (m : ℕ) (r : Register) where
   pub register-none : (office_of file).counts m r ≡ false → (k : TotalKey) → register_given (office_of file) s m r k ≡ 0
   register-none c (Energy o b e) = ap (λ n. in_way (direction_of r) e n) (sym (uncounted-share file s (of_band (office_of file) o b.0) m r c)) ∙ way-none (direction_of r) e
@@ -55,7 +61,7 @@ module _ (file : OfficeFile) (s : List Entry) (m : ℕ) (r : Register) where
 
   pub register-is : (owners : List (ℕ × Option AccountId)) (d : Direction) (ps : List (ℕ × ℕ)) → d ≡ direction_of r → AllOfOffice (office_of file) s →
       ((t : ℕ) → owner_by_starts owners t ≡ owner_told (contents_at s) m t) → (office_of file).counts m r ≡ true → ListsSeconds (point (contents_at s) m r) ps →
-      (k : TotalKey) → pairs_given d file owners ps k ≡ register_given (office_of file) s m r k
+      (k : TotalKey) → pairs_for file owners d ps k ≡ register_given (office_of file) s m r k
   register-is owners d ps i h w c l (Energy o b e) =
       let told = point (contents_at s) m r in
       let asked = class_seconds file owners o b.0 in
@@ -100,7 +106,7 @@ and-true : (b : Bool) → (b && true) ≡ b
 and-true true = refl
 and-true false = refl
 
-pub paid-is : (e : Entry) (a : AccountId) (n p t : ℕ) (k : TotalKey) → e.content ≡ content.TopUp a n t → p ≡ n → given_at (TopUps a) p k ≡ payment_given e k
+pub paid-is : (e : Entry) (a : AccountId) (n p t : ℕ) (k : TotalKey) → e.content ≡ content.TopUp a n t → p ≡ n → let n : ℕ = cond (same_total (TopUps a) k) p 0 in n ≡ payment_given e k
 unfolding total_numbers
 paid-is e a n p t (Energy o b d) i j = refl
 paid-is e a n p t (TopUps b) i j = rw (i, j) (ap (λ x. cond x n 0) (and-true (a.0 == b.0)))

@@ -1,12 +1,9 @@
 -- The records of a set that count tell all of its points, starts and totals.
-use Rattle.std.proofs.Common.{◌≡◌, ℕ, ◌+◌, ◌^◌, ◌<◌, ◌≤◌, cond, Option, Some, None, List, [], ◌∷◌, length, ◌↔◌, refl, sym, ◌∙◌, inl, inr, arith, Ordering}
+use Rattle.std.proofs.Common.{◌≡◌, ℕ, ◌+◌, ◌^◌, ◌<◌, ◌≤◌, Option, Some, None, List, [], ◌∷◌, length, ◌↔◌, refl, sym, ◌∙◌, inl, inr, arith, Ordering}
 use Rattle.pw_obis.specs.declared.reference.Register.{Register}
-use Rattle.pw_flow.specs.Energy.{register_energy}
-use Rattle.pw_flow.specs.Time.{last, sum_over}
 use Rattle.pw_tariff.specs.declared.ids.AccountId.{AccountId}
 use Rattle.pw_tariff.specs.declared.ids.Direction.{Direction}
 use Rattle.pw_tariff.specs.Office.{OfficeRules}
-use Rattle.pw_tariff.specs.Owners.{owner_from}
 use Rattle.pw_model.specs.declared.records.Key.{Key}
 use Rattle.pw_model.specs.declared.records.Content.TheVariants as content
 use Rattle.pw_model.specs.declared.records.Contents.TheVariants.{One}
@@ -14,7 +11,7 @@ use Rattle.pw_model.specs.declared.records.Entry.{Entry}
 use Rattle.pw_model.specs.declared.records.TotalKey.{TotalKey}
 use Rattle.pw_model.specs.declared.records.TotalKey.TheVariants.{Energy, TopUps}
 use Rattle.pw_model.specs.Counting.{Member, Counts, contents_at, point, start, reading_key, assignment_key}
-use Rattle.pw_model.specs.Energy.{Asked, energy_where, of_band, over_registers, owner_at}
+use Rattle.pw_model.specs.Energy.{Asked, energy_where, of_band}
 use Rattle.pw_model.specs.Laws.{AreTopUps}
 use Rattle.pw_model.specs.Lists.{IsBeforeAll, IsInOrder, Lists}
 use Rattle.pw_model.specs.Office.{AllOfOffice, IsOffice, most_records}
@@ -22,6 +19,7 @@ use Rattle.pw_model.specs.Payments.{topped_up}
 use Rattle.pw_model.specs.Same.{entry_order}
 use Rattle.pw_model.specs.Shelf.{total_among}
 use Rattle.pw_model.proofs.Counting.{entry, standing-part, standing-member, one-is_counting}
+use Rattle.pw_model.proofs.Energy.{energy-alike}
 use Rattle.pw_model.proofs.PlainEnergy.{energy-fits, topped-fits}
 use Rattle.pw_model.proofs.TopUps.{top-ups_add_up}
 use Rattle.pw_parts.specs.Parts.{by_key}
@@ -103,11 +101,7 @@ module _ (s counted : List Entry) (l : Lists entry_order (Counts s) counted) whe
 
   -- ---- totals
   energies-same : (office : OfficeRules) (d : Direction) (asked : Asked) → energy_where office (contents_at counted) d asked ≡ energy_where office (contents_at s) d asked
-  unfolding energy_where owner_at
-  energies-same office d asked =
-      let all : (ℕ → Register → ℕ → Option ℕ) → (ℕ → ℕ → Option (Option AccountId)) → ℕ =
-      λ p q. sum_over (λ m. over_registers d (λ r. cond (office.counts m r) (register_energy (λ t. asked (owner_from (last (q m) t)) t) (p m r) office.end) 0)) 0 office.meters in
-      λ i. all (λ m r t. points-same m r t i) (λ m t. starts-same m t i)
+  energies-same office d asked = energy-alike office (contents_at counted) (contents_at s) d asked (λ i m r t. points-same m r t i) (λ i m t. starts-same m t i)
 
   topped-same : (a : ℕ) → topped_up counted a ≡ topped_up s a
   topped-same a =

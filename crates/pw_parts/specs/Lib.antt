@@ -4,8 +4,10 @@
 pub mod Parts
 pub mod Laws
 -- and these where a contract names them:
+-- Changes: what totals lose and gain, and what pairs of readings give to them
 -- Groups: how many records behind one have its key
 -- Shown: when a reading was taken, and what it shows
+pub mod Changes
 pub mod Groups
 pub mod Shown
 -- named by private functions, tests and proofs alone

@@ -8,10 +8,10 @@ ghost use Rattle.pw_tariff.specs.Owners.{owner_by_starts};
 ghost use Rattle.pw_parts.specs.inner.Given.{AreCounted, energies_given, meter_given, register_given};
 ghost use Rattle.pw_parts.specs.inner.Totals.{HasRoom, IsGiven};
 
-use crate::energy::add_points;
+use crate::changes::{Changes, Side};
+use crate::pairs::add_pairs;
 use crate::places::{assignments_of, readings_of};
 use crate::told::{readings_shown, starts_given};
-use crate::totals::Totals;
 use pw_model::{Entry, direction_of};
 use pw_obis::Register;
 use pw_tariff::{MeterId, Office, Owners};
@@ -20,7 +20,7 @@ use std::alloc::{AllocError, Global};
 
 // Gives each owner and band what flows for them through all meters, told by records in order that all count.
 pub(crate) fn add_meters(
-    totals: &mut Totals,
+    totals: &mut Changes,
     alloc: Global,
     office: &Office,
     zone: &Zone,
@@ -38,7 +38,7 @@ pub(crate) fn add_meters(
 
 // Gives each owner and band what flows for them through a meter.
 fn add_meter(
-    totals: &mut Totals,
+    totals: &mut Changes,
     alloc: Global,
     office: &Office,
     zone: &Zone,
@@ -66,7 +66,7 @@ fn add_meter(
 // Gives each owner and band what flows for them in a register of a meter with these owners: nothing where the register
 // doesn't count.
 fn add_register(
-    totals: &mut Totals,
+    totals: &mut Changes,
     alloc: Global,
     office: &Office,
     zone: &Zone,
@@ -87,5 +87,14 @@ fn add_register(
     let readings = readings_of(records, meter, register);
     let points = readings_shown(alloc, readings)?;
     let direction = direction_of(register);
-    add_points(totals, alloc, office, zone, owners, direction, &points)
+    add_pairs(
+        alloc,
+        office,
+        zone,
+        owners,
+        direction,
+        &points,
+        Side::Gains,
+        totals,
+    )
 }

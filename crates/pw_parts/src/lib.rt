@@ -1,17 +1,19 @@
 //! The points, starts and totals of a set of records, from the records alone.
 #![tactic(auto)]
 
+mod changes;
 mod counting;
 mod energies;
-mod energy;
 pub mod laws;
+mod pairs;
 mod parts;
 mod payments;
 mod place;
 mod places;
 mod told;
-mod totals;
 
+pub use changes::{Change, Changes, Side};
 pub use counting::{counting_among, same_key_behind};
+pub use pairs::{Point, add_pairs};
 pub use parts::{Parts, true_parts};
 pub use told::readings_shown;

@@ -8,11 +8,11 @@ ghost use Rattle.pw_tariff.specs.Office.{office_of};
 ghost use Rattle.pw_parts.specs.Parts.{IsPartsOf, by_total};
 ghost use Rattle.pw_parts.specs.inner.Given.{AreCounted};
 
+use crate::changes::Changes;
 use crate::counting::counting;
 use crate::energies::add_meters;
 use crate::payments::add_payments;
 use crate::places::{assignments_among, readings_among, top_ups_among};
-use crate::totals::Totals;
 use pw_model::{Entry, TotalKey};
 use pw_tariff::Office;
 use pw_time::Zone;
@@ -69,8 +69,8 @@ fn totals_of(
 {
     // an office is sound, so that no total is too large
     let _meters = office.meters();
-    let mut totals = Totals::new(alloc);
+    let mut totals = Changes::new(alloc);
     add_meters(&mut totals, alloc, office, zone, records)?;
     add_payments(&mut totals, top_ups_among(records))?;
-    totals.listed(alloc)
+    totals.gains(alloc)
 }

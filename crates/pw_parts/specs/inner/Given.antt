@@ -1,17 +1,14 @@
--- What pairs of readings, registers, meters and top-ups give to each total. It serves `src/energy.rt`, `src/energies.rt` and
+-- What cells, registers, meters and top-ups give to each total. It serves `src/changes.rt`, `src/energies.rt` and
 -- `src/payments.rt`.
 -- (Definitions of this project.)
 use Rattle.std.specs.Prelude.{ℕ, cond, Option, List}
 use Rattle.std.specs.List.{sum_by}
-use Rattle.pw_flow.specs.Energy.{cell}
-use Rattle.pw_flow.specs.Pairs.{pairs_sum}
 use Rattle.pw_obis.specs.declared.reference.Register.{Register}
 use Rattle.pw_tariff.specs.declared.ids.AccountId.{AccountId}
 use Rattle.pw_tariff.specs.declared.ids.Direction.{Direction}
 use Rattle.pw_tariff.specs.declared.cells.Cell.{Cell}
 use Rattle.pw_tariff.specs.Cells.{energy_in}
-use Rattle.pw_tariff.specs.Office.{OfficeRules, OfficeFile}
-use Rattle.pw_tariff.specs.Shares.{class_seconds}
+use Rattle.pw_tariff.specs.Office.{OfficeRules}
 use Rattle.pw_model.specs.declared.records.Contents.TheVariants.{One}
 use Rattle.pw_model.specs.declared.records.Entry.{Entry}
 use Rattle.pw_model.specs.declared.records.TotalKey.{TotalKey}
@@ -37,17 +34,10 @@ to_payments f (TopUps a) = f a.0
 abbrev pub in_way : Direction → Direction → ℕ → ℕ
 in_way d e n = cond (same_direction d e) n 0
 
--- cells of a direction
-abbrev pub cells_given : Direction → List Cell → TotalKey → ℕ
-cells_given d cells = to_energies (λ o b e. in_way d e (energy_in cells o b))
-
--- two neighbouring readings of a register of the direction, of a meter with these owners
-abbrev pub pair_given : Direction → OfficeFile → List (ℕ × Option AccountId) → ℕ × ℕ → ℕ × ℕ → TotalKey → ℕ
-pair_given d office owners from to = to_energies (λ o b e. in_way d e (cell (class_seconds office owners o b) from to))
-
--- all its readings, in order
-abbrev pub pairs_given : Direction → OfficeFile → List (ℕ × Option AccountId) → List (ℕ × ℕ) → TotalKey → ℕ
-pairs_given d office owners points = to_energies (λ o b e. in_way d e (pairs_sum (class_seconds office owners o b) points))
+-- what cells of a direction give to a total
+abbrev pub cells_for : Direction → List Cell → TotalKey → ℕ
+cells_for d cells (Energy o b e) = cond (same_direction d e) (energy_in cells o b.0) 0
+cells_for d cells (TopUps a) = 0
 
 -- a register of a meter, of a set of records
 abbrev pub register_given : OfficeRules → List Entry → ℕ → Register → TotalKey → ℕ

@@ -1,32 +1,24 @@
--- What kept totals tell. It serves `src/totals.rt`.
+-- Totals that only gain. It serves `src/changes.rt`, `src/energies.rt`, `src/payments.rt` and `src/parts.rt`.
 -- (Definitions of this project.)
-use Rattle.std.specs.Prelude.{◌≡◌, ℕ, ◌+◌, ◌^◌, ◌<◌, cond, Some, unwrap_or}
-use Rattle.std.specs.BTreeMap.{BTreeMap, get}
-use Rattle.std.specs.declared.cmp.Ordering.{Ordering}
+use Rattle.std.specs.Prelude.{◌≡◌, ℕ, ◌+◌, ◌^◌, ◌<◌, ◌&&◌, ltb, cond, Option, Some, None}
+use Rattle.std.specs.BTreeMap.{BTreeMap}
 use Rattle.pw_model.specs.declared.records.TotalKey.{TotalKey}
-use Rattle.pw_model.specs.contracts.records.TotalKeyOrd.TheImpl as total_key
-use Rattle.pw_model.specs.Same.{same_total}
+use Rattle.pw_parts.specs.Changes.{gathered}
+use Rattle.pw_parts.specs.declared.changes.Change.{Change}
+use Rattle.pw_parts.specs.declared.changes.Side.TheVariants.{Gains}
 
--- the order of the program's map
-abbrev pub total_key_order : TotalKey → TotalKey → Ordering
-total_key_order = total_key.ghosts.cmp
-
--- absent is 0
-abbrev pub total_in : BTreeMap TotalKey ℕ → TotalKey → ℕ
-total_in rows k = unwrap_or (get total_key_order rows k) 0
-
--- none that is there is 0
-abbrev pub AreAboveZero : BTreeMap TotalKey ℕ → Type 0
-AreAboveZero rows = (k : TotalKey) (n : ℕ) → get total_key_order rows k ≡ Some n → 0 < n
-
--- so much at one key
-abbrev pub given_at : TotalKey → ℕ → TotalKey → ℕ
-given_at k amount l = cond (same_total k l) amount 0
+-- what is gathered for a total
+abbrev pub total_in : BTreeMap TotalKey Change → TotalKey → ℕ
+total_in rows k = gathered Gains rows k
 
 -- new is old with what is given to each total
-abbrev pub IsGiven : (TotalKey → ℕ) → BTreeMap TotalKey ℕ → BTreeMap TotalKey ℕ → Type 0
+abbrev pub IsGiven : (TotalKey → ℕ) → BTreeMap TotalKey Change → BTreeMap TotalKey Change → Type 0
 IsGiven given old new = (k : TotalKey) → total_in new k ≡ total_in old k + given k
 
 -- with what is given to it, no total is too large for a word
-abbrev pub HasRoom : (TotalKey → ℕ) → BTreeMap TotalKey ℕ → Type 0
+abbrev pub HasRoom : (TotalKey → ℕ) → BTreeMap TotalKey Change → Type 0
 HasRoom given old = (k : TotalKey) → total_in old k + given k < 2 ^ 64
+
+-- what a row of the map gains, if it is something that a word holds
+abbrev pub gain : TotalKey × Change → Option (TotalKey × ℕ)
+gain e = cond (ltb 0 e.1.more && ltb e.1.more (2 ^ 64)) (Some (e.0, e.1.more)) None

@@ -2,10 +2,10 @@ use Rattle.std.proofs.Common.{◌∙◌, List, length, arith, refl, ap, sym, sub
 use Rattle.std.proofs.lemmas.Bool.{true≢false}
 use Rattle.pw_tariff.specs.Office.{office_of}
 use Rattle.pw_model.specs.declared.records.TotalKey.{TotalKey}
-use Rattle.pw_book.specs.declared.changes.Change.{Change}
-use Rattle.pw_book.specs.declared.changes.Side.{Side}
+use Rattle.pw_parts.specs.declared.changes.Change.{Change}
+use Rattle.pw_parts.specs.declared.changes.Side.{Side}
 use Rattle.pw_book.specs.inner.Moves.{MovesTotals, OfOwners}
-use Rattle.pw_book.specs.inner.Sums.{amount_on, gathered, other_side}
+use Rattle.pw_parts.specs.Changes.{amount_on, gathered, other_side}
 use Rattle.pw_book.proofs.Chains.{kept-then, kept-none}
 use Rattle.pw_book.proofs.Walking.{HasTaken, IsRest, Moved, first-gathered, rest-all, rest-next, taken-all, taken-more, taken-none, taken-past, walk-begins, walk-ends, walk-moves, walk-passes}
 use Rattle.pw_book.proofs.moving.move_energies.Goals as goal

@@ -2,7 +2,7 @@ use Rattle.pw_tariff.specs.Office.{office_of}
 use Rattle.std.proofs.Common.{length}
 use Rattle.pw_shelf.specs.Calls.{GoesOn}
 use Rattle.pw_book.specs.inner.Moves.{MovesTotals}
-use Rattle.pw_book.specs.inner.Sums.{gathered, other_side}
+use Rattle.pw_parts.specs.Changes.{gathered, other_side}
 use Rattle.pw_book.proofs.Walking.{HasTaken, IsRest, Moved}
 use Rattle.pw_book.proofs.moving.move_energies.Given as goal
 

@@ -1,8 +1,8 @@
 use Rattle.std.proofs.Common.{◌+◌, arith, ◌∙◌}
 use Rattle.pw_tariff.specs.Office.{office_of}
-use Rattle.pw_book.specs.declared.changes.Side.TheVariants.{Loses, Gains}
+use Rattle.pw_parts.specs.declared.changes.Side.TheVariants.{Loses, Gains}
 use Rattle.pw_book.specs.inner.Settling.{register_told}
-use Rattle.pw_book.specs.inner.Sums.{gathered}
+use Rattle.pw_parts.specs.Changes.{gathered}
 use Rattle.pw_book.proofs.Chains.{kept-then}
 use Rattle.pw_book.proofs.StartChanged.{all-moved, changed-there, moved-more, tally-all, tally-more, tally-there}
 use Rattle.pw_book.proofs.window.weigh_window.Goals as goal

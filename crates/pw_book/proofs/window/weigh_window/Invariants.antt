@@ -7,10 +7,10 @@ use Rattle.pw_model.specs.declared.records.Contents.{Contents}
 use Rattle.pw_model.specs.declared.records.Key.{Key}
 use Rattle.pw_model.specs.declared.records.TotalKey.{TotalKey}
 use Rattle.pw_shelf.specs.Calls.{GoesOn}
-use Rattle.pw_book.specs.declared.changes.Side.{Side}
-use Rattle.pw_book.specs.declared.changes.Side.TheVariants.{Loses, Gains}
+use Rattle.pw_parts.specs.declared.changes.Side.{Side}
+use Rattle.pw_parts.specs.declared.changes.Side.TheVariants.{Loses, Gains}
 use Rattle.pw_book.specs.inner.Settling.{EndsBeforeNext, HavePoints, IsStartChanged, register_told}
-use Rattle.pw_book.specs.inner.Sums.{gathered}
+use Rattle.pw_parts.specs.Changes.{gathered}
 use Rattle.pw_book.proofs.window.weigh_window.Given as goal
 
 abbrev pub invariant-loop-register : goal.invariant-loop-register

@@ -10,19 +10,8 @@ returns-then-not-counts c = λ k.
     let z = register-none c.args.office.now c.args.records.now c.args.meter.0 c.args.register (sym c.counts.ensures ∙ c.if-not-counts.true) k in
     omega (arith, z)
 
-pub add_points-requires-clause-rising : goal.add_points-requires-clause-rising
-add_points-requires-clause-rising c =
-    (points-told (office_of c.args.office.now) c.args.records.now c.readings_of-readings.result.now c.args.meter c.args.register c.in_ok-points.points.items c.deref.result.now
-    c.requires.counted c.readings_of-readings.ensures c.in_ok-points.ensures c.deref.ensures.value).rising
-
-pub add_points-requires-clause-room : goal.add_points-requires-clause-room
-add_points-requires-clause-room c = λ k.
-    let told = points-told (office_of c.args.office.now) c.args.records.now c.readings_of-readings.result.now c.args.meter c.args.register c.in_ok-points.points.items c.deref.result.now
-    c.requires.counted c.readings_of-readings.ensures c.in_ok-points.ensures c.deref.ensures.value in
-    let g = register-is c.args.office.now c.args.records.now c.args.meter.0 c.args.register c.args.owners.now c.direction_of-direction.result c.deref.result.now c.direction_of-direction.ensures
-    c.requires.counted.of_office c.requires.owners (sym c.counts.ensures ∙ c.if-not-counts.false) told k in
-    let h = c.requires.room k in
-    omega (arith, g, h)
+pub add_pairs-requires : goal.add_pairs-requires
+add_pairs-requires c = record { few = λ k. let h = c.requires.room k in omega (arith, h) }
 
 pub returns : goal.returns
 returns c =
@@ -30,4 +19,4 @@ returns c =
     c.requires.counted c.readings_of-readings.ensures c.in_ok-points.ensures c.deref.ensures.value in
     let g = register-is c.args.office.now c.args.records.now c.args.meter.0 c.args.register c.args.owners.now c.direction_of-direction.result c.deref.result.now c.direction_of-direction.ensures
     c.requires.counted.of_office c.requires.owners (sym c.counts.ensures ∙ c.if-not-counts.false) told in
-    on_ok_weaker c.add_points.result (λ h k. h k ∙ ap (λ n. total_in c.args.totals.now.rows k + n) (g k)) c.add_points.ensures
+    on_ok_weaker c.add_pairs.result (λ h k. h k ∙ ap (λ n. total_in c.args.totals.now.rows k + n) (g k)) (c.add_pairs.ensures.gathered told.rising)

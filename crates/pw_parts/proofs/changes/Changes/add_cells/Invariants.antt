@@ -1,9 +1,9 @@
 use Rattle.std.proofs.Common.{◌≡◌, ◌+◌, drop}
 use Rattle.std.specs.List.{sum_by}
 use Rattle.pw_model.specs.declared.records.TotalKey.{TotalKey}
-use Rattle.pw_book.specs.inner.Sums.{gathered, other_side}
-use Rattle.pw_book.proofs.Gathering.{cell_for}
-use Rattle.pw_book.proofs.changes.Changes.add_cells.Given as goal
+use Rattle.pw_parts.specs.Changes.{gathered, other_side}
+use Rattle.pw_parts.proofs.Gathering.{cell_for}
+use Rattle.pw_parts.proofs.changes.Changes.add_cells.Given as goal
 
 -- what was gathered so far, with what is still to come
 abbrev pub invariant-loop-cell : goal.invariant-loop-cell

@@ -2,8 +2,8 @@ use Rattle.std.proofs.Common.{None, slice_index_or, arith}
 use Rattle.pw_tariff.specs.declared.cells.Cell.{Cell}
 use Rattle.pw_model.specs.declared.records.TotalKey.{TotalKey}
 use Rattle.pw_model.specs.declared.records.TotalKey.TheVariants.{Energy}
-use Rattle.pw_book.proofs.Gathering.{cell-fits, cells-bound, cells-ended}
-use Rattle.pw_book.proofs.changes.Changes.add_cells.Goals as goal
+use Rattle.pw_parts.proofs.Gathering.{cell-fits, cells-bound, cells-ended}
+use Rattle.pw_parts.proofs.changes.Changes.add_cells.Goals as goal
 
 pub returns-clause-gathered : goal.returns-clause-gathered
 returns-clause-gathered c k =

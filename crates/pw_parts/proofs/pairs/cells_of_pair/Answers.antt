@@ -1,8 +1,8 @@
 use Rattle.std.proofs.Common.{◌<◌, sym, ◌∙◌, rules}
 use Rattle.pw_flow.proofs.Level.{cell-fall}
 use Rattle.pw_tariff.specs.Shares.{class_seconds}
-use Rattle.pw_book.proofs.Gathering.{none-in-all, none-for}
-use Rattle.pw_book.proofs.pairs.cells_of_pair.Goals as goal
+use Rattle.pw_parts.proofs.Gathering.{none-in-all, none-for}
+use Rattle.pw_parts.proofs.pairs.cells_of_pair.Goals as goal
 
 pub returns-then-le-clause-bound : goal.returns-then-le-clause-bound
 returns-then-le-clause-bound c = none-in-all c.new.result.items c.new.ensures.items

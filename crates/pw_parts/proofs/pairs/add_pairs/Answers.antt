@@ -1,7 +1,7 @@
 use Rattle.std.proofs.Common.{arith, rules}
 use Rattle.std.specs.Slice.Iter.{windows_rest}
-use Rattle.pw_book.proofs.Gathering.{pairs-ended-for}
-use Rattle.pw_book.proofs.pairs.add_pairs.Goals as goal
+use Rattle.pw_parts.proofs.Gathering.{pairs-ended-for}
+use Rattle.pw_parts.proofs.pairs.add_pairs.Goals as goal
 
 pub returns-clause-gathered : goal.returns-clause-gathered
 returns-clause-gathered c = λ r k.

@@ -9,7 +9,7 @@ ghost use Rattle.pw_tariff.specs.declared.ids.AccountId.{AccountId as AnAccount}
 ghost use Rattle.pw_tariff.specs.Cells.{AreInOrder, energy_in, energy_of_all};
 ghost use Rattle.pw_tariff.specs.Shares.{class_seconds};
 ghost use Rattle.pw_model.specs.Seconds.{by_second};
-ghost use Rattle.pw_book.specs.inner.Sums.{gathered, other_side, pairs_for};
+ghost use Rattle.pw_parts.specs.Changes.{gathered, other_side, pairs_for};
 
 use crate::changes::{Changes, Side};
 use pw_obis::WattHours;
@@ -17,12 +17,12 @@ use pw_tariff::{Cell, Direction, Office, Owners, Span, apportion};
 use pw_time::{Instant, Zone};
 use std::alloc::{AllocError, Global};
 
-// When a reading was taken, and what it shows.
-pub(crate) type Point = (Instant, WattHours);
+/// When a reading was taken, and what it shows.
+pub type Point = (Instant, WattHours);
 
-// Gathers what the neighbouring pairs of a list of points give, of a register of the direction and a meter with these
-// owners.
-pub(crate) fn add_pairs(
+/// Gathers what the neighbouring pairs of a list of points give, of a register of the direction and a meter with these
+/// owners. It fails only where memory is refused.
+pub fn add_pairs(
     alloc: Global,
     office: &Office,
     zone: &Zone,

@@ -16,13 +16,13 @@ use Rattle.pw_tariff.specs.Owners.{same_owner}
 use Rattle.pw_model.specs.declared.records.TotalKey.{TotalKey}
 use Rattle.pw_model.specs.declared.records.TotalKey.TheVariants.{Energy, TopUps}
 use Rattle.pw_model.specs.Same.{direction_place, same_direction, same_total}
-use Rattle.pw_book.specs.declared.changes.Change.{Change}
-use Rattle.pw_book.specs.declared.changes.Side.{Side}
+use Rattle.pw_parts.specs.declared.changes.Change.{Change}
+use Rattle.pw_parts.specs.declared.changes.Side.{Side}
 use Rattle.pw_obis.specs.declared.energy.TheConstants.{LARGEST_WATT_HOURS}
 use Rattle.pw_tariff.specs.Office.{OfficeFile}
 use Rattle.pw_tariff.specs.Shares.{class_seconds}
-use Rattle.pw_book.specs.inner.Sums.{amount_on, amount_told, gathered, cells_for, pairs_for}
-use Rattle.pw_parts.specs.inner.Totals.{total_key_order}
+use Rattle.pw_parts.specs.Changes.{amount_on, amount_told, gathered, pairs_for, total_key_order}
+use Rattle.pw_parts.specs.inner.Given.{cells_for}
 use Rattle.pw_parts.proofs.Chart.{pairs-ended}
 use Rattle.pw_model.proofs.TotalKeys.{same_total-decides, total-apart, total-itself, total-tested}
 

@@ -4,8 +4,8 @@ use Rattle.pw_obis.specs.declared.energy.TheConstants.{LARGEST_WATT_HOURS}
 use Rattle.pw_model.specs.declared.records.TotalKey.{TotalKey}
 use Rattle.pw_model.specs.Lists.{IsInOrder}
 use Rattle.pw_model.specs.Seconds.{by_second}
-use Rattle.pw_book.specs.inner.Sums.{gathered, other_side, pairs_for}
-use Rattle.pw_book.proofs.pairs.add_pairs.Given as goal
+use Rattle.pw_parts.specs.Changes.{gathered, other_side, pairs_for}
+use Rattle.pw_parts.proofs.pairs.add_pairs.Given as goal
 
 abbrev pub invariant-loop-pair : goal.invariant-loop-pair
 invariant-loop-pair l = record {
