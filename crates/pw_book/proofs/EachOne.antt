@@ -1,12 +1,11 @@
 -- Records of a list, each counted once.
-use Rattle.std.proofs.Common.{◌≡◌, ℕ, zero, suc, ◌+◌, ◌-◌, ◌<◌, ◌≤◌, Bool, true, cond, ◌||◌, List, [], ◌∷◌, ◌++◌, length, take, get_or, refl, ap, sym, subst, ◌∙◌, arith, inl, inr}
+use Rattle.std.proofs.Common.{◌≡◌, ℕ, zero, suc, ◌+◌, ◌<◌, ◌≤◌, Bool, true, cond, ◌||◌, List, [], ◌∷◌, ◌++◌, length, take, get_or, refl, ap, sym, subst, ◌∙◌, arith, inl, inr}
 use Rattle.std.specs.List.{Contains, AllByRecursion, dedup}
 use Rattle.std.specs.List.Sorted.{IsPermutation, IsSorted, IsStrictlySortedBy}
 use Rattle.std.specs.Cmp.{both_ways}
 use Rattle.std.specs.declared.cmp.Ordering.TheVariants.{Less, Equal}
 use Rattle.std.proofs.lemmas.Bool.{cases_Bool}
 use Rattle.std.proofs.lemmas.Cmp.{tied_itself}
-use Rattle.std.proofs.lemmas.List.{take_more}
 use Rattle.std.proofs.lemmas.List.Kept.{Contains-dedup, Contains-from_dedup, IsStrictlySortedBy-dedup}
 use Rattle.std.proofs.lemmas.List.Sorted.{IsPermutation-sym, Contains-permutation}
 use Rattle.pw_model.specs.declared.records.Entry.{Entry}
@@ -129,9 +128,6 @@ once-push f xs e d =
 pub fresh-same : (held xs ys : List Entry) → SameMembers xs ys → fresh_in held xs ≡ fresh_in held ys
 fresh-same held xs ys h = once-same same_entry same_entry-decides (λ e. cond (stands_in same_entry e held) 0 1) xs ys h
 
-pub repeated-same : (held xs ys : List Entry) → SameMembers xs ys → repeated_in held xs ≡ repeated_in held ys
-repeated-same held xs ys h = once-same same_entry same_entry-decides (λ e. cond (stands_in same_entry e held) 1 0) xs ys h
-
 -- ---- a sorted list without doubles
 pub contains-member : {X : Type 0} (xs : List X) (x : X) → Contains xs x → Member x xs
 contains-member [] x c = absurd (let l = c.1 in omega (arith, l))
@@ -169,7 +165,7 @@ deduped-same entries sorted p x = (
 )
 
 -- ---- entries counted one after the other
-taken-apart : (xs : List Entry) (i : ℕ) (e : Entry) → EachOnce xs → i < length xs → e ≡ get_or xs i e → Member e (take i xs) → ⊥
+pub taken-apart : (xs : List Entry) (i : ℕ) (e : Entry) → EachOnce xs → i < length xs → e ≡ get_or xs i e → Member e (take i xs) → ⊥
 taken-apart [] i e o l g m = absurd (omega arith)
 taken-apart (x ∷ xs) zero e o l g m = m
 taken-apart (x ∷ xs) (suc i) e o l g (inl j) =
@@ -177,33 +173,7 @@ taken-apart (x ∷ xs) (suc i) e o l g (inl j) =
     o.0 (subst P j (contains-member xs e (i, omega (arith, l), sym g)))
 taken-apart (x ∷ xs) (suc i) e o l g (inr k) = taken-apart xs i e o.1 (omega (arith, l)) g k
 
-pub repeated-more : (held xs : List Entry) (i : ℕ) (e : Entry) (was now : ℕ) (b : Bool) → EachOnce xs → i < length xs → e ≡ get_or xs i e → b ≡ stands_in same_entry e held →
-    was ≡ repeated_in held (take i xs) → now ≡ was + cond b 1 0 → now ≡ repeated_in held (take (i + 1) xs)
-repeated-more held xs i e was now b o l g s w n =
-    let p = once-push (λ x. cond (stands_in same_entry x held) 1 0) (take i xs) e (taken-apart xs i e o l g) in
-    let Q : Entry → Type 0 = λ x. take (i + 1) xs ≡ take i xs ++ x ∷ [] in
-    let t : take (i + 1) xs ≡ take i xs ++ e ∷ [] = subst Q (sym g) (take_more xs i e l) in
-    rw t (n ∙ ap (λ (m : ℕ). m + cond b 1 0) w ∙ ap (λ (c : Bool). repeated_in held (take i xs) + cond c 1 0) s ∙ sym p)
-
 pub held-is : (e : Entry) (held : List Entry) (b : Bool) → (b ≡ true → Member e held) × (Member e held → b ≡ true) → b ≡ stands_in same_entry e held
 held-is e held b h =
     let d = stands-decides same_entry same_entry-decides (λ x. 0) e held in
     both_ways b (stands_in same_entry e held) (λ t. d.1 (h.0 t)) (λ t. h.1 (d.0 t))
-
--- ---- an upload weighed
--- as many are fresh as aren't repeated
-pub fresh-is : (held entries distinct : List Entry) (n repeated : ℕ) → n ≡ length distinct → repeated ≡ repeated_in held distinct → EachOnce distinct → SameMembers distinct entries →
-    n - repeated ≡ fresh_in held entries
-fresh-is held entries distinct n repeated l r o m =
-    let a = count-parts held distinct in
-    let b = record-count distinct o in
-    let c = fresh-same held distinct entries m in
-    omega (arith, a, b, c, l, r)
-
-pub joined-fits : (held distinct : List Entry) (n repeated count limit most : ℕ) → EachOnce held → count ≡ length held → n ≡ length distinct → repeated ≡ repeated_in held distinct → EachOnce distinct →
-    count + (n - repeated) ≤ limit → limit ≤ most → record_count (held ++ distinct) ≤ most
-joined-fits held distinct n repeated count limit most oh ch l r o w k =
-    let a = fresh-is held distinct distinct n repeated l r o (λ x. (λ m. m, λ m. m)) in
-    let b = count-joined held distinct in
-    let c = record-count held oh in
-    omega (arith, a, b, c, ch, w, k)

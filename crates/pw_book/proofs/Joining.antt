@@ -11,8 +11,9 @@ use Rattle.pw_model.specs.Office.{AllOfOffice, IsOfOffice}
 use Rattle.pw_model.specs.Shelf.{IsTrueContent, ShelfContent}
 use Rattle.pw_book.specs.Posting.{IsWithUpload}
 use Rattle.pw_book.specs.inner.Added.{IsPut}
+use Rattle.pw_book.specs.inner.Fresh.{AreFresh}
 use Rattle.pw_model.proofs.Places.{member-left, member-right, member-split}
-use Rattle.pw_book.proofs.EachOne.{record-count, count-within}
+use Rattle.pw_book.proofs.EachOne.{record-count, count-within, taken-apart}
 
 module _ (office : OfficeRules) where
   pub joined-none : (old new : ShelfContent) → new ≡ old → IsTrueContent office old → IsPut office [] old new
@@ -71,7 +72,14 @@ module _ (office : OfficeRules) where
       let P : List Entry → Type 0 = λ xs. Member e xs in
       taken-member entries (i + 1) e (subst P (sym s) (member-right e (take i entries) (e ∷ []) (inl refl)))
 
-  -- one that isn't held has room, where all fit
+  -- the next entry isn't held yet
+  pub joined-fresh : (entries : List Entry) (i : ℕ) (e : Entry) (old now : ShelfContent) → i < length entries → e ≡ get_or entries i e → AreFresh old.records entries → IsPut office (take i entries) old now → Member e now.records → ⊥
+  joined-fresh entries i e old now l g f a m = elim (member-split e old.records (take i entries) ((a.records e).0 m)) [
+    | inl h ↦ f.apart e (got-member entries i e l g) h
+    | inr t ↦ taken-apart entries i e f.once l g t
+  ]
+
+  -- it has room, where all fit
   pub joined-room : (entries : List Entry) (i : ℕ) (e : Entry) (old now : ShelfContent) → i < length entries → e ≡ get_or entries i e → IsPut office (take i entries) old now → EachOnce now.records →
       record_count (old.records ++ entries) ≤ most_records → (Member e now.records → ⊥) → length now.records < most_records
   joined-room entries i e old now l g a o r n =

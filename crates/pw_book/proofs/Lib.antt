@@ -1,4 +1,6 @@
 pub mod EachOne
+pub mod Filtered
+pub mod NotHeld
 pub mod Joining
 pub mod Chains
 pub mod Answering

@@ -1,5 +1,5 @@
 -- A meter's starts with another one, and the time up to the next.
-use Rattle.std.proofs.Common.{◌≡◌, ◌==◌, ℕ, suc, ◌+◌, ◌-◌, ◌<◌, ◌≤◌, ◌⊎◌, Bool, true, cond, nat_lt, Option, Some, None, List, [], ◌∷◌, ◌++◌, length, take, drop, get_or, refl, ap, sym, subst, ◌∙◌, inl, inr, arith, Less}
+use Rattle.std.proofs.Common.{◌≡◌, ◌==◌, ℕ, suc, ◌+◌, ◌-◌, ◌<◌, ◌≤◌, ◌⊎◌, Bool, cond, nat_lt, Option, Some, None, List, [], ◌∷◌, ◌++◌, length, take, drop, get_or, refl, ap, sym, subst, ◌∙◌, inl, inr, arith, Less}
 use Rattle.std.specs.Cmp.{nat_cmp_is}
 use Rattle.std.specs.List.{filter}
 use Rattle.std.proofs.lemmas.Bool.{cases_Bool, cases_eq, cases_lt, eq-eqb, le-ltb, ne_eqb, lt-ltb, ltb-true}
@@ -18,35 +18,16 @@ use Rattle.pw_model.proofs.Places.{member-left, member-right, member-split}
 use Rattle.pw_model.proofs.InOrder.{before-member}
 use Rattle.pw_model.proofs.EntryOrder.{before-all}
 use Rattle.pw_parts.proofs.Groups.{rising-right}
+use Rattle.pw_book.proofs.Filtered.{filtered-member, member-filtered}
 
 abbrev pub Start : Type 0
 Start = ℕ × Option AccountId
 
--- ---- the members of a list that pass a test
-part-member : (p : Start → Bool) (xs : List Start) (x : Start) → Member x (filter p xs) → Member x xs × (p x ≡ true)
-part-member p [] x m = absurd m
-part-member p (y ∷ ys) x m = elim (cases_Bool (p y)) [
-  | inl t ↦ (
-      let k : Member x (y ∷ filter p ys) = rw t at m in
-      elim k [
-        | inl i ↦ (inl i, ap p i ∙ t)
-        | inr n ↦ (let h = part-member p ys x n in (inr h.0, h.1))
-      ])
-  | inr f ↦ (let k : Member x (filter p ys) = rw f at m in let h = part-member p ys x k in (inr h.0, h.1))
-]
-
-member-part : (p : Start → Bool) (xs : List Start) (x : Start) → Member x xs → p x ≡ true → Member x (filter p xs)
-member-part p [] x m t = absurd m
-member-part p (y ∷ ys) x (inl i) t = rw (ap p (sym i) ∙ t) (inl i)
-member-part p (y ∷ ys) x (inr m) t = elim (cases_Bool (p y)) [
-  | inl e ↦ rw e (inr (member-part p ys x m t))
-  | inr f ↦ rw f (member-part p ys x m t)
-]
-
+-- ---- the starts that pass a test
 part-rises : (p : Start → Bool) (xs : List Start) → IsInOrder by_second xs → IsInOrder by_second (filter p xs)
 part-rises p [] r = tt
 part-rises p (y ∷ ys) r = elim (cases_Bool (p y)) [
-  | inl e ↦ rw e (before-all by_second y (filter p ys) (λ z m. before-member by_second y z ys r.0 (part-member p ys z m).0), part-rises p ys r.1)
+  | inl e ↦ rw e (before-all by_second y (filter p ys) (λ z m. before-member by_second y z ys r.0 (filtered-member p ys z m).0), part-rises p ys r.1)
   | inr f ↦ rw f (part-rises p ys r.1)
 ]
 
@@ -75,14 +56,14 @@ joined-rises (x ∷ xs) ys r s h = (
 -- what stands from the second on
 late-member : (z : ℕ) (owner : Option (Option AccountId)) (xs : List Start) (x : Start) → Member x (start_listed z owner (filter (late z) xs)) →
     ((x.0 ≡ z) × (owner ≡ Some x.1)) ⊎ (Member x xs × (z < x.0))
-late-member z None xs x m = let h = part-member (late z) xs x m in inr (h.0, ltb-true z x.0 h.1)
+late-member z None xs x m = let h = filtered-member (late z) xs x m in inr (h.0, ltb-true z x.0 h.1)
 late-member z (Some o) xs x (inl i) = inl (ap (λ (s : Start). s.0) i, ap (λ (s : Start). Some s.1) (sym i))
-late-member z (Some o) xs x (inr m) = let h = part-member (late z) xs x m in inr (h.0, ltb-true z x.0 h.1)
+late-member z (Some o) xs x (inr m) = let h = filtered-member (late z) xs x m in inr (h.0, ltb-true z x.0 h.1)
 
 late-rises : (z : ℕ) (owner : Option (Option AccountId)) (xs : List Start) → IsInOrder by_second xs → IsInOrder by_second (start_listed z owner (filter (late z) xs))
 late-rises z None xs r = part-rises (late z) xs r
 late-rises z (Some o) xs r = (
-  before-all by_second (z, o) (filter (late z) xs) (λ x m. (let h = part-member (late z) xs x m in sym (nat_cmp_is z x.0 Less (ltb-true z x.0 h.1)))),
+  before-all by_second (z, o) (filter (late z) xs) (λ x m. (let h = filtered-member (late z) xs x m in sym (nat_cmp_is z x.0 Less (ltb-true z x.0 h.1)))),
   part-rises (late z) xs r,
 )
 
@@ -100,7 +81,7 @@ pub started : (told : ℕ → Option (Option AccountId)) (z : ℕ) (owner : Opti
 started told z owner xs l = record {
   rising = joined-rises (filter (early z) xs) (start_listed z owner (filter (late z) xs)) (part-rises (early z) xs l.rising) (late-rises z owner xs l.rising)
       (λ x y m n. (
-      let a = ltb-true x.0 z (part-member (early z) xs x m).1 in
+      let a = ltb-true x.0 z (filtered-member (early z) xs x m).1 in
       elim (late-member z owner xs y n) [
         | inl b ↦ (let e = b.0 in omega (arith, a, e))
         | inr b ↦ (let e = b.1 in omega (arith, a, e))
@@ -108,7 +89,7 @@ started told z owner xs l = record {
   members = λ x. (
     λ m. elim (member-split x (filter (early z) xs) (start_listed z owner (filter (late z) xs)) m) [
       | inl a ↦ (
-          let h = part-member (early z) xs x a in
+          let h = filtered-member (early z) xs x a in
           let b = ltb-true x.0 z h.1 in
           rw (ne_eqb x.0 z (λ e. absurd (omega (arith, b, e)))) ((l.members x).0 h.0))
       | inr a ↦ elim (late-member z owner xs x a) [
@@ -124,11 +105,11 @@ started told z owner xs l = record {
           let h : told x.0 ≡ Some x.1 = rw (ne_eqb x.0 z n) at p in
           let m = (l.members x).1 h in
           elim (cases_lt x.0 z) [
-            | inl a ↦ member-left x (filter (early z) xs) (start_listed z owner (filter (late z) xs)) (member-part (early z) xs x m (lt-ltb x.0 z a))
+            | inl a ↦ member-left x (filter (early z) xs) (start_listed z owner (filter (late z) xs)) (member-filtered (early z) xs x m (lt-ltb x.0 z a))
             | inr a ↦ (
                 let b : z < x.0 = omega (arith, a, n) in
                 member-right x (filter (early z) xs) (start_listed z owner (filter (late z) xs))
-                (member-late z owner (filter (late z) xs) x (member-part (late z) xs x m (lt-ltb z x.0 b))))
+                (member-late z owner (filter (late z) xs) x (member-filtered (late z) xs x m (lt-ltb z x.0 b))))
           ])
     ],
   );

@@ -1,5 +1,5 @@
 -- An entry that is added to a true content.
-use Rattle.std.proofs.Common.{◌≡◌, ℕ, ◌+◌, ◌<◌, ◌≤◌, Option, cond, List, [], ◌∷◌, ◌++◌, length, refl, ap, sym, subst, ◌∙◌, arith, inl, inr}
+use Rattle.std.proofs.Common.{◌≡◌, ℕ, ◌+◌, ◌<◌, ◌≤◌, Option, cond, List, [], ◌∷◌, ◌++◌, length, ap, sym, subst, ◌∙◌, arith, inl, inr}
 use Rattle.std.proofs.lemmas.Bool.{cases_Bool}
 use Rattle.pw_obis.specs.declared.reference.Register.{Register}
 use Rattle.pw_tariff.specs.declared.ids.AccountId.{AccountId}
@@ -24,20 +24,6 @@ use Rattle.pw_book.specs.inner.Added.{ChangesOneStart, IsJustAdded, IsPut, Takes
 use Rattle.pw_book.specs.inner.Settling.{HavePoints}
 use Rattle.pw_model.proofs.Places.{member-left, member-right, member-split}
 
--- one that is held
-pub put-held : (office : OfficeRules) (e : Entry) (old new : ShelfContent) → new ≡ old → Member e old.records → IsTrueContent office old → IsPut office (e ∷ []) old new
-put-held office e old new same h t =
-    let P : ShelfContent → Type 0 = λ c. IsPut office (e ∷ []) old c in
-    let Q : Entry → Type 0 = λ x. Member x old.records in
-    subst P (sym same) (record {
-      records = λ x. (
-        λ m. member-left x old.records (e ∷ []) m,
-        λ m. elim (member-split x old.records (e ∷ []) m) [ inl k ↦ k | inr v ↦ elim v [ inl i ↦ subst Q (sym i) h | inr b ↦ absurd b ] ],
-      );
-      truth = t;
-    })
-
--- one that isn't
 inserted-length : (s t : List Entry) (e : Entry) → IsInserted e s t → length t ≡ length s + 1
 inserted-length s t e h =
     let xs = h.0 in let ys = h.1 in
@@ -47,16 +33,16 @@ inserted-length s t e h =
     more [] ys e = omega arith
     more (x ∷ xs) ys e = let r = more xs ys e in omega (arith, r)
 
-pub just-added : (office : OfficeRules) (e : Entry) (before : Contents) (old one two new : ShelfContent) → one ≡ old → two ≡ one → IsWithRecord two e new → before ≡ contents_at one.records e.key → (Member e old.records → ⊥) →
+pub just-added : (office : OfficeRules) (e : Entry) (before : Contents) (old two new : ShelfContent) → two ≡ old → IsWithRecord two e new → before ≡ contents_at old.records e.key → (Member e old.records → ⊥) →
     IsOfOffice office e → AllOfOffice office old.records → length old.records < most_records → IsTrueContent office old → IsJustAdded office old.records e before new
-just-added office e before old one two new p q w b n o h l t =
+just-added office e before old two new q w b n o h l t =
     let P : ShelfContent → Type 0 = λ c. IsWithRecord c e new in
-    let v : IsWithRecord old e new = subst P (q ∙ p) w in
+    let v : IsWithRecord old e new = subst P q w in
     let m : SameMembers new.records (e ∷ old.records) = inserted-same old.records new.records e v.records in
     let Q : Entry → Type 0 = λ x. IsOfOffice office x in
     record {
       inserted = v.records;
-      before_is = b ∙ ap (λ (c : ShelfContent). contents_at c.records e.key) p;
+      before_is = b;
       fresh = n;
       of_office = λ x i. elim ((m x).0 i) [ inl y ↦ subst Q (sym y) o | inr k ↦ h x k ];
       few = let f = inserted-length old.records new.records e v.records in omega (arith, f, l);
@@ -91,7 +77,7 @@ points-same old new m t most p q h =
     let one : HavePoints (record old { start = new.start }) m t most = subst (λ f. HavePoints (record old { start = f }) m t most) (sym p) h in
     subst (λ f. HavePoints (record old { start = new.start; point = f }) m t most) (sym q) one
 
-takes-on : (office : OfficeRules) (k : Key) (old new : ShelfContent) (a b d : ℕ) → new.start ≡ old.start → new.point ≡ old.point → b ≤ a + 5 → TakesAtMost 0 office new k b d → TakesAtMost 5 office old k a d
+takes-on : (office : OfficeRules) (k : Key) (old new : ShelfContent) (a b d : ℕ) → new.start ≡ old.start → new.point ≡ old.point → b ≤ a + 4 → TakesAtMost 0 office new k b d → TakesAtMost 4 office old k a d
 takes-on office (key.Reading m r t) old new a b d p q l h = λ starts s. let x = h starts (starts-same old new m.0 starts p s) in omega (arith, x, l)
 takes-on office (key.Assignment m t) old new a b d p q l h = λ starts points s v.
     let x = h starts points (starts-same old new m.0 starts p s) (points-same old new m.0 t points p q v) in omega (arith, x, l)
@@ -116,24 +102,19 @@ one-start m t owner old new p s = (
   ],
 )
 
-pub starts-kept : (k : Key) (c : ShelfContent) → ChangesOneStart k c c
-starts-kept (key.Reading m r t) c = tt
-starts-kept (key.Assignment m t) c = (refl, λ n u h. refl)
-starts-kept (key.TopUp r) c = tt
-
 -- behind a record that was added first
-pub added-then : (k : Key) (e : Entry) (old one two mid new : ShelfContent) → one ≡ old → two ≡ one → IsWithRecord two e mid → ChangesOneStart k mid new → ChangesOneStart k old new
-added-then (key.Reading m r t) e old one two mid new p q w h = tt
-added-then (key.Assignment m t) e old one two mid new p q w h =
+pub added-then : (k : Key) (e : Entry) (old two mid new : ShelfContent) → two ≡ old → IsWithRecord two e mid → ChangesOneStart k mid new → ChangesOneStart k old new
+added-then (key.Reading m r t) e old two mid new q w h = tt
+added-then (key.Assignment m t) e old two mid new q w h =
     let P : ShelfContent → Type 0 = λ c. IsWithRecord c e mid in
-    let v : IsWithRecord old e mid = subst P (q ∙ p) w in
+    let v : IsWithRecord old e mid = subst P q w in
     (h.0 ∙ v.point, λ n u d. h.1 n u d ∙ ap (λ (f : ℕ → ℕ → Option (Option AccountId)). f n u) v.start)
-added-then (key.TopUp r) e old one two mid new p q w h = tt
+added-then (key.TopUp r) e old two mid new q w h = tt
 
-pub takes-more : (office : OfficeRules) (k : Key) (e : Entry) (old one two new : ShelfContent) (a b c d f : ℕ) (before : Contents) → one ≡ old → two ≡ one → IsWithRecord two e new →
-    b ≡ a + 1 + 0 → c ≡ b + 1 + rows_at before → d ≡ c + 1 → TakesAtMost 0 office new k d f → TakesAtMost 5 office old k a f
-takes-more office k e old one two new a b c d f before p q w x y z h =
+pub takes-more : (office : OfficeRules) (k : Key) (e : Entry) (old two new : ShelfContent) (a c d f : ℕ) (before : Contents) → two ≡ old → IsWithRecord two e new →
+    c ≡ a + 1 + rows_at before → d ≡ c + 1 → TakesAtMost 0 office new k d f → TakesAtMost 4 office old k a f
+takes-more office k e old two new a c d f before q w y z h =
     let r = rows-few before in
     let P : ShelfContent → Type 0 = λ c. IsWithRecord c e new in
-    let v : IsWithRecord old e new = subst P (q ∙ p) w in
-    takes-on office k old new a d f v.start v.point (omega (arith, x, y, z, r)) h
+    let v : IsWithRecord old e new = subst P q w in
+    takes-on office k old new a d f v.start v.point (omega (arith, y, z, r)) h

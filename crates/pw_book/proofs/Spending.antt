@@ -1,5 +1,5 @@
 -- How many calls and rows the entries of an upload take together.
-use Rattle.std.proofs.Common.{◌≡◌, ℕ, ◌+◌, ◌*◌, ◌<◌, ◌≤◌, Option, List, [], ◌∷◌, length, mul-le-mul_right, mul-le-mul_left, refl, inl, inr, ap, sym, subst, ◌∙◌, arith}
+use Rattle.std.proofs.Common.{◌≡◌, ℕ, ◌+◌, ◌*◌, ◌<◌, ◌≤◌, ◌⊎◌, Option, List, [], ◌∷◌, length, mul-le-mul, mul-le-mul_right, mul-le-mul_left, refl, inl, inr, ap, sym, subst, ◌∙◌, arith}
 use Rattle.pw_obis.specs.declared.reference.Register.{Register}
 use Rattle.pw_tariff.specs.Office.{OfficeRules}
 use Rattle.pw_model.specs.Kinds.{IsReading, IsTopUp, IsAssignment}
@@ -17,12 +17,12 @@ use Rattle.pw_book.proofs.Putting.{starts-same}
 use Rattle.pw_book.proofs.EachOne.{record-count, record-count_same}
 
 -- ---- one entry more
-reading-takes : (office : OfficeRules) (k : Key) (was c : ShelfContent) (starts old new : ℕ) → IsReading k → HasStartsOf was starts k → c.start ≡ was.start → TakesAtMost 5 office c k old new → new ≤ old + (11 + starts + 6 * classes_of office)
+reading-takes : (office : OfficeRules) (k : Key) (was c : ShelfContent) (starts old new : ℕ) → IsReading k → HasStartsOf was starts k → c.start ≡ was.start → TakesAtMost 4 office c k old new → new ≤ old + (10 + starts + 6 * classes_of office)
 reading-takes office (key.Reading m r t) was c starts old new i h p x = let y = x starts (starts-same was c m.0 starts p h) in omega (arith, y)
 reading-takes office (key.Assignment m t) was c starts old new i h p x = absurd i
 reading-takes office (key.TopUp r) was c starts old new i h p x = absurd i
 
-top-up-takes : (office : OfficeRules) (k : Key) (c : ShelfContent) (old new : ℕ) → IsTopUp k → TakesAtMost 5 office c k old new → new ≤ old + 8
+top-up-takes : (office : OfficeRules) (k : Key) (c : ShelfContent) (old new : ℕ) → IsTopUp k → TakesAtMost 4 office c k old new → new ≤ old + 7
 top-up-takes office (key.Reading m r t) c old new i x = absurd i
 top-up-takes office (key.Assignment m t) c old new i x = absurd i
 top-up-takes office (key.TopUp r) c old new i x = omega (arith, x)
@@ -34,7 +34,7 @@ have-up-to c m t points h = λ r ps l. h.few r ps l.rising (λ a k. let x = (l.m
 have-all : (c d : ShelfContent) (m t points : ℕ) (h : HasPoints (λ t. Unit {0}) c m points) → d.point ≡ c.point → HavePoints d m t h.each
 have-all c d m t points h p = λ r ps l. h.few r ps l.rising (λ a k. let x = (l.members a).0 k in (tt, ap (λ (f : ℕ → Register → ℕ → Option ℕ). f m r a.0) (sym p) ∙ x.2))
 
-assignment-takes : (office : OfficeRules) (k : Key) (c : ShelfContent) (starts points old new : ℕ) → IsAssignmentUpToNext c starts points k → TakesAtMost 5 office c k old new → new ≤ old + (37 + starts + points + 6 * classes_of office)
+assignment-takes : (office : OfficeRules) (k : Key) (c : ShelfContent) (starts points old new : ℕ) → IsAssignmentUpToNext c starts points k → TakesAtMost 4 office c k old new → new ≤ old + (36 + starts + points + 6 * classes_of office)
 assignment-takes office (key.Reading m r t) c starts points old new i x = absurd i
 assignment-takes office (key.Assignment m t) c starts points old new i x =
     let y = x starts i.1.each i.0 (have-up-to c m.0 t points i.1) in
@@ -47,8 +47,8 @@ abbrev pub HasStartsFor : ShelfContent → ℕ → Key → Type 0
 HasStartsFor c most (key.Assignment m t) = HasStarts c m.0 most
 HasStartsFor c most _ = Unit {0}
 
-assignment-takes-later : (office : OfficeRules) (k : Key) (was c : ShelfContent) (starts more points old new : ℕ) → IsAssignmentWith was starts points k → c.point ≡ was.point → HasStartsFor c more k → TakesAtMost 5 office c k old new →
-    new ≤ old + (37 + more + points + 6 * classes_of office)
+assignment-takes-later : (office : OfficeRules) (k : Key) (was c : ShelfContent) (starts more points old new : ℕ) → IsAssignmentWith was starts points k → c.point ≡ was.point → HasStartsFor c more k → TakesAtMost 4 office c k old new →
+    new ≤ old + (36 + more + points + 6 * classes_of office)
 assignment-takes-later office (key.Reading m r t) was c starts more points old new i p h x = absurd i
 assignment-takes-later office (key.Assignment m t) was c starts more points old new i p h x =
     let y = x more i.1.each h (have-all was c m.0 t points i.1 p) in
@@ -107,35 +107,35 @@ behind-next entries e i was c d starts points m a b h =
     points-kept (key.TopUp r) c d a h = absurd a
 
 pub assignments-next : (office : OfficeRules) (entries : List Entry) (e : Entry) (i : ℕ) (was c : ShelfContent) (starts points first old new : ℕ) → i < length entries → Member e entries → AreAssignmentsWith was starts points entries →
-    IsBehind entries i was c starts → old ≤ first + i * (37 + (starts + length entries) + points + 6 * classes_of office) → TakesAtMost 5 office c e.key old new →
-    new ≤ first + (i + 1) * (37 + (starts + length entries) + points + 6 * classes_of office)
+    IsBehind entries i was c starts → old ≤ first + i * (36 + (starts + length entries) + points + 6 * classes_of office) → TakesAtMost 4 office c e.key old new →
+    new ≤ first + (i + 1) * (36 + (starts + length entries) + points + 6 * classes_of office)
 assignments-next office entries e i was c starts points first old new j m a b l t =
     let x = assignment-takes-later office e.key was c starts (starts + i) points old new (a e m) b.points (b.starts_are e m) t in
     omega (arith, l, x, j)
 
 pub readings-next : (office : OfficeRules) (entries : List Entry) (e : Entry) (i : ℕ) (was c : ShelfContent) (starts first old new : ℕ) → Member e entries → AreReadingsWith was starts entries → c.start ≡ was.start →
-    old ≤ first + i * (11 + starts + 6 * classes_of office) → TakesAtMost 5 office c e.key old new → new ≤ first + (i + 1) * (11 + starts + 6 * classes_of office)
+    old ≤ first + i * (10 + starts + 6 * classes_of office) → TakesAtMost 4 office c e.key old new → new ≤ first + (i + 1) * (10 + starts + 6 * classes_of office)
 readings-next office entries e i was c starts first old new m a p l t =
     let r = a e m in
     let x = reading-takes office e.key was c starts old new r.0 r.1 p t in
     omega (arith, l, x)
 
 pub top-ups-next : (office : OfficeRules) (entries : List Entry) (e : Entry) (i : ℕ) (c : ShelfContent) (first old new : ℕ) → Member e entries → AreTopUps entries →
-    old ≤ first + i * 8 → TakesAtMost 5 office c e.key old new → new ≤ first + (i + 1) * 8
+    old ≤ first + i * 7 → TakesAtMost 4 office c e.key old new → new ≤ first + (i + 1) * 7
 top-ups-next office entries e i c first old new m a l t =
     let x = top-up-takes office e.key c old new (a e m) t in
     omega (arith, l, x)
 
 -- the one assignment of an upload
 pub only-next : (office : OfficeRules) (entries : List Entry) (e f : Entry) (i : ℕ) (was c : ShelfContent) (starts points first old new : ℕ) → entries ≡ f ∷ [] → i < length entries → Member e entries → IsAssignmentUpToNext was starts points f.key →
-    (i ≡ 0 → (c ≡ was) × (old ≡ first)) → TakesAtMost 5 office c e.key old new → new ≤ first + (37 + starts + points + 6 * classes_of office)
+    (i ≡ 0 → (c ≡ was) × (old ≡ first)) → TakesAtMost 4 office c e.key old new → new ≤ first + (36 + starts + points + 6 * classes_of office)
 only-next office entries e f i was c starts points first old new q l m a z t =
     let n : length entries ≡ 1 = ap (λ (xs : List Entry). length xs) q in
     let z = z (omega (arith, n, l)) in
     let P : List Entry → Type 0 = λ xs. Member e xs in
     let same : e ≡ f = elim (subst P q m) [ inl k ↦ k | inr k ↦ absurd k ] in
     let Q : Entry → Type 0 = λ x. IsAssignmentUpToNext was starts points x.key in
-    let R : ShelfContent → Type 0 = λ x. TakesAtMost 5 office x e.key old new in
+    let R : ShelfContent → Type 0 = λ x. TakesAtMost 4 office x e.key old new in
     let x = assignment-takes office e.key was starts points old new (subst Q (sym same) a) (subst R z.0 t) in
     let w = z.1 in
     omega (arith, x, w)
@@ -145,20 +145,20 @@ within : (i n a : ℕ) → i ≤ n → i * a ≤ n * a
 within i n a l = mul-le-mul_right a l
 
 pub costs-so-far : (office : OfficeRules) (entries : List Entry) (i : ℕ) (was : ShelfContent) (first now last : ℕ) → i ≤ length entries →
-    ((starts : ℕ) → AreReadingsWith was starts entries → now ≤ first + i * (11 + starts + 6 * classes_of office)) →
-    ((e : Entry) (starts points : ℕ) → entries ≡ e ∷ [] → IsAssignmentUpToNext was starts points e.key → now ≤ first + i * (37 + starts + points + 6 * classes_of office)) →
-    ((starts points : ℕ) → AreAssignmentsWith was starts points entries → now ≤ first + i * (37 + (starts + length entries) + points + 6 * classes_of office)) →
-    (AreTopUps entries → now ≤ first + i * 8) → last ≤ now + 1 →
+    ((starts : ℕ) → AreReadingsWith was starts entries → now ≤ first + i * (10 + starts + 6 * classes_of office)) →
+    ((e : Entry) (starts points : ℕ) → entries ≡ e ∷ [] → IsAssignmentUpToNext was starts points e.key → now ≤ first + i * (36 + starts + points + 6 * classes_of office)) →
+    ((starts points : ℕ) → AreAssignmentsWith was starts points entries → now ≤ first + i * (36 + (starts + length entries) + points + 6 * classes_of office)) →
+    (AreTopUps entries → now ≤ first + i * 7) → last ≤ now + 1 →
     CostsAtMost 1 office entries was first last
 costs-so-far office entries i was first now last l r one several t h = record {
   assignment = λ e starts points q a.
       let x = one e starts points q a in
       let n : length entries ≡ 1 = ap (λ (xs : List Entry). length xs) q in
-      let y = within i (length entries) (37 + starts + points + 6 * classes_of office) l in
-      let z : length entries * (37 + starts + points + 6 * classes_of office) ≡ 37 + starts + points + 6 * classes_of office = rw n (omega arith) in
+      let y = within i (length entries) (36 + starts + points + 6 * classes_of office) l in
+      let z : length entries * (36 + starts + points + 6 * classes_of office) ≡ 36 + starts + points + 6 * classes_of office = rw n (omega arith) in
       omega (arith, x, y, z, h);
-  assignments = λ starts points a. let x = several starts points a in let y = within i (length entries) (37 + (starts + length entries) + points + 6 * classes_of office) l in omega (arith, x, y, h);
-  readings = λ starts a. let x = r starts a in let y = within i (length entries) (11 + starts + 6 * classes_of office) l in omega (arith, x, y, h);
+  assignments = λ starts points a. let x = several starts points a in let y = within i (length entries) (36 + (starts + length entries) + points + 6 * classes_of office) l in omega (arith, x, y, h);
+  readings = λ starts a. let x = r starts a in let y = within i (length entries) (10 + starts + 6 * classes_of office) l in omega (arith, x, y, h);
   top_ups = λ a. let x = t a in omega (arith, x, l, h);
   nothing = λ e.
       let n : i ≡ 0 = (let z : length entries ≡ 0 = ap (λ (xs : List Entry). length xs) e in omega (arith, l, z)) in
@@ -169,11 +169,11 @@ costs-so-far office entries i was first now last l r one several t h = record {
 -- one that failed on its way
 pub costs-next : (office : OfficeRules) (entries : List Entry) (e : Entry) (i : ℕ) (was c : ShelfContent) (first now last : ℕ) → i < length entries → Member e entries →
     ((starts : ℕ) → AreReadingsWith was starts entries → c.start ≡ was.start) →
-    ((starts : ℕ) → AreReadingsWith was starts entries → now ≤ first + i * (11 + starts + 6 * classes_of office)) →
+    ((starts : ℕ) → AreReadingsWith was starts entries → now ≤ first + i * (10 + starts + 6 * classes_of office)) →
     (i ≡ 0 → (c ≡ was) × (now ≡ first)) →
     ((starts points : ℕ) → AreAssignmentsWith was starts points entries → IsBehind entries i was c starts) →
-    ((starts points : ℕ) → AreAssignmentsWith was starts points entries → now ≤ first + i * (37 + (starts + length entries) + points + 6 * classes_of office)) →
-    (AreTopUps entries → now ≤ first + i * 8) → TakesAtMost 5 office c e.key now last →
+    ((starts points : ℕ) → AreAssignmentsWith was starts points entries → now ≤ first + i * (36 + (starts + length entries) + points + 6 * classes_of office)) →
+    (AreTopUps entries → now ≤ first + i * 7) → TakesAtMost 4 office c e.key now last →
     CostsAtMost 1 office entries was first last
 costs-next office entries e i was c first now last l m p r z b several t h = record {
   assignment = λ f starts points q a.
@@ -181,11 +181,11 @@ costs-next office entries e i was c first now last l m p r z b several t h = rec
       omega (arith, x);
   assignments = λ starts points a.
       let x = assignments-next office entries e i was c starts points first now last l m a (b starts points a) (several starts points a) h in
-      let y = within (i + 1) (length entries) (37 + (starts + length entries) + points + 6 * classes_of office) (omega (arith, l)) in
+      let y = within (i + 1) (length entries) (36 + (starts + length entries) + points + 6 * classes_of office) (omega (arith, l)) in
       omega (arith, x, y);
   readings = λ starts a.
       let x = readings-next office entries e i was c starts first now last m a (p starts a) (r starts a) h in
-      let y = within (i + 1) (length entries) (11 + starts + 6 * classes_of office) (omega (arith, l)) in
+      let y = within (i + 1) (length entries) (10 + starts + 6 * classes_of office) (omega (arith, l)) in
       omega (arith, x, y);
   top_ups = λ a. let x = top-ups-next office entries e i c first now last m a (t a) h in omega (arith, x, l);
   nothing = λ q. (let z : length entries ≡ 0 = ap (λ (xs : List Entry). length xs) q in absurd (omega (arith, l, z)));
@@ -211,14 +211,20 @@ costs-more office entries c d old mid now new q b t h = record {
 }
 
 -- ---- an upload
-products : (n s c : ℕ) → 1 ≤ n → 1 + n + 3 + n * (11 + s + 6 * c) ≤ n * (24 + 4 * (s + 1) + 6 * c)
-products n s c l = let x : 16 + s + 6 * c ≤ 24 + 4 * (s + 1) + 6 * c = omega arith in let y = mul-le-mul_left n x in omega (arith, y, l)
-
-products-of-assignments : (n s p c : ℕ) → 1 ≤ n → 1 + n + 3 + n * (37 + (s + n) + p + 6 * c) ≤ n * (56 + 4 * (s + n + 1) + 2 * p + 12 * c)
-products-of-assignments n s p c l =
-    let x : 42 + (s + n) + p + 6 * c ≤ 56 + 4 * (s + n + 1) + 2 * p + 12 * c = omega arith in
+products : (n f s c : ℕ) → 1 ≤ n → f ≤ n → 1 + n + 3 + f * (10 + s + 6 * c) ≤ n * (24 + 4 * (s + 1) + 6 * c)
+products n f s c l k =
+    let x : 15 + s + 6 * c ≤ 24 + 4 * (s + 1) + 6 * c = omega arith in
     let y = mul-le-mul_left n x in
-    omega (arith, y, l)
+    let z = mul-le-mul_right (10 + s + 6 * c) k in
+    omega (arith, y, z, l)
+
+products-of-assignments : (n f s p c : ℕ) → 1 ≤ n → f ≤ n → 1 + n + 3 + f * (36 + (s + f) + p + 6 * c) ≤ n * (56 + 4 * (s + n + 1) + 2 * p + 12 * c)
+products-of-assignments n f s p c l k =
+    let w : 36 + (s + f) + p + 6 * c ≤ 36 + (s + n) + p + 6 * c = omega (arith, k) in
+    let x : 41 + (s + n) + p + 6 * c ≤ 56 + 4 * (s + n + 1) + 2 * p + 12 * c = omega arith in
+    let y = mul-le-mul_left n x in
+    let z = mul-le-mul k w in
+    omega (arith, y, z, l)
 
 -- the distinct entries of an upload of one entry
 one-distinct : (e : Entry) (entries distinct : List Entry) → EachOnce distinct → SameMembers distinct entries → SameMembers entries (e ∷ []) → distinct ≡ e ∷ []
@@ -230,73 +236,86 @@ one-distinct e entries distinct o m a =
     alone (x ∷ []) o m a = ap (λ y. y ∷ []) (a x (inl refl))
     alone (x ∷ y ∷ ys) o m a = absurd (o.0 (inl (a x (inl refl) ∙ sym (a y (inr (inl refl))))))
 
+none-distinct : (entries distinct : List Entry) → SameMembers distinct entries → entries ≡ [] → length distinct ≡ 0
+none-distinct entries [] m e = refl
+none-distinct entries (x ∷ xs) m e = absurd (let P : List Entry → Type 0 = λ ys. Member x ys in subst P e ((m x).0 (inl refl)))
+
+-- an upload's distinct entries, and those of them that are fresh
+pub record AreFreshOf (entries distinct fresh : List Entry) : Type 0 where
+  pub once : EachOnce distinct
+  pub members : SameMembers distinct entries
+  pub few : length fresh ≤ length distinct
+  pub part : (e : Entry) → Member e fresh → Member e distinct
+
 same-count : (entries distinct : List Entry) → EachOnce distinct → SameMembers distinct entries → record_count entries ≡ length distinct
 same-count entries distinct o m = sym (record-count_same distinct entries m) ∙ record-count distinct o
 
+-- weighed, and not written
 pub cheap-so-far : (office : OfficeRules) (entries distinct : List Entry) (c : ShelfContent) (old new : ℕ) → EachOnce distinct → SameMembers distinct entries → new ≤ old + 1 + length distinct → IsCheap office entries c old new
 cheap-so-far office entries distinct c old new o m h =
     let n = same-count entries distinct o m in
     record {
-      readings = λ starts l a. let p = products (record_count entries) starts (classes_of office) l in omega (arith, h, n, p);
+      readings = λ starts l a. let p = products (record_count entries) 0 starts (classes_of office) l (omega arith) in omega (arith, h, n, p);
       assignment = λ e starts points a i.
           let k : length distinct ≡ 1 = ap (λ (xs : List Entry). length xs) (one-distinct e entries distinct o m a) in
           omega (arith, h, k);
-      assignments = λ starts points l a. let p = products-of-assignments (record_count entries) starts points (classes_of office) l in omega (arith, h, n, p);
+      assignments = λ starts points l a. let p = products-of-assignments (record_count entries) 0 starts points (classes_of office) l (omega arith) in omega (arith, h, n, p);
       top_ups = λ l a. omega (arith, h, n, l);
       nothing = λ e. let z = none-distinct entries distinct m e in omega (arith, h, z);
     }
-  where
-    none-distinct : (entries distinct : List Entry) → SameMembers distinct entries → entries ≡ [] → length distinct ≡ 0
-    none-distinct entries [] m e = refl
-    none-distinct entries (x ∷ xs) m e = absurd (let P : List Entry → Type 0 = λ ys. Member x ys in subst P e ((m x).0 (inl refl)))
 
-pub cheap-whole : (office : OfficeRules) (entries distinct : List Entry) (c d : ShelfContent) (old mid new : ℕ) → EachOnce distinct → SameMembers distinct entries → d ≡ c → mid ≤ old + 1 + length distinct → CostsAtMost 3 office distinct d mid new →
+-- weighed and written
+pub cheap-whole : (office : OfficeRules) (entries distinct fresh : List Entry) (c d : ShelfContent) (old mid new : ℕ) → AreFreshOf entries distinct fresh → d ≡ c → mid ≤ old + 1 + length distinct → CostsAtMost 3 office fresh d mid new →
     IsCheap office entries c old new
-cheap-whole office entries distinct c d old mid new o m q h t =
-    let n = same-count entries distinct o m in
+cheap-whole office entries distinct fresh c d old mid new f q h t =
+    let n = same-count entries distinct f.once f.members in
+    let few : length fresh ≤ record_count entries = (let k = f.few in omega (arith, n, k)) in
+    let there : (e : Entry) → Member e fresh → Member e entries = λ e k. (f.members e).0 (f.part e k) in
     record {
       readings = λ starts l a.
-          let p = products (record_count entries) starts (classes_of office) l in
-          let P : ShelfContent → Type 0 = λ x. AreReadingsWith x starts distinct in
-          let b : AreReadingsWith d starts distinct = subst P (sym q) (λ e k. a e ((m e).0 k)) in
-          let x = t.readings starts b in
-          let y : length distinct * (11 + starts + 6 * classes_of office) ≡ record_count entries * (11 + starts + 6 * classes_of office) = ap (λ k. k * (11 + starts + 6 * classes_of office)) (sym n) in
-          omega (arith, h, n, p, x, y);
+          let p = products (record_count entries) (length fresh) starts (classes_of office) l few in
+          let P : ShelfContent → Type 0 = λ x. AreReadingsWith x starts fresh in
+          let x = t.readings starts (subst P (sym q) (λ e k. a e (there e k))) in
+          omega (arith, h, n, p, x);
       assignment = λ e starts points a i.
-          let only = one-distinct e entries distinct o m a in
-          let k : length distinct ≡ 1 = ap (λ (xs : List Entry). length xs) only in
+          let k : length distinct ≡ 1 = ap (λ (xs : List Entry). length xs) (one-distinct e entries distinct f.once f.members a) in
           let P : ShelfContent → Type 0 = λ x. IsAssignmentUpToNext x starts points e.key in
-          let x = t.assignment e starts points only (subst P (sym q) i) in
+          let x : new ≤ mid + 3 + (36 + starts + points + 6 * classes_of office) = elim (one-fresh e fresh (let l = f.few in omega (arith, k, l)) (λ g m. elim ((a g).0 (there g m)) [ inl i ↦ i | inr b ↦ absurd b ])) [
+            | inl none ↦ (let y = t.nothing none in omega (arith, y))
+            | inr one ↦ t.assignment e starts points one (subst P (sym q) i)
+          ] in
           omega (arith, h, k, x);
       assignments = λ starts points l a.
-          let p = products-of-assignments (record_count entries) starts points (classes_of office) l in
-          let P : ShelfContent → Type 0 = λ x. AreAssignmentsWith x starts points distinct in
-          let b : AreAssignmentsWith d starts points distinct = subst P (sym q) (λ e k. a e ((m e).0 k)) in
-          let x = t.assignments starts points b in
-          let y : length distinct * (37 + (starts + length distinct) + points + 6 * classes_of office) ≡ record_count entries * (37 + (starts + record_count entries) + points + 6 * classes_of office) =
-          ap (λ k. k * (37 + (starts + k) + points + 6 * classes_of office)) (sym n) in
-          omega (arith, h, n, p, x, y);
-      top_ups = λ l a. let x = t.top_ups (λ e k. a e ((m e).0 k)) in omega (arith, h, n, l, x);
+          let p = products-of-assignments (record_count entries) (length fresh) starts points (classes_of office) l few in
+          let P : ShelfContent → Type 0 = λ x. AreAssignmentsWith x starts points fresh in
+          let x = t.assignments starts points (subst P (sym q) (λ e k. a e (there e k))) in
+          omega (arith, h, n, p, x);
+      top_ups = λ l a. let x = t.top_ups (λ e k. a e (there e k)) in omega (arith, h, n, l, x, few);
       nothing = λ e.
-          let z = none-distinct entries distinct m e in
-          let x = t.nothing z.1 in
-          let y = z.0 in
-          omega (arith, h, x, y);
+          let z = none-distinct entries distinct f.members e in
+          let x = t.nothing (none-fresh fresh (let l = f.few in omega (arith, z, l))) in
+          omega (arith, h, x, z);
     }
   where
-    none-distinct : (entries distinct : List Entry) → SameMembers distinct entries → entries ≡ [] → (length distinct ≡ 0) × (distinct ≡ [])
-    none-distinct entries [] m e = (refl, refl)
-    none-distinct entries (x ∷ xs) m e = absurd (let P : List Entry → Type 0 = λ ys. Member x ys in subst P e ((m x).0 (inl refl)))
+    none-fresh : (fresh : List Entry) → length fresh ≤ 0 → fresh ≡ []
+    none-fresh [] l = refl
+    none-fresh (x ∷ xs) l = absurd (omega (arith, l))
+
+    one-fresh : (e : Entry) (fresh : List Entry) → length fresh ≤ 1 → ((g : Entry) → Member g fresh → g ≡ e) → (fresh ≡ []) ⊎ (fresh ≡ e ∷ [])
+    one-fresh e [] l a = inl refl
+    one-fresh e (x ∷ []) l a = inr (ap (λ y. y ∷ []) (a x (inl refl)))
+    one-fresh e (x ∷ y ∷ ys) l a = absurd (omega (arith, l))
 
 -- ---- a list as it was lent
 pub lent-tally : {xs ys : List Entry} (old new : ℕ) → ys ≡ xs → new ≤ old + 1 + length ys → new ≤ old + 1 + length xs
 lent-tally {xs} {ys} old new e h = let n : length ys ≡ length xs = ap (λ (zs : List Entry). length zs) e in omega (arith, n, h)
 
-pub lents-tally : {xs ys zs : List Entry} (old new : ℕ) → ys ≡ xs → zs ≡ xs → new ≤ old + 1 + length ys → new ≤ old + 1 + length zs
-lents-tally {xs} {ys} {zs} old new e f h =
-    let n : length ys ≡ length xs = ap (λ (l : List Entry). length l) e in
-    let m : length zs ≡ length xs = ap (λ (l : List Entry). length l) f in
-    omega (arith, n, m, h)
-
-pub once-lent : {xs ys : List Entry} → ys ≡ xs → EachOnce xs → EachOnce ys
-once-lent {xs} {ys} e o = let P : List Entry → Type 0 = λ l. EachOnce l in subst P (sym e) o
+pub fresh-lent : {entries distinct fresh lent gone : List Entry} → lent ≡ distinct → gone ≡ fresh → EachOnce distinct → SameMembers distinct entries → length fresh ≤ length lent → ((e : Entry) → Member e fresh → Member e lent) → AreFreshOf entries distinct gone
+fresh-lent {entries} {distinct} {fresh} {lent} {gone} d g o m f p = record {
+  once = o;
+  members = m;
+  few = (let x : length lent ≡ length distinct = ap (λ (l : List Entry). length l) d in let y : length gone ≡ length fresh = ap (λ (l : List Entry). length l) g in omega (arith, x, y, f));
+  part = λ e k. (
+      let P : List Entry → Type 0 = λ l. Member e l in
+      subst P d (p e (subst P g k)));
+}

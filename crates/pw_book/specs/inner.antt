@@ -5,4 +5,5 @@ pub mod Failures
 pub mod Sums
 pub mod Moves
 pub mod Settling
+pub mod Fresh
 pub mod Added

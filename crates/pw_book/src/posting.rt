@@ -1,7 +1,8 @@
 //! An upload's way to a shelf: weighed first, then written.
 
 ghost use Rattle.std.specs.Prelude.{◌≡◌, ◌+◌, ◌<◌, ◌≤◌, ◌^◌, IfOk, IsErrOf, IsNone, MatchResult, Some, length};
-ghost use Rattle.pw_model.specs.Counting.{EachOnce};
+ghost use Rattle.pw_model.specs.declared.records.Entry.{Entry as AnEntry};
+ghost use Rattle.pw_model.specs.Counting.{Member};
 ghost use Rattle.pw_model.specs.Lists.{record_count};
 ghost use Rattle.pw_model.specs.Office.{AllOfOffice, most_records};
 ghost use Rattle.pw_model.specs.Shelf.{IsTrueContent};
@@ -9,7 +10,8 @@ ghost use Rattle.pw_tariff.specs.Office.{IsSound, office_of};
 ghost use Rattle.pw_book.specs.Cost.{IsCheap};
 ghost use Rattle.pw_shelf.specs.Calls.{failures_told};
 ghost use Rattle.pw_book.specs.Asking.{IsOnlyAsked};
-ghost use Rattle.pw_book.specs.Posting.{FailuresPosted, IsPosted, LeavesPosted, repeated_in};
+ghost use Rattle.pw_book.specs.Posting.{FailuresPosted, IsPosted, LeavesPosted};
+ghost use Rattle.pw_book.specs.inner.Fresh.{fresh_of};
 ghost use Rattle.pw_book.specs.declared.fault.PostFault.TheVariants.{Full, Reopen};
 
 use crate::asked::{count_held, is_held};
@@ -50,9 +52,10 @@ pub(crate) fn post_to<S: Shelf>(
     ensures store { S.same_store shelf.old shelf.new }
 {
     let distinct = distinct(alloc, entries)?;
-    let (held, repeated) = weigh(shelf, &distinct)?;
-    let accepted = admitted(held, distinct.len() - repeated, repeated, limit)?;
-    upload(shelf, alloc, office, zone, &distinct)?;
+    let (held, fresh) = weigh(shelf, alloc, &distinct)?;
+    let repeated = distinct.len() - fresh.len();
+    let accepted = admitted(held, fresh.len(), repeated, limit)?;
+    upload(shelf, alloc, office, zone, &fresh)?;
     Ok(accepted)
 }
 
@@ -69,35 +72,43 @@ fn admitted(held: u32, fresh: usize, repeated: usize, limit: u32) -> Result<Acce
     })
 }
 
-// How many records are held, and how many of an upload's distinct entries.
-fn weigh<S: Shelf>(shelf: &mut S, distinct: &[Entry]) -> Result<(u32, usize), ShelfFault>
+// How many records are held, and those of an upload's distinct entries that aren't.
+fn weigh<S: Shelf>(
+    shelf: &mut S,
+    alloc: Global,
+    distinct: &[Entry],
+) -> Result<(u32, Vec<Entry>), ShelfFault>
     requires idle { IsNone (S.state shelf.old).begun }
-    requires once { EachOnce distinct.now }
     ensures held { S.clean shelf.new → IfOk result (λ w. w.0 ≡ length (S.state shelf.old).content.records) }
-    ensures repeated { S.clean shelf.new → IfOk result (λ w. w.1 ≡ repeated_in (S.state shelf.old).content.records distinct.now) }
-    ensures within { IfOk result (λ w. w.1 ≤ length distinct.now) }
+    ensures fresh { S.clean shelf.new → IfOk result (λ w. w.1.items ≡ fresh_of (S.state shelf.old).content.records distinct.now) }
+    ensures few { IfOk result (λ w. length w.1.items ≤ length distinct.now) }
+    ensures part { IfOk result (λ w. (e : AnEntry) → Member e w.1.items → Member e distinct.now) }
     ensures tally { (S.state shelf.new).tally ≤ (S.state shelf.old).tally + 1 + length distinct.now }
     ensures asked { IsOnlyAsked S.Shelf (failures_told result) shelf.old shelf.new }
 {
     let held = count_held(shelf)?;
-    let repeated = count_repeated(shelf, distinct)?;
-    Ok((held, repeated))
+    let fresh = not_held(shelf, alloc, distinct)?;
+    Ok((held, fresh))
 }
 
-// How many of an upload's distinct entries are held.
-fn count_repeated<S: Shelf>(shelf: &mut S, distinct: &[Entry]) -> Result<usize, ShelfFault>
+// Those of an upload's distinct entries that aren't held.
+fn not_held<S: Shelf>(
+    shelf: &mut S,
+    alloc: Global,
+    distinct: &[Entry],
+) -> Result<Vec<Entry>, ShelfFault>
     requires idle { IsNone (S.state shelf.old).begun }
-    requires once { EachOnce distinct.now }
-    ensures repeated { S.clean shelf.new → IfOk result (λ repeated. repeated ≡ repeated_in (S.state shelf.old).content.records distinct.now) }
-    ensures within { IfOk result (λ repeated. repeated ≤ length distinct.now) }
+    ensures fresh { S.clean shelf.new → IfOk result (λ fresh. fresh.items ≡ fresh_of (S.state shelf.old).content.records distinct.now) }
+    ensures few { IfOk result (λ fresh. length fresh.items ≤ length distinct.now) }
+    ensures part { IfOk result (λ fresh. (e : AnEntry) → Member e fresh.items → Member e distinct.now) }
     ensures tally { (S.state shelf.new).tally ≤ (S.state shelf.old).tally + length distinct.now }
     ensures asked { IsOnlyAsked S.Shelf (failures_told result) shelf.old shelf.new }
 {
-    let mut repeated = 0;
+    let mut fresh = Vec::new(alloc);
     for entry in distinct {
-        if is_held(shelf, entry)? {
-            repeated += 1;
+        if !is_held(shelf, entry)? {
+            fresh.push(*entry)?;
         }
     }
-    Ok(repeated)
+    Ok(fresh)
 }

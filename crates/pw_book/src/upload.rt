@@ -12,6 +12,7 @@ ghost use Rattle.pw_shelf.specs.State.{CountsFailures};
 ghost use Rattle.pw_tariff.specs.Office.{IsSound, office_of};
 ghost use Rattle.pw_book.specs.Posting.{IsWithUpload};
 ghost use Rattle.pw_book.specs.inner.Added.{ChangesOneStart, CostsAtMost, IsPut, LeavesWithUpload, TakesAtMost};
+ghost use Rattle.pw_book.specs.inner.Fresh.{AreFresh};
 ghost use Rattle.pw_book.specs.inner.Failures.{FailuresUploaded};
 ghost use Rattle.pw_book.specs.declared.fault.BookFault.TheVariants.{Reopen};
 
@@ -23,7 +24,7 @@ use pw_tariff::Office;
 use pw_time::Zone;
 use std::alloc::Global;
 
-// Adds the entries that aren't held in an upload of their own, and keeps points, starts and totals true.
+// Adds entries that aren't held in an upload of their own, and keeps points, starts and totals true.
 pub(crate) fn upload<S: Shelf>(
     shelf: &mut S,
     alloc: Global,
@@ -34,6 +35,7 @@ pub(crate) fn upload<S: Shelf>(
     requires idle { IsNone (S.state shelf.old).begun }
     requires sound { IsSound office.now }
     requires of_office { AllOfOffice (office_of office.now) entries.now }
+    requires fresh { S.clean shelf.old → AreFresh (S.state shelf.old).content.records entries.now }
     requires room { S.clean shelf.old → record_count ((S.state shelf.old).content.records ++ entries.now) ≤ most_records }
     requires truth { S.clean shelf.old → IsTrueContent (office_of office.now) (S.state shelf.old).content }
     requires held { S.clean shelf.old → AllOfOffice (office_of office.now) (S.state shelf.old).content.records }
@@ -62,7 +64,7 @@ pub(crate) fn upload<S: Shelf>(
     }
 }
 
-// Adds the entries that aren't held to the upload that is begun, and commits.
+// Adds entries that aren't held to the upload that is begun, and commits.
 fn write<S: Shelf>(
     shelf: &mut S,
     alloc: Global,
@@ -73,6 +75,7 @@ fn write<S: Shelf>(
     requires begun { IsSome (S.state shelf.old).begun }
     requires sound { IsSound office.now }
     requires of_office { AllOfOffice (office_of office.now) entries.now }
+    requires fresh { S.clean shelf.old → AreFresh (S.state shelf.old).content.records entries.now }
     requires room { S.clean shelf.old → record_count ((S.state shelf.old).content.records ++ entries.now) ≤ most_records }
     requires truth { S.clean shelf.old → IsTrueContent (office_of office.now) (S.state shelf.old).content }
     requires held { S.clean shelf.old → AllOfOffice (office_of office.now) (S.state shelf.old).content.records }
@@ -92,7 +95,7 @@ fn write<S: Shelf>(
     shelf.commit()
 }
 
-// Adds an entry to the upload that is begun, unless it is held, with all that follows.
+// Adds an entry that isn't held to the upload that is begun, with all that follows.
 fn put<S: Shelf>(
     shelf: &mut S,
     alloc: Global,
@@ -103,16 +106,14 @@ fn put<S: Shelf>(
     requires begun { IsSome (S.state shelf.old).begun }
     requires sound { IsSound office.now }
     requires of_office { IsOfOffice (office_of office.now) entry.now }
-    requires room { S.clean shelf.old → (Member entry.now (S.state shelf.old).content.records → ⊥) → length (S.state shelf.old).content.records < most_records }
+    requires fresh { S.clean shelf.old → Member entry.now (S.state shelf.old).content.records → ⊥ }
+    requires room { S.clean shelf.old → length (S.state shelf.old).content.records < most_records }
     ensures put { S.clean shelf.new → IsTrueContent (office_of office.now) (S.state shelf.old).content → AllOfOffice (office_of office.now) (S.state shelf.old).content.records → OnOk result (IsPut (office_of office.now) (entry.now ∷ []) (S.state shelf.old).content (S.state shelf.new).content) }
     ensures start { S.clean shelf.new → IsReading entry.now.key → OnOk result ((S.state shelf.new).content.start ≡ (S.state shelf.old).content.start) }
     ensures alone { S.clean shelf.new → OnOk result (ChangesOneStart entry.now.key (S.state shelf.old).content (S.state shelf.new).content) }
-    ensures tally { S.clean shelf.new → TakesAtMost 5 (office_of office.now) (S.state shelf.old).content entry.now.key (S.state shelf.old).tally (S.state shelf.new).tally }
+    ensures tally { S.clean shelf.new → TakesAtMost 4 (office_of office.now) (S.state shelf.old).content entry.now.key (S.state shelf.old).tally (S.state shelf.new).tally }
     ensures kept { GoesOn S.state S.left S.clean S.same_store (failures_told result) shelf.old shelf.new }
 {
-    if shelf.holds(entry)? {
-        return Ok(());
-    }
     let before = shelf.contents_at(&entry.key)?;
     shelf.add(entry)?;
     settle(shelf, alloc, office, zone, entry, &before)

@@ -78,12 +78,12 @@ ChangesOneStart _ old new = Unit {0}
 abbrev pub LeavesWithUpload : OfficeRules → List Entry → ShelfContent → (ShelfContent → Type 0) → (ShelfContent → Type 0) → Type 0
 LeavesWithUpload office entries content old new = (c : ShelfContent) → new c → old c ⊎ IsWithUpload office entries content c
 
--- how many calls and rows the entries of an upload take, each looked up, added and settled, beside so many
+-- how many calls and rows the entries of an upload take, each added and settled, beside so many
 pub record CostsAtMost (beside : ℕ) (office : OfficeRules) (entries : List Entry) (c : ShelfContent) (old new : ℕ) : Type 0 where
-  pub readings : (starts : ℕ) → AreReadingsWith c starts entries → new ≤ old + beside + length entries * (11 + starts + 6 * classes_of office)
+  pub readings : (starts : ℕ) → AreReadingsWith c starts entries → new ≤ old + beside + length entries * (10 + starts + 6 * classes_of office)
   pub assignment : (e : Entry) (starts points : ℕ) → entries ≡ e ∷ [] → IsAssignmentUpToNext c starts points e.key →
-      new ≤ old + beside + (37 + starts + points + 6 * classes_of office)
+      new ≤ old + beside + (36 + starts + points + 6 * classes_of office)
   pub assignments : (starts points : ℕ) → AreAssignmentsWith c starts points entries →
-      new ≤ old + beside + length entries * (37 + (starts + length entries) + points + 6 * classes_of office)
-  pub top_ups : AreTopUps entries → new ≤ old + beside + length entries * 8
+      new ≤ old + beside + length entries * (36 + (starts + length entries) + points + 6 * classes_of office)
+  pub top_ups : AreTopUps entries → new ≤ old + beside + length entries * 7
   pub nothing : entries ≡ [] → new ≤ old + beside

@@ -2,17 +2,24 @@ use Rattle.std.proofs.Common.{refl, arith, ◌∙◌, inl, inr}
 use Rattle.std.proofs.lemmas.Result.{on_ok_weaker, on_err_weaker}
 use Rattle.pw_tariff.specs.Office.{office_of}
 use Rattle.pw_book.proofs.Chains.{kept-then, kept-none}
-use Rattle.pw_book.proofs.Joining.{joined-none, joined-next, joined-room, joined-of_office, got-of_office, got-member, with-upload, subst-once}
+use Rattle.pw_book.proofs.Joining.{joined-fresh, joined-none, joined-next, joined-room, joined-of_office, got-of_office, got-member, with-upload, subst-once}
 use Rattle.pw_book.proofs.Spending.{assignments-next, behind-next, behind-none, only-next, readings-next, top-ups-next, costs-so-far, costs-next}
 use Rattle.pw_book.proofs.upload.write.Goals as goal
 
 pub put-requires-clause-of_office : goal.put-requires-clause-of_office
 put-requires-clause-of_office g c = got-of_office (office_of c.args.office.now) c.args.entries.now c.loop-entry.entry-index c.entry-item.result c.loop-entry-test.true c.entry-item.is c.requires.of_office
 
+pub put-requires-clause-fresh : goal.put-requires-clause-fresh
+put-requires-clause-fresh g c = λ k.
+    joined-fresh (office_of c.args.office.now) c.args.entries.now c.loop-entry.entry-index c.entry-item.result _ _ c.loop-entry-test.true c.entry-item.is (c.requires.fresh (c.loop-entry.invariant.kept.clean k)) (c.loop-entry.invariant.put k)
+
 pub put-requires-clause-room : goal.put-requires-clause-room
-put-requires-clause-room g c = λ k n.
-    joined-room (office_of c.args.office.now) c.args.entries.now c.loop-entry.entry-index c.entry-item.result _ _ c.loop-entry-test.true c.entry-item.is (c.loop-entry.invariant.put k) (g.met.S.Shelf.once c.loop-entry.shelf k)
-    (c.requires.room (c.loop-entry.invariant.kept.clean k)) n
+put-requires-clause-room g c = λ k.
+    let start = c.loop-entry.invariant.kept.clean k in
+    let office = office_of c.args.office.now in
+    let so_far = c.loop-entry.invariant.put k in
+    joined-room office c.args.entries.now c.loop-entry.entry-index c.entry-item.result _ _ c.loop-entry-test.true c.entry-item.is so_far (g.met.S.Shelf.once c.loop-entry.shelf k) (c.requires.room start)
+    (joined-fresh office c.args.entries.now c.loop-entry.entry-index c.entry-item.result _ _ c.loop-entry-test.true c.entry-item.is (c.requires.fresh start) so_far)
 
 pub returns-in_err-put-clause-tally : goal.returns-in_err-put-clause-tally
 returns-in_err-put-clause-tally g c = λ k.
