@@ -7,20 +7,25 @@ use Rattle.pw_tariff.specs.declared.ids.MeterId.{MeterId}
 use Rattle.pw_tariff.specs.Office.{OfficeRules}
 use Rattle.pw_model.specs.declared.records.Key.{Key}
 use Rattle.pw_model.specs.declared.records.Key.TheVariants as key
+use Rattle.pw_model.specs.declared.records.Content.{Content}
+use Rattle.pw_model.specs.declared.records.Content.TheVariants as content
 use Rattle.pw_model.specs.declared.records.Contents.{Contents}
 use Rattle.pw_model.specs.declared.records.Contents.TheVariants.{Nothing, One, Several}
 use Rattle.pw_model.specs.declared.records.Entry.{Entry}
-use Rattle.pw_model.specs.Counting.{IsInserted, Member, SameMembers, assignment_key, contents_at}
-use Rattle.pw_model.specs.Office.{AllOfOffice, IsOfOffice, most_records}
-use Rattle.pw_model.specs.Same.{same_key}
+use Rattle.pw_model.specs.Changes.{ChangesAtOneKey}
+use Rattle.pw_model.specs.Counting.{IsInserted, Member, SameMembers, assignment_key, contents_at, joined, owner_of, reading_key, wh_of}
+use Rattle.pw_model.specs.Office.{AllOfOffice, IsOf, IsOfOffice, most_records}
+use Rattle.pw_model.specs.Payments.{cents_for}
+use Rattle.pw_model.specs.Same.{same_content, same_key}
 use Rattle.pw_model.specs.Shelf.{IsTrueContent, ShelfContent}
-use Rattle.pw_model.proofs.Counting.{inserted-same}
-use Rattle.pw_model.proofs.Same.{same_key-decides}
+use Rattle.pw_model.proofs.Counting.{inserted-same, one-is_counting, one-more_record, standing-part}
+use Rattle.pw_model.proofs.Payments.{one-more_payment}
+use Rattle.pw_model.proofs.Same.{same_content-decides, same_key-decides}
 use Rattle.pw_shelf.specs.Changes.{starts_with}
 use Rattle.pw_shelf.specs.Rows.{rows_at}
 use Rattle.pw_shelf.specs.State.{IsWithRecord}
 use Rattle.pw_book.specs.Cost.{HasStarts}
-use Rattle.pw_book.specs.inner.Added.{ChangesOneStart, IsJustAdded, IsPut, TakesAtMost}
+use Rattle.pw_book.specs.inner.Added.{ChangesOneStart, IsJustChanged, IsKeyOf, IsPut, TakesAtMost}
 use Rattle.pw_book.specs.inner.Settling.{HavePoints}
 use Rattle.pw_model.proofs.Places.{member-left, member-right, member-split}
 
@@ -33,33 +38,70 @@ inserted-length s t e h =
     more [] ys e = omega arith
     more (x ∷ xs) ys e = let r = more xs ys e in omega (arith, r)
 
-pub just-added : (office : OfficeRules) (e : Entry) (before : Contents) (old two new : ShelfContent) → two ≡ old → IsWithRecord two e new → before ≡ contents_at old.records e.key → (Member e old.records → ⊥) →
-    IsOfOffice office e → AllOfOffice office old.records → length old.records < most_records → IsTrueContent office old → IsJustAdded office old.records e before new
-just-added office e before old two new q w b n o h l t =
-    let P : ShelfContent → Type 0 = λ c. IsWithRecord c e new in
-    let v : IsWithRecord old e new = subst P q w in
-    let m : SameMembers new.records (e ∷ old.records) = inserted-same old.records new.records e v.records in
-    let Q : Entry → Type 0 = λ x. IsOfOffice office x in
-    record {
-      inserted = v.records;
-      before_is = b;
-      fresh = n;
-      of_office = λ x i. elim ((m x).0 i) [ inl y ↦ subst Q (sym y) o | inr k ↦ h x k ];
-      few = let f = inserted-length old.records new.records e v.records in omega (arith, f, l);
-      still = record { points = v.point ∙ t.points; starts = v.start ∙ t.starts; totals = λ k. ap (λ f. f k) v.total ∙ t.totals k };
-    }
+-- a content of its own that counted was another
+apart-before : (s : List Entry) (e : Entry) (d : Content) → (Member e s → ⊥) → contents_at s e.key ≡ One d → joined e.content (One d) ≡ Several
+apart-before s e d n h = elim (cases_Bool (same_content e.content d)) [
+  | inl y ↦ (
+      let q : e.content ≡ d = (same_content-decides e.content d).0 y in
+      let c : contents_at s e.key ≡ One e.content = h ∙ ap One (sym q) in
+      absurd (n (standing-part s e ((one-is_counting s e).0 c).0)))
+  | inr f ↦ ap (λ b. cond b (One d) Several) f
+]
 
-pub put-added : (office : OfficeRules) (s : List Entry) (e : Entry) (before : Contents) (old mid new : ShelfContent) → s ≡ old.records → IsJustAdded office s e before mid → new.records ≡ mid.records → IsTrueContent office new → IsPut office (e ∷ []) old new
-put-added office s e before old mid new q j r t =
-    let m : SameMembers mid.records (e ∷ s) = inserted-same s mid.records e j.inserted in
-    let P : List Entry → Type 0 = λ l. SameMembers l (e ∷ s) in
-    let n : SameMembers new.records (e ∷ s) = subst P (sym r) m in
-    let L : List Entry → Type 0 = λ l. SameMembers new.records (l ++ e ∷ []) in
+-- a key of the office
+pub key-of : (office : OfficeRules) (k : Key) (c : Content) → IsOf office k c → IsKeyOf office k
+key-of office (key.Reading m r t) (content.Reading w) h = (h.0, h.1)
+key-of office (key.Assignment m t) (content.Assignment o) h = h.0
+key-of office (key.TopUp r) (content.TopUp a c t) h = tt
+key-of office (key.Reading m r t) (content.Assignment o) h = absurd h
+key-of office (key.Reading m r t) (content.TopUp a c u) h = absurd h
+key-of office (key.Assignment m t) (content.Reading w) h = absurd h
+key-of office (key.Assignment m t) (content.TopUp a c u) h = absurd h
+key-of office (key.TopUp r) (content.Reading w) h = absurd h
+key-of office (key.TopUp r) (content.Assignment o) h = absurd h
+
+-- an entry more changes what is told at its key
+pub just-changed : (office : OfficeRules) (e : Entry) (before behind : Contents) (old two mid new : ShelfContent) → two ≡ old → IsWithRecord two e mid → new ≡ mid → before ≡ contents_at old.records e.key → behind ≡ contents_at mid.records e.key →
+    (Member e old.records → ⊥) → IsOfOffice office e → AllOfOffice office old.records → length old.records < most_records → IsTrueContent office old → IsJustChanged office old.records e.key before behind new
+just-changed office e before behind old two mid new q w z b h n o a l t =
+    let P : ShelfContent → Type 0 = λ c. IsWithRecord c e mid in
+    let v : IsWithRecord old e mid = subst P q w in
+    let m : SameMembers mid.records (e ∷ old.records) = inserted-same old.records mid.records e v.records in
+    let changed : ChangesAtOneKey old.records mid.records e = one-more_record old.records mid.records e v.records in
+    let J : ShelfContent → Type 0 = λ c. IsJustChanged office old.records e.key before behind c in
+    let Q : Entry → Type 0 = λ x. IsOfOffice office x in
+    subst J (sym z) (record {
+      was = b;
+      is = h;
+      alike = λ x y p r.
+          let told : contents_at old.records e.key ≡ One x = sym b ∙ p in
+          let several : Several ≡ One y = sym (apart-before old.records e x n told) ∙ ap (joined e.content) (sym told) ∙ sym changed.here ∙ sym h ∙ r in
+          absurd cc;
+      points = λ m r t d. ap wh_of (sym (changed.elsewhere (reading_key m r t) d));
+      starts = λ m t d. ap owner_of (sym (changed.elsewhere (assignment_key m t) d));
+      paid = λ c.
+          let p = one-more_payment old.records mid.records e v.records c in
+          let x = ap (cents_for c) b in
+          let y = ap (cents_for c) h in
+          omega (arith, p, x, y);
+      small = a;
+      of_office = λ x i. elim ((m x).0 i) [ inl y ↦ subst Q (sym y) o | inr k ↦ a x k ];
+      few = let f = inserted-length old.records mid.records e v.records in omega (arith, f, l);
+      still = record { points = v.point ∙ t.points; starts = v.start ∙ t.starts; totals = λ k. ap (λ f. f k) v.total ∙ t.totals k };
+    })
+
+pub put-added : (office : OfficeRules) (e : Entry) (old two mid three new : ShelfContent) → two ≡ old → IsWithRecord two e mid → three ≡ mid → new.records ≡ three.records → IsTrueContent office new → IsPut office (e ∷ []) old new
+put-added office e old two mid three new q w z r t =
+    let W : ShelfContent → Type 0 = λ c. IsWithRecord c e mid in
+    let v : IsWithRecord old e mid = subst W q w in
+    let m : SameMembers mid.records (e ∷ old.records) = inserted-same old.records mid.records e v.records in
+    let P : List Entry → Type 0 = λ l. SameMembers l (e ∷ old.records) in
+    let n : SameMembers new.records (e ∷ old.records) = subst P (sym (r ∙ ap (λ (c : ShelfContent). c.records) z)) m in
     record {
-      records = subst L q (λ x. (
-        λ i. elim ((n x).0 i) [ inl y ↦ member-right x s (e ∷ []) (inl y) | inr k ↦ member-left x s (e ∷ []) k ],
-        λ i. (n x).1 (elim (member-split x s (e ∷ []) i) [ inl k ↦ inr k | inr v ↦ elim v [ inl y ↦ inl y | inr b ↦ absurd b ] ]),
-      ));
+      records = λ x. (
+        λ i. elim ((n x).0 i) [ inl y ↦ member-right x old.records (e ∷ []) (inl y) | inr k ↦ member-left x old.records (e ∷ []) k ],
+        λ i. (n x).1 (elim (member-split x old.records (e ∷ []) i) [ inl k ↦ inr k | inr v ↦ elim v [ inl y ↦ inl y | inr b ↦ absurd b ] ]),
+      );
       truth = t;
     }
 
@@ -77,11 +119,18 @@ points-same old new m t most p q h =
     let one : HavePoints (record old { start = new.start }) m t most = subst (λ f. HavePoints (record old { start = f }) m t most) (sym p) h in
     subst (λ f. HavePoints (record old { start = new.start; point = f }) m t most) (sym q) one
 
-takes-on : (office : OfficeRules) (k : Key) (old new : ShelfContent) (a b d : ℕ) → new.start ≡ old.start → new.point ≡ old.point → b ≤ a + 4 → TakesAtMost 0 office new k b d → TakesAtMost 4 office old k a d
+takes-on : (office : OfficeRules) (k : Key) (old new : ShelfContent) (a b d : ℕ) → new.start ≡ old.start → new.point ≡ old.point → b ≤ a + 7 → TakesAtMost 0 office new k b d → TakesAtMost 7 office old k a d
 takes-on office (key.Reading m r t) old new a b d p q l h = λ starts s. let x = h starts (starts-same old new m.0 starts p s) in omega (arith, x, l)
 takes-on office (key.Assignment m t) old new a b d p q l h = λ starts points s v.
     let x = h starts points (starts-same old new m.0 starts p s) (points-same old new m.0 t points p q v) in omega (arith, x, l)
 takes-on office (key.TopUp r) old new a b d p q l h = omega (arith, h, l)
+
+-- a record that was added changes no start and no point
+pub with-record : (e : Entry) (old two mid three : ShelfContent) → two ≡ old → IsWithRecord two e mid → three ≡ mid → (three.start ≡ old.start) × (three.point ≡ old.point)
+with-record e old two mid three q w z =
+    let P : ShelfContent → Type 0 = λ c. IsWithRecord c e mid in
+    let v : IsWithRecord old e mid = subst P q w in
+    (ap (λ (c : ShelfContent). c.start) z ∙ v.start, ap (λ (c : ShelfContent). c.point) z ∙ v.point)
 
 -- ---- the start of one key alone
 abbrev meter_in : Key → ℕ
@@ -103,18 +152,17 @@ one-start m t owner old new p s = (
 )
 
 -- behind a record that was added first
-pub added-then : (k : Key) (e : Entry) (old two mid new : ShelfContent) → two ≡ old → IsWithRecord two e mid → ChangesOneStart k mid new → ChangesOneStart k old new
-added-then (key.Reading m r t) e old two mid new q w h = tt
-added-then (key.Assignment m t) e old two mid new q w h =
-    let P : ShelfContent → Type 0 = λ c. IsWithRecord c e mid in
-    let v : IsWithRecord old e mid = subst P q w in
-    (h.0 ∙ v.point, λ n u d. h.1 n u d ∙ ap (λ (f : ℕ → ℕ → Option (Option AccountId)). f n u) v.start)
-added-then (key.TopUp r) e old two mid new q w h = tt
+pub added-then : (k : Key) (e : Entry) (old two mid three new : ShelfContent) → two ≡ old → IsWithRecord two e mid → three ≡ mid → ChangesOneStart k three new → ChangesOneStart k old new
+added-then (key.Reading m r t) e old two mid three new q w z h = tt
+added-then (key.Assignment m t) e old two mid three new q w z h =
+    let v = with-record e old two mid three q w z in
+    (h.0 ∙ v.1, λ n u d. h.1 n u d ∙ ap (λ (f : ℕ → ℕ → Option (Option AccountId)). f n u) v.0)
+added-then (key.TopUp r) e old two mid three new q w z h = tt
 
-pub takes-more : (office : OfficeRules) (k : Key) (e : Entry) (old two new : ShelfContent) (a c d f : ℕ) (before : Contents) → two ≡ old → IsWithRecord two e new →
-    c ≡ a + 1 + rows_at before → d ≡ c + 1 → TakesAtMost 0 office new k d f → TakesAtMost 4 office old k a f
-takes-more office k e old two new a c d f before q w y z h =
+pub takes-more : (office : OfficeRules) (k : Key) (e : Entry) (old two mid three : ShelfContent) (a c d f g : ℕ) (before behind : Contents) → two ≡ old → IsWithRecord two e mid → three ≡ mid →
+    c ≡ a + 1 + rows_at before → d ≡ c + 1 → f ≡ d + 1 + rows_at behind → TakesAtMost 0 office three k f g → TakesAtMost 7 office old k a g
+takes-more office k e old two mid three a c d f g before behind q w z x y u h =
     let r = rows-few before in
-    let P : ShelfContent → Type 0 = λ c. IsWithRecord c e new in
-    let v : IsWithRecord old e new = subst P q w in
-    takes-on office k old new a d f v.start v.point (omega (arith, y, z, r)) h
+    let s = rows-few behind in
+    let v = with-record e old two mid three q w z in
+    takes-on office k old three a f g v.0 v.1 (omega (arith, x, y, u, r, s)) h

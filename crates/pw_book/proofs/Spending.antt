@@ -17,12 +17,12 @@ use Rattle.pw_book.proofs.Putting.{starts-same}
 use Rattle.pw_book.proofs.EachOne.{record-count, record-count_same}
 
 -- ---- one entry more
-reading-takes : (office : OfficeRules) (k : Key) (was c : ShelfContent) (starts old new : ℕ) → IsReading k → HasStartsOf was starts k → c.start ≡ was.start → TakesAtMost 4 office c k old new → new ≤ old + (10 + starts + 6 * classes_of office)
+reading-takes : (office : OfficeRules) (k : Key) (was c : ShelfContent) (starts old new : ℕ) → IsReading k → HasStartsOf was starts k → c.start ≡ was.start → TakesAtMost 7 office c k old new → new ≤ old + (13 + starts + 6 * classes_of office)
 reading-takes office (key.Reading m r t) was c starts old new i h p x = let y = x starts (starts-same was c m.0 starts p h) in omega (arith, y)
 reading-takes office (key.Assignment m t) was c starts old new i h p x = absurd i
 reading-takes office (key.TopUp r) was c starts old new i h p x = absurd i
 
-top-up-takes : (office : OfficeRules) (k : Key) (c : ShelfContent) (old new : ℕ) → IsTopUp k → TakesAtMost 4 office c k old new → new ≤ old + 7
+top-up-takes : (office : OfficeRules) (k : Key) (c : ShelfContent) (old new : ℕ) → IsTopUp k → TakesAtMost 7 office c k old new → new ≤ old + 10
 top-up-takes office (key.Reading m r t) c old new i x = absurd i
 top-up-takes office (key.Assignment m t) c old new i x = absurd i
 top-up-takes office (key.TopUp r) c old new i x = omega (arith, x)
@@ -34,7 +34,7 @@ have-up-to c m t points h = λ r ps l. h.few r ps l.rising (λ a k. let x = (l.m
 have-all : (c d : ShelfContent) (m t points : ℕ) (h : HasPoints (λ t. Unit {0}) c m points) → d.point ≡ c.point → HavePoints d m t h.each
 have-all c d m t points h p = λ r ps l. h.few r ps l.rising (λ a k. let x = (l.members a).0 k in (tt, ap (λ (f : ℕ → Register → ℕ → Option ℕ). f m r a.0) (sym p) ∙ x.2))
 
-assignment-takes : (office : OfficeRules) (k : Key) (c : ShelfContent) (starts points old new : ℕ) → IsAssignmentUpToNext c starts points k → TakesAtMost 4 office c k old new → new ≤ old + (36 + starts + points + 6 * classes_of office)
+assignment-takes : (office : OfficeRules) (k : Key) (c : ShelfContent) (starts points old new : ℕ) → IsAssignmentUpToNext c starts points k → TakesAtMost 7 office c k old new → new ≤ old + (39 + starts + points + 6 * classes_of office)
 assignment-takes office (key.Reading m r t) c starts points old new i x = absurd i
 assignment-takes office (key.Assignment m t) c starts points old new i x =
     let y = x starts i.1.each i.0 (have-up-to c m.0 t points i.1) in
@@ -47,8 +47,8 @@ abbrev pub HasStartsFor : ShelfContent → ℕ → Key → Type 0
 HasStartsFor c most (key.Assignment m t) = HasStarts c m.0 most
 HasStartsFor c most _ = Unit {0}
 
-assignment-takes-later : (office : OfficeRules) (k : Key) (was c : ShelfContent) (starts more points old new : ℕ) → IsAssignmentWith was starts points k → c.point ≡ was.point → HasStartsFor c more k → TakesAtMost 4 office c k old new →
-    new ≤ old + (36 + more + points + 6 * classes_of office)
+assignment-takes-later : (office : OfficeRules) (k : Key) (was c : ShelfContent) (starts more points old new : ℕ) → IsAssignmentWith was starts points k → c.point ≡ was.point → HasStartsFor c more k → TakesAtMost 7 office c k old new →
+    new ≤ old + (39 + more + points + 6 * classes_of office)
 assignment-takes-later office (key.Reading m r t) was c starts more points old new i p h x = absurd i
 assignment-takes-later office (key.Assignment m t) was c starts more points old new i p h x =
     let y = x more i.1.each h (have-all was c m.0 t points i.1 p) in
@@ -107,35 +107,35 @@ behind-next entries e i was c d starts points m a b h =
     points-kept (key.TopUp r) c d a h = absurd a
 
 pub assignments-next : (office : OfficeRules) (entries : List Entry) (e : Entry) (i : ℕ) (was c : ShelfContent) (starts points first old new : ℕ) → i < length entries → Member e entries → AreAssignmentsWith was starts points entries →
-    IsBehind entries i was c starts → old ≤ first + i * (36 + (starts + length entries) + points + 6 * classes_of office) → TakesAtMost 4 office c e.key old new →
-    new ≤ first + (i + 1) * (36 + (starts + length entries) + points + 6 * classes_of office)
+    IsBehind entries i was c starts → old ≤ first + i * (39 + (starts + length entries) + points + 6 * classes_of office) → TakesAtMost 7 office c e.key old new →
+    new ≤ first + (i + 1) * (39 + (starts + length entries) + points + 6 * classes_of office)
 assignments-next office entries e i was c starts points first old new j m a b l t =
     let x = assignment-takes-later office e.key was c starts (starts + i) points old new (a e m) b.points (b.starts_are e m) t in
     omega (arith, l, x, j)
 
 pub readings-next : (office : OfficeRules) (entries : List Entry) (e : Entry) (i : ℕ) (was c : ShelfContent) (starts first old new : ℕ) → Member e entries → AreReadingsWith was starts entries → c.start ≡ was.start →
-    old ≤ first + i * (10 + starts + 6 * classes_of office) → TakesAtMost 4 office c e.key old new → new ≤ first + (i + 1) * (10 + starts + 6 * classes_of office)
+    old ≤ first + i * (13 + starts + 6 * classes_of office) → TakesAtMost 7 office c e.key old new → new ≤ first + (i + 1) * (13 + starts + 6 * classes_of office)
 readings-next office entries e i was c starts first old new m a p l t =
     let r = a e m in
     let x = reading-takes office e.key was c starts old new r.0 r.1 p t in
     omega (arith, l, x)
 
 pub top-ups-next : (office : OfficeRules) (entries : List Entry) (e : Entry) (i : ℕ) (c : ShelfContent) (first old new : ℕ) → Member e entries → AreTopUps entries →
-    old ≤ first + i * 7 → TakesAtMost 4 office c e.key old new → new ≤ first + (i + 1) * 7
+    old ≤ first + i * 10 → TakesAtMost 7 office c e.key old new → new ≤ first + (i + 1) * 10
 top-ups-next office entries e i c first old new m a l t =
     let x = top-up-takes office e.key c old new (a e m) t in
     omega (arith, l, x)
 
 -- the one assignment of an upload
 pub only-next : (office : OfficeRules) (entries : List Entry) (e f : Entry) (i : ℕ) (was c : ShelfContent) (starts points first old new : ℕ) → entries ≡ f ∷ [] → i < length entries → Member e entries → IsAssignmentUpToNext was starts points f.key →
-    (i ≡ 0 → (c ≡ was) × (old ≡ first)) → TakesAtMost 4 office c e.key old new → new ≤ first + (36 + starts + points + 6 * classes_of office)
+    (i ≡ 0 → (c ≡ was) × (old ≡ first)) → TakesAtMost 7 office c e.key old new → new ≤ first + (39 + starts + points + 6 * classes_of office)
 only-next office entries e f i was c starts points first old new q l m a z t =
     let n : length entries ≡ 1 = ap (λ (xs : List Entry). length xs) q in
     let z = z (omega (arith, n, l)) in
     let P : List Entry → Type 0 = λ xs. Member e xs in
     let same : e ≡ f = elim (subst P q m) [ inl k ↦ k | inr k ↦ absurd k ] in
     let Q : Entry → Type 0 = λ x. IsAssignmentUpToNext was starts points x.key in
-    let R : ShelfContent → Type 0 = λ x. TakesAtMost 4 office x e.key old new in
+    let R : ShelfContent → Type 0 = λ x. TakesAtMost 7 office x e.key old new in
     let x = assignment-takes office e.key was starts points old new (subst Q (sym same) a) (subst R z.0 t) in
     let w = z.1 in
     omega (arith, x, w)
@@ -145,20 +145,20 @@ within : (i n a : ℕ) → i ≤ n → i * a ≤ n * a
 within i n a l = mul-le-mul_right a l
 
 pub costs-so-far : (office : OfficeRules) (entries : List Entry) (i : ℕ) (was : ShelfContent) (first now last : ℕ) → i ≤ length entries →
-    ((starts : ℕ) → AreReadingsWith was starts entries → now ≤ first + i * (10 + starts + 6 * classes_of office)) →
-    ((e : Entry) (starts points : ℕ) → entries ≡ e ∷ [] → IsAssignmentUpToNext was starts points e.key → now ≤ first + i * (36 + starts + points + 6 * classes_of office)) →
-    ((starts points : ℕ) → AreAssignmentsWith was starts points entries → now ≤ first + i * (36 + (starts + length entries) + points + 6 * classes_of office)) →
-    (AreTopUps entries → now ≤ first + i * 7) → last ≤ now + 1 →
+    ((starts : ℕ) → AreReadingsWith was starts entries → now ≤ first + i * (13 + starts + 6 * classes_of office)) →
+    ((e : Entry) (starts points : ℕ) → entries ≡ e ∷ [] → IsAssignmentUpToNext was starts points e.key → now ≤ first + i * (39 + starts + points + 6 * classes_of office)) →
+    ((starts points : ℕ) → AreAssignmentsWith was starts points entries → now ≤ first + i * (39 + (starts + length entries) + points + 6 * classes_of office)) →
+    (AreTopUps entries → now ≤ first + i * 10) → last ≤ now + 1 →
     CostsAtMost 1 office entries was first last
 costs-so-far office entries i was first now last l r one several t h = record {
   assignment = λ e starts points q a.
       let x = one e starts points q a in
       let n : length entries ≡ 1 = ap (λ (xs : List Entry). length xs) q in
-      let y = within i (length entries) (36 + starts + points + 6 * classes_of office) l in
-      let z : length entries * (36 + starts + points + 6 * classes_of office) ≡ 36 + starts + points + 6 * classes_of office = rw n (omega arith) in
+      let y = within i (length entries) (39 + starts + points + 6 * classes_of office) l in
+      let z : length entries * (39 + starts + points + 6 * classes_of office) ≡ 39 + starts + points + 6 * classes_of office = rw n (omega arith) in
       omega (arith, x, y, z, h);
-  assignments = λ starts points a. let x = several starts points a in let y = within i (length entries) (36 + (starts + length entries) + points + 6 * classes_of office) l in omega (arith, x, y, h);
-  readings = λ starts a. let x = r starts a in let y = within i (length entries) (10 + starts + 6 * classes_of office) l in omega (arith, x, y, h);
+  assignments = λ starts points a. let x = several starts points a in let y = within i (length entries) (39 + (starts + length entries) + points + 6 * classes_of office) l in omega (arith, x, y, h);
+  readings = λ starts a. let x = r starts a in let y = within i (length entries) (13 + starts + 6 * classes_of office) l in omega (arith, x, y, h);
   top_ups = λ a. let x = t a in omega (arith, x, l, h);
   nothing = λ e.
       let n : i ≡ 0 = (let z : length entries ≡ 0 = ap (λ (xs : List Entry). length xs) e in omega (arith, l, z)) in
@@ -169,11 +169,11 @@ costs-so-far office entries i was first now last l r one several t h = record {
 -- one that failed on its way
 pub costs-next : (office : OfficeRules) (entries : List Entry) (e : Entry) (i : ℕ) (was c : ShelfContent) (first now last : ℕ) → i < length entries → Member e entries →
     ((starts : ℕ) → AreReadingsWith was starts entries → c.start ≡ was.start) →
-    ((starts : ℕ) → AreReadingsWith was starts entries → now ≤ first + i * (10 + starts + 6 * classes_of office)) →
+    ((starts : ℕ) → AreReadingsWith was starts entries → now ≤ first + i * (13 + starts + 6 * classes_of office)) →
     (i ≡ 0 → (c ≡ was) × (now ≡ first)) →
     ((starts points : ℕ) → AreAssignmentsWith was starts points entries → IsBehind entries i was c starts) →
-    ((starts points : ℕ) → AreAssignmentsWith was starts points entries → now ≤ first + i * (36 + (starts + length entries) + points + 6 * classes_of office)) →
-    (AreTopUps entries → now ≤ first + i * 7) → TakesAtMost 4 office c e.key now last →
+    ((starts points : ℕ) → AreAssignmentsWith was starts points entries → now ≤ first + i * (39 + (starts + length entries) + points + 6 * classes_of office)) →
+    (AreTopUps entries → now ≤ first + i * 10) → TakesAtMost 7 office c e.key now last →
     CostsAtMost 1 office entries was first last
 costs-next office entries e i was c first now last l m p r z b several t h = record {
   assignment = λ f starts points q a.
@@ -181,11 +181,11 @@ costs-next office entries e i was c first now last l m p r z b several t h = rec
       omega (arith, x);
   assignments = λ starts points a.
       let x = assignments-next office entries e i was c starts points first now last l m a (b starts points a) (several starts points a) h in
-      let y = within (i + 1) (length entries) (36 + (starts + length entries) + points + 6 * classes_of office) (omega (arith, l)) in
+      let y = within (i + 1) (length entries) (39 + (starts + length entries) + points + 6 * classes_of office) (omega (arith, l)) in
       omega (arith, x, y);
   readings = λ starts a.
       let x = readings-next office entries e i was c starts first now last m a (p starts a) (r starts a) h in
-      let y = within (i + 1) (length entries) (10 + starts + 6 * classes_of office) (omega (arith, l)) in
+      let y = within (i + 1) (length entries) (13 + starts + 6 * classes_of office) (omega (arith, l)) in
       omega (arith, x, y);
   top_ups = λ a. let x = top-ups-next office entries e i c first now last m a (t a) h in omega (arith, x, l);
   nothing = λ q. (let z : length entries ≡ 0 = ap (λ (xs : List Entry). length xs) q in absurd (omega (arith, l, z)));
@@ -211,17 +211,17 @@ costs-more office entries c d old mid now new q b t h = record {
 }
 
 -- ---- an upload
-products : (n f s c : ℕ) → 1 ≤ n → f ≤ n → 1 + n + 3 + f * (10 + s + 6 * c) ≤ n * (24 + 4 * (s + 1) + 6 * c)
+products : (n f s c : ℕ) → 1 ≤ n → f ≤ n → 1 + n + 3 + f * (13 + s + 6 * c) ≤ n * (24 + 4 * (s + 1) + 6 * c)
 products n f s c l k =
-    let x : 15 + s + 6 * c ≤ 24 + 4 * (s + 1) + 6 * c = omega arith in
+    let x : 18 + s + 6 * c ≤ 24 + 4 * (s + 1) + 6 * c = omega arith in
     let y = mul-le-mul_left n x in
-    let z = mul-le-mul_right (10 + s + 6 * c) k in
+    let z = mul-le-mul_right (13 + s + 6 * c) k in
     omega (arith, y, z, l)
 
-products-of-assignments : (n f s p c : ℕ) → 1 ≤ n → f ≤ n → 1 + n + 3 + f * (36 + (s + f) + p + 6 * c) ≤ n * (56 + 4 * (s + n + 1) + 2 * p + 12 * c)
+products-of-assignments : (n f s p c : ℕ) → 1 ≤ n → f ≤ n → 1 + n + 3 + f * (39 + (s + f) + p + 6 * c) ≤ n * (56 + 4 * (s + n + 1) + 2 * p + 12 * c)
 products-of-assignments n f s p c l k =
-    let w : 36 + (s + f) + p + 6 * c ≤ 36 + (s + n) + p + 6 * c = omega (arith, k) in
-    let x : 41 + (s + n) + p + 6 * c ≤ 56 + 4 * (s + n + 1) + 2 * p + 12 * c = omega arith in
+    let w : 39 + (s + f) + p + 6 * c ≤ 39 + (s + n) + p + 6 * c = omega (arith, k) in
+    let x : 44 + (s + n) + p + 6 * c ≤ 56 + 4 * (s + n + 1) + 2 * p + 12 * c = omega arith in
     let y = mul-le-mul_left n x in
     let z = mul-le-mul k w in
     omega (arith, y, z, l)
@@ -280,7 +280,7 @@ cheap-whole office entries distinct fresh c d old mid new f q h t =
       assignment = λ e starts points a i.
           let k : length distinct ≡ 1 = ap (λ (xs : List Entry). length xs) (one-distinct e entries distinct f.once f.members a) in
           let P : ShelfContent → Type 0 = λ x. IsAssignmentUpToNext x starts points e.key in
-          let x : new ≤ mid + 3 + (36 + starts + points + 6 * classes_of office) = elim (one-fresh e fresh (let l = f.few in omega (arith, k, l)) (λ g m. elim ((a g).0 (there g m)) [ inl i ↦ i | inr b ↦ absurd b ])) [
+          let x : new ≤ mid + 3 + (39 + starts + points + 6 * classes_of office) = elim (one-fresh e fresh (let l = f.few in omega (arith, k, l)) (λ g m. elim ((a g).0 (there g m)) [ inl i ↦ i | inr b ↦ absurd b ])) [
             | inl none ↦ (let y = t.nothing none in omega (arith, y))
             | inr one ↦ t.assignment e starts points one (subst P (sym q) i)
           ] in

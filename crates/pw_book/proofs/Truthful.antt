@@ -1,6 +1,7 @@
 -- Points, starts and totals stay those of the records.
 use Rattle.std.proofs.Common.{◌≡◌, ◌==◌, ℕ, ◌+◌, ◌≤◌, ◌⊎◌, Bool, true, false, cond, Option, Some, None, List, length, Result, Ok, Err, OnOk, refl, ap, sym, subst, ◌∙◌, arith, inl, inr}
 use Rattle.std.proofs.lemmas.Bool.{cases_Bool, cases_lt, cases_eq, eq-eqb, ne_eqb, true≢false}
+use Rattle.std.proofs.lemmas.Option.{none-some, same_Some}
 use Rattle.pw_obis.specs.declared.reference.Register.{Register}
 use Rattle.pw_tariff.specs.declared.ids.AccountId.{AccountId}
 use Rattle.pw_tariff.specs.declared.ids.BandId.{BandId}
@@ -8,50 +9,40 @@ use Rattle.pw_tariff.specs.declared.ids.Direction.{Direction}
 use Rattle.pw_tariff.specs.Office.{OfficeRules}
 use Rattle.pw_model.specs.declared.records.Key.{Key}
 use Rattle.pw_model.specs.declared.records.Key.TheVariants as key
-use Rattle.pw_model.specs.declared.records.Content.{Content}
 use Rattle.pw_model.specs.declared.records.Content.TheVariants as content
 use Rattle.pw_model.specs.declared.records.Contents.{Contents}
 use Rattle.pw_model.specs.declared.records.Contents.TheVariants.{Nothing, One, Several}
 use Rattle.pw_model.specs.declared.records.Entry.{Entry}
 use Rattle.pw_model.specs.declared.records.TotalKey.{TotalKey}
 use Rattle.pw_model.specs.declared.records.TotalKey.TheVariants.{Energy, TopUps}
-use Rattle.pw_model.specs.Changes.{ChangesAtOneKey, IsOneMoreReading, IsOtherStart}
-use Rattle.pw_model.specs.Counting.{IsInserted, Member, contents_at, joined, point, start, wh_of, owner_of, reading_key, assignment_key}
-use Rattle.pw_model.specs.Energy.{energy_where, of_band}
-use Rattle.pw_model.specs.Office.{AllOfOffice, HasOwner, IsOf, IsOffice, most_records}
+use Rattle.pw_model.specs.Changes.{IsOneMoreReading, IsOtherStart}
+use Rattle.pw_model.specs.Counting.{contents_at, point, start, wh_of, owner_of, reading_key, assignment_key}
+use Rattle.pw_model.specs.Energy.{of_band}
+use Rattle.pw_model.specs.Office.{AllOfOffice, HasOwner, IsOffice, most_records}
 use Rattle.pw_model.specs.Payments.{cents_for, topped_up}
-use Rattle.pw_model.specs.Same.{same_key, same_content}
+use Rattle.pw_model.specs.Same.{same_key}
 use Rattle.pw_model.specs.Shelf.{IsTrueContent, ShelfContent, total_among}
-use Rattle.pw_model.proofs.Assignments.{one-start}
 use Rattle.pw_model.proofs.Bounded.{ToldOf, contents-of}
-use Rattle.pw_model.proofs.Counting.{entry, standing-part, inserted-same, one-is_counting, one-more_record}
-use Rattle.pw_model.proofs.Energy.{energy-alike, one-reading}
+use Rattle.pw_model.proofs.Energy.{energy-alike}
 use Rattle.pw_model.proofs.Foreign.{foreign-totals_are_none}
-use Rattle.pw_model.proofs.Payments.{one-more_payment}
-use Rattle.pw_model.proofs.Same.{same_key-decides, same_content-decides}
+use Rattle.pw_model.proofs.Same.{same_key-decides}
 use Rattle.pw_model.proofs.Truth.{true-bounded}
 use Rattle.pw_shelf.specs.Changes.{points_with, starts_with}
 use Rattle.pw_book.specs.inner.Moves.{MovesTotals, OfOwners, most_total}
-use Rattle.pw_book.specs.declared.around.Counted.{Counted}
-use Rattle.pw_book.specs.declared.settling.Given.{Given}
-use Rattle.pw_book.specs.inner.Added.{IsJustAdded, IsPaid, assignment_of, reading_of}
+use Rattle.pw_book.specs.inner.Added.{IsJustChanged, IsPaid, paid_of}
 use Rattle.pw_book.specs.inner.Settling.{EndsBefore, IsSettled}
 use Rattle.pw_book.proofs.Changing.{in-office, is-energy, of-owners}
+use Rattle.pw_parts.proofs.Seconds.{owner-one, wh-one}
 use Rattle.pw_parts.proofs.Sharing.{points-end}
 
--- ---- the records before
-pub of-office-before : (office : OfficeRules) (s t : List Entry) (e : Entry) → IsInserted e s t → AllOfOffice office t → AllOfOffice office s
-of-office-before office s t e i h = λ x m. h x ((inserted-same s t e i x).1 (inr m))
+-- ---- facts of one answer
+pub on-ok-two : {T E P Q W : Type 0} (r : Result T E) → (P → Q → W) → OnOk r P → OnOk r Q → OnOk r W
+on-ok-two (Ok a) f p q = f p q
+on-ok-two (Err a) f p q = tt
 
--- a content of its own that counted was another
-pub apart-before : (s : List Entry) (e : Entry) (d : Content) → (Member e s → ⊥) → contents_at s e.key ≡ One d → joined e.content (One d) ≡ Several
-apart-before s e d n h = elim (cases_Bool (same_content e.content d)) [
-  | inl y ↦ (
-      let q : e.content ≡ d = (same_content-decides e.content d).0 y in
-      let c : contents_at s e.key ≡ One e.content = h ∙ ap One (sym q) in
-      absurd (n (standing-part s e ((one-is_counting s e).0 c).0)))
-  | inr f ↦ ap (λ b. cond b (One d) Several) f
-]
+pub on-ok-three : {T E P Q R W : Type 0} (r : Result T E) → (P → Q → R → W) → OnOk r P → OnOk r Q → OnOk r R → OnOk r W
+on-ok-three (Ok a) f p q t = f p q t
+on-ok-three (Err a) f p q t = tt
 
 -- ---- totals that may be asked of the office
 owner-known : (office : OfficeRules) (o : Option AccountId) → HasOwner office o ⊎ (HasOwner office o → ⊥)
@@ -65,96 +56,71 @@ total-fits office s o h few k =
     let c : ShelfContent = record { records = s; point = point (contents_at s); start = start (contents_at s); total = total_among office s } in
     true-bounded office c o h few (record { points = refl; starts = refl; totals = λ l. refl }) k
 
--- where the energies followed, and points, starts and top-ups too, all is true
-pub true-after : (office : OfficeRules) (s : List Entry) (e : Entry) (before : Contents) (old new : ShelfContent) → IsOffice office → IsJustAdded office s e before old →
-    IsSettled office (contents_at s) (contents_at old.records) old new → new.point ≡ point (contents_at old.records) → new.start ≡ start (contents_at old.records) →
-    ((a : ℕ) → topped_up old.records a ≡ topped_up s a) → IsTrueContent office new
-true-after office s e before old new o j m p q t = record {
-  points = p ∙ ap (λ (r : List Entry). point (contents_at r)) (sym m.records);
-  starts = q ∙ ap (λ (r : List Entry). start (contents_at r)) (sym m.records);
-  totals = λ k. total k ∙ ap (λ (r : List Entry). total_among office r k) (sym m.records);
-}
-  where
-    small : AllOfOffice office s
-    small = of-office-before office s old.records e j.inserted j.of_office
+-- ---- the key of one meter
+abbrev meter_in : Key → ℕ
+meter_in (key.Reading m r t) = m.0
+meter_in (key.Assignment m t) = m.0
+meter_in (key.TopUp r) = 0
 
-    energy-other : (owner : Option AccountId) (b : BandId) (d : Direction) → (OfOwners office.bands office.accounts (Energy owner b d) → ⊥) → total_among office s (Energy owner b d) ≡ total_among office old.records (Energy owner b d)
-    energy-other owner b d n = elim (cases_lt b.0 office.bands) [
-      | inl l ↦ elim (owner-known office owner) [
-        | inl h ↦ absurd (n (in-office office owner b d h l))
-        | inr h ↦ (foreign-totals_are_none office s).owners small owner b d h ∙ sym ((foreign-totals_are_none office old.records).owners j.of_office owner b d h)
+abbrev second_in : Key → ℕ
+second_in (key.Reading m r t) = t
+second_in (key.Assignment m t) = t
+second_in (key.TopUp r) = 0
+
+abbrev register_in : Register → Key → Register
+register_in other (key.Reading m r t) = r
+register_in other _ = other
+
+-- ---- truth behind a change at one key
+module _ (office : OfficeRules) (o : IsOffice office) (s : List Entry) (k : Key) (before behind : Contents) (old : ShelfContent) (j : IsJustChanged office s k before behind old) where
+  -- what is told at the key is of the office
+  fits-before : ToldOf office k before
+  fits-before = subst (ToldOf office k) (sym j.was) (contents-of office s k j.small)
+
+  fits-behind : ToldOf office k behind
+  fits-behind = subst (ToldOf office k) (sym j.is) (contents-of office old.records k j.of_office)
+
+  -- where the energies followed, and points, starts and top-ups too, all is true
+  true-after : (new : ShelfContent) → IsSettled office (contents_at s) (contents_at old.records) old new → new.point ≡ point (contents_at old.records) → new.start ≡ start (contents_at old.records) →
+      ((a : ℕ) → topped_up old.records a ≡ topped_up s a) → IsTrueContent office new
+  true-after new m p q t = record {
+    points = p ∙ ap (λ (r : List Entry). point (contents_at r)) (sym m.records);
+    starts = q ∙ ap (λ (r : List Entry). start (contents_at r)) (sym m.records);
+    totals = λ l. total l ∙ ap (λ (r : List Entry). total_among office r l) (sym m.records);
+  }
+    where
+      energy-other : (owner : Option AccountId) (b : BandId) (d : Direction) → (OfOwners office.bands office.accounts (Energy owner b d) → ⊥) → total_among office s (Energy owner b d) ≡ total_among office old.records (Energy owner b d)
+      energy-other owner b d n = elim (cases_lt b.0 office.bands) [
+        | inl l ↦ elim (owner-known office owner) [
+          | inl h ↦ absurd (n (in-office office owner b d h l))
+          | inr h ↦ (foreign-totals_are_none office s).owners j.small owner b d h ∙ sym ((foreign-totals_are_none office old.records).owners j.of_office owner b d h)
+        ]
+        | inr g ↦ (foreign-totals_are_none office s).bands o.band owner b d g ∙ sym ((foreign-totals_are_none office old.records).bands o.band owner b d g)
       ]
-      | inr g ↦ (foreign-totals_are_none office s).bands o.band owner b d g ∙ sym ((foreign-totals_are_none office old.records).bands o.band owner b d g)
-    ]
 
-    total : (k : TotalKey) → new.total k ≡ total_among office old.records k
-    total (TopUps a) =
-        m.elsewhere (TopUps a) (λ i. let r = of-owners office (TopUps a) i in let z : 0 ≡ 1 = r.0 in absurd (omega (arith, z)))
-        ∙ j.still.totals (TopUps a) ∙ sym (t a.0)
-    total (Energy owner b d) = elim (cases_lt b.0 office.bands) [
-      | inl l ↦ elim (owner-known office owner) [
-        | inl h ↦ m.energies (Energy owner b d) (in-office office owner b d h l) (j.still.totals (Energy owner b d)) (total-fits office old.records o j.of_office j.few (Energy owner b d))
-        | inr h ↦ (
-            let n : OfOwners office.bands office.accounts (Energy owner b d) → ⊥ = λ i. h (of-owners office (Energy owner b d) i).2 in
+      total : (l : TotalKey) → new.total l ≡ total_among office old.records l
+      total (TopUps a) =
+          m.elsewhere (TopUps a) (λ i. let r = of-owners office (TopUps a) i in let z : 0 ≡ 1 = r.0 in absurd (omega (arith, z)))
+          ∙ j.still.totals (TopUps a) ∙ sym (t a.0)
+      total (Energy owner b d) = elim (cases_lt b.0 office.bands) [
+        | inl l ↦ elim (owner-known office owner) [
+          | inl h ↦ m.energies (Energy owner b d) (in-office office owner b d h l) (j.still.totals (Energy owner b d)) (total-fits office old.records o j.of_office j.few (Energy owner b d))
+          | inr h ↦ (
+              let n : OfOwners office.bands office.accounts (Energy owner b d) → ⊥ = λ i. h (of-owners office (Energy owner b d) i).2 in
+              m.elsewhere (Energy owner b d) n ∙ j.still.totals (Energy owner b d) ∙ energy-other owner b d n)
+        ]
+        | inr g ↦ (
+            let n : OfOwners office.bands office.accounts (Energy owner b d) → ⊥ = λ i. let l = (of-owners office (Energy owner b d) i).1 in absurd (omega (arith, l, g)) in
             m.elsewhere (Energy owner b d) n ∙ j.still.totals (Energy owner b d) ∙ energy-other owner b d n)
       ]
-      | inr g ↦ (
-          let n : OfOwners office.bands office.accounts (Energy owner b d) → ⊥ = λ i. let l = (of-owners office (Energy owner b d) i).1 in absurd (omega (arith, l, g)) in
-          m.elsewhere (Energy owner b d) n ∙ j.still.totals (Energy owner b d) ∙ energy-other owner b d n)
-    ]
 
--- ---- what one entry more changes, at its key
-module _ (office : OfficeRules) (s : List Entry) (e : Entry) (before : Contents) (c : ShelfContent) (j : IsJustAdded office s e before c) where
-  abbrev now-at : Key → Contents
-  now-at = contents_at c.records
-
-  changed : ChangesAtOneKey s c.records e
-  changed = one-more_record s c.records e j.inserted
-
-  told-before : (b : Contents) → before ≡ b → contents_at s e.key ≡ b
-  told-before b q = sym j.before_is ∙ q
-
-  told-now : (b : Contents) → before ≡ b → now-at e.key ≡ joined e.content b
-  told-now b q = changed.here ∙ ap (joined e.content) (told-before b q)
-
-  told-several : (d : Content) → before ≡ One d → now-at e.key ≡ Several
-  told-several d q = told-now (One d) q ∙ apart-before s e d j.fresh (told-before (One d) q)
-
-  -- what was told at the key is of the office
-  told-fits : (b : Contents) → before ≡ b → ToldOf office e.key b
-  told-fits b q = subst (ToldOf office e.key) (told-before b q) (contents-of office s e.key (of-office-before office s c.records e j.inserted j.of_office))
-
-  own-fits : IsOf office e.key e.content
-  own-fits = j.of_office e ((inserted-same s c.records e j.inserted e).1 (inl refl))
-
-  -- top-ups change by what counts at the key
-  paid-more : (a : ℕ) → topped_up c.records a + cents_for a (contents_at s e.key) ≡ topped_up s a + cents_for a (now-at e.key)
-  paid-more a = one-more_payment s c.records e j.inserted a
-
-  -- several stay several: nothing changes
-  several-same : before ≡ Several → (k : Key) → contents_at s k ≡ now-at k
-  several-same q k = elim (cases_Bool (same_key e.key k)) [
-    | inl y ↦ (let i : e.key ≡ k = (same_key-decides e.key k).0 y in
-        let P : Key → Type 0 = λ l. contents_at s l ≡ now-at l in
-        subst P i (told-before Several q ∙ sym (told-now Several q)))
-    | inr f ↦ sym (changed.elsewhere k (λ i. true≢false (sym ((same_key-decides e.key k).1 (sym i)) ∙ f)))
-  ]
-
-  several-totals : before ≡ Several → (k : TotalKey) → total_among office s k ≡ total_among office c.records k
-  several-totals q (Energy o b d) = let at : contents_at s ≡ now-at = λ i k. several-same q k i in ap (λ (at : Key → Contents). energy_where office at d (of_band office o b.0)) at
-  several-totals q (TopUps a) =
-      let p = paid-more a.0 in
-      let same : cents_for a.0 (contents_at s e.key) ≡ cents_for a.0 (now-at e.key) = ap (cents_for a.0) (several-same q e.key) in
-      omega (arith, p, same)
-
-  pub several-true : before ≡ Several → IsTrueContent office c
-  several-true q =
-      let at : contents_at s ≡ now-at = λ i k. several-same q k i in
-      record {
-        points = j.still.points ∙ ap (λ (at : Key → Contents). point at) at;
-        starts = j.still.starts ∙ ap (λ (at : Key → Contents). start at) at;
-        totals = λ k. j.still.totals k ∙ several-totals q k;
-      }
+  -- where the same counts, all is true as it is
+  same-true : point (contents_at s) ≡ point (contents_at old.records) → start (contents_at s) ≡ start (contents_at old.records) → ((a : ℕ) → topped_up old.records a ≡ topped_up s a) → IsTrueContent office old
+  same-true p q t = record { points = j.still.points ∙ p; starts = j.still.starts ∙ q; totals = λ l. j.still.totals l ∙ total l }
+    where
+      total : (l : TotalKey) → total_among office s l ≡ total_among office old.records l
+      total (Energy owner b d) = energy-alike office (contents_at s) (contents_at old.records) d (of_band office owner b.0) p q
+      total (TopUps a) = sym (t a.0)
 
 -- ---- a reading
 -- at the key of a reading no cents are told
@@ -165,63 +131,139 @@ no-cents office m r t a (One (content.Reading w)) h = refl
 no-cents office m r t a (One (content.Assignment o)) h = refl
 no-cents office m r t a (One (content.TopUp b c i)) h = absurd h
 
-module _ (office : OfficeRules) (o : IsOffice office) (s : List Entry) (c : Counted) (before : Contents) (old : ShelfContent) (j : IsJustAdded office s (reading_of c) before old) where
-  abbrev e : Entry
-  e = reading_of c
+module _ (office : OfficeRules) (o : IsOffice office) (s : List Entry) (m : ℕ) (r : Register) (t : ℕ) (before behind : Contents) (old : ShelfContent) (j : IsJustChanged office s (reading_key m r t) before behind old) where
+  abbrev here : Key
+  here = reading_key m r t
 
-  pub reading-topped : (a : ℕ) → topped_up old.records a ≡ topped_up s a
-  reading-topped a =
-      let p = paid-more office s (reading_of c) before old j a in
-      let was = no-cents office c.meter.0 c.register c.instant a (contents_at s e.key) (contents-of office s e.key (of-office-before office s old.records e j.inserted j.of_office)) in
-      let is = no-cents office c.meter.0 c.register c.instant a (contents_at old.records e.key) (contents-of office old.records e.key j.of_office) in
+  was-here : point (contents_at s) m r t ≡ wh_of before
+  was-here = ap wh_of (sym j.was)
+
+  is-here : point (contents_at old.records) m r t ≡ wh_of behind
+  is-here = ap wh_of (sym j.is)
+
+  -- nothing else changes
+  elsewhere : (n : ℕ) (q : Register) (u : ℕ) → (n ≡ m → q ≡ r → u ≡ t → ⊥) → point (contents_at s) n q u ≡ point (contents_at old.records) n q u
+  elsewhere n q u d = j.points n q u (λ i. d (ap meter_in i) (ap (register_in r) i) (ap second_in i))
+
+  starts-same : start (contents_at s) ≡ start (contents_at old.records)
+  starts-same = λ i n u. j.starts n u (λ p. cc) i
+
+  topped : (a : ℕ) → topped_up old.records a ≡ topped_up s a
+  topped a =
+      let p = j.paid a in
+      let was = no-cents office m r t a before (fits-before office o s here before behind old j) in
+      let is = no-cents office m r t a behind (fits-behind office o s here before behind old j) in
       omega (arith, p, was, is)
 
-  pub reading-ends : EndsBefore office.end (point (contents_at old.records) c.meter.0 c.register)
-  reading-ends t w h = rw o.end (points-end office old.records c.meter.0 c.register j.of_office t w h)
+  pub reading-ends : EndsBefore office.end (point (contents_at old.records) m r)
+  reading-ends u w h = rw o.end (points-end office old.records m r j.of_office u w h)
 
-  pub reading-ended : EndsBefore office.end (point (contents_at s) c.meter.0 c.register)
-  reading-ended t w h = rw o.end (points-end office s c.meter.0 c.register (of-office-before office s old.records e j.inserted j.of_office) t w h)
+  pub reading-ended : EndsBefore office.end (point (contents_at s) m r)
+  reading-ended u w h = rw o.end (points-end office s m r j.small u w h)
 
-  pub reading-begins : before ≡ Nothing → IsOneMoreReading (contents_at s) (contents_at old.records) c.meter.0 c.register c.instant c.wh
-  reading-begins q =
-      one-reading (contents_at s) (contents_at old.records) c.meter.0 c.register c.instant c.wh
-      (ap wh_of (told-before office s e before old j Nothing q)) (ap wh_of (told-now office s e before old j Nothing q)) (λ k n. sym ((changed office s e before old j).elsewhere k n))
+  pub reading-begins : (w : ℕ) → wh_of before ≡ None → wh_of behind ≡ Some w → IsOneMoreReading (contents_at s) (contents_at old.records) m r t w
+  reading-begins w p q = record { free = was-here ∙ p; here = is-here ∙ q; elsewhere = elsewhere; starts = starts-same }
 
-  pub reading-ceases : (v : ℕ) → before ≡ One (content.Reading v) → IsOneMoreReading (contents_at old.records) (contents_at s) c.meter.0 c.register c.instant v
-  reading-ceases v q =
-      one-reading (contents_at old.records) (contents_at s) c.meter.0 c.register c.instant v
-      (ap wh_of (told-several office s e before old j (content.Reading v) q)) (ap wh_of (told-before office s e before old j (One (content.Reading v)) q)) (changed office s e before old j).elsewhere
+  pub reading-ceases : (w : ℕ) → wh_of before ≡ Some w → wh_of behind ≡ None → IsOneMoreReading (contents_at old.records) (contents_at s) m r t w
+  reading-ceases w p q = record { free = is-here ∙ q; here = was-here ∙ p; elsewhere = λ n q u d. sym (elsewhere n q u d); starts = sym starts-same }
 
-  point-at : (w : Option ℕ) → wh_of (contents_at old.records e.key) ≡ w → (n : ℕ) (q : Register) (u : ℕ) → points_with old.point c.meter.0 c.register c.instant w n q u ≡ point (contents_at old.records) n q u
-  point-at w h n q u = elim (cases_Bool (same_key e.key (reading_key n q u))) [
-    | inl y ↦ (let i : e.key ≡ reading_key n q u = (same_key-decides e.key (reading_key n q u)).0 y in
-        ap (λ b. cond b w (old.point n q u)) y ∙ sym h ∙ ap (λ k. wh_of (contents_at old.records k)) i)
+  point-at : (w : Option ℕ) → wh_of behind ≡ w → (n : ℕ) (q : Register) (u : ℕ) → points_with old.point m r t w n q u ≡ point (contents_at old.records) n q u
+  point-at w h n q u = elim (cases_Bool (same_key here (reading_key n q u))) [
+    | inl y ↦ (let i : here ≡ reading_key n q u = (same_key-decides here (reading_key n q u)).0 y in
+        ap (λ b. cond b w (old.point n q u)) y ∙ sym h ∙ sym is-here ∙ ap (λ k. wh_of (contents_at old.records k)) i)
     | inr f ↦ ap (λ b. cond b w (old.point n q u)) f ∙ ap (λ p. p n q u) j.still.points
-        ∙ ap wh_of (sym ((changed office s e before old j).elsewhere (reading_key n q u) (λ i. true≢false (sym ((same_key-decides e.key (reading_key n q u)).1 (sym i)) ∙ f))))
+        ∙ j.points n q u (λ i. true≢false (sym ((same_key-decides here (reading_key n q u)).1 (sym i)) ∙ f))
   ]
 
-  point-told : (w : Option ℕ) → wh_of (contents_at old.records e.key) ≡ w → points_with old.point c.meter.0 c.register c.instant w ≡ point (contents_at old.records)
-  point-told w h = λ i n q u. point-at w h n q u i
+  pub reading-true : (w : Option ℕ) → wh_of behind ≡ w → (new : ShelfContent) → IsSettled office (contents_at s) (contents_at old.records) old new → new.point ≡ points_with old.point m r t w → new.start ≡ old.start → IsTrueContent office new
+  reading-true w h new g p q = true-after office o s here before behind old j new g (p ∙ (λ i n q u. point-at w h n q u i)) (q ∙ j.still.starts ∙ starts-same) topped
 
-  starts-told : old.start ≡ start (contents_at old.records)
-  starts-told = j.still.starts ∙ (λ i m t. owner_of (sym ((changed office s e before old j).elsewhere (assignment_key m t) (λ p. cc)) i))
+  -- where the same counts
+  pub reading-same : wh_of before ≡ wh_of behind → IsTrueContent office old
+  reading-same h = same-true office o s here before behind old j (λ i n q u. all n q u i) starts-same topped
+    where
+      all : (n : ℕ) (q : Register) (u : ℕ) → point (contents_at s) n q u ≡ point (contents_at old.records) n q u
+      all n q u = elim (cases_Bool (same_key here (reading_key n q u))) [
+        | inl y ↦ (let i : here ≡ reading_key n q u = (same_key-decides here (reading_key n q u)).0 y in
+            let P : Key → Type 0 = λ k. wh_of (contents_at s k) ≡ wh_of (contents_at old.records k) in
+            subst P i (was-here ∙ h ∙ sym is-here))
+        | inr f ↦ j.points n q u (λ i. true≢false (sym ((same_key-decides here (reading_key n q u)).1 (sym i)) ∙ f))
+      ]
 
-  pub begun-true : before ≡ Nothing → (new : ShelfContent) → IsSettled office (contents_at s) (contents_at old.records) old new → new.point ≡ points_with old.point c.meter.0 c.register c.instant (Some c.wh) → new.start ≡ old.start → IsTrueContent office new
-  begun-true q new m p t = true-after office s e before old new o j m (p ∙ point-told (Some c.wh) (reading-begins q).here) (t ∙ starts-told) reading-topped
+  pub reading-alike : (v w : ℕ) → wh_of before ≡ Some v → wh_of behind ≡ Some w → wh_of before ≡ wh_of behind
+  reading-alike v w p q =
+      let a = wh-one before v p in
+      let b = wh-one behind w q in
+      let c : content.Reading v ≡ content.Reading w = j.alike (content.Reading v) (content.Reading w) a b in
+      ap wh_of (a ∙ ap (λ x. One x) c ∙ sym b)
 
-  pub ceased-true : (v : ℕ) → before ≡ One (content.Reading v) → (new : ShelfContent) → IsSettled office (contents_at s) (contents_at old.records) old new → new.point ≡ points_with old.point c.meter.0 c.register c.instant None → new.start ≡ old.start → IsTrueContent office new
-  ceased-true v q new m p t = true-after office s e before old new o j m (p ∙ point-told None (reading-ceases v q).free) (t ∙ starts-told) reading-topped
+-- ---- an assignment
+-- at the key of an assignment no cents are told
+no-cents-given : (office : OfficeRules) (m t a : ℕ) (b : Contents) → ToldOf office (assignment_key m t) b → cents_for a b ≡ 0
+no-cents-given office m t a Nothing h = refl
+no-cents-given office m t a Several h = refl
+no-cents-given office m t a (One (content.Reading w)) h = refl
+no-cents-given office m t a (One (content.Assignment p)) h = refl
+no-cents-given office m t a (One (content.TopUp b c i)) h = absurd h
 
-  -- no other content is told at the key of a reading
-  pub never-other : (d : Content) → before ≡ One d → ((x : ℕ) → d ≡ content.Reading x → ⊥) → ⊥
-  never-other (content.Reading w) q n = n w refl
-  never-other (content.Assignment p) q n = told-fits office s e before old j (One (content.Assignment p)) q
-  never-other (content.TopUp a m t) q n = told-fits office s e before old j (One (content.TopUp a m t)) q
+module _ (office : OfficeRules) (o : IsOffice office) (s : List Entry) (m t : ℕ) (before behind : Contents) (old : ShelfContent) (j : IsJustChanged office s (assignment_key m t) before behind old) where
+  abbrev there : Key
+  there = assignment_key m t
 
--- ---- three facts of one answer
-pub on-ok-three : {T E P Q R W : Type 0} (r : Result T E) → (P → Q → R → W) → OnOk r P → OnOk r Q → OnOk r R → OnOk r W
-on-ok-three (Ok a) f p q t = f p q t
-on-ok-three (Err a) f p q t = tt
+  was-there : start (contents_at s) m t ≡ owner_of before
+  was-there = ap owner_of (sym j.was)
+
+  is-there : start (contents_at old.records) m t ≡ owner_of behind
+  is-there = ap owner_of (sym j.is)
+
+  points-same : point (contents_at s) ≡ point (contents_at old.records)
+  points-same = λ i n q u. j.points n q u (λ p. cc) i
+
+  topped-too : (a : ℕ) → topped_up old.records a ≡ topped_up s a
+  topped-too a =
+      let p = j.paid a in
+      let was = no-cents-given office m t a before (fits-before office o s there before behind old j) in
+      let is = no-cents-given office m t a behind (fits-behind office o s there before behind old j) in
+      omega (arith, p, was, is)
+
+  pub other-start : IsOtherStart (contents_at s) (contents_at old.records) m t
+  other-start = record { points = points-same; elsewhere = λ n u d. j.starts n u (λ i. d (ap meter_in i) (ap second_in i)) }
+
+  pub start-is : (w : Option (Option AccountId)) → owner_of behind ≡ w → start (contents_at old.records) m t ≡ w
+  start-is w h = is-there ∙ h
+
+  pub start-ends : (r : Register) → EndsBefore office.end (point (contents_at s) m r)
+  start-ends r u w h = rw o.end (points-end office s m r j.small u w h)
+
+  start-at : (w : Option (Option AccountId)) → owner_of behind ≡ w → (n u : ℕ) → starts_with old.start m t w n u ≡ start (contents_at old.records) n u
+  start-at w h n u = elim (cases_Bool (same_key there (assignment_key n u))) [
+    | inl y ↦ (let i : there ≡ assignment_key n u = (same_key-decides there (assignment_key n u)).0 y in
+        ap (λ b. cond b w (old.start n u)) y ∙ sym h ∙ sym is-there ∙ ap (λ k. owner_of (contents_at old.records k)) i)
+    | inr f ↦ ap (λ b. cond b w (old.start n u)) f ∙ ap (λ p. p n u) j.still.starts
+        ∙ j.starts n u (λ i. true≢false (sym ((same_key-decides there (assignment_key n u)).1 (sym i)) ∙ f))
+  ]
+
+  pub start-true : (w : Option (Option AccountId)) → owner_of behind ≡ w → (new : ShelfContent) → IsSettled office (contents_at s) (contents_at old.records) old new → new.point ≡ old.point → new.start ≡ starts_with old.start m t w → IsTrueContent office new
+  start-true w h new g p q = true-after office o s there before behind old j new g (p ∙ j.still.points ∙ points-same) (q ∙ (λ i n u. start-at w h n u i)) topped-too
+
+  -- where the same counts
+  pub start-same : owner_of before ≡ owner_of behind → IsTrueContent office old
+  start-same h = same-true office o s there before behind old j points-same (λ i n u. all n u i) topped-too
+    where
+      all : (n u : ℕ) → start (contents_at s) n u ≡ start (contents_at old.records) n u
+      all n u = elim (cases_Bool (same_key there (assignment_key n u))) [
+        | inl y ↦ (let i : there ≡ assignment_key n u = (same_key-decides there (assignment_key n u)).0 y in
+            let P : Key → Type 0 = λ k. owner_of (contents_at s k) ≡ owner_of (contents_at old.records k) in
+            subst P i (was-there ∙ h ∙ sym is-there))
+        | inr f ↦ j.starts n u (λ i. true≢false (sym ((same_key-decides there (assignment_key n u)).1 (sym i)) ∙ f))
+      ]
+
+  pub start-alike : (v w : Option AccountId) → owner_of before ≡ Some v → owner_of behind ≡ Some w → owner_of before ≡ owner_of behind
+  start-alike v w p q =
+      let a = owner-one before v p in
+      let b = owner-one behind w q in
+      let c : content.Assignment v ≡ content.Assignment w = j.alike (content.Assignment v) (content.Assignment w) a b in
+      ap owner_of (a ∙ ap (λ x. One x) c ∙ sym b)
 
 -- ---- a top-up
 none-of : (b : Bool) → let n : ℕ = cond b 0 0 in n ≡ 0
@@ -232,22 +274,38 @@ abbrev account-in : TotalKey → ℕ
 account-in (Energy o b d) = 0
 account-in (TopUps a) = a.0
 
-module _ (office : OfficeRules) (o : IsOffice office) (s : List Entry) (r : List ℕ) (account : AccountId) (cents instant : ℕ) (before : Contents) (old : ShelfContent)
-    (j : IsJustAdded office s (entry (key.TopUp r) (content.TopUp account cents instant)) before old) where
-  abbrev paid : Entry
-  paid = entry (key.TopUp r) (content.TopUp account cents instant)
+-- what counts for an account, of what is paid
+abbrev cents_paid : ℕ → Option (AccountId × ℕ) → ℕ
+cents_paid a None = 0
+cents_paid a (Some b) = cond (b.0.0 == a) b.1 0
 
-  others : ChangesAtOneKey s old.records paid
-  others = changed office s paid before old j
+paid-for : (a : ℕ) (c : Contents) → cents_for a c ≡ cents_paid a (paid_of c)
+paid-for a Nothing = refl
+paid-for a Several = refl
+paid-for a (One (content.Reading w)) = refl
+paid-for a (One (content.Assignment o)) = refl
+paid-for a (One (content.TopUp b c t)) = refl
 
+paid-one : (c : Contents) (b : AccountId × ℕ) → paid_of c ≡ Some b → (t : ℕ) × (c ≡ One (content.TopUp b.0 b.1 t))
+paid-one Nothing b e = absurd (none-some b e)
+paid-one Several b e = absurd (none-some b e)
+paid-one (One (content.Reading w)) b e = absurd (none-some b e)
+paid-one (One (content.Assignment o)) b e = absurd (none-some b e)
+paid-one (One (content.TopUp a n t)) b e = let i = same_Some (a, n) b e in (t, λ x. One (content.TopUp (i x).0 (i x).1 t))
+
+module _ (office : OfficeRules) (o : IsOffice office) (s : List Entry) (r : List ℕ) (before behind : Contents) (old : ShelfContent) (j : IsJustChanged office s (key.TopUp r) before behind old) where
   points-stay : point (contents_at s) ≡ point (contents_at old.records)
-  points-stay = λ i m q t. wh_of (sym (others.elsewhere (reading_key m q t) (λ p. cc)) i)
+  points-stay = λ i m q t. j.points m q t (λ p. cc) i
 
   starts-stay : start (contents_at s) ≡ start (contents_at old.records)
-  starts-stay = λ i m t. owner_of (sym (others.elsewhere (assignment_key m t) (λ p. cc)) i)
+  starts-stay = λ i m t. j.starts m t (λ p. cc) i
 
   energy-stays : (q : Option AccountId) (b : BandId) (d : Direction) → total_among office s (Energy q b d) ≡ total_among office old.records (Energy q b d)
   energy-stays q b d = energy-alike office (contents_at s) (contents_at old.records) d (of_band office q b.0) points-stay starts-stay
+
+  -- top-ups change by what counts
+  paid-more : (a : ℕ) → topped_up old.records a + cents_paid a (paid_of before) ≡ topped_up s a + cents_paid a (paid_of behind)
+  paid-more a = let p = j.paid a in let b = paid-for a before in let c = paid-for a behind in omega (arith, p, b, c)
 
   -- one total moved
   moved-true : (a : AccountId) (more less : ℕ) (new : ShelfContent) → MovesTotals (λ k. k ≡ TopUps a) (λ k. more) (λ k. less) old new →
@@ -279,91 +337,41 @@ module _ (office : OfficeRules) (o : IsOffice office) (s : List Entry) (r : List
             omega (arith, w, q, u, v, f))
       ]
 
-  paid-by : (b : Contents) → before ≡ b → (new : ShelfContent) → IsPaid account cents b old new → IsTrueContent office new
-  paid-by Nothing q new m = moved-true account cents 0 new m (λ x.
-      let p = paid-more office s paid before old j x in
-      let w : cents_for x (contents_at s paid.key) ≡ 0 = ap (cents_for x) (told-before office s paid before old j Nothing q) in
-      let i : cents_for x (contents_at old.records paid.key) ≡ cond (account.0 == x) cents 0 = ap (cents_for x) (told-now office s paid before old j Nothing q) in
-      let z = none-of (account.0 == x) in
-      omega (arith, p, w, i, z))
-  paid-by (One (content.TopUp a c t)) q new m = moved-true a 0 c new m (λ x.
-      let p = paid-more office s paid before old j x in
-      let w : cents_for x (contents_at s paid.key) ≡ cond (a.0 == x) c 0 = ap (cents_for x) (told-before office s paid before old j (One (content.TopUp a c t)) q) in
-      let i : cents_for x (contents_at old.records paid.key) ≡ 0 = ap (cents_for x) (told-several office s paid before old j (content.TopUp a c t) q) in
-      let z = none-of (a.0 == x) in
-      omega (arith, p, w, i, z))
-  paid-by (One (content.Reading w)) q new m = absurd (told-fits office s paid before old j (One (content.Reading w)) q)
-  paid-by (One (content.Assignment p)) q new m = absurd (told-fits office s paid before old j (One (content.Assignment p)) q)
-  paid-by Several q new m = subst (IsTrueContent office) (sym m) (several-true office s paid before old j q)
+  -- where the same counts
+  paid-same : paid_of before ≡ paid_of behind → IsTrueContent office old
+  paid-same h = same-true office o s (key.TopUp r) before behind old j points-stay starts-stay (λ a.
+      let p = paid-more a in
+      let q : cents_paid a (paid_of before) ≡ cents_paid a (paid_of behind) = ap (cents_paid a) h in
+      omega (arith, p, q))
 
-  pub paid-true : (new : ShelfContent) → IsPaid account cents before old new → IsTrueContent office new
-  paid-true new m = paid-by before refl new m
+  paid-alike : (b d : AccountId × ℕ) → paid_of before ≡ Some b → paid_of behind ≡ Some d → paid_of before ≡ paid_of behind
+  paid-alike b d p q =
+      let x = paid-one before b p in
+      let y = paid-one behind d q in
+      let c = j.alike (content.TopUp b.0 b.1 x.0) (content.TopUp d.0 d.1 y.0) x.1 y.1 in
+      ap paid_of (x.1 ∙ ap (λ z. One z) c ∙ sym y.1)
 
-  paid-kept : (b : Contents) (new : ShelfContent) → IsPaid account cents b old new → new.records ≡ old.records
-  paid-kept Nothing new m = m.records
-  paid-kept (One (content.TopUp a c t)) new m = m.records
-  paid-kept (One (content.Reading w)) new m = ap (λ (c : ShelfContent). c.records) m
-  paid-kept (One (content.Assignment p)) new m = ap (λ (c : ShelfContent). c.records) m
-  paid-kept Several new m = ap (λ (c : ShelfContent). c.records) m
+  paid-by : (b d : Option (AccountId × ℕ)) → paid_of before ≡ b → paid_of behind ≡ d → (new : ShelfContent) → IsPaid b d old new → IsTrueContent office new
+  paid-by None (Some d) p q new m = moved-true d.0 d.1 0 new m (λ x.
+      let t = paid-more x in
+      let v : cents_paid x (paid_of before) ≡ 0 = ap (cents_paid x) p in
+      let w : cents_paid x (paid_of behind) ≡ cond (d.0.0 == x) d.1 0 = ap (cents_paid x) q in
+      let z = none-of (d.0.0 == x) in
+      omega (arith, t, v, w, z))
+  paid-by (Some b) None p q new m = moved-true b.0 0 b.1 new m (λ x.
+      let t = paid-more x in
+      let v : cents_paid x (paid_of before) ≡ cond (b.0.0 == x) b.1 0 = ap (cents_paid x) p in
+      let w : cents_paid x (paid_of behind) ≡ 0 = ap (cents_paid x) q in
+      let z = none-of (b.0.0 == x) in
+      omega (arith, t, v, w, z))
+  paid-by None None p q new m = subst (IsTrueContent office) (sym m) (paid-same (p ∙ sym q))
+  paid-by (Some b) (Some d) p q new m = subst (IsTrueContent office) (sym m) (paid-same (paid-alike b d p q))
 
-  pub paid-records : (new : ShelfContent) → IsPaid account cents before old new → new.records ≡ old.records
-  paid-records new m = paid-kept before new m
+  pub paid-true : (new : ShelfContent) → IsPaid (paid_of before) (paid_of behind) old new → IsTrueContent office new
+  paid-true new m = paid-by (paid_of before) (paid_of behind) refl refl new m
 
--- ---- an assignment
-module _ (office : OfficeRules) (o : IsOffice office) (s : List Entry) (g : Given) (before : Contents) (old : ShelfContent) (j : IsJustAdded office s (assignment_of g) before old) where
-  abbrev assigned : Entry
-  assigned = assignment_of g
-
-  pub other-start : IsOtherStart (contents_at s) (contents_at old.records) g.meter.0 g.start
-  other-start = one-start (contents_at s) (contents_at old.records) g.meter.0 g.start (λ k n. sym ((changed office s assigned before old j).elsewhere k n))
-
-  pub start-begins : before ≡ Nothing → start (contents_at old.records) g.meter.0 g.start ≡ Some g.owner
-  start-begins q = ap owner_of (told-now office s assigned before old j Nothing q)
-
-  ceases : (d : Content) → before ≡ One d → start (contents_at old.records) g.meter.0 g.start ≡ None
-  ceases d q = ap owner_of (told-several office s assigned before old j d q)
-
-  pub start-ceases : (d : Content) → before ≡ One d → start (contents_at old.records) g.meter.0 g.start ≡ None
-  start-ceases d q = ceases d q
-
-  pub start-ends : (r : Register) → EndsBefore office.end (point (contents_at s) g.meter.0 r)
-  start-ends r t w h = rw o.end (points-end office s g.meter.0 r (of-office-before office s old.records assigned j.inserted j.of_office) t w h)
-
-  no-cents-told : (a : ℕ) (b : Contents) → ToldOf office assigned.key b → cents_for a b ≡ 0
-  no-cents-told a Nothing h = refl
-  no-cents-told a Several h = refl
-  no-cents-told a (One (content.Reading w)) h = refl
-  no-cents-told a (One (content.Assignment p)) h = refl
-  no-cents-told a (One (content.TopUp b c i)) h = absurd h
-
-  start-topped : (a : ℕ) → topped_up old.records a ≡ topped_up s a
-  start-topped a =
-      let p = paid-more office s assigned before old j a in
-      let was = no-cents-told a (contents_at s assigned.key) (contents-of office s assigned.key (of-office-before office s old.records assigned j.inserted j.of_office)) in
-      let is = no-cents-told a (contents_at old.records assigned.key) (contents-of office old.records assigned.key j.of_office) in
-      omega (arith, p, was, is)
-
-  start-at : (w : Option (Option AccountId)) → owner_of (contents_at old.records assigned.key) ≡ w → (n u : ℕ) → starts_with old.start g.meter.0 g.start w n u ≡ start (contents_at old.records) n u
-  start-at w h n u = elim (cases_Bool (same_key assigned.key (assignment_key n u))) [
-    | inl y ↦ (let i : assigned.key ≡ assignment_key n u = (same_key-decides assigned.key (assignment_key n u)).0 y in
-        ap (λ b. cond b w (old.start n u)) y ∙ sym h ∙ ap (λ k. owner_of (contents_at old.records k)) i)
-    | inr f ↦ ap (λ b. cond b w (old.start n u)) f ∙ ap (λ p. p n u) j.still.starts
-        ∙ ap owner_of (sym ((changed office s assigned before old j).elsewhere (assignment_key n u) (λ i. true≢false (sym ((same_key-decides assigned.key (assignment_key n u)).1 (sym i)) ∙ f))))
-  ]
-
-  points-told : old.point ≡ point (contents_at old.records)
-  points-told = j.still.points ∙ (λ i m q t. wh_of (sym ((changed office s assigned before old j).elsewhere (reading_key m q t) (λ p. cc)) i))
-
-  pub start-true : (w : Option (Option AccountId)) → start (contents_at old.records) g.meter.0 g.start ≡ w → (new : ShelfContent) → IsSettled office (contents_at s) (contents_at old.records) old new → new.point ≡ old.point → new.start ≡ starts_with old.start g.meter.0 g.start w → IsTrueContent office new
-  start-true w h new m p t = true-after office s assigned before old new o j m (p ∙ points-told) (t ∙ (λ i n u. start-at w h n u i)) start-topped
-
--- of an entry whose key and content are a top-up's
-pub paid-entry : (office : OfficeRules) → IsOffice office → (s : List Entry) (e : Entry) (r : List ℕ) (account : AccountId) (cents instant : ℕ) (before : Contents) (old new : ShelfContent) →
-    e.key ≡ key.TopUp r → e.content ≡ content.TopUp account cents instant → IsJustAdded office s e before old → IsPaid account cents before old new → IsTrueContent office new
-paid-entry office o s e r account cents instant before old new k c j m =
-    let P : Entry → Type 0 = λ x. IsJustAdded office s x before old in
-    paid-true office o s r account cents instant before old (subst P (λ i. entry (k i) (c i)) j) new m
-
-pub on-ok-two : {T E P Q W : Type 0} (r : Result T E) → (P → Q → W) → OnOk r P → OnOk r Q → OnOk r W
-on-ok-two (Ok a) f p q = f p q
-on-ok-two (Err a) f p q = tt
+pub paid-records : (b d : Option (AccountId × ℕ)) (old new : ShelfContent) → IsPaid b d old new → new.records ≡ old.records
+paid-records None (Some d) old new m = m.records
+paid-records (Some b) None old new m = m.records
+paid-records None None old new m = ap (λ (c : ShelfContent). c.records) m
+paid-records (Some b) (Some d) old new m = ap (λ (c : ShelfContent). c.records) m

@@ -1,189 +1,186 @@
-//! Points, starts and totals that follow an entry which was added.
+//! Points, starts and totals that follow where what is told at a key has changed.
 
-ghost use Rattle.std.specs.Prelude.{◌≡◌, ℕ, ◌+◌, ◌*◌, ◌<◌, ◌≤◌, ◌^◌, List, OnOk, IsSome, true, length};
-ghost use Rattle.pw_model.specs.declared.records.Content.TheVariants as content;
+ghost use Rattle.std.specs.Prelude.{◌≡◌, ℕ, ◌+◌, ◌*◌, ◌<◌, ◌≤◌, List, OnOk, IsSome, true, length};
 ghost use Rattle.pw_model.specs.declared.records.Entry.{Entry as AnEntry};
 ghost use Rattle.pw_model.specs.declared.records.Key.TheVariants as key;
-ghost use Rattle.pw_model.specs.Office.{IsOfOffice};
+ghost use Rattle.pw_model.specs.Counting.{owner_of, wh_of};
 ghost use Rattle.pw_model.specs.Shelf.{IsTrueContent};
 ghost use Rattle.pw_shelf.specs.Calls.{GoesOn, failures_told};
 ghost use Rattle.pw_tariff.specs.Office.{IsSound, counts_at, office_of};
-ghost use Rattle.pw_book.specs.inner.Added.{ChangesOneStart, IsJustAdded, IsPaid, TakesAtMost, assignment_of, reading_of};
+ghost use Rattle.pw_book.specs.inner.Added.{ChangesOneStart, IsJustChanged, IsKeyOf, IsPaid, TakesAtMost, paid_of};
 ghost use Rattle.pw_model.specs.Kinds.{IsReading};
 ghost use Rattle.pw_book.specs.Cost.{HasStarts, classes_of};
 
 use crate::around::{Counted, begin_to_count, cease_to_count};
 use crate::moving::change_total;
 use crate::window::change_start;
-use pw_model::{Content, Contents, Entry, Key, TotalKey};
+use pw_model::{Content, Contents, Key, TotalKey};
+use pw_obis::{Register, WattHours};
 use pw_shelf::{Shelf, ShelfFault};
 use pw_tariff::{AccountId, MeterId, Office, Owner};
 use pw_time::{Instant, Zone};
 use std::alloc::Global;
 
-// An assignment of a meter that begins or ceases to count.
-#[derive(Clone, Copy)]
-pub(crate) struct Given {
-    pub(crate) meter: MeterId,
-    pub(crate) start: Instant,
-    pub(crate) owner: Owner,
+// What the reading shows that counts.
+fn counting_wh(contents: &Contents) -> Option<WattHours>
+    ensures { result ≡ wh_of contents.now }
+{
+    match contents {
+        Contents::One(Content::Reading { wh }) => Some(*wh),
+        _ => None,
+    }
 }
 
-// Keeps the point and the energies that follow a reading: it begins to count where nothing had its key, and what counted
-// there ceases to.
-fn reading_added<S: Shelf>(
+// Whose the meter is by the assignment that counts.
+fn counting_owner(contents: &Contents) -> Option<Owner>
+    ensures { result ≡ owner_of contents.now }
+{
+    match contents {
+        Contents::One(Content::Assignment { owner }) => Some(*owner),
+        _ => None,
+    }
+}
+
+// The account and the cents of the top-up that counts.
+fn counting_payment(contents: &Contents) -> Option<(AccountId, u32)>
+    ensures { result ≡ paid_of contents.now }
+{
+    match contents {
+        Contents::One(Content::TopUp { account, cents, .. }) => Some((*account, *cents)),
+        _ => None,
+    }
+}
+
+// Keeps the point and the energies that follow where a reading begins or ceases to count.
+fn reading_changed<S: Shelf>(
     shelf: &mut S,
     alloc: Global,
     office: &Office,
     zone: &Zone,
-    reading: &Counted,
+    meter: MeterId,
+    register: Register,
+    instant: Instant,
     before: &Contents,
+    behind: &Contents,
 ) -> Result<(), ShelfFault>
     requires begun { IsSome (S.state shelf.old).begun }
     requires sound { IsSound office.now }
-    requires meter { reading.now.meter.0 < length office.now.meters }
-    requires counts { counts_at office.now reading.now.meter.0 reading.now.register ≡ true }
-    ensures truth { S.clean shelf.new → (s : List AnEntry) → IsJustAdded (office_of office.now) s (reading_of reading.now) before.now (S.state shelf.old).content → OnOk result (IsTrueContent (office_of office.now) (S.state shelf.new).content) }
-    ensures records { S.clean shelf.new → (s : List AnEntry) → IsJustAdded (office_of office.now) s (reading_of reading.now) before.now (S.state shelf.old).content → OnOk result ((S.state shelf.new).content.records ≡ (S.state shelf.old).content.records) }
+    requires meter { meter.0 < length office.now.meters }
+    requires counts { counts_at office.now meter.0 register ≡ true }
+    ensures truth { S.clean shelf.new → (s : List AnEntry) → IsJustChanged (office_of office.now) s (key.Reading meter register instant) before.now behind.now (S.state shelf.old).content → OnOk result (IsTrueContent (office_of office.now) (S.state shelf.new).content) }
+    ensures records { S.clean shelf.new → (s : List AnEntry) → IsJustChanged (office_of office.now) s (key.Reading meter register instant) before.now behind.now (S.state shelf.old).content → OnOk result ((S.state shelf.new).content.records ≡ (S.state shelf.old).content.records) }
     ensures start { S.clean shelf.new → OnOk result ((S.state shelf.new).content.start ≡ (S.state shelf.old).content.start) }
-    ensures tally { S.clean shelf.new → (starts : ℕ) → HasStarts (S.state shelf.old).content reading.now.meter.0 starts → (S.state shelf.new).tally ≤ (S.state shelf.old).tally + (6 + starts) + 6 * classes_of (office_of office.now) }
+    ensures tally { S.clean shelf.new → (starts : ℕ) → HasStarts (S.state shelf.old).content meter.0 starts → (S.state shelf.new).tally ≤ (S.state shelf.old).tally + (6 + starts) + 6 * classes_of (office_of office.now) }
     ensures kept { GoesOn S.state S.left S.clean S.same_store (failures_told result) shelf.old shelf.new }
 {
-    match before {
-        Contents::Nothing => begin_to_count(shelf, alloc, office, zone, reading),
-        Contents::One(counted) => {
-            let Content::Reading { wh } = counted else {
-                return Ok(());
+    match (counting_wh(before), counting_wh(behind)) {
+        (None, Some(wh)) => {
+            let reading = Counted {
+                meter,
+                register,
+                instant,
+                wh,
             };
-            let counted = Counted {
-                wh: *wh,
-                ..*reading
-            };
-            cease_to_count(shelf, alloc, office, zone, &counted)
+            begin_to_count(shelf, alloc, office, zone, &reading)
         }
-        Contents::Several => Ok(()),
+        (Some(wh), None) => {
+            let reading = Counted {
+                meter,
+                register,
+                instant,
+                wh,
+            };
+            cease_to_count(shelf, alloc, office, zone, &reading)
+        }
+        (None, None) | (Some(_), Some(_)) => Ok(()),
     }
 }
 
-// Keeps the start and the energies that follow an assignment: it begins to count where nothing had its key, and what counted
-// there ceases to.
-fn assignment_added<S: Shelf>(
+// Keeps the start and the energies that follow where an assignment begins or ceases to count.
+fn assignment_changed<S: Shelf>(
     shelf: &mut S,
     alloc: Global,
     office: &Office,
     zone: &Zone,
-    given: &Given,
+    meter: MeterId,
+    start: Instant,
     before: &Contents,
+    behind: &Contents,
 ) -> Result<(), ShelfFault>
     requires begun { IsSome (S.state shelf.old).begun }
     requires sound { IsSound office.now }
-    requires meter { given.now.meter.0 < length office.now.meters }
-    ensures truth { S.clean shelf.new → (s : List AnEntry) → IsJustAdded (office_of office.now) s (assignment_of given.now) before.now (S.state shelf.old).content → OnOk result (IsTrueContent (office_of office.now) (S.state shelf.new).content) }
-    ensures records { S.clean shelf.new → (s : List AnEntry) → IsJustAdded (office_of office.now) s (assignment_of given.now) before.now (S.state shelf.old).content → OnOk result ((S.state shelf.new).content.records ≡ (S.state shelf.old).content.records) }
-    ensures alone { S.clean shelf.new → OnOk result (ChangesOneStart (key.Assignment given.now.meter given.now.start) (S.state shelf.old).content (S.state shelf.new).content) }
-    ensures tally { S.clean shelf.new → TakesAtMost 0 (office_of office.now) (S.state shelf.old).content (key.Assignment given.now.meter given.now.start) (S.state shelf.old).tally (S.state shelf.new).tally }
+    requires meter { meter.0 < length office.now.meters }
+    ensures truth { S.clean shelf.new → (s : List AnEntry) → IsJustChanged (office_of office.now) s (key.Assignment meter start) before.now behind.now (S.state shelf.old).content → OnOk result (IsTrueContent (office_of office.now) (S.state shelf.new).content) }
+    ensures records { S.clean shelf.new → (s : List AnEntry) → IsJustChanged (office_of office.now) s (key.Assignment meter start) before.now behind.now (S.state shelf.old).content → OnOk result ((S.state shelf.new).content.records ≡ (S.state shelf.old).content.records) }
+    ensures alone { S.clean shelf.new → OnOk result (ChangesOneStart (key.Assignment meter start) (S.state shelf.old).content (S.state shelf.new).content) }
+    ensures tally { S.clean shelf.new → TakesAtMost 0 (office_of office.now) (S.state shelf.old).content (key.Assignment meter start) (S.state shelf.old).tally (S.state shelf.new).tally }
     ensures kept { GoesOn S.state S.left S.clean S.same_store (failures_told result) shelf.old shelf.new }
 {
-    match before {
-        Contents::Nothing => change_start(
-            shelf,
-            alloc,
-            office,
-            zone,
-            given.meter,
-            given.start,
-            Some(given.owner),
-        ),
-        Contents::One(_) => {
-            change_start(shelf, alloc, office, zone, given.meter, given.start, None)
+    match (counting_owner(before), counting_owner(behind)) {
+        (None, Some(owner)) => {
+            change_start(shelf, alloc, office, zone, meter, start, Some(owner))
         }
-        Contents::Several => Ok(()),
+        (Some(_), None) => change_start(shelf, alloc, office, zone, meter, start, None),
+        (None, None) | (Some(_), Some(_)) => Ok(()),
     }
 }
 
-// Keeps the total that follows a top-up: it begins to count where nothing had its reference, and what counted there ceases
-// to.
-fn top_up_added<S: Shelf>(
+// Keeps the total that follows where a top-up begins or ceases to count.
+fn top_up_changed<S: Shelf>(
     shelf: &mut S,
-    account: AccountId,
-    cents: u32,
     before: &Contents,
+    behind: &Contents,
 ) -> Result<(), ShelfFault>
     requires begun { IsSome (S.state shelf.old).begun }
-    ensures moved { S.clean shelf.new → OnOk result (IsPaid account cents before.now (S.state shelf.old).content (S.state shelf.new).content) }
+    ensures moved { S.clean shelf.new → OnOk result (IsPaid (paid_of before.now) (paid_of behind.now) (S.state shelf.old).content (S.state shelf.new).content) }
     ensures tally { (S.state shelf.new).tally ≤ (S.state shelf.old).tally + 3 }
     ensures kept { GoesOn S.state S.left S.clean S.same_store (failures_told result) shelf.old shelf.new }
 {
-    match before {
-        Contents::Nothing => change_total(
-            shelf,
-            &TotalKey::TopUps { account },
-            u128::from(cents),
-            0,
-        ),
-        Contents::One(counted) => {
-            let Content::TopUp { account, cents, .. } = counted else {
-                return Ok(());
-            };
-            let key = TotalKey::TopUps { account: *account };
-            change_total(shelf, &key, 0, u128::from(*cents))
+    match (counting_payment(before), counting_payment(behind)) {
+        (None, Some((account, cents))) => {
+            let key = TotalKey::TopUps { account };
+            change_total(shelf, &key, u128::from(cents), 0)
         }
-        Contents::Several => Ok(()),
+        (Some((account, cents)), None) => {
+            let key = TotalKey::TopUps { account };
+            change_total(shelf, &key, 0, u128::from(cents))
+        }
+        (None, None) | (Some(_), Some(_)) => Ok(()),
     }
 }
 
-// Keeps points, starts and totals true where an entry was added, with what was told of its key before.
+// Keeps points, starts and totals true where the records held have changed, by what was told at a key before and what is
+// told there behind: elsewhere the same counts.
 pub(crate) fn settle<S: Shelf>(
     shelf: &mut S,
     alloc: Global,
     office: &Office,
     zone: &Zone,
-    entry: &Entry,
+    key: &Key,
     before: &Contents,
+    behind: &Contents,
 ) -> Result<(), ShelfFault>
     requires begun { IsSome (S.state shelf.old).begun }
     requires sound { IsSound office.now }
-    requires of_office { IsOfOffice (office_of office.now) entry.now }
-    ensures truth { S.clean shelf.new → (s : List AnEntry) → IsJustAdded (office_of office.now) s entry.now before.now (S.state shelf.old).content → OnOk result (IsTrueContent (office_of office.now) (S.state shelf.new).content) }
-    ensures records { S.clean shelf.new → (s : List AnEntry) → IsJustAdded (office_of office.now) s entry.now before.now (S.state shelf.old).content → OnOk result ((S.state shelf.new).content.records ≡ (S.state shelf.old).content.records) }
-    ensures start { S.clean shelf.new → IsReading entry.now.key → OnOk result ((S.state shelf.new).content.start ≡ (S.state shelf.old).content.start) }
-    ensures alone { S.clean shelf.new → OnOk result (ChangesOneStart entry.now.key (S.state shelf.old).content (S.state shelf.new).content) }
-    ensures tally { S.clean shelf.new → TakesAtMost 0 (office_of office.now) (S.state shelf.old).content entry.now.key (S.state shelf.old).tally (S.state shelf.new).tally }
+    requires of_office { IsKeyOf (office_of office.now) key.now }
+    ensures truth { S.clean shelf.new → (s : List AnEntry) → IsJustChanged (office_of office.now) s key.now before.now behind.now (S.state shelf.old).content → OnOk result (IsTrueContent (office_of office.now) (S.state shelf.new).content) }
+    ensures records { S.clean shelf.new → (s : List AnEntry) → IsJustChanged (office_of office.now) s key.now before.now behind.now (S.state shelf.old).content → OnOk result ((S.state shelf.new).content.records ≡ (S.state shelf.old).content.records) }
+    ensures start { S.clean shelf.new → IsReading key.now → OnOk result ((S.state shelf.new).content.start ≡ (S.state shelf.old).content.start) }
+    ensures alone { S.clean shelf.new → OnOk result (ChangesOneStart key.now (S.state shelf.old).content (S.state shelf.new).content) }
+    ensures tally { S.clean shelf.new → TakesAtMost 0 (office_of office.now) (S.state shelf.old).content key.now (S.state shelf.old).tally (S.state shelf.new).tally }
     ensures kept { GoesOn S.state S.left S.clean S.same_store (failures_told result) shelf.old shelf.new }
 {
-    match &entry.key {
+    match key {
         Key::Reading {
             meter,
             register,
             instant,
-        } => {
-            let Content::Reading { wh } = &entry.content else {
-                unreachable!();
-            };
-            let reading = Counted {
-                meter: *meter,
-                register: *register,
-                instant: *instant,
-                wh: *wh,
-            };
-            reading_added(shelf, alloc, office, zone, &reading, before)
-        }
+        } => reading_changed(
+            shelf, alloc, office, zone, *meter, *register, *instant, before, behind,
+        ),
         Key::Assignment { meter, start } => {
-            let Content::Assignment { owner } = &entry.content else {
-                unreachable!();
-            };
-            let given = Given {
-                meter: *meter,
-                start: *start,
-                owner: *owner,
-            };
-            assignment_added(shelf, alloc, office, zone, &given, before)
+            assignment_changed(shelf, alloc, office, zone, *meter, *start, before, behind)
         }
-        Key::TopUp { .. } => {
-            let Content::TopUp { account, cents, .. } = &entry.content else {
-                unreachable!();
-            };
-            top_up_added(shelf, *account, *cents, before)
-        }
+        Key::TopUp { .. } => top_up_changed(shelf, before, behind),
     }
 }

@@ -11,14 +11,14 @@ ghost use Rattle.pw_shelf.specs.Calls.{GoesOn, failures_told};
 ghost use Rattle.pw_shelf.specs.State.{CountsFailures};
 ghost use Rattle.pw_tariff.specs.Office.{IsSound, office_of};
 ghost use Rattle.pw_book.specs.Posting.{IsWithUpload};
-ghost use Rattle.pw_book.specs.inner.Added.{ChangesOneStart, CostsAtMost, IsPut, LeavesWithUpload, TakesAtMost};
+ghost use Rattle.pw_book.specs.inner.Added.{ChangesOneStart, CostsAtMost, IsPut, LeavesWithUpload, TakesAtMost, bears_on};
 ghost use Rattle.pw_book.specs.inner.Fresh.{AreFresh};
 ghost use Rattle.pw_book.specs.inner.Failures.{FailuresUploaded};
 ghost use Rattle.pw_book.specs.declared.fault.BookFault.TheVariants.{Reopen};
 
 use crate::fault::BookFault;
 use crate::settling::settle;
-use pw_model::Entry;
+use pw_model::{Entry, Key};
 use pw_shelf::{Shelf, ShelfFault};
 use pw_tariff::Office;
 use pw_time::Zone;
@@ -111,10 +111,19 @@ fn put<S: Shelf>(
     ensures put { S.clean shelf.new → IsTrueContent (office_of office.now) (S.state shelf.old).content → AllOfOffice (office_of office.now) (S.state shelf.old).content.records → OnOk result (IsPut (office_of office.now) (entry.now ∷ []) (S.state shelf.old).content (S.state shelf.new).content) }
     ensures start { S.clean shelf.new → IsReading entry.now.key → OnOk result ((S.state shelf.new).content.start ≡ (S.state shelf.old).content.start) }
     ensures alone { S.clean shelf.new → OnOk result (ChangesOneStart entry.now.key (S.state shelf.old).content (S.state shelf.new).content) }
-    ensures tally { S.clean shelf.new → TakesAtMost 4 (office_of office.now) (S.state shelf.old).content entry.now.key (S.state shelf.old).tally (S.state shelf.new).tally }
+    ensures tally { S.clean shelf.new → TakesAtMost 7 (office_of office.now) (S.state shelf.old).content entry.now.key (S.state shelf.old).tally (S.state shelf.new).tally }
     ensures kept { GoesOn S.state S.left S.clean S.same_store (failures_told result) shelf.old shelf.new }
 {
-    let before = shelf.contents_at(&entry.key)?;
+    let key = bears_on(entry);
+    let before = shelf.contents_at(&key)?;
     shelf.add(entry)?;
-    settle(shelf, alloc, office, zone, entry, &before)
+    let behind = shelf.contents_at(&key)?;
+    settle(shelf, alloc, office, zone, &key, &before, &behind)
+}
+
+// The key at which an entry changes what counts: its own.
+pub(crate) fn bears_on(entry: &Entry) -> Key
+    ensures { result ≡ bears_on entry.now }
+{
+    entry.key
 }

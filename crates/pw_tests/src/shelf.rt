@@ -696,8 +696,8 @@ fn failing_book(
     Ok(empty_book(office, shelf, 10))
 }
 
-// The calls are `count`, `holds`, `begin`, `contents_at`, `add`, `total`, `total_put` and `commit`. Nothing is held where
-// the upload was given up.
+// The calls are `count`, `holds`, `begin`, `contents_at`, `add`, `contents_at`, `total`, `total_put` and `commit`. Nothing
+// is held where the upload was given up.
 // bears on: pw_book book.rt Book::post failures
 // bears on: pw_book book.rt Book::post posted
 // bears on: pw_book book.rt Book::post reopen
@@ -708,13 +708,13 @@ fn posting_with_a_call_that_fails(rt: HostRuntime) -> Result<(), Fail> {
         (3, true, PostFault::Device),
         (4, true, PostFault::Reopen),
         (4, false, PostFault::Device),
-        (8, false, PostFault::Device),
+        (9, false, PostFault::Device),
     ] {
         let mut book = failing_book(rt.alloc(), fail_at, abandon_fails)?;
         assert!(rt; refused_by(rt.alloc(), &mut book, payment) == Some(fault));
         assert!(rt; fault != PostFault::Device || book.count() == Ok(0));
     }
-    let mut book = failing_book(rt.alloc(), 9, false)?;
+    let mut book = failing_book(rt.alloc(), 10, false)?;
     assert!(rt; refused_by(rt.alloc(), &mut book, payment).is_none());
     Ok(())
 }

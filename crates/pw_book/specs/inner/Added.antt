@@ -1,60 +1,71 @@
 -- An entry that was added, and what follows of it. It serves `src/settling.rt` and `src/upload.rt`.
 -- (Definitions of this project.)
-use Rattle.std.specs.Prelude.{◌≡◌, ℕ, ◌+◌, ◌*◌, ◌≤◌, ◌⊎◌, List, [], ◌∷◌, ◌++◌, length}
+use Rattle.std.specs.Prelude.{◌≡◌, ℕ, ◌+◌, ◌*◌, ◌<◌, ◌≤◌, ◌⊎◌, true, Option, Some, None, List, [], ◌∷◌, ◌++◌, length}
 use Rattle.pw_obis.specs.declared.reference.Register.{Register}
 use Rattle.pw_tariff.specs.declared.ids.AccountId.{AccountId}
 use Rattle.pw_tariff.specs.declared.ids.Direction.TheVariants.{Import, Export}
 use Rattle.pw_tariff.specs.Office.{OfficeRules}
 use Rattle.pw_model.specs.declared.records.Key.{Key}
 use Rattle.pw_model.specs.declared.records.Key.TheVariants as key
+use Rattle.pw_model.specs.declared.records.Content.{Content}
 use Rattle.pw_model.specs.declared.records.Content.TheVariants as content
 use Rattle.pw_model.specs.declared.records.Contents.{Contents}
-use Rattle.pw_model.specs.declared.records.Contents.TheVariants.{Nothing, One, Several}
+use Rattle.pw_model.specs.declared.records.Contents.TheVariants.{One}
 use Rattle.pw_model.specs.declared.records.Entry.{Entry}
 use Rattle.pw_model.specs.declared.records.TotalKey.{TotalKey}
 use Rattle.pw_model.specs.declared.records.TotalKey.TheVariants.{TopUps}
-use Rattle.pw_model.specs.Counting.{IsInserted, Member, SameMembers, contents_at, point, start}
+use Rattle.pw_model.specs.Counting.{SameMembers, assignment_key, contents_at, point, reading_key, start}
 use Rattle.pw_model.specs.Energy.{over_registers}
 use Rattle.pw_model.specs.Office.{AllOfOffice, most_records}
+use Rattle.pw_model.specs.Payments.{cents_for, topped_up}
 use Rattle.pw_model.specs.Shelf.{IsTrueContent, ShelfContent, total_among}
-use Rattle.pw_book.specs.declared.around.Counted.{Counted}
-use Rattle.pw_book.specs.declared.settling.Given.{Given}
 use Rattle.pw_book.specs.Cost.{AreAssignmentsWith, AreReadingsWith, AreTopUps, HasStarts, IsAssignmentUpToNext, classes_of}
 use Rattle.pw_book.specs.Posting.{IsWithUpload}
 use Rattle.pw_book.specs.inner.Moves.{MovesTotals}
 use Rattle.pw_book.specs.inner.Settling.{HavePoints}
 
--- ---- one record more
+-- ---- one key changed
 -- points, starts and totals are those of a list of records
 pub record IsTrueOf (office : OfficeRules) (s : List Entry) (c : ShelfContent) : Type 0 where
   pub points : c.point ≡ point (contents_at s)
   pub starts : c.start ≡ start (contents_at s)
   pub totals : (k : TotalKey) → c.total k ≡ total_among office s k
 
--- an entry was added to the records of a list, and points, starts and totals are still those of the list
-pub record IsJustAdded (office : OfficeRules) (s : List Entry) (e : Entry) (before : Contents) (c : ShelfContent) : Type 0 where
-  pub inserted : IsInserted e s c.records
-  pub before_is : before ≡ contents_at s e.key
-  pub fresh : Member e s → ⊥
+-- the key at which an entry changes what counts: its own
+abbrev pub bears_on : Entry → Key
+bears_on e = e.key
+
+-- a key that an entry of the office may have
+abbrev pub IsKeyOf : OfficeRules → Key → Type 0
+IsKeyOf office (key.Reading m r t) = (m.0 < office.meters) × (office.counts m.0 r ≡ true)
+IsKeyOf office (key.Assignment m t) = m.0 < office.meters
+IsKeyOf office (key.TopUp r) = Unit {0}
+
+-- from a list of records to those that are held: at a key this was told and that is; no content takes the place of another
+-- at once, elsewhere the same counts, and top-ups follow what is told; points, starts and totals are still those of the list
+pub record IsJustChanged (office : OfficeRules) (s : List Entry) (k : Key) (before behind : Contents) (c : ShelfContent) : Type 0 where
+  pub was : before ≡ contents_at s k
+  pub is : behind ≡ contents_at c.records k
+  pub alike : (x y : Content) → before ≡ One x → behind ≡ One y → x ≡ y
+  pub points : (m : ℕ) (r : Register) (t : ℕ) → (reading_key m r t ≡ k → ⊥) → point (contents_at s) m r t ≡ point (contents_at c.records) m r t
+  pub starts : (m t : ℕ) → (assignment_key m t ≡ k → ⊥) → start (contents_at s) m t ≡ start (contents_at c.records) m t
+  pub paid : (a : ℕ) → topped_up c.records a + cents_for a before ≡ topped_up s a + cents_for a behind
+  pub small : AllOfOffice office s
   pub of_office : AllOfOffice office c.records
   pub few : length c.records ≤ most_records
   pub still : IsTrueOf office s c
 
--- the entry of a reading
-abbrev pub reading_of : Counted → Entry
-reading_of c = record { key = key.Reading c.meter c.register c.instant; content = content.Reading c.wh }
+-- the account and the cents of the top-up that counts
+abbrev pub paid_of : Contents → Option (AccountId × ℕ)
+paid_of (One (content.TopUp a c t)) = Some (a, c)
+paid_of _ = None
 
--- the entry of an assignment
-abbrev pub assignment_of : Given → Entry
-assignment_of g = record { key = key.Assignment g.meter g.start; content = content.Assignment g.owner }
-
--- the total that follows a top-up of so many cents for an account, behind what was told at its reference
-abbrev pub IsPaid : AccountId → ℕ → Contents → ShelfContent → ShelfContent → Type 0
-IsPaid account cents Nothing old new = MovesTotals (λ k. k ≡ TopUps account) (λ k. cents) (λ k. 0) old new
-IsPaid account cents (One (content.TopUp a c t)) old new = MovesTotals (λ k. k ≡ TopUps a) (λ k. 0) (λ k. c) old new
-IsPaid account cents (One (content.Reading w)) old new = new ≡ old
-IsPaid account cents (One (content.Assignment o)) old new = new ≡ old
-IsPaid account cents Several old new = new ≡ old
+-- the total that follows where this top-up counted and that one does
+abbrev pub IsPaid : Option (AccountId × ℕ) → Option (AccountId × ℕ) → ShelfContent → ShelfContent → Type 0
+IsPaid None (Some b) old new = MovesTotals (λ k. k ≡ TopUps b.0) (λ k. b.1) (λ k. 0) old new
+IsPaid (Some b) None old new = MovesTotals (λ k. k ≡ TopUps b.0) (λ k. 0) (λ k. b.1) old new
+IsPaid None None old new = new ≡ old
+IsPaid (Some b) (Some d) old new = new ≡ old
 
 -- the records with an entry, and all that follows
 pub record IsPut (office : OfficeRules) (entries : List Entry) (old new : ShelfContent) : Type 0 where
@@ -80,10 +91,10 @@ LeavesWithUpload office entries content old new = (c : ShelfContent) → new c �
 
 -- how many calls and rows the entries of an upload take, each added and settled, beside so many
 pub record CostsAtMost (beside : ℕ) (office : OfficeRules) (entries : List Entry) (c : ShelfContent) (old new : ℕ) : Type 0 where
-  pub readings : (starts : ℕ) → AreReadingsWith c starts entries → new ≤ old + beside + length entries * (10 + starts + 6 * classes_of office)
+  pub readings : (starts : ℕ) → AreReadingsWith c starts entries → new ≤ old + beside + length entries * (13 + starts + 6 * classes_of office)
   pub assignment : (e : Entry) (starts points : ℕ) → entries ≡ e ∷ [] → IsAssignmentUpToNext c starts points e.key →
-      new ≤ old + beside + (36 + starts + points + 6 * classes_of office)
+      new ≤ old + beside + (39 + starts + points + 6 * classes_of office)
   pub assignments : (starts points : ℕ) → AreAssignmentsWith c starts points entries →
-      new ≤ old + beside + length entries * (36 + (starts + length entries) + points + 6 * classes_of office)
-  pub top_ups : AreTopUps entries → new ≤ old + beside + length entries * 7
+      new ≤ old + beside + length entries * (39 + (starts + length entries) + points + 6 * classes_of office)
+  pub top_ups : AreTopUps entries → new ≤ old + beside + length entries * 10
   pub nothing : entries ≡ [] → new ≤ old + beside

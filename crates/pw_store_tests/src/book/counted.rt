@@ -109,12 +109,12 @@ fn cost_behind_three<B: Books>(rt: &impl Abort, alloc: Global, books: &B) -> u64
 }
 
 // The cost of a reading behind the last of one band, counted by hand: `count`, `holds`, `begin`, `contents_at`, `add`,
-// the start with its row, the point before with its row, none behind, a total with its row, `total_put`, `point_put` and
-// `commit`.
+// `contents_at` with its row, the start with its row, the point before with its row, none behind, a total with its row,
+// `total_put`, `point_put` and `commit`.
 // bears on: pw_book book.rt Book::post cost
 #[test]
 fn calls_and_rows_of_a_reading(rt: HostRuntime) {
-    assert!(rt; cost_behind_three(&rt, rt.alloc(), &InMemory) == 15);
+    assert!(rt; cost_behind_three(&rt, rt.alloc(), &InMemory) == 17);
 }
 
 // bears on: pw_book book.rt Book::post cost
