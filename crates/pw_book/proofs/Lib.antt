@@ -5,7 +5,6 @@ pub mod Joining
 pub mod Chains
 pub mod Answering
 pub mod Keeping
-pub mod Alone
 pub mod Disputed
 pub mod Falling
 pub mod RowFacts

@@ -1,22 +1,24 @@
 //! The readings of a register, each with whether it counts.
 
-ghost use Rattle.std.specs.Prelude.{◌≡◌, ◌∷◌, ◌++◌, ◌↔◌, List, IfOk, IsNone, IsTrue, option_map};
+ghost use Rattle.std.specs.Prelude.{◌≡◌, ◌↔◌, ℕ, List, Option, None, Some, IfOk, IsNone, IsTrue, MatchOption};
 ghost use Rattle.pw_model.specs.declared.records.Entry.{Entry as ARecord};
-ghost use Rattle.pw_model.specs.Counting.{Counts};
+ghost use Rattle.pw_model.specs.Counting.{contents_at, point as point_told};
 ghost use Rattle.pw_model.specs.Lists.{AreReadings, IsInOrder};
-ghost use Rattle.pw_model.specs.Same.{entry_order};
+ghost use Rattle.pw_model.specs.Seconds.{ListsSeconds, by_second};
 ghost use Rattle.pw_shelf.specs.Rows.{ListsReadings};
 ghost use Rattle.pw_shelf.specs.Calls.{failures_told};
 ghost use Rattle.pw_book.specs.Asking.{IsOnlyAsked};
 ghost use Rattle.pw_parts.specs.Shown.{shown};
-ghost use Rattle.pw_book.specs.inner.Counted.{row_of_reading};
-ghost use Rattle.pw_book.specs.inner.Groups.{IsFirstOf, IsLastOf, has_same_key};
+ghost use Rattle.pw_book.specs.inner.Counted.{IsRowOf, StandBefore};
+ghost use Rattle.pw_book.specs.inner.Places.{TellsPoints};
 
-use crate::asked::readings_held;
-use pw_model::{Content, Entry, Key, ReadingRow, is_same_key};
-use pw_obis::Register;
+use crate::asked::{points_held, readings_held};
+use pw_model::{Content, Entry, Key, ReadingRow};
+use pw_obis::{Register, WattHours};
+use pw_parts::Point;
 use pw_shelf::{Shelf, ShelfFault};
 use pw_tariff::MeterId;
+use pw_time::Instant;
 use std::alloc::{AllocError, Global};
 
 // The readings held of a register, each with whether it counts.
@@ -26,57 +28,37 @@ pub(crate) fn rows_held<S: Shelf>(
     meter: MeterId,
     register: Register,
 ) -> Result<Vec<ReadingRow>, ShelfFault>
-    requires { IsNone (S.state shelf.old).begun }
+    requires idle { IsNone (S.state shelf.old).begun }
+    requires points { S.clean shelf.old → TellsPoints (S.state shelf.old).content }
     ensures rows { S.clean shelf.new → IfOk result (λ rows. AreReadings (S.state shelf.old).content.records meter.0 register rows.items) }
     ensures asked { IsOnlyAsked S.Shelf (failures_told result) shelf.old shelf.new }
 {
     let readings = readings_held(shelf, alloc, meter, register)?;
-    let rows = rows_of(alloc, &readings)?;
+    let points = points_held(shelf, alloc, meter, register)?;
+    let rows = rows_of(alloc, &readings, &points)?;
     Ok(rows)
 }
 
-// The rows of a register, told by all its readings that are held.
-pub(crate) fn rows_of(alloc: Global, readings: &[Entry]) -> Result<Vec<ReadingRow>, AllocError>
-    ensures { (s : List ARecord) (m : MeterId) (r : Register) → ListsReadings s m r readings.now → IfOk result (λ rows. AreReadings s m.0 r rows.items) }
+// The rows of a register, told by all its readings that are held and by its points.
+fn rows_of(
+    alloc: Global,
+    readings: &[Entry],
+    points: &[Point],
+) -> Result<Vec<ReadingRow>, AllocError>
+    ensures { (s : List ARecord) (m : MeterId) (r : Register) → ListsReadings s m r readings.now → ListsSeconds (point_told (contents_at s) m.0 r) points.now → IfOk result (λ rows. AreReadings s m.0 r rows.items) }
 {
     let mut rows = Vec::new(alloc);
-    let mut before: Option<Entry> = None;
-    let mut rest = readings;
-    while let Some((entry, others)) = rest.split_first() {
-        let counted = is_alone(&before, entry, others);
-        if let Some(row) = row_of(entry, counted) {
+    for entry in readings {
+        if let Some(row) = row_of(entry, points) {
             rows.push(row)?;
         }
-        before = Some(*entry);
-        rest = others;
     }
     Ok(rows)
 }
 
-// Whether a record has a key of its own among records in order: whether it counts.
-fn is_alone(before: &Option<Entry>, entry: &Entry, others: &[Entry]) -> bool
-    ensures { (done : List ARecord) → IsInOrder entry_order (done ++ entry.now ∷ others.now) → IsLastOf done before.now → IsTrue result ↔ Counts (done ++ entry.now ∷ others.now) entry.now }
-{
-    !has_same_key(before, entry) && !has_same_key(&first_of(others), entry)
-}
-
-fn first_of(records: &[Entry]) -> Option<Entry>
-    ensures { IsFirstOf records.now result }
-{
-    records.first().copied()
-}
-
-fn has_same_key(other: &Option<Entry>, entry: &Entry) -> bool
-    ensures { result ≡ has_same_key other.now entry.now }
-{
-    match other {
-        None => false,
-        Some(other) => is_same_key(&other.key, &entry.key),
-    }
-}
-
-fn row_of(entry: &Entry, counted: bool) -> Option<ReadingRow>
-    ensures { result ≡ option_map (λ shows. row_of_reading shows counted) (shown entry.now) }
+// The row of a reading: it counts where a point with its value stands at its instant.
+fn row_of(entry: &Entry, points: &[Point]) -> Option<ReadingRow>
+    ensures { (told : ℕ → Option ℕ) → ListsSeconds told points.now → MatchOption result (shown entry.now ≡ None) (IsRowOf told entry.now) }
 {
     let Key::Reading { instant, .. } = &entry.key else {
         return None;
@@ -84,9 +66,27 @@ fn row_of(entry: &Entry, counted: bool) -> Option<ReadingRow>
     let Content::Reading { wh } = &entry.content else {
         return None;
     };
+    let counted = shows(points, *instant, *wh);
     Some(ReadingRow {
         instant: *instant,
         wh: *wh,
         counted,
     })
+}
+
+// Whether a point with this value stands at an instant.
+fn shows(points: &[Point], instant: Instant, wh: WattHours) -> bool
+    ensures { (told : ℕ → Option ℕ) → ListsSeconds told points.now → IsTrue result ↔ (told instant ≡ Some wh) }
+{
+    match points.get(stand_before(points, instant)) {
+        Some(point) => point.0 == instant && point.1 == wh,
+        None => false,
+    }
+}
+
+// How many points stand before an instant.
+fn stand_before(points: &[Point], instant: Instant) -> usize
+    ensures { IsInOrder by_second points.now → StandBefore points.now instant result }
+{
+    points.partition_point(|point| point.0 < instant)
 }

@@ -1,15 +1,24 @@
 -- The records that count, and what they tell by the second. It serves the questions of a book.
 -- (Definitions of this project.)
-use Rattle.std.specs.Prelude.{◌≡◌, ◌<◌, ℕ, Bool, Option}
+use Rattle.std.specs.Prelude.{◌≡◌, ◌↔◌, ◌<◌, ◌≤◌, ℕ, Option, Some, IsTrue, List, get_or, length}
 use Rattle.pw_flow.specs.Flow.{AreNeighbours}
 use Rattle.pw_obis.specs.declared.reference.Register.{Register}
 use Rattle.pw_tariff.specs.declared.ids.MeterId.{MeterId}
+use Rattle.pw_model.specs.declared.records.Entry.{Entry}
 use Rattle.pw_model.specs.declared.records.Fall.{Fall}
+use Rattle.pw_parts.specs.Shown.{shown}
 use Rattle.pw_model.specs.declared.records.ReadingRow.{ReadingRow}
 
--- a row_of_reading of what a reading shows
-abbrev pub row_of_reading : ℕ × ℕ → Bool → ReadingRow
-row_of_reading shows counts = record { instant = shows.0; wh = shows.1; counted = counts }
+-- the row of a reading: marked where this is what is told at its second
+pub record IsRowOf (told : ℕ → Option ℕ) (e : Entry) (row : ReadingRow) : Type 0 where
+  pub shows : shown e ≡ Some (row.instant, row.wh)
+  pub counted : IsTrue row.counted ↔ (told row.instant ≡ Some row.wh)
+
+-- so many of a list of points stand before a second
+pub record StandBefore (points : List (ℕ × ℕ)) (t count : ℕ) : Type 0 where
+  pub bound : count ≤ length points
+  pub early : (i : ℕ) (a : ℕ × ℕ) → i < count → (get_or points i a).0 < t
+  pub late : (i : ℕ) (a : ℕ × ℕ) → count ≤ i → i < length points → t ≤ (get_or points i a).0
 
 -- a fall of the register whose values are told by the second
 pub record IsFallOf (m : MeterId) (r : Register) (told : ℕ → Option ℕ) (f : Fall) : Type 0 where

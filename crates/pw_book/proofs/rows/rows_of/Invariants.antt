@@ -1,11 +1,15 @@
-use Rattle.std.proofs.Common.{length}
+use Rattle.std.proofs.Common.{ℕ, Option}
+use Rattle.pw_tariff.specs.declared.ids.MeterId.{MeterId}
+use Rattle.pw_obis.specs.declared.reference.Register.{Register}
+use Rattle.pw_model.specs.declared.records.Entry.{Entry}
+use Rattle.pw_model.specs.Counting.{Member}
+use Rattle.pw_model.specs.Kinds.{IsReadingOf}
 use Rattle.pw_model.specs.Lists.{IsInOrder}
 use Rattle.pw_model.specs.Same.{entry_order}
+use Rattle.pw_model.specs.Seconds.{ListsSeconds}
 use Rattle.pw_book.proofs.RowFacts.{RowsSoFar}
 use Rattle.pw_book.proofs.rows.rows_of.Given as goal
 
 abbrev pub invariant-loop-entry : goal.invariant-loop-entry
-invariant-loop-entry l = IsInOrder entry_order l.readings → RowsSoFar l.readings l.rest l.before l.rows.items
-
-abbrev pub decreases-loop-entry : goal.decreases-loop-entry
-decreases-loop-entry l = length l.rest
+invariant-loop-entry l = (told : ℕ → Option ℕ) (m : MeterId) (r : Register) → ListsSeconds told l.points → IsInOrder entry_order l.readings → ((x : Entry) → Member x l.readings → IsReadingOf m r x.key) →
+    RowsSoFar told l.readings l.entry-index m r l.rows.items
