@@ -10,22 +10,22 @@ use Rattle.pw_schema.specs.inner.Calls.{Asks}
 use Rattle.pw_schema.proofs.Outcomes.{early, fails_query, read_survives}
 
 -- the connection is as it was after a query
-pub stays : (sql : List ℕ) (params : Row) (old new : State) (rows : List Row) → IsPlain (understood old.now.schema sql) → Shown sql params old new rows → IsUnchanged old new
+stays : (sql : List ℕ) (params : Row) (old new : State) (rows : List Row) → IsPlain (understood old.now.schema sql) → Shown sql params old new rows → IsUnchanged old new
 unfolding Shown
 stays sql params old new rows plain h =
     let none = (subst IsPlain h.1.is plain).0 in
     (subst (ShowsRows old new sql h.0 (timed params h.0.formats h.1.now) rows) none h.2).3
 
 module _ (sql : List ℕ) (params : Row) (old new : State) where
-  pub stays_if : {Z : Type 0} (r : Result (Vec Row Z) Error) → IsPlain (understood old.now.schema sql) → IfOk r (λ rows. Shown sql params old new rows.items) → OnOk r (IsUnchanged old new)
+  stays_if : {Z : Type 0} (r : Result (Vec Row Z) Error) → IsPlain (understood old.now.schema sql) → IfOk r (λ rows. Shown sql params old new rows.items) → OnOk r (IsUnchanged old new)
   stays_if (Ok rows) plain h = stays sql params old new rows.items plain h
   stays_if (Err e) plain h = tt
 
-  pub fails_if : {Z : Type 0} (r : Result (Vec Row Z) Error) → IsPlain (understood old.now.schema sql) → IfErr r (FailsToQuery sql params old new) → OnErr r (IsUnchanged old new ⊎ IsRolledBack old new)
+  fails_if : {Z : Type 0} (r : Result (Vec Row Z) Error) → IsPlain (understood old.now.schema sql) → IfErr r (FailsToQuery sql params old new) → OnErr r (IsUnchanged old new ⊎ IsRolledBack old new)
   fails_if (Ok rows) plain h = tt
   fails_if (Err e) plain h = fails_query old new sql params e plain h
 
-  pub survives_if : (HasCleanDisk old → IsPlain (understood old.now.schema sql)) → Survives old new (CommitsShowing sql params old) → Survives old new (λ _. ⊥)
+  survives_if : (HasCleanDisk old → IsPlain (understood old.now.schema sql)) → Survives old new (CommitsShowing sql params old) → Survives old new (λ _. ⊥)
   survives_if plain s = read_survives old new sql params plain s
 
   -- all that a query leaves

@@ -4,7 +4,8 @@ use Rattle.std.specs.Prelude.{◌⊎◌, OnErr, OnOk, Result}
 use Rattle.sqlite.specs.State.{State, HasCleanDisk, IsRolledBack, IsUnchanged, KeepsCommit, Survives}
 
 module _ {T E : Type 0} (answer : Result T E) (old new : State) where
-  -- a call that changes nothing; with a fault no more is known than that what was committed stays so
+  -- a call that changes nothing: with Ok the connection is as it was; with a fault what was committed stays so; and a
+  -- crash leaves only what it left before
   pub record Looks : Type 0 where
     pub same : HasCleanDisk new → OnOk answer (IsUnchanged old new)
     pub kept : HasCleanDisk new → KeepsCommit old new

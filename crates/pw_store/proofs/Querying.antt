@@ -7,7 +7,7 @@ use Rattle.sqlite.proofs.Callers.{IsPlain}
 use Rattle.sqlite.specs.Query.{Query}
 use Rattle.pw_schema.specs.Tables.{IsOurs, only_one}
 use Rattle.pw_store.proofs.Texts.{IsQuery}
-pub use Rattle.pw_schema.proofs.Queries.{stays, stays_if, fails_if, survives_if, asks_if}
+pub use Rattle.pw_schema.proofs.Queries.{asks_if}
 
 abbrev pub one_text : List ℕ
 one_text = codes "SELECT 1"

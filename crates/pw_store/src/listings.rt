@@ -14,7 +14,7 @@ use pw_schema::{Judge, RecordKind, TotalKind};
 use sqlite::{Alter, Connection};
 
 /// What is kept of counting records, each in a table of its own.
-#[derive(Clone, Copy, Debug, PartialEq, Eq)]
+#[derive(Clone, Copy)]
 pub(crate) enum KeptKind {
     Points,
     Starts,
@@ -33,7 +33,7 @@ impl KeptKind {
 }
 
 /// A listing of a whole table: of its rows in the order of their keys, or of their rowids alone.
-#[derive(Clone, Copy, Debug, PartialEq, Eq)]
+#[derive(Clone, Copy)]
 pub(crate) enum Listing {
     Records(RecordKind),
     Kept(KeptKind),
