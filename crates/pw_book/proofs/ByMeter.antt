@@ -45,10 +45,13 @@ assignments-none s = segment-none entry_order (λ e. Member e s × IsAssignment 
 pub assignments-more : (s : List Entry) (m : MeterId) (old more : List Entry) → AssignmentsBefore s m.0 old → ListsHeld (IsAssignmentOf m) s more → AssignmentsBefore s (m.0 + 1) (old ++ more)
 assignments-more s m old more a b =
     segment-more entry_order (λ e. Member e s × IsAssignment e.key) (λ e. IsAssignmentOf m e.key) (λ e. meter_place e.key) m.0 old more a
-    (record { rising = b.rising; members = λ e. (
-      λ k. (let h = (b.members e).0 k in ((h.0, of-meter m e.key h.1), h.1)),
-      λ h. (b.members e).1 (h.0.0, h.1)
-    ) })
+    (record {
+      rising = b.rising;
+      members = λ e. (
+        λ k. (let h = (b.members e).0 k in ((h.0, of-meter m e.key h.1), h.1)),
+        λ h. (b.members e).1 (h.0.0, h.1),
+      );
+    })
     (λ e h. is-of-meter m e.key h.1)
     (λ e f h i l. before-entry e f (key-first e.key f.key h.1 i.1 l))
 
