@@ -18,13 +18,14 @@ ghost use Rattle.pw_book.specs.inner.Settling.{EndsBefore, IsSettled};
 ghost use Rattle.pw_parts.specs.Changes.{gathered, other_side, pairs_for};
 ghost use Rattle.pw_book.specs.inner.Sums.{AreDifferences, point_listed};
 
+use crate::basis::Basis;
 use crate::moving::move_energies;
 use pw_model::direction_of;
 use pw_obis::{Register, WattHours};
 use pw_parts::{Changes, Point, Side, add_pairs};
 use pw_shelf::{Shelf, ShelfFault};
-use pw_tariff::{Direction, MeterId, Office, Owner, Owners};
-use pw_time::{Instant, Zone};
+use pw_tariff::{Direction, MeterId, Owner, Owners};
+use pw_time::Instant;
 use std::alloc::{AllocError, Global};
 
 // A reading of a register that begins or ceases to count.
@@ -39,94 +40,70 @@ pub(crate) struct Counted {
 // Keeps a reading that begins to count, and the energies with it.
 pub(crate) fn begin_to_count<S: Shelf>(
     shelf: &mut S,
-    alloc: Global,
-    office: &Office,
-    zone: &Zone,
+    basis: &Basis,
     reading: &Counted,
 ) -> Result<(), ShelfFault>
     requires begun { IsSome (S.state shelf.old).begun }
-    requires meter { reading.now.meter.0 < length office.now.meters }
-    requires counts { counts_at office.now reading.now.meter.0 reading.now.register ≡ true }
-    ensures settled { S.clean shelf.new → (was is : AnyKey → AnyContents) → (S.state shelf.old).content.point ≡ point_told was → (S.state shelf.old).content.start ≡ start_told was → IsOneMoreReading was is reading.now.meter.0 reading.now.register reading.now.instant reading.now.wh → EndsBefore (office_of office.now).end (point_told is reading.now.meter.0 reading.now.register) → OnOk result (IsSettled (office_of office.now) was is (S.state shelf.old).content (S.state shelf.new).content) }
+    requires meter { reading.now.meter.0 < length basis.now.office.now.meters }
+    requires counts { counts_at basis.now.office.now reading.now.meter.0 reading.now.register ≡ true }
+    ensures settled { S.clean shelf.new → (was is : AnyKey → AnyContents) → (S.state shelf.old).content.point ≡ point_told was → (S.state shelf.old).content.start ≡ start_told was → IsOneMoreReading was is reading.now.meter.0 reading.now.register reading.now.instant reading.now.wh → EndsBefore (office_of basis.now.office.now).end (point_told is reading.now.meter.0 reading.now.register) → OnOk result (IsSettled (office_of basis.now.office.now) was is (S.state shelf.old).content (S.state shelf.new).content) }
     ensures point { S.clean shelf.new → OnOk result ((S.state shelf.new).content.point ≡ points_with (S.state shelf.old).content.point reading.now.meter.0 reading.now.register reading.now.instant (Some reading.now.wh)) }
     ensures start { S.clean shelf.new → OnOk result ((S.state shelf.new).content.start ≡ (S.state shelf.old).content.start) }
-    ensures tally { S.clean shelf.new → (starts : ℕ) → HasStarts (S.state shelf.old).content reading.now.meter.0 starts → (S.state shelf.new).tally ≤ (S.state shelf.old).tally + (6 + starts) + 6 * classes_of (office_of office.now) }
+    ensures tally { S.clean shelf.new → (starts : ℕ) → HasStarts (S.state shelf.old).content reading.now.meter.0 starts → (S.state shelf.new).tally ≤ (S.state shelf.old).tally + (6 + starts) + 6 * classes_of (office_of basis.now.office.now) }
     ensures kept { GoesOn S.state S.left S.clean S.same_store (failures_told result) shelf.old shelf.new }
 {
-    let changes = weigh_around(shelf, alloc, office, zone, reading)?;
-    move_energies(shelf, office, &changes, Side::Loses)?;
+    let changes = weigh_around(shelf, basis, reading)?;
+    move_energies(shelf, basis.office, &changes, Side::Loses)?;
     shelf.point_put(reading.meter, reading.register, reading.instant, reading.wh)
 }
 
 // Takes a reading that ceases to count away, and the energies with it.
 pub(crate) fn cease_to_count<S: Shelf>(
     shelf: &mut S,
-    alloc: Global,
-    office: &Office,
-    zone: &Zone,
+    basis: &Basis,
     reading: &Counted,
 ) -> Result<(), ShelfFault>
     requires begun { IsSome (S.state shelf.old).begun }
-    requires meter { reading.now.meter.0 < length office.now.meters }
-    requires counts { counts_at office.now reading.now.meter.0 reading.now.register ≡ true }
-    ensures settled { S.clean shelf.new → (was is : AnyKey → AnyContents) → (S.state shelf.old).content.point ≡ point_told was → (S.state shelf.old).content.start ≡ start_told was → IsOneMoreReading is was reading.now.meter.0 reading.now.register reading.now.instant reading.now.wh → EndsBefore (office_of office.now).end (point_told was reading.now.meter.0 reading.now.register) → OnOk result (IsSettled (office_of office.now) was is (S.state shelf.old).content (S.state shelf.new).content) }
+    requires meter { reading.now.meter.0 < length basis.now.office.now.meters }
+    requires counts { counts_at basis.now.office.now reading.now.meter.0 reading.now.register ≡ true }
+    ensures settled { S.clean shelf.new → (was is : AnyKey → AnyContents) → (S.state shelf.old).content.point ≡ point_told was → (S.state shelf.old).content.start ≡ start_told was → IsOneMoreReading is was reading.now.meter.0 reading.now.register reading.now.instant reading.now.wh → EndsBefore (office_of basis.now.office.now).end (point_told was reading.now.meter.0 reading.now.register) → OnOk result (IsSettled (office_of basis.now.office.now) was is (S.state shelf.old).content (S.state shelf.new).content) }
     ensures point { S.clean shelf.new → OnOk result ((S.state shelf.new).content.point ≡ points_with (S.state shelf.old).content.point reading.now.meter.0 reading.now.register reading.now.instant None) }
     ensures start { S.clean shelf.new → OnOk result ((S.state shelf.new).content.start ≡ (S.state shelf.old).content.start) }
-    ensures tally { S.clean shelf.new → (starts : ℕ) → HasStarts (S.state shelf.old).content reading.now.meter.0 starts → (S.state shelf.new).tally ≤ (S.state shelf.old).tally + (6 + starts) + 6 * classes_of (office_of office.now) }
+    ensures tally { S.clean shelf.new → (starts : ℕ) → HasStarts (S.state shelf.old).content reading.now.meter.0 starts → (S.state shelf.new).tally ≤ (S.state shelf.old).tally + (6 + starts) + 6 * classes_of (office_of basis.now.office.now) }
     ensures kept { GoesOn S.state S.left S.clean S.same_store (failures_told result) shelf.old shelf.new }
 {
-    let changes = weigh_around(shelf, alloc, office, zone, reading)?;
-    move_energies(shelf, office, &changes, Side::Gains)?;
+    let changes = weigh_around(shelf, basis, reading)?;
+    move_energies(shelf, basis.office, &changes, Side::Gains)?;
     shelf.point_del(reading.meter, reading.register, reading.instant)
 }
 
 // What each total loses and gains by the pairs of a register round an instant, where a reading begins to count there.
 fn weigh_around<S: Shelf>(
     shelf: &mut S,
-    alloc: Global,
-    office: &Office,
-    zone: &Zone,
+    basis: &Basis,
     reading: &Counted,
 ) -> Result<Changes, ShelfFault>
     requires begun { IsSome (S.state shelf.old).begun }
-    requires meter { reading.now.meter.0 < length office.now.meters }
-    requires counts { counts_at office.now reading.now.meter.0 reading.now.register ≡ true }
+    requires meter { reading.now.meter.0 < length basis.now.office.now.meters }
+    requires counts { counts_at basis.now.office.now reading.now.meter.0 reading.now.register ≡ true }
     ensures few { IfOk result (λ changes. (side : ASide) (k : AnyTotal) → gathered side changes.rows k < 2 ^ 127) }
-    ensures around { S.clean shelf.new → (free is : AnyKey → AnyContents) → ((u : ℕ) → (u ≡ reading.now.instant → ⊥) → (S.state shelf.old).content.point reading.now.meter.0 reading.now.register u ≡ point_told free reading.now.meter.0 reading.now.register u) → (S.state shelf.old).content.start reading.now.meter.0 ≡ start_told free reading.now.meter.0 → IsOneMoreReading free is reading.now.meter.0 reading.now.register reading.now.instant reading.now.wh → EndsBefore (office_of office.now).end (point_told is reading.now.meter.0 reading.now.register) → IfOk result (λ changes. AreDifferences (office_of office.now) free is changes.rows) }
+    ensures around { S.clean shelf.new → (free is : AnyKey → AnyContents) → ((u : ℕ) → (u ≡ reading.now.instant → ⊥) → (S.state shelf.old).content.point reading.now.meter.0 reading.now.register u ≡ point_told free reading.now.meter.0 reading.now.register u) → (S.state shelf.old).content.start reading.now.meter.0 ≡ start_told free reading.now.meter.0 → IsOneMoreReading free is reading.now.meter.0 reading.now.register reading.now.instant reading.now.wh → EndsBefore (office_of basis.now.office.now).end (point_told is reading.now.meter.0 reading.now.register) → IfOk result (λ changes. AreDifferences (office_of basis.now.office.now) free is changes.rows) }
     ensures same { S.clean shelf.new → OnOk result ((S.state shelf.new).content ≡ (S.state shelf.old).content) }
     ensures tally { S.clean shelf.new → (starts : ℕ) → HasStarts (S.state shelf.old).content reading.now.meter.0 starts → (S.state shelf.new).tally ≤ (S.state shelf.old).tally + (5 + starts) }
     ensures kept { GoesOn S.state S.left S.clean S.same_store (failures_told result) shelf.old shelf.new }
 {
-    let starts = shelf.starts_of(alloc, reading.meter)?;
+    let starts = shelf.starts_of(basis.alloc, reading.meter)?;
     let below = shelf.point_before(reading.meter, reading.register, reading.instant)?;
     let above = shelf.point_after(reading.meter, reading.register, reading.instant)?;
     let direction = direction_of(reading.register);
-    let apart = listed(alloc, &below, &None, &above)?;
+    let apart = listed(basis.alloc, &below, &None, &above)?;
     let here = Some((reading.instant, reading.wh));
-    let joined = listed(alloc, &below, &here, &above)?;
-    let mut changes = Changes::new(alloc);
+    let joined = listed(basis.alloc, &below, &here, &above)?;
+    let mut changes = Changes::new(basis.alloc);
     let loses = Side::Loses;
-    add_points(
-        alloc,
-        office,
-        zone,
-        &starts,
-        direction,
-        &apart,
-        loses,
-        &mut changes,
-    )?;
+    add_points(basis, &starts, direction, &apart, loses, &mut changes)?;
     let gains = Side::Gains;
-    add_points(
-        alloc,
-        office,
-        zone,
-        &starts,
-        direction,
-        &joined,
-        gains,
-        &mut changes,
-    )?;
+    add_points(basis, &starts, direction, &joined, gains, &mut changes)?;
     Ok(changes)
 }
 
@@ -158,9 +135,7 @@ fn add_if_there(points: &mut Vec<Point>, point: &Option<Point>) -> Result<(), Al
 // Gathers what the neighbouring pairs of a short list of points give, of a register of the direction and a meter with
 // these starts: nothing where the starts don't rise, as only those of a store that isn't clean can.
 fn add_points(
-    alloc: Global,
-    office: &Office,
-    zone: &Zone,
+    basis: &Basis,
     starts: &[(Instant, Owner)],
     direction: Direction,
     points: &[Point],
@@ -169,7 +144,7 @@ fn add_points(
 ) -> Result<(), AllocError>
     requires short { length points.now ≤ 3 }
     requires none { (k : AnyTotal) → gathered side changes.old.rows k ≡ 0 }
-    ensures gathered { StartsIncrease starts.now → IsInOrder by_second points.now → OnOk result ((k : AnyTotal) → gathered side changes.new.rows k ≡ pairs_for office.now starts.now direction points.now k) }
+    ensures gathered { StartsIncrease starts.now → IsInOrder by_second points.now → OnOk result ((k : AnyTotal) → gathered side changes.new.rows k ≡ pairs_for basis.now.office.now starts.now direction points.now k) }
     ensures other { OnOk result ((k : AnyTotal) → gathered (other_side side) changes.new.rows k ≡ gathered (other_side side) changes.old.rows k) }
     ensures few { OnOk result ((k : AnyTotal) → gathered side changes.new.rows k < 2 ^ 127) }
 {
@@ -177,6 +152,13 @@ fn add_points(
         return Ok(());
     };
     add_pairs(
-        alloc, office, zone, &owners, direction, points, side, changes,
+        basis.alloc,
+        basis.office,
+        basis.zone,
+        &owners,
+        direction,
+        points,
+        side,
+        changes,
     )
 }

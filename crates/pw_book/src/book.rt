@@ -15,6 +15,7 @@ ghost use Rattle.pw_book.specs.lemmas.Kept.{AllOfOffice-prop, IsTrueContent-prop
 
 mod questions;
 
+use crate::basis::Basis;
 use crate::fault::PostFault;
 use crate::posting::post_to;
 use pw_line::{Line, ROOM, line_of, push_number};
@@ -157,14 +158,12 @@ impl<S: Shelf> Book<S> {
         if self.shut {
             return Err(PostFault::Reopen);
         }
-        let answer = post_to(
-            &mut self.shelf,
+        let basis = Basis {
             alloc,
-            &self.office,
-            &self.zone,
-            self.limit,
-            entries,
-        );
+            office: &self.office,
+            zone: &self.zone,
+        };
+        let answer = post_to(&mut self.shelf, &basis, self.limit, entries);
         self.shut = is_reopen(&answer);
         answer
     }

@@ -5,6 +5,7 @@ mod around;
 mod asked;
 mod assignments;
 mod balances;
+mod basis;
 mod book;
 mod disputes;
 mod distinct;

@@ -15,34 +15,31 @@ ghost use Rattle.pw_book.specs.inner.Fresh.{fresh_of};
 ghost use Rattle.pw_book.specs.declared.fault.PostFault.TheVariants.{Full, Reopen};
 
 use crate::asked::{count_held, is_held};
+use crate::basis::Basis;
 use crate::book::Accepted;
 use crate::distinct::distinct;
 use crate::fault::PostFault;
 use crate::upload::upload;
 use pw_model::Entry;
 use pw_shelf::{Shelf, ShelfFault};
-use pw_tariff::Office;
-use pw_time::Zone;
 use std::alloc::Global;
 
 // Adds the entries to a shelf in an upload of their own, unless there is no room.
 pub(crate) fn post_to<S: Shelf>(
     shelf: &mut S,
-    alloc: Global,
-    office: &Office,
-    zone: &Zone,
+    basis: &Basis,
     limit: u32,
     entries: &[Entry],
 ) -> Result<Accepted, PostFault>
     requires idle { IsNone (S.state shelf.old).begun }
     requires most { limit ≤ most_records }
-    requires sound { IsSound office.now }
-    requires of_office { AllOfOffice (office_of office.now) entries.now }
-    requires truth { S.clean shelf.old → IsTrueContent (office_of office.now) (S.state shelf.old).content }
-    requires held { S.clean shelf.old → AllOfOffice (office_of office.now) (S.state shelf.old).content.records }
-    ensures posted { S.clean shelf.new → IsPosted (office_of office.now) limit entries.now (S.state shelf.old).content (S.state shelf.new).content result }
-    ensures left { S.clean shelf.new → LeavesPosted (office_of office.now) limit entries.now (S.state shelf.old).content (S.state shelf.new).content (S.left shelf.old) (S.left shelf.new) result }
-    ensures cost { S.clean shelf.new → IsCheap (office_of office.now) entries.now (S.state shelf.old).content (S.state shelf.old).tally (S.state shelf.new).tally }
+    requires sound { IsSound basis.now.office.now }
+    requires of_office { AllOfOffice (office_of basis.now.office.now) entries.now }
+    requires truth { S.clean shelf.old → IsTrueContent (office_of basis.now.office.now) (S.state shelf.old).content }
+    requires held { S.clean shelf.old → AllOfOffice (office_of basis.now.office.now) (S.state shelf.old).content.records }
+    ensures posted { S.clean shelf.new → IsPosted (office_of basis.now.office.now) limit entries.now (S.state shelf.old).content (S.state shelf.new).content result }
+    ensures left { S.clean shelf.new → LeavesPosted (office_of basis.now.office.now) limit entries.now (S.state shelf.old).content (S.state shelf.new).content (S.left shelf.old) (S.left shelf.new) result }
+    ensures cost { S.clean shelf.new → IsCheap (office_of basis.now.office.now) entries.now (S.state shelf.old).content (S.state shelf.old).tally (S.state shelf.new).tally }
     ensures idle { (IsErrOf result Reopen → ⊥) → IsNone (S.state shelf.new).begun }
     ensures undone { (IsErrOf result Reopen → ⊥) → (S.state shelf.new).failed_abandons ≡ (S.state shelf.old).failed_abandons }
     ensures reopen { IsErrOf result Reopen → (S.state shelf.new).failed_abandons ≡ (S.state shelf.old).failed_abandons + 1 }
@@ -51,11 +48,11 @@ pub(crate) fn post_to<S: Shelf>(
     ensures cleanness { S.clean shelf.new → S.clean shelf.old }
     ensures store { S.same_store shelf.old shelf.new }
 {
-    let distinct = distinct(alloc, entries)?;
-    let (held, fresh) = weigh(shelf, alloc, &distinct)?;
+    let distinct = distinct(basis.alloc, entries)?;
+    let (held, fresh) = weigh(shelf, basis.alloc, &distinct)?;
     let repeated = distinct.len() - fresh.len();
     let accepted = admitted(held, fresh.len(), repeated, limit)?;
-    upload(shelf, alloc, office, zone, &fresh)?;
+    upload(shelf, basis, &fresh)?;
     Ok(accepted)
 }
 

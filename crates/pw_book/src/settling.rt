@@ -12,14 +12,14 @@ ghost use Rattle.pw_model.specs.Kinds.{IsReading};
 ghost use Rattle.pw_book.specs.Cost.{HasStarts, classes_of};
 
 use crate::around::{Counted, begin_to_count, cease_to_count};
+use crate::basis::Basis;
 use crate::moving::change_total;
 use crate::window::change_start;
 use pw_model::{Content, Contents, Key, TotalKey};
 use pw_obis::{Register, WattHours};
 use pw_shelf::{Shelf, ShelfFault};
-use pw_tariff::{AccountId, MeterId, Office, Owner};
-use pw_time::{Instant, Zone};
-use std::alloc::Global;
+use pw_tariff::{AccountId, MeterId, Owner};
+use pw_time::Instant;
 
 // What the reading shows that counts.
 fn counting_wh(contents: &Contents) -> Option<WattHours>
@@ -54,9 +54,7 @@ fn counting_payment(contents: &Contents) -> Option<(AccountId, u32)>
 // Keeps the point and the energies that follow where a reading begins or ceases to count.
 fn reading_changed<S: Shelf>(
     shelf: &mut S,
-    alloc: Global,
-    office: &Office,
-    zone: &Zone,
+    basis: &Basis,
     meter: MeterId,
     register: Register,
     instant: Instant,
@@ -64,13 +62,13 @@ fn reading_changed<S: Shelf>(
     behind: &Contents,
 ) -> Result<(), ShelfFault>
     requires begun { IsSome (S.state shelf.old).begun }
-    requires sound { IsSound office.now }
-    requires meter { meter.0 < length office.now.meters }
-    requires counts { counts_at office.now meter.0 register ≡ true }
-    ensures truth { S.clean shelf.new → (s : List AnEntry) → IsJustChanged (office_of office.now) s (key.Reading meter register instant) before.now behind.now (S.state shelf.old).content → OnOk result (IsTrueContent (office_of office.now) (S.state shelf.new).content) }
-    ensures records { S.clean shelf.new → (s : List AnEntry) → IsJustChanged (office_of office.now) s (key.Reading meter register instant) before.now behind.now (S.state shelf.old).content → OnOk result ((S.state shelf.new).content.records ≡ (S.state shelf.old).content.records) }
+    requires sound { IsSound basis.now.office.now }
+    requires meter { meter.0 < length basis.now.office.now.meters }
+    requires counts { counts_at basis.now.office.now meter.0 register ≡ true }
+    ensures truth { S.clean shelf.new → (s : List AnEntry) → IsJustChanged (office_of basis.now.office.now) s (key.Reading meter register instant) before.now behind.now (S.state shelf.old).content → OnOk result (IsTrueContent (office_of basis.now.office.now) (S.state shelf.new).content) }
+    ensures records { S.clean shelf.new → (s : List AnEntry) → IsJustChanged (office_of basis.now.office.now) s (key.Reading meter register instant) before.now behind.now (S.state shelf.old).content → OnOk result ((S.state shelf.new).content.records ≡ (S.state shelf.old).content.records) }
     ensures start { S.clean shelf.new → OnOk result ((S.state shelf.new).content.start ≡ (S.state shelf.old).content.start) }
-    ensures tally { S.clean shelf.new → (starts : ℕ) → HasStarts (S.state shelf.old).content meter.0 starts → (S.state shelf.new).tally ≤ (S.state shelf.old).tally + (6 + starts) + 6 * classes_of (office_of office.now) }
+    ensures tally { S.clean shelf.new → (starts : ℕ) → HasStarts (S.state shelf.old).content meter.0 starts → (S.state shelf.new).tally ≤ (S.state shelf.old).tally + (6 + starts) + 6 * classes_of (office_of basis.now.office.now) }
     ensures kept { GoesOn S.state S.left S.clean S.same_store (failures_told result) shelf.old shelf.new }
 {
     match (counting_wh(before), counting_wh(behind)) {
@@ -81,7 +79,7 @@ fn reading_changed<S: Shelf>(
                 instant,
                 wh,
             };
-            begin_to_count(shelf, alloc, office, zone, &reading)
+            begin_to_count(shelf, basis, &reading)
         }
         (Some(wh), None) => {
             let reading = Counted {
@@ -90,7 +88,7 @@ fn reading_changed<S: Shelf>(
                 instant,
                 wh,
             };
-            cease_to_count(shelf, alloc, office, zone, &reading)
+            cease_to_count(shelf, basis, &reading)
         }
         (None, None) | (Some(_), Some(_)) => Ok(()),
     }
@@ -99,28 +97,24 @@ fn reading_changed<S: Shelf>(
 // Keeps the start and the energies that follow where an assignment begins or ceases to count.
 fn assignment_changed<S: Shelf>(
     shelf: &mut S,
-    alloc: Global,
-    office: &Office,
-    zone: &Zone,
+    basis: &Basis,
     meter: MeterId,
     start: Instant,
     before: &Contents,
     behind: &Contents,
 ) -> Result<(), ShelfFault>
     requires begun { IsSome (S.state shelf.old).begun }
-    requires sound { IsSound office.now }
-    requires meter { meter.0 < length office.now.meters }
-    ensures truth { S.clean shelf.new → (s : List AnEntry) → IsJustChanged (office_of office.now) s (key.Assignment meter start) before.now behind.now (S.state shelf.old).content → OnOk result (IsTrueContent (office_of office.now) (S.state shelf.new).content) }
-    ensures records { S.clean shelf.new → (s : List AnEntry) → IsJustChanged (office_of office.now) s (key.Assignment meter start) before.now behind.now (S.state shelf.old).content → OnOk result ((S.state shelf.new).content.records ≡ (S.state shelf.old).content.records) }
+    requires sound { IsSound basis.now.office.now }
+    requires meter { meter.0 < length basis.now.office.now.meters }
+    ensures truth { S.clean shelf.new → (s : List AnEntry) → IsJustChanged (office_of basis.now.office.now) s (key.Assignment meter start) before.now behind.now (S.state shelf.old).content → OnOk result (IsTrueContent (office_of basis.now.office.now) (S.state shelf.new).content) }
+    ensures records { S.clean shelf.new → (s : List AnEntry) → IsJustChanged (office_of basis.now.office.now) s (key.Assignment meter start) before.now behind.now (S.state shelf.old).content → OnOk result ((S.state shelf.new).content.records ≡ (S.state shelf.old).content.records) }
     ensures alone { S.clean shelf.new → OnOk result (ChangesOneStart (key.Assignment meter start) (S.state shelf.old).content (S.state shelf.new).content) }
-    ensures tally { S.clean shelf.new → TakesAtMost 0 (office_of office.now) (S.state shelf.old).content (key.Assignment meter start) (S.state shelf.old).tally (S.state shelf.new).tally }
+    ensures tally { S.clean shelf.new → TakesAtMost 0 (office_of basis.now.office.now) (S.state shelf.old).content (key.Assignment meter start) (S.state shelf.old).tally (S.state shelf.new).tally }
     ensures kept { GoesOn S.state S.left S.clean S.same_store (failures_told result) shelf.old shelf.new }
 {
     match (counting_owner(before), counting_owner(behind)) {
-        (None, Some(owner)) => {
-            change_start(shelf, alloc, office, zone, meter, start, Some(owner))
-        }
-        (Some(_), None) => change_start(shelf, alloc, office, zone, meter, start, None),
+        (None, Some(owner)) => { change_start(shelf, basis, meter, start, Some(owner)) }
+        (Some(_), None) => change_start(shelf, basis, meter, start, None),
         (None, None) | (Some(_), Some(_)) => Ok(()),
     }
 }
@@ -153,21 +147,19 @@ fn top_up_changed<S: Shelf>(
 // told there behind: elsewhere the same counts.
 pub(crate) fn settle<S: Shelf>(
     shelf: &mut S,
-    alloc: Global,
-    office: &Office,
-    zone: &Zone,
+    basis: &Basis,
     key: &Key,
     before: &Contents,
     behind: &Contents,
 ) -> Result<(), ShelfFault>
     requires begun { IsSome (S.state shelf.old).begun }
-    requires sound { IsSound office.now }
-    requires of_office { IsKeyOf (office_of office.now) key.now }
-    ensures truth { S.clean shelf.new → (s : List AnEntry) → IsJustChanged (office_of office.now) s key.now before.now behind.now (S.state shelf.old).content → OnOk result (IsTrueContent (office_of office.now) (S.state shelf.new).content) }
-    ensures records { S.clean shelf.new → (s : List AnEntry) → IsJustChanged (office_of office.now) s key.now before.now behind.now (S.state shelf.old).content → OnOk result ((S.state shelf.new).content.records ≡ (S.state shelf.old).content.records) }
+    requires sound { IsSound basis.now.office.now }
+    requires of_office { IsKeyOf (office_of basis.now.office.now) key.now }
+    ensures truth { S.clean shelf.new → (s : List AnEntry) → IsJustChanged (office_of basis.now.office.now) s key.now before.now behind.now (S.state shelf.old).content → OnOk result (IsTrueContent (office_of basis.now.office.now) (S.state shelf.new).content) }
+    ensures records { S.clean shelf.new → (s : List AnEntry) → IsJustChanged (office_of basis.now.office.now) s key.now before.now behind.now (S.state shelf.old).content → OnOk result ((S.state shelf.new).content.records ≡ (S.state shelf.old).content.records) }
     ensures start { S.clean shelf.new → IsReading key.now → OnOk result ((S.state shelf.new).content.start ≡ (S.state shelf.old).content.start) }
     ensures alone { S.clean shelf.new → OnOk result (ChangesOneStart key.now (S.state shelf.old).content (S.state shelf.new).content) }
-    ensures tally { S.clean shelf.new → TakesAtMost 0 (office_of office.now) (S.state shelf.old).content key.now (S.state shelf.old).tally (S.state shelf.new).tally }
+    ensures tally { S.clean shelf.new → TakesAtMost 0 (office_of basis.now.office.now) (S.state shelf.old).content key.now (S.state shelf.old).tally (S.state shelf.new).tally }
     ensures kept { GoesOn S.state S.left S.clean S.same_store (failures_told result) shelf.old shelf.new }
 {
     match key {
@@ -175,11 +167,9 @@ pub(crate) fn settle<S: Shelf>(
             meter,
             register,
             instant,
-        } => reading_changed(
-            shelf, alloc, office, zone, *meter, *register, *instant, before, behind,
-        ),
+        } => reading_changed(shelf, basis, *meter, *register, *instant, before, behind),
         Key::Assignment { meter, start } => {
-            assignment_changed(shelf, alloc, office, zone, *meter, *start, before, behind)
+            assignment_changed(shelf, basis, *meter, *start, before, behind)
         }
         Key::TopUp { .. } => top_up_changed(shelf, before, behind),
     }

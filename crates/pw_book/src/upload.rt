@@ -16,30 +16,26 @@ ghost use Rattle.pw_book.specs.inner.Fresh.{AreFresh};
 ghost use Rattle.pw_book.specs.inner.Failures.{FailuresUploaded};
 ghost use Rattle.pw_book.specs.declared.fault.BookFault.TheVariants.{Reopen};
 
+use crate::basis::Basis;
 use crate::fault::BookFault;
 use crate::settling::settle;
 use pw_model::{Entry, Key};
 use pw_shelf::{Shelf, ShelfFault};
-use pw_tariff::Office;
-use pw_time::Zone;
-use std::alloc::Global;
 
 // Adds entries that aren't held in an upload of their own, and keeps points, starts and totals true.
 pub(crate) fn upload<S: Shelf>(
     shelf: &mut S,
-    alloc: Global,
-    office: &Office,
-    zone: &Zone,
+    basis: &Basis,
     entries: &[Entry],
 ) -> Result<(), BookFault>
     requires idle { IsNone (S.state shelf.old).begun }
-    requires sound { IsSound office.now }
-    requires of_office { AllOfOffice (office_of office.now) entries.now }
+    requires sound { IsSound basis.now.office.now }
+    requires of_office { AllOfOffice (office_of basis.now.office.now) entries.now }
     requires fresh { S.clean shelf.old → AreFresh (S.state shelf.old).content.records entries.now }
     requires room { S.clean shelf.old → record_count ((S.state shelf.old).content.records ++ entries.now) ≤ most_records }
-    requires truth { S.clean shelf.old → IsTrueContent (office_of office.now) (S.state shelf.old).content }
-    requires held { S.clean shelf.old → AllOfOffice (office_of office.now) (S.state shelf.old).content.records }
-    ensures posted { S.clean shelf.new → OnOk result (IsWithUpload (office_of office.now) entries.now (S.state shelf.old).content (S.state shelf.new).content) }
+    requires truth { S.clean shelf.old → IsTrueContent (office_of basis.now.office.now) (S.state shelf.old).content }
+    requires held { S.clean shelf.old → AllOfOffice (office_of basis.now.office.now) (S.state shelf.old).content.records }
+    ensures posted { S.clean shelf.new → OnOk result (IsWithUpload (office_of basis.now.office.now) entries.now (S.state shelf.old).content (S.state shelf.new).content) }
     ensures back { S.clean shelf.new → OnErr result ((IsErrOf result Reopen → ⊥) → (S.state shelf.new).content ≡ (S.state shelf.old).content) }
     ensures idle { (IsErrOf result Reopen → ⊥) → IsNone (S.state shelf.new).begun }
     ensures undone { (IsErrOf result Reopen → ⊥) → (S.state shelf.new).failed_abandons ≡ (S.state shelf.old).failed_abandons }
@@ -47,15 +43,15 @@ pub(crate) fn upload<S: Shelf>(
     ensures begun { IsErrOf result Reopen → (S.state shelf.new).begun ≡ Some (S.state shelf.old).content }
     ensures failures { FailuresUploaded result (S.state shelf.old).failures (S.state shelf.new).failures }
     ensures kept { S.clean shelf.new → OnOk result (LeavesOnly (S.state shelf.new).content (S.left shelf.new)) }
-    ensures left { S.clean shelf.new → OnErr result (LeavesWithUpload (office_of office.now) entries.now (S.state shelf.old).content (S.left shelf.old) (S.left shelf.new)) }
-    ensures tally { S.clean shelf.new → CostsAtMost 3 (office_of office.now) entries.now (S.state shelf.old).content (S.state shelf.old).tally (S.state shelf.new).tally }
+    ensures left { S.clean shelf.new → OnErr result (LeavesWithUpload (office_of basis.now.office.now) entries.now (S.state shelf.old).content (S.left shelf.old) (S.left shelf.new)) }
+    ensures tally { S.clean shelf.new → CostsAtMost 3 (office_of basis.now.office.now) entries.now (S.state shelf.old).content (S.state shelf.old).tally (S.state shelf.new).tally }
     ensures cleanness { S.clean shelf.new → S.clean shelf.old }
     ensures store { S.same_store shelf.old shelf.new }
 {
     if let Err(fault) = shelf.begin() {
         return Err(BookFault::from(fault));
     }
-    match write(shelf, alloc, office, zone, entries) {
+    match write(shelf, basis, entries) {
         Ok(()) => Ok(()),
         Err(fault) => match shelf.abandon() {
             Ok(()) => Err(BookFault::from(fault)),
@@ -65,60 +61,48 @@ pub(crate) fn upload<S: Shelf>(
 }
 
 // Adds entries that aren't held to the upload that is begun, and commits.
-fn write<S: Shelf>(
-    shelf: &mut S,
-    alloc: Global,
-    office: &Office,
-    zone: &Zone,
-    entries: &[Entry],
-) -> Result<(), ShelfFault>
+fn write<S: Shelf>(shelf: &mut S, basis: &Basis, entries: &[Entry]) -> Result<(), ShelfFault>
     requires begun { IsSome (S.state shelf.old).begun }
-    requires sound { IsSound office.now }
-    requires of_office { AllOfOffice (office_of office.now) entries.now }
+    requires sound { IsSound basis.now.office.now }
+    requires of_office { AllOfOffice (office_of basis.now.office.now) entries.now }
     requires fresh { S.clean shelf.old → AreFresh (S.state shelf.old).content.records entries.now }
     requires room { S.clean shelf.old → record_count ((S.state shelf.old).content.records ++ entries.now) ≤ most_records }
-    requires truth { S.clean shelf.old → IsTrueContent (office_of office.now) (S.state shelf.old).content }
-    requires held { S.clean shelf.old → AllOfOffice (office_of office.now) (S.state shelf.old).content.records }
-    ensures posted { S.clean shelf.new → OnOk result (IsWithUpload (office_of office.now) entries.now (S.state shelf.old).content (S.state shelf.new).content) }
+    requires truth { S.clean shelf.old → IsTrueContent (office_of basis.now.office.now) (S.state shelf.old).content }
+    requires held { S.clean shelf.old → AllOfOffice (office_of basis.now.office.now) (S.state shelf.old).content.records }
+    ensures posted { S.clean shelf.new → OnOk result (IsWithUpload (office_of basis.now.office.now) entries.now (S.state shelf.old).content (S.state shelf.new).content) }
     ensures ended { OnOk result ((S.state shelf.new).begun ≡ None) }
     ensures begun { OnErr result ((S.state shelf.new).begun ≡ (S.state shelf.old).begun) }
     ensures counts { CountsFailures (failures_told result) (S.state shelf.old) (S.state shelf.new) }
     ensures kept { S.clean shelf.new → OnOk result (LeavesOnly (S.state shelf.new).content (S.left shelf.new)) }
-    ensures left { S.clean shelf.new → OnErr result (LeavesWithUpload (office_of office.now) entries.now (S.state shelf.old).content (S.left shelf.old) (S.left shelf.new)) }
-    ensures tally { S.clean shelf.new → CostsAtMost 1 (office_of office.now) entries.now (S.state shelf.old).content (S.state shelf.old).tally (S.state shelf.new).tally }
+    ensures left { S.clean shelf.new → OnErr result (LeavesWithUpload (office_of basis.now.office.now) entries.now (S.state shelf.old).content (S.left shelf.old) (S.left shelf.new)) }
+    ensures tally { S.clean shelf.new → CostsAtMost 1 (office_of basis.now.office.now) entries.now (S.state shelf.old).content (S.state shelf.old).tally (S.state shelf.new).tally }
     ensures cleanness { S.clean shelf.new → S.clean shelf.old }
     ensures store { S.same_store shelf.old shelf.new }
 {
     for entry in entries {
-        put(shelf, alloc, office, zone, entry)?;
+        put(shelf, basis, entry)?;
     }
     shelf.commit()
 }
 
 // Adds an entry that isn't held to the upload that is begun, with all that follows.
-fn put<S: Shelf>(
-    shelf: &mut S,
-    alloc: Global,
-    office: &Office,
-    zone: &Zone,
-    entry: &Entry,
-) -> Result<(), ShelfFault>
+fn put<S: Shelf>(shelf: &mut S, basis: &Basis, entry: &Entry) -> Result<(), ShelfFault>
     requires begun { IsSome (S.state shelf.old).begun }
-    requires sound { IsSound office.now }
-    requires of_office { IsOfOffice (office_of office.now) entry.now }
+    requires sound { IsSound basis.now.office.now }
+    requires of_office { IsOfOffice (office_of basis.now.office.now) entry.now }
     requires fresh { S.clean shelf.old → Member entry.now (S.state shelf.old).content.records → ⊥ }
     requires room { S.clean shelf.old → length (S.state shelf.old).content.records < most_records }
-    ensures put { S.clean shelf.new → IsTrueContent (office_of office.now) (S.state shelf.old).content → AllOfOffice (office_of office.now) (S.state shelf.old).content.records → OnOk result (IsPut (office_of office.now) (entry.now ∷ []) (S.state shelf.old).content (S.state shelf.new).content) }
+    ensures put { S.clean shelf.new → IsTrueContent (office_of basis.now.office.now) (S.state shelf.old).content → AllOfOffice (office_of basis.now.office.now) (S.state shelf.old).content.records → OnOk result (IsPut (office_of basis.now.office.now) (entry.now ∷ []) (S.state shelf.old).content (S.state shelf.new).content) }
     ensures start { S.clean shelf.new → IsReading entry.now.key → OnOk result ((S.state shelf.new).content.start ≡ (S.state shelf.old).content.start) }
     ensures alone { S.clean shelf.new → OnOk result (ChangesOneStart entry.now.key (S.state shelf.old).content (S.state shelf.new).content) }
-    ensures tally { S.clean shelf.new → TakesAtMost 7 (office_of office.now) (S.state shelf.old).content entry.now.key (S.state shelf.old).tally (S.state shelf.new).tally }
+    ensures tally { S.clean shelf.new → TakesAtMost 7 (office_of basis.now.office.now) (S.state shelf.old).content entry.now.key (S.state shelf.old).tally (S.state shelf.new).tally }
     ensures kept { GoesOn S.state S.left S.clean S.same_store (failures_told result) shelf.old shelf.new }
 {
     let key = bears_on(entry);
     let before = shelf.contents_at(&key)?;
     shelf.add(entry)?;
     let behind = shelf.contents_at(&key)?;
-    settle(shelf, alloc, office, zone, &key, &before, &behind)
+    settle(shelf, basis, &key, &before, &behind)
 }
 
 // The key at which an entry changes what counts: its own.

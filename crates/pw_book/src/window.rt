@@ -19,14 +19,15 @@ ghost use Rattle.pw_book.specs.inner.Settling.{EndsBefore, EndsBeforeNext, HaveP
 ghost use Rattle.pw_parts.specs.Changes.{gathered};
 ghost use Rattle.pw_book.specs.inner.Sums.{AreDifferences, point_listed};
 
+use crate::basis::Basis;
 use crate::moving::move_energies;
 use crate::starts::{owners_of, until_next, with_start};
 use pw_model::direction_of;
 use pw_obis::Register;
 use pw_parts::{Changes, Point, Side, add_pairs};
 use pw_shelf::{Shelf, ShelfFault};
-use pw_tariff::{Direction, MeterId, Office, Owner, Owners};
-use pw_time::{Instant, Zone};
+use pw_tariff::{Direction, MeterId, Owner, Owners};
+use pw_time::Instant;
 use std::alloc::{AllocError, Global};
 
 // The time that a start of a meter decides on: from it up to the last instant before the next. And the meter's owners
@@ -44,23 +45,21 @@ struct Window<'a> {
 // overlap the time from it up to the next start.
 pub(crate) fn change_start<S: Shelf>(
     shelf: &mut S,
-    alloc: Global,
-    office: &Office,
-    zone: &Zone,
+    basis: &Basis,
     meter: MeterId,
     start: Instant,
     owner: Option<Owner>,
 ) -> Result<(), ShelfFault>
     requires begun { IsSome (S.state shelf.old).begun }
-    requires meter { meter.0 < length office.now.meters }
-    ensures settled { S.clean shelf.new → (was is : AnyKey → AnyContents) → (S.state shelf.old).content.point ≡ point_told was → (S.state shelf.old).content.start ≡ start_told was → IsOtherStart was is meter.0 start → start_told is meter.0 start ≡ owner → ((r : AnyRegister) → EndsBefore (office_of office.now).end (point_told was meter.0 r)) → OnOk result (IsSettled (office_of office.now) was is (S.state shelf.old).content (S.state shelf.new).content) }
+    requires meter { meter.0 < length basis.now.office.now.meters }
+    ensures settled { S.clean shelf.new → (was is : AnyKey → AnyContents) → (S.state shelf.old).content.point ≡ point_told was → (S.state shelf.old).content.start ≡ start_told was → IsOtherStart was is meter.0 start → start_told is meter.0 start ≡ owner → ((r : AnyRegister) → EndsBefore (office_of basis.now.office.now).end (point_told was meter.0 r)) → OnOk result (IsSettled (office_of basis.now.office.now) was is (S.state shelf.old).content (S.state shelf.new).content) }
     ensures point { S.clean shelf.new → OnOk result ((S.state shelf.new).content.point ≡ (S.state shelf.old).content.point) }
     ensures start { S.clean shelf.new → OnOk result ((S.state shelf.new).content.start ≡ starts_with (S.state shelf.old).content.start meter.0 start owner) }
-    ensures tally { S.clean shelf.new → (starts : ℕ) (points : AnyRegister → ℕ) → HasStarts (S.state shelf.old).content meter.0 starts → HavePoints (S.state shelf.old).content meter.0 start points → (S.state shelf.new).tally ≤ (S.state shelf.old).tally + (32 + starts) + (over_registers Import points + over_registers Export points) + 6 * classes_of (office_of office.now) }
+    ensures tally { S.clean shelf.new → (starts : ℕ) (points : AnyRegister → ℕ) → HasStarts (S.state shelf.old).content meter.0 starts → HavePoints (S.state shelf.old).content meter.0 start points → (S.state shelf.new).tally ≤ (S.state shelf.old).tally + (32 + starts) + (over_registers Import points + over_registers Export points) + 6 * classes_of (office_of basis.now.office.now) }
     ensures kept { GoesOn S.state S.left S.clean S.same_store (failures_told result) shelf.old shelf.new }
 {
-    let old = shelf.starts_of(alloc, meter)?;
-    let new = with_start(alloc, &old, start, owner)?;
+    let old = shelf.starts_of(basis.alloc, meter)?;
+    let new = with_start(basis.alloc, &old, start, owner)?;
     let window = Window {
         meter,
         from: start,
@@ -68,8 +67,8 @@ pub(crate) fn change_start<S: Shelf>(
         before: owners_of(&old),
         after: owners_of(&new),
     };
-    let changes = weigh_window(shelf, alloc, office, zone, &window)?;
-    move_energies(shelf, office, &changes, Side::Loses)?;
+    let changes = weigh_window(shelf, basis, &window)?;
+    move_energies(shelf, basis.office, &changes, Side::Loses)?;
     keep_start(shelf, meter, start, owner)
 }
 
@@ -94,22 +93,20 @@ fn keep_start<S: Shelf>(
 // What each total loses and gains by the pairs that overlap a window: what they gave, and what they give.
 fn weigh_window<S: Shelf>(
     shelf: &mut S,
-    alloc: Global,
-    office: &Office,
-    zone: &Zone,
+    basis: &Basis,
     window: &Window,
 ) -> Result<Changes, ShelfFault>
     requires begun { IsSome (S.state shelf.old).begun }
-    requires meter { window.now.meter.0 < length office.now.meters }
+    requires meter { window.now.meter.0 < length basis.now.office.now.meters }
     ensures few { IfOk result (λ changes. (side : ASide) (k : AnyTotal) → gathered side changes.rows k < 2 ^ 127) }
-    ensures moved { S.clean shelf.new → (was is : AnyKey → AnyContents) → IsStartChanged (S.state shelf.old).content was is window.now.meter.0 window.now.from window.now.until window.now.before window.now.after → IfOk result (λ changes. AreDifferences (office_of office.now) was is changes.rows) }
+    ensures moved { S.clean shelf.new → (was is : AnyKey → AnyContents) → IsStartChanged (S.state shelf.old).content was is window.now.meter.0 window.now.from window.now.until window.now.before window.now.after → IfOk result (λ changes. AreDifferences (office_of basis.now.office.now) was is changes.rows) }
     ensures same { S.clean shelf.new → OnOk result ((S.state shelf.new).content ≡ (S.state shelf.old).content) }
     ensures tally { S.clean shelf.new → (points : AnyRegister → ℕ) → EndsBeforeNext ((S.state shelf.old).content.start window.now.meter.0) window.now.from window.now.until → HavePoints (S.state shelf.old).content window.now.meter.0 window.now.from points → (S.state shelf.new).tally ≤ (S.state shelf.old).tally + 30 + (over_registers Import points + over_registers Export points) }
     ensures kept { GoesOn S.state S.left S.clean S.same_store (failures_told result) shelf.old shelf.new }
 {
-    let mut changes = Changes::new(alloc);
+    let mut changes = Changes::new(basis.alloc);
     for register in &Register::ALL {
-        add_register(shelf, alloc, office, zone, window, *register, &mut changes)?;
+        add_register(shelf, basis, window, *register, &mut changes)?;
     }
     Ok(changes)
 }
@@ -118,34 +115,38 @@ fn weigh_window<S: Shelf>(
 // doesn't count.
 fn add_register<S: Shelf>(
     shelf: &mut S,
-    alloc: Global,
-    office: &Office,
-    zone: &Zone,
+    basis: &Basis,
     window: &Window,
     register: Register,
     changes: &mut Changes,
 ) -> Result<(), ShelfFault>
     requires begun { IsSome (S.state shelf.old).begun }
-    requires meter { window.now.meter.0 < length office.now.meters }
+    requires meter { window.now.meter.0 < length basis.now.office.now.meters }
     requires few { (side : ASide) (k : AnyTotal) → gathered side changes.old.rows k < 2 ^ 120 }
     ensures few { OnOk result ((side : ASide) (k : AnyTotal) → gathered side changes.new.rows k ≤ gathered side changes.old.rows k + 2 ^ 110) }
-    ensures moved { S.clean shelf.new → (was is : AnyKey → AnyContents) → IsStartChanged (S.state shelf.old).content was is window.now.meter.0 window.now.from window.now.until window.now.before window.now.after → OnOk result ((k : AnyTotal) → gathered Gains changes.new.rows k + gathered Loses changes.old.rows k + register_told (office_of office.now) was window.now.meter.0 k register ≡ gathered Loses changes.new.rows k + gathered Gains changes.old.rows k + register_told (office_of office.now) is window.now.meter.0 k register) }
+    ensures moved { S.clean shelf.new → (was is : AnyKey → AnyContents) → IsStartChanged (S.state shelf.old).content was is window.now.meter.0 window.now.from window.now.until window.now.before window.now.after → OnOk result ((k : AnyTotal) → gathered Gains changes.new.rows k + gathered Loses changes.old.rows k + register_told (office_of basis.now.office.now) was window.now.meter.0 k register ≡ gathered Loses changes.new.rows k + gathered Gains changes.old.rows k + register_told (office_of basis.now.office.now) is window.now.meter.0 k register) }
     ensures same { S.clean shelf.new → OnOk result ((S.state shelf.new).content ≡ (S.state shelf.old).content) }
     ensures tally { S.clean shelf.new → (most : ℕ) → EndsBeforeNext ((S.state shelf.old).content.start window.now.meter.0) window.now.from window.now.until → ((points : List (ℕ × ℕ)) → ListsUpToNextStart (S.state shelf.old).content window.now.meter.0 register window.now.from points → length points ≤ most) → (S.state shelf.new).tally ≤ (S.state shelf.old).tally + 5 + most }
     ensures kept { GoesOn S.state S.left S.clean S.same_store (failures_told result) shelf.old shelf.new }
 {
-    if !office.counts(window.meter, register) {
+    if !basis.office.counts(window.meter, register) {
         return Ok(());
     }
     let before = shelf.point_before(window.meter, register, window.from)?;
     let after = shelf.point_after(window.meter, register, window.until)?;
-    let within = shelf.points_between(alloc, window.meter, register, window.from, window.until)?;
-    let points = joined(alloc, before, &within, after)?;
+    let within = shelf.points_between(
+        basis.alloc,
+        window.meter,
+        register,
+        window.from,
+        window.until,
+    )?;
+    let points = joined(basis.alloc, before, &within, after)?;
     let direction = direction_of(register);
     add_pairs(
-        alloc,
-        office,
-        zone,
+        basis.alloc,
+        basis.office,
+        basis.zone,
         &window.before,
         direction,
         &points,
@@ -153,9 +154,9 @@ fn add_register<S: Shelf>(
         changes,
     )?;
     add_pairs(
-        alloc,
-        office,
-        zone,
+        basis.alloc,
+        basis.office,
+        basis.zone,
         &window.after,
         direction,
         &points,

@@ -12,5 +12,5 @@ returns-clause-settled g c = λ k was is points starts more ends.
     let reading = c.args.reading.now in
     let differ = c.in_ok-changes.ensures.around first was is (λ u n. ap (λ p. p reading.meter.0 reading.register u) points) (ap (λ p. p reading.meter.0) starts) more ends in
     on_ok_weaker c.point_put.result (λ put.
-    settled-by (office_of c.args.office.now) was is _ _ _ _ _ _ (c.in_ok-changes.ensures.same first) differ (c.in_ok-move_energies.ensures.moved second)
+    settled-by (office_of c.args.basis.now.office.now) was is _ _ _ _ _ _ (c.in_ok-changes.ensures.same first) differ (c.in_ok-move_energies.ensures.moved second)
     (ap (λ (d : ShelfContent). d.records) put) (λ t. ap (λ (d : ShelfContent). d.total t) put)) (c.point_put.ensures.put k)

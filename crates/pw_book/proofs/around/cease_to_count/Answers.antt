@@ -14,5 +14,5 @@ returns-clause-settled g c = λ k was is points starts more ends.
     let differ = c.in_ok-changes.ensures.around first is was (λ u n. ap (λ p. p reading.meter.0 reading.register u) points ∙ others-agree is was reading.meter.0 reading.register reading.instant reading.wh more u n)
     (ap (λ p. p reading.meter.0) starts ∙ starts-agree is was reading.meter.0 reading.register reading.instant reading.wh more) more ends in
     on_ok_weaker c.point_del.result (λ deleted.
-    settled-by (office_of c.args.office.now) was is _ _ _ _ _ _ (c.in_ok-changes.ensures.same first) (differ-back (office_of c.args.office.now) is was _ _ differ) (c.in_ok-move_energies.ensures.moved second)
+    settled-by (office_of c.args.basis.now.office.now) was is _ _ _ _ _ _ (c.in_ok-changes.ensures.same first) (differ-back (office_of c.args.basis.now.office.now) is was _ _ differ) (c.in_ok-move_energies.ensures.moved second)
     (ap (λ (d : ShelfContent). d.records) deleted) (λ t. ap (λ (d : ShelfContent). d.total t) deleted)) (c.point_del.ensures.deleted k)

@@ -9,15 +9,15 @@ use Rattle.pw_book.proofs.posting.post_to.Goals as goal
 
 pub returns-in_err-held-clause-cost : goal.returns-in_err-held-clause-cost
 returns-in_err-held-clause-cost g c = λ k.
-    cheap-so-far (office_of c.args.office.now) c.args.entries.now c.in_ok-distinct.distinct.items _ _ _ c.in_ok-distinct.ensures.once c.in_ok-distinct.ensures.members (lent-tally _ _ c.deref.ensures.value c.weigh.ensures.tally)
+    cheap-so-far (office_of c.args.basis.now.office.now) c.args.entries.now c.in_ok-distinct.distinct.items _ _ _ c.in_ok-distinct.ensures.once c.in_ok-distinct.ensures.members (lent-tally _ _ c.deref.ensures.value c.weigh.ensures.tally)
 
 pub returns-in_err-accepted-clause-cost : goal.returns-in_err-accepted-clause-cost
 returns-in_err-accepted-clause-cost g c = λ k.
-    cheap-so-far (office_of c.args.office.now) c.args.entries.now c.in_ok-distinct.distinct.items _ _ _ c.in_ok-distinct.ensures.once c.in_ok-distinct.ensures.members (lent-tally _ _ c.deref.ensures.value c.weigh.ensures.tally)
+    cheap-so-far (office_of c.args.basis.now.office.now) c.args.entries.now c.in_ok-distinct.distinct.items _ _ _ c.in_ok-distinct.ensures.once c.in_ok-distinct.ensures.members (lent-tally _ _ c.deref.ensures.value c.weigh.ensures.tally)
 
 pub returns-in_err-accepted-clause-posted : goal.returns-in_err-accepted-clause-posted
 returns-in_err-accepted-clause-posted g c = λ k.
-    let office = office_of c.args.office.now in
+    let office = office_of c.args.basis.now.office.now in
     let before = c.weigh.ensures.asked.kept.clean k in
     let old = (g.S.Shelf.state c.args.shelf.now).content in
     let p = err_from_is_err_and c.from_residual-in_err-accepted.result c.from_residual-in_err-accepted.ensures.1 in
@@ -36,18 +36,18 @@ upload-requires-clause-fresh g c = λ k.
     let before = c.weigh.ensures.asked.kept.clean k in
     let old = (g.S.Shelf.state c.args.shelf.now).content in
     let w = weighed-lent old.records c.args.entries.now c.in_ok-distinct.distinct.items c.deref.result.now c.in_ok-held.fresh.items c.deref-2.result.now c.in_ok-held.held (g.met.S.Shelf.once c.args.shelf.now before) c.in_ok-distinct.ensures.once c.in_ok-distinct.ensures.members (c.in_ok-held.ensures.held k) c.deref.ensures.value (c.in_ok-held.ensures.fresh k) c.deref-2.ensures.value in
-    written (office_of c.args.office.now) c.args.entries.now c.in_ok-distinct.distinct.items c.deref-2.result.now old c.in_ok-held.held c.args.limit w _ (c.weigh.ensures.asked.content k)
+    written (office_of c.args.basis.now.office.now) c.args.entries.now c.in_ok-distinct.distinct.items c.deref-2.result.now old c.in_ok-held.held c.args.limit w _ (c.weigh.ensures.asked.content k)
 
 pub upload-requires-clause-room : goal.upload-requires-clause-room
 upload-requires-clause-room g c = λ k.
     let before = c.weigh.ensures.asked.kept.clean k in
     let old = (g.S.Shelf.state c.args.shelf.now).content in
     let w = weighed-lent old.records c.args.entries.now c.in_ok-distinct.distinct.items c.deref.result.now c.in_ok-held.fresh.items c.deref-2.result.now c.in_ok-held.held (g.met.S.Shelf.once c.args.shelf.now before) c.in_ok-distinct.ensures.once c.in_ok-distinct.ensures.members (c.in_ok-held.ensures.held k) c.deref.ensures.value (c.in_ok-held.ensures.fresh k) c.deref-2.ensures.value in
-    fits (office_of c.args.office.now) c.args.entries.now c.in_ok-distinct.distinct.items c.deref-2.result.now old c.in_ok-held.held c.args.limit w _ _ (c.len-3.ensures ∙ sym c.deref-2.ensures.len) c.in_ok-accepted.ensures.0 c.requires.most (c.weigh.ensures.asked.content k)
+    fits (office_of c.args.basis.now.office.now) c.args.entries.now c.in_ok-distinct.distinct.items c.deref-2.result.now old c.in_ok-held.held c.args.limit w _ _ (c.len-3.ensures ∙ sym c.deref-2.ensures.len) c.in_ok-accepted.ensures.0 c.requires.most (c.weigh.ensures.asked.content k)
 
 pub returns-in_err-upload-clause-left : goal.returns-in_err-upload-clause-left
 returns-in_err-upload-clause-left g c = λ k.
-    let office = office_of c.args.office.now in
+    let office = office_of c.args.basis.now.office.now in
     let p = err_from_is_err_and c.from_residual-in_err-upload.result c.from_residual-in_err-upload.ensures.1 in
     let middle = c.upload.ensures.cleanness k in
     let before = c.weigh.ensures.asked.kept.clean middle in
@@ -59,7 +59,7 @@ returns-in_err-upload-clause-left g c = λ k.
 
 pub returns-clause-posted : goal.returns-clause-posted
 returns-clause-posted g c = λ k.
-    let office = office_of c.args.office.now in
+    let office = office_of c.args.basis.now.office.now in
     let middle = c.upload.ensures.cleanness k in
     let before = c.weigh.ensures.asked.kept.clean middle in
     let old = (g.S.Shelf.state c.args.shelf.now).content in
@@ -72,12 +72,12 @@ returns-clause-posted g c = λ k.
 
 pub returns-in_err-upload-clause-cost : goal.returns-in_err-upload-clause-cost
 returns-in_err-upload-clause-cost g c = λ k.
-    cheap-whole (office_of c.args.office.now) c.args.entries.now c.in_ok-distinct.distinct.items c.deref-2.result.now (g.S.Shelf.state c.args.shelf.now).content _ _ _ _
+    cheap-whole (office_of c.args.basis.now.office.now) c.args.entries.now c.in_ok-distinct.distinct.items c.deref-2.result.now (g.S.Shelf.state c.args.shelf.now).content _ _ _ _
     (fresh-lent c.deref.ensures.value c.deref-2.ensures.value c.in_ok-distinct.ensures.once c.in_ok-distinct.ensures.members c.in_ok-held.ensures.few c.in_ok-held.ensures.part)
     (c.weigh.ensures.asked.content (c.upload.ensures.cleanness k)) (lent-tally _ _ c.deref.ensures.value c.weigh.ensures.tally) (c.upload.ensures.tally k)
 
 pub returns-clause-cost : goal.returns-clause-cost
 returns-clause-cost g c = λ k.
-    cheap-whole (office_of c.args.office.now) c.args.entries.now c.in_ok-distinct.distinct.items c.deref-2.result.now (g.S.Shelf.state c.args.shelf.now).content _ _ _ _
+    cheap-whole (office_of c.args.basis.now.office.now) c.args.entries.now c.in_ok-distinct.distinct.items c.deref-2.result.now (g.S.Shelf.state c.args.shelf.now).content _ _ _ _
     (fresh-lent c.deref.ensures.value c.deref-2.ensures.value c.in_ok-distinct.ensures.once c.in_ok-distinct.ensures.members c.in_ok-held.ensures.few c.in_ok-held.ensures.part)
     (c.weigh.ensures.asked.content (c.upload.ensures.cleanness k)) (lent-tally _ _ c.deref.ensures.value c.weigh.ensures.tally) (c.upload.ensures.tally k)

@@ -9,27 +9,27 @@ use Rattle.pw_book.proofs.settling.settle.Goals as goal
 
 pub returns-in-Reading-clause-truth : goal.returns-in-Reading-clause-truth
 returns-in-Reading-clause-truth g c = λ k s j.
-    let J : Key → Type 0 = λ l. IsJustChanged (office_of c.args.office.now) s l c.args.before.now c.args.behind.now (g.S.Shelf.state c.args.shelf.now).content in
+    let J : Key → Type 0 = λ l. IsJustChanged (office_of c.args.basis.now.office.now) s l c.args.before.now c.args.behind.now (g.S.Shelf.state c.args.shelf.now).content in
     c.reading_changed.ensures.truth k s (subst J c.in-Reading.is j)
 
 pub returns-in-Reading-clause-records : goal.returns-in-Reading-clause-records
 returns-in-Reading-clause-records g c = λ k s j.
-    let J : Key → Type 0 = λ l. IsJustChanged (office_of c.args.office.now) s l c.args.before.now c.args.behind.now (g.S.Shelf.state c.args.shelf.now).content in
+    let J : Key → Type 0 = λ l. IsJustChanged (office_of c.args.basis.now.office.now) s l c.args.before.now c.args.behind.now (g.S.Shelf.state c.args.shelf.now).content in
     c.reading_changed.ensures.records k s (subst J c.in-Reading.is j)
 
 pub returns-in-Assignment-clause-truth : goal.returns-in-Assignment-clause-truth
 returns-in-Assignment-clause-truth g c = λ k s j.
-    let J : Key → Type 0 = λ l. IsJustChanged (office_of c.args.office.now) s l c.args.before.now c.args.behind.now (g.S.Shelf.state c.args.shelf.now).content in
+    let J : Key → Type 0 = λ l. IsJustChanged (office_of c.args.basis.now.office.now) s l c.args.before.now c.args.behind.now (g.S.Shelf.state c.args.shelf.now).content in
     c.assignment_changed.ensures.truth k s (subst J c.in-Assignment.is j)
 
 pub returns-in-Assignment-clause-records : goal.returns-in-Assignment-clause-records
 returns-in-Assignment-clause-records g c = λ k s j.
-    let J : Key → Type 0 = λ l. IsJustChanged (office_of c.args.office.now) s l c.args.before.now c.args.behind.now (g.S.Shelf.state c.args.shelf.now).content in
+    let J : Key → Type 0 = λ l. IsJustChanged (office_of c.args.basis.now.office.now) s l c.args.before.now c.args.behind.now (g.S.Shelf.state c.args.shelf.now).content in
     c.assignment_changed.ensures.records k s (subst J c.in-Assignment.is j)
 
 pub returns-in-Assignment-clause-tally : goal.returns-in-Assignment-clause-tally
 returns-in-Assignment-clause-tally g c = λ k.
-    let P : Key → Type 0 = λ l. TakesAtMost 0 (office_of c.args.office.now) (g.S.Shelf.state c.args.shelf.now).content l (g.S.Shelf.state c.args.shelf.now).tally (g.S.Shelf.state c.assignment_changed.new.shelf).tally in
+    let P : Key → Type 0 = λ l. TakesAtMost 0 (office_of c.args.basis.now.office.now) (g.S.Shelf.state c.args.shelf.now).content l (g.S.Shelf.state c.args.shelf.now).tally (g.S.Shelf.state c.assignment_changed.new.shelf).tally in
     subst P (sym c.in-Assignment.is) (c.assignment_changed.ensures.tally k)
 
 pub returns-in-Assignment-clause-alone : goal.returns-in-Assignment-clause-alone
@@ -39,9 +39,9 @@ returns-in-Assignment-clause-alone g c = λ k.
 
 pub returns-in-TopUp-clause-truth : goal.returns-in-TopUp-clause-truth
 returns-in-TopUp-clause-truth g c = λ k s j.
-    let office = office_of c.args.office.now in
+    let office = office_of c.args.basis.now.office.now in
     let J : Key → Type 0 = λ l. IsJustChanged office s l c.args.before.now c.args.behind.now (g.S.Shelf.state c.args.shelf.now).content in
-    on_ok_weaker c.top_up_changed.result (λ m. paid-true office (office-is c.args.office.now c.requires.sound) s c.in-TopUp.reference c.args.before.now c.args.behind.now _ (subst J c.in-TopUp.is j) _ m) (c.top_up_changed.ensures.moved k)
+    on_ok_weaker c.top_up_changed.result (λ m. paid-true office (office-is c.args.basis.now.office.now c.requires.sound) s c.in-TopUp.reference c.args.before.now c.args.behind.now _ (subst J c.in-TopUp.is j) _ m) (c.top_up_changed.ensures.moved k)
 
 pub returns-in-TopUp-clause-records : goal.returns-in-TopUp-clause-records
 returns-in-TopUp-clause-records g c = λ k s j. on_ok_weaker c.top_up_changed.result (λ m. paid-records _ _ _ _ m) (c.top_up_changed.ensures.moved k)

@@ -11,7 +11,7 @@ use Rattle.pw_book.proofs.upload.put.Goals as goal
 
 pub settle-requires-clause-of_office : goal.settle-requires-clause-of_office
 settle-requires-clause-of_office g c =
-    let office = office_of c.args.office.now in
+    let office = office_of c.args.basis.now.office.now in
     let P : Key → Type 0 = λ l. IsKeyOf office l in
     subst P (sym c.bears_on-key.ensures) (key-of office c.args.entry.now.key c.args.entry.now.content c.requires.of_office)
 
@@ -21,7 +21,7 @@ returns-clause-put g c = λ k t h.
     let second = c.contents_at-2.ensures.asked.kept.clean third in
     let first = c.add.ensures.written.kept.clean second in
     let start = c.contents_at.ensures.asked.kept.clean first in
-    let office = office_of c.args.office.now in
+    let office = office_of c.args.basis.now.office.now in
     let e = c.args.entry.now in
     let old = (g.S.Shelf.state c.args.shelf.now).content in
     let mid = (g.S.Shelf.state c.add.new.self).content in
@@ -53,6 +53,6 @@ returns-clause-tally g c = λ k.
     let third = c.settle.ensures.kept.clean k in
     let second = c.contents_at-2.ensures.asked.kept.clean third in
     let first = c.add.ensures.written.kept.clean second in
-    let P : Key → Type 0 = λ l. TakesAtMost 0 (office_of c.args.office.now) (g.S.Shelf.state c.contents_at-2.new.self).content l (g.S.Shelf.state c.contents_at-2.new.self).tally (g.S.Shelf.state c.settle.new.shelf).tally in
-    takes-more (office_of c.args.office.now) c.args.entry.now.key c.args.entry.now _ _ _ _ _ _ _ _ _ c.in_ok-before.before c.in_ok-behind.behind (c.in_ok-before.ensures.asked.same first) (c.in_ok-add.ensures.added second) (c.in_ok-behind.ensures.asked.same third)
+    let P : Key → Type 0 = λ l. TakesAtMost 0 (office_of c.args.basis.now.office.now) (g.S.Shelf.state c.contents_at-2.new.self).content l (g.S.Shelf.state c.contents_at-2.new.self).tally (g.S.Shelf.state c.settle.new.shelf).tally in
+    takes-more (office_of c.args.basis.now.office.now) c.args.entry.now.key c.args.entry.now _ _ _ _ _ _ _ _ _ c.in_ok-before.before c.in_ok-behind.behind (c.in_ok-before.ensures.asked.same first) (c.in_ok-add.ensures.added second) (c.in_ok-behind.ensures.asked.same third)
     c.in_ok-before.ensures.asked.tally c.add.ensures.written.tally c.in_ok-behind.ensures.asked.tally (subst P c.bears_on-key.ensures (c.settle.ensures.tally k))

@@ -7,16 +7,16 @@ use Rattle.pw_book.proofs.Spending.{assignments-next, behind-next, behind-none, 
 use Rattle.pw_book.proofs.upload.write.Goals as goal
 
 pub put-requires-clause-of_office : goal.put-requires-clause-of_office
-put-requires-clause-of_office g c = got-of_office (office_of c.args.office.now) c.args.entries.now c.loop-entry.entry-index c.entry-item.result c.loop-entry-test.true c.entry-item.is c.requires.of_office
+put-requires-clause-of_office g c = got-of_office (office_of c.args.basis.now.office.now) c.args.entries.now c.loop-entry.entry-index c.entry-item.result c.loop-entry-test.true c.entry-item.is c.requires.of_office
 
 pub put-requires-clause-fresh : goal.put-requires-clause-fresh
 put-requires-clause-fresh g c = λ k.
-    joined-fresh (office_of c.args.office.now) c.args.entries.now c.loop-entry.entry-index c.entry-item.result _ _ c.loop-entry-test.true c.entry-item.is (c.requires.fresh (c.loop-entry.invariant.kept.clean k)) (c.loop-entry.invariant.put k)
+    joined-fresh (office_of c.args.basis.now.office.now) c.args.entries.now c.loop-entry.entry-index c.entry-item.result _ _ c.loop-entry-test.true c.entry-item.is (c.requires.fresh (c.loop-entry.invariant.kept.clean k)) (c.loop-entry.invariant.put k)
 
 pub put-requires-clause-room : goal.put-requires-clause-room
 put-requires-clause-room g c = λ k.
     let start = c.loop-entry.invariant.kept.clean k in
-    let office = office_of c.args.office.now in
+    let office = office_of c.args.basis.now.office.now in
     let so_far = c.loop-entry.invariant.put k in
     joined-room office c.args.entries.now c.loop-entry.entry-index c.entry-item.result _ _ c.loop-entry-test.true c.entry-item.is so_far (g.met.S.Shelf.once c.loop-entry.shelf k) (c.requires.room start)
     (joined-fresh office c.args.entries.now c.loop-entry.entry-index c.entry-item.result _ _ c.loop-entry-test.true c.entry-item.is (c.requires.fresh start) so_far)
@@ -24,12 +24,12 @@ put-requires-clause-room g c = λ k.
 pub returns-in_err-put-clause-tally : goal.returns-in_err-put-clause-tally
 returns-in_err-put-clause-tally g c = λ k.
     let before = c.put.ensures.kept.clean k in
-    let m = got-member (office_of c.args.office.now) c.args.entries.now c.loop-entry.entry-index c.entry-item.result c.loop-entry-test.true c.entry-item.is in
-    costs-next (office_of c.args.office.now) c.args.entries.now c.entry-item.result c.loop-entry.entry-index (g.S.Shelf.state c.args.shelf.now).content (g.S.Shelf.state c.loop-entry.shelf).content _ _ _ c.loop-entry-test.true m (c.loop-entry.invariant.start before) (c.loop-entry.invariant.readings before) (c.loop-entry.invariant.first before) (c.loop-entry.invariant.behind before) (c.loop-entry.invariant.assignments before) (c.loop-entry.invariant.top_ups before) (c.put.ensures.tally k)
+    let m = got-member (office_of c.args.basis.now.office.now) c.args.entries.now c.loop-entry.entry-index c.entry-item.result c.loop-entry-test.true c.entry-item.is in
+    costs-next (office_of c.args.basis.now.office.now) c.args.entries.now c.entry-item.result c.loop-entry.entry-index (g.S.Shelf.state c.args.shelf.now).content (g.S.Shelf.state c.loop-entry.shelf).content _ _ _ c.loop-entry-test.true m (c.loop-entry.invariant.start before) (c.loop-entry.invariant.readings before) (c.loop-entry.invariant.first before) (c.loop-entry.invariant.behind before) (c.loop-entry.invariant.assignments before) (c.loop-entry.invariant.top_ups before) (c.put.ensures.tally k)
 
 pub loop-entry-init : goal.loop-entry-init
 loop-entry-init g c = record {
-  put = λ k. joined-none (office_of c.args.office.now) _ _ refl (c.requires.truth k);
+  put = λ k. joined-none (office_of c.args.basis.now.office.now) _ _ refl (c.requires.truth k);
   start = λ k starts a. refl;
   readings = λ k starts a. omega arith;
   first = λ k z. (refl, refl);
@@ -42,7 +42,7 @@ loop-entry-init g c = record {
 
 pub loop-entry-preserved : goal.loop-entry-preserved
 loop-entry-preserved g c =
-    let office = office_of c.args.office.now in
+    let office = office_of c.args.basis.now.office.now in
     let m = got-member office c.args.entries.now c.loop-entry.entry-index c.entry-item.result c.loop-entry-test.true c.entry-item.is in
     record {
       put = λ k.
@@ -76,7 +76,7 @@ pub returns-clause-posted : goal.returns-clause-posted
 returns-clause-posted g c = λ k.
     let before = c.commit.ensures.cleanness k in
     let l = c.loop-entry-test.false in
-    on_ok_weaker c.commit.result (λ same. with-upload (office_of c.args.office.now) c.args.entries.now c.loop-entry.entry-index _ _ _ l c.loop-entry.auto.entry-index-end same (g.met.S.Shelf.once _ k) (c.loop-entry.invariant.put before)) (c.commit.ensures.same k)
+    on_ok_weaker c.commit.result (λ same. with-upload (office_of c.args.basis.now.office.now) c.args.entries.now c.loop-entry.entry-index _ _ _ l c.loop-entry.auto.entry-index-end same (g.met.S.Shelf.once _ k) (c.loop-entry.invariant.put before)) (c.commit.ensures.same k)
 
 pub returns-clause-left : goal.returns-clause-left
 returns-clause-left g c = λ k.
@@ -84,11 +84,11 @@ returns-clause-left g c = λ k.
     let l = c.loop-entry-test.false in
     on_err_weaker c.commit.result (λ left d now. elim (left d now) [
       | inl old ↦ inl (c.loop-entry.invariant.kept.left before d old)
-      | inr same ↦ inr (with-upload (office_of c.args.office.now) c.args.entries.now c.loop-entry.entry-index _ _ d l c.loop-entry.auto.entry-index-end same (subst-once same (g.met.S.Shelf.once _ before)) (c.loop-entry.invariant.put before))
+      | inr same ↦ inr (with-upload (office_of c.args.basis.now.office.now) c.args.entries.now c.loop-entry.entry-index _ _ d l c.loop-entry.auto.entry-index-end same (subst-once same (g.met.S.Shelf.once _ before)) (c.loop-entry.invariant.put before))
     ]) (c.commit.ensures.left k)
 
 pub returns-clause-tally : goal.returns-clause-tally
 returns-clause-tally g c = λ k.
     let before = c.commit.ensures.cleanness k in
     let t = c.commit.ensures.tally in
-    costs-so-far (office_of c.args.office.now) c.args.entries.now c.loop-entry.entry-index _ _ _ _ c.loop-entry.auto.entry-index-end (c.loop-entry.invariant.readings before) (c.loop-entry.invariant.assignment before) (c.loop-entry.invariant.assignments before) (c.loop-entry.invariant.top_ups before) (omega (arith, t))
+    costs-so-far (office_of c.args.basis.now.office.now) c.args.entries.now c.loop-entry.entry-index _ _ _ _ c.loop-entry.auto.entry-index-end (c.loop-entry.invariant.readings before) (c.loop-entry.invariant.assignment before) (c.loop-entry.invariant.assignments before) (c.loop-entry.invariant.top_ups before) (omega (arith, t))

@@ -9,18 +9,18 @@ use Rattle.pw_book.proofs.upload.write.Given as goal
 
 abbrev pub invariant-loop-entry : goal.invariant-loop-entry
 invariant-loop-entry g l = record {
-  put : g.S.Shelf.clean l.shelf → IsPut (office_of l.office) (take l.entry-index l.entries) (g.S.Shelf.state l.initial.shelf).content (g.S.Shelf.state l.shelf).content;
+  put : g.S.Shelf.clean l.shelf → IsPut (office_of l.basis.office.now) (take l.entry-index l.entries) (g.S.Shelf.state l.initial.shelf).content (g.S.Shelf.state l.shelf).content;
   start : g.S.Shelf.clean l.shelf → (starts : ℕ) → AreReadingsWith (g.S.Shelf.state l.initial.shelf).content starts l.entries →
       (g.S.Shelf.state l.shelf).content.start ≡ (g.S.Shelf.state l.initial.shelf).content.start;
   readings : g.S.Shelf.clean l.shelf → (starts : ℕ) → AreReadingsWith (g.S.Shelf.state l.initial.shelf).content starts l.entries →
-      (g.S.Shelf.state l.shelf).tally ≤ (g.S.Shelf.state l.initial.shelf).tally + l.entry-index * (13 + starts + 6 * classes_of (office_of l.office));
+      (g.S.Shelf.state l.shelf).tally ≤ (g.S.Shelf.state l.initial.shelf).tally + l.entry-index * (13 + starts + 6 * classes_of (office_of l.basis.office.now));
   first : g.S.Shelf.clean l.shelf → l.entry-index ≡ 0 → ((g.S.Shelf.state l.shelf).content ≡ (g.S.Shelf.state l.initial.shelf).content) × ((g.S.Shelf.state l.shelf).tally ≡ (g.S.Shelf.state l.initial.shelf).tally);
   behind : g.S.Shelf.clean l.shelf → (starts points : ℕ) → AreAssignmentsWith (g.S.Shelf.state l.initial.shelf).content starts points l.entries →
       IsBehind l.entries l.entry-index (g.S.Shelf.state l.initial.shelf).content (g.S.Shelf.state l.shelf).content starts;
   assignment : g.S.Shelf.clean l.shelf → (e : Entry) (starts points : ℕ) → l.entries ≡ e ∷ [] → IsAssignmentUpToNext (g.S.Shelf.state l.initial.shelf).content starts points e.key →
-      (g.S.Shelf.state l.shelf).tally ≤ (g.S.Shelf.state l.initial.shelf).tally + l.entry-index * (39 + starts + points + 6 * classes_of (office_of l.office));
+      (g.S.Shelf.state l.shelf).tally ≤ (g.S.Shelf.state l.initial.shelf).tally + l.entry-index * (39 + starts + points + 6 * classes_of (office_of l.basis.office.now));
   assignments : g.S.Shelf.clean l.shelf → (starts points : ℕ) → AreAssignmentsWith (g.S.Shelf.state l.initial.shelf).content starts points l.entries →
-      (g.S.Shelf.state l.shelf).tally ≤ (g.S.Shelf.state l.initial.shelf).tally + l.entry-index * (39 + (starts + length l.entries) + points + 6 * classes_of (office_of l.office));
+      (g.S.Shelf.state l.shelf).tally ≤ (g.S.Shelf.state l.initial.shelf).tally + l.entry-index * (39 + (starts + length l.entries) + points + 6 * classes_of (office_of l.basis.office.now));
   top_ups : g.S.Shelf.clean l.shelf → AreTopUps l.entries → (g.S.Shelf.state l.shelf).tally ≤ (g.S.Shelf.state l.initial.shelf).tally + l.entry-index * 10;
   kept : GoesOn g.S.Shelf.state g.S.Shelf.left g.S.Shelf.clean g.S.Shelf.same_store 0 l.initial.shelf l.shelf;
 }

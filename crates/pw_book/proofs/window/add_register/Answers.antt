@@ -8,7 +8,7 @@ returns-clause-moved g c = λ k was is h.
     let third = k in
     let second = c.points_between.ensures.asked.kept.clean third in
     let first = c.point_after.ensures.asked.kept.clean second in
-    register-gathered c.args.office.now _ _ _ was is c.args.window.now.meter.0 c.args.window.now.from c.args.window.now.until c.args.window.now.before c.args.window.now.after c.args.register c.direction_of-direction.result
+    register-gathered c.args.basis.now.office.now _ _ _ was is c.args.window.now.meter.0 c.args.window.now.from c.args.window.now.until c.args.window.now.before c.args.window.now.after c.args.register c.direction_of-direction.result
     c.in_ok-before.before c.in_ok-within.within.items c.deref.result.now c.in_ok-after.after c.in_ok-points.points.items c.deref-2.result.now c.deref-3.result.now _ _ _ _ _ _ (sym c.counts.ensures ∙ c.if-not-counts.false)
     (c.in_ok-before.ensures.asked.same first) (c.in_ok-after.ensures.asked.same second) h
     (c.in_ok-before.ensures.row first) (c.in_ok-after.ensures.row second) (c.in_ok-within.ensures.rows third) c.deref.ensures.value

@@ -19,7 +19,7 @@ loop-register-preserved g c = record {
   few = λ side t. (let a = c.loop-register.invariant.few side t in let b = c.in_ok-add_register.ensures.few side t in omega (arith, a, b));
   moved = λ k was is h t.
       let before = c.add_register.ensures.kept.clean k in
-      let office = office_of c.args.office.now in
+      let office = office_of c.args.basis.now.office.now in
       let there = changed-there _ _ was is _ _ _ _ _ (c.loop-register.invariant.same before) h in
       moved-more (register_told office was c.args.window.now.meter.0 t) (register_told office is c.args.window.now.meter.0 t) c.loop-register.register-index _ _ _ _ _ c.loop-register-test.true
       (c.loop-register.invariant.moved before was is h t) (c.in_ok-add_register.ensures.moved k was is there t);
@@ -33,7 +33,7 @@ loop-register-preserved g c = record {
 
 pub returns-clause-moved : goal.returns-clause-moved
 returns-clause-moved g c = λ k was is h.
-    all-moved (office_of c.args.office.now) was is c.args.window.now.meter.0 c.args.window.now.from c.loop-register.register-index (gathered Loses c.loop-register.changes.rows) (gathered Gains c.loop-register.changes.rows) h.other c.requires.meter
+    all-moved (office_of c.args.basis.now.office.now) was is c.args.window.now.meter.0 c.args.window.now.from c.loop-register.register-index (gathered Loses c.loop-register.changes.rows) (gathered Gains c.loop-register.changes.rows) h.other c.requires.meter
     c.loop-register-test.false c.loop-register.auto.register-index-end (c.loop-register.invariant.moved k was is h)
 
 pub returns-clause-tally : goal.returns-clause-tally

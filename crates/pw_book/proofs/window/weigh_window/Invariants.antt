@@ -19,8 +19,8 @@ invariant-loop-register g l = record {
   -- what the registers so far gave and give
   moved : g.S.Shelf.clean l.shelf → (was is : Key → Contents) →
       IsStartChanged (g.S.Shelf.state l.initial.shelf).content was is l.window.meter.0 l.window.from l.window.until l.window.before l.window.after → (k : TotalKey) →
-      gathered Gains l.changes.rows k + sum_by (register_told (office_of l.office) was l.window.meter.0 k) (take l.register-index registers)
-      ≡ gathered Loses l.changes.rows k + sum_by (register_told (office_of l.office) is l.window.meter.0 k) (take l.register-index registers);
+      gathered Gains l.changes.rows k + sum_by (register_told (office_of l.basis.office.now) was l.window.meter.0 k) (take l.register-index registers)
+      ≡ gathered Loses l.changes.rows k + sum_by (register_told (office_of l.basis.office.now) is l.window.meter.0 k) (take l.register-index registers);
   same : g.S.Shelf.clean l.shelf → (g.S.Shelf.state l.shelf).content ≡ (g.S.Shelf.state l.initial.shelf).content;
   tally : g.S.Shelf.clean l.shelf → (points : Register → ℕ) → EndsBeforeNext ((g.S.Shelf.state l.initial.shelf).content.start l.window.meter.0) l.window.from l.window.until →
       HavePoints (g.S.Shelf.state l.initial.shelf).content l.window.meter.0 l.window.from points →
