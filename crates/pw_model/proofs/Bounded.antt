@@ -121,6 +121,7 @@ wh-fits office m r t Nothing h = tt
 wh-fits office m r t (One (content.Reading w)) h = h.3
 wh-fits office m r t (One (content.Assignment o)) h = tt
 wh-fits office m r t (One (content.TopUp a c i)) h = tt
+wh-fits office m r t (One content.Withdrawal) h = tt
 wh-fits office m r t Several h = tt
 
 point-fits : (office : OfficeRules) (s : List Entry) → AllOfOffice office s → (m : ℕ) (r : Register) (t : ℕ) → WhFits (point (contents_at s) m r t)
@@ -199,7 +200,9 @@ step : (office : OfficeRules) (old new : Key → Contents) (k : Key) (c : Conten
     energy_where office new d always ≤ energy_where office old d always + LARGEST_WATT_HOURS
 step office old new (key.Assignment m t) c r d n h = same-total office old new d (λ a q u. ap wh_of (sym (h.elsewhere (reading_key a q u) (λ i. cc))))
 step office old new (key.TopUp x) c r d n h = same-total office old new d (λ a q u. ap wh_of (sym (h.elsewhere (reading_key a q u) (λ i. cc))))
+step office old new (key.Withdrawal x) c r d n h = same-total office old new d (λ a q u. ap wh_of (sym (h.elsewhere (reading_key a q u) (λ i. cc))))
 step office old new (key.Reading m q t) (content.Assignment o) r d n h = absurd h.fits
+step office old new (key.Reading m q t) content.Withdrawal r d n h = absurd h.fits
 step office old new (key.Reading m q t) (content.TopUp a c i) r d n h = absurd h.fits
 step office old new (key.Reading m q t) (content.Reading w) Nothing d n h =
     let more : IsOneMoreReading old new m.0 q t w = one-reading old new m.0 q t w (ap wh_of h.was) (ap wh_of h.is) (λ l x. sym (h.elsewhere l x)) in
@@ -208,6 +211,7 @@ step office old new (key.Reading m q t) (content.Reading w) Several d n h =
     same-total office old new d (λ a p u. ap wh_of (sym (everywhere old new (key.Reading m q t) (h.is ∙ sym h.was) h.elsewhere (reading_key a p u))))
 step office old new (key.Reading m q t) (content.Reading w) (One (content.Assignment o)) d n h = absurd h.was_fit
 step office old new (key.Reading m q t) (content.Reading w) (One (content.TopUp a c i)) d n h = absurd h.was_fit
+step office old new (key.Reading m q t) (content.Reading w) (One content.Withdrawal) d n h = absurd h.was_fit
 step office old new (key.Reading m q t) (content.Reading w) (One (content.Reading v)) d n h =
     elim (cases_Bool (same_content (content.Reading w) (content.Reading v))) [
       | inl y ↦ (
@@ -243,9 +247,11 @@ cents-fit office k a Nothing h = omega arith
 cents-fit office k a Several h = omega arith
 cents-fit office k a (One (content.Reading w)) h = omega arith
 cents-fit office k a (One (content.Assignment o)) h = omega arith
+cents-fit office k a (One content.Withdrawal) h = omega arith
 cents-fit office (key.TopUp x) a (One (content.TopUp b c t)) h = elim (cases_Bool (b.0 == a)) [ inl y ↦ rw y h.3 | inr n ↦ rw n (omega arith) ]
 cents-fit office (key.Reading m q t) a (One (content.TopUp b c i)) h = absurd h
 cents-fit office (key.Assignment m t) a (One (content.TopUp b c i)) h = absurd h
+cents-fit office (key.Withdrawal n) a (One (content.TopUp b c i)) h = absurd h
 
 topped-bounded : (office : OfficeRules) (s : List Entry) (a : ℕ) → AllOfOffice office s → topped_up s a ≤ length s * most_cents
 unfolding topped_up

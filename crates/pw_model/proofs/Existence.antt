@@ -66,6 +66,7 @@ content-cases : (c : Content) → ((w : ℕ) × (c ≡ content.Reading w)) ⊎ (
 content-cases (content.Reading w) = inl (w, refl)
 content-cases (content.Assignment o) = inr (λ w i. cc)
 content-cases (content.TopUp a c t) = inr (λ w i. cc)
+content-cases content.Withdrawal = inr (λ w i. cc)
 
 key-cases : (k : Key) (m : ℕ) (r : Register) → (k ≡ reading_key m r (second_of k)) ⊎ ((t : ℕ) → k ≡ reading_key m r t → ⊥)
 key-cases k m r =
@@ -121,6 +122,8 @@ fall-known : (s : List Entry) (k : Key) (c : Content) → FallAt s (entry k c)
 unfolding FallAt
 fall-known s (key.Assignment m t) c = inr (λ f a i. let j : key.Assignment m t ≡ key.Reading f.meter f.register f.from = ap (λ (e : Entry). e.key) i in cc)
 fall-known s (key.TopUp q) c = inr (λ f a i. let j : key.TopUp q ≡ key.Reading f.meter f.register f.from = ap (λ (e : Entry). e.key) i in cc)
+fall-known s (key.Withdrawal n) c = inr (λ f a i. let j : key.Withdrawal n ≡ key.Reading f.meter f.register f.from = ap (λ (e : Entry). e.key) i in cc)
+fall-known s (key.Reading m r x) content.Withdrawal = inr (λ f b i. let j : content.Withdrawal ≡ content.Reading f.high = ap (λ (e : Entry). e.content) i in cc)
 fall-known s (key.Reading m r x) (content.Assignment o) = inr (λ f a i. let j : content.Assignment o ≡ content.Reading f.high = ap (λ (e : Entry). e.content) i in cc)
 fall-known s (key.Reading m r x) (content.TopUp a c t) = inr (λ f b i. let j : content.TopUp a c t ≡ content.Reading f.high = ap (λ (e : Entry). e.content) i in cc)
 fall-known s (key.Reading m r x) (content.Reading w) =

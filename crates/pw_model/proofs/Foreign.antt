@@ -51,8 +51,10 @@ no-cents office a k Nothing l h = refl
 no-cents office a k Several l h = refl
 no-cents office a k (One (content.Reading w)) l h = refl
 no-cents office a k (One (content.Assignment o)) l h = refl
+no-cents office a k (One content.Withdrawal) l h = refl
 no-cents office a (key.Reading m r t) (One (content.TopUp b c i)) l h = absurd h
 no-cents office a (key.Assignment m t) (One (content.TopUp b c i)) l h = absurd h
+no-cents office a (key.Withdrawal n) (One (content.TopUp b c i)) l h = absurd h
 no-cents office a (key.TopUp r) (One (content.TopUp b c i)) l h =
     let f : b.0 < office.accounts = h.1 in
     rw (ne_eqb b.0 a (λ e. absurd (omega arith)))

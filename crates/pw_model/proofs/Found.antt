@@ -28,6 +28,7 @@ owner-back Several o e = cc
 owner-back (One (content.Reading w)) o e = cc
 owner-back (One (content.TopUp a c i)) o e = cc
 owner-back (One (content.Assignment p)) o e = cc
+owner-back (One content.Withdrawal) o e = cc
 
 pub wh-back : (c : Contents) (w : ℕ) → wh_of c ≡ Some w → c ≡ One (content.Reading w)
 wh-back Nothing w e = cc
@@ -35,6 +36,7 @@ wh-back Several w e = cc
 wh-back (One (content.Reading v)) w e = cc
 wh-back (One (content.TopUp a c i)) w e = cc
 wh-back (One (content.Assignment p)) w e = cc
+wh-back (One content.Withdrawal) w e = cc
 
 -- a counting start or reading is a member
 start-member : (s : List Entry) (m t : ℕ) (o : Option AccountId) → start (contents_at s) m t ≡ Some o → Member (entry (assignment_key m t) (content.Assignment o)) s
@@ -121,6 +123,7 @@ abbrev pub second_of : Key → ℕ
 second_of (key.Reading m r t) = t
 second_of (key.Assignment m t) = t
 second_of (key.TopUp r) = 0
+second_of (key.Withdrawal n) = 0
 
 -- the second from which a key assigns the meter
 assigned-one : (k : Key) (m a b : ℕ) → k ≡ assignment_key m a → k ≡ assignment_key m b → a ≡ b

@@ -8,6 +8,7 @@ use Rattle.std.specs.List.{AllPass}
 use Rattle.std.specs.Cmp.Lexicographic.{slice_cmp}
 use Rattle.std.specs.Ordering.{ordering_then}
 use Rattle.pw_model.specs.contracts.records.KeyOrd.TheImpl as derived_key
+use Rattle.pw_model.specs.contracts.records.NamedOrd.TheImpl as derived_named
 use Rattle.pw_model.specs.contracts.records.ContentOrd.TheImpl as derived_content
 use Rattle.pw_model.specs.contracts.records.EntryOrd.TheImpl as derived_entry
 use Rattle.pw_model.specs.contracts.records.TotalKeyOrd.TheImpl as derived_total
@@ -18,6 +19,8 @@ use Rattle.pw_obis.specs.declared.reference.Register.{Register}
 use Rattle.pw_obis.specs.declared.reference.Register.TheVariants.{I0, I1, I2, E0, E1, E2}
 use Rattle.pw_model.specs.declared.records.Key.{Key}
 use Rattle.pw_model.specs.declared.records.Key.TheVariants as key
+use Rattle.pw_model.specs.declared.records.Named.{Named}
+use Rattle.pw_model.specs.declared.records.Named.TheVariants as named
 use Rattle.pw_model.specs.declared.records.Content.{Content}
 use Rattle.pw_model.specs.declared.records.Content.TheVariants as content
 use Rattle.pw_model.specs.declared.records.Entry.{Entry}
@@ -30,7 +33,7 @@ use Rattle.pw_tariff.specs.Cells.{owner_place}
 use Rattle.std.specs.Option.{option_cmp}
 use Rattle.pw_model.specs.References.{IsReference, is_reference_byte}
 use Rattle.pw_tariff.specs.Office.{register_place}
-use Rattle.pw_model.specs.Same.{total_order, total_numbers, direction_place, key_order, key_numbers, content_numbers, entry_order}
+use Rattle.pw_model.specs.Same.{total_order, total_numbers, direction_place, key_order, named_numbers, key_numbers, content_numbers, entry_order}
 use Rattle.pw_model.specs.inner.Keys.{HasReference}
 
 then-equal : (o : Ordering) → ordering_then o Equal ≡ o
@@ -133,6 +136,45 @@ padded-order (x ∷ xs) (y ∷ ys) m n e a b =
 references-ordered : (r s : List ℕ) → IsReference r → IsReference s → derived_reference.ghosts.cmp r s ≡ slice_cmp nat_cmp r s
 references-ordered r s h i = padded-order r s (32 - length r) (32 - length s) (omega (arith, h.1, i.1)) h.2 i.2
 
+-- a text with a 0 behind it stands where the text alone does; then numbers decide
+texts-ordered : (r s xs ys : List ℕ) → AllPass is_reference_byte r → AllPass is_reference_byte s →
+    ordering_then (slice_cmp nat_cmp r s) (slice_cmp nat_cmp xs ys) ≡ slice_cmp nat_cmp (r ++ 0 ∷ xs) (s ++ 0 ∷ ys)
+texts-ordered [] [] xs ys a b = sym (ap (λ o. ordering_then o (slice_cmp nat_cmp xs ys)) (cmp-equal 0 0 refl))
+texts-ordered [] (y ∷ s) xs ys a b =
+    let l : 0 < y = byte-above y (All-head (λ x. is_reference_byte x ≡ true) y s b) in
+    sym (ap (λ o. ordering_then o (slice_cmp nat_cmp xs (s ++ 0 ∷ ys))) (cmp-less 0 y l))
+texts-ordered (x ∷ r) [] xs ys a b =
+    let l : 0 < x = byte-above x (All-head (λ y. is_reference_byte y ≡ true) x r a) in
+    sym (ap (λ o. ordering_then o (slice_cmp nat_cmp (r ++ 0 ∷ xs) ys)) (cmp-greater x 0 l))
+texts-ordered (x ∷ r) (y ∷ s) xs ys a b =
+    then-assoc (nat_cmp x y) (slice_cmp nat_cmp r s) (slice_cmp nat_cmp xs ys)
+    ∙ ap (λ o. ordering_then (nat_cmp x y) o) (texts-ordered r s xs ys (All-tail (λ z. is_reference_byte z ≡ true) x r a) (All-tail (λ z. is_reference_byte z ≡ true) y s b))
+
+-- ---- named records
+owners-ordered : (o p : Option AccountId) → option_cmp (λ (a b : AccountId). nat_cmp a.0 b.0) o p ≡ nat_cmp (owner_place o) (owner_place p)
+owners-ordered None None = refl
+owners-ordered None (Some b) = sym (cmp-less 0 (b.0 + 1) (omega arith))
+owners-ordered (Some a) None = sym (cmp-greater (a.0 + 1) 0 (omega arith))
+owners-ordered (Some a) (Some b) = rw (add-one, add-one) (sym (cmp-suc a.0 b.0))
+
+named-ordered : (a b : Named) → HasReference (key.Withdrawal a) → HasReference (key.Withdrawal b) → derived_named.ghosts.cmp a b ≡ slice_cmp nat_cmp (named_numbers a) (named_numbers b)
+unfolding named_numbers
+named-ordered (named.Reading m r t w) (named.Reading n s u v) h i =
+    ap (λ o. ordering_then (nat_cmp m.0 n.0) (ordering_then o (ordering_then (nat_cmp t u) (nat_cmp w v)))) (registers-ordered r s)
+    ∙ ap (λ o. ordering_then (nat_cmp m.0 n.0) (ordering_then (nat_cmp (register_place r) (register_place s)) (ordering_then (nat_cmp t u) o))) (sym (then-equal (nat_cmp w v)))
+named-ordered (named.Assignment m t o) (named.Assignment n u p) h i =
+    ap (λ x. ordering_then (nat_cmp m.0 n.0) (ordering_then (nat_cmp t u) x)) (owners-ordered o p ∙ sym (then-equal (nat_cmp (owner_place o) (owner_place p))))
+named-ordered (named.TopUp r a c t) (named.TopUp s b d u) h i =
+    ap (λ o. ordering_then o (ordering_then (nat_cmp a.0 b.0) (ordering_then (nat_cmp c d) (nat_cmp t u)))) (references-ordered r s h i)
+    ∙ ap (λ o. ordering_then (slice_cmp nat_cmp r s) (ordering_then (nat_cmp a.0 b.0) (ordering_then (nat_cmp c d) o))) (sym (then-equal (nat_cmp t u)))
+    ∙ texts-ordered r s (a.0 ∷ c ∷ t ∷ []) (b.0 ∷ d ∷ u ∷ []) h.2 i.2
+named-ordered (named.Reading m r t w) (named.Assignment n u p) h i = refl
+named-ordered (named.Reading m r t w) (named.TopUp s b d u) h i = refl
+named-ordered (named.Assignment m t o) (named.Reading n s u v) h i = refl
+named-ordered (named.Assignment m t o) (named.TopUp s b d u) h i = refl
+named-ordered (named.TopUp r a c t) (named.Reading n s u v) h i = refl
+named-ordered (named.TopUp r a c t) (named.Assignment n u p) h i = refl
+
 pub keys-ordered : (a b : Key) → HasReference a → HasReference b → derived_key.ghosts.cmp a b ≡ key_order a b
 unfolding key_numbers
 keys-ordered (key.Reading m r t) (key.Reading n s u) h i =
@@ -146,6 +188,13 @@ keys-ordered (key.Assignment m t) (key.Reading n s u) h i = refl
 keys-ordered (key.Assignment m t) (key.TopUp s) h i = refl
 keys-ordered (key.TopUp r) (key.Reading n s u) h i = refl
 keys-ordered (key.TopUp r) (key.Assignment n u) h i = refl
+keys-ordered (key.Withdrawal a) (key.Withdrawal b) h i = named-ordered a b h i
+keys-ordered (key.Reading m r t) (key.Withdrawal b) h i = refl
+keys-ordered (key.Assignment m t) (key.Withdrawal b) h i = refl
+keys-ordered (key.TopUp r) (key.Withdrawal b) h i = refl
+keys-ordered (key.Withdrawal a) (key.Reading n s u) h i = refl
+keys-ordered (key.Withdrawal a) (key.Assignment n u) h i = refl
+keys-ordered (key.Withdrawal a) (key.TopUp s) h i = refl
 
 contents-ordered : (a b : Content) → derived_content.ghosts.cmp a b ≡ slice_cmp nat_cmp (content_numbers a) (content_numbers b)
 unfolding content_numbers
@@ -165,6 +214,15 @@ contents-ordered (content.Assignment (Some a)) (content.TopUp b d u) = refl
 contents-ordered (content.TopUp a c t) (content.Reading v) = refl
 contents-ordered (content.TopUp a c t) (content.Assignment None) = refl
 contents-ordered (content.TopUp a c t) (content.Assignment (Some b)) = refl
+contents-ordered content.Withdrawal content.Withdrawal = refl
+contents-ordered content.Withdrawal (content.Reading v) = refl
+contents-ordered content.Withdrawal (content.Assignment None) = refl
+contents-ordered content.Withdrawal (content.Assignment (Some b)) = refl
+contents-ordered content.Withdrawal (content.TopUp b d u) = refl
+contents-ordered (content.Reading w) content.Withdrawal = refl
+contents-ordered (content.Assignment None) content.Withdrawal = refl
+contents-ordered (content.Assignment (Some a)) content.Withdrawal = refl
+contents-ordered (content.TopUp a c t) content.Withdrawal = refl
 
 pub entries-ordered : (a b : Entry) → HasReference a.key → HasReference b.key → derived_entry.ghosts.cmp a b ≡ entry_order a b
 entries-ordered a b h i =
@@ -172,12 +230,6 @@ entries-ordered a b h i =
     ∙ ap (λ o. ordering_then (key_order a.key b.key) o) (contents-ordered a.content b.content)
 
 -- ---- keys of totals
-owners-ordered : (o p : Option AccountId) → option_cmp (λ (a b : AccountId). nat_cmp a.0 b.0) o p ≡ nat_cmp (owner_place o) (owner_place p)
-owners-ordered None None = refl
-owners-ordered None (Some b) = sym (cmp-less 0 (b.0 + 1) (omega arith))
-owners-ordered (Some a) None = sym (cmp-greater (a.0 + 1) 0 (omega arith))
-owners-ordered (Some a) (Some b) = rw (add-one, add-one) (sym (cmp-suc a.0 b.0))
-
 directions-ordered : (d e : Direction) → derived_direction.ghosts.cmp d e ≡ nat_cmp (direction_place d) (direction_place e)
 directions-ordered Import Import = refl
 directions-ordered Import Export = refl

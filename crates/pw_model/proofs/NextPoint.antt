@@ -56,6 +56,7 @@ less-between : (m : ℕ) (r : Register) (x t : ℕ) (k : Key) → key_order (rea
 unfolding key_numbers
 less-between m r x t (key.Assignment n u) h i = absurd (let c : Greater ≡ Less = i in cc)
 less-between m r x t (key.TopUp q) h i = absurd (let c : Greater ≡ Less = i in cc)
+less-between m r x t (key.Withdrawal n) h i = absurd (let c : Greater ≡ Less = i in cc)
 less-between m r x t (key.Reading n q u) h i =
     let one = squeeze m n.0 (ordering_then (nat_cmp (register_place r) (register_place q)) (ordering_then (nat_cmp x u) Equal)) (ordering_then (nat_cmp (register_place q) (register_place r)) (ordering_then (nat_cmp u t) Equal)) h i in
     let two = squeeze (register_place r) (register_place q) (ordering_then (nat_cmp x u) Equal) (ordering_then (nat_cmp u t) Equal) one.1 one.2 in

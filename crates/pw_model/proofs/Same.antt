@@ -1,5 +1,5 @@
 -- The tests on keys and contents decide whether two are equal.
-use Rattle.std.proofs.Common.{◌≡◌, ℕ, zero, suc, Some, None, refl, ap, sym, ◌∙◌, Decides}
+use Rattle.std.proofs.Common.{◌≡◌, ℕ, zero, suc, Some, None, refl, ap, sym, ◌∙◌, Decides, List, [], ◌∷◌, ◌++◌, Option, length, arith, ◌+◌}
 use Rattle.std.specs.Cmp.Lexicographic.{bytes_decides}
 use Rattle.std.proofs.lemmas.Bool.Decides.{Decides-like, Decides-and}
 use Rattle.pw_obis.specs.declared.reference.Register.{Register}
@@ -8,11 +8,15 @@ use Rattle.pw_tariff.specs.declared.ids.AccountId.{AccountId}
 use Rattle.pw_tariff.specs.declared.ids.MeterId.{MeterId}
 use Rattle.pw_model.specs.declared.records.Key.{Key}
 use Rattle.pw_model.specs.declared.records.Key.TheVariants as key
+use Rattle.pw_model.specs.declared.records.Named.{Named}
+use Rattle.pw_model.specs.declared.records.Named.TheVariants as named
 use Rattle.pw_model.specs.declared.records.Content.{Content}
 use Rattle.pw_model.specs.declared.records.Content.TheVariants as content
 use Rattle.pw_model.specs.declared.records.Entry.{Entry}
 use Rattle.pw_tariff.specs.Office.{register_place}
-use Rattle.pw_model.specs.Same.{key_numbers, content_numbers, same_key, same_content, same_entry}
+use Rattle.pw_tariff.specs.Cells.{owner_place}
+use Rattle.std.proofs.lemmas.List.{length-append}
+use Rattle.pw_model.specs.Same.{named_numbers, key_numbers, content_numbers, same_key, same_content, same_entry}
 
 register_at : ℕ → Register
 register_at zero = I0
@@ -40,6 +44,74 @@ meter n = record { 0 = n }
 abbrev account : ℕ → AccountId
 account n = record { 0 = n }
 
+-- ---- named records
+pub prefix-same : (xs ys zs ws : List ℕ) → length xs ≡ length ys → xs ++ zs ≡ ys ++ ws → xs ≡ ys
+prefix-same [] [] zs ws l h = refl
+prefix-same [] (y ∷ ys) zs ws l h = absurd (omega arith)
+prefix-same (x ∷ xs) [] zs ws l h = absurd (omega arith)
+prefix-same (x ∷ xs) (y ∷ ys) zs ws l h =
+    let t : xs ++ zs ≡ ys ++ ws = cc in
+    let m : length xs ≡ length ys = omega arith in
+    let e : xs ≡ ys = prefix-same xs ys zs ws m t in
+    let i : x ≡ y = cc in
+    cc
+
+pub rest-same : (xs ys zs ws : List ℕ) → length xs ≡ length ys → xs ++ zs ≡ ys ++ ws → zs ≡ ws
+rest-same [] [] zs ws l h = h
+rest-same [] (y ∷ ys) zs ws l h = absurd (omega arith)
+rest-same (x ∷ xs) [] zs ws l h = absurd (omega arith)
+rest-same (x ∷ xs) (y ∷ ys) zs ws l h =
+    let t : xs ++ zs ≡ ys ++ ws = cc in
+    let m : length xs ≡ length ys = omega arith in
+    rest-same xs ys zs ws m t
+
+-- two texts with rests of one length behind them
+pub lengths-same : (xs ys zs ws : List ℕ) → length zs ≡ length ws → xs ++ zs ≡ ys ++ ws → length xs ≡ length ys
+lengths-same xs ys zs ws l h =
+    let a = length-append xs zs in
+    let b = length-append ys ws in
+    let c : length (xs ++ zs) ≡ length (ys ++ ws) = ap length h in
+    omega (arith, a, b, c, l)
+
+owner-one : (o p : Option AccountId) → owner_place o ≡ owner_place p → o ≡ p
+owner-one None None h = refl
+owner-one None (Some b) h = absurd (omega (arith, h))
+owner-one (Some a) None h = absurd (omega (arith, h))
+owner-one (Some a) (Some b) h =
+    let n : a.0 ≡ b.0 = omega (arith, h) in
+    let e : a ≡ b = ap account n in
+    cc
+
+-- named records with the same numbers are one
+named-numbers-one : (a b : Named) → named_numbers a ≡ named_numbers b → a ≡ b
+unfolding named_numbers
+named-numbers-one (named.Reading m r t w) (named.Reading n s u v) h =
+    let a : m ≡ n = ap meter (cc) in
+    let b : r ≡ s = register-one r s (cc) in
+    let c : t ≡ u = cc in
+    let d : w ≡ v = cc in
+    cc
+named-numbers-one (named.Assignment m t o) (named.Assignment n u p) h =
+    let a : m ≡ n = ap meter (cc) in
+    let b : t ≡ u = cc in
+    let c : o ≡ p = owner-one o p (cc) in
+    cc
+named-numbers-one (named.TopUp r a c t) (named.TopUp s b d u) h =
+    let i : r ++ 0 ∷ a.0 ∷ c ∷ t ∷ [] ≡ s ++ 0 ∷ b.0 ∷ d ∷ u ∷ [] = cc in
+    let l : length r ≡ length s = lengths-same r s (0 ∷ a.0 ∷ c ∷ t ∷ []) (0 ∷ b.0 ∷ d ∷ u ∷ []) refl i in
+    let e : r ≡ s = prefix-same r s (0 ∷ a.0 ∷ c ∷ t ∷ []) (0 ∷ b.0 ∷ d ∷ u ∷ []) l i in
+    let j : 0 ∷ a.0 ∷ c ∷ t ∷ [] ≡ 0 ∷ b.0 ∷ d ∷ u ∷ [] = rest-same r s (0 ∷ a.0 ∷ c ∷ t ∷ []) (0 ∷ b.0 ∷ d ∷ u ∷ []) l i in
+    let f : a ≡ b = ap account (cc) in
+    let g : c ≡ d = cc in
+    let k : t ≡ u = cc in
+    cc
+named-numbers-one (named.Reading m r t w) (named.Assignment n u p) h = cc
+named-numbers-one (named.Reading m r t w) (named.TopUp s b d u) h = cc
+named-numbers-one (named.Assignment m t o) (named.Reading n s u v) h = cc
+named-numbers-one (named.Assignment m t o) (named.TopUp s b d u) h = cc
+named-numbers-one (named.TopUp r a c t) (named.Reading n s u v) h = cc
+named-numbers-one (named.TopUp r a c t) (named.Assignment n u p) h = cc
+
 -- keys with the same numbers are one
 pub key-numbers-one : (k l : Key) → key_numbers k ≡ key_numbers l → k ≡ l
 unfolding key_numbers
@@ -59,6 +131,13 @@ key-numbers-one (key.Assignment m t) (key.Reading n s u) h = cc
 key-numbers-one (key.Assignment m t) (key.TopUp s) h = cc
 key-numbers-one (key.TopUp r) (key.Reading n s u) h = cc
 key-numbers-one (key.TopUp r) (key.Assignment n u) h = cc
+key-numbers-one (key.Withdrawal a) (key.Withdrawal b) h = let e : a ≡ b = named-numbers-one a b (cc) in cc
+key-numbers-one (key.Reading m r t) (key.Withdrawal b) h = cc
+key-numbers-one (key.Assignment m t) (key.Withdrawal b) h = cc
+key-numbers-one (key.TopUp r) (key.Withdrawal b) h = cc
+key-numbers-one (key.Withdrawal a) (key.Reading n s u) h = cc
+key-numbers-one (key.Withdrawal a) (key.Assignment n u) h = cc
+key-numbers-one (key.Withdrawal a) (key.TopUp s) h = cc
 
 pub content-numbers-one : (c d : Content) → content_numbers c ≡ content_numbers d → c ≡ d
 unfolding content_numbers
@@ -82,6 +161,15 @@ content-numbers-one (content.Assignment (Some a)) (content.TopUp b d u) h = cc
 content-numbers-one (content.TopUp a c t) (content.Reading v) h = cc
 content-numbers-one (content.TopUp a c t) (content.Assignment None) h = cc
 content-numbers-one (content.TopUp a c t) (content.Assignment (Some b)) h = cc
+content-numbers-one content.Withdrawal content.Withdrawal h = refl
+content-numbers-one content.Withdrawal (content.Reading v) h = cc
+content-numbers-one content.Withdrawal (content.Assignment None) h = cc
+content-numbers-one content.Withdrawal (content.Assignment (Some b)) h = cc
+content-numbers-one content.Withdrawal (content.TopUp b d u) h = cc
+content-numbers-one (content.Reading w) content.Withdrawal h = cc
+content-numbers-one (content.Assignment None) content.Withdrawal h = cc
+content-numbers-one (content.Assignment (Some a)) content.Withdrawal h = cc
+content-numbers-one (content.TopUp a c t) content.Withdrawal h = cc
 
 pub same_key-decides : (k l : Key) → Decides (same_key k l) (k ≡ l)
 same_key-decides k l = Decides-like (same_key k l) (key-numbers-one k l) (λ e. ap key_numbers e) (bytes_decides (key_numbers k) (key_numbers l))

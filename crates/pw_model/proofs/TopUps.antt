@@ -40,6 +40,7 @@ top-up-cents : (a : ℕ) (c : Content) → IsTopUpFor a c → cents_for a (One c
 top-up-cents a (content.TopUp b c t) h = rw (eq-eqb b.0 a h)
 top-up-cents a (content.Reading w) h = absurd h
 top-up-cents a (content.Assignment o) h = absurd h
+top-up-cents a content.Withdrawal h = absurd h
 
 sum-keys : (s : List Entry) (a : ℕ) (es : List Entry) → EachOnce es → ((e : Entry) → Member e es → Counts s e × IsTopUpFor a e.content) →
     sum_once same_key (λ k. cents_for a (contents_at s k)) (keys es) ≡ sum_by (λ e. cents_in e.content) es
@@ -64,6 +65,7 @@ other-key s a k Nothing h n = refl
 other-key s a k Several h n = refl
 other-key s a k (One (content.Reading w)) h n = refl
 other-key s a k (One (content.Assignment o)) h n = refl
+other-key s a k (One content.Withdrawal) h n = refl
 other-key s a k (One (content.TopUp b c t)) h n =
     elim (cases_Bool (b.0 == a)) [
       | inl q ↦ absurd (n (content.TopUp b c t) ((one-is_counting s (entry k (content.TopUp b c t))).0 (sym h)) (eqb-true b.0 a q))
@@ -82,6 +84,7 @@ sum-told s a es h =
 top-up-known : (a : ℕ) (c : Content) → IsTopUpFor a c ⊎ (IsTopUpFor a c → ⊥)
 top-up-known a (content.Reading w) = inr (λ h. h)
 top-up-known a (content.Assignment o) = inr (λ h. h)
+top-up-known a content.Withdrawal = inr (λ h. h)
 top-up-known a (content.TopUp b c t) = elim (cases_Bool (b.0 == a)) [ inl q ↦ inl (eqb-true b.0 a q) | inr q ↦ inr (λ e. eqb-false b.0 a q e) ]
 
 -- those among some records

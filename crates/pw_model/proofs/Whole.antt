@@ -97,6 +97,7 @@ contents-fit office s m t Nothing h e = tt
 contents-fit office s m t Several h e = tt
 contents-fit office s m t (One (content.Reading w)) h e = tt
 contents-fit office s m t (One (content.TopUp a c i)) h e = tt
+contents-fit office s m t (One content.Withdrawal) h e = tt
 contents-fit office s m t (One (content.Assignment o)) h e =
     let f : Entry = entry (assignment_key m t) (content.Assignment o) in
     let i : IsOfOffice office f = h f (standing-part s f ((one-is_counting s f).0 e).0) in

@@ -8,6 +8,8 @@ use Rattle.pw_model.specs.declared.records.Key.TheVariants as key
 use Rattle.pw_model.specs.declared.records.Content.{Content}
 use Rattle.pw_model.specs.declared.records.Content.TheVariants as content
 use Rattle.pw_model.specs.declared.records.Entry.{Entry}
+use Rattle.pw_model.specs.declared.records.Named.{Named}
+use Rattle.pw_model.specs.declared.records.Named.TheVariants as named
 use Rattle.pw_model.specs.declared.records.Contents.{Contents}
 use Rattle.pw_model.specs.declared.records.Contents.TheVariants.{Nothing, One, Several}
 use Rattle.pw_model.specs.Same.{same_key, same_content}
@@ -29,6 +31,20 @@ EachOnce (x ∷ xs) = (Member x xs → ⊥) × EachOnce xs
 -- new is old with x at some place
 abbrev pub IsInserted : {X : Type 0} → X → List X → List X → Type 0
 IsInserted {X} x old new = (xs : List X) × (ys : List X) × (old ≡ xs ++ ys) × (new ≡ xs ++ x ∷ ys)
+
+-- ---- how a withdrawal names a record
+-- the record that is named
+abbrev pub named_entry : Named → Entry
+named_entry (named.Reading m r t w) = record { key = key.Reading m r t; content = content.Reading w }
+named_entry (named.Assignment m t o) = record { key = key.Assignment m t; content = content.Assignment o }
+named_entry (named.TopUp r a c t) = record { key = key.TopUp r; content = content.TopUp a c t }
+
+-- the name of a record with this key and content; a withdrawal has none
+abbrev pub named_of : Key → Content → Option Named
+named_of (key.Reading m r t) (content.Reading w) = Some (named.Reading m r t w)
+named_of (key.Assignment m t) (content.Assignment o) = Some (named.Assignment m t o)
+named_of (key.TopUp r) (content.TopUp a c t) = Some (named.TopUp r a c t)
+named_of _ _ = None
 
 -- the records that stand: all of them
 unfoldable pub standing : List Entry → List Entry

@@ -10,6 +10,8 @@ use Rattle.pw_time.specs.declared.instant.TheConstants.{END_SECOND}
 use Rattle.pw_time.specs.Instants.{IsInstant}
 use Rattle.pw_model.specs.declared.records.Key.{Key}
 use Rattle.pw_model.specs.declared.records.Key.TheVariants as key
+use Rattle.pw_model.specs.declared.records.Named.{Named}
+use Rattle.pw_model.specs.declared.records.Named.TheVariants as named
 use Rattle.pw_model.specs.declared.records.Content.{Content}
 use Rattle.pw_model.specs.declared.records.Content.TheVariants as content
 use Rattle.pw_model.specs.declared.records.Entry.{Entry}
@@ -28,13 +30,20 @@ abbrev pub HasOwner : OfficeRules → Option AccountId → Type 0
 HasOwner office None = Unit {0}
 HasOwner office (Some a) = a.0 < office.accounts
 
--- a key with a content of its kind, all of the office
-abbrev pub IsOf : OfficeRules → Key → Content → Type 0
-IsOf office (key.Reading m r t) (content.Reading w) =
+-- a reading, an assignment or a top-up, all of the office
+abbrev pub IsNamedOf : OfficeRules → Named → Type 0
+IsNamedOf office (named.Reading m r t w) =
     (m.0 < office.meters) × (office.counts m.0 r ≡ true) × IsInstant t × (w ≤ LARGEST_WATT_HOURS)
-IsOf office (key.Assignment m t) (content.Assignment o) = (m.0 < office.meters) × IsInstant t × HasOwner office o
-IsOf office (key.TopUp r) (content.TopUp a c t) =
+IsNamedOf office (named.Assignment m t o) = (m.0 < office.meters) × IsInstant t × HasOwner office o
+IsNamedOf office (named.TopUp r a c t) =
     IsReference r × (a.0 < office.accounts) × (1 ≤ c) × (c ≤ most_cents) × IsInstant t
+
+-- a key with a content of its kind, all of the office; a withdrawal is of the office where the record that it names is
+abbrev pub IsOf : OfficeRules → Key → Content → Type 0
+IsOf office (key.Reading m r t) (content.Reading w) = IsNamedOf office (named.Reading m r t w)
+IsOf office (key.Assignment m t) (content.Assignment o) = IsNamedOf office (named.Assignment m t o)
+IsOf office (key.TopUp r) (content.TopUp a c t) = IsNamedOf office (named.TopUp r a c t)
+IsOf office (key.Withdrawal n) content.Withdrawal = IsNamedOf office n
 IsOf office _ _ = ⊥
 
 -- an entry of the office

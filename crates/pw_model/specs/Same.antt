@@ -1,6 +1,6 @@
 -- Keys, contents and keys of totals as numbers: the tests by which two are the same, and the order in which they are listed.
 -- (Definitions of this project. The registers are those of IEC 62056-6-1, in the order I0, I1, I2, E0, E1, E2.)
-use Rattle.std.specs.Prelude.{ℕ, Bool, true, false, ◌==◌, ◌&&◌, Some, None, List, [], ◌∷◌}
+use Rattle.std.specs.Prelude.{ℕ, Bool, true, false, ◌==◌, ◌&&◌, Some, None, List, [], ◌∷◌, ◌++◌}
 use Rattle.std.specs.Cmp.Lexicographic.{pointwise, slice_cmp}
 use Rattle.std.specs.Ordering.{nat_cmp, ordering_then}
 use Rattle.std.specs.declared.cmp.Ordering.{Ordering}
@@ -10,6 +10,8 @@ use Rattle.pw_tariff.specs.declared.ids.Direction.{Direction}
 use Rattle.pw_tariff.specs.declared.ids.Direction.TheVariants.{Import, Export}
 use Rattle.pw_model.specs.declared.records.Key.{Key}
 use Rattle.pw_model.specs.declared.records.Key.TheVariants as key
+use Rattle.pw_model.specs.declared.records.Named.{Named}
+use Rattle.pw_model.specs.declared.records.Named.TheVariants as named
 use Rattle.pw_model.specs.declared.records.Content.{Content}
 use Rattle.pw_model.specs.declared.records.Content.TheVariants as content
 use Rattle.pw_model.specs.declared.records.Entry.{Entry}
@@ -33,11 +35,19 @@ same_direction Export Export = true
 same_direction Import Export = false
 same_direction Export Import = false
 
--- readings first, then assignments, then top-ups; each by its fields in their order
+-- a named record: readings first, then assignments, then top-ups; each by its fields in their order, nobody before every
+-- account, and a 0 behind the text of a reference, as texts are of many lengths
+unfoldable pub named_numbers : Named → List ℕ
+named_numbers (named.Reading m r t w) = 0 ∷ m.0 ∷ register_place r ∷ t ∷ w ∷ []
+named_numbers (named.Assignment m t o) = 1 ∷ m.0 ∷ t ∷ owner_place o ∷ []
+named_numbers (named.TopUp r a c t) = 2 ∷ (r ++ 0 ∷ a.0 ∷ c ∷ t ∷ [])
+
+-- readings first, then assignments, then top-ups, then withdrawals; each by its fields in their order
 unfoldable pub key_numbers : Key → List ℕ
 key_numbers (key.Reading m r t) = 0 ∷ m.0 ∷ register_place r ∷ t ∷ []
 key_numbers (key.Assignment m t) = 1 ∷ m.0 ∷ t ∷ []
 key_numbers (key.TopUp r) = 2 ∷ r
+key_numbers (key.Withdrawal n) = 3 ∷ named_numbers n
 
 -- nobody stands before every account
 unfoldable pub content_numbers : Content → List ℕ
@@ -45,6 +55,7 @@ content_numbers (content.Reading w) = 0 ∷ w ∷ []
 content_numbers (content.Assignment None) = 1 ∷ []
 content_numbers (content.Assignment (Some a)) = 1 ∷ a.0 ∷ []
 content_numbers (content.TopUp a c t) = 2 ∷ a.0 ∷ c ∷ t ∷ []
+content_numbers content.Withdrawal = 3 ∷ []
 
 abbrev pub same_key : Key → Key → Bool
 same_key k l = pointwise ◌==◌ (key_numbers k) (key_numbers l)

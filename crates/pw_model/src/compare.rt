@@ -4,7 +4,7 @@ ghost use Rattle.std.specs.Prelude.{◌≡◌};
 ghost use Rattle.pw_model.specs.Same.{entry_order, key_order, same_content, same_entry, same_key, total_order};
 ghost use Rattle.pw_model.specs.inner.Keys.{HasReference};
 
-use crate::records::{Content, Entry, Key, TotalKey};
+use crate::records::{Content, Entry, Key, Named, TotalKey};
 use std::cmp::Ordering;
 
 /// Whether two keys are one.
@@ -28,7 +28,7 @@ pub fn is_same_entry(a: &Entry, b: &Entry) -> bool
     Entry::eq(a, b)
 }
 
-/// Readings stand first, then assignments, then top-ups; each by its fields in their order.
+/// Readings stand first, then assignments, then top-ups, then withdrawals; each by its fields in their order.
 pub fn compare_keys(a: &Key, b: &Key) -> Ordering
     ensures { result ≡ key_order a.now b.now }
 {
@@ -53,11 +53,17 @@ pub fn compare_totals(a: &TotalKey, b: &TotalKey) -> Ordering
     TotalKey::cmp(a, b)
 }
 
-// The reference in a top-up's key is one, which the order of references rests on.
+// The reference in a key is one, which the order of references rests on.
 fn read_reference(key: &Key)
     ensures { HasReference key.now }
 {
-    if let Key::TopUp { reference } = key {
-        let _text = reference.bytes();
+    match key {
+        Key::TopUp { reference }
+        | Key::Withdrawal {
+            named: Named::TopUp { reference, .. },
+        } => {
+            let _text = reference.bytes();
+        }
+        _ => {}
     }
 }

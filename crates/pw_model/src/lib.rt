@@ -5,6 +5,7 @@ mod compare;
 mod in_order;
 pub mod laws;
 mod limits;
+mod named;
 pub mod plain;
 mod records;
 mod reference;
@@ -15,6 +16,6 @@ pub use compare::{
 };
 pub use in_order::sorted;
 pub use limits::{MOST_CENTS, MOST_RECORDS, NANO_IN_CENT};
-pub use records::{Content, Contents, Dispute, Entry, Fall, Key, ReadingRow, TotalKey};
+pub use records::{Content, Contents, Dispute, Entry, Fall, Key, Named, ReadingRow, TotalKey};
 pub use reference::{LONGEST_REFERENCE, Reference};
 pub use registers::direction_of;

@@ -7,7 +7,7 @@ use pw_time::Instant;
 
 /// What a record speaks of: no two records with one key count.
 ///
-/// Readings come first, then assignments, then top-ups; each by its fields in their order.
+/// Readings come first, then assignments, then top-ups, then withdrawals; each by its fields in their order.
 #[derive(Clone, Copy, Debug, PartialEq, Eq, PartialOrd, Ord, Hash)]
 pub enum Key {
     /// The reading of a meter's register at an instant.
@@ -24,6 +24,37 @@ pub enum Key {
     /// The top-up with a reference.
     TopUp {
         reference: Reference,
+    },
+    /// The withdrawal of a record.
+    Withdrawal {
+        named: Named,
+    },
+}
+
+/// The record that a withdrawal names, by its key and content, whether it is held or not.
+///
+/// Readings come first, then assignments, then top-ups; each by its fields in their order.
+#[derive(Clone, Copy, Debug, PartialEq, Eq, PartialOrd, Ord, Hash)]
+pub enum Named {
+    /// A reading.
+    Reading {
+        meter: MeterId,
+        register: Register,
+        instant: Instant,
+        wh: WattHours,
+    },
+    /// An assignment.
+    Assignment {
+        meter: MeterId,
+        start: Instant,
+        owner: Owner,
+    },
+    /// A top-up.
+    TopUp {
+        reference: Reference,
+        account: AccountId,
+        cents: u32,
+        instant: Instant,
     },
 }
 
@@ -44,6 +75,8 @@ pub enum Content {
         cents: u32,
         instant: Instant,
     },
+    /// Nothing more: its key names the record that it withdraws.
+    Withdrawal,
 }
 
 /// A record: a key with a content.

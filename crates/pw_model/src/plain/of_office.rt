@@ -1,46 +1,55 @@
 //! Whether records are of an office.
 
 ghost use Rattle.std.specs.Prelude.{IsTrue, ◌↔◌};
-ghost use Rattle.pw_model.specs.Office.{AllOfOffice, HasOwner, IsOfOffice};
+ghost use Rattle.pw_model.specs.Office.{AllOfOffice, HasOwner, IsNamedOf, IsOfOffice};
 
 use super::terms::Terms;
 use crate::limits::MOST_CENTS;
-use crate::records::{Content, Entry, Key};
+use crate::records::{Content, Entry, Key, Named};
 use pw_tariff::Owner;
 
 /// Whether a record has a content of its key's kind, and all that it names is the office's.
 pub fn is_entry_of_office<T: Terms>(terms: &T, entry: &Entry) -> bool
     ensures { IsTrue result ↔ IsOfOffice (T.office terms.now) entry.now }
 {
-    match &entry.key {
-        Key::Reading {
+    if let Key::Withdrawal { named } = &entry.key {
+        return matches!(entry.content, Content::Withdrawal) && is_named_of_office(terms, named);
+    }
+    match Named::of(entry) {
+        Some(named) => is_named_of_office(terms, &named),
+        None => false,
+    }
+}
+
+// Whether all that a reading, an assignment or a top-up names is the office's.
+fn is_named_of_office<T: Terms>(terms: &T, named: &Named) -> bool
+    ensures { IsTrue result ↔ IsNamedOf (T.office terms.now) named.now }
+{
+    match named {
+        Named::Reading {
             meter,
             register,
             instant,
+            wh,
         } => {
-            let Content::Reading { wh } = &entry.content else {
-                return false;
-            };
             let _second = instant.seconds();
             let _wh = wh.get();
             meter.0 < terms.meters() && terms.counts(*meter, *register)
         }
-        Key::Assignment { meter, start } => {
-            let Content::Assignment { owner } = &entry.content else {
-                return false;
-            };
+        Named::Assignment {
+            meter,
+            start,
+            owner,
+        } => {
             let _second = start.seconds();
             meter.0 < terms.meters() && has_owner(terms, *owner)
         }
-        Key::TopUp { reference } => {
-            let Content::TopUp {
-                account,
-                cents,
-                instant,
-            } = &entry.content
-            else {
-                return false;
-            };
+        Named::TopUp {
+            reference,
+            account,
+            cents,
+            instant,
+        } => {
             let _second = instant.seconds();
             let _text = reference.bytes();
             account.0 < terms.accounts() && 1 <= *cents && *cents <= MOST_CENTS
