@@ -81,6 +81,12 @@ kind-of office a (key.Assignment m t) (content.Reading w) h = inr refl
 kind-of office a (key.Assignment m t) (content.Assignment o) h = inr refl
 kind-of office a (key.Assignment m t) (content.TopUp b c u) h = absurd h
 kind-of office a (key.TopUp r) d h = inl tt
+kind-of office a (key.Reading m r t) content.Withdrawal h = inr refl
+kind-of office a (key.Assignment m t) content.Withdrawal h = inr refl
+kind-of office a (key.Withdrawal x) (content.Reading w) h = inr refl
+kind-of office a (key.Withdrawal x) (content.Assignment o) h = inr refl
+kind-of office a (key.Withdrawal x) (content.TopUp b c u) h = absurd h
+kind-of office a (key.Withdrawal x) content.Withdrawal h = inr refl
 
 pub topped-up-is : (office : OfficeRules) (s counted : List Entry) (a : ℕ) → AllOfOffice office s → ListsCounting IsTopUp s counted → sum_by (λ e. cents_for a (One e.content)) counted ≡ topped_up s a
 unfolding topped_up

@@ -54,6 +54,13 @@ keys-places (key.Assignment m t) (key.TopUp s) h = refl
 keys-places (key.TopUp q) (key.Reading n s u) h = absurd (let b : Greater ≡ Less = h in cc)
 keys-places (key.TopUp q) (key.Assignment n u) h = absurd (let b : Greater ≡ Less = h in cc)
 keys-places (key.TopUp q) (key.TopUp s) h = refl
+keys-places (key.Reading m r t) (key.Withdrawal y) h = refl
+keys-places (key.Assignment m t) (key.Withdrawal y) h = refl
+keys-places (key.TopUp q) (key.Withdrawal y) h = refl
+keys-places (key.Withdrawal x) (key.Reading n s u) h = absurd (let b : Greater ≡ Less = h in cc)
+keys-places (key.Withdrawal x) (key.Assignment n u) h = absurd (let b : Greater ≡ Less = h in cc)
+keys-places (key.Withdrawal x) (key.TopUp s) h = absurd (let b : Greater ≡ Less = h in cc)
+keys-places (key.Withdrawal x) (key.Withdrawal y) h = refl
 
 keys-up_to : (k l : Key) → KeyUpTo k l → is_gt (place_order (place_of k) (place_of l)) ≡ false
 keys-up_to k l (inl h) = keys-places k l h
@@ -199,11 +206,13 @@ pub readings-first : (k : Key) → IsReading k ↔ (is_before first k ≡ true)
 readings-first (key.Reading m r t) = (λ o. refl, λ h. tt)
 readings-first (key.Assignment m t) = (λ o. absurd o, λ h. absurd (true≢false (sym h ∙ first-meter m.0)))
 readings-first (key.TopUp q) = (λ o. absurd o, λ h. absurd (true≢false (sym h)))
+readings-first (key.Withdrawal x) = (λ o. absurd o, λ h. absurd (true≢false (sym h)))
 
 pub assignments-next : (k : Key) → IsAssignment k ↔ ((is_before first k ≡ false) × (is_before place.TopUps k ≡ true))
 assignments-next (key.Reading m r t) = (λ o. absurd o, λ h. absurd (true≢false h.0))
 assignments-next (key.Assignment m t) = (λ o. (first-meter m.0, refl), λ h. tt)
 assignments-next (key.TopUp q) = (λ o. absurd o, λ h. absurd (true≢false (sym h.1)))
+assignments-next (key.Withdrawal x) = (λ o. absurd o, λ h. absurd (true≢false (sym h.1)))
 
 then-equal : (o : Ordering) → ordering_then o Equal ≡ o
 then-equal Less = refl
@@ -240,6 +249,7 @@ register-there m r (key.Reading n s t) = (
 )
 register-there m r (key.Assignment n t) = (λ o. absurd o, λ h. absurd (true≢false (sym h)))
 register-there m r (key.TopUp q) = (λ o. absurd o, λ h. absurd (true≢false (sym h)))
+register-there m r (key.Withdrawal x) = (λ o. absurd o, λ h. absurd (true≢false (sym h)))
 
 pub meter-there : (m : MeterId) (k : Key) → IsAssignmentOf m k ↔ (is_at (place.Assignments m) k ≡ true)
 meter-there m (key.Reading n s t) = (λ o. absurd o, λ h. absurd (true≢false (sym h)))
@@ -251,8 +261,10 @@ meter-there m (key.Assignment n t) = (
       p,
 )
 meter-there m (key.TopUp q) = (λ o. absurd o, λ h. absurd (true≢false (sym h)))
+meter-there m (key.Withdrawal x) = (λ o. absurd o, λ h. absurd (true≢false (sym h)))
 
 pub top-ups-there : (k : Key) → IsTopUp k ↔ (is_at place.TopUps k ≡ true)
 top-ups-there (key.Reading m r t) = (λ o. absurd o, λ h. absurd (true≢false (sym h)))
 top-ups-there (key.Assignment m t) = (λ o. absurd o, λ h. absurd (true≢false (sym h)))
 top-ups-there (key.TopUp q) = (λ o. refl, λ h. tt)
+top-ups-there (key.Withdrawal x) = (λ o. absurd o, λ h. absurd (true≢false (sym h)))

@@ -102,6 +102,8 @@ shown-of m r (key.Reading n s t) (content.Assignment o) a h e = absurd (none-som
 shown-of m r (key.Reading n s t) (content.TopUp b c u) a h e = absurd (none-some a e)
 shown-of m r (key.Assignment n t) c a h e = absurd h
 shown-of m r (key.TopUp f) c a h e = absurd h
+shown-of m r (key.Reading n s t) content.Withdrawal a h e = absurd (none-some a e)
+shown-of m r (key.Withdrawal x) c a h e = absurd h
 
 pub wh-one : (c : Contents) (w : ℕ) → wh_of c ≡ Some w → c ≡ One (content.Reading w)
 wh-one Nothing w e = absurd (none-some w e)
@@ -109,6 +111,7 @@ wh-one Several w e = absurd (none-some w e)
 wh-one (One (content.Reading v)) w e = ap (λ x. One (content.Reading x)) (same_Some v w e)
 wh-one (One (content.Assignment o)) w e = absurd (none-some w e)
 wh-one (One (content.TopUp a c t)) w e = absurd (none-some w e)
+wh-one (One content.Withdrawal) w e = absurd (none-some w e)
 
 -- the later of two readings of a register stands behind
 later-reading : (m : MeterId) (r : Register) (t u : ℕ) → key_order (reading_key m.0 r t) (reading_key m.0 r u) ≡ Less → nat_cmp t u ≡ Less
@@ -146,6 +149,8 @@ given-of m (key.Assignment n t) (content.Reading w) a h e = absurd (none-some a 
 given-of m (key.Assignment n t) (content.TopUp b c u) a h e = absurd (none-some a e)
 given-of m (key.Reading n s t) c a h e = absurd h
 given-of m (key.TopUp f) c a h e = absurd h
+given-of m (key.Assignment n t) content.Withdrawal a h e = absurd (none-some a e)
+given-of m (key.Withdrawal x) c a h e = absurd h
 
 pub owner-one : (c : Contents) (o : Option AccountId) → owner_of c ≡ Some o → c ≡ One (content.Assignment o)
 owner-one Nothing o e = absurd (none-some o e)
@@ -153,6 +158,7 @@ owner-one Several o e = absurd (none-some o e)
 owner-one (One (content.Reading v)) o e = absurd (none-some o e)
 owner-one (One (content.Assignment p)) o e = ap (λ x. One (content.Assignment x)) (same_Some p o e)
 owner-one (One (content.TopUp a c t)) o e = absurd (none-some o e)
+owner-one (One content.Withdrawal) o e = absurd (none-some o e)
 
 later-assignment : (m : MeterId) (t u : ℕ) → key_order (assignment_key m.0 t) (assignment_key m.0 u) ≡ Less → nat_cmp t u ≡ Less
 unfolding key_numbers

@@ -100,5 +100,6 @@ fn place_of(key: &Key) -> Place
         } => Place::Readings(*meter, *register),
         Key::Assignment { meter, .. } => Place::Assignments(*meter),
         Key::TopUp { .. } => Place::TopUps,
+        Key::Withdrawal { .. } => Place::Withdrawals,
     }
 }

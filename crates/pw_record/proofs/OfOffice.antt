@@ -7,6 +7,7 @@ use Rattle.pw_time.specs.Instants.{IsInstant}
 use Rattle.pw_time.specs.Outcomes.{IsUtcOutcome}
 use Rattle.pw_model.specs.declared.records.Key.{Key}
 use Rattle.pw_model.specs.declared.records.Key.TheVariants as key
+use Rattle.pw_model.specs.declared.records.Named.TheVariants as named
 use Rattle.pw_model.specs.declared.records.Content.{Content}
 use Rattle.pw_model.specs.declared.records.Content.TheVariants as content
 use Rattle.pw_model.specs.declared.records.Entry.{Entry}
@@ -60,6 +61,13 @@ reference-of file (key.Assignment m t) c x = tt
 reference-of file (key.TopUp r) (content.TopUp a n t) x = x.0
 reference-of file (key.TopUp r) (content.Reading w) x = absurd x
 reference-of file (key.TopUp r) (content.Assignment o) x = absurd x
+reference-of file (key.TopUp r) content.Withdrawal x = absurd x
+reference-of file (key.Withdrawal (named.Reading m r t w)) c x = tt
+reference-of file (key.Withdrawal (named.Assignment m t o)) c x = tt
+reference-of file (key.Withdrawal (named.TopUp r a n t)) content.Withdrawal x = x.0
+reference-of file (key.Withdrawal (named.TopUp r a n t)) (content.Reading w) x = absurd x
+reference-of file (key.Withdrawal (named.TopUp r a n t)) (content.Assignment o) x = absurd x
+reference-of file (key.Withdrawal (named.TopUp r a n t)) (content.TopUp b m u) x = absurd x
 
 pub have-references : (file : OfficeFile) (given : List Entry) → AllOfOffice (office_of file) given → HaveReferences given
 have-references file given a e m = reference-of file e.key e.content (a e m)

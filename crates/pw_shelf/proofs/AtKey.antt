@@ -47,6 +47,7 @@ pub content-lowest : (c : Content) → is_le (derived_content.ghosts.cmp (conten
 content-lowest (content.Reading w) = grind (arith, nat_tests)
 content-lowest (content.Assignment o) = refl
 content-lowest (content.TopUp a c t) = refl
+content-lowest content.Withdrawal = refl
 
 pub and-both : (b : Bool) → b ≡ true → (b && not false) ≡ true
 and-both b h = rw h refl

@@ -25,6 +25,7 @@ pub reference : (k : Key) → IsNamed k → HasReference k
 reference (key.Reading m r t) n = tt
 reference (key.Assignment m t) n = tt
 reference (key.TopUp r) n = n
+reference (key.Withdrawal x) n = n
 
 before-all : (x : Entry) (xs : List Entry) → IsNamed x.key → ((e : Entry) → Member e xs → IsNamed e.key) → AllByRecursion (λ y. order x y ≡ Less) xs → IsBeforeAll entry_order x xs
 before-all x [] n m h = tt

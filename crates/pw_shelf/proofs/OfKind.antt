@@ -91,6 +91,9 @@ lowest-le (Assignments m) (key.Reading n s t) o i = absurd o
 lowest-le (Assignments m) (key.TopUp s) o i = absurd o
 lowest-le TopUps (key.Reading n s t) o i = absurd o
 lowest-le TopUps (key.Assignment n t) o i = absurd o
+lowest-le (Readings m r) (key.Withdrawal x) o i = absurd o
+lowest-le (Assignments m) (key.Withdrawal x) o i = absurd o
+lowest-le TopUps (key.Withdrawal x) o i = absurd o
 
 meters-one : (n m : MeterId) → n.0 ≡ m.0 → n ≡ m
 meters-one n m h = ap (λ (x : ℕ). record { 0 = x }) h
@@ -125,6 +128,23 @@ key-between (Assignments m) (key.TopUp t) (key.Reading p q u) h i o = absurd o
 key-between (Assignments m) (key.TopUp t) (key.TopUp u) h i o = absurd o
 key-between TopUps (key.Reading n s t) e h i o = cc
 key-between TopUps (key.Assignment n t) e h i o = cc
+key-between (Readings m r) (key.Reading n s t) (key.Withdrawal x) h i o = absurd o
+key-between (Readings m r) (key.Assignment n t) (key.Withdrawal x) h i o = absurd o
+key-between (Readings m r) (key.TopUp t) (key.Withdrawal x) h i o = absurd o
+key-between (Assignments m) (key.Assignment n t) (key.Withdrawal x) h i o = absurd o
+key-between (Assignments m) (key.TopUp t) (key.Withdrawal x) h i o = absurd o
+key-between (Readings m r) (key.Withdrawal x) (key.Reading p q u) h i o = cc
+key-between (Readings m r) (key.Withdrawal x) (key.Assignment p u) h i o = absurd o
+key-between (Readings m r) (key.Withdrawal x) (key.TopUp u) h i o = absurd o
+key-between (Readings m r) (key.Withdrawal x) (key.Withdrawal y) h i o = absurd o
+key-between (Assignments m) (key.Withdrawal x) (key.Assignment p u) h i o = cc
+key-between (Assignments m) (key.Withdrawal x) (key.Reading p q u) h i o = absurd o
+key-between (Assignments m) (key.Withdrawal x) (key.TopUp u) h i o = absurd o
+key-between (Assignments m) (key.Withdrawal x) (key.Withdrawal y) h i o = absurd o
+key-between TopUps (key.Withdrawal x) (key.TopUp u) h i o = cc
+key-between TopUps (key.Withdrawal x) (key.Reading p q u) h i o = absurd o
+key-between TopUps (key.Withdrawal x) (key.Assignment p u) h i o = absurd o
+key-between TopUps (key.Withdrawal x) (key.Withdrawal y) h i o = absurd o
 
 lowest-named : (k : Kind) → HasReference (lowest_key k)
 lowest-named (Readings m r) = tt

@@ -7,9 +7,10 @@ ghost use Rattle.pw_model.specs.Counting.{EachOnce};
 ghost use Rattle.pw_shelf.specs.Added.{without};
 ghost use Rattle.pw_shelf.specs.inner.Held.{AreNamed, AreNamed-prop, EachOnce-prop, IsNamed};
 ghost use Rattle.pw_shelf.specs.declared.fault.ShelfFault.TheVariants.{Memory};
+ghost use Rattle.pw_model.specs.declared.records.Key.TheVariants as key;
 
 use crate::fault::ShelfFault;
-use pw_model::{Contents, Entry, Key};
+use pw_model::{Contents, Entry, Key, Named};
 use std::alloc::Global;
 use std::collections::BTreeSet;
 
@@ -53,6 +54,9 @@ impl Held {
         ensures memory { IfErr result (λ e. e ≡ Memory) }
     {
         name_of(&entry.key);
+        if let Key::Withdrawal { named } = &entry.key {
+            reference_of(named);
+        }
         self.added.push(entry)?;
         self.records.insert(entry)?;
         Ok(())
@@ -102,5 +106,15 @@ fn name_of(key: &Key)
         Key::TopUp { reference } => {
             let _text = reference.bytes();
         }
+        Key::Withdrawal { named } => reference_of(named),
+    }
+}
+
+// The reference of a named top-up is one.
+fn reference_of(named: &Named)
+    ensures { IsNamed (key.Withdrawal named.now) }
+{
+    if let Named::TopUp { reference, .. } = named {
+        let _text = reference.bytes();
     }
 }

@@ -7,15 +7,16 @@ use Rattle.pw_model.specs.declared.records.Key.{Key}
 use Rattle.pw_model.specs.declared.records.Key.TheVariants as key
 use Rattle.pw_parts.specs.contracts.place.PlaceOrd.TheImpl as derived_place
 use Rattle.pw_parts.specs.declared.place.Place.{Place}
-use Rattle.pw_parts.specs.declared.place.Place.TheVariants.{Readings, Assignments, TopUps}
+use Rattle.pw_parts.specs.declared.place.Place.TheVariants.{Readings, Assignments, TopUps, Withdrawals}
 
 -- where a key stands
 abbrev pub place_of : Key → Place
 place_of (key.Reading m r t) = Readings m r
 place_of (key.Assignment m t) = Assignments m
 place_of (key.TopUp r) = TopUps
+place_of (key.Withdrawal n) = Withdrawals
 
--- the readings by meter and register, then the assignments by meter, then the top-ups: the order of the program's places
+-- the readings by meter and register, then the assignments by meter, then the top-ups, then the withdrawals: the order of the program's places
 abbrev pub place_order : Place → Place → Ordering
 place_order = derived_place.ghosts.cmp
 

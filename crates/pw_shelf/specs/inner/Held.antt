@@ -7,16 +7,19 @@ use mathlib.Core.HLevel.{×_prop, Unit-prop, Π_prop, ⊥_prop}
 use Rattle.pw_model.specs.declared.records.Key.{Key}
 use Rattle.pw_model.specs.declared.records.Key.TheVariants as key
 use Rattle.pw_model.specs.declared.records.Entry.{Entry}
+use Rattle.pw_model.specs.declared.records.Named.TheVariants as named
 use Rattle.pw_model.specs.References.{IsReference}
+use Rattle.pw_model.specs.inner.Keys.{HasReference}
 use Rattle.pw_time.specs.Instants.{IsInstant}
 use Rattle.pw_model.specs.Counting.{EachOnce, Member}
 use Rattle.pw_tariff.specs.declared.ids.AccountId.{AccountId}
 
--- the instant that a key names is one, and the reference too
+-- the instant that a key of an older kind names is one, and so is each reference
 abbrev pub IsNamed : Key → Type 0
 IsNamed (key.Reading m r t) = IsInstant t
 IsNamed (key.Assignment m t) = IsInstant t
 IsNamed (key.TopUp r) = IsReference r
+IsNamed (key.Withdrawal n) = HasReference (key.Withdrawal n)
 
 abbrev pub AreNamed : List Entry → Type 0
 AreNamed records = (e : Entry) → Member e records → IsNamed e.key
@@ -30,6 +33,9 @@ IsNamed-prop : (k : Key) → IsProp (IsNamed k)
 IsNamed-prop (key.Reading m r t) = Prim.hlevel props
 IsNamed-prop (key.Assignment m t) = Prim.hlevel props
 IsNamed-prop (key.TopUp r) = Prim.hlevel props
+IsNamed-prop (key.Withdrawal (named.Reading m r t w)) = Prim.hlevel props
+IsNamed-prop (key.Withdrawal (named.Assignment m t o)) = Prim.hlevel props
+IsNamed-prop (key.Withdrawal (named.TopUp r a c t)) = Prim.hlevel props
 
 pub AreNamed-prop : (records : List Entry) → IsProp (AreNamed records)
 AreNamed-prop records = Π_prop λ e. Π_prop λ m. IsNamed-prop e.key
