@@ -11,7 +11,7 @@ use std::alloc::AllocError;
 pub fn put(given: &mut Vec<Entry>, key: Key, content: Content) -> Result<(), AllocError>
     ensures { OnOk result (given.new.items ≡ given.old.items ++ record { key = key; content = content } ∷ []) }
 {
-    given.push(Entry { key, content })?;
+    given.extend_from_slice(&[Entry { key, content }])?;
     Ok(())
 }
 

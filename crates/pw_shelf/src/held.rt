@@ -54,10 +54,7 @@ impl Held {
         ensures memory { IfErr result (λ e. e ≡ Memory) }
     {
         name_of(&entry.key);
-        if let Key::Withdrawal { named } = &entry.key {
-            reference_of(named);
-        }
-        self.added.push(entry)?;
+        self.added.extend_from_slice(&[entry])?;
         self.records.insert(entry)?;
         Ok(())
     }

@@ -13,13 +13,13 @@ returns-clause-added c =
     rw c.in_ok-insert.ensures.keys (insert-inserts c.args.self.now.records.keys c.args.entry c.requires.fresh)
 
 pub returns-clause-begin : goal.returns-clause-begin
-returns-clause-begin c = without-inserted c.args.self.now.added.items c.push.new.self.items c.args.entry
-    c.args.self.now.records.keys c.insert.new.self.keys c.in_ok-push.ensures.items c.requires.fresh
+returns-clause-begin c = without-inserted c.args.self.now.added.items c.extend_from_slice.new.self.items c.args.entry
+    c.args.self.now.records.keys c.insert.new.self.keys c.in_ok-extend_from_slice.ensures.items c.requires.fresh
     (rw c.in_ok-insert.ensures.keys (insert-inserts c.args.self.now.records.keys c.args.entry c.requires.fresh))
 
 pub returns-in_err-insert-clause-begin : goal.returns-in_err-insert-clause-begin
-returns-in_err-insert-clause-begin c = without-refused c.args.self.now.added.items c.push.new.self.items c.args.entry
-    c.args.self.now.records.keys c.insert.new.self.keys c.in_ok-push.ensures.items c.requires.fresh
+returns-in_err-insert-clause-begin c = without-refused c.args.self.now.added.items c.extend_from_slice.new.self.items c.args.entry
+    c.args.self.now.records.keys c.insert.new.self.keys c.in_ok-extend_from_slice.ensures.items c.requires.fresh
     c.in_err-insert.ensures.err
 
 pub invariant_of-self-2 : goal.invariant_of-self-2
