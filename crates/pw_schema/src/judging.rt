@@ -2,14 +2,14 @@
 
 ghost use Rattle.std.specs.Prelude.{◌≡◌, ◌↔◌, IfNone, IfSome, IsTrue};
 ghost use Rattle.pw_tariff.specs.Office.{office_of};
-ghost use Rattle.pw_model.specs.Office.{HasOwner, IsOfOffice};
+ghost use Rattle.pw_model.specs.Office.{HasOwner, IsNamedOf, IsOfOffice};
 ghost use Rattle.pw_schema.specs.Judging.{IsRecord, IsTotal, IsTotalOf};
 ghost use Rattle.pw_schema.specs.Rows.{told, told_amount, told_key};
 
 use crate::kind::{RecordKind, TotalKind};
 use crate::reading::entry_of;
 use crate::totals::total_of;
-use pw_model::{Content, Entry, Key, MOST_CENTS, TotalKey};
+use pw_model::{Content, Entry, Key, MOST_CENTS, Named, TotalKey};
 use pw_tariff::{Office, Owner};
 use sqlite::Row;
 
@@ -26,36 +26,48 @@ fn has_owner(office: &Office, owner: &Owner) -> bool
 fn is_of_office(office: &Office, entry: &Entry) -> bool
     ensures { IsTrue result ↔ IsOfOffice (office_of office.now) entry.now }
 {
-    match (&entry.key, &entry.content) {
-        (
-            Key::Reading {
-                meter,
-                register,
-                instant,
-            },
-            Content::Reading { wh },
-        ) => {
+    if let Key::Withdrawal { named } = &entry.key {
+        return matches!(entry.content, Content::Withdrawal) && is_named_of_office(office, named);
+    }
+    match Named::of(entry) {
+        Some(named) => is_named_of_office(office, &named),
+        None => false,
+    }
+}
+
+// Whether all that a reading, an assignment or a top-up names is the office's.
+fn is_named_of_office(office: &Office, named: &Named) -> bool
+    ensures { IsTrue result ↔ IsNamedOf (office_of office.now) named.now }
+{
+    match named {
+        Named::Reading {
+            meter,
+            register,
+            instant,
+            wh,
+        } => {
             let _second = instant.seconds();
             let _wh = wh.get();
             meter.0 < office.meters() && office.counts(*meter, *register)
         }
-        (Key::Assignment { meter, start }, Content::Assignment { owner }) => {
+        Named::Assignment {
+            meter,
+            start,
+            owner,
+        } => {
             let _second = start.seconds();
             meter.0 < office.meters() && has_owner(office, owner)
         }
-        (
-            Key::TopUp { reference },
-            Content::TopUp {
-                account,
-                cents,
-                instant,
-            },
-        ) => {
+        Named::TopUp {
+            reference,
+            account,
+            cents,
+            instant,
+        } => {
             let _text = reference.bytes();
             let _second = instant.seconds();
             account.0 < office.accounts() && 1 <= *cents && *cents <= MOST_CENTS
         }
-        _ => false,
     }
 }
 
