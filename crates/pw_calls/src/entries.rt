@@ -101,6 +101,7 @@ pub(crate) fn tell_key<O: Write>(office: &Office, key: &Key, out: &mut O) {
             let text = from_utf8(reference.bytes()).unwrap_or("-");
             write!(out, "topup {text}")
         }
+        Key::Withdrawal { .. } => write!(out, "withdrawal"),
     };
 }
 
@@ -123,5 +124,6 @@ pub(crate) fn tell_content<O: Write>(office: &Office, content: &Content, out: &m
             let account = owner_name(office, Some(account));
             writeln!(out, "{account} {cents} {instant}")
         }
+        Content::Withdrawal => writeln!(out),
     };
 }

@@ -17,11 +17,13 @@ pub assignment-known : (k : Key) → IsAssignment k ⊎ (IsAssignment k → ⊥)
 assignment-known (key.Reading m r t) = inr (λ h. h)
 assignment-known (key.Assignment m t) = inl tt
 assignment-known (key.TopUp r) = inr (λ h. h)
+assignment-known (key.Withdrawal n) = inr (λ h. h)
 
 pub topup-known : (k : Key) → IsTopUp k ⊎ (IsTopUp k → ⊥)
 topup-known (key.Reading m r t) = inr (λ h. h)
 topup-known (key.Assignment m t) = inr (λ h. h)
 topup-known (key.TopUp r) = inl tt
+topup-known (key.Withdrawal n) = inr (λ h. h)
 
 -- ---- the records of the kind among those in order
 module _ (Of : Key → Type 0) (known : (k : Key) → Of k ⊎ (Of k → ⊥)) where

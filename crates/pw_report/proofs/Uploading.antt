@@ -122,6 +122,10 @@ row-gives file s TopUp (key.Reading m r t) c h i = absurd i
 row-gives file s TopUp (key.Assignment m t) c h i = absurd i
 row-gives file s TopUp (key.TopUp r) (content.Reading w) h i = absurd h
 row-gives file s TopUp (key.TopUp r) (content.Assignment o) h i = absurd h
+row-gives file s Assignment (key.Withdrawal n) c h i = absurd i
+row-gives file s Assignment (key.Assignment m t) content.Withdrawal h i = absurd h
+row-gives file s TopUp (key.Withdrawal n) c h i = absurd i
+row-gives file s TopUp (key.TopUp r) content.Withdrawal h i = absurd h
 
 -- ---- the rows of records
 abbrev rows_of : OfficeFile → List Entry → List Row
@@ -148,6 +152,10 @@ fields-back file kind (key.Assignment m t) (content.Reading w) h i = absurd h
 fields-back file kind (key.Assignment m t) (content.TopUp a c u) h i = absurd h
 fields-back file kind (key.TopUp r) (content.Reading w) h i = absurd h
 fields-back file kind (key.TopUp r) (content.Assignment o) h i = absurd h
+fields-back file Assignment (key.Withdrawal n) c h i = absurd i
+fields-back file TopUp (key.Withdrawal n) c h i = absurd i
+fields-back file kind (key.Assignment m t) content.Withdrawal h i = absurd h
+fields-back file kind (key.TopUp r) content.Withdrawal h i = absurd h
 
 rows-reached : (file : OfficeFile) (kind : RowKind) (records : List Entry) → AllOfOffice (office_of file) records → ((e : Entry) → Member e records → IsOfRow kind e.key) →
     Reached default_config st.StartRecord (flat_map (record_line file) records) (rows_of file records) st.StartRecord []

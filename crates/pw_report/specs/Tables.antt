@@ -6,7 +6,7 @@ use Rattle.pw_obis.specs.Registers.{register_name}
 use Rattle.pw_tariff.specs.declared.ids.Direction.TheVariants.{Import, Export}
 use Rattle.pw_tariff.specs.Office.{OfficeFile, office_of}
 use Rattle.pw_model.specs.declared.records.Key.{Key}
-use Rattle.pw_model.specs.declared.records.Key.TheVariants.{Reading, Assignment, TopUp}
+use Rattle.pw_model.specs.declared.records.Key.TheVariants.{Reading, Assignment, TopUp, Withdrawal}
 use Rattle.pw_model.specs.declared.records.Entry.{Entry}
 use Rattle.pw_model.specs.declared.records.Fall.{Fall}
 use Rattle.pw_model.specs.declared.records.Dispute.{Dispute}
@@ -57,11 +57,12 @@ unfoldable pub falls_text : OfficeFile → List Fall → List ℕ
 falls_text file falls = codes "meter register from wh to wh\n" ++ flat_map (fall_line file) falls
 
 -- ---- disputes
--- the kind of the records, and their key
+-- the kind of the records, and their key (a withdrawal is never in dispute: it says one thing)
 abbrev pub key_text : OfficeFile → Key → List ℕ
 key_text file (Reading m r t) = codes "reading " ++ meter_name file m.0 ++ codes " " ++ register_name r ++ codes " " ++ instant_text t
 key_text file (Assignment m t) = codes "assignment " ++ meter_name file m.0 ++ codes " " ++ instant_text t
 key_text file (TopUp reference) = codes "topup " ++ reference
+key_text file (Withdrawal named) = codes "withdrawal"
 
 -- the key, and how many records have it
 abbrev pub dispute_line : OfficeFile → Dispute → List ℕ

@@ -68,6 +68,7 @@ fn put_key(text: &mut Vec<u8>, office: &Office, key: &Key) -> Result<(), AllocEr
             put_name(text, b"", &instant_text(start))
         }
         Key::TopUp { reference } => put_name(text, b"topup", reference.bytes()),
+        Key::Withdrawal { .. } => text.extend_from_slice(b"withdrawal"),
     }
 }
 

@@ -84,11 +84,11 @@ fn put_records(rows: &mut Rows, office: &Office, records: &[Entry]) -> Result<()
     Ok(())
 }
 
-fn put_record(rows: &mut Rows, office: &Office, record: &Entry) -> Result<(), BookFault>
-    ensures text { (before : List ℕ) → HasText rows.old before [] → OnOk result (HasText rows.new (before ++ record_line office.now record.now) []) }
+fn put_record(rows: &mut Rows, office: &Office, entry: &Entry) -> Result<(), BookFault>
+    ensures text { (before : List ℕ) → HasText rows.old before [] → OnOk result (HasText rows.new (before ++ record_line office.now entry.now) []) }
     ensures fault { IfErr result (λ fault. fault ≡ Memory) }
 {
-    match (&record.key, &record.content) {
+    match (&entry.key, &entry.content) {
         (Key::Assignment { meter, start }, Content::Assignment { owner }) => {
             put_assignment(rows, office, *meter, *start, *owner)
         }
