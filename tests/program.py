@@ -216,8 +216,8 @@ def statement(store, account="A1", office=OFFICE):
 
 
 ASKED = [
-    ("statement", "A1"), ("statement", "A2"), ("export", "accounts"), ("export", "readings"), ("export", "energy"),
-    ("export", "falls"), ("export", "disputes"),
+    ("statement", "A1"), ("statement", "A2"), ("export", "accounts"), ("export", "readings"), ("export", "assignments"),
+    ("export", "topups"), ("export", "energy"), ("export", "falls"), ("export", "disputes"),
 ]  # fmt: skip
 
 
