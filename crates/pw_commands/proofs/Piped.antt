@@ -22,7 +22,7 @@ module _ (shelf : Ghosts MemoryShelf) (unread left known after : Option (List �
   open-still (Err Read) h shut abandons = h.1.stays_open shut abandons
   open-still (Err TooManyTurns) h shut abandons = h.1.stays_open shut abandons
   open-still (Err Write) h shut abandons = h.5.stays_open shut abandons
-  open-still (Err Memory) h shut abandons = ap (λ (b : Book MemoryShelf shelf). b.shut) h ∙ shut
+  open-still (Err Memory) h shut abandons = ap (λ (b : Book MemoryShelf shelf). b.shut) h.2 ∙ shut
 
   pub piped : (text : List ℕ) (outcome : Result Served WireFault) → IsOfficeOf text old.office → held shelf old ≡ no_content → old.shut ≡ false →
       HasHeadline shelf Everybody unread left known after old new outcome → shelf.clean new.shelf →

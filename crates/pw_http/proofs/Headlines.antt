@@ -129,4 +129,4 @@ module _ {S : Type 0} (shelf : Ghosts S) where
   talk-headline audience unread left known after a c turns (Err Read) x = headline-so-far audience unread left known after a c x
   talk-headline audience unread left known after a c turns (Err TooManyTurns) x = headline-so-far audience unread left known after a c x.0
   talk-headline audience unread left known after a c turns (Err Write) x = let y = headline-cut audience x.0 x.1 a c x.4 in (x.0, x.1, x.2, x.3, y.0, y.1)
-  talk-headline audience unread left known after a c turns (Err Memory) x = x.2
+  talk-headline audience unread left known after a c turns (Err Memory) x = x

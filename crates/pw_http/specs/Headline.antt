@@ -107,13 +107,13 @@ module _ {S : Type 0} (shelf : Ghosts S) where
       (stream : List ℕ) × (text : List ℕ) × Tells unread stream × Appends known after text
       × (talk : Cut audience AnswersFairly old stream text new) × ComesTo old (cut_exchanges audience AnswersFairly talk) new
 
-  -- whatever the conversation answers
+  -- whatever the conversation answers; without memory for it nothing is read, written or changed
   abbrev pub HasHeadline : Audience → Option (List ℕ) → Option (List ℕ) → Option (List ℕ) → Option (List ℕ) → Book S shelf → Book S shelf → Result Served WireFault → Type 0
   HasHeadline audience unread left known after old new (Ok served) = IsHeadline audience unread known after old new served.requests
   HasHeadline audience unread left known after old new (Err Read) = IsHeadlineSoFar audience unread left known after old new
   HasHeadline audience unread left known after old new (Err TooManyTurns) = IsHeadlineSoFar audience unread left known after old new
   HasHeadline audience unread left known after old new (Err Write) = IsHeadlineCut audience unread known after old new
-  HasHeadline audience unread left known after old new (Err Memory) = new ≡ old
+  HasHeadline audience unread left known after old new (Err Memory) = (left ≡ unread) × (after ≡ known) × (new ≡ old)
 
   -- ---- two conversations, each ended or cut
   -- from books with the same records; the uploads that were answered 200 are the same set, in whatever order and
