@@ -1,5 +1,5 @@
 -- The assignments of all meters, put together meter by meter.
-use Rattle.std.proofs.Common.{◌≡◌, ◌↔◌, ℕ, ◌+◌, ◌<◌, List, [], ◌∷◌, ◌++◌, Ordering, Less, ap, refl, arith}
+use Rattle.std.proofs.Common.{◌≡◌, ◌↔◌, ◌+◌, ◌<◌, List, [], ◌∷◌, ◌++◌, Less, ap, refl}
 use Rattle.pw_tariff.specs.declared.ids.MeterId.{MeterId}
 use Rattle.pw_tariff.specs.Office.{OfficeRules}
 use Rattle.pw_model.specs.declared.records.Key.{Key}
@@ -19,11 +19,13 @@ of-meter : (m : MeterId) (k : Key) → IsAssignmentOf m k → IsAssignment k
 of-meter m (key.Reading n r t) h = absurd h
 of-meter m (key.Assignment n t) h = tt
 of-meter m (key.TopUp r) h = absurd h
+of-meter m (key.Withdrawal n) h = absurd h
 
 is-of-meter : (m : MeterId) (k : Key) → IsAssignment k → IsAssignmentOf m k ↔ (meter_place k ≡ m.0)
 is-of-meter m (key.Reading n r t) h = absurd h
 is-of-meter m (key.Assignment n t) h = (λ e. ap (λ (x : MeterId). x.0) e, λ e. ap (λ i. let x : MeterId = record { 0 = i } in x) e)
 is-of-meter m (key.TopUp r) h = absurd h
+is-of-meter m (key.Withdrawal n) h = absurd h
 
 -- those of a lower meter stand before
 key-first : (k l : Key) → IsAssignment k → IsAssignment l → meter_place k < meter_place l → key_order k l ≡ Less
@@ -31,8 +33,10 @@ unfolding key_numbers
 key-first (key.Assignment m t) (key.Assignment n u) h i l = then-less 1 1 (m.0 ∷ t ∷ []) (n.0 ∷ u ∷ []) refl (first-less m.0 n.0 (t ∷ []) (u ∷ []) l)
 key-first (key.Reading m r t) l h i q = absurd h
 key-first (key.TopUp r) l h i q = absurd h
+key-first (key.Withdrawal n) l h i q = absurd h
 key-first (key.Assignment m t) (key.Reading n r u) h i q = absurd i
 key-first (key.Assignment m t) (key.TopUp r) h i q = absurd i
+key-first (key.Assignment m t) (key.Withdrawal n) h i q = absurd i
 
 before-entry : (e f : Entry) → key_order e.key f.key ≡ Less → entry_order e f ≡ Less
 before-entry e f h = rw h refl
@@ -60,8 +64,10 @@ of-office : (office : OfficeRules) (k : Key) (c : Content) → IsOf office k c �
 of-office office (key.Assignment m t) (content.Assignment o) h i = h.0
 of-office office (key.Assignment m t) (content.Reading w) h i = absurd h
 of-office office (key.Assignment m t) (content.TopUp a c u) h i = absurd h
+of-office office (key.Assignment m t) content.Withdrawal h i = absurd h
 of-office office (key.Reading m r t) c h i = absurd i
 of-office office (key.TopUp r) c h i = absurd i
+of-office office (key.Withdrawal n) c h i = absurd i
 
 pub assignments-all : (office : OfficeRules) (s found : List Entry) → AllOfOffice office s → AssignmentsBefore s office.meters found → ListsHeld IsAssignment s found
 assignments-all office s found o a =

@@ -25,9 +25,11 @@ cents-most office k a Nothing h = omega arith
 cents-most office k a Several h = omega arith
 cents-most office k a (One (content.Reading w)) h = omega arith
 cents-most office k a (One (content.Assignment o)) h = omega arith
+cents-most office k a (One content.Withdrawal) h = omega arith
 cents-most office (key.TopUp x) a (One (content.TopUp b c t)) h = elim (cases_Bool (b.0 == a)) [ inl y ↦ rw y h.3 | inr n ↦ rw n (omega arith) ]
 cents-most office (key.Reading m q t) a (One (content.TopUp b c i)) h = absurd h
 cents-most office (key.Assignment m t) a (One (content.TopUp b c i)) h = absurd h
+cents-most office (key.Withdrawal n) a (One (content.TopUp b c i)) h = absurd h
 
 topped-most : (office : OfficeRules) (s : List Entry) (a : ℕ) → AllOfOffice office s → topped_up s a ≤ length s * most_cents
 unfolding topped_up

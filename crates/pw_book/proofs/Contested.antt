@@ -5,18 +5,19 @@ use Rattle.pw_tariff.specs.declared.ids.MeterId.{MeterId}
 use Rattle.pw_tariff.specs.Office.{OfficeRules, register_place}
 use Rattle.pw_model.specs.declared.records.Key.{Key}
 use Rattle.pw_model.specs.declared.records.Key.TheVariants as key
+use Rattle.pw_model.specs.declared.records.Named.{Named}
 use Rattle.pw_model.specs.declared.records.Content.{Content}
 use Rattle.pw_model.specs.declared.records.Content.TheVariants as content
 use Rattle.pw_model.specs.declared.records.Entry.{Entry}
 use Rattle.pw_model.specs.declared.records.Dispute.{Dispute}
 use Rattle.pw_model.specs.Lists.{Lists, IsDispute, dispute_order, AreDisputes, records_at}
-use Rattle.pw_model.specs.Office.{AllOfOffice, IsOf, most_records}
-use Rattle.pw_model.specs.Same.{key_order, key_numbers}
+use Rattle.pw_model.specs.Office.{AllOfOffice, IsOf, IsOfOffice, most_records}
+use Rattle.pw_model.specs.Same.{key_order, key_numbers, named_numbers}
 use Rattle.pw_model.specs.Shelf.{ShelfContent}
 use Rattle.pw_model.proofs.Same.{register-one}
 use Rattle.pw_model.specs.Kinds.{ListsHeld, IsReadingOf, IsAssignmentOf, IsTopUp}
 use Rattle.pw_book.specs.inner.Places.{DisputesBefore, key_place, IsWithin, AreWithin}
-use Rattle.pw_book.proofs.Disputed.{held-disputes, held-few, count, count-all, count-some}
+use Rattle.pw_book.proofs.Disputed.{held-disputes, held-few, count, count-all, count-one, count-some}
 use Rattle.pw_book.proofs.Segments.{segment-more, segment-all, segment-none, first-less, then-less, place-few, places-split, places-same}
 
 -- ---- the records of an office
@@ -24,10 +25,13 @@ key-within : (office : OfficeRules) (k : Key) (c : Content) → IsOf office k c 
 key-within office (key.Reading m r t) (content.Reading w) h = h.0
 key-within office (key.Reading m r t) (content.Assignment o) h = absurd h
 key-within office (key.Reading m r t) (content.TopUp a c u) h = absurd h
+key-within office (key.Reading m r t) content.Withdrawal h = absurd h
 key-within office (key.Assignment m t) (content.Reading w) h = absurd h
 key-within office (key.Assignment m t) (content.Assignment o) h = h.0
 key-within office (key.Assignment m t) (content.TopUp a c u) h = absurd h
+key-within office (key.Assignment m t) content.Withdrawal h = absurd h
 key-within office (key.TopUp r) c h = tt
+key-within office (key.Withdrawal n) c h = tt
 
 pub all-within : (office : OfficeRules) (s : List Entry) → length s ≤ most_records → AllOfOffice office s → AreWithin office.meters s
 all-within office s l h = record { few = l; keys = λ e m. key-within office e.key e.content (h e m) }
@@ -55,6 +59,13 @@ key-before meters (key.Assignment m t) (key.TopUp x) a b h = first-less 1 2 (m.0
 key-before meters (key.TopUp x) (key.Reading n q u) a b h = absurd (let f = place-few q in omega (arith, f, b, h))
 key-before meters (key.TopUp x) (key.Assignment n u) a b h = absurd (omega (arith, b, h))
 key-before meters (key.TopUp x) (key.TopUp y) a b h = absurd (omega (arith, h))
+key-before meters (key.Reading m r t) (key.Withdrawal x) a b h = first-less 0 3 (m.0 ∷ register_place r ∷ t ∷ []) (named_numbers x) (omega arith)
+key-before meters (key.Assignment m t) (key.Withdrawal x) a b h = first-less 1 3 (m.0 ∷ t ∷ []) (named_numbers x) (omega arith)
+key-before meters (key.TopUp r) (key.Withdrawal x) a b h = first-less 2 3 r (named_numbers x) (omega arith)
+key-before meters (key.Withdrawal x) (key.Reading n q u) a b h = absurd (let f = place-few q in omega (arith, f, b, h))
+key-before meters (key.Withdrawal x) (key.Assignment n u) a b h = absurd (omega (arith, b, h))
+key-before meters (key.Withdrawal x) (key.TopUp y) a b h = absurd (omega (arith, h))
+key-before meters (key.Withdrawal x) (key.Withdrawal y) a b h = absurd (omega (arith, h))
 
 -- ---- the keys at a place
 abbrev meter : ℕ → MeterId
@@ -67,6 +78,7 @@ reading-place meters m r l (key.Reading n q t) w = (
 )
 reading-place meters m r l (key.Assignment n t) w = (λ h. absurd h, λ e. absurd (let f = place-few r in omega (arith, f, l, e)))
 reading-place meters m r l (key.TopUp x) w = (λ h. absurd h, λ e. absurd (let f = place-few r in omega (arith, f, l, e)))
+reading-place meters m r l (key.Withdrawal x) w = (λ h. absurd h, λ e. absurd (let f = place-few r in omega (arith, f, l, e)))
 
 pub assignment-place : (meters : ℕ) (m : MeterId) → m.0 < meters → (k : Key) → IsWithin meters k → IsAssignmentOf m k ↔ (key_place meters k ≡ 6 * meters + m.0)
 assignment-place meters m l (key.Reading n q t) w = (λ h. absurd h, λ e. absurd (let f = place-few q in omega (arith, f, w, e)))
@@ -75,16 +87,43 @@ assignment-place meters m l (key.Assignment n t) w = (
   λ e. ap meter (let p : n.0 ≡ m.0 = omega (arith, e) in p),
 )
 assignment-place meters m l (key.TopUp x) w = (λ h. absurd h, λ e. absurd (omega (arith, l, e)))
+assignment-place meters m l (key.Withdrawal x) w = (λ h. absurd h, λ e. absurd (omega (arith, l, e)))
 
 pub topup-place : (meters : ℕ) (k : Key) → IsWithin meters k → IsTopUp k ↔ (key_place meters k ≡ 7 * meters)
 topup-place meters (key.Reading n q t) w = (λ h. absurd h, λ e. absurd (let f = place-few q in omega (arith, f, w, e)))
 topup-place meters (key.Assignment n t) w = (λ h. absurd h, λ e. absurd (omega (arith, w, e)))
 topup-place meters (key.TopUp x) w = (λ h. refl, λ e. tt)
+topup-place meters (key.Withdrawal x) w = (λ h. absurd h, λ e. absurd (omega (arith, e)))
 
-key-last : (meters : ℕ) (k : Key) → IsWithin meters k → key_place meters k < 7 * meters + 1
-key-last meters (key.Reading n q t) w = let f = place-few q in omega (arith, f, w)
-key-last meters (key.Assignment n t) w = omega (arith, w)
-key-last meters (key.TopUp x) w = omega arith
+-- ---- withdrawals
+-- the key of a withdrawal has one content alone
+withdrawn-content : (office : OfficeRules) (n : Named) (c : Content) → IsOf office (key.Withdrawal n) c → c ≡ content.Withdrawal
+withdrawn-content office n content.Withdrawal h = refl
+withdrawn-content office n (content.Reading w) h = absurd h
+withdrawn-content office n (content.Assignment o) h = absurd h
+withdrawn-content office n (content.TopUp a c t) h = absurd h
+
+withdrawn-entry : (office : OfficeRules) (n : Named) (e : Entry) → IsOfOffice office e → e.key ≡ key.Withdrawal n → e.content ≡ content.Withdrawal
+withdrawn-entry office n e o q =
+    let P : Key → Type 0 = λ k. IsOf office k e.content in
+    withdrawn-content office n e.content (subst P q o)
+
+-- so it is in no dispute
+never-disputed : (office : OfficeRules) (s : List Entry) (n : Named) → AllOfOffice office s → records_at s (key.Withdrawal n) ≤ 1
+never-disputed office s n h =
+    let one = count-one (key.Withdrawal n) s (λ e f i j p q.
+    let key : e.key ≡ f.key = p ∙ sym q in
+    let both : e.content ≡ f.content = withdrawn-entry office n e (h e i) p ∙ sym (withdrawn-entry office n f (h f j) q) in
+    λ i. record { key = key i; content = both i }) in
+    let all = count-all s (key.Withdrawal n) in
+    omega (arith, one, all)
+
+-- the place of a key that two or more records of an office have
+key-last : (office : OfficeRules) (s : List Entry) (k : Key) → AllOfOffice office s → IsWithin office.meters k → 2 ≤ records_at s k → key_place office.meters k < 7 * office.meters + 1
+key-last office s (key.Reading n q t) h w l = let f = place-few q in omega (arith, f, w)
+key-last office s (key.Assignment n t) h w l = omega (arith, w)
+key-last office s (key.TopUp x) h w l = omega arith
+key-last office s (key.Withdrawal n) h w l = absurd (let f = never-disputed office s n h in omega (arith, f, l))
 
 -- ---- the disputes of a kind behind those of the kinds before it
 pub disputes-more : (Of : Key → Type 0) (meters n : ℕ) (s records : List Entry) (old more : List Dispute) → AreWithin meters s → ListsHeld Of s records → ((k : Key) → IsWithin meters k → Of k ↔ (key_place meters k ≡ n)) →
@@ -96,8 +135,11 @@ disputes-more Of meters n s records old more w h q d a =
     (λ x i. q x.key (dispute-within meters s x w i))
     (λ x y i j l. key-before meters x.key y.key (dispute-within meters s x w i) (dispute-within meters s y w j) l)
 
-pub disputes-all : (meters : ℕ) (s : List Entry) (disputes : List Dispute) → AreWithin meters s → DisputesBefore meters s (7 * meters + 1) disputes → AreDisputes s disputes
-disputes-all meters s disputes w a = segment-all dispute_order (IsDispute s) (λ d. key_place meters d.key) (7 * meters + 1) disputes a (λ d h. key-last meters d.key (dispute-within meters s d w h))
+pub disputes-all : (office : OfficeRules) (s : List Entry) (disputes : List Dispute) → AllOfOffice office s → AreWithin office.meters s → DisputesBefore office.meters s (7 * office.meters + 1) disputes → AreDisputes s disputes
+disputes-all office s disputes o w a = segment-all dispute_order (IsDispute s) (λ d. key_place office.meters d.key) (7 * office.meters + 1) disputes a (λ d h.
+    let several = h.several in
+    let number = h.number in
+    key-last office s d.key o (dispute-within office.meters s d w h) (omega (arith, several, number)))
 
 pub disputes-at : (meters : ℕ) (s : List Entry) (m n : ℕ) (disputes : List Dispute) → m ≡ n → DisputesBefore meters s m disputes → DisputesBefore meters s n disputes
 disputes-at meters s m n disputes e a = let F : ℕ → Type 0 = λ k. DisputesBefore meters s k disputes in subst F e a

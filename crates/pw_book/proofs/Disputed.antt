@@ -73,6 +73,29 @@ count-none k (e ∷ es) h =
       | inr u ↦ rw (u, zero) (omega (arith, behind))
     ]
 
+-- one at most, where those of a key are all the same
+pub count-one : (k : Key) (es : List Entry) → ((e f : Entry) → Member e es → Member f es → e.key ≡ k → f.key ≡ k → e ≡ f) → count k es ≤ 1
+unfolding count
+count-one k [] h = omega arith
+count-one k (e ∷ es) h =
+    let behind = count-one k es (λ x y m n. h x y (inr m) (inr n)) in
+    elim (cases_Bool (stands_in same_entry e es)) [
+      | inl t ↦ rw t (omega (arith, behind))
+      | inr u ↦ elim (cases_Bool (same_key e.key k)) [
+        | inl i ↦ (
+            let here : e.key ≡ k = (same_key-decides e.key k).0 i in
+            let one : one_at k e ≡ 1 = one-here k e here in
+            let others : count k es ≡ 0 = count-none k es (λ f m q.
+            let same : f ≡ e = h f e (inr m) (inl refl) q here in
+            let P : Entry → Type 0 = λ x. Member x es in
+            true≢false (sym ((stands-decides same_entry same_entry-decides (one_at k) e es).1 (subst P same m)) ∙ u)) in
+            rw (u, one) (omega (arith, others)))
+        | inr f ↦ (
+            let zero : one_at k e ≡ 0 = rw f refl in
+            rw (u, zero) (omega (arith, behind)))
+      ]
+    ]
+
 -- behind records of other keys
 count-behind : (k : Key) (done rest : List Entry) → IsInOrder entry_order (done ++ rest) → ((e : Entry) → Member e done → e.key ≡ k → ⊥) → count k (done ++ rest) ≡ count k rest
 count-behind k [] rest r h = refl

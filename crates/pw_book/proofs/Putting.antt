@@ -53,12 +53,19 @@ pub key-of : (office : OfficeRules) (k : Key) (c : Content) → IsOf office k c 
 key-of office (key.Reading m r t) (content.Reading w) h = (h.0, h.1)
 key-of office (key.Assignment m t) (content.Assignment o) h = h.0
 key-of office (key.TopUp r) (content.TopUp a c t) h = tt
+key-of office (key.Withdrawal n) content.Withdrawal h = tt
 key-of office (key.Reading m r t) (content.Assignment o) h = absurd h
 key-of office (key.Reading m r t) (content.TopUp a c u) h = absurd h
 key-of office (key.Assignment m t) (content.Reading w) h = absurd h
 key-of office (key.Assignment m t) (content.TopUp a c u) h = absurd h
 key-of office (key.TopUp r) (content.Reading w) h = absurd h
 key-of office (key.TopUp r) (content.Assignment o) h = absurd h
+key-of office (key.Reading m r t) content.Withdrawal h = absurd h
+key-of office (key.Assignment m t) content.Withdrawal h = absurd h
+key-of office (key.TopUp r) content.Withdrawal h = absurd h
+key-of office (key.Withdrawal n) (content.Reading w) h = absurd h
+key-of office (key.Withdrawal n) (content.Assignment o) h = absurd h
+key-of office (key.Withdrawal n) (content.TopUp a c u) h = absurd h
 
 -- an entry more changes what is told at its key
 pub just-changed : (office : OfficeRules) (e : Entry) (before behind : Contents) (old two mid new : ShelfContent) → two ≡ old → IsWithRecord two e mid → new ≡ mid → before ≡ contents_at old.records e.key → behind ≡ contents_at mid.records e.key →
@@ -124,6 +131,7 @@ takes-on office (key.Reading m r t) old new a b d p q l h = λ starts s. let x =
 takes-on office (key.Assignment m t) old new a b d p q l h = λ starts points s v.
     let x = h starts points (starts-same old new m.0 starts p s) (points-same old new m.0 t points p q v) in omega (arith, x, l)
 takes-on office (key.TopUp r) old new a b d p q l h = omega (arith, h, l)
+takes-on office (key.Withdrawal n) old new a b d p q l h = omega (arith, h, l)
 
 -- a record that was added changes no start and no point
 pub with-record : (e : Entry) (old two mid three : ShelfContent) → two ≡ old → IsWithRecord two e mid → three ≡ mid → (three.start ≡ old.start) × (three.point ≡ old.point)
@@ -158,6 +166,7 @@ added-then (key.Assignment m t) e old two mid three new q w z h =
     let v = with-record e old two mid three q w z in
     (h.0 ∙ v.1, λ n u d. h.1 n u d ∙ ap (λ (f : ℕ → ℕ → Option (Option AccountId)). f n u) v.0)
 added-then (key.TopUp r) e old two mid three new q w z h = tt
+added-then (key.Withdrawal n) e old two mid three new q w z h = tt
 
 pub takes-more : (office : OfficeRules) (k : Key) (e : Entry) (old two mid three : ShelfContent) (a c d f g : ℕ) (before behind : Contents) → two ≡ old → IsWithRecord two e mid → three ≡ mid →
     c ≡ a + 1 + rows_at before → d ≡ c + 1 → f ≡ d + 1 + rows_at behind → TakesAtMost 0 office three k f g → TakesAtMost 7 office old k a g

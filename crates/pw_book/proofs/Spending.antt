@@ -21,11 +21,13 @@ reading-takes : (office : OfficeRules) (k : Key) (was c : ShelfContent) (starts 
 reading-takes office (key.Reading m r t) was c starts old new i h p x = let y = x starts (starts-same was c m.0 starts p h) in omega (arith, y)
 reading-takes office (key.Assignment m t) was c starts old new i h p x = absurd i
 reading-takes office (key.TopUp r) was c starts old new i h p x = absurd i
+reading-takes office (key.Withdrawal n) was c starts old new i h p x = absurd i
 
 top-up-takes : (office : OfficeRules) (k : Key) (c : ShelfContent) (old new : ℕ) → IsTopUp k → TakesAtMost 7 office c k old new → new ≤ old + 10
 top-up-takes office (key.Reading m r t) c old new i x = absurd i
 top-up-takes office (key.Assignment m t) c old new i x = absurd i
 top-up-takes office (key.TopUp r) c old new i x = omega (arith, x)
+top-up-takes office (key.Withdrawal n) c old new i x = absurd i
 
 -- the points from an assignment's start up to the next, or all of them
 have-up-to : (c : ShelfContent) (m t points : ℕ) (h : HasPoints (IsUpToNextStart c m t) c m points) → HavePoints c m t h.each
@@ -41,6 +43,7 @@ assignment-takes office (key.Assignment m t) c starts points old new i x =
     let z = i.1.all in
     omega (arith, y, z)
 assignment-takes office (key.TopUp r) c starts points old new i x = absurd i
+assignment-takes office (key.Withdrawal n) c starts points old new i x = absurd i
 
 -- the meter of an assignment has so many starts
 abbrev pub HasStartsFor : ShelfContent → ℕ → Key → Type 0
@@ -55,24 +58,29 @@ assignment-takes-later office (key.Assignment m t) was c starts more points old 
     let z = i.1.all in
     omega (arith, y, z)
 assignment-takes-later office (key.TopUp r) was c starts more points old new i p h x = absurd i
+assignment-takes-later office (key.Withdrawal n) was c starts more points old new i p h x = absurd i
 
 -- one start more at most behind an assignment
 starts-later : (k l : Key) (c d : ShelfContent) (most : ℕ) → ChangesOneStart k c d → IsAssignment k → HasStartsFor c most l → HasStartsFor d (most + 1) l
 starts-later (key.Assignment m t) (key.Assignment n u) c d most h a s = starts-more (c.start n.0) (d.start n.0) t most (λ v q. h.1 n.0 v (λ b. q b.1)) s
 starts-later (key.Assignment m t) (key.Reading n r u) c d most h a s = tt
 starts-later (key.Assignment m t) (key.TopUp r) c d most h a s = tt
+starts-later (key.Assignment m t) (key.Withdrawal n) c d most h a s = tt
 starts-later (key.Reading m r t) l c d most h a s = absurd a
 starts-later (key.TopUp r) l c d most h a s = absurd a
+starts-later (key.Withdrawal n) l c d most h a s = absurd a
 
 is-assignment : (k : Key) (c : ShelfContent) (starts points : ℕ) → IsAssignmentWith c starts points k → IsAssignment k
 is-assignment (key.Reading m r t) c starts points i = absurd i
 is-assignment (key.Assignment m t) c starts points i = tt
 is-assignment (key.TopUp r) c starts points i = absurd i
+is-assignment (key.Withdrawal n) c starts points i = absurd i
 
 starts-at-first : (k : Key) (c : ShelfContent) (starts points : ℕ) → IsAssignmentWith c starts points k → HasStartsFor c starts k
 starts-at-first (key.Reading m r t) c starts points i = absurd i
 starts-at-first (key.Assignment m t) c starts points i = i.0
 starts-at-first (key.TopUp r) c starts points i = absurd i
+starts-at-first (key.Withdrawal n) c starts points i = absurd i
 
 -- what holds of the points and starts behind so many assignments of an upload
 pub record IsBehind (entries : List Entry) (i : ℕ) (was c : ShelfContent) (starts : ℕ) : Type 0 where
@@ -105,6 +113,7 @@ behind-next entries e i was c d starts points m a b h =
     points-kept (key.Reading m r t) c d a h = absurd a
     points-kept (key.Assignment m t) c d a h = h.0
     points-kept (key.TopUp r) c d a h = absurd a
+    points-kept (key.Withdrawal n) c d a h = absurd a
 
 pub assignments-next : (office : OfficeRules) (entries : List Entry) (e : Entry) (i : ℕ) (was c : ShelfContent) (starts points first old new : ℕ) → i < length entries → Member e entries → AreAssignmentsWith was starts points entries →
     IsBehind entries i was c starts → old ≤ first + i * (39 + (starts + length entries) + points + 6 * classes_of office) → TakesAtMost 7 office c e.key old new →

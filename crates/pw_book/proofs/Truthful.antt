@@ -9,6 +9,7 @@ use Rattle.pw_tariff.specs.declared.ids.Direction.{Direction}
 use Rattle.pw_tariff.specs.Office.{OfficeRules}
 use Rattle.pw_model.specs.declared.records.Key.{Key}
 use Rattle.pw_model.specs.declared.records.Key.TheVariants as key
+use Rattle.pw_model.specs.declared.records.Named.{Named}
 use Rattle.pw_model.specs.declared.records.Content.TheVariants as content
 use Rattle.pw_model.specs.declared.records.Contents.{Contents}
 use Rattle.pw_model.specs.declared.records.Contents.TheVariants.{Nothing, One, Several}
@@ -61,11 +62,13 @@ abbrev meter_in : Key → ℕ
 meter_in (key.Reading m r t) = m.0
 meter_in (key.Assignment m t) = m.0
 meter_in (key.TopUp r) = 0
+meter_in (key.Withdrawal n) = 0
 
 abbrev second_in : Key → ℕ
 second_in (key.Reading m r t) = t
 second_in (key.Assignment m t) = t
 second_in (key.TopUp r) = 0
+second_in (key.Withdrawal n) = 0
 
 abbrev register_in : Register → Key → Register
 register_in other (key.Reading m r t) = r
@@ -129,6 +132,7 @@ no-cents office m r t a Nothing h = refl
 no-cents office m r t a Several h = refl
 no-cents office m r t a (One (content.Reading w)) h = refl
 no-cents office m r t a (One (content.Assignment o)) h = refl
+no-cents office m r t a (One content.Withdrawal) h = refl
 no-cents office m r t a (One (content.TopUp b c i)) h = absurd h
 
 module _ (office : OfficeRules) (o : IsOffice office) (s : List Entry) (m : ℕ) (r : Register) (t : ℕ) (before behind : Contents) (old : ShelfContent) (j : IsJustChanged office s (reading_key m r t) before behind old) where
@@ -204,6 +208,7 @@ no-cents-given office m t a Nothing h = refl
 no-cents-given office m t a Several h = refl
 no-cents-given office m t a (One (content.Reading w)) h = refl
 no-cents-given office m t a (One (content.Assignment p)) h = refl
+no-cents-given office m t a (One content.Withdrawal) h = refl
 no-cents-given office m t a (One (content.TopUp b c i)) h = absurd h
 
 module _ (office : OfficeRules) (o : IsOffice office) (s : List Entry) (m t : ℕ) (before behind : Contents) (old : ShelfContent) (j : IsJustChanged office s (assignment_key m t) before behind old) where
@@ -284,6 +289,7 @@ paid-for a Nothing = refl
 paid-for a Several = refl
 paid-for a (One (content.Reading w)) = refl
 paid-for a (One (content.Assignment o)) = refl
+paid-for a (One content.Withdrawal) = refl
 paid-for a (One (content.TopUp b c t)) = refl
 
 paid-one : (c : Contents) (b : AccountId × ℕ) → paid_of c ≡ Some b → (t : ℕ) × (c ≡ One (content.TopUp b.0 b.1 t))
@@ -291,6 +297,7 @@ paid-one Nothing b e = absurd (none-some b e)
 paid-one Several b e = absurd (none-some b e)
 paid-one (One (content.Reading w)) b e = absurd (none-some b e)
 paid-one (One (content.Assignment o)) b e = absurd (none-some b e)
+paid-one (One content.Withdrawal) b e = absurd (none-some b e)
 paid-one (One (content.TopUp a n t)) b e = let i = same_Some (a, n) b e in (t, λ x. One (content.TopUp (i x).0 (i x).1 t))
 
 module _ (office : OfficeRules) (o : IsOffice office) (s : List Entry) (r : List ℕ) (before behind : Contents) (old : ShelfContent) (j : IsJustChanged office s (key.TopUp r) before behind old) where
@@ -375,3 +382,22 @@ paid-records None (Some d) old new m = m.records
 paid-records (Some b) None old new m = m.records
 paid-records None None old new m = ap (λ (c : ShelfContent). c.records) m
 paid-records (Some b) (Some d) old new m = ap (λ (c : ShelfContent). c.records) m
+
+-- ---- a withdrawal
+-- at the key of a withdrawal no cents are told
+no-cents-withdrawn : (office : OfficeRules) (n : Named) (a : ℕ) (b : Contents) → ToldOf office (key.Withdrawal n) b → cents_for a b ≡ 0
+no-cents-withdrawn office n a Nothing h = refl
+no-cents-withdrawn office n a Several h = refl
+no-cents-withdrawn office n a (One (content.Reading w)) h = refl
+no-cents-withdrawn office n a (One (content.Assignment o)) h = refl
+no-cents-withdrawn office n a (One content.Withdrawal) h = refl
+no-cents-withdrawn office n a (One (content.TopUp b c t)) h = absurd h
+
+-- what is told there changes no point, no start and no total
+pub withdrawal-true : (office : OfficeRules) → IsOffice office → (s : List Entry) (n : Named) (before behind : Contents) (old : ShelfContent) → IsJustChanged office s (key.Withdrawal n) before behind old → IsTrueContent office old
+withdrawal-true office o s n before behind old j =
+    same-true office o s (key.Withdrawal n) before behind old j (λ i m r t. j.points m r t (λ p. cc) i) (λ i m t. j.starts m t (λ p. cc) i) (λ a.
+    let p = j.paid a in
+    let was = no-cents-withdrawn office n a before (fits-before office o s (key.Withdrawal n) before behind old j) in
+    let is = no-cents-withdrawn office n a behind (fits-behind office o s (key.Withdrawal n) before behind old j) in
+    omega (arith, p, was, is))

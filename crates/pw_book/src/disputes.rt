@@ -19,7 +19,7 @@ use pw_shelf::{Shelf, ShelfFault};
 use pw_tariff::{MeterId, Office};
 use std::alloc::{AllocError, Global};
 
-// The disputes of all keys, of the records held.
+// The disputes of all keys, of the records held. (The key of a withdrawal is in none: it has one content alone.)
 pub(crate) fn disputes_held<S: Shelf>(
     shelf: &mut S,
     alloc: Global,

@@ -172,5 +172,7 @@ pub(crate) fn settle<S: Shelf>(
             assignment_changed(shelf, basis, *meter, *start, before, behind)
         }
         Key::TopUp { .. } => top_up_changed(shelf, before, behind),
+        // What is told at a withdrawal's own key counts towards no point, start or total.
+        Key::Withdrawal { .. } => Ok(()),
     }
 }

@@ -40,6 +40,7 @@ abbrev pub IsKeyOf : OfficeRules → Key → Type 0
 IsKeyOf office (key.Reading m r t) = (m.0 < office.meters) × (office.counts m.0 r ≡ true)
 IsKeyOf office (key.Assignment m t) = m.0 < office.meters
 IsKeyOf office (key.TopUp r) = Unit {0}
+IsKeyOf office (key.Withdrawal n) = Unit {0}
 
 -- from a list of records to those that are held: at a key this was told and that is; no content takes the place of another
 -- at once, elsewhere the same counts, and top-ups follow what is told; points, starts and totals are still those of the list
@@ -78,6 +79,7 @@ TakesAtMost beside office c (key.Reading m r t) old new = (starts : ℕ) → Has
 TakesAtMost beside office c (key.Assignment m t) old new = (starts : ℕ) (points : Register → ℕ) → HasStarts c m.0 starts → HavePoints c m.0 t points →
     new ≤ old + beside + (32 + starts) + (over_registers Import points + over_registers Export points) + 6 * classes_of office
 TakesAtMost beside office c (key.TopUp r) old new = new ≤ old + beside + 3
+TakesAtMost beside office c (key.Withdrawal n) old new = new ≤ old + beside
 
 -- behind an assignment the points are as before, and the starts at each other key
 abbrev pub ChangesOneStart : Key → ShelfContent → ShelfContent → Type 0

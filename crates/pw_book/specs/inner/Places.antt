@@ -18,17 +18,19 @@ use Rattle.pw_model.specs.Shelf.{ShelfContent}
 use Rattle.pw_tariff.specs.Office.{register_place}
 
 -- ---- places
--- the registers of all meters first, then the meters, then the top-ups
+-- the registers of all meters first, then the meters, then the top-ups, then the withdrawals
 abbrev pub key_place : ℕ → Key → ℕ
 key_place meters (key.Reading m r t) = 6 * m.0 + register_place r
 key_place meters (key.Assignment m t) = 6 * meters + m.0
 key_place meters (key.TopUp r) = 7 * meters
+key_place meters (key.Withdrawal n) = 7 * meters + 1
 
--- a key of one of so many meters, or of a top-up
+-- a key of one of so many meters, or of a top-up, or of a withdrawal
 abbrev pub IsWithin : ℕ → Key → Type 0
 IsWithin meters (key.Reading m r t) = m.0 < meters
 IsWithin meters (key.Assignment m t) = m.0 < meters
 IsWithin meters (key.TopUp r) = Unit {0}
+IsWithin meters (key.Withdrawal n) = Unit {0}
 
 -- the place of a fall's register among the six of each meter
 abbrev pub fall_place : Fall → ℕ
@@ -58,6 +60,7 @@ abbrev pub meter_place : Key → ℕ
 meter_place (key.Reading m r t) = m.0
 meter_place (key.Assignment m t) = m.0
 meter_place (key.TopUp r) = 0
+meter_place (key.Withdrawal n) = 0
 
 -- the assignments of the meters before a number
 abbrev pub AssignmentsBefore : List Entry → ℕ → List Entry → Type 0

@@ -2,7 +2,7 @@ use Rattle.std.proofs.Common.{◌≡◌, ◌∙◌, ℕ, ◌+◌, ◌++◌, List
 use Rattle.pw_tariff.specs.declared.ids.MeterId.{MeterId}
 use Rattle.pw_tariff.specs.Office.{office_of}
 use Rattle.pw_model.specs.declared.records.Entry.{Entry}
-use Rattle.pw_model.specs.Kinds.{IsAssignment, IsAssignmentOf, ListsHeld}
+use Rattle.pw_model.specs.Kinds.{IsAssignmentOf, ListsHeld}
 use Rattle.pw_model.specs.Shelf.{ShelfContent}
 use Rattle.pw_book.specs.inner.Places.{AssignmentsBefore}
 use Rattle.pw_book.proofs.ByMeter.{assignments-all, assignments-more}

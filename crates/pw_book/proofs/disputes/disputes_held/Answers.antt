@@ -18,4 +18,4 @@ returns-clause-disputes g c = λ k.
     (λ v. c.in_ok-add_assignments.ensures.disputes third office.meters v c.meters-2.ensures.count) in
     let topups = disputes-next office.meters was _ (7 * office.meters) (7 * office.meters) (7 * office.meters + 1) (7 * office.meters + 1) c.add_assignments.new.disputes.items c.add_topups.new.disputes.items two refl refl within assignments
     (λ v. c.in_ok-add_topups.ensures.disputes k office.meters v) in
-    disputes-all office.meters was.records c.add_topups.new.disputes.items within topups
+    disputes-all office was.records c.add_topups.new.disputes.items (c.requires.of_office first) within topups

@@ -4,7 +4,7 @@ use Rattle.pw_tariff.specs.Office.{office_of}
 use Rattle.pw_model.specs.declared.records.Key.{Key}
 use Rattle.pw_book.specs.inner.Added.{ChangesOneStart, IsJustChanged, TakesAtMost}
 use Rattle.pw_book.proofs.Offices.{office-is}
-use Rattle.pw_book.proofs.Truthful.{paid-records, paid-true}
+use Rattle.pw_book.proofs.Truthful.{paid-records, paid-true, withdrawal-true}
 use Rattle.pw_book.proofs.settling.settle.Goals as goal
 
 pub returns-in-Reading-clause-truth : goal.returns-in-Reading-clause-truth
@@ -45,3 +45,9 @@ returns-in-TopUp-clause-truth g c = λ k s j.
 
 pub returns-in-TopUp-clause-records : goal.returns-in-TopUp-clause-records
 returns-in-TopUp-clause-records g c = λ k s j. on_ok_weaker c.top_up_changed.result (λ m. paid-records _ _ _ _ m) (c.top_up_changed.ensures.moved k)
+
+pub returns-in-Withdrawal-clause-truth : goal.returns-in-Withdrawal-clause-truth
+returns-in-Withdrawal-clause-truth g c = λ k s j.
+    let office = office_of c.args.basis.now.office.now in
+    let J : Key → Type 0 = λ l. IsJustChanged office s l c.args.before.now c.args.behind.now (g.S.Shelf.state c.args.shelf.now).content in
+    withdrawal-true office (office-is c.args.basis.now.office.now c.requires.sound) s c.in-Withdrawal.named c.args.before.now c.args.behind.now _ (subst J c.in-Withdrawal.is j)
