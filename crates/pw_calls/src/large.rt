@@ -44,7 +44,7 @@ pub(crate) fn push_blocks(alloc: Global, entries: &mut Vec<Entry>) -> Result<(),
             let content = Content::Assignment {
                 owner: Some(account),
             };
-            entries.push(Entry { key, content })?;
+            entries.extend_from_slice(&[Entry { key, content }])?;
             push_topup(alloc, entries, start, block)?;
         }
     }
@@ -64,7 +64,7 @@ fn push_readings(entries: &mut Vec<Entry>, block: u32) -> Result<(), AllocError>
                 instant,
             };
             let content = Content::Reading { wh };
-            entries.push(Entry { key, content })?;
+            entries.extend_from_slice(&[Entry { key, content }])?;
         }
     }
     Ok(())
@@ -85,14 +85,14 @@ fn push_topup(
         } else {
             (1, 1)
         };
-        entries.push(Entry {
+        entries.extend_from_slice(&[Entry {
             key: Key::TopUp { reference },
             content: Content::TopUp {
                 account: AccountId(account),
                 cents,
                 instant,
             },
-        })?;
+        }])?;
     }
     Ok(())
 }

@@ -90,7 +90,7 @@ fn answer<O: Write>(
         ["forget"] => entries.clear(),
         ["blocks"] => large::push_blocks(alloc, entries)?,
         _ => match entry_of(office, &words) {
-            Some(entry) => entries.push(entry)?,
+            Some(entry) => entries.extend_from_slice(&[entry])?,
             None => {
                 let asked = Asked {
                     alloc,

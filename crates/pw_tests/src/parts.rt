@@ -49,7 +49,7 @@ fn entry_of(rt: &impl Abort, row: Row) -> Entry {
 fn entries_of(rt: &impl Abort, alloc: Global, rows: &[Row]) -> Result<Vec<Entry>, AllocError> {
     let mut entries = Vec::new(alloc);
     for row in rows {
-        entries.push(entry_of(rt, *row))?;
+        entries.extend_from_slice(&[entry_of(rt, *row)])?;
     }
     Ok(entries)
 }
