@@ -1,11 +1,11 @@
 //! The calls on what counts at a key, and on how records compare.
 
 use crate::asked::Asked;
-use crate::entries::{key_of, tell_content};
+use crate::entries::{entry_of, key_of, tell_content, tell_key};
 use crate::names::{account, meter, owner_name};
 use crate::words::{bytes_of, instant};
 use pw_model::plain::{contents_at, owner_at, topped_up};
-use pw_model::{Contents, Entry, Reference, is_same_content, is_same_entry, is_same_key};
+use pw_model::{Contents, Entry, Named, Reference, is_same_content, is_same_entry, is_same_key};
 use pw_tariff::Office;
 use std::io::Write;
 
@@ -27,6 +27,7 @@ pub(crate) fn answer<O: Write>(asked: &Asked<'_>, words: &[&str], out: &mut O) -
         ["reference"] => tell_reference(b"", out),
         ["reference", text] => tell_reference(&bytes_of(asked.alloc, text).ok()?, out),
         ["compare"] => tell_comparison(entries, out)?,
+        ["named", record @ ..] => tell_named(office, &entry_of(office, record)?, out),
         _ => return None,
     }
     Some(())
@@ -54,6 +55,18 @@ fn tell_reference<O: Write>(text: &[u8], out: &mut O) {
         None => false,
     };
     let _ = writeln!(out, "{is_kept}");
+}
+
+// The record that a withdrawal of this one names, if it can be withdrawn.
+fn tell_named<O: Write>(office: &Office, record: &Entry, out: &mut O) {
+    let Some(named) = Named::of(record) else {
+        let _ = out.write_all(b"none\n");
+        return;
+    };
+    let record = named.entry();
+    tell_key(office, &record.key, out);
+    let _ = out.write_all(b" ");
+    tell_content(office, &record.content, out);
 }
 
 // Whether the last two records have the same key, the same content, and are the same; and how keys and records stand in

@@ -1,15 +1,27 @@
 //! Records in words: `reading METER REGISTER INSTANT WH`, `assignment METER INSTANT OWNER` and
-//! `topup REFERENCE ACCOUNT CENTS INSTANT`. The first words are the key's.
+//! `topup REFERENCE ACCOUNT CENTS INSTANT`. The first words are the key's. `withdrawal` in front of one is its withdrawal,
+//! whose key they all are.
 
 use crate::names::{account, meter, meter_name, owner, owner_name};
 use crate::words::{instant, register, wh};
-use pw_model::{Content, Entry, Key, Reference};
+use pw_model::{Content, Entry, Key, Named, Reference};
 use pw_tariff::Office;
 use std::io::Write;
 use std::str::from_utf8;
 
 /// The record of a line, if it is one.
 pub(crate) fn entry_of(office: &Office, words: &[&str]) -> Option<Entry> {
+    match words {
+        ["withdrawal", record @ ..] => Some(Entry {
+            key: withdrawal_key(office, record)?,
+            content: Content::Withdrawal,
+        }),
+        _ => record_of(office, words),
+    }
+}
+
+/// The reading, assignment or top-up of a line, if it is one.
+pub(crate) fn record_of(office: &Office, words: &[&str]) -> Option<Entry> {
     match words {
         ["reading", meter, register, instant, wh] => {
             reading_of(office, [meter, register, instant], wh)
@@ -56,8 +68,14 @@ pub(crate) fn key_of(office: &Office, words: &[&str]) -> Option<Key> {
         ["reading", meter, register, instant] => reading_key(office, [meter, register, instant]),
         ["assignment", meter, instant] => assignment_key(office, [meter, instant]),
         ["topup", reference] => topup_key(reference),
+        ["withdrawal", record @ ..] => withdrawal_key(office, record),
         _ => None,
     }
+}
+
+fn withdrawal_key(office: &Office, record: &[&str]) -> Option<Key> {
+    let named = Named::of(&record_of(office, record)?)?;
+    Some(Key::Withdrawal { named })
 }
 
 fn reading_key(office: &Office, words: [&str; 3]) -> Option<Key> {
@@ -124,6 +142,6 @@ pub(crate) fn tell_content<O: Write>(office: &Office, content: &Content, out: &m
             let account = owner_name(office, Some(account));
             writeln!(out, "{account} {cents} {instant}")
         }
-        Content::Withdrawal => writeln!(out),
+        Content::Withdrawal => writeln!(out, "withdrawal"),
     };
 }
