@@ -109,6 +109,7 @@ module _ (m : MeterId) (g : Register) where
       is_reading (key.Reading n s t) of = tt
       is_reading (key.Assignment n t) of = of
       is_reading (key.TopUp r) of = of
+      is_reading (key.Withdrawal w) of = of
 
 pub shows_readings_if : {Z : Type 0} (m : MeterId) (g : Register) (old new : State) (r : Result (Vec Row Z) Error) → IsStore old.now → IfOk r (λ rows. Shown list_readings_text (Int (pos m.0) ∷ Int (pos (register_place g)) ∷ []) old new rows.items) → IfOk r (λ rows. ShowsKept Readings (IsReadingOf m g) old.now.trees rows.items)
 shows_readings_if m g old new (Ok rows) store h = shows_readings_of m g old new rows.items store h
@@ -150,6 +151,7 @@ module _ (m : MeterId) where
       is_assignment (key.Reading n s t) of = of
       is_assignment (key.Assignment n t) of = tt
       is_assignment (key.TopUp r) of = of
+      is_assignment (key.Withdrawal w) of = of
 
 pub shows_assignments_if : {Z : Type 0} (m : MeterId) (old new : State) (r : Result (Vec Row Z) Error) → IsStore old.now → IfOk r (λ rows. Shown list_assignments_text (Int (pos m.0) ∷ []) old new rows.items) → IfOk r (λ rows. ShowsKept Assignments (IsAssignmentOf m) old.now.trees rows.items)
 shows_assignments_if m old new (Ok rows) store h = shows_assignments_of m old new rows.items store h

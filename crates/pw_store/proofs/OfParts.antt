@@ -54,6 +54,8 @@ reading_shape office (key.Reading m r t) (content.Assignment o) is of = absurd o
 reading_shape office (key.Reading m r t) (content.TopUp a c i) is of = absurd of
 reading_shape office (key.Assignment m t) c is of = absurd is
 reading_shape office (key.TopUp r) c is of = absurd is
+reading_shape office (key.Reading m r t) content.Withdrawal is of = absurd of
+reading_shape office (key.Withdrawal n) c is of = absurd is
 
 assignment_shape : (office : OfficeRules) (k : Key) (c : Content) → IsAssignment k → IsOf office k c → (m : ℕ) × (t : ℕ) × (o : Option AccountId) × (record { key = k; content = c } ≡ assignment_entry m t o)
 assignment_shape office (key.Assignment m t) (content.Assignment o) is of = (m.0, t, o, refl)
@@ -61,6 +63,8 @@ assignment_shape office (key.Assignment m t) (content.Reading w) is of = absurd 
 assignment_shape office (key.Assignment m t) (content.TopUp a c i) is of = absurd of
 assignment_shape office (key.Reading m r t) c is of = absurd is
 assignment_shape office (key.TopUp r) c is of = absurd is
+assignment_shape office (key.Assignment m t) content.Withdrawal is of = absurd of
+assignment_shape office (key.Withdrawal n) c is of = absurd is
 
 -- ---- lists in order
 module _ {X : Type 0} (order : X → X → Ordering) where

@@ -1,4 +1,4 @@
--- A record that is held has a content of its key's kind.
+-- A record that is held has a content of its key's kind, and is no withdrawal: no table holds these yet.
 use Rattle.std.proofs.Common.{◌≡◌, ◌↔◌, ℕ, List, [], ◌∷◌, map, Bool, true, false, IsTrue, Result, Ok, Err, IfOk, Option, Vec, refl, sym, ap, subst, inl, inr}
 use Rattle.sqlite.specs.declared.error.Error.{Error}
 use Rattle.sqlite.specs.Order.{Row}
@@ -13,11 +13,14 @@ use Rattle.pw_model.specs.declared.records.Key.TheVariants as key
 use Rattle.pw_model.specs.declared.records.Content.{Content}
 use Rattle.pw_model.specs.declared.records.Content.TheVariants as content
 use Rattle.pw_model.specs.declared.records.Entry.{Entry}
-use Rattle.pw_model.specs.Counting.{Member}
+use Rattle.pw_model.specs.declared.records.Named.{Named}
+use Rattle.pw_model.specs.Counting.{Member, contents_at}
+use Rattle.pw_model.specs.declared.records.Contents.TheVariants.{Nothing}
 use Rattle.pw_store.specs.Content.{records_of, reading_in, assignment_in, topup_in, reading_tree, assignment_tree, topup_tree}
 use Rattle.pw_schema.specs.declared.kind.RecordKind.{RecordKind}
 use Rattle.pw_schema.specs.Rows.{ReadsRows}
 use Rattle.pw_store.proofs.Lists.{member_in}
+use Rattle.pw_store.proofs.Telling.{nothing_told}
 
 abbrev IsOneKind : Key → Content → Type 0
 IsOneKind (key.Reading m r t) (content.Reading w) = Unit {0}
@@ -46,6 +49,7 @@ no_reading_of db e m r t is none = (λ f. absurd (let bad : false ≡ true = f i
     go (content.Reading w) i h = none w i
     go (content.Assignment o) i h = subst (IsOneKind (key.Reading m r t)) i h
     go (content.TopUp a n u) i h = subst (IsOneKind (key.Reading m r t)) i h
+    go content.Withdrawal i h = subst (IsOneKind (key.Reading m r t)) i h
 
 pub no_assignment_of : (db : Trees) (e : Entry) (m : MeterId) (t : ℕ) → e.key ≡ key.Assignment m t → ((o : Option AccountId) → e.content ≡ content.Assignment o → ⊥) → (IsTrue false ↔ Member e (records_of db))
 no_assignment_of db e m t is none = (λ f. absurd (let bad : false ≡ true = f in cc), λ held. absurd (go e.content refl (subst (λ k. IsOneKind k e.content) is (held_kind db e held))))
@@ -54,6 +58,7 @@ no_assignment_of db e m t is none = (λ f. absurd (let bad : false ≡ true = f 
     go (content.Reading w) i h = subst (IsOneKind (key.Assignment m t)) i h
     go (content.Assignment o) i h = none o i
     go (content.TopUp a n u) i h = subst (IsOneKind (key.Assignment m t)) i h
+    go content.Withdrawal i h = subst (IsOneKind (key.Assignment m t)) i h
 
 pub no_topup_of : (db : Trees) (e : Entry) (r : List ℕ) → e.key ≡ key.TopUp r → ((a : AccountId) (n u : ℕ) → e.content ≡ content.TopUp a n u → ⊥) → (IsTrue false ↔ Member e (records_of db))
 no_topup_of db e r is none = (λ f. absurd (let bad : false ≡ true = f in cc), λ held. absurd (go e.content refl (subst (λ k. IsOneKind k e.content) is (held_kind db e held))))
@@ -62,6 +67,17 @@ no_topup_of db e r is none = (λ f. absurd (let bad : false ≡ true = f in cc),
     go (content.Reading w) i h = subst (IsOneKind (key.TopUp r)) i h
     go (content.Assignment o) i h = subst (IsOneKind (key.TopUp r)) i h
     go (content.TopUp a n u) i h = none a n u i
+    go content.Withdrawal i h = subst (IsOneKind (key.TopUp r)) i h
+
+never_withdrawn : (db : Trees) (n : Named) (e : Entry) → e.key ≡ key.Withdrawal n → Member e (records_of db) → ⊥
+never_withdrawn db n e is held = subst (λ k. IsOneKind k e.content) is (held_kind db e held)
+
+pub no_withdrawal_of : (db : Trees) (e : Entry) (n : Named) → e.key ≡ key.Withdrawal n → (IsTrue false ↔ Member e (records_of db))
+no_withdrawal_of db e n is = (λ f. absurd (let bad : false ≡ true = f in cc), λ held. absurd (never_withdrawn db n e is held))
+
+-- so nothing is told of a withdrawal's key
+pub withdrawal_told : (db : Trees) (k : Key) (n : Named) → k ≡ key.Withdrawal n → Nothing ≡ contents_at (records_of db) k
+withdrawal_told db k n is = nothing_told (records_of db) k (λ c m. never_withdrawn db n (record { key = k; content = c }) is m)
 
 entry_is : (e : Entry) (k : Key) (c : Content) → e.key ≡ k → e.content ≡ c → e ≡ record { key = k; content = c }
 entry_is e k c a b = λ i. record { key = a i; content = b i }

@@ -92,6 +92,7 @@ one_kind : (k : Key) → (IsKeyOf Readings k → IsKeyOf Assignments k → ⊥) 
 one_kind (key.Reading m r t) = (λ a b. b, (λ a b. b, λ a b. b))
 one_kind (key.Assignment m t) = (λ a b. a, (λ a b. a, λ a b. b))
 one_kind (key.TopUp r) = (λ a b. a, (λ a b. a, λ a b. a))
+one_kind (key.Withdrawal n) = (λ a b. a, (λ a b. a, λ a b. a))
 
 member_front : {X : Type 0} (x : X) (xs ys : List X) → Member x xs → Member x (xs ++ ys)
 member_front x [] ys m = absurd m

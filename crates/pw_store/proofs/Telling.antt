@@ -11,7 +11,7 @@ use Rattle.pw_model.specs.declared.records.Entry.{Entry}
 use Rattle.pw_model.specs.declared.records.Contents.{Contents}
 use Rattle.pw_model.specs.declared.records.Contents.TheVariants.{Nothing, One, Several}
 use Rattle.pw_model.specs.Counting.{Member, EachOnce, contents_at, standing}
-use Rattle.pw_model.proofs.Counting.{entry, Tells, tells, tells-one}
+use Rattle.pw_model.proofs.Counting.{entry, Tells, tells, tells-one, standing-part}
 use Rattle.pw_schema.specs.Rows.{contents_of}
 use Rattle.pw_store.proofs.Once.{once-permuted, permuted}
 
@@ -30,6 +30,10 @@ tells_moved : (s t : List Entry) (k : Key) (r : Contents) → ((c : Content) →
 tells_moved s t k Nothing both h = λ c m. h c ((both c).1 m)
 tells_moved s t k (One c) both h = ((both c).0 h.0, λ d m. h.1 d ((both d).1 m))
 tells_moved s t k Several both h = (h.0, h.1, (both h.0).0 h.2, (both h.1).0 h.3, h.4)
+
+-- where no record has the key
+pub nothing_told : (s : List Entry) (k : Key) → ((c : Content) → Member (entry k c) s → ⊥) → Nothing ≡ contents_at s k
+nothing_told s k none = tells-one (standing s) (standing s) k Nothing (contents_at s k) (λ x. (λ m. m, λ m. m)) (λ c m. none c (standing-part s (entry k c) m)) (tells s k)
 
 -- ---- what a filter keeps
 once_kept : (p : Row → Bool) (f : Row → Entry) (rows : List Row) → EachOnce (map f rows) → EachOnce (map f (filter p rows)) × ((x : Entry) → Member x (map f (filter p rows)) → Member x (map f rows))

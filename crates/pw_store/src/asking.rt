@@ -11,7 +11,7 @@ ghost use Rattle.pw_store.specs.Content.{records_of};
 ghost use Rattle.pw_store.specs.Kept.{IsAwake, NowIsStore};
 
 use crate::fault::AskFault;
-use crate::keys::contents_of_key;
+use crate::keys::{contents_of_assignment, contents_of_reading, contents_of_topup};
 use crate::meters::{assignment_rows, has_assignment, has_reading, reading_rows};
 use crate::topups::{has_topup, topup_rows};
 use crate::waking::wake;
@@ -55,6 +55,8 @@ fn has_entry<S: Alter>(
             } => has_topup(conn, reference, *account, *cents, *instant),
             _ => Ok(false),
         },
+        // No table holds withdrawals yet.
+        Key::Withdrawal { .. } => Ok(false),
     }
 }
 
@@ -89,7 +91,18 @@ pub(crate) fn contents<S: Alter>(
     if let Err(error) = wake(conn, doubtful) {
         return Err(AskFault::Statement(error));
     }
-    match contents_of_key(conn, key) {
+    let asked = match key {
+        Key::Reading {
+            meter,
+            register,
+            instant,
+        } => contents_of_reading(conn, *meter, *register, *instant),
+        Key::Assignment { meter, start } => contents_of_assignment(conn, *meter, *start),
+        Key::TopUp { reference } => contents_of_topup(conn, reference),
+        // No table holds withdrawals yet: no statement is run.
+        Key::Withdrawal { .. } => return Ok(Contents::Nothing),
+    };
+    match asked {
         Ok(Some(found)) => Ok(found),
         Ok(None) => Err(AskFault::Unreadable),
         Err(error) => Err(AskFault::Statement(error)),

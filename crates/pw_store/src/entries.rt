@@ -15,7 +15,8 @@ use crate::topups::add_topup;
 use pw_model::{Content, Entry, Key};
 use sqlite::{Alter, Connection, Error};
 
-/// Adds a record that isn't held, if its content is of its key's kind; else no statement is run.
+/// Adds a record that isn't held, if its content is of its key's kind and a table holds records of the kind; else no
+/// statement is run. No table holds withdrawals yet.
 pub(crate) fn add_entry<S: Alter>(conn: &mut Connection<S>, entry: &Entry) -> Result<bool, Error>
     requires inside { HasCleanDisk (state S.Store conn.old) → IsTrue (state S.Store conn.old).in_transaction }
     requires store { HasCleanDisk (state S.Store conn.old) → IsStore (state S.Store conn.old).now }

@@ -2,7 +2,7 @@ use Rattle.sqlite.specs.Held.{state}
 use Rattle.pw_model.specs.declared.records.Key.TheVariants as key
 use Rattle.pw_model.specs.declared.records.Content.TheVariants as content
 use Rattle.pw_schema.proofs.Outcomes.{early}
-use Rattle.pw_store.proofs.OneKind.{found_moved, no_reading_of, no_assignment_of, no_topup_of}
+use Rattle.pw_store.proofs.OneKind.{found_moved, no_reading_of, no_assignment_of, no_topup_of, no_withdrawal_of}
 use Rattle.pw_store.proofs.asking.has_entry.Goals as goal
 
 pub returns-in-Reading-content-clause-found : goal.returns-in-Reading-content-clause-found
@@ -43,6 +43,16 @@ returns-in_default-content g c = record {
 pub returns-in_default-content-2 : goal.returns-in_default-content-2
 returns-in_default-content-2 g c = record {
   found = λ clean. no_topup_of (state g.S.Store c.args.conn.now).now.trees c.args.entry.now c.in-TopUp.reference c.in-TopUp.is c.in_default-content-2.not-TopUp;
+  asks = record {
+    same = c.in_ok-wake.ensures.asks.same;
+    failed = λ clean. tt;
+    crash = c.in_ok-wake.ensures.asks.crash;
+  };
+}
+
+pub returns-in-Withdrawal : goal.returns-in-Withdrawal
+returns-in-Withdrawal g c = record {
+  found = λ clean. no_withdrawal_of (state g.S.Store c.args.conn.now).now.trees c.args.entry.now c.in-Withdrawal.named c.in-Withdrawal.is;
   asks = record {
     same = c.in_ok-wake.ensures.asks.same;
     failed = λ clean. tt;
