@@ -30,11 +30,6 @@ pub fn reading(rt: &impl Abort, second: u32, watt_hours: u64) -> Entry {
     shown(rt, METER, Register::I1, second, watt_hours)
 }
 
-/// A reading of what it exports.
-pub fn exported(rt: &impl Abort, second: u32, watt_hours: u64) -> Entry {
-    shown(rt, METER, Register::E1, second, watt_hours)
-}
-
 /// An assignment of the first meter.
 pub fn assigned(rt: &impl Abort, second: u32, owner: Owner) -> Entry {
     given(rt, METER, second, owner)

@@ -62,7 +62,7 @@ fn money_agrees<S: Shelf>(
         plain::topped_up(entries, account),
         plain::balance(alloc, &terms, entries, account)?,
     );
-    let (cents, nano) = money(rt, alloc, book, account)?;
+    let (cents, nano) = money(rt, book, account)?;
     assert!(rt; (u128::from(cents), nano) == both);
     Ok(())
 }

@@ -1,7 +1,7 @@
-//! The points, starts and totals that the book keeps beside its records, against those of its uploads.
+//! The points, starts and totals that the store of a book keeps beside its records, against those of its uploads.
 
+use super::OTHER;
 use super::agreeing::is_list;
-use super::{Books, FRESH, OTHER, Sent, Step, energies, entries_of, post, run, steps_agree};
 use crate::entries::at;
 use pw_book::Book;
 use pw_model::{Content, Entry, Key, TotalKey};
@@ -9,7 +9,7 @@ use pw_obis::Register;
 use pw_parts::{Parts, true_parts};
 use pw_shelf::{Shelf, ShelfFault};
 use pw_tariff::{BandId, Direction, MeterId};
-use pw_tests::sample::{FIRST, FIVE, METER, NEW_YEAR, SECOND, SEVEN, SIX, are_of_office};
+use pw_tests::sample::{FIRST, METER, SECOND, are_of_office};
 use pw_time::{FIRST_SECOND, LAST_SECOND};
 use std::alloc::{AllocError, Global};
 use std::process::Abort;
@@ -181,121 +181,4 @@ pub(super) fn parts_agree<S: Shelf + Drop>(
     let parts = parts_of(rt, alloc, &book, entries)?;
     are_kept(rt, alloc, &mut book.into_shelf(), &parts);
     Ok(())
-}
-
-fn take_each<S: Shelf>(rt: &impl Abort, alloc: Global, book: &mut Book<S>, entries: &[Entry]) {
-    for entry in entries {
-        let told = post(rt, alloc, book, &[*entry]);
-        assert!(rt; told.is_ok());
-    }
-}
-
-// So are they behind uploads of one entry each.
-fn parts_agree_behind<B: Books>(
-    rt: &impl Abort,
-    alloc: Global,
-    books: &B,
-    entries: &[Entry],
-) -> Result<(), Fail> {
-    let mut book = books.empty(rt, alloc, 100)?;
-    take_each(rt, alloc, &mut book, entries);
-    parts_agree(rt, alloc, book, entries)
-}
-
-// The same behind each of them.
-fn parts_agree_behind_each<B: Books>(
-    rt: &impl Abort,
-    alloc: Global,
-    books: &B,
-    entries: &[Entry],
-) -> Result<(), Fail> {
-    for number in 0..entries.len() {
-        let (first, _) = entries.split_at(number);
-        parts_agree_behind(rt, alloc, books, first)?;
-    }
-    parts_agree_behind(rt, alloc, books, entries)
-}
-
-fn parts_agree_behind_steps<B: Books>(
-    rt: &impl Abort,
-    alloc: Global,
-    books: &B,
-    steps: &[Step],
-) -> Result<(), Fail> {
-    let entries = entries_of(rt, alloc, steps)?;
-    parts_agree_behind_each(rt, alloc, books, &entries)
-}
-
-const SETTLED_STEPS: [Step; 8] = [
-    Step(Sent::Assigned(NEW_YEAR, Some(FIRST)), FRESH, (0, 0)),
-    Step(Sent::Read(FIVE, 100_000), FRESH, (0, 0)),
-    Step(Sent::Read(SIX, 50_000), FRESH, (0, 0)),
-    Step(Sent::Read(SEVEN, 120_000), FRESH, (0, 70_000)),
-    Step(Sent::Read(SIX, 60_000), FRESH, (10_000, 10_000)),
-    Step(Sent::Read(FIVE + 1_800, 110_000), FRESH, (13_333, 6_667)),
-    Step(Sent::Paid(2_000), FRESH, (13_333, 6_667)),
-    Step(Sent::Paid(3_000), FRESH, (13_333, 6_667)),
-];
-
-// bears on: pw_book book.rt Book truth
-// bears on: pw_parts parts.rt true_parts ensures
-// bears on: pw_shelf shelf.rt Shelf::total amount
-pub(super) fn fall_settled_by_dispute<B: Books>(
-    rt: &impl Abort,
-    alloc: Global,
-    books: &B,
-) -> Result<(), Fail> {
-    runs(rt, alloc, &mut books.empty(rt, alloc, 100)?, &SETTLED_STEPS)?;
-    parts_agree_behind_steps(rt, alloc, books, &SETTLED_STEPS)
-}
-
-// The steps are fresh, and the book agrees behind them.
-fn runs<S: Shelf>(
-    rt: &impl Abort,
-    alloc: Global,
-    book: &mut Book<S>,
-    steps: &[Step; 8],
-) -> Result<(), Fail> {
-    run(rt, alloc, book, steps);
-    steps_agree(rt, alloc, book, steps, 8)
-}
-
-// The meter passes to the second account, and then, in dispute, back to the first.
-fn passes_back<S: Shelf>(
-    rt: &impl Abort,
-    alloc: Global,
-    book: &mut Book<S>,
-    steps: &[Step; 6],
-) -> Result<(), Fail> {
-    let (first, last) = steps.split_at(5);
-    run(rt, alloc, book, first);
-    steps_agree(rt, alloc, book, first, 5)?;
-    let both = energies(rt, alloc, book, Some(SECOND), Direction::Import);
-    assert!(rt; both == Ok((0, 1_001)));
-    run(rt, alloc, book, last);
-    steps_agree(rt, alloc, book, steps, 6)
-}
-
-const PASSED_STEPS: [Step; 6] = [
-    Step(Sent::Assigned(NEW_YEAR, Some(FIRST)), FRESH, (0, 0)),
-    Step(Sent::Read(SEVEN, 1_003_001), FRESH, (0, 0)),
-    Step(Sent::Read(FIVE, 1_000_000), FRESH, (1_500, 1_501)),
-    Step(Sent::Read(SIX, 1_001_000), FRESH, (1_000, 2_001)),
-    Step(
-        Sent::Assigned(SIX + 1_800, Some(SECOND)),
-        FRESH,
-        (1_000, 1_000),
-    ),
-    Step(Sent::Assigned(SIX + 1_800, None), FRESH, (1_000, 2_001)),
-];
-
-// bears on: pw_book book.rt Book::post posted
-// bears on: pw_model laws.rt other_start_window ensures
-pub(super) fn assignments_over_a_late_reading<B: Books>(
-    rt: &impl Abort,
-    alloc: Global,
-    books: &B,
-) -> Result<(), Fail> {
-    passes_back(rt, alloc, &mut books.empty(rt, alloc, 100)?, &PASSED_STEPS)?;
-    parts_agree_behind_steps(rt, alloc, books, &PASSED_STEPS)
 }

@@ -1,85 +1,27 @@
-//! Books that have room for a few records, and the lines of their answers.
+//! A book that holds more than its limit, the making of a book and its end, and the numbers, names and lines of its faults.
 
 ghost use Rattle.std.specs.Prelude.{◌≡◌, ◌≤◌, None, IfOk, false};
 ghost use Rattle.pw_model.specs.Office.{most_records};
 ghost use Rattle.pw_model.specs.Shelf.{no_content};
 
+use super::agreeing::all_agree;
 use super::counted::seen_by;
-use super::{InMemory, all_agree, book_of, counting_shelf, has_money, post, takes};
+use super::{InMemory, book_of, counting_shelf, post};
 use crate::entries::paid;
-use pw_book::{Accepted, Book, BookFault, Entry, PostFault};
+use pw_book::{Book, BookFault, Entry, PostFault};
 use pw_shelf::{MemoryShelf, Shelf};
 use pw_tariff::{Office, OfficeFault};
 use pw_tests::offices::TWO_METERS;
 use pw_tests::sample::FIRST;
 use pw_time::Zone;
 use std::alloc::Global;
-use std::fmt::Display;
 use std::process::Abort;
 use std::test::Fail;
 
-// A book with room for one record.
-// bears on: pw_book book.rt Book::post posted
-pub(super) fn room_for_one<S: Shelf>(
-    rt: &impl Abort,
-    alloc: Global,
-    book: &mut Book<S>,
-) -> Result<(), Fail> {
-    let twice = [paid(rt, b"P1", FIRST, 2_000); 2];
-    takes(rt, alloc, book, &twice, (1, 0));
-    takes(rt, alloc, book, &twice, (0, 1));
-    all_agree(rt, alloc, book, &twice, 1)
-}
-
-// An upload is refused, since with so many records held the book has no room for it.
-fn is_full<S: Shelf>(
-    rt: &impl Abort,
-    alloc: Global,
-    book: &mut Book<S>,
-    entries: &[Entry],
-    held: u32,
-    limit: u32,
-) {
-    let full = PostFault::Full { held, limit };
+// An upload is refused, since with two records held a book for one has no room for it.
+fn is_full<S: Shelf>(rt: &impl Abort, alloc: Global, book: &mut Book<S>, entries: &[Entry]) {
+    let full = PostFault::Full { held: 2, limit: 1 };
     assert!(rt; post(rt, alloc, book, entries) == Err(full));
-}
-
-// Three payments in a book that has room for no more.
-fn three_paid(rt: &impl Abort) -> [Entry; 3] {
-    [
-        paid(rt, b"P1", FIRST, 1),
-        paid(rt, b"P2", FIRST, 2),
-        paid(rt, b"P3", FIRST, 3),
-    ]
-}
-
-// A book with room for three records.
-// bears on: pw_book book.rt Book few
-// bears on: pw_book book.rt Book::post book
-// bears on: pw_book book.rt Book::post posted
-pub(super) fn full_book<S: Shelf>(
-    rt: &impl Abort,
-    alloc: Global,
-    book: &mut Book<S>,
-) -> Result<(), Fail> {
-    let held = three_paid(rt);
-    takes(rt, alloc, book, &held, (3, 0));
-    takes(rt, alloc, book, &[held[1]], (0, 1));
-    is_full(rt, alloc, book, &[paid(rt, b"P4", FIRST, 4)], 3, 3);
-    let more = [paid(rt, b"P2", FIRST, 2), paid(rt, b"P4", FIRST, 4)];
-    is_full(rt, alloc, book, &more, 3, 3);
-    has_money(rt, alloc, book, 6, 60_000_000);
-    all_agree(rt, alloc, book, &held, 3)
-}
-
-pub(super) fn store_given_back<S: Shelf + Drop>(
-    rt: &impl Abort,
-    alloc: Global,
-    mut book: Book<S>,
-) -> Result<(), Fail> {
-    takes(rt, alloc, &mut book, &three_paid(rt), (3, 0));
-    assert!(rt; book.into_shelf().count() == Ok(3));
-    Ok(())
 }
 
 // A book over the store that another book of the office filled, with another limit.
@@ -114,8 +56,8 @@ fn stays_over_limit<S: Shelf>(
     book: &mut Book<S>,
     two: &[Entry],
 ) -> Result<(), Fail> {
-    is_full(rt, alloc, book, &[], 2, 1);
-    is_full(rt, alloc, book, two, 2, 1);
+    is_full(rt, alloc, book, &[]);
+    is_full(rt, alloc, book, two);
     all_agree(rt, alloc, book, two, 2)
 }
 
@@ -186,28 +128,10 @@ fn numbers_and_names(rt: HostRuntime) {
     book_faults_told(&rt);
 }
 
-fn has_line<D: Display + Drop>(
-    rt: &impl Abort,
-    alloc: Global,
-    answer: D,
-    expected: &str,
-) -> Result<(), Fail> {
-    let line = format!(in alloc; "{answer}")?;
+fn has_line(rt: &impl Abort, alloc: Global, fault: BookFault, expected: &str) -> Result<(), Fail> {
+    let line = format!(in alloc; "{fault}")?;
     assert!(rt; line.as_str() == expected);
     Ok(())
-}
-
-// bears on: pw_book book.rt Accepted output
-// bears on: pw_book fault.rt PostFault output
-#[test]
-fn lines_of_an_upload(rt: HostRuntime) -> Result<(), Fail> {
-    let accepted = Accepted {
-        fresh: 0,
-        repeated: 1,
-    };
-    let full = PostFault::Full { held: 3, limit: 3 };
-    has_line(&rt, rt.alloc(), accepted, "accepted fresh 0 repeated 1")?;
-    has_line(&rt, rt.alloc(), full, "refused 60 Full held 3 limit 3")
 }
 
 // bears on: pw_book fault.rt BookFault output

@@ -1,7 +1,8 @@
 //! The book with an allocation refused: what is right, or want of memory, and the next call is right.
 //! (To be run with the first allocation refused, with the second, and so on.)
 
-use super::{Books, all_agree, asking, imported, lengths, money, post, takes};
+use super::agreeing::all_agree;
+use super::{Books, asking, imported, lengths, money, post, takes};
 use crate::entries::{assigned, paid, reading};
 use pw_book::{Book, BookFault, PostFault};
 use pw_model::Entry;
@@ -31,8 +32,8 @@ fn posted_or_refused<S: Shelf>(
 
 // What the questions are answered: a fall and a rise in the high band, and a payment that is disputed.
 fn told<S: Shelf>(rt: &impl Abort, alloc: Global, book: &mut Book<S>) -> Result<(), BookFault> {
-    let energies = imported(rt, alloc, book)?;
-    let paid = money(rt, alloc, book, FIRST)?;
+    let energies = imported(rt, book)?;
+    let paid = money(rt, book, FIRST)?;
     let lists = lengths(rt, alloc, book)?;
     let held = asking::count(book)?;
     assert!(rt; energies == (0, 70_000) && paid == (0, -21_000_000_000));

@@ -61,7 +61,7 @@ fn fault_of<S: Shelf>(
     question: Question,
 ) -> Option<BookFault> {
     match question {
-        Question::Imported => imported(rt, alloc, book).err(),
+        Question::Imported => imported(rt, book).err(),
         Question::ToppedUp => asking::topped_up(rt, book, FIRST).err(),
         Question::Balance => asking::balance(rt, book, FIRST).err(),
         Question::Count => asking::count(book).err(),

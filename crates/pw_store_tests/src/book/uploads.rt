@@ -1,0 +1,160 @@
+//! Records of all kinds, told one at a time: behind each of them the book answers what the definitions give, its store keeps
+//! the parts of all, and a book that has room for no more refuses the next.
+
+use super::agreeing::all_agree;
+use super::kept::parts_agree;
+use super::{Books, OTHER, post, takes};
+use crate::entries::{given, paid, shown};
+use pw_book::{Book, Entry, PostFault};
+use pw_obis::Register;
+use pw_shelf::Shelf;
+use pw_tariff::{AccountId, MeterId, Owner};
+use pw_tests::sample::{FIRST, FIVE, METER, NEW_YEAR, SECOND, SEVEN, SIX};
+use std::alloc::{AllocError, Global};
+use std::process::Abort;
+use std::test::Fail;
+
+// What is told of both meters and both accounts.
+#[derive(Clone, Copy)]
+enum Sent {
+    // the owner of a meter from a second on
+    Given(MeterId, u32, Owner),
+    // what a register of a meter shows at a second
+    Shown(MeterId, Register, u32, u64),
+    // cents of an account under a reference
+    Paid(&'static [u8], AccountId, u32),
+}
+
+// What is told, and how many of it are fresh and repeated.
+#[derive(Clone, Copy)]
+struct Step(Sent, (u32, u32));
+
+const FRESH: (u32, u32) = (1, 0);
+
+const REPEATED: (u32, u32) = (0, 1);
+
+const HALF_PAST_FIVE: u32 = FIVE + 1_800;
+
+const HALF_PAST_SIX: u32 = SIX + 1_800;
+
+// Of the first meter a late reading, which then is disputed, and owners of whom two dispute each other; of the other one
+// exported energy, with a fall that a dispute settles and one that stays; and payments of which two dispute each other.
+const STEPS: [Step; 22] = [
+    Step(Sent::Given(METER, NEW_YEAR, Some(FIRST)), FRESH),
+    Step(Sent::Shown(METER, Register::I1, SEVEN, 1_003_001), FRESH),
+    Step(Sent::Paid(b"P1", FIRST, 5_000), FRESH),
+    Step(Sent::Shown(METER, Register::I1, FIVE, 1_000_000), FRESH),
+    Step(Sent::Shown(METER, Register::I1, SIX, 1_001_000), FRESH),
+    Step(Sent::Given(METER, HALF_PAST_SIX, Some(SECOND)), FRESH),
+    Step(Sent::Given(METER, HALF_PAST_SIX, None), FRESH),
+    Step(Sent::Shown(METER, Register::I1, SIX, 1_001_500), FRESH),
+    Step(Sent::Shown(METER, Register::I1, SIX, 1_001_000), REPEATED),
+    Step(Sent::Shown(METER, Register::I1, SIX, 1_001_200), FRESH),
+    Step(Sent::Given(METER, HALF_PAST_FIVE, None), FRESH),
+    Step(Sent::Shown(OTHER, Register::E1, FIVE, 100_000), FRESH),
+    Step(Sent::Shown(OTHER, Register::E1, SIX, 50_000), FRESH),
+    Step(Sent::Shown(OTHER, Register::E1, SEVEN, 120_000), FRESH),
+    Step(Sent::Given(OTHER, NEW_YEAR, Some(SECOND)), FRESH),
+    Step(Sent::Shown(OTHER, Register::E1, SIX, 60_000), FRESH),
+    Step(
+        Sent::Shown(OTHER, Register::E1, HALF_PAST_FIVE, 110_000),
+        FRESH,
+    ),
+    Step(Sent::Shown(OTHER, Register::E2, SIX, 6), FRESH),
+    Step(Sent::Shown(OTHER, Register::E2, SEVEN, 5), FRESH),
+    Step(Sent::Paid(b"P2", SECOND, 150), FRESH),
+    Step(Sent::Paid(b"P1", FIRST, 3_000), FRESH),
+    Step(Sent::Paid(b"P1", FIRST, 5_000), REPEATED),
+];
+
+fn entry_of(rt: &impl Abort, sent: Sent) -> Entry {
+    match sent {
+        Sent::Given(meter, second, owner) => given(rt, meter, second, owner),
+        Sent::Shown(meter, register, second, watt_hours) => {
+            shown(rt, meter, register, second, watt_hours)
+        }
+        Sent::Paid(reference, account, cents) => paid(rt, reference, account, cents),
+    }
+}
+
+fn entries_of(rt: &impl Abort, alloc: Global, steps: &[Step]) -> Result<Vec<Entry>, AllocError> {
+    let mut entries = Vec::new(alloc);
+    for Step(sent, _) in steps {
+        entries.push(entry_of(rt, *sent))?;
+    }
+    Ok(entries)
+}
+
+// How many records are held behind these steps.
+fn held_behind(steps: &[Step]) -> u32 {
+    let mut held = 0u32;
+    for Step(_, (fresh, _)) in steps {
+        held = held.saturating_add(*fresh);
+    }
+    held
+}
+
+// Takes an upload of nothing, and then one of each step, which tells it twice.
+fn takes_each<S: Shelf>(rt: &impl Abort, alloc: Global, book: &mut Book<S>, steps: &[Step]) {
+    takes(rt, alloc, book, &[], (0, 0));
+    for Step(sent, counts) in steps {
+        takes(rt, alloc, book, &[entry_of(rt, *sent); 2], *counts);
+    }
+}
+
+// A book that holds as many records as it may refuses another.
+fn is_full<S: Shelf>(rt: &impl Abort, alloc: Global, book: &mut Book<S>, held: u32) {
+    let full = PostFault::Full { held, limit: held };
+    assert!(rt; post(rt, alloc, book, &[paid(rt, b"P3", FIRST, 1)]) == Err(full));
+}
+
+// Behind these steps an empty book, with room for just what they give, agrees, and so does its store.
+fn agrees_behind<S: Shelf + Drop>(
+    rt: &impl Abort,
+    alloc: Global,
+    mut book: Book<S>,
+    steps: &[Step],
+    held: u32,
+) -> Result<(), Fail> {
+    let entries = entries_of(rt, alloc, steps).expect(rt, "memory");
+    takes_each(rt, alloc, &mut book, steps);
+    if held > 0 {
+        is_full(rt, alloc, &mut book, held);
+    }
+    all_agree(rt, alloc, &mut book, &entries, held)?;
+    parts_agree(rt, alloc, book, &entries)
+}
+
+// bears on: pw_book book.rt Book of_office
+// bears on: pw_book book.rt Book truth
+// bears on: pw_book book.rt Book::new open_yet
+// bears on: pw_book book.rt Book::post posted
+// bears on: pw_book book/questions.rt Book::count count
+// bears on: pw_book book/questions.rt Book::count memory
+// bears on: pw_book book/questions.rt Book::energy question
+// bears on: pw_model laws.rt count_is_length ensures
+// bears on: pw_model laws.rt empty_content_is_true ensures
+// bears on: pw_model laws.rt one_more_assignment ensures
+// bears on: pw_model laws.rt one_more_payment ensures
+// bears on: pw_model laws.rt one_more_reading ensures
+// bears on: pw_model laws.rt one_more_record ensures
+// bears on: pw_model laws.rt other_start_window ensures
+// bears on: pw_model laws.rt true_contents_are_alike ensures
+// bears on: pw_parts parts.rt true_parts ensures
+// bears on: pw_shelf memory.rt MemoryShelf::new content
+// bears on: pw_shelf memory.rt MemoryShelf::new left
+// bears on: pw_shelf shelf.rt Shelf::total amount
+// bears on: pw_shelf shelf.rt Shelf::total_put put
+pub(super) fn agrees_behind_each<B: Books>(
+    rt: &impl Abort,
+    alloc: Global,
+    books: &B,
+) -> Result<(), Fail> {
+    for number in 0..STEPS.len() + 1 {
+        let (steps, _) = STEPS.split_at(number);
+        let held = held_behind(steps);
+        let book = books.empty(rt, alloc, held.max(1))?;
+        agrees_behind(rt, alloc, book, steps, held)?;
+    }
+    Ok(())
+}
