@@ -23,11 +23,11 @@ fn rising(
     number: u32,
 ) -> Result<Vec<Entry>, AllocError> {
     let mut entries = Vec::new(alloc);
-    entries.push(assigned(rt, NEW_YEAR, Some(FIRST)))?;
+    entries.extend_from_slice(&[assigned(rt, NEW_YEAR, Some(FIRST))])?;
     let mut second = from;
     let mut watt_hours = 1_000u64;
     for _ in 0..number {
-        entries.push(reading(rt, second, watt_hours))?;
+        entries.extend_from_slice(&[reading(rt, second, watt_hours)])?;
         second = second.saturating_add(300);
         watt_hours = watt_hours.saturating_add(100);
     }
@@ -137,7 +137,7 @@ fn payment(rt: &impl Abort, alloc: Global, place: u32) -> Entry {
 fn payments(rt: &impl Abort, alloc: Global, number: u32) -> Result<Vec<Entry>, AllocError> {
     let mut entries = Vec::new(alloc);
     for place in 0..number {
-        entries.push(payment(rt, alloc, place))?;
+        entries.extend_from_slice(&[payment(rt, alloc, place)])?;
     }
     Ok(entries)
 }
@@ -173,7 +173,7 @@ fn disputed(rt: &impl Abort, alloc: Global, number: u32) -> Result<Vec<Entry>, A
     for place in 0..number {
         let second = NEW_YEAR.saturating_add((place / 2).saturating_mul(60));
         let owner = if place % 2 == 0 { FIRST } else { SECOND };
-        entries.push(assigned(rt, second, Some(owner)))?;
+        entries.extend_from_slice(&[assigned(rt, second, Some(owner))])?;
     }
     Ok(entries)
 }

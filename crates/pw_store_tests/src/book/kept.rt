@@ -98,7 +98,7 @@ fn add_points<S: Shelf>(
             instant,
         };
         let content = Content::Reading { wh };
-        points.push(Entry { key, content })?;
+        points.extend_from_slice(&[Entry { key, content }])?;
     }
     Ok(())
 }
@@ -128,7 +128,7 @@ fn add_starts<S: Shelf>(
     for (start, owner) in shelf.starts_of(alloc, meter)? {
         let key = Key::Assignment { meter, start };
         let content = Content::Assignment { owner };
-        starts.push(Entry { key, content })?;
+        starts.extend_from_slice(&[Entry { key, content }])?;
     }
     Ok(())
 }

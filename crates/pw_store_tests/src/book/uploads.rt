@@ -80,7 +80,7 @@ fn entry_of(rt: &impl Abort, sent: Sent) -> Entry {
 fn entries_of(rt: &impl Abort, alloc: Global, steps: &[Step]) -> Result<Vec<Entry>, AllocError> {
     let mut entries = Vec::new(alloc);
     for Step(sent, _) in steps {
-        entries.push(entry_of(rt, *sent))?;
+        entries.extend_from_slice(&[entry_of(rt, *sent)])?;
     }
     Ok(entries)
 }
