@@ -95,7 +95,7 @@ fn assignment_cost<B: Books>(rt: &impl Abort, alloc: Global, books: &B, number: 
     let next = assigned(rt, MIDDLE + 1_700, Some(FIRST));
     let fresh = assigned(rt, MIDDLE + 400, Some(SECOND));
     let mut held = rising(rt, alloc, MIDDLE, number.saturating_add(6)).expect(rt, "memory");
-    held.push(next).expect(rt, "memory");
+    held.extend_from_slice(&[next]).expect(rt, "memory");
     cost_of(rt, alloc, books, &held, fresh)
 }
 
