@@ -74,7 +74,8 @@ pub(crate) fn key_of(office: &Office, words: &[&str]) -> Option<Key> {
 }
 
 fn withdrawal_key(office: &Office, record: &[&str]) -> Option<Key> {
-    let named = Named::of(&record_of(office, record)?)?;
+    let record = record_of(office, record)?;
+    let named = Named::of(&record)?;
     Some(Key::Withdrawal { named })
 }
 
