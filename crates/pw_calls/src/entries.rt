@@ -12,54 +12,42 @@ use std::str::from_utf8;
 /// The record of a line, if it is one.
 pub(crate) fn entry_of(office: &Office, words: &[&str]) -> Option<Entry> {
     match words {
-        ["withdrawal", record @ ..] => Some(Entry {
-            key: withdrawal_key(office, record)?,
-            content: Content::Withdrawal,
-        }),
-        _ => record_of(office, words),
+        ["withdrawal", record @ ..] => {
+            let named = named_of(office, record)?;
+            Some(Entry {
+                key: Key::Withdrawal { named },
+                content: Content::Withdrawal,
+            })
+        }
+        _ => {
+            let named = named_of(office, words)?;
+            Some(named.entry())
+        }
     }
 }
 
-/// The reading, assignment or top-up of a line, if it is one.
-pub(crate) fn record_of(office: &Office, words: &[&str]) -> Option<Entry> {
+// The reading, assignment or top-up of a line, if it is one.
+fn named_of(office: &Office, words: &[&str]) -> Option<Named> {
     match words {
-        ["reading", meter, register, instant, wh] => {
-            reading_of(office, [meter, register, instant], wh)
-        }
-        ["assignment", meter, instant, owner] => assignment_of(office, [meter, instant], owner),
-        ["topup", reference, account, cents, instant] => {
-            topup_of(office, reference, [account, cents, instant])
-        }
-        _ => None,
-    }
-}
-
-fn reading_of(office: &Office, key: [&str; 3], content: &str) -> Option<Entry> {
-    Some(Entry {
-        key: reading_key(office, key)?,
-        content: Content::Reading { wh: wh(content)? },
-    })
-}
-
-fn assignment_of(office: &Office, key: [&str; 2], content: &str) -> Option<Entry> {
-    Some(Entry {
-        key: assignment_key(office, key)?,
-        content: Content::Assignment {
-            owner: owner(office, content)?,
-        },
-    })
-}
-
-fn topup_of(office: &Office, key: &str, content: [&str; 3]) -> Option<Entry> {
-    let [name, cents, at] = content;
-    Some(Entry {
-        key: topup_key(key)?,
-        content: Content::TopUp {
+        ["reading", name, of, at, shown] => Some(Named::Reading {
+            meter: meter(office, name)?,
+            register: register(of)?,
+            instant: instant(at)?,
+            wh: wh(shown)?,
+        }),
+        ["assignment", name, from, of] => Some(Named::Assignment {
+            meter: meter(office, name)?,
+            start: instant(from)?,
+            owner: owner(office, of)?,
+        }),
+        ["topup", text, name, cents, at] => Some(Named::TopUp {
+            reference: Reference::of(text.as_bytes())?,
             account: account(office, name)?,
             cents: cents.parse::<u32>().ok()?,
             instant: instant(at)?,
-        },
-    })
+        }),
+        _ => None,
+    }
 }
 
 /// The key of its words.
@@ -68,15 +56,12 @@ pub(crate) fn key_of(office: &Office, words: &[&str]) -> Option<Key> {
         ["reading", meter, register, instant] => reading_key(office, [meter, register, instant]),
         ["assignment", meter, instant] => assignment_key(office, [meter, instant]),
         ["topup", reference] => topup_key(reference),
-        ["withdrawal", record @ ..] => withdrawal_key(office, record),
+        ["withdrawal", record @ ..] => {
+            let named = named_of(office, record)?;
+            Some(Key::Withdrawal { named })
+        }
         _ => None,
     }
-}
-
-fn withdrawal_key(office: &Office, record: &[&str]) -> Option<Key> {
-    let record = record_of(office, record)?;
-    let named = Named::of(&record)?;
-    Some(Key::Withdrawal { named })
 }
 
 fn reading_key(office: &Office, words: [&str; 3]) -> Option<Key> {
