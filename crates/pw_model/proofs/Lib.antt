@@ -11,6 +11,7 @@ pub mod Assignments
 pub mod InKeyOrder
 pub mod PaddedText
 pub mod Bounded
+pub mod Bearing
 pub mod Found
 pub mod Pushed
 pub mod PlainEnergy

@@ -1,5 +1,5 @@
 -- The tests on keys and contents decide whether two are equal.
-use Rattle.std.proofs.Common.{◌≡◌, ℕ, zero, suc, Some, None, refl, ap, sym, ◌∙◌, Decides, List, [], ◌∷◌, ◌++◌, Option, length, arith, ◌+◌}
+use Rattle.std.proofs.Common.{◌≡◌, ℕ, zero, suc, Some, None, refl, ap, sym, ◌∙◌, Decides, List, [], ◌∷◌, ◌++◌, Option, length, arith}
 use Rattle.std.specs.Cmp.Lexicographic.{bytes_decides}
 use Rattle.std.proofs.lemmas.Bool.Decides.{Decides-like, Decides-and}
 use Rattle.pw_obis.specs.declared.reference.Register.{Register}

@@ -3,6 +3,7 @@
 //! Each function does nothing. What counts is its contract, a law of the definitions in `specs/`, which is proved for
 //! all sets of records.
 
+ghost use Rattle.pw_model.specs.Bearing.{OneMoreBearing};
 ghost use Rattle.pw_model.specs.Bounds.{BalancesFit, TotalsAreBounded};
 ghost use Rattle.pw_model.specs.Laws.{CountIsLength, ForeignTotalsAreNone, ListsAreAtMostOne, ListsExist, NothingIsLost, OneIsCounting, OrderCountsNothing, TopUpsAddUp};
 ghost use Rattle.pw_model.specs.Changes.{OtherStartWindow};
@@ -53,6 +54,11 @@ pub fn one_more_reading()
 /// What one more record changes: the contents at its key alone.
 pub fn one_more_record()
     ensures { OneMoreRecord }
+{}
+
+/// Where one more record changes what counts: at its own key, and at that of the record that a withdrawal names.
+pub fn one_more_bearing()
+    ensures { OneMoreBearing }
 {}
 
 /// What one more record changes of what is topped up.
