@@ -7,20 +7,21 @@ use Rattle.pw_tariff.specs.declared.ids.MeterId.{MeterId}
 use Rattle.pw_tariff.specs.Office.{OfficeRules}
 use Rattle.pw_model.specs.declared.records.Key.{Key}
 use Rattle.pw_model.specs.declared.records.Key.TheVariants as key
+use Rattle.pw_model.specs.declared.records.Named.TheVariants as named
 use Rattle.pw_model.specs.declared.records.Content.{Content}
 use Rattle.pw_model.specs.declared.records.Content.TheVariants as content
 use Rattle.pw_model.specs.declared.records.Contents.{Contents}
 use Rattle.pw_model.specs.declared.records.Contents.TheVariants.{Nothing, One, Several}
 use Rattle.pw_model.specs.declared.records.Entry.{Entry}
-use Rattle.pw_model.specs.Changes.{ChangesAtOneKey}
-use Rattle.pw_model.specs.Counting.{IsInserted, Member, SameMembers, assignment_key, contents_at, joined, owner_of, reading_key, wh_of}
+use Rattle.pw_model.specs.Bearing.{ChangesWhereItBears, bears_on, named_key}
+use Rattle.pw_model.specs.Counting.{IsInserted, SameMembers, assignment_key, contents_at, owner_of, reading_key, wh_of}
 use Rattle.pw_model.specs.Office.{AllOfOffice, IsOf, IsOfOffice, most_records}
 use Rattle.pw_model.specs.Payments.{cents_for}
-use Rattle.pw_model.specs.Same.{same_content, same_key}
+use Rattle.pw_model.specs.Same.{same_key}
 use Rattle.pw_model.specs.Shelf.{IsTrueContent, ShelfContent}
-use Rattle.pw_model.proofs.Counting.{inserted-same, one-is_counting, one-more_record, standing-part}
-use Rattle.pw_model.proofs.Payments.{one-more_payment}
-use Rattle.pw_model.proofs.Same.{same_content-decides, same_key-decides}
+use Rattle.pw_model.proofs.Bearing.{one-more_bearing}
+use Rattle.pw_model.proofs.Counting.{inserted-same}
+use Rattle.pw_model.proofs.Same.{same_key-decides}
 use Rattle.pw_shelf.specs.Changes.{starts_with}
 use Rattle.pw_shelf.specs.Rows.{rows_at}
 use Rattle.pw_shelf.specs.State.{IsWithRecord}
@@ -38,22 +39,14 @@ inserted-length s t e h =
     more [] ys e = omega arith
     more (x ∷ xs) ys e = let r = more xs ys e in omega (arith, r)
 
--- a content of its own that counted was another
-apart-before : (s : List Entry) (e : Entry) (d : Content) → (Member e s → ⊥) → contents_at s e.key ≡ One d → joined e.content (One d) ≡ Several
-apart-before s e d n h = elim (cases_Bool (same_content e.content d)) [
-  | inl y ↦ (
-      let q : e.content ≡ d = (same_content-decides e.content d).0 y in
-      let c : contents_at s e.key ≡ One e.content = h ∙ ap One (sym q) in
-      absurd (n (standing-part s e ((one-is_counting s e).0 c).0)))
-  | inr f ↦ ap (λ b. cond b (One d) Several) f
-]
-
--- a key of the office
-pub key-of : (office : OfficeRules) (k : Key) (c : Content) → IsOf office k c → IsKeyOf office k
+-- the key that an entry of the office bears on
+pub key-of : (office : OfficeRules) (k : Key) (c : Content) → IsOf office k c → IsKeyOf office (named_key k)
 key-of office (key.Reading m r t) (content.Reading w) h = (h.0, h.1)
 key-of office (key.Assignment m t) (content.Assignment o) h = h.0
 key-of office (key.TopUp r) (content.TopUp a c t) h = tt
-key-of office (key.Withdrawal n) content.Withdrawal h = tt
+key-of office (key.Withdrawal (named.Reading m r t w)) content.Withdrawal h = (h.0, h.1)
+key-of office (key.Withdrawal (named.Assignment m t o)) content.Withdrawal h = h.0
+key-of office (key.Withdrawal (named.TopUp r a c t)) content.Withdrawal h = tt
 key-of office (key.Reading m r t) (content.Assignment o) h = absurd h
 key-of office (key.Reading m r t) (content.TopUp a c u) h = absurd h
 key-of office (key.Assignment m t) (content.Reading w) h = absurd h
@@ -67,32 +60,31 @@ key-of office (key.Withdrawal n) (content.Reading w) h = absurd h
 key-of office (key.Withdrawal n) (content.Assignment o) h = absurd h
 key-of office (key.Withdrawal n) (content.TopUp a c u) h = absurd h
 
--- an entry more changes what is told at its key
-pub just-changed : (office : OfficeRules) (e : Entry) (before behind : Contents) (old two mid new : ShelfContent) → two ≡ old → IsWithRecord two e mid → new ≡ mid → before ≡ contents_at old.records e.key → behind ≡ contents_at mid.records e.key →
-    (Member e old.records → ⊥) → IsOfOffice office e → AllOfOffice office old.records → length old.records < most_records → IsTrueContent office old → IsJustChanged office old.records e.key before behind new
-just-changed office e before behind old two mid new q w z b h n o a l t =
+-- an entry more changes what is told at the key that it bears on; at its own key, where that is another, nothing counts
+-- towards points, starts and totals
+pub just-changed : (office : OfficeRules) (e : Entry) (before behind : Contents) (old two mid new : ShelfContent) → two ≡ old → IsWithRecord two e mid → new ≡ mid → before ≡ contents_at old.records (bears_on e) → behind ≡ contents_at mid.records (bears_on e) →
+    IsOfOffice office e → AllOfOffice office old.records → length old.records < most_records → IsTrueContent office old → IsJustChanged office old.records (bears_on e) before behind new
+just-changed office e before behind old two mid new q w z b h o a l t =
     let P : ShelfContent → Type 0 = λ c. IsWithRecord c e mid in
     let v : IsWithRecord old e mid = subst P q w in
     let m : SameMembers mid.records (e ∷ old.records) = inserted-same old.records mid.records e v.records in
-    let changed : ChangesAtOneKey old.records mid.records e = one-more_record old.records mid.records e v.records in
-    let J : ShelfContent → Type 0 = λ c. IsJustChanged office old.records e.key before behind c in
+    let changed : ChangesWhereItBears old.records mid.records e = one-more_bearing old.records mid.records e v.records in
+    let J : ShelfContent → Type 0 = λ c. IsJustChanged office old.records (bears_on e) before behind c in
     let Q : Entry → Type 0 = λ x. IsOfOffice office x in
+    let all : AllOfOffice office mid.records = λ x i. elim ((m x).0 i) [ inl y ↦ subst Q (sym y) o | inr k ↦ a x k ] in
     subst J (sym z) (record {
       was = b;
       is = h;
-      alike = λ x y p r.
-          let told : contents_at old.records e.key ≡ One x = sym b ∙ p in
-          let several : Several ≡ One y = sym (apart-before old.records e x n told) ∙ ap (joined e.content) (sym told) ∙ sym changed.here ∙ sym h ∙ r in
-          absurd cc;
-      points = λ m r t d. ap wh_of (sym (changed.elsewhere (reading_key m r t) d));
-      starts = λ m t d. ap owner_of (sym (changed.elsewhere (assignment_key m t) d));
+      alike = λ x y p r. changed.alike (bears_on e) x y (sym b ∙ p) (sym h ∙ r);
+      points = λ m r t d. ap wh_of (sym (changed.elsewhere (reading_key m r t) (λ i. d (ap named_key i)) d));
+      starts = λ m t d. ap owner_of (sym (changed.elsewhere (assignment_key m t) (λ i. d (ap named_key i)) d));
       paid = λ c.
-          let p = one-more_payment old.records mid.records e v.records c in
+          let p = changed.paid office all c in
           let x = ap (cents_for c) b in
           let y = ap (cents_for c) h in
           omega (arith, p, x, y);
       small = a;
-      of_office = λ x i. elim ((m x).0 i) [ inl y ↦ subst Q (sym y) o | inr k ↦ a x k ];
+      of_office = all;
       few = let f = inserted-length old.records mid.records e v.records in omega (arith, f, l);
       still = record { points = v.point ∙ t.points; starts = v.start ∙ t.starts; totals = λ k. ap (λ f. f k) v.total ∙ t.totals k };
     })

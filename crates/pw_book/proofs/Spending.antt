@@ -2,6 +2,7 @@
 use Rattle.std.proofs.Common.{◌≡◌, ℕ, ◌+◌, ◌*◌, ◌<◌, ◌≤◌, ◌⊎◌, Option, List, [], ◌∷◌, length, mul-le-mul, mul-le-mul_right, mul-le-mul_left, refl, inl, inr, ap, sym, subst, ◌∙◌, arith}
 use Rattle.pw_obis.specs.declared.reference.Register.{Register}
 use Rattle.pw_tariff.specs.Office.{OfficeRules}
+use Rattle.pw_model.specs.Bearing.{bears_on, named_key}
 use Rattle.pw_model.specs.Kinds.{IsReading, IsTopUp, IsAssignment}
 use Rattle.pw_model.specs.declared.records.Key.{Key}
 use Rattle.pw_model.specs.declared.records.Key.TheVariants as key
@@ -17,13 +18,20 @@ use Rattle.pw_book.proofs.Putting.{starts-same}
 use Rattle.pw_book.proofs.EachOne.{record-count, record-count_same}
 
 -- ---- one entry more
-reading-takes : (office : OfficeRules) (k : Key) (was c : ShelfContent) (starts old new : ℕ) → IsReading k → HasStartsOf was starts k → c.start ≡ was.start → TakesAtMost 7 office c k old new → new ≤ old + (13 + starts + 6 * classes_of office)
+reading-takes : (office : OfficeRules) (k : Key) (was c : ShelfContent) (starts old new : ℕ) → IsReading k → HasStartsOf was starts k → c.start ≡ was.start → TakesAtMost 7 office c (named_key k) old new → new ≤ old + (13 + starts + 6 * classes_of office)
 reading-takes office (key.Reading m r t) was c starts old new i h p x = let y = x starts (starts-same was c m.0 starts p h) in omega (arith, y)
 reading-takes office (key.Assignment m t) was c starts old new i h p x = absurd i
 reading-takes office (key.TopUp r) was c starts old new i h p x = absurd i
 reading-takes office (key.Withdrawal n) was c starts old new i h p x = absurd i
 
-top-up-takes : (office : OfficeRules) (k : Key) (c : ShelfContent) (old new : ℕ) → IsTopUp k → TakesAtMost 7 office c k old new → new ≤ old + 10
+-- the key of a reading is the key that it bears on
+pub reading-bears : (k : Key) → IsReading k → IsReading (named_key k)
+reading-bears (key.Reading m r t) i = tt
+reading-bears (key.Assignment m t) i = absurd i
+reading-bears (key.TopUp r) i = absurd i
+reading-bears (key.Withdrawal n) i = absurd i
+
+top-up-takes : (office : OfficeRules) (k : Key) (c : ShelfContent) (old new : ℕ) → IsTopUp k → TakesAtMost 7 office c (named_key k) old new → new ≤ old + 10
 top-up-takes office (key.Reading m r t) c old new i x = absurd i
 top-up-takes office (key.Assignment m t) c old new i x = absurd i
 top-up-takes office (key.TopUp r) c old new i x = omega (arith, x)
@@ -36,7 +44,7 @@ have-up-to c m t points h = λ r ps l. h.few r ps l.rising (λ a k. let x = (l.m
 have-all : (c d : ShelfContent) (m t points : ℕ) (h : HasPoints (λ t. Unit {0}) c m points) → d.point ≡ c.point → HavePoints d m t h.each
 have-all c d m t points h p = λ r ps l. h.few r ps l.rising (λ a k. let x = (l.members a).0 k in (tt, ap (λ (f : ℕ → Register → ℕ → Option ℕ). f m r a.0) (sym p) ∙ x.2))
 
-assignment-takes : (office : OfficeRules) (k : Key) (c : ShelfContent) (starts points old new : ℕ) → IsAssignmentUpToNext c starts points k → TakesAtMost 7 office c k old new → new ≤ old + (39 + starts + points + 6 * classes_of office)
+assignment-takes : (office : OfficeRules) (k : Key) (c : ShelfContent) (starts points old new : ℕ) → IsAssignmentUpToNext c starts points k → TakesAtMost 7 office c (named_key k) old new → new ≤ old + (39 + starts + points + 6 * classes_of office)
 assignment-takes office (key.Reading m r t) c starts points old new i x = absurd i
 assignment-takes office (key.Assignment m t) c starts points old new i x =
     let y = x starts i.1.each i.0 (have-up-to c m.0 t points i.1) in
@@ -50,7 +58,7 @@ abbrev pub HasStartsFor : ShelfContent → ℕ → Key → Type 0
 HasStartsFor c most (key.Assignment m t) = HasStarts c m.0 most
 HasStartsFor c most _ = Unit {0}
 
-assignment-takes-later : (office : OfficeRules) (k : Key) (was c : ShelfContent) (starts more points old new : ℕ) → IsAssignmentWith was starts points k → c.point ≡ was.point → HasStartsFor c more k → TakesAtMost 7 office c k old new →
+assignment-takes-later : (office : OfficeRules) (k : Key) (was c : ShelfContent) (starts more points old new : ℕ) → IsAssignmentWith was starts points k → c.point ≡ was.point → HasStartsFor c more k → TakesAtMost 7 office c (named_key k) old new →
     new ≤ old + (39 + more + points + 6 * classes_of office)
 assignment-takes-later office (key.Reading m r t) was c starts more points old new i p h x = absurd i
 assignment-takes-later office (key.Assignment m t) was c starts more points old new i p h x =
@@ -61,7 +69,7 @@ assignment-takes-later office (key.TopUp r) was c starts more points old new i p
 assignment-takes-later office (key.Withdrawal n) was c starts more points old new i p h x = absurd i
 
 -- one start more at most behind an assignment
-starts-later : (k l : Key) (c d : ShelfContent) (most : ℕ) → ChangesOneStart k c d → IsAssignment k → HasStartsFor c most l → HasStartsFor d (most + 1) l
+starts-later : (k l : Key) (c d : ShelfContent) (most : ℕ) → ChangesOneStart (named_key k) c d → IsAssignment k → HasStartsFor c most l → HasStartsFor d (most + 1) l
 starts-later (key.Assignment m t) (key.Assignment n u) c d most h a s = starts-more (c.start n.0) (d.start n.0) t most (λ v q. h.1 n.0 v (λ b. q b.1)) s
 starts-later (key.Assignment m t) (key.Reading n r u) c d most h a s = tt
 starts-later (key.Assignment m t) (key.TopUp r) c d most h a s = tt
@@ -97,7 +105,7 @@ behind-none entries was c starts points q a = record {
       rw z (subst P (sym q) h);
 }
 
-pub behind-next : (entries : List Entry) (e : Entry) (i : ℕ) (was c d : ShelfContent) (starts points : ℕ) → Member e entries → AreAssignmentsWith was starts points entries → IsBehind entries i was c starts → ChangesOneStart e.key c d →
+pub behind-next : (entries : List Entry) (e : Entry) (i : ℕ) (was c d : ShelfContent) (starts points : ℕ) → Member e entries → AreAssignmentsWith was starts points entries → IsBehind entries i was c starts → ChangesOneStart (bears_on e) c d →
     IsBehind entries (i + 1) was d starts
 behind-next entries e i was c d starts points m a b h =
     let k = is-assignment e.key was starts points (a e m) in
@@ -109,42 +117,42 @@ behind-next entries e i was c d starts points m a b h =
           rw z s;
     }
   where
-    points-kept : (k : Key) (c d : ShelfContent) → IsAssignment k → ChangesOneStart k c d → d.point ≡ c.point
+    points-kept : (k : Key) (c d : ShelfContent) → IsAssignment k → ChangesOneStart (named_key k) c d → d.point ≡ c.point
     points-kept (key.Reading m r t) c d a h = absurd a
     points-kept (key.Assignment m t) c d a h = h.0
     points-kept (key.TopUp r) c d a h = absurd a
     points-kept (key.Withdrawal n) c d a h = absurd a
 
 pub assignments-next : (office : OfficeRules) (entries : List Entry) (e : Entry) (i : ℕ) (was c : ShelfContent) (starts points first old new : ℕ) → i < length entries → Member e entries → AreAssignmentsWith was starts points entries →
-    IsBehind entries i was c starts → old ≤ first + i * (39 + (starts + length entries) + points + 6 * classes_of office) → TakesAtMost 7 office c e.key old new →
+    IsBehind entries i was c starts → old ≤ first + i * (39 + (starts + length entries) + points + 6 * classes_of office) → TakesAtMost 7 office c (bears_on e) old new →
     new ≤ first + (i + 1) * (39 + (starts + length entries) + points + 6 * classes_of office)
 assignments-next office entries e i was c starts points first old new j m a b l t =
     let x = assignment-takes-later office e.key was c starts (starts + i) points old new (a e m) b.points (b.starts_are e m) t in
     omega (arith, l, x, j)
 
 pub readings-next : (office : OfficeRules) (entries : List Entry) (e : Entry) (i : ℕ) (was c : ShelfContent) (starts first old new : ℕ) → Member e entries → AreReadingsWith was starts entries → c.start ≡ was.start →
-    old ≤ first + i * (13 + starts + 6 * classes_of office) → TakesAtMost 7 office c e.key old new → new ≤ first + (i + 1) * (13 + starts + 6 * classes_of office)
+    old ≤ first + i * (13 + starts + 6 * classes_of office) → TakesAtMost 7 office c (bears_on e) old new → new ≤ first + (i + 1) * (13 + starts + 6 * classes_of office)
 readings-next office entries e i was c starts first old new m a p l t =
     let r = a e m in
     let x = reading-takes office e.key was c starts old new r.0 r.1 p t in
     omega (arith, l, x)
 
 pub top-ups-next : (office : OfficeRules) (entries : List Entry) (e : Entry) (i : ℕ) (c : ShelfContent) (first old new : ℕ) → Member e entries → AreTopUps entries →
-    old ≤ first + i * 10 → TakesAtMost 7 office c e.key old new → new ≤ first + (i + 1) * 10
+    old ≤ first + i * 10 → TakesAtMost 7 office c (bears_on e) old new → new ≤ first + (i + 1) * 10
 top-ups-next office entries e i c first old new m a l t =
     let x = top-up-takes office e.key c old new (a e m) t in
     omega (arith, l, x)
 
 -- the one assignment of an upload
 pub only-next : (office : OfficeRules) (entries : List Entry) (e f : Entry) (i : ℕ) (was c : ShelfContent) (starts points first old new : ℕ) → entries ≡ f ∷ [] → i < length entries → Member e entries → IsAssignmentUpToNext was starts points f.key →
-    (i ≡ 0 → (c ≡ was) × (old ≡ first)) → TakesAtMost 7 office c e.key old new → new ≤ first + (39 + starts + points + 6 * classes_of office)
+    (i ≡ 0 → (c ≡ was) × (old ≡ first)) → TakesAtMost 7 office c (bears_on e) old new → new ≤ first + (39 + starts + points + 6 * classes_of office)
 only-next office entries e f i was c starts points first old new q l m a z t =
     let n : length entries ≡ 1 = ap (λ (xs : List Entry). length xs) q in
     let z = z (omega (arith, n, l)) in
     let P : List Entry → Type 0 = λ xs. Member e xs in
     let same : e ≡ f = elim (subst P q m) [ inl k ↦ k | inr k ↦ absurd k ] in
     let Q : Entry → Type 0 = λ x. IsAssignmentUpToNext was starts points x.key in
-    let R : ShelfContent → Type 0 = λ x. TakesAtMost 7 office x e.key old new in
+    let R : ShelfContent → Type 0 = λ x. TakesAtMost 7 office x (bears_on e) old new in
     let x = assignment-takes office e.key was starts points old new (subst Q (sym same) a) (subst R z.0 t) in
     let w = z.1 in
     omega (arith, x, w)
@@ -182,7 +190,7 @@ pub costs-next : (office : OfficeRules) (entries : List Entry) (e : Entry) (i : 
     (i ≡ 0 → (c ≡ was) × (now ≡ first)) →
     ((starts points : ℕ) → AreAssignmentsWith was starts points entries → IsBehind entries i was c starts) →
     ((starts points : ℕ) → AreAssignmentsWith was starts points entries → now ≤ first + i * (39 + (starts + length entries) + points + 6 * classes_of office)) →
-    (AreTopUps entries → now ≤ first + i * 10) → TakesAtMost 7 office c e.key now last →
+    (AreTopUps entries → now ≤ first + i * 10) → TakesAtMost 7 office c (bears_on e) now last →
     CostsAtMost 1 office entries was first last
 costs-next office entries e i was c first now last l m p r z b several t h = record {
   assignment = λ f starts points q a.

@@ -23,6 +23,7 @@ use Rattle.pw_model.specs.Office.{AllOfOffice, HasOwner, IsOffice, most_records}
 use Rattle.pw_model.specs.Payments.{cents_for, topped_up}
 use Rattle.pw_model.specs.Same.{same_key}
 use Rattle.pw_model.specs.Shelf.{IsTrueContent, ShelfContent, total_among}
+use Rattle.pw_model.proofs.Bearing.{no-cents-withdrawn}
 use Rattle.pw_model.proofs.Bounded.{ToldOf, contents-of}
 use Rattle.pw_model.proofs.Energy.{energy-alike}
 use Rattle.pw_model.proofs.Foreign.{foreign-totals_are_none}
@@ -384,15 +385,6 @@ paid-records None None old new m = ap (λ (c : ShelfContent). c.records) m
 paid-records (Some b) (Some d) old new m = ap (λ (c : ShelfContent). c.records) m
 
 -- ---- a withdrawal
--- at the key of a withdrawal no cents are told
-no-cents-withdrawn : (office : OfficeRules) (n : Named) (a : ℕ) (b : Contents) → ToldOf office (key.Withdrawal n) b → cents_for a b ≡ 0
-no-cents-withdrawn office n a Nothing h = refl
-no-cents-withdrawn office n a Several h = refl
-no-cents-withdrawn office n a (One (content.Reading w)) h = refl
-no-cents-withdrawn office n a (One (content.Assignment o)) h = refl
-no-cents-withdrawn office n a (One content.Withdrawal) h = refl
-no-cents-withdrawn office n a (One (content.TopUp b c t)) h = absurd h
-
 -- what is told there changes no point, no start and no total
 pub withdrawal-true : (office : OfficeRules) → IsOffice office → (s : List Entry) (n : Named) (before behind : Contents) (old : ShelfContent) → IsJustChanged office s (key.Withdrawal n) before behind old → IsTrueContent office old
 withdrawal-true office o s n before behind old j =

@@ -1,6 +1,7 @@
 //! One upload to a shelf, written and committed, or taken back.
 
 ghost use Rattle.std.specs.Prelude.{◌≡◌, ℕ, ◌+◌, ◌*◌, ◌<◌, ◌≤◌, ◌++◌, [], ◌∷◌, None, Some, OnOk, OnErr, IsErrOf, IsNone, IsSome, length};
+ghost use Rattle.pw_model.specs.Bearing.{bears_on};
 ghost use Rattle.pw_model.specs.Counting.{Member};
 ghost use Rattle.pw_model.specs.Kinds.{IsReading};
 ghost use Rattle.pw_model.specs.Lists.{record_count};
@@ -11,7 +12,7 @@ ghost use Rattle.pw_shelf.specs.Calls.{GoesOn, failures_told};
 ghost use Rattle.pw_shelf.specs.State.{CountsFailures};
 ghost use Rattle.pw_tariff.specs.Office.{IsSound, office_of};
 ghost use Rattle.pw_book.specs.Posting.{IsWithUpload};
-ghost use Rattle.pw_book.specs.inner.Added.{ChangesOneStart, CostsAtMost, IsPut, LeavesWithUpload, TakesAtMost, bears_on};
+ghost use Rattle.pw_book.specs.inner.Added.{ChangesOneStart, CostsAtMost, IsPut, LeavesWithUpload, TakesAtMost};
 ghost use Rattle.pw_book.specs.inner.Fresh.{AreFresh};
 ghost use Rattle.pw_book.specs.inner.Failures.{FailuresUploaded};
 ghost use Rattle.pw_book.specs.declared.fault.BookFault.TheVariants.{Reopen};
@@ -93,9 +94,9 @@ fn put<S: Shelf>(shelf: &mut S, basis: &Basis, entry: &Entry) -> Result<(), Shel
     requires fresh { S.clean shelf.old → Member entry.now (S.state shelf.old).content.records → ⊥ }
     requires room { S.clean shelf.old → length (S.state shelf.old).content.records < most_records }
     ensures put { S.clean shelf.new → IsTrueContent (office_of basis.now.office.now) (S.state shelf.old).content → AllOfOffice (office_of basis.now.office.now) (S.state shelf.old).content.records → OnOk result (IsPut (office_of basis.now.office.now) (entry.now ∷ []) (S.state shelf.old).content (S.state shelf.new).content) }
-    ensures start { S.clean shelf.new → IsReading entry.now.key → OnOk result ((S.state shelf.new).content.start ≡ (S.state shelf.old).content.start) }
-    ensures alone { S.clean shelf.new → OnOk result (ChangesOneStart entry.now.key (S.state shelf.old).content (S.state shelf.new).content) }
-    ensures tally { S.clean shelf.new → TakesAtMost 7 (office_of basis.now.office.now) (S.state shelf.old).content entry.now.key (S.state shelf.old).tally (S.state shelf.new).tally }
+    ensures start { S.clean shelf.new → IsReading (bears_on entry.now) → OnOk result ((S.state shelf.new).content.start ≡ (S.state shelf.old).content.start) }
+    ensures alone { S.clean shelf.new → OnOk result (ChangesOneStart (bears_on entry.now) (S.state shelf.old).content (S.state shelf.new).content) }
+    ensures tally { S.clean shelf.new → TakesAtMost 7 (office_of basis.now.office.now) (S.state shelf.old).content (bears_on entry.now) (S.state shelf.old).tally (S.state shelf.new).tally }
     ensures kept { GoesOn S.state S.left S.clean S.same_store (failures_told result) shelf.old shelf.new }
 {
     let key = bears_on(entry);
@@ -105,9 +106,12 @@ fn put<S: Shelf>(shelf: &mut S, basis: &Basis, entry: &Entry) -> Result<(), Shel
     settle(shelf, basis, &key, &before, &behind)
 }
 
-// The key at which an entry changes what counts: its own.
+// The key at which an entry may change what counts: of a withdrawal that of the record that it names, else its own.
 pub(crate) fn bears_on(entry: &Entry) -> Key
     ensures { result ≡ bears_on entry.now }
 {
-    entry.key
+    match &entry.key {
+        Key::Withdrawal { named } => named.entry().key,
+        key => *key,
+    }
 }

@@ -31,10 +31,6 @@ pub record IsTrueOf (office : OfficeRules) (s : List Entry) (c : ShelfContent) :
   pub starts : c.start ≡ start (contents_at s)
   pub totals : (k : TotalKey) → c.total k ≡ total_among office s k
 
--- the key at which an entry changes what counts: its own
-abbrev pub bears_on : Entry → Key
-bears_on e = e.key
-
 -- a key that an entry of the office may have
 abbrev pub IsKeyOf : OfficeRules → Key → Type 0
 IsKeyOf office (key.Reading m r t) = (m.0 < office.meters) × (office.counts m.0 r ≡ true)

@@ -2,6 +2,7 @@ use Rattle.std.proofs.Common.{ap, subst, sym, ◌∙◌}
 use Rattle.std.proofs.lemmas.Result.{on_ok_weaker}
 use Rattle.pw_tariff.specs.Office.{office_of}
 use Rattle.pw_model.specs.declared.records.Key.{Key}
+use Rattle.pw_model.specs.Bearing.{bears_on}
 use Rattle.pw_model.specs.Counting.{contents_at}
 use Rattle.pw_model.specs.Kinds.{IsReading}
 use Rattle.pw_book.specs.inner.Added.{ChangesOneStart, IsJustChanged, IsKeyOf, TakesAtMost}
@@ -28,7 +29,7 @@ returns-clause-put g c = λ k t h.
     let J : Key → Type 0 = λ l. IsJustChanged office old.records l c.in_ok-before.before c.in_ok-behind.behind (g.S.Shelf.state c.contents_at-2.new.self).content in
     let j = just-changed office e c.in_ok-before.before c.in_ok-behind.behind old _ mid _ (c.in_ok-before.ensures.asked.same first) (c.in_ok-add.ensures.added second) (c.in_ok-behind.ensures.asked.same third)
     (c.in_ok-before.ensures.rows first ∙ ap (contents_at old.records) c.bears_on-key.ensures) (c.in_ok-behind.ensures.rows third ∙ ap (contents_at mid.records) c.bears_on-key.ensures)
-    (c.requires.fresh start) c.requires.of_office h (c.requires.room start) t in
+    c.requires.of_office h (c.requires.room start) t in
     let i = subst J (sym c.bears_on-key.ensures) j in
     on-ok-two c.settle.result (λ u r. put-added office e old _ mid _ _ (c.in_ok-before.ensures.asked.same first) (c.in_ok-add.ensures.added second) (c.in_ok-behind.ensures.asked.same third) r u) (c.settle.ensures.truth k old.records i) (c.settle.ensures.records k old.records i)
 
@@ -46,7 +47,7 @@ returns-clause-alone g c = λ k.
     let second = c.contents_at-2.ensures.asked.kept.clean third in
     let first = c.add.ensures.written.kept.clean second in
     let P : Key → Type 0 = λ l. ChangesOneStart l (g.S.Shelf.state c.contents_at-2.new.self).content (g.S.Shelf.state c.settle.new.shelf).content in
-    on_ok_weaker c.settle.result (λ h. added-then c.args.entry.now.key c.args.entry.now _ _ _ _ _ (c.in_ok-before.ensures.asked.same first) (c.in_ok-add.ensures.added second) (c.in_ok-behind.ensures.asked.same third) (subst P c.bears_on-key.ensures h)) (c.settle.ensures.alone k)
+    on_ok_weaker c.settle.result (λ h. added-then (bears_on c.args.entry.now) c.args.entry.now _ _ _ _ _ (c.in_ok-before.ensures.asked.same first) (c.in_ok-add.ensures.added second) (c.in_ok-behind.ensures.asked.same third) (subst P c.bears_on-key.ensures h)) (c.settle.ensures.alone k)
 
 pub returns-clause-tally : goal.returns-clause-tally
 returns-clause-tally g c = λ k.
@@ -54,5 +55,5 @@ returns-clause-tally g c = λ k.
     let second = c.contents_at-2.ensures.asked.kept.clean third in
     let first = c.add.ensures.written.kept.clean second in
     let P : Key → Type 0 = λ l. TakesAtMost 0 (office_of c.args.basis.now.office.now) (g.S.Shelf.state c.contents_at-2.new.self).content l (g.S.Shelf.state c.contents_at-2.new.self).tally (g.S.Shelf.state c.settle.new.shelf).tally in
-    takes-more (office_of c.args.basis.now.office.now) c.args.entry.now.key c.args.entry.now _ _ _ _ _ _ _ _ _ c.in_ok-before.before c.in_ok-behind.behind (c.in_ok-before.ensures.asked.same first) (c.in_ok-add.ensures.added second) (c.in_ok-behind.ensures.asked.same third)
+    takes-more (office_of c.args.basis.now.office.now) (bears_on c.args.entry.now) c.args.entry.now _ _ _ _ _ _ _ _ _ c.in_ok-before.before c.in_ok-behind.behind (c.in_ok-before.ensures.asked.same first) (c.in_ok-add.ensures.added second) (c.in_ok-behind.ensures.asked.same third)
     c.in_ok-before.ensures.asked.tally c.add.ensures.written.tally c.in_ok-behind.ensures.asked.tally (subst P c.bears_on-key.ensures (c.settle.ensures.tally k))
