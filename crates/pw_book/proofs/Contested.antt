@@ -10,14 +10,17 @@ use Rattle.pw_model.specs.declared.records.Content.{Content}
 use Rattle.pw_model.specs.declared.records.Content.TheVariants as content
 use Rattle.pw_model.specs.declared.records.Entry.{Entry}
 use Rattle.pw_model.specs.declared.records.Dispute.{Dispute}
+use Rattle.pw_model.specs.Counting.{standing}
 use Rattle.pw_model.specs.Lists.{Lists, IsDispute, dispute_order, AreDisputes, records_at}
 use Rattle.pw_model.specs.Office.{AllOfOffice, IsOf, IsOfOffice, most_records}
 use Rattle.pw_model.specs.Same.{key_order, key_numbers, named_numbers}
 use Rattle.pw_model.specs.Shelf.{ShelfContent}
+use Rattle.pw_model.proofs.Counting.{standing-part}
 use Rattle.pw_model.proofs.Same.{register-one}
 use Rattle.pw_model.specs.Kinds.{ListsHeld, IsReadingOf, IsAssignmentOf, IsTopUp}
 use Rattle.pw_book.specs.inner.Places.{DisputesBefore, key_place, IsWithin, AreWithin}
-use Rattle.pw_book.proofs.Disputed.{held-disputes, held-few, count, count-all, count-one, count-some}
+use Rattle.pw_book.specs.inner.Groups.{IsDisputeAmong, records_with}
+use Rattle.pw_book.proofs.Disputed.{held-stand, standing-count, standing-disputes, standing-few, count-one, count-some}
 use Rattle.pw_book.proofs.Segments.{segment-more, segment-all, segment-none, first-less, then-less, place-few, places-split, places-same}
 
 -- ---- the records of an office
@@ -39,9 +42,9 @@ all-within office s l h = record { few = l; keys = λ e m. key-within office e.k
 dispute-within : (meters : ℕ) (s : List Entry) (d : Dispute) → AreWithin meters s → IsDispute s d → IsWithin meters d.key
 dispute-within meters s d w h =
     let several = h.several in
-    let number : d.contents ≡ count d.key s = h.number ∙ count-all s d.key in
-    let some = count-some d.key s (omega (arith, several, number)) in
-    subst (IsWithin meters) some.2 (w.keys some.0 some.1)
+    let number : d.contents ≡ records_with d.key (standing s) = h.number ∙ standing-count s d.key in
+    let some = count-some d.key (standing s) (omega (arith, several, number)) in
+    subst (IsWithin meters) some.2 (w.keys some.0 (standing-part s some.0 some.1))
 
 -- ---- the order of keys by their places
 key-before : (meters : ℕ) (k l : Key) → IsWithin meters k → IsWithin meters l → key_place meters k < key_place meters l → key_order k l ≡ Less
@@ -111,11 +114,11 @@ withdrawn-entry office n e o q =
 -- so it is in no dispute
 never-disputed : (office : OfficeRules) (s : List Entry) (n : Named) → AllOfOffice office s → records_at s (key.Withdrawal n) ≤ 1
 never-disputed office s n h =
-    let one = count-one (key.Withdrawal n) s (λ e f i j p q.
+    let one = count-one (key.Withdrawal n) (standing s) (λ e f i j p q.
     let key : e.key ≡ f.key = p ∙ sym q in
-    let both : e.content ≡ f.content = withdrawn-entry office n e (h e i) p ∙ sym (withdrawn-entry office n f (h f j) q) in
+    let both : e.content ≡ f.content = withdrawn-entry office n e (h e (standing-part s e i)) p ∙ sym (withdrawn-entry office n f (h f (standing-part s f j)) q) in
     λ i. record { key = key i; content = both i }) in
-    let all = count-all s (key.Withdrawal n) in
+    let all = standing-count s (key.Withdrawal n) in
     omega (arith, one, all)
 
 -- the place of a key that two or more records of an office have
@@ -127,11 +130,12 @@ key-last office s (key.Withdrawal n) h w l = absurd (let f = never-disputed offi
 
 -- ---- the disputes of a kind behind those of the kinds before it
 pub disputes-more : (Of : Key → Type 0) (meters n : ℕ) (s records : List Entry) (old more : List Dispute) → AreWithin meters s → ListsHeld Of s records → ((k : Key) → IsWithin meters k → Of k ↔ (key_place meters k ≡ n)) →
-    (((k : Key) → records_at records k < 2 ^ 32) → Lists dispute_order (IsDispute records) more) → DisputesBefore meters s n old → DisputesBefore meters s (n + 1) (old ++ more)
+    (((k : Key) → records_with k records < 2 ^ 32) → Lists dispute_order (IsDisputeAmong records) more) → DisputesBefore meters s n old → DisputesBefore meters s (n + 1) (old ++ more)
 disputes-more Of meters n s records old more w h q d a =
     let few = w.few in
+    let stand = held-stand Of s records h in
     segment-more dispute_order (IsDispute s) (λ x. Of x.key) (λ x. key_place meters x.key) n old more a
-    (held-disputes Of s records more h (d (held-few Of s records h (omega (arith, few)))))
+    (standing-disputes Of s records more stand (d (standing-few Of s records stand (omega (arith, few)))))
     (λ x i. q x.key (dispute-within meters s x w i))
     (λ x y i j l. key-before meters x.key y.key (dispute-within meters s x w i) (dispute-within meters s y w j) l)
 

@@ -2,7 +2,7 @@
 use Rattle.std.proofs.Common.{◌≡◌, ℕ, ◌+◌, ◌*◌, ◌<◌, ◌≤◌, ◌⊎◌, Option, List, [], ◌∷◌, length, mul-le-mul, mul-le-mul_right, mul-le-mul_left, refl, inl, inr, ap, sym, subst, ◌∙◌, arith}
 use Rattle.pw_obis.specs.declared.reference.Register.{Register}
 use Rattle.pw_tariff.specs.Office.{OfficeRules}
-use Rattle.pw_model.specs.Bearing.{bears_on, named_key}
+use Rattle.pw_model.specs.Bearing.{bears_on}
 use Rattle.pw_model.specs.Kinds.{IsReading, IsTopUp, IsAssignment}
 use Rattle.pw_model.specs.declared.records.Key.{Key}
 use Rattle.pw_model.specs.declared.records.Key.TheVariants as key
@@ -18,20 +18,13 @@ use Rattle.pw_book.proofs.Putting.{starts-same}
 use Rattle.pw_book.proofs.EachOne.{record-count, record-count_same}
 
 -- ---- one entry more
-reading-takes : (office : OfficeRules) (k : Key) (was c : ShelfContent) (starts old new : ℕ) → IsReading k → HasStartsOf was starts k → c.start ≡ was.start → TakesAtMost 7 office c (named_key k) old new → new ≤ old + (13 + starts + 6 * classes_of office)
+reading-takes : (office : OfficeRules) (k : Key) (was c : ShelfContent) (starts old new : ℕ) → IsReading k → HasStartsOf was starts k → c.start ≡ was.start → TakesAtMost 7 office c k old new → new ≤ old + (13 + starts + 6 * classes_of office)
 reading-takes office (key.Reading m r t) was c starts old new i h p x = let y = x starts (starts-same was c m.0 starts p h) in omega (arith, y)
 reading-takes office (key.Assignment m t) was c starts old new i h p x = absurd i
 reading-takes office (key.TopUp r) was c starts old new i h p x = absurd i
 reading-takes office (key.Withdrawal n) was c starts old new i h p x = absurd i
 
--- the key of a reading is the key that it bears on
-pub reading-bears : (k : Key) → IsReading k → IsReading (named_key k)
-reading-bears (key.Reading m r t) i = tt
-reading-bears (key.Assignment m t) i = absurd i
-reading-bears (key.TopUp r) i = absurd i
-reading-bears (key.Withdrawal n) i = absurd i
-
-top-up-takes : (office : OfficeRules) (k : Key) (c : ShelfContent) (old new : ℕ) → IsTopUp k → TakesAtMost 7 office c (named_key k) old new → new ≤ old + 10
+top-up-takes : (office : OfficeRules) (k : Key) (c : ShelfContent) (old new : ℕ) → IsTopUp k → TakesAtMost 7 office c k old new → new ≤ old + 10
 top-up-takes office (key.Reading m r t) c old new i x = absurd i
 top-up-takes office (key.Assignment m t) c old new i x = absurd i
 top-up-takes office (key.TopUp r) c old new i x = omega (arith, x)
@@ -44,7 +37,7 @@ have-up-to c m t points h = λ r ps l. h.few r ps l.rising (λ a k. let x = (l.m
 have-all : (c d : ShelfContent) (m t points : ℕ) (h : HasPoints (λ t. Unit {0}) c m points) → d.point ≡ c.point → HavePoints d m t h.each
 have-all c d m t points h p = λ r ps l. h.few r ps l.rising (λ a k. let x = (l.members a).0 k in (tt, ap (λ (f : ℕ → Register → ℕ → Option ℕ). f m r a.0) (sym p) ∙ x.2))
 
-assignment-takes : (office : OfficeRules) (k : Key) (c : ShelfContent) (starts points old new : ℕ) → IsAssignmentUpToNext c starts points k → TakesAtMost 7 office c (named_key k) old new → new ≤ old + (39 + starts + points + 6 * classes_of office)
+assignment-takes : (office : OfficeRules) (k : Key) (c : ShelfContent) (starts points old new : ℕ) → IsAssignmentUpToNext c starts points k → TakesAtMost 7 office c k old new → new ≤ old + (39 + starts + points + 6 * classes_of office)
 assignment-takes office (key.Reading m r t) c starts points old new i x = absurd i
 assignment-takes office (key.Assignment m t) c starts points old new i x =
     let y = x starts i.1.each i.0 (have-up-to c m.0 t points i.1) in
@@ -58,7 +51,7 @@ abbrev pub HasStartsFor : ShelfContent → ℕ → Key → Type 0
 HasStartsFor c most (key.Assignment m t) = HasStarts c m.0 most
 HasStartsFor c most _ = Unit {0}
 
-assignment-takes-later : (office : OfficeRules) (k : Key) (was c : ShelfContent) (starts more points old new : ℕ) → IsAssignmentWith was starts points k → c.point ≡ was.point → HasStartsFor c more k → TakesAtMost 7 office c (named_key k) old new →
+assignment-takes-later : (office : OfficeRules) (k : Key) (was c : ShelfContent) (starts more points old new : ℕ) → IsAssignmentWith was starts points k → c.point ≡ was.point → HasStartsFor c more k → TakesAtMost 7 office c k old new →
     new ≤ old + (39 + more + points + 6 * classes_of office)
 assignment-takes-later office (key.Reading m r t) was c starts more points old new i p h x = absurd i
 assignment-takes-later office (key.Assignment m t) was c starts more points old new i p h x =
@@ -69,7 +62,7 @@ assignment-takes-later office (key.TopUp r) was c starts more points old new i p
 assignment-takes-later office (key.Withdrawal n) was c starts more points old new i p h x = absurd i
 
 -- one start more at most behind an assignment
-starts-later : (k l : Key) (c d : ShelfContent) (most : ℕ) → ChangesOneStart (named_key k) c d → IsAssignment k → HasStartsFor c most l → HasStartsFor d (most + 1) l
+starts-later : (k l : Key) (c d : ShelfContent) (most : ℕ) → ChangesOneStart k c d → IsAssignment k → HasStartsFor c most l → HasStartsFor d (most + 1) l
 starts-later (key.Assignment m t) (key.Assignment n u) c d most h a s = starts-more (c.start n.0) (d.start n.0) t most (λ v q. h.1 n.0 v (λ b. q b.1)) s
 starts-later (key.Assignment m t) (key.Reading n r u) c d most h a s = tt
 starts-later (key.Assignment m t) (key.TopUp r) c d most h a s = tt
@@ -93,31 +86,31 @@ starts-at-first (key.Withdrawal n) c starts points i = absurd i
 -- what holds of the points and starts behind so many assignments of an upload
 pub record IsBehind (entries : List Entry) (i : ℕ) (was c : ShelfContent) (starts : ℕ) : Type 0 where
   pub points : c.point ≡ was.point
-  pub starts_are : (f : Entry) → Member f entries → HasStartsFor c (starts + i) f.key
+  pub starts_are : (f : Entry) → Member f entries → HasStartsFor c (starts + i) (bears_on f)
 
 pub behind-none : (entries : List Entry) (was c : ShelfContent) (starts points : ℕ) → c ≡ was → AreAssignmentsWith was starts points entries → IsBehind entries 0 was c starts
 behind-none entries was c starts points q a = record {
   points = ap (λ (x : ShelfContent). x.point) q;
   starts_are = λ f m.
-      let h = starts-at-first f.key was starts points (a f m) in
+      let h = starts-at-first (bears_on f) was starts points (a f m) in
       let z : starts + 0 ≡ starts = omega arith in
-      let P : ShelfContent → Type 0 = λ x. HasStartsFor x starts f.key in
+      let P : ShelfContent → Type 0 = λ x. HasStartsFor x starts (bears_on f) in
       rw z (subst P (sym q) h);
 }
 
 pub behind-next : (entries : List Entry) (e : Entry) (i : ℕ) (was c d : ShelfContent) (starts points : ℕ) → Member e entries → AreAssignmentsWith was starts points entries → IsBehind entries i was c starts → ChangesOneStart (bears_on e) c d →
     IsBehind entries (i + 1) was d starts
 behind-next entries e i was c d starts points m a b h =
-    let k = is-assignment e.key was starts points (a e m) in
+    let k = is-assignment (bears_on e) was starts points (a e m) in
     record {
-      points = points-kept e.key c d k h ∙ b.points;
+      points = points-kept (bears_on e) c d k h ∙ b.points;
       starts_are = λ f n.
           let z : starts + (i + 1) ≡ starts + i + 1 = omega arith in
-          let s = starts-later e.key f.key c d (starts + i) h k (b.starts_are f n) in
+          let s = starts-later (bears_on e) (bears_on f) c d (starts + i) h k (b.starts_are f n) in
           rw z s;
     }
   where
-    points-kept : (k : Key) (c d : ShelfContent) → IsAssignment k → ChangesOneStart (named_key k) c d → d.point ≡ c.point
+    points-kept : (k : Key) (c d : ShelfContent) → IsAssignment k → ChangesOneStart k c d → d.point ≡ c.point
     points-kept (key.Reading m r t) c d a h = absurd a
     points-kept (key.Assignment m t) c d a h = h.0
     points-kept (key.TopUp r) c d a h = absurd a
@@ -127,33 +120,33 @@ pub assignments-next : (office : OfficeRules) (entries : List Entry) (e : Entry)
     IsBehind entries i was c starts → old ≤ first + i * (39 + (starts + length entries) + points + 6 * classes_of office) → TakesAtMost 7 office c (bears_on e) old new →
     new ≤ first + (i + 1) * (39 + (starts + length entries) + points + 6 * classes_of office)
 assignments-next office entries e i was c starts points first old new j m a b l t =
-    let x = assignment-takes-later office e.key was c starts (starts + i) points old new (a e m) b.points (b.starts_are e m) t in
+    let x = assignment-takes-later office (bears_on e) was c starts (starts + i) points old new (a e m) b.points (b.starts_are e m) t in
     omega (arith, l, x, j)
 
 pub readings-next : (office : OfficeRules) (entries : List Entry) (e : Entry) (i : ℕ) (was c : ShelfContent) (starts first old new : ℕ) → Member e entries → AreReadingsWith was starts entries → c.start ≡ was.start →
     old ≤ first + i * (13 + starts + 6 * classes_of office) → TakesAtMost 7 office c (bears_on e) old new → new ≤ first + (i + 1) * (13 + starts + 6 * classes_of office)
 readings-next office entries e i was c starts first old new m a p l t =
     let r = a e m in
-    let x = reading-takes office e.key was c starts old new r.0 r.1 p t in
+    let x = reading-takes office (bears_on e) was c starts old new r.0 r.1 p t in
     omega (arith, l, x)
 
 pub top-ups-next : (office : OfficeRules) (entries : List Entry) (e : Entry) (i : ℕ) (c : ShelfContent) (first old new : ℕ) → Member e entries → AreTopUps entries →
     old ≤ first + i * 10 → TakesAtMost 7 office c (bears_on e) old new → new ≤ first + (i + 1) * 10
 top-ups-next office entries e i c first old new m a l t =
-    let x = top-up-takes office e.key c old new (a e m) t in
+    let x = top-up-takes office (bears_on e) c old new (a e m) t in
     omega (arith, l, x)
 
 -- the one assignment of an upload
-pub only-next : (office : OfficeRules) (entries : List Entry) (e f : Entry) (i : ℕ) (was c : ShelfContent) (starts points first old new : ℕ) → entries ≡ f ∷ [] → i < length entries → Member e entries → IsAssignmentUpToNext was starts points f.key →
+pub only-next : (office : OfficeRules) (entries : List Entry) (e f : Entry) (i : ℕ) (was c : ShelfContent) (starts points first old new : ℕ) → entries ≡ f ∷ [] → i < length entries → Member e entries → IsAssignmentUpToNext was starts points (bears_on f) →
     (i ≡ 0 → (c ≡ was) × (old ≡ first)) → TakesAtMost 7 office c (bears_on e) old new → new ≤ first + (39 + starts + points + 6 * classes_of office)
 only-next office entries e f i was c starts points first old new q l m a z t =
     let n : length entries ≡ 1 = ap (λ (xs : List Entry). length xs) q in
     let z = z (omega (arith, n, l)) in
     let P : List Entry → Type 0 = λ xs. Member e xs in
     let same : e ≡ f = elim (subst P q m) [ inl k ↦ k | inr k ↦ absurd k ] in
-    let Q : Entry → Type 0 = λ x. IsAssignmentUpToNext was starts points x.key in
+    let Q : Entry → Type 0 = λ x. IsAssignmentUpToNext was starts points (bears_on x) in
     let R : ShelfContent → Type 0 = λ x. TakesAtMost 7 office x (bears_on e) old new in
-    let x = assignment-takes office e.key was starts points old new (subst Q (sym same) a) (subst R z.0 t) in
+    let x = assignment-takes office (bears_on e) was starts points old new (subst Q (sym same) a) (subst R z.0 t) in
     let w = z.1 in
     omega (arith, x, w)
 
@@ -163,7 +156,7 @@ within i n a l = mul-le-mul_right a l
 
 pub costs-so-far : (office : OfficeRules) (entries : List Entry) (i : ℕ) (was : ShelfContent) (first now last : ℕ) → i ≤ length entries →
     ((starts : ℕ) → AreReadingsWith was starts entries → now ≤ first + i * (13 + starts + 6 * classes_of office)) →
-    ((e : Entry) (starts points : ℕ) → entries ≡ e ∷ [] → IsAssignmentUpToNext was starts points e.key → now ≤ first + i * (39 + starts + points + 6 * classes_of office)) →
+    ((e : Entry) (starts points : ℕ) → entries ≡ e ∷ [] → IsAssignmentUpToNext was starts points (bears_on e) → now ≤ first + i * (39 + starts + points + 6 * classes_of office)) →
     ((starts points : ℕ) → AreAssignmentsWith was starts points entries → now ≤ first + i * (39 + (starts + length entries) + points + 6 * classes_of office)) →
     (AreTopUps entries → now ≤ first + i * 10) → last ≤ now + 1 →
     CostsAtMost 1 office entries was first last
@@ -216,7 +209,7 @@ costs-more office entries c d old mid now new q b t h = record {
       let x = t.readings starts (subst P (sym q) a) in
       omega (arith, x, b, h);
   assignment = λ e starts points k a.
-      let P : ShelfContent → Type 0 = λ x. IsAssignmentUpToNext x starts points e.key in
+      let P : ShelfContent → Type 0 = λ x. IsAssignmentUpToNext x starts points (bears_on e) in
       let x = t.assignment e starts points k (subst P (sym q) a) in
       omega (arith, x, b, h);
   assignments = λ starts points a.
@@ -296,7 +289,7 @@ cheap-whole office entries distinct fresh c d old mid new f q h t =
           omega (arith, h, n, p, x);
       assignment = λ e starts points a i.
           let k : length distinct ≡ 1 = ap (λ (xs : List Entry). length xs) (one-distinct e entries distinct f.once f.members a) in
-          let P : ShelfContent → Type 0 = λ x. IsAssignmentUpToNext x starts points e.key in
+          let P : ShelfContent → Type 0 = λ x. IsAssignmentUpToNext x starts points (bears_on e) in
           let x : new ≤ mid + 3 + (39 + starts + points + 6 * classes_of office) = elim (one-fresh e fresh (let l = f.few in omega (arith, k, l)) (λ g m. elim ((a g).0 (there g m)) [ inl i ↦ i | inr b ↦ absurd b ])) [
             | inl none ↦ (let y = t.nothing none in omega (arith, y))
             | inr one ↦ t.assignment e starts points one (subst P (sym q) i)

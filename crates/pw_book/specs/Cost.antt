@@ -8,6 +8,7 @@ use Rattle.pw_tariff.specs.Office.{OfficeRules}
 use Rattle.pw_model.specs.declared.records.Key.{Key}
 use Rattle.pw_model.specs.declared.records.Key.TheVariants as key
 use Rattle.pw_model.specs.declared.records.Entry.{Entry}
+use Rattle.pw_model.specs.Bearing.{bears_on}
 use Rattle.pw_model.specs.Counting.{Member, SameMembers}
 use Rattle.pw_model.specs.Energy.{over_registers}
 use Rattle.pw_model.specs.Kinds.{IsReading, IsTopUp}
@@ -33,13 +34,14 @@ abbrev pub HasStartsOf : ShelfContent → ℕ → Key → Type 0
 HasStartsOf c most (key.Reading m r t) = HasStarts c m.0 most
 HasStartsOf c most _ = Unit {0}
 
--- each of the entries is a reading, and its meter has so many counting starts at most
+-- each of the entries is a reading or the withdrawal of one, and its meter has so many counting starts at most
 abbrev pub AreReadingsWith : ShelfContent → ℕ → List Entry → Type 0
-AreReadingsWith c most entries = (e : Entry) → Member e entries → IsReading e.key × HasStartsOf c most e.key
+AreReadingsWith c most entries = (e : Entry) → Member e entries → IsReading (bears_on e) × HasStartsOf c most (bears_on e)
 
 -- ---- top-ups
+-- each of the entries is a top-up or the withdrawal of one
 abbrev pub AreTopUps : List Entry → Type 0
-AreTopUps entries = (e : Entry) → Member e entries → IsTopUp e.key
+AreTopUps entries = (e : Entry) → Member e entries → IsTopUp (bears_on e)
 
 -- ---- assignments
 -- from one second on, and before each counting start of the meter behind it
@@ -71,16 +73,18 @@ abbrev pub IsAssignmentWith : ShelfContent → ℕ → ℕ → Key → Type 0
 IsAssignmentWith c starts points (key.Assignment m t) = HasStarts c m.0 starts × HasPoints (λ t. Unit {0}) c m.0 points
 IsAssignmentWith c starts points _ = ⊥
 
+-- each of the entries is such an assignment or the withdrawal of one
 abbrev pub AreAssignmentsWith : ShelfContent → ℕ → ℕ → List Entry → Type 0
-AreAssignmentsWith c starts points entries = (e : Entry) → Member e entries → IsAssignmentWith c starts points e.key
+AreAssignmentsWith c starts points entries = (e : Entry) → Member e entries → IsAssignmentWith c starts points (bears_on e)
 
 -- ---- an upload
 -- of so many entries, counted once each: readings by the starts and the totals of a direction; one assignment by these and
--- the points of its time, several by these and all points of a meter; top-ups by their number; an empty upload by a constant
+-- the points of its time, several by these and all points of a meter; top-ups by their number; an empty upload by a
+-- constant; withdrawals as the records that they name
 pub record IsCheap (office : OfficeRules) (entries : List Entry) (c : ShelfContent) (old new : ℕ) : Type 0 where
   pub readings : (starts : ℕ) → 1 ≤ record_count entries → AreReadingsWith c starts entries →
       RisesAtMost (record_count entries * (24 + 4 * (starts + 1) + 6 * classes_of office)) old new
-  pub assignment : (e : Entry) (starts points : ℕ) → SameMembers entries (e ∷ []) → IsAssignmentUpToNext c starts points e.key →
+  pub assignment : (e : Entry) (starts points : ℕ) → SameMembers entries (e ∷ []) → IsAssignmentUpToNext c starts points (bears_on e) →
       RisesAtMost (56 + 4 * (starts + 1) + 2 * points + 12 * classes_of office) old new
   pub assignments : (starts points : ℕ) → 1 ≤ record_count entries → AreAssignmentsWith c starts points entries →
       RisesAtMost (record_count entries * (56 + 4 * (starts + record_count entries + 1) + 2 * points + 12 * classes_of office)) old new

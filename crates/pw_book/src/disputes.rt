@@ -2,14 +2,14 @@
 
 ghost use Rattle.std.specs.Prelude.{◌≡◌, ◌+◌, ◌*◌, ◌^◌, ◌<◌, ◌≤◌, ℕ, IfOk, OnOk, IsNone, length};
 ghost use Rattle.pw_model.specs.declared.records.Key.{Key as AKey};
-ghost use Rattle.pw_model.specs.Lists.{AreDisputes, IsDispute, IsInOrder, Lists, dispute_order, records_at};
+ghost use Rattle.pw_model.specs.Lists.{AreDisputes, IsInOrder, Lists, dispute_order};
 ghost use Rattle.pw_model.specs.Office.{AllOfOffice, most_records};
 ghost use Rattle.pw_model.specs.Same.{entry_order};
 ghost use Rattle.pw_shelf.specs.Calls.{failures_told};
 ghost use Rattle.pw_tariff.specs.Office.{office_of, register_place};
 ghost use Rattle.pw_book.specs.Asking.{IsOnlyAsked};
 ghost use Rattle.pw_book.specs.inner.Places.{AreWithin, DisputesBefore};
-ghost use Rattle.pw_book.specs.inner.Groups.{IsDisputeOf};
+ghost use Rattle.pw_book.specs.inner.Groups.{IsDisputeAmong, IsDisputeOf, records_with};
 
 use crate::asked::{assignments_held, readings_held, topups_held};
 use pw_model::{Dispute, Entry};
@@ -142,7 +142,7 @@ fn add_topups<S: Shelf>(
 
 // The keys that two or more of some records have, and how many.
 pub(crate) fn disputes_of(alloc: Global, records: &[Entry]) -> Result<Vec<Dispute>, AllocError>
-    ensures { IsInOrder entry_order records.now → ((k : AKey) → records_at records.now k < 2 ^ 32) → IfOk result (λ disputes. Lists dispute_order (IsDispute records.now) disputes.items) }
+    ensures { IsInOrder entry_order records.now → ((k : AKey) → records_with k records.now < 2 ^ 32) → IfOk result (λ disputes. Lists dispute_order (IsDisputeAmong records.now) disputes.items) }
 {
     let mut disputes = Vec::new(alloc);
     let mut rest = records;

@@ -14,6 +14,7 @@ use Rattle.pw_model.specs.declared.records.Contents.TheVariants.{One}
 use Rattle.pw_model.specs.declared.records.Entry.{Entry}
 use Rattle.pw_model.specs.declared.records.TotalKey.{TotalKey}
 use Rattle.pw_model.specs.declared.records.TotalKey.TheVariants.{TopUps}
+use Rattle.pw_model.specs.Bearing.{bears_on}
 use Rattle.pw_model.specs.Counting.{SameMembers, assignment_key, contents_at, point, reading_key, start}
 use Rattle.pw_model.specs.Energy.{over_registers}
 use Rattle.pw_model.specs.Office.{AllOfOffice, most_records}
@@ -90,7 +91,7 @@ LeavesWithUpload office entries content old new = (c : ShelfContent) → new c �
 -- how many calls and rows the entries of an upload take, each added and settled, beside so many
 pub record CostsAtMost (beside : ℕ) (office : OfficeRules) (entries : List Entry) (c : ShelfContent) (old new : ℕ) : Type 0 where
   pub readings : (starts : ℕ) → AreReadingsWith c starts entries → new ≤ old + beside + length entries * (13 + starts + 6 * classes_of office)
-  pub assignment : (e : Entry) (starts points : ℕ) → entries ≡ e ∷ [] → IsAssignmentUpToNext c starts points e.key →
+  pub assignment : (e : Entry) (starts points : ℕ) → entries ≡ e ∷ [] → IsAssignmentUpToNext c starts points (bears_on e) →
       new ≤ old + beside + (39 + starts + points + 6 * classes_of office)
   pub assignments : (starts points : ℕ) → AreAssignmentsWith c starts points entries →
       new ≤ old + beside + length entries * (39 + (starts + length entries) + points + 6 * classes_of office)

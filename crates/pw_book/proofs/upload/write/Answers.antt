@@ -3,7 +3,7 @@ use Rattle.std.proofs.lemmas.Result.{on_ok_weaker, on_err_weaker}
 use Rattle.pw_tariff.specs.Office.{office_of}
 use Rattle.pw_book.proofs.Chains.{kept-then, kept-none}
 use Rattle.pw_book.proofs.Joining.{joined-fresh, joined-none, joined-next, joined-room, joined-of_office, got-of_office, got-member, with-upload, subst-once}
-use Rattle.pw_book.proofs.Spending.{assignments-next, behind-next, behind-none, only-next, reading-bears, readings-next, top-ups-next, costs-so-far, costs-next}
+use Rattle.pw_book.proofs.Spending.{assignments-next, behind-next, behind-none, only-next, readings-next, top-ups-next, costs-so-far, costs-next}
 use Rattle.pw_book.proofs.upload.write.Goals as goal
 
 pub put-requires-clause-of_office : goal.put-requires-clause-of_office
@@ -51,7 +51,7 @@ loop-entry-preserved g c =
           let so_far = c.loop-entry.invariant.put before in
           joined-next office c.args.entries.now c.loop-entry.entry-index c.entry-item.result _ _ _ c.loop-entry-test.true c.entry-item.is so_far
           (c.in_ok-put.ensures.put k so_far.truth (joined-of_office office c.args.entries.now c.loop-entry.entry-index _ _ c.requires.of_office (c.requires.held start) so_far));
-      start = λ k starts a. c.in_ok-put.ensures.start k (reading-bears c.entry-item.result.key (a c.entry-item.result m).0) ∙ c.loop-entry.invariant.start (c.put.ensures.kept.clean k) starts a;
+      start = λ k starts a. c.in_ok-put.ensures.start k (a c.entry-item.result m).0 ∙ c.loop-entry.invariant.start (c.put.ensures.kept.clean k) starts a;
       readings = λ k starts a.
           let before = c.put.ensures.kept.clean k in
           readings-next office c.args.entries.now c.entry-item.result c.loop-entry.entry-index (g.S.Shelf.state c.args.shelf.now).content (g.S.Shelf.state c.loop-entry.shelf).content starts _ _ _ m a (c.loop-entry.invariant.start before starts a) (c.loop-entry.invariant.readings before starts a) (c.put.ensures.tally k);

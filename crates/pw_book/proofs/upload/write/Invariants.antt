@@ -1,6 +1,7 @@
 use Rattle.std.proofs.Common.{◌≡◌, ℕ, ◌+◌, ◌*◌, ◌≤◌, [], ◌∷◌, length, take}
 use Rattle.pw_tariff.specs.Office.{office_of}
 use Rattle.pw_model.specs.declared.records.Entry.{Entry}
+use Rattle.pw_model.specs.Bearing.{bears_on}
 use Rattle.pw_shelf.specs.Calls.{GoesOn}
 use Rattle.pw_book.specs.Cost.{AreAssignmentsWith, AreReadingsWith, AreTopUps, IsAssignmentUpToNext, classes_of}
 use Rattle.pw_book.specs.inner.Added.{IsPut}
@@ -17,7 +18,7 @@ invariant-loop-entry g l = record {
   first : g.S.Shelf.clean l.shelf → l.entry-index ≡ 0 → ((g.S.Shelf.state l.shelf).content ≡ (g.S.Shelf.state l.initial.shelf).content) × ((g.S.Shelf.state l.shelf).tally ≡ (g.S.Shelf.state l.initial.shelf).tally);
   behind : g.S.Shelf.clean l.shelf → (starts points : ℕ) → AreAssignmentsWith (g.S.Shelf.state l.initial.shelf).content starts points l.entries →
       IsBehind l.entries l.entry-index (g.S.Shelf.state l.initial.shelf).content (g.S.Shelf.state l.shelf).content starts;
-  assignment : g.S.Shelf.clean l.shelf → (e : Entry) (starts points : ℕ) → l.entries ≡ e ∷ [] → IsAssignmentUpToNext (g.S.Shelf.state l.initial.shelf).content starts points e.key →
+  assignment : g.S.Shelf.clean l.shelf → (e : Entry) (starts points : ℕ) → l.entries ≡ e ∷ [] → IsAssignmentUpToNext (g.S.Shelf.state l.initial.shelf).content starts points (bears_on e) →
       (g.S.Shelf.state l.shelf).tally ≤ (g.S.Shelf.state l.initial.shelf).tally + l.entry-index * (39 + starts + points + 6 * classes_of (office_of l.basis.office.now));
   assignments : g.S.Shelf.clean l.shelf → (starts points : ℕ) → AreAssignmentsWith (g.S.Shelf.state l.initial.shelf).content starts points l.entries →
       (g.S.Shelf.state l.shelf).tally ≤ (g.S.Shelf.state l.initial.shelf).tally + l.entry-index * (39 + (starts + length l.entries) + points + 6 * classes_of (office_of l.basis.office.now));
