@@ -12,6 +12,7 @@ use Rattle.pw_tariff.specs.declared.ids.AccountId.{AccountId}
 use Rattle.pw_model.specs.Counting.{Member}
 use Rattle.pw_model.specs.Lists.{IsInOrder}
 use Rattle.pw_model.specs.Seconds.{ListsSeconds, by_second}
+use Rattle.pw_book.specs.Cost.{HasPointsAt}
 use Rattle.pw_book.specs.inner.Settling.{EndsBeforeNext}
 use Rattle.pw_parts.proofs.Chart.{less-is}
 use Rattle.pw_model.proofs.Places.{member-left, member-right, member-split}
@@ -24,7 +25,7 @@ abbrev pub Start : Type 0
 Start = ℕ × Option AccountId
 
 -- ---- the starts that pass a test
-part-rises : (p : Start → Bool) (xs : List Start) → IsInOrder by_second xs → IsInOrder by_second (filter p xs)
+part-rises : {X : Type 0} (p : ℕ × X → Bool) (xs : List (ℕ × X)) → IsInOrder by_second xs → IsInOrder by_second (filter p xs)
 part-rises p [] r = tt
 part-rises p (y ∷ ys) r = elim (cases_Bool (p y)) [
   | inl e ↦ rw e (before-all by_second y (filter p ys) (λ z m. before-member by_second y z ys r.0 (filtered-member p ys z m).0), part-rises p ys r.1)
@@ -37,13 +38,13 @@ abbrev pub start_listed : ℕ → Option (Option AccountId) → List Start → L
 start_listed z None xs = xs
 start_listed z (Some o) xs = (z, o) ∷ xs
 
-abbrev pub early : ℕ → Start → Bool
+abbrev pub early : {X : Type 0} → ℕ → ℕ × X → Bool
 early z s = nat_lt s.0 z
 
-abbrev pub late : ℕ → Start → Bool
+abbrev pub late : {X : Type 0} → ℕ → ℕ × X → Bool
 late z s = nat_lt z s.0
 
-joined-rises : (xs ys : List Start) → IsInOrder by_second xs → IsInOrder by_second ys → ((x y : Start) → Member x xs → Member y ys → x.0 < y.0) → IsInOrder by_second (xs ++ ys)
+joined-rises : {X : Type 0} (xs ys : List (ℕ × X)) → IsInOrder by_second xs → IsInOrder by_second ys → ((x y : ℕ × X) → Member x xs → Member y ys → x.0 < y.0) → IsInOrder by_second (xs ++ ys)
 joined-rises [] ys r s h = s
 joined-rises (x ∷ xs) ys r s h = (
   before-all by_second x (xs ++ ys) (λ z m. elim (member-split z xs ys m) [
@@ -188,7 +189,7 @@ started-none told z owner xs first mid all l f w m a =
 
 -- ---- how many
 -- all that stands behind the first of a list, where that isn't before the second
-late-all : (z : ℕ) (x : Start) (xs : List Start) → z ≤ x.0 → IsInOrder by_second (x ∷ xs) → length (filter (late z) xs) ≡ length xs
+late-all : {X : Type 0} (z : ℕ) (x : ℕ × X) (xs : List (ℕ × X)) → z ≤ x.0 → IsInOrder by_second (x ∷ xs) → length (filter (late z) xs) ≡ length xs
 late-all z x [] l r = refl
 late-all z x (y ∷ ys) l r =
     let a = less-is x.0 y.0 (before-member by_second x y (y ∷ ys) r.0 (inl refl)) in
@@ -196,7 +197,7 @@ late-all z x (y ∷ ys) l r =
     rw (lt-ltb z y.0 b) (ap suc (late-all z y ys (omega (arith, b)) r.1))
 
 -- all but one stand before a second or behind it
-parts-few : (z : ℕ) (xs : List Start) → IsInOrder by_second xs → length xs ≤ length (filter (early z) xs) + length (filter (late z) xs) + 1
+parts-few : {X : Type 0} (z : ℕ) (xs : List (ℕ × X)) → IsInOrder by_second xs → length xs ≤ length (filter (early z) xs) + length (filter (late z) xs) + 1
 parts-few z [] r = omega arith
 parts-few z (x ∷ xs) r =
     let rest = parts-few z xs r.1 in
@@ -234,3 +235,29 @@ starts-more told other z most same few xs l =
     let b = listed-more (told z) z second in
     let c = length-append first (start_listed z (told z) second) in
     omega (arith, a, b, c, f)
+
+-- where other points are told at one second alone, there is one more at most
+pub points-more : (told other : ℕ → Option ℕ) (z most : ℕ) → ((t : ℕ) → (t ≡ z → ⊥) → other t ≡ told t) → HasPointsAt (λ t. Unit {0}) told most → HasPointsAt (λ t. Unit {0}) other (most + 1)
+points-more told other z most same few xs rises held =
+    let first = filter (early z) xs in
+    let second = filter (late z) xs in
+    let rising = joined-rises first second (part-rises (early z) xs rises) (part-rises (late z) xs rises) (λ x y m n.
+    let a = ltb-true x.0 z (filtered-member (early z) xs x m).1 in
+    let b = ltb-true z y.0 (filtered-member (late z) xs y n).1 in
+    omega (arith, a, b)) in
+    let f = few (first ++ second) rising (λ x m. (
+      tt,
+      elim (member-split x first second m) [
+        | inl i ↦ (
+            let h = filtered-member (early z) xs x i in
+            let a = ltb-true x.0 z h.1 in
+            sym (same x.0 (λ e. absurd (omega (arith, a, e)))) ∙ (held x h.0).1)
+        | inr i ↦ (
+            let h = filtered-member (late z) xs x i in
+            let a = ltb-true z x.0 h.1 in
+            sym (same x.0 (λ e. absurd (omega (arith, a, e)))) ∙ (held x h.0).1)
+      ],
+    )) in
+    let a = parts-few z xs rises in
+    let b = length-append first second in
+    omega (arith, a, b, f)

@@ -22,11 +22,11 @@ use Rattle.pw_model.specs.Shelf.{IsTrueContent, ShelfContent}
 use Rattle.pw_model.proofs.Bearing.{one-more_bearing}
 use Rattle.pw_model.proofs.Counting.{inserted-same}
 use Rattle.pw_model.proofs.Same.{same_key-decides}
-use Rattle.pw_shelf.specs.Changes.{starts_with}
+use Rattle.pw_shelf.specs.Changes.{points_with, starts_with}
 use Rattle.pw_shelf.specs.Rows.{rows_at}
 use Rattle.pw_shelf.specs.State.{IsWithRecord}
 use Rattle.pw_book.specs.Cost.{HasStarts}
-use Rattle.pw_book.specs.inner.Added.{ChangesOneStart, IsJustChanged, IsKeyOf, IsPut, TakesAtMost}
+use Rattle.pw_book.specs.inner.Added.{ChangesOneKey, IsJustChanged, IsKeyOf, IsPut, TakesAtMost}
 use Rattle.pw_book.specs.inner.Settling.{HavePoints}
 use Rattle.pw_model.proofs.Places.{member-left, member-right, member-split}
 
@@ -132,16 +132,32 @@ with-record e old two mid three q w z =
     let v : IsWithRecord old e mid = subst P q w in
     (ap (λ (c : ShelfContent). c.start) z ∙ v.start, ap (λ (c : ShelfContent). c.point) z ∙ v.point)
 
--- ---- the start of one key alone
+-- ---- the point or the start of one key alone
 abbrev meter_in : Key → ℕ
+meter_in (key.Reading m r t) = m.0
 meter_in (key.Assignment m t) = m.0
 meter_in _ = 0
 
 abbrev second_in : Key → ℕ
+second_in (key.Reading m r t) = t
 second_in (key.Assignment m t) = t
 second_in _ = 0
 
-pub one-start : (m : MeterId) (t : ℕ) (owner : Option (Option AccountId)) (old new : ShelfContent) → new.point ≡ old.point → new.start ≡ starts_with old.start m.0 t owner → ChangesOneStart (key.Assignment m t) old new
+abbrev register_in : Register → Key → Register
+register_in other (key.Reading m r t) = r
+register_in other _ = other
+
+pub one-point : (m : MeterId) (r : Register) (t : ℕ) (wh : Option ℕ) (old new : ShelfContent) → new.start ≡ old.start → new.point ≡ points_with old.point m.0 r t wh → ChangesOneKey (key.Reading m r t) old new
+one-point m r t wh old new s p = (
+  s,
+  λ n q u h. ap (λ (f : ℕ → Register → ℕ → Option ℕ). f n q u) p ∙ elim (cases_Bool (same_key (reading_key m.0 r t) (reading_key n q u))) [
+    | inl y ↦ (let i : reading_key m.0 r t ≡ reading_key n q u = (same_key-decides (reading_key m.0 r t) (reading_key n q u)).0 y in
+        absurd (h (sym (ap meter_in i), sym (ap (register_in r) i), sym (ap second_in i))))
+    | inr f ↦ ap (λ b. cond b wh (old.point n q u)) f
+  ],
+)
+
+pub one-start : (m : MeterId) (t : ℕ) (owner : Option (Option AccountId)) (old new : ShelfContent) → new.point ≡ old.point → new.start ≡ starts_with old.start m.0 t owner → ChangesOneKey (key.Assignment m t) old new
 one-start m t owner old new p s = (
   p,
   λ n u h. ap (λ (f : ℕ → ℕ → Option (Option AccountId)). f n u) s ∙ elim (cases_Bool (same_key (assignment_key m.0 t) (assignment_key n u))) [
@@ -152,13 +168,15 @@ one-start m t owner old new p s = (
 )
 
 -- behind a record that was added first
-pub added-then : (k : Key) (e : Entry) (old two mid three new : ShelfContent) → two ≡ old → IsWithRecord two e mid → three ≡ mid → ChangesOneStart k three new → ChangesOneStart k old new
-added-then (key.Reading m r t) e old two mid three new q w z h = tt
+pub added-then : (k : Key) (e : Entry) (old two mid three new : ShelfContent) → two ≡ old → IsWithRecord two e mid → three ≡ mid → ChangesOneKey k three new → ChangesOneKey k old new
+added-then (key.Reading m r t) e old two mid three new q w z h =
+    let v = with-record e old two mid three q w z in
+    (h.0 ∙ v.0, λ n p u d. h.1 n p u d ∙ ap (λ (f : ℕ → Register → ℕ → Option ℕ). f n p u) v.1)
 added-then (key.Assignment m t) e old two mid three new q w z h =
     let v = with-record e old two mid three q w z in
     (h.0 ∙ v.1, λ n u d. h.1 n u d ∙ ap (λ (f : ℕ → ℕ → Option (Option AccountId)). f n u) v.0)
-added-then (key.TopUp r) e old two mid three new q w z h = tt
-added-then (key.Withdrawal n) e old two mid three new q w z h = tt
+added-then (key.TopUp r) e old two mid three new q w z h = let v = with-record e old two mid three q w z in (h.0 ∙ v.1, h.1 ∙ v.0)
+added-then (key.Withdrawal n) e old two mid three new q w z h = let v = with-record e old two mid three q w z in (h.0 ∙ v.1, h.1 ∙ v.0)
 
 pub takes-more : (office : OfficeRules) (k : Key) (e : Entry) (old two mid three : ShelfContent) (a c d f g : ℕ) (before behind : Contents) → two ≡ old → IsWithRecord two e mid → three ≡ mid →
     c ≡ a + 1 + rows_at before → d ≡ c + 1 → f ≡ d + 1 + rows_at behind → TakesAtMost 0 office three k f g → TakesAtMost 7 office old k a g

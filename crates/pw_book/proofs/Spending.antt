@@ -1,8 +1,12 @@
 -- How many calls and rows the entries of an upload take together.
-use Rattle.std.proofs.Common.{◌≡◌, ℕ, ◌+◌, ◌*◌, ◌<◌, ◌≤◌, ◌⊎◌, Option, List, [], ◌∷◌, length, mul-le-mul, mul-le-mul_right, mul-le-mul_left, refl, inl, inr, ap, sym, subst, ◌∙◌, arith}
+use Rattle.std.proofs.Common.{◌≡◌, ◌==◌, ℕ, ◌+◌, ◌*◌, ◌<◌, ◌≤◌, ◌⊎◌, cond, Option, List, [], ◌∷◌, length, mul-le-mul, mul-le-mul_right, mul-le-mul_left, refl, inl, inr, ap, sym, subst, ◌∙◌, arith}
+use Rattle.std.proofs.lemmas.Bool.{cases_eq, eq-eqb, ne_eqb}
 use Rattle.pw_obis.specs.declared.reference.Register.{Register}
-use Rattle.pw_tariff.specs.Office.{OfficeRules}
+use Rattle.pw_obis.specs.declared.reference.Register.TheVariants.{I0, I1, I2, E0, E1, E2}
+use Rattle.pw_tariff.specs.declared.ids.Direction.TheVariants.{Import, Export}
+use Rattle.pw_tariff.specs.Office.{OfficeRules, register_place}
 use Rattle.pw_model.specs.Bearing.{bears_on}
+use Rattle.pw_model.specs.Energy.{over_registers}
 use Rattle.pw_model.specs.Kinds.{IsReading, IsTopUp, IsAssignment}
 use Rattle.pw_model.specs.declared.records.Key.{Key}
 use Rattle.pw_model.specs.declared.records.Key.TheVariants as key
@@ -10,10 +14,10 @@ use Rattle.pw_model.specs.declared.records.Entry.{Entry}
 use Rattle.pw_model.specs.Counting.{Member, EachOnce, SameMembers}
 use Rattle.pw_model.specs.Lists.{record_count}
 use Rattle.pw_model.specs.Shelf.{ShelfContent}
-use Rattle.pw_book.specs.Cost.{AreAssignmentsWith, AreReadingsWith, AreTopUps, HasPoints, HasStarts, HasStartsOf, IsAssignmentUpToNext, IsAssignmentWith, IsCheap, IsUpToNextStart, classes_of}
-use Rattle.pw_book.specs.inner.Added.{ChangesOneStart, CostsAtMost, TakesAtMost}
+use Rattle.pw_book.specs.Cost.{AreAssignmentsWith, AreKnown, AreReadingsWith, AreTopUps, HasPoints, HasPointsAt, HasStarts, HasStartsOf, IsAssignmentUpToNext, IsAssignmentWith, IsCheap, IsKnown, IsUpToNextStart, classes_of}
+use Rattle.pw_book.specs.inner.Added.{ChangesOneKey, CostsAtMost, TakesAtMost}
 use Rattle.pw_book.specs.inner.Settling.{HavePoints}
-use Rattle.pw_book.proofs.NewStarts.{starts-more}
+use Rattle.pw_book.proofs.NewStarts.{points-more, starts-more}
 use Rattle.pw_book.proofs.Putting.{starts-same}
 use Rattle.pw_book.proofs.EachOne.{record-count, record-count_same}
 
@@ -62,7 +66,7 @@ assignment-takes-later office (key.TopUp r) was c starts more points old new i p
 assignment-takes-later office (key.Withdrawal n) was c starts more points old new i p h x = absurd i
 
 -- one start more at most behind an assignment
-starts-later : (k l : Key) (c d : ShelfContent) (most : ℕ) → ChangesOneStart k c d → IsAssignment k → HasStartsFor c most l → HasStartsFor d (most + 1) l
+starts-later : (k l : Key) (c d : ShelfContent) (most : ℕ) → ChangesOneKey k c d → IsAssignment k → HasStartsFor c most l → HasStartsFor d (most + 1) l
 starts-later (key.Assignment m t) (key.Assignment n u) c d most h a s = starts-more (c.start n.0) (d.start n.0) t most (λ v q. h.1 n.0 v (λ b. q b.1)) s
 starts-later (key.Assignment m t) (key.Reading n r u) c d most h a s = tt
 starts-later (key.Assignment m t) (key.TopUp r) c d most h a s = tt
@@ -98,7 +102,7 @@ behind-none entries was c starts points q a = record {
       rw z (subst P (sym q) h);
 }
 
-pub behind-next : (entries : List Entry) (e : Entry) (i : ℕ) (was c d : ShelfContent) (starts points : ℕ) → Member e entries → AreAssignmentsWith was starts points entries → IsBehind entries i was c starts → ChangesOneStart (bears_on e) c d →
+pub behind-next : (entries : List Entry) (e : Entry) (i : ℕ) (was c d : ShelfContent) (starts points : ℕ) → Member e entries → AreAssignmentsWith was starts points entries → IsBehind entries i was c starts → ChangesOneKey (bears_on e) c d →
     IsBehind entries (i + 1) was d starts
 behind-next entries e i was c d starts points m a b h =
     let k = is-assignment (bears_on e) was starts points (a e m) in
@@ -110,7 +114,7 @@ behind-next entries e i was c d starts points m a b h =
           rw z s;
     }
   where
-    points-kept : (k : Key) (c d : ShelfContent) → IsAssignment k → ChangesOneStart k c d → d.point ≡ c.point
+    points-kept : (k : Key) (c d : ShelfContent) → IsAssignment k → ChangesOneKey k c d → d.point ≡ c.point
     points-kept (key.Reading m r t) c d a h = absurd a
     points-kept (key.Assignment m t) c d a h = h.0
     points-kept (key.TopUp r) c d a h = absurd a
@@ -150,6 +154,96 @@ only-next office entries e f i was c starts points first old new q l m a z t =
     let w = z.1 in
     omega (arith, x, w)
 
+-- ---- entries of any kinds
+known-takes : (office : OfficeRules) (k : Key) (c : ShelfContent) (starts points old new : ℕ) → IsKnown c starts points k → TakesAtMost 7 office c k old new → new ≤ old + (39 + starts + points + 6 * classes_of office)
+known-takes office (key.Reading m r t) c starts points old new h x = let y = x starts h in omega (arith, y)
+known-takes office (key.Assignment m t) c starts points old new h x =
+    let y = x starts h.1.each h.0 (have-all c c m.0 t points h.1 refl) in
+    let z = h.1.all in
+    omega (arith, y, z)
+known-takes office (key.TopUp r) c starts points old new h x = omega (arith, x)
+known-takes office (key.Withdrawal n) c starts points old new h x = omega (arith, x)
+
+-- as many starts, or one more
+starts-kept : (c d : ShelfContent) (n most : ℕ) → d.start ≡ c.start → HasStarts c n most → HasStarts d n (most + 1)
+starts-kept c d n most p h = λ starts l. let x = starts-same c d n most p h starts l in omega (arith, x)
+
+starts-next : (k : Key) (c d : ShelfContent) (n most : ℕ) → ChangesOneKey k c d → HasStarts c n most → HasStarts d n (most + 1)
+starts-next (key.Reading m r t) c d n most h s = starts-kept c d n most h.0 s
+starts-next (key.Assignment m t) c d n most h s = starts-more (c.start n) (d.start n) t most (λ v q. h.1 n v (λ b. q b.1)) s
+starts-next (key.TopUp r) c d n most h s = starts-kept c d n most h.1 s
+starts-next (key.Withdrawal x) c d n most h s = starts-kept c d n most h.1 s
+
+-- one for the register itself
+abbrev at_register : Register → Register → ℕ
+at_register q r = cond (register_place q == register_place r) 1 0
+
+one-register : (q : Register) (f : Register → ℕ) (most : ℕ) → over_registers Import f + over_registers Export f ≤ most →
+    over_registers Import (λ r. f r + at_register q r) + over_registers Export (λ r. f r + at_register q r) ≤ most + 1
+one-register I0 f most h = omega (arith, h)
+one-register I1 f most h = omega (arith, h)
+one-register I2 f most h = omega (arith, h)
+one-register E0 f most h = omega (arith, h)
+one-register E1 f most h = omega (arith, h)
+one-register E2 f most h = omega (arith, h)
+
+register-more : (q r : Register) (z most : ℕ) (told other : ℕ → Option ℕ) → ((t : ℕ) → ((r ≡ q) × (t ≡ z) → ⊥) → other t ≡ told t) → HasPointsAt (λ t. Unit {0}) told most → HasPointsAt (λ t. Unit {0}) other (most + at_register q r)
+register-more q r z most told other same few = λ points rises held. elim (cases_eq (register_place q) (register_place r)) [
+  | inl e ↦ (
+      let one : at_register q r ≡ 1 = ap (λ b. cond b 1 0) (eq-eqb (register_place q) (register_place r) e) in
+      let l = points-more told other z most (λ t d. same t (λ b. d b.1)) few points rises held in
+      omega (arith, l, one))
+  | inr d ↦ (
+      let none : at_register q r ≡ 0 = ap (λ b. cond b 1 0) (ne_eqb (register_place q) (register_place r) d) in
+      let l = few points rises (λ a m. (tt, sym (same a.0 (λ b. d (ap register_place (sym b.0)))) ∙ (held a m).1)) in
+      omega (arith, l, none))
+]
+
+-- as many points, or one more
+points-kept : (c d : ShelfContent) (n most : ℕ) → d.point ≡ c.point → HasPoints (λ t. Unit {0}) c n most → HasPoints (λ t. Unit {0}) d n (most + 1)
+points-kept c d n most p h = record {
+  each = h.each;
+  few = λ r. subst (λ (f : ℕ → Register → ℕ → Option ℕ). HasPointsAt (λ t. Unit {0}) (f n r) (h.each r)) (sym p) (h.few r);
+  all = let x = h.all in omega (arith, x);
+}
+
+points-next : (k : Key) (c d : ShelfContent) (n most : ℕ) → ChangesOneKey k c d → HasPoints (λ t. Unit {0}) c n most → HasPoints (λ t. Unit {0}) d n (most + 1)
+points-next (key.Reading m q z) c d n most h p = record {
+  each = λ r. p.each r + at_register q r;
+  few = λ r. register-more q r z (p.each r) (c.point n r) (d.point n r) (λ t x. h.1 n r t (λ b. x (b.1, b.2))) (p.few r);
+  all = one-register q p.each most p.all;
+}
+points-next (key.Assignment m t) c d n most h p = points-kept c d n most h.0 p
+points-next (key.TopUp r) c d n most h p = points-kept c d n most h.0 p
+points-next (key.Withdrawal x) c d n most h p = points-kept c d n most h.0 p
+
+known-later : (k l : Key) (c d : ShelfContent) (starts points : ℕ) → ChangesOneKey k c d → IsKnown c starts points l → IsKnown d (starts + 1) (points + 1) l
+known-later k (key.Reading m r t) c d starts points h s = starts-next k c d m.0 starts h s
+known-later k (key.Assignment m t) c d starts points h s = (starts-next k c d m.0 starts h s.0, points-next k c d m.0 points h s.1)
+known-later k (key.TopUp r) c d starts points h s = tt
+known-later k (key.Withdrawal n) c d starts points h s = tt
+
+-- behind so many entries of an upload one start and one point more each, at most
+pub known-none : (entries : List Entry) (was c : ShelfContent) (starts points : ℕ) → c ≡ was → AreKnown was starts points entries → AreKnown c (starts + 0) (points + 0) entries
+known-none entries was c starts points q a =
+    let x : starts + 0 ≡ starts = omega arith in
+    let y : points + 0 ≡ points = omega arith in
+    let P : ShelfContent → Type 0 = λ d. AreKnown d starts points entries in
+    rw (x, y) (subst P (sym q) a)
+
+pub known-next : (entries : List Entry) (e : Entry) (i : ℕ) (c d : ShelfContent) (starts points : ℕ) → AreKnown c (starts + i) (points + i) entries → ChangesOneKey (bears_on e) c d → AreKnown d (starts + (i + 1)) (points + (i + 1)) entries
+known-next entries e i c d starts points a h =
+    let x : starts + (i + 1) ≡ starts + i + 1 = omega arith in
+    let y : points + (i + 1) ≡ points + i + 1 = omega arith in
+    λ f m. let s = known-later (bears_on e) (bears_on f) c d (starts + i) (points + i) h (a f m) in rw (x, y) s
+
+pub several-next : (office : OfficeRules) (entries : List Entry) (e : Entry) (i : ℕ) (c : ShelfContent) (starts points first old new : ℕ) → i < length entries → Member e entries → AreKnown c (starts + i) (points + i) entries →
+    old ≤ first + i * (39 + (starts + length entries) + (points + length entries) + 6 * classes_of office) → TakesAtMost 7 office c (bears_on e) old new →
+    new ≤ first + (i + 1) * (39 + (starts + length entries) + (points + length entries) + 6 * classes_of office)
+several-next office entries e i c starts points first old new j m a l t =
+    let x = known-takes office (bears_on e) c (starts + i) (points + i) old new (a e m) t in
+    omega (arith, l, x, j)
+
 -- ---- as far as an upload came
 within : (i n a : ℕ) → i ≤ n → i * a ≤ n * a
 within i n a l = mul-le-mul_right a l
@@ -158,16 +252,18 @@ pub costs-so-far : (office : OfficeRules) (entries : List Entry) (i : ℕ) (was 
     ((starts : ℕ) → AreReadingsWith was starts entries → now ≤ first + i * (13 + starts + 6 * classes_of office)) →
     ((e : Entry) (starts points : ℕ) → entries ≡ e ∷ [] → IsAssignmentUpToNext was starts points (bears_on e) → now ≤ first + i * (39 + starts + points + 6 * classes_of office)) →
     ((starts points : ℕ) → AreAssignmentsWith was starts points entries → now ≤ first + i * (39 + (starts + length entries) + points + 6 * classes_of office)) →
+    ((starts points : ℕ) → AreKnown was starts points entries → now ≤ first + i * (39 + (starts + length entries) + (points + length entries) + 6 * classes_of office)) →
     (AreTopUps entries → now ≤ first + i * 10) → last ≤ now + 1 →
     CostsAtMost 1 office entries was first last
-costs-so-far office entries i was first now last l r one several t h = record {
+costs-so-far office entries i was first now last l r one assigned several t h = record {
   assignment = λ e starts points q a.
       let x = one e starts points q a in
       let n : length entries ≡ 1 = ap (λ (xs : List Entry). length xs) q in
       let y = within i (length entries) (39 + starts + points + 6 * classes_of office) l in
       let z : length entries * (39 + starts + points + 6 * classes_of office) ≡ 39 + starts + points + 6 * classes_of office = rw n (omega arith) in
       omega (arith, x, y, z, h);
-  assignments = λ starts points a. let x = several starts points a in let y = within i (length entries) (39 + (starts + length entries) + points + 6 * classes_of office) l in omega (arith, x, y, h);
+  assignments = λ starts points a. let x = assigned starts points a in let y = within i (length entries) (39 + (starts + length entries) + points + 6 * classes_of office) l in omega (arith, x, y, h);
+  several = λ starts points a. let x = several starts points a in let y = within i (length entries) (39 + (starts + length entries) + (points + length entries) + 6 * classes_of office) l in omega (arith, x, y, h);
   readings = λ starts a. let x = r starts a in let y = within i (length entries) (13 + starts + 6 * classes_of office) l in omega (arith, x, y, h);
   top_ups = λ a. let x = t a in omega (arith, x, l, h);
   nothing = λ e.
@@ -183,15 +279,21 @@ pub costs-next : (office : OfficeRules) (entries : List Entry) (e : Entry) (i : 
     (i ≡ 0 → (c ≡ was) × (now ≡ first)) →
     ((starts points : ℕ) → AreAssignmentsWith was starts points entries → IsBehind entries i was c starts) →
     ((starts points : ℕ) → AreAssignmentsWith was starts points entries → now ≤ first + i * (39 + (starts + length entries) + points + 6 * classes_of office)) →
+    ((starts points : ℕ) → AreKnown was starts points entries → AreKnown c (starts + i) (points + i) entries) →
+    ((starts points : ℕ) → AreKnown was starts points entries → now ≤ first + i * (39 + (starts + length entries) + (points + length entries) + 6 * classes_of office)) →
     (AreTopUps entries → now ≤ first + i * 10) → TakesAtMost 7 office c (bears_on e) now last →
     CostsAtMost 1 office entries was first last
-costs-next office entries e i was c first now last l m p r z b several t h = record {
+costs-next office entries e i was c first now last l m p r z b assigned known several t h = record {
   assignment = λ f starts points q a.
       let x = only-next office entries e f i was c starts points first now last q l m a z h in
       omega (arith, x);
   assignments = λ starts points a.
-      let x = assignments-next office entries e i was c starts points first now last l m a (b starts points a) (several starts points a) h in
+      let x = assignments-next office entries e i was c starts points first now last l m a (b starts points a) (assigned starts points a) h in
       let y = within (i + 1) (length entries) (39 + (starts + length entries) + points + 6 * classes_of office) (omega (arith, l)) in
+      omega (arith, x, y);
+  several = λ starts points a.
+      let x = several-next office entries e i c starts points first now last l m (known starts points a) (several starts points a) h in
+      let y = within (i + 1) (length entries) (39 + (starts + length entries) + (points + length entries) + 6 * classes_of office) (omega (arith, l)) in
       omega (arith, x, y);
   readings = λ starts a.
       let x = readings-next office entries e i was c starts first now last m a (p starts a) (r starts a) h in
@@ -216,6 +318,10 @@ costs-more office entries c d old mid now new q b t h = record {
       let P : ShelfContent → Type 0 = λ x. AreAssignmentsWith x starts points entries in
       let x = t.assignments starts points (subst P (sym q) a) in
       omega (arith, x, b, h);
+  several = λ starts points a.
+      let P : ShelfContent → Type 0 = λ x. AreKnown x starts points entries in
+      let x = t.several starts points (subst P (sym q) a) in
+      omega (arith, x, b, h);
   top_ups = λ a. let x = t.top_ups a in omega (arith, x, b, h);
   nothing = λ e. let x = t.nothing e in omega (arith, x, b, h);
 }
@@ -232,6 +338,14 @@ products-of-assignments : (n f s p c : ℕ) → 1 ≤ n → f ≤ n → 1 + n + 
 products-of-assignments n f s p c l k =
     let w : 39 + (s + f) + p + 6 * c ≤ 39 + (s + n) + p + 6 * c = omega (arith, k) in
     let x : 44 + (s + n) + p + 6 * c ≤ 56 + 4 * (s + n + 1) + 2 * p + 12 * c = omega arith in
+    let y = mul-le-mul_left n x in
+    let z = mul-le-mul k w in
+    omega (arith, y, z, l)
+
+products-of-several : (n f s p c : ℕ) → 1 ≤ n → f ≤ n → 1 + n + 3 + f * (39 + (s + f) + (p + f) + 6 * c) ≤ n * (56 + 4 * (s + n + 1) + 2 * p + 12 * c)
+products-of-several n f s p c l k =
+    let w : 39 + (s + f) + (p + f) + 6 * c ≤ 39 + (s + n) + (p + n) + 6 * c = omega (arith, k) in
+    let x : 44 + (s + n) + (p + n) + 6 * c ≤ 56 + 4 * (s + n + 1) + 2 * p + 12 * c = omega arith in
     let y = mul-le-mul_left n x in
     let z = mul-le-mul k w in
     omega (arith, y, z, l)
@@ -270,6 +384,7 @@ cheap-so-far office entries distinct c old new o m h =
           let k : length distinct ≡ 1 = ap (λ (xs : List Entry). length xs) (one-distinct e entries distinct o m a) in
           omega (arith, h, k);
       assignments = λ starts points l a. let p = products-of-assignments (record_count entries) 0 starts points (classes_of office) l (omega arith) in omega (arith, h, n, p);
+      several = λ starts points l a. let p = products-of-several (record_count entries) 0 starts points (classes_of office) l (omega arith) in omega (arith, h, n, p);
       top_ups = λ l a. omega (arith, h, n, l);
       nothing = λ e. let z = none-distinct entries distinct m e in omega (arith, h, z);
     }
@@ -299,6 +414,11 @@ cheap-whole office entries distinct fresh c d old mid new f q h t =
           let p = products-of-assignments (record_count entries) (length fresh) starts points (classes_of office) l few in
           let P : ShelfContent → Type 0 = λ x. AreAssignmentsWith x starts points fresh in
           let x = t.assignments starts points (subst P (sym q) (λ e k. a e (there e k))) in
+          omega (arith, h, n, p, x);
+      several = λ starts points l a.
+          let p = products-of-several (record_count entries) (length fresh) starts points (classes_of office) l few in
+          let P : ShelfContent → Type 0 = λ x. AreKnown x starts points fresh in
+          let x = t.several starts points (subst P (sym q) (λ e k. a e (there e k))) in
           omega (arith, h, n, p, x);
       top_ups = λ l a. let x = t.top_ups (λ e k. a e (there e k)) in omega (arith, h, n, l, x, few);
       nothing = λ e.

@@ -384,6 +384,13 @@ paid-records (Some b) None old new m = m.records
 paid-records None None old new m = ap (λ (c : ShelfContent). c.records) m
 paid-records (Some b) (Some d) old new m = ap (λ (c : ShelfContent). c.records) m
 
+-- a top-up changes no point and no start
+pub paid-alone : (b d : Option (AccountId × ℕ)) (old new : ShelfContent) → IsPaid b d old new → (new.point ≡ old.point) × (new.start ≡ old.start)
+paid-alone None (Some d) old new m = (m.point, m.start)
+paid-alone (Some b) None old new m = (m.point, m.start)
+paid-alone None None old new m = (ap (λ (c : ShelfContent). c.point) m, ap (λ (c : ShelfContent). c.start) m)
+paid-alone (Some b) (Some d) old new m = (ap (λ (c : ShelfContent). c.point) m, ap (λ (c : ShelfContent). c.start) m)
+
 -- ---- a withdrawal
 -- what is told there changes no point, no start and no total
 pub withdrawal-true : (office : OfficeRules) → IsOffice office → (s : List Entry) (n : Named) (before behind : Contents) (old : ShelfContent) → IsJustChanged office s (key.Withdrawal n) before behind old → IsTrueContent office old

@@ -12,7 +12,7 @@ ghost use Rattle.pw_shelf.specs.Calls.{GoesOn, failures_told};
 ghost use Rattle.pw_shelf.specs.State.{CountsFailures};
 ghost use Rattle.pw_tariff.specs.Office.{IsSound, office_of};
 ghost use Rattle.pw_book.specs.Posting.{IsWithUpload};
-ghost use Rattle.pw_book.specs.inner.Added.{ChangesOneStart, CostsAtMost, IsPut, LeavesWithUpload, TakesAtMost};
+ghost use Rattle.pw_book.specs.inner.Added.{ChangesOneKey, CostsAtMost, IsPut, LeavesWithUpload, TakesAtMost};
 ghost use Rattle.pw_book.specs.inner.Fresh.{AreFresh};
 ghost use Rattle.pw_book.specs.inner.Failures.{FailuresUploaded};
 ghost use Rattle.pw_book.specs.declared.fault.BookFault.TheVariants.{Reopen};
@@ -95,7 +95,7 @@ fn put<S: Shelf>(shelf: &mut S, basis: &Basis, entry: &Entry) -> Result<(), Shel
     requires room { S.clean shelf.old → length (S.state shelf.old).content.records < most_records }
     ensures put { S.clean shelf.new → IsTrueContent (office_of basis.now.office.now) (S.state shelf.old).content → AllOfOffice (office_of basis.now.office.now) (S.state shelf.old).content.records → OnOk result (IsPut (office_of basis.now.office.now) (entry.now ∷ []) (S.state shelf.old).content (S.state shelf.new).content) }
     ensures start { S.clean shelf.new → IsReading (bears_on entry.now) → OnOk result ((S.state shelf.new).content.start ≡ (S.state shelf.old).content.start) }
-    ensures alone { S.clean shelf.new → OnOk result (ChangesOneStart (bears_on entry.now) (S.state shelf.old).content (S.state shelf.new).content) }
+    ensures alone { S.clean shelf.new → OnOk result (ChangesOneKey (bears_on entry.now) (S.state shelf.old).content (S.state shelf.new).content) }
     ensures tally { S.clean shelf.new → TakesAtMost 7 (office_of basis.now.office.now) (S.state shelf.old).content (bears_on entry.now) (S.state shelf.old).tally (S.state shelf.new).tally }
     ensures kept { GoesOn S.state S.left S.clean S.same_store (failures_told result) shelf.old shelf.new }
 {

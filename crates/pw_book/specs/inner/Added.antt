@@ -20,7 +20,7 @@ use Rattle.pw_model.specs.Energy.{over_registers}
 use Rattle.pw_model.specs.Office.{AllOfOffice, most_records}
 use Rattle.pw_model.specs.Payments.{cents_for, topped_up}
 use Rattle.pw_model.specs.Shelf.{IsTrueContent, ShelfContent, total_among}
-use Rattle.pw_book.specs.Cost.{AreAssignmentsWith, AreReadingsWith, AreTopUps, HasStarts, IsAssignmentUpToNext, classes_of}
+use Rattle.pw_book.specs.Cost.{AreAssignmentsWith, AreKnown, AreReadingsWith, AreTopUps, HasStarts, IsAssignmentUpToNext, classes_of}
 use Rattle.pw_book.specs.Posting.{IsWithUpload}
 use Rattle.pw_book.specs.inner.Moves.{MovesTotals}
 use Rattle.pw_book.specs.inner.Settling.{HavePoints}
@@ -78,10 +78,13 @@ TakesAtMost beside office c (key.Assignment m t) old new = (starts : ℕ) (point
 TakesAtMost beside office c (key.TopUp r) old new = new ≤ old + beside + 3
 TakesAtMost beside office c (key.Withdrawal n) old new = new ≤ old + beside
 
--- behind an assignment the points are as before, and the starts at each other key
-abbrev pub ChangesOneStart : Key → ShelfContent → ShelfContent → Type 0
-ChangesOneStart (key.Assignment m t) old new = (new.point ≡ old.point) × ((n s : ℕ) → ((n ≡ m.0) × (s ≡ t) → ⊥) → new.start n s ≡ old.start n s)
-ChangesOneStart _ old new = Unit {0}
+-- points and starts are as before, but for the one of this key
+abbrev pub ChangesOneKey : Key → ShelfContent → ShelfContent → Type 0
+ChangesOneKey (key.Reading m r t) old new =
+    (new.start ≡ old.start) × ((n : ℕ) (q : Register) (s : ℕ) → ((n ≡ m.0) × (q ≡ r) × (s ≡ t) → ⊥) → new.point n q s ≡ old.point n q s)
+ChangesOneKey (key.Assignment m t) old new = (new.point ≡ old.point) × ((n s : ℕ) → ((n ≡ m.0) × (s ≡ t) → ⊥) → new.start n s ≡ old.start n s)
+ChangesOneKey (key.TopUp r) old new = (new.point ≡ old.point) × (new.start ≡ old.start)
+ChangesOneKey (key.Withdrawal n) old new = (new.point ≡ old.point) × (new.start ≡ old.start)
 
 -- ---- an upload within a call
 -- what could be left before, or the content with the whole upload
@@ -95,5 +98,7 @@ pub record CostsAtMost (beside : ℕ) (office : OfficeRules) (entries : List Ent
       new ≤ old + beside + (39 + starts + points + 6 * classes_of office)
   pub assignments : (starts points : ℕ) → AreAssignmentsWith c starts points entries →
       new ≤ old + beside + length entries * (39 + (starts + length entries) + points + 6 * classes_of office)
+  pub several : (starts points : ℕ) → AreKnown c starts points entries →
+      new ≤ old + beside + length entries * (39 + (starts + length entries) + (points + length entries) + 6 * classes_of office)
   pub top_ups : AreTopUps entries → new ≤ old + beside + length entries * 10
   pub nothing : entries ≡ [] → new ≤ old + beside

@@ -2,7 +2,8 @@ use Rattle.std.proofs.Common.{None, Some, sym, ◌∙◌}
 use Rattle.std.proofs.lemmas.Result.{on_ok_weaker}
 use Rattle.pw_tariff.specs.Office.{office_of}
 use Rattle.pw_book.proofs.Offices.{office-is}
-use Rattle.pw_book.proofs.Truthful.{on-ok-three, reading-alike, reading-begins, reading-ceases, reading-ended, reading-ends, reading-same, reading-true}
+use Rattle.pw_book.proofs.Putting.{one-point}
+use Rattle.pw_book.proofs.Truthful.{on-ok-three, on-ok-two, reading-alike, reading-begins, reading-ceases, reading-ended, reading-ends, reading-same, reading-true}
 use Rattle.pw_book.proofs.settling.reading_changed.Goals as goal
 
 pub returns-in-None-Some-clause-truth : goal.returns-in-None-Some-clause-truth
@@ -52,3 +53,11 @@ returns-in-None-None-2-clause-truth g c = λ k s j.
     let o = office-is c.args.basis.now.office.now c.requires.sound in
     reading-same office o s c.args.meter.0 c.args.register c.args.instant c.args.before.now c.args.behind.now (g.S.Shelf.state c.args.shelf.now).content j
     (reading-alike office o s c.args.meter.0 c.args.register c.args.instant c.args.before.now c.args.behind.now (g.S.Shelf.state c.args.shelf.now).content j _ _ (sym c.counting_wh.ensures ∙ c.in-None-None.is-0) (sym c.counting_wh-2.ensures ∙ c.in-None-None.is-1))
+
+pub returns-in-None-Some-clause-alone : goal.returns-in-None-Some-clause-alone
+returns-in-None-Some-clause-alone g c = λ k.
+    on-ok-two c.begin_to_count.result (λ s p. one-point c.args.meter c.args.register c.args.instant _ (g.S.Shelf.state c.args.shelf.now).content (g.S.Shelf.state c.begin_to_count.new.shelf).content s p) (c.begin_to_count.ensures.start k) (c.begin_to_count.ensures.point k)
+
+pub returns-in-Some-None-clause-alone : goal.returns-in-Some-None-clause-alone
+returns-in-Some-None-clause-alone g c = λ k.
+    on-ok-two c.cease_to_count.result (λ s p. one-point c.args.meter c.args.register c.args.instant _ (g.S.Shelf.state c.args.shelf.now).content (g.S.Shelf.state c.cease_to_count.new.shelf).content s p) (c.cease_to_count.ensures.start k) (c.cease_to_count.ensures.point k)

@@ -5,7 +5,7 @@ use Rattle.pw_model.specs.declared.records.Key.{Key}
 use Rattle.pw_model.specs.Bearing.{bears_on}
 use Rattle.pw_model.specs.Counting.{contents_at}
 use Rattle.pw_model.specs.Kinds.{IsReading}
-use Rattle.pw_book.specs.inner.Added.{ChangesOneStart, IsJustChanged, IsKeyOf, TakesAtMost}
+use Rattle.pw_book.specs.inner.Added.{ChangesOneKey, IsJustChanged, IsKeyOf, TakesAtMost}
 use Rattle.pw_book.proofs.Truthful.{on-ok-two}
 use Rattle.pw_book.proofs.Putting.{added-then, just-changed, key-of, put-added, takes-more, with-record}
 use Rattle.pw_book.proofs.upload.put.Goals as goal
@@ -46,7 +46,7 @@ returns-clause-alone g c = λ k.
     let third = c.settle.ensures.kept.clean k in
     let second = c.contents_at-2.ensures.asked.kept.clean third in
     let first = c.add.ensures.written.kept.clean second in
-    let P : Key → Type 0 = λ l. ChangesOneStart l (g.S.Shelf.state c.contents_at-2.new.self).content (g.S.Shelf.state c.settle.new.shelf).content in
+    let P : Key → Type 0 = λ l. ChangesOneKey l (g.S.Shelf.state c.contents_at-2.new.self).content (g.S.Shelf.state c.settle.new.shelf).content in
     on_ok_weaker c.settle.result (λ h. added-then (bears_on c.args.entry.now) c.args.entry.now _ _ _ _ _ (c.in_ok-before.ensures.asked.same first) (c.in_ok-add.ensures.added second) (c.in_ok-behind.ensures.asked.same third) (subst P c.bears_on-key.ensures h)) (c.settle.ensures.alone k)
 
 pub returns-clause-tally : goal.returns-clause-tally
