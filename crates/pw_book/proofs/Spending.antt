@@ -1,5 +1,5 @@
 -- How many calls and rows the entries of an upload take together.
-use Rattle.std.proofs.Common.{◌≡◌, ◌==◌, ℕ, ◌+◌, ◌*◌, ◌<◌, ◌≤◌, ◌⊎◌, cond, Option, List, [], ◌∷◌, length, mul-le-mul, mul-le-mul_right, mul-le-mul_left, refl, inl, inr, ap, sym, subst, ◌∙◌, arith}
+use Rattle.std.proofs.Common.{◌≡◌, ◌==◌, ℕ, ◌+◌, ◌-◌, ◌*◌, ◌<◌, ◌≤◌, ◌⊎◌, cond, Option, List, [], ◌∷◌, length, mul-le-mul, mul-le-mul_right, mul-le-mul_left, refl, inl, inr, ap, sym, subst, ◌∙◌, arith}
 use Rattle.std.proofs.lemmas.Bool.{cases_eq, eq-eqb, ne_eqb}
 use Rattle.pw_obis.specs.declared.reference.Register.{Register}
 use Rattle.pw_obis.specs.declared.reference.Register.TheVariants.{I0, I1, I2, E0, E1, E2}
@@ -14,8 +14,8 @@ use Rattle.pw_model.specs.declared.records.Entry.{Entry}
 use Rattle.pw_model.specs.Counting.{Member, EachOnce, SameMembers}
 use Rattle.pw_model.specs.Lists.{record_count}
 use Rattle.pw_model.specs.Shelf.{ShelfContent}
-use Rattle.pw_book.specs.Cost.{AreAssignmentsWith, AreKnown, AreReadingsWith, AreTopUps, HasPoints, HasPointsAt, HasStarts, HasStartsOf, IsAssignmentUpToNext, IsAssignmentWith, IsCheap, IsKnown, IsUpToNextStart, classes_of}
-use Rattle.pw_book.specs.inner.Added.{ChangesOneKey, CostsAtMost, TakesAtMost}
+use Rattle.pw_book.specs.Cost.{AreAssignmentsWith, AreBoundsOf, AreReadingsWith, AreTopUps, HasPoints, HasPointsAt, HasStarts, HasStartsOf, IsAssignmentUpToNext, IsAssignmentWith, IsBoundOf, IsCheap, IsUpToNextStart, classes_of}
+use Rattle.pw_book.specs.inner.Added.{AreEnoughFor, ChangesOneKey, CostsAtMost, IsEnoughFor, TakesAtMost}
 use Rattle.pw_book.specs.inner.Settling.{HavePoints}
 use Rattle.pw_book.proofs.NewStarts.{points-more, starts-more}
 use Rattle.pw_book.proofs.Putting.{starts-same}
@@ -155,14 +155,15 @@ only-next office entries e f i was c starts points first old new q l m a z t =
     omega (arith, x, w)
 
 -- ---- entries of any kinds
-known-takes : (office : OfficeRules) (k : Key) (c : ShelfContent) (starts points old new : ℕ) → IsKnown c starts points k → TakesAtMost 7 office c k old new → new ≤ old + (39 + starts + points + 6 * classes_of office)
-known-takes office (key.Reading m r t) c starts points old new h x = let y = x starts h in omega (arith, y)
-known-takes office (key.Assignment m t) c starts points old new h x =
-    let y = x starts h.1.each h.0 (have-all c c m.0 t points h.1 refl) in
-    let z = h.1.all in
-    omega (arith, y, z)
-known-takes office (key.TopUp r) c starts points old new h x = omega (arith, x)
-known-takes office (key.Withdrawal n) c starts points old new h x = omega (arith, x)
+enough-takes : (office : OfficeRules) (k : Key) (c : ShelfContent) (more most old new : ℕ) → IsEnoughFor office c more most k → TakesAtMost 7 office c k old new → new ≤ old + most
+enough-takes office (key.Reading m r t) c more most old new h x = let y = x h.0 h.1 in let b = h.2 in omega (arith, y, b)
+enough-takes office (key.Assignment m t) c more most old new h x =
+    let y = x h.0 h.3.each h.2 (have-all c c m.0 t h.1 h.3 refl) in
+    let z = h.3.all in
+    let b = h.4 in
+    omega (arith, y, z, b)
+enough-takes office (key.TopUp r) c more most old new h x = omega (arith, h, x)
+enough-takes office (key.Withdrawal n) c more most old new h x = omega (arith, h, x)
 
 -- as many starts, or one more
 starts-kept : (c d : ShelfContent) (n most : ℕ) → d.start ≡ c.start → HasStarts c n most → HasStarts d n (most + 1)
@@ -217,32 +218,30 @@ points-next (key.Assignment m t) c d n most h p = points-kept c d n most h.0 p
 points-next (key.TopUp r) c d n most h p = points-kept c d n most h.0 p
 points-next (key.Withdrawal x) c d n most h p = points-kept c d n most h.0 p
 
-known-later : (k l : Key) (c d : ShelfContent) (starts points : ℕ) → ChangesOneKey k c d → IsKnown c starts points l → IsKnown d (starts + 1) (points + 1) l
-known-later k (key.Reading m r t) c d starts points h s = starts-next k c d m.0 starts h s
-known-later k (key.Assignment m t) c d starts points h s = (starts-next k c d m.0 starts h s.0, points-next k c d m.0 points h s.1)
-known-later k (key.TopUp r) c d starts points h s = tt
-known-later k (key.Withdrawal n) c d starts points h s = tt
+-- behind an entry a meter may get fewer more by one
+enough-later : (office : OfficeRules) (k l : Key) (c d : ShelfContent) (more most : ℕ) → ChangesOneKey k c d → IsEnoughFor office c (more + 1) most l → IsEnoughFor office d more most l
+enough-later office k (key.Reading m r t) c d more most h s = (s.0 + 1, starts-next k c d m.0 s.0 h s.1, let b = s.2 in omega (arith, b))
+enough-later office k (key.Assignment m t) c d more most h s =
+    (s.0 + 1, s.1 + 1, starts-next k c d m.0 s.0 h s.2, points-next k c d m.0 s.1 h s.3, let b = s.4 in omega (arith, b))
+enough-later office k (key.TopUp r) c d more most h s = s
+enough-later office k (key.Withdrawal n) c d more most h s = s
 
--- behind so many entries of an upload one start and one point more each, at most
-pub known-none : (entries : List Entry) (was c : ShelfContent) (starts points : ℕ) → c ≡ was → AreKnown was starts points entries → AreKnown c (starts + 0) (points + 0) entries
-known-none entries was c starts points q a =
-    let x : starts + 0 ≡ starts = omega arith in
-    let y : points + 0 ≡ points = omega arith in
-    let P : ShelfContent → Type 0 = λ d. AreKnown d starts points entries in
-    rw (x, y) (subst P (sym q) a)
+-- what is enough for all entries is so for those that are left
+pub enough-none : (office : OfficeRules) (entries : List Entry) (was c : ShelfContent) (most rest : ℕ) → c ≡ was → 0 + rest ≡ length entries → AreEnoughFor office was (length entries) most entries → AreEnoughFor office c rest most entries
+enough-none office entries was c most rest q n a =
+    let m : rest ≡ length entries = omega (arith, n) in
+    let P : ShelfContent → Type 0 = λ d. AreEnoughFor office d (length entries) most entries in
+    rw m (subst P (sym q) a)
 
-pub known-next : (entries : List Entry) (e : Entry) (i : ℕ) (c d : ShelfContent) (starts points : ℕ) → AreKnown c (starts + i) (points + i) entries → ChangesOneKey (bears_on e) c d → AreKnown d (starts + (i + 1)) (points + (i + 1)) entries
-known-next entries e i c d starts points a h =
-    let x : starts + (i + 1) ≡ starts + i + 1 = omega arith in
-    let y : points + (i + 1) ≡ points + i + 1 = omega arith in
-    λ f m. let s = known-later (bears_on e) (bears_on f) c d (starts + i) (points + i) h (a f m) in rw (x, y) s
+pub enough-next : (office : OfficeRules) (entries : List Entry) (e : Entry) (i : ℕ) (c d : ShelfContent) (most rest : ℕ) → ((left : ℕ) → i + left ≡ length entries → AreEnoughFor office c left most entries) → ChangesOneKey (bears_on e) c d →
+    i + 1 + rest ≡ length entries → AreEnoughFor office d rest most entries
+enough-next office entries e i c d most rest a h n = λ f m. enough-later office (bears_on e) (bears_on f) c d rest most h (a (rest + 1) (omega (arith, n)) f m)
 
-pub several-next : (office : OfficeRules) (entries : List Entry) (e : Entry) (i : ℕ) (c : ShelfContent) (starts points first old new : ℕ) → i < length entries → Member e entries → AreKnown c (starts + i) (points + i) entries →
-    old ≤ first + i * (39 + (starts + length entries) + (points + length entries) + 6 * classes_of office) → TakesAtMost 7 office c (bears_on e) old new →
-    new ≤ first + (i + 1) * (39 + (starts + length entries) + (points + length entries) + 6 * classes_of office)
-several-next office entries e i c starts points first old new j m a l t =
-    let x = known-takes office (bears_on e) c (starts + i) (points + i) old new (a e m) t in
-    omega (arith, l, x, j)
+pub several-next : (office : OfficeRules) (entries : List Entry) (e : Entry) (i : ℕ) (c : ShelfContent) (most first old new : ℕ) → i < length entries → Member e entries → ((left : ℕ) → i + left ≡ length entries → AreEnoughFor office c left most entries) →
+    old ≤ first + i * most → TakesAtMost 7 office c (bears_on e) old new → new ≤ first + (i + 1) * most
+several-next office entries e i c most first old new j m a l t =
+    let x = enough-takes office (bears_on e) c (length entries - i) most old new (a (length entries - i) (omega (arith, j)) e m) t in
+    omega (arith, l, x)
 
 -- ---- as far as an upload came
 within : (i n a : ℕ) → i ≤ n → i * a ≤ n * a
@@ -252,7 +251,7 @@ pub costs-so-far : (office : OfficeRules) (entries : List Entry) (i : ℕ) (was 
     ((starts : ℕ) → AreReadingsWith was starts entries → now ≤ first + i * (13 + starts + 6 * classes_of office)) →
     ((e : Entry) (starts points : ℕ) → entries ≡ e ∷ [] → IsAssignmentUpToNext was starts points (bears_on e) → now ≤ first + i * (39 + starts + points + 6 * classes_of office)) →
     ((starts points : ℕ) → AreAssignmentsWith was starts points entries → now ≤ first + i * (39 + (starts + length entries) + points + 6 * classes_of office)) →
-    ((starts points : ℕ) → AreKnown was starts points entries → now ≤ first + i * (39 + (starts + length entries) + (points + length entries) + 6 * classes_of office)) →
+    ((most : ℕ) → AreEnoughFor office was (length entries) most entries → now ≤ first + i * most) →
     (AreTopUps entries → now ≤ first + i * 10) → last ≤ now + 1 →
     CostsAtMost 1 office entries was first last
 costs-so-far office entries i was first now last l r one assigned several t h = record {
@@ -263,7 +262,7 @@ costs-so-far office entries i was first now last l r one assigned several t h = 
       let z : length entries * (39 + starts + points + 6 * classes_of office) ≡ 39 + starts + points + 6 * classes_of office = rw n (omega arith) in
       omega (arith, x, y, z, h);
   assignments = λ starts points a. let x = assigned starts points a in let y = within i (length entries) (39 + (starts + length entries) + points + 6 * classes_of office) l in omega (arith, x, y, h);
-  several = λ starts points a. let x = several starts points a in let y = within i (length entries) (39 + (starts + length entries) + (points + length entries) + 6 * classes_of office) l in omega (arith, x, y, h);
+  several = λ most a. let x = several most a in let y = within i (length entries) most l in omega (arith, x, y, h);
   readings = λ starts a. let x = r starts a in let y = within i (length entries) (13 + starts + 6 * classes_of office) l in omega (arith, x, y, h);
   top_ups = λ a. let x = t a in omega (arith, x, l, h);
   nothing = λ e.
@@ -279,11 +278,11 @@ pub costs-next : (office : OfficeRules) (entries : List Entry) (e : Entry) (i : 
     (i ≡ 0 → (c ≡ was) × (now ≡ first)) →
     ((starts points : ℕ) → AreAssignmentsWith was starts points entries → IsBehind entries i was c starts) →
     ((starts points : ℕ) → AreAssignmentsWith was starts points entries → now ≤ first + i * (39 + (starts + length entries) + points + 6 * classes_of office)) →
-    ((starts points : ℕ) → AreKnown was starts points entries → AreKnown c (starts + i) (points + i) entries) →
-    ((starts points : ℕ) → AreKnown was starts points entries → now ≤ first + i * (39 + (starts + length entries) + (points + length entries) + 6 * classes_of office)) →
+    ((most : ℕ) → AreEnoughFor office was (length entries) most entries → (left : ℕ) → i + left ≡ length entries → AreEnoughFor office c left most entries) →
+    ((most : ℕ) → AreEnoughFor office was (length entries) most entries → now ≤ first + i * most) →
     (AreTopUps entries → now ≤ first + i * 10) → TakesAtMost 7 office c (bears_on e) now last →
     CostsAtMost 1 office entries was first last
-costs-next office entries e i was c first now last l m p r z b assigned known several t h = record {
+costs-next office entries e i was c first now last l m p r z b assigned enough several t h = record {
   assignment = λ f starts points q a.
       let x = only-next office entries e f i was c starts points first now last q l m a z h in
       omega (arith, x);
@@ -291,9 +290,9 @@ costs-next office entries e i was c first now last l m p r z b assigned known se
       let x = assignments-next office entries e i was c starts points first now last l m a (b starts points a) (assigned starts points a) h in
       let y = within (i + 1) (length entries) (39 + (starts + length entries) + points + 6 * classes_of office) (omega (arith, l)) in
       omega (arith, x, y);
-  several = λ starts points a.
-      let x = several-next office entries e i c starts points first now last l m (known starts points a) (several starts points a) h in
-      let y = within (i + 1) (length entries) (39 + (starts + length entries) + (points + length entries) + 6 * classes_of office) (omega (arith, l)) in
+  several = λ most a.
+      let x = several-next office entries e i c most first now last l m (enough most a) (several most a) h in
+      let y = within (i + 1) (length entries) most (omega (arith, l)) in
       omega (arith, x, y);
   readings = λ starts a.
       let x = readings-next office entries e i was c starts first now last m a (p starts a) (r starts a) h in
@@ -318,9 +317,9 @@ costs-more office entries c d old mid now new q b t h = record {
       let P : ShelfContent → Type 0 = λ x. AreAssignmentsWith x starts points entries in
       let x = t.assignments starts points (subst P (sym q) a) in
       omega (arith, x, b, h);
-  several = λ starts points a.
-      let P : ShelfContent → Type 0 = λ x. AreKnown x starts points entries in
-      let x = t.several starts points (subst P (sym q) a) in
+  several = λ most a.
+      let P : ShelfContent → Type 0 = λ x. AreEnoughFor office x (length entries) most entries in
+      let x = t.several most (subst P (sym q) a) in
       omega (arith, x, b, h);
   top_ups = λ a. let x = t.top_ups a in omega (arith, x, b, h);
   nothing = λ e. let x = t.nothing e in omega (arith, x, b, h);
@@ -342,12 +341,11 @@ products-of-assignments n f s p c l k =
     let z = mul-le-mul k w in
     omega (arith, y, z, l)
 
-products-of-several : (n f s p c : ℕ) → 1 ≤ n → f ≤ n → 1 + n + 3 + f * (39 + (s + f) + (p + f) + 6 * c) ≤ n * (56 + 4 * (s + n + 1) + 2 * p + 12 * c)
-products-of-several n f s p c l k =
-    let w : 39 + (s + f) + (p + f) + 6 * c ≤ 39 + (s + n) + (p + n) + 6 * c = omega (arith, k) in
-    let x : 44 + (s + n) + (p + n) + 6 * c ≤ 56 + 4 * (s + n + 1) + 2 * p + 12 * c = omega arith in
+products-of-several : (n f most : ℕ) → 1 ≤ n → f ≤ n → 24 ≤ most → 1 + n + 3 + f * (most - 5) ≤ n * most
+products-of-several n f most l k b =
+    let x : most - 5 + 5 ≤ most = omega (arith, b) in
     let y = mul-le-mul_left n x in
-    let z = mul-le-mul k w in
+    let z = mul-le-mul_right (most - 5) k in
     omega (arith, y, z, l)
 
 -- the distinct entries of an upload of one entry
@@ -374,6 +372,23 @@ pub record AreFreshOf (entries distinct fresh : List Entry) : Type 0 where
 same-count : (entries distinct : List Entry) → EachOnce distinct → SameMembers distinct entries → record_count entries ≡ length distinct
 same-count entries distinct o m = sym (record-count_same distinct entries m) ∙ record-count distinct o
 
+-- the bound of a record is enough for an entry, and for its share of what is done beside
+bound-enough : (office : OfficeRules) (k : Key) (c : ShelfContent) (count more most : ℕ) → more ≤ count → IsBoundOf office c count most k → IsEnoughFor office c more (most - 5) k
+bound-enough office (key.Reading m r t) c count more most l h = (h.0, h.1, let b = h.2 in omega (arith, b, l))
+bound-enough office (key.Assignment m t) c count more most l h = (h.0, h.1, h.2, h.3, let b = h.4 in omega (arith, b, l))
+bound-enough office (key.TopUp r) c count more most l h = omega (arith, h)
+bound-enough office (key.Withdrawal n) c count more most l h = omega (arith, h)
+
+bound-least : (office : OfficeRules) (k : Key) (c : ShelfContent) (count most : ℕ) → IsBoundOf office c count most k → 24 ≤ most
+bound-least office (key.Reading m r t) c count most h = let b = h.2 in omega (arith, b)
+bound-least office (key.Assignment m t) c count most h = let b = h.4 in omega (arith, b)
+bound-least office (key.TopUp r) c count most h = h
+bound-least office (key.Withdrawal n) c count most h = h
+
+bounds-least : (office : OfficeRules) (entries distinct : List Entry) (c : ShelfContent) (most : ℕ) → EachOnce distinct → SameMembers distinct entries → 1 ≤ record_count entries → AreBoundsOf office c most entries → 24 ≤ most
+bounds-least office entries [] c most o m l a = let n = same-count entries [] o m in absurd (omega (arith, n, l))
+bounds-least office entries (x ∷ xs) c most o m l a = bound-least office (bears_on x) c (record_count entries) most (a x ((m x).0 (inl refl)))
+
 -- weighed, and not written
 pub cheap-so-far : (office : OfficeRules) (entries distinct : List Entry) (c : ShelfContent) (old new : ℕ) → EachOnce distinct → SameMembers distinct entries → new ≤ old + 1 + length distinct → IsCheap office entries c old new
 cheap-so-far office entries distinct c old new o m h =
@@ -384,7 +399,10 @@ cheap-so-far office entries distinct c old new o m h =
           let k : length distinct ≡ 1 = ap (λ (xs : List Entry). length xs) (one-distinct e entries distinct o m a) in
           omega (arith, h, k);
       assignments = λ starts points l a. let p = products-of-assignments (record_count entries) 0 starts points (classes_of office) l (omega arith) in omega (arith, h, n, p);
-      several = λ starts points l a. let p = products-of-several (record_count entries) 0 starts points (classes_of office) l (omega arith) in omega (arith, h, n, p);
+      several = λ most l a.
+          let b = bounds-least office entries distinct c most o m l a in
+          let p = products-of-several (record_count entries) 0 most l (omega arith) b in
+          omega (arith, h, n, p);
       top_ups = λ l a. omega (arith, h, n, l);
       nothing = λ e. let z = none-distinct entries distinct m e in omega (arith, h, z);
     }
@@ -415,10 +433,11 @@ cheap-whole office entries distinct fresh c d old mid new f q h t =
           let P : ShelfContent → Type 0 = λ x. AreAssignmentsWith x starts points fresh in
           let x = t.assignments starts points (subst P (sym q) (λ e k. a e (there e k))) in
           omega (arith, h, n, p, x);
-      several = λ starts points l a.
-          let p = products-of-several (record_count entries) (length fresh) starts points (classes_of office) l few in
-          let P : ShelfContent → Type 0 = λ x. AreKnown x starts points fresh in
-          let x = t.several starts points (subst P (sym q) (λ e k. a e (there e k))) in
+      several = λ most l a.
+          let b = bounds-least office entries distinct c most f.once f.members l a in
+          let p = products-of-several (record_count entries) (length fresh) most l few b in
+          let P : ShelfContent → Type 0 = λ x. AreEnoughFor office x (length fresh) (most - 5) fresh in
+          let x = t.several (most - 5) (subst P (sym q) (λ e k. bound-enough office (bears_on e) c (record_count entries) (length fresh) most few (a e (there e k)))) in
           omega (arith, h, n, p, x);
       top_ups = λ l a. let x = t.top_ups (λ e k. a e (there e k)) in omega (arith, h, n, l, x, few);
       nothing = λ e.

@@ -78,21 +78,23 @@ abbrev pub AreAssignmentsWith : ShelfContent → ℕ → ℕ → List Entry → 
 AreAssignmentsWith c starts points entries = (e : Entry) → Member e entries → IsAssignmentWith c starts points (bears_on e)
 
 -- ---- records of any kinds
--- the meter of a reading or an assignment has so many counting starts at most, and that of an assignment so many points at
--- any time
-abbrev pub IsKnown : ShelfContent → ℕ → ℕ → Key → Type 0
-IsKnown c starts points (key.Reading m r t) = HasStarts c m.0 starts
-IsKnown c starts points (key.Assignment m t) = HasStarts c m.0 starts × HasPoints (λ t. Unit {0}) c m.0 points
-IsKnown c starts points _ = Unit {0}
+-- so many calls and rows are no fewer than the bound of one record of this kind, where its meter may have as many starts
+-- more as the upload has entries: of a reading, of an assignment with all points of its meter, of a top-up
+abbrev pub IsBoundOf : OfficeRules → ShelfContent → ℕ → ℕ → Key → Type 0
+IsBoundOf office c count most (key.Reading m r t) =
+    (starts : ℕ) × HasStarts c m.0 starts × (24 + 4 * (starts + count + 1) + 6 * classes_of office ≤ most)
+IsBoundOf office c count most (key.Assignment m t) =
+    (starts : ℕ) × (points : ℕ) × HasStarts c m.0 starts × HasPoints (λ t. Unit {0}) c m.0 points × (56 + 4 * (starts + count + 1) + 2 * points + 12 * classes_of office ≤ most)
+IsBoundOf office c count most _ = 24 ≤ most
 
--- each of the entries is such a record or the withdrawal of one
-abbrev pub AreKnown : ShelfContent → ℕ → ℕ → List Entry → Type 0
-AreKnown c starts points entries = (e : Entry) → Member e entries → IsKnown c starts points (bears_on e)
+-- so they are for each of the entries; for a withdrawal by the record that it names
+abbrev pub AreBoundsOf : OfficeRules → ShelfContent → ℕ → List Entry → Type 0
+AreBoundsOf office c most entries = (e : Entry) → Member e entries → IsBoundOf office c (record_count entries) most (bears_on e)
 
 -- ---- an upload
 -- of so many entries, counted once each: readings by the starts and the totals of a direction; one assignment by these and
 -- the points of its time, several by these and all points of a meter; top-ups by their number; an empty upload by a
--- constant; withdrawals as the records that they name; records of several kinds as so many assignments
+-- constant; withdrawals as the records that they name; records of any kinds by the greatest of their bounds
 pub record IsCheap (office : OfficeRules) (entries : List Entry) (c : ShelfContent) (old new : ℕ) : Type 0 where
   pub readings : (starts : ℕ) → 1 ≤ record_count entries → AreReadingsWith c starts entries →
       RisesAtMost (record_count entries * (24 + 4 * (starts + 1) + 6 * classes_of office)) old new
@@ -100,7 +102,6 @@ pub record IsCheap (office : OfficeRules) (entries : List Entry) (c : ShelfConte
       RisesAtMost (56 + 4 * (starts + 1) + 2 * points + 12 * classes_of office) old new
   pub assignments : (starts points : ℕ) → 1 ≤ record_count entries → AreAssignmentsWith c starts points entries →
       RisesAtMost (record_count entries * (56 + 4 * (starts + record_count entries + 1) + 2 * points + 12 * classes_of office)) old new
-  pub several : (starts points : ℕ) → 1 ≤ record_count entries → AreKnown c starts points entries →
-      RisesAtMost (record_count entries * (56 + 4 * (starts + record_count entries + 1) + 2 * points + 12 * classes_of office)) old new
+  pub several : (most : ℕ) → 1 ≤ record_count entries → AreBoundsOf office c most entries → RisesAtMost (record_count entries * most) old new
   pub top_ups : 1 ≤ record_count entries → AreTopUps entries → RisesAtMost (record_count entries * 24) old new
   pub nothing : entries ≡ [] → RisesAtMost 24 old new

@@ -15,12 +15,12 @@ use Rattle.pw_model.specs.declared.records.Entry.{Entry}
 use Rattle.pw_model.specs.declared.records.TotalKey.{TotalKey}
 use Rattle.pw_model.specs.declared.records.TotalKey.TheVariants.{TopUps}
 use Rattle.pw_model.specs.Bearing.{bears_on}
-use Rattle.pw_model.specs.Counting.{SameMembers, assignment_key, contents_at, point, reading_key, start}
+use Rattle.pw_model.specs.Counting.{Member, SameMembers, assignment_key, contents_at, point, reading_key, start}
 use Rattle.pw_model.specs.Energy.{over_registers}
 use Rattle.pw_model.specs.Office.{AllOfOffice, most_records}
 use Rattle.pw_model.specs.Payments.{cents_for, topped_up}
 use Rattle.pw_model.specs.Shelf.{IsTrueContent, ShelfContent, total_among}
-use Rattle.pw_book.specs.Cost.{AreAssignmentsWith, AreKnown, AreReadingsWith, AreTopUps, HasStarts, IsAssignmentUpToNext, classes_of}
+use Rattle.pw_book.specs.Cost.{AreAssignmentsWith, AreReadingsWith, AreTopUps, HasPoints, HasStarts, IsAssignmentUpToNext, classes_of}
 use Rattle.pw_book.specs.Posting.{IsWithUpload}
 use Rattle.pw_book.specs.inner.Moves.{MovesTotals}
 use Rattle.pw_book.specs.inner.Settling.{HavePoints}
@@ -91,6 +91,18 @@ ChangesOneKey (key.Withdrawal n) old new = (new.point ≡ old.point) × (new.sta
 abbrev pub LeavesWithUpload : OfficeRules → List Entry → ShelfContent → (ShelfContent → Type 0) → (ShelfContent → Type 0) → Type 0
 LeavesWithUpload office entries content old new = (c : ShelfContent) → new c → old c ⊎ IsWithUpload office entries content c
 
+-- so many calls and rows are enough for an entry that bears on this key, though its meter may get so many starts and points
+-- more
+abbrev pub IsEnoughFor : OfficeRules → ShelfContent → ℕ → ℕ → Key → Type 0
+IsEnoughFor office c more most (key.Reading m r t) = (starts : ℕ) × HasStarts c m.0 starts × (13 + starts + more + 6 * classes_of office ≤ most)
+IsEnoughFor office c more most (key.Assignment m t) =
+    (starts : ℕ) × (points : ℕ) × HasStarts c m.0 starts × HasPoints (λ t. Unit {0}) c m.0 points × (39 + starts + points + 2 * more + 6 * classes_of office ≤ most)
+IsEnoughFor office c more most _ = 10 ≤ most
+
+-- so they are for each of the entries
+abbrev pub AreEnoughFor : OfficeRules → ShelfContent → ℕ → ℕ → List Entry → Type 0
+AreEnoughFor office c more most entries = (e : Entry) → Member e entries → IsEnoughFor office c more most (bears_on e)
+
 -- how many calls and rows the entries of an upload take, each added and settled, beside so many
 pub record CostsAtMost (beside : ℕ) (office : OfficeRules) (entries : List Entry) (c : ShelfContent) (old new : ℕ) : Type 0 where
   pub readings : (starts : ℕ) → AreReadingsWith c starts entries → new ≤ old + beside + length entries * (13 + starts + 6 * classes_of office)
@@ -98,7 +110,6 @@ pub record CostsAtMost (beside : ℕ) (office : OfficeRules) (entries : List Ent
       new ≤ old + beside + (39 + starts + points + 6 * classes_of office)
   pub assignments : (starts points : ℕ) → AreAssignmentsWith c starts points entries →
       new ≤ old + beside + length entries * (39 + (starts + length entries) + points + 6 * classes_of office)
-  pub several : (starts points : ℕ) → AreKnown c starts points entries →
-      new ≤ old + beside + length entries * (39 + (starts + length entries) + (points + length entries) + 6 * classes_of office)
+  pub several : (most : ℕ) → AreEnoughFor office c (length entries) most entries → new ≤ old + beside + length entries * most
   pub top_ups : AreTopUps entries → new ≤ old + beside + length entries * 10
   pub nothing : entries ≡ [] → new ≤ old + beside

@@ -3,7 +3,7 @@ use Rattle.std.proofs.lemmas.Result.{on_ok_weaker, on_err_weaker}
 use Rattle.pw_tariff.specs.Office.{office_of}
 use Rattle.pw_book.proofs.Chains.{kept-then, kept-none}
 use Rattle.pw_book.proofs.Joining.{joined-fresh, joined-none, joined-next, joined-room, joined-of_office, got-of_office, got-member, with-upload, subst-once}
-use Rattle.pw_book.proofs.Spending.{assignments-next, behind-next, behind-none, known-next, known-none, only-next, readings-next, several-next, top-ups-next, costs-so-far, costs-next}
+use Rattle.pw_book.proofs.Spending.{assignments-next, behind-next, behind-none, enough-next, enough-none, only-next, readings-next, several-next, top-ups-next, costs-so-far, costs-next}
 use Rattle.pw_book.proofs.upload.write.Goals as goal
 
 pub put-requires-clause-of_office : goal.put-requires-clause-of_office
@@ -25,7 +25,7 @@ pub returns-in_err-put-clause-tally : goal.returns-in_err-put-clause-tally
 returns-in_err-put-clause-tally g c = λ k.
     let before = c.put.ensures.kept.clean k in
     let m = got-member (office_of c.args.basis.now.office.now) c.args.entries.now c.loop-entry.entry-index c.entry-item.result c.loop-entry-test.true c.entry-item.is in
-    costs-next (office_of c.args.basis.now.office.now) c.args.entries.now c.entry-item.result c.loop-entry.entry-index (g.S.Shelf.state c.args.shelf.now).content (g.S.Shelf.state c.loop-entry.shelf).content _ _ _ c.loop-entry-test.true m (c.loop-entry.invariant.start before) (c.loop-entry.invariant.readings before) (c.loop-entry.invariant.first before) (c.loop-entry.invariant.behind before) (c.loop-entry.invariant.assignments before) (c.loop-entry.invariant.known before) (c.loop-entry.invariant.several before) (c.loop-entry.invariant.top_ups before) (c.put.ensures.tally k)
+    costs-next (office_of c.args.basis.now.office.now) c.args.entries.now c.entry-item.result c.loop-entry.entry-index (g.S.Shelf.state c.args.shelf.now).content (g.S.Shelf.state c.loop-entry.shelf).content _ _ _ c.loop-entry-test.true m (c.loop-entry.invariant.start before) (c.loop-entry.invariant.readings before) (c.loop-entry.invariant.first before) (c.loop-entry.invariant.behind before) (c.loop-entry.invariant.assignments before) (c.loop-entry.invariant.enough before) (c.loop-entry.invariant.several before) (c.loop-entry.invariant.top_ups before) (c.put.ensures.tally k)
 
 pub loop-entry-init : goal.loop-entry-init
 loop-entry-init g c = record {
@@ -36,8 +36,8 @@ loop-entry-init g c = record {
   behind = λ k starts points a. behind-none c.args.entries.now _ _ starts points refl a;
   assignment = λ k e starts points q a. omega arith;
   assignments = λ k starts points a. omega arith;
-  known = λ k starts points a. known-none c.args.entries.now _ _ starts points refl a;
-  several = λ k starts points a. omega arith;
+  enough = λ k most a left n. enough-none (office_of c.args.basis.now.office.now) c.args.entries.now _ _ most left refl n a;
+  several = λ k most a. omega arith;
   top_ups = λ k a. omega arith;
   kept = kept-none g.S.Shelf.state g.S.Shelf.left g.S.Shelf.clean g.S.Shelf.same_store g.met.S.Shelf.same_yet c.args.shelf.now;
 }
@@ -68,12 +68,12 @@ loop-entry-preserved g c =
       assignments = λ k starts points a.
           let before = c.put.ensures.kept.clean k in
           assignments-next office c.args.entries.now c.entry-item.result c.loop-entry.entry-index (g.S.Shelf.state c.args.shelf.now).content (g.S.Shelf.state c.loop-entry.shelf).content starts points _ _ _ c.loop-entry-test.true m a (c.loop-entry.invariant.behind before starts points a) (c.loop-entry.invariant.assignments before starts points a) (c.put.ensures.tally k);
-      known = λ k starts points a.
+      enough = λ k most a left n.
           let before = c.put.ensures.kept.clean k in
-          known-next c.args.entries.now c.entry-item.result c.loop-entry.entry-index (g.S.Shelf.state c.loop-entry.shelf).content _ starts points (c.loop-entry.invariant.known before starts points a) (c.in_ok-put.ensures.alone k);
-      several = λ k starts points a.
+          enough-next office c.args.entries.now c.entry-item.result c.loop-entry.entry-index (g.S.Shelf.state c.loop-entry.shelf).content _ most left (c.loop-entry.invariant.enough before most a) (c.in_ok-put.ensures.alone k) n;
+      several = λ k most a.
           let before = c.put.ensures.kept.clean k in
-          several-next office c.args.entries.now c.entry-item.result c.loop-entry.entry-index (g.S.Shelf.state c.loop-entry.shelf).content starts points _ _ _ c.loop-entry-test.true m (c.loop-entry.invariant.known before starts points a) (c.loop-entry.invariant.several before starts points a) (c.put.ensures.tally k);
+          several-next office c.args.entries.now c.entry-item.result c.loop-entry.entry-index (g.S.Shelf.state c.loop-entry.shelf).content most _ _ _ c.loop-entry-test.true m (c.loop-entry.invariant.enough before most a) (c.loop-entry.invariant.several before most a) (c.put.ensures.tally k);
       top_ups = λ k a.
           let before = c.put.ensures.kept.clean k in
           top-ups-next office c.args.entries.now c.entry-item.result c.loop-entry.entry-index (g.S.Shelf.state c.loop-entry.shelf).content _ _ _ m a (c.loop-entry.invariant.top_ups before a) (c.put.ensures.tally k);

@@ -3,8 +3,8 @@ use Rattle.pw_tariff.specs.Office.{office_of}
 use Rattle.pw_model.specs.declared.records.Entry.{Entry}
 use Rattle.pw_model.specs.Bearing.{bears_on}
 use Rattle.pw_shelf.specs.Calls.{GoesOn}
-use Rattle.pw_book.specs.Cost.{AreAssignmentsWith, AreKnown, AreReadingsWith, AreTopUps, IsAssignmentUpToNext, classes_of}
-use Rattle.pw_book.specs.inner.Added.{IsPut}
+use Rattle.pw_book.specs.Cost.{AreAssignmentsWith, AreReadingsWith, AreTopUps, IsAssignmentUpToNext, classes_of}
+use Rattle.pw_book.specs.inner.Added.{AreEnoughFor, IsPut}
 use Rattle.pw_book.proofs.Spending.{IsBehind}
 use Rattle.pw_book.proofs.upload.write.Given as goal
 
@@ -22,10 +22,10 @@ invariant-loop-entry g l = record {
       (g.S.Shelf.state l.shelf).tally ≤ (g.S.Shelf.state l.initial.shelf).tally + l.entry-index * (39 + starts + points + 6 * classes_of (office_of l.basis.office.now));
   assignments : g.S.Shelf.clean l.shelf → (starts points : ℕ) → AreAssignmentsWith (g.S.Shelf.state l.initial.shelf).content starts points l.entries →
       (g.S.Shelf.state l.shelf).tally ≤ (g.S.Shelf.state l.initial.shelf).tally + l.entry-index * (39 + (starts + length l.entries) + points + 6 * classes_of (office_of l.basis.office.now));
-  known : g.S.Shelf.clean l.shelf → (starts points : ℕ) → AreKnown (g.S.Shelf.state l.initial.shelf).content starts points l.entries →
-      AreKnown (g.S.Shelf.state l.shelf).content (starts + l.entry-index) (points + l.entry-index) l.entries;
-  several : g.S.Shelf.clean l.shelf → (starts points : ℕ) → AreKnown (g.S.Shelf.state l.initial.shelf).content starts points l.entries →
-      (g.S.Shelf.state l.shelf).tally ≤ (g.S.Shelf.state l.initial.shelf).tally + l.entry-index * (39 + (starts + length l.entries) + (points + length l.entries) + 6 * classes_of (office_of l.basis.office.now));
+  enough : g.S.Shelf.clean l.shelf → (most : ℕ) → AreEnoughFor (office_of l.basis.office.now) (g.S.Shelf.state l.initial.shelf).content (length l.entries) most l.entries →
+      (left : ℕ) → l.entry-index + left ≡ length l.entries → AreEnoughFor (office_of l.basis.office.now) (g.S.Shelf.state l.shelf).content left most l.entries;
+  several : g.S.Shelf.clean l.shelf → (most : ℕ) → AreEnoughFor (office_of l.basis.office.now) (g.S.Shelf.state l.initial.shelf).content (length l.entries) most l.entries →
+      (g.S.Shelf.state l.shelf).tally ≤ (g.S.Shelf.state l.initial.shelf).tally + l.entry-index * most;
   top_ups : g.S.Shelf.clean l.shelf → AreTopUps l.entries → (g.S.Shelf.state l.shelf).tally ≤ (g.S.Shelf.state l.initial.shelf).tally + l.entry-index * 10;
   kept : GoesOn g.S.Shelf.state g.S.Shelf.left g.S.Shelf.clean g.S.Shelf.same_store 0 l.initial.shelf l.shelf;
 }
