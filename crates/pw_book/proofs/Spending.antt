@@ -65,15 +65,21 @@ assignment-takes-later office (key.Assignment m t) was c starts more points old 
 assignment-takes-later office (key.TopUp r) was c starts more points old new i p h x = absurd i
 assignment-takes-later office (key.Withdrawal n) was c starts more points old new i p h x = absurd i
 
--- one start more at most behind an assignment
-starts-later : (k l : Key) (c d : ShelfContent) (most : ℕ) → ChangesOneKey k c d → IsAssignment k → HasStartsFor c most l → HasStartsFor d (most + 1) l
-starts-later (key.Assignment m t) (key.Assignment n u) c d most h a s = starts-more (c.start n.0) (d.start n.0) t most (λ v q. h.1 n.0 v (λ b. q b.1)) s
-starts-later (key.Assignment m t) (key.Reading n r u) c d most h a s = tt
-starts-later (key.Assignment m t) (key.TopUp r) c d most h a s = tt
-starts-later (key.Assignment m t) (key.Withdrawal n) c d most h a s = tt
-starts-later (key.Reading m r t) l c d most h a s = absurd a
-starts-later (key.TopUp r) l c d most h a s = absurd a
-starts-later (key.Withdrawal n) l c d most h a s = absurd a
+-- as many starts, or one more
+starts-kept : (c d : ShelfContent) (n most : ℕ) → d.start ≡ c.start → HasStarts c n most → HasStarts d n (most + 1)
+starts-kept c d n most p h = λ starts l. let x = starts-same c d n most p h starts l in omega (arith, x)
+
+starts-next : (k : Key) (c d : ShelfContent) (n most : ℕ) → ChangesOneKey k c d → HasStarts c n most → HasStarts d n (most + 1)
+starts-next (key.Reading m r t) c d n most h s = starts-kept c d n most h.0 s
+starts-next (key.Assignment m t) c d n most h s = starts-more (c.start n) (d.start n) t most (λ v q. h.1 n v (λ b. q b.1)) s
+starts-next (key.TopUp r) c d n most h s = starts-kept c d n most h.1 s
+starts-next (key.Withdrawal x) c d n most h s = starts-kept c d n most h.1 s
+
+starts-later : (k l : Key) (c d : ShelfContent) (most : ℕ) → ChangesOneKey k c d → HasStartsFor c most l → HasStartsFor d (most + 1) l
+starts-later k (key.Assignment m t) c d most h s = starts-next k c d m.0 most h s
+starts-later k (key.Reading m r t) c d most h s = tt
+starts-later k (key.TopUp r) c d most h s = tt
+starts-later k (key.Withdrawal n) c d most h s = tt
 
 is-assignment : (k : Key) (c : ShelfContent) (starts points : ℕ) → IsAssignmentWith c starts points k → IsAssignment k
 is-assignment (key.Reading m r t) c starts points i = absurd i
@@ -110,7 +116,7 @@ behind-next entries e i was c d starts points m a b h =
       points = points-kept (bears_on e) c d k h ∙ b.points;
       starts_are = λ f n.
           let z : starts + (i + 1) ≡ starts + i + 1 = omega arith in
-          let s = starts-later (bears_on e) (bears_on f) c d (starts + i) h k (b.starts_are f n) in
+          let s = starts-later (bears_on e) (bears_on f) c d (starts + i) h (b.starts_are f n) in
           rw z s;
     }
   where
@@ -164,16 +170,6 @@ enough-takes office (key.Assignment m t) c more most old new h x =
     omega (arith, y, z, b)
 enough-takes office (key.TopUp r) c more most old new h x = omega (arith, h, x)
 enough-takes office (key.Withdrawal n) c more most old new h x = omega (arith, h, x)
-
--- as many starts, or one more
-starts-kept : (c d : ShelfContent) (n most : ℕ) → d.start ≡ c.start → HasStarts c n most → HasStarts d n (most + 1)
-starts-kept c d n most p h = λ starts l. let x = starts-same c d n most p h starts l in omega (arith, x)
-
-starts-next : (k : Key) (c d : ShelfContent) (n most : ℕ) → ChangesOneKey k c d → HasStarts c n most → HasStarts d n (most + 1)
-starts-next (key.Reading m r t) c d n most h s = starts-kept c d n most h.0 s
-starts-next (key.Assignment m t) c d n most h s = starts-more (c.start n) (d.start n) t most (λ v q. h.1 n v (λ b. q b.1)) s
-starts-next (key.TopUp r) c d n most h s = starts-kept c d n most h.1 s
-starts-next (key.Withdrawal x) c d n most h s = starts-kept c d n most h.1 s
 
 -- one for the register itself
 abbrev at_register : Register → Register → ℕ
