@@ -6,7 +6,7 @@ ghost use Rattle.std.specs.Prelude.{◌≡◌, None, IfOk, false};
 ghost use Rattle.pw_model.specs.Shelf.{no_content};
 
 mod agreeing;
-mod asking;
+pub mod asking;
 mod counted;
 mod kept;
 mod limits;
@@ -148,7 +148,7 @@ fn book_of<S: Shelf>(rt: &impl Abort, office: Office, shelf: S, limit: u32) -> B
     empty_book(office, shelf, limit)
 }
 
-fn post<S: Shelf>(
+pub fn post<S: Shelf>(
     rt: &impl Abort,
     alloc: Global,
     book: &mut Book<S>,
@@ -182,7 +182,7 @@ fn imported<S: Shelf>(rt: &impl Abort, book: &mut Book<S>) -> Result<(u64, u64),
 }
 
 // What was topped up for an account, in cents, and its balance, in nano-euro.
-fn money<S: Shelf>(
+pub fn money<S: Shelf>(
     rt: &impl Abort,
     book: &mut Book<S>,
     account: AccountId,

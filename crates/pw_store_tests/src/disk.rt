@@ -1,22 +1,15 @@
 //! A store over SQL on a disk whose log or database file stops at each of its calls in turn. It is opened again where all
 //! that was written is there, and where what wasn't synced is lost: an upload is there whole, or not at all.
 
-ghost use Rattle.std.specs.Prelude.{◌≡◌, ◌<◌, length};
-ghost use Rattle.pw_model.specs.Office.{AllOfOffice};
-ghost use Rattle.pw_tariff.specs.Office.{office_of};
-ghost use Rattle.pw_tariff.specs.Text.{IsOfficeOf};
-
-use crate::sql_stores::{book_over, store_on};
+use crate::book::{asking, money, post};
+use crate::entries::{Sent, entries_of};
+use crate::sql_stores::book_on;
 use pw_book::{Book, BookFault, PostFault};
-use pw_model::Entry;
-use pw_record::{assignment_records, telegram_records, topup_records};
-use pw_report::{export_readings, statement};
+use pw_model::ReadingRow;
+use pw_obis::Register;
 use pw_shelf::Shelf;
 use pw_store::{OpenFault, SqlShelf};
-use pw_tariff::{AccountId, Office};
-use pw_tests::offices::SAMPLE;
-use pw_tests::uploads::{ASSIGNMENT, TOPUP, TWO_READINGS};
-use pw_time::Zone;
+use pw_tests::sample::{FIRST, FIVE, KINDS, METER, NEW_YEAR, SECOND, SEVEN};
 use sqlite::{Alter, Connection, FileStore, Files, Options};
 use sqlite_disk::{Crash, Disk, Fuse, Memory};
 use std::alloc::Global;
@@ -31,110 +24,74 @@ const LONG: usize = 1_000;
 
 const SHORT: usize = 1;
 
-// The meter passes to the second account between the two readings.
-const MID_PAIR: &[u8] = b"meter,start,account\n4D31,2024-01-02T05:30:00Z,A2\n";
-
 // A file that stops.
 type Stopping = Fuse<Memory>;
 
-#[derive(Clone, Copy)]
-enum Upload {
-    Telegrams(&'static [u8]),
-    Assignments(&'static [u8]),
-    TopUps(&'static [u8]),
-}
+// The records of an upload.
+type Upload = &'static [Sent];
 
-const PAYMENT: [Upload; 2] = [Upload::Assignments(ASSIGNMENT), Upload::TopUps(TOPUP)];
+const FIRST_OWNER: Upload = &[Sent::Given(METER, NEW_YEAR, Some(FIRST))];
 
-const PAYMENT_AND_READINGS: [Upload; 3] = [
-    Upload::Assignments(ASSIGNMENT),
-    Upload::TopUps(TOPUP),
-    Upload::Telegrams(TWO_READINGS),
+const TOPUP: Upload = &[Sent::Paid(b"P1", FIRST, 5_000)];
+
+const TWO_READINGS: Upload = &[
+    Sent::Shown(METER, Register::I1, FIVE, 1_000_000),
+    Sent::Shown(METER, Register::I1, SEVEN, 1_003_001),
 ];
 
-const READINGS: [Upload; 1] = [Upload::Telegrams(TWO_READINGS)];
+// The meter passes to the second account between the two readings.
+const MID_PAIR: Upload = &[Sent::Given(METER, FIVE + 1_800, Some(SECOND))];
 
-const PASSING_ON: [Upload; 1] = [Upload::Assignments(MID_PAIR)];
+const PAYMENT: [Upload; 2] = [FIRST_OWNER, TOPUP];
 
-// How many records are held, and what is told of them: the statements of both accounts, and the readings.
+const PAYMENT_AND_READINGS: [Upload; 3] = [FIRST_OWNER, TOPUP, TWO_READINGS];
+
+const READINGS: [Upload; 1] = [TWO_READINGS];
+
+const PASSING_ON: [Upload; 1] = [MID_PAIR];
+
+// How many records are held, and what is told of them: the energies of `KINDS`, for both accounts what was topped up, in
+// cents, with the balance, in nano-euro, and the readings, all of which count.
 #[derive(Clone, Copy)]
 struct Told {
     records: u32,
-    first: &'static [u8],
-    second: &'static [u8],
-    readings: &'static [u8],
+    energies: [u64; 12],
+    first: (u64, i128),
+    second: (u64, i128),
+    readings: &'static [(u32, u64)],
 }
 
-const SECOND_WITH_NOTHING: &[u8] = b"account A2
-band       import Wh       export Wh
-L                  0               0
-H                  0               0
-topped up EUR 0.00
-balance EUR 0.00
-";
-
-const NO_READINGS: &[u8] = b"meter,register,instant,wh,counted\n";
-
-const BOTH_READINGS: &[u8] = b"meter,register,instant,wh,counted
-4D31,I1,2024-01-02T05:00:00Z,1000000,1
-4D31,I1,2024-01-02T07:00:00Z,1003001,1
-";
+const BOTH_READINGS: &[(u32, u64)] = &[(FIVE, 1_000_000), (SEVEN, 1_003_001)];
 
 const NOTHING: Told = Told {
     records: 0,
-    first: b"account A1
-band       import Wh       export Wh
-L                  0               0
-H                  0               0
-topped up EUR 0.00
-balance EUR 0.00
-",
-    second: SECOND_WITH_NOTHING,
-    readings: NO_READINGS,
+    energies: [0; 12],
+    first: (0, 0),
+    second: (0, 0),
+    readings: &[],
 };
 
 const BEHIND_PAYMENT: Told = Told {
     records: 2,
-    first: b"account A1
-band       import Wh       export Wh
-L                  0               0
-H                  0               0
-topped up EUR 50.00
-balance EUR 50.00
-",
-    second: SECOND_WITH_NOTHING,
-    readings: NO_READINGS,
+    energies: [0; 12],
+    first: (5_000, 50_000_000_000),
+    second: (0, 0),
+    readings: &[],
 };
 
 const BEHIND_READINGS: Told = Told {
     records: 4,
-    first: b"account A1
-band       import Wh       export Wh
-L               1500               0
-H               1501               0
-topped up EUR 50.00
-balance EUR 49.24
-",
-    second: SECOND_WITH_NOTHING,
+    energies: [0, 0, 0, 0, 1_500, 0, 1_501, 0, 0, 0, 0, 0],
+    first: (5_000, 49_249_700_000),
+    second: (0, 0),
     readings: BOTH_READINGS,
 };
 
 const PASSED_ON: Told = Told {
     records: 5,
-    first: b"account A1
-band       import Wh       export Wh
-L                750               0
-H                  0               0
-topped up EUR 50.00
-balance EUR 49.85
-",
-    second: b"account A2
-band       import Wh       export Wh
-L                750               0
-H               1501               0
-topped up EUR 0.00
-balance EUR -0.61
-",
+    energies: [0, 0, 0, 0, 750, 0, 0, 0, 750, 0, 1_501, 0],
+    first: (5_000, 49_850_000_000),
+    second: (0, -600_300_000),
     readings: BOTH_READINGS,
 };
 
@@ -147,8 +104,8 @@ struct Image {
 
 // What is uploaded to a store that tells one thing before and another behind, with a log of so many pages.
 #[derive(Clone, Copy)]
-struct Case {
-    uploads: &'static [Upload],
+struct Case<'a> {
+    uploads: &'a [Upload],
     before: Told,
     behind: Told,
     pages: usize,
@@ -192,51 +149,6 @@ fn files_of(
     }
 }
 
-// The office of a text.
-fn office_in(rt: &impl Abort, alloc: Global, text: &[u8]) -> Office
-    ensures { IsOfficeOf text.now result }
-{
-    Office::read(alloc, text).expect(rt, "an office")
-}
-
-// A book of an office, whose text this is, over a connection; or why there is no store on it.
-fn book_of_office<S: Alter>(
-    alloc: Global,
-    connection: Connection<S>,
-    office: Office,
-    text: &[u8],
-) -> Result<Book<SqlShelf<S>>, (OpenFault, Connection<S>)>
-    requires { IsOfficeOf text.now office }
-{
-    match store_on(alloc, connection, &office, text) {
-        Ok(shelf) => Ok(book_over(office, shelf, 100)),
-        Err(left) => Err(left),
-    }
-}
-
-// A book over a connection; or why there is no store on it.
-fn book_of<S: Alter>(
-    rt: &impl Abort,
-    alloc: Global,
-    connection: Connection<S>,
-) -> Result<Book<SqlShelf<S>>, (OpenFault, Connection<S>)> {
-    let text = SAMPLE.as_bytes();
-    let office = office_in(rt, alloc, text);
-    book_of_office(alloc, connection, office, text)
-}
-
-// A book over a connection that has a store.
-fn book_on<S: Alter>(
-    rt: &impl Abort,
-    alloc: Global,
-    connection: Connection<S>,
-) -> Book<SqlShelf<S>> {
-    match book_of(rt, alloc, connection) {
-        Ok(book) => book,
-        Err(_) => panic!(rt; "no store"),
-    }
-}
-
 // A connection of files, or the files that gave none.
 fn connected<D: Disk + Drop>(
     rt: &impl Abort,
@@ -253,92 +165,45 @@ fn connected<D: Disk + Drop>(
     }
 }
 
-// A connection of files that give one.
-fn connection_of<D: Disk + Drop>(
-    rt: &impl Abort,
-    alloc: Global,
-    files: Files<D>,
-) -> Connection<FileStore<D>> {
-    match connected(rt, alloc, files, LONG) {
-        Ok(connection) => connection,
-        Err(_) => panic!(rt; "no connection"),
+// Whether a reading counts, and is this one.
+fn is_row(row: &ReadingRow, (second, watt_hours): (u32, u64)) -> bool {
+    row.counted && row.instant.seconds() == second && row.wh.get() == watt_hours
+}
+
+// Whether just these readings were told.
+fn are_rows(told: Result<Vec<ReadingRow>, BookFault>, wanted: &[(u32, u64)]) -> bool {
+    match told {
+        Ok(rows) => {
+            rows.len() == wanted.len()
+                && rows
+                    .iter()
+                    .zip(wanted.iter())
+                    .all(|(row, one)| is_row(row, *one))
+        }
+        Err(_) => false,
     }
 }
 
-// The connection under a book.
-fn connection_under<S: Alter>(book: Book<SqlShelf<S>>) -> Connection<S> {
-    book.into_shelf().close()
-}
-
-// The records of an upload.
-fn records_of(
-    rt: &impl Abort,
-    alloc: Global,
-    office: &Office,
-    zone: &Zone,
-    upload: Upload,
-) -> Vec<Entry>
-    ensures { AllOfOffice (office_of office.now) result.items }
-{
-    let read = match upload {
-        Upload::Telegrams(body) => telegram_records(alloc, office, zone, body),
-        Upload::Assignments(body) => assignment_records(alloc, office, body),
-        Upload::TopUps(body) => topup_records(alloc, office, body),
-    };
-    read.expect(rt, "records")
-}
-
-fn post<S: Shelf>(
-    rt: &impl Abort,
-    alloc: Global,
-    book: &mut Book<S>,
-    upload: Upload,
-) -> Result<(), PostFault> {
-    let entries = records_of(rt, alloc, book.office(), book.zone(), upload);
-    match book.post(alloc, &entries) {
-        Ok(_) => Ok(()),
-        Err(fault) => Err(fault),
+// Whether these are the energies of `KINDS`.
+fn are_energies<S: Shelf>(rt: &impl Abort, book: &mut Book<S>, wanted: &[u64; 12]) -> bool {
+    for ((owner, band, direction), watt_hours) in KINDS.iter().zip(wanted.iter()) {
+        if asking::energy(rt, book, *owner, *band, *direction) != Ok(*watt_hours) {
+            return false;
+        }
     }
-}
-
-fn post_all<S: Shelf>(
-    rt: &impl Abort,
-    alloc: Global,
-    book: &mut Book<S>,
-    uploads: &[Upload],
-) -> Result<(), PostFault> {
-    for upload in uploads {
-        post(rt, alloc, book, *upload)?;
-    }
-    Ok(())
-}
-
-// Whether the text is given, and just this.
-fn is_text(rt: &impl Abort, text: Result<Vec<u8>, BookFault>, wanted: &[u8]) -> bool {
-    text.expect(rt, "a text").as_slice() == wanted
-}
-
-// Whether this is the statement of an account.
-fn is_stated<S: Shelf>(
-    rt: &impl Abort,
-    alloc: Global,
-    book: &mut Book<S>,
-    account: AccountId,
-    wanted: &[u8],
-) -> bool
-    requires { account.0 < length book.old.office.accounts }
-    ensures { book.new.office ≡ book.old.office }
-{
-    is_text(rt, statement(book, alloc, account), wanted)
+    true
 }
 
 // Whether just this is told.
 fn tells<S: Shelf>(rt: &impl Abort, alloc: Global, book: &mut Book<S>, told: &Told) -> bool {
-    assert!(rt; book.office().accounts() == 2);
-    is_stated(rt, alloc, book, AccountId(0), told.first)
-        && is_stated(rt, alloc, book, AccountId(1), told.second)
-        && is_text(rt, export_readings(book, alloc), told.readings)
-        && book.count().expect(rt, "a count") == told.records
+    are_energies(rt, book, &told.energies)
+        && money(rt, book, FIRST) == Ok(told.first)
+        && money(rt, book, SECOND) == Ok(told.second)
+        && are_rows(
+            asking::readings(rt, alloc, book, METER, Register::I1),
+            told.readings,
+        )
+        && asking::count(book) == Ok(told.records)
 }
 
 // Whether a book tells what it has to behind the uploads. Else it tells what it did before.
@@ -348,33 +213,55 @@ fn is_behind<S: Shelf>(rt: &impl Abort, alloc: Global, book: &mut Book<S>, case:
     behind
 }
 
-// The same of the book over a connection.
+// The same of the book over a connection that has a store.
 fn is_behind_on<S: Alter + Drop>(
     rt: &impl Abort,
     alloc: Global,
     connection: Connection<S>,
     case: &Case,
 ) -> bool {
-    is_behind(rt, alloc, &mut book_on(rt, alloc, connection), case)
+    match book_on(alloc, connection, 100) {
+        Ok(mut book) => is_behind(rt, alloc, &mut book, case),
+        Err(_) => panic!(rt; "no store"),
+    }
 }
 
-// The same of the book over files.
+// The same of the book over files that give a connection.
 fn is_behind_in<D: Disk + Drop>(
     rt: &impl Abort,
     alloc: Global,
     files: Files<D>,
     case: &Case,
 ) -> bool {
-    is_behind_on(rt, alloc, connection_of(rt, alloc, files), case)
+    match connected(rt, alloc, files, LONG) {
+        Ok(connection) => is_behind_on(rt, alloc, connection, case),
+        Err(_) => panic!(rt; "no connection"),
+    }
+}
+
+// Whether an upload is taken. Else the device failed.
+fn is_taken<S: Shelf>(rt: &impl Abort, alloc: Global, book: &mut Book<S>, upload: Upload) -> bool {
+    let entries = entries_of(rt, alloc, upload).expect(rt, "memory");
+    match post(rt, alloc, book, &entries) {
+        Ok(_) => true,
+        Err(PostFault::Device | PostFault::Reopen) => false,
+        Err(_) => panic!(rt; "refused for another cause"),
+    }
 }
 
 // The end of the uploads to a book.
 fn end_of<S: Shelf>(rt: &impl Abort, alloc: Global, book: &mut Book<S>, uploads: &[Upload]) -> End {
-    match post_all(rt, alloc, book, uploads) {
-        Ok(()) => End::Taken,
-        Err(PostFault::Device | PostFault::Reopen) => End::Refused,
-        Err(_) => panic!(rt; "refused for another cause"),
+    for upload in uploads {
+        if !is_taken(rt, alloc, book, *upload) {
+            return End::Refused;
+        }
     }
+    End::Taken
+}
+
+// The connection under a book.
+fn connection_under<S: Alter>(book: Book<SqlShelf<S>>) -> Connection<S> {
+    book.into_shelf().close()
 }
 
 // The uploads to a book, and its connection.
@@ -388,49 +275,48 @@ fn uploaded<S: Alter>(
     (end, connection_under(book))
 }
 
-// What an attempt leaves: a connection, or the engine's store under one.
-enum Left<S: Alter> {
-    Connection(Connection<S>),
-    Store(S),
+// The files under a connection, which isn't closed.
+fn files_left<D: Disk + Drop>(connection: Connection<FileStore<D>>) -> Files<D> {
+    connection.into_store().close()
 }
 
-fn left_by<S: Alter + Drop>(connection: Connection<S>, is_closed: bool) -> Left<S> {
-    if is_closed {
-        Left::Connection(connection)
-    } else {
-        Left::Store(connection.into_store())
+// The files under a connection that is closed, so that it copies the log, as far as that goes.
+fn files_closed<D: Disk + Drop>(connection: Connection<FileStore<D>>) -> Files<D> {
+    match connection.close_files() {
+        Ok(files) => files,
+        Err((_, store)) => store.close(),
     }
 }
 
-// The uploads to a store on a connection: how they ended, and what is left, where a connection is to be closed if it has
-// a store and this is asked for.
-fn attempt_on<S: Alter + Drop>(
+fn files_of_connection<D: Disk + Drop>(
+    connection: Connection<FileStore<D>>,
+    closes: bool,
+) -> Files<D> {
+    if closes {
+        files_closed(connection)
+    } else {
+        files_left(connection)
+    }
+}
+
+// The uploads to a store on a connection: how they ended, and the files. The connection is closed, if it has a store and
+// this is asked for.
+fn attempt_on<D: Disk + Drop>(
     rt: &impl Abort,
     alloc: Global,
-    connection: Connection<S>,
+    connection: Connection<FileStore<D>>,
     uploads: &[Upload],
     closes: bool,
-) -> (End, Left<S>) {
-    match book_of(rt, alloc, connection) {
+) -> (End, Files<D>) {
+    match book_on(alloc, connection, 100) {
         Ok(book) => {
             let (end, connection) = uploaded(rt, alloc, book, uploads);
-            (end, left_by(connection, closes))
+            (end, files_of_connection(connection, closes))
         }
-        Err((fault, connection)) => {
+        Err((fault, refused)) => {
             assert!(rt; fault == OpenFault::Store);
-            (End::NoStore, left_by(connection, false))
+            (End::NoStore, files_left(refused))
         }
-    }
-}
-
-// The files, where a connection that is closed copies the log, as far as that goes.
-fn files_left<D: Disk + Drop>(left: Left<FileStore<D>>) -> Files<D> {
-    match left {
-        Left::Connection(connection) => match connection.close_files() {
-            Ok(files) => files,
-            Err((_, store)) => store.close(),
-        },
-        Left::Store(store) => store.close(),
     }
 }
 
@@ -444,10 +330,7 @@ fn attempt<D: Disk + Drop>(
     closes: bool,
 ) -> (End, Files<D>) {
     match connected(rt, alloc, files, pages) {
-        Ok(connection) => {
-            let (end, left) = attempt_on(rt, alloc, connection, uploads, closes);
-            (end, files_left(left))
-        }
+        Ok(connection) => attempt_on(rt, alloc, connection, uploads, closes),
         Err(files) => (End::NoConnection, files),
     }
 }
@@ -534,7 +417,7 @@ fn stops_with_each_log(
     rt: &impl Abort,
     alloc: Global,
     store: &Image,
-    uploads: &'static [Upload],
+    uploads: &[Upload],
     [before, behind]: [Told; 2],
 ) {
     for (pages, db_end) in [(LONG, End::NoConnection), (SHORT, End::Refused)] {

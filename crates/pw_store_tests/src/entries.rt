@@ -5,6 +5,7 @@ use pw_obis::{Register, WattHours};
 use pw_tariff::{AccountId, MeterId, Owner};
 use pw_tests::sample::{self, METER, NEW_YEAR};
 use pw_time::Instant;
+use std::alloc::{AllocError, Global};
 use std::process::Abort;
 
 pub fn at(rt: &impl Abort, second: u32) -> Instant {
@@ -42,4 +43,33 @@ pub fn given(rt: &impl Abort, meter: MeterId, second: u32, owner: Owner) -> Entr
 pub fn paid(rt: &impl Abort, reference: &[u8], account: AccountId, cents: u32) -> Entry {
     let reference = Reference::of(reference).expect(rt, "a reference");
     sample::paid(reference, account, cents, at(rt, NEW_YEAR))
+}
+
+/// What is told of both meters and both accounts.
+#[derive(Clone, Copy)]
+pub enum Sent {
+    /// the owner of a meter from a second on
+    Given(MeterId, u32, Owner),
+    /// what a register of a meter shows at a second
+    Shown(MeterId, Register, u32, u64),
+    /// cents of an account under a reference
+    Paid(&'static [u8], AccountId, u32),
+}
+
+pub fn entry_of(rt: &impl Abort, sent: Sent) -> Entry {
+    match sent {
+        Sent::Given(meter, second, owner) => given(rt, meter, second, owner),
+        Sent::Shown(meter, register, second, watt_hours) => {
+            shown(rt, meter, register, second, watt_hours)
+        }
+        Sent::Paid(reference, account, cents) => paid(rt, reference, account, cents),
+    }
+}
+
+pub fn entries_of(rt: &impl Abort, alloc: Global, sent: &[Sent]) -> Result<Vec<Entry>, AllocError> {
+    let mut entries = Vec::new(alloc);
+    for one in sent {
+        entries.extend_from_slice(&[entry_of(rt, *one)])?;
+    }
+    Ok(entries)
 }

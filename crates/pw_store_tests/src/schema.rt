@@ -1,9 +1,10 @@
 //! Tables made in memory, and rows of tables judged.
 
+use crate::sql_stores::{execute, memory};
 use pw_model::Entry;
 use pw_schema::{
-    Judge, JudgeFault, OfficeFault, ReadFault, RecordKind, Records, Rowids, begin, begins_as_ours,
-    commit, create, is_nothing, is_ours, judge_version, keeps_office, read_rows, roll_back,
+    Judge, JudgeFault, ReadFault, RecordKind, Records, Rowids, begin, begins_as_ours, commit,
+    create, is_nothing, is_ours, keeps_office, read_rows, roll_back,
 };
 use pw_tariff::Office;
 use pw_tests::offices::ONE_METER;
@@ -35,19 +36,15 @@ fn judged(
     Ok(records.into_entries())
 }
 
-fn memory(rt: &impl Abort, alloc: Global) -> Connection<MemStore> {
-    Connection::open_in_memory(alloc).expect(rt, "a connection")
-}
-
 fn new_store(rt: &impl Abort, alloc: Global) -> Connection<MemStore> {
-    let mut conn = Connection::open_in_memory(alloc).expect(rt, "a connection");
+    let mut conn = memory(rt, alloc);
     create(&mut conn, b"text".as_slice()).expect(rt, "tables");
     conn
 }
 
 // Whether the tables are ours behind a statement.
 fn are_ours_behind(rt: &impl Abort, conn: &mut Connection<MemStore>, statement: &str) -> bool {
-    conn.execute(statement, &[]).expect(rt, "a statement");
+    execute(rt, conn, statement);
     is_ours(conn.schema())
 }
 
@@ -62,16 +59,6 @@ fn is_text_kept(rt: &impl Abort, conn: &mut Connection<MemStore>) -> bool {
     let kept = office_rows(rt, conn);
     let rows = kept.as_slice();
     keeps_office(rows, b"text".as_slice()) && !keeps_office(rows, b"test".as_slice())
-}
-
-// What is told of the version behind a statement.
-fn version_behind(
-    rt: &impl Abort,
-    conn: &mut Connection<MemStore>,
-    statement: &str,
-) -> Result<(), OfficeFault> {
-    conn.execute(statement, &[]).expect(rt, "a statement");
-    judge_version(office_rows(rt, conn).as_slice())
 }
 
 // bears on: pw_schema make.rt create made
@@ -91,48 +78,6 @@ fn tables_that_are_made_are_ours(rt: HostRuntime) {
     let other = "CREATE TABLE other (id INTEGER) STRICT";
     assert!(rt; !are_ours_behind(&rt, &mut conn, other));
     assert!(rt; begins_as_ours(conn.schema()));
-}
-
-// bears on: pw_schema office.rt judge_version missing
-// bears on: pw_schema office.rt judge_version other
-// bears on: pw_schema office.rt judge_version version
-#[test]
-fn versions_other_than_1(rt: HostRuntime) {
-    let mut conn = new_store(&rt, rt.alloc());
-    for (statement, told) in [
-        ("UPDATE office SET version = 1", Ok(())),
-        ("UPDATE office SET version = 2", Err(OfficeFault::Version)),
-        ("DELETE FROM office", Err(OfficeFault::Missing)),
-    ] {
-        assert!(rt; version_behind(&rt, &mut conn, statement) == told);
-    }
-}
-
-#[test]
-fn a_check_of_another_kind_is_not_ours(rt: HostRuntime) {
-    let mut conn = memory(&rt, rt.alloc());
-    let office =
-        "CREATE TABLE office (id INTEGER PRIMARY KEY CHECK (id = 2), version INTEGER NOT NULL, body BLOB NOT NULL) STRICT";
-    assert!(rt; !are_ours_behind(&rt, &mut conn, office) && !begins_as_ours(conn.schema()));
-}
-
-#[test]
-fn a_table_less_or_a_column_less_is_not_ours(rt: HostRuntime) {
-    let mut conn = new_store(&rt, rt.alloc());
-    for (statement, are_ours) in [
-        ("DROP TABLE total_topup", false),
-        (
-            "CREATE TABLE total_topup (account INTEGER PRIMARY KEY) STRICT",
-            false,
-        ),
-        ("DROP TABLE total_topup", false),
-        (
-            "CREATE TABLE total_topup (account INTEGER PRIMARY KEY, cents INTEGER NOT NULL) STRICT",
-            true,
-        ),
-    ] {
-        assert!(rt; are_ours_behind(&rt, &mut conn, statement) == are_ours);
-    }
 }
 
 // How many rows there are behind an upload of one, which is committed or rolled back.
@@ -166,6 +111,33 @@ fn an_upload_is_rolled_back_or_committed(rt: HostRuntime) -> Result<(), Fail> {
     Ok(())
 }
 
+// Rows that are no records of the office.
+const FOREIGN: [(RecordKind, &str); 17] = [
+    (RecordKind::Readings, "SELECT 0, 9, 1704067200, 1"),
+    (RecordKind::Readings, "SELECT 0, 0, 1704067200, 1"),
+    (RecordKind::Readings, "SELECT 1, 5, 1704067200, 1"),
+    (RecordKind::Readings, "SELECT 0, 5, 5, 1"),
+    (
+        RecordKind::Readings,
+        "SELECT 0, 5, 1704067200, 100000000000",
+    ),
+    (RecordKind::Readings, "SELECT 0, 5, 1704067200, NULL"),
+    (RecordKind::Readings, "SELECT 0, 5, 1704067200, 'x'"),
+    (
+        RecordKind::Readings,
+        "SELECT 0, 5, 1704067200, 1 UNION ALL SELECT 0, 5, 1704067200, 1",
+    ),
+    (RecordKind::Assignments, "SELECT 0, 1704067200, 3"),
+    (RecordKind::Assignments, "SELECT 0, 1704067200, -1"),
+    (RecordKind::Assignments, "SELECT 0, 5, 0"),
+    (RecordKind::TopUps, "SELECT 'P/1', 0, 1, 1704067200"),
+    (RecordKind::TopUps, "SELECT '', 0, 1, 1704067200"),
+    (RecordKind::TopUps, "SELECT 'P1', 2, 1, 1704067200"),
+    (RecordKind::TopUps, "SELECT 'P1', 0, 0, 1704067200"),
+    (RecordKind::TopUps, "SELECT 'P1', 0, 100000001, 1704067200"),
+    (RecordKind::TopUps, "SELECT 'P1', 0, 1, 4102444800"),
+];
+
 // Whether a row that a text shows is no record of the office.
 fn is_foreign(rt: &impl Abort, alloc: Global, kind: RecordKind, text: &str) -> bool {
     judged(rt, alloc, kind, text).err() == Some(JudgeFault::Foreign)
@@ -194,34 +166,8 @@ fn are_in_wrong_order(rt: &impl Abort, alloc: Global, text: &str) -> bool {
 // bears on: pw_schema cells.rt wh_at some
 #[test]
 fn rows_that_are_no_records_of_the_office_are_foreign(rt: HostRuntime) {
-    for text in [
-        "SELECT 0, 9, 1704067200, 1",
-        "SELECT 0, 0, 1704067200, 1",
-        "SELECT 1, 5, 1704067200, 1",
-        "SELECT 0, 5, 5, 1",
-        "SELECT 0, 5, 1704067200, 100000000000",
-        "SELECT 0, 5, 1704067200, NULL",
-        "SELECT 0, 5, 1704067200, 'x'",
-        "SELECT 0, 5, 1704067200, 1 UNION ALL SELECT 0, 5, 1704067200, 1",
-    ] {
-        assert!(rt; is_foreign(&rt, rt.alloc(), RecordKind::Readings, text));
-    }
-    for text in [
-        "SELECT 0, 1704067200, 3",
-        "SELECT 0, 1704067200, -1",
-        "SELECT 0, 5, 0",
-    ] {
-        assert!(rt; is_foreign(&rt, rt.alloc(), RecordKind::Assignments, text));
-    }
-    for text in [
-        "SELECT 'P/1', 0, 1, 1704067200",
-        "SELECT '', 0, 1, 1704067200",
-        "SELECT 'P1', 2, 1, 1704067200",
-        "SELECT 'P1', 0, 0, 1704067200",
-        "SELECT 'P1', 0, 100000001, 1704067200",
-        "SELECT 'P1', 0, 1, 4102444800",
-    ] {
-        assert!(rt; is_foreign(&rt, rt.alloc(), RecordKind::TopUps, text));
+    for (kind, text) in FOREIGN {
+        assert!(rt; is_foreign(&rt, rt.alloc(), kind, text));
     }
     let twisted = "SELECT 0, 5, 1704067200, 2 UNION ALL SELECT 0, 5, 1704067200, 1";
     assert!(rt; are_in_wrong_order(&rt, rt.alloc(), twisted));

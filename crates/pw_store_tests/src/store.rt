@@ -4,20 +4,21 @@ ghost use Rattle.std.specs.Prelude.{◌≡◌, IfOk, None, false};
 
 mod no_memory;
 
+use crate::entries::{at, wh};
+use crate::sql_stores::{execute, memory};
 use pw_model::TotalKey;
 use pw_obis::{Register, WattHours};
 use pw_shelf::{Shelf, ShelfFault};
 use pw_store::laws::{closed_is_opened_again, left_is_opened_again};
 use pw_store::{OpenFault, SqlShelf};
-use pw_tariff::{AccountId, BandId, Direction, MeterId, Office};
+use pw_tariff::{AccountId, BandId, Direction, Office};
 use pw_tests::offices::ONE_METER;
+use pw_tests::sample::METER;
 use pw_time::Instant;
 use sqlite::{Connection, MemStore};
 use std::alloc::Global;
 use std::process::Abort;
 use std::test::Fail;
-
-const METER: MeterId = MeterId(0);
 
 const ENERGY: TotalKey = TotalKey::Energy {
     owner: Some(AccountId(0)),
@@ -28,18 +29,6 @@ const ENERGY: TotalKey = TotalKey::Energy {
 const PAYMENTS: TotalKey = TotalKey::TopUps {
     account: AccountId(1),
 };
-
-fn at(rt: &impl Abort, second: u32) -> Instant {
-    Instant::of(second).expect(rt, "an instant")
-}
-
-fn wh(rt: &impl Abort, amount: u64) -> WattHours {
-    WattHours::of(amount).expect(rt, "watt-hours")
-}
-
-fn memory(rt: &impl Abort, alloc: Global) -> Connection<MemStore> {
-    Connection::open_in_memory(alloc).expect(rt, "a connection")
-}
 
 // A connection, opened as a store, or why it isn't, and the connection.
 fn opened(
@@ -68,37 +57,6 @@ fn empty_shelf(rt: &impl Abort, alloc: Global) -> SqlShelf<MemStore>
     ensures { result.begun ≡ false }
 {
     shelf_of(rt, alloc, memory(rt, alloc))
-}
-
-// Why a connection isn't opened, if it isn't.
-fn refusal(rt: &impl Abort, alloc: Global, connection: Connection<MemStore>) -> Option<OpenFault> {
-    match opened(rt, alloc, connection) {
-        Ok(_) => None,
-        Err((fault, _)) => Some(fault),
-    }
-}
-
-// Why a connection isn't opened, and the connection.
-fn refused_by(
-    rt: &impl Abort,
-    alloc: Global,
-    connection: Connection<MemStore>,
-) -> (OpenFault, Connection<MemStore>) {
-    match opened(rt, alloc, connection) {
-        Ok(_) => panic!(rt; "opened"),
-        Err(refused) => refused,
-    }
-}
-
-fn execute(rt: &impl Abort, connection: &mut Connection<MemStore>, statement: &str) {
-    connection.execute(statement, &[]).expect(rt, "a statement");
-}
-
-// Why a new store, in which a statement was run, isn't opened, if it isn't.
-fn refusal_behind(rt: &impl Abort, alloc: Global, statement: &str) -> Option<OpenFault> {
-    let mut connection = empty_shelf(rt, alloc).close();
-    execute(rt, &mut connection, statement);
-    refusal(rt, alloc, connection)
 }
 
 // Puts a point twice, and answers the last before the next hour.
@@ -240,50 +198,6 @@ fn numbers_and_names(rt: HostRuntime) {
     }
 }
 
-// bears on: pw_schema office.rt judge_version missing
-// bears on: pw_schema office.rt judge_version other
-// bears on: pw_store door.rt SqlShelf::open cause
-// bears on: pw_store door.rt SqlShelf::open content
-// bears on: pw_store door.rt SqlShelf::open of_office
-// bears on: pw_store door.rt SqlShelf::open_watched cause
-// bears on: pw_store door.rt SqlShelf::open_watched content
-// bears on: pw_store door.rt SqlShelf::open_watched of_office
-#[test]
-fn damaged_stores_are_refused(rt: HostRuntime) {
-    let cases = [
-        ("UPDATE office SET version = 9", OpenFault::Version),
-        ("UPDATE office SET body = X'00'", OpenFault::OfficeDiffers),
-        ("DELETE FROM office", OpenFault::Unclean),
-        ("DROP TABLE point", OpenFault::Unclean),
-        ("CREATE TABLE other (id INTEGER) STRICT", OpenFault::Unclean),
-        (
-            "INSERT INTO record_reading VALUES (0, 9, 1704067200, 1)",
-            OpenFault::Unclean,
-        ),
-        (
-            "INSERT INTO record_reading VALUES (0, 1, 5, 1)",
-            OpenFault::Unclean,
-        ),
-        (
-            "INSERT INTO record_topup VALUES ('P/1', 0, 5, 1704067200)",
-            OpenFault::Unclean,
-        ),
-        (
-            "INSERT INTO record_assignment VALUES (0, 1704067200, 3)",
-            OpenFault::Unclean,
-        ),
-        (
-            "INSERT INTO point VALUES (0, 9, 1704067200, 1)",
-            OpenFault::Unclean,
-        ),
-        ("INSERT INTO total VALUES (3, 0, 0, 1)", OpenFault::Unclean),
-        ("INSERT INTO total_topup VALUES (2, 1)", OpenFault::Unclean),
-    ];
-    for (statement, fault) in cases {
-        assert!(rt; refusal_behind(&rt, rt.alloc(), statement) == Some(fault));
-    }
-}
-
 // Two readings an hour apart, in band L, of a meter of A1, and a top-up of A1, with what is kept beside them.
 const RECORDS: [&str; 9] = [
     "INSERT INTO record_assignment VALUES (0, 1704067200, 1)",
@@ -344,6 +258,22 @@ const DAMAGES: [(&str, &str); 13] = [
     ),
 ];
 
+// The connection that is given back where a store is refused as spoilt, put right.
+fn put_right(
+    rt: &impl Abort,
+    alloc: Global,
+    spoilt: Connection<MemStore>,
+    repair: &str,
+) -> Connection<MemStore> {
+    match opened(rt, alloc, spoilt) {
+        Err((OpenFault::Unclean, mut refused)) => {
+            execute(rt, &mut refused, repair);
+            refused
+        }
+        _ => panic!(rt; "not refused as spoilt"),
+    }
+}
+
 // A store that is opened, damaged, refused and repaired.
 fn repaired(
     rt: &impl Abort,
@@ -354,10 +284,7 @@ fn repaired(
 ) -> Connection<MemStore> {
     let mut damaged = shelf_of(rt, alloc, connection).close();
     execute(rt, &mut damaged, damage);
-    let (fault, mut refused) = refused_by(rt, alloc, damaged);
-    assert!(rt; fault == OpenFault::Unclean);
-    execute(rt, &mut refused, repair);
-    refused
+    put_right(rt, alloc, damaged, repair)
 }
 
 // bears on: pw_parts laws.rt true_exactly_where_told ensures
@@ -393,16 +320,6 @@ fn what_is_kept_beside_records_must_be_true(rt: HostRuntime) {
     assert!(rt; shelf.total(&ENERGY) == Ok(100));
 }
 
-#[test]
-fn a_total_of_0_is_as_good_as_none(rt: HostRuntime) {
-    for statement in [
-        "INSERT INTO total VALUES (0, 1, 0, 0)",
-        "INSERT INTO total_topup VALUES (1, 0)",
-    ] {
-        assert!(rt; refusal_behind(&rt, rt.alloc(), statement) == None);
-    }
-}
-
 const NOBODY: TotalKey = TotalKey::TopUps {
     account: AccountId(9),
 };
@@ -425,50 +342,4 @@ fn a_total_of_0_at_any_key_opens_again(rt: HostRuntime) {
     assert!(rt; committed_total_of_0(&mut shelf).is_ok());
     let mut again = shelf_of(&rt, rt.alloc(), shelf.close());
     assert!(rt; again.total(&NOBODY) == Ok(0));
-}
-
-// Why a new store, in which two statements were run, isn't opened, if it isn't.
-fn refusal_behind_both(
-    rt: &impl Abort,
-    alloc: Global,
-    first: &str,
-    second: &str,
-) -> Option<OpenFault> {
-    let mut connection = empty_shelf(rt, alloc).close();
-    execute(rt, &mut connection, first);
-    execute(rt, &mut connection, second);
-    refusal(rt, alloc, connection)
-}
-
-// bears on: pw_schema shape.rt begins_as_ours ensures
-// bears on: pw_store door.rt SqlShelf::open cause
-// bears on: pw_store door.rt SqlShelf::open_watched cause
-#[test]
-fn a_version_is_told_between_missing_tables_and_others(rt: HostRuntime) {
-    let later = "CREATE TABLE withdrawn_reading (wh INTEGER NOT NULL) STRICT";
-    let version = "UPDATE office SET version = 2";
-    for (first, second, fault) in [
-        (later, version, OpenFault::Version),
-        (version, "DROP TABLE total_topup", OpenFault::Unclean),
-        (later, "DELETE FROM office", OpenFault::Unclean),
-        (later, "UPDATE office SET body = X'00'", OpenFault::Unclean),
-        (
-            version,
-            "UPDATE office SET body = X'00'",
-            OpenFault::Version,
-        ),
-    ] {
-        assert!(rt; refusal_behind_both(&rt, rt.alloc(), first, second) == Some(fault));
-    }
-}
-
-#[test]
-fn a_table_of_another_is_refused(rt: HostRuntime) {
-    let mut connection = memory(&rt, rt.alloc());
-    execute(
-        &rt,
-        &mut connection,
-        "CREATE TABLE office (id INTEGER) STRICT",
-    );
-    assert!(rt; refusal(&rt, rt.alloc(), connection) == Some(OpenFault::Unclean));
 }

@@ -8,7 +8,7 @@ use pw_tariff::{AccountId, BandId, Direction, MeterId, Owner};
 use std::alloc::Global;
 use std::process::Abort;
 
-pub(super) fn energy<S: Shelf>(
+pub fn energy<S: Shelf>(
     rt: &impl Abort,
     book: &mut Book<S>,
     owner: Owner,
@@ -22,7 +22,7 @@ pub(super) fn energy<S: Shelf>(
     book.energy(owner, band, direction)
 }
 
-pub(super) fn topped_up<S: Shelf>(
+pub fn topped_up<S: Shelf>(
     rt: &impl Abort,
     book: &mut Book<S>,
     account: AccountId,
@@ -31,7 +31,7 @@ pub(super) fn topped_up<S: Shelf>(
     book.topped_up(account)
 }
 
-pub(super) fn balance<S: Shelf>(
+pub fn balance<S: Shelf>(
     rt: &impl Abort,
     book: &mut Book<S>,
     account: AccountId,
@@ -40,7 +40,7 @@ pub(super) fn balance<S: Shelf>(
     book.balance(account)
 }
 
-pub(super) fn readings<S: Shelf>(
+pub fn readings<S: Shelf>(
     rt: &impl Abort,
     alloc: Global,
     book: &mut Book<S>,
@@ -51,17 +51,14 @@ pub(super) fn readings<S: Shelf>(
     book.readings(alloc, meter, register)
 }
 
-pub(super) fn falls<S: Shelf>(alloc: Global, book: &mut Book<S>) -> Result<Vec<Fall>, BookFault> {
+pub fn falls<S: Shelf>(alloc: Global, book: &mut Book<S>) -> Result<Vec<Fall>, BookFault> {
     book.falls(alloc)
 }
 
-pub(super) fn disputes<S: Shelf>(
-    alloc: Global,
-    book: &mut Book<S>,
-) -> Result<Vec<Dispute>, BookFault> {
+pub fn disputes<S: Shelf>(alloc: Global, book: &mut Book<S>) -> Result<Vec<Dispute>, BookFault> {
     book.disputes(alloc)
 }
 
-pub(super) fn count<S: Shelf>(book: &mut Book<S>) -> Result<u32, BookFault> {
+pub fn count<S: Shelf>(book: &mut Book<S>) -> Result<u32, BookFault> {
     book.count()
 }

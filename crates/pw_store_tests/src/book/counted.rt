@@ -56,61 +56,36 @@ fn seen_in<S: Shelf + Drop>(
     book.into_shelf().seen()
 }
 
-// The calls and rows that these uploads take, one behind another, each of records that aren't held.
-pub(super) fn seen_by<B: Books>(
-    rt: &impl Abort,
-    alloc: Global,
-    books: &B,
-    uploads: &[&[Entry]],
-) -> u64 {
-    let book = books.failing(rt, alloc, 0, false).expect(rt, "a book");
+// The calls and rows that these uploads to a store in memory take, one behind another, each of records that aren't held.
+pub(super) fn seen_by(rt: &impl Abort, alloc: Global, uploads: &[&[Entry]]) -> u64 {
+    let book = InMemory.failing(rt, alloc, 0, false).expect(rt, "a book");
     seen_in(rt, alloc, book, uploads)
 }
 
 // The calls and rows that one more record takes over those held.
-fn cost_of<B: Books>(
-    rt: &impl Abort,
-    alloc: Global,
-    books: &B,
-    held: &[Entry],
-    fresh: Entry,
-) -> u64 {
-    let before = seen_by(rt, alloc, books, &[held]);
-    let behind = seen_by(rt, alloc, books, &[held, &[fresh]]);
+fn cost_of(rt: &impl Abort, alloc: Global, held: &[Entry], fresh: Entry) -> u64 {
+    let before = seen_by(rt, alloc, &[held]);
+    let behind = seen_by(rt, alloc, &[held, &[fresh]]);
     behind.saturating_sub(before)
 }
 
 // The cost of a reading in the middle of so many.
-fn reading_cost<B: Books>(rt: &impl Abort, alloc: Global, books: &B, number: u32) -> u64 {
+fn reading_cost(rt: &impl Abort, alloc: Global, number: u32) -> u64 {
     let half = number / 2;
     let from = MIDDLE.saturating_sub(half.saturating_mul(300));
     let watt_hours = u64::from(half).saturating_mul(100).saturating_add(1_050);
     let fresh = reading(rt, MIDDLE + 150, watt_hours);
     let held = rising(rt, alloc, from, number).expect(rt, "memory");
-    cost_of(rt, alloc, books, &held, fresh)
+    cost_of(rt, alloc, &held, fresh)
 }
 
 // The cost of an assignment with so many readings behind the next one.
-fn assignment_cost<B: Books>(rt: &impl Abort, alloc: Global, books: &B, number: u32) -> u64 {
+fn assignment_cost(rt: &impl Abort, alloc: Global, number: u32) -> u64 {
     let next = assigned(rt, MIDDLE + 1_700, Some(FIRST));
     let fresh = assigned(rt, MIDDLE + 400, Some(SECOND));
     let mut held = rising(rt, alloc, MIDDLE, number.saturating_add(6)).expect(rt, "memory");
     held.extend_from_slice(&[next]).expect(rt, "memory");
-    cost_of(rt, alloc, books, &held, fresh)
-}
-
-fn same_count<B: Books>(rt: &impl Abort, alloc: Global, books: &B) {
-    let few = reading_cost(rt, alloc, books, 10);
-    assert!(rt; 0 < few && reading_cost(rt, alloc, books, 1_000) == few);
-    let few = assignment_cost(rt, alloc, books, 10);
-    assert!(rt; 0 < few && assignment_cost(rt, alloc, books, 1_000) == few);
-}
-
-// The cost of a reading behind the last of three.
-fn cost_behind_three<B: Books>(rt: &impl Abort, alloc: Global, books: &B) -> u64 {
-    let fresh = reading(rt, MIDDLE + 900, 1_300);
-    let held = rising(rt, alloc, MIDDLE, 3).expect(rt, "memory");
-    cost_of(rt, alloc, books, &held, fresh)
+    cost_of(rt, alloc, &held, fresh)
 }
 
 // The cost of a reading behind the last of one band, counted by hand: `count`, `holds`, `begin`, `contents_at`, `add`,
@@ -119,13 +94,18 @@ fn cost_behind_three<B: Books>(rt: &impl Abort, alloc: Global, books: &B) -> u64
 // bears on: pw_book book.rt Book::post cost
 #[test]
 fn calls_and_rows_of_a_reading(rt: HostRuntime) {
-    assert!(rt; cost_behind_three(&rt, rt.alloc(), &InMemory) == 17);
+    let fresh = reading(&rt, MIDDLE + 900, 1_300);
+    let held = rising(&rt, rt.alloc(), MIDDLE, 3).expect(&rt, "memory");
+    assert!(rt; cost_of(&rt, rt.alloc(), &held, fresh) == 17);
 }
 
 // bears on: pw_book book.rt Book::post cost
 #[test]
 fn same_count_among_few_and_many(rt: HostRuntime) {
-    same_count(&rt, rt.alloc(), &InMemory);
+    let few = reading_cost(&rt, rt.alloc(), 10);
+    assert!(rt; 0 < few && reading_cost(&rt, rt.alloc(), 1_000) == few);
+    let few = assignment_cost(&rt, rt.alloc(), 10);
+    assert!(rt; 0 < few && assignment_cost(&rt, rt.alloc(), 1_000) == few);
 }
 
 fn payment(rt: &impl Abort, alloc: Global, place: u32) -> Entry {
@@ -143,28 +123,24 @@ fn payments(rt: &impl Abort, alloc: Global, number: u32) -> Result<Vec<Entry>, A
 }
 
 // A top-up among those held takes at most 24 calls and rows.
-fn topup_cost<B: Books>(rt: &impl Abort, alloc: Global, books: &B, held: &[Entry]) {
-    let cost = cost_of(rt, alloc, books, held, paid(rt, b"P", FIRST, 1));
+fn topup_cost(rt: &impl Abort, alloc: Global, held: &[Entry]) {
+    let cost = cost_of(rt, alloc, held, paid(rt, b"P", FIRST, 1));
     assert!(rt; 0 < cost && cost <= 24);
 }
 
 // So does an empty upload.
-fn empty_cost<B: Books>(rt: &impl Abort, alloc: Global, books: &B, held: &[Entry]) {
-    let before = seen_by(rt, alloc, books, &[held]);
-    let behind = seen_by(rt, alloc, books, &[held, &[]]);
+fn empty_cost(rt: &impl Abort, alloc: Global, held: &[Entry]) {
+    let before = seen_by(rt, alloc, &[held]);
+    let behind = seen_by(rt, alloc, &[held, &[]]);
     assert!(rt; before < behind && behind <= before.saturating_add(24));
-}
-
-fn payment_costs<B: Books>(rt: &impl Abort, alloc: Global, books: &B) {
-    let held = payments(rt, alloc, 1_000).expect(rt, "memory");
-    topup_cost(rt, alloc, books, &held);
-    empty_cost(rt, alloc, books, &held);
 }
 
 // bears on: pw_book book.rt Book::post cost
 #[test]
 fn payments_among_1000(rt: HostRuntime) {
-    payment_costs(&rt, rt.alloc(), &InMemory);
+    let held = payments(&rt, rt.alloc(), 1_000).expect(&rt, "memory");
+    topup_cost(&rt, rt.alloc(), &held);
+    empty_cost(&rt, rt.alloc(), &held);
 }
 
 // So many owners, two at each instant, of whom none counts.
@@ -179,17 +155,13 @@ fn disputed(rt: &impl Abort, alloc: Global, number: u32) -> Result<Vec<Entry>, A
 }
 
 // With no counting start and no point, two bands and two accounts, an assignment takes at most 56 + 4 + 12 * 6.
-fn among_disputed<B: Books>(rt: &impl Abort, alloc: Global, books: &B) {
-    let fresh = assigned(rt, MIDDLE, None);
-    let held = disputed(rt, alloc, 1_000).expect(rt, "memory");
-    let cost = cost_of(rt, alloc, books, &held, fresh);
-    assert!(rt; 0 < cost && cost <= 132);
-}
-
 // bears on: pw_book book.rt Book::post cost
 #[test]
 fn assignment_among_1000_disputed(rt: HostRuntime) {
-    among_disputed(&rt, rt.alloc(), &InMemory);
+    let fresh = assigned(&rt, MIDDLE, None);
+    let held = disputed(&rt, rt.alloc(), 1_000).expect(&rt, "memory");
+    let cost = cost_of(&rt, rt.alloc(), &held, fresh);
+    assert!(rt; 0 < cost && cost <= 132);
 }
 
 // The upload that fails: an owner, two readings and a payment.

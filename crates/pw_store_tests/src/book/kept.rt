@@ -1,85 +1,19 @@
 //! The points, starts and totals that the store of a book keeps beside its records, against those of its uploads.
 
 use super::OTHER;
-use super::agreeing::is_list;
+use super::agreeing::{have_meaning, is_list};
 use crate::entries::at;
 use pw_book::Book;
 use pw_model::{Content, Entry, Key, TotalKey};
 use pw_obis::Register;
 use pw_parts::{Parts, true_parts};
 use pw_shelf::{Shelf, ShelfFault};
-use pw_tariff::{BandId, Direction, MeterId};
-use pw_tests::sample::{FIRST, METER, SECOND, are_of_office};
+use pw_tariff::MeterId;
+use pw_tests::sample::{FIRST, KINDS, METER, SECOND};
 use pw_time::{FIRST_SECOND, LAST_SECOND};
 use std::alloc::{AllocError, Global};
 use std::process::Abort;
 use std::test::Fail;
-
-// The keys of all totals, energies first.
-const TOTALS: [TotalKey; 14] = [
-    TotalKey::Energy {
-        owner: None,
-        band: BandId(0),
-        direction: Direction::Import,
-    },
-    TotalKey::Energy {
-        owner: None,
-        band: BandId(0),
-        direction: Direction::Export,
-    },
-    TotalKey::Energy {
-        owner: None,
-        band: BandId(1),
-        direction: Direction::Import,
-    },
-    TotalKey::Energy {
-        owner: None,
-        band: BandId(1),
-        direction: Direction::Export,
-    },
-    TotalKey::Energy {
-        owner: Some(FIRST),
-        band: BandId(0),
-        direction: Direction::Import,
-    },
-    TotalKey::Energy {
-        owner: Some(FIRST),
-        band: BandId(0),
-        direction: Direction::Export,
-    },
-    TotalKey::Energy {
-        owner: Some(FIRST),
-        band: BandId(1),
-        direction: Direction::Import,
-    },
-    TotalKey::Energy {
-        owner: Some(FIRST),
-        band: BandId(1),
-        direction: Direction::Export,
-    },
-    TotalKey::Energy {
-        owner: Some(SECOND),
-        band: BandId(0),
-        direction: Direction::Import,
-    },
-    TotalKey::Energy {
-        owner: Some(SECOND),
-        band: BandId(0),
-        direction: Direction::Export,
-    },
-    TotalKey::Energy {
-        owner: Some(SECOND),
-        band: BandId(1),
-        direction: Direction::Import,
-    },
-    TotalKey::Energy {
-        owner: Some(SECOND),
-        band: BandId(1),
-        direction: Direction::Export,
-    },
-    TotalKey::TopUps { account: FIRST },
-    TotalKey::TopUps { account: SECOND },
-];
 
 // Adds the points that a store keeps of a register, as readings.
 fn add_points<S: Shelf>(
@@ -141,14 +75,32 @@ fn starts_kept<S: Shelf>(alloc: Global, shelf: &mut S) -> Result<Vec<Entry>, She
     Ok(starts)
 }
 
+// Adds a total that a store keeps, if it is above 0.
+fn add_total<S: Shelf>(
+    shelf: &mut S,
+    totals: &mut Vec<(TotalKey, u64)>,
+    key: TotalKey,
+) -> Result<(), ShelfFault> {
+    let amount = shelf.total(&key)?;
+    if amount > 0 {
+        totals.push((key, amount))?;
+    }
+    Ok(())
+}
+
 // The totals above 0 that a store keeps, energies first.
 fn totals_kept<S: Shelf>(alloc: Global, shelf: &mut S) -> Result<Vec<(TotalKey, u64)>, ShelfFault> {
     let mut totals = Vec::new(alloc);
-    for key in TOTALS {
-        let amount = shelf.total(&key)?;
-        if amount > 0 {
-            totals.push((key, amount))?;
-        }
+    for (owner, band, direction) in KINDS {
+        let key = TotalKey::Energy {
+            owner: *owner,
+            band: *band,
+            direction: *direction,
+        };
+        add_total(shelf, &mut totals, key)?;
+    }
+    for account in [FIRST, SECOND] {
+        add_total(shelf, &mut totals, TotalKey::TopUps { account })?;
     }
     Ok(totals)
 }
@@ -160,8 +112,7 @@ fn parts_of<S: Shelf>(
     book: &Book<S>,
     entries: &[Entry],
 ) -> Result<Parts, AllocError> {
-    let of_office = are_of_office(book.office(), book.zone(), entries);
-    assert!(rt; of_office && entries.len() <= 100);
+    assert!(rt; have_meaning(book.office(), book.zone(), entries));
     true_parts(alloc, book.office(), book.zone(), entries)
 }
 

@@ -6,7 +6,7 @@ ghost use Rattle.pw_model.specs.Shelf.{no_content};
 
 use super::agreeing::all_agree;
 use super::counted::seen_by;
-use super::{InMemory, book_of, counting_shelf, post};
+use super::{book_of, counting_shelf, post};
 use crate::entries::paid;
 use pw_book::{Book, BookFault, Entry, PostFault};
 use pw_shelf::{MemoryShelf, Shelf};
@@ -93,7 +93,7 @@ fn over_its_limit(rt: HostRuntime) -> Result<(), Fail> {
 // bears on: pw_book book.rt Book::new shelf
 #[test]
 fn store_left_alone(rt: HostRuntime) {
-    assert!(rt; seen_by(&rt, rt.alloc(), &InMemory, &[]) == 0);
+    assert!(rt; seen_by(&rt, rt.alloc(), &[]) == 0);
 }
 
 fn post_faults_told(rt: &impl Abort) {

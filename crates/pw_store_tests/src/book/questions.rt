@@ -81,7 +81,7 @@ pub(super) fn none_is_answered<S: Shelf>(rt: &impl Abort, alloc: Global, book: &
 fn fails_once<S: Shelf>(rt: &impl Abort, alloc: Global, book: &mut Book<S>, question: Question) {
     let fault = fault_of(rt, alloc, book, question);
     assert!(rt; fault == Some(BookFault::Device));
-    assert!(rt; fault_of(rt, alloc, book, question) == None);
+    assert!(rt; fault_of(rt, alloc, book, question).is_none());
 }
 
 // Each question to such a device.
@@ -99,6 +99,18 @@ pub(super) fn failing_device<B: Books>(
     Ok(())
 }
 
+// An upload is taken, and a question behind it is answered.
+fn is_answered_behind<S: Shelf>(
+    rt: &impl Abort,
+    alloc: Global,
+    book: &mut Book<S>,
+    held: &[Entry],
+    question: Question,
+) {
+    takes(rt, alloc, book, held, (4, 0));
+    assert!(rt; fault_of(rt, alloc, book, question).is_none());
+}
+
 // The calls and rows that an upload and a question behind it take.
 fn seen_behind<S: Shelf + Drop>(
     rt: &impl Abort,
@@ -107,16 +119,15 @@ fn seen_behind<S: Shelf + Drop>(
     held: &[Entry],
     question: Question,
 ) -> u64 {
-    takes(rt, alloc, &mut book, held, (4, 0));
-    assert!(rt; fault_of(rt, alloc, &mut book, question) == None);
+    is_answered_behind(rt, alloc, &mut book, held, question);
     book.into_shelf().seen()
 }
 
-// The calls and rows that a question takes.
-fn cost_of<B: Books>(rt: &impl Abort, alloc: Global, books: &B, question: Question) -> u64 {
+// The calls and rows that a question to a store in memory takes.
+fn cost_of(rt: &impl Abort, alloc: Global, question: Question) -> u64 {
     let held = upload(rt);
-    let before = seen_by(rt, alloc, books, &[held.as_slice()]);
-    let book = books.failing(rt, alloc, 0, false).expect(rt, "a book");
+    let before = seen_by(rt, alloc, &[held.as_slice()]);
+    let book = InMemory.failing(rt, alloc, 0, false).expect(rt, "a book");
     let behind = seen_behind(rt, alloc, book, &held, question);
     behind.saturating_sub(before)
 }
@@ -132,7 +143,7 @@ fn costs(rt: HostRuntime) {
         (Question::ToppedUp, 2),
         (Question::Balance, 10),
     ] {
-        let cost = cost_of(&rt, rt.alloc(), &InMemory, question);
+        let cost = cost_of(&rt, rt.alloc(), question);
         assert!(rt; 0 < cost && cost <= most);
     }
 }

@@ -1,7 +1,7 @@
 //! Books over a store over SQL.
 
 use super::Books;
-use crate::sql_stores::{book_over, store_on};
+use crate::sql_stores::{book_on, failing_over, store_on};
 use pw_book::Book;
 use pw_shelf::CountShelf;
 use pw_store::SqlShelf;
@@ -24,10 +24,11 @@ impl Books for OverSql {
         limit: u32,
     ) -> Result<Book<SqlShelf<MemStore>>, OfficeFault> {
         assert!(rt; 1 <= limit && limit <= 2_000);
-        let office = Office::read(alloc, TWO_METERS.as_bytes())?;
-        let connection = Connection::open_in_memory(alloc).map_err(|_| OfficeFault::Memory)?;
-        match store_on(alloc, connection, &office, TWO_METERS.as_bytes()) {
-            Ok(shelf) => Ok(book_over(office, shelf, limit)),
+        let Ok(connection) = Connection::open_in_memory(alloc) else {
+            return Err(OfficeFault::Memory);
+        };
+        match book_on(alloc, connection, limit) {
+            Ok(book) => Ok(book),
             Err(_) => Err(OfficeFault::Memory),
         }
     }
@@ -40,12 +41,11 @@ impl Books for OverSql {
         abandon_fails: bool,
     ) -> Result<Book<CountShelf<SqlShelf<MemStore>>>, OfficeFault> {
         let office = Office::read(alloc, TWO_METERS.as_bytes())?;
-        let connection = Connection::open_in_memory(alloc).map_err(|_| OfficeFault::Memory)?;
+        let Ok(connection) = Connection::open_in_memory(alloc) else {
+            return Err(OfficeFault::Memory);
+        };
         match store_on(alloc, connection, &office, TWO_METERS.as_bytes()) {
-            Ok(shelf) => {
-                let failing = CountShelf::failing(shelf, fail_at, abandon_fails);
-                Ok(book_over(office, failing, 2_000))
-            }
+            Ok(shelf) => Ok(failing_over(office, shelf, fail_at, abandon_fails)),
             Err(_) => Err(OfficeFault::Memory),
         }
     }

@@ -4,26 +4,14 @@
 use super::agreeing::all_agree;
 use super::kept::parts_agree;
 use super::{Books, OTHER, post, takes};
-use crate::entries::{given, paid, shown};
+use crate::entries::{Sent, entry_of, paid};
 use pw_book::{Book, Entry, PostFault};
 use pw_obis::Register;
 use pw_shelf::Shelf;
-use pw_tariff::{AccountId, MeterId, Owner};
 use pw_tests::sample::{FIRST, FIVE, METER, NEW_YEAR, SECOND, SEVEN, SIX};
 use std::alloc::{AllocError, Global};
 use std::process::Abort;
 use std::test::Fail;
-
-// What is told of both meters and both accounts.
-#[derive(Clone, Copy)]
-enum Sent {
-    // the owner of a meter from a second on
-    Given(MeterId, u32, Owner),
-    // what a register of a meter shows at a second
-    Shown(MeterId, Register, u32, u64),
-    // cents of an account under a reference
-    Paid(&'static [u8], AccountId, u32),
-}
 
 // What is told, and how many of it are fresh and repeated.
 #[derive(Clone, Copy)]
@@ -66,16 +54,6 @@ const STEPS: [Step; 22] = [
     Step(Sent::Paid(b"P1", FIRST, 3_000), FRESH),
     Step(Sent::Paid(b"P1", FIRST, 5_000), REPEATED),
 ];
-
-fn entry_of(rt: &impl Abort, sent: Sent) -> Entry {
-    match sent {
-        Sent::Given(meter, second, owner) => given(rt, meter, second, owner),
-        Sent::Shown(meter, register, second, watt_hours) => {
-            shown(rt, meter, register, second, watt_hours)
-        }
-        Sent::Paid(reference, account, cents) => paid(rt, reference, account, cents),
-    }
-}
 
 fn entries_of(rt: &impl Abort, alloc: Global, steps: &[Step]) -> Result<Vec<Entry>, AllocError> {
     let mut entries = Vec::new(alloc);

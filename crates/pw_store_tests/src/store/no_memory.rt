@@ -7,12 +7,14 @@
 
 ghost use Rattle.std.specs.Prelude.{◌≡◌, IsSome, None, OnOk};
 
-use super::{METER, begun_total, empty_shelf, memory, shelf_of};
+use super::{begun_total, empty_shelf, shelf_of};
+use crate::sql_stores::memory;
 use pw_obis::{Register, WattHours};
 use pw_shelf::{Shelf, ShelfFault};
 use pw_store::{OpenFault, SqlShelf};
 use pw_tariff::Office;
 use pw_tests::offices::ONE_METER;
+use pw_tests::sample::METER;
 use pw_time::{FIRST_SECOND, Instant, LAST_SECOND};
 use sqlite::{Connection, MemStore};
 use std::alloc::Global;
