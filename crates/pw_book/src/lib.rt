@@ -22,7 +22,7 @@ mod window;
 
 pub use book::{Accepted, Book};
 pub use fault::{BookFault, PostFault};
-pub use pw_model::{Content, Dispute, Entry, Fall, Key, ReadingRow, Reference};
+pub use pw_model::{Content, Dispute, Entry, Fall, Key, Named, ReadingRow, Reference};
 pub use pw_obis::{Register, WattHours};
 pub use pw_parts::{Parts, true_parts};
 pub use pw_tariff::{AccountId, BandId, Direction, MeterId, Office, Owner};

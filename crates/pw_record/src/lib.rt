@@ -16,6 +16,6 @@ mod uploads;
 pub use fault::{Cause, UploadFault};
 pub use frames::{MOST_FRAMES, readout_records, telegram_records};
 pub use laws::{UploadBytes, UploadKind};
-pub use pw_model::{Content, Entry, Key, Reference};
+pub use pw_model::{Content, Entry, Key, Named, Reference};
 pub use rows::{MOST_ROWS, assignment_records, topup_records};
 pub use uploads::upload_records;
