@@ -37,7 +37,7 @@ fn judged(
 }
 
 fn new_store(rt: &impl Abort, alloc: Global) -> Connection<MemStore> {
-    let mut conn = memory(rt, alloc);
+    let mut conn = Connection::open_in_memory(alloc).expect(rt, "a connection");
     create(&mut conn, b"text".as_slice()).expect(rt, "tables");
     conn
 }
