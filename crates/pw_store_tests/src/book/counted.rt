@@ -3,7 +3,7 @@
 use super::agreeing::all_agree;
 use super::questions::none_is_answered;
 use super::{Books, InMemory, asking, imported, lengths, money, post, takes};
-use crate::entries::{assigned, paid, reading};
+use crate::entries::{assigned, paid, reading, withdrawn};
 use pw_book::{Book, PostFault};
 use pw_model::Entry;
 use pw_shelf::{CountShelf, Shelf};
@@ -162,6 +162,17 @@ fn assignment_among_1000_disputed(rt: HostRuntime) {
     let held = disputed(&rt, rt.alloc(), 1_000).expect(&rt, "memory");
     let cost = cost_of(&rt, rt.alloc(), &held, fresh);
     assert!(rt; 0 < cost && cost <= 132);
+}
+
+// A withdrawal of a reading takes no more than a reading may, with one counting start: 24 + 4 * 2 + 6 * 6.
+// bears on: pw_book book.rt Book::post cost
+// bears on: pw_model laws.rt one_more_bearing ensures
+#[test]
+fn withdrawal_of_a_reading(rt: HostRuntime) {
+    let held = rising(&rt, rt.alloc(), MIDDLE, 10).expect(&rt, "memory");
+    let fresh = withdrawn(&rt, &reading(&rt, MIDDLE, 1_000));
+    let cost = cost_of(&rt, rt.alloc(), &held, fresh);
+    assert!(rt; 0 < cost && cost <= 68);
 }
 
 // The upload that fails: an owner, two readings and a payment.

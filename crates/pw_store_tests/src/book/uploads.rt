@@ -113,7 +113,6 @@ fn agrees_behind<S: Shelf + Drop>(
 // bears on: pw_model laws.rt count_is_length ensures
 // bears on: pw_model laws.rt empty_content_is_true ensures
 // bears on: pw_model laws.rt one_more_assignment ensures
-// bears on: pw_model laws.rt one_more_bearing ensures
 // bears on: pw_model laws.rt one_more_payment ensures
 // bears on: pw_model laws.rt one_more_reading ensures
 // bears on: pw_model laws.rt one_more_record ensures
