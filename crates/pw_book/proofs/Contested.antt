@@ -10,7 +10,7 @@ use Rattle.pw_model.specs.declared.records.Content.{Content}
 use Rattle.pw_model.specs.declared.records.Content.TheVariants as content
 use Rattle.pw_model.specs.declared.records.Entry.{Entry}
 use Rattle.pw_model.specs.declared.records.Dispute.{Dispute}
-use Rattle.pw_model.specs.Counting.{standing}
+use Rattle.pw_model.specs.Counting.{standing, standing_among}
 use Rattle.pw_model.specs.Lists.{Lists, IsDispute, dispute_order, AreDisputes, records_at}
 use Rattle.pw_model.specs.Office.{AllOfOffice, IsOf, IsOfOffice, most_records}
 use Rattle.pw_model.specs.Same.{key_order, key_numbers, named_numbers}
@@ -20,7 +20,7 @@ use Rattle.pw_model.proofs.Same.{register-one}
 use Rattle.pw_model.specs.Kinds.{ListsHeld, IsReadingOf, IsAssignmentOf, IsTopUp}
 use Rattle.pw_book.specs.inner.Places.{DisputesBefore, key_place, IsWithin, AreWithin}
 use Rattle.pw_book.specs.inner.Groups.{IsDisputeAmong, records_with}
-use Rattle.pw_book.proofs.Disputed.{held-stand, standing-count, standing-disputes, standing-few, count-one, count-some}
+use Rattle.pw_book.proofs.Disputed.{held-few, held-stand, standing-count, standing-disputes, count-one, count-some}
 use Rattle.pw_book.proofs.Segments.{segment-more, segment-all, segment-none, first-less, then-less, place-few, places-split, places-same}
 
 -- ---- the records of an office
@@ -129,13 +129,13 @@ key-last office s (key.TopUp x) h w l = omega arith
 key-last office s (key.Withdrawal n) h w l = absurd (let f = never-disputed office s n h in omega (arith, f, l))
 
 -- ---- the disputes of a kind behind those of the kinds before it
-pub disputes-more : (Of : Key → Type 0) (meters n : ℕ) (s records : List Entry) (old more : List Dispute) → AreWithin meters s → ListsHeld Of s records → ((k : Key) → IsWithin meters k → Of k ↔ (key_place meters k ≡ n)) →
-    (((k : Key) → records_with k records < 2 ^ 32) → Lists dispute_order (IsDisputeAmong records) more) → DisputesBefore meters s n old → DisputesBefore meters s (n + 1) (old ++ more)
-disputes-more Of meters n s records old more w h q d a =
+pub disputes-more : (Of : Key → Type 0) (meters n : ℕ) (s held : List Entry) (old more : List Dispute) → AreWithin meters s → ListsHeld Of s held → ((k : Key) → IsWithin meters k → Of k ↔ (key_place meters k ≡ n)) →
+    (((k : Key) → records_with k held < 2 ^ 32) → Lists dispute_order (IsDisputeAmong (standing_among s held)) more) → DisputesBefore meters s n old → DisputesBefore meters s (n + 1) (old ++ more)
+disputes-more Of meters n s held old more w h q d a =
     let few = w.few in
-    let stand = held-stand Of s records h in
+    let stand = held-stand Of s held h in
     segment-more dispute_order (IsDispute s) (λ x. Of x.key) (λ x. key_place meters x.key) n old more a
-    (standing-disputes Of s records more stand (d (standing-few Of s records stand (omega (arith, few)))))
+    (standing-disputes Of s (standing_among s held) more stand (d (held-few Of s held h (omega (arith, few)))))
     (λ x i. q x.key (dispute-within meters s x w i))
     (λ x y i j l. key-before meters x.key y.key (dispute-within meters s x w i) (dispute-within meters s y w j) l)
 

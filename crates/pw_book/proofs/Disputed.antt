@@ -5,12 +5,13 @@ use Rattle.std.proofs.lemmas.List.{take-append-drop, take_rest, append-nil, leng
 use Rattle.pw_model.specs.declared.records.Key.{Key}
 use Rattle.pw_model.specs.declared.records.Dispute.{Dispute}
 use Rattle.pw_model.specs.declared.records.Entry.{Entry}
-use Rattle.pw_model.specs.Counting.{Member, SameMembers, standing}
+use Rattle.pw_model.specs.Counting.{Member, SameMembers, standing, standing_among}
 use Rattle.pw_model.specs.Lists.{IsInOrder, Lists, IsDispute, records_at, dispute_order}
 use Rattle.pw_model.specs.Payments.{stands_in}
 use Rattle.pw_model.specs.Same.{same_key, same_entry, key_order, entry_order}
 use Rattle.pw_model.proofs.Same.{same_key-decides, same_entry-decides}
-use Rattle.pw_model.proofs.Counting.{standing-member, standing-part}
+use Rattle.pw_model.proofs.Counting.{standing-back, standing-member, standing-part, standing-to, standing-told}
+use Rattle.pw_model.proofs.Standing.{rising-some}
 use Rattle.pw_model.proofs.Once.{once-same, stands-decides}
 use Rattle.pw_model.specs.Kinds.{ListsHeld}
 use Rattle.pw_parts.specs.Groups.{HasSameKey}
@@ -23,7 +24,7 @@ use Rattle.pw_parts.proofs.Groups.{AreApart, apart-more, joined-up, rising-right
 one-here : (k : Key) (e : Entry) → e.key ≡ k → one_at k e ≡ 1
 one-here k e h = rw ((same_key-decides e.key k).1 h) refl
 
-one-elsewhere : (k : Key) (e : Entry) → (e.key ≡ k → ⊥) → one_at k e ≡ 0
+pub one-elsewhere : (k : Key) (e : Entry) → (e.key ≡ k → ⊥) → one_at k e ≡ 0
 one-elsewhere k e h = elim (cases_Bool (same_key e.key k)) [
   | inl t ↦ absurd (h ((same_key-decides e.key k).0 t))
   | inr u ↦ rw u refl
@@ -35,7 +36,7 @@ unfolding records_at records_with
 standing-count s k = refl
 
 -- what stands in front and is told again, or has another key, adds nothing
-count-front : (k : Key) (xs ys : List Entry) → ((x : Entry) → Member x xs → (Member x ys → ⊥) → one_at k x ≡ 0) → records_with k (xs ++ ys) ≡ records_with k ys
+pub count-front : (k : Key) (xs ys : List Entry) → ((x : Entry) → Member x xs → (Member x ys → ⊥) → one_at k x ≡ 0) → records_with k (xs ++ ys) ≡ records_with k ys
 unfolding records_with
 count-front k [] ys h = refl
 count-front k (x ∷ xs) ys h =
@@ -126,7 +127,7 @@ count-least k [] ys = omega arith
 count-least k (x ∷ xs) ys = let behind = count-least k xs ys in omega (arith, behind)
 
 -- those of a part are at most those of the whole
-count-part : (k : Key) (es s : List Entry) → ((x : Entry) → Member x es → Member x s) → records_with k es ≤ records_with k s
+pub count-part : (k : Key) (es s : List Entry) → ((x : Entry) → Member x es → Member x s) → records_with k es ≤ records_with k s
 unfolding records_with
 count-part k es s h =
     let both : SameMembers s (s ++ es) = λ x. (
@@ -155,7 +156,7 @@ count-some k (e ∷ es) h = elim (cases_Bool (same_key e.key k)) [
 
 -- ---- the records of one key
 -- how many have the key of a group
-group-number : (all done others : List Entry) (first : Entry) (n : ℕ) → IsInOrder entry_order all → all ≡ done ++ first ∷ others → AreApart done (first ∷ others) → HasSameKey first others n → records_with first.key all ≡ suc n
+pub group-number : (all done others : List Entry) (first : Entry) (n : ℕ) → IsInOrder entry_order all → all ≡ done ++ first ∷ others → AreApart done (first ∷ others) → HasSameKey first others n → records_with first.key all ≡ suc n
 group-number all done others first n r e a h =
     let split : first ∷ others ≡ (first ∷ take n others) ++ drop n others = ap (λ xs. first ∷ xs) (sym (take-append-drop n others)) in
     let whole : all ≡ done ++ ((first ∷ take n others) ++ drop n others) = e ∙ ap (λ xs. done ++ xs) split in
@@ -278,13 +279,13 @@ step-many all rest others first (suc n) ds new d r q s h z few g e = rw (take_re
 abbrev pub ListsStanding : (Key → Type 0) → List Entry → List Entry → Type 0
 ListsStanding Of s = Lists entry_order (λ e. Member e (standing s) × Of e.key)
 
--- all records stand, so those held with such a key are those that stand
-pub held-stand : (Of : Key → Type 0) (s records : List Entry) → ListsHeld Of s records → ListsStanding Of s records
-held-stand Of s records h = record {
-  rising = h.rising;
+-- those that stand of those held with such a key
+pub held-stand : (Of : Key → Type 0) (s held : List Entry) → ListsHeld Of s held → ListsStanding Of s (standing_among s held)
+held-stand Of s held h = record {
+  rising = rising-some s held h.rising;
   members = λ e. (
-    λ m. let k = (h.members e).0 m in (standing-member s e k.0, k.1),
-    λ k. (h.members e).1 (standing-part s e k.0, k.1),
+    λ m. (let k = standing-to s held e m in let g = (h.members e).0 k.0 in (standing-member s e g.0 k.1, g.1)),
+    λ k. (let t = standing-told s e k.0 in standing-back s held e ((h.members e).1 (t.0, k.1)) t.1),
   );
 }
 
@@ -300,9 +301,9 @@ standing-number Of s records h k o =
     ∙ count-front k (standing s) records (λ x m n. one-elsewhere k x (λ i. n ((h.members x).1 (m, subst Of (sym i) o))))
 
 -- fewer than the largest u32 where fewer are held
-pub standing-few : (Of : Key → Type 0) (s records : List Entry) → ListsStanding Of s records → length s < 2 ^ 32 → (k : Key) → records_with k records < 2 ^ 32
-standing-few Of s records h l k =
-    let part = count-part k records s (λ x m. standing-part s x ((h.members x).0 m).0) in
+pub held-few : (Of : Key → Type 0) (s held : List Entry) → ListsHeld Of s held → length s < 2 ^ 32 → (k : Key) → records_with k held < 2 ^ 32
+held-few Of s held h l k =
+    let part = count-part k held s (λ x m. ((h.members x).0 m).0) in
     let most = count-most k s in
     omega (arith, part, most, l)
 

@@ -6,6 +6,8 @@ pub mod Chains
 pub mod Answering
 pub mod Keeping
 pub mod Disputed
+pub mod Shared
+pub mod WithdrawnTold
 pub mod Falling
 pub mod RowFacts
 pub mod Offices

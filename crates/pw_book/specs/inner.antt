@@ -7,3 +7,4 @@ pub mod Moves
 pub mod Settling
 pub mod Fresh
 pub mod Added
+pub mod Withdrawn

@@ -1,6 +1,7 @@
 //! The shelf's reading calls outside an upload.
 
 ghost use Rattle.std.specs.Prelude.{◌≡◌, ◌+◌, ◌≤◌, IfOk, IsNone, length};
+ghost use Rattle.pw_model.specs.Counting.{contents_at};
 ghost use Rattle.pw_model.specs.Payments.{stands_in};
 ghost use Rattle.pw_model.specs.Same.{same_entry};
 ghost use Rattle.pw_shelf.specs.Rows.{ListsAssignments, ListsReadings, ListsTopUps};
@@ -8,7 +9,7 @@ ghost use Rattle.pw_shelf.specs.Calls.{failures_told};
 ghost use Rattle.pw_shelf.specs.Seconds.{ListsSecondsWithin};
 ghost use Rattle.pw_book.specs.Asking.{IsOnlyAsked};
 
-use pw_model::{Entry, TotalKey};
+use pw_model::{Contents, Entry, Key, TotalKey};
 use pw_obis::{Register, WattHours};
 use pw_shelf::{Shelf, ShelfFault};
 use pw_tariff::MeterId;
@@ -60,6 +61,14 @@ pub(crate) fn is_held<S: Shelf>(shelf: &mut S, entry: &Entry) -> Result<bool, Sh
     ensures asked { IsOnlyAsked S.Shelf (failures_told result) shelf.old shelf.new }
 {
     shelf.holds(entry)
+}
+
+pub(crate) fn contents_held<S: Shelf>(shelf: &mut S, key: &Key) -> Result<Contents, ShelfFault>
+    requires { IsNone (S.state shelf.old).begun }
+    ensures told { S.clean shelf.new → IfOk result (λ contents. contents ≡ contents_at (S.state shelf.old).content.records key.now) }
+    ensures asked { IsOnlyAsked S.Shelf (failures_told result) shelf.old shelf.new }
+{
+    shelf.contents_at(key)
 }
 
 pub(crate) fn assignments_held<S: Shelf>(

@@ -2,6 +2,7 @@
 
 ghost use Rattle.std.specs.Prelude.{◌≡◌, ◌+◌, ◌*◌, ◌^◌, ◌<◌, ◌≤◌, ℕ, IfOk, OnOk, IsNone, length};
 ghost use Rattle.pw_model.specs.declared.records.Key.{Key as AKey};
+ghost use Rattle.pw_model.specs.Counting.{standing_among as standing_of};
 ghost use Rattle.pw_model.specs.Lists.{AreDisputes, IsInOrder, Lists, dispute_order};
 ghost use Rattle.pw_model.specs.Office.{AllOfOffice, most_records};
 ghost use Rattle.pw_model.specs.Same.{entry_order};
@@ -9,9 +10,10 @@ ghost use Rattle.pw_shelf.specs.Calls.{failures_told};
 ghost use Rattle.pw_tariff.specs.Office.{office_of, register_place};
 ghost use Rattle.pw_book.specs.Asking.{IsOnlyAsked};
 ghost use Rattle.pw_book.specs.inner.Places.{AreWithin, DisputesBefore};
-ghost use Rattle.pw_book.specs.inner.Groups.{IsDisputeAmong, IsDisputeOf, records_with};
+ghost use Rattle.pw_book.specs.inner.Groups.{AreOfSharedKeys, IsDisputeAmong, IsDisputeOf, records_with};
 
 use crate::asked::{assignments_held, readings_held, topups_held};
+use crate::withdrawn::standing_among;
 use pw_model::{Dispute, Entry};
 use pw_obis::Register;
 use pw_parts::same_key_behind;
@@ -102,7 +104,7 @@ fn add_readings_of<S: Shelf>(
     ensures asked { IsOnlyAsked S.Shelf (failures_told result) shelf.old shelf.new }
 {
     let readings = readings_held(shelf, alloc, meter, register)?;
-    let more = disputes_of(alloc, &readings)?;
+    let more = disputes_among(shelf, alloc, &readings)?;
     disputes.extend_from_slice(&more)?;
     Ok(())
 }
@@ -119,7 +121,7 @@ fn add_assignments_of<S: Shelf>(
     ensures asked { IsOnlyAsked S.Shelf (failures_told result) shelf.old shelf.new }
 {
     let assignments = assignments_held(shelf, alloc, meter)?;
-    let more = disputes_of(alloc, &assignments)?;
+    let more = disputes_among(shelf, alloc, &assignments)?;
     disputes.extend_from_slice(&more)?;
     Ok(())
 }
@@ -135,9 +137,42 @@ fn add_topups<S: Shelf>(
     ensures asked { IsOnlyAsked S.Shelf (failures_told result) shelf.old shelf.new }
 {
     let topups = topups_held(shelf, alloc)?;
-    let more = disputes_of(alloc, &topups)?;
+    let more = disputes_among(shelf, alloc, &topups)?;
     disputes.extend_from_slice(&more)?;
     Ok(())
+}
+
+// The disputes among those of some records held that stand.
+fn disputes_among<S: Shelf>(
+    shelf: &mut S,
+    alloc: Global,
+    held: &[Entry],
+) -> Result<Vec<Dispute>, ShelfFault>
+    requires { IsNone (S.state shelf.old).begun }
+    ensures disputes { S.clean shelf.new → IsInOrder entry_order held.now → ((k : AKey) → records_with k held.now < 2 ^ 32) → IfOk result (λ disputes. Lists dispute_order (IsDisputeAmong (standing_of (S.state shelf.old).content.records held.now)) disputes.items) }
+    ensures asked { IsOnlyAsked S.Shelf (failures_told result) shelf.old shelf.new }
+{
+    let shared = of_shared_keys(alloc, held)?;
+    let standing = standing_among(shelf, alloc, &shared)?;
+    let disputes = disputes_of(alloc, &standing)?;
+    Ok(disputes)
+}
+
+// Those of some records whose key another has: only of these is it asked whether they stand.
+fn of_shared_keys(alloc: Global, records: &[Entry]) -> Result<Vec<Entry>, AllocError>
+    ensures { IsInOrder entry_order records.now → IfOk result (λ shared. AreOfSharedKeys records.now shared.items) }
+{
+    let mut shared = Vec::new(alloc);
+    let mut rest = records;
+    while let Some((first, others)) = rest.split_first() {
+        let behind = same_key_behind(first, others);
+        if behind > 0 {
+            shared.extend_from_slice(&[*first])?;
+            shared.extend_from_slice(&others[..behind])?;
+        }
+        rest = &others[behind..];
+    }
+    Ok(shared)
 }
 
 // The keys that two or more of some records have, and how many.

@@ -19,6 +19,7 @@ mod settling;
 mod starts;
 mod upload;
 mod window;
+mod withdrawn;
 
 pub use book::{Accepted, Book};
 pub use fault::{BookFault, PostFault};

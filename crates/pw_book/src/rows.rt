@@ -1,7 +1,6 @@
-//! The readings of a register, each with whether it counts.
+//! The readings of a register, each with whether it counts and whether it is withdrawn.
 
-ghost use Rattle.std.specs.Prelude.{◌≡◌, ◌↔◌, ℕ, List, Option, None, Some, IfOk, IsNone, IsTrue, MatchOption};
-ghost use Rattle.pw_model.specs.declared.records.Entry.{Entry as ARecord};
+ghost use Rattle.std.specs.Prelude.{◌≡◌, ◌↔◌, ℕ, Option, None, Some, IfOk, IsNone, IsTrue, MatchOption};
 ghost use Rattle.pw_model.specs.Counting.{contents_at, point as point_told};
 ghost use Rattle.pw_model.specs.Lists.{AreReadings, IsInOrder};
 ghost use Rattle.pw_model.specs.Seconds.{ListsSeconds, by_second};
@@ -13,15 +12,16 @@ ghost use Rattle.pw_book.specs.inner.Counted.{IsRowOf, StandBefore};
 ghost use Rattle.pw_book.specs.inner.Places.{TellsPoints};
 
 use crate::asked::{points_held, readings_held};
+use crate::withdrawn::is_withdrawn;
 use pw_model::{Content, Entry, Key, ReadingRow};
 use pw_obis::{Register, WattHours};
 use pw_parts::Point;
 use pw_shelf::{Shelf, ShelfFault};
 use pw_tariff::MeterId;
 use pw_time::Instant;
-use std::alloc::{AllocError, Global};
+use std::alloc::Global;
 
-// The readings held of a register, each with whether it counts.
+// The readings held of a register, each with whether it counts and whether it is withdrawn.
 pub(crate) fn rows_held<S: Shelf>(
     shelf: &mut S,
     alloc: Global,
@@ -35,43 +35,55 @@ pub(crate) fn rows_held<S: Shelf>(
 {
     let readings = readings_held(shelf, alloc, meter, register)?;
     let points = points_held(shelf, alloc, meter, register)?;
-    let rows = rows_of(alloc, &readings, &points)?;
+    let rows = rows_of(shelf, alloc, &readings, &points)?;
     Ok(rows)
 }
 
 // The rows of a register, told by all its readings that are held and by its points.
-fn rows_of(
+fn rows_of<S: Shelf>(
+    shelf: &mut S,
     alloc: Global,
     readings: &[Entry],
     points: &[Point],
-) -> Result<Vec<ReadingRow>, AllocError>
-    ensures { (s : List ARecord) (m : MeterId) (r : Register) → ListsReadings s m r readings.now → ListsSeconds (point_told (contents_at s) m.0 r) points.now → IfOk result (λ rows. AreReadings s m.0 r rows.items) }
+) -> Result<Vec<ReadingRow>, ShelfFault>
+    requires { IsNone (S.state shelf.old).begun }
+    ensures rows { S.clean shelf.new → (m : MeterId) (r : Register) → ListsReadings (S.state shelf.old).content.records m r readings.now → ListsSeconds (point_told (contents_at (S.state shelf.old).content.records) m.0 r) points.now → IfOk result (λ rows. AreReadings (S.state shelf.old).content.records m.0 r rows.items) }
+    ensures asked { IsOnlyAsked S.Shelf (failures_told result) shelf.old shelf.new }
 {
     let mut rows = Vec::new(alloc);
     for entry in readings {
-        if let Some(row) = row_of(entry, points) {
+        if let Some(row) = row_of(shelf, entry, points)? {
             rows.push(row)?;
         }
     }
     Ok(rows)
 }
 
-// The row of a reading: it counts where a point with its value stands at its instant.
-fn row_of(entry: &Entry, points: &[Point]) -> Option<ReadingRow>
-    ensures { (told : ℕ → Option ℕ) → ListsSeconds told points.now → MatchOption result (shown entry.now ≡ None) (IsRowOf told entry.now) }
+// The row of a reading: it counts where a point with its value stands at its instant. Only one that doesn't count can be
+// withdrawn.
+fn row_of<S: Shelf>(
+    shelf: &mut S,
+    entry: &Entry,
+    points: &[Point],
+) -> Result<Option<ReadingRow>, ShelfFault>
+    requires { IsNone (S.state shelf.old).begun }
+    ensures row { S.clean shelf.new → (told : ℕ → Option ℕ) → ListsSeconds told points.now → IfOk result (λ row. MatchOption row (shown entry.now ≡ None) (IsRowOf told (S.state shelf.old).content.records entry.now)) }
+    ensures asked { IsOnlyAsked S.Shelf (failures_told result) shelf.old shelf.new }
 {
     let Key::Reading { instant, .. } = &entry.key else {
-        return None;
+        return Ok(None);
     };
     let Content::Reading { wh } = &entry.content else {
-        return None;
+        return Ok(None);
     };
     let counted = shows(points, *instant, *wh);
-    Some(ReadingRow {
+    let withdrawn = !counted && is_withdrawn(shelf, entry)?;
+    Ok(Some(ReadingRow {
         instant: *instant,
         wh: *wh,
         counted,
-    })
+        withdrawn,
+    }))
 }
 
 // Whether a point with this value stands at an instant.

@@ -102,8 +102,18 @@ fn tell_readings<O: Write>(
 
 fn tell_reading<O: Write>(row: &ReadingRow, out: &mut O) {
     let (instant, wh) = (row.instant, row.wh.get());
-    let mark = if row.counted { "counts" } else { "disputed" };
+    let mark = mark_of(row);
     let _ = writeln!(out, "{instant} {wh} {mark}");
+}
+
+fn mark_of(row: &ReadingRow) -> &'static str {
+    if row.withdrawn {
+        "withdrawn"
+    } else if row.counted {
+        "counts"
+    } else {
+        "disputed"
+    }
 }
 
 fn tell_points<O: Write>(

@@ -17,10 +17,9 @@ use Rattle.pw_tariff.specs.Office.{OfficeRules}
 use Rattle.pw_model.specs.Energy.{energy, energy_where, of_band, cost}
 use Rattle.pw_model.specs.Payments.{stands_in, sum_once, keys, cents_for, topped_up, balance, nano_in_cent}
 use Rattle.pw_model.specs.Lists.{Lists, IsFall, IsDispute, IsReading, fall_numbers, fall_order, dispute_order, reading_numbers, reading_order, reading_entry, records_at, record_count, AreFalls, AreDisputes, AreReadings}
-use Rattle.pw_model.specs.inner.Search.{AreSorted}
 use Rattle.pw_model.specs.Laws.{OrderCountsNothing, CountIsLength, ListsAreAtMostOne}
 use Rattle.pw_model.proofs.Same.{same_key-decides, same_entry-decides}
-use Rattle.pw_model.proofs.Counting.{contents-same, standing-same, standing-all}
+use Rattle.pw_model.proofs.Counting.{contents-same, standing-same, withdrawn-same}
 use Rattle.pw_model.proofs.Once.{once-same, stands-decides}
 use Rattle.pw_model.proofs.InOrder.{by-numbers, lists-one}
 
@@ -65,10 +64,14 @@ records-same : (s t : List Entry) → SameMembers s t → (k : Key) → records_
 unfolding records_at
 records-same s t h k = once-same same_entry same_entry-decides (λ e. cond (same_key e.key k) 1 0) (standing s) (standing t) (standing-same s t h)
 
--- all records stand, so all with the key are counted
-pub records-all : (s : List Entry) (k : Key) → records_at s k ≡ sum_once same_entry (λ e. cond (same_key e.key k) 1 0) s
+-- those with the key are counted among those that stand
+pub records-standing : (s : List Entry) (k : Key) → records_at s k ≡ sum_once same_entry (λ e. cond (same_key e.key k) 1 0) (standing s)
 unfolding records_at
-records-all s k = ap (sum_once same_entry (λ e. cond (same_key e.key k) 1 0)) (standing-all s)
+records-standing s k = refl
+
+-- where all records stand, all with the key are counted
+pub records-all : (s : List Entry) (k : Key) → standing s ≡ s → records_at s k ≡ sum_once same_entry (λ e. cond (same_key e.key k) 1 0) s
+records-all s k all = records-standing s k ∙ ap (sum_once same_entry (λ e. cond (same_key e.key k) 1 0)) all
 
 count-same : (s t : List Entry) → SameMembers s t → record_count s ≡ record_count t
 unfolding record_count
@@ -92,7 +95,7 @@ disputes-half s t h ds a = record {
 }
 
 pub counts-half : (s t : List Entry) → SameMembers s t → (e : Entry) → Counts s e → Counts t e
-counts-half s t h e c = let g = standing-same s t h in ((g e).0 c.0, λ f m i. c.1 f ((g f).1 m) i)
+counts-half s t h e c = let g = standing-same s t h in ((g e).0 c.0, λ f m i. c.1 f ((g f).1 m) i, c.2)
 
 reading-half : (s t : List Entry) → SameMembers s t → (m : ℕ) (r : Register) (row : ReadingRow) → IsReading s m r row → IsReading t m r row
 reading-half s t h m r row x = record {
@@ -101,6 +104,7 @@ reading-half s t h m r row x = record {
     λ c. counts-half s t h (reading_entry m r row.instant row.wh) (x.counted.0 c),
     λ c. x.counted.1 (counts-half t s (members-back s t h) (reading_entry m r row.instant row.wh) c),
   );
+  withdrawn = x.withdrawn ∙ withdrawn-same s t (reading_entry m r row.instant row.wh) h;
 }
 
 readings-half : (s t : List Entry) → SameMembers s t → (m : ℕ) (r : Register) (rows : List ReadingRow) → AreReadings s m r rows → AreReadings t m r rows
@@ -121,22 +125,7 @@ order_counts_nothing office s t h = record {
   readings = λ m r rows. (readings-half s t h m r rows, readings-half t s (members-back s t h) m r rows);
 }
 
--- ---- of records that are sorted
-pub falls-of_sorted : (s view sorted : List Entry) (fs : List Fall) → view ≡ sorted → AreSorted s sorted → AreFalls view fs → AreFalls s fs
-falls-of_sorted s view sorted fs v a h =
-    let P : List Entry → Type 0 = λ l. AreFalls l fs in
-    falls-half sorted s a.members fs (subst P v h)
-
-pub disputes-of_sorted : (s view sorted : List Entry) (ds : List Dispute) → view ≡ sorted → AreSorted s sorted → AreDisputes view ds → AreDisputes s ds
-disputes-of_sorted s view sorted ds v a h =
-    let P : List Entry → Type 0 = λ l. AreDisputes l ds in
-    disputes-half sorted s a.members ds (subst P v h)
-
-pub readings-of_sorted : (s view sorted : List Entry) (m : ℕ) (r : Register) (rows : List ReadingRow) → view ≡ sorted → AreSorted s sorted → AreReadings view m r rows → AreReadings s m r rows
-readings-of_sorted s view sorted m r rows v a h =
-    let P : List Entry → Type 0 = λ l. AreReadings l m r rows in
-    readings-half sorted s a.members m r rows (subst P v h)
-
+-- ---- one list at most
 same-both : {X : Type 0} (P : X → Type 0) (x : X) → P x ↔ P x
 same-both P x = (λ h. h, λ h. h)
 

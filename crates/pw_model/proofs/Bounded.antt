@@ -14,20 +14,18 @@ use Rattle.pw_model.specs.declared.records.Contents.{Contents}
 use Rattle.pw_model.specs.declared.records.Contents.TheVariants.{Nothing, One, Several}
 use Rattle.pw_model.specs.declared.records.Entry.{Entry}
 use Rattle.pw_model.specs.Same.{same_key, same_content, same_direction, direction_of}
-use Rattle.pw_model.specs.Counting.{standing, contents_at, contents_among, joined, point, wh_of, reading_key}
+use Rattle.pw_model.specs.Counting.{is_withdrawn, standing_among, standing, contents_at, contents_among, joined, point, wh_of, reading_key}
 use Rattle.pw_tariff.specs.Office.{OfficeRules}
 use Rattle.pw_model.specs.Office.{AllOfOffice, IsOf, most_cents}
 use Rattle.pw_model.specs.Energy.{Asked, asked_seconds, over_registers, share_of, meter_share, energy_where}
-use Rattle.pw_model.specs.Payments.{topped_up, cents_for}
-use Rattle.pw_model.specs.Changes.{ChangesAtOneKey}
+use Rattle.pw_model.specs.Payments.{stands_in, sum_once, keys, topped_up, cents_for}
 use Rattle.pw_model.specs.Changes.{in_direction}
 use Rattle.pw_model.specs.Changes.{IsOneMoreReading}
 use Rattle.pw_model.specs.Bounds.{TotalsAreBounded}
 use Rattle.pw_time.specs.declared.instant.TheConstants.{END_SECOND}
 use Rattle.pw_model.proofs.Same.{same_key-decides}
-use Rattle.pw_model.proofs.Counting.{entry, standing-part, one-is_counting, one-more_record}
+use Rattle.pw_model.proofs.Counting.{Tells, entry, tells-among, standing-to, standing-part, one-stands, among-here, among-elsewhere}
 use Rattle.pw_model.proofs.Energy.{one-reading, one-more_reading}
-use Rattle.pw_model.proofs.Payments.{one-more_payment}
 use Rattle.pw_flow.specs.Time.{last, next, sum_over}
 use Rattle.pw_flow.specs.Flow.{flow}
 use Rattle.pw_flow.specs.Energy.{register_energy}
@@ -89,9 +87,13 @@ pub registers-zero : (d : Direction) (f : Register → ℕ) → ((r : Register) 
 registers-zero Import f h = omega (arith, h I0, h I1, h I2)
 registers-zero Export f h = omega (arith, h E0, h E1, h E2)
 
+none-among : (office : OfficeRules) (d : Direction) → energy_where office (contents_among []) d always ≡ 0
+unfolding energy_where contents_among
+none-among office d = sum-none _ 0 office.meters (λ m x y. registers-zero d _ (λ r. cond-zero (office.counts m r) _ (no-energy (point (contents_among []) m r) office.end (λ s. refl))))
+
 pub none-held : (office : OfficeRules) (d : Direction) → energy_where office (contents_at []) d always ≡ 0
-unfolding energy_where contents_at contents_among standing
-none-held office d = sum-none _ 0 office.meters (λ m x y. registers-zero d _ (λ r. cond-zero (office.counts m r) _ (no-energy (point (contents_at []) m r) office.end (λ s. refl))))
+unfolding contents_at standing
+none-held office d = none-among office d
 
 -- ---- values of counting readings
 abbrev WhFits : Option ℕ → Type 0
@@ -110,7 +112,7 @@ ToldOf office k Several = Unit {0}
 
 told-of : (office : OfficeRules) (s : List Entry) (k : Key) (r : Contents) → AllOfOffice office s → contents_at s k ≡ r → ToldOf office k r
 told-of office s k Nothing h e = tt
-told-of office s k (One c) h e = h (entry k c) (standing-part s (entry k c) ((one-is_counting s (entry k c)).0 e).0)
+told-of office s k (One c) h e = h (entry k c) (standing-part s (entry k c) (one-stands s k c e))
 told-of office s k Several h e = tt
 
 pub contents-of : (office : OfficeRules) (s : List Entry) (k : Key) → AllOfOffice office s → ToldOf office k (contents_at s k)
@@ -124,8 +126,17 @@ wh-fits office m r t (One (content.TopUp a c i)) h = tt
 wh-fits office m r t (One content.Withdrawal) h = tt
 wh-fits office m r t Several h = tt
 
-point-fits : (office : OfficeRules) (s : List Entry) → AllOfOffice office s → (m : ℕ) (r : Register) (t : ℕ) → WhFits (point (contents_at s) m r t)
-point-fits office s h m r t = wh-fits office m r t (contents_at s (reading_key m r t)) (contents-of office s (reading_key m r t) h)
+-- and so is what a list says of it
+among-told : (office : OfficeRules) (s : List Entry) (k : Key) (r : Contents) → AllOfOffice office s → Tells s k r → ToldOf office k r
+among-told office s k Nothing h e = tt
+among-told office s k (One c) h e = h (entry k c) e.0
+among-told office s k Several h e = tt
+
+among-of : (office : OfficeRules) (s : List Entry) (k : Key) → AllOfOffice office s → ToldOf office k (contents_among s k)
+among-of office s k h = among-told office s k (contents_among s k) h (tells-among s k)
+
+point-fits : (office : OfficeRules) (s : List Entry) → AllOfOffice office s → (m : ℕ) (r : Register) (t : ℕ) → WhFits (point (contents_among s) m r t)
+point-fits office s h m r t = wh-fits office m r t (contents_among s (reading_key m r t)) (among-of office s (reading_key m r t) h)
 
 below-fits : (p : ℕ → Option ℕ) (z : ℕ) (below : Option (ℕ × ℕ)) → ((s : ℕ) → WhFits (p s)) → LastIs p z below → PointFits below
 below-fits p z None h l = tt
@@ -223,24 +234,38 @@ step office old new (key.Reading m q t) (content.Reading w) (One (content.Readin
           (reading-near office new old m.0 q t v d less (omega (arith, n, h.fits.2.1)) h.fits.0 h.fits.1 h.was_fit.3 (h.new_points m.0 q)).down)
     ]
 
-energies-bounded : (office : OfficeRules) (s : List Entry) (d : Direction) → office.end ≡ END_SECOND → AllOfOffice office s →
-    energy_where office (contents_at s) d always ≤ length s * LARGEST_WATT_HOURS
-energies-bounded office [] d n h = omega (arith, none-held office d)
-energies-bounded office (e ∷ s) d n h =
+among-bounded : (office : OfficeRules) (s : List Entry) (d : Direction) → office.end ≡ END_SECOND → AllOfOffice office s →
+    energy_where office (contents_among s) d always ≤ length s * LARGEST_WATT_HOURS
+among-bounded office [] d n h = omega (arith, none-among office d)
+among-bounded office (e ∷ s) d n h =
     let part : AllOfOffice office s = λ f m. h f (inr m) in
-    let j : ChangesAtOneKey s (e ∷ s) e = one-more_record s (e ∷ s) e ([], s, refl, refl) in
-    let one : OneMore office (contents_at s) (contents_at (e ∷ s)) e.key e.content (contents_at s e.key) = record {
+    let one : OneMore office (contents_among s) (contents_among (e ∷ s)) e.key e.content (contents_among s e.key) = record {
       fits = h e (inl refl);
-      was_fit = contents-of office s e.key part;
+      was_fit = among-of office s e.key part;
       was = refl;
-      is = j.here;
-      elsewhere = j.elsewhere;
+      is = among-here s e;
+      elsewhere = among-elsewhere s e;
       old_points = point-fits office s part;
       new_points = point-fits office (e ∷ s) h;
     } in
-    let up = step office (contents_at s) (contents_at (e ∷ s)) e.key e.content (contents_at s e.key) d n one in
-    let rest = energies-bounded office s d n part in
+    let up = step office (contents_among s) (contents_among (e ∷ s)) e.key e.content (contents_among s e.key) d n one in
+    let rest = among-bounded office s d n part in
     omega (arith, up, rest)
+
+-- those that stand are no more than there are
+pub fewer-stand : (s some : List Entry) → length (standing_among s some) ≤ length some
+fewer-stand s [] = omega arith
+fewer-stand s (e ∷ some) =
+    let r = fewer-stand s some in
+    elim (cases_Bool (is_withdrawn s e)) [ inl t ↦ rw t (omega (arith, r)) | inr f ↦ rw f (omega (arith, r)) ]
+
+energies-bounded : (office : OfficeRules) (s : List Entry) (d : Direction) → office.end ≡ END_SECOND → AllOfOffice office s →
+    energy_where office (contents_at s) d always ≤ length s * LARGEST_WATT_HOURS
+unfolding contents_at standing
+energies-bounded office s d n h =
+    let up = among-bounded office (standing_among s s) d n (λ e m. h e (standing-to s s e m).0) in
+    let few : length (standing_among s s) ≤ length s = fewer-stand s s in
+    omega (arith, up, few)
 
 cents-fit : (office : OfficeRules) (k : Key) (a : ℕ) (r : Contents) → ToldOf office k r → cents_for a r ≤ most_cents
 cents-fit office k a Nothing h = omega arith
@@ -253,14 +278,23 @@ cents-fit office (key.Reading m q t) a (One (content.TopUp b c i)) h = absurd h
 cents-fit office (key.Assignment m t) a (One (content.TopUp b c i)) h = absurd h
 cents-fit office (key.Withdrawal n) a (One (content.TopUp b c i)) h = absurd h
 
+once-bounded : (f : Key → ℕ) (most : ℕ) (ks : List Key) → ((k : Key) → f k ≤ most) → sum_once same_key f ks ≤ length ks * most
+once-bounded f most [] h = omega arith
+once-bounded f most (k ∷ ks) h =
+    let rest = once-bounded f most ks h in
+    let here = h k in
+    elim (cases_Bool (stands_in same_key k ks)) [ inl t ↦ rw t (omega (arith, rest)) | inr n ↦ rw n (omega (arith, rest, here)) ]
+
+as-many-keys : (s : List Entry) → length (keys s) ≡ length s
+as-many-keys [] = refl
+as-many-keys (e ∷ s) = let r = as-many-keys s in omega (arith, r)
+
 topped-bounded : (office : OfficeRules) (s : List Entry) (a : ℕ) → AllOfOffice office s → topped_up s a ≤ length s * most_cents
 unfolding topped_up
-topped-bounded office [] a h = omega arith
-topped-bounded office (e ∷ s) a h =
-    let more = one-more_payment s (e ∷ s) e ([], s, refl, refl) a in
-    let fit = cents-fit office e.key a (contents_at (e ∷ s) e.key) (contents-of office (e ∷ s) e.key h) in
-    let rest = topped-bounded office s a (λ f m. h f (inr m)) in
-    omega (arith, more, fit, rest)
+topped-bounded office s a h =
+    let up = once-bounded (λ k. cents_for a (contents_at s k)) most_cents (keys s) (λ k. cents-fit office k a (contents_at s k) (contents-of office s k h)) in
+    let many = as-many-keys s in
+    omega (arith, up, many)
 
 pub totals-bounded : TotalsAreBounded
 totals-bounded office s o h = record {

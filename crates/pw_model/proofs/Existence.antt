@@ -1,5 +1,5 @@
 -- There is a list of falls, one of disputes, and one of the readings of a register.
-use Rattle.std.proofs.Common.{◌≡◌, ◌⊎◌, ◌↔◌, ℕ, suc, ◌+◌, ◌<◌, ◌≤◌, Bool, false, IsTrue, cond, Option, Some, None, List, [], ◌∷◌, refl, ap, sym, subst, ◌∙◌, inl, inr, arith}
+use Rattle.std.proofs.Common.{◌≡◌, ◌⊎◌, ◌↔◌, ℕ, suc, ◌+◌, ◌<◌, ◌≤◌, Bool, true, false, IsTrue, Option, Some, None, List, [], ◌∷◌, refl, ap, sym, subst, ◌∙◌, inl, inr, arith}
 use Rattle.std.proofs.lemmas.Bool.{cases_Bool, cases_lt, true≢false}
 use Rattle.std.specs.declared.cmp.Ordering.{Ordering}
 use Rattle.std.specs.declared.cmp.Ordering.TheVariants.{Less, Equal, Greater}
@@ -10,24 +10,23 @@ use Rattle.pw_model.specs.declared.records.Key.TheVariants as key
 use Rattle.pw_model.specs.declared.records.Content.{Content}
 use Rattle.pw_model.specs.declared.records.Content.TheVariants as content
 use Rattle.pw_model.specs.declared.records.Contents.{Contents}
-use Rattle.pw_model.specs.declared.records.Contents.TheVariants.{Nothing, One, Several}
 use Rattle.pw_model.specs.declared.records.Entry.{Entry}
 use Rattle.pw_model.specs.declared.records.Fall.{Fall}
 use Rattle.pw_model.specs.declared.records.Dispute.{Dispute}
 use Rattle.pw_model.specs.declared.records.ReadingRow.{ReadingRow}
-use Rattle.pw_model.specs.Same.{same_key, same_content, same_entry, entry_order}
-use Rattle.pw_model.specs.Counting.{Counts, contents_at, point, reading_key}
-use Rattle.pw_model.specs.Payments.{keys, stands_in, sum_once}
-use Rattle.pw_model.specs.Lists.{IsInOrder, IsFall, reading_entry, AreFalls, AreDisputes, AreReadings}
+use Rattle.pw_model.specs.Same.{same_key, entry_order}
+use Rattle.pw_model.specs.Counting.{is_withdrawn, Counts, contents_at, point, reading_key}
+use Rattle.pw_model.specs.Payments.{keys, stands_in}
+use Rattle.pw_model.specs.Lists.{IsInOrder, IsFall, records_at, reading_entry, AreFalls, AreDisputes, AreReadings}
 use Rattle.pw_model.specs.inner.Search.{IsWith, AreSorted, IsEarliestAmong, IsPointIn, earlier_of, high_reading, FallsFrom, DisputesUnder, IsRowOf, RowsOf}
 use Rattle.pw_model.specs.Laws.{ListsExist}
 use Rattle.pw_flow.proofs.Points.{option-cases}
 use Rattle.pw_model.proofs.Same.{same_key-decides}
-use Rattle.pw_model.proofs.Counting.{entry, one-is_counting}
-use Rattle.pw_model.proofs.Found.{second_of, earliest-more, counts-told}
+use Rattle.pw_model.proofs.Counting.{entry, counts-known}
+use Rattle.pw_model.proofs.Found.{second_of, earliest-more}
 use Rattle.pw_model.proofs.EntryOrder.{sorted-none, sorted-more, with-none, with-first, with-there, with-later}
 use Rattle.pw_model.proofs.PlainFalls.{IsFrom, IsNext, fall, fall-not_counting, fall-found, no-fall, none-behind, falls-more, falls-skip, falls-all}
-use Rattle.pw_model.proofs.PlainDisputes.{disputes-more, disputes-again, disputes-few, is-dispute, records-told, disputes-all}
+use Rattle.pw_model.proofs.PlainDisputes.{disputes-more, disputes-again, disputes-few, disputes-all}
 use Rattle.pw_model.proofs.PlainReadings.{rows-more, rows-skip, rows-all}
 
 -- ---- the records in order
@@ -53,13 +52,11 @@ sorted-there_is (e ∷ s) =
     (w.0, sorted-more e s r.0 w.0 r.1 w.1)
 
 -- ---- whether a record counts
-counts-from : (s : List Entry) (e : Entry) (c : Contents) → c ≡ contents_at s e.key → (b : Bool) × (IsTrue b ↔ Counts s e)
-counts-from s e Nothing h = (false, (λ t. absurd (true≢false (sym t)), λ k. let t : Nothing ≡ One e.content = h ∙ (one-is_counting s e).1 k in cc))
-counts-from s e Several h = (false, (λ t. absurd (true≢false (sym t)), λ k. let t : Several ≡ One e.content = h ∙ (one-is_counting s e).1 k in cc))
-counts-from s e (One c) h = let r = counts-told s e c (same_content c e.content) h refl in (same_content c e.content, r)
-
-counts-known : (s : List Entry) (e : Entry) → (b : Bool) × (IsTrue b ↔ Counts s e)
-counts-known s e = counts-from s e (contents_at s e.key) refl
+counts-test : (s : List Entry) (e : Entry) → (b : Bool) × (IsTrue b ↔ Counts s e)
+counts-test s e = elim (counts-known s e) [
+  | inl c ↦ (true, (λ t. c, λ k. refl))
+  | inr n ↦ (false, (λ t. absurd (true≢false (sym t)), λ k. absurd (n k)))
+]
 
 -- ---- whether a record is a reading of a register
 content-cases : (c : Content) → ((w : ℕ) × (c ≡ content.Reading w)) ⊎ ((w : ℕ) → c ≡ content.Reading w → ⊥)
@@ -128,7 +125,7 @@ fall-known s (key.Reading m r x) (content.Assignment o) = inr (λ f a i. let j :
 fall-known s (key.Reading m r x) (content.TopUp a c t) = inr (λ f b i. let j : content.TopUp a c t ≡ content.Reading f.high = ap (λ (e : Entry). e.content) i in cc)
 fall-known s (key.Reading m r x) (content.Reading w) =
     let e : Entry = entry (key.Reading m r x) (content.Reading w) in
-    let b = counts-known s e in
+    let b = counts-test s e in
     elim (cases_Bool b.0) [
       | inl t ↦ (let n = next-there_is (contents_at s) m.0 r (x + 1) s in fall-from s e m r x w (record { key = refl; content = refl }) (b.1.0 t) n.0 n.1)
       | inr f ↦ inr (fall-not_counting s e b.0 b.1 f)
@@ -149,20 +146,20 @@ disputes-there_are : (s some : List Entry) → IsInOrder entry_order some → (d
 disputes-there_are s [] up = ([], record { rising = tt; members = λ d. (λ m. absurd m, λ m. m.1) })
 disputes-there_are s (e ∷ others) up =
     let r : (ds : List Dispute) × DisputesUnder s others ds = disputes-there_are s others up.1 in
-    let n : ℕ = sum_once same_entry (λ f. cond (same_key f.key e.key) 1 0) s in
+    let n : ℕ = records_at s e.key in
     elim (cases_Bool (stands_in same_key e.key (keys others))) [
       | inl t ↦ (r.0, disputes-again s e (e ∷ others) others r.0 refl (sym t) r.1)
       | inr f ↦ elim (cases_lt n 2) [
-        | inl few ↦ (r.0, disputes-few s e (e ∷ others) others r.0 n refl (records-told s e.key n refl) few r.1)
+        | inl few ↦ (r.0, disputes-few s e (e ∷ others) others r.0 n refl refl few r.1)
         | inr two ↦ (
             let d : Dispute = record { key = e.key; contents = n } in
-            (d ∷ r.0, disputes-more s e (e ∷ others) others d r.0 (d ∷ r.0) refl up refl f refl (is-dispute s e.key n refl two) r.1))
+            (d ∷ r.0, disputes-more s e (e ∷ others) others d r.0 (d ∷ r.0) refl up refl f refl (record { several = two; number = refl }) r.1))
       ]
     ]
 
 -- ---- readings
 RowAt : List Entry → ℕ → Register → Entry → Type 0
-RowAt s m r e = ((row : ReadingRow) × IsRowOf s m r e row) ⊎ ((t w : ℕ) → e ≡ reading_entry m r t w → ⊥)
+RowAt s m r e = ((row : ReadingRow) × IsRowOf s s m r e row) ⊎ ((t w : ℕ) → e ≡ reading_entry m r t w → ⊥)
 
 row-known : (s : List Entry) (m : ℕ) (r : Register) (e : Entry) → RowAt s m r e
 unfolding RowAt
@@ -172,20 +169,20 @@ row-known s m r e =
       | inl k ↦ elim (content-cases e.content) [
         | inr n ↦ inr (λ t w i. n w (ap (λ (f : Entry). f.content) i))
         | inl c ↦ (
-            let b = counts-known s e in
-            let row : ReadingRow = record { instant = second_of e.key; wh = c.0; counted = b.0 } in
-            inl (row, record { reading = λ i. entry (k i) (c.1 i); counted = b.1 }))
+            let b = counts-test s e in
+            let row : ReadingRow = record { instant = second_of e.key; wh = c.0; counted = b.0; withdrawn = is_withdrawn s e } in
+            inl (row, record { reading = λ i. entry (k i) (c.1 i); counted = b.1; withdrawn = refl }))
       ]
     ]
 
-rows-there_are : (s : List Entry) (m : ℕ) (r : Register) (some : List Entry) → IsInOrder entry_order some → (rows : List ReadingRow) × RowsOf s m r some rows
+rows-there_are : (s : List Entry) (m : ℕ) (r : Register) (some : List Entry) → IsInOrder entry_order some → (rows : List ReadingRow) × RowsOf s s m r some rows
 unfolding RowAt
 rows-there_are s m r [] up = ([], record { rising = tt; members = λ a. (λ q. absurd q, λ q. absurd q.0) })
 rows-there_are s m r (e ∷ others) up =
-    let rest : (rows : List ReadingRow) × RowsOf s m r others rows = rows-there_are s m r others up.1 in
+    let rest : (rows : List ReadingRow) × RowsOf s s m r others rows = rows-there_are s m r others up.1 in
     elim (row-known s m r e) [
-      | inl a ↦ (a.0 ∷ rest.0, rows-more s m r e (e ∷ others) others a.0 rest.0 (a.0 ∷ rest.0) refl up refl a.1 rest.1)
-      | inr n ↦ (rest.0, rows-skip s m r e (e ∷ others) others rest.0 refl n rest.1)
+      | inl a ↦ (a.0 ∷ rest.0, rows-more s s m r e (e ∷ others) others a.0 rest.0 (a.0 ∷ rest.0) refl up refl a.1 rest.1)
+      | inr n ↦ (rest.0, rows-skip s s m r e (e ∷ others) others rest.0 refl n rest.1)
     ]
 
 falls-of : (s : List Entry) → (fs : List Fall) × AreFalls s fs

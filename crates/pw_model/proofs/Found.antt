@@ -1,25 +1,23 @@
 -- What is found among all records is what the definitions name.
-use Rattle.std.proofs.Common.{◌≡◌, ◌↔◌, Bool, false, cond, IsTrue, ℕ, ◌+◌, ◌<◌, ◌≤◌, Option, Some, None, List, [], ◌∷◌, length, take, refl, ap, sym, subst, ◌∙◌, arith, inl, inr}
+use Rattle.std.proofs.Common.{◌≡◌, ◌⊎◌, true, false, ℕ, ◌+◌, ◌<◌, ◌≤◌, Option, Some, None, List, [], ◌∷◌, length, take, refl, ap, sym, subst, ◌∙◌, arith, inl, inr}
 use Rattle.std.proofs.lemmas.Bool.{cases_Bool, cases_lt, true≢false}
 use Rattle.std.proofs.lemmas.Bool.Decides.{leb_tells}
 use Rattle.pw_obis.specs.declared.reference.Register.{Register}
 use Rattle.pw_tariff.specs.declared.ids.AccountId.{AccountId}
 use Rattle.pw_model.specs.declared.records.Key.{Key}
 use Rattle.pw_model.specs.declared.records.Key.TheVariants as key
-use Rattle.pw_model.specs.declared.records.Content.{Content}
 use Rattle.pw_model.specs.declared.records.Content.TheVariants as content
 use Rattle.pw_model.specs.declared.records.Contents.{Contents}
 use Rattle.pw_model.specs.declared.records.Contents.TheVariants.{Nothing, One, Several}
 use Rattle.pw_model.specs.declared.records.Entry.{Entry}
-use Rattle.pw_model.specs.Counting.{Member, Counts, joined, contents_at, wh_of, owner_of, point, start, reading_key, assignment_key}
+use Rattle.pw_model.specs.Counting.{Member, SameMembers, withdraws, is_withdrawn, standing_among, joined, contents_among, contents_at, wh_of, owner_of, point, start, reading_key, assignment_key}
 use Rattle.pw_tariff.specs.Owners.{owner_from}
 use Rattle.pw_model.specs.Energy.{owner_at}
 use Rattle.pw_model.specs.inner.Search.{IsAt, IsLatestAmong, IsStartIn, later_of, NoPoint, IsEarliestAmong, IsPointIn, earlier_of}
-use Rattle.pw_model.specs.Same.{same_key, same_content}
-use Rattle.pw_model.specs.Changes.{ChangesAtOneKey}
-use Rattle.pw_model.proofs.Same.{same_key-decides, same_content-decides}
-use Rattle.pw_model.proofs.Counting.{entry, standing-part, one-is_counting, one-more_record}
-use Rattle.pw_model.proofs.Places.{taken-to, taken-whole, taken-inserted}
+use Rattle.pw_model.specs.Same.{same_key}
+use Rattle.pw_model.proofs.Same.{same_key-decides}
+use Rattle.pw_model.proofs.Counting.{entry, inserted-same, among-same, among-here, among-elsewhere, standing-to, standing-back, standing-part, withdrawn-to, withdrawn-back, one-stands}
+use Rattle.pw_model.proofs.Places.{at-member, taken-to, taken-whole, taken-inserted}
 use Rattle.pw_flow.proofs.Points.{LastIs, option-cases, last-told}
 
 owner-back : (c : Contents) (o : Option AccountId) → owner_of c ≡ Some o → c ≡ One (content.Assignment o)
@@ -42,12 +40,12 @@ wh-back (One content.Withdrawal) w e = cc
 start-member : (s : List Entry) (m t : ℕ) (o : Option AccountId) → start (contents_at s) m t ≡ Some o → Member (entry (assignment_key m t) (content.Assignment o)) s
 start-member s m t o e =
     let here : Entry = entry (assignment_key m t) (content.Assignment o) in
-    standing-part s here ((one-is_counting s here).0 (owner-back (contents_at s (assignment_key m t)) o e)).0
+    standing-part s here (one-stands s (assignment_key m t) (content.Assignment o) (owner-back (contents_at s (assignment_key m t)) o e))
 
 pub point-member : (s : List Entry) (m : ℕ) (r : Register) (t w : ℕ) → point (contents_at s) m r t ≡ Some w → Member (entry (reading_key m r t) (content.Reading w)) s
 point-member s m r t w e =
     let here : Entry = entry (reading_key m r t) (content.Reading w) in
-    standing-part s here ((one-is_counting s here).0 (wh-back (contents_at s (reading_key m r t)) w e)).0
+    standing-part s here (one-stands s (reading_key m r t) (content.Reading w) (wh-back (contents_at s (reading_key m r t)) w e))
 
 -- where no record is a counting reading, none stands
 pub no-point : (s : List Entry) (m : ℕ) (r : Register) (x y t : ℕ) → NoPoint (contents_at s) m r x y s → x ≤ t → t < y → point (contents_at s) m r t ≡ None
@@ -199,31 +197,50 @@ earliest-more at m r x y e some (Some a) (Some b) h i =
           rw n.0 (i.3, i.1, i.2, no-point-more at m r x b.0 e some (λ s j g k. absurd (let q : s ≡ b.0 = ap second_of (sym j ∙ i.0) in omega arith)) (no-point-to at m r x a.0 b.0 some (omega arith) h.3)))
     ]
 
--- ---- what the records up to a place contain
-pub contents-next : (s : List Entry) (i : ℕ) (e : Entry) (k : Key) (b : Bool) → IsAt s i e → b ≡ same_key e.key k →
-    contents_at (take (i + 1) s) k ≡ cond b (joined e.content (contents_at (take i s) k)) (contents_at (take i s) k)
-contents-next s i e k b a h =
-    let j : ChangesAtOneKey (take i s) (take (i + 1) s) e = one-more_record (take i s) (take (i + 1) s) e (taken-inserted s i e a) in
-    elim (cases_Bool b) [
-      | inl t ↦ (
-          let q : e.key ≡ k = (same_key-decides e.key k).0 (sym h ∙ t) in
-          let P : Key → Type 0 = λ v. contents_at (take (i + 1) s) v ≡ joined e.content (contents_at (take i s) v) in
-          rw t (subst P q j.here))
-      | inr f ↦ rw f (j.elsewhere k (λ q. true≢false (sym ((same_key-decides e.key k).1 (sym q)) ∙ sym h ∙ f)))
-    ]
+-- ---- what the records up to a place contain, of those that stand
+among-next : (s : List Entry) (i : ℕ) (e : Entry) → IsAt s i e → SameMembers (standing_among s (take (i + 1) s)) (standing_among s (e ∷ take i s))
+among-next s i e a x =
+    let same = inserted-same (take i s) (take (i + 1) s) e (taken-inserted s i e a) in (
+      λ m. let r = standing-to s (take (i + 1) s) x m in standing-back s (e ∷ take i s) x ((same x).0 r.0) r.1,
+      λ m. let r = standing-to s (e ∷ take i s) x m in standing-back s (take (i + 1) s) x ((same x).1 r.0) r.1,
+    )
 
--- ---- whether a record counts
-pub counts-told : (s : List Entry) (e : Entry) (c : Content) (b : Bool) → One c ≡ contents_at s e.key → b ≡ same_content c e.content → IsTrue b ↔ Counts s e
-counts-told s e c b h i = (
-  λ t.
-      let same : c ≡ e.content = (same_content-decides c e.content).0 (sym i ∙ t) in
-      (one-is_counting s e).0 (sym h ∙ ap (λ (d : Content). One d) same),
-  λ k.
-      let told : contents_at s e.key ≡ One e.content = (one-is_counting s e).1 k in
-      let one : One c ≡ One e.content = h ∙ told in
-      let same : c ≡ e.content = cc in
-      i ∙ (same_content-decides c e.content).1 same,
-)
+pub contents-next : (s : List Entry) (i : ℕ) (e : Entry) (k : Key) → IsAt s i e → same_key e.key k ≡ true → is_withdrawn s e ≡ false →
+    contents_among (standing_among s (take (i + 1) s)) k ≡ joined e.content (contents_among (standing_among s (take i s)) k)
+contents-next s i e k a t n =
+    let q : e.key ≡ k = (same_key-decides e.key k).0 t in
+    let rest : List Entry = standing_among s (take i s) in
+    let next : contents_among (standing_among s (take (i + 1) s)) ≡ contents_among (standing_among s (e ∷ take i s)) = among-same _ _ (among-next s i e a) in
+    let here : standing_among s (e ∷ take i s) ≡ e ∷ rest = rw n in
+    let P : Key → Type 0 = λ v. contents_among (e ∷ rest) v ≡ joined e.content (contents_among rest v) in
+    ap (λ (at : Key → Contents). at k) next ∙ ap (λ l. contents_among l k) here ∙ subst P q (among-here rest e)
 
-pub counts-not_told : (s : List Entry) (e : Entry) (r : Contents) → r ≡ contents_at s e.key → ((c : Content) → r ≡ One c → ⊥) → IsTrue false ↔ Counts s e
-counts-not_told s e r h n = (λ t. absurd (true≢false (sym t)), λ k. absurd (n e.content (h ∙ (one-is_counting s e).1 k)))
+-- another key's record, or one that is withdrawn, changes nothing
+pub contents-pass : (s : List Entry) (i : ℕ) (e : Entry) (k : Key) → IsAt s i e → (same_key e.key k ≡ false) ⊎ (is_withdrawn s e ≡ true) →
+    contents_among (standing_among s (take (i + 1) s)) k ≡ contents_among (standing_among s (take i s)) k
+contents-pass s i e k a h =
+    let rest : List Entry = standing_among s (take i s) in
+    let next : contents_among (standing_among s (take (i + 1) s)) ≡ contents_among (standing_among s (e ∷ take i s)) = among-same _ _ (among-next s i e a) in
+    let here : contents_among (standing_among s (e ∷ take i s)) k ≡ contents_among rest k = elim (cases_Bool (is_withdrawn s e)) [
+      | inl w ↦ rw w
+      | inr n ↦ elim h [
+        | inr w ↦ absurd (true≢false (sym w ∙ n))
+        | inl f ↦ rw n (among-elsewhere rest e k (λ q. true≢false (sym ((same_key-decides e.key k).1 (sym q)) ∙ f)))
+      ]
+    ] in
+    ap (λ (at : Key → Contents). at k) next ∙ here
+
+-- ---- whether a record is withdrawn
+pub withdrawn-one : (s : List Entry) (i : ℕ) (e f : Entry) → IsAt s i f → withdraws e f.key ≡ true → is_withdrawn s e ≡ true
+withdrawn-one s i e f a w = withdrawn-back s e f (at-member s i f a) w
+
+pub withdrawn-next : (s : List Entry) (i : ℕ) (e f : Entry) → IsAt s i f → is_withdrawn (take i s) e ≡ false → withdraws e f.key ≡ false → is_withdrawn (take (i + 1) s) e ≡ false
+withdrawn-next s i e f a n w = elim (cases_Bool (is_withdrawn (take (i + 1) s) e)) [
+  | inr q ↦ q
+  | inl t ↦ absurd (
+      let r = withdrawn-to (take (i + 1) s) e t in
+      elim (taken-to s i f r.0 a r.1.0) [
+        | inl m ↦ true≢false (sym (withdrawn-back (take i s) e r.0 m r.1.1) ∙ n)
+        | inr q ↦ true≢false (sym r.1.1 ∙ ap (λ (x : Entry). withdraws e x.key) q ∙ w)
+      ])
+]

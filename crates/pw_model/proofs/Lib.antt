@@ -26,6 +26,7 @@ pub mod PlainFalls
 pub mod PlainDisputes
 pub mod PlainReadings
 pub mod PlainPoints
+pub mod Standing
 pub mod SoundOffice
 pub mod Existence
 pub mod Foreign

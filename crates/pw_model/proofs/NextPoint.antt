@@ -14,10 +14,10 @@ use Rattle.pw_model.specs.declared.records.Entry.{Entry}
 use Rattle.pw_model.specs.Same.{key_numbers, key_order, entry_order}
 use Rattle.pw_model.specs.Counting.{Member, Counts, contents_at, wh_of, point, reading_key}
 use Rattle.pw_model.specs.Lists.{IsInOrder, reading_entry}
-use Rattle.pw_model.specs.inner.Search.{IsAt, NoPoint, IsEarliestAmong}
+use Rattle.pw_model.specs.inner.Search.{AllStand, IsAt, NoPoint, IsEarliestAmong}
 use Rattle.pw_flow.proofs.Points.{option-cases}
 use Rattle.pw_model.proofs.Same.{register-one}
-use Rattle.pw_model.proofs.Counting.{standing-member, one-is_counting}
+use Rattle.pw_model.proofs.Counting.{all-stand, counts-one, one-is_counting}
 use Rattle.pw_model.proofs.Found.{second_of, wh-back}
 use Rattle.pw_model.proofs.InKeyOrder.{cmp-less, cmp-greater}
 use Rattle.pw_model.proofs.Places.{KeyUpTo, up-to-one, at-member, member-at, at-one, at-there, at-up_to, entry-apart}
@@ -76,20 +76,20 @@ pub passed-none : (s : List Entry) (m : ℕ) (r : Register) (i : ℕ) → IsPass
 passed-none s m r i = record { none = λ p e t l k. absurd (omega arith) }
 
 -- a record with the key of a reading that isn't a counting one
-pub not-point : (s : List Entry) (m : ℕ) (r : Register) (t : ℕ) (e : Entry) → Member e s → e.key ≡ reading_key m r t → (Counts s e → (w : ℕ) → e.content ≡ content.Reading w → ⊥) → point (contents_at s) m r t ≡ None
-not-point s m r t e mem k n =
+pub not-point : (s : List Entry) (m : ℕ) (r : Register) (t : ℕ) (e : Entry) → AllStand s → Member e s → e.key ≡ reading_key m r t → (Counts s e → (w : ℕ) → e.content ≡ content.Reading w → ⊥) → point (contents_at s) m r t ≡ None
+not-point s m r t e all mem k n =
     elim (option-cases (point (contents_at s) m r t)) [
       | inl q ↦ q
       | inr f ↦ (
-          let c : Counts s (reading_entry m r t f.0) = (one-is_counting s (reading_entry m r t f.0)).0 (wh-back (contents_at s (reading_key m r t)) f.0 f.1) in
-          let same : e ≡ reading_entry m r t f.0 = c.1 e (standing-member s e mem) k in
+          let c : Counts s (reading_entry m r t f.0) = (one-is_counting s (reading_entry m r t f.0) tt).0 (wh-back (contents_at s (reading_key m r t)) f.0 f.1) in
+          let same : e ≡ reading_entry m r t f.0 = c.1 e (all-stand s e all mem) k in
           let P : Entry → Type 0 = λ v. Counts s v in
           absurd (n (subst P (sym same) c) f.0 (ap (λ (v : Entry). v.content) same)))
     ]
 
-pub passed-more : (s : List Entry) (m : ℕ) (r : Register) (i j t : ℕ) (e : Entry) → IsPassed s m r i j → IsAt s j e → e.key ≡ reading_key m r t →
+pub passed-more : (s : List Entry) (m : ℕ) (r : Register) (i j t : ℕ) (e : Entry) → AllStand s → IsPassed s m r i j → IsAt s j e → e.key ≡ reading_key m r t →
     (Counts s e → (w : ℕ) → e.content ≡ content.Reading w → ⊥) → IsPassed s m r i (j + 1)
-passed-more s m r i j t e h a k n = record {
+passed-more s m r i j t e all h a k n = record {
   none = λ p f u l g b q. elim (cases_lt p j) [
     | inl before ↦ h.none p f u l before b q
     | inr here ↦ (
@@ -98,13 +98,14 @@ passed-more s m r i j t e h a k n = record {
         let one : f ≡ e = at-one s j f e (subst P same b) a in
         let v : u ≡ t = ap second_of (sym q ∙ ap (λ (x : Entry). x.key) one ∙ k) in
         let Q : ℕ → Type 0 = λ x. point (contents_at s) m r x ≡ None in
-        subst Q (sym v) (not-point s m r t e (at-member s j e a) k n))
+        subst Q (sym v) (not-point s m r t e all (at-member s j e a) k n))
   ];
 }
 
 -- what stands at place i, and at place j behind it
 pub record AreRegister (s : List Entry) (m : ℕ) (r : Register) (x i j : ℕ) (b : Entry) : Type 0 where
   pub rising : IsInOrder entry_order s
+  pub standing : AllStand s
   pub at : IsAt s i b
   pub key : b.key ≡ reading_key m r x
   pub later : i < j
@@ -131,10 +132,10 @@ next-here s m r x i j t w y b e h a k o c l =
     let R : Key → Type 0 = λ v. KeyUpTo (reading_key m r x) v in
     let up : x ≤ t = reading-up_to m r x t (subst R k (subst Q h.key (at-up_to s i j b e h.rising h.at a (let g = h.later in omega (arith, g))))) in
     let apart : x ≡ t → ⊥ = λ q. (
-    let one : b ≡ e = c.1 b (standing-member s b (at-member s i b h.at)) (h.key ∙ ap (λ (v : ℕ). reading_key m r v) q ∙ sym k) in
+    let one : b ≡ e = c.1 b (all-stand s b h.standing (at-member s i b h.at)) (h.key ∙ ap (λ (v : ℕ). reading_key m r v) q ∙ sym k) in
     let S : Entry → Type 0 = λ v. IsAt s j v in
     apart-places s i j b h (subst S (sym one) a)) in (
-      ap wh_of ((one-is_counting s (reading_entry m r t w)).1 (subst P same c)),
+      ap wh_of (counts-one s (reading_entry m r t w) (subst P same c)),
       not-same x t up apart,
       l,
       λ f mem u q g v.
@@ -178,8 +179,8 @@ next-end s m r x i j y b h l = λ f mem u q g v.
     h.passed.none at.0 f u above (let k = at.1.0 in omega (arith, k)) at.1 q
 
 -- what stands at the place is found there
-pub are-register : (s : List Entry) (m : ℕ) (r : Register) (x i j : ℕ) → IsInOrder entry_order s → i < length s → ((e : Entry) → IsAt s i e → e.key ≡ reading_key m r x) → i + 1 ≤ j → IsPassed s m r i j →
+pub are-register : (s : List Entry) (m : ℕ) (r : Register) (x i j : ℕ) → IsInOrder entry_order s → AllStand s → i < length s → ((e : Entry) → IsAt s i e → e.key ≡ reading_key m r x) → i + 1 ≤ j → IsPassed s m r i j →
     (b : Entry) × AreRegister s m r x i j b
-are-register s m r x i j rising l k g p =
+are-register s m r x i j rising all l k g p =
     let b = at-there s i l in
-    (b.0, record { rising = rising; at = b.1; key = k b.0 b.1; later = omega arith; passed = p })
+    (b.0, record { rising = rising; standing = all; at = b.1; key = k b.0 b.1; later = omega arith; passed = p })

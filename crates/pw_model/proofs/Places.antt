@@ -8,12 +8,12 @@ use Rattle.std.specs.declared.cmp.Ordering.TheVariants.{Less, Equal, Greater}
 use Rattle.pw_model.specs.declared.records.Key.{Key}
 use Rattle.pw_model.specs.declared.records.Entry.{Entry}
 use Rattle.pw_model.specs.Same.{key_numbers, key_order, entry_order, same_key}
-use Rattle.pw_model.specs.Counting.{Member, SameMembers, Counts, IsInserted}
+use Rattle.pw_model.specs.Counting.{Member, SameMembers, IsNoWithdrawal, Counts, IsInserted}
 use Rattle.pw_model.specs.Lists.{IsInOrder}
-use Rattle.pw_model.specs.inner.Search.{IsAt, IsKeyBehind}
+use Rattle.pw_model.specs.inner.Search.{AllStand, IsAt, IsKeyBehind}
 use Rattle.pw_model.proofs.Same.{same_key-decides}
 use Rattle.pw_model.proofs.InOrder.{IsStrict, by-numbers, before-member}
-use Rattle.pw_model.proofs.Counting.{standing-part, standing-member}
+use Rattle.pw_model.proofs.Counting.{standing-part, all-stand}
 use Rattle.pw_model.proofs.EntryOrder.{keys-tie, entry-strict}
 
 -- ---- places
@@ -239,9 +239,9 @@ key-before s p i j e f r n a b l q =
     let there : IsAt s p (get_or s p e) = at-some s p e m in
     (get_or s p e, e, there, subst P (sym n) a, same-between s j p i f (get_or s p e) e r b there a (omega arith) (omega arith) q ∙ q)
 
-pub alone-counts : (s : List Entry) (i : ℕ) (e : Entry) → IsInOrder entry_order s → IsAt s i e → ((p : ℕ) → p + 1 ≡ i → IsKeyBehind s p → ⊥) → (IsKeyBehind s i → ⊥) → Counts s e
-alone-counts s i e r a before behind = (
-  standing-member s e (at-member s i e a),
+pub alone-counts : (s : List Entry) (i : ℕ) (e : Entry) → IsInOrder entry_order s → AllStand s → IsAt s i e → ((p : ℕ) → p + 1 ≡ i → IsKeyBehind s p → ⊥) → (IsKeyBehind s i → ⊥) → IsNoWithdrawal e.content → Counts s e
+alone-counts s i e r all a before behind no_withdrawal = (
+  all-stand s e all (at-member s i e a),
   λ f m q.
       let w : (j : ℕ) × IsAt s j f = member-at s f (standing-part s f m) in
       elim (cases_lt w.0 i) [
@@ -254,30 +254,31 @@ alone-counts s i e r a before behind = (
               at-one s i f e (subst P same w.1) a)
         ]
       ],
+  no_withdrawal,
 )
   where
     pred-of : (n k : ℕ) → k < n → (v : ℕ) × (v + 1 ≡ n)
     pred-of zero k l = absurd (omega arith)
     pred-of (suc n) k l = (n, omega arith)
 
-pub counts-alone : (s : List Entry) (i : ℕ) (e : Entry) → IsInOrder entry_order s → IsAt s i e → Counts s e → IsKeyBehind s i → ⊥
-counts-alone s i e r a c b =
+pub counts-alone : (s : List Entry) (i : ℕ) (e : Entry) → IsInOrder entry_order s → AllStand s → IsAt s i e → Counts s e → IsKeyBehind s i → ⊥
+counts-alone s i e r all a c b =
     let one : b.0 ≡ e = at-one s i b.0 e b.2 a in
-    let two : b.1 ≡ e = c.1 b.1 (standing-member s b.1 (at-member s (i + 1) b.1 b.3)) (sym b.4 ∙ ap (λ (v : Entry). v.key) one) in
+    let two : b.1 ≡ e = c.1 b.1 (all-stand s b.1 all (at-member s (i + 1) b.1 b.3)) (sym b.4 ∙ ap (λ (v : Entry). v.key) one) in
     places-apart s i b.0 b.1 r b.2 b.3 (one ∙ sym two)
 
-pub counts-first : (s : List Entry) (p i : ℕ) (e : Entry) → IsInOrder entry_order s → p + 1 ≡ i → IsAt s i e → Counts s e → IsKeyBehind s p → ⊥
-counts-first s p i e r n a c b =
+pub counts-first : (s : List Entry) (p i : ℕ) (e : Entry) → IsInOrder entry_order s → AllStand s → p + 1 ≡ i → IsAt s i e → Counts s e → IsKeyBehind s p → ⊥
+counts-first s p i e r all n a c b =
     let P : ℕ → Type 0 = λ v. IsAt s v b.1 in
     let two : b.1 ≡ e = at-one s i b.1 e (subst P n b.3) a in
-    let one : b.0 ≡ e = c.1 b.0 (standing-member s b.0 (at-member s p b.0 b.2)) (b.4 ∙ ap (λ (v : Entry). v.key) two) in
+    let one : b.0 ≡ e = c.1 b.0 (all-stand s b.0 all (at-member s p b.0 b.2)) (b.4 ∙ ap (λ (v : Entry). v.key) two) in
     places-apart s p b.0 b.1 r b.2 b.3 (one ∙ sym two)
 
 -- the test that answers by them
-pub alone-told : (s : List Entry) (i : ℕ) (b : Bool) → IsInOrder entry_order s → ((p : ℕ) → p + 1 ≡ i → IsKeyBehind s p → ⊥) → IsTrue b ↔ IsKeyBehind s i →
-    (e : Entry) → IsAt s i e → IsTrue (not b) ↔ Counts s e
-alone-told s i true r before h e a = (λ t. absurd (true≢false (sym t)), λ c. absurd (counts-alone s i e r a c (h.0 refl)))
-alone-told s i false r before h e a = (λ t. alone-counts s i e r a before (λ k. true≢false (sym (h.1 k))), λ c. refl)
+pub alone-told : (s : List Entry) (i : ℕ) (b : Bool) → IsInOrder entry_order s → AllStand s → ((p : ℕ) → p + 1 ≡ i → IsKeyBehind s p → ⊥) → IsTrue b ↔ IsKeyBehind s i →
+    (e : Entry) → IsAt s i e → IsNoWithdrawal e.content → IsTrue (not b) ↔ Counts s e
+alone-told s i true r all before h e a w = (λ t. absurd (true≢false (sym t)), λ c. absurd (counts-alone s i e r all a c (h.0 refl)))
+alone-told s i false r all before h e a w = (λ t. alone-counts s i e r all a before (λ k. true≢false (sym (h.1 k))) w, λ c. refl)
 
-pub not-alone : (s : List Entry) (p i : ℕ) → IsInOrder entry_order s → p + 1 ≡ i → IsKeyBehind s p → (e : Entry) → IsAt s i e → IsTrue false ↔ Counts s e
-not-alone s p i r n k e a = (λ t. absurd (true≢false (sym t)), λ c. absurd (counts-first s p i e r n a c k))
+pub not-alone : (s : List Entry) (p i : ℕ) → IsInOrder entry_order s → AllStand s → p + 1 ≡ i → IsKeyBehind s p → (e : Entry) → IsAt s i e → IsNoWithdrawal e.content → IsTrue false ↔ Counts s e
+not-alone s p i r all n k e a w = (λ t. absurd (true≢false (sym t)), λ c. absurd (counts-first s p i e r all n a c k))

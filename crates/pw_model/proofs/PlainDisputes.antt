@@ -8,14 +8,14 @@ use Rattle.pw_model.specs.declared.records.Key.{Key}
 use Rattle.pw_model.specs.declared.records.Entry.{Entry}
 use Rattle.pw_model.specs.declared.records.Dispute.{Dispute}
 use Rattle.pw_model.specs.Same.{same_key, same_entry, key_order, entry_order}
-use Rattle.pw_model.specs.Counting.{Member}
+use Rattle.pw_model.specs.Counting.{Member, standing}
 use Rattle.pw_model.specs.Payments.{keys, stands_in, sum_once}
 use Rattle.pw_model.specs.Lists.{IsInOrder, IsDispute, dispute_order, records_at, AreDisputes}
-use Rattle.pw_model.specs.inner.Search.{IsAt, IsKeyBehind, DisputesUnder, AreSorted}
+use Rattle.pw_model.specs.inner.Search.{AllStand, IsAt, IsKeyBehind, DisputesUnder, AreSorted}
 use Rattle.pw_model.proofs.Same.{same_key-decides, same_entry-decides}
-use Rattle.pw_model.proofs.Counting.{inserted-same}
+use Rattle.pw_model.proofs.Counting.{inserted-same, standing-part}
 use Rattle.pw_model.proofs.Once.{stands-decides, once-same, once-fresh, once-behind, once-zero}
-use Rattle.pw_model.proofs.Answers.{key-to, key-back, records-all}
+use Rattle.pw_model.proofs.Answers.{key-to, key-back, records-all, records-standing}
 use Rattle.pw_model.proofs.InOrder.{before-member}
 use Rattle.pw_model.proofs.EntryOrder.{before-all, keys-tie}
 use Rattle.pw_model.proofs.Places.{at-one, drop-at, dropped-at, at-dropped, taken-at, taken-inserted, parts-same, rising-drop, entry-apart, same-between, key-behind}
@@ -96,12 +96,6 @@ disputes-few s e some others ds n i h few l =
     let two : 2 ≤ d.contents = a.several in
     absurd (omega arith))) l
 
-pub is-dispute : (s : List Entry) (k : Key) (n : ℕ) → n ≡ sum_once same_entry (λ e. cond (same_key e.key k) 1 0) s → 2 ≤ n → IsDispute s (dispute k n)
-is-dispute s k n h two = record { several = two; number = h ∙ sym (records-all s k) }
-
-pub records-told : (s : List Entry) (k : Key) (n : ℕ) → n ≡ sum_once same_entry (λ e. cond (same_key e.key k) 1 0) s → n ≡ records_at s k
-records-told s k n h = h ∙ sym (records-all s k)
-
 -- a key that some record has
 has-one : (s : List Entry) (k : Key) → 1 ≤ sum_once same_entry (λ e. cond (same_key e.key k) 1 0) s → Member k (keys s)
 has-one [] k h = absurd (omega arith)
@@ -115,7 +109,13 @@ has-one (e ∷ s) k h =
     ]
 
 dispute-key : (s : List Entry) (d : Dispute) → IsDispute s d → Member d.key (keys s)
-dispute-key s d a = has-one s d.key (let n = a.number in let all = records-all s d.key in let two = a.several in omega (arith, n, all, two))
+dispute-key s d a =
+    let n = a.number in
+    let all = records-standing s d.key in
+    let two = a.several in
+    let f = key-to d.key (standing s) (has-one (standing s) d.key (omega (arith, n, all, two))) in
+    let M : Key → Type 0 = λ v. Member v (keys s) in
+    subst M f.1.1 (key-back f.0 s (standing-part s f.0 f.1.0))
 
 disputes-whole : (s sorted : List Entry) (ds : List Dispute) → AreSorted s sorted → DisputesUnder s sorted ds → AreDisputes s ds
 disputes-whole s sorted ds a l = record {
@@ -185,14 +185,14 @@ count-none s i e r a n = record {
   bound = omega arith;
 }
 
-pub count-whole : (s : List Entry) (i n : ℕ) (e : Entry) → IsInOrder entry_order s → IsAt s i e → IsCountUp s i n → (IsKeyBehind s i → ⊥) → n + 1 ≡ records_at s e.key
-count-whole s i n e r a h none =
+pub count-whole : (s : List Entry) (i n : ℕ) (e : Entry) → IsInOrder entry_order s → AllStand s → IsAt s i e → IsCountUp s i n → (IsKeyBehind s i → ⊥) → n + 1 ≡ records_at s e.key
+count-whole s i n e r all a h none =
     let f : Entry → ℕ = has_key e.key in
     let parts = once-same same_entry same_entry-decides f s (drop (i + 1) s ++ take (i + 1) s) (parts-same s (i + 1)) in
     let behind = once-behind same_entry f (drop (i + 1) s) (take (i + 1) s) (λ x m. none-with e.key x (λ k.
     let p = dropped-at s (i + 1) x m in
     none (key-behind s i p.0 e x r a p.2 (let l = p.1 in omega (arith, l)) k))) in
-    count-here s i n e r a h ∙ sym behind ∙ sym parts ∙ sym (records-all s e.key)
+    count-here s i n e r a h ∙ sym behind ∙ sym parts ∙ sym (records-all s e.key all)
 
 -- ---- the list of records in order, as far as it has come
 pub disputes-pass_again : (s : List Entry) (i : ℕ) (e : Entry) (ds : List Dispute) → IsAt s i e → IsKeyBehind s i → IsSoFar (DisputesUnder s) s i ds → IsSoFar (DisputesUnder s) s (i + 1) ds
@@ -204,17 +204,17 @@ disputes-pass_again s i e ds a b h =
     so-far-skip (DisputesUnder s) s i ds h (λ more x.
     disputes-again s e (drop i s) (drop (i + 1) s) more (drop-at s i e a) (sym ((stands-decides same_key same_key-decides (λ l. 0) e.key (keys (drop (i + 1) s))).1 m)) x)
 
-pub disputes-pass_few : (s : List Entry) (i n : ℕ) (e : Entry) (ds : List Dispute) → IsInOrder entry_order s → IsAt s i e → IsCountUp s i n → (IsKeyBehind s i → ⊥) → n + 1 < 2 →
+pub disputes-pass_few : (s : List Entry) (i n : ℕ) (e : Entry) (ds : List Dispute) → IsInOrder entry_order s → AllStand s → IsAt s i e → IsCountUp s i n → (IsKeyBehind s i → ⊥) → n + 1 < 2 →
     IsSoFar (DisputesUnder s) s i ds → IsSoFar (DisputesUnder s) s (i + 1) ds
-disputes-pass_few s i n e ds r a c none few h =
+disputes-pass_few s i n e ds r all a c none few h =
     so-far-skip (DisputesUnder s) s i ds h (λ more x.
-    disputes-few s e (drop i s) (drop (i + 1) s) more (n + 1) (drop-at s i e a) (count-whole s i n e r a c none) few x)
+    disputes-few s e (drop i s) (drop (i + 1) s) more (n + 1) (drop-at s i e a) (count-whole s i n e r all a c none) few x)
 
-pub disputes-push : (s : List Entry) (i n : ℕ) (e : Entry) (ds es : List Dispute) → IsInOrder entry_order s → IsAt s i e → IsCountUp s i n → (IsKeyBehind s i → ⊥) → 2 ≤ n + 1 →
+pub disputes-push : (s : List Entry) (i n : ℕ) (e : Entry) (ds es : List Dispute) → IsInOrder entry_order s → AllStand s → IsAt s i e → IsCountUp s i n → (IsKeyBehind s i → ⊥) → 2 ≤ n + 1 →
     es ≡ ds ++ dispute e.key (n + 1) ∷ [] → IsSoFar (DisputesUnder s) s i ds → IsSoFar (DisputesUnder s) s (i + 1) es
-disputes-push s i n e ds es r a c none two q h =
+disputes-push s i n e ds es r all a c none two q h =
     let d : Dispute = dispute e.key (n + 1) in
-    let is : IsDispute s d = record { several = two; number = count-whole s i n e r a c none } in
+    let is : IsDispute s d = record { several = two; number = count-whole s i n e r all a c none } in
     let last : stands_in same_key e.key (keys (drop (i + 1) s)) ≡ false = elim (cases_Bool (stands_in same_key e.key (keys (drop (i + 1) s)))) [
       | inl t ↦ (
           let f = key-to e.key (drop (i + 1) s) ((stands-decides same_key same_key-decides (λ l. 0) e.key (keys (drop (i + 1) s))).0 t) in

@@ -17,7 +17,7 @@ use Rattle.pw_model.specs.Same.{entry_order, key_numbers, content_numbers}
 use Rattle.pw_model.specs.Counting.{Member, Counts, contents_at, wh_of, point, reading_key}
 use Rattle.pw_model.specs.Lists.{IsInOrder, IsFall, fall_order, fall_numbers, reading_entry, AreFalls}
 use Rattle.pw_model.specs.inner.Search.{IsEarliestAmong, IsAt, FallsFrom, high_reading, AreSorted}
-use Rattle.pw_model.proofs.Counting.{standing-part, one-is_counting}
+use Rattle.pw_model.proofs.Counting.{standing-part, counts-one, one-is_counting}
 use Rattle.pw_model.proofs.Found.{no-point, wh-back}
 use Rattle.pw_model.proofs.InOrder.{before-member}
 use Rattle.pw_model.proofs.EntryOrder.{before-all}
@@ -68,7 +68,7 @@ falls-one s f g a b h =
 
 -- the earlier reading of a fall counts
 pub high-counts : (s : List Entry) (f : Fall) → IsFall (contents_at s) f → Counts s (high_reading f)
-high-counts s f a = (one-is_counting s (high_reading f)).0 (wh-back (contents_at s (reading_key f.meter.0 f.register f.from)) f.high a.neighbours.first)
+high-counts s f a = (one-is_counting s (high_reading f) tt).0 (wh-back (contents_at s (reading_key f.meter.0 f.register f.from)) f.high a.neighbours.first)
 
 pub fall-not_counting : (s : List Entry) (e : Entry) (b : Bool) → (IsTrue b ↔ Counts s e) → b ≡ false → (f : Fall) → IsFall (contents_at s) f → e ≡ high_reading f → ⊥
 fall-not_counting s e b h n f a i =
@@ -107,7 +107,7 @@ found-neighbours end s e m r x w y v h c n =
     let told = n end (omega arith) in
     record {
       earlier = (let l = told.1 in omega (arith, l));
-      first = ap wh_of ((one-is_counting s (reading_entry m.0 r x w)).1 here);
+      first = ap wh_of (counts-one s (reading_entry m.0 r x w) here);
       second = told.0;
       between = λ t l k. no-point s m.0 r (x + 1) y t told.3 (omega arith) k;
     }

@@ -15,10 +15,10 @@ use Rattle.pw_flow.specs.inner.Plain.{times_of}
 use Rattle.pw_flow.proofs.Points.{option-cases}
 use Rattle.pw_model.specs.declared.records.Entry.{Entry}
 use Rattle.pw_model.specs.declared.records.ReadingRow.{ReadingRow}
-use Rattle.pw_model.specs.Counting.{Member, Counts, contents_at, wh_of, point, reading_key}
+use Rattle.pw_model.specs.Counting.{Member, is_withdrawn, Counts, contents_at, wh_of, point, reading_key}
 use Rattle.pw_model.specs.Lists.{IsInOrder, reading_order, reading_numbers, reading_entry, IsReading, AreReadings}
 use Rattle.pw_model.specs.inner.Search.{IsAt}
-use Rattle.pw_model.proofs.Counting.{standing-part, standing-member, one-is_counting}
+use Rattle.pw_model.proofs.Counting.{standing-part, counts-one, one-is_counting}
 use Rattle.pw_model.proofs.Found.{wh-back}
 use Rattle.pw_model.proofs.InOrder.{by-numbers, before-member}
 use Rattle.pw_model.proofs.InKeyOrder.{cmp-less, cmp-greater}
@@ -113,8 +113,8 @@ readings-apart s m r rows h a b k l t u e =
     let x : IsReading s m r a = (h.members a).0 k in
     let y : IsReading s m r b = (h.members b).0 l in
     let q : reading_key m r b.instant ≡ reading_key m r a.instant = ap (λ (v : ℕ). reading_key m r v) (sym e) in
-    let same : reading_entry m r b.instant b.wh ≡ reading_entry m r a.instant a.wh = (x.counted.0 t).1 (reading_entry m r b.instant b.wh) (standing-member s (reading_entry m r b.instant b.wh) y.held) q in
-    rows-one s m r a b (sym same) x.counted y.counted
+    let same : reading_entry m r b.instant b.wh ≡ reading_entry m r a.instant a.wh = (x.counted.0 t).1 (reading_entry m r b.instant b.wh) (y.counted.0 u).0 q in
+    rows-one s s m r a b (sym same) x.counted y.counted x.withdrawn y.withdrawn
 
 pub points-rise : (s : List Entry) (m : ℕ) (r : Register) (rows : List ReadingRow) → AreReadings s m r rows → IsStrictlyIncreasing (times_of (counted rows))
 points-rise s m r rows h = IsStrictlyIncreasing-from_sorted (times_of (counted rows)) (points-sorted rows h.rising (readings-apart s m r rows h))
@@ -124,13 +124,13 @@ points-told s m r rows t h =
     elim (option-cases (point (contents_at s) m r t)) [
       | inl n ↦ value-none t rows (λ a k c e. (
           let x : IsReading s m r a = (h.members a).0 k in
-          let w : point (contents_at s) m r a.instant ≡ Some a.wh = ap wh_of ((one-is_counting s (reading_entry m r a.instant a.wh)).1 (x.counted.0 c)) in
+          let w : point (contents_at s) m r a.instant ≡ Some a.wh = ap wh_of (counts-one s (reading_entry m r a.instant a.wh) (x.counted.0 c)) in
           let z : Some a.wh ≡ None = sym w ∙ ap (λ (v : ℕ). point (contents_at s) m r v) e ∙ n in
           cc)) ∙ sym n
       | inr f ↦ (
-          let c : Counts s (reading_entry m r t f.0) = (one-is_counting s (reading_entry m r t f.0)).0 (wh-back (contents_at s (reading_key m r t)) f.0 f.1) in
-          let a : ReadingRow = record { instant = t; wh = f.0; counted = true } in
-          let k : Member a rows = (h.members a).1 (record { held = standing-part s (reading_entry m r t f.0) c.0; counted = (λ x. c, λ x. refl) }) in
+          let c : Counts s (reading_entry m r t f.0) = (one-is_counting s (reading_entry m r t f.0) tt).0 (wh-back (contents_at s (reading_key m r t)) f.0 f.1) in
+          let a : ReadingRow = record { instant = t; wh = f.0; counted = true; withdrawn = is_withdrawn s (reading_entry m r t f.0) } in
+          let k : Member a rows = (h.members a).1 (record { held = standing-part s (reading_entry m r t f.0) c.0; counted = (λ x. c, λ x. refl); withdrawn = refl }) in
           value-some a rows (readings-apart s m r rows h) k refl ∙ sym f.1)
     ]
 

@@ -1,6 +1,6 @@
 -- What is topped up is the sum over the counting top-ups.
-use Rattle.std.proofs.Common.{◌≡◌, ◌⊎◌, ◌↔◌, ℕ, ◌==◌, List, [], ◌∷◌, ◌++◌, refl, ap, sym, subst, ◌∙◌, inl, inr, arith}
-use Rattle.std.proofs.lemmas.Bool.{cases_Bool, true≢false, eqb-true, eqb-false, eq-eqb}
+use Rattle.std.proofs.Common.{◌≡◌, ◌⊎◌, ◌↔◌, ℕ, ◌==◌, List, [], ◌∷◌, refl, ap, sym, subst, ◌∙◌, inl, inr, arith}
+use Rattle.std.proofs.lemmas.Bool.{cases_Bool, eqb-true, eqb-false, eq-eqb}
 use Rattle.std.proofs.lemmas.List.Sums.{sum_by-cons}
 use Rattle.std.specs.List.{sum_by}
 use Rattle.pw_model.specs.declared.records.Key.{Key}
@@ -10,30 +10,18 @@ use Rattle.pw_model.specs.declared.records.Contents.{Contents}
 use Rattle.pw_model.specs.declared.records.Contents.TheVariants.{Nothing, One, Several}
 use Rattle.pw_model.specs.declared.records.Entry.{Entry}
 use Rattle.pw_model.specs.Same.{same_key, entry_order}
-use Rattle.pw_model.specs.Counting.{Member, SameMembers, EachOnce, Counts, contents_at}
+use Rattle.pw_model.specs.Counting.{Member, EachOnce, Counts, contents_at}
 use Rattle.pw_model.specs.Lists.{IsInOrder}
 use Rattle.pw_model.specs.Payments.{sum_once, keys, cents_for, cents_in, IsTopUpFor, topped_up}
 use Rattle.pw_model.specs.Laws.{AreTopUps, TopUpsAddUp}
 use Rattle.pw_model.proofs.Same.{same_key-decides}
-use Rattle.pw_model.proofs.Counting.{entry, standing-part, one-is_counting, counts-known}
-use Rattle.pw_model.proofs.Once.{stands-decides, once-same, once-nothing, once-fresh}
+use Rattle.pw_model.proofs.Counting.{entry, standing-part, one-is_counting, counts-one, counts-known}
+use Rattle.pw_model.proofs.Once.{once-fresh}
 use Rattle.pw_model.proofs.Answers.{key-to, key-back}
+use Rattle.pw_model.proofs.Payments.{sum-part}
 use Rattle.pw_model.proofs.InOrder.{before-member}
 use Rattle.pw_model.proofs.EntryOrder.{entry-strict}
 use Rattle.pw_model.proofs.Existence.{sorted-there_is}
-use Rattle.pw_model.proofs.Places.{member-left, member-right, member-split}
-
--- ---- a sum over keys of which some alone give something
-parts-zero : (f : Key → ℕ) (xs ys : List Key) → ((x : Key) → Member x xs → (Member x ys → ⊥) → f x ≡ 0) → sum_once same_key f (xs ++ ys) ≡ sum_once same_key f ys
-parts-zero f [] ys h = refl
-parts-zero f (x ∷ xs) ys h =
-    once-nothing same_key f x (xs ++ ys) (λ n. h x (inl refl) (λ m. true≢false (sym ((stands-decides same_key same_key-decides f x (xs ++ ys)).1 (member-right x xs ys m)) ∙ n)))
-    ∙ parts-zero f xs ys (λ y m. h y (inr m))
-
-sum-part : (f : Key → ℕ) (xs ys : List Key) → ((y : Key) → Member y ys → Member y xs) → ((x : Key) → Member x xs → (Member x ys → ⊥) → f x ≡ 0) → sum_once same_key f xs ≡ sum_once same_key f ys
-sum-part f xs ys p h =
-    let same : SameMembers xs (xs ++ ys) = λ x. (λ m. member-left x xs ys m, λ m. elim (member-split x xs ys m) [ inl a ↦ a | inr b ↦ p x b ]) in
-    once-same same_key same_key-decides f xs (xs ++ ys) same ∙ parts-zero f xs ys h
 
 -- ---- the sum over a list of them
 top-up-cents : (a : ℕ) (c : Content) → IsTopUpFor a c → cents_for a (One c) ≡ cents_in c
@@ -53,7 +41,7 @@ sum-keys s a (e ∷ es) o h =
     let same : g.0 ≡ e = here.0.1 g.0 (h g.0 (inr g.1.0)).0.0 g.1.1 in
     let P : Entry → Type 0 = λ v. Member v es in
     o.0 (subst P same g.1.0)) in
-    let first : f e.key ≡ cents_in e.content = ap (cents_for a) ((one-is_counting s e).1 here.0) ∙ top-up-cents a e.content here.1 in
+    let first : f e.key ≡ cents_in e.content = ap (cents_for a) (counts-one s e here.0) ∙ top-up-cents a e.content here.1 in
     let rest = sum-keys s a es o.1 (λ g m. h g (inr m)) in
     let left = once-fresh same_key same_key-decides f e.key (keys es) fresh in
     let right = sum_by-cons (λ (g : Entry). cents_in g.content) e es in
@@ -68,7 +56,7 @@ other-key s a k (One (content.Assignment o)) h n = refl
 other-key s a k (One content.Withdrawal) h n = refl
 other-key s a k (One (content.TopUp b c t)) h n =
     elim (cases_Bool (b.0 == a)) [
-      | inl q ↦ absurd (n (content.TopUp b c t) ((one-is_counting s (entry k (content.TopUp b c t))).0 (sym h)) (eqb-true b.0 a q))
+      | inl q ↦ absurd (n (content.TopUp b c t) ((one-is_counting s (entry k (content.TopUp b c t)) tt).0 (sym h)) (eqb-true b.0 a q))
       | inr q ↦ rw q
     ]
 

@@ -16,7 +16,7 @@ use Rattle.pw_tariff.specs.Office.{OfficeRules}
 use Rattle.pw_model.specs.Office.{HasBands, AllOfOffice, IsOfOffice, HasOwner}
 use Rattle.pw_model.specs.Energy.{asked_seconds, owner_at, over_registers, share_of, meter_share, energy_where, of_band, account, over_owners, over_bands, register_rises, all_rises}
 use Rattle.pw_model.specs.Laws.{NothingIsLost}
-use Rattle.pw_model.proofs.Counting.{one-is_counting, standing-part, entry}
+use Rattle.pw_model.proofs.Counting.{one-stands, standing-part, entry}
 use Rattle.pw_flow.specs.Time.{sum_over}
 use Rattle.pw_flow.specs.Energy.{kept, register_energy}
 use Rattle.pw_flow.specs.Flow.{flow, rises}
@@ -100,7 +100,7 @@ contents-fit office s m t (One (content.TopUp a c i)) h e = tt
 contents-fit office s m t (One content.Withdrawal) h e = tt
 contents-fit office s m t (One (content.Assignment o)) h e =
     let f : Entry = entry (assignment_key m t) (content.Assignment o) in
-    let i : IsOfOffice office f = h f (standing-part s f ((one-is_counting s f).0 e).0) in
+    let i : IsOfOffice office f = h f (standing-part s f (one-stands s (assignment_key m t) (content.Assignment o) e)) in
     i.2
 
 start-fits : (office : OfficeRules) (s : List Entry) (m t : ℕ) → AllOfOffice office s → OwnerFits office (start (contents_at s) m t)

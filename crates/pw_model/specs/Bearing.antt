@@ -1,4 +1,4 @@
--- Where one more record changes what counts. It serves the proofs of a book, and is the contract of a function of the module
+-- Where one more record may change what is told. It serves the proofs of a book, and is the contract of a function of the module
 -- `laws`.
 use Rattle.std.specs.Prelude.{◌≡◌, ℕ, ◌+◌, List}
 use Rattle.pw_tariff.specs.Office.{OfficeRules}

@@ -1,6 +1,6 @@
 -- Laws on what one more record changes. They serve the proofs of a book, and are the contracts of functions of the module
 -- `laws`.
-use Rattle.std.specs.Prelude.{◌≡◌, ℕ, ◌+◌, ◌<◌, ◌≤◌, true, cond, Option, Some, None, List, ◌∷◌, ◌⊎◌}
+use Rattle.std.specs.Prelude.{◌≡◌, ℕ, ◌+◌, ◌<◌, ◌≤◌, true, false, cond, Option, Some, None, List, ◌∷◌, ◌⊎◌}
 use Rattle.pw_obis.specs.declared.reference.Register.{Register}
 use Rattle.pw_tariff.specs.declared.ids.AccountId.{AccountId}
 use Rattle.pw_tariff.specs.declared.ids.Direction.{Direction}
@@ -10,8 +10,10 @@ use Rattle.pw_model.specs.declared.records.Key.{Key}
 use Rattle.pw_model.specs.declared.records.Contents.{Contents}
 use Rattle.pw_model.specs.declared.records.Entry.{Entry}
 use Rattle.pw_model.specs.Same.{same_direction, direction_of}
-use Rattle.pw_model.specs.Counting.{IsInserted, joined, contents_at, point, start}
+use Rattle.pw_model.specs.Counting.{IsInserted, withdraws, is_withdrawn, joined, contents_at, point, start}
 use Rattle.pw_tariff.specs.Office.{OfficeRules}
+use Rattle.pw_model.specs.Bearing.{bears_on}
+use Rattle.pw_model.specs.Office.{AllOfOffice}
 use Rattle.pw_model.specs.Energy.{Asked, owner_at, share_of, over_registers, asked_seconds, energy_where}
 use Rattle.pw_model.specs.Payments.{topped_up, cents_for}
 
@@ -37,18 +39,19 @@ OneMoreReading = (office : OfficeRules) (old new : Key → Contents) (m : ℕ) (
     energy_where office new d asked + in_direction d r (cell_between seconds below above)
     ≡ energy_where office old d asked + in_direction d r (cell_between seconds below (Some (z, w)) + cell_between seconds (Some (z, w)) above)
 
--- one more record changes the contents at its key alone
+-- the contents at its key alone change
 pub record ChangesAtOneKey (s t : List Entry) (e : Entry) : Type 0 where
   pub here : contents_at t e.key ≡ joined e.content (contents_at s e.key)
   pub elsewhere : (k : Key) → (k ≡ e.key → ⊥) → contents_at t k ≡ contents_at s k
 
+-- one more record that withdraws none, and that none withdraws, changes the contents at its key alone
 abbrev pub OneMoreRecord : Type 0
-OneMoreRecord = (s t : List Entry) (e : Entry) → IsInserted e s t → ChangesAtOneKey s t e
+OneMoreRecord = (s t : List Entry) (e : Entry) → ((x : Entry) → withdraws x e.key ≡ false) → is_withdrawn s e ≡ false → IsInserted e s t → ChangesAtOneKey s t e
 
--- whatever record comes, what is topped up changes by what counts at its key
+-- whatever record of an office comes, what is topped up changes by what counts at the key that it bears on
 abbrev pub OneMorePayment : Type 0
-OneMorePayment = (s t : List Entry) (e : Entry) → IsInserted e s t → (a : ℕ) →
-    topped_up t a + cents_for a (contents_at s e.key) ≡ topped_up s a + cents_for a (contents_at t e.key)
+OneMorePayment = (office : OfficeRules) (s t : List Entry) (e : Entry) → AllOfOffice office t → IsInserted e s t → (a : ℕ) →
+    topped_up t a + cents_for a (contents_at s (bears_on e)) ≡ topped_up s a + cents_for a (contents_at t (bears_on e))
 
 -- of this meter another assignment may count from this second on; the other assignments that count are the same, and so are
 -- the readings that count

@@ -1,6 +1,6 @@
 -- What counts in a set of records, given as a list in any order.
 -- (Definitions of this project.)
-use Rattle.std.specs.Prelude.{◌≡◌, ℕ, cond, Option, Some, None, List, [], ◌∷◌, ◌++◌, ◌⊎◌, ◌↔◌}
+use Rattle.std.specs.Prelude.{◌≡◌, ℕ, Bool, false, ◌||◌, cond, Option, Some, None, List, [], ◌∷◌, ◌++◌, ◌⊎◌, ◌↔◌}
 use Rattle.pw_tariff.specs.declared.ids.AccountId.{AccountId}
 use Rattle.pw_obis.specs.declared.reference.Register.{Register}
 use Rattle.pw_model.specs.declared.records.Key.{Key}
@@ -12,7 +12,7 @@ use Rattle.pw_model.specs.declared.records.Named.{Named}
 use Rattle.pw_model.specs.declared.records.Named.TheVariants as named
 use Rattle.pw_model.specs.declared.records.Contents.{Contents}
 use Rattle.pw_model.specs.declared.records.Contents.TheVariants.{Nothing, One, Several}
-use Rattle.pw_model.specs.Same.{same_key, same_content}
+use Rattle.pw_model.specs.Same.{same_key, same_content, same_entry}
 
 -- x is a member of the list
 abbrev pub Member : {X : Type 0} → X → List X → Type 0
@@ -46,13 +46,34 @@ named_of (key.Assignment m t) (content.Assignment o) = Some (named.Assignment m 
 named_of (key.TopUp r) (content.TopUp a c t) = Some (named.TopUp r a c t)
 named_of _ _ = None
 
--- the records that stand: all of them
-unfoldable pub standing : List Entry → List Entry
-standing s = s
+-- ---- which records stand, and which of them count
+-- whether a key is that of a withdrawal that names e
+abbrev pub withdraws : Entry → Key → Bool
+withdraws e (key.Withdrawal n) = same_entry (named_entry n) e
+withdraws e _ = false
 
--- a record counts when it stands and no other that stands has its key
+-- whether a record of the list withdraws e
+abbrev pub is_withdrawn : List Entry → Entry → Bool
+is_withdrawn [] e = false
+is_withdrawn (f ∷ s) e = withdraws e f.key || is_withdrawn s e
+
+-- those of some records that no record of s withdraws
+abbrev pub standing_among : List Entry → List Entry → List Entry
+standing_among s [] = []
+standing_among s (e ∷ some) = cond (is_withdrawn s e) (standing_among s some) (e ∷ standing_among s some)
+
+-- the records that stand: those that none withdraws, whichever of the two comes first
+unfoldable pub standing : List Entry → List Entry
+standing s = standing_among s s
+
+-- the content of a reading, an assignment or a top-up
+abbrev pub IsNoWithdrawal : Content → Type 0
+IsNoWithdrawal content.Withdrawal = ⊥
+IsNoWithdrawal _ = Unit {0}
+
+-- a record counts when it stands, no other that stands has its key, and it is no withdrawal
 abbrev pub Counts : List Entry → Entry → Type 0
-Counts s e = Member e (standing s) × ((f : Entry) → Member f (standing s) → f.key ≡ e.key → f ≡ e)
+Counts s e = Member e (standing s) × ((f : Entry) → Member f (standing s) → f.key ≡ e.key → f ≡ e) × IsNoWithdrawal e.content
 
 -- one more content at a key
 abbrev pub joined : Content → Contents → Contents

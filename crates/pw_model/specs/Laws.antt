@@ -11,7 +11,7 @@ use Rattle.pw_model.specs.declared.records.TotalKey.TheVariants.{Energy, TopUps}
 use Rattle.pw_model.specs.declared.records.Fall.{Fall}
 use Rattle.pw_model.specs.declared.records.Dispute.{Dispute}
 use Rattle.pw_model.specs.declared.records.ReadingRow.{ReadingRow}
-use Rattle.pw_model.specs.Counting.{Member, SameMembers, EachOnce, Counts, contents_at}
+use Rattle.pw_model.specs.Counting.{Member, SameMembers, EachOnce, IsNoWithdrawal, Counts, contents_at}
 use Rattle.pw_tariff.specs.Office.{OfficeRules}
 use Rattle.pw_model.specs.Office.{HasBands, HasOwner, AllOfOffice}
 use Rattle.pw_model.specs.Energy.{energy, over_owners, over_bands, all_rises}
@@ -19,9 +19,9 @@ use Rattle.pw_model.specs.Payments.{topped_up, balance, cents_in, IsTopUpFor}
 use Rattle.pw_model.specs.Lists.{AreFalls, AreDisputes, AreReadings, record_count}
 use Rattle.pw_model.specs.Shelf.{total_among}
 
--- One is told exactly for the record that counts
+-- of what is no withdrawal, One is told exactly for the record that counts
 abbrev pub OneIsCounting : Type 0
-OneIsCounting = (s : List Entry) (e : Entry) → (contents_at s e.key ≡ One e.content) ↔ Counts s e
+OneIsCounting = (s : List Entry) (e : Entry) → IsNoWithdrawal e.content → (contents_at s e.key ≡ One e.content) ↔ Counts s e
 
 -- two lists of one set have the same contents at every key, and so the same answers
 pub record HaveSameAnswers (office : OfficeRules) (s t : List Entry) : Type 0 where

@@ -21,7 +21,7 @@ pub mod Laws
 pub mod Bounds
 -- and these where a contract of another crate names them:
 -- Changes: what one more record changes, for the proofs of a book
--- Bearing: where one more record changes what counts, for the proofs of a book
+-- Bearing: where one more record may change what is told, for the proofs of a book
 -- Kinds: the records of a kind in a list
 -- Seconds: what a function of the second tells, in order
 pub mod Changes

@@ -16,7 +16,7 @@ use Rattle.pw_model.specs.declared.records.Dispute.{Dispute}
 use Rattle.pw_model.specs.declared.records.ReadingRow.{ReadingRow}
 use Rattle.pw_tariff.specs.Office.{register_place}
 use Rattle.pw_model.specs.Same.{same_key, same_entry, key_order}
-use Rattle.pw_model.specs.Counting.{Member, standing, Counts, contents_at, point, reading_key}
+use Rattle.pw_model.specs.Counting.{Member, is_withdrawn, standing, Counts, contents_at, point, reading_key}
 use Rattle.pw_model.specs.Payments.{sum_once}
 
 -- x stands before all of a list
@@ -55,7 +55,7 @@ AreFalls s = Lists fall_order (IsFall (contents_at s))
 unfoldable pub records_at : List Entry → Key → ℕ
 records_at s k = sum_once same_entry (λ e. cond (same_key e.key k) 1 0) (standing s)
 
--- two or more records have the key
+-- two or more records that stand have the key
 pub record IsDispute (s : List Entry) (d : Dispute) : Type 0 where
   pub several : 2 ≤ d.contents
   pub number : d.contents ≡ records_at s d.key
@@ -71,10 +71,11 @@ AreDisputes s = Lists dispute_order (IsDispute s)
 abbrev pub reading_entry : ℕ → Register → ℕ → ℕ → Entry
 reading_entry m r t w = record { key = reading_key m r t; content = content.Reading w }
 
--- a reading that is held, marked where it counts
+-- a reading that is held, marked where it counts and where it is withdrawn
 pub record IsReading (s : List Entry) (m : ℕ) (r : Register) (row : ReadingRow) : Type 0 where
   pub held : Member (reading_entry m r row.instant row.wh) s
   pub counted : IsTrue row.counted ↔ Counts s (reading_entry m r row.instant row.wh)
+  pub withdrawn : row.withdrawn ≡ is_withdrawn s (reading_entry m r row.instant row.wh)
 
 -- by instant, then by Wh
 unfoldable pub reading_numbers : ReadingRow → List ℕ

@@ -14,7 +14,7 @@ ghost use Rattle.pw_model.specs.Changes.{OneMoreReading};
 ghost use Rattle.pw_model.specs.Office.{SoundOfficeIsOffice};
 ghost use Rattle.pw_model.specs.Shelf.{EmptyIsTrue, TrueContentsAreAlike, TrueTotalsAreBounded};
 
-/// The contents at a key are one exactly for the record that counts.
+/// The contents at a key are one exactly for the record that counts, of what is no withdrawal.
 pub fn one_is_counting()
     ensures { OneIsCounting }
 {}
@@ -51,17 +51,17 @@ pub fn one_more_reading()
     ensures { OneMoreReading }
 {}
 
-/// What one more record changes: the contents at its key alone.
+/// What one more record changes that withdraws none, and that none withdraws: the contents at its key alone.
 pub fn one_more_record()
     ensures { OneMoreRecord }
 {}
 
-/// Where one more record changes what counts: at its own key, and at that of the record that a withdrawal names.
+/// Where one more record may change what is told: at its own key, and at that of the record that a withdrawal names.
 pub fn one_more_bearing()
     ensures { OneMoreBearing }
 {}
 
-/// What one more record changes of what is topped up.
+/// What one more record of an office changes of what is topped up.
 pub fn one_more_payment()
     ensures { OneMorePayment }
 {}

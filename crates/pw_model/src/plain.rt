@@ -14,6 +14,7 @@ mod payments;
 mod points;
 mod reading_list;
 mod search;
+mod standing;
 mod terms;
 
 pub use balances::balance;

@@ -86,14 +86,14 @@ pub struct Entry {
     pub content: Content,
 }
 
-/// What the records of a set say of a key.
+/// What the records of a set that stand, as none withdraws them, say of a key.
 #[derive(Clone, Copy, Debug, PartialEq, Eq)]
 pub enum Contents {
-    /// No record has the key.
+    /// No record that stands has the key.
     Nothing,
-    /// One record has it, and counts.
+    /// One record that stands has it; it counts, where it is no withdrawal.
     One(Content),
-    /// Several records have it, and none counts.
+    /// Several records that stand have it, and none counts.
     Several,
 }
 
@@ -123,17 +123,18 @@ pub struct Fall {
     pub low: WattHours,
 }
 
-/// A key that two or more records have, and how many.
+/// A key that two or more records that stand have, and how many.
 #[derive(Clone, Copy, Debug, PartialEq, Eq)]
 pub struct Dispute {
     pub key: Key,
     pub contents: u32,
 }
 
-/// A reading that is held of a register, and whether it counts.
+/// A reading that is held of a register, whether it counts, and whether it is withdrawn.
 #[derive(Clone, Copy, Debug, PartialEq, Eq)]
 pub struct ReadingRow {
     pub instant: Instant,
     pub wh: WattHours,
     pub counted: bool,
+    pub withdrawn: bool,
 }

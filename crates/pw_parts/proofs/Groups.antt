@@ -5,11 +5,12 @@ use Rattle.std.proofs.Math.Seq.{take-length}
 use Rattle.std.proofs.Math.ListN.{drop_of_length-le}
 use Rattle.std.proofs.lemmas.Bool.{true≢false}
 use Rattle.pw_model.specs.declared.records.Entry.{Entry}
-use Rattle.pw_model.specs.Counting.{Member, SameMembers, Counts}
+use Rattle.pw_model.specs.Counting.{Member, SameMembers, IsNoWithdrawal, standing, Counts}
 use Rattle.pw_model.specs.Lists.{IsInOrder, Lists}
 use Rattle.pw_model.specs.Same.{same_key, entry_order}
-use Rattle.pw_model.proofs.Answers.{counts-half}
-use Rattle.pw_model.proofs.Counting.{standing-part, standing-member}
+use Rattle.pw_model.proofs.Counting.{standing-part, all-stand}
+use Rattle.pw_model.proofs.Standing.{are-standing, counts-again}
+use Rattle.pw_model.specs.inner.Search.{AreStanding}
 use Rattle.pw_model.proofs.Same.{same_key-decides}
 use Rattle.pw_model.proofs.Places.{member-left, member-right, member-split}
 use Rattle.pw_model.proofs.InOrder.{before-member}
@@ -103,10 +104,10 @@ joined-up done others first count all e =
     let whole : take count others ++ drop count others ≡ others = take-append-drop count others in
     e ∙ ap (λ xs. done ++ first ∷ xs) (sym whole) ∙ sym (append_assoc done (first ∷ take count others) (drop count others))
 
--- a record with a key of its own counts
-pub alone-counts : (done others : List Entry) (first : Entry) (all : List Entry) → all ≡ done ++ first ∷ others → AreApart done (first ∷ others) → HasSameKey first others 0 → Counts all first
-alone-counts done others first all e a h = (
-  (let P : List Entry → Type 0 = λ xs. Member first xs in standing-member all first (subst P (sym e) (member-right first done (first ∷ others) (inl refl)))),
+-- a record that is no withdrawal, with a key of its own, counts
+pub alone-counts : (done others : List Entry) (first : Entry) (all : List Entry) → standing all ≡ all → all ≡ done ++ first ∷ others → AreApart done (first ∷ others) → HasSameKey first others 0 → IsNoWithdrawal first.content → Counts all first
+alone-counts done others first all w e a h n = (
+  (let P : List Entry → Type 0 = λ xs. Member first xs in all-stand all first w (subst P (sym e) (member-right first done (first ∷ others) (inl refl)))),
   λ f m k. (
       let P : List Entry → Type 0 = λ xs. Member f xs in
       let n : Member f (done ++ first ∷ others) = subst P e (standing-part all f m) in
@@ -115,13 +116,14 @@ alone-counts done others first all e a h = (
         | inr (inl i) ↦ i
         | inr (inr t) ↦ absurd (h.apart f t k)
       ]),
+  n,
 )
 
 -- records of one key don't count
-pub together-don't : (done others : List Entry) (first : Entry) (count : ℕ) (all : List Entry) → IsInOrder entry_order all → all ≡ done ++ first ∷ others → HasSameKey first others (suc count) →
+pub together-don't : (done others : List Entry) (first : Entry) (count : ℕ) (all : List Entry) → standing all ≡ all → IsInOrder entry_order all → all ≡ done ++ first ∷ others → HasSameKey first others (suc count) →
     (x : Entry) → Member x (first ∷ take (suc count) others) → Counts all x → ⊥
-together-don't done [] first count all r e h x m c = absurd (let l = h.within in omega (arith, l))
-together-don't done (second ∷ others) first count all r e h x m c =
+together-don't done [] first count all w r e h x m c = absurd (let l = h.within in omega (arith, l))
+together-don't done (second ∷ others) first count all w r e h x m c =
     let rest : IsInOrder entry_order (first ∷ second ∷ others) = rising-right entry_order done (first ∷ second ∷ others) (rw e at r) in
     let P : List Entry → Type 0 = λ xs. Member first xs in
     let Q : List Entry → Type 0 = λ xs. Member second xs in
@@ -129,14 +131,26 @@ together-don't done (second ∷ others) first count all r e h x m c =
     let two : Member second all = subst Q (sym e) (member-right second done (first ∷ second ∷ others) (inr (inl refl))) in
     let alike : second.key ≡ first.key = h.same second (inl refl) in
     let key : x.key ≡ first.key = elim m [ inl i ↦ ap (λ (f : Entry). f.key) i | inr t ↦ h.same x t ] in
-    let a : first ≡ x = c.1 first (standing-member all first one) (sym key) in
-    let b : second ≡ x = c.1 second (standing-member all second two) (alike ∙ sym key) in
+    let a : first ≡ x = c.1 first (all-stand all first w one) (sym key) in
+    let b : second ≡ x = c.1 second (all-stand all second w two) (alike ∙ sym key) in
     not-before-itself first second rest.0.0 (a ∙ sym b)
 
+-- and a withdrawal doesn't
+withdrawal-doesn't : (others : List Entry) (first : Entry) (all : List Entry) → (IsNoWithdrawal first.content → ⊥) → (x : Entry) → Member x (first ∷ take 0 others) → Counts all x → ⊥
+withdrawal-doesn't others first all n x m c = elim m [
+  | inl i ↦ (let P : Entry → Type 0 = λ v. IsNoWithdrawal v.content in n (subst P i c.2))
+  | inr k ↦ absurd k
+]
+
+none-counts : (done others : List Entry) (first : Entry) (count : ℕ) (all : List Entry) → standing all ≡ all → IsInOrder entry_order all → all ≡ done ++ first ∷ others → HasSameKey first others count →
+    ((count ≡ 0) × IsNoWithdrawal first.content → ⊥) → (x : Entry) → Member x (first ∷ take count others) → Counts all x → ⊥
+none-counts done others first zero all w r e h n = withdrawal-doesn't others first all (λ i. n (refl, i))
+none-counts done others first (suc count) all w r e h n = together-don't done others first count all w r e h
+
 -- a step over records of one key
-pub step-alone : (done others : List Entry) (first : Entry) (all counted : List Entry) → IsInOrder entry_order all → all ≡ done ++ first ∷ others → AreApart done (first ∷ others) → HasSameKey first others 0 →
+pub step-alone : (done others : List Entry) (first : Entry) (all counted : List Entry) → standing all ≡ all → IsInOrder entry_order all → all ≡ done ++ first ∷ others → AreApart done (first ∷ others) → HasSameKey first others 0 → IsNoWithdrawal first.content →
     Lists entry_order (CountsSoFar all done) counted → Lists entry_order (CountsSoFar all (done ++ first ∷ [])) (counted ++ first ∷ [])
-step-alone done others first all counted r e a h l = record {
+step-alone done others first all counted w r e a h n l = record {
   rising = rising-push entry_order counted first l.rising (λ x m.
       let d : Member x done = ((l.members x).0 m).0 in
       rising-across entry_order done (first ∷ others) (rw e at r) x first d (inl refl));
@@ -146,7 +160,7 @@ step-alone done others first all counted r e a h l = record {
       | inr k ↦ elim k [
         | inl i ↦ (
             let P : Entry → Type 0 = λ v. CountsSoFar all (done ++ first ∷ []) v in
-            subst P (sym i) (member-right first done (first ∷ []) (inl refl), alone-counts done others first all e a h))
+            subst P (sym i) (member-right first done (first ∷ []) (inl refl), alone-counts done others first all w e a h n))
         | inr k ↦ absurd k
       ]
     ],
@@ -157,15 +171,15 @@ step-alone done others first all counted r e a h l = record {
   );
 }
 
-pub step-together : (done others : List Entry) (first : Entry) (count : ℕ) (all counted : List Entry) → IsInOrder entry_order all → all ≡ done ++ first ∷ others → HasSameKey first others (suc count) →
-    Lists entry_order (CountsSoFar all done) counted → Lists entry_order (CountsSoFar all (done ++ first ∷ take (suc count) others)) counted
-step-together done others first count all counted r e h l = record {
+pub step-past : (done others : List Entry) (first : Entry) (count : ℕ) (all counted : List Entry) → ((x : Entry) → Member x (first ∷ take count others) → Counts all x → ⊥) →
+    Lists entry_order (CountsSoFar all done) counted → Lists entry_order (CountsSoFar all (done ++ first ∷ take count others)) counted
+step-past done others first count all counted n l = record {
   rising = l.rising;
   members = λ x. (
-    λ m. (let p = (l.members x).0 m in (member-left x done (first ∷ take (suc count) others) p.0, p.1)),
-    λ p. elim (member-split x done (first ∷ take (suc count) others) p.0) [
+    λ m. (let p = (l.members x).0 m in (member-left x done (first ∷ take count others) p.0, p.1)),
+    λ p. elim (member-split x done (first ∷ take count others) p.0) [
       | inl d ↦ (l.members x).1 (d, p.1)
-      | inr k ↦ absurd (together-don't done others first count all r e h x k p.1)
+      | inr k ↦ absurd (n x k p.1)
     ],
   );
 }
@@ -186,35 +200,34 @@ SoFar all rest counted = (done : List Entry) × (all ≡ done ++ rest) × AreApa
 pub rest-rises : (all rest counted : List Entry) → IsInOrder entry_order all → SoFar all rest counted → IsInOrder entry_order rest
 rest-rises all rest counted r s = rising-right entry_order s.0 rest (rw s.1 at r)
 
-pub alone-so-far : (all others counted : List Entry) (first : Entry) → IsInOrder entry_order all → SoFar all (first ∷ others) counted → HasSameKey first others 0 → SoFar all (drop 0 others) (counted ++ first ∷ [])
-alone-so-far all others counted first r s h = (
+pub alone-so-far : (all others counted : List Entry) (first : Entry) → standing all ≡ all → IsInOrder entry_order all → SoFar all (first ∷ others) counted → HasSameKey first others 0 → IsNoWithdrawal first.content → SoFar all (drop 0 others) (counted ++ first ∷ [])
+alone-so-far all others counted first w r s h n = (
   s.0 ++ first ∷ [],
   joined-up s.0 others first 0 all s.1,
   apart-more s.0 others first 0 s.2 h,
-  step-alone s.0 others first all counted r s.1 s.2 h s.3,
+  step-alone s.0 others first all counted w r s.1 s.2 h n s.3,
 )
 
-pub together-so-far : (all others counted : List Entry) (first : Entry) (count : ℕ) → IsInOrder entry_order all → SoFar all (first ∷ others) counted → HasSameKey first others (suc count) → SoFar all (drop (suc count) others) counted
-together-so-far all others counted first count r s h = (
-  s.0 ++ first ∷ take (suc count) others,
-  joined-up s.0 others first (suc count) all s.1,
-  apart-more s.0 others first (suc count) s.2 h,
-  step-together s.0 others first count all counted r s.1 h s.3,
+pub past-so-far : (all others counted : List Entry) (first : Entry) (count : ℕ) → standing all ≡ all → IsInOrder entry_order all → SoFar all (first ∷ others) counted → HasSameKey first others count → ((count ≡ 0) × IsNoWithdrawal first.content → ⊥) → SoFar all (drop count others) counted
+past-so-far all others counted first count w r s h n = (
+  s.0 ++ first ∷ take count others,
+  joined-up s.0 others first count all s.1,
+  apart-more s.0 others first count s.2 h,
+  step-past s.0 others first count all counted (none-counts s.0 others first count all w r s.1 h n) s.3,
 )
 
 pub none-left : (all counted : List Entry) → SoFar all [] counted → Lists entry_order (Counts all) counted
 none-left all counted s = all-done all s.0 counted s.1 s.3
 
 -- where the records behind the first are cut off at a place
-pub step-one : (all rest others counted new : List Entry) (first : Entry) (count : ℕ) → IsInOrder entry_order all → rest ≡ first ∷ others → SoFar all rest counted → HasSameKey first others count →
-    count ≡ 0 → new ≡ counted ++ first ∷ [] → SoFar all (take (length others - count) (drop count others)) new
-step-one all rest others counted new first zero r e s h z n = rw (take_rest others 0, n) (alone-so-far all others counted first r (rw e at s) h)
-step-one all rest others counted new first (suc count) r e s h z n = absurd (omega arith)
+pub step-one : (all rest others counted new : List Entry) (first : Entry) (count : ℕ) → standing all ≡ all → IsInOrder entry_order all → rest ≡ first ∷ others → SoFar all rest counted → HasSameKey first others count →
+    (count ≡ 0) × IsNoWithdrawal first.content → new ≡ counted ++ first ∷ [] → SoFar all (take (length others - count) (drop count others)) new
+step-one all rest others counted new first zero w r e s h z n = rw (take_rest others 0, n) (alone-so-far all others counted first w r (rw e at s) h z.1)
+step-one all rest others counted new first (suc count) w r e s h z n = absurd (let i = z.0 in omega (arith, i))
 
-pub step-many : (all rest others counted new : List Entry) (first : Entry) (count : ℕ) → IsInOrder entry_order all → rest ≡ first ∷ others → SoFar all rest counted → HasSameKey first others count →
-    (count ≡ 0 → ⊥) → new ≡ counted → SoFar all (take (length others - count) (drop count others)) new
-step-many all rest others counted new first zero r e s h z n = absurd (z refl)
-step-many all rest others counted new first (suc count) r e s h z n = rw (take_rest others (suc count), n) (together-so-far all others counted first count r (rw e at s) h)
+pub step-many : (all rest others counted new : List Entry) (first : Entry) (count : ℕ) → standing all ≡ all → IsInOrder entry_order all → rest ≡ first ∷ others → SoFar all rest counted → HasSameKey first others count →
+    ((count ≡ 0) × IsNoWithdrawal first.content → ⊥) → new ≡ counted → SoFar all (take (length others - count) (drop count others)) new
+step-many all rest others counted new first count w r e s h z n = rw (take_rest others count, n) (past-so-far all others counted first count w r (rw e at s) h z)
 
 pub no-rest : (all rest counted : List Entry) → length rest ≡ 0 → SoFar all rest counted → Lists entry_order (Counts all) counted
 no-rest all [] counted l s = none-left all counted s
@@ -241,9 +254,12 @@ few-skip records rest others counted new first n e l h i =
     let f = few-rest others n l in
     omega (arith, a, b, f, h)
 
--- ---- of a list of the same members
-pub counts-sorted : (s t : List Entry) (counted : List Entry) → SameMembers t s → Lists entry_order (Counts t) counted → Lists entry_order (Counts s) counted
-counts-sorted s t counted h l = record {
+-- ---- of those that stand
+pub some-standing : (records view items : List Entry) → view ≡ items → IsInOrder entry_order records → items ≡ standing records → AreStanding records view
+some-standing records view items v r h = are-standing records records records view refl (record { rising = r; members = λ e. ((λ m. m), (λ m. m)) }) (v ∙ h)
+
+pub counts-standing : (s t : List Entry) (counted : List Entry) → SameMembers t (standing s) → Lists entry_order (Counts t) counted → Lists entry_order (Counts s) counted
+counts-standing s t counted h l = record {
   rising = l.rising;
-  members = λ e. (λ m. counts-half t s h e ((l.members e).0 m), λ c. (l.members e).1 (counts-half s t (λ f. ((h f).1, (h f).0)) e c));
+  members = λ e. (λ m. (counts-again s t h e).0 ((l.members e).0 m), λ c. (l.members e).1 ((counts-again s t h e).1 c));
 }

@@ -11,13 +11,13 @@ use Rattle.pw_model.specs.declared.records.Content.TheVariants as content
 use Rattle.pw_model.specs.declared.records.Entry.{Entry}
 use Rattle.pw_model.specs.declared.records.Contents.{Contents}
 use Rattle.pw_model.specs.declared.records.Contents.TheVariants.{Nothing, One, Several}
-use Rattle.pw_model.specs.Counting.{Member, SameMembers, contents_at}
+use Rattle.pw_model.specs.Counting.{Member, SameMembers, contents_at, IsNoWithdrawal}
 use Rattle.pw_model.specs.Lists.{IsInOrder}
 use Rattle.pw_model.specs.Office.{AllOfOffice, IsOf}
 use Rattle.pw_model.specs.Payments.{stands_in, sum_once, keys, cents_for, topped_up}
 use Rattle.pw_model.specs.Same.{same_key, entry_order}
 use Rattle.pw_model.proofs.Same.{same_key-decides}
-use Rattle.pw_model.proofs.Counting.{entry, standing-part, one-is_counting}
+use Rattle.pw_model.proofs.Counting.{entry, standing-part, one-stands, counts-one, one-is_counting}
 use Rattle.pw_model.proofs.Once.{once-same, stands-decides}
 use Rattle.pw_model.proofs.Answers.{key-back}
 use Rattle.pw_model.specs.Kinds.{IsTopUp}
@@ -88,6 +88,16 @@ kind-of office a (key.Withdrawal x) (content.Assignment o) h = inr refl
 kind-of office a (key.Withdrawal x) (content.TopUp b c u) h = absurd h
 kind-of office a (key.Withdrawal x) content.Withdrawal h = inr refl
 
+-- the content at the key of a top-up is no withdrawal
+paid-in : (office : OfficeRules) (k : Key) (d : Content) → IsTopUp k → IsOf office k d → IsNoWithdrawal d
+paid-in office (key.TopUp r) (content.TopUp a c u) t h = tt
+paid-in office (key.TopUp r) (content.Reading w) t h = absurd h
+paid-in office (key.TopUp r) (content.Assignment o) t h = absurd h
+paid-in office (key.TopUp r) content.Withdrawal t h = absurd h
+paid-in office (key.Reading m r i) d t h = absurd t
+paid-in office (key.Assignment m i) d t h = absurd t
+paid-in office (key.Withdrawal x) d t h = absurd t
+
 pub topped-up-is : (office : OfficeRules) (s counted : List Entry) (a : ℕ) → AllOfOffice office s → ListsCounting IsTopUp s counted → sum_by (λ e. cents_for a (One e.content)) counted ≡ topped_up s a
 unfolding topped_up
 topped-up-is office s counted a o l =
@@ -102,9 +112,9 @@ topped-up-is office s counted a o l =
     ) in
     let zero : (k : Key) → Member k (keys s) → (Member k (keys counted) → ⊥) → f k ≡ 0 = λ k m n.
     gives-nothing a k (contents_at s k)
-    (λ d i. kind-of office a k d (o (entry k d) (standing-part s (entry k d) ((one-is_counting s (entry k d)).0 i).0)))
-    (λ t d i. n (key-back (entry k d) counted ((l.members (entry k d)).1 ((one-is_counting s (entry k d)).0 i, t)))) in
+    (λ d i. kind-of office a k d (o (entry k d) (standing-part s (entry k d) (one-stands s k d i))))
+    (λ t d i. n (key-back (entry k d) counted ((l.members (entry k d)).1 ((one-is_counting s (entry k d) (paid-in office k d t (o (entry k d) (standing-part s (entry k d) (one-stands s k d i))))).0 i, t)))) in
     let each = once-each f counted l.rising (λ x y m n i. ((l.members y).0 n).0.1 x ((l.members x).0 m).0.0 i) in
     let same : sum_by (λ (e : Entry). cents_for a (One e.content)) counted ≡ sum_by (λ (e : Entry). f e.key) counted =
-    sums-agree (λ (e : Entry). cents_for a (One e.content)) (λ (e : Entry). f e.key) counted (λ e m. sym (ap (cents_for a) ((one-is_counting s e).1 ((l.members e).0 m).0))) in
+    sums-agree (λ (e : Entry). cents_for a (One e.content)) (λ (e : Entry). f e.key) counted (λ e m. sym (ap (cents_for a) (counts-one s e ((l.members e).0 m).0))) in
     same ∙ sym each ∙ sym (once-front f (keys s) (keys counted) zero) ∙ sym (once-same same_key same_key-decides f (keys s) (keys s ++ keys counted) both)

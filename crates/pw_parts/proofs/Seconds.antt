@@ -1,5 +1,5 @@
 -- The readings and assignments that count, by the second.
-use Rattle.std.proofs.Common.{◌≡◌, ℕ, Option, Some, List, [], ◌∷◌, ◌↔◌, refl, ap, sym, ◌∙◌, subst, inl, inr, Ordering, Less}
+use Rattle.std.proofs.Common.{◌≡◌, ℕ, Option, Some, List, [], ◌∷◌, refl, ap, sym, ◌∙◌, inl, inr, Ordering, Less}
 use Rattle.std.specs.List.{filter_map}
 use Rattle.std.specs.Ordering.{nat_cmp}
 use Rattle.std.proofs.lemmas.Option.{none-some, same_Some}
@@ -14,11 +14,11 @@ use Rattle.pw_model.specs.declared.records.Content.TheVariants as content
 use Rattle.pw_model.specs.declared.records.Entry.{Entry}
 use Rattle.pw_model.specs.declared.records.Contents.{Contents}
 use Rattle.pw_model.specs.declared.records.Contents.TheVariants.{Nothing, One, Several}
-use Rattle.pw_model.specs.Counting.{Member, Counts, contents_at, point, start, wh_of, owner_of, reading_key, assignment_key}
-use Rattle.pw_model.specs.Lists.{IsInOrder, Lists}
+use Rattle.pw_model.specs.Counting.{Member, contents_at, point, start, wh_of, owner_of, reading_key, assignment_key}
+use Rattle.pw_model.specs.Lists.{IsInOrder}
 use Rattle.pw_model.specs.Same.{key_order, key_numbers, entry_order}
-use Rattle.pw_model.proofs.Counting.{entry, standing-part, standing-member, one-is_counting}
-use Rattle.pw_model.specs.Kinds.{IsReadingOf, IsAssignmentOf, ListsHeld}
+use Rattle.pw_model.proofs.Counting.{entry, counts-one, one-is_counting}
+use Rattle.pw_model.specs.Kinds.{IsReadingOf, IsAssignmentOf}
 use Rattle.pw_parts.specs.Shown.{shown, shown_at}
 use Rattle.pw_model.specs.Seconds.{ListsSeconds, by_second}
 use Rattle.pw_parts.specs.inner.Counted.{ListsCounting, given, given_at}
@@ -26,29 +26,6 @@ use Rattle.pw_flow.proofs.Points.{option-cases}
 use Rattle.pw_parts.proofs.Keys.{keys-apart, key-less}
 use Rattle.pw_model.proofs.InOrder.{before-member}
 use Rattle.pw_model.proofs.EntryOrder.{before-all}
-
--- ---- which of the records with such keys count
-pub counts-held : (Of : Key → Type 0) (s records : List Entry) → ListsHeld Of s records → (e : Entry) → Counts records e ↔ (Counts s e × Of e.key)
-counts-held Of s records h e = (
-  λ c.
-      let held = (h.members e).0 (standing-part records e c.0) in (
-        (
-          standing-member s e held.0,
-          λ f m k. c.1 f (standing-member records f ((h.members f).1 (standing-part s f m, subst Of (sym k) held.1))) k,
-        ),
-        held.1,
-      ),
-  λ c. (
-    standing-member records e ((h.members e).1 (standing-part s e c.0.0, c.1)),
-    λ f m k. c.0.1 f (standing-member s f ((h.members f).0 (standing-part records f m)).0) k,
-  ),
-)
-
-pub lists-counting : (Of : Key → Type 0) (s records counted : List Entry) → ListsHeld Of s records → Lists entry_order (Counts records) counted → ListsCounting Of s counted
-lists-counting Of s records counted h l = record {
-  rising = l.rising;
-  members = λ e. (λ m. (counts-held Of s records h e).0 ((l.members e).0 m), λ c. (l.members e).1 ((counts-held Of s records h e).1 c));
-}
 
 -- ---- what a list tells
 module _ {X Y : Type 0} (h : X → Option Y) where
@@ -131,12 +108,12 @@ seconds-shown m r s counted l = record {
         let f = told-from shown counted a q in
         let c = (l.members f.0).0 f.1 in
         let k = shown-of m r f.0.key f.0.content a c.1 f.2 in
-        let one : contents_at s f.0.key ≡ One f.0.content = (one-is_counting s f.0).1 c.0 in
+        let one : contents_at s f.0.key ≡ One f.0.content = counts-one s f.0 c.0 in
         (let two : contents_at s (reading_key m.0 r a.0) ≡ One (content.Reading a.1) = rw (k.0, k.1) at one in rw two refl),
     λ q.
         let one : contents_at s (reading_key m.0 r a.0) ≡ One (content.Reading a.1) = wh-one (contents_at s (reading_key m.0 r a.0)) a.1 q in
         let e : Entry = entry (reading_key m.0 r a.0) (content.Reading a.1) in
-        told-to shown counted e a ((l.members e).1 ((one-is_counting s e).0 one, (refl, refl))) refl,
+        told-to shown counted e a ((l.members e).1 ((one-is_counting s e tt).0 one, (refl, refl))) refl,
   );
 }
 
@@ -177,11 +154,11 @@ seconds-given m s counted l = record {
         let f = told-from given counted a q in
         let c = (l.members f.0).0 f.1 in
         let k = given-of m f.0.key f.0.content a c.1 f.2 in
-        let one : contents_at s f.0.key ≡ One f.0.content = (one-is_counting s f.0).1 c.0 in
+        let one : contents_at s f.0.key ≡ One f.0.content = counts-one s f.0 c.0 in
         (let two : contents_at s (assignment_key m.0 a.0) ≡ One (content.Assignment a.1) = rw (k.0, k.1) at one in rw two refl),
     λ q.
         let one : contents_at s (assignment_key m.0 a.0) ≡ One (content.Assignment a.1) = owner-one (contents_at s (assignment_key m.0 a.0)) a.1 q in
         let e : Entry = entry (assignment_key m.0 a.0) (content.Assignment a.1) in
-        told-to given counted e a ((l.members e).1 ((one-is_counting s e).0 one, refl)) refl,
+        told-to given counted e a ((l.members e).1 ((one-is_counting s e tt).0 one, refl)) refl,
   );
 }

@@ -42,17 +42,17 @@ at-most_one office s t a b h p q = record {
 module _ (office : OfficeRules) (s : List Entry) (parts : Parts) (p : IsPartsOf office s parts) where
   point-told : (m : ℕ) (r : Register) (t w : ℕ) → point (contents_at s) m r t ≡ Some w ↔ Member (reading_entry m r t w) parts.points.items
   point-told m r t w = (
-    λ e. (p.points.members (reading_entry m r t w)).1 ((one-is_counting s (reading_entry m r t w)).0 (wh-one (contents_at s (reading_key m r t)) w e), tt),
+    λ e. (p.points.members (reading_entry m r t w)).1 ((one-is_counting s (reading_entry m r t w) tt).0 (wh-one (contents_at s (reading_key m r t)) w e), tt),
     λ m2. (
-        let one : contents_at s (reading_key m r t) ≡ One (content.Reading w) = (one-is_counting s (reading_entry m r t w)).1 ((p.points.members (reading_entry m r t w)).0 m2).0 in
+        let one : contents_at s (reading_key m r t) ≡ One (content.Reading w) = (one-is_counting s (reading_entry m r t w) tt).1 ((p.points.members (reading_entry m r t w)).0 m2).0 in
         rw one refl),
   )
 
   start-told : (m t : ℕ) (o : Option AccountId) → start (contents_at s) m t ≡ Some o ↔ Member (assignment_entry m t o) parts.starts.items
   start-told m t o = (
-    λ e. (p.starts.members (assignment_entry m t o)).1 ((one-is_counting s (assignment_entry m t o)).0 (owner-one (contents_at s (assignment_key m t)) o e), tt),
+    λ e. (p.starts.members (assignment_entry m t o)).1 ((one-is_counting s (assignment_entry m t o) tt).0 (owner-one (contents_at s (assignment_key m t)) o e), tt),
     λ m2. (
-        let one : contents_at s (assignment_key m t) ≡ One (content.Assignment o) = (one-is_counting s (assignment_entry m t o)).1 ((p.starts.members (assignment_entry m t o)).0 m2).0 in
+        let one : contents_at s (assignment_key m t) ≡ One (content.Assignment o) = (one-is_counting s (assignment_entry m t o) tt).1 ((p.starts.members (assignment_entry m t o)).0 m2).0 in
         rw one refl),
   )
 

@@ -1,5 +1,6 @@
 -- The records of a set that count tell all of its points, starts and totals.
 use Rattle.std.proofs.Common.{◌≡◌, ℕ, ◌+◌, ◌^◌, ◌<◌, ◌≤◌, Option, Some, None, List, [], ◌∷◌, length, ◌↔◌, refl, sym, ◌∙◌, inl, inr, arith, Ordering}
+use Rattle.std.proofs.lemmas.Bool.{cases_Bool, true≢false}
 use Rattle.pw_obis.specs.declared.reference.Register.{Register}
 use Rattle.pw_tariff.specs.declared.ids.AccountId.{AccountId}
 use Rattle.pw_tariff.specs.declared.ids.Direction.{Direction}
@@ -10,7 +11,7 @@ use Rattle.pw_model.specs.declared.records.Contents.TheVariants.{One}
 use Rattle.pw_model.specs.declared.records.Entry.{Entry}
 use Rattle.pw_model.specs.declared.records.TotalKey.{TotalKey}
 use Rattle.pw_model.specs.declared.records.TotalKey.TheVariants.{Energy, TopUps}
-use Rattle.pw_model.specs.Counting.{Member, Counts, contents_at, point, start, reading_key, assignment_key}
+use Rattle.pw_model.specs.Counting.{Member, IsNoWithdrawal, is_withdrawn, standing, Counts, contents_at, point, start, reading_key, assignment_key}
 use Rattle.pw_model.specs.Energy.{Asked, energy_where, of_band}
 use Rattle.pw_model.specs.Laws.{AreTopUps}
 use Rattle.pw_model.specs.Lists.{IsBeforeAll, IsInOrder, Lists}
@@ -18,7 +19,7 @@ use Rattle.pw_model.specs.Office.{AllOfOffice, IsOffice, most_records}
 use Rattle.pw_model.specs.Payments.{topped_up}
 use Rattle.pw_model.specs.Same.{entry_order}
 use Rattle.pw_model.specs.Shelf.{total_among}
-use Rattle.pw_model.proofs.Counting.{entry, standing-part, standing-member, one-is_counting}
+use Rattle.pw_model.proofs.Counting.{entry, standing-part, standing-told, standing-all, all-stand, withdrawn-to, withdrawn-back, one-is_counting}
 use Rattle.pw_model.proofs.Energy.{energy-alike}
 use Rattle.pw_model.proofs.PlainEnergy.{energy-fits, topped-fits}
 use Rattle.pw_model.proofs.TopUps.{top-ups_add_up}
@@ -54,10 +55,20 @@ keys-rise s (x ∷ xs) h r = (keys-before s x xs (h x (inl refl)) (λ e m. h e (
 
 module _ (s counted : List Entry) (l : Lists entry_order (Counts s) counted) where
   -- ---- what counts among those that count
+  counted-stand : standing counted ≡ counted
+  counted-stand = standing-all counted (λ e m. elim (cases_Bool (is_withdrawn counted e)) [
+    | inr n ↦ n
+    | inl y ↦ absurd (
+        let w = withdrawn-to counted e y in
+        let by = (l.members w.0).0 w.1.0 in
+        let stands = standing-told s e ((l.members e).0 m).0 in
+        true≢false (sym (withdrawn-back s e w.0 (standing-part s w.0 by.0) w.1.1) ∙ stands.1))
+  ])
+
   pub counted-counts : (e : Entry) → Counts counted e ↔ Counts s e
   counted-counts e = (
     λ c. (l.members e).0 (standing-part counted e c.0),
-    λ c. (standing-member counted e ((l.members e).1 c), λ f m k. c.1 f ((l.members f).0 (standing-part counted f m)).0 k),
+    λ c. (all-stand counted e counted-stand ((l.members e).1 c), λ f m k. c.1 f ((l.members f).0 (standing-part counted f m)).0 k, c.2),
   )
 
   pub are-counted : (office : OfficeRules) → AllOfOffice office s → AreCounted office counted
@@ -77,25 +88,25 @@ module _ (s counted : List Entry) (l : Lists entry_order (Counts s) counted) whe
   }
 
   -- ---- points and starts
-  one-same : (e : Entry) → contents_at counted e.key ≡ One e.content ↔ contents_at s e.key ≡ One e.content
-  one-same e = (
-    λ q. (one-is_counting s e).1 ((counted-counts e).0 ((one-is_counting counted e).0 q)),
-    λ q. (one-is_counting counted e).1 ((counted-counts e).1 ((one-is_counting s e).0 q)),
+  one-same : (e : Entry) → IsNoWithdrawal e.content → contents_at counted e.key ≡ One e.content ↔ contents_at s e.key ≡ One e.content
+  one-same e n = (
+    λ q. (one-is_counting s e n).1 ((counted-counts e).0 ((one-is_counting counted e n).0 q)),
+    λ q. (one-is_counting counted e n).1 ((counted-counts e).1 ((one-is_counting s e n).0 q)),
   )
 
   points-same : (m : ℕ) (r : Register) (t : ℕ) → point (contents_at counted) m r t ≡ point (contents_at s) m r t
   points-same m r t =
       let there : (w : ℕ) → point (contents_at counted) m r t ≡ Some w ↔ point (contents_at s) m r t ≡ Some w = λ w. (
-        λ q. (let o : contents_at s (reading_key m r t) ≡ One (content.Reading w) = (one-same (entry (reading_key m r t) (content.Reading w))).0 (wh-one (contents_at counted (reading_key m r t)) w q) in rw o refl),
-        λ q. (let o : contents_at counted (reading_key m r t) ≡ One (content.Reading w) = (one-same (entry (reading_key m r t) (content.Reading w))).1 (wh-one (contents_at s (reading_key m r t)) w q) in rw o refl),
+        λ q. (let o : contents_at s (reading_key m r t) ≡ One (content.Reading w) = (one-same (entry (reading_key m r t) (content.Reading w)) tt).0 (wh-one (contents_at counted (reading_key m r t)) w q) in rw o refl),
+        λ q. (let o : contents_at counted (reading_key m r t) ≡ One (content.Reading w) = (one-same (entry (reading_key m r t) (content.Reading w)) tt).1 (wh-one (contents_at s (reading_key m r t)) w q) in rw o refl),
       ) in
       options-same (point (contents_at counted) m r t) (point (contents_at s) m r t) there
 
   starts-same : (m t : ℕ) → start (contents_at counted) m t ≡ start (contents_at s) m t
   starts-same m t =
       let there : (o : Option AccountId) → start (contents_at counted) m t ≡ Some o ↔ start (contents_at s) m t ≡ Some o = λ o. (
-        λ q. (let i : contents_at s (assignment_key m t) ≡ One (content.Assignment o) = (one-same (entry (assignment_key m t) (content.Assignment o))).0 (owner-one (contents_at counted (assignment_key m t)) o q) in rw i refl),
-        λ q. (let i : contents_at counted (assignment_key m t) ≡ One (content.Assignment o) = (one-same (entry (assignment_key m t) (content.Assignment o))).1 (owner-one (contents_at s (assignment_key m t)) o q) in rw i refl),
+        λ q. (let i : contents_at s (assignment_key m t) ≡ One (content.Assignment o) = (one-same (entry (assignment_key m t) (content.Assignment o)) tt).0 (owner-one (contents_at counted (assignment_key m t)) o q) in rw i refl),
+        λ q. (let i : contents_at counted (assignment_key m t) ≡ One (content.Assignment o) = (one-same (entry (assignment_key m t) (content.Assignment o)) tt).1 (owner-one (contents_at s (assignment_key m t)) o q) in rw i refl),
       ) in
       options-same (start (contents_at counted) m t) (start (contents_at s) m t) there
 

@@ -1,6 +1,6 @@
 -- The exports of readings, energies, assignments and top-ups as CSV (RFC 4180, but that a line ends with LF).
 -- (Formats of this project.)
-use Rattle.std.specs.Prelude.{ℕ, ◌*◌, Bool, true, false, Option, Some, None, List, [], ◌∷◌, ◌++◌, length, codes, decimal}
+use Rattle.std.specs.Prelude.{ℕ, ◌*◌, cond, Option, Some, None, List, [], ◌∷◌, ◌++◌, length, codes, decimal}
 use Rattle.std.specs.List.{flat_map}
 use Rattle.csv.specs.Writing.{default_writer, row_text}
 use Rattle.pw_obis.specs.declared.reference.Register.{Register}
@@ -27,10 +27,9 @@ unfoldable pub csv_line : List (List ℕ) → List ℕ
 csv_line fields = row_text default_writer fields
 
 -- ---- readings
--- 1 where the reading counts
-abbrev pub mark : Bool → List ℕ
-mark true = codes "1"
-mark false = codes "0"
+-- w where the reading is withdrawn, else 1 where it counts, else 0
+abbrev pub mark : ReadingRow → List ℕ
+mark row = cond row.withdrawn (codes "w") (cond row.counted (codes "1") (codes "0"))
 
 abbrev pub readings_header : List (List ℕ)
 readings_header = codes "meter" ∷ codes "register" ∷ codes "instant" ∷ codes "wh" ∷ codes "counted" ∷ []
@@ -38,7 +37,7 @@ readings_header = codes "meter" ∷ codes "register" ∷ codes "instant" ∷ cod
 -- of a reading, with its meter's name
 abbrev pub reading_line : List ℕ → Register → ReadingRow → List ℕ
 reading_line meter register row =
-    csv_line (meter ∷ register_name register ∷ instant_text row.instant ∷ decimal row.wh ∷ mark row.counted ∷ [])
+    csv_line (meter ∷ register_name register ∷ instant_text row.instant ∷ decimal row.wh ∷ mark row ∷ [])
 
 -- the readings of a meter's registers, which are given by register
 abbrev pub meter_lines : List ℕ → (Register → List ReadingRow) → List ℕ

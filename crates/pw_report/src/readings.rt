@@ -115,12 +115,18 @@ fn put_reading(
     rows.put(register.name().as_bytes())?;
     rows.put(&instant_text(reading.instant))?;
     rows.put(Buffer::new().format(reading.wh.get()).as_bytes())?;
-    rows.put(mark_of(reading.counted))?;
+    rows.put(mark_of(reading))?;
     rows.end()
 }
 
-fn mark_of(counted: bool) -> &'static [u8]
-    ensures { result.now ≡ mark counted }
+fn mark_of(reading: &ReadingRow) -> &'static [u8]
+    ensures { result.now ≡ mark reading.now }
 {
-    if counted { b"1" } else { b"0" }
+    if reading.withdrawn {
+        b"w"
+    } else if reading.counted {
+        b"1"
+    } else {
+        b"0"
+    }
 }

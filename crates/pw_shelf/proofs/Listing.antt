@@ -107,13 +107,13 @@ module _ (Of : Key → Type 0) where
   }
 
 -- ---- a turn of a loop over the set
+pub split : (keys : List Entry) (xs : List (Bor Entry)) (s t u : List Entry) (x : Bor Entry) → s ≡ keys → Yields (TakesFirst deref) s xs t → t ≡ deref x ∷ u → keys ≡ map deref xs ++ x.now ∷ u
+split keys xs s t u x start y step = sym start ∙ rest_so_far deref xs s t y ∙ ap (λ l. map deref xs ++ l) step
+
 module _ (Of : Key → Type 0) (keys : List Entry) (named : AreNamed keys) (sorted : IsStrictlySortedBy order keys)
     (xs : List (Bor Entry)) (s t u : List Entry) (x : Bor Entry) (start : s ≡ keys) (y : Yields (TakesFirst deref) s xs t) (step : t ≡ deref x ∷ u) where
-  pub split : keys ≡ map deref xs ++ x.now ∷ u
-  split = sym start ∙ rest_so_far deref xs s t y ∙ ap (λ l. map deref xs ++ l) step
-
   earlier : (e : Entry) → Member e (map deref xs) → entry_order e x.now ≡ Less
-  earlier e m = split-before entry_order e x.now (map deref xs) u (subst (IsInOrder entry_order) split (rising keys named sorted)) m
+  earlier e m = split-before entry_order e x.now (map deref xs) u (subst (IsInOrder entry_order) (split keys xs s t u x start y step) (rising keys named sorted)) m
 
   pub turn-skip : (found : List Entry) → ListsHeld Of (map deref xs) found → (Of x.now.key → ⊥) → ListsHeld Of (map deref (xs ++ x ∷ [])) found
   turn-skip found h n = let e : map deref (xs ++ x ∷ []) ≡ map deref xs ++ x.now ∷ [] = map-append deref xs (x ∷ []) in

@@ -27,7 +27,7 @@ use Rattle.pw_shelf.specs.inner.Held.{IsNamed, AreNamed}
 use Rattle.pw_shelf.specs.inner.Kinds.{IsOfKind, lowest, lowest_key}
 use Rattle.pw_model.specs.Kinds.{ListsHeld}
 use Rattle.pw_shelf.proofs.InOrder.{order}
-use Rattle.pw_shelf.proofs.AtKey.{key_order, content-lowest, from, and-both, from-le, kept-member, member-kept, sorted-kept, all-member}
+use Rattle.pw_shelf.proofs.AtKey.{key_order, content-lowest, from, and-both, from-le, kept-member, member-kept, sorted-kept, after, member-in, member-mid}
 use Rattle.pw_shelf.proofs.Listing.{reference, member-front}
 
 -- ---- numbers compared in turn
@@ -185,21 +185,6 @@ module _ (k : Kind) where
       rising = h.rising;
       members = λ x. (λ m. (let p = (h.members x).0 m in ((held x p.0).0, p.1)), λ p. (h.members x).1 (found x p.0 p.1, p.1));
     }
-
-    after : (xs ys : List Entry) (e x : Entry) → IsStrictlySortedBy order (xs ++ e ∷ ys) → Member x ys → order e x ≡ Less
-    unfolding IsStrictlySortedBy
-    after [] ys e x s m = all-member (λ y. order e y ≡ Less) ys x s.0 m
-    after (z ∷ xs) ys e x s m = after xs ys e x s.1 m
-
-    member-in : (xs ys : List Entry) (e x : Entry) → Member x (xs ++ e ∷ ys) → Member x xs ⊎ (x ≡ e) ⊎ Member x ys
-    member-in [] ys e x (inl i) = inr (inl i)
-    member-in [] ys e x (inr m) = inr (inr m)
-    member-in (z ∷ xs) ys e x (inl i) = inl (inl i)
-    member-in (z ∷ xs) ys e x (inr m) = elim (member-in xs ys e x m) [ inl j ↦ inl (inr j) | inr j ↦ inr j ]
-
-    member-mid : (xs ys : List Entry) (e : Entry) → Member e (xs ++ e ∷ ys)
-    member-mid [] ys e = inl refl
-    member-mid (z ∷ xs) ys e = inr (member-mid xs ys e)
 
     -- from the first of another kind on there are no more
     pub listed-part : (seen others : List Entry) (e : Entry) (xs : List Entry) → rows ≡ seen ++ e ∷ others → (IsOfKind k e.key → ⊥) → ListsHeld (IsOfKind k) seen xs → ListsHeld (IsOfKind k) keys xs

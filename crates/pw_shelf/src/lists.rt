@@ -1,41 +1,58 @@
 //! What is found among the records of a store in memory.
 
 ghost use Rattle.std.specs.Prelude.{◌≡◌, IfOk, IfErr, IsTrue, ◌↔◌};
-ghost use Rattle.pw_model.specs.Counting.{contents_at as held_at};
+ghost use Rattle.pw_model.specs.Counting.{contents_at as held_at, is_withdrawn as is_withdrawn_by};
 ghost use Rattle.pw_model.specs.Kinds.{IsAssignmentOf, IsReadingOf, ListsHeld};
+ghost use Rattle.pw_model.specs.Payments.{keys, stands_in};
+ghost use Rattle.pw_model.specs.Same.{same_key};
 ghost use Rattle.pw_shelf.specs.inner.Kinds.{IsOfKind, lowest, lowest_key};
 ghost use Rattle.pw_shelf.specs.declared.fault.ShelfFault.TheVariants.{Memory};
 
 use crate::fault::ShelfFault;
 use crate::held::Held;
-use pw_model::{Content, Contents, Entry, Key, Reference, is_same_key};
+use pw_model::{Content, Contents, Entry, Key, Named, Reference, is_same_key};
 use pw_obis::{Register, WattHours};
 use pw_tariff::MeterId;
 use pw_time::{FIRST_SECOND, Instant};
 use std::alloc::Global;
 
 impl Held {
-    /// What the records say of a key.
+    /// What the records that stand say of a key.
     pub(crate) fn contents_at(&self, key: &Key) -> Contents
         ensures { result ≡ held_at self.now.records.keys key.now }
     {
-        let mut rows = self.records.range(lowest_at(*key)..);
-        let first = match rows.next() {
-            Some(first) => *first,
-            None => return Contents::Nothing,
-        };
-        if !is_same_key(&first.key, key) {
-            return Contents::Nothing;
-        }
-        match rows.next() {
-            Some(second) => {
-                if is_same_key(&second.key, key) {
-                    Contents::Several
-                } else {
-                    Contents::One(first.content)
+        let mut contents = Contents::Nothing;
+        for entry in self.records.range(lowest_at(*key)..) {
+            if !is_same_key(&entry.key, key) {
+                return contents;
+            }
+            if !self.is_withdrawn(entry) {
+                match contents {
+                    Contents::Nothing => contents = Contents::One(entry.content),
+                    _ => return Contents::Several,
                 }
             }
-            None => Contents::One(first.content),
+        }
+        contents
+    }
+
+    // Whether one of the records withdraws this one.
+    fn is_withdrawn(&self, entry: &Entry) -> bool
+        ensures { result ≡ is_withdrawn_by self.now.records.keys entry.now }
+    {
+        match Named::of(entry) {
+            Some(named) => self.has_key(&Key::Withdrawal { named }),
+            None => false,
+        }
+    }
+
+    // Whether one of the records has a key.
+    fn has_key(&self, key: &Key) -> bool
+        ensures { result ≡ stands_in same_key key.now (keys self.now.records.keys) }
+    {
+        match self.records.range(lowest_at(*key)..).next() {
+            Some(first) => is_same_key(&first.key, key),
+            None => false,
         }
     }
 

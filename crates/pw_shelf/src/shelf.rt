@@ -88,7 +88,7 @@ pub trait Shelf {
         ensures held { clean self.new → IfOk result (λ held. IsTrue held ↔ Member entry.now (state self.old).content.records) }
         ensures asked { IsAsking state left clean same_store no_rows result self.old self.new };
 
-    /// What the records held say of a key: whether none has it, one, or several: no row, one, or two.
+    /// What the records held that stand say of a key: whether none has it, one, or several: no row, one, or two.
     fn contents_at(&mut self, key: &Key) -> Result<Contents, ShelfFault>
         ensures rows { clean self.new → IfOk result (λ found. found ≡ held_at (state self.old).content.records key.now) }
         ensures asked { IsAsking state left clean same_store rows_at result self.old self.new };

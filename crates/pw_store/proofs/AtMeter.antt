@@ -27,6 +27,7 @@ use Rattle.pw_store.proofs.Lists.{seen}
 use Rattle.pw_store.proofs.Finding.{first, second, same_number, meter_of, register_of, second_of, reading_records, records_reading, assignment_records, records_assignment}
 use Rattle.pw_store.proofs.Adding.{register_back}
 use Rattle.pw_store.proofs.AtTopup.{once_behind}
+use Rattle.pw_store.proofs.OneKind.{held_stand}
 use Rattle.pw_store.proofs.Telling.{told_at}
 
 once_front : (xs ys : List Entry) → EachOnce (xs ++ ys) → EachOnce xs
@@ -78,7 +79,7 @@ module _ (m : MeterId) (g : Register) (i : ℕ) where
       let table = old.now.trees reading_tree in
       let s = seen reading_at_text 1 reading_at_query reading_at_is params old new rows store.ours h in
       let ordered = map (λ (o : Output). o.1) s.0 in
-      told_at (key.Reading m g i) reading_in passes show_wh (told_content Readings) IsReadingRow hits misses table ordered rows (records_of old.now.trees) store.readings
+      told_at (key.Reading m g i) reading_in passes show_wh (told_content Readings) IsReadingRow hits misses table ordered rows (records_of old.now.trees) (held_stand old.now.trees) store.readings
       (once_front (map reading_in table) _ store.once)
       (λ c. (λ n. records_reading old.now.trees (entry (key.Reading m g i) c) n, λ n. reading_records old.now.trees (entry (key.Reading m g i) c) n tt))
       (subst (λ xs. IsPermutation xs ordered) (shown_wh (filter passes table)) s.1) s.2
@@ -125,7 +126,7 @@ module _ (m : MeterId) (i : ℕ) where
       let table = old.now.trees assignment_tree in
       let s = seen assignment_at_text 3 assignment_at_query assignment_at_is own_params old new rows store.ours h in
       let ordered = map (λ (o : Output). o.1) s.0 in
-      told_at (key.Assignment m i) assignment_in own_passes show_owner (told_content Assignments) IsAssignmentRow own_hits own_misses table ordered rows (records_of old.now.trees) store.assignments
+      told_at (key.Assignment m i) assignment_in own_passes show_owner (told_content Assignments) IsAssignmentRow own_hits own_misses table ordered rows (records_of old.now.trees) (held_stand old.now.trees) store.assignments
       (once_front (map assignment_in table) _ (once_behind (map reading_in (old.now.trees reading_tree)) _ store.once))
       (λ c. (λ n. records_assignment old.now.trees (entry (key.Assignment m i) c) n, λ n. assignment_records old.now.trees (entry (key.Assignment m i) c) n tt))
       (subst (λ xs. IsPermutation xs ordered) (shown_owner (filter own_passes table)) s.1) s.2

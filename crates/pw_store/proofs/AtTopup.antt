@@ -23,6 +23,7 @@ use Rattle.pw_store.proofs.Texts.{topup_at_text, topup_at_query, topup_at_is}
 use Rattle.pw_store.proofs.Scans.{equal_texts, scan_of}
 use Rattle.pw_store.proofs.Lists.{seen, topup_records, records_topup}
 use Rattle.pw_store.proofs.Finding.{first, texts_tied, same_text, reference_of}
+use Rattle.pw_store.proofs.OneKind.{held_stand}
 use Rattle.pw_store.proofs.Telling.{told_at}
 
 abbrev show : Row → Row
@@ -54,7 +55,7 @@ topup_told old new t rows store h =
     let table = old.now.trees topup_tree in
     let s = seen topup_at_text 5 topup_at_query topup_at_is (Text t ∷ []) old new rows store.ours h in
     let ordered = map (λ (o : Output). o.1) s.0 in
-    told_at (key.TopUp t) topup_in (passes t) show (told_content TopUps) IsTopupRow (hits t) (misses t) table ordered rows (records_of old.now.trees) store.topups
+    told_at (key.TopUp t) topup_in (passes t) show (told_content TopUps) IsTopupRow (hits t) (misses t) table ordered rows (records_of old.now.trees) (held_stand old.now.trees) store.topups
     (once_behind (map assignment_in (old.now.trees assignment_tree)) _ (once_behind (map reading_in (old.now.trees reading_tree)) _ store.once))
     (λ c. (λ m. records_topup old.now.trees (entry (key.TopUp t) c) m, λ m. topup_records old.now.trees (entry (key.TopUp t) c) m tt))
     (subst (λ xs. IsPermutation xs ordered) (shown_at t (filter (passes t) table)) s.1) s.2

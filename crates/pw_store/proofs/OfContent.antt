@@ -73,7 +73,7 @@ module _ (office : OfficeRules) (db : Trees) (rows : HasRows db) (of : AllOfOffi
         let told = row_told same_key same_key-decides (λ x. (reading_in x).key) (λ x. number (column x 4)) (db point_tree) r rows.points.once m in
         let counted = sym (ap (λ (f : ℕ → Register → ℕ → Option ℕ). f meter register second) it.points) ∙ told in
         let one = wh-one (contents_at (records_of db) (reading_key meter register second)) wh counted in
-        of (reading_in r) (standing-part (records_of db) (reading_in r) ((one-is_counting (records_of db) (reading_entry meter register second wh)).0 one).0)
+        of (reading_in r) (standing-part (records_of db) (reading_in r) ((one-is_counting (records_of db) (reading_entry meter register second wh) tt).0 one).0)
 
     start_of_office : (r : Row) → Member r (db start_tree) → IsOfOffice office (assignment_in r)
     start_of_office r m =
@@ -83,7 +83,7 @@ module _ (office : OfficeRules) (db : Trees) (rows : HasRows db) (of : AllOfOffi
         let told = row_told same_key same_key-decides (λ x. (assignment_in x).key) (λ x. owner_at (number (column x 3))) (db start_tree) r rows.starts.once m in
         let counted = sym (ap (λ (f : ℕ → ℕ → Option (Option AccountId)). f meter second) it.starts) ∙ told in
         let one = owner-one (contents_at (records_of db) (assignment_key meter second)) owner counted in
-        of (assignment_in r) (standing-part (records_of db) (assignment_in r) ((one-is_counting (records_of db) (assignment_entry meter second owner)).0 one).0)
+        of (assignment_in r) (standing-part (records_of db) (assignment_in r) ((one-is_counting (records_of db) (assignment_entry meter second owner) tt).0 one).0)
 
     points_of_office : AllOfOffice office (map reading_in (db point_tree))
     points_of_office e m = let r = before_map reading_in e (db point_tree) m in subst (IsOfOffice office) (sym r.1.1) (point_of_office r.0 r.1.0)

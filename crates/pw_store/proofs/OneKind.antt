@@ -1,5 +1,6 @@
 -- A record that is held has a content of its key's kind, and is no withdrawal: no table holds these yet.
 use Rattle.std.proofs.Common.{◌≡◌, ◌↔◌, ℕ, List, [], ◌∷◌, map, Bool, true, false, IsTrue, Result, Ok, Err, IfOk, Option, Vec, refl, sym, ap, subst, inl, inr}
+use Rattle.std.proofs.lemmas.Bool.{cases_Bool, true≢false}
 use Rattle.sqlite.specs.declared.error.Error.{Error}
 use Rattle.sqlite.specs.Order.{Row}
 use Rattle.sqlite.specs.Tree.{Trees}
@@ -14,8 +15,9 @@ use Rattle.pw_model.specs.declared.records.Content.{Content}
 use Rattle.pw_model.specs.declared.records.Content.TheVariants as content
 use Rattle.pw_model.specs.declared.records.Entry.{Entry}
 use Rattle.pw_model.specs.declared.records.Named.{Named}
-use Rattle.pw_model.specs.Counting.{Member, contents_at}
+use Rattle.pw_model.specs.Counting.{Member, withdraws, is_withdrawn, standing, contents_at}
 use Rattle.pw_model.specs.declared.records.Contents.TheVariants.{Nothing}
+use Rattle.pw_model.proofs.Counting.{withdrawn-to, standing-all}
 use Rattle.pw_store.specs.Content.{records_of, reading_in, assignment_in, topup_in, reading_tree, assignment_tree, topup_tree}
 use Rattle.pw_schema.specs.declared.kind.RecordKind.{RecordKind}
 use Rattle.pw_schema.specs.Rows.{ReadsRows}
@@ -78,6 +80,22 @@ no_withdrawal_of db e n is = (λ f. absurd (let bad : false ≡ true = f in cc),
 -- so nothing is told of a withdrawal's key
 pub withdrawal_told : (db : Trees) (k : Key) (n : Named) → k ≡ key.Withdrawal n → Nothing ≡ contents_at (records_of db) k
 withdrawal_told db k n is = nothing_told (records_of db) k (λ c m. never_withdrawn db n (record { key = k; content = c }) is m)
+
+-- no record that is held withdraws another: all of them stand
+withdraws_none : (e : Entry) (k : Key) (c : Content) → IsOneKind k c → withdraws e k ≡ true → ⊥
+withdraws_none e (key.Reading m r t) c one w = true≢false (sym w)
+withdraws_none e (key.Assignment m t) c one w = true≢false (sym w)
+withdraws_none e (key.TopUp r) c one w = true≢false (sym w)
+withdraws_none e (key.Withdrawal n) c one w = one
+
+none_withdrawn : (db : Trees) (e : Entry) → is_withdrawn (records_of db) e ≡ false
+none_withdrawn db e = elim (cases_Bool (is_withdrawn (records_of db) e)) [
+  | inr n ↦ n
+  | inl t ↦ absurd (let r = withdrawn-to (records_of db) e t in withdraws_none e r.0.key r.0.content (held_kind db r.0 r.1.0) r.1.1)
+]
+
+pub held_stand : (db : Trees) → standing (records_of db) ≡ records_of db
+held_stand db = standing-all (records_of db) (λ e m. none_withdrawn db e)
 
 entry_is : (e : Entry) (k : Key) (c : Content) → e.key ≡ k → e.content ≡ c → e ≡ record { key = k; content = c }
 entry_is e k c a b = λ i. record { key = a i; content = b i }

@@ -1,18 +1,21 @@
 -- The records that count, and what they tell by the second. It serves the questions of a book.
 -- (Definitions of this project.)
-use Rattle.std.specs.Prelude.{◌≡◌, ◌↔◌, ◌<◌, ◌≤◌, ℕ, Option, Some, IsTrue, List, get_or, length}
+use Rattle.std.specs.Prelude.{◌≡◌, ◌↔◌, ◌<◌, ◌≤◌, ℕ, Option, Some, IsTrue, not, ◌&&◌, List, get_or, length}
 use Rattle.pw_flow.specs.Flow.{AreNeighbours}
 use Rattle.pw_obis.specs.declared.reference.Register.{Register}
 use Rattle.pw_tariff.specs.declared.ids.MeterId.{MeterId}
 use Rattle.pw_model.specs.declared.records.Entry.{Entry}
 use Rattle.pw_model.specs.declared.records.Fall.{Fall}
+use Rattle.pw_model.specs.Counting.{is_withdrawn}
 use Rattle.pw_parts.specs.Shown.{shown}
 use Rattle.pw_model.specs.declared.records.ReadingRow.{ReadingRow}
 
--- the row of a reading: marked where this is what is told at its second
-pub record IsRowOf (told : ℕ → Option ℕ) (e : Entry) (row : ReadingRow) : Type 0 where
+-- the row of a reading: marked as counted where this is what is told at its second, and of the others, as withdrawn where one
+-- of the records withdraws it
+pub record IsRowOf (told : ℕ → Option ℕ) (s : List Entry) (e : Entry) (row : ReadingRow) : Type 0 where
   pub shows : shown e ≡ Some (row.instant, row.wh)
   pub counted : IsTrue row.counted ↔ (told row.instant ≡ Some row.wh)
+  pub withdrawn : row.withdrawn ≡ (not row.counted && is_withdrawn s e)
 
 -- so many of a list of points stand before a second
 pub record StandBefore (points : List (ℕ × ℕ)) (t count : ℕ) : Type 0 where

@@ -1,17 +1,18 @@
 -- What the plain program finds among some of the records. It serves the plain program (`src/plain`).
 -- (Definitions of this project.)
-use Rattle.std.specs.Prelude.{◌≡◌, ℕ, ◌+◌, ◌<◌, ◌≤◌, ◌⊎◌, ◌↔◌, ◌&&◌, Bool, IsTrue, cond, nat_le, Option, Some, None, List, length, get_or}
+use Rattle.std.specs.Prelude.{◌≡◌, ℕ, ◌+◌, ◌<◌, ◌≤◌, ◌⊎◌, ◌↔◌, ◌&&◌, Bool, IsTrue, cond, nat_le, Option, Some, None, List, [], ◌∷◌, length, get_or}
 use Rattle.pw_time.specs.declared.instant.TheConstants.{FIRST_SECOND, LAST_SECOND}
 use Rattle.pw_obis.specs.declared.reference.Register.{Register}
 use Rattle.pw_model.specs.declared.records.Key.{Key}
 use Rattle.pw_model.specs.declared.records.Contents.{Contents}
+use Rattle.pw_model.specs.declared.records.Contents.TheVariants.{One}
 use Rattle.pw_model.specs.declared.records.Entry.{Entry}
 use Rattle.pw_model.specs.declared.records.Fall.{Fall}
 use Rattle.pw_model.specs.declared.records.Dispute.{Dispute}
 use Rattle.pw_model.specs.declared.records.ReadingRow.{ReadingRow}
 use Rattle.pw_model.specs.Same.{entry_order}
-use Rattle.pw_model.specs.Counting.{Member, Counts, contents_at, point, reading_key, assignment_key}
-use Rattle.pw_model.specs.Payments.{keys}
+use Rattle.pw_model.specs.Counting.{Member, is_withdrawn, standing, Counts, contents_at, point, reading_key, assignment_key}
+use Rattle.pw_model.specs.Payments.{cents_for, keys}
 use Rattle.pw_model.specs.Lists.{IsInOrder, Lists, IsFall, IsDispute, fall_order, dispute_order, reading_order, reading_entry}
 
 -- the instants among the seconds that are asked for
@@ -58,6 +59,25 @@ earlier_of None b = b
 earlier_of (Some a) None = Some a
 earlier_of (Some a) (Some b) = cond (nat_le a.0 b.0) (Some a) (Some b)
 
+-- ---- records that stand
+-- none of a list is withdrawn
+abbrev pub AllStand : List Entry → Type 0
+AllStand s = standing s ≡ s
+
+-- the records of a set that stand, in their order, each once
+abbrev pub AreStanding : List Entry → List Entry → Type 0
+AreStanding s = Lists entry_order (λ e. Member e (standing s))
+
+-- ---- payments
+-- whether a record has cents for the account
+abbrev pub pays : ℕ → Entry → Bool
+pays a e = nat_le 1 (cents_for a (One e.content))
+
+-- those of some records that do
+abbrev pub paying : ℕ → List Entry → List Entry
+paying a [] = []
+paying a (e ∷ some) = cond (pays a e) (e ∷ paying a some) (paying a some)
+
 -- ---- places in a list
 -- x stands at place i
 abbrev pub IsAt : {X : Type 0} → List X → ℕ → X → Type 0
@@ -88,11 +108,14 @@ FallsFrom s some = Lists fall_order (λ f. IsFall (contents_at s) f × Member (h
 abbrev pub DisputesUnder : List Entry → List Entry → List Dispute → Type 0
 DisputesUnder s some = Lists dispute_order (λ d. IsDispute s d × Member d.key (keys some))
 
--- a row is that of a reading of the register, and marked where it counts in the set
-pub record IsRowOf (s : List Entry) (m : ℕ) (r : Register) (e : Entry) (row : ReadingRow) : Type 0 where
+-- a row is that of a reading of the register, and marked where it counts in one set and is withdrawn in another
+pub record IsRowOf (s t : List Entry) (m : ℕ) (r : Register) (e : Entry) (row : ReadingRow) : Type 0 where
   pub reading : e ≡ reading_entry m r row.instant row.wh
   pub counted : IsTrue row.counted ↔ Counts s e
+  pub withdrawn : row.withdrawn ≡ is_withdrawn t e
 
--- the rows of these records
-abbrev pub RowsOf : List Entry → ℕ → Register → List Entry → List ReadingRow → Type 0
-RowsOf s m r some = Lists reading_order (λ row. Member (reading_entry m r row.instant row.wh) some × (IsTrue row.counted ↔ Counts s (reading_entry m r row.instant row.wh)))
+-- the rows of these records, marked so
+abbrev pub RowsOf : List Entry → List Entry → ℕ → Register → List Entry → List ReadingRow → Type 0
+RowsOf s t m r some =
+    Lists reading_order (λ row. Member (reading_entry m r row.instant row.wh) some × (IsTrue row.counted ↔ Counts s (reading_entry m r row.instant row.wh)) ×
+    (row.withdrawn ≡ is_withdrawn t (reading_entry m r row.instant row.wh)))

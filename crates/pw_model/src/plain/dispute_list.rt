@@ -4,24 +4,26 @@ ghost use Rattle.std.specs.Prelude.{◌≤◌, IfOk, length};
 ghost use Rattle.pw_model.specs.Lists.{AreDisputes, IsInOrder};
 ghost use Rattle.pw_model.specs.Office.{most_records};
 ghost use Rattle.pw_model.specs.Same.{entry_order};
+ghost use Rattle.pw_model.specs.inner.Search.{AllStand};
 
 use super::alone::has_key_behind;
-use crate::in_order::sorted;
+use super::standing::standing;
 use crate::records::{Dispute, Entry};
 use std::alloc::{AllocError, Global};
 
-/// The keys that two or more records have, and how many: readings first, then assignments, then top-ups, each by key.
+/// The keys that two or more records that stand have, and how many: readings first, then assignments, then top-ups, each by key.
 pub fn disputes(alloc: Global, entries: &[Entry]) -> Result<Vec<Dispute>, AllocError>
     requires { length entries.now ≤ most_records }
     ensures { IfOk result (λ disputes. AreDisputes entries.now disputes.items) }
 {
-    let in_order = sorted(alloc, entries)?;
+    let in_order = standing(alloc, entries)?;
     disputes_among(alloc, &in_order)
 }
 
-// The disputes of some records in order: each stands at the last record of its key.
+// The disputes of some records in order, which all stand: each stands at the last record of its key.
 fn disputes_among(alloc: Global, in_order: &[Entry]) -> Result<Vec<Dispute>, AllocError>
     requires rising { IsInOrder entry_order in_order.now }
+    requires standing { AllStand in_order.now }
     requires few { length in_order.now ≤ most_records }
     ensures { IfOk result (λ disputes. AreDisputes in_order.now disputes.items) }
 {

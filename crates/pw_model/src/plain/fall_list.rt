@@ -5,13 +5,13 @@ ghost use Rattle.pw_time.specs.declared.instant.TheConstants.{END_SECOND as the_
 ghost use Rattle.pw_model.specs.Counting.{contents_at as held_at, reading_key};
 ghost use Rattle.pw_model.specs.Lists.{AreFalls, IsFall, IsInOrder};
 ghost use Rattle.pw_model.specs.Same.{entry_order};
-ghost use Rattle.pw_model.specs.inner.Search.{IsAt, IsEarliestAmong, high_reading};
+ghost use Rattle.pw_model.specs.inner.Search.{AllStand, IsAt, IsEarliestAmong, high_reading};
 ghost use Rattle.pw_model.specs.declared.records.Entry.{Entry};
 ghost use Rattle.pw_model.specs.declared.records.Fall.{Fall};
 
 use super::alone::stands_alone;
 use super::search::instant_of;
-use crate::in_order::sorted;
+use super::standing::standing;
 use crate::records::{Content, Entry, Fall, Key};
 use pw_obis::{Register, WattHours};
 use pw_tariff::MeterId;
@@ -22,13 +22,14 @@ use std::alloc::{AllocError, Global};
 pub fn falls(alloc: Global, entries: &[Entry]) -> Result<Vec<Fall>, AllocError>
     ensures { IfOk result (λ falls. AreFalls entries.now falls.items) }
 {
-    let in_order = sorted(alloc, entries)?;
+    let in_order = standing(alloc, entries)?;
     falls_among(alloc, &in_order)
 }
 
-// The falls of some records in order.
+// The falls of some records in order, which all stand.
 fn falls_among(alloc: Global, in_order: &[Entry]) -> Result<Vec<Fall>, AllocError>
-    requires { IsInOrder entry_order in_order.now }
+    requires rising { IsInOrder entry_order in_order.now }
+    requires standing { AllStand in_order.now }
     ensures { IfOk result (λ falls. AreFalls in_order.now falls.items) }
 {
     let mut falls = Vec::new(alloc);
@@ -43,6 +44,7 @@ fn falls_among(alloc: Global, in_order: &[Entry]) -> Result<Vec<Fall>, AllocErro
 // The fall whose earlier reading is the record at this place.
 fn fall_from(in_order: &[Entry], index: usize) -> Option<Fall>
     requires rising { IsInOrder entry_order in_order.now }
+    requires standing { AllStand in_order.now }
     requires within { index < length in_order.now }
     ensures some { IfSome result (λ f. IsFall (held_at in_order.now) f × IsAt in_order.now index (high_reading f)) }
     ensures none { IfNone result ((f : Fall) → IsFall (held_at in_order.now) f → IsAt in_order.now index (high_reading f) → ⊥) }
@@ -87,6 +89,7 @@ fn next_point(
     instant: Instant,
 ) -> Option<(Instant, WattHours)>
     requires rising { IsInOrder entry_order in_order.now }
+    requires standing { AllStand in_order.now }
     requires within { index < length in_order.now }
     requires reading { (e : Entry) → IsAt in_order.now index e → e.key ≡ reading_key meter.0 register instant }
     ensures { (y : ℕ) → the_end ≤ y → IsEarliestAmong (held_at in_order.now) meter.0 register (instant + 1) y in_order.now result }

@@ -3,16 +3,18 @@
 ghost use Rattle.std.specs.Prelude.{◌≡◌, ℕ, IfOk, IfSome, IfNone};
 ghost use Rattle.pw_model.specs.Lists.{AreReadings, IsInOrder, reading_entry};
 ghost use Rattle.pw_model.specs.Same.{entry_order};
+ghost use Rattle.pw_model.specs.inner.Search.{AllStand, RowsOf};
 
-use super::alone::stands_alone;
+use super::alone::counts_among;
 use super::search::instant_of;
+use super::standing::{is_withdrawn, standing};
 use crate::in_order::sorted;
 use crate::records::{Content, Entry, ReadingRow};
 use pw_obis::Register;
 use pw_tariff::MeterId;
 use std::alloc::{AllocError, Global};
 
-/// The readings of a register, by instant and then by Wh, each with whether it counts.
+/// The readings of a register, by instant and then by Wh, each with whether it counts and whether it is withdrawn.
 pub fn readings(
     alloc: Global,
     entries: &[Entry],
@@ -22,23 +24,29 @@ pub fn readings(
     ensures { IfOk result (λ rows. AreReadings entries.now meter.0 register rows.items) }
 {
     let in_order = sorted(alloc, entries)?;
-    rows_among(alloc, &in_order, meter, register)
+    let standing = standing(alloc, entries)?;
+    rows_among(alloc, &in_order, &standing, meter, register)
 }
 
-// The rows of some records in order.
+// The rows of some records in order, each marked where it counts among those that stand, and where one of the records
+// withdraws it.
 fn rows_among(
     alloc: Global,
     in_order: &[Entry],
+    standing: &[Entry],
     meter: MeterId,
     register: Register,
 ) -> Result<Vec<ReadingRow>, AllocError>
-    requires { IsInOrder entry_order in_order.now }
-    ensures { IfOk result (λ rows. AreReadings in_order.now meter.0 register rows.items) }
+    requires rising { IsInOrder entry_order in_order.now }
+    requires standing_rise { IsInOrder entry_order standing.now }
+    requires standing { AllStand standing.now }
+    ensures { IfOk result (λ rows. RowsOf standing.now in_order.now meter.0 register in_order.now rows.items) }
 {
     let mut rows = Vec::new(alloc);
-    for (index, entry) in in_order.iter().enumerate() {
-        let counted = stands_alone(in_order, index);
-        if let Some(row) = row_of(entry, meter, register, counted) {
+    for entry in in_order {
+        let counted = counts_among(standing, entry);
+        let withdrawn = is_withdrawn(in_order, entry);
+        if let Some(row) = row_of(entry, meter, register, counted, withdrawn) {
             rows.push(row)?;
         }
     }
@@ -46,8 +54,14 @@ fn rows_among(
 }
 
 // The row of a record, where it is a reading of the register.
-fn row_of(entry: &Entry, meter: MeterId, register: Register, counted: bool) -> Option<ReadingRow>
-    ensures some { IfSome result (λ row. (entry.now ≡ reading_entry meter.0 register row.instant row.wh) × (row.counted ≡ counted)) }
+fn row_of(
+    entry: &Entry,
+    meter: MeterId,
+    register: Register,
+    counted: bool,
+    withdrawn: bool,
+) -> Option<ReadingRow>
+    ensures some { IfSome result (λ row. (entry.now ≡ reading_entry meter.0 register row.instant row.wh) × (row.counted ≡ counted) × (row.withdrawn ≡ withdrawn)) }
     ensures none { IfNone result ((t w : ℕ) → entry.now ≡ reading_entry meter.0 register t w → ⊥) }
 {
     let Some(instant) = instant_of(&entry.key, meter, register) else {
@@ -60,5 +74,6 @@ fn row_of(entry: &Entry, meter: MeterId, register: Register, counted: bool) -> O
         instant,
         wh: *wh,
         counted,
+        withdrawn,
     })
 }

@@ -1,23 +1,23 @@
 //! What counts at a key, and the owner of a meter at a second.
 
-ghost use Rattle.std.specs.Prelude.{◌≡◌, ◌↔◌, ℕ, IfSome, IfNone, IsTrue};
-ghost use Rattle.pw_model.specs.Counting.{Counts, contents_at as held_at, joined as one_more, owner_of, reading_key};
+ghost use Rattle.std.specs.Prelude.{◌≡◌, ℕ, IfSome, IfNone};
+ghost use Rattle.pw_model.specs.Counting.{contents_at as held_at, is_withdrawn as is_withdrawn_by, joined as one_more, owner_of, reading_key, withdraws as withdraws_by};
 ghost use Rattle.pw_model.specs.Energy.{owner_at as owner_of_second};
 ghost use Rattle.pw_model.specs.inner.Search.{IsLatestAmong, IsStartIn, later_of};
 
-use crate::compare::{is_same_content, is_same_key};
+use crate::compare::{is_same_content, is_same_entry, is_same_key};
 use crate::records::{Content, Contents, Entry, Key};
 use pw_obis::Register;
 use pw_tariff::{MeterId, Owner};
 use pw_time::Instant;
 
-/// What the records say of a key: whether none has it, one, or several.
+/// What the records that stand say of a key: whether none has it, one, or several.
 pub fn contents_at(entries: &[Entry], key: &Key) -> Contents
     ensures { result ≡ held_at entries.now key.now }
 {
     let mut contents = Contents::Nothing;
     for entry in entries {
-        if is_same_key(&entry.key, key) {
+        if is_same_key(&entry.key, key) && !is_withdrawn(entries, entry) {
             contents = joined(entry.content, contents);
         }
     }
@@ -40,12 +40,24 @@ fn joined(content: Content, behind: Contents) -> Contents
     }
 }
 
-// Whether a record counts.
-pub(crate) fn counts(entries: &[Entry], entry: &Entry) -> bool
-    ensures { IsTrue result ↔ Counts entries.now entry.now }
+// Whether one of the records withdraws this one.
+fn is_withdrawn(entries: &[Entry], entry: &Entry) -> bool
+    ensures { result ≡ is_withdrawn_by entries.now entry.now }
 {
-    match contents_at(entries, &entry.key) {
-        Contents::One(content) => is_same_content(&content, &entry.content),
+    for other in entries {
+        if withdraws(&other.key, entry) {
+            return true;
+        }
+    }
+    false
+}
+
+// Whether a key is that of a withdrawal that names a record.
+fn withdraws(key: &Key, entry: &Entry) -> bool
+    ensures { result ≡ withdraws_by entry.now key.now }
+{
+    match key {
+        Key::Withdrawal { named } => is_same_entry(&named.entry(), entry),
         _ => false,
     }
 }

@@ -12,5 +12,5 @@ returns-clause-text c = λ before h.
     let name : c.as_bytes.result.now ≡ register_name c.args.register = c.as_bytes.ensures.value ∙ c.name.ensures in
     let instant : c.instant_text.result ≡ instant_text c.args.reading.now.instant = c.instant_text.ensures in
     let wh : c.as_bytes-2.result.now ≡ decimal c.args.reading.now.wh = c.as_bytes-2.ensures.value ∙ c.format.ensures.text ∙ ap decimal c.get.ensures.value in
-    let counted : c.mark_of.result.now ≡ mark c.args.reading.now.counted = c.mark_of.ensures in
+    let counted : c.mark_of.result.now ≡ mark c.args.reading.now = c.mark_of.ensures in
     row-of _ _ _ _ _ (λ i. c.args.meter.now ∷ name i ∷ instant i ∷ wh i ∷ counted i ∷ []) all

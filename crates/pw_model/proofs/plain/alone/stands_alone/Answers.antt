@@ -7,11 +7,11 @@ use Rattle.pw_model.proofs.plain.alone.stands_alone.Goals.{else-index-gt0-via-th
 
 pub returns-then-has_key_behind : goal.returns-then-has_key_behind
 returns-then-has_key_behind c =
-    not-alone c.args.in_order.now (c.args.index - 1) c.args.index c.requires.rising (omega (arith, c.if-index-gt0.true)) (c.has_key_behind.ensures.0 c.if-has_key_behind.true)
+    not-alone c.args.in_order.now (c.args.index - 1) c.args.index c.requires.rising c.requires.standing (omega (arith, c.if-index-gt0.true)) (c.has_key_behind.ensures.0 c.if-has_key_behind.true)
 
 pub returns : goal.returns
 returns c =
-    alone-told c.args.in_order.now c.args.index c.has_key_behind-2.result c.requires.rising
+    alone-told c.args.in_order.now c.args.index c.has_key_behind-2.result c.requires.rising c.requires.standing
     (λ p n k. elim c.else-index-gt0.branch [
       | else-index-gt0-via-then-index-gt0+else-has_key_behind w ↦ (
           let q : p ≡ c.args.index - 1 = omega (arith, n) in

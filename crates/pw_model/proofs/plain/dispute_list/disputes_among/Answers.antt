@@ -28,12 +28,12 @@ loop-index-preserved c =
     let none : IsKeyBehind c.args.in_order.now c.loop-index.index → ⊥ = λ k. true≢false (sym (c.has_key_behind.ensures.1 k) ∙ c.if-has_key_behind.false) in
     elim c.if-contents-ge2.branch [
       | then-contents-ge2+in_ok-push w ↦ record {
-        listed = disputes-push c.args.in_order.now c.loop-index.index c.loop-index.contents c.index-in_order-index.result c.loop-index.disputes.items c.if-contents-ge2.disputes.items c.requires.rising at
+        listed = disputes-push c.args.in_order.now c.loop-index.index c.loop-index.contents c.index-in_order-index.result c.loop-index.disputes.items c.if-contents-ge2.disputes.items c.requires.rising c.requires.standing at
             c.loop-index.invariant.counted none w.if-contents-ge2.true (ap (λ v. v.items) w.disputes-is ∙ w.in_ok-push.ensures.items) c.loop-index.invariant.listed;
         counted = rw w.contents-is (count-none c.args.in_order.now c.loop-index.index c.index-in_order-index.result c.requires.rising at none);
       }
       | else-contents-ge2 w ↦ record {
-        listed = rw w.disputes-is (disputes-pass_few c.args.in_order.now c.loop-index.index c.loop-index.contents c.index-in_order-index.result c.loop-index.disputes.items c.requires.rising at
+        listed = rw w.disputes-is (disputes-pass_few c.args.in_order.now c.loop-index.index c.loop-index.contents c.index-in_order-index.result c.loop-index.disputes.items c.requires.rising c.requires.standing at
             c.loop-index.invariant.counted none w.if-contents-ge2.false c.loop-index.invariant.listed);
         counted = rw w.contents-is (count-none c.args.in_order.now c.loop-index.index c.index-in_order-index.result c.requires.rising at none);
       }

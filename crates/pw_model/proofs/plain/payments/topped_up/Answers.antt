@@ -1,29 +1,28 @@
 use Rattle.std.proofs.Common.{ap, sym, ◌∙◌, inl, inr, arith}
-use Rattle.std.proofs.lemmas.Bool.{true≢false}
 use Rattle.pw_model.proofs.Places.{at-told, take-all}
-use Rattle.pw_model.proofs.Payments.{cents_among, cents-all, cents-skip, cents-add}
+use Rattle.pw_model.proofs.Payments.{cents_among, cents-all, cents-skip, cents-add, pays-told, pays-not}
 use Rattle.pw_model.proofs.plain.payments.topped_up.Goals as goal
-use Rattle.pw_model.proofs.plain.payments.topped_up.Goals.{then-cents-gt0+then-counts+then-not-has_key, else-cents-gt0, else-cents-gt0-via-then-cents-gt0+then-counts+else-not-has_key, else-cents-gt0-via-then-cents-gt0+else-counts, else-cents-gt0-via-else-cents-gt0}
+use Rattle.pw_model.proofs.plain.payments.topped_up.Goals.{then-cents_in-gt0+then-not-has_payment, else-cents_in-gt0, else-cents_in-gt0-via-then-cents_in-gt0+else-not-has_payment, else-cents_in-gt0-via-else-cents_in-gt0}
 
 pub overflow_add-total : goal.overflow_add-total
-overflow_add-total c = omega (arith, c.loop-index.invariant.bound, c.from-total.ensures, c.cents_in-cents.type_inv)
+overflow_add-total c = omega (arith, c.loop-index.invariant.bound, c.from-total.ensures, c.cents_at.type_inv)
 
 pub loop-index-preserved : goal.loop-index-preserved
 loop-index-preserved c =
     let at = at-told c.args.entries.now c.loop-index.index c.index-entries-index.result c.loop-index-test.true c.index-entries-index.is in
     let before = c.loop-index.invariant.sum in
-    elim c.if-cents-gt0.branch [
-      | then-cents-gt0+then-counts+then-not-has_key w ↦ (
-          let more = cents-add c.args.entries.now c.args.account.0 c.loop-index.index c.index-entries-index.result at (w.counts.ensures.0 w.if-counts.true) (sym w.has_key.ensures ∙ w.if-not-has_key.true) in
+    elim c.if-cents_in-gt0.branch [
+      | then-cents_in-gt0+then-not-has_payment w ↦ (
+          let pays = pays-told c.args.account.0 c.index-entries-index.result c.cents_in.result c.cents_in.ensures (omega (arith, w.if-cents_in-gt0.true)) in
+          let more = cents-add c.args.entries.now c.args.account.0 c.loop-index.index c.index-entries-index.result at pays (sym w.has_payment.ensures ∙ w.if-not-has_payment.true) in
           record {
-            sum = omega (arith, w.total-is, w.from-total.ensures, c.cents_in-cents.ensures, before, more);
-            bound = omega (arith, w.total-is, w.from-total.ensures, c.cents_in-cents.type_inv, c.loop-index.invariant.bound);
+            sum = omega (arith, w.total-is, w.from-total.ensures, w.cents_at.ensures, before, more);
+            bound = omega (arith, w.total-is, w.from-total.ensures, w.cents_at.type_inv, c.loop-index.invariant.bound);
           })
-      | else-cents-gt0 w ↦ (
-          let same = cents-skip c.args.entries.now c.args.account.0 c.loop-index.index c.index-entries-index.result at (elim w.else-cents-gt0.branch [
-            | else-cents-gt0-via-then-cents-gt0+then-counts+else-not-has_key v ↦ inr (inr (sym v.has_key.ensures ∙ v.if-not-has_key.false))
-            | else-cents-gt0-via-then-cents-gt0+else-counts v ↦ inr (inl (λ k. true≢false (sym (v.counts.ensures.1 k) ∙ v.if-counts.false)))
-            | else-cents-gt0-via-else-cents-gt0 v ↦ inl (omega (arith, c.cents_in-cents.ensures, v.if-cents-gt0.false))
+      | else-cents_in-gt0 w ↦ (
+          let same = cents-skip c.args.entries.now c.args.account.0 c.loop-index.index c.index-entries-index.result at (elim w.else-cents_in-gt0.branch [
+            | else-cents_in-gt0-via-then-cents_in-gt0+else-not-has_payment v ↦ inr (sym v.has_payment.ensures ∙ v.if-not-has_payment.false)
+            | else-cents_in-gt0-via-else-cents_in-gt0 v ↦ inl (pays-not c.args.account.0 c.index-entries-index.result c.cents_in.result c.cents_in.ensures (omega (arith, v.if-cents_in-gt0.false)))
           ]) in
           record {
             sum = omega (arith, w.total-is, before, same);

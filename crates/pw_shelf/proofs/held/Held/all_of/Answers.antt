@@ -26,10 +26,8 @@ pub returns-then-not-is_of_kind-clause-rows : goal.returns-then-not-is_of_kind-c
 returns-then-not-is_of_kind-clause-rows c =
     let keys : List Entry = c.args.self.now.records.keys in
     let rows : c.range-entry-items.result ≡ filter (from (lowest_key c.args.kind)) keys = c.range-entry-items.ensures.between tt ∙ ap (λ (l : Entry). filter (range_contains order (Included l) Unbounded) keys) c.lowest_of.ensures in
-    let named = rows-named c.args.kind keys c.args.self.now.named c.range-entry-items.ensures.ordered c.range-entry-items.result rows in
-    let sorted = rows-sorted c.args.kind keys c.args.self.now.named c.range-entry-items.ensures.ordered c.range-entry-items.result rows in
     listed-part c.args.kind keys c.args.self.now.named c.range-entry-items.ensures.ordered c.range-entry-items.result rows (map deref c.loop-entry.yielded) c.next.new.self c.in-Some.entry.now c.loop-entry.found.items
-    (split (IsOfKind c.args.kind) c.range-entry-items.result named sorted c.loop-entry.yielded _ _ _ c.in-Some.entry c.into_iter-entry-iterator.ensures.into_iter_gives c.loop-entry.yielded_by c.in-Some.ensures.steps)
+    (split c.range-entry-items.result c.loop-entry.yielded _ _ _ c.in-Some.entry c.into_iter-entry-iterator.ensures.into_iter_gives c.loop-entry.yielded_by c.in-Some.ensures.steps)
     (λ o. let h = c.is_of_kind.ensures.1 o in search rules) c.loop-entry.invariant
 
 pub returns-clause-rows : goal.returns-clause-rows

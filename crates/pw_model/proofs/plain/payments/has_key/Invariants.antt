@@ -1,7 +1,0 @@
-use Rattle.std.proofs.Common.{◌≡◌, false, take}
-use Rattle.pw_model.specs.Payments.{keys, stands_in}
-use Rattle.pw_model.specs.Same.{same_key}
-use Rattle.pw_model.proofs.plain.payments.has_key.Given as goal
-
-abbrev pub invariant-loop-entry : goal.invariant-loop-entry
-invariant-loop-entry l = stands_in same_key l.key (keys (take l.entry-index l.entries)) ≡ false
