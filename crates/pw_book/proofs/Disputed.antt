@@ -10,7 +10,7 @@ use Rattle.pw_model.specs.Lists.{IsInOrder, Lists, IsDispute, records_at, disput
 use Rattle.pw_model.specs.Payments.{stands_in}
 use Rattle.pw_model.specs.Same.{same_key, same_entry, key_order, entry_order}
 use Rattle.pw_model.proofs.Same.{same_key-decides, same_entry-decides}
-use Rattle.pw_model.proofs.Counting.{standing-back, standing-member, standing-part, standing-to, standing-told}
+use Rattle.pw_model.proofs.Counting.{standing-back, standing-member, standing-to, standing-told}
 use Rattle.pw_model.proofs.Standing.{rising-some}
 use Rattle.pw_model.proofs.Once.{once-same, stands-decides}
 use Rattle.pw_model.specs.Kinds.{ListsHeld}

@@ -1,11 +1,10 @@
 -- Whether a record is withdrawn, by what is told at the key of its withdrawal.
-use Rattle.std.proofs.Common.{◌≡◌, Bool, true, false, Some, None, List, refl, ap, sym, ◌∙◌, subst}
-use Rattle.std.proofs.lemmas.Bool.{cases_Bool, true≢false}
+use Rattle.std.proofs.Common.{◌≡◌, true, false, Some, None, List, refl, sym, ◌∙◌, subst}
+use Rattle.std.proofs.lemmas.Bool.{true≢false}
 use Rattle.std.specs.Cmp.{both_ways}
 use Rattle.pw_model.specs.declared.records.Key.{Key}
 use Rattle.pw_model.specs.declared.records.Key.TheVariants as key
 use Rattle.pw_model.specs.declared.records.Named.{Named}
-use Rattle.pw_model.specs.declared.records.Content.{Content}
 use Rattle.pw_model.specs.declared.records.Contents.{Contents}
 use Rattle.pw_model.specs.declared.records.Contents.TheVariants.{Nothing, One, Several}
 use Rattle.pw_model.specs.declared.records.Entry.{Entry}

@@ -1,11 +1,11 @@
 -- The records of a kind that a set has: there is one list of them.
-use Rattle.std.proofs.Common.{◌≡◌, ◌⊎◌, ◌↔◌, List, [], ◌∷◌, inl, inr, subst, sym}
+use Rattle.std.proofs.Common.{◌≡◌, ◌⊎◌, List, [], ◌∷◌, inl, inr, subst, sym}
 use Rattle.pw_model.specs.declared.records.Key.{Key}
 use Rattle.pw_model.specs.declared.records.Key.TheVariants as key
 use Rattle.pw_model.specs.declared.records.Entry.{Entry}
 use Rattle.pw_model.specs.Counting.{Member, SameMembers}
 use Rattle.pw_model.specs.Kinds.{IsAssignment, IsTopUp, ListsHeld}
-use Rattle.pw_model.specs.Lists.{IsInOrder, Lists}
+use Rattle.pw_model.specs.Lists.{IsInOrder}
 use Rattle.pw_model.specs.Same.{entry_order}
 use Rattle.pw_model.specs.inner.Search.{AreSorted}
 use Rattle.pw_model.proofs.EntryOrder.{before-all, entry-strict}

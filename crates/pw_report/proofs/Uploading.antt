@@ -1,10 +1,9 @@
 -- What was exported of records is an upload of them.
-use Rattle.std.proofs.Common.{◌≡◌, ◌∙◌, ℕ, ◌≤◌, ◌<◌, suc, ◌^◌, ◌∷◌, ◌++◌, [], List, true, false, subst, Option, Some, None, Ok, length, get_or, map, ap, sym, refl, inl, inr, arith, append_assoc}
+use Rattle.std.proofs.Common.{◌≡◌, ◌∙◌, ℕ, ◌≤◌, ◌<◌, suc, ◌^◌, ◌∷◌, ◌++◌, [], List, true, false, subst, Option, Some, None, Ok, length, get_or, map, ap, sym, refl, inl, inr, arith}
 use Rattle.std.proofs.lemmas.Fmt.{decimal_is_IsNumeral, decimal_nonempty, length-decimal-le}
-use Rattle.std.proofs.lemmas.List.{append-nil}
 use Rattle.std.proofs.lemmas.List.Elements.{All-get_or}
 use Rattle.std.proofs.lemmas.Option.{slice_get_cases, unwrap_or-slice_get}
-use Rattle.std.specs.Prelude.{codes, decimal, slice_get, option_map, unwrap_or}
+use Rattle.std.specs.Prelude.{decimal, slice_get, option_map, unwrap_or}
 use Rattle.std.specs.List.{flat_map}
 use Rattle.csv.specs.Machine.{next_record}
 use Rattle.csv.specs.Reading.{AreRecords, Reached, default_config, strip_bom}
@@ -27,7 +26,6 @@ use Rattle.pw_model.specs.Counting.{Member}
 use Rattle.pw_model.specs.Office.{AllOfOffice, HasOwner, IsOf, most_cents}
 use Rattle.pw_record.specs.declared.row.RowKind.{RowKind}
 use Rattle.pw_record.specs.declared.row.RowKind.TheVariants.{Assignment, TopUp}
-use Rattle.pw_record.specs.declared.rows.TheConstants.{MOST_ROWS}
 use Rattle.pw_record.specs.Cents.{IsCents}
 use Rattle.pw_record.specs.Names.{HasId, HasName, IsOwner}
 use Rattle.pw_record.specs.Row.{GivesEntry, Row, header_of}

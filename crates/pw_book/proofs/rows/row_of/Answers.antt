@@ -1,4 +1,4 @@
-use Rattle.std.proofs.Common.{◌≡◌, Bool, not, ◌&&◌, subst, ap, sym, ◌∙◌}
+use Rattle.std.proofs.Common.{Bool, not, ◌&&◌, subst, ap, sym, ◌∙◌}
 use Rattle.pw_model.specs.declared.records.Content.{Content}
 use Rattle.pw_model.specs.declared.records.Key.{Key}
 use Rattle.pw_model.specs.declared.records.Key.TheVariants as key

@@ -1,11 +1,11 @@
-use Rattle.std.proofs.Common.{◌≡◌, ℕ, Option, Vec, Global, None, MatchOption, ap, subst, sym, ◌∙◌}
+use Rattle.std.proofs.Common.{◌≡◌, Option, Vec, Global, None, MatchOption, ap, subst, ◌∙◌}
 use Rattle.pw_model.specs.declared.records.ReadingRow.{ReadingRow}
 use Rattle.pw_model.specs.Counting.{contents_at, point}
 use Rattle.pw_model.specs.Shelf.{ShelfContent}
 use Rattle.pw_parts.specs.Shown.{shown}
 use Rattle.pw_book.specs.inner.Counted.{IsRowOf}
 use Rattle.pw_book.proofs.Chains.{asked-then}
-use Rattle.pw_book.proofs.RowFacts.{RowsSoFar, all-rows, next-row, no-row}
+use Rattle.pw_book.proofs.RowFacts.{all-rows, next-row, no-row}
 use Rattle.pw_book.proofs.rows.rows_of.Goals as goal
 use Rattle.pw_book.proofs.rows.rows_of.Goals.{in-Some+in_ok-push, in_default}
 
