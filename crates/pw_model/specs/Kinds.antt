@@ -35,6 +35,11 @@ abbrev pub IsTopUp : Key → Type 0
 IsTopUp (key.TopUp r) = Unit {0}
 IsTopUp _ = ⊥
 
+-- the key of a withdrawal
+abbrev pub IsWithdrawal : Key → Type 0
+IsWithdrawal (key.Withdrawal n) = Unit {0}
+IsWithdrawal _ = ⊥
+
 -- the records of a list with such a key, sorted by key and content
 abbrev pub ListsHeld : (Key → Type 0) → List Entry → List Entry → Type 0
 ListsHeld Of records = Lists entry_order (λ e. Member e records × Of e.key)

@@ -12,14 +12,14 @@ use Rattle.pw_record.specs.declared.fault.UploadFault.{UploadFault}
 use Rattle.pw_record.specs.declared.origin.Source.{Source}
 use Rattle.pw_record.specs.declared.origin.Source.TheVariants.{Telegrams as OfTelegrams, Readouts as OfReadouts}
 use Rattle.pw_record.specs.declared.row.RowKind.{RowKind}
-use Rattle.pw_record.specs.declared.row.RowKind.TheVariants.{Assignment, TopUp}
+use Rattle.pw_record.specs.declared.row.RowKind.TheVariants.{Assignment, TopUp, Withdrawal}
 use Rattle.pw_record.specs.Causes.{want_of_memory}
 use Rattle.pw_record.specs.Names.{HasId, IsUnknownId, HasClock}
 use Rattle.pw_record.specs.Origin.{RefusesOrigin}
 use Rattle.pw_record.specs.Frames.{RefusesFrame, IsReadoutMeter, readouts_of}
 use Rattle.pw_record.specs.Rows.{RowsGive, RowsRefused}
 use Rattle.pw_record.specs.Laws.{IsOutcome, HasNoTwoOutcomes, HasOneOutcome}
-use Rattle.pw_record.specs.Uploads.{Upload, Telegrams, Readouts, Assignments, TopUps, Gives, RefusesContent}
+use Rattle.pw_record.specs.Uploads.{Upload, Telegrams, Readouts, Assignments, TopUps, Withdrawals, Gives, RefusesContent}
 use Rattle.pw_record.specs.inner.Outcomes.{HasBodyOutcome}
 use Rattle.pw_record.proofs.EachRows.{HasRowsOutcome, of-content, rows-there_are}
 use Rattle.pw_record.proofs.OneOutcome.{one-outcome}
@@ -84,3 +84,6 @@ of-assignments file named body = of-outcome file named (Assignments body) (of-ro
 
 pub of-top_ups : (file : OfficeFile) → AreNamed file → (body : List ℕ) → HasOneOutcome file (TopUps body)
 of-top_ups file named body = of-outcome file named (TopUps body) (of-rows file TopUp body (rows-there_are file TopUp body))
+
+pub of-withdrawals : (file : OfficeFile) → AreNamed file → (body : List ℕ) → HasOneOutcome file (Withdrawals body)
+of-withdrawals file named body = of-outcome file named (Withdrawals body) (of-rows file Withdrawal body (rows-there_are file Withdrawal body))

@@ -1,6 +1,7 @@
 pub mod Deduplicated
 pub mod EntryOrder
 pub mod Fields
+pub mod ElevenDigits
 pub mod OfOffice
 pub mod RowFacts
 pub mod Members

@@ -8,12 +8,12 @@ use Rattle.pw_model.specs.declared.records.Entry.{Entry}
 use Rattle.pw_record.specs.declared.fault.Cause.{Cause}
 use Rattle.pw_record.specs.declared.fault.UploadFault.{UploadFault}
 use Rattle.pw_record.specs.declared.row.RowKind.{RowKind}
-use Rattle.pw_record.specs.declared.row.RowKind.TheVariants.{Assignment, TopUp}
+use Rattle.pw_record.specs.declared.row.RowKind.TheVariants.{Assignment, TopUp, Withdrawal}
 use Rattle.pw_record.specs.Causes.{want_of_memory}
 use Rattle.pw_record.specs.Listed.{AreListed}
 use Rattle.pw_record.specs.Row.{Row, header_of, GivesEntry}
 use Rattle.pw_record.specs.Rows.{AreRows, RowsFront, GiveEntries, AreGoodRecords, RowsGive, RefusesRecord, RefusedAt, RowsRefused}
-use Rattle.pw_record.specs.Uploads.{Assignments, TopUps}
+use Rattle.pw_record.specs.Uploads.{Assignments, TopUps, Withdrawals}
 use Rattle.pw_record.specs.Laws.{HasNoTwoOutcomes}
 use Rattle.pw_record.proofs.OneReading.{IsFront, two_fronts, front_of_all, one_records}
 use Rattle.pw_record.proofs.OneListed.{one_listed}
@@ -180,6 +180,13 @@ one_assignments file named body = record {
   entries = one_list file named Assignment body;
   either = list_or_fault file named Assignment body;
   refusal = one_fault file named Assignment body;
+}
+
+pub one_withdrawals : (file : OfficeFile) → AreNamed file → (body : List ℕ) → HasNoTwoOutcomes file (Withdrawals body)
+one_withdrawals file named body = record {
+  entries = one_list file named Withdrawal body;
+  either = list_or_fault file named Withdrawal body;
+  refusal = one_fault file named Withdrawal body;
 }
 
 pub one_top_ups : (file : OfficeFile) → AreNamed file → (body : List ℕ) → HasNoTwoOutcomes file (TopUps body)

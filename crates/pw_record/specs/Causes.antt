@@ -6,7 +6,7 @@ use Rattle.pw_frame.specs.Faults as frame_fault
 use Rattle.pw_obis.specs.Faults as obis_fault
 use Rattle.pw_time.specs.Faults as stamp_fault
 use Rattle.pw_record.specs.declared.fault.Cause.{Cause}
-use Rattle.pw_record.specs.declared.fault.Cause.TheVariants.{Instant, Frame, Line, Value, NoMeter, UnknownMeter, WrongKind, NoInstant, RegisterTwice, NoRegister, UnknownAccount, CsvForm, Header, Cents, Reference, TooManyParts, TwiceGiven, Memory}
+use Rattle.pw_record.specs.declared.fault.Cause.TheVariants.{Instant, Frame, Line, Value, NoMeter, UnknownMeter, WrongKind, NoInstant, RegisterTwice, NoRegister, UnknownAccount, CsvForm, Header, Cents, Reference, TooManyParts, TwiceGiven, Kind, RegisterName, Memory}
 use Rattle.pw_record.specs.declared.fault.UploadFault.{UploadFault}
 
 abbrev pub cause_number : Cause → ℕ
@@ -27,6 +27,8 @@ cause_number Cents = 49
 cause_number Reference = 50
 cause_number TooManyParts = 51
 cause_number TwiceGiven = 52
+cause_number Kind = 53
+cause_number RegisterName = 54
 cause_number Memory = 62
 
 abbrev pub cause_name : Cause → List ℕ
@@ -47,6 +49,8 @@ cause_name Cents = codes "Cents"
 cause_name Reference = codes "Reference"
 cause_name TooManyParts = codes "TooManyParts"
 cause_name TwiceGiven = codes "TwiceGiven"
+cause_name Kind = codes "Kind"
+cause_name RegisterName = codes "RegisterName"
 cause_name Memory = codes "Memory"
 
 -- what stands behind the part's number

@@ -7,7 +7,7 @@ use Rattle.pw_record.specs.declared.fault.UploadFault.{UploadFault}
 use Rattle.pw_record.specs.declared.laws.UploadBytes.{UploadBytes}
 use Rattle.pw_record.specs.declared.laws.UploadKind.{UploadKind}
 use Rattle.pw_record.specs.declared.laws.UploadKind.TheVariants as kind
-use Rattle.pw_record.specs.Uploads.{Upload, Telegrams, Readouts, Assignments, TopUps, Gives, RefusesContent}
+use Rattle.pw_record.specs.Uploads.{Upload, Telegrams, Readouts, Assignments, TopUps, Withdrawals, Gives, RefusesContent}
 
 -- an upload gives at most one list of entries, or is refused for at most one content fault in one part, and not both
 pub record HasNoTwoOutcomes (file : OfficeFile) (upload : Upload) : Type 0 where
@@ -32,6 +32,7 @@ upload_with kind.Telegrams body = Telegrams body
 upload_with (kind.Readouts id) body = Readouts id.now body
 upload_with kind.Assignments body = Assignments body
 upload_with kind.TopUps body = TopUps body
+upload_with kind.Withdrawals body = Withdrawals body
 
 -- the upload that bytes are
 abbrev pub upload_of : UploadBytes → Upload

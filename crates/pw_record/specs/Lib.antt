@@ -1,8 +1,9 @@
 -- Read these, in this order:
 -- Names: ids and names of the office file
 -- Cents: amounts
+-- WattHours: energies without a unit
 -- Row: one row
--- Rows: bodies of assignments and top-ups
+-- Rows: bodies of assignments, top-ups and withdrawals
 -- Told: what the sets of a frame tell
 -- Origin: the meter and the instant of a frame
 -- Shown: which registers the sets of a frame show
@@ -12,6 +13,7 @@
 -- Laws: no upload has two outcomes
 pub mod Names
 pub mod Cents
+pub mod WattHours
 pub mod Row
 pub mod Rows
 pub mod Told

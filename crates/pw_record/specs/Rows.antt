@@ -12,7 +12,7 @@ use Rattle.pw_record.specs.declared.fault.Cause.TheVariants.{Header, TooManyPart
 use Rattle.pw_record.specs.declared.fault.UploadFault.{UploadFault}
 use Rattle.pw_record.specs.Causes.{want_of_memory}
 use Rattle.pw_record.specs.declared.row.RowKind.{RowKind}
-use Rattle.pw_record.specs.declared.row.RowKind.TheVariants.{Assignment, TopUp}
+use Rattle.pw_record.specs.declared.row.RowKind.TheVariants.{Assignment, TopUp, Withdrawal}
 use Rattle.pw_record.specs.declared.rows.TheConstants.{MOST_ROWS}
 use Rattle.pw_record.specs.Listed.{AreListed}
 use Rattle.pw_record.specs.Row.{Row, header_of, GivesEntry, RefusesRow}
@@ -88,7 +88,7 @@ pub record HasNoRecord (body : List ℕ) (fault : UploadFault) : Type 0 where
 abbrev pub RowsRefused : OfficeFile → RowKind → List ℕ → UploadFault → Type 0
 RowsRefused file kind body fault = (fault ≡ want_of_memory) ⊎ (HasNoRecord body fault ⊎ RefusedAt file kind body fault.part fault.cause)
 
--- ---- a body of assignments, and one of top-ups
+-- ---- a body of assignments, one of top-ups, and one of withdrawals
 abbrev pub AssignmentsGive : OfficeFile → List ℕ → List Entry → Type 0
 AssignmentsGive file body entries = RowsGive file Assignment body entries
 
@@ -100,5 +100,11 @@ TopUpsGive file body entries = RowsGive file TopUp body entries
 
 abbrev pub TopUpsRefused : OfficeFile → List ℕ → UploadFault → Type 0
 TopUpsRefused file body fault = RowsRefused file TopUp body fault
+
+abbrev pub WithdrawalsGive : OfficeFile → List ℕ → List Entry → Type 0
+WithdrawalsGive file body entries = RowsGive file Withdrawal body entries
+
+abbrev pub WithdrawalsRefused : OfficeFile → List ℕ → UploadFault → Type 0
+WithdrawalsRefused file body fault = RowsRefused file Withdrawal body fault
 
 -- ---- what one more record does to the entries

@@ -19,7 +19,7 @@ pub enum Cause {
     Frame(FrameFault),
     /// 20: a line of the frame's block isn't in the grammar of data sets.
     Line(LineFault),
-    /// 21 to 23: the value of a register that counts.
+    /// 21 to 23: the value of a register that counts; 21 also the watt-hours of a row.
     Value(ValueFault),
     /// 40: a telegram has no meter identifier.
     NoMeter,
@@ -47,6 +47,10 @@ pub enum Cause {
     TooManyParts,
     /// 52: a frame gives two unlike identifiers, stamps, dates or times.
     TwiceGiven,
+    /// 53: a row of withdrawals names no kind of record that can be withdrawn.
+    Kind,
+    /// 54: a reading that is withdrawn is of no register, or of one that doesn't count for its meter.
+    RegisterName,
     /// 62: memory was refused.
     Memory,
 }
@@ -98,6 +102,8 @@ impl Cause {
             Cause::Reference => 50,
             Cause::TooManyParts => 51,
             Cause::TwiceGiven => 52,
+            Cause::Kind => 53,
+            Cause::RegisterName => 54,
             Cause::Memory => 62,
         }
     }
@@ -124,6 +130,8 @@ impl Cause {
             Cause::Reference => "Reference",
             Cause::TooManyParts => "TooManyParts",
             Cause::TwiceGiven => "TwiceGiven",
+            Cause::Kind => "Kind",
+            Cause::RegisterName => "RegisterName",
             Cause::Memory => "Memory",
         }
     }

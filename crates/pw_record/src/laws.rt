@@ -24,6 +24,8 @@ pub enum UploadKind<'a> {
     Assignments,
     /// Rows of top-ups.
     TopUps,
+    /// Rows that withdraw records.
+    Withdrawals,
 }
 
 /// An upload as bytes.
@@ -63,6 +65,7 @@ pub fn each_upload_has_one_outcome(office: &Office, upload: UploadBytes)
         }
         UploadKind::Assignments => {}
         UploadKind::TopUps => {}
+        UploadKind::Withdrawals => {}
     }
 }
 

@@ -1,20 +1,33 @@
-//! One row of assignments or of top-ups.
+//! One row of assignments, of top-ups or of withdrawals.
 
-ghost use Rattle.std.specs.Prelude.{◌≡◌, ◌≢◌, ◌↔◌, ◌∷◌, [], length, IsTrue, IfOk, IfErr, MatchOption, IfSome, IfNone};
+ghost use Rattle.std.specs.Prelude.{◌≡◌, ◌≢◌, ◌<◌, ◌≤◌, ◌↔◌, ◌∷◌, [], drop, length, IsTrue, IfOk, IfErr, MatchOption, IfSome, IfNone};
 ghost use Rattle.csv.specs.Records.{fields_of};
-ghost use Rattle.pw_record.specs.Names.{IsOwner, IsUnknownOwner};
-ghost use Rattle.pw_record.specs.Row.{GivesAssignment, GivesEntry, GivesTopUp, header_of, RefusesAssignment, RefusesRow, RefusesTopUp};
+ghost use Rattle.pw_tariff.specs.Words.{register_named as register_of};
+ghost use Rattle.pw_model.specs.Counting.{named_entry};
+ghost use Rattle.pw_record.specs.Names.{HasRegister, IsOwner, IsUnknownOwner, IsUnknownRegister};
+ghost use Rattle.pw_record.specs.Row.{GivesAssignment, GivesEntry, GivesNamed, GivesReading, GivesTopUp, GivesWithdrawal, HasNoKind, RefusesAssignment, RefusesNamed, RefusesReading, RefusesRow, RefusesTopUp, RefusesWithdrawal, header_of, kind_name};
 
 use crate::cents::cents;
 use crate::fault::Cause;
+use crate::watt_hours::watt_hours;
 use csv::ByteRecord;
-use pw_model::{Content, Entry, Key, Reference};
-use pw_tariff::{Office, Owner};
+use pw_model::{Content, Entry, Key, Named, Reference};
+use pw_obis::{Register, ValueFault};
+use pw_tariff::{MeterId, Office, Owner};
 use pw_time::utc;
 
 /// What the rows of a body are.
 #[derive(Clone, Copy, Debug, PartialEq, Eq)]
 pub enum RowKind {
+    Assignment,
+    TopUp,
+    Withdrawal,
+}
+
+/// The kind of a record that a row can withdraw.
+#[derive(Clone, Copy, Debug, PartialEq, Eq)]
+pub enum NamedKind {
+    Reading,
     Assignment,
     TopUp,
 }
@@ -25,7 +38,7 @@ pub fn is_header(kind: RowKind, row: &ByteRecord) -> bool
 {
     match kind {
         RowKind::Assignment => {
-            let Some((meter, start, account)) = three(row) else {
+            let Some((meter, start, account)) = three(row, 0) else {
                 return false;
             };
             meter == b"meter".as_slice()
@@ -33,7 +46,7 @@ pub fn is_header(kind: RowKind, row: &ByteRecord) -> bool
                 && account == b"account".as_slice()
         }
         RowKind::TopUp => {
-            let Some((reference, account, cents, instant)) = four(row) else {
+            let Some((reference, account, cents, instant)) = four(row, 0) else {
                 return false;
             };
             reference == b"reference".as_slice()
@@ -41,7 +54,23 @@ pub fn is_header(kind: RowKind, row: &ByteRecord) -> bool
                 && cents == b"cents".as_slice()
                 && instant == b"instant".as_slice()
         }
+        RowKind::Withdrawal => is_withdrawals_header(row),
     }
+}
+
+fn is_withdrawals_header(row: &ByteRecord) -> bool
+    ensures { IsTrue result ↔ (fields_of row.now ≡ header_of RowKind.Withdrawal) }
+{
+    if !begins_with(row, b"kind".as_slice()) {
+        return false;
+    }
+    let Some((first, second, third, fourth)) = four(row, 1) else {
+        return false;
+    };
+    first == b"first".as_slice()
+        && second == b"second".as_slice()
+        && third == b"third".as_slice()
+        && fourth == b"fourth".as_slice()
 }
 
 /// The entry of a row.
@@ -49,17 +78,136 @@ pub fn row_entry(office: &Office, kind: RowKind, row: &ByteRecord) -> Result<Ent
     ensures ok { IfOk result (λ entry. GivesEntry office.now kind (fields_of row.now) entry) }
     ensures err { IfErr result (λ cause. RefusesRow office.now kind (fields_of row.now) cause) }
 {
-    match kind {
-        RowKind::Assignment => assignment(office, row),
-        RowKind::TopUp => top_up(office, row),
+    let named = match kind {
+        RowKind::Assignment => assignment(office, row, 0),
+        RowKind::TopUp => top_up(office, row, 0),
+        RowKind::Withdrawal => return withdrawal(office, row),
+    };
+    match named {
+        Ok(named) => Ok(named.entry()),
+        Err(cause) => Err(cause),
     }
 }
 
-fn assignment(office: &Office, row: &ByteRecord) -> Result<Entry, Cause>
-    ensures ok { IfOk result (λ entry. GivesAssignment office.now (fields_of row.now) entry) }
-    ensures err { IfErr result (λ cause. RefusesAssignment office.now (fields_of row.now) cause) }
+/// The withdrawal of the record that a row names.
+fn withdrawal(office: &Office, row: &ByteRecord) -> Result<Entry, Cause>
+    ensures ok { IfOk result (λ entry. GivesWithdrawal office.now (fields_of row.now) entry) }
+    ensures err { IfErr result (λ cause. RefusesWithdrawal office.now (fields_of row.now) cause) }
 {
-    let Some((id, start, account)) = three(row) else {
+    let Some(kind) = named_kind(row) else {
+        return Err(Cause::Kind);
+    };
+    match named_record(office, kind, row) {
+        Ok(named) => Ok(Entry {
+            key: Key::Withdrawal { named },
+            content: Content::Withdrawal,
+        }),
+        Err(cause) => Err(cause),
+    }
+}
+
+/// The kind of the record that a row withdraws: its first field has the kind's name.
+fn named_kind(row: &ByteRecord) -> Option<NamedKind>
+    ensures some { IfSome result (λ kind. fields_of row.now ≡ kind_name kind ∷ drop 1 (fields_of row.now)) }
+    ensures none { IfNone result (HasNoKind (fields_of row.now)) }
+{
+    if begins_with(row, b"reading".as_slice()) {
+        return Some(NamedKind::Reading);
+    }
+    if begins_with(row, b"assignment".as_slice()) {
+        return Some(NamedKind::Assignment);
+    }
+    if begins_with(row, b"topup".as_slice()) {
+        return Some(NamedKind::TopUp);
+    }
+    None
+}
+
+/// Whether the first field of a row is this.
+#[tactic(auto, using(crate::proofs::Fields::none_there))]
+fn begins_with(row: &ByteRecord, first: &[u8]) -> bool
+    ensures { IsTrue result ↔ (fields_of row.now ≡ first.now ∷ drop 1 (fields_of row.now)) }
+{
+    let Some(field) = row.get(0) else {
+        return false;
+    };
+    field == first
+}
+
+/// The record that the fields behind the kind name.
+fn named_record(office: &Office, kind: NamedKind, row: &ByteRecord) -> Result<Named, Cause>
+    ensures ok { IfOk result (λ named. GivesNamed office.now kind (drop 1 (fields_of row.now)) (named_entry named)) }
+    ensures err { IfErr result (λ cause. RefusesNamed office.now kind (drop 1 (fields_of row.now)) cause) }
+{
+    match kind {
+        NamedKind::Reading => reading(office, row, 1),
+        NamedKind::Assignment => assignment(office, row, 1),
+        NamedKind::TopUp => top_up(office, row, 1),
+    }
+}
+
+/// The reading that a row's fields name, from the one at `first` on: meter, register, instant, watt-hours.
+fn reading(office: &Office, row: &ByteRecord, first: usize) -> Result<Named, Cause>
+    requires { first ≤ 1 }
+    ensures ok { IfOk result (λ named. GivesReading office.now (drop first (fields_of row.now)) (named_entry named)) }
+    ensures err { IfErr result (λ cause. RefusesReading office.now (drop first (fields_of row.now)) cause) }
+{
+    let Some((id, name, when, amount)) = four(row, first) else {
+        return Err(Cause::CsvForm);
+    };
+    let Some(meter) = office.meter(id) else {
+        return Err(Cause::UnknownMeter);
+    };
+    let Some(register) = counting_register(office, meter, name) else {
+        return Err(Cause::RegisterName);
+    };
+    let instant = match utc(when) {
+        Ok(instant) => instant,
+        Err(fault) => return Err(Cause::Instant(fault)),
+    };
+    let Some(wh) = watt_hours(amount) else {
+        return Err(Cause::Value(ValueFault::Digits));
+    };
+    Ok(Named::Reading {
+        meter,
+        register,
+        instant,
+        wh,
+    })
+}
+
+/// The register that a text names, where it counts for a meter.
+fn counting_register(office: &Office, meter: MeterId, name: &[u8]) -> Option<Register>
+    requires { meter.0 < length office.now.meters }
+    ensures some { IfSome result (λ register. HasRegister office.now meter.0 name.now register) }
+    ensures none { IfNone result (IsUnknownRegister office.now meter.0 name.now) }
+{
+    let Some(register) = register_named(name) else {
+        return None;
+    };
+    if !office.counts(meter, register) {
+        return None;
+    }
+    Some(register)
+}
+
+/// The register with a name.
+fn register_named(name: &[u8]) -> Option<Register>
+    ensures { result ≡ register_of name.now }
+{
+    Register::ALL
+        .iter()
+        .copied()
+        .find(|register| name == register.name().as_bytes())
+}
+
+/// The assignment that a row's fields name, from the one at `first` on: meter, start, account.
+fn assignment(office: &Office, row: &ByteRecord, first: usize) -> Result<Named, Cause>
+    requires { first ≤ 1 }
+    ensures ok { IfOk result (λ named. GivesAssignment office.now (drop first (fields_of row.now)) (named_entry named)) }
+    ensures err { IfErr result (λ cause. RefusesAssignment office.now (drop first (fields_of row.now)) cause) }
+{
+    let Some((id, start, account)) = three(row, first) else {
         return Err(Cause::CsvForm);
     };
     let Some(meter) = office.meter(id) else {
@@ -72,9 +220,10 @@ fn assignment(office: &Office, row: &ByteRecord) -> Result<Entry, Cause>
     let Some(owner) = owner(office, account) else {
         return Err(Cause::UnknownAccount);
     };
-    Ok(Entry {
-        key: Key::Assignment { meter, start },
-        content: Content::Assignment { owner },
+    Ok(Named::Assignment {
+        meter,
+        start,
+        owner,
     })
 }
 
@@ -92,11 +241,13 @@ fn owner(office: &Office, name: &[u8]) -> Option<Owner>
     }
 }
 
-fn top_up(office: &Office, row: &ByteRecord) -> Result<Entry, Cause>
-    ensures ok { IfOk result (λ entry. GivesTopUp office.now (fields_of row.now) entry) }
-    ensures err { IfErr result (λ cause. RefusesTopUp office.now (fields_of row.now) cause) }
+/// The top-up that a row's fields name, from the one at `first` on: reference, account, cents, instant.
+fn top_up(office: &Office, row: &ByteRecord, first: usize) -> Result<Named, Cause>
+    requires { first ≤ 1 }
+    ensures ok { IfOk result (λ named. GivesTopUp office.now (drop first (fields_of row.now)) (named_entry named)) }
+    ensures err { IfErr result (λ cause. RefusesTopUp office.now (drop first (fields_of row.now)) cause) }
 {
-    let Some((reference, name, amount, when)) = four(row) else {
+    let Some((reference, name, amount, when)) = four(row, first) else {
         return Err(Cause::CsvForm);
     };
     let Some(reference) = Reference::of(reference) else {
@@ -112,55 +263,55 @@ fn top_up(office: &Office, row: &ByteRecord) -> Result<Entry, Cause>
         Ok(instant) => instant,
         Err(fault) => return Err(Cause::Instant(fault)),
     };
-    Ok(Entry {
-        key: Key::TopUp { reference },
-        content: Content::TopUp {
-            account,
-            cents,
-            instant,
-        },
+    Ok(Named::TopUp {
+        reference,
+        account,
+        cents,
+        instant,
     })
 }
 
-/// The fields of a row that has three.
-#[tactic(auto, using(crate::proofs::Fields::three_fields, crate::proofs::Fields::field_there))]
-fn three(row: &ByteRecord) -> Option<(&[u8], &[u8], &[u8])>
-    ensures { MatchOption result (length (fields_of row.now) ≢ 3) (λ f. fields_of row.now ≡ f.0.now ∷ f.1.now ∷ f.2.now ∷ []) }
+/// A row's fields from the one at `first` on, where they are three.
+#[tactic(auto, using(crate::proofs::Fields::three_fields, crate::proofs::Fields::not_so_many, crate::proofs::Fields::field_there))]
+fn three(row: &ByteRecord, first: usize) -> Option<(&[u8], &[u8], &[u8])>
+    requires { first ≤ 1 }
+    ensures { MatchOption result (length (drop first (fields_of row.now)) ≢ 3) (λ f. drop first (fields_of row.now) ≡ f.0.now ∷ f.1.now ∷ f.2.now ∷ []) }
 {
-    if row.len() != 3 {
+    if row.len() != first + 3 {
         return None;
     }
-    let Some(first) = row.get(0) else {
+    let Some(one) = row.get(first) else {
         return None;
     };
-    let Some(second) = row.get(1) else {
+    let Some(two) = row.get(first + 1) else {
         return None;
     };
-    let Some(third) = row.get(2) else {
+    let Some(three) = row.get(first + 2) else {
         return None;
     };
-    Some((first, second, third))
+    Some((one, two, three))
 }
 
-/// The fields of a row that has four.
-#[tactic(auto, using(crate::proofs::Fields::four_fields, crate::proofs::Fields::field_there))]
-fn four(row: &ByteRecord) -> Option<(&[u8], &[u8], &[u8], &[u8])>
-    ensures { MatchOption result (length (fields_of row.now) ≢ 4) (λ f. fields_of row.now ≡ f.0.now ∷ f.1.now ∷ f.2.now ∷ f.3.now ∷ []) }
+/// A row's fields from the one at `first` on, where they are four.
+#[tactic(auto, using(crate::proofs::Fields::four_fields, crate::proofs::Fields::not_so_many, crate::proofs::Fields::field_there))]
+fn four(row: &ByteRecord, first: usize) -> Option<(&[u8], &[u8], &[u8], &[u8])>
+    requires { first ≤ 1 }
+    ensures { MatchOption result (length (drop first (fields_of row.now)) ≢ 4) (λ f. drop first (fields_of row.now) ≡ f.0.now ∷ f.1.now ∷ f.2.now ∷ f.3.now ∷ []) }
 {
-    if row.len() != 4 {
+    if row.len() != first + 4 {
         return None;
     }
-    let Some(first) = row.get(0) else {
+    let Some(one) = row.get(first) else {
         return None;
     };
-    let Some(second) = row.get(1) else {
+    let Some(two) = row.get(first + 1) else {
         return None;
     };
-    let Some(third) = row.get(2) else {
+    let Some(three) = row.get(first + 2) else {
         return None;
     };
-    let Some(fourth) = row.get(3) else {
+    let Some(four) = row.get(first + 3) else {
         return None;
     };
-    Some((first, second, third, fourth))
+    Some((one, two, three, four))
 }

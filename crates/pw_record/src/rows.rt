@@ -5,7 +5,7 @@ ghost use Rattle.csv.specs.Records.{fields_of};
 ghost use Rattle.pw_tariff.specs.Office.{office_of};
 ghost use Rattle.pw_model.specs.Office.{AllOfOffice};
 ghost use Rattle.pw_record.specs.Row.{header_of};
-ghost use Rattle.pw_record.specs.Rows.{AssignmentsGive, AssignmentsRefused, RefusesRecord, RowsGive, RowsRefused, TopUpsGive, TopUpsRefused};
+ghost use Rattle.pw_record.specs.Rows.{AssignmentsGive, AssignmentsRefused, RefusesRecord, RowsGive, RowsRefused, TopUpsGive, TopUpsRefused, WithdrawalsGive, WithdrawalsRefused};
 ghost use Rattle.pw_record.specs.inner.Steps.{TakesRecord};
 
 use crate::fault::{Cause, Halt, MEMORY_FAULT, UploadFault};
@@ -14,6 +14,7 @@ use crate::row::{RowKind, is_header, row_entry};
 use csv::{ByteRecord, ReaderBuilder};
 use pw_model::Entry;
 use pw_tariff::Office;
+use pw_time::Zone;
 use std::alloc::Global;
 
 /// The most rows of a body, without its header.
@@ -46,6 +47,26 @@ pub fn topup_records(alloc: Global, office: &Office, body: &[u8]) -> Result<Vec<
     ensures refused { IfErr result (λ fault. TopUpsRefused office.now body.now fault) }
 {
     rows_records(alloc, office, RowKind::TopUp, body)
+}
+
+/// The entries of a body of rows that withdraw records, `kind,first,second,third,fourth` below this header, or the
+/// first refusal.
+///
+/// A row has the kind of the record that it withdraws, and then its fields: `reading` with meter, register, instant and
+/// watt-hours; `assignment` and `topup` with the fields of their own rows. The record need not be held. The form is
+/// that of [`assignment_records`]. Instants are in UTC, so that nothing is read by the zone. `Memory` says nothing of
+/// the body: memory was refused while it was read.
+pub fn withdrawal_records(
+    alloc: Global,
+    office: &Office,
+    _zone: &Zone,
+    body: &[u8],
+) -> Result<Vec<Entry>, UploadFault>
+    ensures entries { IfOk result (λ entries. WithdrawalsGive office.now body.now entries.items) }
+    ensures of_office { IfOk result (λ entries. AllOfOffice (office_of office.now) entries.items) }
+    ensures refused { IfErr result (λ fault. WithdrawalsRefused office.now body.now fault) }
+{
+    rows_records(alloc, office, RowKind::Withdrawal, body)
 }
 
 fn rows_records(

@@ -9,7 +9,7 @@ ghost use Rattle.pw_record.specs.Uploads.{Gives, Refuses};
 use crate::fault::UploadFault;
 use crate::frames::{readout_records, telegram_records};
 use crate::laws::{UploadBytes, UploadKind};
-use crate::rows::{assignment_records, topup_records};
+use crate::rows::{assignment_records, topup_records, withdrawal_records};
 use pw_model::Entry;
 use pw_tariff::Office;
 use pw_time::Zone;
@@ -34,5 +34,6 @@ pub fn upload_records(
         UploadKind::Readouts(meter) => readout_records(alloc, meter, office, zone, body),
         UploadKind::Assignments => assignment_records(alloc, office, body),
         UploadKind::TopUps => topup_records(alloc, office, body),
+        UploadKind::Withdrawals => withdrawal_records(alloc, office, zone, body),
     }
 }

@@ -5,7 +5,7 @@ use Rattle.pw_record.specs.declared.laws.UploadKind.{UploadKind}
 use Rattle.pw_record.specs.Names.{HasClock}
 use Rattle.pw_record.specs.Laws.{HasOneOutcome, upload_with}
 use Rattle.pw_record.proofs.OfOffice.{within}
-use Rattle.pw_record.proofs.EachOutcome.{of-telegrams, of-readouts, of-unknown, of-marked, of-assignments, of-top_ups}
+use Rattle.pw_record.proofs.EachOutcome.{of-telegrams, of-readouts, of-unknown, of-marked, of-assignments, of-top_ups, of-withdrawals}
 use Rattle.pw_record.proofs.laws.each_upload_has_one_outcome.Goals as goal
 
 pub returns-in_default : goal.returns-in_default
@@ -50,3 +50,8 @@ pub returns-in-TopUps : goal.returns-in-TopUps
 returns-in-TopUps c =
     let P : UploadKind → Type 0 = λ k. HasOneOutcome c.args.office.now (upload_with k c.args.upload.body.now) in
     subst P (sym c.in-TopUps.is) (of-top_ups c.args.office.now c.bands.ensures.sound.named c.args.upload.body.now)
+
+pub returns-in-Withdrawals : goal.returns-in-Withdrawals
+returns-in-Withdrawals c =
+    let P : UploadKind → Type 0 = λ k. HasOneOutcome c.args.office.now (upload_with k c.args.upload.body.now) in
+    subst P (sym c.in-Withdrawals.is) (of-withdrawals c.args.office.now c.bands.ensures.sound.named c.args.upload.body.now)

@@ -1,5 +1,5 @@
 use Rattle.std.proofs.Common.{length}
-use Rattle.pw_record.proofs.cents.+with_digits.Given as goal
+use Rattle.pw_record.proofs.digits.+with_digits.Given as goal
 
 abbrev pub decreases-with_digits : goal.decreases-with_digits
 decreases-with_digits l = length l.digits.now
