@@ -1,5 +1,5 @@
 -- Rows of CSV by their fields, and rows behind rows.
-use Rattle.std.proofs.Common.{◌≡◌, ◌∙◌, ◌<◌, ◌+◌, ℕ, List, [], ◌∷◌, ◌++◌, Result, Ok, Err, OnOk, IfOk, Vec, Global, length, get_or, take, ap, append_assoc, subst, sym}
+use Rattle.std.proofs.Common.{◌≡◌, ◌∙◌, ◌<◌, ◌+◌, ℕ, List, [], ◌∷◌, ◌++◌, Result, Ok, Err, OnOk, IfOk, Vec, Global, length, get_or, take, ap, append_assoc, refl, subst, sym}
 use Rattle.std.specs.List.{flat_map}
 use Rattle.std.proofs.lemmas.Grind.{flat_map-append}
 use Rattle.std.proofs.lemmas.List.{append-nil, flat_map_more, get_or_default, take_more}
@@ -31,6 +31,19 @@ written-is result rows a b e h = subst (λ (t : List ℕ). OnOk result (HasText 
 pub row-of : {T E : Type 0} (result : Result T E) (rows : Rows) (before : List ℕ) (fields others : List (List ℕ)) → fields ≡ others →
     OnOk result (HasText rows (before ++ csv_line fields) []) → OnOk result (HasText rows (before ++ csv_line others) [])
 row-of result rows before fields others e h = subst (λ (xs : List (List ℕ)). OnOk result (HasText rows (before ++ csv_line xs) [])) e h
+
+-- ---- fields behind fields
+pub fields-are : {T E : Type 0} (result : Result T E) (rows : Rows) (before : List ℕ) (fields others : List (List ℕ)) → fields ≡ others →
+    OnOk result (HasText rows before fields) → OnOk result (HasText rows before others)
+fields-are result rows before fields others e h = subst (λ (xs : List (List ℕ)). OnOk result (HasText rows before xs)) e h
+
+pub three-more : (fields : List (List ℕ)) (a b c : List ℕ) → ((fields ++ (a ∷ [])) ++ (b ∷ [])) ++ (c ∷ []) ≡ fields ++ (a ∷ b ∷ c ∷ [])
+three-more [] a b c = refl
+three-more (field ∷ fields) a b c = ap (λ (xs : List (List ℕ)). field ∷ xs) (three-more fields a b c)
+
+pub four-more : (fields : List (List ℕ)) (a b c d : List ℕ) → (((fields ++ (a ∷ [])) ++ (b ∷ [])) ++ (c ∷ [])) ++ (d ∷ []) ≡ fields ++ (a ∷ b ∷ c ∷ d ∷ [])
+four-more [] a b c d = refl
+four-more (field ∷ fields) a b c d = ap (λ (xs : List (List ℕ)). field ∷ xs) (four-more fields a b c d)
 
 -- ---- texts of the members of a list, one more
 pub each-next : {X : Type 0} (f : X → List ℕ) (before : List ℕ) (xs : List X) (i : ℕ) (x : X) → i < length xs → x ≡ get_or xs i x →

@@ -1,4 +1,5 @@
--- The exports of readings, energies, assignments and top-ups as CSV (RFC 4180, but that a line ends with LF).
+-- The exports of readings, energies, assignments and top-ups, and the rows of withdrawals, as CSV (RFC 4180, but that a line
+-- ends with LF).
 -- (Formats of this project.)
 use Rattle.std.specs.Prelude.{ℕ, ◌*◌, cond, Option, Some, None, List, [], ◌∷◌, ◌++◌, length, codes, decimal}
 use Rattle.std.specs.List.{flat_map}
@@ -8,6 +9,7 @@ use Rattle.pw_obis.specs.Registers.{register_name, registers}
 use Rattle.pw_tariff.specs.declared.ids.AccountId.{AccountId}
 use Rattle.pw_tariff.specs.declared.ids.Direction.{Direction}
 use Rattle.pw_tariff.specs.declared.ids.Direction.TheVariants.{Import, Export}
+use Rattle.pw_tariff.specs.declared.ids.MeterId.{MeterId}
 use Rattle.pw_tariff.specs.Ids.{direction_name}
 use Rattle.pw_tariff.specs.Office.{OfficeFile, office_of, price_at}
 use Rattle.pw_model.specs.declared.records.Key.{Key}
@@ -15,6 +17,8 @@ use Rattle.pw_model.specs.declared.records.Key.TheVariants as key
 use Rattle.pw_model.specs.declared.records.Content.{Content}
 use Rattle.pw_model.specs.declared.records.Content.TheVariants as content
 use Rattle.pw_model.specs.declared.records.Entry.{Entry}
+use Rattle.pw_model.specs.declared.records.Named.{Named}
+use Rattle.pw_model.specs.declared.records.Named.TheVariants as named
 use Rattle.pw_model.specs.declared.records.ReadingRow.{ReadingRow}
 use Rattle.pw_model.specs.Energy.{account, energy}
 use Rattle.pw_record.specs.declared.row.RowKind.{RowKind}
@@ -85,11 +89,26 @@ abbrev pub given_name : OfficeFile → Option AccountId → List ℕ
 given_name file None = []
 given_name file (Some a) = account_name file a.0
 
--- the row of an assignment, and that of a top-up. (No other record is shown so, and none of an office has a key and a
--- content of two kinds.)
+-- of an assignment
+abbrev pub assignment_fields : OfficeFile → MeterId → ℕ → Option AccountId → List (List ℕ)
+assignment_fields file m t o = meter_name file m.0 ∷ instant_text t ∷ given_name file o ∷ []
+
+-- of a top-up
+abbrev pub topup_fields : OfficeFile → List ℕ → AccountId → ℕ → ℕ → List (List ℕ)
+topup_fields file r a c t = r ∷ account_name file a.0 ∷ decimal c ∷ instant_text t ∷ []
+
+-- of a withdrawal: the kind of the record that it names, and then its fields
+abbrev pub withdrawal_fields : OfficeFile → Named → List (List ℕ)
+withdrawal_fields file (named.Reading m r t w) = codes "reading" ∷ meter_name file m.0 ∷ register_name r ∷ instant_text t ∷ decimal w ∷ []
+withdrawal_fields file (named.Assignment m t o) = codes "assignment" ∷ assignment_fields file m t o
+withdrawal_fields file (named.TopUp r a c t) = codes "topup" ∷ topup_fields file r a c t
+
+-- the row of an assignment, of a top-up and of a withdrawal. (No other record is shown so, and none of an office has a key
+-- and a content of two kinds.)
 abbrev pub record_fields : OfficeFile → Key → Content → List (List ℕ)
-record_fields file (key.Assignment m t) (content.Assignment o) = meter_name file m.0 ∷ instant_text t ∷ given_name file o ∷ []
-record_fields file (key.TopUp r) (content.TopUp a c t) = r ∷ account_name file a.0 ∷ decimal c ∷ instant_text t ∷ []
+record_fields file (key.Assignment m t) (content.Assignment o) = assignment_fields file m t o
+record_fields file (key.TopUp r) (content.TopUp a c t) = topup_fields file r a c t
+record_fields file (key.Withdrawal n) content.Withdrawal = withdrawal_fields file n
 record_fields file _ _ = []
 
 abbrev pub record_line : OfficeFile → Entry → List ℕ

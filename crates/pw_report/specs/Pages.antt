@@ -8,10 +8,10 @@ use Rattle.pw_model.specs.declared.records.Fall.{Fall}
 use Rattle.pw_model.specs.declared.records.Dispute.{Dispute}
 use Rattle.pw_model.specs.declared.records.ReadingRow.{ReadingRow}
 use Rattle.pw_model.specs.declared.records.Key.{Key}
-use Rattle.pw_model.specs.Kinds.{IsAssignment, IsTopUp, ListsHeld}
+use Rattle.pw_model.specs.Kinds.{IsAssignment, IsTopUp, IsWithdrawal, ListsHeld}
 use Rattle.pw_model.specs.Lists.{AreDisputes, AreFalls, AreReadings}
 use Rattle.pw_record.specs.declared.row.RowKind.{RowKind}
-use Rattle.pw_record.specs.declared.row.RowKind.TheVariants.{Assignment, TopUp}
+use Rattle.pw_record.specs.declared.row.RowKind.TheVariants.{Assignment, TopUp, Withdrawal}
 use Rattle.pw_report.specs.declared.page.Page.{Page}
 use Rattle.pw_report.specs.declared.page.Page.TheVariants.{Statement, Table}
 use Rattle.pw_report.specs.declared.page.Table.TheVariants.{Accounts, Falls, Disputes, Readings, Energies, Assignments, TopUps}
@@ -38,6 +38,7 @@ IsReadingsText file s text =
 abbrev pub IsOfRow : RowKind → Key → Type 0
 IsOfRow Assignment k = IsAssignment k
 IsOfRow TopUp k = IsTopUp k
+IsOfRow Withdrawal k = IsWithdrawal k
 
 -- the text of all records held that rows of the kind give
 abbrev pub IsRecordsText : RowKind → OfficeFile → List Entry → List ℕ → Type 0

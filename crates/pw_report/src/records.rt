@@ -1,13 +1,13 @@
-//! The exports of assignments and of top-ups, in the form of their uploads.
+//! The exports of assignments and of top-ups, in the form of their uploads, and the rows of these and of withdrawals.
 
 ghost use Rattle.std.specs.Prelude.{◌≡◌, ◌∷◌, ◌++◌, ℕ, List, [], IfErr, IfOk, OnOk, decimal};
 ghost use Rattle.std.specs.List.{flat_map};
 ghost use Rattle.pw_book.specs.declared.fault.BookFault.TheVariants.{Memory};
 ghost use Rattle.pw_record.specs.Row.{header_of};
 ghost use Rattle.pw_record.specs.declared.row.RowKind.TheVariants.{Assignment, TopUp};
-ghost use Rattle.pw_report.specs.Exports.{csv_line, given_name, record_line};
+ghost use Rattle.pw_obis.specs.Registers.{register_name};
+ghost use Rattle.pw_report.specs.Exports.{assignment_fields, csv_line, given_name, record_fields, record_line, withdrawal_fields};
 ghost use Rattle.pw_report.specs.Layout.{instant_text as text_of_instant};
-ghost use Rattle.pw_report.specs.Names.{meter_name as name_of_meter};
 ghost use Rattle.pw_report.specs.Pages.{IsRecordsText};
 ghost use Rattle.pw_report.specs.Reports.{IsReport};
 ghost use Rattle.pw_report.specs.inner.Rows.{HasText};
@@ -17,7 +17,8 @@ use crate::put::instant_text;
 use crate::rows::Rows;
 use itoa::Buffer;
 use pw_book::{Book, BookFault};
-use pw_model::{Content, Entry, Key, Reference};
+use pw_model::{Content, Entry, Key, Named, Reference};
+use pw_obis::{Register, WattHours};
 use pw_shelf::Shelf;
 use pw_tariff::{MeterId, Office, Owner};
 use pw_time::Instant;
@@ -88,6 +89,14 @@ fn put_record(rows: &mut Rows, office: &Office, entry: &Entry) -> Result<(), Boo
     ensures text { (before : List ℕ) → HasText rows.old before [] → OnOk result (HasText rows.new (before ++ record_line office.now entry.now) []) }
     ensures fault { IfErr result (λ fault. fault ≡ Memory) }
 {
+    put_fields(rows, office, entry)?;
+    rows.end()
+}
+
+fn put_fields(rows: &mut Rows, office: &Office, entry: &Entry) -> Result<(), BookFault>
+    ensures text { (before : List ℕ) → HasText rows.old before [] → OnOk result (HasText rows.new before (record_fields office.now entry.now.key entry.now.content)) }
+    ensures fault { IfErr result (λ fault. fault ≡ Memory) }
+{
     match (&entry.key, &entry.content) {
         (Key::Assignment { meter, start }, Content::Assignment { owner }) => {
             put_assignment(rows, office, *meter, *start, *owner)
@@ -106,8 +115,65 @@ fn put_record(rows: &mut Rows, office: &Office, entry: &Entry) -> Result<(), Boo
             *cents,
             *instant,
         ),
-        _ => rows.end(),
+        (Key::Withdrawal { named }, Content::Withdrawal) => put_withdrawal(rows, office, named),
+        _ => Ok(()),
     }
+}
+
+fn put_withdrawal(rows: &mut Rows, office: &Office, named: &Named) -> Result<(), BookFault>
+    ensures text { (before : List ℕ) → HasText rows.old before [] → OnOk result (HasText rows.new before (withdrawal_fields office.now named.now)) }
+    ensures fault { IfErr result (λ fault. fault ≡ Memory) }
+{
+    match named {
+        Named::Reading {
+            meter,
+            register,
+            instant,
+            wh,
+        } => {
+            rows.put(b"reading")?;
+            put_reading(rows, meter_name(office, *meter), *register, *instant, *wh)
+        }
+        Named::Assignment {
+            meter,
+            start,
+            owner,
+        } => {
+            rows.put(b"assignment")?;
+            put_assignment(rows, office, *meter, *start, *owner)
+        }
+        Named::TopUp {
+            reference,
+            account,
+            cents,
+            instant,
+        } => {
+            rows.put(b"topup")?;
+            put_topup(
+                rows,
+                reference,
+                account_name(office, *account),
+                *cents,
+                *instant,
+            )
+        }
+    }
+}
+
+fn put_reading(
+    rows: &mut Rows,
+    meter: &[u8],
+    register: Register,
+    instant: Instant,
+    wh: WattHours,
+) -> Result<(), BookFault>
+    ensures text { (before : List ℕ) (fields : List (List ℕ)) → HasText rows.old before fields → OnOk result (HasText rows.new before (fields ++ (meter.now ∷ register_name register ∷ text_of_instant instant ∷ decimal wh ∷ []))) }
+    ensures fault { IfErr result (λ fault. fault ≡ Memory) }
+{
+    rows.put(meter)?;
+    rows.put(register.name().as_bytes())?;
+    rows.put(&instant_text(instant))?;
+    rows.put(Buffer::new().format(wh.get()).as_bytes())
 }
 
 fn put_assignment(
@@ -117,13 +183,12 @@ fn put_assignment(
     start: Instant,
     owner: Owner,
 ) -> Result<(), BookFault>
-    ensures text { (before : List ℕ) → HasText rows.old before [] → OnOk result (HasText rows.new (before ++ csv_line (name_of_meter office.now meter.0 ∷ text_of_instant start ∷ given_name office.now owner ∷ [])) []) }
+    ensures text { (before : List ℕ) (fields : List (List ℕ)) → HasText rows.old before fields → OnOk result (HasText rows.new before (fields ++ assignment_fields office.now meter start owner)) }
     ensures fault { IfErr result (λ fault. fault ≡ Memory) }
 {
     rows.put(meter_name(office, meter))?;
     rows.put(&instant_text(start))?;
-    rows.put(given_name(office, owner))?;
-    rows.end()
+    rows.put(given_name(office, owner))
 }
 
 fn put_topup(
@@ -133,14 +198,13 @@ fn put_topup(
     cents: u32,
     instant: Instant,
 ) -> Result<(), BookFault>
-    ensures text { (before : List ℕ) → HasText rows.old before [] → OnOk result (HasText rows.new (before ++ csv_line (reference.now ∷ account.now ∷ decimal cents ∷ text_of_instant instant ∷ [])) []) }
+    ensures text { (before : List ℕ) (fields : List (List ℕ)) → HasText rows.old before fields → OnOk result (HasText rows.new before (fields ++ (reference.now ∷ account.now ∷ decimal cents ∷ text_of_instant instant ∷ []))) }
     ensures fault { IfErr result (λ fault. fault ≡ Memory) }
 {
     rows.put(reference.bytes())?;
     rows.put(account)?;
     rows.put(Buffer::new().format(cents).as_bytes())?;
-    rows.put(&instant_text(instant))?;
-    rows.end()
+    rows.put(&instant_text(instant))
 }
 
 // The name of an account, nothing for nobody.

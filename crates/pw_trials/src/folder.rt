@@ -6,7 +6,9 @@ ghost use Rattle.pw_tariff.specs.Office.{office_of};
 
 use crate::figures::figures_text;
 use pw_model::Entry;
-use pw_record::{assignment_records, readout_records, telegram_records, topup_records};
+use pw_record::{
+    assignment_records, readout_records, telegram_records, topup_records, withdrawal_records,
+};
 use pw_tariff::Office;
 use pw_time::Zone;
 use std::alloc::AllocError;
@@ -118,10 +120,14 @@ fn upload_entries(
         }
         ("assignments", None) => assignment_records(alloc, office, &body),
         ("topups", None) => topup_records(alloc, office, &body),
+        ("withdrawals", None) => withdrawal_records(alloc, office, zone, &body),
         _ => return Err(Fault::Refused),
     };
     match entries {
         Ok(entries) => Ok(entries),
-        Err(_) => Err(Fault::Refused),
+        Err(fault) => {
+            let _ = writeln!(rt.stderr(), "{file}: {fault}");
+            Err(Fault::Refused)
+        }
     }
 }
