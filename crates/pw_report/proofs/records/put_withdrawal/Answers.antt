@@ -1,7 +1,7 @@
 use Rattle.std.proofs.Common.{◌≡◌, ◌∙◌, [], ◌∷◌, ap, sym}
 use Rattle.std.specs.Prelude.{codes, decimal}
 use Rattle.pw_obis.specs.Registers.{register_name}
-use Rattle.pw_report.specs.Exports.{assignment_fields, topup_fields, withdrawal_fields}
+use Rattle.pw_report.specs.Exports.{withdrawal_fields}
 use Rattle.pw_report.specs.Layout.{instant_text}
 use Rattle.pw_report.specs.Names.{account_name, meter_name}
 use Rattle.pw_report.proofs.Fields.{fields-are}
