@@ -52,6 +52,8 @@ memory-or-not cause.Cents = inr refl
 memory-or-not cause.Reference = inr refl
 memory-or-not cause.TooManyParts = inr refl
 memory-or-not cause.TwiceGiven = inr refl
+memory-or-not cause.Kind = inr refl
+memory-or-not cause.RegisterName = inr refl
 memory-or-not cause.Memory = inl refl
 
 abbrev IsBad : Status → Type 0
