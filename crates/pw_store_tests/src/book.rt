@@ -15,6 +15,7 @@ mod questions;
 mod sql;
 mod stores;
 mod uploads;
+mod withdrawn;
 
 use agreeing::length;
 use pw_book::{Accepted, Book, BookFault, Entry, PostFault};

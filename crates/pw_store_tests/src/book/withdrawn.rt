@@ -1,0 +1,70 @@
+//! Withdrawals, told to a book in memory one at a time: behind each of them the book answers what the definitions give, and
+//! its store keeps the parts of all. (The store over SQL holds none yet.)
+
+use super::agreeing::all_agree;
+use super::kept::parts_agree;
+use super::{Books, InMemory, takes};
+use crate::entries::{assigned, paid, reading, withdrawn};
+use pw_book::Entry;
+use pw_tests::sample::{FIRST, FIVE, NEW_YEAR, SECOND, SEVEN, SIX};
+use std::alloc::{AllocError, Global};
+use std::process::Abort;
+use std::test::Fail;
+
+// A pair of readings of an owner, and three values between the two: one is withdrawn before it comes, one behind, and then
+// the last of them too.
+fn readings(rt: &impl Abort, alloc: Global) -> Result<Vec<Entry>, AllocError> {
+    let mut told = Vec::new(alloc);
+    told.extend_from_slice(&[withdrawn(rt, &reading(rt, SIX, 1_001_500))])?;
+    told.extend_from_slice(&[assigned(rt, NEW_YEAR, Some(FIRST))])?;
+    told.extend_from_slice(&[reading(rt, FIVE, 1_000_000)])?;
+    told.extend_from_slice(&[reading(rt, SEVEN, 1_003_001)])?;
+    for watt_hours in [1_001_000, 1_001_500, 1_001_200] {
+        told.extend_from_slice(&[reading(rt, SIX, watt_hours)])?;
+    }
+    for watt_hours in [1_001_200, 1_001_000] {
+        told.extend_from_slice(&[withdrawn(rt, &reading(rt, SIX, watt_hours))])?;
+    }
+    Ok(told)
+}
+
+// An owner from half past five on, withdrawn behind, and a payment, withdrawn before it comes: its reference is free.
+fn owner_and_payment(rt: &impl Abort, alloc: Global) -> Result<Vec<Entry>, AllocError> {
+    let owner = assigned(rt, FIVE + 1_800, Some(SECOND));
+    let payment = paid(rt, b"P1", FIRST, 5_000);
+    let mut told = Vec::new(alloc);
+    told.extend_from_slice(&[owner])?;
+    told.extend_from_slice(&[withdrawn(rt, &owner)])?;
+    told.extend_from_slice(&[withdrawn(rt, &payment)])?;
+    told.extend_from_slice(&[payment])?;
+    told.extend_from_slice(&[paid(rt, b"P1", SECOND, 700)])?;
+    Ok(told)
+}
+
+fn agrees_behind(rt: &impl Abort, alloc: Global, told: &[Entry]) -> Result<(), Fail> {
+    let mut book = InMemory.empty(rt, alloc, 100)?;
+    for entry in told {
+        takes(rt, alloc, &mut book, &[*entry], (1, 0));
+        takes(rt, alloc, &mut book, &[*entry], (0, 1));
+    }
+    all_agree(rt, alloc, &mut book, told, told.len() as u32)?;
+    parts_agree(rt, alloc, book, told)
+}
+
+// bears on: pw_book book.rt Book::post posted
+// bears on: pw_book book/questions.rt Book::disputes disputes
+// bears on: pw_book book/questions.rt Book::readings readings
+// bears on: pw_model laws.rt one_more_bearing ensures
+// bears on: pw_model laws.rt one_more_payment ensures
+// bears on: pw_shelf shelf.rt Shelf::add added
+// bears on: pw_shelf shelf.rt Shelf::contents_at rows
+#[test]
+fn withdrawn_records(rt: HostRuntime) -> Result<(), Fail> {
+    let mut told = readings(&rt, rt.alloc()).expect(&rt, "memory");
+    let others = owner_and_payment(&rt, rt.alloc()).expect(&rt, "memory");
+    told.extend_from_slice(&others).expect(&rt, "memory");
+    for number in 0..told.len() + 1 {
+        agrees_behind(&rt, rt.alloc(), told.split_at(number).0)?;
+    }
+    Ok(())
+}
