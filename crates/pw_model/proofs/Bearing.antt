@@ -1,5 +1,5 @@
 -- Where one more record changes what counts.
-use Rattle.std.proofs.Common.{◌≡◌, ◌⊎◌, ℕ, true, List, ◌∷◌, refl, ap, sym, subst, ◌∙◌, inl, inr}
+use Rattle.std.proofs.Common.{◌≡◌, ◌⊎◌, ℕ, true, false, List, ◌∷◌, refl, ap, sym, subst, ◌∙◌, inl, inr}
 use Rattle.std.proofs.lemmas.Bool.{cases_Bool, true≢false}
 use Rattle.pw_tariff.specs.Office.{OfficeRules}
 use Rattle.pw_model.specs.declared.records.Key.{Key}
@@ -123,12 +123,21 @@ module _ (s t : List Entry) (e : Entry) (h : IsInserted e s t) where
     | inr f ↦ ap (cents_for a) (sym (elsewhere k (λ i. true≢false (sym ((same_key-decides k e.key).1 i) ∙ f)) n))
   ]
 
+-- a record that withdraws none bears on its own key
+bears-itself : (k : Key) → ((x : Entry) → withdraws x k ≡ false) → named_key k ≡ k
+bears-itself k w = elim (key-cases k) [
+  | inl i ↦ i
+  | inr r ↦ absurd (
+      let P : Key → Type 0 = λ l. withdraws (named_entry r.0) l ≡ false in
+      true≢false (sym ((same_entry-decides (named_entry r.0) (named_entry r.0)).1 refl) ∙ subst P r.1 (w (named_entry r.0))))
+]
+
 pub one-more_payment : OneMorePayment
-one-more_payment office s t e o h a = paid-at s t e (bears_on e) a h (same-cents s t e h office o a)
+one-more_payment s t e w h a = paid-at s t e e.key a h (λ l n. sym (ap (cents_for a) (elsewhere s t e h l n (λ i. n (i ∙ bears-itself e.key w)))))
 
 pub one-more_bearing : OneMoreBearing
 one-more_bearing s t e h = record {
   elsewhere = elsewhere s t e h;
   alike = alike s t e h;
-  paid = λ office o a. one-more_payment office s t e o h a;
+  paid = λ office o a. paid-at s t e (bears_on e) a h (same-cents s t e h office o a);
 }

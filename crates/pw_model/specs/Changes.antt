@@ -12,8 +12,6 @@ use Rattle.pw_model.specs.declared.records.Entry.{Entry}
 use Rattle.pw_model.specs.Same.{same_direction, direction_of}
 use Rattle.pw_model.specs.Counting.{IsInserted, withdraws, is_withdrawn, joined, contents_at, point, start}
 use Rattle.pw_tariff.specs.Office.{OfficeRules}
-use Rattle.pw_model.specs.Bearing.{bears_on}
-use Rattle.pw_model.specs.Office.{AllOfOffice}
 use Rattle.pw_model.specs.Energy.{Asked, owner_at, share_of, over_registers, asked_seconds, energy_where}
 use Rattle.pw_model.specs.Payments.{topped_up, cents_for}
 
@@ -48,10 +46,10 @@ pub record ChangesAtOneKey (s t : List Entry) (e : Entry) : Type 0 where
 abbrev pub OneMoreRecord : Type 0
 OneMoreRecord = (s t : List Entry) (e : Entry) → ((x : Entry) → withdraws x e.key ≡ false) → is_withdrawn s e ≡ false → IsInserted e s t → ChangesAtOneKey s t e
 
--- whatever record of an office comes, what is topped up changes by what counts at the key that it bears on
+-- whatever record comes that withdraws none, what is topped up changes by what counts at its key
 abbrev pub OneMorePayment : Type 0
-OneMorePayment = (office : OfficeRules) (s t : List Entry) (e : Entry) → AllOfOffice office t → IsInserted e s t → (a : ℕ) →
-    topped_up t a + cents_for a (contents_at s (bears_on e)) ≡ topped_up s a + cents_for a (contents_at t (bears_on e))
+OneMorePayment = (s t : List Entry) (e : Entry) → ((x : Entry) → withdraws x e.key ≡ false) → IsInserted e s t → (a : ℕ) →
+    topped_up t a + cents_for a (contents_at s e.key) ≡ topped_up s a + cents_for a (contents_at t e.key)
 
 -- of this meter another assignment may count from this second on; the other assignments that count are the same, and so are
 -- the readings that count

@@ -14,7 +14,7 @@ ghost use Rattle.pw_model.specs.Changes.{OneMoreReading};
 ghost use Rattle.pw_model.specs.Office.{SoundOfficeIsOffice};
 ghost use Rattle.pw_model.specs.Shelf.{EmptyIsTrue, TrueContentsAreAlike, TrueTotalsAreBounded};
 
-/// The contents at a key are one exactly for the record that counts, of what is no withdrawal.
+/// Of what is no withdrawal, the contents at a key are one exactly for the record that counts.
 pub fn one_is_counting()
     ensures { OneIsCounting }
 {}
@@ -61,7 +61,7 @@ pub fn one_more_bearing()
     ensures { OneMoreBearing }
 {}
 
-/// What one more record of an office changes of what is topped up.
+/// What one more record that withdraws none changes of what is topped up.
 pub fn one_more_payment()
     ensures { OneMorePayment }
 {}

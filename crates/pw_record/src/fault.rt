@@ -47,9 +47,9 @@ pub enum Cause {
     TooManyParts,
     /// 52: a frame gives two unlike identifiers, stamps, dates or times.
     TwiceGiven,
-    /// 53: a row of withdrawals names no kind of record that can be withdrawn.
+    /// 53: the first field of a row of withdrawals names no kind of record that can be withdrawn.
     Kind,
-    /// 54: a reading that is withdrawn is of no register, or of one that doesn't count for its meter.
+    /// 54: a row that withdraws a reading names no register, or one that doesn't count for its meter.
     RegisterName,
     /// 62: memory was refused.
     Memory,

@@ -10,8 +10,8 @@ use Rattle.pw_model.specs.Counting.{is_withdrawn}
 use Rattle.pw_parts.specs.Shown.{shown}
 use Rattle.pw_model.specs.declared.records.ReadingRow.{ReadingRow}
 
--- the row of a reading: marked as counted where this is what is told at its second, and of the others, as withdrawn where one
--- of the records withdraws it
+-- the row of a reading: marked as counted where this is what is told at its second, else as withdrawn where one of the
+-- records withdraws it
 pub record IsRowOf (told : ℕ → Option ℕ) (s : List Entry) (e : Entry) (row : ReadingRow) : Type 0 where
   pub shows : shown e ≡ Some (row.instant, row.wh)
   pub counted : IsTrue row.counted ↔ (told row.instant ≡ Some row.wh)
