@@ -42,6 +42,7 @@ fn owner_and_payment(rt: &impl Abort, alloc: Global) -> Result<Vec<Entry>, Alloc
 }
 
 fn agrees_behind(rt: &impl Abort, alloc: Global, told: &[Entry]) -> Result<(), Fail> {
+    assert!(rt; told.len() <= 100);
     let mut book = InMemory.empty(rt, alloc, 100)?;
     for entry in told {
         takes(rt, alloc, &mut book, &[*entry], (1, 0));
