@@ -1,12 +1,11 @@
 -- What a crash leaves of a store over SQL, and what it holds when it is opened again.
 -- (Definitions of this project.)
-use Rattle.std.specs.Prelude.{◌≡◌, ◌⊎◌, List}
+use Rattle.std.specs.Prelude.{List}
 use Rattle.sqlite.specs.Effect.{Database, IsDatabase}
 use Rattle.sqlite.specs.State.{State as Sql, HasCleanDisk}
 use Rattle.pw_tariff.specs.Office.{OfficeRules}
-use Rattle.pw_model.specs.Shelf.{ShelfContent, no_content}
-use Rattle.pw_schema.specs.Tables.{no_schema}
-use Rattle.pw_store.specs.Content.{content_of}
+use Rattle.pw_model.specs.Shelf.{ShelfContent}
+use Rattle.pw_store.specs.Opening.{IsFound}
 use Rattle.pw_book.specs.declared.laws.crashes.Sent.{Sent}
 use Rattle.pw_book.specs.Crashes.{IsLeftWhole}
 
@@ -18,7 +17,7 @@ pub record IsCrashed (s : Sql) (found : Database) : Type 0 where
 
 -- what a store held when it was opened: what its tables had, or nothing where they were made
 abbrev pub WasHeld : Database → ShelfContent → Type 0
-WasHeld found c = (c ≡ content_of found.trees) ⊎ ((found.schema ≡ no_schema) × (c ≡ no_content))
+WasHeld found c = IsFound found c
 
 -- beside that, whole uploads, and each that was accepted
 abbrev pub HoldsWhole : OfficeRules → Database → List Sent → ShelfContent → Type 0

@@ -7,7 +7,7 @@ use std::io::Write;
 const MANY: usize = 100_000;
 
 /// The parts of a store.
-const PARTS: u8 = 7;
+const PARTS: u8 = 10;
 
 /// Tells each part of a store that was checked, where there are many records.
 #[derive(Drop)]
@@ -27,7 +27,7 @@ impl<E: Write> Progress<E> {
 impl<E: Write> Watch for Progress<E> {
     fn checked(&mut self, part: Part, rows: usize) {
         let (place, name) = told(part);
-        if place <= 3 {
+        if place <= 6 {
             self.records = self.records.saturating_add(rows);
         }
         if self.records <= MANY {
@@ -53,9 +53,12 @@ fn told(part: Part) -> (u8, &'static str) {
         Part::Readings => (1, "readings"),
         Part::Assignments => (2, "assignments"),
         Part::TopUps => (3, "top-ups"),
-        Part::Points => (4, "points"),
-        Part::Starts => (5, "starts"),
-        Part::Energies => (6, "totals of energy"),
+        Part::WithdrawnReadings => (4, "withdrawn readings"),
+        Part::WithdrawnAssignments => (5, "withdrawn assignments"),
+        Part::WithdrawnTopUps => (6, "withdrawn top-ups"),
+        Part::Points => (7, "points"),
+        Part::Starts => (8, "starts"),
+        Part::Energies => (9, "totals of energy"),
         Part::Payments => (PARTS, "totals of top-ups"),
     }
 }

@@ -7,6 +7,8 @@ pub mod Judged
 pub mod Creating
 pub mod Making
 pub mod OfficeRow
+pub mod Version
+pub mod Raising
 pub mod Shapes
 pub mod Stripped
 pub mod TotalKeys

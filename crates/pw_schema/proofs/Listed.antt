@@ -15,7 +15,9 @@ use Rattle.sqlite.specs.State.{State, Shown}
 use Rattle.sqlite_tied.specs.Compute.{everything}
 use Rattle.sqlite.proofs.Callers.{IsPlain, command_of}
 use Rattle.pw_schema.specs.Conflicts.{listing, only_text}
-use Rattle.pw_schema.specs.Tables.{IsOurs, ours_with, only_one}
+use Rattle.pw_schema.specs.Tables.{IsKnown, schema_of}
+use Rattle.pw_schema.specs.declared.kind.StoreVersion.{StoreVersion}
+use Rattle.pw_schema.specs.declared.kind.StoreVersion.TheVariants.{First, Second}
 use Rattle.pw_schema.specs.inner.Listed.{ShowsTexts}
 use Rattle.pw_schema.proofs.Scans.{outputs, scans}
 
@@ -35,30 +37,33 @@ texts_query = record {
   offset = lit (Int (pos 0));
 }
 
-texts_is : command_of (understood (ours_with only_one) texts_text) ≡ Select (record { lets = []; body = texts_query }) (codes "sql" ∷ [])
+texts_is : (v : StoreVersion) → command_of (understood (schema_of v) texts_text) ≡ Select (record { lets = []; body = texts_query }) (codes "sql" ∷ [])
 unfolding understood everything listing_schema
-texts_is = refl
+texts_is First = refl
+texts_is Second = refl
 
-texts_plain : IsPlain (understood (ours_with only_one) texts_text)
+texts_plain : (v : StoreVersion) → IsPlain (understood (schema_of v) texts_text)
 unfolding understood everything listing_schema
-texts_plain = (refl, refl)
+texts_plain First = (refl, refl)
+texts_plain Second = (refl, refl)
 
-texts_listed : reads_listing (ours_with only_one) texts_text ≡ true
+texts_listed : (v : StoreVersion) → reads_listing (schema_of v) texts_text ≡ true
 unfolding understood everything
-texts_listed = refl
+texts_listed First = refl
+texts_listed Second = refl
 
-pub ours_plain : (s : Schema) → IsOurs s → IsPlain (understood s texts_text)
-ours_plain s ours = subst (λ t. IsPlain (understood t texts_text)) (sym ours) texts_plain
+pub known_plain : (s : Schema) → IsKnown s → IsPlain (understood s texts_text)
+known_plain s known = subst (λ t. IsPlain (understood t texts_text)) (sym known.1) (texts_plain known.0)
 
-reads_texts : (old new : State) (rows : List Row) → IsOurs old.now.schema → Shown texts_text [] old new rows
+reads_texts : (old new : State) (rows : List Row) → IsKnown old.now.schema → Shown texts_text [] old new rows
     → (db : Database) × (db.trees 0 ≡ listing old.now.trees) × Reads (Select (record { lets = []; body = texts_query }) (codes "sql" ∷ [])) db [] rows
 unfolding Shown
 reads_texts old new rows ours h =
-    let known = sym h.1.is ∙ ap (λ s. understood s texts_text) ours in
-    let bare = subst IsPlain (sym known) texts_plain in
+    let known = sym h.1.is ∙ ap (λ s. understood s texts_text) ours.1 in
+    let bare = subst IsPlain (sym known) (texts_plain ours.0) in
     let it = rw (bare.0, bare.1) at h.2 in
-    let source : IsSourceOf true old.now it.0 = subst (λ b. IsSourceOf b old.now it.0) (ap (λ s. reads_listing s texts_text) ours ∙ texts_listed) it.1 in
-    (it.0, source.1, subst (λ k. Reads k it.0 [] rows) (ap command_of known ∙ texts_is) it.2)
+    let source : IsSourceOf true old.now it.0 = subst (λ b. IsSourceOf b old.now it.0) (ap (λ s. reads_listing s texts_text) ours.1 ∙ texts_listed ours.0) it.1 in
+    (it.0, source.1, subst (λ k. Reads k it.0 [] rows) (ap command_of known ∙ texts_is ours.0) it.2)
 
 abbrev second : Output → Row
 second o = o.1
@@ -67,7 +72,7 @@ texts_shown : (rows : List Row) → map second (outputs texts_query [] rows) ≡
 texts_shown [] = refl
 texts_shown (r ∷ rows) = ap (λ xs. only_text r ∷ xs) (texts_shown rows)
 
-pub shows_texts : (old new : State) (rows : List Row) → IsOurs old.now.schema → Shown texts_text [] old new rows → ShowsTexts old.now.trees rows
+pub shows_texts : (old new : State) (rows : List Row) → IsKnown old.now.schema → Shown texts_text [] old new rows → ShowsTexts old.now.trees rows
 shows_texts old new rows ours h =
     let read = reads_texts old new rows ours h in
     let scan = scans 0 texts_query (overlay read.0.trees []) [] rows (read.2.answer Null) in

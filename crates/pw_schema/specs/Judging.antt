@@ -15,7 +15,10 @@ use Rattle.pw_model.specs.Counting.{EachOnce}
 use Rattle.pw_model.specs.Lists.{IsInOrder}
 use Rattle.pw_model.specs.Office.{HasOwner, IsOfOffice}
 use Rattle.pw_schema.specs.declared.kind.RecordKind.{RecordKind}
+use Rattle.pw_schema.specs.declared.kind.StoreVersion.{StoreVersion}
+use Rattle.pw_schema.specs.declared.kind.StoreVersion.TheVariants.{Second}
 use Rattle.pw_schema.specs.declared.kind.TotalKind.{TotalKind}
+use Rattle.pw_schema.specs.Tables.{version_number}
 use Rattle.pw_schema.specs.Rows.{told, Tells, told_key, told_amount, TellsTotal}
 
 -- ---- records
@@ -75,19 +78,25 @@ pub record AreRowids (rows : List Row) : Type 0 where
   pub once : EachOnce (map (λ r. id_of (column r 0)) rows)
 
 -- ---- the row of `office`, as a query shows it: version and text
--- version 1 and this text are kept, and nothing else
+-- this version and this text are kept, and nothing else
+abbrev pub KeepsVersion : StoreVersion → List ℕ → List Row → Type 0
+KeepsVersion v body rows =
+    (row : Row) × (rows ≡ row ∷ []) × (column row 0 ≡ Int (pos (version_number v))) × (column row 1 ≡ Blob body)
+
+-- so it is of an opened store
 abbrev pub KeepsOffice : List ℕ → List Row → Type 0
-KeepsOffice body rows = (row : Row) × (rows ≡ row ∷ []) × (column row 0 ≡ Int (pos 1)) × (column row 1 ≡ Blob body)
+KeepsOffice = KeepsVersion Second
 
--- there is a row, of version 1
-abbrev pub HasVersion : List Row → Type 0
-HasVersion rows = (row : Row) × (rows ≡ row ∷ []) × (column row 0 ≡ Int (pos 1))
+-- there is a row, of this version
+abbrev pub HasVersion : StoreVersion → List Row → Type 0
+HasVersion v rows = (row : Row) × (rows ≡ row ∷ []) × (column row 0 ≡ Int (pos (version_number v)))
 
--- there is a row, of another version
+-- there is a row, of no version that is known
 abbrev pub HasOtherVersion : List Row → Type 0
-HasOtherVersion rows = (row : Row) × (rows ≡ row ∷ []) × ((column row 0 ≡ Int (pos 1)) → ⊥)
+HasOtherVersion rows =
+    (row : Row) × (rows ≡ row ∷ []) × ((v : StoreVersion) → (column row 0 ≡ Int (pos (version_number v))) → ⊥)
 
 -- there is a row of this version, with another text
-abbrev pub HasOtherText : List ℕ → List Row → Type 0
-HasOtherText body rows =
-    (row : Row) × (rows ≡ row ∷ []) × (column row 0 ≡ Int (pos 1)) × ((column row 1 ≡ Blob body) → ⊥)
+abbrev pub HasOtherText : StoreVersion → List ℕ → List Row → Type 0
+HasOtherText v body rows =
+    (row : Row) × (rows ≡ row ∷ []) × (column row 0 ≡ Int (pos (version_number v))) × ((column row 1 ≡ Blob body) → ⊥)

@@ -14,6 +14,8 @@ use Rattle.pw_tariff.specs.Office.{register_place}
 use Rattle.pw_model.specs.declared.records.Key.TheVariants as key
 use Rattle.pw_model.specs.declared.records.Content.{Content}
 use Rattle.pw_model.specs.declared.records.Content.TheVariants as content
+use Rattle.pw_model.specs.declared.records.Named.{Named}
+use Rattle.pw_model.specs.declared.records.Named.TheVariants as named
 use Rattle.pw_model.specs.declared.records.Contents.{Contents}
 use Rattle.pw_model.specs.declared.records.Contents.TheVariants.{Nothing, One, Several}
 use Rattle.pw_model.specs.declared.records.Entry.{Entry}
@@ -22,7 +24,7 @@ use Rattle.pw_model.specs.declared.records.TotalKey.TheVariants.{Energy, TopUps 
 use Rattle.pw_model.specs.Same.{entry_order, direction_place}
 use Rattle.pw_model.specs.Lists.{IsInOrder}
 use Rattle.pw_schema.specs.declared.kind.RecordKind.{RecordKind}
-use Rattle.pw_schema.specs.declared.kind.RecordKind.TheVariants.{Readings, Assignments, TopUps}
+use Rattle.pw_schema.specs.declared.kind.RecordKind.TheVariants.{Readings, Assignments, TopUps, WithdrawnReadings, WithdrawnAssignments, WithdrawnTopUps}
 use Rattle.pw_schema.specs.declared.kind.TotalKind.{TotalKind}
 use Rattle.pw_schema.specs.declared.kind.TotalKind.TheVariants.{Energies, Payments}
 
@@ -71,8 +73,12 @@ abbrev pub IsDirection : Value → Type 0
 IsDirection v = v ≡ Int (pos (direction_place (direction_at (number v))))
 
 -- ---- records
+-- the withdrawal that names a record
+abbrev pub withdrawal : Named → Entry
+withdrawal n = record { key = key.Withdrawal n; content = content.Withdrawal }
+
 -- of a table of readings: meter, register, instant, Wh; of assignments: meter, start, owner; of top-ups: reference,
--- account, cents, instant
+-- account, cents, instant; of a table of withdrawn ones the same, each named by a withdrawal
 abbrev pub told : RecordKind → Row → Entry
 told Readings r = record {
   key = key.Reading (record { 0 = number (column r 0) }) (register_at (number (column r 1))) (number (column r 2));
@@ -86,13 +92,32 @@ told TopUps r = record {
   key = key.TopUp (text (column r 0));
   content = content.TopUp (record { 0 = number (column r 1) }) (number (column r 2)) (number (column r 3));
 }
+told WithdrawnReadings r =
+    withdrawal (named.Reading (record { 0 = number (column r 0) }) (register_at (number (column r 1))) (number (column r 2)) (number (column r 3)))
+told WithdrawnAssignments r =
+    withdrawal (named.Assignment (record { 0 = number (column r 0) }) (number (column r 1)) (owner_at (number (column r 2))))
+told WithdrawnTopUps r =
+    withdrawal (named.TopUp (text (column r 0)) (record { 0 = number (column r 1) }) (number (column r 2)) (number (column r 3)))
 
 -- its values are of the kinds of those of a record
-abbrev pub Tells : RecordKind → Row → Type 0
-Tells Readings r = IsNumber (column r 0) × (IsRegister (column r 1) × (IsNumber (column r 2) × IsNumber (column r 3)))
-Tells Assignments r = IsNumber (column r 0) × (IsNumber (column r 1) × IsNumber (column r 2))
-Tells TopUps r =
+abbrev pub TellsReading : Row → Type 0
+TellsReading r = IsNumber (column r 0) × (IsRegister (column r 1) × (IsNumber (column r 2) × IsNumber (column r 3)))
+
+abbrev pub TellsAssignment : Row → Type 0
+TellsAssignment r = IsNumber (column r 0) × (IsNumber (column r 1) × IsNumber (column r 2))
+
+abbrev pub TellsTopUp : Row → Type 0
+TellsTopUp r =
     (column r 0 ≡ Text (text (column r 0))) × (IsNumber (column r 1) × (IsNumber (column r 2) × IsNumber (column r 3)))
+
+-- so it is of the record that a withdrawal names
+abbrev pub Tells : RecordKind → Row → Type 0
+Tells Readings r = TellsReading r
+Tells Assignments r = TellsAssignment r
+Tells TopUps r = TellsTopUp r
+Tells WithdrawnReadings r = TellsReading r
+Tells WithdrawnAssignments r = TellsAssignment r
+Tells WithdrawnTopUps r = TellsTopUp r
 
 -- the records that rows tell, each before the next
 pub record ReadsRows (k : RecordKind) (rows : List Row) (found : List Entry) : Type 0 where
@@ -122,8 +147,9 @@ contents_of [] = Nothing
 contents_of (c ∷ []) = One c
 contents_of (c ∷ d ∷ more) = Several
 
--- without the key: of a reading Wh, of an assignment the owner, of a top-up account, cents, instant
+-- without the key: of a reading Wh, of an assignment the owner, of a top-up account, cents, instant, of a withdrawal nothing
 abbrev pub told_content : RecordKind → Row → Content
 told_content Readings r = content.Reading (number (column r 0))
 told_content Assignments r = content.Assignment (owner_at (number (column r 0)))
 told_content TopUps r = content.TopUp (record { 0 = number (column r 0) }) (number (column r 1)) (number (column r 2))
+told_content _ r = content.Withdrawal

@@ -113,13 +113,13 @@ pub(crate) fn are_columns(columns: &[Column], table: StoreTable) -> bool
     let wh = b"wh".as_slice();
     match table {
         StoreTable::Office => are_office_columns(columns),
-        StoreTable::TopUps => are_topup_columns(columns),
+        StoreTable::TopUps | StoreTable::WithdrawnTopUps => are_topup_columns(columns),
         StoreTable::TotalTopUps => are_sum_columns(columns),
-        StoreTable::Readings | StoreTable::Points => are_integers(
+        StoreTable::Readings | StoreTable::Points | StoreTable::WithdrawnReadings => are_integers(
             columns,
             [meter, b"register".as_slice(), b"instant".as_slice(), wh].as_slice(),
         ),
-        StoreTable::Assignments | StoreTable::Starts => {
+        StoreTable::Assignments | StoreTable::Starts | StoreTable::WithdrawnAssignments => {
             are_integers(columns, [meter, b"start".as_slice(), owner].as_slice())
         }
         StoreTable::Totals => are_integers(

@@ -10,7 +10,7 @@ ghost use Rattle.pw_schema.specs.Calls.{Looks};
 ghost use Rattle.pw_schema.specs.Conflicts.{AreWithoutConflict, IsWithoutConflict};
 ghost use Rattle.pw_schema.specs.inner.Calls.{Asks};
 ghost use Rattle.pw_schema.specs.inner.Listed.{ShowsTexts};
-ghost use Rattle.pw_schema.specs.Tables.{IsOurs};
+ghost use Rattle.pw_schema.specs.Tables.{IsKnown};
 
 use sqlite::types::ValueRef;
 use sqlite::{Alter, Connection, Error, Row};
@@ -53,16 +53,16 @@ fn are_without_conflict(rows: &[Row]) -> bool
 
 // The texts of all objects.
 fn text_rows<S: Alter>(conn: &mut Connection<S>) -> Result<Vec<Row>, Error>
-    requires ours { HasCleanDisk (state S.Store conn.old) → IsOurs (state S.Store conn.old).now.schema }
+    requires known { HasCleanDisk (state S.Store conn.old) → IsKnown (state S.Store conn.old).now.schema }
     ensures rows { HasCleanDisk (state S.Store conn.new) → IfOk result (λ rows. ShowsTexts (state S.Store conn.old).now.trees rows.items) }
     ensures asks { Asks result (state S.Store conn.old) (state S.Store conn.new) }
 {
     conn.query_all("SELECT sql FROM sqlite_schema", &[])
 }
 
-/// Whether no text of a store's tables has an ON CONFLICT clause, or speaks of one.
+/// Whether no text of the tables of a store, of any version, has an ON CONFLICT clause, or speaks of one.
 pub fn has_no_conflict<S: Alter>(conn: &mut Connection<S>) -> Result<bool, Error>
-    requires ours { HasCleanDisk (state S.Store conn.old) → IsOurs (state S.Store conn.old).now.schema }
+    requires known { HasCleanDisk (state S.Store conn.old) → IsKnown (state S.Store conn.old).now.schema }
     ensures told { HasCleanDisk (state S.Store conn.new) → IfOk result (λ none. IsTrue none ↔ AreWithoutConflict (state S.Store conn.old).now.trees) }
     ensures looks { Looks result (state S.Store conn.old) (state S.Store conn.new) }
 {

@@ -1,9 +1,10 @@
 //! Whether indexes are those of a store.
 
 ghost use Rattle.std.specs.Prelude.{◌≡◌, ◌↔◌, ◌++◌, IsTrue, codes, map};
-ghost use Rattle.pw_schema.specs.Tables.{only_one, ours_with};
+ghost use Rattle.pw_schema.specs.Tables.{schema_of};
 ghost use Rattle.pw_schema.specs.inner.Stages.{index_at};
 
+use crate::kind::StoreVersion;
 use crate::table::StoreTable;
 use sqlite_schema::schema::Index;
 use sqlite_value::keys::Order;
@@ -46,10 +47,13 @@ fn are_these(found: &[Index], tables: &[StoreTable]) -> bool
     is_index(first, *table) && are_these(found, tables)
 }
 
-pub(crate) fn are_indexes(found: &[Index]) -> bool
-    ensures is { IsTrue result → found.now ≡ (ours_with only_one).indexes }
-    ensures all { found.now ≡ (ours_with only_one).indexes → IsTrue result }
+/// Whether the indexes are those of a store of this version.
+pub(crate) fn are_indexes(found: &[Index], version: StoreVersion) -> bool
+    ensures is { IsTrue result → found.now ≡ (schema_of version).indexes }
+    ensures all { found.now ≡ (schema_of version).indexes → IsTrue result }
 {
-    // the keys of the first table and of the last are rowids, which have no index
-    are_these(found, &StoreTable::ALL[1..7])
+    match version {
+        StoreVersion::First => are_these(found, &StoreTable::INDEXED[..6]),
+        StoreVersion::Second => are_these(found, StoreTable::INDEXED.as_slice()),
+    }
 }

@@ -6,19 +6,20 @@ ghost use Rattle.sqlite.specs.Held.{state};
 ghost use Rattle.sqlite.specs.State.{HasCleanDisk, KeepsCommit, Survives};
 ghost use Rattle.pw_schema.specs.Calls.{Looks};
 ghost use Rattle.pw_schema.specs.Conflicts.{AreWithoutConflict};
-ghost use Rattle.pw_schema.specs.Fresh.{AreNew, IsFresh, IsIdleAt, IsNew};
+ghost use Rattle.pw_schema.specs.Fresh.{AreNew, IsFresh, IsIdleAt, IsNew, IsWithin};
 ghost use Rattle.pw_schema.specs.Tables.{IsOurs, no_schema, only_one, ours_with};
-ghost use Rattle.pw_schema.specs.inner.Stages.{IsMaking, before, behind};
+ghost use Rattle.pw_schema.specs.inner.Stages.{Grows, IsMaking, before, behind};
 
 use crate::conflicts::has_no_conflict;
 use crate::table::StoreTable;
 use crate::transactions::{begin, commit};
 use sqlite::{Alter, Connection, Error, ErrorCode, params};
 
-// Makes a table.
-fn make<S: Alter>(conn: &mut Connection<S>, table: StoreTable) -> Result<usize, Error>
-    requires { HasCleanDisk (state S.Store conn.old) → IsMaking (before table) (state S.Store conn.old) }
-    ensures made { HasCleanDisk (state S.Store conn.new) → OnOk result (IsMaking (behind table) (state S.Store conn.new)) }
+/// Makes a table behind those before it, whatever rows these have.
+pub(crate) fn make<S: Alter>(conn: &mut Connection<S>, table: StoreTable) -> Result<usize, Error>
+    requires { HasCleanDisk (state S.Store conn.old) → IsWithin (before table) (state S.Store conn.old) }
+    ensures made { HasCleanDisk (state S.Store conn.new) → OnOk result (IsWithin (behind table) (state S.Store conn.new)) }
+    ensures grows { HasCleanDisk (state S.Store conn.new) → OnOk result (Grows table (state S.Store conn.old).now.trees (state S.Store conn.new).now.trees) }
     ensures kept { HasCleanDisk (state S.Store conn.new) → KeepsCommit (state S.Store conn.old) (state S.Store conn.new) }
     ensures crash { Survives (state S.Store conn.old) (state S.Store conn.new) (λ _. ⊥) }
 {
@@ -48,7 +49,7 @@ fn put_office<S: Alter>(conn: &mut Connection<S>, body: &[u8]) -> Result<usize, 
     ensures crash { Survives (state S.Store conn.old) (state S.Store conn.new) (λ _. ⊥) }
 {
     conn.execute(
-        "INSERT INTO office (id, version, body) VALUES (1, 1, ?1)",
+        "INSERT INTO office (id, version, body) VALUES (1, 2, ?1)",
         params![body],
     )
 }

@@ -6,14 +6,14 @@ ghost use Rattle.pw_tariff.specs.Office.{OfficeRules};
 ghost use Rattle.pw_model.specs.Office.{IsOffice};
 ghost use Rattle.pw_model.specs.Same.{entry_order};
 ghost use Rattle.pw_schema.specs.Judging.{AreInOrder, IsRecord};
-ghost use Rattle.pw_schema.specs.Rows.{ReadsRows, Tells, contents_of, told, told_content};
+ghost use Rattle.pw_schema.specs.Rows.{ReadsRows, Tells, contents_of, told, told_content, withdrawal};
 ghost use Rattle.pw_schema.specs.inner.Told.{ReadsEntry};
 
 use crate::cells::{
     account_at, instant_at, meter_at, number_at, owner_at, reference_at, register_at, wh_at,
 };
 use crate::kind::RecordKind;
-use pw_model::{Content, Contents, Entry, Key, compare_entries};
+use pw_model::{Content, Contents, Entry, Key, Named, compare_entries};
 use sqlite::Row;
 use std::alloc::{AllocError, AllocFailed, Global};
 use std::cmp::Ordering;
@@ -95,6 +95,59 @@ fn topup_of(row: &Row) -> Option<Entry>
     })
 }
 
+// The withdrawal that names a record.
+fn withdrawal(named: Named) -> Entry
+    ensures { result ≡ withdrawal named }
+{
+    Entry {
+        key: Key::Withdrawal { named },
+        content: Content::Withdrawal,
+    }
+}
+
+fn withdrawn_reading_of(row: &Row) -> Option<Entry>
+    ensures { ReadsEntry RecordKind.WithdrawnReadings row.now result }
+{
+    let meter = meter_at(row, 0)?;
+    let register = register_at(row, 1)?;
+    let instant = instant_at(row, 2)?;
+    let wh = wh_at(row, 3)?;
+    Some(withdrawal(Named::Reading {
+        meter,
+        register,
+        instant,
+        wh,
+    }))
+}
+
+fn withdrawn_assignment_of(row: &Row) -> Option<Entry>
+    ensures { ReadsEntry RecordKind.WithdrawnAssignments row.now result }
+{
+    let meter = meter_at(row, 0)?;
+    let start = instant_at(row, 1)?;
+    let owner = owner_at(row, 2)?;
+    Some(withdrawal(Named::Assignment {
+        meter,
+        start,
+        owner,
+    }))
+}
+
+fn withdrawn_topup_of(row: &Row) -> Option<Entry>
+    ensures { ReadsEntry RecordKind.WithdrawnTopUps row.now result }
+{
+    let reference = reference_at(row, 0)?;
+    let account = account_at(row, 1)?;
+    let cents = number_at(row, 2)?;
+    let instant = instant_at(row, 3)?;
+    Some(withdrawal(Named::TopUp {
+        reference,
+        account,
+        cents,
+        instant,
+    }))
+}
+
 /// The record of a kind that a row tells. Where it answers none, the row is no record of any office.
 pub fn entry_of(kind: RecordKind, row: &Row) -> Option<Entry>
     ensures told { IfSome result (λ entry. entry ≡ told kind row.now) }
@@ -105,6 +158,9 @@ pub fn entry_of(kind: RecordKind, row: &Row) -> Option<Entry>
         RecordKind::Readings => reading_of(row),
         RecordKind::Assignments => assignment_of(row),
         RecordKind::TopUps => topup_of(row),
+        RecordKind::WithdrawnReadings => withdrawn_reading_of(row),
+        RecordKind::WithdrawnAssignments => withdrawn_assignment_of(row),
+        RecordKind::WithdrawnTopUps => withdrawn_topup_of(row),
     }
 }
 
@@ -175,5 +231,6 @@ fn content_of(kind: RecordKind, row: &Row) -> Option<Content>
                 instant,
             })
         }
+        _ => Some(Content::Withdrawal),
     }
 }

@@ -1,22 +1,23 @@
 //! Whether a file holds the tables of a store, these and more, or nothing.
 
 ghost use Rattle.std.specs.Prelude.{◌≡◌, ◌↔◌, IsTrue};
-ghost use Rattle.pw_schema.specs.Tables.{BeginsAsOurs, IsOurs, no_schema};
+ghost use Rattle.pw_schema.specs.Tables.{BeginsAsOurs, IsOf, no_schema};
 
 use crate::indexes::are_indexes;
+use crate::kind::StoreVersion;
 use crate::tables::are_tables;
 use sqlite_schema::schema::Schema;
 
-/// Whether these are the tables that `open` makes, and nothing else.
-pub fn is_ours(schema: &Schema) -> bool
-    ensures { IsTrue result ↔ IsOurs schema.now }
+/// Whether these are the tables of a store of this version, and nothing else.
+pub fn is_of(schema: &Schema, version: StoreVersion) -> bool
+    ensures { IsTrue result ↔ IsOf version schema.now }
 {
     schema.views.is_empty()
-        && are_tables(schema.tables.as_slice())
-        && are_indexes(schema.indexes.as_slice())
+        && are_tables(schema.tables.as_slice(), version)
+        && are_indexes(schema.indexes.as_slice(), version)
 }
 
-/// Whether the tables that `open` makes stand first, with their indexes, whatever stands behind them.
+/// Whether the tables of version 1 stand first, with their indexes, whatever stands behind them.
 pub fn begins_as_ours(schema: &Schema) -> bool
     ensures { IsTrue result ↔ BeginsAsOurs schema.now }
 {
@@ -28,7 +29,7 @@ pub fn begins_as_ours(schema: &Schema) -> bool
     if indexes.len() < 6 {
         return false;
     }
-    are_tables(&tables[..8]) && are_indexes(&indexes[..6])
+    are_tables(&tables[..8], StoreVersion::First) && are_indexes(&indexes[..6], StoreVersion::First)
 }
 
 /// Whether there is nothing at all.

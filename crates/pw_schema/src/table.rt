@@ -14,11 +14,14 @@ pub(crate) enum StoreTable {
     Starts,
     Totals,
     TotalTopUps,
+    WithdrawnReadings,
+    WithdrawnAssignments,
+    WithdrawnTopUps,
 }
 
 impl StoreTable {
     /// The tables in the order in which they are made.
-    pub(crate) const ALL: [StoreTable; 8] = [
+    pub(crate) const ALL: [StoreTable; 11] = [
         StoreTable::Office,
         StoreTable::Readings,
         StoreTable::Assignments,
@@ -27,6 +30,22 @@ impl StoreTable {
         StoreTable::Starts,
         StoreTable::Totals,
         StoreTable::TotalTopUps,
+        StoreTable::WithdrawnReadings,
+        StoreTable::WithdrawnAssignments,
+        StoreTable::WithdrawnTopUps,
+    ];
+
+    /// Those whose key has an index: the others' keys are rowids.
+    pub(crate) const INDEXED: [StoreTable; 9] = [
+        StoreTable::Readings,
+        StoreTable::Assignments,
+        StoreTable::TopUps,
+        StoreTable::Points,
+        StoreTable::Starts,
+        StoreTable::Totals,
+        StoreTable::WithdrawnReadings,
+        StoreTable::WithdrawnAssignments,
+        StoreTable::WithdrawnTopUps,
     ];
 
     /// The text that makes the table.
@@ -58,6 +77,15 @@ impl StoreTable {
             StoreTable::TotalTopUps => {
                 "CREATE TABLE total_topup (account INTEGER PRIMARY KEY, cents INTEGER NOT NULL) STRICT"
             }
+            StoreTable::WithdrawnReadings => {
+                "CREATE TABLE withdrawn_reading (meter INTEGER NOT NULL, register INTEGER NOT NULL, instant INTEGER NOT NULL, wh INTEGER NOT NULL, PRIMARY KEY (meter, register, instant, wh)) STRICT"
+            }
+            StoreTable::WithdrawnAssignments => {
+                "CREATE TABLE withdrawn_assignment (meter INTEGER NOT NULL, start INTEGER NOT NULL, owner INTEGER NOT NULL, PRIMARY KEY (meter, start, owner)) STRICT"
+            }
+            StoreTable::WithdrawnTopUps => {
+                "CREATE TABLE withdrawn_topup (reference TEXT NOT NULL, account INTEGER NOT NULL, cents INTEGER NOT NULL, instant INTEGER NOT NULL, PRIMARY KEY (reference, account, cents, instant)) STRICT"
+            }
         }
     }
 
@@ -74,6 +102,9 @@ impl StoreTable {
             StoreTable::Starts => b"start".as_slice(),
             StoreTable::Totals => b"total".as_slice(),
             StoreTable::TotalTopUps => b"total_topup".as_slice(),
+            StoreTable::WithdrawnReadings => b"withdrawn_reading".as_slice(),
+            StoreTable::WithdrawnAssignments => b"withdrawn_assignment".as_slice(),
+            StoreTable::WithdrawnTopUps => b"withdrawn_topup".as_slice(),
         }
     }
 
@@ -91,6 +122,9 @@ impl StoreTable {
             StoreTable::Starts => 9,
             StoreTable::Totals => 11,
             StoreTable::TotalTopUps => 13,
+            StoreTable::WithdrawnReadings => 14,
+            StoreTable::WithdrawnAssignments => 16,
+            StoreTable::WithdrawnTopUps => 18,
         }
     }
 
@@ -101,10 +135,14 @@ impl StoreTable {
         match self {
             StoreTable::Office | StoreTable::TotalTopUps => [0].as_slice(),
             StoreTable::Starts => [1, 2].as_slice(),
-            StoreTable::Assignments | StoreTable::Points | StoreTable::Totals => {
-                [1, 2, 3].as_slice()
-            }
-            StoreTable::Readings | StoreTable::TopUps => [1, 2, 3, 4].as_slice(),
+            StoreTable::Assignments
+            | StoreTable::Points
+            | StoreTable::Totals
+            | StoreTable::WithdrawnAssignments => [1, 2, 3].as_slice(),
+            StoreTable::Readings
+            | StoreTable::TopUps
+            | StoreTable::WithdrawnReadings
+            | StoreTable::WithdrawnTopUps => [1, 2, 3, 4].as_slice(),
         }
     }
 }

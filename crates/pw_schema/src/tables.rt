@@ -1,12 +1,13 @@
 //! Whether tables are those of a store.
 
 ghost use Rattle.std.specs.Prelude.{◌≡◌, [], IsTrue, false, map};
-ghost use Rattle.pw_schema.specs.Tables.{only_one, ours_with};
+ghost use Rattle.pw_schema.specs.Tables.{schema_of};
 ghost use Rattle.pw_schema.specs.inner.Stages.{stored};
 
 use crate::checks::is_only_one;
 use crate::columns::are_columns;
 use crate::keys::has_key;
+use crate::kind::StoreVersion;
 use crate::table::StoreTable;
 use sqlite_schema::code::Terms;
 use sqlite_schema::schema::{Stamps, Table};
@@ -65,9 +66,13 @@ fn are_these(found: &[Table], tables: &[StoreTable]) -> bool
     is_table(first, *table) && are_these(found, tables)
 }
 
-pub(crate) fn are_tables(found: &[Table]) -> bool
-    ensures is { IsTrue result → found.now ≡ (ours_with only_one).tables }
-    ensures all { found.now ≡ (ours_with only_one).tables → IsTrue result }
+/// Whether the tables are those of a store of this version.
+pub(crate) fn are_tables(found: &[Table], version: StoreVersion) -> bool
+    ensures is { IsTrue result → found.now ≡ (schema_of version).tables }
+    ensures all { found.now ≡ (schema_of version).tables → IsTrue result }
 {
-    are_these(found, StoreTable::ALL.as_slice())
+    match version {
+        StoreVersion::First => are_these(found, &StoreTable::ALL[..8]),
+        StoreVersion::Second => are_these(found, StoreTable::ALL.as_slice()),
+    }
 }

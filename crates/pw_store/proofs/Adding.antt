@@ -1,5 +1,5 @@
 -- What INSERT makes of the records.
-use Rattle.std.proofs.Common.{arith, add-one, Option, ◌≡◌, ◌⊎◌, ℕ, pos, List, ◌∷◌, ◌++◌, map, Bool, true, false, cond, not, ◌&&◌, Some, None, Ok, Err, Result, OnOk, OnErr, IsTrue, refl, sym, ap, subst, ◌∙◌}
+use Rattle.std.proofs.Common.{arith, add-one, Option, ◌≡◌, ◌⊎◌, inl, inr, ◌<◌, ℕ, pos, List, ◌∷◌, map, Bool, true, false, cond, not, ◌&&◌, Some, None, Ok, Err, Result, OnOk, OnErr, IsTrue, refl, sym, ap, subst, ◌∙◌}
 use Rattle.std.specs.List.{AllByRecursion}
 use Rattle.sqlite.specs.declared.types.Value.{Value}
 use Rattle.sqlite.specs.declared.types.Value.TheVariants.{Null, Int}
@@ -27,19 +27,25 @@ use Rattle.pw_tariff.specs.Cells.{owner_place}
 use Rattle.pw_model.specs.Counting.{Member, IsInserted}
 use Rattle.pw_shelf.proofs.InOrder.{inserted-once}
 use Rattle.pw_schema.specs.Calls.{Writes}
-use Rattle.pw_schema.specs.Tables.{ours_with, only_one, IsOurs, topup_at, reading_at, assignment_at}
-use Rattle.pw_schema.specs.Rows.{register_at, owner_at}
-use Rattle.pw_store.specs.Content.{records_of, reading_in, assignment_in, topup_in, energy_in, payment_in, IsReadingRow, IsAssignmentRow, IsTopupRow, reading_tree, assignment_tree, topup_tree}
+use Rattle.pw_schema.specs.Tables.{ours_with, only_one, IsOurs, topup_at, reading_at, assignment_at, withdrawn_reading_at, withdrawn_assignment_at, withdrawn_topup_at}
+use Rattle.pw_schema.specs.Rows.{register_at, owner_at, withdrawal}
+use Rattle.pw_schema.specs.declared.kind.RecordKind.{RecordKind}
+use Rattle.pw_schema.specs.declared.kind.RecordKind.TheVariants.{Readings, Assignments, TopUps, WithdrawnReadings, WithdrawnAssignments, WithdrawnTopUps}
+use Rattle.pw_schema.specs.declared.kind.StoreVersion.TheVariants.{Second}
+use Rattle.pw_model.specs.declared.records.Entry.{Entry}
+use Rattle.pw_model.specs.declared.records.Named.TheVariants as named
+use Rattle.pw_store.specs.Content.{records_of, entries_of, entry_in, kinds_of, tree_of, IsRowOf, energy_in, payment_in, IsReadingRow, IsAssignmentRow, reading_tree, assignment_tree, topup_tree, withdrawn_reading_tree, withdrawn_assignment_tree, withdrawn_topup_tree}
 use Rattle.pw_store.specs.inner.Records.{reading_row, assignment_row, reading_entry, assignment_entry, topup_row, topup_entry}
 use Rattle.pw_store.specs.Kept.{IsStore, key_in_point, key_in_start}
 use Rattle.pw_store.specs.Keyed.{AreKeyed, IsEnergyRow, IsPaymentRow}
 use Rattle.pw_store.specs.inner.Changing.{Adds, StillKeeps}
 use Rattle.pw_store.proofs.StillKept.{keeps_sums}
-use Rattle.pw_store.proofs.Others.{SameSums, same_sums, with_record}
-use Rattle.pw_store.proofs.Texts.{IsInsert, add_topup_text, add_topup_is, four_terms, add_reading_text, add_reading_is, add_assignment_text, add_assignment_is, three_terms}
+use Rattle.pw_store.proofs.Others.{SameSums, else_same, same_sums, with_record}
+use Rattle.pw_store.proofs.OfKinds.{each_kind, inserted_among, kinds_once}
+use Rattle.pw_store.proofs.Texts.{IsInsert, add_topup_text, add_topup_is, four_terms, add_reading_text, add_reading_is, add_assignment_text, add_assignment_is, three_terms, add_withdrawn_reading_text, add_withdrawn_reading_is, add_withdrawn_assignment_text, add_withdrawn_assignment_is, add_withdrawn_topup_text, add_withdrawn_topup_is}
 use Rattle.pw_schema.proofs.Outcomes.{fails, keeps_commit}
 use Rattle.pw_store.proofs.OneTable.{HasInserted, inserts}
-use Rattle.pw_store.proofs.Placing.{put_inserts, behind, before}
+use Rattle.pw_store.proofs.Placing.{put_inserts}
 
 either : (b : Bool) (x : Value) → cond b x x ≡ x
 either true x = refl
@@ -87,59 +93,6 @@ inserts_if text at width terms it old new params r ours inside runs s = record {
   crash = insert_survives text at width terms it old new params ours inside s;
 }
 
--- ---- a top-up
-module _ (old new : State) (t : List ℕ) (a c i count : ℕ) (store : IsStore old.now) (h : Executes add_topup_text (topup_row t a c i) old new (Ok count)) where
-  abbrev own : List Term
-  own = only_one
-
-  abbrev table : Table
-  table = topup_at topup_tree
-
-  applied : HasInserted table (Null ∷ topup_row t a c i) old new
-  applied = inserts add_topup_text 3 (topup_row t a c i) old new store.ours count h table 5 four_terms (Null ∷ topup_row t a c i) add_topup_is (λ out does. does) (λ _. refl) refl
-
-  abbrev row : Row
-  row = Int (next_rowid (old.now.trees topup_tree)) ∷ topup_row t a c i
-
-  free : is_taken (old.now.trees topup_tree) row ≡ false
-  free = let fresh = rw cast_null at applied.1.fresh in was_not _ (and_first _ _ fresh)
-
-  rows : new.now.trees topup_tree ≡ put_row row (old.now.trees topup_tree)
-  rows = applied.1.rows ∙ rw (cast_null, cast_int a, cast_int c, cast_int i) refl
-
-  readings : new.now.trees reading_tree ≡ old.now.trees reading_tree
-  readings = applied.1.tables.1.0 (λ e. absurd cc)
-
-  assignments : new.now.trees assignment_tree ≡ old.now.trees assignment_tree
-  assignments = applied.1.tables.1.1.0 (λ e. absurd cc)
-
-  all : records_of new.now.trees ≡ map reading_in (old.now.trees reading_tree) ++ (map assignment_in (old.now.trees assignment_tree) ++ map topup_in (put_row row (old.now.trees topup_tree)))
-  all = rw (readings, assignments, rows) refl
-
-  adds_topup : IsInserted (topup_in row) (records_of old.now.trees) (records_of new.now.trees)
-  adds_topup =
-      let one = put_inserts topup_in row (old.now.trees topup_tree) free in
-      subst (IsInserted (topup_in row) (records_of old.now.trees)) (sym all) (behind _ (map reading_in (old.now.trees reading_tree)) _ _ (behind _ (map assignment_in (old.now.trees assignment_tree)) _ _ one))
-
-  sums_topup : SameSums old.now.trees new.now.trees
-  sums_topup = same_sums own topup_tree old.now.trees new.now.trees (omega arith) applied.1.tables
-
-  keeps_topup : StillKeeps old.now.trees new.now.trees
-  keeps_topup = keeps_sums own _ old.now.trees new.now.trees _ applied.1 (omega arith) (omega arith) sums_topup.total sums_topup.payment
-
-  stores_topup : (Member (topup_in row) (records_of old.now.trees) → ⊥) → IsStore new.now
-  stores_topup fresh = record {
-    ours = applied.0;
-    readings = subst (AllByRecursion IsReadingRow) (sym readings) store.readings;
-    assignments = subst (AllByRecursion IsAssignmentRow) (sym assignments) store.assignments;
-    topups = subst (AllByRecursion IsTopupRow) (sym rows) (all-put_row IsTopupRow row (old.now.trees topup_tree) (refl, (refl, (refl, refl))) store.topups);
-    once = inserted-once (topup_in row) (records_of old.now.trees) (records_of new.now.trees) adds_topup fresh store.once;
-    points = subst (AreKeyed IsReadingRow key_in_point) (sym sums_topup.point) store.points;
-    starts = subst (AreKeyed IsAssignmentRow key_in_start) (sym sums_topup.start) store.starts;
-    energies = subst (AreKeyed IsEnergyRow energy_in) (sym sums_topup.total) store.energies;
-    payments = subst (AreKeyed IsPaymentRow payment_in) (sym sums_topup.payment) store.payments;
-  }
-
 -- ---- places of registers and owners
 pub register_back : (r : Register) → register_at (register_place r) ≡ r
 register_back I0 = refl
@@ -153,144 +106,209 @@ pub owner_back : (o : Option AccountId) → owner_at (owner_place o) ≡ o
 owner_back None = refl
 owner_back (Some a) = ap owner_at (add-one a.0)
 
--- ---- a reading
-module _ (old new : State) (m : MeterId) (r : Register) (t v : ℕ) (count : ℕ) (store : IsStore old.now) (h : Executes add_reading_text (reading_row m.0 (register_place r) t v) old new (Ok count)) where
-  abbrev own_reading : List Term
-  own_reading = only_one
+-- ---- a row more in the table of a kind
+kind_apart : (j k : RecordKind) → (j ≡ k → ⊥) → tree_of j ≡ tree_of k → ⊥
+kind_apart j k apart same = apart (one_tree j k same)
+  where
+    one_tree : (a b : RecordKind) → tree_of a ≡ tree_of b → a ≡ b
+    one_tree Readings Readings e = refl
+    one_tree Assignments Assignments e = refl
+    one_tree TopUps TopUps e = refl
+    one_tree WithdrawnReadings WithdrawnReadings e = refl
+    one_tree WithdrawnAssignments WithdrawnAssignments e = refl
+    one_tree WithdrawnTopUps WithdrawnTopUps e = refl
+    one_tree Readings Assignments e = absurd (omega (arith, e))
+    one_tree Readings TopUps e = absurd (omega (arith, e))
+    one_tree Readings WithdrawnReadings e = absurd (omega (arith, e))
+    one_tree Readings WithdrawnAssignments e = absurd (omega (arith, e))
+    one_tree Readings WithdrawnTopUps e = absurd (omega (arith, e))
+    one_tree Assignments Readings e = absurd (omega (arith, e))
+    one_tree Assignments TopUps e = absurd (omega (arith, e))
+    one_tree Assignments WithdrawnReadings e = absurd (omega (arith, e))
+    one_tree Assignments WithdrawnAssignments e = absurd (omega (arith, e))
+    one_tree Assignments WithdrawnTopUps e = absurd (omega (arith, e))
+    one_tree TopUps Readings e = absurd (omega (arith, e))
+    one_tree TopUps Assignments e = absurd (omega (arith, e))
+    one_tree TopUps WithdrawnReadings e = absurd (omega (arith, e))
+    one_tree TopUps WithdrawnAssignments e = absurd (omega (arith, e))
+    one_tree TopUps WithdrawnTopUps e = absurd (omega (arith, e))
+    one_tree WithdrawnReadings Readings e = absurd (omega (arith, e))
+    one_tree WithdrawnReadings Assignments e = absurd (omega (arith, e))
+    one_tree WithdrawnReadings TopUps e = absurd (omega (arith, e))
+    one_tree WithdrawnReadings WithdrawnAssignments e = absurd (omega (arith, e))
+    one_tree WithdrawnReadings WithdrawnTopUps e = absurd (omega (arith, e))
+    one_tree WithdrawnAssignments Readings e = absurd (omega (arith, e))
+    one_tree WithdrawnAssignments Assignments e = absurd (omega (arith, e))
+    one_tree WithdrawnAssignments TopUps e = absurd (omega (arith, e))
+    one_tree WithdrawnAssignments WithdrawnReadings e = absurd (omega (arith, e))
+    one_tree WithdrawnAssignments WithdrawnTopUps e = absurd (omega (arith, e))
+    one_tree WithdrawnTopUps Readings e = absurd (omega (arith, e))
+    one_tree WithdrawnTopUps Assignments e = absurd (omega (arith, e))
+    one_tree WithdrawnTopUps TopUps e = absurd (omega (arith, e))
+    one_tree WithdrawnTopUps WithdrawnReadings e = absurd (omega (arith, e))
+    one_tree WithdrawnTopUps WithdrawnAssignments e = absurd (omega (arith, e))
 
-  abbrev table_reading : Table
-  table_reading = reading_at reading_tree
+same_kind_or_not : (j k : RecordKind) → (j ≡ k) ⊎ (j ≡ k → ⊥)
+same_kind_or_not Readings Readings = inl refl
+same_kind_or_not Readings Assignments = inr (λ e. let same = ap tree_of e in omega (arith, same))
+same_kind_or_not Readings TopUps = inr (λ e. let same = ap tree_of e in omega (arith, same))
+same_kind_or_not Readings WithdrawnReadings = inr (λ e. let same = ap tree_of e in omega (arith, same))
+same_kind_or_not Readings WithdrawnAssignments = inr (λ e. let same = ap tree_of e in omega (arith, same))
+same_kind_or_not Readings WithdrawnTopUps = inr (λ e. let same = ap tree_of e in omega (arith, same))
+same_kind_or_not Assignments Readings = inr (λ e. let same = ap tree_of e in omega (arith, same))
+same_kind_or_not Assignments Assignments = inl refl
+same_kind_or_not Assignments TopUps = inr (λ e. let same = ap tree_of e in omega (arith, same))
+same_kind_or_not Assignments WithdrawnReadings = inr (λ e. let same = ap tree_of e in omega (arith, same))
+same_kind_or_not Assignments WithdrawnAssignments = inr (λ e. let same = ap tree_of e in omega (arith, same))
+same_kind_or_not Assignments WithdrawnTopUps = inr (λ e. let same = ap tree_of e in omega (arith, same))
+same_kind_or_not TopUps Readings = inr (λ e. let same = ap tree_of e in omega (arith, same))
+same_kind_or_not TopUps Assignments = inr (λ e. let same = ap tree_of e in omega (arith, same))
+same_kind_or_not TopUps TopUps = inl refl
+same_kind_or_not TopUps WithdrawnReadings = inr (λ e. let same = ap tree_of e in omega (arith, same))
+same_kind_or_not TopUps WithdrawnAssignments = inr (λ e. let same = ap tree_of e in omega (arith, same))
+same_kind_or_not TopUps WithdrawnTopUps = inr (λ e. let same = ap tree_of e in omega (arith, same))
+same_kind_or_not WithdrawnReadings Readings = inr (λ e. let same = ap tree_of e in omega (arith, same))
+same_kind_or_not WithdrawnReadings Assignments = inr (λ e. let same = ap tree_of e in omega (arith, same))
+same_kind_or_not WithdrawnReadings TopUps = inr (λ e. let same = ap tree_of e in omega (arith, same))
+same_kind_or_not WithdrawnReadings WithdrawnReadings = inl refl
+same_kind_or_not WithdrawnReadings WithdrawnAssignments = inr (λ e. let same = ap tree_of e in omega (arith, same))
+same_kind_or_not WithdrawnReadings WithdrawnTopUps = inr (λ e. let same = ap tree_of e in omega (arith, same))
+same_kind_or_not WithdrawnAssignments Readings = inr (λ e. let same = ap tree_of e in omega (arith, same))
+same_kind_or_not WithdrawnAssignments Assignments = inr (λ e. let same = ap tree_of e in omega (arith, same))
+same_kind_or_not WithdrawnAssignments TopUps = inr (λ e. let same = ap tree_of e in omega (arith, same))
+same_kind_or_not WithdrawnAssignments WithdrawnReadings = inr (λ e. let same = ap tree_of e in omega (arith, same))
+same_kind_or_not WithdrawnAssignments WithdrawnAssignments = inl refl
+same_kind_or_not WithdrawnAssignments WithdrawnTopUps = inr (λ e. let same = ap tree_of e in omega (arith, same))
+same_kind_or_not WithdrawnTopUps Readings = inr (λ e. let same = ap tree_of e in omega (arith, same))
+same_kind_or_not WithdrawnTopUps Assignments = inr (λ e. let same = ap tree_of e in omega (arith, same))
+same_kind_or_not WithdrawnTopUps TopUps = inr (λ e. let same = ap tree_of e in omega (arith, same))
+same_kind_or_not WithdrawnTopUps WithdrawnReadings = inr (λ e. let same = ap tree_of e in omega (arith, same))
+same_kind_or_not WithdrawnTopUps WithdrawnAssignments = inr (λ e. let same = ap tree_of e in omega (arith, same))
+same_kind_or_not WithdrawnTopUps WithdrawnTopUps = inl refl
 
-  applied_reading : HasInserted table_reading (Null ∷ reading_row m.0 (register_place r) t v) old new
-  applied_reading = inserts add_reading_text 1 (reading_row m.0 (register_place r) t v) old new store.ours count h table_reading 5 four_terms (Null ∷ reading_row m.0 (register_place r) t v) add_reading_is (λ out does. does) (λ _. refl) refl
+outside : (k : RecordKind) → (tree_of k < 7) ⊎ (13 < tree_of k)
+outside Readings = inl (omega arith)
+outside Assignments = inl (omega arith)
+outside TopUps = inl (omega arith)
+outside WithdrawnReadings = inr (omega arith)
+outside WithdrawnAssignments = inr (omega arith)
+outside WithdrawnTopUps = inr (omega arith)
 
-  abbrev row_reading : Row
-  row_reading = Int (next_rowid (old.now.trees reading_tree)) ∷ reading_row m.0 (register_place r) t v
+behind_office : (k : RecordKind) → (0 < tree_of k) × (tree_of k < 20)
+behind_office Readings = (omega arith, omega arith)
+behind_office Assignments = (omega arith, omega arith)
+behind_office TopUps = (omega arith, omega arith)
+behind_office WithdrawnReadings = (omega arith, omega arith)
+behind_office WithdrawnAssignments = (omega arith, omega arith)
+behind_office WithdrawnTopUps = (omega arith, omega arith)
 
-  free_reading : is_taken (old.now.trees reading_tree) row_reading ≡ false
-  free_reading = let fresh = rw cast_null at applied_reading.1.fresh in was_not _ (and_first _ _ fresh)
+module _ (k : RecordKind) (table : Table) (given row : Row) (e : Entry) (old new : State) (at : table.tree ≡ tree_of k) (store : IsStore old.now) (applied : HasInserted table given old new)
+    (rows : new.now.trees (tree_of k) ≡ put_row row (old.now.trees (tree_of k))) (free : is_taken (old.now.trees (tree_of k)) row ≡ false) (is_row : IsRowOf k row) (one : entry_in k row ≡ e) where
+  others : (j : RecordKind) → (j ≡ k → ⊥) → new.now.trees (tree_of j) ≡ old.now.trees (tree_of j)
+  others j apart = else_same only_one table.tree old.now.trees new.now.trees applied.1.tables j (λ same. kind_apart j k apart (same ∙ at))
 
-  rows_reading : new.now.trees reading_tree ≡ put_row row_reading (old.now.trees reading_tree)
-  rows_reading = applied_reading.1.rows ∙ rw (cast_null, cast_int m.0, cast_int (register_place r), cast_int t, cast_int v) refl
+  inserted : IsInserted e (records_of old.now.trees) (records_of new.now.trees)
+  inserted =
+      let here = subst (λ x. IsInserted x (entries_of k old.now.trees) (map (entry_in k) (put_row row (old.now.trees (tree_of k))))) one (put_inserts (entry_in k) row (old.now.trees (tree_of k)) free) in
+      inserted_among (kinds_of Second) old.now.trees new.now.trees k e (kinds_once Second) (each_kind k) others
+      (subst (λ xs. IsInserted e (entries_of k old.now.trees) (map (entry_in k) xs)) (sym rows) here)
 
-  assignments_reading : new.now.trees assignment_tree ≡ old.now.trees assignment_tree
-  assignments_reading = applied_reading.1.tables.1.1.0 (λ e. absurd (omega (arith, e)))
+  sums : SameSums old.now.trees new.now.trees
+  sums = same_sums only_one table.tree old.now.trees new.now.trees (subst (λ t. (t < 7) ⊎ (13 < t)) (sym at) (outside k)) applied.1.tables
 
-  topups_reading : new.now.trees topup_tree ≡ old.now.trees topup_tree
-  topups_reading = applied_reading.1.tables.1.1.1.0 (λ e. absurd (omega (arith, e)))
+  keeps : StillKeeps old.now.trees new.now.trees
+  keeps =
+      let low = subst (λ t. (0 < t) × (t < 20)) (sym at) (behind_office k) in
+      keeps_sums only_one _ old.now.trees new.now.trees _ applied.1 low.0 low.1 sums.total sums.payment
 
-  all_reading : records_of new.now.trees ≡ map reading_in (put_row row_reading (old.now.trees reading_tree)) ++ (map assignment_in (old.now.trees assignment_tree) ++ map topup_in (old.now.trees topup_tree))
-  all_reading = rw (assignments_reading, topups_reading, rows_reading) refl
+  kept_rows : (j : RecordKind) → AllByRecursion (IsRowOf j) (new.now.trees (tree_of j))
+  kept_rows j = elim (same_kind_or_not j k) [
+    | inl same ↦ subst (λ l. AllByRecursion (IsRowOf l) (new.now.trees (tree_of l))) (sym same) (subst (AllByRecursion (IsRowOf k)) (sym rows) (all-put_row (IsRowOf k) row (old.now.trees (tree_of k)) is_row (store.rows k)))
+    | inr apart ↦ subst (AllByRecursion (IsRowOf j)) (sym (others j apart)) (store.rows j)
+  ]
 
-  one_reading : reading_in row_reading ≡ reading_entry m r t v
-  one_reading = ap (λ (s : Register). reading_entry m s t v) (register_back r)
-
-  adds_reading : IsInserted (reading_entry m r t v) (records_of old.now.trees) (records_of new.now.trees)
-  adds_reading =
-      let one = put_inserts reading_in row_reading (old.now.trees reading_tree) free_reading in
-      subst (λ e. IsInserted e (records_of old.now.trees) (records_of new.now.trees)) one_reading
-      (subst (IsInserted (reading_in row_reading) (records_of old.now.trees)) (sym all_reading) (before _ (map assignment_in (old.now.trees assignment_tree) ++ map topup_in (old.now.trees topup_tree)) _ _ one))
-
-  sums_reading : SameSums old.now.trees new.now.trees
-  sums_reading = same_sums own_reading reading_tree old.now.trees new.now.trees (omega arith) applied_reading.1.tables
-
-  keeps_reading : StillKeeps old.now.trees new.now.trees
-  keeps_reading = keeps_sums own_reading _ old.now.trees new.now.trees _ applied_reading.1 (omega arith) (omega arith) sums_reading.total sums_reading.payment
-
-  stores_reading : (Member (reading_entry m r t v) (records_of old.now.trees) → ⊥) → IsStore new.now
-  stores_reading fresh = record {
-    ours = applied_reading.0;
-    readings = subst (AllByRecursion IsReadingRow) (sym rows_reading) (all-put_row IsReadingRow row_reading (old.now.trees reading_tree) (refl, (ap (λ (s : Register). Int (pos (register_place s))) (sym (register_back r)), (refl, refl))) store.readings);
-    assignments = subst (AllByRecursion IsAssignmentRow) (sym assignments_reading) store.assignments;
-    topups = subst (AllByRecursion IsTopupRow) (sym topups_reading) store.topups;
-    once = inserted-once (reading_entry m r t v) (records_of old.now.trees) (records_of new.now.trees) adds_reading fresh store.once;
-    points = subst (AreKeyed IsReadingRow key_in_point) (sym sums_reading.point) store.points;
-    starts = subst (AreKeyed IsAssignmentRow key_in_start) (sym sums_reading.start) store.starts;
-    energies = subst (AreKeyed IsEnergyRow energy_in) (sym sums_reading.total) store.energies;
-    payments = subst (AreKeyed IsPaymentRow payment_in) (sym sums_reading.payment) store.payments;
+  stores : (Member e (records_of old.now.trees) → ⊥) → IsStore new.now
+  stores fresh = record {
+    ours = applied.0;
+    rows = kept_rows;
+    once = inserted-once e (records_of old.now.trees) (records_of new.now.trees) inserted fresh store.once;
+    points = subst (AreKeyed IsReadingRow key_in_point) (sym sums.point) store.points;
+    starts = subst (AreKeyed IsAssignmentRow key_in_start) (sym sums.start) store.starts;
+    energies = subst (AreKeyed IsEnergyRow energy_in) (sym sums.total) store.energies;
+    payments = subst (AreKeyed IsPaymentRow payment_in) (sym sums.payment) store.payments;
   }
 
--- ---- an assignment
-module _ (old new : State) (m : MeterId) (t : ℕ) (o : Option AccountId) (count : ℕ) (store : IsStore old.now) (h : Executes add_assignment_text (assignment_row m.0 t (owner_place o)) old new (Ok count)) where
-  abbrev own_assignment : List Term
-  own_assignment = only_one
-
-  abbrev table_assignment : Table
-  table_assignment = assignment_at assignment_tree
-
-  applied_assignment : HasInserted table_assignment (Null ∷ assignment_row m.0 t (owner_place o)) old new
-  applied_assignment = inserts add_assignment_text 2 (assignment_row m.0 t (owner_place o)) old new store.ours count h table_assignment 4 three_terms (Null ∷ assignment_row m.0 t (owner_place o)) add_assignment_is (λ out does. does) (λ _. refl) refl
-
-  abbrev row_assignment : Row
-  row_assignment = Int (next_rowid (old.now.trees assignment_tree)) ∷ assignment_row m.0 t (owner_place o)
-
-  free_assignment : is_taken (old.now.trees assignment_tree) row_assignment ≡ false
-  free_assignment = let fresh = rw cast_null at applied_assignment.1.fresh in was_not _ (and_first _ _ fresh)
-
-  rows_assignment : new.now.trees assignment_tree ≡ put_row row_assignment (old.now.trees assignment_tree)
-  rows_assignment = applied_assignment.1.rows ∙ rw (cast_null, cast_int m.0, cast_int t, cast_int (owner_place o)) refl
-
-  readings_assignment : new.now.trees reading_tree ≡ old.now.trees reading_tree
-  readings_assignment = applied_assignment.1.tables.1.0 (λ e. absurd (omega (arith, e)))
-
-  topups_assignment : new.now.trees topup_tree ≡ old.now.trees topup_tree
-  topups_assignment = applied_assignment.1.tables.1.1.1.0 (λ e. absurd (omega (arith, e)))
-
-  all_assignment : records_of new.now.trees ≡ map reading_in (old.now.trees reading_tree) ++ (map assignment_in (put_row row_assignment (old.now.trees assignment_tree)) ++ map topup_in (old.now.trees topup_tree))
-  all_assignment = rw (readings_assignment, topups_assignment, rows_assignment) refl
-
-  one_assignment : assignment_in row_assignment ≡ assignment_entry m t o
-  one_assignment = ap (λ (p : Option AccountId). assignment_entry m t p) (owner_back o)
-
-  adds_assignment : IsInserted (assignment_entry m t o) (records_of old.now.trees) (records_of new.now.trees)
-  adds_assignment =
-      let one = put_inserts assignment_in row_assignment (old.now.trees assignment_tree) free_assignment in
-      subst (λ e. IsInserted e (records_of old.now.trees) (records_of new.now.trees)) one_assignment
-      (subst (IsInserted (assignment_in row_assignment) (records_of old.now.trees)) (sym all_assignment) (behind _ (map reading_in (old.now.trees reading_tree)) _ _ (before _ (map topup_in (old.now.trees topup_tree)) _ _ one)))
-
-  sums_assignment : SameSums old.now.trees new.now.trees
-  sums_assignment = same_sums own_assignment assignment_tree old.now.trees new.now.trees (omega arith) applied_assignment.1.tables
-
-  keeps_assignment : StillKeeps old.now.trees new.now.trees
-  keeps_assignment = keeps_sums own_assignment _ old.now.trees new.now.trees _ applied_assignment.1 (omega arith) (omega arith) sums_assignment.total sums_assignment.payment
-
-  stores_assignment : (Member (assignment_entry m t o) (records_of old.now.trees) → ⊥) → IsStore new.now
-  stores_assignment fresh = record {
-    ours = applied_assignment.0;
-    readings = subst (AllByRecursion IsReadingRow) (sym readings_assignment) store.readings;
-    assignments = subst (AllByRecursion IsAssignmentRow) (sym rows_assignment) (all-put_row IsAssignmentRow row_assignment (old.now.trees assignment_tree) (refl, (refl, refl)) store.assignments);
-    topups = subst (AllByRecursion IsTopupRow) (sym topups_assignment) store.topups;
-    once = inserted-once (assignment_entry m t o) (records_of old.now.trees) (records_of new.now.trees) adds_assignment fresh store.once;
-    points = subst (AreKeyed IsReadingRow key_in_point) (sym sums_assignment.point) store.points;
-    starts = subst (AreKeyed IsAssignmentRow key_in_start) (sym sums_assignment.start) store.starts;
-    energies = subst (AreKeyed IsEnergyRow energy_in) (sym sums_assignment.total) store.energies;
-    payments = subst (AreKeyed IsPaymentRow payment_in) (sym sums_assignment.payment) store.payments;
+  pub adds : (Member e (records_of old.now.trees) → ⊥) → Shows old new new.now old.committed true → Adds e old new
+  adds fresh shows = record {
+    store = stores fresh;
+    keeps = keeps;
+    content = with_record e old.now.trees new.now.trees inserted sums;
+    shows = shows;
   }
 
--- ---- whether it answered Ok or not
-pub adds_topup_if : (old new : State) (t : List ℕ) (a c i : ℕ) (r : Result ℕ Error) → IsStore old.now → IsTrue old.in_transaction → (Member (topup_entry t (record { 0 = a }) c i) (records_of old.now.trees) → ⊥) → Executes add_topup_text (topup_row t a c i) old new r → OnOk r (Adds (topup_entry t (record { 0 = a }) c i) old new)
-adds_topup_if old new t a c i (Err e) store inside fresh h = tt
-adds_topup_if old new t a c i (Ok n) store inside fresh h = record {
-  store = stores_topup old new t a c i n store h fresh;
-  keeps = keeps_topup old new t a c i n store h;
-  content = with_record (topup_entry t (record { 0 = a }) c i) old.now.trees new.now.trees (adds_topup old new t a c i n store h) (sums_topup old new t a c i n store h);
-  shows = insert_inside add_topup_text 3 5 four_terms add_topup_is old new store.ours (topup_row t a c i) n h inside;
-}
+-- ---- records of each kind, whether it answered Ok or not
+pub adds_topup_if : (old new : State) (t : List ℕ) (a c i : ℕ) (out : Result ℕ Error) → IsStore old.now → IsTrue old.in_transaction → (Member (topup_entry t (record { 0 = a }) c i) (records_of old.now.trees) → ⊥) → Executes add_topup_text (topup_row t a c i) old new out → OnOk out (Adds (topup_entry t (record { 0 = a }) c i) old new)
+adds_topup_if old new t a c i (Err f) store inside fresh h = tt
+adds_topup_if old new t a c i (Ok n) store inside fresh h =
+    let given : Row = Null ∷ topup_row t a c i in
+    let applied : HasInserted (topup_at topup_tree) given old new = inserts add_topup_text 3 (topup_row t a c i) old new store.ours n h (topup_at topup_tree) 5 four_terms given add_topup_is (λ o does. does) (λ _. refl) refl in
+    let row : Row = Int (next_rowid (old.now.trees topup_tree)) ∷ topup_row t a c i in
+    let rows : new.now.trees topup_tree ≡ put_row row (old.now.trees topup_tree) = applied.1.rows ∙ rw (cast_null, cast_int a, cast_int c, cast_int i) refl in
+    let free : is_taken (old.now.trees topup_tree) row ≡ false = (let was = rw cast_null at applied.1.fresh in was_not _ (and_first _ _ was)) in
+    adds TopUps (topup_at topup_tree) given row (topup_entry t (record { 0 = a }) c i) old new refl store applied rows free (refl, (refl, (refl, refl))) (refl) fresh
+    (insert_inside add_topup_text 3 5 four_terms add_topup_is old new store.ours (topup_row t a c i) n h inside)
 
 pub adds_reading_if : (old new : State) (m : MeterId) (r : Register) (t w : ℕ) (out : Result ℕ Error) → IsStore old.now → IsTrue old.in_transaction → (Member (reading_entry m r t w) (records_of old.now.trees) → ⊥) → Executes add_reading_text (reading_row m.0 (register_place r) t w) old new out → OnOk out (Adds (reading_entry m r t w) old new)
-adds_reading_if old new m r t w (Err e) store inside fresh h = tt
-adds_reading_if old new m r t w (Ok n) store inside fresh h = record {
-  store = stores_reading old new m r t w n store h fresh;
-  keeps = keeps_reading old new m r t w n store h;
-  content = with_record (reading_entry m r t w) old.now.trees new.now.trees (adds_reading old new m r t w n store h) (sums_reading old new m r t w n store h);
-  shows = insert_inside add_reading_text 1 5 four_terms add_reading_is old new store.ours (reading_row m.0 (register_place r) t w) n h inside;
-}
+adds_reading_if old new m r t w (Err f) store inside fresh h = tt
+adds_reading_if old new m r t w (Ok n) store inside fresh h =
+    let given : Row = Null ∷ reading_row m.0 (register_place r) t w in
+    let applied : HasInserted (reading_at reading_tree) given old new = inserts add_reading_text 1 (reading_row m.0 (register_place r) t w) old new store.ours n h (reading_at reading_tree) 5 four_terms given add_reading_is (λ o does. does) (λ _. refl) refl in
+    let row : Row = Int (next_rowid (old.now.trees reading_tree)) ∷ reading_row m.0 (register_place r) t w in
+    let rows : new.now.trees reading_tree ≡ put_row row (old.now.trees reading_tree) = applied.1.rows ∙ rw (cast_null, cast_int m.0, cast_int (register_place r), cast_int t, cast_int w) refl in
+    let free : is_taken (old.now.trees reading_tree) row ≡ false = (let was = rw cast_null at applied.1.fresh in was_not _ (and_first _ _ was)) in
+    adds Readings (reading_at reading_tree) given row (reading_entry m r t w) old new refl store applied rows free (refl, (ap (λ (s : Register). Int (pos (register_place s))) (sym (register_back r)), (refl, refl))) (ap (λ (s : Register). reading_entry m s t w) (register_back r)) fresh
+    (insert_inside add_reading_text 1 5 four_terms add_reading_is old new store.ours (reading_row m.0 (register_place r) t w) n h inside)
 
 pub adds_assignment_if : (old new : State) (m : MeterId) (t : ℕ) (o : Option AccountId) (out : Result ℕ Error) → IsStore old.now → IsTrue old.in_transaction → (Member (assignment_entry m t o) (records_of old.now.trees) → ⊥) → Executes add_assignment_text (assignment_row m.0 t (owner_place o)) old new out → OnOk out (Adds (assignment_entry m t o) old new)
-adds_assignment_if old new m t o (Err e) store inside fresh h = tt
-adds_assignment_if old new m t o (Ok n) store inside fresh h = record {
-  store = stores_assignment old new m t o n store h fresh;
-  keeps = keeps_assignment old new m t o n store h;
-  content = with_record (assignment_entry m t o) old.now.trees new.now.trees (adds_assignment old new m t o n store h) (sums_assignment old new m t o n store h);
-  shows = insert_inside add_assignment_text 2 4 three_terms add_assignment_is old new store.ours (assignment_row m.0 t (owner_place o)) n h inside;
-}
+adds_assignment_if old new m t o (Err f) store inside fresh h = tt
+adds_assignment_if old new m t o (Ok n) store inside fresh h =
+    let given : Row = Null ∷ assignment_row m.0 t (owner_place o) in
+    let applied : HasInserted (assignment_at assignment_tree) given old new = inserts add_assignment_text 2 (assignment_row m.0 t (owner_place o)) old new store.ours n h (assignment_at assignment_tree) 4 three_terms given add_assignment_is (λ o does. does) (λ _. refl) refl in
+    let row : Row = Int (next_rowid (old.now.trees assignment_tree)) ∷ assignment_row m.0 t (owner_place o) in
+    let rows : new.now.trees assignment_tree ≡ put_row row (old.now.trees assignment_tree) = applied.1.rows ∙ rw (cast_null, cast_int m.0, cast_int t, cast_int (owner_place o)) refl in
+    let free : is_taken (old.now.trees assignment_tree) row ≡ false = (let was = rw cast_null at applied.1.fresh in was_not _ (and_first _ _ was)) in
+    adds Assignments (assignment_at assignment_tree) given row (assignment_entry m t o) old new refl store applied rows free (refl, (refl, refl)) (ap (λ (p : Option AccountId). assignment_entry m t p) (owner_back o)) fresh
+    (insert_inside add_assignment_text 2 4 three_terms add_assignment_is old new store.ours (assignment_row m.0 t (owner_place o)) n h inside)
+
+pub adds_withdrawn_topup_if : (old new : State) (t : List ℕ) (a : AccountId) (c i : ℕ) (out : Result ℕ Error) → IsStore old.now → IsTrue old.in_transaction → (Member (withdrawal (named.TopUp t a c i)) (records_of old.now.trees) → ⊥) → Executes add_withdrawn_topup_text (topup_row t a.0 c i) old new out → OnOk out (Adds (withdrawal (named.TopUp t a c i)) old new)
+adds_withdrawn_topup_if old new t a c i (Err f) store inside fresh h = tt
+adds_withdrawn_topup_if old new t a c i (Ok n) store inside fresh h =
+    let given : Row = Null ∷ topup_row t a.0 c i in
+    let applied : HasInserted (withdrawn_topup_at withdrawn_topup_tree) given old new = inserts add_withdrawn_topup_text 10 (topup_row t a.0 c i) old new store.ours n h (withdrawn_topup_at withdrawn_topup_tree) 5 four_terms given add_withdrawn_topup_is (λ o does. does) (λ _. refl) refl in
+    let row : Row = Int (next_rowid (old.now.trees withdrawn_topup_tree)) ∷ topup_row t a.0 c i in
+    let rows : new.now.trees withdrawn_topup_tree ≡ put_row row (old.now.trees withdrawn_topup_tree) = applied.1.rows ∙ rw (cast_null, cast_int a.0, cast_int c, cast_int i) refl in
+    let free : is_taken (old.now.trees withdrawn_topup_tree) row ≡ false = (let was = rw cast_null at applied.1.fresh in was_not _ (and_first _ _ was)) in
+    adds WithdrawnTopUps (withdrawn_topup_at withdrawn_topup_tree) given row (withdrawal (named.TopUp t a c i)) old new refl store applied rows free (refl, (refl, (refl, refl))) (refl) fresh
+    (insert_inside add_withdrawn_topup_text 10 5 four_terms add_withdrawn_topup_is old new store.ours (topup_row t a.0 c i) n h inside)
+
+pub adds_withdrawn_reading_if : (old new : State) (m : MeterId) (r : Register) (t w : ℕ) (out : Result ℕ Error) → IsStore old.now → IsTrue old.in_transaction → (Member (withdrawal (named.Reading m r t w)) (records_of old.now.trees) → ⊥) → Executes add_withdrawn_reading_text (reading_row m.0 (register_place r) t w) old new out → OnOk out (Adds (withdrawal (named.Reading m r t w)) old new)
+adds_withdrawn_reading_if old new m r t w (Err f) store inside fresh h = tt
+adds_withdrawn_reading_if old new m r t w (Ok n) store inside fresh h =
+    let given : Row = Null ∷ reading_row m.0 (register_place r) t w in
+    let applied : HasInserted (withdrawn_reading_at withdrawn_reading_tree) given old new = inserts add_withdrawn_reading_text 8 (reading_row m.0 (register_place r) t w) old new store.ours n h (withdrawn_reading_at withdrawn_reading_tree) 5 four_terms given add_withdrawn_reading_is (λ o does. does) (λ _. refl) refl in
+    let row : Row = Int (next_rowid (old.now.trees withdrawn_reading_tree)) ∷ reading_row m.0 (register_place r) t w in
+    let rows : new.now.trees withdrawn_reading_tree ≡ put_row row (old.now.trees withdrawn_reading_tree) = applied.1.rows ∙ rw (cast_null, cast_int m.0, cast_int (register_place r), cast_int t, cast_int w) refl in
+    let free : is_taken (old.now.trees withdrawn_reading_tree) row ≡ false = (let was = rw cast_null at applied.1.fresh in was_not _ (and_first _ _ was)) in
+    adds WithdrawnReadings (withdrawn_reading_at withdrawn_reading_tree) given row (withdrawal (named.Reading m r t w)) old new refl store applied rows free (refl, (ap (λ (s : Register). Int (pos (register_place s))) (sym (register_back r)), (refl, refl))) (ap (λ (s : Register). withdrawal (named.Reading m s t w)) (register_back r)) fresh
+    (insert_inside add_withdrawn_reading_text 8 5 four_terms add_withdrawn_reading_is old new store.ours (reading_row m.0 (register_place r) t w) n h inside)
+
+pub adds_withdrawn_assignment_if : (old new : State) (m : MeterId) (t : ℕ) (o : Option AccountId) (out : Result ℕ Error) → IsStore old.now → IsTrue old.in_transaction → (Member (withdrawal (named.Assignment m t o)) (records_of old.now.trees) → ⊥) → Executes add_withdrawn_assignment_text (assignment_row m.0 t (owner_place o)) old new out → OnOk out (Adds (withdrawal (named.Assignment m t o)) old new)
+adds_withdrawn_assignment_if old new m t o (Err f) store inside fresh h = tt
+adds_withdrawn_assignment_if old new m t o (Ok n) store inside fresh h =
+    let given : Row = Null ∷ assignment_row m.0 t (owner_place o) in
+    let applied : HasInserted (withdrawn_assignment_at withdrawn_assignment_tree) given old new = inserts add_withdrawn_assignment_text 9 (assignment_row m.0 t (owner_place o)) old new store.ours n h (withdrawn_assignment_at withdrawn_assignment_tree) 4 three_terms given add_withdrawn_assignment_is (λ o does. does) (λ _. refl) refl in
+    let row : Row = Int (next_rowid (old.now.trees withdrawn_assignment_tree)) ∷ assignment_row m.0 t (owner_place o) in
+    let rows : new.now.trees withdrawn_assignment_tree ≡ put_row row (old.now.trees withdrawn_assignment_tree) = applied.1.rows ∙ rw (cast_null, cast_int m.0, cast_int t, cast_int (owner_place o)) refl in
+    let free : is_taken (old.now.trees withdrawn_assignment_tree) row ≡ false = (let was = rw cast_null at applied.1.fresh in was_not _ (and_first _ _ was)) in
+    adds WithdrawnAssignments (withdrawn_assignment_at withdrawn_assignment_tree) given row (withdrawal (named.Assignment m t o)) old new refl store applied rows free (refl, (refl, refl)) (ap (λ (p : Option AccountId). withdrawal (named.Assignment m t p)) (owner_back o)) fresh
+    (insert_inside add_withdrawn_assignment_text 9 4 three_terms add_withdrawn_assignment_is old new store.ours (assignment_row m.0 t (owner_place o)) n h inside)

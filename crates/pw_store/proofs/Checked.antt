@@ -26,9 +26,8 @@ use Rattle.pw_schema.specs.declared.kind.TotalKind.{TotalKind}
 use Rattle.pw_schema.specs.declared.kind.TotalKind.TheVariants.{Energies, Payments}
 use Rattle.pw_schema.specs.Rows.{told, Tells, told_key, number}
 use Rattle.pw_schema.specs.Judging.{AreKept, AreTotals, AreRowids, IsRecord, IsTotal, IsTotalOf, by_key, by_total, id_of, told_total}
-use Rattle.pw_store.specs.Content.{payment_in}
+use Rattle.pw_store.specs.Content.{payment_in, entry_in}
 use Rattle.pw_store.specs.Keyed.{HasRowid}
-use Rattle.pw_store.specs.Shown.{entry_in}
 use Rattle.pw_store.specs.inner.Lists.{shown}
 use Rattle.pw_store.specs.Opening.{HoldsKept, HoldsTotals, IsTotalRow, key_of_total}
 use Rattle.pw_store.specs.inner.Sums.{AreNumbered, TellsKept, TellsTotals, shown_id, shown_total, total_in_row}

@@ -110,7 +110,7 @@ module _ (old new : State) (o : Option AccountId) (b : BandId) (d : Direction) (
 
   pub takes : Makes (λ c. with_total c (total.Energy o b d) 0) old new
   takes = record {
-    store = store_kept old.now new.now deleted.0 (same_records own 11 old.now.trees new.now.trees (omega arith) others) store
+    store = store_kept old.now new.now deleted.0 (same_records own 11 old.now.trees new.now.trees (omega arith) (omega arith) others) store
         (subst (AreKeyed IsReadingRow key_in_point) (sym (others.1.1.1.1.0 (λ e. absurd (omega (arith, e))))) store.points)
         (subst (AreKeyed IsAssignmentRow key_in_start) (sym (others.1.1.1.1.1.0 (λ e. absurd (omega (arith, e))))) store.starts)
         (subst (AreKeyed IsEnergyRow energy_in) (sym left) (keyed_gone same_total same_total-decides energy_in (λ x. number (column x 4)) IsEnergyRow (total.Energy o b d) (old.now.trees 11) store.energies))
@@ -118,7 +118,7 @@ module _ (old new : State) (o : Option AccountId) (b : BandId) (d : Direction) (
     keeps = keeps_rows own _ old.now.trees new.now.trees _ deleted.1.2 (omega arith) (omega arith)
         (λ before all. fewer (IsOldEnergy before) (λ row. not (at_key o b d row)) (old.now.trees 11) (new.now.trees 11) left all)
         (λ before all. subst (AllByRecursion (IsOldPayment before)) (sym (others.1.1.1.1.1.1.1.0 (λ e. absurd (omega (arith, e))))) all);
-    content = content_with_total old.now.trees new.now.trees (total.Energy o b d) 0 (same_records own 11 old.now.trees new.now.trees (omega arith) others) (others.1.1.1.1.0 (λ e. absurd (omega (arith, e)))) (others.1.1.1.1.1.0 (λ e. absurd (omega (arith, e)))) told_left;
+    content = content_with_total old.now.trees new.now.trees (total.Energy o b d) 0 (same_records own 11 old.now.trees new.now.trees (omega arith) (omega arith) others) (others.1.1.1.1.0 (λ e. absurd (omega (arith, e)))) (others.1.1.1.1.1.0 (λ e. absurd (omega (arith, e)))) told_left;
     shows = delete_inside delete_total_text 6 delete_total_query delete_total_is old new store.ours (params o b d) count h inside;
   }
 
@@ -159,7 +159,7 @@ module _ (old new : State) (o : Option AccountId) (b : BandId) (d : Direction) (
 
   pub puts : Makes (λ c. with_total c (total.Energy o b d) v) old new
   puts = record {
-    store = store_kept old.now new.now inserted.0 (same_records checks 11 old.now.trees new.now.trees (omega arith) elsewhere) store
+    store = store_kept old.now new.now inserted.0 (same_records checks 11 old.now.trees new.now.trees (omega arith) (omega arith) elsewhere) store
         (subst (AreKeyed IsReadingRow key_in_point) (sym (elsewhere.1.1.1.1.0 (λ e. absurd (omega (arith, e))))) store.points)
         (subst (AreKeyed IsAssignmentRow key_in_start) (sym (elsewhere.1.1.1.1.1.0 (λ e. absurd (omega (arith, e))))) store.starts)
         (subst (AreKeyed IsEnergyRow energy_in) (sym put) (keyed_put same_total same_total-decides energy_in (λ x. number (column x 4)) IsEnergyRow (total.Energy o b d) row (old.now.trees 11) key_is (refl, (refl, (ap (λ (e : Direction). Int (pos (direction_place e))) (sym (direction_back d)), refl))) refl free unseen store.energies))
@@ -167,7 +167,7 @@ module _ (old new : State) (o : Option AccountId) (b : BandId) (d : Direction) (
     keeps = keeps_rows checks _ old.now.trees new.now.trees _ inserted.1 (omega arith) (omega arith)
         (λ before all. more (IsOldEnergy before) row (old.now.trees 11) (new.now.trees 11) put (λ none. absurd (omega (arith, above, none))) all)
         (λ before all. subst (AllByRecursion (IsOldPayment before)) (sym (elsewhere.1.1.1.1.1.1.1.0 (λ e. absurd (omega (arith, e))))) all);
-    content = content_with_total old.now.trees new.now.trees (total.Energy o b d) v (same_records checks 11 old.now.trees new.now.trees (omega arith) elsewhere) (elsewhere.1.1.1.1.0 (λ e. absurd (omega (arith, e)))) (elsewhere.1.1.1.1.1.0 (λ e. absurd (omega (arith, e)))) told_put;
+    content = content_with_total old.now.trees new.now.trees (total.Energy o b d) v (same_records checks 11 old.now.trees new.now.trees (omega arith) (omega arith) elsewhere) (elsewhere.1.1.1.1.0 (λ e. absurd (omega (arith, e)))) (elsewhere.1.1.1.1.1.0 (λ e. absurd (omega (arith, e)))) told_put;
     shows = insert_inside insert_total_text 6 5 four_terms insert_total_is old new store.ours given count h inside;
   }
 

@@ -1,5 +1,5 @@
 -- Whether a record is among the rows, by the test that a query makes.
-use Rattle.std.proofs.Common.{add-one, arith, ◌≡◌, inl, inr, ℕ, zero, suc, ◌<◌, List, [], ◌∷◌, ◌++◌, map, length, Bool, true, false, ◌&&◌, Vec, Result, Ok, Err, IfOk, refl, sym, ap, subst, ◌∙◌, Ordering, Less, Equal, Greater, nat_cmp, None, Option}
+use Rattle.std.proofs.Common.{add-one, arith, ◌≡◌, inl, inr, ℕ, zero, suc, ◌<◌, List, [], ◌∷◌, map, length, Bool, true, false, ◌&&◌, Vec, Result, Ok, Err, IfOk, refl, sym, ap, ◌∙◌, Ordering, Less, Equal, Greater, nat_cmp, None, Option}
 use Rattle.std.specs.List.{AllByRecursion, filter, list_all}
 use Rattle.std.specs.Ordering.{is_eq}
 use Rattle.std.specs.Cmp.{nat_cmp_is}
@@ -11,8 +11,7 @@ use Rattle.std.proofs.lemmas.Cmp.{tied_itself}
 use Rattle.sqlite.specs.declared.error.Error.{Error}
 use Rattle.sqlite.specs.Order.{Row, column}
 use Rattle.sqlite.specs.Term.{holds}
-use Rattle.sqlite.specs.Tree.{Trees}
-use Rattle.sqlite.specs.Query.{Output, output}
+use Rattle.sqlite.specs.Query.{Query, Output, output, page}
 use Rattle.sqlite.specs.State.{State, Shown}
 use Rattle.pw_obis.specs.declared.reference.Register.{Register}
 use Rattle.pw_obis.specs.declared.reference.Register.TheVariants.{I0}
@@ -25,15 +24,20 @@ use Rattle.pw_model.specs.declared.records.Key.TheVariants as key
 use Rattle.pw_model.specs.declared.records.Content.{Content}
 use Rattle.pw_model.specs.declared.records.Content.TheVariants as content
 use Rattle.pw_model.specs.declared.records.Entry.{Entry}
-use Rattle.pw_model.specs.Counting.{Member}
+use Rattle.pw_model.specs.declared.records.Named.{Named}
+use Rattle.pw_model.specs.declared.records.Named.TheVariants as named
+use Rattle.pw_model.specs.Counting.{Member, named_entry}
 use Rattle.pw_model.proofs.EntryOrder.{numbers-tie}
-use Rattle.pw_schema.specs.Rows.{text, number, register_at, owner_at}
+use Rattle.pw_schema.specs.Rows.{text, number, register_at, owner_at, withdrawal}
 use Rattle.pw_store.specs.inner.Records.{topup_row, topup_entry, reading_row, reading_entry, assignment_row, assignment_entry}
-use Rattle.pw_store.specs.Content.{topup_in, reading_in, assignment_in, records_of, topup_tree, reading_tree, assignment_tree, IsTopupRow, IsReadingRow, IsAssignmentRow}
+use Rattle.pw_store.specs.Content.{topup_in, reading_in, assignment_in, entry_in, records_of, tree_of, IsTopupRow, IsReadingRow, IsAssignmentRow, IsRowOf}
 use Rattle.pw_store.specs.Kept.{IsStore}
-use Rattle.pw_store.proofs.Texts.{has_topup_text, has_topup_query, has_topup_is, has_reading_text, has_reading_query, has_reading_is, has_assignment_text, has_assignment_query, has_assignment_is}
+use Rattle.pw_schema.specs.declared.kind.RecordKind.{RecordKind}
+use Rattle.pw_schema.specs.declared.kind.RecordKind.TheVariants.{Readings, Assignments, TopUps, WithdrawnReadings, WithdrawnAssignments, WithdrawnTopUps}
+use Rattle.pw_store.proofs.Texts.{IsQuery, has_withdrawn_topup_text, has_withdrawn_topup_query, has_withdrawn_topup_is, has_withdrawn_reading_text, has_withdrawn_reading_query, has_withdrawn_reading_is, has_withdrawn_assignment_text, has_withdrawn_assignment_query, has_withdrawn_assignment_is, has_topup_text, has_topup_query, has_topup_is, has_reading_text, has_reading_query, has_reading_is, has_assignment_text, has_assignment_query, has_assignment_is}
 use Rattle.pw_store.proofs.Scans.{equal_ints, equal_texts, tied, scan_of, outputs, passing}
-use Rattle.pw_store.proofs.Lists.{seen, member_in, member_behind, topup_records, records_topup}
+use Rattle.pw_store.proofs.Lists.{seen}
+use Rattle.pw_store.proofs.OfKinds.{from_table, in_table, kind_at}
 use Rattle.pw_store.proofs.Adding.{owner_back, register_back}
 
 -- ---- tests in a row
@@ -83,7 +87,7 @@ abbrev pub reference_of : Key → List ℕ
 reference_of (key.TopUp r) = r
 reference_of _ = []
 
-abbrev number_in : ℕ → Content → ℕ
+abbrev pub number_in : ℕ → Content → ℕ
 number_in zero (content.TopUp a c t) = a.0
 number_in (suc zero) (content.TopUp a c t) = c
 number_in _ (content.TopUp a c t) = t
@@ -145,64 +149,35 @@ shown_many q tree params table =
     ∙ length-map (map (λ r. params ∷ r ∷ []) (passing params q.filter table)) (output (scan_of tree q))
     ∙ length-map (passing params q.filter table) (λ (r : Row). params ∷ r ∷ [])
 
+-- the rows that a query over the table of a kind shows, where those pass whose record is this one
+pub finds_kind : (k : RecordKind) (text : List ℕ) (q : Query) (it : IsQuery text (scan_of (tree_of k) q)) (params : Row) (e : Entry) → ((xs : List Row) → page (scan_of (tree_of k) q) params xs ≡ xs) → kind_at e.key ≡ k
+    → ((r : Row) → IsRowOf k r → (list_all (holds (params ∷ r ∷ [])) q.filter ≡ true → entry_in k r ≡ e) × (entry_in k r ≡ e → list_all (holds (params ∷ r ∷ [])) q.filter ≡ true))
+    → (old new : State) (rows : List Row) → IsStore old.now → Shown text params old new rows
+    → (0 < length rows → Member e (records_of old.now.trees)) × (Member e (records_of old.now.trees) → 0 < length rows)
+finds_kind k text q it params e whole is each old new rows store h =
+    let table = old.now.trees (tree_of k) in
+    let p : Row → Bool = λ r. list_all (holds (params ∷ r ∷ [])) q.filter in
+    let s = seen text (tree_of k) q it params old new rows store.ours h in
+    let many : length rows ≡ length (filter p table) = ap length (s.2 ∙ whole _) ∙ length_permutation _ _ s.1 ∙ shown_many q (tree_of k) params table in (
+      λ lt. from_table old.now.trees e k (some_member (entry_in k) p (IsRowOf k) e each table (store.rows k) (omega (arith, lt, many))),
+      λ m. (let lt = member_some (entry_in k) p (IsRowOf k) e each table (store.rows k) (in_table old.now.trees e k is m) in omega (arith, lt, many)),
+    )
+
+pub finds_if : {Z : Type 0} (text : List ℕ) (params : Row) (e : Entry) (old new : State)
+    → ((rows : List Row) → IsStore old.now → Shown text params old new rows → (0 < length rows → Member e (records_of old.now.trees)) × (Member e (records_of old.now.trees) → 0 < length rows))
+    → (r : Result (Vec Row Z) Error) → IsStore old.now → IfOk r (λ rows. Shown text params old new rows.items)
+    → IfOk r (λ rows. (0 < length rows.items → Member e (records_of old.now.trees)) × (Member e (records_of old.now.trees) → 0 < length rows.items))
+finds_if text params e old new finds (Ok rows) store h = finds rows.items store h
+finds_if text params e old new finds (Err f) store h = tt
+
 pub finds_topup : (old new : State) (t : List ℕ) (a c i : ℕ) (rows : List Row) → IsStore old.now → Shown has_topup_text (topup_row t a c i) old new rows
     → (0 < length rows → Member (topup_entry t (record { 0 = a }) c i) (records_of old.now.trees)) × (Member (topup_entry t (record { 0 = a }) c i) (records_of old.now.trees) → 0 < length rows)
-finds_topup old new t a c i rows store h =
-    let table = old.now.trees topup_tree in
-    let e = topup_entry t (record { 0 = a }) c i in
-    let s = seen has_topup_text 5 has_topup_query has_topup_is (topup_row t a c i) old new rows store.ours h in
-    let many : length rows ≡ length (filter (passes t a c i) table) = ap length s.2 ∙ length_permutation _ _ s.1 ∙ shown_many has_topup_query 5 (topup_row t a c i) table in (
-      λ lt. records_topup old.now.trees e (some_member topup_in (passes t a c i) IsTopupRow e (each_topup t a c i) table store.topups (omega (arith, lt, many))),
-      λ m. (let lt = member_some topup_in (passes t a c i) IsTopupRow e (each_topup t a c i) table store.topups (topup_records old.now.trees e m tt) in omega (arith, lt, many)),
-    )
+finds_topup old new t a c i rows store h = finds_kind TopUps has_topup_text has_topup_query has_topup_is (topup_row t a c i) (topup_entry t (record { 0 = a }) c i) (λ xs. refl) refl (each_topup t a c i) old new rows store h
 
 pub finds_topup_if : {Z : Type 0} (old new : State) (t : List ℕ) (a c i : ℕ) (r : Result (Vec Row Z) Error) → IsStore old.now → IfOk r (λ rows. Shown has_topup_text (topup_row t a c i) old new rows.items)
     → IfOk r (λ rows. (0 < length rows.items → Member (topup_entry t (record { 0 = a }) c i) (records_of old.now.trees)) × (Member (topup_entry t (record { 0 = a }) c i) (records_of old.now.trees) → 0 < length rows.items))
 finds_topup_if old new t a c i (Ok rows) store h = finds_topup old new t a c i rows.items store h
 finds_topup_if old new t a c i (Err e) store h = tt
-
--- ---- kinds of keys
-abbrev pub IsReading : Key → Type 0
-IsReading (key.Reading m r t) = Unit {0}
-IsReading _ = ⊥
-
-abbrev pub IsAssignment : Key → Type 0
-IsAssignment (key.Assignment m t) = Unit {0}
-IsAssignment _ = ⊥
-
-none_in : (f : Row → Entry) (P : Key → Type 0) → ((r : Row) → P (f r).key → ⊥) → (rows : List Row) (x : Entry) → Member x (map f rows) → P x.key → ⊥
-none_in f P never [] x m is = m
-none_in f P never (r ∷ rows) x (inl i) is = never r (subst (λ (e : Entry). P e.key) i is)
-none_in f P never (r ∷ rows) x (inr m) is = none_in f P never rows x m is
-
-front : (x : Entry) (xs ys : List Entry) → Member x xs → Member x (xs ++ ys)
-front x [] ys m = absurd m
-front x (z ∷ xs) ys (inl i) = inl i
-front x (z ∷ xs) ys (inr m) = inr (front x xs ys m)
-
-pub reading_records : (db : Trees) (x : Entry) → Member x (records_of db) → IsReading x.key → Member x (map reading_in (db reading_tree))
-reading_records db x m is = elim (member_in x (map reading_in (db reading_tree)) _ m) [
-  | inl a ↦ a
-  | inr b ↦ elim (member_in x (map assignment_in (db assignment_tree)) _ b) [
-    | inl c ↦ absurd (none_in assignment_in IsReading (λ r k. k) (db assignment_tree) x c is)
-    | inr d ↦ absurd (none_in topup_in IsReading (λ r k. k) (db topup_tree) x d is)
-  ]
-]
-
-pub records_reading : (db : Trees) (x : Entry) → Member x (map reading_in (db reading_tree)) → Member x (records_of db)
-records_reading db x m = front x (map reading_in (db reading_tree)) _ m
-
-pub assignment_records : (db : Trees) (x : Entry) → Member x (records_of db) → IsAssignment x.key → Member x (map assignment_in (db assignment_tree))
-assignment_records db x m is = elim (member_in x (map reading_in (db reading_tree)) _ m) [
-  | inl a ↦ absurd (none_in reading_in IsAssignment (λ r k. k) (db reading_tree) x a is)
-  | inr b ↦ elim (member_in x (map assignment_in (db assignment_tree)) _ b) [
-    | inl c ↦ c
-    | inr d ↦ absurd (none_in topup_in IsAssignment (λ r k. k) (db topup_tree) x d is)
-  ]
-]
-
-pub records_assignment : (db : Trees) (x : Entry) → Member x (map assignment_in (db assignment_tree)) → Member x (records_of db)
-records_assignment db x m = member_behind x (map reading_in (db reading_tree)) _ (front x (map assignment_in (db assignment_tree)) _ m)
 
 -- ---- readings
 module _ (m : MeterId) (g : Register) (i v : ℕ) where
@@ -234,14 +209,7 @@ module _ (m : MeterId) (g : Register) (i v : ℕ) where
 
 pub finds_reading : (old new : State) (m : MeterId) (g : Register) (i v : ℕ) (rows : List Row) → IsStore old.now → Shown has_reading_text (reading_row m.0 (register_place g) i v) old new rows
     → (0 < length rows → Member (reading_entry m g i v) (records_of old.now.trees)) × (Member (reading_entry m g i v) (records_of old.now.trees) → 0 < length rows)
-finds_reading old new m g i v rows store h =
-    let table = old.now.trees reading_tree in
-    let e = reading_entry m g i v in
-    let s = seen has_reading_text 1 has_reading_query has_reading_is (reading_row m.0 (register_place g) i v) old new rows store.ours h in
-    let many : length rows ≡ length (filter (passes_reading m g i v) table) = ap length s.2 ∙ length_permutation _ _ s.1 ∙ shown_many has_reading_query 1 (reading_row m.0 (register_place g) i v) table in (
-      λ lt. records_reading old.now.trees e (some_member reading_in (passes_reading m g i v) IsReadingRow e (each_reading m g i v) table store.readings (omega (arith, lt, many))),
-      λ k. (let lt = member_some reading_in (passes_reading m g i v) IsReadingRow e (each_reading m g i v) table store.readings (reading_records old.now.trees e k tt) in omega (arith, lt, many)),
-    )
+finds_reading old new m g i v rows store h = finds_kind Readings has_reading_text has_reading_query has_reading_is (reading_row m.0 (register_place g) i v) (reading_entry m g i v) (λ xs. refl) refl (each_reading m g i v) old new rows store h
 
 pub finds_reading_if : {Z : Type 0} (old new : State) (m : MeterId) (g : Register) (i v : ℕ) (r : Result (Vec Row Z) Error) → IsStore old.now → IfOk r (λ rows. Shown has_reading_text (reading_row m.0 (register_place g) i v) old new rows.items)
     → IfOk r (λ rows. (0 < length rows.items → Member (reading_entry m g i v) (records_of old.now.trees)) × (Member (reading_entry m g i v) (records_of old.now.trees) → 0 < length rows.items))
@@ -282,16 +250,53 @@ module _ (m : MeterId) (i : ℕ) (o : Option AccountId) where
 
 pub finds_assignment : (old new : State) (m : MeterId) (i : ℕ) (o : Option AccountId) (rows : List Row) → IsStore old.now → Shown has_assignment_text (assignment_row m.0 i (owner_place o)) old new rows
     → (0 < length rows → Member (assignment_entry m i o) (records_of old.now.trees)) × (Member (assignment_entry m i o) (records_of old.now.trees) → 0 < length rows)
-finds_assignment old new m i o rows store h =
-    let table = old.now.trees assignment_tree in
-    let e = assignment_entry m i o in
-    let s = seen has_assignment_text 3 has_assignment_query has_assignment_is (assignment_row m.0 i (owner_place o)) old new rows store.ours h in
-    let many : length rows ≡ length (filter (passes_assignment m i o) table) = ap length s.2 ∙ length_permutation _ _ s.1 ∙ shown_many has_assignment_query 3 (assignment_row m.0 i (owner_place o)) table in (
-      λ lt. records_assignment old.now.trees e (some_member assignment_in (passes_assignment m i o) IsAssignmentRow e (each_assignment m i o) table store.assignments (omega (arith, lt, many))),
-      λ k. (let lt = member_some assignment_in (passes_assignment m i o) IsAssignmentRow e (each_assignment m i o) table store.assignments (assignment_records old.now.trees e k tt) in omega (arith, lt, many)),
-    )
+finds_assignment old new m i o rows store h = finds_kind Assignments has_assignment_text has_assignment_query has_assignment_is (assignment_row m.0 i (owner_place o)) (assignment_entry m i o) (λ xs. refl) refl (each_assignment m i o) old new rows store h
 
 pub finds_assignment_if : {Z : Type 0} (old new : State) (m : MeterId) (i : ℕ) (o : Option AccountId) (r : Result (Vec Row Z) Error) → IsStore old.now → IfOk r (λ rows. Shown has_assignment_text (assignment_row m.0 i (owner_place o)) old new rows.items)
     → IfOk r (λ rows. (0 < length rows.items → Member (assignment_entry m i o) (records_of old.now.trees)) × (Member (assignment_entry m i o) (records_of old.now.trees) → 0 < length rows.items))
 finds_assignment_if old new m i o (Ok rows) store h = finds_assignment old new m i o rows.items store h
 finds_assignment_if old new m i o (Err e) store h = tt
+
+-- ---- withdrawals: a row tells one where it would tell the record that is named
+-- of a record its withdrawal, and of a withdrawal its record
+abbrev name_of : Key → Content → Named
+name_of (key.Reading m r t) c = named.Reading m r t (wh_in c)
+name_of (key.Assignment m t) c = named.Assignment m t (owner_in c)
+name_of (key.TopUp r) c = named.TopUp r (record { 0 = number_in 0 c }) (number_in 1 c) (number_in 2 c)
+name_of (key.Withdrawal n) c = n
+
+abbrev pub withdrawn_as : Entry → Entry
+withdrawn_as e = withdrawal (name_of e.key e.content)
+
+abbrev record_of : Entry → Key → Entry
+record_of e (key.Withdrawal n) = named_entry n
+record_of e k = e
+
+abbrev pub named_by : Entry → Entry
+named_by e = record_of e e.key
+
+pub each_named : (k j : RecordKind) (IsRow : Row → Type 0) (p : Row → Bool) (e : Entry) → ((r : Row) → withdrawn_as (entry_in k r) ≡ entry_in j r) → ((r : Row) → named_by (entry_in j r) ≡ entry_in k r) → named_by (withdrawn_as e) ≡ e
+    → ((r : Row) → IsRow r → (p r ≡ true → entry_in k r ≡ e) × (entry_in k r ≡ e → p r ≡ true))
+    → (r : Row) → IsRow r → (p r ≡ true → entry_in j r ≡ withdrawn_as e) × (entry_in j r ≡ withdrawn_as e → p r ≡ true)
+each_named k j IsRow p e named by back each r it = (
+  λ hit. sym (named r) ∙ ap withdrawn_as ((each r it).0 hit),
+  λ same. (each r it).1 (sym (by r) ∙ ap named_by same ∙ back),
+)
+
+pub finds_withdrawn_reading : (old new : State) (m : MeterId) (g : Register) (i v : ℕ) (rows : List Row) → IsStore old.now → Shown has_withdrawn_reading_text (reading_row m.0 (register_place g) i v) old new rows
+    → (0 < length rows → Member (withdrawal (named.Reading m g i v)) (records_of old.now.trees)) × (Member (withdrawal (named.Reading m g i v)) (records_of old.now.trees) → 0 < length rows)
+finds_withdrawn_reading old new m g i v rows store h =
+    finds_kind WithdrawnReadings has_withdrawn_reading_text has_withdrawn_reading_query has_withdrawn_reading_is (reading_row m.0 (register_place g) i v) (withdrawal (named.Reading m g i v)) (λ xs. refl) refl
+    (each_named Readings WithdrawnReadings IsReadingRow _ (reading_entry m g i v) (λ r. refl) (λ r. refl) refl (each_reading m g i v)) old new rows store h
+
+pub finds_withdrawn_assignment : (old new : State) (m : MeterId) (i : ℕ) (o : Option AccountId) (rows : List Row) → IsStore old.now → Shown has_withdrawn_assignment_text (assignment_row m.0 i (owner_place o)) old new rows
+    → (0 < length rows → Member (withdrawal (named.Assignment m i o)) (records_of old.now.trees)) × (Member (withdrawal (named.Assignment m i o)) (records_of old.now.trees) → 0 < length rows)
+finds_withdrawn_assignment old new m i o rows store h =
+    finds_kind WithdrawnAssignments has_withdrawn_assignment_text has_withdrawn_assignment_query has_withdrawn_assignment_is (assignment_row m.0 i (owner_place o)) (withdrawal (named.Assignment m i o)) (λ xs. refl) refl
+    (each_named Assignments WithdrawnAssignments IsAssignmentRow _ (assignment_entry m i o) (λ r. refl) (λ r. refl) refl (each_assignment m i o)) old new rows store h
+
+pub finds_withdrawn_topup : (old new : State) (t : List ℕ) (a : AccountId) (c i : ℕ) (rows : List Row) → IsStore old.now → Shown has_withdrawn_topup_text (topup_row t a.0 c i) old new rows
+    → (0 < length rows → Member (withdrawal (named.TopUp t a c i)) (records_of old.now.trees)) × (Member (withdrawal (named.TopUp t a c i)) (records_of old.now.trees) → 0 < length rows)
+finds_withdrawn_topup old new t a c i rows store h =
+    finds_kind WithdrawnTopUps has_withdrawn_topup_text has_withdrawn_topup_query has_withdrawn_topup_is (topup_row t a.0 c i) (withdrawal (named.TopUp t a c i)) (λ xs. refl) refl
+    (each_named TopUps WithdrawnTopUps IsTopupRow _ (topup_entry t a c i) (λ r. refl) (λ r. refl) refl (each_topup t a.0 c i)) old new rows store h

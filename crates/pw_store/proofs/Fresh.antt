@@ -1,5 +1,5 @@
 -- What `open` makes where nothing was there may be opened.
-use Rattle.std.proofs.Common.{◌≡◌, ◌⊎◌, inl, inr, unwrap_or, ℕ, IsTrue, cond, List, [], ◌∷◌, refl, sym, ap, subst, ◌∙◌, ◌≤◌, length, arith}
+use Rattle.std.proofs.Common.{◌≡◌, inr, unwrap_or, ℕ, IsTrue, cond, List, [], ◌∷◌, refl, sym, ap, subst, ◌∙◌, ◌≤◌, length, arith}
 use Rattle.std.specs.List.{AllByRecursion}
 use Rattle.std.specs.List.Sorted.{IsPermutation}
 use Rattle.std.proofs.lemmas.List.Sorted.{IsPermutation-refl}
@@ -12,7 +12,9 @@ use Rattle.pw_model.specs.Counting.{EachOnce, Member}
 use Rattle.pw_schema.specs.Fresh.{IsFresh, IsNew, office_row}
 use Rattle.pw_schema.specs.Judging.{IsTotalOf, KeepsOffice}
 use Rattle.pw_schema.specs.Tables.{IsOurs, no_schema}
-use Rattle.pw_store.specs.Content.{records_of, energy_in, payment_in, IsReadingRow, IsAssignmentRow, IsTopupRow}
+use Rattle.pw_schema.specs.declared.kind.RecordKind.{RecordKind}
+use Rattle.pw_schema.specs.declared.kind.RecordKind.TheVariants.{Readings, Assignments, TopUps, WithdrawnReadings, WithdrawnAssignments, WithdrawnTopUps}
+use Rattle.pw_store.specs.Content.{records_of, energy_in, payment_in, IsReadingRow, IsAssignmentRow, IsTopupRow, IsRowOf, tree_of}
 use Rattle.pw_shelf.specs.Left.{LeavesOnly}
 use Rattle.sqlite.specs.Order.{Row}
 use Rattle.pw_model.specs.declared.records.TotalKey.{TotalKey}
@@ -23,7 +25,7 @@ use Rattle.pw_store.specs.Content.{content_of, point_in, start_in, total_in, ene
 use Rattle.pw_store.specs.Kept.{IsStore, key_in_point, key_in_start, held_of, left_of}
 use Rattle.pw_store.specs.Keyed.{AreKeyed, IsEnergyRow, IsPaymentRow}
 use Rattle.pw_store.specs.Content.{content_of}
-use Rattle.pw_store.specs.Opening.{KeepsText, offices, shown_office}
+use Rattle.pw_store.specs.Opening.{IsFound, KeepsText, offices, shown_office}
 use Rattle.pw_store.specs.inner.Opened.{MayOpen, IsOpened}
 use Rattle.pw_schema.specs.Fresh.{IsIdleAt}
 use Rattle.pw_store.proofs.Scans.{equal_ints}
@@ -33,7 +35,7 @@ module _ (body : List ℕ) (db : Database) (new : IsNew body db) where
   fresh = new.fresh
 
   pub fresh_records : records_of db.trees ≡ []
-  fresh_records = rw (fresh.reading, fresh.assignment, fresh.topup) refl
+  fresh_records = rw (fresh.reading, fresh.assignment, fresh.topup, fresh.withdrawn_reading, fresh.withdrawn_assignment, fresh.withdrawn_topup) refl
 
   fresh_totals : total_in db.trees ≡ (λ k. 0)
   fresh_totals = λ i k. go k i
@@ -50,12 +52,18 @@ module _ (body : List ℕ) (db : Database) (new : IsNew body db) where
     total = fresh_totals i;
   }
 
+  fresh_rows : (k : RecordKind) → AllByRecursion (IsRowOf k) (db.trees (tree_of k))
+  fresh_rows Readings = subst (AllByRecursion IsReadingRow) (sym fresh.reading) tt
+  fresh_rows Assignments = subst (AllByRecursion IsAssignmentRow) (sym fresh.assignment) tt
+  fresh_rows TopUps = subst (AllByRecursion IsTopupRow) (sym fresh.topup) tt
+  fresh_rows WithdrawnReadings = subst (AllByRecursion IsReadingRow) (sym fresh.withdrawn_reading) tt
+  fresh_rows WithdrawnAssignments = subst (AllByRecursion IsAssignmentRow) (sym fresh.withdrawn_assignment) tt
+  fresh_rows WithdrawnTopUps = subst (AllByRecursion IsTopupRow) (sym fresh.withdrawn_topup) tt
+
   fresh_store : IsStore db
   fresh_store = record {
     ours = fresh.schema_is;
-    readings = subst (AllByRecursion IsReadingRow) (sym fresh.reading) tt;
-    assignments = subst (AllByRecursion IsAssignmentRow) (sym fresh.assignment) tt;
-    topups = subst (AllByRecursion IsTopupRow) (sym fresh.topup) tt;
+    rows = fresh_rows;
     once = subst EachOnce (sym fresh_records) tt;
     points = subst (AreKeyed IsReadingRow key_in_point) (sym fresh.point) (record { each = tt; ids = tt; numbered = tt; once = tt });
     starts = subst (AreKeyed IsAssignmentRow key_in_start) (sym fresh.start) (record { each = tt; ids = tt; numbered = tt; once = tt });
@@ -94,14 +102,8 @@ pub left_alone : (s base : State) (office : OfficeRules) (body : List ℕ) (befo
 left_alone s base office body before it law c l =
     sym l.2 ∙ ap content_of (law l.0 it.is_open l.1 ∙ sym (ap (λ (d : Database). d.trees) it.settled)) ∙ sym (ap (λ b. content_of (cond b s.now.trees base.committed.trees)) it.is_open)
 
-pub open_content : (s base : State) (office : OfficeRules) (body : List ℕ) (before : Database) → IsOpened office body before s
-    → (held_of s base ≡ content_of before.trees) ⊎ ((before.schema ≡ no_schema) × (held_of s base ≡ no_content))
-open_content s base office body before it =
-    let held : held_of s base ≡ content_of s.now.trees = ap (λ b. content_of (cond b s.now.trees base.committed.trees)) it.is_open in
-    elim it.found [
-      | inl same ↦ inl (held ∙ ap (λ (d : Database). content_of d.trees) same)
-      | inr none ↦ inr (none.0, held ∙ none.1)
-    ]
+pub open_content : (s base : State) (office : OfficeRules) (body : List ℕ) (before : Database) → IsOpened office body before s → IsFound before (held_of s base)
+open_content s base office body before it = subst (IsFound before) (sym (ap (λ b. content_of (cond b s.now.trees base.committed.trees)) it.is_open)) it.found
 
 pub open_few : (s base : State) (office : OfficeRules) (body : List ℕ) (before : Database) → IsOpened office body before s → length (held_of s base).records ≤ most_records
 open_few s base office body before it = subst (λ b. length (records_of (cond b s.now.trees base.committed.trees)) ≤ most_records) (sym it.is_open) it.may_open.few

@@ -21,7 +21,7 @@ use Rattle.pw_tariff.proofs.Answered.{bands-of, office-sound}
 use Rattle.pw_model.specs.declared.records.TotalKey.TheVariants as total
 use Rattle.pw_model.specs.Counting.{Member}
 use Rattle.pw_model.specs.Office.{AllOfOffice, HasBands, HasOwner}
-use Rattle.pw_model.specs.Shelf.{IsTrueContent, ShelfContent, no_content, total_among}
+use Rattle.pw_model.specs.Shelf.{IsTrueContent, ShelfContent, total_among}
 use Rattle.pw_model.proofs.Foreign.{foreign-totals_are_none}
 use Rattle.pw_shelf.specs.Changes.{same_total}
 use Rattle.sqlite.specs.Listing.{shown}
@@ -29,18 +29,19 @@ use Rattle.sqlite_rules.specs.Edit.{put_all}
 use Rattle.pw_schema.specs.Conflicts.{AreWithoutConflict, IsWithoutConflict, only_text}
 use Rattle.pw_schema.specs.Judging.{IsTotalOf}
 use Rattle.pw_schema.specs.Rows.{direction_at, number, owner_at}
-use Rattle.pw_schema.specs.Tables.{IsOurs, no_schema}
+use Rattle.pw_schema.specs.Tables.{IsOurs}
+use Rattle.pw_schema.specs.declared.kind.StoreVersion.TheVariants.{Second}
 use Rattle.pw_store.specs.declared.fault.OpenFault.{OpenFault}
 use Rattle.pw_store.specs.declared.fault.OpenFault.TheVariants.{Store, Memory}
 use Rattle.pw_store.specs.Content.{content_of, energy_in, energy_told, payment_in, payment_told, payment_tree, records_of, total_in, total_tree}
 use Rattle.pw_store.specs.Left.{IsLeftBehind, IsLeftSound, IsOldEnergy, IsOldPayment, Keeps, KeepsOpened, LeftOpens}
-use Rattle.pw_store.specs.Opening.{HasRows, IsOpenable, KeepsText, NamesOffice, Refuses, offices, shown_office}
+use Rattle.pw_store.specs.Opening.{HasRows, IsFound, IsOpenable, KeepsText, NamesOffice, Refuses, offices, shown_office}
 use Rattle.pw_store.proofs.KeyedRows.{row_told, told_row}
 use Rattle.pw_store.proofs.LeftStores.{all_members}
 use Rattle.pw_store.proofs.Neighbours.{all_member}
 use Rattle.pw_store.proofs.Openable.{opens}
 use Rattle.pw_store.proofs.Others.{same_total-decides}
-use Rattle.pw_store.proofs.Reopening.{not_nothing}
+use Rattle.pw_store.proofs.Reopening.{found_ours}
 
 something : {A : Type 0} (o : Option A) → (o ≡ None → ⊥) → (a : A) × (o ≡ Some a)
 something None some = absurd (some refl)
@@ -74,7 +75,7 @@ module _ (office : OfficeRules) (bands : HasBands office) (db : Trees) (of : All
   ]
 
   -- ---- each total that is kept does
-  module _ (before : Trees) (keeps : Keeps before db) (rows : HasRows db) (named : NamesOffice office before) (truth : IsTrueContent office (content_of db)) where
+  module _ (before : Trees) (keeps : Keeps before db) (rows : HasRows Second db) (named : NamesOffice office before) (truth : IsTrueContent office (content_of db)) where
     energy_named : (r : Row) → Member r (db total_tree) → IsTotalOf office (energy_in r)
     energy_named r m = elim (cases_lt 0 (number (column r 4))) [
       | inl above ↦ (
@@ -121,13 +122,13 @@ keeps_plain before db keeps plain = subst (λ (rows : List Row). AllByRecursion 
 
 -- ---- what is left
 module _ (s opened : State) (was : KeepsOpened s opened) (office : OfficeFile) (body : List ℕ) (found : Database) (is : IsOfficeOf body office) (it : IsLeftSound s opened (office_of office) body found) where
-  left : HasRows found.trees × Keeps opened.now.trees found.trees
+  left : HasRows Second found.trees × Keeps opened.now.trees found.trees
   left = (was it.clean).left found.trees it.left
 
   ours : IsOurs found.schema
   ours = (was it.clean).ours found it.database left.1.listed
 
-  pub openable : IsOpenable (office_of office) body found
+  pub openable : IsOpenable Second (office_of office) body found
   openable = record {
     ours = record { schema_is = ours; plain = keeps_plain opened.now.trees found.trees left.1 it.text.1.1 };
     text = keeps_text _ opened.now.trees found.trees left.1 it.text.0;
@@ -138,11 +139,11 @@ module _ (s opened : State) (was : KeepsOpened s opened) (office : OfficeFile) (
     truth = it.sound.truth;
   }
 
-  pub not_none : found.schema ≡ no_schema → ⊥
-  not_none none = not_nothing found.schema ours none
+  pub left_ours : IsOurs found.schema
+  left_ours = ours
 
 pub left_opens : (s opened : State) → KeepsOpened s opened → LeftOpens s opened
-left_opens s opened was office body found is it fault = opens (office_of office) body found fault (openable s opened was office body found is it)
+left_opens s opened was office body found is it fault = opens Second (office_of office) body found fault (openable s opened was office body found is it)
 
 -- ---- opened again
 module _ {A E : Type 0} (s opened found : State) (was : KeepsOpened s opened) (body : List ℕ) (it : IsLeftBehind s opened body found) where
@@ -153,10 +154,7 @@ module _ {A E : Type 0} (s opened found : State) (was : KeepsOpened s opened) (b
   refused_again CleanAt fault (Err e) cause = λ clean. let why = cause clean in left_opens s opened was why.0 body found.committed why.1 (it why.0 why.1) (fault e) why.2
 
   pub content_again : (office : OfficeFile) → IsOfficeOf body office → (CleanAt : A → Type 0) (held : A → ShelfContent) (r : Result A E)
-      → IfOk r (λ a. CleanAt a → (held a ≡ content_of found.committed.trees) ⊎ ((found.committed.schema ≡ no_schema) × (held a ≡ no_content)))
+      → IfOk r (λ a. CleanAt a → IsFound found.committed (held a))
       → IfOk r (λ a. CleanAt a → held a ≡ content_of found.committed.trees)
   content_again office is CleanAt held (Err e) content = tt
-  content_again office is CleanAt held (Ok a) content = λ clean. elim (content clean) [
-    | inl same ↦ same
-    | inr none ↦ absurd (not_none s opened was office body found.committed is (it office is) none.0)
-  ]
+  content_again office is CleanAt held (Ok a) content = λ clean. found_ours found.committed (held a) (left_ours s opened was office body found.committed is (it office is)) (content clean)

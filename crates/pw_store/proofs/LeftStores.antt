@@ -10,6 +10,7 @@ use Rattle.sqlite_catalog.specs.Listing.{Lists}
 use Rattle.sqlite_trees.specs.Objects.{catalog_tree}
 use Rattle.pw_model.specs.Counting.{Member}
 use Rattle.pw_schema.specs.Tables.{IsOurs}
+use Rattle.pw_schema.specs.declared.kind.StoreVersion.TheVariants.{Second}
 use Rattle.pw_schema.proofs.Outcomes.{early}
 use Rattle.pw_schema.specs.Rows.{number}
 use Rattle.pw_store.specs.Content.{energy_in, payment_in, payment_tree, total_tree}
@@ -23,11 +24,9 @@ use Rattle.pw_store.proofs.KeyedRows.{row_told}
 use Rattle.pw_store.proofs.Others.{same_total-decides}
 use Rattle.pw_shelf.specs.Changes.{same_total}
 
-pub rows_of : (db : Database) → IsStore db → HasRows db.trees
+pub rows_of : (db : Database) → IsStore db → HasRows Second db.trees
 rows_of db store = record {
-  readings = store.readings;
-  assignments = store.assignments;
-  topups = store.topups;
+  rows = λ k at. store.rows k;
   once = store.once;
   points = record { each = store.points.each; once = store.points.once };
   starts = record { each = store.starts.each; once = store.starts.once };
@@ -65,7 +64,7 @@ opened_keeps s live open_now settled store law clean =
       committed = λ _. subst (λ (d : Database). Keeps s.now.trees d.trees) settled mine;
       left = λ db may.
           (let is : s.now.trees ≡ db = ap (λ (d : Database). d.trees) settled ∙ sym (law db open_now may) in
-          (subst HasRows is (rows_of s.now store), subst (Keeps s.now.trees) is mine));
+          (subst (HasRows Second) is (rows_of s.now store), subst (Keeps s.now.trees) is mine));
     }
 
 -- where it may be opened
@@ -77,11 +76,11 @@ opening_text s at office body before is it = subst (λ (o : State). IsOfText off
 
 -- ---- a call
 module _ (old new opened : State) (was : KeepsOpened old opened) where
-  left_before : Survives old new (λ _. ⊥) → HasCleanDisk new → (db : Trees) → new.may_leave db → HasRows db × Keeps opened.now.trees db
+  left_before : Survives old new (λ _. ⊥) → HasCleanDisk new → (db : Trees) → new.may_leave db → HasRows Second db × Keeps opened.now.trees db
   left_before s clean db may = (was (early old new s clean)).left db (elim (s.crash clean db may) [ inl before ↦ before | inr none ↦ absurd none ])
 
   shown : (now committed : Database) (mode : Bool) → HasCleanDisk old → Shows old new now committed mode → Keeps opened.now.trees now.trees → Keeps opened.now.trees committed.trees
-      → ((db : Trees) → new.may_leave db → HasRows db × Keeps opened.now.trees db) → IsLeftOf new opened
+      → ((db : Trees) → new.may_leave db → HasRows Second db × Keeps opened.now.trees db) → IsLeftOf new opened
   shown now committed mode clean is n c left = record {
     ours = (was clean).ours;
     now = λ _. subst (λ (d : Database). Keeps opened.now.trees d.trees) (sym is.now_is) n;
@@ -89,7 +88,7 @@ module _ (old new opened : State) (was : KeepsOpened old opened) where
     left = left;
   }
 
-  ended : HasCleanDisk old → IsUnchanged old new ⊎ IsRolledBack old new → ((db : Trees) → new.may_leave db → HasRows db × Keeps opened.now.trees db) → IsLeftOf new opened
+  ended : HasCleanDisk old → IsUnchanged old new ⊎ IsRolledBack old new → ((db : Trees) → new.may_leave db → HasRows Second db × Keeps opened.now.trees db) → IsLeftOf new opened
   ended clean (inl same) left = shown old.now old.committed old.in_transaction clean same.0 ((was clean).now same.0.was_open) ((was clean).committed same.0.was_open) left
   ended clean (inr back) left = record {
     ours = (was clean).ours;
@@ -121,12 +120,12 @@ module _ (old new opened : State) (was : KeepsOpened old opened) where
       shown new.now old.committed true before (is clean) (keeps clean opened.now.trees ((was before).now (is clean).was_open)) ((was before).committed (is clean).was_open) (left_before s clean)
 
   -- what was written is committed, or may be found whole after a crash
-  left_or_whole : Survives old new (λ db. db ≡ old.now.trees) → HasCleanDisk new → IsTrue old.is_open → IsStore old.now → (db : Trees) → new.may_leave db → HasRows db × Keeps opened.now.trees db
+  left_or_whole : Survives old new (λ db. db ≡ old.now.trees) → HasCleanDisk new → IsTrue old.is_open → IsStore old.now → (db : Trees) → new.may_leave db → HasRows Second db × Keeps opened.now.trees db
   left_or_whole s clean live store db may =
       let before = early old new s clean in
       elim (s.crash clean db may) [
         | inl left ↦ (was before).left db left
-        | inr is ↦ (subst HasRows (sym is) (rows_of old.now store), subst (Keeps opened.now.trees) (sym is) ((was before).now live))
+        | inr is ↦ (subst (HasRows Second) (sym is) (rows_of old.now store), subst (Keeps opened.now.trees) (sym is) ((was before).now live))
       ]
 
   pub keeps_committed : Survives old new (λ db. db ≡ old.now.trees) → (HasCleanDisk old → IsTrue old.is_open → IsStore old.now) → (HasCleanDisk new → Shows old new old.now old.now false) → KeepsOpened new opened

@@ -1,7 +1,8 @@
 pub mod Adding
 pub mod Again
 pub mod Amounts
-pub mod AtMeter
+pub mod AtReading
+pub mod AtAssignment
 pub mod AtTopup
 pub mod Checked
 pub mod Counted
@@ -15,10 +16,12 @@ pub mod Keeping
 pub mod KeptRows
 pub mod KeptTexts
 pub mod KeyedRows
+pub mod OfKinds
 pub mod LeftOpening
 pub mod LeftStores
 pub mod Lists
 pub mod Listed
+pub mod Lacking
 pub mod Neighbours
 pub mod OfContent
 pub mod OfMeter
@@ -34,10 +37,12 @@ pub mod PaymentRows
 pub mod Placing
 pub mod PointRows
 pub mod Querying
+pub mod Raised
 pub mod Refusals
 pub mod Reopening
 pub mod Scans
 pub mod Sound
+pub mod Standing
 pub mod StartRows
 pub mod StillKept
 pub mod Taking
@@ -45,3 +50,4 @@ pub mod Telling
 pub mod Texts
 pub mod Scanning
 pub mod Compared
+pub mod Upgraded

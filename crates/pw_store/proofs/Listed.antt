@@ -8,7 +8,7 @@ use Rattle.sqlite.specs.Term.{col}
 use Rattle.sqlite.specs.Listing.{understood}
 use Rattle.sqlite_tied.specs.Compute.{everything}
 use Rattle.pw_schema.specs.Tables.{IsOurs}
-use Rattle.pw_schema.specs.declared.kind.RecordKind.TheVariants.{Readings, Assignments, TopUps}
+use Rattle.pw_schema.specs.declared.kind.RecordKind.TheVariants.{Readings, Assignments, TopUps, WithdrawnReadings, WithdrawnAssignments, WithdrawnTopUps}
 use Rattle.pw_schema.specs.declared.kind.TotalKind.TheVariants.{Energies, Payments}
 use Rattle.pw_store.specs.declared.listings.KeptKind.TheVariants.{Points, Starts}
 use Rattle.pw_store.specs.declared.listings.Listing.{Listing}
@@ -24,6 +24,9 @@ abbrev columns : Listing → List ℕ
 columns (Records Readings) = 1 ∷ 2 ∷ 3 ∷ 4 ∷ []
 columns (Records Assignments) = 1 ∷ 2 ∷ 3 ∷ []
 columns (Records TopUps) = 1 ∷ 2 ∷ 3 ∷ 4 ∷ []
+columns (Records WithdrawnReadings) = 1 ∷ 2 ∷ 3 ∷ 4 ∷ []
+columns (Records WithdrawnAssignments) = 1 ∷ 2 ∷ 3 ∷ []
+columns (Records WithdrawnTopUps) = 1 ∷ 2 ∷ 3 ∷ 4 ∷ []
 columns (Kept Points) = 1 ∷ 2 ∷ 3 ∷ 4 ∷ []
 columns (Kept Starts) = 1 ∷ 2 ∷ 3 ∷ []
 columns (Totals Energies) = 1 ∷ 2 ∷ 3 ∷ 4 ∷ []
@@ -49,6 +52,9 @@ unfolding understood everything
 is_query (Records Readings) = record { names = codes "meter" ∷ codes "register" ∷ codes "instant" ∷ codes "wh" ∷ []; is = λ checks. refl; unlisted = λ checks. refl; plain = λ checks. (refl, refl) }
 is_query (Records Assignments) = record { names = codes "meter" ∷ codes "start" ∷ codes "owner" ∷ []; is = λ checks. refl; unlisted = λ checks. refl; plain = λ checks. (refl, refl) }
 is_query (Records TopUps) = record { names = codes "reference" ∷ codes "account" ∷ codes "cents" ∷ codes "instant" ∷ []; is = λ checks. refl; unlisted = λ checks. refl; plain = λ checks. (refl, refl) }
+is_query (Records WithdrawnReadings) = record { names = codes "meter" ∷ codes "register" ∷ codes "instant" ∷ codes "wh" ∷ []; is = λ checks. refl; unlisted = λ checks. refl; plain = λ checks. (refl, refl) }
+is_query (Records WithdrawnAssignments) = record { names = codes "meter" ∷ codes "start" ∷ codes "owner" ∷ []; is = λ checks. refl; unlisted = λ checks. refl; plain = λ checks. (refl, refl) }
+is_query (Records WithdrawnTopUps) = record { names = codes "reference" ∷ codes "account" ∷ codes "cents" ∷ codes "instant" ∷ []; is = λ checks. refl; unlisted = λ checks. refl; plain = λ checks. (refl, refl) }
 is_query (Kept Points) = record { names = codes "meter" ∷ codes "register" ∷ codes "instant" ∷ codes "wh" ∷ []; is = λ checks. refl; unlisted = λ checks. refl; plain = λ checks. (refl, refl) }
 is_query (Kept Starts) = record { names = codes "meter" ∷ codes "start" ∷ codes "owner" ∷ []; is = λ checks. refl; unlisted = λ checks. refl; plain = λ checks. (refl, refl) }
 is_query (Totals Energies) = record { names = codes "owner" ∷ codes "band" ∷ codes "direction" ∷ codes "wh" ∷ []; is = λ checks. refl; unlisted = λ checks. refl; plain = λ checks. (refl, refl) }
@@ -62,6 +68,9 @@ row_shown : (l : Listing) (r : Row) → (output (query_of l) ([] ∷ r ∷ [])).
 row_shown (Records Readings) r = refl
 row_shown (Records Assignments) r = refl
 row_shown (Records TopUps) r = refl
+row_shown (Records WithdrawnReadings) r = refl
+row_shown (Records WithdrawnAssignments) r = refl
+row_shown (Records WithdrawnTopUps) r = refl
 row_shown (Kept Points) r = refl
 row_shown (Kept Starts) r = refl
 row_shown (Totals Energies) r = refl

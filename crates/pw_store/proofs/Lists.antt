@@ -1,5 +1,5 @@
 -- What the queries that list records show.
-use Rattle.std.proofs.Common.{Vec, ◌≡◌, ◌⊎◌, inl, inr, ℕ, ◌-◌, ◌^◌, nat_le, if◌then◌else◌, true, false, None, unwrap_or, slice_get, List, [], ◌∷◌, ◌++◌, map, Ok, Err, Result, IfOk, refl, sym, ap, subst}
+use Rattle.std.proofs.Common.{Vec, ◌≡◌, inl, inr, ℕ, ◌-◌, ◌^◌, nat_le, if◌then◌else◌, true, false, None, unwrap_or, slice_get, List, [], ◌∷◌, map, Ok, Err, Result, IfOk, refl, sym, ap, subst}
 use Rattle.std.specs.List.Sorted.{IsPermutation}
 use Rattle.std.proofs.lemmas.List.Sorted.{IsPermutation-map}
 use Rattle.sqlite.specs.Order.{Row}
@@ -11,14 +11,16 @@ use Rattle.sqlite.specs.Tree.{Trees}
 use Rattle.pw_model.specs.declared.records.Entry.{Entry}
 use Rattle.pw_model.specs.Counting.{Member, SameMembers}
 use Rattle.pw_shelf.specs.Rows.{IsTopUp, ListsTopUps}
-use Rattle.pw_store.specs.Content.{records_of, reading_in, assignment_in, topup_in, reading_tree, assignment_tree, topup_tree}
+use Rattle.pw_store.specs.Content.{entries_of, entry_in, records_of, topup_in, topup_tree}
 use Rattle.pw_schema.specs.declared.kind.RecordKind.{RecordKind}
-use Rattle.pw_schema.specs.declared.kind.RecordKind.TheVariants.{Readings, Assignments, TopUps}
-use Rattle.pw_store.specs.Shown.{entry_in, entries_of}
+use Rattle.pw_schema.specs.declared.kind.RecordKind.TheVariants.{Readings, Assignments, TopUps, WithdrawnReadings, WithdrawnAssignments, WithdrawnTopUps}
 use Rattle.pw_store.specs.declared.listings.Listing.TheVariants as listing
 use Rattle.pw_store.specs.inner.Lists.{shown}
 use Rattle.pw_store.specs.inner.Listings.{ShowsAll}
 use Rattle.pw_schema.specs.Rows.{told, ReadsRows}
+use Rattle.pw_model.specs.declared.records.Key.{Key}
+use Rattle.pw_model.specs.declared.records.Key.TheVariants as key
+use Rattle.pw_store.proofs.OfKinds.{from_table, in_table, kind_at}
 use Rattle.pw_store.proofs.Once.{permuted}
 use Rattle.pw_store.proofs.Texts.{IsQuery}
 use Rattle.pw_store.proofs.Scans.{scan_of, answer_of, outputs}
@@ -40,48 +42,25 @@ module _ (text : List ℕ) (tree : ℕ) (q : Query) (it : IsQuery text (scan_of 
       (scan.ordered, IsPermutation-map second (outputs (scan_of tree q) params (old.now.trees tree)) scan.ordered same, scan.shown)
 
 -- ---- from the rows that were read to the list of the records
--- none of the other tables' records is a top-up
-no_reading : (rows : List Row) (x : Entry) → Member x (map reading_in rows) → IsTopUp x.key → ⊥
-no_reading [] x m is = m
-no_reading (r ∷ rows) x (inl i) is = subst (λ (e : Entry). IsTopUp e.key) i is
-no_reading (r ∷ rows) x (inr m) is = no_reading rows x m is
-
-no_assignment : (rows : List Row) (x : Entry) → Member x (map assignment_in rows) → IsTopUp x.key → ⊥
-no_assignment [] x m is = m
-no_assignment (r ∷ rows) x (inl i) is = subst (λ (e : Entry). IsTopUp e.key) i is
-no_assignment (r ∷ rows) x (inr m) is = no_assignment rows x m is
-
 is_topup : (rows : List Row) (x : Entry) → Member x (map topup_in rows) → IsTopUp x.key
 is_topup [] x m = absurd m
 is_topup (r ∷ rows) x (inl i) = subst (λ (e : Entry). IsTopUp e.key) (sym i) tt
 is_topup (r ∷ rows) x (inr m) = is_topup rows x m
 
-pub member_in : {X : Type 0} (x : X) (xs ys : List X) → Member x (xs ++ ys) → Member x xs ⊎ Member x ys
-member_in x [] ys m = inr m
-member_in x (z ∷ xs) ys (inl i) = inl (inl i)
-member_in x (z ∷ xs) ys (inr m) = elim (member_in x xs ys m) [ inl a ↦ inl (inr a) | inr b ↦ inr b ]
-
-pub member_behind : {X : Type 0} (x : X) (xs ys : List X) → Member x ys → Member x (xs ++ ys)
-member_behind x [] ys m = m
-member_behind x (z ∷ xs) ys m = inr (member_behind x xs ys m)
-
-pub topup_records : (db : Trees) (x : Entry) → Member x (records_of db) → IsTopUp x.key → Member x (map topup_in (db topup_tree))
-topup_records db x m is = elim (member_in x (map reading_in (db reading_tree)) _ m) [
-  | inl a ↦ absurd (no_reading (db reading_tree) x a is)
-  | inr b ↦ elim (member_in x (map assignment_in (db assignment_tree)) _ b) [
-    | inl c ↦ absurd (no_assignment (db assignment_tree) x c is)
-    | inr d ↦ d
-  ]
-]
-
-pub records_topup : (db : Trees) (x : Entry) → Member x (map topup_in (db topup_tree)) → Member x (records_of db)
-records_topup db x m = member_behind x (map reading_in (db reading_tree)) _ (member_behind x (map assignment_in (db assignment_tree)) _ m)
+topup_kind : (k : Key) → IsTopUp k → kind_at k ≡ TopUps
+topup_kind (key.Reading m r t) is = absurd is
+topup_kind (key.Assignment m t) is = absurd is
+topup_kind (key.TopUp r) is = refl
+topup_kind (key.Withdrawal n) is = absurd is
 
 told_in : (k : RecordKind) (rows : List Row) → map (told k) (map (shown k) rows) ≡ map (entry_in k) rows
 told_in k [] = refl
 told_in Readings (r ∷ rows) = ap (λ xs. entry_in Readings r ∷ xs) (told_in Readings rows)
 told_in Assignments (r ∷ rows) = ap (λ xs. entry_in Assignments r ∷ xs) (told_in Assignments rows)
 told_in TopUps (r ∷ rows) = ap (λ xs. entry_in TopUps r ∷ xs) (told_in TopUps rows)
+told_in WithdrawnReadings (r ∷ rows) = ap (λ xs. entry_in WithdrawnReadings r ∷ xs) (told_in WithdrawnReadings rows)
+told_in WithdrawnAssignments (r ∷ rows) = ap (λ xs. entry_in WithdrawnAssignments r ∷ xs) (told_in WithdrawnAssignments rows)
+told_in WithdrawnTopUps (r ∷ rows) = ap (λ xs. entry_in WithdrawnTopUps r ∷ xs) (told_in WithdrawnTopUps rows)
 
 pub told_permuted : (k : RecordKind) (table rows : List Row) → IsPermutation (map (shown k) table) rows → IsPermutation (map (entry_in k) table) (map (told k) rows)
 told_permuted k table rows h = subst (λ xs. IsPermutation xs (map (told k) rows)) (told_in k table) (IsPermutation-map (told k) (map (shown k) table) rows h)
@@ -92,8 +71,8 @@ lists_topups db rows found shows reads =
     record {
       rising = reads.rising;
       members = λ x. (
-        λ m. (let there = (same x).1 m in (records_topup db x there, is_topup (db topup_tree) x there)),
-        λ m. (same x).0 (topup_records db x m.0 m.1),
+        λ m. (let there = (same x).1 m in (from_table db x TopUps there, is_topup (db topup_tree) x there)),
+        λ m. (same x).0 (in_table db x TopUps (topup_kind x.key m.1) m.0),
       );
     }
 

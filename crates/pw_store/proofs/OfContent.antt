@@ -1,12 +1,12 @@
 -- What rows of a true content of entries of the office hold.
-use Rattle.std.proofs.Common.{ℕ, List, [], ◌∷◌, ◌++◌, map, Option, inl, inr, sym, ap, subst, ◌∙◌}
+use Rattle.std.proofs.Common.{ℕ, List, [], ◌∷◌, map, Option, sym, ap, subst, ◌∙◌}
 use Rattle.std.specs.List.{AllByRecursion}
 use Rattle.sqlite.specs.Order.{Row, column}
 use Rattle.sqlite.specs.Tree.{Trees}
 use Rattle.pw_obis.specs.declared.reference.Register.{Register}
 use Rattle.pw_tariff.specs.declared.ids.AccountId.{AccountId}
 use Rattle.pw_tariff.specs.Office.{OfficeRules}
-use Rattle.pw_model.specs.Counting.{Member, EachOnce, contents_at, reading_key, assignment_key}
+use Rattle.pw_model.specs.Counting.{Member, contents_at, reading_key, assignment_key}
 use Rattle.pw_model.specs.Lists.{reading_entry}
 use Rattle.pw_model.specs.Office.{AllOfOffice, IsOfOffice}
 use Rattle.pw_model.specs.Same.{same_key}
@@ -15,29 +15,15 @@ use Rattle.pw_model.proofs.Counting.{one-is_counting, standing-part}
 use Rattle.pw_model.proofs.Same.{same_key-decides}
 use Rattle.pw_parts.specs.Laws.{assignment_entry}
 use Rattle.pw_parts.proofs.Seconds.{wh-one, owner-one}
-use Rattle.pw_schema.specs.declared.kind.RecordKind.TheVariants.{Readings, Assignments, TopUps}
+use Rattle.pw_schema.specs.declared.kind.StoreVersion.{StoreVersion}
 use Rattle.pw_schema.specs.Rows.{number, register_at, owner_at}
-use Rattle.pw_store.specs.Content.{content_of, records_of, reading_in, assignment_in, energy_in, payment_in, payment_tree, point_tree, start_tree, total_tree}
+use Rattle.pw_store.specs.Content.{content_of_version, kinds_of, records_of_version, reading_in, assignment_in, energy_in, payment_in, payment_tree, point_tree, start_tree, total_tree}
 use Rattle.pw_store.specs.Opening.{HasRows, NamesOffice, HoldsAllRecords, HoldsSums, IsTotalRow, key_of_total}
 use Rattle.pw_schema.specs.declared.kind.TotalKind.TheVariants.{Energies, Payments}
 use Rattle.pw_schema.specs.Judging.{IsTotalOf}
 use Rattle.sqlite_trees.proofs.ListLemmas.{all_weaker}
-use Rattle.pw_store.specs.Shown.{entries_of}
 use Rattle.pw_store.proofs.KeyedRows.{before_map, row_told}
-use Rattle.pw_store.proofs.Lists.{member_behind}
-
-member_front : {X : Type 0} (x : X) (xs ys : List X) → Member x xs → Member x (xs ++ ys)
-member_front x [] ys m = absurd m
-member_front x (z ∷ xs) ys (inl i) = inl i
-member_front x (z ∷ xs) ys (inr m) = inr (member_front x xs ys m)
-
-once_front : {X : Type 0} (xs ys : List X) → EachOnce (xs ++ ys) → EachOnce xs
-once_front [] ys h = tt
-once_front (x ∷ xs) ys h = (λ m. h.0 (member_front x xs ys m), once_front xs ys h.1)
-
-once_back : {X : Type 0} (xs ys : List X) → EachOnce (xs ++ ys) → EachOnce ys
-once_back [] ys h = h
-once_back (x ∷ xs) ys h = once_back xs ys h.1
+use Rattle.pw_store.proofs.OfKinds.{among_kinds, once_of_kind}
 
 all_two : {X : Type 0} (P Q : X → Type 0) (xs : List X) → AllByRecursion P xs → AllByRecursion Q xs → AllByRecursion (λ x. P x × Q x) xs
 all_two P Q [] p q = tt
@@ -50,20 +36,15 @@ names_office office db sums = record {
   payments = all_weaker (λ row. IsTotalRow Payments row × IsTotalOf office (key_of_total Payments row)) (λ row. IsTotalOf office (payment_in row)) (λ row it. it.1) (db payment_tree) sums.payments.rows;
 }
 
-module _ (office : OfficeRules) (db : Trees) (rows : HasRows db) (of : AllOfOffice office (records_of db)) where
-  pub records_held : HoldsAllRecords office db
-  records_held =
-      let rs = entries_of Readings db in
-      let ss = entries_of Assignments db in
-      let ts = entries_of TopUps db in
-      let behind = once_back rs (ss ++ ts) rows.once in
-      record {
-        readings = record { rows = rows.readings; once = once_front rs (ss ++ ts) rows.once; of_office = λ e m. of e (member_front e rs (ss ++ ts) m) };
-        assignments = record { rows = rows.assignments; once = once_front ss ts behind; of_office = λ e m. of e (member_behind e rs (ss ++ ts) (member_front e ss ts m)) };
-        topups = record { rows = rows.topups; once = once_back ss ts behind; of_office = λ e m. of e (member_behind e rs (ss ++ ts) (member_behind e ss ts m)) };
-      }
+module _ (v : StoreVersion) (office : OfficeRules) (db : Trees) (rows : HasRows v db) (of : AllOfOffice office (records_of_version v db)) where
+  pub records_held : HoldsAllRecords v office db
+  records_held k at = record {
+    rows = rows.rows k at;
+    once = once_of_kind (kinds_of v) db k at rows.once;
+    of_office = λ e m. of e (among_kinds (kinds_of v) db k e at m);
+  }
 
-  module _ (it : IsTrueContent office (content_of db)) (named : NamesOffice office db) where
+  module _ (it : IsTrueContent office (content_of_version v db)) (named : NamesOffice office db) where
     point_of_office : (r : Row) → Member r (db point_tree) → IsOfOffice office (reading_in r)
     point_of_office r m =
         let meter = number (column r 1) in
@@ -72,8 +53,8 @@ module _ (office : OfficeRules) (db : Trees) (rows : HasRows db) (of : AllOfOffi
         let wh = number (column r 4) in
         let told = row_told same_key same_key-decides (λ x. (reading_in x).key) (λ x. number (column x 4)) (db point_tree) r rows.points.once m in
         let counted = sym (ap (λ (f : ℕ → Register → ℕ → Option ℕ). f meter register second) it.points) ∙ told in
-        let one = wh-one (contents_at (records_of db) (reading_key meter register second)) wh counted in
-        of (reading_in r) (standing-part (records_of db) (reading_in r) ((one-is_counting (records_of db) (reading_entry meter register second wh) tt).0 one).0)
+        let one = wh-one (contents_at (records_of_version v db) (reading_key meter register second)) wh counted in
+        of (reading_in r) (standing-part (records_of_version v db) (reading_in r) ((one-is_counting (records_of_version v db) (reading_entry meter register second wh) tt).0 one).0)
 
     start_of_office : (r : Row) → Member r (db start_tree) → IsOfOffice office (assignment_in r)
     start_of_office r m =
@@ -82,8 +63,8 @@ module _ (office : OfficeRules) (db : Trees) (rows : HasRows db) (of : AllOfOffi
         let owner = owner_at (number (column r 3)) in
         let told = row_told same_key same_key-decides (λ x. (assignment_in x).key) (λ x. owner_at (number (column x 3))) (db start_tree) r rows.starts.once m in
         let counted = sym (ap (λ (f : ℕ → ℕ → Option (Option AccountId)). f meter second) it.starts) ∙ told in
-        let one = owner-one (contents_at (records_of db) (assignment_key meter second)) owner counted in
-        of (assignment_in r) (standing-part (records_of db) (assignment_in r) ((one-is_counting (records_of db) (assignment_entry meter second owner) tt).0 one).0)
+        let one = owner-one (contents_at (records_of_version v db) (assignment_key meter second)) owner counted in
+        of (assignment_in r) (standing-part (records_of_version v db) (assignment_in r) ((one-is_counting (records_of_version v db) (assignment_entry meter second owner) tt).0 one).0)
 
     points_of_office : AllOfOffice office (map reading_in (db point_tree))
     points_of_office e m = let r = before_map reading_in e (db point_tree) m in subst (IsOfOffice office) (sym r.1.1) (point_of_office r.0 r.1.0)

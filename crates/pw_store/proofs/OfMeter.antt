@@ -21,16 +21,16 @@ use Rattle.pw_shelf.specs.Rows.{IsReadingOf, IsAssignmentOf}
 use Rattle.pw_schema.specs.declared.kind.RecordKind.{RecordKind}
 use Rattle.pw_schema.specs.declared.kind.RecordKind.TheVariants.{Readings, Assignments}
 use Rattle.pw_schema.specs.Rows.{number, register_at}
-use Rattle.pw_store.specs.Content.{reading_in, assignment_in, reading_tree, assignment_tree, records_of, IsReadingRow, IsAssignmentRow}
+use Rattle.pw_store.specs.Content.{reading_in, assignment_in, reading_tree, assignment_tree, records_of, IsReadingRow, IsAssignmentRow, entry_in}
 use Rattle.pw_store.specs.Kept.{IsStore}
-use Rattle.pw_store.specs.Shown.{entry_in}
 use Rattle.pw_store.specs.inner.Lists.{shown, ShowsKept}
 use Rattle.pw_schema.specs.Rows.{told, ReadsRows}
 use Rattle.pw_store.proofs.Texts.{list_readings_text, list_readings_query, list_readings_is, list_assignments_text, list_assignments_query, list_assignments_is}
 use Rattle.pw_store.proofs.Once.{permuted}
 use Rattle.pw_store.proofs.Scans.{equal_ints, tied, scan_of}
 use Rattle.pw_store.proofs.Lists.{seen, told_permuted}
-use Rattle.pw_store.proofs.Finding.{first, second, same_number, IsReading, IsAssignment, reading_records, records_reading, assignment_records, records_assignment}
+use Rattle.pw_store.proofs.Finding.{first, second, same_number}
+use Rattle.pw_store.proofs.OfKinds.{from_table, in_table, kind_at}
 use Rattle.pw_store.proofs.Adding.{register_back}
 
 -- ---- the rows that pass are those whose record has such a key
@@ -101,15 +101,15 @@ module _ (m : MeterId) (g : Register) where
       let perm : IsPermutation (map (shown Readings) (filter passes_reading table)) rows = subst₂ IsPermutation (shown_readings (filter passes_reading table)) (sym s.2) s.1 in
       record {
         rising = reads.rising;
-        members = lists_kept reading_in passes_reading IsReadingRow (IsReadingOf m g) hits misses (records_of old.now.trees) table found store.readings
-            (λ x n of. reading_records old.now.trees x n (is_reading x.key of)) (λ x n. records_reading old.now.trees x n) (found_same Readings passes_reading table rows found perm reads);
+        members = lists_kept reading_in passes_reading IsReadingRow (IsReadingOf m g) hits misses (records_of old.now.trees) table found (store.rows Readings)
+            (λ x n of. in_table old.now.trees x Readings (is_reading x.key of) n) (λ x n. from_table old.now.trees x Readings n) (found_same Readings passes_reading table rows found perm reads);
       }
     where
-      is_reading : (k : Key) → IsReadingOf m g k → IsReading k
-      is_reading (key.Reading n s t) of = tt
-      is_reading (key.Assignment n t) of = of
-      is_reading (key.TopUp r) of = of
-      is_reading (key.Withdrawal w) of = of
+      is_reading : (k : Key) → IsReadingOf m g k → kind_at k ≡ Readings
+      is_reading (key.Reading n s t) of = refl
+      is_reading (key.Assignment n t) of = absurd of
+      is_reading (key.TopUp r) of = absurd of
+      is_reading (key.Withdrawal w) of = absurd of
 
 pub shows_readings_if : {Z : Type 0} (m : MeterId) (g : Register) (old new : State) (r : Result (Vec Row Z) Error) → IsStore old.now → IfOk r (λ rows. Shown list_readings_text (Int (pos m.0) ∷ Int (pos (register_place g)) ∷ []) old new rows.items) → IfOk r (λ rows. ShowsKept Readings (IsReadingOf m g) old.now.trees rows.items)
 shows_readings_if m g old new (Ok rows) store h = shows_readings_of m g old new rows.items store h
@@ -143,15 +143,15 @@ module _ (m : MeterId) where
       let perm : IsPermutation (map (shown Assignments) (filter passes_assignment table)) rows = subst₂ IsPermutation (shown_assignments (filter passes_assignment table)) (sym s.2) s.1 in
       record {
         rising = reads.rising;
-        members = lists_kept assignment_in passes_assignment IsAssignmentRow (IsAssignmentOf m) meter_hits meter_misses (records_of old.now.trees) table found store.assignments
-            (λ x n of. assignment_records old.now.trees x n (is_assignment x.key of)) (λ x n. records_assignment old.now.trees x n) (found_same Assignments passes_assignment table rows found perm reads);
+        members = lists_kept assignment_in passes_assignment IsAssignmentRow (IsAssignmentOf m) meter_hits meter_misses (records_of old.now.trees) table found (store.rows Assignments)
+            (λ x n of. in_table old.now.trees x Assignments (is_assignment x.key of) n) (λ x n. from_table old.now.trees x Assignments n) (found_same Assignments passes_assignment table rows found perm reads);
       }
     where
-      is_assignment : (k : Key) → IsAssignmentOf m k → IsAssignment k
-      is_assignment (key.Reading n s t) of = of
-      is_assignment (key.Assignment n t) of = tt
-      is_assignment (key.TopUp r) of = of
-      is_assignment (key.Withdrawal w) of = of
+      is_assignment : (k : Key) → IsAssignmentOf m k → kind_at k ≡ Assignments
+      is_assignment (key.Reading n s t) of = absurd of
+      is_assignment (key.Assignment n t) of = refl
+      is_assignment (key.TopUp r) of = absurd of
+      is_assignment (key.Withdrawal w) of = absurd of
 
 pub shows_assignments_if : {Z : Type 0} (m : MeterId) (old new : State) (r : Result (Vec Row Z) Error) → IsStore old.now → IfOk r (λ rows. Shown list_assignments_text (Int (pos m.0) ∷ []) old new rows.items) → IfOk r (λ rows. ShowsKept Assignments (IsAssignmentOf m) old.now.trees rows.items)
 shows_assignments_if m old new (Ok rows) store h = shows_assignments_of m old new rows.items store h

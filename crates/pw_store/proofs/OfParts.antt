@@ -43,7 +43,7 @@ use Rattle.pw_store.specs.inner.Sums.{Listed, TellsSums, total_in_row}
 use Rattle.pw_store.specs.inner.Truth.{AreRead, HaveParts, HaveOtherParts}
 use Rattle.pw_store.proofs.Finding.{owner_in, wh_in}
 use Rattle.pw_store.proofs.KeyedRows.{before_map, image, told_row, row_told}
-use Rattle.pw_store.proofs.Lists.{member_in, member_behind}
+use Rattle.pw_store.proofs.OfKinds.{member_in, member_behind}
 use Rattle.pw_store.proofs.Once.{permuted}
 use Rattle.pw_store.proofs.Others.{same_total-decides}
 

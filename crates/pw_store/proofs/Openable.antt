@@ -1,12 +1,21 @@
--- A store of this office, version and text is refused only for the engine's sake, or for memory.
-use Rattle.std.proofs.Common.{arith, ◌≡◌, inl, inr, List, [], ◌∷◌, refl, sym, subst, ◌∙◌}
+-- A store of this office, of either version, and of this text is refused only for the engine's sake, or for memory.
+use Rattle.std.proofs.Common.{arith, ◌≡◌, inl, inr, ℕ, pos, length, List, [], ◌∷◌, refl, sym, ap, subst, ◌∙◌}
 use Rattle.std.specs.List.Sorted.{IsPermutation}
 use Rattle.std.proofs.lemmas.List.Sorted.{IsPermutation-sym, IsPermutation-trans}
+use Rattle.sqlite.specs.declared.types.Value.{Value}
+use Rattle.sqlite.specs.declared.types.Value.TheVariants.{Int}
 use Rattle.sqlite.specs.Order.{Row, column}
+use Rattle.sqlite.specs.Schema.{Schema}
+use Rattle.sqlite.specs.Effect.{Database}
+use Rattle.pw_tariff.specs.Office.{OfficeRules}
+use Rattle.pw_schema.specs.declared.kind.StoreVersion.{StoreVersion}
+use Rattle.pw_schema.specs.declared.kind.StoreVersion.TheVariants.{First, Second}
+use Rattle.pw_schema.specs.Judging.{HasVersion}
+use Rattle.pw_schema.specs.Tables.{IsOf, version_number}
 use Rattle.sqlite.proofs.Callers.{one_permutation}
 use Rattle.pw_store.specs.declared.fault.OpenFault.TheVariants.{Store, Memory, OfficeDiffers, Version, Unclean}
-use Rattle.pw_store.specs.Opening.{OpenableOpens}
-use Rattle.pw_store.proofs.OfficeFirst.{ours_begin}
+use Rattle.pw_store.specs.Opening.{HoldsTables, IsOpenable, IsSpoilt, KeepsText, OpenableOpens, offices}
+use Rattle.pw_store.proofs.OfficeFirst.{version_begins}
 use Rattle.pw_store.proofs.OfContent.{records_held, sums_held}
 
 -- two listings of one row are alike
@@ -16,29 +25,58 @@ same_row all xs ys x p q is = one_permutation x ys (subst (λ zs. IsPermutation 
 row_is : (x y : Row) (xs : List Row) → xs ≡ x ∷ [] → xs ≡ y ∷ [] → y ≡ x
 row_is x y xs a b = let e : y ∷ [] ≡ x ∷ [] = sym b ∙ a in cc
 
+-- ---- a store has one version
+one_number : (v w : StoreVersion) → version_number v ≡ version_number w → v ≡ w
+one_number First First e = refl
+one_number First Second e = absurd (omega (arith, e))
+one_number Second First e = absurd (omega (arith, e))
+one_number Second Second e = refl
+
+abbrev number_of : Value → ℕ
+number_of (Int (pos n)) = n
+number_of _ = 0
+
+pub one_version : (v w : StoreVersion) (s : Schema) → IsOf v s → IsOf w s → v ≡ w
+one_version First First s a b = refl
+one_version Second Second s a b = refl
+one_version First Second s a b = let e : 8 ≡ 11 = ap (λ (x : Schema). length x.tables) (sym a ∙ b) in absurd (omega (arith, e))
+one_version Second First s a b = let e : 11 ≡ 8 = ap (λ (x : Schema). length x.tables) (sym a ∙ b) in absurd (omega (arith, e))
+
+module _ (v : StoreVersion) (office : OfficeRules) (body : List ℕ) (db : Database) (it : IsOpenable v office body db) where
+  same_as : (other : Row) (rows : List Row) → IsPermutation (offices db.trees) rows → rows ≡ other ∷ [] → other ≡ it.text.1.1.0
+  same_as other rows shown is = row_is it.text.1.1.0 other rows (same_row _ it.text.0 rows it.text.1.1.0 it.text.1.0 shown it.text.1.1.1) is
+
+  not_beside : (w : StoreVersion) → KeepsText (HasVersion w) db.trees → (HoldsTables w db → ⊥) → ⊥
+  not_beside w text none =
+      let other = text.1.1 in
+      let same = same_as other.0 text.0 text.1.0 other.1 in
+      let number : version_number w ≡ version_number v = ap number_of (sym other.2 ∙ ap (λ (row : Row). column row 0) same ∙ it.text.1.1.2) in
+      none (subst (λ x. HoldsTables x db) (sym (one_number w v number)) it.ours)
+
+  not_spoilt : IsSpoilt v office db.trees → ⊥
+  not_spoilt (inl records) = records (records_held v office db.trees it.rows it.of_office)
+  not_spoilt (inr (inl many)) = let few = it.few in omega (arith, few, many)
+  not_spoilt (inr (inr (inl sums))) = sums (sums_held v office db.trees it.rows it.of_office it.truth it.named)
+  not_spoilt (inr (inr (inr untrue))) = untrue it.truth
+
 pub opens : OpenableOpens
-opens office body db Store it r = inl refl
-opens office body db Memory it r = inr refl
-opens office body db OfficeDiffers it r =
-    let mine = it.text.1.1 in
-    let told = r.1.1 in
+opens v office body db Store it r = inl refl
+opens v office body db Memory it r = inr refl
+opens v office body db OfficeDiffers it r =
+    let told = r.1.1.1 in
     let other = told.1.1 in
-    let same : other.0 ≡ mine.0 = row_is mine.0 other.0 told.0 (same_row _ it.text.0 told.0 mine.0 it.text.1.0 told.1.0 mine.1) other.1 in
-    absurd (other.3 (subst (λ (row : Row). column row 1 ≡ _) (sym same) mine.3))
-opens office body db Version it r =
-    let mine = it.text.1.1 in
+    let same = same_as v office body db it other.0 told.0 told.1.0 other.1 in
+    absurd (other.3 (subst (λ (row : Row). column row 1 ≡ _) (sym same) it.text.1.1.3))
+opens v office body db Version it r =
     let told = r.1 in
     let other = told.1.1 in
-    let same : other.0 ≡ mine.0 = row_is mine.0 other.0 told.0 (same_row _ it.text.0 told.0 mine.0 it.text.1.0 told.1.0 mine.1) other.1 in
-    absurd (other.2 (subst (λ (row : Row). column row 0 ≡ _) (sym same) mine.2))
-opens office body db Unclean it (inl r) = absurd (r.1 (ours_begin db.schema it.ours.schema_is))
-opens office body db Unclean it (inr r) = elim r.1 [
-  | inl none ↦ absurd (let mine = it.text.1.1 in none.1.1 mine.0 (same_row _ it.text.0 none.0 mine.0 it.text.1.0 none.1.0 mine.1))
+    let same = same_as v office body db it other.0 told.0 told.1.0 other.1 in
+    absurd (other.2 v (subst (λ (row : Row). column row 0 ≡ _) (sym same) it.text.1.1.2))
+opens v office body db Unclean it (inl r) = absurd (r.1 (version_begins v db.schema it.ours.schema_is))
+opens v office body db Unclean it (inr r) = elim r.1 [
+  | inl none ↦ absurd (none.1.1 it.text.1.1.0 (same_row _ it.text.0 none.0 it.text.1.1.0 it.text.1.0 none.1.0 it.text.1.1.1))
   | inr more ↦ elim more [
-    | inl beside ↦ absurd (beside.1 it.ours)
-    | inr spoilt ↦ elim spoilt.1.1 [
-      | inl records ↦ absurd (records (records_held office db.trees it.rows it.of_office))
-      | inr rest ↦ elim rest [ inl many ↦ absurd (let few = it.few in omega (arith, few, many)) | inr last ↦ elim last [ inl sums ↦ absurd (sums (sums_held office db.trees it.rows it.of_office it.truth it.named)) | inr untrue ↦ absurd (untrue it.truth) ] ]
-    ]
+    | inl beside ↦ absurd (not_beside v office body db it beside.0 beside.1.0 beside.1.1)
+    | inr spoilt ↦ absurd (not_spoilt v office body db it (subst (λ w. IsSpoilt w office db.trees) (one_version spoilt.0 v db.schema spoilt.1.0.schema_is it.ours.schema_is) spoilt.1.1.1))
   ]
 ]

@@ -1,5 +1,5 @@
 -- What a change of one table leaves of the others.
-use Rattle.std.proofs.Common.{◌≡◌, ◌≢◌, ◌<◌, ℕ, Bool, true, false, cond, List, Option, unwrap_or, refl, sym, subst, ap, ◌∙◌, inl, inr, Decides, arith}
+use Rattle.std.proofs.Common.{◌≡◌, ◌≢◌, ◌<◌, ◌⊎◌, ℕ, Bool, true, false, cond, List, Option, unwrap_or, refl, sym, subst, ap, ◌∙◌, inl, inr, Decides, arith}
 use Rattle.std.proofs.lemmas.Bool.{cases_Bool}
 use Rattle.std.specs.Cmp.Lexicographic.{bytes_decides}
 use Rattle.std.proofs.lemmas.Bool.Decides.{Decides-like}
@@ -24,7 +24,11 @@ use Rattle.pw_model.specs.Counting.{IsInserted}
 use Rattle.pw_shelf.specs.State.{IsWithRecord}
 use Rattle.pw_schema.proofs.TotalKeys.{totals_one}
 use Rattle.pw_schema.specs.Tables.{IsOurs, ours_with}
-use Rattle.pw_store.specs.Content.{content_of, records_of, energy_in, payment_in, IsReadingRow, IsAssignmentRow, IsTopupRow, point_in, start_in, total_in, energy_told, payment_told, reading_tree, assignment_tree, topup_tree, point_tree, start_tree, total_tree, payment_tree}
+use Rattle.pw_schema.specs.declared.kind.RecordKind.{RecordKind}
+use Rattle.pw_schema.specs.declared.kind.RecordKind.TheVariants.{Readings, Assignments, TopUps, WithdrawnReadings, WithdrawnAssignments, WithdrawnTopUps}
+use Rattle.pw_schema.specs.declared.kind.StoreVersion.TheVariants.{Second}
+use Rattle.pw_store.specs.Content.{content_of, records_of, kinds_of, tree_of, IsRowOf, energy_in, payment_in, IsReadingRow, IsAssignmentRow, point_in, start_in, total_in, energy_told, payment_told, point_tree, start_tree, total_tree, payment_tree}
+use Rattle.pw_store.proofs.OfKinds.{same_among}
 
 -- the trees of points, starts and totals are the same
 pub record SameSums (old new : Trees) : Type 0 where
@@ -34,17 +38,15 @@ pub record SameSums (old new : Trees) : Type 0 where
   pub payment : new payment_tree ≡ old payment_tree
 
 -- those of the records are
-pub record SameRecords (old new : Trees) : Type 0 where
-  pub reading : new reading_tree ≡ old reading_tree
-  pub assignment : new assignment_tree ≡ old assignment_tree
-  pub topup : new topup_tree ≡ old topup_tree
+abbrev pub SameRecords : Trees → Trees → Type 0
+SameRecords old new = (k : RecordKind) → new (tree_of k) ≡ old (tree_of k)
 
-pub same_sums : (checks : List Term) (tree : ℕ) (old new : Trees) → tree < 7 → AllByRecursion (λ t. t.tree ≢ tree → new t.tree ≡ old t.tree) (ours_with checks).tables → SameSums old new
+pub same_sums : (checks : List Term) (tree : ℕ) (old new : Trees) → (tree < 7) ⊎ (13 < tree) → AllByRecursion (λ t. t.tree ≢ tree → new t.tree ≡ old t.tree) (ours_with checks).tables → SameSums old new
 same_sums checks tree old new low t = record {
-  point = t.1.1.1.1.0 (λ e. omega (arith, e, low));
-  start = t.1.1.1.1.1.0 (λ e. omega (arith, e, low));
-  total = t.1.1.1.1.1.1.0 (λ e. omega (arith, e, low));
-  payment = t.1.1.1.1.1.1.1.0 (λ e. omega (arith, e, low));
+  point = t.1.1.1.1.0 (λ e. elim low [ inl l ↦ omega (arith, e, l) | inr h ↦ omega (arith, e, h) ]);
+  start = t.1.1.1.1.1.0 (λ e. elim low [ inl l ↦ omega (arith, e, l) | inr h ↦ omega (arith, e, h) ]);
+  total = t.1.1.1.1.1.1.0 (λ e. elim low [ inl l ↦ omega (arith, e, l) | inr h ↦ omega (arith, e, h) ]);
+  payment = t.1.1.1.1.1.1.1.0 (λ e. elim low [ inl l ↦ omega (arith, e, l) | inr h ↦ omega (arith, e, h) ]);
 }
 
 pub same_totals : (old new : Trees) → new total_tree ≡ old total_tree → new payment_tree ≡ old payment_tree → total_in new ≡ total_in old
@@ -66,24 +68,35 @@ with_record e old new inserted same = record {
 abbrev pub AreElseSame : List Term → ℕ → Trees → Trees → Type 0
 AreElseSame checks tree old new = AllByRecursion (λ t. t.tree ≢ tree → new t.tree ≡ old t.tree) (ours_with checks).tables
 
-pub same_records : (checks : List Term) (tree : ℕ) (old new : Trees) → 6 < tree → AreElseSame checks tree old new → SameRecords old new
-same_records checks tree old new high t = record {
-  reading = t.1.0 (λ e. omega (arith, e, high));
-  assignment = t.1.1.0 (λ e. omega (arith, e, high));
-  topup = t.1.1.1.0 (λ e. omega (arith, e, high));
-}
+-- of records but those at a tree
+pub else_same : (checks : List Term) (tree : ℕ) (old new : Trees) → AreElseSame checks tree old new → (k : RecordKind) → (tree_of k ≡ tree → ⊥) → new (tree_of k) ≡ old (tree_of k)
+else_same checks tree old new t Readings apart = t.1.0 apart
+else_same checks tree old new t Assignments apart = t.1.1.0 apart
+else_same checks tree old new t TopUps apart = t.1.1.1.0 apart
+else_same checks tree old new t WithdrawnReadings apart = t.1.1.1.1.1.1.1.1.0 apart
+else_same checks tree old new t WithdrawnAssignments apart = t.1.1.1.1.1.1.1.1.1.0 apart
+else_same checks tree old new t WithdrawnTopUps apart = t.1.1.1.1.1.1.1.1.1.1.0 apart
+
+pub same_records : (checks : List Term) (tree : ℕ) (old new : Trees) → 6 < tree → tree < 14 → AreElseSame checks tree old new → SameRecords old new
+same_records checks tree old new high low t k = else_same checks tree old new t k (λ e. between k e)
+  where
+    between : (j : RecordKind) → tree_of j ≡ tree → ⊥
+    between Readings e = omega (arith, e, high)
+    between Assignments e = omega (arith, e, high)
+    between TopUps e = omega (arith, e, high)
+    between WithdrawnReadings e = omega (arith, e, low)
+    between WithdrawnAssignments e = omega (arith, e, low)
+    between WithdrawnTopUps e = omega (arith, e, low)
 
 pub records_kept : (old new : Trees) → SameRecords old new → records_of new ≡ records_of old
-records_kept old new same = rw (same.reading, same.assignment, same.topup) refl
+records_kept old new same = same_among (kinds_of Second) old new (λ k at. same k)
 
 pub store_kept : (old new : Database) → IsOurs new.schema → SameRecords old.trees new.trees → IsStore old
     → AreKeyed IsReadingRow key_in_point (new.trees point_tree) → AreKeyed IsAssignmentRow key_in_start (new.trees start_tree)
     → AreKeyed IsEnergyRow energy_in (new.trees total_tree) → AreKeyed IsPaymentRow payment_in (new.trees payment_tree) → IsStore new
 store_kept old new is same store p s e y = record {
   ours = is;
-  readings = subst (AllByRecursion IsReadingRow) (sym same.reading) store.readings;
-  assignments = subst (AllByRecursion IsAssignmentRow) (sym same.assignment) store.assignments;
-  topups = subst (AllByRecursion IsTopupRow) (sym same.topup) store.topups;
+  rows = λ k. subst (AllByRecursion (IsRowOf k)) (sym (same k)) (store.rows k);
   once = subst EachOnce (sym (records_kept old.trees new.trees same)) store.once;
   points = p;
   starts = s;

@@ -84,7 +84,7 @@ module _ (old new : State) (a : AccountId) (count : ℕ) (store : IsStore old.no
 
   pub takes : Makes (λ c. with_total c (total.TopUps a) 0) old new
   takes = record {
-    store = store_kept old.now new.now deleted.0 (same_records own 13 old.now.trees new.now.trees (omega arith) others) store
+    store = store_kept old.now new.now deleted.0 (same_records own 13 old.now.trees new.now.trees (omega arith) (omega arith) others) store
         (subst (AreKeyed IsReadingRow key_in_point) (sym (others.1.1.1.1.0 (λ e. absurd (omega (arith, e))))) store.points)
         (subst (AreKeyed IsAssignmentRow key_in_start) (sym (others.1.1.1.1.1.0 (λ e. absurd (omega (arith, e))))) store.starts)
         (subst (AreKeyed IsEnergyRow energy_in) (sym (others.1.1.1.1.1.1.0 (λ e. absurd (omega (arith, e))))) store.energies)
@@ -92,7 +92,7 @@ module _ (old new : State) (a : AccountId) (count : ℕ) (store : IsStore old.no
     keeps = keeps_rows own _ old.now.trees new.now.trees _ deleted.1.2 (omega arith) (omega arith)
         (λ before all. subst (AllByRecursion (IsOldEnergy before)) (sym (others.1.1.1.1.1.1.0 (λ e. absurd (omega (arith, e))))) all)
         (λ before all. fewer (IsOldPayment before) (λ row. not (at_key a row)) (old.now.trees 13) (new.now.trees 13) left all);
-    content = content_with_total old.now.trees new.now.trees (total.TopUps a) 0 (same_records own 13 old.now.trees new.now.trees (omega arith) others) (others.1.1.1.1.0 (λ e. absurd (omega (arith, e)))) (others.1.1.1.1.1.0 (λ e. absurd (omega (arith, e)))) told_left;
+    content = content_with_total old.now.trees new.now.trees (total.TopUps a) 0 (same_records own 13 old.now.trees new.now.trees (omega arith) (omega arith) others) (others.1.1.1.1.0 (λ e. absurd (omega (arith, e)))) (others.1.1.1.1.1.0 (λ e. absurd (omega (arith, e)))) told_left;
     shows = delete_inside delete_payment_text 7 delete_payment_query delete_payment_is old new store.ours (params a) count h inside;
   }
 
@@ -133,7 +133,7 @@ module _ (old new : State) (a : AccountId) (v : ℕ) (count : ℕ) (above : 0 < 
 
   pub puts : Makes (λ c. with_total c (total.TopUps a) v) old new
   puts = record {
-    store = store_kept old.now new.now inserted.0 (same_records checks 13 old.now.trees new.now.trees (omega arith) elsewhere) store
+    store = store_kept old.now new.now inserted.0 (same_records checks 13 old.now.trees new.now.trees (omega arith) (omega arith) elsewhere) store
         (subst (AreKeyed IsReadingRow key_in_point) (sym (elsewhere.1.1.1.1.0 (λ e. absurd (omega (arith, e))))) store.points)
         (subst (AreKeyed IsAssignmentRow key_in_start) (sym (elsewhere.1.1.1.1.1.0 (λ e. absurd (omega (arith, e))))) store.starts)
         (subst (AreKeyed IsEnergyRow energy_in) (sym (elsewhere.1.1.1.1.1.1.0 (λ e. absurd (omega (arith, e))))) store.energies)
@@ -141,7 +141,7 @@ module _ (old new : State) (a : AccountId) (v : ℕ) (count : ℕ) (above : 0 < 
     keeps = keeps_rows checks _ old.now.trees new.now.trees _ inserted.1 (omega arith) (omega arith)
         (λ before all. subst (AllByRecursion (IsOldEnergy before)) (sym (elsewhere.1.1.1.1.1.1.0 (λ e. absurd (omega (arith, e))))) all)
         (λ before all. more (IsOldPayment before) row (old.now.trees 13) (new.now.trees 13) put (λ none. absurd (omega (arith, above, none))) all);
-    content = content_with_total old.now.trees new.now.trees (total.TopUps a) v (same_records checks 13 old.now.trees new.now.trees (omega arith) elsewhere) (elsewhere.1.1.1.1.0 (λ e. absurd (omega (arith, e)))) (elsewhere.1.1.1.1.1.0 (λ e. absurd (omega (arith, e)))) told_put;
+    content = content_with_total old.now.trees new.now.trees (total.TopUps a) v (same_records checks 13 old.now.trees new.now.trees (omega arith) (omega arith) elsewhere) (elsewhere.1.1.1.1.0 (λ e. absurd (omega (arith, e)))) (elsewhere.1.1.1.1.1.0 (λ e. absurd (omega (arith, e)))) told_put;
     shows = insert_inside insert_payment_text 7 3 payment_terms insert_payment_is old new store.ours given count h inside;
   }
 

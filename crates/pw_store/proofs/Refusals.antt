@@ -12,10 +12,10 @@ use Rattle.pw_schema.specs.Judges.{HasRead}
 use Rattle.pw_schema.specs.Judging.{AreRecords, IsRecord}
 use Rattle.pw_schema.specs.Rows.{told}
 use Rattle.pw_schema.proofs.Taken.{took_records}
+use Rattle.pw_store.specs.Content.{entries_of, tree_of}
 use Rattle.pw_store.specs.declared.fault.OpenFault.{OpenFault}
 use Rattle.pw_store.specs.declared.fault.OpenFault.TheVariants.{Unclean}
 use Rattle.pw_store.specs.Opening.{HoldsRecords}
-use Rattle.pw_store.specs.Shown.{entries_of, tree_of}
 use Rattle.pw_store.specs.declared.listings.Listing.TheVariants as listing
 use Rattle.pw_store.specs.inner.Listings.{ShowsAll}
 use Rattle.pw_store.specs.inner.Opened.{RefusesUnless}

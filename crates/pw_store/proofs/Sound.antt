@@ -1,5 +1,6 @@
 -- From rows that were read in order to the records of the tables, each once.
-use Rattle.std.proofs.Common.{◌≡◌, inl, inr, ℕ, zero, suc, ◌+◌, List, [], ◌∷◌, ◌++◌, map, append_assoc, refl, sym, ap, subst, subst₂, ◌∙◌}
+use Rattle.std.proofs.Common.{◌≡◌, ◌<◌, inl, inr, ℕ, ◌+◌, take, List, [], ◌∷◌, ◌++◌, map, append_assoc, refl, sym, ap, subst, subst₂, ◌∙◌, arith}
+use Rattle.std.proofs.lemmas.Bool.{cases_lt}
 use Rattle.std.specs.List.{AllByRecursion}
 use Rattle.std.specs.List.Sorted.{IsPermutation}
 use Rattle.std.proofs.lemmas.List.Sorted.{IsPermutation-sym, IsPermutation-append}
@@ -9,17 +10,14 @@ use Rattle.sqlite.specs.Tree.{Trees}
 use Rattle.sqlite.specs.Effect.{Database}
 use Rattle.sqlite.specs.State.{State, IsUnchanged}
 use Rattle.pw_tariff.specs.Office.{OfficeRules}
-use Rattle.pw_model.specs.declared.records.Key.{Key}
-use Rattle.pw_model.specs.declared.records.Key.TheVariants as key
 use Rattle.pw_model.specs.declared.records.Entry.{Entry}
-use Rattle.pw_model.specs.Counting.{Member, EachOnce}
 use Rattle.pw_model.specs.Office.{AllOfOffice, IsOfOffice}
 use Rattle.pw_schema.specs.declared.kind.RecordKind.{RecordKind}
-use Rattle.pw_schema.specs.declared.kind.RecordKind.TheVariants.{Readings, Assignments, TopUps}
+use Rattle.pw_schema.specs.declared.kind.RecordKind.TheVariants.{Readings, Assignments, TopUps, WithdrawnReadings, WithdrawnAssignments, WithdrawnTopUps}
+use Rattle.pw_schema.specs.declared.kind.StoreVersion.TheVariants.{Second}
 use Rattle.pw_schema.specs.Tables.{IsOurs}
-use Rattle.pw_store.specs.Content.{records_of, total_tree, payment_tree}
+use Rattle.pw_store.specs.Content.{IsRowOf, entries_of, entry_in, kinds_of, payment_tree, records_among, records_of, total_tree, tree_of}
 use Rattle.pw_store.specs.Kept.{IsStore}
-use Rattle.pw_store.specs.Shown.{IsRowOf, entries_of, entry_in, tree_of}
 use Rattle.pw_store.specs.declared.listings.Listing.TheVariants as listing
 use Rattle.pw_store.specs.inner.Lists.{shown}
 use Rattle.pw_store.specs.inner.Listings.{ShowsAll}
@@ -34,13 +32,17 @@ use Rattle.pw_store.specs.inner.Opened.{RefusesUnless}
 use Rattle.pw_store.proofs.InTurn.{trees_same}
 use Rattle.pw_store.proofs.Scanning.{refuses_more}
 use Rattle.pw_store.proofs.Once.{once-permuted, permuted}
-use Rattle.pw_store.proofs.Lists.{told_permuted, member_in}
+use Rattle.pw_store.proofs.Lists.{told_permuted}
+use Rattle.pw_store.proofs.OfKinds.{each_kind, kinds_once, member_in, office_among, once_among, place}
 
 pub of_shown : (k : RecordKind) (rows : List Row) → AllByRecursion (Tells k) (map (shown k) rows) → AllByRecursion (IsRowOf k) rows
 of_shown k [] all = tt
 of_shown Readings (r ∷ rows) all = (all.0, of_shown Readings rows all.1)
 of_shown Assignments (r ∷ rows) all = (all.0, of_shown Assignments rows all.1)
 of_shown TopUps (r ∷ rows) all = (all.0, of_shown TopUps rows all.1)
+of_shown WithdrawnReadings (r ∷ rows) all = (all.0, of_shown WithdrawnReadings rows all.1)
+of_shown WithdrawnAssignments (r ∷ rows) all = (all.0, of_shown WithdrawnAssignments rows all.1)
+of_shown WithdrawnTopUps (r ∷ rows) all = (all.0, of_shown WithdrawnTopUps rows all.1)
 
 pub told_of_office : (office : OfficeRules) (k : RecordKind) (rows : List Row) → AllByRecursion (IsRecord office k) rows → AllOfOffice office (map (told k) rows)
 told_of_office office k [] all e m = absurd m
@@ -64,6 +66,9 @@ to_shown office k [] all of = tt
 to_shown office Readings (r ∷ rows) all of = ((all.0, of _ (inl refl)), to_shown office Readings rows all.1 (λ e m. of e (inr m)))
 to_shown office Assignments (r ∷ rows) all of = ((all.0, of _ (inl refl)), to_shown office Assignments rows all.1 (λ e m. of e (inr m)))
 to_shown office TopUps (r ∷ rows) all of = ((all.0, of _ (inl refl)), to_shown office TopUps rows all.1 (λ e m. of e (inr m)))
+to_shown office WithdrawnReadings (r ∷ rows) all of = ((all.0, of _ (inl refl)), to_shown office WithdrawnReadings rows all.1 (λ e m. of e (inr m)))
+to_shown office WithdrawnAssignments (r ∷ rows) all of = ((all.0, of _ (inl refl)), to_shown office WithdrawnAssignments rows all.1 (λ e m. of e (inr m)))
+to_shown office WithdrawnTopUps (r ∷ rows) all of = ((all.0, of _ (inl refl)), to_shown office WithdrawnTopUps rows all.1 (λ e m. of e (inr m)))
 
 pub good_back : (office : OfficeRules) (k : RecordKind) (db : Trees) (rows : List Row) → ShowsAll (listing.Records k) db rows → HoldsRecords office k db → AreRecords office k rows
 good_back office k db rows shows held = record {
@@ -71,57 +76,16 @@ good_back office k db rows shows held = record {
   once = once-permuted (entries_of k db) (map (told k) rows) (told_permuted k (db (tree_of k)) rows shows) held.once;
 }
 
--- ---- all three together
--- which kind the key of a record is of
-abbrev IsKeyOf : RecordKind → Key → Type 0
-IsKeyOf Readings (key.Reading m r t) = Unit {0}
-IsKeyOf Assignments (key.Assignment m t) = Unit {0}
-IsKeyOf TopUps (key.TopUp r) = Unit {0}
-IsKeyOf _ _ = ⊥
-
-key_of : (k : RecordKind) (rows : List Row) (x : Entry) → Member x (map (entry_in k) rows) → IsKeyOf k x.key
-key_of k [] x m = absurd m
-key_of Readings (r ∷ rows) x (inl i) = subst (λ (e : Entry). IsKeyOf Readings e.key) (sym i) tt
-key_of Assignments (r ∷ rows) x (inl i) = subst (λ (e : Entry). IsKeyOf Assignments e.key) (sym i) tt
-key_of TopUps (r ∷ rows) x (inl i) = subst (λ (e : Entry). IsKeyOf TopUps e.key) (sym i) tt
-key_of Readings (r ∷ rows) x (inr m) = key_of Readings rows x m
-key_of Assignments (r ∷ rows) x (inr m) = key_of Assignments rows x m
-key_of TopUps (r ∷ rows) x (inr m) = key_of TopUps rows x m
-
-one_kind : (k : Key) → (IsKeyOf Readings k → IsKeyOf Assignments k → ⊥) × ((IsKeyOf Readings k → IsKeyOf TopUps k → ⊥) × (IsKeyOf Assignments k → IsKeyOf TopUps k → ⊥))
-one_kind (key.Reading m r t) = (λ a b. b, (λ a b. b, λ a b. b))
-one_kind (key.Assignment m t) = (λ a b. a, (λ a b. a, λ a b. b))
-one_kind (key.TopUp r) = (λ a b. a, (λ a b. a, λ a b. a))
-one_kind (key.Withdrawal n) = (λ a b. a, (λ a b. a, λ a b. a))
-
-member_front : {X : Type 0} (x : X) (xs ys : List X) → Member x xs → Member x (xs ++ ys)
-member_front x [] ys m = absurd m
-member_front x (z ∷ xs) ys (inl i) = inl i
-member_front x (z ∷ xs) ys (inr m) = inr (member_front x xs ys m)
-
-once_both : (xs ys : List Entry) → EachOnce xs → EachOnce ys → ((x : Entry) → Member x xs → Member x ys → ⊥) → EachOnce (xs ++ ys)
-once_both [] ys a b apart = b
-once_both (x ∷ xs) ys a b apart = (
-  λ m. elim (member_in x xs ys m) [ inl i ↦ a.0 i | inr j ↦ apart x (inl refl) j ],
-  once_both xs ys a.1 b (λ y m n. apart y (inr m) n),
-)
-
+-- ---- all of them together
 pub all_both : (office : OfficeRules) (xs ys : List Entry) → AllOfOffice office xs → AllOfOffice office ys → AllOfOffice office (xs ++ ys)
 all_both office xs ys a b e m = elim (member_in e xs ys m) [ inl i ↦ a e i | inr j ↦ b e j ]
 
-module _ (office : OfficeRules) (db : Database) (ours : IsOurs db.schema) (r : HoldsRecords office Readings db.trees) (a : HoldsRecords office Assignments db.trees) (t : HoldsRecords office TopUps db.trees) (s : HoldsSums office db.trees) (n : AreAllNumbered db.trees) where
+module _ (office : OfficeRules) (db : Database) (ours : IsOurs db.schema) (all : HoldsAllRecords Second office db.trees) (s : HoldsSums office db.trees) (n : AreAllNumbered db.trees) where
   pub sound_store : IsStore db
   sound_store = record {
     ours = ours;
-    readings = r.rows;
-    assignments = a.rows;
-    topups = t.rows;
-    once = once_both (entries_of Readings db.trees) (entries_of Assignments db.trees ++ entries_of TopUps db.trees) r.once
-        (once_both (entries_of Assignments db.trees) (entries_of TopUps db.trees) a.once t.once (λ x m n. (one_kind x.key).1.1 (key_of Assignments _ x m) (key_of TopUps _ x n)))
-        (λ x m n. elim (member_in x (entries_of Assignments db.trees) (entries_of TopUps db.trees) n) [
-          | inl i ↦ (one_kind x.key).0 (key_of Readings _ x m) (key_of Assignments _ x i)
-          | inr j ↦ (one_kind x.key).1.0 (key_of Readings _ x m) (key_of TopUps _ x j)
-        ]);
+    rows = λ k. (all k (each_kind k)).rows;
+    once = once_among (kinds_of Second) db.trees (kinds_once Second) (λ k at. (all k at).once);
     points = record { each = s.points.rows; ids = n.points.ids; numbered = n.points.numbered; once = s.points.once };
     starts = record { each = s.starts.rows; ids = n.starts.ids; numbered = n.starts.numbered; once = s.starts.once };
     energies = record { each = all_weaker (λ row. IsTotalRow Energies row × IsTotalOf office (key_of_total Energies row)) IsEnergyRow (λ row it. it.0) (db.trees total_tree) s.energies.rows; ids = n.energies.ids; numbered = n.energies.numbered; once = s.energies.once };
@@ -129,43 +93,85 @@ module _ (office : OfficeRules) (db : Database) (ours : IsOurs db.schema) (r : H
   }
 
   pub sound_office : AllOfOffice office (records_of db.trees)
-  sound_office = all_both office (entries_of Readings db.trees) (entries_of Assignments db.trees ++ entries_of TopUps db.trees) r.of_office (all_both office (entries_of Assignments db.trees) (entries_of TopUps db.trees) a.of_office t.of_office)
+  sound_office = office_among office (kinds_of Second) db.trees (λ k at. (all k at).of_office)
 
 -- ---- the kinds, checked one after the other
--- the place of a kind among them
-abbrev pub place : RecordKind → ℕ
-place Readings = 0
-place Assignments = 1
-place TopUps = 2
-
 -- of so many kinds: their records
 abbrev pub first_records : ℕ → Trees → List Entry
-first_records zero db = []
-first_records (suc zero) db = entries_of Readings db
-first_records (suc (suc zero)) db = entries_of Readings db ++ entries_of Assignments db
-first_records (suc (suc (suc n))) db = records_of db
+first_records n db = records_among (take n (kinds_of Second)) db
 
 -- and that they are those of the office, each once
 abbrev pub HoldsFirst : ℕ → OfficeRules → Trees → Type 0
-HoldsFirst zero office db = Unit {0}
-HoldsFirst (suc zero) office db = HoldsRecords office Readings db
-HoldsFirst (suc (suc zero)) office db = HoldsRecords office Readings db × HoldsRecords office Assignments db
-HoldsFirst (suc (suc (suc n))) office db = HoldsAllRecords office db
+HoldsFirst n office db = (k : RecordKind) → place k < n → HoldsRecords office k db
 
-next_hold : (k : RecordKind) (office : OfficeRules) (db : Trees) → HoldsFirst (place k) office db → HoldsRecords office k db → HoldsFirst (place k + 1) office db
-next_hold Readings office db before it = it
-next_hold Assignments office db before it = (before, it)
-next_hold TopUps office db before it = record { readings = before.0; assignments = before.1; topups = it }
+place_low : (k : RecordKind) → place k < 6
+place_low Readings = omega arith
+place_low Assignments = omega arith
+place_low TopUps = omega arith
+place_low WithdrawnReadings = omega arith
+place_low WithdrawnAssignments = omega arith
+place_low WithdrawnTopUps = omega arith
+
+same_kind : (j k : RecordKind) → place j ≡ place k → j ≡ k
+same_kind Readings Readings e = refl
+same_kind Assignments Assignments e = refl
+same_kind TopUps TopUps e = refl
+same_kind WithdrawnReadings WithdrawnReadings e = refl
+same_kind WithdrawnAssignments WithdrawnAssignments e = refl
+same_kind WithdrawnTopUps WithdrawnTopUps e = refl
+same_kind Readings Assignments e = absurd (omega (arith, e))
+same_kind Readings TopUps e = absurd (omega (arith, e))
+same_kind Readings WithdrawnReadings e = absurd (omega (arith, e))
+same_kind Readings WithdrawnAssignments e = absurd (omega (arith, e))
+same_kind Readings WithdrawnTopUps e = absurd (omega (arith, e))
+same_kind Assignments Readings e = absurd (omega (arith, e))
+same_kind Assignments TopUps e = absurd (omega (arith, e))
+same_kind Assignments WithdrawnReadings e = absurd (omega (arith, e))
+same_kind Assignments WithdrawnAssignments e = absurd (omega (arith, e))
+same_kind Assignments WithdrawnTopUps e = absurd (omega (arith, e))
+same_kind TopUps Readings e = absurd (omega (arith, e))
+same_kind TopUps Assignments e = absurd (omega (arith, e))
+same_kind TopUps WithdrawnReadings e = absurd (omega (arith, e))
+same_kind TopUps WithdrawnAssignments e = absurd (omega (arith, e))
+same_kind TopUps WithdrawnTopUps e = absurd (omega (arith, e))
+same_kind WithdrawnReadings Readings e = absurd (omega (arith, e))
+same_kind WithdrawnReadings Assignments e = absurd (omega (arith, e))
+same_kind WithdrawnReadings TopUps e = absurd (omega (arith, e))
+same_kind WithdrawnReadings WithdrawnAssignments e = absurd (omega (arith, e))
+same_kind WithdrawnReadings WithdrawnTopUps e = absurd (omega (arith, e))
+same_kind WithdrawnAssignments Readings e = absurd (omega (arith, e))
+same_kind WithdrawnAssignments Assignments e = absurd (omega (arith, e))
+same_kind WithdrawnAssignments TopUps e = absurd (omega (arith, e))
+same_kind WithdrawnAssignments WithdrawnReadings e = absurd (omega (arith, e))
+same_kind WithdrawnAssignments WithdrawnTopUps e = absurd (omega (arith, e))
+same_kind WithdrawnTopUps Readings e = absurd (omega (arith, e))
+same_kind WithdrawnTopUps Assignments e = absurd (omega (arith, e))
+same_kind WithdrawnTopUps TopUps e = absurd (omega (arith, e))
+same_kind WithdrawnTopUps WithdrawnReadings e = absurd (omega (arith, e))
+same_kind WithdrawnTopUps WithdrawnAssignments e = absurd (omega (arith, e))
+
+behind_none : (xs : List Entry) → xs ++ [] ≡ xs
+behind_none [] = refl
+behind_none (x ∷ xs) = ap (λ ys. x ∷ ys) (behind_none xs)
 
 next_records : (k : RecordKind) (db : Trees) → first_records (place k) db ++ entries_of k db ≡ first_records (place k + 1) db
-next_records Readings db = refl
-next_records Assignments db = refl
-next_records TopUps db = append_assoc (entries_of Readings db) (entries_of Assignments db) (entries_of TopUps db)
+next_records k db = records_next (take (place k) (kinds_of Second)) k db ∙ ap (λ kinds. records_among kinds db) (taken k)
+  where
+    records_next : (kinds : List RecordKind) (j : RecordKind) (d : Trees) → records_among kinds d ++ entries_of j d ≡ records_among (kinds ++ j ∷ []) d
+    records_next [] j d = sym (behind_none (entries_of j d))
+    records_next (l ∷ kinds) j d = append_assoc (entries_of l d) (records_among kinds d) (entries_of j d) ∙ ap (λ xs. entries_of l d ++ xs) (records_next kinds j d)
 
-one_of_all : (k : RecordKind) (office : OfficeRules) (db : Trees) → HoldsAllRecords office db → HoldsRecords office k db
-one_of_all Readings office db all = all.readings
-one_of_all Assignments office db all = all.assignments
-one_of_all TopUps office db all = all.topups
+    taken : (j : RecordKind) → take (place j) (kinds_of Second) ++ j ∷ [] ≡ take (place j + 1) (kinds_of Second)
+    taken Readings = refl
+    taken Assignments = refl
+    taken TopUps = refl
+    taken WithdrawnReadings = refl
+    taken WithdrawnAssignments = refl
+    taken WithdrawnTopUps = refl
+
+-- all of them at last
+pub all_hold : (office : OfficeRules) (db : Trees) → HoldsFirst 6 office db → HoldsAllRecords Second office db
+all_hold office db first k at = first k (place_low k)
 
 -- the next kind, checked at a connection that is as it was
 module _ (office : OfficeRules) (old now : State) (same : IsUnchanged old now) (k : RecordKind) (n : ℕ) (at : n ≡ place k) where
@@ -173,7 +179,10 @@ module _ (office : OfficeRules) (old now : State) (same : IsUnchanged old now) (
   here = trees_same old now same
 
   pub one_more_holds : HoldsFirst n office old.now.trees → HoldsRecords office k now.now.trees → HoldsFirst (n + 1) office old.now.trees
-  one_more_holds before it = subst (λ m. HoldsFirst (m + 1) office old.now.trees) (sym at) (next_hold k office old.now.trees (subst (λ m. HoldsFirst m office old.now.trees) at before) (subst (HoldsRecords office k) here it))
+  one_more_holds before it j low = elim (cases_lt (place j) n) [
+    | inl less ↦ before j less
+    | inr high ↦ subst (λ l. HoldsRecords office l old.now.trees) (same_kind k j (omega (arith, low, high, at))) (subst (HoldsRecords office k) here it)
+  ]
 
   pub one_more_listed : (all found more : List Entry) → IsPermutation (first_records n old.now.trees) all → IsPermutation (entries_of k now.now.trees) found → more ≡ all ++ found → IsPermutation (first_records (n + 1) old.now.trees) more
   one_more_listed all found more before it is =
@@ -181,5 +190,5 @@ module _ (office : OfficeRules) (old now : State) (same : IsUnchanged old now) (
       let both = IsPermutation-append (first_records (place k) db) all (entries_of k db) found (subst (λ m. IsPermutation (first_records m db) all) at before) (subst (λ d. IsPermutation (entries_of k d) found) here it) in
       subst₂ IsPermutation (next_records k db ∙ ap (λ m. first_records (m + 1) db) (sym at)) (sym is) both
 
-  pub one_refused : (fault : OpenFault) → RefusesUnless (HoldsRecords office k now.now.trees) fault → RefusesUnless (HoldsAllRecords office old.now.trees) fault
-  one_refused fault refused = refuses_more _ _ fault (λ all. subst (HoldsRecords office k) (sym here) (one_of_all k office old.now.trees all)) refused
+  pub one_refused : (fault : OpenFault) → RefusesUnless (HoldsRecords office k now.now.trees) fault → RefusesUnless (HoldsAllRecords Second office old.now.trees) fault
+  one_refused fault refused = refuses_more _ _ fault (λ all. subst (HoldsRecords office k) (sym here) (all k (each_kind k))) refused

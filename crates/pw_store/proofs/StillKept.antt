@@ -22,10 +22,10 @@ pub more : (P : Row → Type 0) (row : Row) (old new : List Row) → new ≡ put
 more P row old new is one all = subst (AllByRecursion P) (sym is) (all-put_row P row old one all)
 
 -- ---- an edit of a table behind `office`
-module _ (checks : List Term) (keys : Keys) (old new : Trees) (edit : Edit) (it : Applies (ours_with checks) keys old edit new) (behind : 0 < edit.table.tree) (low : edit.table.tree < 14) where
+module _ (checks : List Term) (keys : Keys) (old new : Trees) (edit : Edit) (it : Applies (ours_with checks) keys old edit new) (behind : 0 < edit.table.tree) (low : edit.table.tree < 20) where
   listed_same : new catalog_tree ≡ old catalog_tree
   listed_same = it.others catalog_tree (λ e. absurd (omega (arith, e, low)))
-      (λ e. absurd (omega (arith, e)), (λ e. absurd (omega (arith, e)), (λ e. absurd (omega (arith, e)), (λ e. absurd (omega (arith, e)), (λ e. absurd (omega (arith, e)), (λ e. absurd (omega (arith, e)), tt))))))
+      (λ e. absurd (omega (arith, e)), (λ e. absurd (omega (arith, e)), (λ e. absurd (omega (arith, e)), (λ e. absurd (omega (arith, e)), (λ e. absurd (omega (arith, e)), (λ e. absurd (omega (arith, e)), (λ e. absurd (omega (arith, e)), (λ e. absurd (omega (arith, e)), (λ e. absurd (omega (arith, e)), tt)))))))))
 
   office_same : new 0 ≡ old 0
   office_same = it.tables.0 (λ e. absurd (omega (arith, e, behind)))

@@ -45,7 +45,8 @@ once_kept p f (r ∷ rows) h =
       | inr miss ↦ rw miss (rest.0, λ x m. inr (rest.1 x m))
     ]
 
--- The rows that pass are those whose record has the key; where all records stand, what is shown of them tells the content.
+-- The rows that pass are those whose record has the key; where their records are those that stand, what is shown of them
+-- tells the content.
 module _ (k : Key) (f : Row → Entry) (p : Row → Bool) (show : Row → Row) (content_in : Row → Content) (IsRow : Row → Type 0)
     (hits : (r : Row) → IsRow r → p r ≡ true → f r ≡ entry k (content_in (show r))) (misses : (r : Row) → IsRow r → (f r).key ≡ k → p r ≡ true) where
   kept_are : (rows : List Row) → AllByRecursion IsRow rows → map f (filter p rows) ≡ map (entry k) (map content_in (map show (filter p rows)))
@@ -65,23 +66,22 @@ module _ (k : Key) (f : Row → Entry) (p : Row → Bool) (show : Row → Row) (
     ])
   ]
 
-  pub told_at : (table : List Row) (ordered rows : List Row) (s : List Entry) → standing s ≡ s → AllByRecursion IsRow table → EachOnce (map f table)
-      → ((c : Content) → (Member (entry k c) (map f table) → Member (entry k c) s) × (Member (entry k c) s → Member (entry k c) (map f table)))
+  pub told_at : (table : List Row) (ordered rows : List Row) (s : List Entry) → AllByRecursion IsRow table → EachOnce (map f table)
+      → ((c : Content) → (Member (entry k c) (map f table) → Member (entry k c) (standing s)) × (Member (entry k c) (standing s) → Member (entry k c) (map f table)))
       → IsPermutation (map show (filter p table)) ordered → rows ≡ take 2 ordered → contents_of (map content_in rows) ≡ contents_at s k
-  told_at table ordered rows s stand all once both perm is =
+  told_at table ordered rows s all once both perm is =
       let shown = map content_in ordered in
       let kept = once_kept p f table once in
       let same : IsPermutation (map f (filter p table)) (map (entry k) shown) = subst (λ xs. IsPermutation xs (map (entry k) shown)) (sym (kept_are table all))
       (IsPermutation-map (entry k) (map content_in (map show (filter p table))) shown (IsPermutation-map content_in (map show (filter p table)) ordered perm)) in
       let each = once-permuted (map f (filter p table)) (map (entry k) shown) same kept.0 in
       let members = permuted (map f (filter p table)) (map (entry k) shown) same in
-      let here = tells_moved (map (entry k) shown) s k (contents_of shown) (λ c. (
+      let here = tells_moved (map (entry k) shown) (standing s) k (contents_of shown) (λ c. (
         λ m. (both c).0 (kept.1 (entry k c) ((members (entry k c)).1 m)),
         λ m. (members (entry k c)).0 (keeps table all c ((both c).1 m)),
       )) (tells_those k shown each) in
       let two : contents_of (map content_in rows) ≡ contents_of shown = ap (λ xs. contents_of (map content_in xs)) is ∙ ap contents_of (map_take content_in ordered) ∙ first_two shown in
-      let P : List Entry → Type 0 = λ xs. Tells xs k (contents_at s k) in
-      two ∙ tells-one s s k (contents_of shown) (contents_at s k) (λ x. (λ m. m, λ m. m)) here (subst P stand (tells s k))
+      two ∙ tells-one (standing s) (standing s) k (contents_of shown) (contents_at s k) (λ x. (λ m. m, λ m. m)) here (tells s k)
     where
       map_take : {X Y : Type 0} (g : X → Y) (xs : List X) → map g (take 2 xs) ≡ take 2 (map g xs)
       map_take g [] = refl

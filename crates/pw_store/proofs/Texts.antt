@@ -1,12 +1,13 @@
 -- What the statements mean, whatever the check of `office` says.
 use Rattle.std.proofs.Common.{◌≡◌, ℕ, pos, negsuc, List, [], ◌∷◌, codes, false, None, refl}
 use Rattle.sqlite.specs.declared.types.Value.TheVariants.{Null, Int}
-use Rattle.sqlite.specs.Term.{Term, lit, col, op2}
+use Rattle.sqlite.specs.Term.{Term, lit, col, op1, op2}
 use Rattle.sqlite_value.specs.declared.keys.Key.{Key}
 use Rattle.sqlite_value.specs.declared.keys.Collation.TheVariants.{Binary}
 use Rattle.sqlite_sql.specs.declared.ops.BinaryOp.TheVariants.{Compare}
+use Rattle.sqlite_sql.specs.declared.ops.UnaryOp.TheVariants.{Not}
 use Rattle.sqlite_sql.specs.declared.ops.CompareOp.TheVariants.{Eq}
-use Rattle.sqlite.specs.Query.{Query, inner, end}
+use Rattle.sqlite.specs.Query.{Query, counted, inner, end}
 use Rattle.sqlite.specs.Source.TheVariants.{Values}
 use Rattle.sqlite.specs.Command.TheVariants.{Insert, Select}
 use Rattle.sqlite_tied.specs.Compute.{everything}
@@ -84,17 +85,6 @@ pub has_topup_is : IsQuery has_topup_text has_topup_query
 unfolding understood everything
 has_topup_is = record { names = codes "account" ∷ []; is = λ checks. refl; unlisted = λ checks. refl; plain = λ checks. (refl, refl) }
 
--- ---- what is told of a key
-abbrev pub topup_at_text : List ℕ
-topup_at_text = codes "SELECT account, cents, instant FROM record_topup WHERE reference = ?1 LIMIT 2"
-
-abbrev pub topup_at_query : Query
-topup_at_query = record (plain_query 5 (eq 1 0 ∷ []) (col 1 2 ∷ col 1 3 ∷ col 1 4 ∷ [])) { limit = lit (Int (pos 2)) }
-
-pub topup_at_is : IsQuery topup_at_text topup_at_query
-unfolding understood everything
-topup_at_is = record { names = codes "account" ∷ codes "cents" ∷ codes "instant" ∷ []; is = λ checks. refl; unlisted = λ checks. refl; plain = λ checks. (refl, refl) }
-
 abbrev pub office_text : List ℕ
 office_text = codes "SELECT version, body FROM office WHERE id = 1"
 
@@ -142,22 +132,103 @@ pub list_assignments_is : IsQuery list_assignments_text list_assignments_query
 unfolding understood everything
 list_assignments_is = record { names = codes "meter" ∷ codes "start" ∷ codes "owner" ∷ []; is = λ checks. refl; unlisted = λ checks. refl; plain = λ checks. (refl, refl) }
 
+-- ---- withdrawals
+abbrev pub add_withdrawn_reading_text : List ℕ
+add_withdrawn_reading_text = codes "INSERT INTO withdrawn_reading (meter, register, instant, wh) VALUES (?1, ?2, ?3, ?4)"
+
+pub add_withdrawn_reading_is : IsInsert add_withdrawn_reading_text 8 5 four_terms
+unfolding understood everything
+add_withdrawn_reading_is = record { is = λ checks. refl; plain = λ checks. (refl, refl) }
+
+abbrev pub add_withdrawn_assignment_text : List ℕ
+add_withdrawn_assignment_text = codes "INSERT INTO withdrawn_assignment (meter, start, owner) VALUES (?1, ?2, ?3)"
+
+pub add_withdrawn_assignment_is : IsInsert add_withdrawn_assignment_text 9 4 three_terms
+unfolding understood everything
+add_withdrawn_assignment_is = record { is = λ checks. refl; plain = λ checks. (refl, refl) }
+
+abbrev pub add_withdrawn_topup_text : List ℕ
+add_withdrawn_topup_text = codes "INSERT INTO withdrawn_topup (reference, account, cents, instant) VALUES (?1, ?2, ?3, ?4)"
+
+pub add_withdrawn_topup_is : IsInsert add_withdrawn_topup_text 10 5 four_terms
+unfolding understood everything
+add_withdrawn_topup_is = record { is = λ checks. refl; plain = λ checks. (refl, refl) }
+
+abbrev pub has_withdrawn_reading_text : List ℕ
+has_withdrawn_reading_text = codes "SELECT wh FROM withdrawn_reading WHERE meter = ?1 AND register = ?2 AND instant = ?3 AND wh = ?4"
+
+abbrev pub has_withdrawn_reading_query : Query
+has_withdrawn_reading_query = plain_query 14 (eq 1 0 ∷ eq 2 1 ∷ eq 3 2 ∷ eq 4 3 ∷ []) (col 1 4 ∷ [])
+
+pub has_withdrawn_reading_is : IsQuery has_withdrawn_reading_text has_withdrawn_reading_query
+unfolding understood everything
+has_withdrawn_reading_is = record { names = codes "wh" ∷ []; is = λ checks. refl; unlisted = λ checks. refl; plain = λ checks. (refl, refl) }
+
+abbrev pub has_withdrawn_assignment_text : List ℕ
+has_withdrawn_assignment_text = codes "SELECT owner FROM withdrawn_assignment WHERE meter = ?1 AND start = ?2 AND owner = ?3"
+
+abbrev pub has_withdrawn_assignment_query : Query
+has_withdrawn_assignment_query = plain_query 16 (eq 1 0 ∷ eq 2 1 ∷ eq 3 2 ∷ []) (col 1 3 ∷ [])
+
+pub has_withdrawn_assignment_is : IsQuery has_withdrawn_assignment_text has_withdrawn_assignment_query
+unfolding understood everything
+has_withdrawn_assignment_is = record { names = codes "owner" ∷ []; is = λ checks. refl; unlisted = λ checks. refl; plain = λ checks. (refl, refl) }
+
+abbrev pub has_withdrawn_topup_text : List ℕ
+has_withdrawn_topup_text = codes "SELECT account FROM withdrawn_topup WHERE reference = ?1 AND account = ?2 AND cents = ?3 AND instant = ?4"
+
+abbrev pub has_withdrawn_topup_query : Query
+has_withdrawn_topup_query = plain_query 18 (eq 1 0 ∷ eq 2 1 ∷ eq 3 2 ∷ eq 4 3 ∷ []) (col 1 2 ∷ [])
+
+pub has_withdrawn_topup_is : IsQuery has_withdrawn_topup_text has_withdrawn_topup_query
+unfolding understood everything
+has_withdrawn_topup_is = record { names = codes "account" ∷ []; is = λ checks. refl; unlisted = λ checks. refl; plain = λ checks. (refl, refl) }
+
+-- ---- what is told of a key: of the records that no row of another table names
+-- a column of the other table against the same of the record
+abbrev tie : ℕ → Term
+tie at = op2 (Compare Eq Binary) (col 2 at) (col 1 at)
+
+-- none was counted
+abbrev none : Term
+none = op1 Not (col 2 0)
+
+-- the rows of one table that have no row in the other by these terms
+abbrev pub lacking : ℕ → ℕ → List Term → Query → Query
+lacking tree other ties q = record q { from = inner tree (counted 1 (inner other end) ties end) }
+
+abbrev pub four_ties : List Term
+four_ties = tie 1 ∷ tie 2 ∷ tie 3 ∷ tie 4 ∷ []
+
+abbrev pub three_ties : List Term
+three_ties = tie 1 ∷ tie 2 ∷ tie 3 ∷ []
+
 abbrev pub reading_at_text : List ℕ
-reading_at_text = codes "SELECT wh FROM record_reading WHERE meter = ?1 AND register = ?2 AND instant = ?3 LIMIT 2"
+reading_at_text = codes "SELECT wh FROM record_reading WHERE meter = ?1 AND register = ?2 AND instant = ?3 AND NOT EXISTS (SELECT 1 FROM withdrawn_reading WHERE withdrawn_reading.meter = record_reading.meter AND withdrawn_reading.register = record_reading.register AND withdrawn_reading.instant = record_reading.instant AND withdrawn_reading.wh = record_reading.wh) LIMIT 2"
 
 abbrev pub reading_at_query : Query
-reading_at_query = record (plain_query 1 (eq 1 0 ∷ eq 2 1 ∷ eq 3 2 ∷ []) (col 1 4 ∷ [])) { limit = lit (Int (pos 2)) }
+reading_at_query = record (plain_query 1 (eq 1 0 ∷ eq 2 1 ∷ eq 3 2 ∷ none ∷ []) (col 1 4 ∷ [])) { limit = lit (Int (pos 2)) }
 
-pub reading_at_is : IsQuery reading_at_text reading_at_query
+pub reading_at_is : IsQuery reading_at_text (lacking 1 14 four_ties reading_at_query)
 unfolding understood everything
 reading_at_is = record { names = codes "wh" ∷ []; is = λ checks. refl; unlisted = λ checks. refl; plain = λ checks. (refl, refl) }
 
 abbrev pub assignment_at_text : List ℕ
-assignment_at_text = codes "SELECT owner FROM record_assignment WHERE meter = ?1 AND start = ?2 LIMIT 2"
+assignment_at_text = codes "SELECT owner FROM record_assignment WHERE meter = ?1 AND start = ?2 AND NOT EXISTS (SELECT 1 FROM withdrawn_assignment WHERE withdrawn_assignment.meter = record_assignment.meter AND withdrawn_assignment.start = record_assignment.start AND withdrawn_assignment.owner = record_assignment.owner) LIMIT 2"
 
 abbrev pub assignment_at_query : Query
-assignment_at_query = record (plain_query 3 (eq 1 0 ∷ eq 2 1 ∷ []) (col 1 3 ∷ [])) { limit = lit (Int (pos 2)) }
+assignment_at_query = record (plain_query 3 (eq 1 0 ∷ eq 2 1 ∷ none ∷ []) (col 1 3 ∷ [])) { limit = lit (Int (pos 2)) }
 
-pub assignment_at_is : IsQuery assignment_at_text assignment_at_query
+pub assignment_at_is : IsQuery assignment_at_text (lacking 3 16 three_ties assignment_at_query)
 unfolding understood everything
 assignment_at_is = record { names = codes "owner" ∷ []; is = λ checks. refl; unlisted = λ checks. refl; plain = λ checks. (refl, refl) }
+
+abbrev pub topup_at_text : List ℕ
+topup_at_text = codes "SELECT account, cents, instant FROM record_topup WHERE reference = ?1 AND NOT EXISTS (SELECT 1 FROM withdrawn_topup WHERE withdrawn_topup.reference = record_topup.reference AND withdrawn_topup.account = record_topup.account AND withdrawn_topup.cents = record_topup.cents AND withdrawn_topup.instant = record_topup.instant) LIMIT 2"
+
+abbrev pub topup_at_query : Query
+topup_at_query = record (plain_query 5 (eq 1 0 ∷ none ∷ []) (col 1 2 ∷ col 1 3 ∷ col 1 4 ∷ [])) { limit = lit (Int (pos 2)) }
+
+pub topup_at_is : IsQuery topup_at_text (lacking 5 18 four_ties topup_at_query)
+unfolding understood everything
+topup_at_is = record { names = codes "account" ∷ codes "cents" ∷ codes "instant" ∷ []; is = λ checks. refl; unlisted = λ checks. refl; plain = λ checks. (refl, refl) }

@@ -1,6 +1,6 @@
 -- What the tables hold.
 -- (A format of this project. Trees are numbered by the place of their object in the file's list of objects.)
-use Rattle.std.specs.Prelude.{◌≡◌, ℕ, pos, Option, List, ◌++◌, map, find, option_map, unwrap_or}
+use Rattle.std.specs.Prelude.{◌≡◌, ℕ, pos, Option, List, [], ◌∷◌, ◌++◌, map, find, option_map, unwrap_or}
 use Rattle.sqlite.specs.declared.types.Value.TheVariants.{Int, Text}
 use Rattle.sqlite.specs.Order.{Row, column}
 use Rattle.sqlite.specs.Tree.{Trees}
@@ -10,13 +10,18 @@ use Rattle.pw_tariff.specs.Office.{register_place}
 use Rattle.pw_model.specs.declared.records.Key.TheVariants as key
 use Rattle.pw_model.specs.declared.records.Content.TheVariants as content
 use Rattle.pw_model.specs.declared.records.Entry.{Entry}
+use Rattle.pw_model.specs.declared.records.Named.TheVariants as named
 use Rattle.pw_model.specs.declared.records.TotalKey.{TotalKey}
 use Rattle.pw_model.specs.declared.records.TotalKey.TheVariants as total
 use Rattle.pw_model.specs.Counting.{assignment_key, reading_key}
 use Rattle.pw_model.specs.Same.{same_key}
 use Rattle.pw_model.specs.Shelf.{ShelfContent}
 use Rattle.pw_shelf.specs.Changes.{same_total}
-use Rattle.pw_schema.specs.Rows.{direction_at, number, owner_at, register_at, text}
+use Rattle.pw_schema.specs.declared.kind.RecordKind.{RecordKind}
+use Rattle.pw_schema.specs.declared.kind.RecordKind.TheVariants.{Readings, Assignments, TopUps, WithdrawnReadings, WithdrawnAssignments, WithdrawnTopUps}
+use Rattle.pw_schema.specs.declared.kind.StoreVersion.{StoreVersion}
+use Rattle.pw_schema.specs.declared.kind.StoreVersion.TheVariants.{First, Second}
+use Rattle.pw_schema.specs.Rows.{direction_at, number, owner_at, register_at, text, withdrawal}
 
 -- where each table's rows are
 abbrev pub reading_tree : ℕ
@@ -40,6 +45,15 @@ total_tree = 11
 abbrev pub payment_tree : ℕ
 payment_tree = 13
 
+abbrev pub withdrawn_reading_tree : ℕ
+withdrawn_reading_tree = 14
+
+abbrev pub withdrawn_assignment_tree : ℕ
+withdrawn_assignment_tree = 16
+
+abbrev pub withdrawn_topup_tree : ℕ
+withdrawn_topup_tree = 18
+
 -- ---- the record of a row of a table, behind its rowid
 abbrev pub reading_in : Row → Entry
 reading_in r = record { key = key.Reading (record { 0 = number (column r 1) }) (register_at (number (column r 2))) (number (column r 3)); content = content.Reading (number (column r 4)) }
@@ -49,6 +63,19 @@ assignment_in r = record { key = key.Assignment (record { 0 = number (column r 1
 
 abbrev pub topup_in : Row → Entry
 topup_in r = record { key = key.TopUp (text (column r 1)); content = content.TopUp (record { 0 = number (column r 2) }) (number (column r 3)) (number (column r 4)) }
+
+-- of a table of withdrawn records, the withdrawal that names such a record
+abbrev pub withdrawn_reading_in : Row → Entry
+withdrawn_reading_in r =
+    withdrawal (named.Reading (record { 0 = number (column r 1) }) (register_at (number (column r 2))) (number (column r 3)) (number (column r 4)))
+
+abbrev pub withdrawn_assignment_in : Row → Entry
+withdrawn_assignment_in r =
+    withdrawal (named.Assignment (record { 0 = number (column r 1) }) (number (column r 2)) (owner_at (number (column r 3))))
+
+abbrev pub withdrawn_topup_in : Row → Entry
+withdrawn_topup_in r =
+    withdrawal (named.TopUp (text (column r 1)) (record { 0 = number (column r 2) }) (number (column r 3)) (number (column r 4)))
 
 -- the values of the row are of the kinds of that of a record
 abbrev pub IsReadingRow : Row → Type 0
@@ -61,9 +88,51 @@ IsAssignmentRow r = (column r 1 ≡ Int (pos (number (column r 1)))) × ((column
 abbrev pub IsTopupRow : Row → Type 0
 IsTopupRow r = (column r 1 ≡ Text (text (column r 1))) × ((column r 2 ≡ Int (pos (number (column r 2)))) × ((column r 3 ≡ Int (pos (number (column r 3)))) × (column r 4 ≡ Int (pos (number (column r 4))))))
 
+-- ---- of a kind: where its rows are, and what one of them is
+abbrev pub tree_of : RecordKind → ℕ
+tree_of Readings = reading_tree
+tree_of Assignments = assignment_tree
+tree_of TopUps = topup_tree
+tree_of WithdrawnReadings = withdrawn_reading_tree
+tree_of WithdrawnAssignments = withdrawn_assignment_tree
+tree_of WithdrawnTopUps = withdrawn_topup_tree
+
+abbrev pub entry_in : RecordKind → Row → Entry
+entry_in Readings r = reading_in r
+entry_in Assignments r = assignment_in r
+entry_in TopUps r = topup_in r
+entry_in WithdrawnReadings r = withdrawn_reading_in r
+entry_in WithdrawnAssignments r = withdrawn_assignment_in r
+entry_in WithdrawnTopUps r = withdrawn_topup_in r
+
+abbrev pub IsRowOf : RecordKind → Row → Type 0
+IsRowOf Readings r = IsReadingRow r
+IsRowOf Assignments r = IsAssignmentRow r
+IsRowOf TopUps r = IsTopupRow r
+IsRowOf WithdrawnReadings r = IsReadingRow r
+IsRowOf WithdrawnAssignments r = IsAssignmentRow r
+IsRowOf WithdrawnTopUps r = IsTopupRow r
+
+abbrev pub entries_of : RecordKind → Trees → List Entry
+entries_of k db = map (entry_in k) (db (tree_of k))
+
 -- ---- all of them
+-- the kinds that a version has tables for
+abbrev pub kinds_of : StoreVersion → List RecordKind
+kinds_of First = Readings ∷ Assignments ∷ TopUps ∷ []
+kinds_of Second = Readings ∷ Assignments ∷ TopUps ∷ WithdrawnReadings ∷ WithdrawnAssignments ∷ WithdrawnTopUps ∷ []
+
+abbrev pub records_among : List RecordKind → Trees → List Entry
+records_among [] db = []
+records_among (k ∷ kinds) db = entries_of k db ++ records_among kinds db
+
+-- of the tables of a version
+abbrev pub records_of_version : StoreVersion → Trees → List Entry
+records_of_version v db = records_among (kinds_of v) db
+
+-- of a store that is open: the records of the three older kinds, and behind them the withdrawals
 abbrev pub records_of : Trees → List Entry
-records_of db = map reading_in (db reading_tree) ++ (map assignment_in (db assignment_tree) ++ map topup_in (db topup_tree))
+records_of db = records_of_version Second db
 
 -- ---- points, starts and totals: a point is kept as a reading is, a start as an assignment
 -- the key of a total in a row of `total`, behind its rowid
@@ -94,10 +163,15 @@ total_in db (total.Energy o b d) = unwrap_or (energy_told (db total_tree) (total
 total_in db (total.TopUps a) = unwrap_or (payment_told (db payment_tree) (total.TopUps a)) 0
 
 -- ---- the content
-abbrev pub content_of : Trees → ShelfContent
-content_of db = record {
-  records = records_of db;
+-- of the tables of a version
+abbrev pub content_of_version : StoreVersion → Trees → ShelfContent
+content_of_version v db = record {
+  records = records_of_version v db;
   point = point_in (db point_tree);
   start = start_in (db start_tree);
   total = total_in db;
 }
+
+-- of a store that is open
+abbrev pub content_of : Trees → ShelfContent
+content_of db = content_of_version Second db

@@ -13,7 +13,8 @@ use Rattle.pw_model.specs.declared.records.Key.{Key}
 use Rattle.pw_model.specs.Shelf.{ShelfContent}
 use Rattle.pw_shelf.specs.State.{State}
 use Rattle.pw_schema.specs.Tables.{IsOurs}
-use Rattle.pw_store.specs.Content.{content_of, IsReadingRow, IsAssignmentRow, IsTopupRow, reading_in, assignment_in, energy_in, payment_in, reading_tree, assignment_tree, topup_tree, point_tree, start_tree, total_tree, payment_tree, records_of}
+use Rattle.pw_schema.specs.declared.kind.RecordKind.{RecordKind}
+use Rattle.pw_store.specs.Content.{content_of, IsReadingRow, IsAssignmentRow, IsRowOf, tree_of, reading_in, assignment_in, energy_in, payment_in, point_tree, start_tree, total_tree, payment_tree, records_of}
 use Rattle.pw_store.specs.Keyed.{AreKeyed, IsEnergyRow, IsPaymentRow}
 
 -- a point is kept as a reading is, a start as an assignment
@@ -26,9 +27,7 @@ key_in_start r = (assignment_in r).key
 -- ---- a database that is a store: our tables, each row a record, each record once; points, starts and totals by their keys
 pub record IsStore (db : Database) : Type 0 where
   pub ours : IsOurs db.schema
-  pub readings : AllByRecursion IsReadingRow (db.trees reading_tree)
-  pub assignments : AllByRecursion IsAssignmentRow (db.trees assignment_tree)
-  pub topups : AllByRecursion IsTopupRow (db.trees topup_tree)
+  pub rows : (k : RecordKind) → AllByRecursion (IsRowOf k) (db.trees (tree_of k))
   pub once : EachOnce (records_of db.trees)
   pub points : AreKeyed IsReadingRow key_in_point (db.trees point_tree)
   pub starts : AreKeyed IsAssignmentRow key_in_start (db.trees start_tree)

@@ -15,11 +15,13 @@ use Rattle.pw_schema.specs.Conflicts.{AreWithoutConflict}
 use Rattle.pw_schema.specs.Judging.{KeepsOffice}
 use Rattle.pw_schema.specs.Rows.{number}
 use Rattle.pw_schema.specs.Fresh.{AreNew}
-use Rattle.pw_schema.specs.Tables.{IsOurs, no_schema}
-use Rattle.pw_store.specs.Content.{content_of, energy_in, energy_told, payment_in, payment_told, payment_tree, total_tree}
+use Rattle.pw_schema.specs.Raised.{IsRaised}
+use Rattle.pw_schema.specs.Tables.{IsOf, IsOurs, no_schema}
+use Rattle.pw_schema.specs.declared.kind.StoreVersion.TheVariants.{First, Second}
+use Rattle.pw_store.specs.Content.{content_of, content_of_version, energy_in, energy_told, payment_in, payment_told, payment_tree, total_tree}
 use Rattle.pw_store.specs.declared.fault.OpenFault.{OpenFault}
 use Rattle.pw_store.specs.declared.fault.OpenFault.TheVariants.{Store, Memory}
-use Rattle.pw_store.specs.Opening.{HasRows, KeepsText, NamesOffice, Refuses}
+use Rattle.pw_store.specs.Opening.{HasRows, HoldsTables, IsFound, IsOpenable, KeepsText, NamesOffice, Refuses}
 
 -- ---- what is kept of earlier trees
 -- a total of 0 has a key that had a row there
@@ -42,7 +44,7 @@ pub record IsLeftOf (s opened : Sql) : Type 0 where
   pub ours : (found : Database) → IsDatabase found → found.trees catalog_tree ≡ opened.now.trees catalog_tree → IsOurs found.schema
   pub now : IsTrue s.is_open → Keeps opened.now.trees s.now.trees
   pub committed : IsTrue s.is_open → Keeps opened.now.trees s.committed.trees
-  pub left : (db : Trees) → s.may_leave db → HasRows db × Keeps opened.now.trees db
+  pub left : (db : Trees) → s.may_leave db → HasRows Second db × Keeps opened.now.trees db
 
 abbrev pub KeepsOpened : Sql → Sql → Type 0
 KeepsOpened s opened = HasCleanDisk s → IsLeftOf s opened
@@ -51,6 +53,23 @@ KeepsOpened s opened = HasCleanDisk s → IsLeftOf s opened
 -- the tables of a new store with this text, where nothing was there
 abbrev pub MayBeNew : List ℕ → Sql → Trees → Type 0
 MayBeNew body s db = (s.committed.schema ≡ no_schema) × AreNew body db
+
+-- a store of version 1 brought to version 2 whole: the tables of version 2 with this text, whose rows are those of before,
+-- and so its content
+pub record IsUpgraded (body : List ℕ) (before found : Database) : Type 0 where
+  pub was : IsOf First before.schema
+  pub ours : HoldsTables Second found
+  pub listed : IsDatabase found
+  pub text : KeepsText (KeepsOffice body) found.trees
+  pub raised : IsRaised before.trees found.trees
+  pub content : content_of found.trees ≡ content_of_version First before.trees
+
+abbrev pub MayBeUpgraded : List ℕ → Database → Trees → Type 0
+MayBeUpgraded body before db = (found : Database) × (IsUpgraded body before found × (db ≡ found.trees))
+
+-- of either: the one where nothing was there, the other where a store of version 1 was
+abbrev pub MayBeMade : List ℕ → Sql → Trees → Type 0
+MayBeMade body s db = MayBeNew body s db ⊎ MayBeUpgraded body s.committed db
 
 -- ---- what a crash leaves opens again
 -- the tables of a store of this office and text
@@ -80,3 +99,14 @@ LeftOpens s opened =
 -- so it is of what a connection has committed, and of the office of the text
 abbrev pub IsLeftBehind : Sql → Sql → List ℕ → Sql → Type 0
 IsLeftBehind s opened body found = (office : OfficeFile) → IsOfficeOf body office → IsLeftSound s opened (office_of office) body found.committed
+
+-- ---- what is left of a store of version 1 that was being brought to version 2 opens again
+-- what is found refuses it only for the engine's sake, or for memory, where the store of version 1 was such as opens
+abbrev pub UpgradedOpens : Type 0
+UpgradedOpens =
+    (office : OfficeRules) (body : List ℕ) (before found : Database) (fault : OpenFault) → IsOpenable First office body before → IsUpgraded body before found
+    → Refuses office body found fault → (fault ≡ Store) ⊎ (fault ≡ Memory)
+
+-- what it holds then is what the store of version 1 held
+abbrev pub UpgradedHolds : Type 0
+UpgradedHolds = (body : List ℕ) (before found : Database) (c : ShelfContent) → IsUpgraded body before found → IsFound found c → IsFound before c

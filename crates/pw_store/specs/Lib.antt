@@ -2,14 +2,12 @@
 -- Content: what the tables hold
 -- Keyed: the rows of a table that has a key
 -- Kept: what is known of a store over SQL
--- Shown: of a kind of records, where its rows are and what one of them is
 -- Opening: what an opening finds, and why it is refused
 -- Left: what each database that a crash may leave keeps of the store that was opened
 -- Faults: the number, name and line of an opening's fault
 pub mod Content
 pub mod Keyed
 pub mod Kept
-pub mod Shown
 pub mod Opening
 pub mod Left
 pub mod Faults

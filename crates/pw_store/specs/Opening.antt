@@ -13,22 +13,22 @@ use Rattle.sqlite_sql.specs.declared.ops.BinaryOp.TheVariants.{Compare}
 use Rattle.sqlite_sql.specs.declared.ops.CompareOp.TheVariants.{Eq}
 use Rattle.pw_tariff.specs.Office.{OfficeRules}
 use Rattle.pw_model.specs.Office.{AllOfOffice, most_records}
-use Rattle.pw_model.specs.Counting.{EachOnce}
+use Rattle.pw_model.specs.Counting.{EachOnce, Member}
 use Rattle.pw_schema.specs.declared.kind.RecordKind.{RecordKind}
-use Rattle.pw_schema.specs.declared.kind.RecordKind.TheVariants.{Readings, Assignments, TopUps}
+use Rattle.pw_schema.specs.declared.kind.RecordKind.TheVariants.{Readings, Assignments}
 use Rattle.pw_model.specs.declared.records.TotalKey.{TotalKey}
 use Rattle.pw_schema.specs.declared.kind.TotalKind.{TotalKind}
 use Rattle.pw_schema.specs.declared.kind.TotalKind.TheVariants.{Energies, Payments}
-use Rattle.pw_schema.specs.Judging.{HasOtherText, HasOtherVersion, HasVersion, IsTotalOf, KeepsOffice}
+use Rattle.pw_schema.specs.Judging.{HasOtherText, HasOtherVersion, HasVersion, IsTotalOf, KeepsVersion}
 use Rattle.pw_schema.specs.Conflicts.{AreWithoutConflict}
-use Rattle.pw_schema.specs.Tables.{BeginsAsOurs, IsOurs, no_schema}
+use Rattle.pw_schema.specs.Tables.{BeginsAsOurs, IsOf, no_schema}
 use Rattle.pw_store.specs.declared.fault.OpenFault.{OpenFault}
 use Rattle.pw_store.specs.declared.fault.OpenFault.TheVariants.{Store, Memory, OfficeDiffers, Version, Unclean}
-use Rattle.pw_model.specs.Shelf.{IsTrueContent}
-use Rattle.pw_store.specs.Content.{content_of, energy_in, payment_in, IsReadingRow, IsAssignmentRow, IsTopupRow, reading_tree, assignment_tree, topup_tree, point_tree, records_of, start_tree, total_tree, payment_tree}
+use Rattle.pw_model.specs.Shelf.{IsTrueContent, ShelfContent, no_content}
+use Rattle.pw_schema.specs.declared.kind.StoreVersion.{StoreVersion}
+use Rattle.pw_store.specs.Content.{content_of_version, energy_in, payment_in, IsReadingRow, IsAssignmentRow, IsRowOf, entries_of, entry_in, kinds_of, point_tree, records_of_version, start_tree, total_tree, payment_tree, tree_of}
 use Rattle.pw_store.specs.Kept.{key_in_point, key_in_start}
 use Rattle.pw_store.specs.Keyed.{IsEnergyRow, IsPaymentRow}
-use Rattle.pw_store.specs.Shown.{IsRowOf, entries_of, entry_in, tree_of}
 
 -- ---- the office's row: version and text
 abbrev pub shown_office : Row → Row
@@ -79,38 +79,39 @@ abbrev pub HasNoRow : List Row → Type 0
 HasNoRow rows = (row : Row) → rows ≡ row ∷ [] → ⊥
 
 -- there are more records than a store may hold
-abbrev pub HoldsTooMany : Trees → Type 0
-HoldsTooMany db = most_records < length (records_of db)
+abbrev pub HoldsTooMany : StoreVersion → Trees → Type 0
+HoldsTooMany v db = most_records < length (records_of_version v db)
 
--- the three tables hold records of the office, each once
-pub record HoldsAllRecords (office : OfficeRules) (db : Trees) : Type 0 where
-  pub readings : HoldsRecords office Readings db
-  pub assignments : HoldsRecords office Assignments db
-  pub topups : HoldsRecords office TopUps db
+-- each table of records of this version holds records of the office, each once
+abbrev pub HoldsAllRecords : StoreVersion → OfficeRules → Trees → Type 0
+HoldsAllRecords v office db = (k : RecordKind) → Member k (kinds_of v) → HoldsRecords office k db
 
 -- the rows aren't those of a store of the office
-abbrev pub IsSpoilt : OfficeRules → Trees → Type 0
-IsSpoilt office db =
-    (HoldsAllRecords office db → ⊥)
-    ⊎ (HoldsTooMany db ⊎ ((HoldsSums office db → ⊥) ⊎ (IsTrueContent office (content_of db) → ⊥)))
+abbrev pub IsSpoilt : StoreVersion → OfficeRules → Trees → Type 0
+IsSpoilt v office db =
+    (HoldsAllRecords v office db → ⊥)
+    ⊎ (HoldsTooMany v db ⊎ ((HoldsSums office db → ⊥) ⊎ (IsTrueContent office (content_of_version v db) → ⊥)))
 
--- the tables are ours alone, and no text of theirs speaks of a conflict
-pub record HoldsOurs (db : Database) : Type 0 where
-  pub schema_is : IsOurs db.schema
+-- the tables are those of this version alone, and no text of theirs speaks of a conflict
+pub record HoldsTables (v : StoreVersion) (db : Database) : Type 0 where
+  pub schema_is : IsOf v db.schema
   pub plain : AreWithoutConflict db.trees
 
--- of a database that begins with our tables: another version is told before what stands behind them, and a clause of
--- theirs, these before another text, and all of them before other rows
+-- of a database that begins with the tables of version 1: another version than those that are known is told before what
+-- stands behind these, by the version, and a clause of theirs; these before another text, and all of them before other
+-- rows
 abbrev pub BegunRefuses : OfficeRules → List ℕ → Database → OpenFault → Type 0
 BegunRefuses office body db Store = Unit {0}
 BegunRefuses office body db Memory = Unit {0}
 BegunRefuses office body db Version = KeepsText HasOtherVersion db.trees
-BegunRefuses office body db OfficeDiffers = HoldsOurs db × KeepsText (HasOtherText body) db.trees
+BegunRefuses office body db OfficeDiffers = (v : StoreVersion) × (HoldsTables v db × KeepsText (HasOtherText v body) db.trees)
 BegunRefuses office body db Unclean =
     KeepsText HasNoRow db.trees
-    ⊎ ((KeepsText HasVersion db.trees × (HoldsOurs db → ⊥)) ⊎ (HoldsOurs db × (KeepsText (KeepsOffice body) db.trees × IsSpoilt office db.trees)))
+    ⊎ (((v : StoreVersion) × (KeepsText (HasVersion v) db.trees × (HoldsTables v db → ⊥)))
+    ⊎ ((v : StoreVersion) × (HoldsTables v db × (KeepsText (KeepsVersion v body) db.trees × IsSpoilt v office db.trees))))
 
--- of any database: there is something, and it doesn't begin with our tables; or it does, and what it holds refuses
+-- of any database: there is something, and it doesn't begin with the tables of version 1; or it does, and what it holds
+-- refuses
 abbrev pub Refuses : OfficeRules → List ℕ → Database → OpenFault → Type 0
 Refuses office body db Store = Unit {0}
 Refuses office body db Memory = Unit {0}
@@ -125,12 +126,11 @@ pub record AreRows {K : Type 0} (IsRow : Row → Type 0) (key_in : Row → K) (r
   pub each : AllByRecursion IsRow rows
   pub once : EachOnce (map key_in rows)
 
--- each row is of the kinds of its table, and no record stands twice, nor the key of a point, a start or a total
-pub record HasRows (db : Trees) : Type 0 where
-  pub readings : AllByRecursion IsReadingRow (db reading_tree)
-  pub assignments : AllByRecursion IsAssignmentRow (db assignment_tree)
-  pub topups : AllByRecursion IsTopupRow (db topup_tree)
-  pub once : EachOnce (records_of db)
+-- each row of the tables of this version is of the kinds of its table, and no record stands twice, nor the key of a point,
+-- a start or a total
+pub record HasRows (v : StoreVersion) (db : Trees) : Type 0 where
+  pub rows : (k : RecordKind) → Member k (kinds_of v) → AllByRecursion (IsRowOf k) (db (tree_of k))
+  pub once : EachOnce (records_of_version v db)
   pub points : AreRows IsReadingRow key_in_point (db point_tree)
   pub starts : AreRows IsAssignmentRow key_in_start (db start_tree)
   pub energies : AreRows IsEnergyRow energy_in (db total_tree)
@@ -141,16 +141,21 @@ pub record NamesOffice (office : OfficeRules) (db : Trees) : Type 0 where
   pub energies : AllByRecursion (λ r. IsTotalOf office (energy_in r)) (db total_tree)
   pub payments : AllByRecursion (λ r. IsTotalOf office (payment_in r)) (db payment_tree)
 
--- our tables, of this version and this text, whose content is true and has entries of the office, and not too many
-pub record IsOpenable (office : OfficeRules) (body : List ℕ) (db : Database) : Type 0 where
-  pub ours : HoldsOurs db
-  pub text : KeepsText (KeepsOffice body) db.trees
-  pub rows : HasRows db.trees
+-- the tables of this version with this text, whose content is true and has entries of the office, and not too many
+pub record IsOpenable (v : StoreVersion) (office : OfficeRules) (body : List ℕ) (db : Database) : Type 0 where
+  pub ours : HoldsTables v db
+  pub text : KeepsText (KeepsVersion v body) db.trees
+  pub rows : HasRows v db.trees
   pub named : NamesOffice office db.trees
-  pub of_office : AllOfOffice office (content_of db.trees).records
-  pub few : length (content_of db.trees).records ≤ most_records
-  pub truth : IsTrueContent office (content_of db.trees)
+  pub of_office : AllOfOffice office (records_of_version v db.trees)
+  pub few : length (records_of_version v db.trees) ≤ most_records
+  pub truth : IsTrueContent office (content_of_version v db.trees)
 
--- what is found refuses such a store only for the engine's sake, or for memory
+-- what is found refuses such a store, of either version, only for the engine's sake, or for memory
 abbrev pub OpenableOpens : Type 0
-OpenableOpens = (office : OfficeRules) (body : List ℕ) (db : Database) (fault : OpenFault) → IsOpenable office body db → Refuses office body db fault → (fault ≡ Store) ⊎ (fault ≡ Memory)
+OpenableOpens = (v : StoreVersion) (office : OfficeRules) (body : List ℕ) (db : Database) (fault : OpenFault) → IsOpenable v office body db → Refuses office body db fault → (fault ≡ Store) ⊎ (fault ≡ Memory)
+
+-- ---- what is opened
+-- what a file holds: nothing where it shows nothing, else what the tables of its version hold
+abbrev pub IsFound : Database → ShelfContent → Type 0
+IsFound db c = ((v : StoreVersion) × (IsOf v db.schema × (c ≡ content_of_version v db.trees))) ⊎ ((db.schema ≡ no_schema) × (c ≡ no_content))

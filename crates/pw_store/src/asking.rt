@@ -11,10 +11,13 @@ ghost use Rattle.pw_store.specs.Content.{records_of};
 ghost use Rattle.pw_store.specs.Kept.{IsAwake, NowIsStore};
 
 use crate::fault::AskFault;
-use crate::keys::{contents_of_assignment, contents_of_reading, contents_of_topup};
+use crate::keys::{
+    contents_of_assignment, contents_of_reading, contents_of_topup, contents_of_withdrawal,
+};
 use crate::meters::{assignment_rows, has_assignment, has_reading, reading_rows};
 use crate::topups::{has_topup, topup_rows};
 use crate::waking::wake;
+use crate::withdrawals::has_withdrawal;
 use pw_model::{Content, Contents, Entry, Key};
 use pw_obis::Register;
 use pw_schema::{ReadFault, RecordKind, read_rows};
@@ -55,8 +58,10 @@ fn has_entry<S: Alter>(
             } => has_topup(conn, reference, *account, *cents, *instant),
             _ => Ok(false),
         },
-        // No table holds withdrawals yet.
-        Key::Withdrawal { .. } => Ok(false),
+        Key::Withdrawal { named } => match &entry.content {
+            Content::Withdrawal => has_withdrawal(conn, named),
+            _ => Ok(false),
+        },
     }
 }
 
@@ -99,8 +104,7 @@ pub(crate) fn contents<S: Alter>(
         } => contents_of_reading(conn, *meter, *register, *instant),
         Key::Assignment { meter, start } => contents_of_assignment(conn, *meter, *start),
         Key::TopUp { reference } => contents_of_topup(conn, reference),
-        // No table holds withdrawals yet: no statement is run.
-        Key::Withdrawal { .. } => return Ok(Contents::Nothing),
+        Key::Withdrawal { named } => contents_of_withdrawal(conn, named),
     };
     match asked {
         Ok(Some(found)) => Ok(found),

@@ -5,15 +5,15 @@ ghost use Rattle.sqlite.specs.Held.{state};
 ghost use Rattle.sqlite.specs.State.{HasCleanDisk, KeepsCommit, Survives};
 ghost use Rattle.pw_tariff.specs.Office.{OfficeFile, office_of};
 ghost use Rattle.pw_tariff.specs.Text.{IsOfficeOf};
-ghost use Rattle.pw_model.specs.Shelf.{IsTrueContent, no_content};
+ghost use Rattle.pw_model.specs.Shelf.{IsTrueContent};
 ghost use Rattle.pw_model.specs.Office.{AllOfOffice, most_records};
 ghost use Rattle.pw_shelf.specs.State.{committed};
 ghost use Rattle.pw_shelf.specs.Left.{LeavesOnly};
-ghost use Rattle.pw_schema.specs.Tables.{IsOurs, no_schema};
+ghost use Rattle.pw_schema.specs.Tables.{IsOurs};
 ghost use Rattle.pw_store.specs.Content.{content_of};
 ghost use Rattle.pw_store.specs.Kept.{held_of, left_of, state_of};
-ghost use Rattle.pw_store.specs.Left.{IsOfText, MayBeNew};
-ghost use Rattle.pw_store.specs.Opening.{KeepsText, Refuses};
+ghost use Rattle.pw_store.specs.Left.{IsOfText, MayBeMade};
+ghost use Rattle.pw_store.specs.Opening.{IsFound, KeepsText, Refuses};
 ghost use Rattle.pw_schema.specs.Judging.{KeepsOffice};
 
 use crate::fault::OpenFault;
@@ -28,16 +28,17 @@ use std::snapshot::Snapshot;
 
 impl<S: Alter> SqlShelf<S> {
     /// Opens a connection as a store of the office of a text: rolls back a transaction that the connection is inside of,
-    /// makes the tables where nothing is there, and else judges what is there. A refused connection is given back, with
-    /// what was committed. Where nothing was there, a crash behind a refusal may leave the tables that were being made,
-    /// whole.
+    /// makes the tables where nothing is there, and else judges what is there, and brings a store of version 1 to version 2.
+    /// A refused connection is given back, with what was committed. Where nothing was there, a crash behind a refusal may
+    /// leave the tables that were being made, whole; where a store of version 1 was, it may leave that store as one of
+    /// version 2, whole, with the same content.
     pub fn open(
         alloc: Global,
         connection: Connection<S>,
         office_text: &[u8],
     ) -> Result<SqlShelf<S>, (OpenFault, Connection<S>)>
         requires { (office : OfficeFile) × IsOfficeOf office_text.now office }
-        ensures content { IfOk result (λ s. HasCleanDisk (state S.Store s.conn) → (held_of (state S.Store s.conn) (state S.Store s.base.value) ≡ content_of (state S.Store connection).committed.trees) ⊎ (((state S.Store connection).committed.schema ≡ no_schema) × (held_of (state S.Store s.conn) (state S.Store s.base.value) ≡ no_content))) }
+        ensures content { IfOk result (λ s. HasCleanDisk (state S.Store s.conn) → IsFound (state S.Store connection).committed (held_of (state S.Store s.conn) (state S.Store s.base.value))) }
         ensures of_office { IfOk result (λ s. HasCleanDisk (state S.Store s.conn) → (office : OfficeFile) × IsOfficeOf office_text.now office × AllOfOffice (office_of office) (held_of (state S.Store s.conn) (state S.Store s.base.value)).records) }
         ensures truth { IfOk result (λ s. HasCleanDisk (state S.Store s.conn) → (office : OfficeFile) × IsOfficeOf office_text.now office × IsTrueContent (office_of office) (held_of (state S.Store s.conn) (state S.Store s.base.value))) }
         ensures few { IfOk result (λ s. HasCleanDisk (state S.Store s.conn) → length (held_of (state S.Store s.conn) (state S.Store s.base.value)).records ≤ most_records) }
@@ -49,7 +50,7 @@ impl<S: Alter> SqlShelf<S> {
         ensures left { IfOk result (λ s. HasCleanDisk (state S.Store s.conn) → LeavesOnly (held_of (state S.Store s.conn) (state S.Store s.base.value)) (left_of (state S.Store s.conn))) }
         ensures cause { IfErr result (λ e. HasCleanDisk (state S.Store e.1) → (office : OfficeFile) × IsOfficeOf office_text.now office × Refuses (office_of office) office_text.now (state S.Store connection).committed e.0) }
         ensures refused { IfErr result (λ e. HasCleanDisk (state S.Store e.1) → KeepsCommit (state S.Store connection) (state S.Store e.1) ⊎ (e.1 ≡ connection)) }
-        ensures crash { IfErr result (λ e. Survives (state S.Store connection) (state S.Store e.1) (MayBeNew office_text.now (state S.Store connection))) }
+        ensures crash { IfErr result (λ e. Survives (state S.Store connection) (state S.Store e.1) (MayBeMade office_text.now (state S.Store connection))) }
     {
         SqlShelf::open_watched(alloc, connection, office_text, &mut Unwatched)
     }
@@ -62,7 +63,7 @@ impl<S: Alter> SqlShelf<S> {
         watch: &mut W,
     ) -> Result<SqlShelf<S>, (OpenFault, Connection<S>)>
         requires { (office : OfficeFile) × IsOfficeOf office_text.now office }
-        ensures content { IfOk result (λ s. HasCleanDisk (state S.Store s.conn) → (held_of (state S.Store s.conn) (state S.Store s.base.value) ≡ content_of (state S.Store connection).committed.trees) ⊎ (((state S.Store connection).committed.schema ≡ no_schema) × (held_of (state S.Store s.conn) (state S.Store s.base.value) ≡ no_content))) }
+        ensures content { IfOk result (λ s. HasCleanDisk (state S.Store s.conn) → IsFound (state S.Store connection).committed (held_of (state S.Store s.conn) (state S.Store s.base.value))) }
         ensures of_office { IfOk result (λ s. HasCleanDisk (state S.Store s.conn) → (office : OfficeFile) × IsOfficeOf office_text.now office × AllOfOffice (office_of office) (held_of (state S.Store s.conn) (state S.Store s.base.value)).records) }
         ensures truth { IfOk result (λ s. HasCleanDisk (state S.Store s.conn) → (office : OfficeFile) × IsOfficeOf office_text.now office × IsTrueContent (office_of office) (held_of (state S.Store s.conn) (state S.Store s.base.value))) }
         ensures few { IfOk result (λ s. HasCleanDisk (state S.Store s.conn) → length (held_of (state S.Store s.conn) (state S.Store s.base.value)).records ≤ most_records) }
@@ -74,7 +75,7 @@ impl<S: Alter> SqlShelf<S> {
         ensures left { IfOk result (λ s. HasCleanDisk (state S.Store s.conn) → LeavesOnly (held_of (state S.Store s.conn) (state S.Store s.base.value)) (left_of (state S.Store s.conn))) }
         ensures cause { IfErr result (λ e. HasCleanDisk (state S.Store e.1) → (office : OfficeFile) × IsOfficeOf office_text.now office × Refuses (office_of office) office_text.now (state S.Store connection).committed e.0) }
         ensures refused { IfErr result (λ e. HasCleanDisk (state S.Store e.1) → KeepsCommit (state S.Store connection) (state S.Store e.1) ⊎ (e.1 ≡ connection)) }
-        ensures crash { IfErr result (λ e. Survives (state S.Store connection) (state S.Store e.1) (MayBeNew office_text.now (state S.Store connection))) }
+        ensures crash { IfErr result (λ e. Survives (state S.Store connection) (state S.Store e.1) (MayBeMade office_text.now (state S.Store connection))) }
     {
         match Office::read(alloc, office_text) {
             Ok(office) => SqlShelf::open_for(alloc, connection, &office, office_text, watch),
@@ -90,7 +91,7 @@ impl<S: Alter> SqlShelf<S> {
         office_text: &[u8],
         watch: &mut W,
     ) -> Result<SqlShelf<S>, (OpenFault, Connection<S>)>
-        ensures content { IfOk result (λ s. HasCleanDisk (state S.Store s.conn) → (held_of (state S.Store s.conn) (state S.Store s.base.value) ≡ content_of (state S.Store connection).committed.trees) ⊎ (((state S.Store connection).committed.schema ≡ no_schema) × (held_of (state S.Store s.conn) (state S.Store s.base.value) ≡ no_content))) }
+        ensures content { IfOk result (λ s. HasCleanDisk (state S.Store s.conn) → IsFound (state S.Store connection).committed (held_of (state S.Store s.conn) (state S.Store s.base.value))) }
         ensures of_office { IfOk result (λ s. HasCleanDisk (state S.Store s.conn) → AllOfOffice (office_of office.now) (held_of (state S.Store s.conn) (state S.Store s.base.value)).records) }
         ensures truth { IfOk result (λ s. HasCleanDisk (state S.Store s.conn) → IsTrueContent (office_of office.now) (held_of (state S.Store s.conn) (state S.Store s.base.value))) }
         ensures few { IfOk result (λ s. HasCleanDisk (state S.Store s.conn) → length (held_of (state S.Store s.conn) (state S.Store s.base.value)).records ≤ most_records) }
@@ -102,7 +103,7 @@ impl<S: Alter> SqlShelf<S> {
         ensures left { IfOk result (λ s. HasCleanDisk (state S.Store s.conn) → LeavesOnly (held_of (state S.Store s.conn) (state S.Store s.base.value)) (left_of (state S.Store s.conn))) }
         ensures cause { IfErr result (λ e. HasCleanDisk (state S.Store e.1) → Refuses (office_of office.now) office_text.now (state S.Store connection).committed e.0) }
         ensures refused { IfErr result (λ e. HasCleanDisk (state S.Store e.1) → KeepsCommit (state S.Store connection) (state S.Store e.1)) }
-        ensures crash { IfErr result (λ e. Survives (state S.Store connection) (state S.Store e.1) (MayBeNew office_text.now (state S.Store connection))) }
+        ensures crash { IfErr result (λ e. Survives (state S.Store connection) (state S.Store e.1) (MayBeMade office_text.now (state S.Store connection))) }
     {
         match prepare(alloc, &mut connection, office, office_text, watch) {
             Ok(held) => {

@@ -12,11 +12,11 @@ ghost use Rattle.pw_store.specs.inner.Changing.{StillKeeps};
 
 use crate::meters::{add_assignment, add_reading};
 use crate::topups::add_topup;
+use crate::withdrawals::add_withdrawal;
 use pw_model::{Content, Entry, Key};
 use sqlite::{Alter, Connection, Error};
 
-/// Adds a record that isn't held, if its content is of its key's kind and a table holds records of the kind; else no
-/// statement is run. No table holds withdrawals yet.
+/// Adds a record that isn't held, if its content is of its key's kind; else no statement is run.
 pub(crate) fn add_entry<S: Alter>(conn: &mut Connection<S>, entry: &Entry) -> Result<bool, Error>
     requires inside { HasCleanDisk (state S.Store conn.old) → IsTrue (state S.Store conn.old).in_transaction }
     requires store { HasCleanDisk (state S.Store conn.old) → IsStore (state S.Store conn.old).now }
@@ -54,6 +54,10 @@ pub(crate) fn add_entry<S: Alter>(conn: &mut Connection<S>, entry: &Entry) -> Re
                 instant,
             },
         ) => match add_topup(conn, reference, *account, *cents, *instant) {
+            Ok(_) => Ok(true),
+            Err(error) => Err(error),
+        },
+        (Key::Withdrawal { named }, Content::Withdrawal) => match add_withdrawal(conn, named) {
             Ok(_) => Ok(true),
             Err(error) => Err(error),
         },

@@ -11,7 +11,7 @@ ghost use Rattle.pw_tariff.specs.Text.{IsOfficeOf};
 ghost use Rattle.pw_model.specs.Shelf.{ShelfContent};
 ghost use Rattle.pw_shelf.specs.State.{committed};
 ghost use Rattle.pw_store.specs.Content.{content_of};
-ghost use Rattle.pw_store.specs.Left.{IsLeftBehind, LeftOpens};
+ghost use Rattle.pw_store.specs.Left.{IsLeftBehind, LeftOpens, UpgradedHolds, UpgradedOpens};
 ghost use Rattle.pw_store.specs.Opening.{OpenableOpens};
 
 use crate::fault::OpenFault;
@@ -35,10 +35,21 @@ pub fn store_stays_as_it_was_opened<S: Alter>(old: &SqlShelf<S>, new: &SqlShelf<
     ensures { ⟦<SqlShelf<S> as Shelf>⟧.same_store old.entry.now new.entry.now ↔ (new.entry.now.opened.value ≡ old.entry.now.opened.value) }
 {}
 
-/// Where the tables are those of a store of this office, of this version and this text, `open` refuses them with `Store`
-/// or `Memory` alone: what it says of the cause of a refusal leaves no other.
+/// Where the tables are those of a store of this office, of version 1 or 2, and of this text, `open` refuses them with
+/// `Store` or `Memory` alone: what it says of the cause of a refusal leaves no other.
 pub fn openable_stores_open()
     ensures { OpenableOpens }
+{}
+
+/// A store of version 1 that a crash has left as one of version 2 opens again, as that store would have: `open` refuses it
+/// with `Store` or `Memory` alone.
+pub fn upgraded_stores_open()
+    ensures { UpgradedOpens }
+{}
+
+/// And it holds then what the store of version 1 held.
+pub fn upgraded_stores_hold_the_same()
+    ensures { UpgradedHolds }
 {}
 
 /// What a crash may leave of a store that was opened with a text, where its content is true, of at most 10,000,000 entries

@@ -26,6 +26,7 @@ mod truth;
 mod upload;
 mod waking;
 mod watch;
+mod withdrawals;
 
 pub use fault::OpenFault;
 pub use shelf::SqlShelf;

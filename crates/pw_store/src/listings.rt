@@ -57,6 +57,15 @@ impl Listing {
             Listing::Records(RecordKind::TopUps) => {
                 "SELECT reference, account, cents, instant FROM record_topup ORDER BY reference, account, cents, instant"
             }
+            Listing::Records(RecordKind::WithdrawnReadings) => {
+                "SELECT meter, register, instant, wh FROM withdrawn_reading ORDER BY meter, register, instant, wh"
+            }
+            Listing::Records(RecordKind::WithdrawnAssignments) => {
+                "SELECT meter, start, owner FROM withdrawn_assignment ORDER BY meter, start, owner"
+            }
+            Listing::Records(RecordKind::WithdrawnTopUps) => {
+                "SELECT reference, account, cents, instant FROM withdrawn_topup ORDER BY reference, account, cents, instant"
+            }
             Listing::Kept(KeptKind::Points) => {
                 "SELECT meter, register, instant, wh FROM point ORDER BY meter, register, instant"
             }

@@ -178,7 +178,7 @@ pub(crate) fn assignment_rows<S: Alter>(
     )
 }
 
-/// Two rows at most of what is told of a reading's key.
+/// Two rows at most of the records of a reading's key that no withdrawal names.
 pub(crate) fn reading_at<S: Alter>(
     conn: &mut Connection<S>,
     meter: MeterId,
@@ -190,7 +190,7 @@ pub(crate) fn reading_at<S: Alter>(
     ensures asks { Asks result (state S.Store conn.old) (state S.Store conn.new) }
 {
     conn.query_all(
-        "SELECT wh FROM record_reading WHERE meter = ?1 AND register = ?2 AND instant = ?3 LIMIT 2",
+        "SELECT wh FROM record_reading WHERE meter = ?1 AND register = ?2 AND instant = ?3 AND NOT EXISTS (SELECT 1 FROM withdrawn_reading WHERE withdrawn_reading.meter = record_reading.meter AND withdrawn_reading.register = record_reading.register AND withdrawn_reading.instant = record_reading.instant AND withdrawn_reading.wh = record_reading.wh) LIMIT 2",
         &[
             integer(u32::from(meter.0)),
             integer(register_place(register)),
@@ -199,7 +199,7 @@ pub(crate) fn reading_at<S: Alter>(
     )
 }
 
-/// Two rows at most of what is told of an assignment's key.
+/// Two rows at most of the records of an assignment's key that no withdrawal names.
 pub(crate) fn assignment_at<S: Alter>(
     conn: &mut Connection<S>,
     meter: MeterId,
@@ -210,7 +210,7 @@ pub(crate) fn assignment_at<S: Alter>(
     ensures asks { Asks result (state S.Store conn.old) (state S.Store conn.new) }
 {
     conn.query_all(
-        "SELECT owner FROM record_assignment WHERE meter = ?1 AND start = ?2 LIMIT 2",
+        "SELECT owner FROM record_assignment WHERE meter = ?1 AND start = ?2 AND NOT EXISTS (SELECT 1 FROM withdrawn_assignment WHERE withdrawn_assignment.meter = record_assignment.meter AND withdrawn_assignment.start = record_assignment.start AND withdrawn_assignment.owner = record_assignment.owner) LIMIT 2",
         &[integer(u32::from(meter.0)), integer(start.seconds())],
     )
 }

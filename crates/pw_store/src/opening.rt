@@ -7,14 +7,14 @@ ghost use Rattle.sqlite.specs.State.{HasCleanDisk, IsUnchanged, KeepsCommit, Sur
 ghost use Rattle.pw_tariff.specs.Office.{office_of};
 ghost use Rattle.pw_model.specs.Office.{AllOfOffice};
 ghost use Rattle.pw_schema.specs.Calls.{Looks};
-ghost use Rattle.pw_schema.specs.Fresh.{IsIdleAt};
-ghost use Rattle.pw_store.specs.Content.{records_of};
-ghost use Rattle.pw_schema.specs.Judging.{HasVersion, KeepsOffice};
-ghost use Rattle.pw_schema.specs.Tables.{BeginsAsOurs, IsOurs, no_schema};
-ghost use Rattle.pw_store.specs.Left.{MayBeNew};
-ghost use Rattle.pw_store.specs.Opening.{BegunRefuses, HoldsAllRecords, HoldsOurs, HoldsRecords, KeepsText, Refuses, offices};
-ghost use Rattle.pw_store.specs.Shown.{entries_of};
-ghost use Rattle.pw_store.specs.inner.Opened.{IsOpened, IsSettled, MayOpen, RefusesUnless, RowRefuses, VersionRefuses};
+ghost use Rattle.pw_schema.specs.Conflicts.{AreWithoutConflict};
+ghost use Rattle.pw_schema.specs.Fresh.{IsIdleAt, IsWithin};
+ghost use Rattle.pw_store.specs.Content.{records_of, entries_of};
+ghost use Rattle.pw_schema.specs.Judging.{HasVersion, KeepsOffice, KeepsVersion};
+ghost use Rattle.pw_schema.specs.Tables.{BeginsAsOurs, IsOf, IsOurs, no_schema, schema_of};
+ghost use Rattle.pw_store.specs.Left.{IsUpgraded, MayBeMade, MayBeUpgraded};
+ghost use Rattle.pw_store.specs.Opening.{BegunRefuses, HoldsAllRecords, HoldsTables, HoldsRecords, KeepsText, Refuses, offices};
+ghost use Rattle.pw_store.specs.inner.Opened.{IsOpened, IsReady, IsSettled, IsSound, RefusesUnless, RowRefuses, RowsRefuse, VersionRefuses};
 
 use crate::fault::{OpenFault, fault_in};
 use crate::listings::{Listing, judge_listing};
@@ -25,11 +25,11 @@ use crate::waking::wake;
 use crate::watch::{Part, Watch};
 use pw_model::Entry;
 use pw_schema::{
-    OfficeFault, RecordKind, Records, begins_as_ours, create, has_no_conflict, is_nothing, is_ours,
-    judge_version, keeps_office, roll_back,
+    OfficeFault, RecordKind, Records, StoreVersion, begin, begins_as_ours, commit, create,
+    has_no_conflict, is_nothing, is_of, judge_version, keeps_office, raise_to_second, roll_back,
 };
 use pw_tariff::Office;
-use sqlite::{Alter, Connection, Error, Row};
+use sqlite::{Alter, Connection, Error, ErrorCode, Row};
 use std::alloc::Global;
 
 // Why the row of `office` refuses an opening.
@@ -56,13 +56,16 @@ fn settle<S: Alter>(conn: &mut Connection<S>) -> Result<(), Error>
 }
 
 // The kinds of records in their order, each with the part of an opening that checks it.
-const KINDS: [(RecordKind, Part); 3] = [
+const KINDS: [(RecordKind, Part); 6] = [
     (RecordKind::Readings, Part::Readings),
     (RecordKind::Assignments, Part::Assignments),
     (RecordKind::TopUps, Part::TopUps),
+    (RecordKind::WithdrawnReadings, Part::WithdrawnReadings),
+    (RecordKind::WithdrawnAssignments, Part::WithdrawnAssignments),
+    (RecordKind::WithdrawnTopUps, Part::WithdrawnTopUps),
 ];
 
-// The records of the three tables, judged.
+// The records of the six tables, judged.
 fn check_records<S: Alter, W: Watch>(
     alloc: Global,
     conn: &mut Connection<S>,
@@ -71,10 +74,10 @@ fn check_records<S: Alter, W: Watch>(
 ) -> Result<Vec<Entry>, OpenFault>
     requires is_open { HasCleanDisk (state S.Store conn.old) → IsTrue (state S.Store conn.old).is_open }
     requires ours { HasCleanDisk (state S.Store conn.old) → IsOurs (state S.Store conn.old).now.schema }
-    ensures sound { HasCleanDisk (state S.Store conn.new) → OnOk result (HoldsAllRecords (office_of office.now) (state S.Store conn.old).now.trees) }
+    ensures sound { HasCleanDisk (state S.Store conn.new) → OnOk result (HoldsAllRecords StoreVersion.Second (office_of office.now) (state S.Store conn.old).now.trees) }
     ensures listed { HasCleanDisk (state S.Store conn.new) → IfOk result (λ found. IsPermutation (records_of (state S.Store conn.old).now.trees) found.items) }
     ensures of_office { IfOk result (λ found. AllOfOffice (office_of office.now) found.items) }
-    ensures cause { HasCleanDisk (state S.Store conn.new) → IfErr result (RefusesUnless (HoldsAllRecords (office_of office.now) (state S.Store conn.old).now.trees)) }
+    ensures cause { HasCleanDisk (state S.Store conn.new) → IfErr result (RefusesUnless (HoldsAllRecords StoreVersion.Second (office_of office.now) (state S.Store conn.old).now.trees)) }
     ensures looks { Looks result (state S.Store conn.old) (state S.Store conn.new) }
 {
     let mut all = Vec::new(alloc);
@@ -112,11 +115,11 @@ fn check_kind<S: Alter>(
     }
 }
 
-// The row of `office`, whose version is judged, whatever stands behind our tables.
-fn read_office<S: Alter>(conn: &mut Connection<S>) -> Result<Vec<Row>, OpenFault>
+// The row of `office`, whose version is judged, whatever stands behind the tables of version 1.
+fn read_office<S: Alter>(conn: &mut Connection<S>) -> Result<(Vec<Row>, StoreVersion), OpenFault>
     requires begun { HasCleanDisk (state S.Store conn.old) → BeginsAsOurs (state S.Store conn.old).now.schema }
-    ensures rows { HasCleanDisk (state S.Store conn.new) → IfOk result (λ rows. IsPermutation (offices (state S.Store conn.old).now.trees) rows.items) }
-    ensures version { IfOk result (λ rows. HasVersion rows.items) }
+    ensures rows { HasCleanDisk (state S.Store conn.new) → IfOk result (λ read. IsPermutation (offices (state S.Store conn.old).now.trees) read.0.items) }
+    ensures version { IfOk result (λ read. HasVersion read.1 read.0.items) }
     ensures cause { HasCleanDisk (state S.Store conn.new) → IfErr result (VersionRefuses (state S.Store conn.old).now.trees) }
     ensures looks { Looks result (state S.Store conn.old) (state S.Store conn.new) }
 {
@@ -125,67 +128,64 @@ fn read_office<S: Alter>(conn: &mut Connection<S>) -> Result<Vec<Row>, OpenFault
         Err(error) => return Err(fault_in(error)),
     };
     match judge_version(rows.as_slice()) {
-        Ok(()) => Ok(rows),
+        Ok(version) => Ok((rows, version)),
         Err(fault) => Err(fault_of_office(fault)),
     }
 }
 
-// Whether there are our tables alone, and no text of theirs speaks of a conflict.
-fn holds_ours<S: Alter>(conn: &mut Connection<S>) -> Result<bool, Error>
-    ensures is { HasCleanDisk (state S.Store conn.new) → IfOk result (λ alone. IsTrue alone → HoldsOurs (state S.Store conn.old).now) }
-    ensures all { HasCleanDisk (state S.Store conn.new) → IfOk result (λ alone. HoldsOurs (state S.Store conn.old).now → IsTrue alone) }
+// Whether there are the tables of a version alone, and no text of theirs speaks of a conflict.
+fn holds_tables<S: Alter>(conn: &mut Connection<S>, version: StoreVersion) -> Result<bool, Error>
+    ensures is { HasCleanDisk (state S.Store conn.new) → IfOk result (λ alone. IsTrue alone → HoldsTables version (state S.Store conn.old).now) }
+    ensures all { HasCleanDisk (state S.Store conn.new) → IfOk result (λ alone. HoldsTables version (state S.Store conn.old).now → IsTrue alone) }
     ensures same { HasCleanDisk (state S.Store conn.new) → IfOk result (λ alone. IsTrue alone → IsUnchanged (state S.Store conn.old) (state S.Store conn.new)) }
     ensures kept { HasCleanDisk (state S.Store conn.new) → KeepsCommit (state S.Store conn.old) (state S.Store conn.new) }
     ensures crash { Survives (state S.Store conn.old) (state S.Store conn.new) (λ _. ⊥) }
 {
-    if !is_ours(conn.schema()) {
+    if !is_of(conn.schema(), version) {
         return Ok(false);
     }
     has_no_conflict(conn)
 }
 
-// The version, what stands beside our tables, and the text of the office, judged.
-fn check_office<S: Alter>(conn: &mut Connection<S>, text: &[u8]) -> Result<(), OpenFault>
+// The version, what stands beside its tables, and the text of the office, judged: which version it is.
+fn check_office<S: Alter>(conn: &mut Connection<S>, text: &[u8]) -> Result<StoreVersion, OpenFault>
     requires begun { HasCleanDisk (state S.Store conn.old) → BeginsAsOurs (state S.Store conn.old).now.schema }
-    ensures ours { HasCleanDisk (state S.Store conn.new) → OnOk result (HoldsOurs (state S.Store conn.new).now) }
-    ensures kept_text { HasCleanDisk (state S.Store conn.new) → OnOk result (KeepsText (KeepsOffice text.now) (state S.Store conn.new).now.trees) }
+    ensures ours { HasCleanDisk (state S.Store conn.new) → IfOk result (λ version. HoldsTables version (state S.Store conn.new).now) }
+    ensures kept_text { HasCleanDisk (state S.Store conn.new) → IfOk result (λ version. KeepsText (KeepsVersion version text.now) (state S.Store conn.new).now.trees) }
     ensures cause { HasCleanDisk (state S.Store conn.new) → IfErr result (RowRefuses text.now (state S.Store conn.old).now) }
     ensures looks { Looks result (state S.Store conn.old) (state S.Store conn.new) }
 {
-    let rows = match read_office(conn) {
-        Ok(rows) => rows,
+    let (rows, version) = match read_office(conn) {
+        Ok(read) => read,
         Err(fault) => return Err(fault),
     };
-    let alone = match holds_ours(conn) {
+    let alone = match holds_tables(conn, version) {
         Ok(alone) => alone,
         Err(error) => return Err(fault_in(error)),
     };
     if !alone {
         return Err(OpenFault::Unclean);
     }
-    if !keeps_office(rows.as_slice(), text) {
+    if !keeps_office(rows.as_slice(), version, text) {
         return Err(OpenFault::OfficeDiffers);
     }
-    Ok(())
+    Ok(version)
 }
 
-// What is there, behind our tables and in them, judged: how many records there are.
-fn check<S: Alter, W: Watch>(
+// The rows of our tables, judged: how many records there are.
+fn check_rows<S: Alter, W: Watch>(
     alloc: Global,
     conn: &mut Connection<S>,
     office: &Office,
-    text: &[u8],
     watch: &mut W,
 ) -> Result<u32, OpenFault>
-    requires begun { HasCleanDisk (state S.Store conn.old) → BeginsAsOurs (state S.Store conn.old).now.schema }
+    requires is_open { HasCleanDisk (state S.Store conn.old) → IsTrue (state S.Store conn.old).is_open }
+    requires ours { HasCleanDisk (state S.Store conn.old) → IsOurs (state S.Store conn.old).now.schema }
     ensures counted { HasCleanDisk (state S.Store conn.new) → IfOk result (λ held. length (records_of (state S.Store conn.new).now.trees) ≡ held) }
-    ensures may_open { HasCleanDisk (state S.Store conn.new) → OnOk result (MayOpen (office_of office.now) text.now (state S.Store conn.new).now) }
-    ensures cause { HasCleanDisk (state S.Store conn.new) → IfErr result (BegunRefuses (office_of office.now) text.now (state S.Store conn.old).now) }
+    ensures sound { HasCleanDisk (state S.Store conn.new) → OnOk result (IsSound (office_of office.now) (state S.Store conn.new).now) }
+    ensures cause { HasCleanDisk (state S.Store conn.new) → IfErr result (RowsRefuse StoreVersion.Second (office_of office.now) (state S.Store conn.old).now.trees) }
     ensures looks { Looks result (state S.Store conn.old) (state S.Store conn.new) }
 {
-    if let Err(fault) = check_office(conn, text) {
-        return Err(fault);
-    }
     let records = match check_records(alloc, conn, office, watch) {
         Ok(records) => records,
         Err(fault) => return Err(fault),
@@ -202,7 +202,125 @@ fn check<S: Alter, W: Watch>(
     }
 }
 
-// Makes the tables where nothing is there, else judges what is there: how many records there are.
+// Sees that the row of `office` and the texts which the engine has kept are such as an opening takes.
+fn see_raised<S: Alter>(conn: &mut Connection<S>, text: &[u8]) -> Result<(), Error>
+    requires { HasCleanDisk (state S.Store conn.old) → IsOurs (state S.Store conn.old).now.schema }
+    ensures kept_text { HasCleanDisk (state S.Store conn.new) → OnOk result (KeepsText (KeepsOffice text.now) (state S.Store conn.old).now.trees) }
+    ensures plain { HasCleanDisk (state S.Store conn.new) → OnOk result (AreWithoutConflict (state S.Store conn.old).now.trees) }
+    ensures looks { Looks result (state S.Store conn.old) (state S.Store conn.new) }
+{
+    let rows = office_rows(conn)?;
+    if !keeps_office(rows.as_slice(), StoreVersion::Second, text) {
+        return Err(Error::SqliteFailure(ErrorCode::DatabaseCorrupt));
+    }
+    if has_no_conflict(conn)? {
+        Ok(())
+    } else {
+        Err(Error::SqliteFailure(ErrorCode::DatabaseCorrupt))
+    }
+}
+
+// Brings a store of version 1 to version 2 within a transaction, whatever rows it has.
+fn raise<S: Alter>(conn: &mut Connection<S>, text: &[u8]) -> Result<(), Error>
+    requires { HasCleanDisk (state S.Store conn.old) → IsOf StoreVersion.First (state S.Store conn.old).now.schema }
+    ensures within { HasCleanDisk (state S.Store conn.new) → OnOk result (IsWithin (schema_of StoreVersion.Second) (state S.Store conn.new)) }
+    ensures upgraded { HasCleanDisk (state S.Store conn.new) → OnOk result (IsUpgraded text.now (state S.Store conn.old).now (state S.Store conn.new).now) }
+    ensures kept { HasCleanDisk (state S.Store conn.new) → KeepsCommit (state S.Store conn.old) (state S.Store conn.new) }
+    ensures crash { Survives (state S.Store conn.old) (state S.Store conn.new) (λ _. ⊥) }
+{
+    begin(conn)?;
+    raise_to_second(conn)?;
+    see_raised(conn, text)?;
+    // it says that the file lists these tables
+    let _ = conn.schema();
+    Ok(())
+}
+
+// Brings a store of version 1 to version 2 within a transaction, and judges its rows: how many records there are.
+fn raise_and_check<S: Alter, W: Watch>(
+    alloc: Global,
+    conn: &mut Connection<S>,
+    office: &Office,
+    text: &[u8],
+    watch: &mut W,
+) -> Result<u32, OpenFault>
+    requires { HasCleanDisk (state S.Store conn.old) → IsOf StoreVersion.First (state S.Store conn.old).now.schema }
+    ensures counted { HasCleanDisk (state S.Store conn.new) → IfOk result (λ held. length (records_of (state S.Store conn.new).now.trees) ≡ held) }
+    ensures ready { HasCleanDisk (state S.Store conn.new) → OnOk result (IsReady (office_of office.now) text.now (state S.Store conn.old).now (state S.Store conn.new)) }
+    ensures cause { HasCleanDisk (state S.Store conn.new) → IfErr result (RowsRefuse StoreVersion.First (office_of office.now) (state S.Store conn.old).now.trees) }
+    ensures kept { HasCleanDisk (state S.Store conn.new) → KeepsCommit (state S.Store conn.old) (state S.Store conn.new) }
+    ensures crash { Survives (state S.Store conn.old) (state S.Store conn.new) (λ _. ⊥) }
+{
+    if let Err(error) = raise(conn, text) {
+        return Err(fault_in(error));
+    }
+    check_rows(alloc, conn, office, watch)
+}
+
+// Undoes the transaction, if it still stands.
+fn undo<S: Alter>(conn: &mut Connection<S>)
+    ensures kept { HasCleanDisk (state S.Store conn.new) → KeepsCommit (state S.Store conn.old) (state S.Store conn.new) }
+    ensures crash { Survives (state S.Store conn.old) (state S.Store conn.new) (λ _. ⊥) }
+{
+    let _ = roll_back(conn);
+}
+
+// Brings a store of version 1 to version 2, if its rows are those of the office: how many records there are.
+fn upgrade<S: Alter, W: Watch>(
+    alloc: Global,
+    conn: &mut Connection<S>,
+    office: &Office,
+    text: &[u8],
+    watch: &mut W,
+) -> Result<u32, OpenFault>
+    requires idle { HasCleanDisk (state S.Store conn.old) → IsIdleAt (state S.Store conn.old) }
+    requires first { HasCleanDisk (state S.Store conn.old) → IsOf StoreVersion.First (state S.Store conn.old).now.schema }
+    ensures counted { HasCleanDisk (state S.Store conn.new) → IfOk result (λ held. length (records_of (state S.Store conn.new).now.trees) ≡ held) }
+    ensures opened { HasCleanDisk (state S.Store conn.new) → OnOk result (IsOpened (office_of office.now) text.now (state S.Store conn.old).now (state S.Store conn.new)) }
+    ensures cause { HasCleanDisk (state S.Store conn.new) → IfErr result (RowsRefuse StoreVersion.First (office_of office.now) (state S.Store conn.old).now.trees) }
+    ensures kept { HasCleanDisk (state S.Store conn.new) → OnErr result (KeepsCommit (state S.Store conn.old) (state S.Store conn.new)) }
+    ensures clean { HasCleanDisk (state S.Store conn.new) → HasCleanDisk (state S.Store conn.old) }
+    ensures crash { Survives (state S.Store conn.old) (state S.Store conn.new) (MayBeUpgraded text.now (state S.Store conn.old).now) }
+{
+    match raise_and_check(alloc, conn, office, text, watch) {
+        Ok(held) => match commit(conn) {
+            Ok(()) => Ok(held),
+            Err(error) => Err(fault_in(error)),
+        },
+        Err(fault) => {
+            undo(conn);
+            Err(fault)
+        }
+    }
+}
+
+// What is there, behind the tables of version 1 and in them, judged, and a store of version 1 brought to version 2: how many
+// records there are.
+fn check<S: Alter, W: Watch>(
+    alloc: Global,
+    conn: &mut Connection<S>,
+    office: &Office,
+    text: &[u8],
+    watch: &mut W,
+) -> Result<u32, OpenFault>
+    requires idle { HasCleanDisk (state S.Store conn.old) → IsIdleAt (state S.Store conn.old) }
+    requires begun { HasCleanDisk (state S.Store conn.old) → BeginsAsOurs (state S.Store conn.old).now.schema }
+    ensures counted { HasCleanDisk (state S.Store conn.new) → IfOk result (λ held. length (records_of (state S.Store conn.new).now.trees) ≡ held) }
+    ensures opened { HasCleanDisk (state S.Store conn.new) → OnOk result (IsOpened (office_of office.now) text.now (state S.Store conn.old).now (state S.Store conn.new)) }
+    ensures cause { HasCleanDisk (state S.Store conn.new) → IfErr result (BegunRefuses (office_of office.now) text.now (state S.Store conn.old).now) }
+    ensures kept { HasCleanDisk (state S.Store conn.new) → OnErr result (KeepsCommit (state S.Store conn.old) (state S.Store conn.new)) }
+    ensures clean { HasCleanDisk (state S.Store conn.new) → HasCleanDisk (state S.Store conn.old) }
+    ensures crash { Survives (state S.Store conn.old) (state S.Store conn.new) (MayBeUpgraded text.now (state S.Store conn.old).now) }
+{
+    match check_office(conn, text) {
+        Ok(StoreVersion::First) => upgrade(alloc, conn, office, text, watch),
+        Ok(StoreVersion::Second) => check_rows(alloc, conn, office, watch),
+        Err(fault) => Err(fault),
+    }
+}
+
+// Makes the tables where nothing is there, else judges what is there, and brings a store of version 1 to version 2: how
+// many records there are.
 fn make_or_check<S: Alter, W: Watch>(
     alloc: Global,
     conn: &mut Connection<S>,
@@ -216,7 +334,7 @@ fn make_or_check<S: Alter, W: Watch>(
     ensures cause { HasCleanDisk (state S.Store conn.new) → IfErr result (Refuses (office_of office.now) text.now (state S.Store conn.old).committed) }
     ensures kept { HasCleanDisk (state S.Store conn.new) → OnErr result (KeepsCommit (state S.Store conn.old) (state S.Store conn.new)) }
     ensures clean { HasCleanDisk (state S.Store conn.new) → HasCleanDisk (state S.Store conn.old) }
-    ensures crash { OnErr result (Survives (state S.Store conn.old) (state S.Store conn.new) (MayBeNew text.now (state S.Store conn.old))) }
+    ensures crash { OnErr result (Survives (state S.Store conn.old) (state S.Store conn.new) (MayBeMade text.now (state S.Store conn.old))) }
 {
     match look(conn) {
         Found::Nothing => match create(conn, text) {
@@ -266,7 +384,7 @@ pub(crate) fn prepare<S: Alter, W: Watch>(
     ensures was_open { HasCleanDisk (state S.Store conn.new) → OnOk result (IsTrue (state S.Store conn.old).is_open) }
     ensures kept { HasCleanDisk (state S.Store conn.new) → OnErr result (KeepsCommit (state S.Store conn.old) (state S.Store conn.new)) }
     ensures clean { HasCleanDisk (state S.Store conn.new) → HasCleanDisk (state S.Store conn.old) }
-    ensures crash { OnErr result (Survives (state S.Store conn.old) (state S.Store conn.new) (MayBeNew text.now (state S.Store conn.old))) }
+    ensures crash { OnErr result (Survives (state S.Store conn.old) (state S.Store conn.new) (MayBeMade text.now (state S.Store conn.old))) }
 {
     if let Err(error) = settle(conn) {
         return Err(fault_in(error));

@@ -95,7 +95,7 @@ pub(crate) fn has_topup<S: Alter>(
     Ok(0 < rows.len())
 }
 
-/// Two rows at most of what is told of a top-up's key.
+/// Two rows at most of the records of a top-up's key that no withdrawal names.
 pub(crate) fn topup_at<S: Alter>(
     conn: &mut Connection<S>,
     reference: &Reference,
@@ -105,7 +105,7 @@ pub(crate) fn topup_at<S: Alter>(
     ensures asks { Asks result (state S.Store conn.old) (state S.Store conn.new) }
 {
     conn.query_all(
-        "SELECT account, cents, instant FROM record_topup WHERE reference = ?1 LIMIT 2",
+        "SELECT account, cents, instant FROM record_topup WHERE reference = ?1 AND NOT EXISTS (SELECT 1 FROM withdrawn_topup WHERE withdrawn_topup.reference = record_topup.reference AND withdrawn_topup.account = record_topup.account AND withdrawn_topup.cents = record_topup.cents AND withdrawn_topup.instant = record_topup.instant) LIMIT 2",
         &[words(reference)],
     )
 }

@@ -3,8 +3,8 @@
 use crate::sql_stores::{execute, memory};
 use pw_model::Entry;
 use pw_schema::{
-    Judge, JudgeFault, ReadFault, RecordKind, Records, Rowids, begin, begins_as_ours, commit,
-    create, is_nothing, is_ours, keeps_office, read_rows, roll_back,
+    Judge, JudgeFault, ReadFault, RecordKind, Records, Rowids, StoreVersion, begin, begins_as_ours,
+    commit, create, is_nothing, is_of, keeps_office, read_rows, roll_back,
 };
 use pw_tariff::Office;
 use pw_tests::offices::ONE_METER;
@@ -45,7 +45,7 @@ fn new_store(rt: &impl Abort, alloc: Global) -> Connection<MemStore> {
 // Whether the tables are ours behind a statement.
 fn are_ours_behind(rt: &impl Abort, conn: &mut Connection<MemStore>, statement: &str) -> bool {
     execute(rt, conn, statement);
-    is_ours(conn.schema())
+    is_of(conn.schema(), StoreVersion::Second)
 }
 
 // The rows of `office`.
@@ -58,7 +58,9 @@ fn office_rows(rt: &impl Abort, conn: &mut Connection<MemStore>) -> Vec<Row> {
 fn is_text_kept(rt: &impl Abort, conn: &mut Connection<MemStore>) -> bool {
     let kept = office_rows(rt, conn);
     let rows = kept.as_slice();
-    keeps_office(rows, b"text".as_slice()) && !keeps_office(rows, b"test".as_slice())
+    keeps_office(rows, StoreVersion::Second, b"text".as_slice())
+        && !keeps_office(rows, StoreVersion::Second, b"test".as_slice())
+        && !keeps_office(rows, StoreVersion::First, b"text".as_slice())
 }
 
 // bears on: pw_schema make.rt create made
@@ -67,13 +69,13 @@ fn is_text_kept(rt: &impl Abort, conn: &mut Connection<MemStore>) -> bool {
 // bears on: pw_schema office.rt keeps_office is
 // bears on: pw_schema shape.rt begins_as_ours ensures
 // bears on: pw_schema shape.rt is_nothing ensures
-// bears on: pw_schema shape.rt is_ours ensures
+// bears on: pw_schema shape.rt is_of ensures
 #[test]
 fn tables_that_are_made_are_ours(rt: HostRuntime) {
     let conn = memory(&rt, rt.alloc());
-    assert!(rt; is_nothing(conn.schema()) && !is_ours(conn.schema()));
+    assert!(rt; is_nothing(conn.schema()) && !is_of(conn.schema(), StoreVersion::Second));
     let mut conn = new_store(&rt, rt.alloc());
-    assert!(rt; is_ours(conn.schema()) && !is_nothing(conn.schema()));
+    assert!(rt; is_of(conn.schema(), StoreVersion::Second) && !is_nothing(conn.schema()));
     assert!(rt; is_text_kept(&rt, &mut conn));
     let other = "CREATE TABLE other (id INTEGER) STRICT";
     assert!(rt; !are_ours_behind(&rt, &mut conn, other));

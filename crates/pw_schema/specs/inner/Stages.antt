@@ -1,5 +1,5 @@
 -- The tables as values, and the schema after so many of them. It serves `src/table.rt`, `src/make.rt`,
--- `src/tables.rt` and `src/indexes.rt`.
+-- `src/raise.rt`, `src/tables.rt` and `src/indexes.rt`.
 use Rattle.std.specs.Prelude.{◌≡◌, ℕ, true, List, [], ◌∷◌, ◌++◌, codes, take, IsTrue}
 use Rattle.std.specs.List.{AllByRecursion}
 use Rattle.sqlite.specs.Table.{Table}
@@ -8,13 +8,17 @@ use Rattle.sqlite.specs.Schema.{Schema}
 use Rattle.sqlite.specs.Change.{created}
 use Rattle.sqlite.specs.Effect.{Database}
 use Rattle.sqlite.specs.State.{State}
+use Rattle.sqlite.specs.Tree.{Trees}
+use Rattle.sqlite_catalog.specs.Change.{KeepsRows}
 use Rattle.pw_schema.specs.declared.table.StoreTable.{StoreTable}
-use Rattle.pw_schema.specs.declared.table.StoreTable.TheVariants.{Office, Readings, Assignments, TopUps, Points, Starts, Totals, TotalTopUps}
-use Rattle.pw_schema.specs.Tables.{no_schema, only_one, office_at, reading_at, assignment_at, topup_at, point_at, start_at, total_at, total_topup_at, index_of}
+use Rattle.pw_schema.specs.declared.table.StoreTable.TheVariants.{Office, Readings, Assignments, TopUps, Points, Starts, Totals, TotalTopUps, WithdrawnReadings, WithdrawnAssignments, WithdrawnTopUps}
+use Rattle.pw_schema.specs.Tables.{no_schema, only_one, office_at, reading_at, assignment_at, topup_at, point_at, start_at, total_at, total_topup_at, withdrawn_reading_at, withdrawn_assignment_at, withdrawn_topup_at, index_of}
 
 -- the tables in the order in which they are made
 abbrev pub all_tables : List StoreTable
-all_tables = Office ∷ Readings ∷ Assignments ∷ TopUps ∷ Points ∷ Starts ∷ Totals ∷ TotalTopUps ∷ []
+all_tables =
+    Office ∷ Readings ∷ Assignments ∷ TopUps ∷ Points ∷ Starts ∷ Totals ∷ TotalTopUps
+    ∷ WithdrawnReadings ∷ WithdrawnAssignments ∷ WithdrawnTopUps ∷ []
 
 -- the place of a table among them, and the tree at which it stands in a store, both from 0
 abbrev pub places : StoreTable → ℕ × ℕ
@@ -26,6 +30,9 @@ places Points = (4, 7)
 places Starts = (5, 9)
 places Totals = (6, 11)
 places TotalTopUps = (7, 13)
+places WithdrawnReadings = (8, 14)
+places WithdrawnAssignments = (9, 16)
+places WithdrawnTopUps = (10, 18)
 
 abbrev pub place : StoreTable → ℕ
 place t = (places t).0
@@ -43,6 +50,9 @@ text_of Points = codes "CREATE TABLE point (meter INTEGER NOT NULL, register INT
 text_of Starts = codes "CREATE TABLE start (meter INTEGER NOT NULL, start INTEGER NOT NULL, owner INTEGER NOT NULL, PRIMARY KEY (meter, start)) STRICT"
 text_of Totals = codes "CREATE TABLE total (owner INTEGER NOT NULL, band INTEGER NOT NULL, direction INTEGER NOT NULL, wh INTEGER NOT NULL, PRIMARY KEY (owner, band, direction)) STRICT"
 text_of TotalTopUps = codes "CREATE TABLE total_topup (account INTEGER PRIMARY KEY, cents INTEGER NOT NULL) STRICT"
+text_of WithdrawnReadings = codes "CREATE TABLE withdrawn_reading (meter INTEGER NOT NULL, register INTEGER NOT NULL, instant INTEGER NOT NULL, wh INTEGER NOT NULL, PRIMARY KEY (meter, register, instant, wh)) STRICT"
+text_of WithdrawnAssignments = codes "CREATE TABLE withdrawn_assignment (meter INTEGER NOT NULL, start INTEGER NOT NULL, owner INTEGER NOT NULL, PRIMARY KEY (meter, start, owner)) STRICT"
+text_of WithdrawnTopUps = codes "CREATE TABLE withdrawn_topup (reference TEXT NOT NULL, account INTEGER NOT NULL, cents INTEGER NOT NULL, instant INTEGER NOT NULL, PRIMARY KEY (reference, account, cents, instant)) STRICT"
 
 -- the table itself, at a tree
 abbrev pub table_at : StoreTable → ℕ → Table
@@ -54,6 +64,9 @@ table_at Points tree = point_at tree
 table_at Starts tree = start_at tree
 table_at Totals tree = total_at tree
 table_at TotalTopUps tree = total_topup_at tree
+table_at WithdrawnReadings tree = withdrawn_reading_at tree
+table_at WithdrawnAssignments tree = withdrawn_assignment_at tree
+table_at WithdrawnTopUps tree = withdrawn_topup_at tree
 
 -- the table as it stands in a store
 abbrev pub stored : StoreTable → Table
@@ -78,6 +91,11 @@ before t = stage (place t)
 
 abbrev pub behind : StoreTable → Schema
 behind t = created (before t) (table_at t 0)
+
+-- one table more, without rows, and those before it as they were
+pub record Grows (t : StoreTable) (old new : Trees) : Type 0 where
+  pub others : KeepsRows (before t).tables old new
+  pub empty : new (tree_of t) ≡ []
 
 -- the tables are those of the schema, and have no rows
 pub record IsBlank (schema : Schema) (db : Database) : Type 0 where

@@ -6,15 +6,14 @@ use Rattle.std.specs.List.Sorted.{IsPermutation}
 use Rattle.sqlite.specs.Order.{Row}
 use Rattle.sqlite.specs.Tree.{Trees}
 use Rattle.pw_schema.specs.declared.kind.RecordKind.{RecordKind}
-use Rattle.pw_schema.specs.declared.kind.RecordKind.TheVariants.{Readings, Assignments, TopUps}
+use Rattle.pw_schema.specs.declared.kind.RecordKind.TheVariants.{Readings, Assignments, TopUps, WithdrawnReadings, WithdrawnAssignments, WithdrawnTopUps}
 use Rattle.pw_schema.specs.declared.kind.TotalKind.{TotalKind}
 use Rattle.pw_schema.specs.declared.kind.TotalKind.TheVariants.{Energies, Payments}
 use Rattle.pw_store.specs.declared.listings.KeptKind.{KeptKind}
 use Rattle.pw_store.specs.declared.listings.KeptKind.TheVariants.{Points, Starts}
 use Rattle.pw_store.specs.declared.listings.Listing.{Listing}
 use Rattle.pw_store.specs.declared.listings.Listing.TheVariants.{Records, Kept, Totals, KeptRowids, EnergyRowids}
-use Rattle.pw_store.specs.Content.{payment_tree, point_tree, start_tree, total_tree}
-use Rattle.pw_store.specs.Shown.{tree_of}
+use Rattle.pw_store.specs.Content.{payment_tree, point_tree, start_tree, total_tree, tree_of}
 use Rattle.pw_store.specs.inner.Lists.{shown}
 use Rattle.pw_store.specs.inner.Sums.{shown_id, shown_total}
 
@@ -38,6 +37,9 @@ abbrev pub text_of : Listing → List ℕ
 text_of (Records Readings) = codes "SELECT meter, register, instant, wh FROM record_reading ORDER BY meter, register, instant, wh"
 text_of (Records Assignments) = codes "SELECT meter, start, owner FROM record_assignment ORDER BY meter, start, owner"
 text_of (Records TopUps) = codes "SELECT reference, account, cents, instant FROM record_topup ORDER BY reference, account, cents, instant"
+text_of (Records WithdrawnReadings) = codes "SELECT meter, register, instant, wh FROM withdrawn_reading ORDER BY meter, register, instant, wh"
+text_of (Records WithdrawnAssignments) = codes "SELECT meter, start, owner FROM withdrawn_assignment ORDER BY meter, start, owner"
+text_of (Records WithdrawnTopUps) = codes "SELECT reference, account, cents, instant FROM withdrawn_topup ORDER BY reference, account, cents, instant"
 text_of (Kept Points) = codes "SELECT meter, register, instant, wh FROM point ORDER BY meter, register, instant"
 text_of (Kept Starts) = codes "SELECT meter, start, owner FROM start ORDER BY meter, start"
 text_of (Totals Energies) = codes "SELECT owner, band, direction, wh FROM total ORDER BY owner, band, direction"

@@ -7,7 +7,7 @@ use Rattle.pw_model.specs.declared.records.Key.{Key}
 use Rattle.pw_model.specs.declared.records.Entry.{Entry}
 use Rattle.pw_shelf.specs.Rows.{ListsHeld}
 use Rattle.pw_schema.specs.declared.kind.RecordKind.{RecordKind}
-use Rattle.pw_schema.specs.declared.kind.RecordKind.TheVariants.{Readings, Assignments, TopUps}
+use Rattle.pw_schema.specs.declared.kind.RecordKind.TheVariants.{Readings, Assignments, TopUps, WithdrawnReadings, WithdrawnAssignments, WithdrawnTopUps}
 use Rattle.pw_schema.specs.Rows.{ReadsRows}
 use Rattle.pw_store.specs.Content.{records_of}
 
@@ -16,6 +16,9 @@ abbrev pub shown : RecordKind → Row → Row
 shown Readings r = column r 1 ∷ column r 2 ∷ column r 3 ∷ column r 4 ∷ []
 shown Assignments r = column r 1 ∷ column r 2 ∷ column r 3 ∷ []
 shown TopUps r = column r 1 ∷ column r 2 ∷ column r 3 ∷ column r 4 ∷ []
+shown WithdrawnReadings r = column r 1 ∷ column r 2 ∷ column r 3 ∷ column r 4 ∷ []
+shown WithdrawnAssignments r = column r 1 ∷ column r 2 ∷ column r 3 ∷ []
+shown WithdrawnTopUps r = column r 1 ∷ column r 2 ∷ column r 3 ∷ column r 4 ∷ []
 
 -- whatever records are read from the rows, they are those of the tables that have such a key
 abbrev pub ShowsKept : RecordKind → (Key → Type 0) → Trees → List Row → Type 0

@@ -12,13 +12,17 @@ use Rattle.pw_schema.specs.declared.kind.TotalKind.TheVariants.{Energies, Paymen
 use Rattle.pw_schema.specs.Rows.{number}
 use Rattle.pw_schema.specs.Judging.{HasOtherText, HasOtherVersion, HasVersion, KeepsOffice}
 use Rattle.pw_schema.specs.Conflicts.{AreWithoutConflict}
-use Rattle.pw_schema.specs.Tables.{no_schema}
+use Rattle.pw_schema.specs.Fresh.{IsWithin}
+use Rattle.pw_schema.specs.Tables.{schema_of}
+use Rattle.pw_schema.specs.declared.kind.StoreVersion.{StoreVersion}
+use Rattle.pw_schema.specs.declared.kind.StoreVersion.TheVariants.{Second}
 use Rattle.pw_store.specs.declared.fault.OpenFault.{OpenFault}
 use Rattle.pw_store.specs.declared.fault.OpenFault.TheVariants.{Store, Memory, OfficeDiffers, Version, Unclean}
-use Rattle.pw_model.specs.Shelf.{no_content, IsTrueContent}
+use Rattle.pw_model.specs.Shelf.{IsTrueContent}
 use Rattle.pw_store.specs.Content.{content_of, records_of}
 use Rattle.pw_store.specs.Kept.{IsStore}
-use Rattle.pw_store.specs.Opening.{KeepsText, NamesOffice, HasNoRow, HoldsOurs}
+use Rattle.pw_store.specs.Left.{IsUpgraded}
+use Rattle.pw_store.specs.Opening.{KeepsText, NamesOffice, HasNoRow, HoldsTables, IsFound, IsSpoilt}
 
 -- a connection that was open and is, and inside of no transaction
 pub record IsSettled (old new : State) : Type 0 where
@@ -32,6 +36,14 @@ abbrev pub amount_of_total : TotalKind → Row → ℕ
 amount_of_total Energies r = number (column r 4)
 amount_of_total Payments r = number (column r 2)
 
+-- what the rows of our tables have to be
+pub record IsSound (office : OfficeRules) (db : Database) : Type 0 where
+  pub store : IsStore db
+  pub named : NamesOffice office db.trees
+  pub of_office : AllOfOffice office (records_of db.trees)
+  pub few : length (records_of db.trees) ≤ most_records
+  pub truth : IsTrueContent office (content_of db.trees)
+
 -- what a database has to be, to be opened
 pub record MayOpen (office : OfficeRules) (body : List ℕ) (db : Database) : Type 0 where
   pub store : IsStore db
@@ -42,13 +54,20 @@ pub record MayOpen (office : OfficeRules) (body : List ℕ) (db : Database) : Ty
   pub few : length (records_of db.trees) ≤ most_records
   pub truth : IsTrueContent office (content_of db.trees)
 
--- what an opened connection is: that of before, or where nothing was there, a store without records
+-- what an opened connection is: that of before, or where nothing was there, a store without records, or one of version 1
+-- brought to version 2
 pub record IsOpened (office : OfficeRules) (body : List ℕ) (before : Database) (s : State) : Type 0 where
   pub is_open : IsTrue s.is_open
   pub outside : s.in_transaction ≡ false
   pub settled : s.now ≡ s.committed
   pub may_open : MayOpen office body s.now
-  pub found : (s.now ≡ before) ⊎ ((before.schema ≡ no_schema) × (content_of s.now.trees ≡ no_content))
+  pub found : IsFound before (content_of s.now.trees)
+
+-- a store of version 1 that stands within a transaction as one of version 2, which may be committed
+pub record IsReady (office : OfficeRules) (body : List ℕ) (before : Database) (s : State) : Type 0 where
+  pub within : IsWithin (schema_of Second) s
+  pub upgraded : IsUpgraded body before s.now
+  pub sound : IsSound office s.now
 
 -- what is known of the version in the row of `office` where it refuses an opening
 abbrev pub VersionRefuses : Trees → OpenFault → Type 0
@@ -62,9 +81,17 @@ VersionRefuses db Unclean = KeepsText HasNoRow db
 abbrev pub RowRefuses : List ℕ → Database → OpenFault → Type 0
 RowRefuses body db Store = Unit {0}
 RowRefuses body db Memory = Unit {0}
-RowRefuses body db OfficeDiffers = HoldsOurs db × KeepsText (HasOtherText body) db.trees
+RowRefuses body db OfficeDiffers = (v : StoreVersion) × (HoldsTables v db × KeepsText (HasOtherText v body) db.trees)
 RowRefuses body db Version = KeepsText HasOtherVersion db.trees
-RowRefuses body db Unclean = KeepsText HasNoRow db.trees ⊎ (KeepsText HasVersion db.trees × (HoldsOurs db → ⊥))
+RowRefuses body db Unclean = KeepsText HasNoRow db.trees ⊎ ((v : StoreVersion) × (KeepsText (HasVersion v) db.trees × (HoldsTables v db → ⊥)))
+
+-- of the rows of the tables of a version
+abbrev pub RowsRefuse : StoreVersion → OfficeRules → Trees → OpenFault → Type 0
+RowsRefuse v office db Store = Unit {0}
+RowsRefuse v office db Memory = Unit {0}
+RowsRefuse v office db OfficeDiffers = ⊥
+RowsRefuse v office db Version = ⊥
+RowsRefuse v office db Unclean = IsSpoilt v office db
 
 -- of rows, where it asks of them that they be such
 abbrev pub RefusesUnless : Type 0 → OpenFault → Type 0

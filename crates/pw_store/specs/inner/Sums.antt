@@ -14,11 +14,10 @@ use Rattle.pw_schema.specs.declared.kind.RecordKind.TheVariants.{Readings, Assig
 use Rattle.pw_schema.specs.declared.kind.TotalKind.{TotalKind}
 use Rattle.pw_schema.specs.declared.kind.TotalKind.TheVariants.{Energies, Payments}
 use Rattle.pw_schema.specs.Judging.{by_key, by_total}
-use Rattle.pw_store.specs.Content.{point_tree, start_tree, total_tree, payment_tree}
+use Rattle.pw_store.specs.Content.{point_tree, start_tree, total_tree, payment_tree, entry_in}
 use Rattle.pw_store.specs.Keyed.{HasRowid}
 use Rattle.pw_store.specs.Opening.{key_of_total}
 use Rattle.pw_store.specs.inner.Opened.{amount_of_total}
-use Rattle.pw_store.specs.Shown.{entry_in}
 
 -- all but the rowid; of a total of top-ups the account, which is the rowid
 abbrev pub shown_total : TotalKind → Row → Row

@@ -14,7 +14,11 @@ use Rattle.sqlite_value.specs.declared.value.Value.{Value}
 use Rattle.sqlite_value.specs.contracts.value.Value as value
 use Rattle.sqlite_schema.specs.contracts.schema.Schema as schema_row
 use Rattle.pw_shelf.specs.inner.Held.{EachOnce-prop}
-use Rattle.pw_store.specs.Content.{IsReadingRow, IsAssignmentRow, IsTopupRow, energy_in, payment_in, reading_tree, assignment_tree, topup_tree, point_tree, start_tree, total_tree, payment_tree, records_of}
+use Rattle.pw_store.specs.Content.{IsReadingRow, IsAssignmentRow, IsTopupRow, IsRowOf, energy_in, payment_in, point_tree, start_tree, total_tree, payment_tree, records_of, records_of_version, tree_of}
+use Rattle.pw_schema.specs.declared.kind.RecordKind.{RecordKind}
+use Rattle.pw_schema.specs.declared.kind.RecordKind.TheVariants.{Readings, Assignments, TopUps, WithdrawnReadings, WithdrawnAssignments, WithdrawnTopUps}
+use Rattle.pw_schema.specs.declared.kind.StoreVersion.{StoreVersion}
+use Rattle.pw_schema.specs.declared.kind.StoreVersion.TheVariants.{Second}
 use Rattle.pw_store.specs.Keyed.{AreKeyed, HasRowid, IsEnergyRow, IsPaymentRow}
 use Rattle.pw_store.specs.Opening.{AreRows, HasRows}
 use Rattle.pw_store.specs.Left.{IsOldEnergy, IsOldPayment, Keeps, IsLeftOf, KeepsOpened}
@@ -33,6 +37,14 @@ IsAssignmentRow-prop r = ×_prop same_value (×_prop same_value same_value)
 pub IsTopupRow-prop : (r : Row) → IsProp (IsTopupRow r)
 IsTopupRow-prop r = ×_prop same_value (×_prop same_value (×_prop same_value same_value))
 
+pub IsRowOf-prop : (k : RecordKind) (r : Row) → IsProp (IsRowOf k r)
+IsRowOf-prop Readings r = IsReadingRow-prop r
+IsRowOf-prop Assignments r = IsAssignmentRow-prop r
+IsRowOf-prop TopUps r = IsTopupRow-prop r
+IsRowOf-prop WithdrawnReadings r = IsReadingRow-prop r
+IsRowOf-prop WithdrawnAssignments r = IsAssignmentRow-prop r
+IsRowOf-prop WithdrawnTopUps r = IsTopupRow-prop r
+
 pub IsEnergyRow-prop : (r : Row) → IsProp (IsEnergyRow r)
 IsEnergyRow-prop r = ×_prop same_value (×_prop same_value (×_prop same_value same_value))
 
@@ -50,9 +62,7 @@ AreKeyed-prop IsRow prop key_in rows a b = λ i. record {
 pub IsStore-prop : (db : Database) → IsProp (IsStore db)
 IsStore-prop db a b = λ i. record {
   ours = Coded-set schema_row.the_row.coded db.schema _ a.ours b.ours i;
-  readings = AllByRecursion-prop IsReadingRow IsReadingRow-prop (db.trees reading_tree) a.readings b.readings i;
-  assignments = AllByRecursion-prop IsAssignmentRow IsAssignmentRow-prop (db.trees assignment_tree) a.assignments b.assignments i;
-  topups = AllByRecursion-prop IsTopupRow IsTopupRow-prop (db.trees topup_tree) a.topups b.topups i;
+  rows = Π_prop (λ k. AllByRecursion-prop (IsRowOf k) (IsRowOf-prop k) (db.trees (tree_of k))) a.rows b.rows i;
   once = EachOnce-prop (records_of db.trees) a.once b.once i;
   points = AreKeyed-prop IsReadingRow IsReadingRow-prop key_in_point (db.trees point_tree) a.points b.points i;
   starts = AreKeyed-prop IsAssignmentRow IsAssignmentRow-prop key_in_start (db.trees start_tree) a.starts b.starts i;
@@ -94,12 +104,10 @@ AreRows-prop IsRow prop key_in rows a b = λ i. record {
   once = EachOnce-prop (map key_in rows) a.once b.once i;
 }
 
-HasRows-prop : (db : Trees) → IsProp (HasRows db)
-HasRows-prop db a b = λ i. record {
-  readings = AllByRecursion-prop IsReadingRow IsReadingRow-prop (db reading_tree) a.readings b.readings i;
-  assignments = AllByRecursion-prop IsAssignmentRow IsAssignmentRow-prop (db assignment_tree) a.assignments b.assignments i;
-  topups = AllByRecursion-prop IsTopupRow IsTopupRow-prop (db topup_tree) a.topups b.topups i;
-  once = EachOnce-prop (records_of db) a.once b.once i;
+HasRows-prop : (v : StoreVersion) (db : Trees) → IsProp (HasRows v db)
+HasRows-prop v db a b = λ i. record {
+  rows = Π_prop (λ k. Π_prop λ _. AllByRecursion-prop (IsRowOf k) (IsRowOf-prop k) (db (tree_of k))) a.rows b.rows i;
+  once = EachOnce-prop (records_of_version v db) a.once b.once i;
   points = AreRows-prop IsReadingRow IsReadingRow-prop key_in_point (db point_tree) a.points b.points i;
   starts = AreRows-prop IsAssignmentRow IsAssignmentRow-prop key_in_start (db start_tree) a.starts b.starts i;
   energies = AreRows-prop IsEnergyRow IsEnergyRow-prop energy_in (db total_tree) a.energies b.energies i;
@@ -119,7 +127,7 @@ IsLeftOf-prop s opened a b = λ i. record {
   ours = Π_prop (λ found. Π_prop λ _. Π_prop λ _. Coded-set schema_row.the_row.coded found.schema _) a.ours b.ours i;
   now = Π_prop (λ _. Keeps-prop opened.now.trees s.now.trees) a.now b.now i;
   committed = Π_prop (λ _. Keeps-prop opened.now.trees s.committed.trees) a.committed b.committed i;
-  left = Π_prop (λ db. Π_prop λ _. ×_prop (HasRows-prop db) (Keeps-prop opened.now.trees db)) a.left b.left i;
+  left = Π_prop (λ db. Π_prop λ _. ×_prop (HasRows-prop Second db) (Keeps-prop opened.now.trees db)) a.left b.left i;
 }
 
 pub KeepsOpened-prop : (s opened : Sql) → IsProp (KeepsOpened s opened)

@@ -50,9 +50,14 @@ returns-in_default-content-2 g c = record {
   };
 }
 
-pub returns-in-Withdrawal : goal.returns-in-Withdrawal
-returns-in-Withdrawal g c = record {
-  found = λ clean. no_withdrawal_of (state g.S.Store c.args.conn.now).now.trees c.args.entry.now c.in-Withdrawal.named c.in-Withdrawal.is;
+pub returns-in-Withdrawal-content-clause-found : goal.returns-in-Withdrawal-content-clause-found
+returns-in-Withdrawal-content-clause-found g c clean =
+    let before = early (state g.S.Store c.wake.new.conn) (state g.S.Store c.has_withdrawal.new.conn) c.has_withdrawal.ensures.asks.crash clean in
+    found_moved c.has_withdrawal.result (state g.S.Store c.args.conn.now) (state g.S.Store c.wake.new.conn) c.args.entry.now (key.Withdrawal c.in-Withdrawal.named) content.Withdrawal (c.in_ok-wake.ensures.asks.same before) c.in-Withdrawal.is c.in-Withdrawal-content.is (c.has_withdrawal.ensures.found clean)
+
+pub returns-in_default-content-3 : goal.returns-in_default-content-3
+returns-in_default-content-3 g c = record {
+  found = λ clean. no_withdrawal_of (state g.S.Store c.args.conn.now).now.trees c.args.entry.now c.in-Withdrawal.named c.in-Withdrawal.is c.in_default-content-3.not-Withdrawal;
   asks = record {
     same = c.in_ok-wake.ensures.asks.same;
     failed = λ clean. tt;

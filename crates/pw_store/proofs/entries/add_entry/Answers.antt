@@ -35,3 +35,13 @@ returns-in-Ok-add_assignment-clause-keeps g c clean = (c.in-Ok-add_assignment.en
 
 pub returns-in-Ok-add_topup-clause-keeps : goal.returns-in-Ok-add_topup-clause-keeps
 returns-in-Ok-add_topup-clause-keeps g c clean = (c.in-Ok-add_topup.ensures.done clean).keeps
+
+pub add_withdrawal-requires-clause-fresh : goal.add_withdrawal-requires-clause-fresh
+add_withdrawal-requires-clause-fresh g c clean m = c.requires.fresh clean (subst (λ e. Member e (records_of (state g.S.Store c.args.conn.now).now.trees)) (sym (entry_is c.args.entry.now _ _ c.in-Withdrawal-Withdrawal.is-0 c.in-Withdrawal-Withdrawal.is-1)) m)
+
+pub returns-in-Ok-add_withdrawal-clause-added : goal.returns-in-Ok-add_withdrawal-clause-added
+returns-in-Ok-add_withdrawal-clause-added g c clean =
+    λ is. subst (λ e. IsWithRecord (content_of (state g.S.Store c.args.conn.now).now.trees) e (content_of (state g.S.Store c.add_withdrawal.new.conn).now.trees)) (sym (entry_is c.args.entry.now _ _ c.in-Withdrawal-Withdrawal.is-0 c.in-Withdrawal-Withdrawal.is-1)) (c.in-Ok-add_withdrawal.ensures.done clean).content
+
+pub returns-in-Ok-add_withdrawal-clause-keeps : goal.returns-in-Ok-add_withdrawal-clause-keeps
+returns-in-Ok-add_withdrawal-clause-keeps g c clean = (c.in-Ok-add_withdrawal.ensures.done clean).keeps

@@ -1,7 +1,7 @@
 use Rattle.sqlite.specs.Held.{state}
 use Rattle.pw_store.proofs.Texts.{assignment_at_text, assignment_at_is}
 use Rattle.pw_store.proofs.Querying.{ours_plain, asks_if}
-use Rattle.pw_store.proofs.AtMeter.{assignment_told_if}
+use Rattle.pw_store.proofs.AtAssignment.{assignment_told_if}
 use Rattle.pw_schema.proofs.Outcomes.{early}
 use Rattle.pw_store.proofs.meters.assignment_at.Goals as goal
 

@@ -1,7 +1,7 @@
 use Rattle.sqlite.specs.Held.{state}
 use Rattle.pw_store.proofs.Texts.{reading_at_text, reading_at_is}
 use Rattle.pw_store.proofs.Querying.{ours_plain, asks_if}
-use Rattle.pw_store.proofs.AtMeter.{reading_told_if}
+use Rattle.pw_store.proofs.AtReading.{reading_told_if}
 use Rattle.pw_schema.proofs.Outcomes.{early}
 use Rattle.pw_store.proofs.meters.reading_at.Goals as goal
 

@@ -1,64 +1,30 @@
-use Rattle.std.proofs.Common.{◌≡◌, true, false, length, rules, sym, ◌∙◌}
+use Rattle.std.proofs.Common.{subst}
 use Rattle.sqlite.specs.Held.{state}
 use Rattle.pw_tariff.specs.Office.{office_of}
+use Rattle.pw_schema.specs.Judging.{KeepsVersion}
+use Rattle.pw_schema.specs.declared.kind.StoreVersion.TheVariants.{First, Second}
 use Rattle.pw_schema.proofs.Outcomes.{early}
-use Rattle.pw_store.proofs.Counted.{counted_listed}
-use Rattle.pw_store.proofs.Judged.{judged, judged_others, parts_refused, sums_refused}
+use Rattle.pw_store.specs.Opening.{BegunRefuses, HoldsTables, KeepsText}
+use Rattle.pw_store.specs.inner.Opened.{RowsRefuse}
+use Rattle.pw_store.proofs.Raised.{if_err, rows_refuse}
 use Rattle.pw_store.proofs.opening.check.Goals as goal
 
-pub returns-in-Err-parts_of-clause-cause : goal.returns-in-Err-parts_of-clause-cause
-returns-in-Err-parts_of-clause-cause g c clean =
+pub returns-in-Ok-First-clause-cause : goal.returns-in-Ok-First-clause-cause
+returns-in-Ok-First-clause-cause g c clean =
     let s0 = state g.S.Store c.args.conn.now in
     let s1 = state g.S.Store c.check_office.new.conn in
-    let s2 = state g.S.Store c.check_records.new.conn in
-    let clean1 = early s1 s2 c.in-Ok.ensures.looks.crash clean in
-    parts_refused (office_of c.args.office.now) c.args.text.now s0 s1 c.in-Ok.records.items c.in-Err-parts_of.fault (c.in_default.ensures.looks.same clean1) (c.in_default.ensures.ours clean1) (c.in_default.ensures.kept_text clean1) (c.in-Ok.ensures.listed clean) c.in-Err-parts_of.ensures.many c.in-Err-parts_of.ensures.others
+    let before = c.upgrade.ensures.clean clean in
+    let office = office_of c.args.office.now in
+    if_err c.upgrade.result (RowsRefuse First office s1.now.trees) (BegunRefuses office c.args.text.now s0.now)
+    (λ fault it. rows_refuse First office c.args.text.now s0 s1 fault (c.in-Ok-First.ensures.looks.same before) (subst (λ v. HoldsTables v s1.now) c.in-Ok-First.field-0-is (c.in-Ok-First.ensures.ours before)) (subst (λ v. KeepsText (KeepsVersion v c.args.text.now) s1.now.trees) c.in-Ok-First.field-0-is (c.in-Ok-First.ensures.kept_text before)) it)
+    (c.upgrade.ensures.cause clean)
 
-pub returns-in-Ok-true-clause-may_open : goal.returns-in-Ok-true-clause-may_open
-returns-in-Ok-true-clause-may_open g c clean =
+pub returns-in-Ok-Second-clause-cause : goal.returns-in-Ok-Second-clause-cause
+returns-in-Ok-Second-clause-cause g c clean =
     let s0 = state g.S.Store c.args.conn.now in
     let s1 = state g.S.Store c.check_office.new.conn in
-    let s2 = state g.S.Store c.check_records.new.conn in
-    let s3 = state g.S.Store c.read_sums.new.conn in
-    let clean2 = early s2 s3 c.in-Ok-true.ensures.looks.crash clean in
-    let clean1 = early s1 s2 c.in-Ok.ensures.looks.crash clean2 in
-    let told = c.in-Ok-true.ensures.tells clean in
-    judged (office_of c.args.office.now) c.args.text.now s0 s1 s2 s3 c.in-Ok.records.items told.0
-    (c.in_default.ensures.looks.same clean1) (c.in-Ok.ensures.looks.same clean2) (c.in-Ok-true.ensures.looks.same clean)
-    (c.in_default.ensures.ours clean1) (c.in_default.ensures.kept_text clean1) (c.in-Ok.ensures.sound clean2) (c.in-Ok.ensures.listed clean2)
-    (c.in-Ok-true.ensures.holds clean) (c.in-Ok-true.ensures.numbered clean) told.1
-    c.in-Ok-parts_of.ensures.few (c.in-Ok-parts_of.parts, c.in-Ok-parts_of.ensures.parts, told.2.0 c.in-Ok-true.field-0-test)
-
-pub returns-in-Ok-false-clause-cause : goal.returns-in-Ok-false-clause-cause
-returns-in-Ok-false-clause-cause g c clean =
-    let s0 = state g.S.Store c.args.conn.now in
-    let s1 = state g.S.Store c.check_office.new.conn in
-    let s2 = state g.S.Store c.check_records.new.conn in
-    let s3 = state g.S.Store c.read_sums.new.conn in
-    let clean2 = early s2 s3 c.in-Ok-false.ensures.looks.crash clean in
-    let clean1 = early s1 s2 c.in-Ok.ensures.looks.crash clean2 in
-    let told = c.in-Ok-false.ensures.tells clean in
-    judged_others (office_of c.args.office.now) c.args.text.now s0 s1 s2 s3 c.in-Ok.records.items told.0
-    (c.in_default.ensures.looks.same clean1) (c.in-Ok.ensures.looks.same clean2) (c.in-Ok-false.ensures.looks.same clean)
-    (c.in_default.ensures.ours clean1) (c.in_default.ensures.kept_text clean1) (c.in-Ok.ensures.sound clean2) (c.in-Ok.ensures.listed clean2)
-    (c.in-Ok-false.ensures.holds clean) (c.in-Ok-false.ensures.numbered clean) told.1
-    (c.in-Ok-parts_of.parts, c.in-Ok-parts_of.ensures.parts, λ are. (let bad : true ≡ false = sym (told.2.1 are) ∙ c.in-Ok-false.field-0-test in cc))
-
-pub returns-clause-cause : goal.returns-clause-cause
-returns-clause-cause g c clean =
-    let s0 = state g.S.Store c.args.conn.now in
-    let s1 = state g.S.Store c.check_office.new.conn in
-    let s2 = state g.S.Store c.check_records.new.conn in
-    let s3 = state g.S.Store c.read_sums.new.conn in
-    let clean2 = early s2 s3 c.in-Err-read_sums.ensures.looks.crash clean in
-    let clean1 = early s1 s2 c.in-Ok.ensures.looks.crash clean2 in
-    sums_refused (office_of c.args.office.now) c.args.text.now s0 s1 s2 c.in-Err-read_sums.fault (c.in_default.ensures.looks.same clean1) (c.in-Ok.ensures.looks.same clean2) (c.in_default.ensures.ours clean1) (c.in_default.ensures.kept_text clean1) (c.in-Err-read_sums.ensures.cause clean)
-
-pub returns-in-Ok-true-clause-counted : goal.returns-in-Ok-true-clause-counted
-returns-in-Ok-true-clause-counted g c clean =
-    let s1 = state g.S.Store c.check_office.new.conn in
-    let s2 = state g.S.Store c.check_records.new.conn in
-    let s3 = state g.S.Store c.read_sums.new.conn in
-    let clean2 = early s2 s3 c.in-Ok-true.ensures.looks.crash clean in
-    let told : length c.in-Ok.records.items ≡ c.len-held.result = search rules in
-    counted_listed s1 s2 s3 c.in-Ok.records.items (c.in-Ok.ensures.listed clean2) (c.in-Ok.ensures.looks.same clean2) (c.in-Ok-true.ensures.looks.same clean) ∙ told
+    let before = early s1 (state g.S.Store c.check_rows.new.conn) c.check_rows.ensures.looks.crash clean in
+    let office = office_of c.args.office.now in
+    if_err c.check_rows.result (RowsRefuse Second office s1.now.trees) (BegunRefuses office c.args.text.now s0.now)
+    (λ fault it. rows_refuse Second office c.args.text.now s0 s1 fault (c.in-Ok-Second.ensures.looks.same before) (subst (λ v. HoldsTables v s1.now) c.in-Ok-Second.field-0-is (c.in-Ok-Second.ensures.ours before)) (subst (λ v. KeepsText (KeepsVersion v c.args.text.now) s1.now.trees) c.in-Ok-Second.field-0-is (c.in-Ok-Second.ensures.kept_text before)) it)
+    (c.check_rows.ensures.cause clean)

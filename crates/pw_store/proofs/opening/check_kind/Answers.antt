@@ -3,7 +3,7 @@ use Rattle.std.specs.List.Sorted.{IsPermutation}
 use Rattle.sqlite.specs.Held.{state}
 use Rattle.pw_tariff.specs.Office.{office_of}
 use Rattle.pw_model.specs.Office.{AllOfOffice}
-use Rattle.pw_store.specs.Shown.{entries_of}
+use Rattle.pw_store.specs.Content.{entries_of}
 use Rattle.pw_store.proofs.Refusals.{table_holds, table_listed, table_of_office, table_refuses}
 use Rattle.pw_store.proofs.opening.check_kind.Goals as goal
 

@@ -8,7 +8,7 @@ use Rattle.pw_store.proofs.topups.topup_at.Goals as goal
 pub returns-clause-told : goal.returns-clause-told
 returns-clause-told g c clean =
     let before = early (state g.S.Store c.args.conn.now) (state g.S.Store c.query_all.new.self) c.query_all.ensures.survives clean in
-    topup_told_if (state g.S.Store c.args.conn.now) (state g.S.Store c.query_all.new.self) c.args.reference.now c.query_all.result (c.requires.store before)
+    topup_told_if c.args.reference.now (state g.S.Store c.args.conn.now) (state g.S.Store c.query_all.new.self) c.query_all.result (c.requires.store before)
     (rw (c.words.ensures) at (c.query_all.ensures.ok clean))
 
 pub returns-clause-asks : goal.returns-clause-asks
