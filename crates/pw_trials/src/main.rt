@@ -1,13 +1,15 @@
-//! A program of trials: each call that takes no memory, made while none is given.
+//! A program for the tests alone. Without words it makes trials: each call that takes no memory, made while none is given.
 //!
-//! With the folder of a made cooperative behind its name it tells the figures of that folder's records in place of that,
-//! as the plain program of the definitions computes them: `tests/sample` compares powerbook's with them.
+//! `figures FOLDER` tells in place of that the figures of a made cooperative's records, as the plain program of the
+//! definitions computes them: `tests/sample` compares powerbook's with them. `calls OFFICE_FILE` answers each line of the
+//! input, a call in words: cases of `cases/` make calls so that no command shows.
 //!
 //! Between the lines `no memory` and `memory again` nothing may ask for memory. Between `one may be refused` and `all is
 //! given` a call answers that memory was refused, and is right when it is made again. The script `tests/no_memory` runs it
 //! with an allocator that refuses each request there, and here one in each run; in the gate it runs as it is.
 #![tactic(auto)]
 
+mod calls;
 mod figures;
 mod folder;
 mod frames;
@@ -50,13 +52,25 @@ meter = [
 /// The exit status where what the trials need can't be made.
 const NO_MEMORY: u8 = 3;
 
+/// The exit status where the words ask for nothing that is done here.
+const NOT_UNDERSTOOD: u8 = 2;
+
 fn main(rt: HostRuntime) -> ExitCode {
-    let Ok(mut words) = env::args(&rt) else {
-        return ExitCode::from(NO_MEMORY);
+    ExitCode::from(status_of(&rt))
+}
+
+// Does what the words behind the program's name ask for, and answers the exit status.
+fn status_of(rt: &HostRuntime) -> u8 {
+    let Ok(mut words) = env::args(rt) else {
+        return NO_MEMORY;
     };
-    match words.nth(1) {
-        Some(folder) => ExitCode::from(folder::tell_figures(&rt, &folder)),
-        None => ExitCode::from(trials(&rt)),
+    let Some(task) = words.nth(1) else {
+        return trials(rt);
+    };
+    match (task.as_str(), words.next()) {
+        ("figures", Some(folder)) => folder::tell_figures(rt, &folder),
+        ("calls", Some(office)) => calls::answer_calls(rt, &office),
+        _ => NOT_UNDERSTOOD,
     }
 }
 

@@ -1,8 +1,8 @@
 //! The calls on owners over time, and on differences shared out. A start is written `INSTANT=OWNER`.
 
-use crate::asked::Asked;
-use crate::names::{band_name, owner, owner_name};
-use crate::words::{instant, wh};
+use crate::calls::asked::Asked;
+use crate::calls::names::{band_name, owner, owner_name};
+use crate::calls::words::{instant, wh};
 use pw_tariff::{Cell, Office, Owner, Owners, Span, apportion};
 use pw_time::Instant;
 use std::alloc::Global;

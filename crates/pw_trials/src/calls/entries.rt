@@ -2,8 +2,8 @@
 //! `topup REFERENCE ACCOUNT CENTS INSTANT`. The first words are the key's. `withdrawal` in front of one is its withdrawal,
 //! whose key they all are.
 
-use crate::names::{account, meter, meter_name, owner, owner_name};
-use crate::words::{instant, register, wh};
+use crate::calls::names::{account, meter, meter_name, owner, owner_name};
+use crate::calls::words::{instant, register, wh};
 use pw_model::{Content, Entry, Key, Named, Reference};
 use pw_tariff::Office;
 use std::io::Write;

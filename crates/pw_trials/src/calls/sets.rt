@@ -1,6 +1,6 @@
 //! The calls on data sets. In the text of a block `|` stands for CR LF.
 
-use crate::words::bytes_of;
+use crate::calls::words::bytes_of;
 use pw_obis::{
     Code, Register, Set, Sets, code, first_value, is_date, is_identifier, is_stamp, is_time,
     register,

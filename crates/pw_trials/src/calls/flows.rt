@@ -5,9 +5,9 @@ ghost use Rattle.pw_flow.specs.Energy.{register_energy};
 ghost use Rattle.pw_flow.specs.Plain.{value_at};
 ghost use Rattle.pw_flow.specs.Time.{AreInTime};
 
-use crate::asked::Asked;
-use crate::names::meter;
-use crate::words::{instant, register, wh};
+use crate::calls::asked::Asked;
+use crate::calls::names::meter;
+use crate::calls::words::{instant, register, wh};
 use pw_flow::plain::{Point, energy, level_at};
 use pw_model::plain::points_of;
 use std::io::Write;

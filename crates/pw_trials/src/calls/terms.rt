@@ -1,8 +1,8 @@
 //! The calls on the terms of the office. Meters and bands are told by their numbers, from 0.
 
-use crate::asked::Asked;
-use crate::names::{band_name, direction};
-use crate::words::{instant, register};
+use crate::calls::asked::Asked;
+use crate::calls::names::{band_name, direction};
+use crate::calls::words::{instant, register};
 use pw_model::plain::{OfficeTerms, Terms};
 use pw_tariff::{BandId, MeterId};
 use std::io::Write;

@@ -4,10 +4,10 @@ ghost use Rattle.std.specs.Prelude.{◌≤◌, IsTrue, length};
 ghost use Rattle.pw_model.specs.Office.{AllOfOffice, most_records};
 ghost use Rattle.pw_tariff.specs.Office.{office_of};
 
-use crate::asked::Asked;
-use crate::entries::{tell_content, tell_key};
-use crate::names::{account, band_name, owner_name};
-use crate::shares::tell_cell;
+use crate::calls::asked::Asked;
+use crate::calls::entries::{tell_content, tell_key};
+use crate::calls::names::{account, band_name, owner_name};
+use crate::calls::shares::tell_cell;
 use pw_model::plain::{OfficeTerms, are_of_office, balance, energy};
 use pw_model::{Entry, TotalKey};
 use pw_parts::true_parts;

@@ -1,9 +1,7 @@
-//! A program for the tests alone: each line of its input is a call in words, and it tells what the call answers.
+//! Calls in words: each line of the input is a call, and what it answers is told.
 //!
-//! The word behind its name is an office file. A line that tells a record adds it to those that are held; what is asked of
-//! records is asked of these. No store and no book stands below it: what records mean is told by the plain program of the
-//! definitions, and by `true_parts`.
-#![tactic(auto)]
+//! A line that tells a record adds it to those that are held; what is asked of records is asked of these. No store and no
+//! book stands below it: what records mean is told by the plain program of the definitions, and by `true_parts`.
 
 mod asked;
 mod counting;
@@ -26,20 +24,16 @@ use pw_model::Entry;
 use pw_tariff::Office;
 use pw_time::Zone;
 use std::alloc::{AllocError, Global};
+use std::fs;
 use std::io::{self, Write};
-use std::process::ExitCode;
-use std::{env, fs};
 
 /// The exit status where the calls can't be made.
 const FAILED: u8 = 3;
 
-fn main(rt: HostRuntime) -> ExitCode {
-    ExitCode::from(status_of(&rt))
-}
-
-fn status_of(rt: &HostRuntime) -> u8 {
-    let Some(office) = office_of_words(rt) else {
-        let _ = rt.stderr().write_all(b"pw_calls: no office file\n");
+/// Answers the lines of the input for the office of a file, and tells the exit status.
+pub(crate) fn answer_calls(rt: &HostRuntime, path: &str) -> u8 {
+    let Some(office) = office_of(rt, path) else {
+        let _ = rt.stderr().write_all(b"pw_trials: no office file\n");
         return FAILED;
     };
     match answer_lines(rt, &office) {
@@ -48,11 +42,9 @@ fn status_of(rt: &HostRuntime) -> u8 {
     }
 }
 
-/// The office of the file that the first word names.
-fn office_of_words(rt: &HostRuntime) -> Option<Office> {
-    let mut words = env::args(rt).ok()?;
-    let path = words.nth(1)?;
-    let text = fs::read(rt, path.as_str()).ok()?;
+/// The office of a file.
+fn office_of(rt: &HostRuntime, path: &str) -> Option<Office> {
+    let text = fs::read(rt, path).ok()?;
     Office::read(rt.alloc(), &text).ok()
 }
 

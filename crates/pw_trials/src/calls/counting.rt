@@ -1,9 +1,9 @@
 //! The calls on what counts at a key, and on how records compare.
 
-use crate::asked::Asked;
-use crate::entries::{entry_of, key_of, tell_content, tell_key};
-use crate::names::{account, meter, owner_name};
-use crate::words::{bytes_of, instant};
+use crate::calls::asked::Asked;
+use crate::calls::entries::{entry_of, key_of, tell_content, tell_key};
+use crate::calls::names::{account, meter, owner_name};
+use crate::calls::words::{bytes_of, instant};
 use pw_model::plain::{contents_at, owner_at, topped_up};
 use pw_model::{Contents, Entry, Named, Reference, is_same_content, is_same_entry, is_same_key};
 use pw_tariff::Office;

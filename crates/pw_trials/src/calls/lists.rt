@@ -2,11 +2,11 @@
 
 ghost use Rattle.std.specs.Prelude.{◌≤◌};
 
-use crate::asked::Asked;
-use crate::entries::tell_key;
-use crate::meaning::MOST_RECORDS;
-use crate::names::{meter, meter_name};
-use crate::words::register;
+use crate::calls::asked::Asked;
+use crate::calls::entries::tell_key;
+use crate::calls::meaning::MOST_RECORDS;
+use crate::calls::names::{meter, meter_name};
+use crate::calls::words::register;
 use pw_model::plain::{disputes, falls, points_of, readings};
 use pw_model::{Fall, ReadingRow};
 use pw_obis::Register;

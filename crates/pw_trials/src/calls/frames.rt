@@ -1,6 +1,6 @@
 //! The calls on checks and frames. In their texts `|` stands for CR LF, and `%03` for a byte.
 
-use crate::words::bytes_of;
+use crate::calls::words::bytes_of;
 use pw_frame::{Frame, Frames, Kind, block_check, crc_update, crc16};
 use std::alloc::Global;
 use std::io::Write;
