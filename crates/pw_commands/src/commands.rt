@@ -52,7 +52,7 @@ pub fn run<I: Read, O: Write, E: Write>(
     run_watched(rt, words, input, out, err, &mut Unwatched)
 }
 
-/// Does what `run` does, and tells `watch` how far the opening of a store is.
+/// Does what `run` does, and tells `watch` how far the opening of a store is, and what it changed.
 pub fn run_watched<I: Read, O: Write, E: Write, W: Watch>(
     rt: &HostRuntime,
     words: &[&str],

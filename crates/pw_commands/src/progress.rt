@@ -1,4 +1,4 @@
-//! How far the opening of a store with many records is, told to a person who waits.
+//! What the opening of a store does, told beside it: how far one with many records is, and that it changed the store.
 
 use pw_store::{Part, Watch};
 use std::io::Write;
@@ -9,18 +9,26 @@ const MANY: usize = 100_000;
 /// The parts of a store.
 const PARTS: u8 = 10;
 
-/// Tells each part of a store that was checked, where there are many records.
+const UPGRADED: &[u8] = b"powerbook: the store was of version 1 and is of version 2 now: an older powerbook won't open it any more\n";
+
+/// Tells that a store was brought to a later version, and a person who waits each part that was checked, where there are
+/// many records.
 #[derive(Drop)]
 pub struct Progress<E: Write> {
     err: E,
+    is_waited_for: bool,
     // the records checked so far
     records: usize,
 }
 
 impl<E: Write> Progress<E> {
-    /// Lines go to `err`.
-    pub fn new(err: E) -> Progress<E> {
-        Progress { err, records: 0 }
+    /// Lines go to `err`; `is_waited_for` is whether a person waits there.
+    pub fn new(err: E, is_waited_for: bool) -> Progress<E> {
+        Progress {
+            err,
+            is_waited_for,
+            records: 0,
+        }
     }
 }
 
@@ -30,7 +38,7 @@ impl<E: Write> Watch for Progress<E> {
         if place <= 6 {
             self.records = self.records.saturating_add(rows);
         }
-        if self.records <= MANY {
+        if !self.is_waited_for || self.records <= MANY {
             return;
         }
         let _ = writeln!(
@@ -44,6 +52,10 @@ impl<E: Write> Watch for Progress<E> {
                 self.records
             );
         }
+    }
+
+    fn upgraded(&mut self) {
+        let _ = self.err.write_all(UPGRADED);
     }
 }
 

@@ -284,7 +284,10 @@ fn upgrade<S: Alter, W: Watch>(
 {
     match raise_and_check(alloc, conn, office, text, watch) {
         Ok(held) => match commit(conn) {
-            Ok(()) => Ok(held),
+            Ok(()) => {
+                watch.upgraded();
+                Ok(held)
+            }
             Err(error) => Err(fault_in(error)),
         },
         Err(fault) => {

@@ -15,10 +15,13 @@ pub enum Part {
     Payments,
 }
 
-/// Who is told how far an opening is.
+/// Who is told how far an opening is, and what it changed.
 pub trait Watch {
     /// So many rows of a part have been read, and are those of the office.
     fn checked(&mut self, part: Part, rows: usize);
+
+    /// The store was of version 1, and is one of version 2 now.
+    fn upgraded(&mut self);
 }
 
 /// Nobody is told.
@@ -27,4 +30,6 @@ pub struct Unwatched;
 
 impl Watch for Unwatched {
     fn checked(&mut self, _part: Part, _rows: usize) {}
+
+    fn upgraded(&mut self) {}
 }
