@@ -1,7 +1,7 @@
 //! The program `powerbook`.
 #![tactic(auto)]
 
-use pw_commands::{Fault, Progress, name_unreadable, run_watched, tell};
+use pw_commands::{Fault, Progress, name_unreadable, run, run_watched, tell};
 use std::io::{ErrorKind, IsTerminal, Write};
 use std::process::ExitCode;
 use std::rt::Env;
@@ -32,11 +32,11 @@ fn status_of(rt: &HostRuntime) -> u8 {
             return tell(rt.alloc(), Fault::Memory, &mut err);
         }
     }
-    let is_waited_for = err.is_terminal();
-    if is_waited_for {
-        name_unreadable(rt, words.as_slice(), &mut err);
+    if !err.is_terminal() {
+        return run(rt, words.as_slice(), &mut input, &mut out, &mut err);
     }
-    let mut told = Progress::new(rt.stderr(), is_waited_for);
+    name_unreadable(rt, words.as_slice(), &mut err);
+    let mut told = Progress::new(rt.stderr(), true);
     run_watched(
         rt,
         words.as_slice(),

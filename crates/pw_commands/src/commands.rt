@@ -13,6 +13,7 @@ ghost use Rattle.pw_words.specs.declared.commands.Command.TheVariants.{Read};
 use crate::fault::Fault;
 use crate::files::{LONGEST_OFFICE, read_file};
 use crate::pipe::pipe_run;
+use crate::progress::Progress;
 use crate::serving::serve;
 use crate::store::{FileBook, close_book, open_book};
 use crate::telling::{finish, tell};
@@ -23,7 +24,7 @@ use pw_model::{Entry, MOST_RECORDS};
 use pw_read::read_run;
 use pw_record::{UploadBytes, UploadFault, UploadKind, upload_records};
 use pw_report::{Page, Table, page_text};
-use pw_store::{SqlShelf, Unwatched, Watch};
+use pw_store::{SqlShelf, Watch};
 use pw_tariff::Office;
 use pw_time::Zone;
 use pw_words::words::{command, no_origin};
@@ -41,7 +42,8 @@ const WRONG_WORDS: u8 = 2;
 /// Does what the words behind the program's name ask for, and answers the exit status: 0; 1 where what was given is
 /// refused; 2 for words that ask for no command; 3 where a file, socket, stream, store or memory failed.
 ///
-/// What is asked for goes to `out`, and so does help; why there is none is a line to `err`.
+/// What is asked for goes to `out`, and so does help; why there is none is a line to `err`. That a store was brought to a
+/// later version is a line on the standard error of `rt`.
 pub fn run<I: Read, O: Write, E: Write>(
     rt: &HostRuntime,
     words: &[&str],
@@ -49,7 +51,8 @@ pub fn run<I: Read, O: Write, E: Write>(
     out: &mut O,
     err: &mut E,
 ) -> u8 {
-    run_watched(rt, words, input, out, err, &mut Unwatched)
+    let mut told = Progress::new(rt.stderr(), false);
+    run_watched(rt, words, input, out, err, &mut told)
 }
 
 /// Does what `run` does, and tells `watch` how far the opening of a store is, and what it changed.
