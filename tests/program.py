@@ -41,6 +41,13 @@ UNOPENED = {
 }
 
 
+# A store of version 1 that powerbook made, and what is told when one is brought to version 2.
+VERSION_1 = f"{TOP}/tests/version_1.db"
+UPGRADED = (
+    "powerbook: the store was of version 1 and is of version 2 now: an older powerbook won't open it any more\n"
+)
+
+
 class Late(Exception):
     """A test took longer than it may."""
 
@@ -186,6 +193,10 @@ def assignments(*lines):
 
 def topups(*lines):
     return rows("reference,account,cents,instant", *lines)
+
+
+def withdrawals(*lines):
+    return rows("kind,first,second,third,fourth", *lines)
 
 
 def load(room, store, kind, body, meter=None, office=OFFICE, wanted=None):

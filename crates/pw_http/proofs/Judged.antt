@@ -10,7 +10,7 @@ use Rattle.pw_record.specs.declared.fault.Cause.{Cause}
 use Rattle.pw_record.specs.declared.fault.Cause.TheVariants as cause
 use Rattle.pw_record.specs.declared.fault.UploadFault.{UploadFault}
 use Rattle.pw_record.specs.Causes.{want_of_memory}
-use Rattle.pw_record.specs.Uploads.{Upload, Telegrams, Readouts, Assignments, TopUps, Refuses, Gives}
+use Rattle.pw_record.specs.Uploads.{Upload, Telegrams, Readouts, Assignments, TopUps, Withdrawals, Refuses, Gives}
 use Rattle.pw_shelf.specs.declared.shelf.Shelf.{Ghosts}
 use Rattle.pw_book.specs.After.{After, Outcome, Refused, Posted}
 use Rattle.pw_book.specs.declared.book.Book.{Book}
@@ -273,6 +273,7 @@ module _ {S : Type 0} (shelf : Ghosts S) where
   answer-comes (At route.Readouts) target body a reply b x = takes-comes (Readouts (meter_in target) body) a reply b x
   answer-comes (At route.Assignments) target body a reply b x = takes-comes (Assignments body) a reply b x
   answer-comes (At route.TopUps) target body a reply b x = takes-comes (TopUps body) a reply b x
+  answer-comes (At route.Withdrawals) target body a reply b x = takes-comes (Withdrawals body) a reply b x
   answer-comes (At route.Account) target body a reply b x = account-comes (account_in target) a reply b x
   answer-comes (At (route.Table table)) target body a reply b x = shows-comes (page.Table table) a reply b x
 

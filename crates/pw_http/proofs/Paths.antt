@@ -11,7 +11,7 @@ use Rattle.matchit.specs.Router.{RouteOf}
 use Rattle.pw_http.specs.Routes.{meter_in, route_table, route_at, row_value}
 use Rattle.pw_http.specs.Laws.{PathsReachRoutes}
 use Rattle.pw_http.specs.declared.routes.Route.{Route}
-use Rattle.pw_http.specs.declared.routes.Route.TheVariants.{Telegrams, Readouts, Assignments, TopUps, Account, Table}
+use Rattle.pw_http.specs.declared.routes.Route.TheVariants.{Telegrams, Readouts, Assignments, TopUps, Withdrawals, Account, Table}
 use Rattle.pw_report.specs.declared.page.Table.TheVariants as table
 
 abbrev Row : Type 0
@@ -161,6 +161,10 @@ at_top_ups : route_at (codes "/topups") ≡ Some TopUps
 unfolding route_table matchit_on_literals
 at_top_ups = refl
 
+at_withdrawals : route_at (codes "/withdrawals") ≡ Some Withdrawals
+unfolding route_table matchit_on_literals
+at_withdrawals = refl
+
 at_accounts : route_at (codes "/accounts") ≡ Some (Table table.Accounts)
 unfolding route_table matchit_on_literals
 at_accounts = refl
@@ -195,6 +199,7 @@ paths-reach = record {
   readouts = λ b w small plain. (at_each_meter b w small plain, meter_is (b ∷ w));
   assignments = at_assignments;
   top_ups = at_top_ups;
+  withdrawals = at_withdrawals;
   accounts = at_accounts;
   account = λ b w small plain. (at_each_account b w small plain, refl);
   falls = at_falls;

@@ -1,7 +1,7 @@
 -- The laws of these definitions. Each is the contract of a function of the module `laws`.
 use Rattle.std.specs.Prelude.{◌≡◌, ◌<◌, ℕ, false, List, ◌∷◌, ◌++◌, Option, Some, codes}
 use Rattle.matchit.specs.Seek.{has_slash}
-use Rattle.pw_http.specs.declared.routes.Route.TheVariants.{Telegrams, Readouts, Assignments, TopUps, Account, Table}
+use Rattle.pw_http.specs.declared.routes.Route.TheVariants.{Telegrams, Readouts, Assignments, TopUps, Withdrawals, Account, Table}
 use Rattle.pw_report.specs.declared.page.Table.TheVariants as table
 use Rattle.pw_http.specs.Routes.{account_in, meter_in, route_at}
 use Rattle.pw_http.specs.Requests.{Request, Asked, Requests}
@@ -27,6 +27,7 @@ pub record PathsReachRoutes : Type 0 where
       (route_at (codes "/meters/" ++ b ∷ rest ++ codes "/readouts") ≡ Some Readouts) × (meter_in (codes "/meters/" ++ b ∷ rest ++ codes "/readouts") ≡ b ∷ rest)
   pub assignments : route_at (codes "/assignments") ≡ Some Assignments
   pub top_ups : route_at (codes "/topups") ≡ Some TopUps
+  pub withdrawals : route_at (codes "/withdrawals") ≡ Some Withdrawals
   pub accounts : route_at (codes "/accounts") ≡ Some (Table table.Accounts)
   pub account : (b : ℕ) (rest : List ℕ) → b < 256 → has_slash (b ∷ rest) ≡ false →
       (route_at (codes "/accounts/" ++ b ∷ rest) ≡ Some Account) × (account_in (codes "/accounts/" ++ b ∷ rest) ≡ b ∷ rest)

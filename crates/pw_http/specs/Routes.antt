@@ -9,7 +9,7 @@ use Rattle.matchit.specs.Route.{Scan, parse_route}
 use Rattle.matchit.specs.Router.{RouteOf, route_from}
 use Rattle.matchit.specs.declared.error.InsertError.{InsertError}
 use Rattle.pw_http.specs.declared.routes.Route.{Route}
-use Rattle.pw_http.specs.declared.routes.Route.TheVariants.{Telegrams, Readouts, Assignments, TopUps, Account, Table}
+use Rattle.pw_http.specs.declared.routes.Route.TheVariants.{Telegrams, Readouts, Assignments, TopUps, Withdrawals, Account, Table}
 use Rattle.pw_report.specs.declared.page.Table.TheVariants as table
 use Rattle.pw_http.specs.declared.routes.Place.{Place}
 use Rattle.pw_http.specs.declared.routes.Place.TheVariants.{NoPage, NoMethod, At}
@@ -20,6 +20,7 @@ method_name Telegrams = codes "POST"
 method_name Readouts = codes "POST"
 method_name Assignments = codes "POST"
 method_name TopUps = codes "POST"
+method_name Withdrawals = codes "POST"
 method_name Account = codes "GET"
 method_name (Table table) = codes "GET"
 
@@ -28,6 +29,7 @@ route_text Telegrams = codes "/telegrams"
 route_text Readouts = codes "/meters/{meter}/readouts"
 route_text Assignments = codes "/assignments"
 route_text TopUps = codes "/topups"
+route_text Withdrawals = codes "/withdrawals"
 route_text (Table table.Accounts) = codes "/accounts"
 route_text Account = codes "/accounts/{account}"
 route_text (Table table.Falls) = codes "/falls"
@@ -48,8 +50,8 @@ added rows route = added_read (parse_route (route_text route)) route rows
 
 unfoldable pub route_table : RowsOf (RouteOf Route)
 route_table =
-    added (added (added (added (added (added (added (added (added (added (added (added [] Telegrams) Readouts) Assignments) TopUps)
-    (Table table.Accounts)) (Table table.Falls)) (Table table.Disputes)) Account) (Table table.Readings)) (Table table.Energies))
+    added (added (added (added (added (added (added (added (added (added (added (added (added [] Telegrams) Readouts) Assignments) TopUps)
+    Withdrawals) (Table table.Accounts)) (Table table.Falls)) (Table table.Disputes)) Account) (Table table.Readings)) (Table table.Energies))
     (Table table.Assignments)) (Table table.TopUps)
 
 abbrev pub row_value : RouteOf Route → Route

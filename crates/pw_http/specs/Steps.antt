@@ -8,7 +8,7 @@ use Rattle.pw_model.specs.Shelf.{ShelfContent}
 use Rattle.pw_record.specs.declared.fault.Cause.{Cause}
 use Rattle.pw_record.specs.declared.fault.Cause.TheVariants as cause
 use Rattle.pw_record.specs.Causes.{fault_line}
-use Rattle.pw_record.specs.Uploads.{Upload, Telegrams, Readouts, Assignments, TopUps, Gives, Refuses}
+use Rattle.pw_record.specs.Uploads.{Upload, Telegrams, Readouts, Assignments, TopUps, Withdrawals, Gives, Refuses}
 use Rattle.pw_shelf.specs.declared.shelf.Shelf.{Ghosts}
 use Rattle.pw_book.specs.Acceptance.{acceptance_line}
 use Rattle.pw_book.specs.After.{Outcome, Refused, Posted}
@@ -81,6 +81,7 @@ upload_at (At route.Telegrams) target body = Some (Telegrams body)
 upload_at (At route.Readouts) target body = Some (Readouts (meter_in target) body)
 upload_at (At route.Assignments) target body = Some (Assignments body)
 upload_at (At route.TopUps) target body = Some (TopUps body)
+upload_at (At route.Withdrawals) target body = Some (Withdrawals body)
 upload_at _ target body = None
 
 abbrev pub upload_of : Asking → Option Upload
@@ -146,6 +147,7 @@ module _ {S : Type 0} (shelf : Ghosts S) where
   AnswersAt (At route.Readouts) target body = Takes (Readouts (meter_in target) body)
   AnswersAt (At route.Assignments) target body = Takes (Assignments body)
   AnswersAt (At route.TopUps) target body = Takes (TopUps body)
+  AnswersAt (At route.Withdrawals) target body = Takes (Withdrawals body)
   AnswersAt (At route.Account) target body = ShowsAccount (account_in target)
   AnswersAt (At (route.Table table)) target body = Shows (page.Table table)
 

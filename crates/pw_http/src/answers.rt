@@ -161,6 +161,7 @@ pub(crate) fn answer_at<S: Shelf>(
         Route::Readouts => take(book, alloc, UploadKind::Readouts(meter_in(target)), body),
         Route::Assignments => take(book, alloc, UploadKind::Assignments, body),
         Route::TopUps => take(book, alloc, UploadKind::TopUps, body),
+        Route::Withdrawals => take(book, alloc, UploadKind::Withdrawals, body),
         Route::Account => show_account(book, alloc, account_in(target)),
         Route::Table(table) => show(book, alloc, Page::Table(table)),
     }

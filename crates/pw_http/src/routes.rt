@@ -19,6 +19,8 @@ pub enum Route {
     Assignments,
     /// Takes rows of top-ups.
     TopUps,
+    /// Takes rows of withdrawals.
+    Withdrawals,
     /// An account's statement.
     Account,
     /// A table of the book.
@@ -43,9 +45,9 @@ pub struct Routes {
 }
 
 impl Routes {
-    /// The twelve routes. It takes all the memory that they need.
+    /// The thirteen routes. It takes all the memory that they need.
     pub fn new(alloc: Global) -> Result<Routes, InsertError> {
-        let router = twelve_routes(alloc)?;
+        let router = thirteen_routes(alloc)?;
         Ok(Routes { router })
     }
 
@@ -60,8 +62,8 @@ impl Routes {
     }
 }
 
-/// The router of the twelve routes.
-fn twelve_routes(alloc: Global) -> Result<Router<Route>, InsertError>
+/// The router of the thirteen routes.
+fn thirteen_routes(alloc: Global) -> Result<Router<Route>, InsertError>
     ensures { IfOk result (λ router. router ≡ route_table) }
 {
     let mut router = Router::new(alloc);
@@ -69,6 +71,7 @@ fn twelve_routes(alloc: Global) -> Result<Router<Route>, InsertError>
     router.insert("/meters/{meter}/readouts", Route::Readouts)?;
     router.insert("/assignments", Route::Assignments)?;
     router.insert("/topups", Route::TopUps)?;
+    router.insert("/withdrawals", Route::Withdrawals)?;
     router.insert("/accounts", Route::Table(Table::Accounts))?;
     router.insert("/falls", Route::Table(Table::Falls))?;
     router.insert("/disputes", Route::Table(Table::Disputes))?;
@@ -110,7 +113,11 @@ fn method_of(route: Route) -> &'static [u8]
     ensures { result.now ≡ method_name route }
 {
     match route {
-        Route::Telegrams | Route::Readouts | Route::Assignments | Route::TopUps => b"POST",
+        Route::Telegrams
+        | Route::Readouts
+        | Route::Assignments
+        | Route::TopUps
+        | Route::Withdrawals => b"POST",
         Route::Account | Route::Table(_) => b"GET",
     }
 }

@@ -3,13 +3,13 @@
 
 use crate::book::{asking, money, post};
 use crate::entries::{Sent, entries_of};
-use crate::sql_stores::book_on;
+use crate::sql_stores::{book_on, execute};
 use pw_book::{Book, BookFault, PostFault};
 use pw_model::ReadingRow;
 use pw_obis::Register;
 use pw_shelf::Shelf;
 use pw_store::{OpenFault, SqlShelf};
-use pw_tests::sample::{FIRST, FIVE, KINDS, METER, NEW_YEAR, SECOND, SEVEN};
+use pw_tests::sample::{FIRST, FIVE, KINDS, METER, NEW_YEAR, SECOND, SEVEN, SIX};
 use sqlite::{Alter, Connection, FileStore, Files, Options};
 use sqlite_disk::{Crash, Disk, Fuse, Memory};
 use std::alloc::Global;
@@ -39,6 +39,17 @@ const TWO_READINGS: Upload = &[
     Sent::Shown(METER, Register::I1, SEVEN, 1_003_001),
 ];
 
+const AT_SIX: Upload = &[
+    Sent::Shown(METER, Register::I1, SIX, 1_001_000),
+    Sent::Shown(METER, Register::I1, SIX, 1_001_200),
+    Sent::Shown(METER, Register::I1, SIX, 1_001_500),
+];
+
+const TWO_WITHDRAWALS: Upload = &[
+    Sent::Withdrawn(METER, Register::I1, SIX, 1_001_200),
+    Sent::Withdrawn(METER, Register::I1, SIX, 1_001_500),
+];
+
 // The meter passes to the second account between the two readings.
 const MID_PAIR: Upload = &[Sent::Given(METER, FIVE + 1_800, Some(SECOND))];
 
@@ -46,22 +57,40 @@ const PAYMENT: [Upload; 2] = [FIRST_OWNER, TOPUP];
 
 const PAYMENT_AND_READINGS: [Upload; 3] = [FIRST_OWNER, TOPUP, TWO_READINGS];
 
+const DISPUTED_READINGS: [Upload; 4] = [FIRST_OWNER, TOPUP, TWO_READINGS, AT_SIX];
+
 const READINGS: [Upload; 1] = [TWO_READINGS];
+
+const WITHDRAWALS: [Upload; 1] = [TWO_WITHDRAWALS];
 
 const PASSING_ON: [Upload; 1] = [MID_PAIR];
 
+// Whether a reading counts, is withdrawn, or is one of several at its second.
+#[derive(Clone, Copy, PartialEq, Eq)]
+enum Standing {
+    Counts,
+    Withdrawn,
+    Disputed,
+}
+
+// A reading of the first register of the first meter: its second, its watt-hours, and whether it counts.
+type Row = (u32, u64, Standing);
+
 // How many records are held, and what is told of them: the energies of `KINDS`, for both accounts what was topped up, in
-// cents, with the balance, in nano-euro, and the readings, all of which count.
+// cents, with the balance, in nano-euro, and the readings.
 #[derive(Clone, Copy)]
 struct Told {
     records: u32,
     energies: [u64; 12],
     first: (u64, i128),
     second: (u64, i128),
-    readings: &'static [(u32, u64)],
+    readings: &'static [Row],
 }
 
-const BOTH_READINGS: &[(u32, u64)] = &[(FIVE, 1_000_000), (SEVEN, 1_003_001)];
+const BOTH_READINGS: &[Row] = &[
+    (FIVE, 1_000_000, Standing::Counts),
+    (SEVEN, 1_003_001, Standing::Counts),
+];
 
 const NOTHING: Told = Told {
     records: 0,
@@ -94,6 +123,44 @@ const PASSED_ON: Told = Told {
     second: (0, -600_300_000),
     readings: BOTH_READINGS,
 };
+
+// The disputed readings between the two count nothing.
+const IN_DISPUTE: Told = Told {
+    records: 7,
+    energies: [0, 0, 0, 0, 1_500, 0, 1_501, 0, 0, 0, 0, 0],
+    first: (5_000, 49_249_700_000),
+    second: (0, 0),
+    readings: &[
+        (FIVE, 1_000_000, Standing::Counts),
+        (SIX, 1_001_000, Standing::Disputed),
+        (SIX, 1_001_200, Standing::Disputed),
+        (SIX, 1_001_500, Standing::Disputed),
+        (SEVEN, 1_003_001, Standing::Counts),
+    ],
+};
+
+// Two of them are withdrawn, and the third counts.
+const SETTLED: Told = Told {
+    records: 9,
+    energies: [0, 0, 0, 0, 1_000, 0, 2_001, 0, 0, 0, 0, 0],
+    first: (5_000, 49_199_700_000),
+    second: (0, 0),
+    readings: &[
+        (FIVE, 1_000_000, Standing::Counts),
+        (SIX, 1_001_000, Standing::Counts),
+        (SIX, 1_001_200, Standing::Withdrawn),
+        (SIX, 1_001_500, Standing::Withdrawn),
+        (SEVEN, 1_003_001, Standing::Counts),
+    ],
+};
+
+// What makes a store one of version 1, which knows no withdrawals.
+const TO_VERSION_1: [&str; 4] = [
+    "DROP TABLE withdrawn_reading",
+    "DROP TABLE withdrawn_assignment",
+    "DROP TABLE withdrawn_topup",
+    "UPDATE office SET version = 1",
+];
 
 // What the two files of a store hold.
 #[derive(Drop)]
@@ -165,13 +232,23 @@ fn connected<D: Disk + Drop>(
     }
 }
 
-// Whether a reading counts, and is this one.
-fn is_row(row: &ReadingRow, (second, watt_hours): (u32, u64)) -> bool {
-    row.counted && row.instant.seconds() == second && row.wh.get() == watt_hours
+fn standing_of(row: &ReadingRow) -> Standing {
+    match (row.counted, row.withdrawn) {
+        (true, _) => Standing::Counts,
+        (false, true) => Standing::Withdrawn,
+        (false, false) => Standing::Disputed,
+    }
+}
+
+// Whether a reading is this one.
+fn is_row(row: &ReadingRow, (second, watt_hours, standing): Row) -> bool {
+    row.instant.seconds() == second
+        && row.wh.get() == watt_hours
+        && standing_of(row) == standing
 }
 
 // Whether just these readings were told.
-fn are_rows(told: Result<Vec<ReadingRow>, BookFault>, wanted: &[(u32, u64)]) -> bool {
+fn are_rows(told: Result<Vec<ReadingRow>, BookFault>, wanted: &[Row]) -> bool {
     match told {
         Ok(rows) => {
             rows.len() == wanted.len()
@@ -434,12 +511,35 @@ fn stops_with_each_log(
 
 // What the files of a new store hold behind uploads, where nothing was copied from the log.
 fn stored(rt: &impl Abort, alloc: Global, uploads: &[Upload]) -> Image {
-    let empty = files_of(rt, alloc, b"", b"", (ALL, ALL));
-    let (end, files) = attempt(rt, alloc, empty, uploads, LONG, false);
-    assert!(rt; end == End::Taken);
+    image_of(rt, alloc, &new_files(rt, alloc, uploads, false))
+}
+
+fn image_of(rt: &impl Abort, alloc: Global, files: &Files<Stopping>) -> Image {
     Image {
         log: copy(rt, alloc, &files.log),
         db: copy(rt, alloc, &files.db),
+    }
+}
+
+// The files of a new store behind uploads, which was closed if this is asked for.
+fn new_files(rt: &impl Abort, alloc: Global, uploads: &[Upload], closes: bool) -> Files<Stopping> {
+    let empty = files_of(rt, alloc, b"", b"", (ALL, ALL));
+    let (end, files) = attempt(rt, alloc, empty, uploads, LONG, closes);
+    assert!(rt; end == End::Taken);
+    files
+}
+
+// What the files of a store of version 1 hold, of which the log has what made it one.
+fn stored_in_version_1(rt: &impl Abort, alloc: Global, uploads: &[Upload]) -> Image {
+    let files = new_files(rt, alloc, uploads, true);
+    match connected(rt, alloc, files, LONG) {
+        Ok(mut connection) => {
+            for statement in &TO_VERSION_1 {
+                execute(rt, &mut connection, statement);
+            }
+            image_of(rt, alloc, &files_left(connection))
+        }
+        Err(_) => panic!(rt; "no connection"),
     }
 }
 
@@ -475,4 +575,30 @@ fn a_meter_passes_on_whole_or_not(rt: HostRuntime) {
     let store = stored(&rt, alloc, &PAYMENT_AND_READINGS);
     let told = [BEHIND_READINGS, PASSED_ON];
     stops_with_each_log(&rt, alloc, &store, &PASSING_ON, told);
+}
+
+#[test]
+fn two_withdrawals_are_there_or_none(rt: HostRuntime) {
+    let alloc = rt.alloc();
+    let store = stored(&rt, alloc, &DISPUTED_READINGS);
+    stops_with_each_log(&rt, alloc, &store, &WITHDRAWALS, [IN_DISPUTE, SETTLED]);
+}
+
+// bears on: pw_schema raise.rt raise_to_second crash
+// bears on: pw_store laws.rt upgraded_stores_open ensures
+// bears on: pw_store laws.rt upgraded_stores_hold_the_same ensures
+#[test]
+fn a_store_of_version_1_holds_the_same_wherever_its_opening_stops(rt: HostRuntime) {
+    let alloc = rt.alloc();
+    let store = stored_in_version_1(&rt, alloc, &PAYMENT_AND_READINGS);
+    for (pages, db_end) in [(LONG, End::NoConnection), (SHORT, End::NoStore)] {
+        let case = Case {
+            uploads: &[],
+            before: BEHIND_READINGS,
+            behind: BEHIND_READINGS,
+            pages,
+        };
+        stops_at_each(&rt, alloc, &store, &case, true, End::NoStore);
+        stops_at_each(&rt, alloc, &store, &case, false, db_end);
+    }
 }

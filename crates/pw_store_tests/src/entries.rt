@@ -63,6 +63,8 @@ pub enum Sent {
     Shown(MeterId, Register, u32, u64),
     /// cents of an account under a reference
     Paid(&'static [u8], AccountId, u32),
+    /// the withdrawal of what a register of a meter shows at a second
+    Withdrawn(MeterId, Register, u32, u64),
 }
 
 pub fn entry_of(rt: &impl Abort, sent: Sent) -> Entry {
@@ -72,6 +74,9 @@ pub fn entry_of(rt: &impl Abort, sent: Sent) -> Entry {
             shown(rt, meter, register, second, watt_hours)
         }
         Sent::Paid(reference, account, cents) => paid(rt, reference, account, cents),
+        Sent::Withdrawn(meter, register, second, watt_hours) => {
+            withdrawn(rt, &shown(rt, meter, register, second, watt_hours))
+        }
     }
 }
 

@@ -21,7 +21,7 @@ pub fn memory(rt: &impl Abort, alloc: Global) -> Connection<MemStore> {
     Connection::open_in_memory(alloc).expect(rt, "a connection")
 }
 
-pub fn execute(rt: &impl Abort, connection: &mut Connection<MemStore>, statement: &str) {
+pub fn execute<S: Alter>(rt: &impl Abort, connection: &mut Connection<S>, statement: &str) {
     connection.execute(statement, &[]).expect(rt, "a statement");
 }
 

@@ -8,7 +8,13 @@ use std::alloc::{AllocError, Global};
 static CLOCKS: [&str; 2] = ["winter", "local"];
 
 /// The words of the kinds of upload.
-static KINDS: [&str; 4] = ["telegrams", "readouts", "assignments", "topups"];
+static KINDS: [&str; 5] = [
+    "telegrams",
+    "readouts",
+    "assignments",
+    "topups",
+    "withdrawals",
+];
 
 /// The words of what can be exported.
 static TABLES: [&str; 7] = [
@@ -69,7 +75,7 @@ static COMMANDS: [Asked; 7] = [
     },
     Asked {
         name: "load",
-        about: "Loads a file of telegrams, readouts, assignments or top-ups into a store, whole or not at all",
+        about: "Loads a file of telegrams, readouts, assignments, top-ups or withdrawals into a store, whole or not at all",
         end: "Exit status: 0; 1 refused; 2 wrong words; 3 a file, stream, store or memory failed.\nExample: powerbook load office.toml book.db telegrams day.txt",
         words: &[
             Word::Office,
@@ -217,7 +223,7 @@ fn command<'a>(alloc: Global, asked: &Asked) -> Result<Command<'a>, AllocError> 
 // The parser without its commands.
 fn empty_parser<'a>(alloc: Global) -> Result<Command<'a>, AllocError> {
     Command::new(alloc, "powerbook")
-        .version("1.3.0")
+        .version("1.4.0")
         .about("Meter readings and prepaid accounts of an electricity cooperative")
         .after_help(
             "Without a command it acts as pipe. Each command tells more: powerbook load --help.",

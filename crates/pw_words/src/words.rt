@@ -233,6 +233,7 @@ fn kind_named<'a>(name: &str, meter: Option<&'a str>) -> Option<UploadKind<'a>>
         "readouts" => Some(UploadKind::Readouts(meter?.as_bytes())),
         "assignments" => Some(UploadKind::Assignments),
         "topups" => Some(UploadKind::TopUps),
+        "withdrawals" => Some(UploadKind::Withdrawals),
         _ => None,
     }
 }

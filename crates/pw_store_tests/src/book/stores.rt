@@ -3,8 +3,7 @@
 use super::counted::{failing_device, failing_device_and_abandon};
 use super::memory::memory_refused;
 use super::sql::OverSql;
-use super::uploads::agrees_behind_each;
-use super::{Books, Counting, InMemory, questions};
+use super::{Books, Counting, InMemory, questions, uploads, withdrawn};
 use std::alloc::Global;
 use std::process::Abort;
 use std::test::Fail;
@@ -31,7 +30,10 @@ fn group_holds<B: Books>(
     group: Group,
 ) -> Result<(), Fail> {
     match group {
-        Group::Uploads => agrees_behind_each(rt, alloc, books),
+        Group::Uploads => {
+            uploads::agrees_behind_each(rt, alloc, books)?;
+            withdrawn::agrees_behind_each(rt, alloc, books)
+        }
         Group::Memory => memory_refused(rt, alloc, books),
         Group::Failures => failures(rt, alloc, books),
     }

@@ -1,9 +1,9 @@
-//! Withdrawals, told to a book in memory one at a time: behind each of them the book answers what the definitions give, and
-//! its store keeps the parts of all. (The store over SQL holds none yet.)
+//! Withdrawals, told one at a time: behind each of them the book answers what the definitions give, and its store keeps the
+//! parts of all.
 
 use super::agreeing::all_agree;
 use super::kept::parts_agree;
-use super::{Books, InMemory, takes};
+use super::{Books, takes};
 use crate::entries::{assigned, paid, reading, withdrawn};
 use pw_book::Entry;
 use pw_tests::sample::{FIRST, FIVE, NEW_YEAR, SECOND, SEVEN, SIX};
@@ -41,9 +41,14 @@ fn owner_and_payment(rt: &impl Abort, alloc: Global) -> Result<Vec<Entry>, Alloc
     Ok(told)
 }
 
-fn agrees_behind(rt: &impl Abort, alloc: Global, told: &[Entry]) -> Result<(), Fail> {
+fn agrees_behind<B: Books>(
+    rt: &impl Abort,
+    alloc: Global,
+    books: &B,
+    told: &[Entry],
+) -> Result<(), Fail> {
     assert!(rt; told.len() <= 100);
-    let mut book = InMemory.empty(rt, alloc, 100)?;
+    let mut book = books.empty(rt, alloc, 100)?;
     for entry in told {
         takes(rt, alloc, &mut book, &[*entry], (1, 0));
         takes(rt, alloc, &mut book, &[*entry], (0, 1));
@@ -59,13 +64,16 @@ fn agrees_behind(rt: &impl Abort, alloc: Global, told: &[Entry]) -> Result<(), F
 // bears on: pw_model laws.rt one_more_payment ensures
 // bears on: pw_shelf shelf.rt Shelf::add added
 // bears on: pw_shelf shelf.rt Shelf::contents_at rows
-#[test]
-fn withdrawn_records(rt: HostRuntime) -> Result<(), Fail> {
-    let mut told = readings(&rt, rt.alloc()).expect(&rt, "memory");
-    let others = owner_and_payment(&rt, rt.alloc()).expect(&rt, "memory");
-    told.extend_from_slice(&others).expect(&rt, "memory");
+pub(super) fn agrees_behind_each<B: Books>(
+    rt: &impl Abort,
+    alloc: Global,
+    books: &B,
+) -> Result<(), Fail> {
+    let mut told = readings(rt, alloc).expect(rt, "memory");
+    let others = owner_and_payment(rt, alloc).expect(rt, "memory");
+    told.extend_from_slice(&others).expect(rt, "memory");
     for number in 0..told.len() + 1 {
-        agrees_behind(&rt, rt.alloc(), told.split_at(number).0)?;
+        agrees_behind(rt, alloc, books, told.split_at(number).0)?;
     }
     Ok(())
 }
