@@ -35,7 +35,10 @@ use Rattle.pw_schema.specs.declared.kind.StoreVersion.TheVariants.{Second}
 use Rattle.pw_model.specs.declared.records.Entry.{Entry}
 use Rattle.pw_model.specs.declared.records.Named.TheVariants as named
 use Rattle.pw_store.specs.Content.{records_of, entries_of, entry_in, kinds_of, tree_of, IsRowOf, energy_in, payment_in, IsReadingRow, IsAssignmentRow, reading_tree, assignment_tree, topup_tree, withdrawn_reading_tree, withdrawn_assignment_tree, withdrawn_topup_tree}
-use Rattle.pw_store.specs.inner.Records.{reading_row, assignment_row, reading_entry, assignment_entry, topup_row, topup_entry}
+use Rattle.pw_store.specs.inner.Records.{reading_row, assignment_row, reading_entry, assignment_entry, topup_row, topup_entry, entry_as}
+use Rattle.pw_store.specs.declared.forms.Form.{Form}
+use Rattle.pw_store.specs.inner.Forms.{insert_reading, insert_assignment, insert_topup}
+use Rattle.pw_store.specs.declared.forms.Form.TheVariants.{Record, Withdrawal}
 use Rattle.pw_store.specs.Kept.{IsStore, key_in_point, key_in_start}
 use Rattle.pw_store.specs.Keyed.{AreKeyed, IsEnergyRow, IsPaymentRow}
 use Rattle.pw_store.specs.inner.Changing.{Adds, StillKeeps}
@@ -312,3 +315,32 @@ adds_withdrawn_assignment_if old new m t o (Ok n) store inside fresh h =
     let free : is_taken (old.now.trees withdrawn_assignment_tree) row ≡ false = (let was = rw cast_null at applied.1.fresh in was_not _ (and_first _ _ was)) in
     adds WithdrawnAssignments (withdrawn_assignment_at withdrawn_assignment_tree) given row (withdrawal (named.Assignment m t o)) old new refl store applied rows free (refl, (refl, refl)) (ap (λ (p : Option AccountId). withdrawal (named.Assignment m t p)) (owner_back o)) fresh
     (insert_inside add_withdrawn_assignment_text 9 4 three_terms add_withdrawn_assignment_is old new store.ours (assignment_row m.0 t (owner_place o)) n h inside)
+
+-- ---- by the form in which what is named is kept
+pub adds_reading : (form : Form) (old new : State) (m : MeterId) (r : Register) (t w : ℕ) (out : Result ℕ Error) → IsStore old.now → IsTrue old.in_transaction → (Member (entry_as form (named.Reading m r t w)) (records_of old.now.trees) → ⊥) → Executes (insert_reading form) (reading_row m.0 (register_place r) t w) old new out → OnOk out (Adds (entry_as form (named.Reading m r t w)) old new)
+adds_reading Record = adds_reading_if
+adds_reading Withdrawal = adds_withdrawn_reading_if
+
+pub adds_assignment : (form : Form) (old new : State) (m : MeterId) (t : ℕ) (o : Option AccountId) (out : Result ℕ Error) → IsStore old.now → IsTrue old.in_transaction → (Member (entry_as form (named.Assignment m t o)) (records_of old.now.trees) → ⊥) → Executes (insert_assignment form) (assignment_row m.0 t (owner_place o)) old new out → OnOk out (Adds (entry_as form (named.Assignment m t o)) old new)
+adds_assignment Record = adds_assignment_if
+adds_assignment Withdrawal = adds_withdrawn_assignment_if
+
+pub adds_topup : (form : Form) (old new : State) (t : List ℕ) (a : AccountId) (c i : ℕ) (out : Result ℕ Error) → IsStore old.now → IsTrue old.in_transaction → (Member (entry_as form (named.TopUp t a c i)) (records_of old.now.trees) → ⊥) → Executes (insert_topup form) (topup_row t a.0 c i) old new out → OnOk out (Adds (entry_as form (named.TopUp t a c i)) old new)
+adds_topup Record old new t a = adds_topup_if old new t a.0
+adds_topup Withdrawal old new t a = adds_withdrawn_topup_if old new t a
+
+-- and what is written then
+abbrev Inserts : (Form → List ℕ) → Type 1
+Inserts text = (form : Form) (old new : State) (params : Row) (r : Result ℕ Error) → (HasCleanDisk old → IsOurs old.now.schema) → (HasCleanDisk old → IsTrue old.in_transaction) → (HasCleanDisk new → Executes (text form) params old new r) → Survives old new (CommitsBy (text form) params old) → Writes r old new
+
+pub inserts_reading : Inserts insert_reading
+inserts_reading Record = inserts_if add_reading_text 1 5 four_terms add_reading_is
+inserts_reading Withdrawal = inserts_if add_withdrawn_reading_text 8 5 four_terms add_withdrawn_reading_is
+
+pub inserts_assignment : Inserts insert_assignment
+inserts_assignment Record = inserts_if add_assignment_text 2 4 three_terms add_assignment_is
+inserts_assignment Withdrawal = inserts_if add_withdrawn_assignment_text 9 4 three_terms add_withdrawn_assignment_is
+
+pub inserts_topup : Inserts insert_topup
+inserts_topup Record = inserts_if add_topup_text 3 5 four_terms add_topup_is
+inserts_topup Withdrawal = inserts_if add_withdrawn_topup_text 10 5 four_terms add_withdrawn_topup_is

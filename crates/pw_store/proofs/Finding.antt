@@ -13,6 +13,9 @@ use Rattle.sqlite.specs.Order.{Row, column}
 use Rattle.sqlite.specs.Term.{holds}
 use Rattle.sqlite.specs.Query.{Query, Output, output, page}
 use Rattle.sqlite.specs.State.{State, Shown}
+use Rattle.sqlite.specs.Schema.{Schema}
+use Rattle.sqlite.specs.Listing.{understood}
+use Rattle.sqlite.proofs.Callers.{IsPlain}
 use Rattle.pw_obis.specs.declared.reference.Register.{Register}
 use Rattle.pw_obis.specs.declared.reference.Register.TheVariants.{I0}
 use Rattle.pw_tariff.specs.declared.ids.AccountId.{AccountId}
@@ -29,12 +32,17 @@ use Rattle.pw_model.specs.declared.records.Named.TheVariants as named
 use Rattle.pw_model.specs.Counting.{Member, named_entry}
 use Rattle.pw_model.proofs.EntryOrder.{numbers-tie}
 use Rattle.pw_schema.specs.Rows.{text, number, register_at, owner_at, withdrawal}
-use Rattle.pw_store.specs.inner.Records.{topup_row, topup_entry, reading_row, reading_entry, assignment_row, assignment_entry}
+use Rattle.pw_schema.specs.Tables.{IsOurs}
+use Rattle.pw_store.specs.inner.Records.{topup_row, topup_entry, reading_row, reading_entry, assignment_row, assignment_entry, entry_as}
+use Rattle.pw_store.specs.declared.forms.Form.{Form}
+use Rattle.pw_store.specs.inner.Forms.{find_reading, find_assignment, find_topup}
+use Rattle.pw_store.specs.declared.forms.Form.TheVariants.{Record, Withdrawal}
 use Rattle.pw_store.specs.Content.{topup_in, reading_in, assignment_in, entry_in, records_of, tree_of, IsTopupRow, IsReadingRow, IsAssignmentRow, IsRowOf}
 use Rattle.pw_store.specs.Kept.{IsStore}
 use Rattle.pw_schema.specs.declared.kind.RecordKind.{RecordKind}
 use Rattle.pw_schema.specs.declared.kind.RecordKind.TheVariants.{Readings, Assignments, TopUps, WithdrawnReadings, WithdrawnAssignments, WithdrawnTopUps}
 use Rattle.pw_store.proofs.Texts.{IsQuery, has_withdrawn_topup_text, has_withdrawn_topup_query, has_withdrawn_topup_is, has_withdrawn_reading_text, has_withdrawn_reading_query, has_withdrawn_reading_is, has_withdrawn_assignment_text, has_withdrawn_assignment_query, has_withdrawn_assignment_is, has_topup_text, has_topup_query, has_topup_is, has_reading_text, has_reading_query, has_reading_is, has_assignment_text, has_assignment_query, has_assignment_is}
+use Rattle.pw_store.proofs.Querying.{ours_plain}
 use Rattle.pw_store.proofs.Scans.{equal_ints, equal_texts, tied, scan_of, outputs, passing}
 use Rattle.pw_store.proofs.Lists.{seen}
 use Rattle.pw_store.proofs.OfKinds.{from_table, in_table, kind_at}
@@ -174,11 +182,6 @@ pub finds_topup : (old new : State) (t : List ℕ) (a c i : ℕ) (rows : List Ro
     → (0 < length rows → Member (topup_entry t (record { 0 = a }) c i) (records_of old.now.trees)) × (Member (topup_entry t (record { 0 = a }) c i) (records_of old.now.trees) → 0 < length rows)
 finds_topup old new t a c i rows store h = finds_kind TopUps has_topup_text has_topup_query has_topup_is (topup_row t a c i) (topup_entry t (record { 0 = a }) c i) (λ xs. refl) refl (each_topup t a c i) old new rows store h
 
-pub finds_topup_if : {Z : Type 0} (old new : State) (t : List ℕ) (a c i : ℕ) (r : Result (Vec Row Z) Error) → IsStore old.now → IfOk r (λ rows. Shown has_topup_text (topup_row t a c i) old new rows.items)
-    → IfOk r (λ rows. (0 < length rows.items → Member (topup_entry t (record { 0 = a }) c i) (records_of old.now.trees)) × (Member (topup_entry t (record { 0 = a }) c i) (records_of old.now.trees) → 0 < length rows.items))
-finds_topup_if old new t a c i (Ok rows) store h = finds_topup old new t a c i rows.items store h
-finds_topup_if old new t a c i (Err e) store h = tt
-
 -- ---- readings
 module _ (m : MeterId) (g : Register) (i v : ℕ) where
   abbrev passes_reading : Row → Bool
@@ -210,11 +213,6 @@ module _ (m : MeterId) (g : Register) (i v : ℕ) where
 pub finds_reading : (old new : State) (m : MeterId) (g : Register) (i v : ℕ) (rows : List Row) → IsStore old.now → Shown has_reading_text (reading_row m.0 (register_place g) i v) old new rows
     → (0 < length rows → Member (reading_entry m g i v) (records_of old.now.trees)) × (Member (reading_entry m g i v) (records_of old.now.trees) → 0 < length rows)
 finds_reading old new m g i v rows store h = finds_kind Readings has_reading_text has_reading_query has_reading_is (reading_row m.0 (register_place g) i v) (reading_entry m g i v) (λ xs. refl) refl (each_reading m g i v) old new rows store h
-
-pub finds_reading_if : {Z : Type 0} (old new : State) (m : MeterId) (g : Register) (i v : ℕ) (r : Result (Vec Row Z) Error) → IsStore old.now → IfOk r (λ rows. Shown has_reading_text (reading_row m.0 (register_place g) i v) old new rows.items)
-    → IfOk r (λ rows. (0 < length rows.items → Member (reading_entry m g i v) (records_of old.now.trees)) × (Member (reading_entry m g i v) (records_of old.now.trees) → 0 < length rows.items))
-finds_reading_if old new m g i v (Ok rows) store h = finds_reading old new m g i v rows.items store h
-finds_reading_if old new m g i v (Err e) store h = tt
 
 -- ---- assignments
 pub owner_one : (n : ℕ) (o : Option AccountId) → n ≡ owner_place o → owner_at n ≡ o
@@ -252,14 +250,9 @@ pub finds_assignment : (old new : State) (m : MeterId) (i : ℕ) (o : Option Acc
     → (0 < length rows → Member (assignment_entry m i o) (records_of old.now.trees)) × (Member (assignment_entry m i o) (records_of old.now.trees) → 0 < length rows)
 finds_assignment old new m i o rows store h = finds_kind Assignments has_assignment_text has_assignment_query has_assignment_is (assignment_row m.0 i (owner_place o)) (assignment_entry m i o) (λ xs. refl) refl (each_assignment m i o) old new rows store h
 
-pub finds_assignment_if : {Z : Type 0} (old new : State) (m : MeterId) (i : ℕ) (o : Option AccountId) (r : Result (Vec Row Z) Error) → IsStore old.now → IfOk r (λ rows. Shown has_assignment_text (assignment_row m.0 i (owner_place o)) old new rows.items)
-    → IfOk r (λ rows. (0 < length rows.items → Member (assignment_entry m i o) (records_of old.now.trees)) × (Member (assignment_entry m i o) (records_of old.now.trees) → 0 < length rows.items))
-finds_assignment_if old new m i o (Ok rows) store h = finds_assignment old new m i o rows.items store h
-finds_assignment_if old new m i o (Err e) store h = tt
-
 -- ---- withdrawals: a row tells one where it would tell the record that is named
 -- of a record its withdrawal, and of a withdrawal its record
-abbrev name_of : Key → Content → Named
+abbrev pub name_of : Key → Content → Named
 name_of (key.Reading m r t) c = named.Reading m r t (wh_in c)
 name_of (key.Assignment m t) c = named.Assignment m t (owner_in c)
 name_of (key.TopUp r) c = named.TopUp r (record { 0 = number_in 0 c }) (number_in 1 c) (number_in 2 c)
@@ -300,3 +293,35 @@ pub finds_withdrawn_topup : (old new : State) (t : List ℕ) (a : AccountId) (c 
 finds_withdrawn_topup old new t a c i rows store h =
     finds_kind WithdrawnTopUps has_withdrawn_topup_text has_withdrawn_topup_query has_withdrawn_topup_is (topup_row t a.0 c i) (withdrawal (named.TopUp t a c i)) (λ xs. refl) refl
     (each_named TopUps WithdrawnTopUps IsTopupRow _ (topup_entry t a c i) (λ r. refl) (λ r. refl) refl (each_topup t a.0 c i)) old new rows store h
+
+-- ---- by the form in which what is named is kept
+abbrev IsFoundBy : List Row → Entry → State → Type 0
+IsFoundBy rows e old = (0 < length rows → Member e (records_of old.now.trees)) × (Member e (records_of old.now.trees) → 0 < length rows)
+
+pub finds_reading_in : {Z : Type 0} (m : MeterId) (g : Register) (i v : ℕ) (form : Form) (old new : State) (r : Result (Vec Row Z) Error) → IsStore old.now → IfOk r (λ rows. Shown (find_reading form) (reading_row m.0 (register_place g) i v) old new rows.items) → IfOk r (λ rows. IsFoundBy rows.items (entry_as form (named.Reading m g i v)) old)
+finds_reading_in m g i v Record old new = finds_if has_reading_text (reading_row m.0 (register_place g) i v) (reading_entry m g i v) old new (finds_reading old new m g i v)
+finds_reading_in m g i v Withdrawal old new = finds_if has_withdrawn_reading_text (reading_row m.0 (register_place g) i v) (withdrawal (named.Reading m g i v)) old new (finds_withdrawn_reading old new m g i v)
+
+pub finds_assignment_in : {Z : Type 0} (m : MeterId) (i : ℕ) (o : Option AccountId) (form : Form) (old new : State) (r : Result (Vec Row Z) Error) → IsStore old.now → IfOk r (λ rows. Shown (find_assignment form) (assignment_row m.0 i (owner_place o)) old new rows.items) → IfOk r (λ rows. IsFoundBy rows.items (entry_as form (named.Assignment m i o)) old)
+finds_assignment_in m i o Record old new = finds_if has_assignment_text (assignment_row m.0 i (owner_place o)) (assignment_entry m i o) old new (finds_assignment old new m i o)
+finds_assignment_in m i o Withdrawal old new = finds_if has_withdrawn_assignment_text (assignment_row m.0 i (owner_place o)) (withdrawal (named.Assignment m i o)) old new (finds_withdrawn_assignment old new m i o)
+
+pub finds_topup_in : {Z : Type 0} (t : List ℕ) (a : AccountId) (c i : ℕ) (form : Form) (old new : State) (r : Result (Vec Row Z) Error) → IsStore old.now → IfOk r (λ rows. Shown (find_topup form) (topup_row t a.0 c i) old new rows.items) → IfOk r (λ rows. IsFoundBy rows.items (entry_as form (named.TopUp t a c i)) old)
+finds_topup_in t a c i Record old new = finds_if has_topup_text (topup_row t a.0 c i) (topup_entry t a c i) old new (finds_topup old new t a.0 c i)
+finds_topup_in t a c i Withdrawal old new = finds_if has_withdrawn_topup_text (topup_row t a.0 c i) (withdrawal (named.TopUp t a c i)) old new (finds_withdrawn_topup old new t a c i)
+
+-- each is a query over our tables
+abbrev AreQueries : (Form → List ℕ) → Type 0
+AreQueries sql = (form : Form) (s : Schema) → IsOurs s → IsPlain (understood s (sql form))
+
+pub plain_reading : AreQueries find_reading
+plain_reading Record = ours_plain has_reading_is
+plain_reading Withdrawal = ours_plain has_withdrawn_reading_is
+
+pub plain_assignment : AreQueries find_assignment
+plain_assignment Record = ours_plain has_assignment_is
+plain_assignment Withdrawal = ours_plain has_withdrawn_assignment_is
+
+pub plain_topup : AreQueries find_topup
+plain_topup Record = ours_plain has_topup_is
+plain_topup Withdrawal = ours_plain has_withdrawn_topup_is

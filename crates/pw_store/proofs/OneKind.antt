@@ -1,4 +1,4 @@
--- A record that is held has a content of its key's kind.
+-- A record that is held has a form: its content is of its key's kind.
 use Rattle.std.proofs.Common.{◌≡◌, ◌↔◌, ℕ, List, [], ◌∷◌, map, Bool, true, false, IsTrue, Result, Ok, Err, IfOk, Option, Vec, Some, cond, refl, sym, ap, subst, inl, inr, ◌∙◌}
 use Rattle.std.proofs.lemmas.Bool.{cases_Bool, true≢false}
 use Rattle.sqlite.specs.declared.error.Error.{Error}
@@ -21,85 +21,64 @@ use Rattle.pw_model.specs.declared.records.Contents.TheVariants.{Nothing, One}
 use Rattle.pw_model.proofs.Counting.{standing-member, standing-part, tells, tells-one, withdrawn-back, withdrawn-to}
 use Rattle.pw_model.proofs.Same.{same_entry-decides}
 use Rattle.pw_store.specs.Content.{entry_in, kinds_of, records_of, tree_of}
+use Rattle.pw_store.specs.inner.Records.{IsForeign, entry_as}
+use Rattle.pw_store.specs.declared.forms.Form.{Form}
+use Rattle.pw_store.specs.declared.forms.Form.TheVariants.{Record, Withdrawal}
 use Rattle.pw_schema.specs.declared.kind.RecordKind.{RecordKind}
 use Rattle.pw_schema.specs.declared.kind.RecordKind.TheVariants.{Readings, Assignments, TopUps, WithdrawnReadings, WithdrawnAssignments, WithdrawnTopUps}
 use Rattle.pw_schema.specs.declared.kind.StoreVersion.TheVariants.{Second}
 use Rattle.pw_schema.specs.Rows.{ReadsRows, withdrawal}
+use Rattle.pw_store.proofs.Finding.{name_of}
 use Rattle.pw_store.proofs.OfKinds.{some_kind}
 use Rattle.pw_store.proofs.Telling.{nothing_told}
 
-abbrev IsOneKind : Key → Content → Type 0
-IsOneKind (key.Reading m r t) (content.Reading w) = Unit {0}
-IsOneKind (key.Assignment m t) (content.Assignment o) = Unit {0}
-IsOneKind (key.TopUp r) (content.TopUp a c t) = Unit {0}
-IsOneKind (key.Withdrawal n) content.Withdrawal = Unit {0}
-IsOneKind _ _ = ⊥
-
-one_kind : (k : RecordKind) (r : Row) → IsOneKind (entry_in k r).key (entry_in k r).content
-one_kind Readings r = tt
-one_kind Assignments r = tt
-one_kind TopUps r = tt
-one_kind WithdrawnReadings r = tt
-one_kind WithdrawnAssignments r = tt
-one_kind WithdrawnTopUps r = tt
-
-of_rows : (f : Row → Entry) → ((r : Row) → IsOneKind (f r).key (f r).content) → (rows : List Row) (e : Entry) → Member e (map f rows) → IsOneKind e.key e.content
-of_rows f one [] e m = absurd m
-of_rows f one (r ∷ rows) e (inl i) = subst (λ (x : Entry). IsOneKind x.key x.content) (sym i) (one r)
-of_rows f one (r ∷ rows) e (inr m) = of_rows f one rows e m
-
-held_kind : (db : Trees) (e : Entry) → Member e (records_of db) → IsOneKind e.key e.content
-held_kind db e m = let it = some_kind (kinds_of Second) db e m in of_rows (entry_in it.0) (one_kind it.0) (db (tree_of it.0)) e it.1.1
-
-pub no_reading_of : (db : Trees) (e : Entry) (m : MeterId) (r : Register) (t : ℕ) → e.key ≡ key.Reading m r t → ((w : ℕ) → e.content ≡ content.Reading w → ⊥) → (IsTrue false ↔ Member e (records_of db))
-no_reading_of db e m r t is none = (λ f. absurd (let bad : false ≡ true = f in cc), λ held. absurd (go e.content refl (subst (λ k. IsOneKind k e.content) is (held_kind db e held))))
-  where
-    go : (c : Content) → e.content ≡ c → IsOneKind (key.Reading m r t) e.content → ⊥
-    go (content.Reading w) i h = none w i
-    go (content.Assignment o) i h = subst (IsOneKind (key.Reading m r t)) i h
-    go (content.TopUp a n u) i h = subst (IsOneKind (key.Reading m r t)) i h
-    go content.Withdrawal i h = subst (IsOneKind (key.Reading m r t)) i h
-
-pub no_assignment_of : (db : Trees) (e : Entry) (m : MeterId) (t : ℕ) → e.key ≡ key.Assignment m t → ((o : Option AccountId) → e.content ≡ content.Assignment o → ⊥) → (IsTrue false ↔ Member e (records_of db))
-no_assignment_of db e m t is none = (λ f. absurd (let bad : false ≡ true = f in cc), λ held. absurd (go e.content refl (subst (λ k. IsOneKind k e.content) is (held_kind db e held))))
-  where
-    go : (c : Content) → e.content ≡ c → IsOneKind (key.Assignment m t) e.content → ⊥
-    go (content.Reading w) i h = subst (IsOneKind (key.Assignment m t)) i h
-    go (content.Assignment o) i h = none o i
-    go (content.TopUp a n u) i h = subst (IsOneKind (key.Assignment m t)) i h
-    go content.Withdrawal i h = subst (IsOneKind (key.Assignment m t)) i h
-
-pub no_topup_of : (db : Trees) (e : Entry) (r : List ℕ) → e.key ≡ key.TopUp r → ((a : AccountId) (n u : ℕ) → e.content ≡ content.TopUp a n u → ⊥) → (IsTrue false ↔ Member e (records_of db))
-no_topup_of db e r is none = (λ f. absurd (let bad : false ≡ true = f in cc), λ held. absurd (go e.content refl (subst (λ k. IsOneKind k e.content) is (held_kind db e held))))
-  where
-    go : (c : Content) → e.content ≡ c → IsOneKind (key.TopUp r) e.content → ⊥
-    go (content.Reading w) i h = subst (IsOneKind (key.TopUp r)) i h
-    go (content.Assignment o) i h = subst (IsOneKind (key.TopUp r)) i h
-    go (content.TopUp a n u) i h = none a n u i
-    go content.Withdrawal i h = subst (IsOneKind (key.TopUp r)) i h
-
-pub no_withdrawal_of : (db : Trees) (e : Entry) (n : Named) → e.key ≡ key.Withdrawal n → (e.content ≡ content.Withdrawal → ⊥) → (IsTrue false ↔ Member e (records_of db))
-no_withdrawal_of db e n is none = (λ f. absurd (let bad : false ≡ true = f in cc), λ held. absurd (go e.content refl (subst (λ k. IsOneKind k e.content) is (held_kind db e held))))
-  where
-    go : (c : Content) → e.content ≡ c → IsOneKind (key.Withdrawal n) e.content → ⊥
-    go (content.Reading w) i h = subst (IsOneKind (key.Withdrawal n)) i h
-    go (content.Assignment o) i h = subst (IsOneKind (key.Withdrawal n)) i h
-    go (content.TopUp a m u) i h = subst (IsOneKind (key.Withdrawal n)) i h
-    go content.Withdrawal i h = none i
-
-entry_is : (e : Entry) (k : Key) (c : Content) → e.key ≡ k → e.content ≡ c → e ≡ record { key = k; content = c }
+pub entry_is : (e : Entry) (k : Key) (c : Content) → e.key ≡ k → e.content ≡ c → e ≡ record { key = k; content = c }
 entry_is e k c a b = λ i. record { key = a i; content = b i }
 
+-- an entry that a row tells has a form
+abbrev HasForm : Entry → Type 0
+HasForm e = (form : Form) × ((n : Named) × (e ≡ entry_as form n))
+
+form_in : (k : RecordKind) (r : Row) → HasForm (entry_in k r)
+form_in Readings r = (Record, (name_of (entry_in Readings r).key (entry_in Readings r).content, refl))
+form_in Assignments r = (Record, (name_of (entry_in Assignments r).key (entry_in Assignments r).content, refl))
+form_in TopUps r = (Record, (name_of (entry_in TopUps r).key (entry_in TopUps r).content, refl))
+form_in WithdrawnReadings r = (Withdrawal, (name_of (entry_in WithdrawnReadings r).key (entry_in WithdrawnReadings r).content, refl))
+form_in WithdrawnAssignments r = (Withdrawal, (name_of (entry_in WithdrawnAssignments r).key (entry_in WithdrawnAssignments r).content, refl))
+form_in WithdrawnTopUps r = (Withdrawal, (name_of (entry_in WithdrawnTopUps r).key (entry_in WithdrawnTopUps r).content, refl))
+
+of_rows : (f : Row → Entry) → ((r : Row) → HasForm (f r)) → (rows : List Row) (e : Entry) → Member e (map f rows) → HasForm e
+of_rows f one [] e m = absurd m
+of_rows f one (r ∷ rows) e (inl i) = subst HasForm (sym i) (one r)
+of_rows f one (r ∷ rows) e (inr m) = of_rows f one rows e m
+
+held_form : (db : Trees) (e : Entry) → Member e (records_of db) → HasForm e
+held_form db e m = let it = some_kind (kinds_of Second) db e m in of_rows (entry_in it.0) (form_in it.0) (db (tree_of it.0)) e it.1.1
+
+-- so what has none isn't held
+pub no_foreign : (db : Trees) (e : Entry) → IsForeign e → (IsTrue false ↔ Member e (records_of db))
+no_foreign db e foreign = (
+  λ f. absurd (let bad : false ≡ true = f in cc),
+  λ held. (let it = held_form db e held in absurd (foreign it.0 it.1.0 it.1.1)),
+)
+
 -- ---- which records are withdrawn
+-- a record has no withdrawal's key
+never_named : (m n : Named) → (named_entry m).key ≡ key.Withdrawal n → ⊥
+never_named (named.Reading a r t w) n is = cc
+never_named (named.Assignment a t o) n is = cc
+never_named (named.TopUp r a c t) n is = cc
+
 -- a withdrawal that is held has the content of one
 pub held_withdrawal : (db : Trees) (e : Entry) (n : Named) → e.key ≡ key.Withdrawal n → Member e (records_of db) → e ≡ withdrawal n
-held_withdrawal db e n is held = entry_is e (key.Withdrawal n) content.Withdrawal is (go e.content refl (subst (λ k. IsOneKind k e.content) is (held_kind db e held)))
+held_withdrawal db e n is held = let it = held_form db e held in by it.0 it.1.0 it.1.1
   where
-    go : (c : Content) → e.content ≡ c → IsOneKind (key.Withdrawal n) e.content → e.content ≡ content.Withdrawal
-    go (content.Reading w) i h = absurd (subst (IsOneKind (key.Withdrawal n)) i h)
-    go (content.Assignment o) i h = absurd (subst (IsOneKind (key.Withdrawal n)) i h)
-    go (content.TopUp a m u) i h = absurd (subst (IsOneKind (key.Withdrawal n)) i h)
-    go content.Withdrawal i h = i
+    by : (form : Form) (m : Named) → e ≡ entry_as form m → e ≡ withdrawal n
+    by Record m i = absurd (never_named m n (sym (ap (λ (x : Entry). x.key) i) ∙ is))
+    by Withdrawal m i =
+        let keys : key.Withdrawal m ≡ key.Withdrawal n = sym (ap (λ (x : Entry). x.key) i) ∙ is in
+        let same : m ≡ n = cc in
+        i ∙ ap withdrawal same
 
 named_back : (n : Named) → named_of (named_entry n).key (named_entry n).content ≡ Some n
 named_back (named.Reading m r t w) = refl
@@ -127,16 +106,11 @@ pub held_withdrawn : (db : Trees) (n : Named) → Member (withdrawal n) (records
 held_withdrawn db n held = withdrawn-back (records_of db) (named_entry n) (withdrawal n) held ((same_entry-decides (named_entry n) (named_entry n)).1 refl)
 
 -- no withdrawal is withdrawn
-never_named : (m n : Named) → named_entry m ≡ withdrawal n → ⊥
-never_named (named.Reading a r t w) n e = let is = ap (λ (x : Entry). x.key) e in cc
-never_named (named.Assignment a t o) n e = let is = ap (λ (x : Entry). x.key) e in cc
-never_named (named.TopUp r a c t) n e = let is = ap (λ (x : Entry). x.key) e in cc
-
 never_withdrawn : (n : Named) (k : Key) → withdraws (withdrawal n) k ≡ true → ⊥
 never_withdrawn n (key.Reading m r t) w = true≢false (sym w)
 never_withdrawn n (key.Assignment m t) w = true≢false (sym w)
 never_withdrawn n (key.TopUp r) w = true≢false (sym w)
-never_withdrawn n (key.Withdrawal m) w = never_named m n ((same_entry-decides (named_entry m) (withdrawal n)).0 w)
+never_withdrawn n (key.Withdrawal m) w = never_named m n (ap (λ (x : Entry). x.key) ((same_entry-decides (named_entry m) (withdrawal n)).0 w))
 
 withdrawal_stands : (db : Trees) (n : Named) → Member (withdrawal n) (records_of db) → Member (withdrawal n) (standing (records_of db))
 withdrawal_stands db n held = elim (cases_Bool (is_withdrawn (records_of db) (withdrawal n))) [
@@ -161,11 +135,11 @@ pub records_same : (old new : State) → IsUnchanged old new → records_of new.
 records_same old new u = ap (λ (d : Database). records_of d.trees) u.0.now_is
 
 -- what was found behind a statement that changes nothing
-pub found_moved : (r : Result Bool Error) (old mid : State) (e : Entry) (k : Key) (c : Content) → IsUnchanged old mid → e.key ≡ k → e.content ≡ c
-    → IfOk r (λ b. IsTrue b ↔ Member (record { key = k; content = c }) (records_of mid.now.trees)) → IfOk r (λ b. IsTrue b ↔ Member e (records_of old.now.trees))
-found_moved (Err f) old mid e k c same ki ci h = tt
-found_moved (Ok b) old mid e k c same ki ci h =
-    subst (λ xs. IsTrue b ↔ Member e xs) (records_same old mid same) (subst (λ x. IsTrue b ↔ Member x (records_of mid.now.trees)) (sym (entry_is e k c ki ci)) h)
+pub found_moved : (r : Result Bool Error) (old mid : State) (e f : Entry) → IsUnchanged old mid → e ≡ f
+    → IfOk r (λ b. IsTrue b ↔ Member f (records_of mid.now.trees)) → IfOk r (λ b. IsTrue b ↔ Member e (records_of old.now.trees))
+found_moved (Err fault) old mid e f same is h = tt
+found_moved (Ok b) old mid e f same is h =
+    subst (λ xs. IsTrue b ↔ Member e xs) (records_same old mid same) (subst (λ x. IsTrue b ↔ Member x (records_of mid.now.trees)) (sym is) h)
 
 -- the list that rows give
 pub read_if : {Z F : Type 0} (kind : RecordKind) (rows shown : List Row) (r : Result (Vec Entry Z) F) (Gives : List Entry → List Entry → Type 0) (before after : List Entry) → shown ≡ rows → after ≡ before

@@ -14,6 +14,8 @@ use Rattle.sqlite_tied.specs.Compute.{everything}
 use Rattle.sqlite.specs.Listing.{understood, reads_listing}
 use Rattle.sqlite.proofs.Callers.{IsPlain, command_of}
 use Rattle.pw_schema.specs.Tables.{ours_with}
+use Rattle.pw_store.specs.inner.Forms.{insert_reading, insert_assignment, insert_topup, find_reading, find_assignment, find_topup}
+use Rattle.pw_store.specs.declared.forms.Form.TheVariants.{Record, Withdrawal}
 
 -- a text that is this query over our tables
 pub record IsQuery (text : List ℕ) (q : Query) : Type 0 where
@@ -48,7 +50,7 @@ plain_query tree filter project = record {
 
 -- ---- INSERT
 abbrev pub add_topup_text : List ℕ
-add_topup_text = codes "INSERT INTO record_topup (reference, account, cents, instant) VALUES (?1, ?2, ?3, ?4)"
+add_topup_text = insert_topup Record
 
 abbrev pub four_terms : List Term
 four_terms = lit Null ∷ col 0 0 ∷ col 0 1 ∷ col 0 2 ∷ col 0 3 ∷ []
@@ -58,14 +60,14 @@ unfolding understood everything
 add_topup_is = record { is = λ checks. refl; plain = λ checks. (refl, refl) }
 
 abbrev pub add_reading_text : List ℕ
-add_reading_text = codes "INSERT INTO record_reading (meter, register, instant, wh) VALUES (?1, ?2, ?3, ?4)"
+add_reading_text = insert_reading Record
 
 pub add_reading_is : IsInsert add_reading_text 1 5 four_terms
 unfolding understood everything
 add_reading_is = record { is = λ checks. refl; plain = λ checks. (refl, refl) }
 
 abbrev pub add_assignment_text : List ℕ
-add_assignment_text = codes "INSERT INTO record_assignment (meter, start, owner) VALUES (?1, ?2, ?3)"
+add_assignment_text = insert_assignment Record
 
 abbrev pub three_terms : List Term
 three_terms = lit Null ∷ col 0 0 ∷ col 0 1 ∷ col 0 2 ∷ []
@@ -76,7 +78,7 @@ add_assignment_is = record { is = λ checks. refl; plain = λ checks. (refl, ref
 
 -- ---- whether a record is held
 abbrev pub has_topup_text : List ℕ
-has_topup_text = codes "SELECT account FROM record_topup WHERE reference = ?1 AND account = ?2 AND cents = ?3 AND instant = ?4"
+has_topup_text = find_topup Record
 
 abbrev pub has_topup_query : Query
 has_topup_query = plain_query 5 (eq 1 0 ∷ eq 2 1 ∷ eq 3 2 ∷ eq 4 3 ∷ []) (col 1 2 ∷ [])
@@ -92,7 +94,7 @@ abbrev pub office_query : Query
 office_query = plain_query 0 (op2 (Compare Eq Binary) (col 1 0) (lit (Int (pos 1))) ∷ []) (col 1 2 ∷ col 1 3 ∷ [])
 
 abbrev pub has_reading_text : List ℕ
-has_reading_text = codes "SELECT wh FROM record_reading WHERE meter = ?1 AND register = ?2 AND instant = ?3 AND wh = ?4"
+has_reading_text = find_reading Record
 
 abbrev pub has_reading_query : Query
 has_reading_query = plain_query 1 (eq 1 0 ∷ eq 2 1 ∷ eq 3 2 ∷ eq 4 3 ∷ []) (col 1 4 ∷ [])
@@ -102,7 +104,7 @@ unfolding understood everything
 has_reading_is = record { names = codes "wh" ∷ []; is = λ checks. refl; unlisted = λ checks. refl; plain = λ checks. (refl, refl) }
 
 abbrev pub has_assignment_text : List ℕ
-has_assignment_text = codes "SELECT owner FROM record_assignment WHERE meter = ?1 AND start = ?2 AND owner = ?3"
+has_assignment_text = find_assignment Record
 
 abbrev pub has_assignment_query : Query
 has_assignment_query = plain_query 3 (eq 1 0 ∷ eq 2 1 ∷ eq 3 2 ∷ []) (col 1 3 ∷ [])
@@ -134,28 +136,28 @@ list_assignments_is = record { names = codes "meter" ∷ codes "start" ∷ codes
 
 -- ---- withdrawals
 abbrev pub add_withdrawn_reading_text : List ℕ
-add_withdrawn_reading_text = codes "INSERT INTO withdrawn_reading (meter, register, instant, wh) VALUES (?1, ?2, ?3, ?4)"
+add_withdrawn_reading_text = insert_reading Withdrawal
 
 pub add_withdrawn_reading_is : IsInsert add_withdrawn_reading_text 8 5 four_terms
 unfolding understood everything
 add_withdrawn_reading_is = record { is = λ checks. refl; plain = λ checks. (refl, refl) }
 
 abbrev pub add_withdrawn_assignment_text : List ℕ
-add_withdrawn_assignment_text = codes "INSERT INTO withdrawn_assignment (meter, start, owner) VALUES (?1, ?2, ?3)"
+add_withdrawn_assignment_text = insert_assignment Withdrawal
 
 pub add_withdrawn_assignment_is : IsInsert add_withdrawn_assignment_text 9 4 three_terms
 unfolding understood everything
 add_withdrawn_assignment_is = record { is = λ checks. refl; plain = λ checks. (refl, refl) }
 
 abbrev pub add_withdrawn_topup_text : List ℕ
-add_withdrawn_topup_text = codes "INSERT INTO withdrawn_topup (reference, account, cents, instant) VALUES (?1, ?2, ?3, ?4)"
+add_withdrawn_topup_text = insert_topup Withdrawal
 
 pub add_withdrawn_topup_is : IsInsert add_withdrawn_topup_text 10 5 four_terms
 unfolding understood everything
 add_withdrawn_topup_is = record { is = λ checks. refl; plain = λ checks. (refl, refl) }
 
 abbrev pub has_withdrawn_reading_text : List ℕ
-has_withdrawn_reading_text = codes "SELECT wh FROM withdrawn_reading WHERE meter = ?1 AND register = ?2 AND instant = ?3 AND wh = ?4"
+has_withdrawn_reading_text = find_reading Withdrawal
 
 abbrev pub has_withdrawn_reading_query : Query
 has_withdrawn_reading_query = plain_query 14 (eq 1 0 ∷ eq 2 1 ∷ eq 3 2 ∷ eq 4 3 ∷ []) (col 1 4 ∷ [])
@@ -165,7 +167,7 @@ unfolding understood everything
 has_withdrawn_reading_is = record { names = codes "wh" ∷ []; is = λ checks. refl; unlisted = λ checks. refl; plain = λ checks. (refl, refl) }
 
 abbrev pub has_withdrawn_assignment_text : List ℕ
-has_withdrawn_assignment_text = codes "SELECT owner FROM withdrawn_assignment WHERE meter = ?1 AND start = ?2 AND owner = ?3"
+has_withdrawn_assignment_text = find_assignment Withdrawal
 
 abbrev pub has_withdrawn_assignment_query : Query
 has_withdrawn_assignment_query = plain_query 16 (eq 1 0 ∷ eq 2 1 ∷ eq 3 2 ∷ []) (col 1 3 ∷ [])
@@ -175,7 +177,7 @@ unfolding understood everything
 has_withdrawn_assignment_is = record { names = codes "owner" ∷ []; is = λ checks. refl; unlisted = λ checks. refl; plain = λ checks. (refl, refl) }
 
 abbrev pub has_withdrawn_topup_text : List ℕ
-has_withdrawn_topup_text = codes "SELECT account FROM withdrawn_topup WHERE reference = ?1 AND account = ?2 AND cents = ?3 AND instant = ?4"
+has_withdrawn_topup_text = find_topup Withdrawal
 
 abbrev pub has_withdrawn_topup_query : Query
 has_withdrawn_topup_query = plain_query 18 (eq 1 0 ∷ eq 2 1 ∷ eq 3 2 ∷ eq 4 3 ∷ []) (col 1 2 ∷ [])

@@ -1,3 +1,4 @@
+pub mod Forms
 pub mod Records
 pub mod Lists
 pub mod Opened

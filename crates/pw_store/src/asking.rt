@@ -14,11 +14,11 @@ use crate::fault::AskFault;
 use crate::keys::{
     contents_of_assignment, contents_of_reading, contents_of_topup, contents_of_withdrawal,
 };
-use crate::meters::{assignment_rows, has_assignment, has_reading, reading_rows};
-use crate::topups::{has_topup, topup_rows};
+use crate::meters::{assignment_rows, reading_rows};
+use crate::records::{form_of, has_named};
+use crate::topups::topup_rows;
 use crate::waking::wake;
-use crate::withdrawals::has_withdrawal;
-use pw_model::{Content, Contents, Entry, Key};
+use pw_model::{Contents, Entry, Key};
 use pw_obis::Register;
 use pw_schema::{ReadFault, RecordKind, read_rows};
 use pw_tariff::MeterId;
@@ -37,31 +37,9 @@ fn has_entry<S: Alter>(
     ensures asks { Asks result (state S.Store conn.old) (state S.Store conn.new) }
 {
     wake(conn, doubtful)?;
-    match &entry.key {
-        Key::Reading {
-            meter,
-            register,
-            instant,
-        } => match &entry.content {
-            Content::Reading { wh } => has_reading(conn, *meter, *register, *instant, *wh),
-            _ => Ok(false),
-        },
-        Key::Assignment { meter, start } => match &entry.content {
-            Content::Assignment { owner } => has_assignment(conn, *meter, *start, *owner),
-            _ => Ok(false),
-        },
-        Key::TopUp { reference } => match &entry.content {
-            Content::TopUp {
-                account,
-                cents,
-                instant,
-            } => has_topup(conn, reference, *account, *cents, *instant),
-            _ => Ok(false),
-        },
-        Key::Withdrawal { named } => match &entry.content {
-            Content::Withdrawal => has_withdrawal(conn, named),
-            _ => Ok(false),
-        },
+    match form_of(entry) {
+        Some((form, named)) => has_named(conn, form, &named),
+        None => Ok(false),
     }
 }
 

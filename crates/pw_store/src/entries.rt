@@ -10,10 +10,8 @@ ghost use Rattle.pw_store.specs.Content.{content_of, records_of};
 ghost use Rattle.pw_store.specs.Kept.{IsStore};
 ghost use Rattle.pw_store.specs.inner.Changing.{StillKeeps};
 
-use crate::meters::{add_assignment, add_reading};
-use crate::topups::add_topup;
-use crate::withdrawals::add_withdrawal;
-use pw_model::{Content, Entry, Key};
+use crate::records::{add_named, form_of};
+use pw_model::Entry;
 use sqlite::{Alter, Connection, Error};
 
 /// Adds a record that isn't held, if its content is of its key's kind; else no statement is run.
@@ -28,39 +26,11 @@ pub(crate) fn add_entry<S: Alter>(conn: &mut Connection<S>, entry: &Entry) -> Re
     ensures foreign { HasCleanDisk (state S.Store conn.new) → IfOk result (λ added. (added ≡ false) → conn.new ≡ conn.old) }
     ensures writes { Writes result (state S.Store conn.old) (state S.Store conn.new) }
 {
-    match (&entry.key, &entry.content) {
-        (
-            Key::Reading {
-                meter,
-                register,
-                instant,
-            },
-            Content::Reading { wh },
-        ) => match add_reading(conn, *meter, *register, *instant, *wh) {
-            Ok(_) => Ok(true),
-            Err(error) => Err(error),
-        },
-        (Key::Assignment { meter, start }, Content::Assignment { owner }) => match add_assignment(
-            conn, *meter, *start, *owner,
-        ) {
-            Ok(_) => Ok(true),
-            Err(error) => Err(error),
-        },
-        (
-            Key::TopUp { reference },
-            Content::TopUp {
-                account,
-                cents,
-                instant,
-            },
-        ) => match add_topup(conn, reference, *account, *cents, *instant) {
-            Ok(_) => Ok(true),
-            Err(error) => Err(error),
-        },
-        (Key::Withdrawal { named }, Content::Withdrawal) => match add_withdrawal(conn, named) {
-            Ok(_) => Ok(true),
-            Err(error) => Err(error),
-        },
-        _ => Ok(false),
+    let Some((form, named)) = form_of(entry) else {
+        return Ok(false);
+    };
+    match add_named(conn, form, &named) {
+        Ok(_) => Ok(true),
+        Err(error) => Err(error),
     }
 }

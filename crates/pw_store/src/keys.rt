@@ -11,9 +11,10 @@ ghost use Rattle.pw_schema.specs.inner.Calls.{Asks};
 ghost use Rattle.pw_store.specs.Kept.{IsStore};
 ghost use Rattle.pw_store.specs.Content.{records_of};
 
+use crate::forms::Form;
 use crate::meters::{assignment_at, reading_at};
+use crate::records::has_named;
 use crate::topups::topup_at;
-use crate::withdrawals::has_withdrawal;
 use pw_model::{Content, Contents, Named, Reference};
 use pw_obis::Register;
 use pw_schema::{RecordKind, contents_in};
@@ -83,6 +84,6 @@ pub(crate) fn contents_of_withdrawal<S: Alter>(
     ensures told { HasCleanDisk (state S.Store conn.new) → IfOk result (λ found. IfSome found (λ contents. contents ≡ contents_at (records_of (state S.Store conn.old).now.trees) (key.Withdrawal named.now))) }
     ensures asks { Asks result (state S.Store conn.old) (state S.Store conn.new) }
 {
-    let held = has_withdrawal(conn, named)?;
+    let held = has_named(conn, Form::Withdrawal, named)?;
     Ok(Some(told_of(held)))
 }

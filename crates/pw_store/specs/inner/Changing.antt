@@ -1,5 +1,5 @@
 -- What a statement within an upload makes of a store. It serves `src/points.rt`, `src/starts.rt`, `src/totals.rt`,
--- `src/changes.rt`, `src/meters.rt`, `src/topups.rt` and `src/entries.rt`.
+-- `src/changes.rt`, `src/records.rt` and `src/entries.rt`.
 -- (Definitions of this project.)
 use Rattle.std.specs.Prelude.{◌≡◌, ◌<◌, ◌^◌, Some, None, true}
 use Rattle.sqlite.specs.Tree.{Trees}

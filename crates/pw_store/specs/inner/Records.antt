@@ -1,6 +1,6 @@
--- A row as it is given to INSERT, and the record of a row. It serves `src/meters.rt`, `src/topups.rt` and `src/entries.rt`.
+-- A row as it is given to INSERT, and the record of a row. It serves `src/records.rt` and `src/entries.rt`.
 -- (A format of this project.)
-use Rattle.std.specs.Prelude.{ℕ, pos, Option, List, [], ◌∷◌}
+use Rattle.std.specs.Prelude.{◌≡◌, ℕ, pos, Option, List, [], ◌∷◌}
 use Rattle.sqlite.specs.declared.types.Value.TheVariants.{Int, Text}
 use Rattle.sqlite.specs.Order.{Row}
 use Rattle.pw_obis.specs.declared.reference.Register.{Register}
@@ -9,6 +9,11 @@ use Rattle.pw_tariff.specs.declared.ids.MeterId.{MeterId}
 use Rattle.pw_model.specs.declared.records.Key.TheVariants as key
 use Rattle.pw_model.specs.declared.records.Content.TheVariants as content
 use Rattle.pw_model.specs.declared.records.Entry.{Entry}
+use Rattle.pw_model.specs.declared.records.Named.{Named}
+use Rattle.pw_model.specs.Counting.{named_entry}
+use Rattle.pw_schema.specs.Rows.{withdrawal}
+use Rattle.pw_store.specs.declared.forms.Form.{Form}
+use Rattle.pw_store.specs.declared.forms.Form.TheVariants.{Record, Withdrawal}
 
 -- ---- a row as it is given to INSERT
 abbrev pub reading_row : ℕ → ℕ → ℕ → ℕ → Row
@@ -29,3 +34,12 @@ assignment_entry meter start owner = record { key = key.Assignment meter start; 
 
 abbrev pub topup_entry : List ℕ → AccountId → ℕ → ℕ → Entry
 topup_entry reference account cents instant = record { key = key.TopUp reference; content = content.TopUp account cents instant }
+
+-- ---- what is named, as a record, or as what a withdrawal names
+abbrev pub entry_as : Form → Named → Entry
+entry_as Record n = named_entry n
+entry_as Withdrawal n = withdrawal n
+
+-- neither: its content isn't of its key's kind
+abbrev pub IsForeign : Entry → Type 0
+IsForeign e = (form : Form) (n : Named) → e ≡ entry_as form n → ⊥

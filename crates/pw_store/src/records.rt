@@ -1,27 +1,44 @@
-//! Withdrawals, each statement run by its own text: what they name is kept as a record of its kind is, in a table beside.
+//! Records and withdrawals, each added and looked for by its own text: what a withdrawal names is kept as a record of its
+//! kind is, in a table beside.
 
-ghost use Rattle.std.specs.Prelude.{◌≡◌, ◌<◌, ◌↔◌, OnOk, IfOk, IsTrue, length};
+ghost use Rattle.std.specs.Prelude.{◌≡◌, ◌<◌, ◌↔◌, OnOk, IfOk, IfSome, IfNone, IsTrue, length};
 ghost use Rattle.sqlite.specs.Held.{state};
 ghost use Rattle.sqlite.specs.State.{HasCleanDisk};
 ghost use Rattle.pw_model.specs.Counting.{Member};
 ghost use Rattle.pw_model.specs.declared.records.Named.TheVariants as named;
 ghost use Rattle.pw_schema.specs.Calls.{Writes};
-ghost use Rattle.pw_schema.specs.Rows.{withdrawal};
 ghost use Rattle.pw_schema.specs.inner.Calls.{Asks};
 ghost use Rattle.pw_store.specs.Content.{records_of};
 ghost use Rattle.pw_store.specs.Kept.{IsStore};
 ghost use Rattle.pw_store.specs.inner.Changing.{Adds};
+ghost use Rattle.pw_store.specs.inner.Records.{IsForeign, entry_as};
 
-use pw_model::{Named, Reference};
+use crate::forms::Form;
+use pw_model::{Content, Entry, Key, Named, Reference};
 use pw_obis::{Register, WattHours};
 use pw_schema::{integer, owner_place, register_place, wide, words};
 use pw_tariff::{AccountId, MeterId, Owner};
 use pw_time::Instant;
 use sqlite::{Alter, Connection, Error, Row};
 
-// Adds the withdrawal of a reading, which isn't held.
-fn add_withdrawn_reading<S: Alter>(
+/// As what an entry is kept, and what it names; none where its content isn't of its key's kind.
+pub(crate) fn form_of(entry: &Entry) -> Option<(Form, Named)>
+    ensures some { IfSome result (λ it. entry.now ≡ entry_as it.0 it.1) }
+    ensures none { IfNone result (IsForeign entry.now) }
+{
+    if let (Key::Withdrawal { named }, Content::Withdrawal) = (&entry.key, &entry.content) {
+        return Some((Form::Withdrawal, *named));
+    }
+    match Named::of(entry) {
+        Some(named) => Some((Form::Record, named)),
+        None => None,
+    }
+}
+
+// Adds a reading, which isn't held.
+fn add_reading<S: Alter>(
     conn: &mut Connection<S>,
+    form: Form,
     meter: MeterId,
     register: Register,
     instant: Instant,
@@ -29,12 +46,12 @@ fn add_withdrawn_reading<S: Alter>(
 ) -> Result<usize, Error>
     requires inside { HasCleanDisk (state S.Store conn.old) → IsTrue (state S.Store conn.old).in_transaction }
     requires store { HasCleanDisk (state S.Store conn.old) → IsStore (state S.Store conn.old).now }
-    requires fresh { HasCleanDisk (state S.Store conn.old) → Member (withdrawal (named.Reading meter register instant wh)) (records_of (state S.Store conn.old).now.trees) → ⊥ }
-    ensures done { HasCleanDisk (state S.Store conn.new) → OnOk result (Adds (withdrawal (named.Reading meter register instant wh)) (state S.Store conn.old) (state S.Store conn.new)) }
+    requires fresh { HasCleanDisk (state S.Store conn.old) → Member (entry_as form (named.Reading meter register instant wh)) (records_of (state S.Store conn.old).now.trees) → ⊥ }
+    ensures done { HasCleanDisk (state S.Store conn.new) → OnOk result (Adds (entry_as form (named.Reading meter register instant wh)) (state S.Store conn.old) (state S.Store conn.new)) }
     ensures writes { Writes result (state S.Store conn.old) (state S.Store conn.new) }
 {
     conn.execute(
-        "INSERT INTO withdrawn_reading (meter, register, instant, wh) VALUES (?1, ?2, ?3, ?4)",
+        form.insert_reading(),
         &[
             integer(u32::from(meter.0)),
             integer(register_place(register)),
@@ -44,21 +61,22 @@ fn add_withdrawn_reading<S: Alter>(
     )
 }
 
-// Adds the withdrawal of an assignment, which isn't held.
-fn add_withdrawn_assignment<S: Alter>(
+// Adds an assignment, which isn't held.
+fn add_assignment<S: Alter>(
     conn: &mut Connection<S>,
+    form: Form,
     meter: MeterId,
     start: Instant,
     owner: Owner,
 ) -> Result<usize, Error>
     requires inside { HasCleanDisk (state S.Store conn.old) → IsTrue (state S.Store conn.old).in_transaction }
     requires store { HasCleanDisk (state S.Store conn.old) → IsStore (state S.Store conn.old).now }
-    requires fresh { HasCleanDisk (state S.Store conn.old) → Member (withdrawal (named.Assignment meter start owner)) (records_of (state S.Store conn.old).now.trees) → ⊥ }
-    ensures done { HasCleanDisk (state S.Store conn.new) → OnOk result (Adds (withdrawal (named.Assignment meter start owner)) (state S.Store conn.old) (state S.Store conn.new)) }
+    requires fresh { HasCleanDisk (state S.Store conn.old) → Member (entry_as form (named.Assignment meter start owner)) (records_of (state S.Store conn.old).now.trees) → ⊥ }
+    ensures done { HasCleanDisk (state S.Store conn.new) → OnOk result (Adds (entry_as form (named.Assignment meter start owner)) (state S.Store conn.old) (state S.Store conn.new)) }
     ensures writes { Writes result (state S.Store conn.old) (state S.Store conn.new) }
 {
     conn.execute(
-        "INSERT INTO withdrawn_assignment (meter, start, owner) VALUES (?1, ?2, ?3)",
+        form.insert_assignment(),
         &[
             integer(u32::from(meter.0)),
             integer(start.seconds()),
@@ -67,9 +85,10 @@ fn add_withdrawn_assignment<S: Alter>(
     )
 }
 
-// Adds the withdrawal of a top-up, which isn't held.
-fn add_withdrawn_topup<S: Alter>(
+// Adds a top-up, which isn't held.
+fn add_topup<S: Alter>(
     conn: &mut Connection<S>,
+    form: Form,
     reference: &Reference,
     account: AccountId,
     cents: u32,
@@ -77,12 +96,12 @@ fn add_withdrawn_topup<S: Alter>(
 ) -> Result<usize, Error>
     requires inside { HasCleanDisk (state S.Store conn.old) → IsTrue (state S.Store conn.old).in_transaction }
     requires store { HasCleanDisk (state S.Store conn.old) → IsStore (state S.Store conn.old).now }
-    requires fresh { HasCleanDisk (state S.Store conn.old) → Member (withdrawal (named.TopUp reference.now account cents instant)) (records_of (state S.Store conn.old).now.trees) → ⊥ }
-    ensures done { HasCleanDisk (state S.Store conn.new) → OnOk result (Adds (withdrawal (named.TopUp reference.now account cents instant)) (state S.Store conn.old) (state S.Store conn.new)) }
+    requires fresh { HasCleanDisk (state S.Store conn.old) → Member (entry_as form (named.TopUp reference.now account cents instant)) (records_of (state S.Store conn.old).now.trees) → ⊥ }
+    ensures done { HasCleanDisk (state S.Store conn.new) → OnOk result (Adds (entry_as form (named.TopUp reference.now account cents instant)) (state S.Store conn.old) (state S.Store conn.new)) }
     ensures writes { Writes result (state S.Store conn.old) (state S.Store conn.new) }
 {
     conn.execute(
-        "INSERT INTO withdrawn_topup (reference, account, cents, instant) VALUES (?1, ?2, ?3, ?4)",
+        form.insert_topup(),
         &[
             words(reference),
             integer(u32::from(account.0)),
@@ -92,15 +111,16 @@ fn add_withdrawn_topup<S: Alter>(
     )
 }
 
-/// Adds the withdrawal of what is named, which isn't held.
-pub(crate) fn add_withdrawal<S: Alter>(
+/// Adds what is named, in a form in which it isn't held.
+pub(crate) fn add_named<S: Alter>(
     conn: &mut Connection<S>,
+    form: Form,
     named: &Named,
 ) -> Result<usize, Error>
     requires inside { HasCleanDisk (state S.Store conn.old) → IsTrue (state S.Store conn.old).in_transaction }
     requires store { HasCleanDisk (state S.Store conn.old) → IsStore (state S.Store conn.old).now }
-    requires fresh { HasCleanDisk (state S.Store conn.old) → Member (withdrawal named.now) (records_of (state S.Store conn.old).now.trees) → ⊥ }
-    ensures done { HasCleanDisk (state S.Store conn.new) → OnOk result (Adds (withdrawal named.now) (state S.Store conn.old) (state S.Store conn.new)) }
+    requires fresh { HasCleanDisk (state S.Store conn.old) → Member (entry_as form named.now) (records_of (state S.Store conn.old).now.trees) → ⊥ }
+    ensures done { HasCleanDisk (state S.Store conn.new) → OnOk result (Adds (entry_as form named.now) (state S.Store conn.old) (state S.Store conn.new)) }
     ensures writes { Writes result (state S.Store conn.old) (state S.Store conn.new) }
 {
     match named {
@@ -109,35 +129,36 @@ pub(crate) fn add_withdrawal<S: Alter>(
             register,
             instant,
             wh,
-        } => add_withdrawn_reading(conn, *meter, *register, *instant, *wh),
+        } => add_reading(conn, form, *meter, *register, *instant, *wh),
         Named::Assignment {
             meter,
             start,
             owner,
-        } => add_withdrawn_assignment(conn, *meter, *start, *owner),
+        } => add_assignment(conn, form, *meter, *start, *owner),
         Named::TopUp {
             reference,
             account,
             cents,
             instant,
-        } => add_withdrawn_topup(conn, reference, *account, *cents, *instant),
+        } => add_topup(conn, form, reference, *account, *cents, *instant),
     }
 }
 
-// Rows for the withdrawal of a reading, if it is held.
-fn rows_of_withdrawn_reading<S: Alter>(
+// Rows for a reading, if it is held.
+fn rows_of_reading<S: Alter>(
     conn: &mut Connection<S>,
+    form: Form,
     meter: MeterId,
     register: Register,
     instant: Instant,
     wh: WattHours,
 ) -> Result<Vec<Row>, Error>
     requires store { HasCleanDisk (state S.Store conn.old) → IsStore (state S.Store conn.old).now }
-    ensures found { HasCleanDisk (state S.Store conn.new) → IfOk result (λ rows. 0 < length rows.items ↔ Member (withdrawal (named.Reading meter register instant wh)) (records_of (state S.Store conn.old).now.trees)) }
+    ensures found { HasCleanDisk (state S.Store conn.new) → IfOk result (λ rows. 0 < length rows.items ↔ Member (entry_as form (named.Reading meter register instant wh)) (records_of (state S.Store conn.old).now.trees)) }
     ensures asks { Asks result (state S.Store conn.old) (state S.Store conn.new) }
 {
     conn.query_all(
-        "SELECT wh FROM withdrawn_reading WHERE meter = ?1 AND register = ?2 AND instant = ?3 AND wh = ?4",
+        form.find_reading(),
         &[
             integer(u32::from(meter.0)),
             integer(register_place(register)),
@@ -147,19 +168,20 @@ fn rows_of_withdrawn_reading<S: Alter>(
     )
 }
 
-// Rows for the withdrawal of an assignment, if it is held.
-fn rows_of_withdrawn_assignment<S: Alter>(
+// Rows for an assignment, if it is held.
+fn rows_of_assignment<S: Alter>(
     conn: &mut Connection<S>,
+    form: Form,
     meter: MeterId,
     start: Instant,
     owner: Owner,
 ) -> Result<Vec<Row>, Error>
     requires store { HasCleanDisk (state S.Store conn.old) → IsStore (state S.Store conn.old).now }
-    ensures found { HasCleanDisk (state S.Store conn.new) → IfOk result (λ rows. 0 < length rows.items ↔ Member (withdrawal (named.Assignment meter start owner)) (records_of (state S.Store conn.old).now.trees)) }
+    ensures found { HasCleanDisk (state S.Store conn.new) → IfOk result (λ rows. 0 < length rows.items ↔ Member (entry_as form (named.Assignment meter start owner)) (records_of (state S.Store conn.old).now.trees)) }
     ensures asks { Asks result (state S.Store conn.old) (state S.Store conn.new) }
 {
     conn.query_all(
-        "SELECT owner FROM withdrawn_assignment WHERE meter = ?1 AND start = ?2 AND owner = ?3",
+        form.find_assignment(),
         &[
             integer(u32::from(meter.0)),
             integer(start.seconds()),
@@ -168,20 +190,21 @@ fn rows_of_withdrawn_assignment<S: Alter>(
     )
 }
 
-// Rows for the withdrawal of a top-up, if it is held.
-fn rows_of_withdrawn_topup<S: Alter>(
+// Rows for a top-up, if it is held.
+fn rows_of_topup<S: Alter>(
     conn: &mut Connection<S>,
+    form: Form,
     reference: &Reference,
     account: AccountId,
     cents: u32,
     instant: Instant,
 ) -> Result<Vec<Row>, Error>
     requires store { HasCleanDisk (state S.Store conn.old) → IsStore (state S.Store conn.old).now }
-    ensures found { HasCleanDisk (state S.Store conn.new) → IfOk result (λ rows. 0 < length rows.items ↔ Member (withdrawal (named.TopUp reference.now account cents instant)) (records_of (state S.Store conn.old).now.trees)) }
+    ensures found { HasCleanDisk (state S.Store conn.new) → IfOk result (λ rows. 0 < length rows.items ↔ Member (entry_as form (named.TopUp reference.now account cents instant)) (records_of (state S.Store conn.old).now.trees)) }
     ensures asks { Asks result (state S.Store conn.old) (state S.Store conn.new) }
 {
     conn.query_all(
-        "SELECT account FROM withdrawn_topup WHERE reference = ?1 AND account = ?2 AND cents = ?3 AND instant = ?4",
+        form.find_topup(),
         &[
             words(reference),
             integer(u32::from(account.0)),
@@ -191,10 +214,14 @@ fn rows_of_withdrawn_topup<S: Alter>(
     )
 }
 
-// Rows for a withdrawal, if it is held.
-fn rows_of_withdrawal<S: Alter>(conn: &mut Connection<S>, named: &Named) -> Result<Vec<Row>, Error>
+// Rows for what is named, if it is held in a form.
+fn rows_of_named<S: Alter>(
+    conn: &mut Connection<S>,
+    form: Form,
+    named: &Named,
+) -> Result<Vec<Row>, Error>
     requires store { HasCleanDisk (state S.Store conn.old) → IsStore (state S.Store conn.old).now }
-    ensures found { HasCleanDisk (state S.Store conn.new) → IfOk result (λ rows. 0 < length rows.items ↔ Member (withdrawal named.now) (records_of (state S.Store conn.old).now.trees)) }
+    ensures found { HasCleanDisk (state S.Store conn.new) → IfOk result (λ rows. 0 < length rows.items ↔ Member (entry_as form named.now) (records_of (state S.Store conn.old).now.trees)) }
     ensures asks { Asks result (state S.Store conn.old) (state S.Store conn.new) }
 {
     match named {
@@ -203,30 +230,31 @@ fn rows_of_withdrawal<S: Alter>(conn: &mut Connection<S>, named: &Named) -> Resu
             register,
             instant,
             wh,
-        } => rows_of_withdrawn_reading(conn, *meter, *register, *instant, *wh),
+        } => rows_of_reading(conn, form, *meter, *register, *instant, *wh),
         Named::Assignment {
             meter,
             start,
             owner,
-        } => rows_of_withdrawn_assignment(conn, *meter, *start, *owner),
+        } => rows_of_assignment(conn, form, *meter, *start, *owner),
         Named::TopUp {
             reference,
             account,
             cents,
             instant,
-        } => rows_of_withdrawn_topup(conn, reference, *account, *cents, *instant),
+        } => rows_of_topup(conn, form, reference, *account, *cents, *instant),
     }
 }
 
-/// Whether the withdrawal of what is named is held.
-pub(crate) fn has_withdrawal<S: Alter>(
+/// Whether what is named is held in a form.
+pub(crate) fn has_named<S: Alter>(
     conn: &mut Connection<S>,
+    form: Form,
     named: &Named,
 ) -> Result<bool, Error>
     requires store { HasCleanDisk (state S.Store conn.old) → IsStore (state S.Store conn.old).now }
-    ensures found { HasCleanDisk (state S.Store conn.new) → IfOk result (λ held. IsTrue held ↔ Member (withdrawal named.now) (records_of (state S.Store conn.old).now.trees)) }
+    ensures found { HasCleanDisk (state S.Store conn.new) → IfOk result (λ held. IsTrue held ↔ Member (entry_as form named.now) (records_of (state S.Store conn.old).now.trees)) }
     ensures asks { Asks result (state S.Store conn.old) (state S.Store conn.new) }
 {
-    let rows = rows_of_withdrawal(conn, named)?;
+    let rows = rows_of_named(conn, form, named)?;
     Ok(0 < rows.len())
 }

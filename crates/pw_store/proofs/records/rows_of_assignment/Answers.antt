@@ -1,0 +1,20 @@
+use Rattle.sqlite.specs.Held.{state}
+use Rattle.pw_store.specs.inner.Forms.{find_assignment}
+use Rattle.pw_store.proofs.Querying.{asks_if}
+use Rattle.pw_store.proofs.Finding.{finds_assignment_in, plain_assignment}
+use Rattle.pw_schema.proofs.Outcomes.{early}
+use Rattle.pw_store.proofs.records.rows_of_assignment.Goals as goal
+
+pub returns-clause-found : goal.returns-clause-found
+returns-clause-found g c clean =
+    let old = state g.S.Store c.args.conn.now in
+    let new = state g.S.Store c.query_all.new.self in
+    let before = early old new c.query_all.ensures.survives clean in
+    finds_assignment_in c.args.meter c.args.start c.args.owner c.args.form old new c.query_all.result (c.requires.store before)
+    (rw (c.integer.ensures, c.integer-2.ensures, c.integer-3.ensures, c.from.ensures, c.seconds.ensures.value, c.owner_place.ensures, c.find_assignment.ensures) at (c.query_all.ensures.ok clean))
+
+pub returns-clause-asks : goal.returns-clause-asks
+returns-clause-asks g c =
+    let is = c.find_assignment.ensures in
+    asks_if (find_assignment c.args.form) _ (state g.S.Store c.args.conn.now) (state g.S.Store c.query_all.new.self) c.query_all.result (λ clean. plain_assignment c.args.form _ (c.requires.store clean).ours)
+    (rw is at c.query_all.ensures.ok) (rw is at c.query_all.ensures.err) (rw is at c.query_all.ensures.survives)
