@@ -37,7 +37,8 @@ use Rattle.pw_schema.specs.declared.kind.RecordKind.TheVariants.{Readings, Assig
 use Rattle.pw_store.proofs.Texts.{IsQuery, has_withdrawn_topup_text, has_withdrawn_topup_query, has_withdrawn_topup_is, has_withdrawn_reading_text, has_withdrawn_reading_query, has_withdrawn_reading_is, has_withdrawn_assignment_text, has_withdrawn_assignment_query, has_withdrawn_assignment_is, has_topup_text, has_topup_query, has_topup_is, has_reading_text, has_reading_query, has_reading_is, has_assignment_text, has_assignment_query, has_assignment_is}
 use Rattle.pw_store.proofs.Scans.{equal_ints, equal_texts, tied, scan_of, outputs, passing}
 use Rattle.pw_store.proofs.Lists.{seen}
-use Rattle.pw_store.proofs.OfKinds.{from_table, in_table, kind_at}
+use Rattle.pw_store.specs.inner.Lists.{kind_at}
+use Rattle.pw_store.proofs.OfKinds.{from_table, in_table}
 use Rattle.pw_store.proofs.Adding.{owner_back, register_back}
 
 -- ---- tests in a row

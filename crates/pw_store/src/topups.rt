@@ -7,15 +7,12 @@ ghost use Rattle.pw_model.specs.Counting.{Member, contents_at};
 ghost use Rattle.pw_model.specs.declared.records.Key.TheVariants as key;
 ghost use Rattle.pw_store.specs.Kept.{IsStore};
 ghost use Rattle.pw_store.specs.inner.Changing.{Adds};
-ghost use Rattle.pw_schema.specs.Tables.{IsOurs};
 ghost use Rattle.pw_schema.specs.Calls.{Writes};
 ghost use Rattle.pw_schema.specs.inner.Calls.{Asks};
 ghost use Rattle.pw_store.specs.Content.{records_of};
 ghost use Rattle.pw_store.specs.inner.Records.{topup_entry};
-ghost use Rattle.pw_store.specs.inner.Listings.{ShowsAll};
 ghost use Rattle.pw_schema.specs.Rows.{contents_of, told_content};
 
-use crate::listings::Listing;
 use pw_model::Reference;
 use pw_schema::{RecordKind, integer, words};
 use pw_tariff::AccountId;
@@ -45,15 +42,6 @@ pub(crate) fn add_topup<S: Alter>(
             integer(instant.seconds()),
         ],
     )
-}
-
-/// All top-ups, in order.
-pub(crate) fn topup_rows<S: Alter>(conn: &mut Connection<S>) -> Result<Vec<Row>, Error>
-    requires ours { HasCleanDisk (state S.Store conn.old) → IsOurs (state S.Store conn.old).now.schema }
-    ensures rows { HasCleanDisk (state S.Store conn.new) → IfOk result (λ rows. ShowsAll (Listing.Records RecordKind.TopUps) (state S.Store conn.old).now.trees rows.items) }
-    ensures asks { Asks result (state S.Store conn.old) (state S.Store conn.new) }
-{
-    conn.query_all(Listing::Records(RecordKind::TopUps).text(), &[])
 }
 
 // Rows for a top-up, if it is held.
