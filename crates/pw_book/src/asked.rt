@@ -4,7 +4,7 @@ ghost use Rattle.std.specs.Prelude.{◌≡◌, ◌+◌, ◌≤◌, IfOk, IsNone,
 ghost use Rattle.pw_model.specs.Counting.{contents_at};
 ghost use Rattle.pw_model.specs.Payments.{stands_in};
 ghost use Rattle.pw_model.specs.Same.{same_entry};
-ghost use Rattle.pw_shelf.specs.Rows.{ListsAssignments, ListsReadings, ListsTopUps};
+ghost use Rattle.pw_shelf.specs.Rows.{ListsAssignments, ListsReadings, ListsTopUps, ListsWithdrawals};
 ghost use Rattle.pw_shelf.specs.Calls.{failures_told};
 ghost use Rattle.pw_shelf.specs.Seconds.{ListsSecondsWithin};
 ghost use Rattle.pw_book.specs.Asking.{IsOnlyAsked};
@@ -89,6 +89,17 @@ pub(crate) fn topups_held<S: Shelf>(shelf: &mut S, alloc: Global) -> Result<Vec<
     ensures asked { IsOnlyAsked S.Shelf (failures_told result) shelf.old shelf.new }
 {
     shelf.topups(alloc)
+}
+
+pub(crate) fn withdrawals_held<S: Shelf>(
+    shelf: &mut S,
+    alloc: Global,
+) -> Result<Vec<Entry>, ShelfFault>
+    requires { IsNone (S.state shelf.old).begun }
+    ensures rows { S.clean shelf.new → IfOk result (λ found. ListsWithdrawals (S.state shelf.old).content.records found.items) }
+    ensures asked { IsOnlyAsked S.Shelf (failures_told result) shelf.old shelf.new }
+{
+    shelf.withdrawals(alloc)
 }
 
 pub(crate) fn total_held<S: Shelf>(shelf: &mut S, key: &TotalKey) -> Result<u64, ShelfFault>

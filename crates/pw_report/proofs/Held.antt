@@ -4,7 +4,7 @@ use Rattle.pw_model.specs.declared.records.Key.{Key}
 use Rattle.pw_model.specs.declared.records.Key.TheVariants as key
 use Rattle.pw_model.specs.declared.records.Entry.{Entry}
 use Rattle.pw_model.specs.Counting.{Member, SameMembers}
-use Rattle.pw_model.specs.Kinds.{IsAssignment, IsTopUp, ListsHeld}
+use Rattle.pw_model.specs.Kinds.{IsAssignment, IsTopUp, IsWithdrawal, ListsHeld}
 use Rattle.pw_model.specs.Lists.{IsInOrder}
 use Rattle.pw_model.specs.Same.{entry_order}
 use Rattle.pw_model.specs.inner.Search.{AreSorted}
@@ -24,6 +24,12 @@ topup-known (key.Reading m r t) = inr (λ h. h)
 topup-known (key.Assignment m t) = inr (λ h. h)
 topup-known (key.TopUp r) = inl tt
 topup-known (key.Withdrawal n) = inr (λ h. h)
+
+pub withdrawal-known : (k : Key) → IsWithdrawal k ⊎ (IsWithdrawal k → ⊥)
+withdrawal-known (key.Reading m r t) = inr (λ h. h)
+withdrawal-known (key.Assignment m t) = inr (λ h. h)
+withdrawal-known (key.TopUp r) = inr (λ h. h)
+withdrawal-known (key.Withdrawal n) = inl tt
 
 -- ---- the records of the kind among those in order
 module _ (Of : Key → Type 0) (known : (k : Key) → Of k ⊎ (Of k → ⊥)) where

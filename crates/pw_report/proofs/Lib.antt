@@ -1,5 +1,6 @@
 pub mod Asking
 pub mod Fields
+pub mod Flexible
 pub mod Lines
 pub mod Listed
 pub mod Parts

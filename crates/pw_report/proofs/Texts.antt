@@ -9,21 +9,21 @@ use Rattle.pw_tariff.specs.Office.{OfficeFile, office_of}
 use Rattle.pw_model.specs.declared.records.Entry.{Entry}
 use Rattle.pw_model.specs.Counting.{SameMembers}
 use Rattle.pw_model.specs.Energy.{account}
-use Rattle.pw_model.specs.Kinds.{IsAssignment, IsTopUp}
+use Rattle.pw_model.specs.Kinds.{IsAssignment, IsTopUp, IsWithdrawal}
 use Rattle.pw_model.specs.Laws.{HaveSameAnswers}
 use Rattle.pw_model.proofs.Answers.{lists-are_at_most_one, order_counts_nothing}
 use Rattle.pw_model.proofs.Existence.{lists-exist}
 use Rattle.pw_record.specs.declared.row.RowKind.TheVariants as row
 use Rattle.pw_report.specs.declared.page.Page.{Page}
 use Rattle.pw_report.specs.declared.page.Page.TheVariants.{Statement, Table}
-use Rattle.pw_report.specs.declared.page.Table.TheVariants.{Accounts, Falls, Disputes, Readings, Energies, Assignments, TopUps}
+use Rattle.pw_report.specs.declared.page.Table.TheVariants.{Accounts, Falls, Disputes, Readings, Energies, Assignments, TopUps, Withdrawals}
 use Rattle.pw_report.specs.Amounts.{balance_text, euro_text}
 use Rattle.pw_report.specs.Exports.{EnergyRow, csv_line, energies_header, energies_text, energy_row_line, energy_rows, owner_rows, readings_text, records_text}
 use Rattle.pw_report.specs.Laws.{EachPageHasOneText}
 use Rattle.pw_report.specs.Layout.{listed_below}
 use Rattle.pw_report.specs.Names.{account_name, band_name}
 use Rattle.pw_report.specs.Pages.{IsAnswer}
-use Rattle.pw_report.proofs.Held.{assignment-known, held-half, held-one, held-there_is, topup-known}
+use Rattle.pw_report.proofs.Held.{assignment-known, held-half, held-one, held-there_is, topup-known, withdrawal-known}
 use Rattle.pw_report.specs.Tables.{account_line, accounts_text, band_line, disputes_text, falls_text, statement_text}
 
 -- ---- one
@@ -36,6 +36,7 @@ exists (Table Readings) file s = (readings_text file (λ m r. ((lists-exist s).r
 exists (Table Energies) file s = (energies_text file s, refl)
 exists (Table Assignments) file s = let l = held-there_is IsAssignment assignment-known s in (records_text file row.Assignment l.0, (l.0, l.1, refl))
 exists (Table TopUps) file s = let l = held-there_is IsTopUp topup-known s in (records_text file row.TopUp l.0, (l.0, l.1, refl))
+exists (Table Withdrawals) file s = let l = held-there_is IsWithdrawal withdrawal-known s in (records_text file row.Withdrawal l.0, (l.0, l.1, refl))
 
 -- ---- and no other
 only : (page : Page) (file : OfficeFile) (s : List Entry) (a b : List ℕ) → IsAnswer page file s a → IsAnswer page file s b → a ≡ b
@@ -47,6 +48,7 @@ only (Table Readings) file s a b p q = p.2 ∙ (λ i. readings_text file (λ m r
 only (Table Energies) file s a b p q = p ∙ sym q
 only (Table Assignments) file s a b p q = p.2 ∙ ap (records_text file row.Assignment) (held-one IsAssignment s _ _ p.1 q.1) ∙ sym q.2
 only (Table TopUps) file s a b p q = p.2 ∙ ap (records_text file row.TopUp) (held-one IsTopUp s _ _ p.1 q.1) ∙ sym q.2
+only (Table Withdrawals) file s a b p q = p.2 ∙ ap (records_text file row.Withdrawal) (held-one IsWithdrawal s _ _ p.1 q.1) ∙ sym q.2
 
 -- ---- whatever the order of the records
 module _ (file : OfficeFile) (s t : List Entry) (h : HaveSameAnswers (office_of file) s t) where
@@ -78,6 +80,7 @@ there (Table Readings) file s t text m h p = (p.0, (λ n r. (h.readings n r (p.0
 there (Table Energies) file s t text m h p = p ∙ energies-same file s t h
 there (Table Assignments) file s t text m h p = (p.0, held-half IsAssignment s t p.0 m p.1, p.2)
 there (Table TopUps) file s t text m h p = (p.0, held-half IsTopUp s t p.0 m p.1, p.2)
+there (Table Withdrawals) file s t text m h p = (p.0, held-half IsWithdrawal s t p.0 m p.1, p.2)
 
 back : (page : Page) (file : OfficeFile) (s t : List Entry) (text : List ℕ) → SameMembers t s → HaveSameAnswers (office_of file) s t → IsAnswer page file t text → IsAnswer page file s text
 back (Statement a) file s t text m h p = p ∙ sym (statement-same file s t h a.0)
@@ -88,6 +91,7 @@ back (Table Readings) file s t text m h p = (p.0, (λ n r. (h.readings n r (p.0 
 back (Table Energies) file s t text m h p = p ∙ sym (energies-same file s t h)
 back (Table Assignments) file s t text m h p = (p.0, held-half IsAssignment t s p.0 m p.1, p.2)
 back (Table TopUps) file s t text m h p = (p.0, held-half IsTopUp t s p.0 m p.1, p.2)
+back (Table Withdrawals) file s t text m h p = (p.0, held-half IsWithdrawal t s p.0 m p.1, p.2)
 
 pub each-page-has-one-text : EachPageHasOneText
 each-page-has-one-text page file s = record {

@@ -1,5 +1,5 @@
--- The exports of readings, energies, assignments and top-ups, and the rows of withdrawals, as CSV (RFC 4180, but that a line
--- ends with LF).
+-- The exports of readings, energies, assignments, top-ups and withdrawals, as CSV (RFC 4180, but that a line ends with LF,
+-- and that rows of withdrawals have four or five fields).
 -- (Formats of this project.)
 use Rattle.std.specs.Prelude.{ℕ, ◌*◌, cond, Option, Some, None, List, [], ◌∷◌, ◌++◌, length, codes, decimal}
 use Rattle.std.specs.List.{flat_map}

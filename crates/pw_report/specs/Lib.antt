@@ -1,7 +1,7 @@
 -- Read these, in this order:
 -- Amounts: amounts of money as text
 -- Tables: the statement, the tables of accounts, falls and disputes
--- Exports: the exports of readings and energies
+-- Exports: the exports of readings and energies, and of records as the rows of their uploads
 -- Pages: what each page says of a set of records
 -- Reports: what a report leaves of a book
 -- Laws: one text for each page, and what the export of energies adds up to

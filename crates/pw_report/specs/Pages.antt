@@ -14,7 +14,7 @@ use Rattle.pw_record.specs.declared.row.RowKind.{RowKind}
 use Rattle.pw_record.specs.declared.row.RowKind.TheVariants.{Assignment, TopUp, Withdrawal}
 use Rattle.pw_report.specs.declared.page.Page.{Page}
 use Rattle.pw_report.specs.declared.page.Page.TheVariants.{Statement, Table}
-use Rattle.pw_report.specs.declared.page.Table.TheVariants.{Accounts, Falls, Disputes, Readings, Energies, Assignments, TopUps}
+use Rattle.pw_report.specs.declared.page.Table.TheVariants.{Accounts, Falls, Disputes, Readings, Energies, Assignments, TopUps, Withdrawals}
 use Rattle.pw_report.specs.Exports.{energies_text, readings_text, records_text}
 use Rattle.pw_report.specs.Tables.{accounts_text, disputes_text, falls_text, statement_text}
 
@@ -54,3 +54,4 @@ IsAnswer (Table Readings) file s text = IsReadingsText file s text
 IsAnswer (Table Energies) file s text = text ≡ energies_text file s
 IsAnswer (Table Assignments) file s text = IsRecordsText Assignment file s text
 IsAnswer (Table TopUps) file s text = IsRecordsText TopUp file s text
+IsAnswer (Table Withdrawals) file s text = IsRecordsText Withdrawal file s text

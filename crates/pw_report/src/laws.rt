@@ -15,9 +15,8 @@ pub fn each_page_has_one_text()
     ensures { EachPageHasOneText }
 {}
 
-/// What was exported of assignments or top-ups can be uploaded, and so can rows of withdrawals: any part of it of at most
-/// 1,000 rows below its header is an upload that gives the records that were exported, and no others, where these are of a
-/// sound office file.
+/// What was exported of assignments, of top-ups or of withdrawals can be uploaded: any part of it of at most 1,000 rows below
+/// its header is an upload that gives the records that were exported, and no others, where these are of a sound office file.
 pub fn exports_are_uploads()
     ensures { ExportsAreUploads }
 {}

@@ -21,5 +21,5 @@ pub use energies::export_energy;
 pub use falls::falls_table;
 pub use page::{Page, Table, page_text};
 pub use readings::export_readings;
-pub use records::{export_assignments, export_topups};
+pub use records::{export_assignments, export_topups, export_withdrawals};
 pub use statements::statement;

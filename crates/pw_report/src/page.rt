@@ -9,7 +9,7 @@ use crate::disputes::disputes_table;
 use crate::energies::export_energy;
 use crate::falls::falls_table;
 use crate::readings::export_readings;
-use crate::records::{export_assignments, export_topups};
+use crate::records::{export_assignments, export_topups, export_withdrawals};
 use crate::statements::statement;
 use pw_book::{Book, BookFault};
 use pw_shelf::Shelf;
@@ -33,6 +33,8 @@ pub enum Table {
     Assignments,
     /// The export of top-ups, as CSV in the form of their upload.
     TopUps,
+    /// The export of withdrawals, as CSV in the form of their upload.
+    Withdrawals,
 }
 
 /// A page of a book.
@@ -64,5 +66,6 @@ pub fn page_text<S: Shelf>(
         Page::Table(Table::Energies) => export_energy(book, alloc),
         Page::Table(Table::Assignments) => export_assignments(book, alloc),
         Page::Table(Table::TopUps) => export_topups(book, alloc),
+        Page::Table(Table::Withdrawals) => export_withdrawals(book, alloc),
     }
 }

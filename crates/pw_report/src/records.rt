@@ -1,10 +1,10 @@
-//! The exports of assignments and of top-ups, in the form of their uploads, and the rows of these and of withdrawals.
+//! The exports of assignments, of top-ups and of withdrawals, in the form of their uploads.
 
 ghost use Rattle.std.specs.Prelude.{◌≡◌, ◌∷◌, ◌++◌, ℕ, List, [], IfErr, IfOk, OnOk, decimal};
 ghost use Rattle.std.specs.List.{flat_map};
 ghost use Rattle.pw_book.specs.declared.fault.BookFault.TheVariants.{Memory};
 ghost use Rattle.pw_record.specs.Row.{header_of};
-ghost use Rattle.pw_record.specs.declared.row.RowKind.TheVariants.{Assignment, TopUp};
+ghost use Rattle.pw_record.specs.declared.row.RowKind.TheVariants.{Assignment, TopUp, Withdrawal};
 ghost use Rattle.pw_obis.specs.Registers.{register_name};
 ghost use Rattle.pw_report.specs.Exports.{assignment_fields, csv_line, given_name, record_fields, record_line, withdrawal_fields};
 ghost use Rattle.pw_report.specs.Layout.{instant_text as text_of_instant};
@@ -54,6 +54,22 @@ pub fn export_topups<S: Shelf>(book: &mut Book<S>, alloc: Global) -> Result<Vec<
     rows.finish()
 }
 
+/// All withdrawals held, as CSV under the header of their upload and in its form, so that they can be uploaded to another
+/// book: those of readings first, then those of assignments, then those of top-ups; each by the fields of the record that it
+/// names, which may be held or not.
+///
+/// `Device`, `Memory` and `Reopen` (of a shut book) leave the records as they are.
+pub fn export_withdrawals<S: Shelf>(book: &mut Book<S>, alloc: Global) -> Result<Vec<u8>, BookFault>
+    ensures text { S.clean book.new.shelf → IfOk result (λ text. IsRecordsText Withdrawal book.old.office (S.state book.old.shelf).content.records text.items) }
+    ensures report { IsReport S.Shelf result book.old book.new }
+{
+    let withdrawals = book.withdrawals(alloc)?;
+    let mut rows = Rows::new(alloc);
+    put_withdrawals_header(&mut rows)?;
+    put_records(&mut rows, book.office(), &withdrawals)?;
+    rows.finish()
+}
+
 fn put_assignments_header(rows: &mut Rows) -> Result<(), BookFault>
     ensures text { (before : List ℕ) → HasText rows.old before [] → OnOk result (HasText rows.new (before ++ csv_line (header_of Assignment)) []) }
     ensures fault { IfErr result (λ fault. fault ≡ Memory) }
@@ -72,6 +88,18 @@ fn put_topups_header(rows: &mut Rows) -> Result<(), BookFault>
     rows.put(b"account")?;
     rows.put(b"cents")?;
     rows.put(b"instant")?;
+    rows.end()
+}
+
+fn put_withdrawals_header(rows: &mut Rows) -> Result<(), BookFault>
+    ensures text { (before : List ℕ) → HasText rows.old before [] → OnOk result (HasText rows.new (before ++ csv_line (header_of Withdrawal)) []) }
+    ensures fault { IfErr result (λ fault. fault ≡ Memory) }
+{
+    rows.put(b"kind")?;
+    rows.put(b"first")?;
+    rows.put(b"second")?;
+    rows.put(b"third")?;
+    rows.put(b"fourth")?;
     rows.end()
 }
 

@@ -22,7 +22,9 @@ impl Rows {
         ensures { HasText result [] [] }
     {
         Rows {
-            writer: WriterBuilder::new().from_writer(Vec::new(alloc)),
+            writer: WriterBuilder::new()
+                .flexible(true)
+                .from_writer(Vec::new(alloc)),
             row: ByteRecord::new(alloc),
         }
     }
@@ -36,8 +38,8 @@ impl Rows {
         Ok(())
     }
 
-    /// Ends the row, and begins the next one. (What `csv` could refuse beside want of memory, a row with another number of
-    /// fields than the first, doesn't come: each export's rows have five.)
+    /// Ends the row, and begins the next one. It may have another number of fields than the first. (So `csv` refuses nothing
+    /// but for want of memory.)
     pub(crate) fn end(&mut self) -> Result<(), BookFault>
         ensures text { (text : List ℕ) (fields : List (List ℕ)) → HasText self.old text fields → OnOk result (HasText self.new (text ++ csv_line fields) []) }
         ensures fault { IfErr result (λ fault. fault ≡ Memory) }

@@ -10,6 +10,7 @@ use Rattle.std.specs.Map.Iter.{TakesFirst, deref}
 use Rattle.std.proofs.lemmas.Map.Iter.{rest_so_far}
 use Rattle.pw_model.specs.declared.records.Key.{Key}
 use Rattle.pw_model.specs.declared.records.Key.TheVariants as key
+use Rattle.pw_model.specs.declared.records.Named.TheVariants as named
 use Rattle.pw_model.specs.declared.records.Entry.{Entry}
 use Rattle.pw_model.specs.Counting.{Member}
 use Rattle.pw_model.specs.Lists.{IsBeforeAll, IsInOrder}
@@ -25,7 +26,9 @@ pub reference : (k : Key) → IsNamed k → HasReference k
 reference (key.Reading m r t) n = tt
 reference (key.Assignment m t) n = tt
 reference (key.TopUp r) n = n
-reference (key.Withdrawal x) n = n
+reference (key.Withdrawal (named.Reading m r t w)) n = tt
+reference (key.Withdrawal (named.Assignment m t o)) n = tt
+reference (key.Withdrawal (named.TopUp r a c t)) n = n
 
 before-all : (x : Entry) (xs : List Entry) → IsNamed x.key → ((e : Entry) → Member e xs → IsNamed e.key) → AllByRecursion (λ y. order x y ≡ Less) xs → IsBeforeAll entry_order x xs
 before-all x [] n m h = tt

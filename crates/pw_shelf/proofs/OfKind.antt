@@ -10,19 +10,23 @@ use Rattle.std.proofs.lemmas.Bool.{true≢false, cases_lt}
 use Rattle.std.proofs.lemmas.Bool.Decides.{nat_tests}
 use Rattle.std.proofs.lemmas.List.Elements.{All-head, All-cons, All-nil}
 use Rattle.pw_obis.specs.declared.reference.Register.{Register}
+use Rattle.pw_obis.specs.declared.reference.Register.TheVariants.{I0}
+use Rattle.pw_time.specs.declared.instant.TheConstants.{FIRST_SECOND}
 use Rattle.pw_tariff.specs.Office.{register_place}
 use Rattle.pw_tariff.specs.declared.ids.MeterId.{MeterId}
 use Rattle.pw_model.specs.declared.records.Key.{Key}
 use Rattle.pw_model.specs.declared.records.Key.TheVariants as key
+use Rattle.pw_model.specs.declared.records.Named.TheVariants as named
+use Rattle.pw_model.specs.declared.records.Named.{Named}
 use Rattle.pw_model.specs.declared.records.Entry.{Entry}
 use Rattle.pw_model.specs.References.{IsReference, is_reference_byte}
-use Rattle.pw_model.specs.Same.{key_numbers, key_order as listed_order}
+use Rattle.pw_model.specs.Same.{key_numbers, named_numbers, key_order as listed_order}
 use Rattle.pw_model.specs.inner.Keys.{HasReference}
 use Rattle.pw_model.specs.Counting.{Member}
 use Rattle.pw_model.proofs.InKeyOrder.{keys-ordered}
 use Rattle.pw_model.proofs.Same.{register-one}
 use Rattle.pw_shelf.specs.declared.lists.Kind.{Kind}
-use Rattle.pw_shelf.specs.declared.lists.Kind.TheVariants.{Readings, Assignments, TopUps}
+use Rattle.pw_shelf.specs.declared.lists.Kind.TheVariants.{Readings, Assignments, TopUps, Withdrawals}
 use Rattle.pw_shelf.specs.inner.Held.{IsNamed, AreNamed}
 use Rattle.pw_shelf.specs.inner.Kinds.{IsOfKind, lowest, lowest_key}
 use Rattle.pw_model.specs.Kinds.{ListsHeld}
@@ -76,6 +80,15 @@ text-least [] h = absurd (omega (arith, h.0))
 text-least (c ∷ cs) h = then-both (nat_cmp 45 c) (slice_cmp nat_cmp [] cs) (number-le 45 c (byte-least c (All-head (λ x. is_reference_byte x ≡ true) c cs h.2))) (empty-first cs)
 
 -- ---- keys of one kind
+-- of those that withdrawals name too
+named-least : (x : Named) → IsNamed (key.Withdrawal x) → is_le (slice_cmp nat_cmp (named_numbers (named.Reading (record { 0 = 0 }) I0 FIRST_SECOND 0)) (named_numbers x)) ≡ true
+unfolding named_numbers
+named-least (named.Reading m r t w) i =
+    then-both (nat_cmp 0 m.0) _ (number-le 0 m.0 (omega arith))
+    (then-both (nat_cmp 0 (register_place r)) _ (number-le 0 (register_place r) (omega arith)) (then-both (nat_cmp _ t) _ (number-le _ t i.0) (then-both (nat_cmp 0 w) Equal (number-le 0 w (omega arith)) refl)))
+named-least (named.Assignment m t o) i = refl
+named-least (named.TopUp r a c t) i = refl
+
 -- none stands before the lowest
 lowest-le : (k : Kind) (l : Key) → IsOfKind k l → IsNamed l → is_le (listed_order (lowest_key k) l) ≡ true
 unfolding key_numbers
@@ -85,6 +98,7 @@ lowest-le (Readings m r) (key.Reading n s t) o i =
 lowest-le (Assignments m) (key.Assignment n t) o i =
     then-both (nat_cmp m.0 n.0) _ (same-le m.0 n.0 (ap (λ (x : MeterId). x.0) (sym o))) (then-both (nat_cmp _ t) Equal (number-le _ t i.0) refl)
 lowest-le TopUps (key.TopUp r) o i = text-least r i
+lowest-le Withdrawals (key.Withdrawal x) o i = named-least x i
 lowest-le (Readings m r) (key.Assignment n t) o i = absurd o
 lowest-le (Readings m r) (key.TopUp s) o i = absurd o
 lowest-le (Assignments m) (key.Reading n s t) o i = absurd o
@@ -94,6 +108,9 @@ lowest-le TopUps (key.Assignment n t) o i = absurd o
 lowest-le (Readings m r) (key.Withdrawal x) o i = absurd o
 lowest-le (Assignments m) (key.Withdrawal x) o i = absurd o
 lowest-le TopUps (key.Withdrawal x) o i = absurd o
+lowest-le Withdrawals (key.Reading n s t) o i = absurd o
+lowest-le Withdrawals (key.Assignment n t) o i = absurd o
+lowest-le Withdrawals (key.TopUp r) o i = absurd o
 
 meters-one : (n m : MeterId) → n.0 ≡ m.0 → n ≡ m
 meters-one n m h = ap (λ (x : ℕ). record { 0 = x }) h
@@ -112,6 +129,10 @@ key-between (Assignments m) (key.Assignment n t) (key.Assignment p u) h i o =
     let a = squeezed m.0 n.0 _ _ h (subst P o i) in
     meters-one n m a.0
 key-between TopUps (key.TopUp r) e h i o = tt
+key-between Withdrawals (key.Withdrawal x) e h i o = tt
+key-between Withdrawals (key.Reading n s t) e h i o = cc
+key-between Withdrawals (key.Assignment n t) e h i o = cc
+key-between Withdrawals (key.TopUp r) e h i o = cc
 key-between (Readings m r) (key.Reading n s t) (key.Assignment p u) h i o = absurd o
 key-between (Readings m r) (key.Reading n s t) (key.TopUp u) h i o = absurd o
 key-between (Readings m r) (key.Assignment n t) (key.Reading p q u) h i o = cc
@@ -149,6 +170,7 @@ key-between TopUps (key.Withdrawal x) (key.Withdrawal y) h i o = absurd o
 lowest-named : (k : Kind) → HasReference (lowest_key k)
 lowest-named (Readings m r) = tt
 lowest-named (Assignments m) = tt
+lowest-named Withdrawals = tt
 lowest-named TopUps = (lit≤ tt, lit≤ tt, All-cons (λ x. is_reference_byte x ≡ true) 45 [] refl (All-nil (λ x. is_reference_byte x ≡ true)))
 
 -- ---- the records from the lowest of a kind on

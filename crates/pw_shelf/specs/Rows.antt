@@ -7,7 +7,7 @@ use Rattle.pw_tariff.specs.declared.ids.MeterId.{MeterId}
 use Rattle.pw_model.specs.declared.records.Entry.{Entry}
 use Rattle.pw_model.specs.declared.records.Contents.{Contents}
 use Rattle.pw_model.specs.declared.records.Contents.TheVariants.{Nothing, One, Several}
-pub use Rattle.pw_model.specs.Kinds.{IsReadingOf, IsAssignmentOf, IsTopUp, ListsHeld}
+pub use Rattle.pw_model.specs.Kinds.{IsReadingOf, IsAssignmentOf, IsTopUp, IsWithdrawal, ListsHeld}
 use Rattle.pw_shelf.specs.declared.fault.ShelfFault.{ShelfFault}
 
 -- ---- which records a list has
@@ -19,6 +19,9 @@ ListsAssignments records m = ListsHeld (IsAssignmentOf m) records
 
 abbrev pub ListsTopUps : List Entry → List Entry → Type 0
 ListsTopUps records = ListsHeld IsTopUp records
+
+abbrev pub ListsWithdrawals : List Entry → List Entry → Type 0
+ListsWithdrawals records = ListsHeld IsWithdrawal records
 
 -- ---- how many rows an answer gives
 abbrev pub no_rows : {T : Type 0} → T → ℕ

@@ -81,6 +81,10 @@ impl Shelf for MemoryShelf {
         self.all_of(alloc, Kind::TopUps)
     }
 
+    fn withdrawals(&mut self, alloc: Global) -> Result<Vec<Entry>, ShelfFault> {
+        self.all_of(alloc, Kind::Withdrawals)
+    }
+
     fn count(&mut self) -> Result<u32, ShelfFault> {
         self.tally.tick(0);
         Ok(self.kept.records.count())

@@ -111,6 +111,15 @@ impl<S: Shelf> Shelf for CountShelf<S> {
         answer
     }
 
+    fn withdrawals(&mut self, alloc: Global) -> Result<Vec<Entry>, ShelfFault> {
+        if self.plan.fails() {
+            return Err(self.refuse());
+        }
+        let answer = self.inner.withdrawals(alloc);
+        self.counter.tick(rows::of_list(&answer));
+        answer
+    }
+
     fn count(&mut self) -> Result<u32, ShelfFault> {
         if self.plan.fails() {
             return Err(self.refuse());

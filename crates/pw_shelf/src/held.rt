@@ -103,15 +103,23 @@ fn name_of(key: &Key)
         Key::TopUp { reference } => {
             let _text = reference.bytes();
         }
-        Key::Withdrawal { named } => reference_of(named),
+        Key::Withdrawal { named } => name_withdrawn(named),
     }
 }
 
-// The reference of a named top-up is one.
-fn reference_of(named: &Named)
+// And those that a withdrawal names.
+fn name_withdrawn(named: &Named)
     ensures { IsNamed (key.Withdrawal named.now) }
 {
-    if let Named::TopUp { reference, .. } = named {
-        let _text = reference.bytes();
+    match named {
+        Named::Reading { instant, .. } => {
+            let _second = instant.seconds();
+        }
+        Named::Assignment { start, .. } => {
+            let _second = start.seconds();
+        }
+        Named::TopUp { reference, .. } => {
+            let _text = reference.bytes();
+        }
     }
 }

@@ -81,6 +81,8 @@ pub(crate) enum Kind {
     Assignments(MeterId),
     /// The top-ups.
     TopUps,
+    /// The withdrawals.
+    Withdrawals,
 }
 
 fn is_of_kind(key: &Key, kind: Kind) -> bool
@@ -90,6 +92,7 @@ fn is_of_kind(key: &Key, kind: Kind) -> bool
         Kind::Readings(meter, register) => is_reading_of(key, meter, register),
         Kind::Assignments(meter) => is_assignment_of(key, meter),
         Kind::TopUps => matches!(key, Key::TopUp { .. }),
+        Kind::Withdrawals => matches!(key, Key::Withdrawal { .. }),
     }
 }
 
@@ -139,6 +142,14 @@ fn lowest_of(kind: Kind) -> Entry
             start: first,
         },
         Kind::TopUps => Key::TopUp { reference },
+        Kind::Withdrawals => Key::Withdrawal {
+            named: Named::Reading {
+                meter: MeterId(0),
+                register: Register::I0,
+                instant: first,
+                wh: no_energy(),
+            },
+        },
     };
     lowest_at(key)
 }
@@ -147,11 +158,17 @@ fn lowest_of(kind: Kind) -> Entry
 fn lowest_at(key: Key) -> Entry
     ensures { result ≡ lowest key }
 {
+    Entry {
+        key,
+        content: Content::Reading { wh: no_energy() },
+    }
+}
+
+fn no_energy() -> WattHours
+    ensures { result ≡ 0 }
+{
     let Some(wh) = WattHours::of(0) else {
         unreachable!();
     };
-    Entry {
-        key,
-        content: Content::Reading { wh },
-    }
+    wh
 }

@@ -11,7 +11,7 @@ ghost use Rattle.pw_shelf.specs.Calls.{IsAsking, IsWriting, failures_told};
 ghost use Rattle.pw_shelf.specs.Changes.{with_point, with_start, with_total};
 ghost use Rattle.pw_shelf.specs.State.{State, CountsFailures, IsWithRecord};
 ghost use Rattle.pw_shelf.specs.Left.{LeavesNoMore, LeavesNoMoreOr, LeavesOnly};
-ghost use Rattle.pw_shelf.specs.Rows.{ListsAssignments, ListsReadings, ListsTopUps, no_rows, rows_at, rows_found, rows_listed, rows_total};
+ghost use Rattle.pw_shelf.specs.Rows.{ListsAssignments, ListsReadings, ListsTopUps, ListsWithdrawals, no_rows, rows_at, rows_found, rows_listed, rows_total};
 ghost use Rattle.pw_model.specs.Seconds.{ListsSeconds};
 ghost use Rattle.pw_shelf.specs.Seconds.{IsBefore, IsBehind, ListsSecondsWithin};
 
@@ -119,6 +119,11 @@ pub trait Shelf {
     /// All top-ups held, sorted.
     fn topups(&mut self, alloc: Global) -> Result<Vec<Entry>, ShelfFault>
         ensures rows { clean self.new → IfOk result (λ found. ListsTopUps (state self.old).content.records found.items) }
+        ensures asked { IsAsking state left clean same_store rows_listed result self.old self.new };
+
+    /// All withdrawals held, sorted.
+    fn withdrawals(&mut self, alloc: Global) -> Result<Vec<Entry>, ShelfFault>
+        ensures rows { clean self.new → IfOk result (λ found. ListsWithdrawals (state self.old).content.records found.items) }
         ensures asked { IsAsking state left clean same_store rows_listed result self.old self.new };
 
     /// How many records are held.

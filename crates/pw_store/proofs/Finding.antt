@@ -45,7 +45,8 @@ use Rattle.pw_store.proofs.Texts.{IsQuery, has_withdrawn_topup_text, has_withdra
 use Rattle.pw_store.proofs.Querying.{ours_plain}
 use Rattle.pw_store.proofs.Scans.{equal_ints, equal_texts, tied, scan_of, outputs, passing}
 use Rattle.pw_store.proofs.Lists.{seen}
-use Rattle.pw_store.proofs.OfKinds.{from_table, in_table, kind_at}
+use Rattle.pw_store.specs.inner.Lists.{kind_at}
+use Rattle.pw_store.proofs.OfKinds.{from_table, in_table}
 use Rattle.pw_store.proofs.Adding.{owner_back, register_back}
 
 -- ---- tests in a row

@@ -9,6 +9,7 @@ pub mod Counted
 pub mod EnergyRows
 pub mod Finding
 pub mod Fresh
+pub mod HeldKinds
 pub mod InTurn
 pub mod Inside
 pub mod Judged

@@ -1,5 +1,5 @@
 -- What the queries that list records show.
-use Rattle.std.proofs.Common.{Vec, ◌≡◌, inl, inr, ℕ, ◌-◌, ◌^◌, nat_le, if◌then◌else◌, true, false, None, unwrap_or, slice_get, List, [], ◌∷◌, map, Ok, Err, Result, IfOk, refl, sym, ap, subst}
+use Rattle.std.proofs.Common.{Vec, ◌≡◌, ℕ, ◌-◌, ◌^◌, nat_le, if◌then◌else◌, true, false, None, unwrap_or, slice_get, List, [], ◌∷◌, map, Ok, Err, Result, IfOk, refl, sym, ap, subst}
 use Rattle.std.specs.List.Sorted.{IsPermutation}
 use Rattle.std.proofs.lemmas.List.Sorted.{IsPermutation-map}
 use Rattle.sqlite.specs.Order.{Row}
@@ -9,18 +9,16 @@ use Rattle.sqlite.specs.State.{State, Shown}
 use Rattle.pw_schema.specs.Tables.{IsOurs, ours_with, only_one}
 use Rattle.sqlite.specs.Tree.{Trees}
 use Rattle.pw_model.specs.declared.records.Entry.{Entry}
-use Rattle.pw_model.specs.Counting.{Member, SameMembers}
-use Rattle.pw_shelf.specs.Rows.{IsTopUp, ListsTopUps}
-use Rattle.pw_store.specs.Content.{entries_of, entry_in, records_of, topup_in, topup_tree}
+use Rattle.pw_model.specs.Counting.{SameMembers}
+use Rattle.pw_shelf.specs.Rows.{ListsHeld}
+use Rattle.pw_store.specs.Content.{entries_of, entry_in, records_of, tree_of}
 use Rattle.pw_schema.specs.declared.kind.RecordKind.{RecordKind}
 use Rattle.pw_schema.specs.declared.kind.RecordKind.TheVariants.{Readings, Assignments, TopUps, WithdrawnReadings, WithdrawnAssignments, WithdrawnTopUps}
 use Rattle.pw_store.specs.declared.listings.Listing.TheVariants as listing
-use Rattle.pw_store.specs.inner.Lists.{shown}
+use Rattle.pw_store.specs.inner.Lists.{IsKeptAs, shown}
 use Rattle.pw_store.specs.inner.Listings.{ShowsAll}
 use Rattle.pw_schema.specs.Rows.{told, ReadsRows}
-use Rattle.pw_model.specs.declared.records.Key.{Key}
-use Rattle.pw_model.specs.declared.records.Key.TheVariants as key
-use Rattle.pw_store.proofs.OfKinds.{from_table, in_table, kind_at}
+use Rattle.pw_store.proofs.OfKinds.{from_table, in_table, of_kind}
 use Rattle.pw_store.proofs.Once.{permuted}
 use Rattle.pw_store.proofs.Texts.{IsQuery}
 use Rattle.pw_store.proofs.Scans.{scan_of, answer_of, outputs}
@@ -42,17 +40,6 @@ module _ (text : List ℕ) (tree : ℕ) (q : Query) (it : IsQuery text (scan_of 
       (scan.ordered, IsPermutation-map second (outputs (scan_of tree q) params (old.now.trees tree)) scan.ordered same, scan.shown)
 
 -- ---- from the rows that were read to the list of the records
-is_topup : (rows : List Row) (x : Entry) → Member x (map topup_in rows) → IsTopUp x.key
-is_topup [] x m = absurd m
-is_topup (r ∷ rows) x (inl i) = subst (λ (e : Entry). IsTopUp e.key) (sym i) tt
-is_topup (r ∷ rows) x (inr m) = is_topup rows x m
-
-topup_kind : (k : Key) → IsTopUp k → kind_at k ≡ TopUps
-topup_kind (key.Reading m r t) is = absurd is
-topup_kind (key.Assignment m t) is = absurd is
-topup_kind (key.TopUp r) is = refl
-topup_kind (key.Withdrawal n) is = absurd is
-
 told_in : (k : RecordKind) (rows : List Row) → map (told k) (map (shown k) rows) ≡ map (entry_in k) rows
 told_in k [] = refl
 told_in Readings (r ∷ rows) = ap (λ xs. entry_in Readings r ∷ xs) (told_in Readings rows)
@@ -65,14 +52,14 @@ told_in WithdrawnTopUps (r ∷ rows) = ap (λ xs. entry_in WithdrawnTopUps r ∷
 pub told_permuted : (k : RecordKind) (table rows : List Row) → IsPermutation (map (shown k) table) rows → IsPermutation (map (entry_in k) table) (map (told k) rows)
 told_permuted k table rows h = subst (λ xs. IsPermutation xs (map (told k) rows)) (told_in k table) (IsPermutation-map (told k) (map (shown k) table) rows h)
 
-pub lists_topups : (db : Trees) (rows : List Row) (found : List Entry) → ShowsAll (listing.Records TopUps) db rows → ReadsRows TopUps rows found → ListsTopUps (records_of db) found
-lists_topups db rows found shows reads =
-    let same : SameMembers (entries_of TopUps db) found = subst (SameMembers (entries_of TopUps db)) (sym reads.are) (permuted (entries_of TopUps db) (map (told TopUps) rows) (told_permuted TopUps (db topup_tree) rows shows)) in
+pub lists_kind : (k : RecordKind) (db : Trees) (rows : List Row) (found : List Entry) → ShowsAll (listing.Records k) db rows → ReadsRows k rows found → ListsHeld (IsKeptAs k) (records_of db) found
+lists_kind k db rows found shows reads =
+    let same : SameMembers (entries_of k db) found = subst (SameMembers (entries_of k db)) (sym reads.are) (permuted (entries_of k db) (map (told k) rows) (told_permuted k (db (tree_of k)) rows shows)) in
     record {
       rising = reads.rising;
       members = λ x. (
-        λ m. (let there = (same x).1 m in (from_table db x TopUps there, is_topup (db topup_tree) x there)),
-        λ m. (same x).0 (in_table db x TopUps (topup_kind x.key m.1) m.0),
+        λ m. (let there = (same x).1 m in (from_table db x k there, of_kind k (db (tree_of k)) x there)),
+        λ m. (same x).0 (in_table db x k m.1 m.0),
       );
     }
 

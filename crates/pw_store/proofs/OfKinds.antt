@@ -1,6 +1,9 @@
 -- The records of several kinds together, by kinds.
 use Rattle.std.proofs.Common.{◌≡◌, ◌⊎◌, ◌<◌, ℕ, inl, inr, List, [], ◌∷◌, ◌++◌, map, refl, sym, ap, subst, ◌∙◌, arith}
+use Rattle.std.specs.Cmp.Lexicographic.{slice_cmp}
 use Rattle.std.specs.List.{AllByRecursion}
+use Rattle.std.specs.Ordering.{nat_cmp}
+use Rattle.std.specs.declared.cmp.Ordering.TheVariants.{Less}
 use Rattle.sqlite.specs.Order.{Row}
 use Rattle.sqlite.specs.Tree.{Trees}
 use Rattle.pw_tariff.specs.Office.{OfficeRules}
@@ -11,11 +14,13 @@ use Rattle.pw_model.specs.declared.records.Named.TheVariants as named
 use Rattle.pw_model.specs.declared.records.Entry.{Entry}
 use Rattle.pw_model.specs.Counting.{Member, EachOnce, IsInserted}
 use Rattle.pw_model.specs.Office.{AllOfOffice}
+use Rattle.pw_model.specs.Same.{key_numbers, key_order, named_numbers}
 use Rattle.pw_schema.specs.declared.kind.RecordKind.{RecordKind}
 use Rattle.pw_schema.specs.declared.kind.RecordKind.TheVariants.{Readings, Assignments, TopUps, WithdrawnReadings, WithdrawnAssignments, WithdrawnTopUps}
 use Rattle.pw_schema.specs.declared.kind.StoreVersion.{StoreVersion}
 use Rattle.pw_schema.specs.declared.kind.StoreVersion.TheVariants.{First, Second}
 use Rattle.pw_store.specs.Content.{entries_of, entry_in, kinds_of, records_among, records_of, tree_of}
+use Rattle.pw_store.specs.inner.Lists.{kind_at, kind_of_named}
 use Rattle.pw_store.proofs.Placing.{before, behind}
 
 -- ---- lists in a row
@@ -49,17 +54,6 @@ once_both (x ∷ xs) ys a b apart = (
 )
 
 -- ---- which kind the key of a record is of
-abbrev kind_of_named : Named → RecordKind
-kind_of_named (named.Reading m r t w) = WithdrawnReadings
-kind_of_named (named.Assignment m t o) = WithdrawnAssignments
-kind_of_named (named.TopUp r a c t) = WithdrawnTopUps
-
-abbrev pub kind_at : Key → RecordKind
-kind_at (key.Reading m r t) = Readings
-kind_at (key.Assignment m t) = Assignments
-kind_at (key.TopUp r) = TopUps
-kind_at (key.Withdrawal n) = kind_of_named n
-
 kind_in : (k : RecordKind) (r : Row) → kind_at (entry_in k r).key ≡ k
 kind_in Readings r = refl
 kind_in Assignments r = refl
@@ -81,6 +75,43 @@ place TopUps = 2
 place WithdrawnReadings = 3
 place WithdrawnAssignments = 4
 place WithdrawnTopUps = 5
+
+low : (n : Named) → place TopUps < place (kind_of_named n)
+low (named.Reading m r t w) = omega arith
+low (named.Assignment m t o) = omega arith
+low (named.TopUp r a c t) = omega arith
+
+-- so stand their keys
+named_before : (n m : Named) → place (kind_of_named n) < place (kind_of_named m) → slice_cmp nat_cmp (named_numbers n) (named_numbers m) ≡ Less
+unfolding named_numbers
+named_before (named.Reading m r t w) (named.Reading n s u v) less = absurd (omega (arith, less))
+named_before (named.Reading m r t w) (named.Assignment n u o) less = refl
+named_before (named.Reading m r t w) (named.TopUp s a c u) less = refl
+named_before (named.Assignment m t o) (named.Reading n s u v) less = absurd (omega (arith, less))
+named_before (named.Assignment m t o) (named.Assignment n u p) less = absurd (omega (arith, less))
+named_before (named.Assignment m t o) (named.TopUp s a c u) less = refl
+named_before (named.TopUp r a c t) (named.Reading n s u v) less = absurd (omega (arith, less))
+named_before (named.TopUp r a c t) (named.Assignment n u o) less = absurd (omega (arith, less))
+named_before (named.TopUp r a c t) (named.TopUp s b d u) less = absurd (omega (arith, less))
+
+pub key_before : (x y : Key) → place (kind_at x) < place (kind_at y) → key_order x y ≡ Less
+unfolding key_numbers
+key_before (key.Reading m r t) (key.Reading n s u) less = absurd (omega (arith, less))
+key_before (key.Reading m r t) (key.Assignment n u) less = refl
+key_before (key.Reading m r t) (key.TopUp s) less = refl
+key_before (key.Reading m r t) (key.Withdrawal w) less = refl
+key_before (key.Assignment m t) (key.Reading n s u) less = absurd (omega (arith, less))
+key_before (key.Assignment m t) (key.Assignment n u) less = absurd (omega (arith, less))
+key_before (key.Assignment m t) (key.TopUp s) less = refl
+key_before (key.Assignment m t) (key.Withdrawal w) less = refl
+key_before (key.TopUp r) (key.Reading n s u) less = absurd (omega (arith, less))
+key_before (key.TopUp r) (key.Assignment n u) less = absurd (omega (arith, less))
+key_before (key.TopUp r) (key.TopUp s) less = absurd (omega (arith, less))
+key_before (key.TopUp r) (key.Withdrawal w) less = refl
+key_before (key.Withdrawal v) (key.Reading n s u) less = absurd (let l = low v in omega (arith, l, less))
+key_before (key.Withdrawal v) (key.Assignment n u) less = absurd (let l = low v in omega (arith, l, less))
+key_before (key.Withdrawal v) (key.TopUp s) less = absurd (let l = low v in omega (arith, l, less))
+key_before (key.Withdrawal v) (key.Withdrawal w) less = named_before v w less
 
 abbrev AreBehind : RecordKind → List RecordKind → Type 0
 AreBehind k kinds = AllByRecursion (λ j. place k < place j) kinds

@@ -23,14 +23,14 @@ use Rattle.pw_schema.specs.declared.kind.RecordKind.TheVariants.{Readings, Assig
 use Rattle.pw_schema.specs.Rows.{number, register_at}
 use Rattle.pw_store.specs.Content.{reading_in, assignment_in, reading_tree, assignment_tree, records_of, IsReadingRow, IsAssignmentRow, entry_in}
 use Rattle.pw_store.specs.Kept.{IsStore}
-use Rattle.pw_store.specs.inner.Lists.{shown, ShowsKept}
+use Rattle.pw_store.specs.inner.Lists.{kind_at, shown, ShowsKept}
 use Rattle.pw_schema.specs.Rows.{told, ReadsRows}
 use Rattle.pw_store.proofs.Texts.{list_readings_text, list_readings_query, list_readings_is, list_assignments_text, list_assignments_query, list_assignments_is}
 use Rattle.pw_store.proofs.Once.{permuted}
 use Rattle.pw_store.proofs.Scans.{equal_ints, tied, scan_of}
 use Rattle.pw_store.proofs.Lists.{seen, told_permuted}
 use Rattle.pw_store.proofs.Finding.{first, second, same_number}
-use Rattle.pw_store.proofs.OfKinds.{from_table, in_table, kind_at}
+use Rattle.pw_store.proofs.OfKinds.{from_table, in_table}
 use Rattle.pw_store.proofs.Adding.{register_back}
 
 -- ---- the rows that pass are those whose record has such a key

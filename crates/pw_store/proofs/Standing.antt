@@ -15,7 +15,8 @@ use Rattle.pw_schema.specs.declared.kind.StoreVersion.TheVariants.{Second}
 use Rattle.pw_schema.specs.Rows.{withdrawal}
 use Rattle.pw_store.specs.Content.{entries_of, entry_in, kinds_of, records_of, tree_of}
 use Rattle.pw_store.proofs.Adding.{was_not}
-use Rattle.pw_store.proofs.OfKinds.{each_kind, from_table, in_table, kind_at, once_of_kind}
+use Rattle.pw_store.specs.inner.Lists.{kind_at}
+use Rattle.pw_store.proofs.OfKinds.{each_kind, from_table, in_table, once_of_kind}
 use Rattle.pw_store.proofs.OneKind.{held_withdrawn, withdrawn_held}
 use Rattle.pw_store.proofs.Lacking.{is_none}
 

@@ -1,12 +1,14 @@
 //! Questions about records, each over statements that are run once the connection is known to be open.
 
-ghost use Rattle.std.specs.Prelude.{◌≡◌, ◌↔◌, IfOk, IsTrue};
+ghost use Rattle.std.specs.Prelude.{◌≡◌, ◌↔◌, ◌++◌, IfOk, IsTrue};
 ghost use Rattle.sqlite.specs.Held.{state};
 ghost use Rattle.sqlite.specs.State.{HasCleanDisk};
 ghost use Rattle.pw_model.specs.Counting.{Member, contents_at};
-ghost use Rattle.pw_shelf.specs.Rows.{ListsAssignments, ListsReadings, ListsTopUps};
+ghost use Rattle.pw_shelf.specs.Rows.{ListsAssignments, ListsHeld, ListsReadings, ListsTopUps, ListsWithdrawals};
 ghost use Rattle.pw_schema.specs.inner.Calls.{Asks};
 ghost use Rattle.pw_schema.specs.Rows.{ReadsRows};
+ghost use Rattle.pw_schema.specs.Tables.{IsOurs};
+ghost use Rattle.pw_store.specs.inner.Lists.{IsKeptAs};
 ghost use Rattle.pw_store.specs.Content.{records_of};
 ghost use Rattle.pw_store.specs.Kept.{IsAwake, NowIsStore};
 
@@ -14,9 +16,9 @@ use crate::fault::AskFault;
 use crate::keys::{
     contents_of_assignment, contents_of_reading, contents_of_topup, contents_of_withdrawal,
 };
+use crate::listings::record_rows;
 use crate::meters::{assignment_rows, reading_rows};
 use crate::records::{form_of, has_named};
-use crate::topups::topup_rows;
 use crate::waking::wake;
 use pw_model::{Contents, Entry, Key};
 use pw_obis::Register;
@@ -159,8 +161,64 @@ pub(crate) fn topups<S: Alter>(
     if let Err(error) = wake(conn, doubtful) {
         return Err(AskFault::Statement(error));
     }
-    match topup_rows(conn) {
-        Ok(rows) => read(alloc, RecordKind::TopUps, rows.as_slice()),
+    records_kept(conn, alloc, RecordKind::TopUps)
+}
+
+/// All withdrawals held, sorted.
+pub(crate) fn withdrawals<S: Alter>(
+    conn: &mut Connection<S>,
+    doubtful: bool,
+    alloc: Global,
+) -> Result<Vec<Entry>, AskFault>
+    requires awake { IsAwake (state S.Store conn.old) doubtful }
+    requires store { NowIsStore (state S.Store conn.old) }
+    ensures rows { HasCleanDisk (state S.Store conn.new) → IfOk result (λ found. ListsWithdrawals (records_of (state S.Store conn.old).now.trees) found.items) }
+    ensures asks { Asks result (state S.Store conn.old) (state S.Store conn.new) }
+{
+    if let Err(error) = wake(conn, doubtful) {
+        return Err(AskFault::Statement(error));
+    }
+    withdrawals_kept(conn, alloc)
+}
+
+// The records that are kept as a kind, sorted.
+fn records_kept<S: Alter>(
+    conn: &mut Connection<S>,
+    alloc: Global,
+    kind: RecordKind,
+) -> Result<Vec<Entry>, AskFault>
+    requires ours { HasCleanDisk (state S.Store conn.old) → IsOurs (state S.Store conn.old).now.schema }
+    ensures rows { HasCleanDisk (state S.Store conn.new) → IfOk result (λ found. ListsHeld (IsKeptAs kind) (records_of (state S.Store conn.old).now.trees) found.items) }
+    ensures asks { Asks result (state S.Store conn.old) (state S.Store conn.new) }
+{
+    match record_rows(conn, kind) {
+        Ok(rows) => read(alloc, kind, rows.as_slice()),
         Err(error) => Err(AskFault::Statement(error)),
     }
+}
+
+// The withdrawals of readings, then those of assignments, then those of top-ups: so their keys are in order.
+fn withdrawals_kept<S: Alter>(
+    conn: &mut Connection<S>,
+    alloc: Global,
+) -> Result<Vec<Entry>, AskFault>
+    requires ours { HasCleanDisk (state S.Store conn.old) → IsOurs (state S.Store conn.old).now.schema }
+    ensures rows { HasCleanDisk (state S.Store conn.new) → IfOk result (λ found. ListsWithdrawals (records_of (state S.Store conn.old).now.trees) found.items) }
+    ensures asks { Asks result (state S.Store conn.old) (state S.Store conn.new) }
+{
+    let readings = records_kept(conn, alloc, RecordKind::WithdrawnReadings)?;
+    let assignments = records_kept(conn, alloc, RecordKind::WithdrawnAssignments)?;
+    let topups = records_kept(conn, alloc, RecordKind::WithdrawnTopUps)?;
+    in_a_row(readings, &assignments, &topups)
+}
+
+// Three lists behind one another.
+fn in_a_row(first: Vec<Entry>, second: &[Entry], third: &[Entry]) -> Result<Vec<Entry>, AskFault>
+    ensures { IfOk result (λ all. all.items ≡ first.items ++ (second.now ++ third.now)) }
+{
+    let mut all = first;
+    if all.extend_from_slice(second).is_err() || all.extend_from_slice(third).is_err() {
+        return Err(AskFault::Memory);
+    }
+    Ok(all)
 }

@@ -7,7 +7,7 @@ ghost use Rattle.sqlite.specs.State.{HasCleanDisk};
 ghost use Rattle.pw_shelf.specs.Rows.{rows_at, rows_found, rows_total};
 ghost use Rattle.pw_store.specs.Kept.{left_of, once_held, state_of, survives_left};
 
-use crate::asking::{assignments, contents, holds, readings, topups};
+use crate::asking::{assignments, contents, holds, readings, topups, withdrawals};
 use crate::changes::Change;
 use crate::entries::add_entry;
 use crate::fault::{device_fault, fault_of, fault_of_ask};
@@ -152,6 +152,11 @@ impl<S: Alter> Shelf for SqlShelf<S> {
 
     fn topups(&mut self, alloc: Global) -> Result<Vec<Entry>, ShelfFault> {
         let asked = topups(&mut self.conn, self.doubtful, alloc);
+        answered!(self, asked, found, found.len() as u64)
+    }
+
+    fn withdrawals(&mut self, alloc: Global) -> Result<Vec<Entry>, ShelfFault> {
+        let asked = withdrawals(&mut self.conn, self.doubtful, alloc);
         answered!(self, asked, found, found.len() as u64)
     }
 

@@ -1,17 +1,18 @@
-//! The listings of whole tables, as values, and each handed to a judge row by row.
+//! The listings of whole tables, as values: those of records asked for whole, and each handed to a judge row by row.
 
-ghost use Rattle.std.specs.Prelude.{◌≡◌, [], Err, OnErr, OnOk};
+ghost use Rattle.std.specs.Prelude.{◌≡◌, [], Err, IfOk, OnErr, OnOk};
 ghost use Rattle.sqlite.specs.Held.{state};
 ghost use Rattle.sqlite.specs.State.{HasCleanDisk};
 ghost use Rattle.pw_schema.specs.Calls.{Looks};
 ghost use Rattle.pw_schema.specs.Tables.{IsOurs};
+ghost use Rattle.pw_schema.specs.inner.Calls.{Asks};
 ghost use Rattle.pw_store.specs.inner.Listings.{ShowsAll, kept_as, text_of};
 ghost use Rattle.pw_store.specs.inner.Scanning.{HasRefused, HasTaken, IsOther};
 
 use crate::fault::OpenFault;
 use crate::scan::judge_each;
 use pw_schema::{Judge, RecordKind, TotalKind};
-use sqlite::{Alter, Connection};
+use sqlite::{Alter, Connection, Error, Row};
 
 /// What is kept of counting records, each in a table of its own.
 #[derive(Clone, Copy)]
@@ -83,6 +84,18 @@ impl Listing {
             Listing::EnergyRowids => "SELECT rowid FROM total ORDER BY rowid",
         }
     }
+}
+
+/// The rows of all records of a kind, in order.
+pub(crate) fn record_rows<S: Alter>(
+    conn: &mut Connection<S>,
+    kind: RecordKind,
+) -> Result<Vec<Row>, Error>
+    requires ours { HasCleanDisk (state S.Store conn.old) → IsOurs (state S.Store conn.old).now.schema }
+    ensures rows { HasCleanDisk (state S.Store conn.new) → IfOk result (λ rows. ShowsAll (Listing.Records kind) (state S.Store conn.old).now.trees rows.items) }
+    ensures asks { Asks result (state S.Store conn.old) (state S.Store conn.new) }
+{
+    conn.query_all(Listing::Records(kind).text(), &[])
 }
 
 /// Hands each row of a listing to a judge, up to the first that it refuses, and answers how many they were.

@@ -6,25 +6,13 @@ ghost use Rattle.sqlite.specs.State.{HasCleanDisk};
 ghost use Rattle.pw_model.specs.Counting.{contents_at};
 ghost use Rattle.pw_model.specs.declared.records.Key.TheVariants as key;
 ghost use Rattle.pw_store.specs.Kept.{IsStore};
-ghost use Rattle.pw_schema.specs.Tables.{IsOurs};
 ghost use Rattle.pw_schema.specs.inner.Calls.{Asks};
 ghost use Rattle.pw_store.specs.Content.{records_of};
-ghost use Rattle.pw_store.specs.inner.Listings.{ShowsAll};
 ghost use Rattle.pw_schema.specs.Rows.{contents_of, told_content};
 
-use crate::listings::Listing;
 use pw_model::Reference;
 use pw_schema::{RecordKind, words};
 use sqlite::{Alter, Connection, Error, Row};
-
-/// All top-ups, in order.
-pub(crate) fn topup_rows<S: Alter>(conn: &mut Connection<S>) -> Result<Vec<Row>, Error>
-    requires ours { HasCleanDisk (state S.Store conn.old) → IsOurs (state S.Store conn.old).now.schema }
-    ensures rows { HasCleanDisk (state S.Store conn.new) → IfOk result (λ rows. ShowsAll (Listing.Records RecordKind.TopUps) (state S.Store conn.old).now.trees rows.items) }
-    ensures asks { Asks result (state S.Store conn.old) (state S.Store conn.new) }
-{
-    conn.query_all(Listing::Records(RecordKind::TopUps).text(), &[])
-}
 
 /// Two rows at most of the records of a top-up's key that no withdrawal names.
 pub(crate) fn topup_at<S: Alter>(

@@ -3,7 +3,7 @@
 ghost use Rattle.std.specs.Prelude.{◌≡◌, ◌+◌, ◌*◌, ◌<◌, IfOk, MatchResult, true, false, length};
 ghost use Rattle.pw_tariff.specs.Office.{office_of};
 ghost use Rattle.pw_model.specs.Energy.{energy as energy_of};
-ghost use Rattle.pw_model.specs.Kinds.{IsAssignment, IsTopUp, ListsHeld};
+ghost use Rattle.pw_model.specs.Kinds.{IsAssignment, IsTopUp, IsWithdrawal, ListsHeld};
 ghost use Rattle.pw_model.specs.Lists.{AreDisputes, AreFalls, AreReadings, record_count};
 ghost use Rattle.pw_model.specs.Office.{HasOwner};
 ghost use Rattle.pw_model.specs.Payments.{balance as balance_of, topped_up as cents_of};
@@ -11,7 +11,7 @@ ghost use Rattle.pw_book.specs.Cost.{RisesAtMost};
 ghost use Rattle.pw_book.specs.Questions.{IsQuestion};
 
 use super::Book;
-use crate::asked::{count_held, topups_held, total_held};
+use crate::asked::{count_held, topups_held, total_held, withdrawals_held};
 use crate::assignments::all_assignments;
 use crate::balances::balance_held;
 use crate::disputes::disputes_held;
@@ -109,6 +109,17 @@ impl<S: Shelf> Book<S> {
         self.still_open()?;
         let topups = topups_held(&mut self.shelf, alloc)?;
         Ok(topups)
+    }
+
+    /// The withdrawals held, whether the records that they name are held or not: those of readings first, then those of
+    /// assignments, then those of top-ups; each by the fields of the record that it names.
+    pub fn withdrawals(&mut self, alloc: Global) -> Result<Vec<Entry>, BookFault>
+        ensures withdrawals { S.clean self.new.shelf → IfOk result (λ held. ListsHeld IsWithdrawal (S.state self.old.shelf).content.records held.items) }
+        ensures question { IsQuestion S.Shelf result self.old self.new }
+    {
+        self.still_open()?;
+        let withdrawals = withdrawals_held(&mut self.shelf, alloc)?;
+        Ok(withdrawals)
     }
 
     /// The falls of all registers, by the records held: neighbouring readings of which the later shows less. By meter, register

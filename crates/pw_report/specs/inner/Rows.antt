@@ -1,12 +1,17 @@
 -- A CSV writer and the row that is being made. It serves `src/rows.rt`.
-use Rattle.std.specs.Prelude.{◌≡◌, ℕ, false, List, [], ◌++◌}
+use Rattle.std.specs.Prelude.{◌≡◌, ℕ, true, false, List, [], ◌++◌}
 use Rattle.csv.specs.Records.{fields_of, partial_of}
-use Rattle.csv.specs.Writing.{default_writer, fields_written, has_written, writer_pending, writer_setup, writer_under}
+use Rattle.csv.specs.Writing.{default_writer, fields_written, has_written, with_flexible, writer_pending, writer_setup, writer_under}
+use Rattle.csv.specs.declared.writer.WriterBuilder.{WriterBuilder}
 use Rattle.pw_report.specs.declared.rows.Rows.{Rows}
+
+-- rows of one text may have different numbers of fields
+abbrev pub flexible_writer : WriterBuilder
+flexible_writer = with_flexible default_writer true
 
 -- this text is written, and the row has these fields so far
 pub record HasText (rows : Rows) (text : List ℕ) (fields : List (List ℕ)) : Type 0 where
-  pub setup : writer_setup rows.writer ≡ default_writer
+  pub setup : writer_setup rows.writer ≡ flexible_writer
   pub none : fields_written rows.writer ≡ 0
   pub ended : has_written rows.writer ≡ false
   pub text_is : (writer_under rows.writer).items ++ writer_pending rows.writer ≡ text

@@ -9,17 +9,19 @@ use Rattle.pw_model.specs.declared.records.Key.TheVariants as key
 use Rattle.pw_model.specs.declared.records.Entry.{Entry}
 use Rattle.pw_model.specs.declared.records.Named.TheVariants as named
 use Rattle.pw_model.specs.References.{IsReference}
-use Rattle.pw_model.specs.inner.Keys.{HasReference}
 use Rattle.pw_time.specs.Instants.{IsInstant}
 use Rattle.pw_model.specs.Counting.{EachOnce, Member}
 use Rattle.pw_tariff.specs.declared.ids.AccountId.{AccountId}
 
--- the instant that a key of an older kind names is one, and so is each reference
+-- the instant at which a reading or an assignment stands is one, and so is each reference; of a withdrawal, those of the
+-- record that it names
 abbrev pub IsNamed : Key → Type 0
 IsNamed (key.Reading m r t) = IsInstant t
 IsNamed (key.Assignment m t) = IsInstant t
 IsNamed (key.TopUp r) = IsReference r
-IsNamed (key.Withdrawal n) = HasReference (key.Withdrawal n)
+IsNamed (key.Withdrawal (named.Reading m r t w)) = IsInstant t
+IsNamed (key.Withdrawal (named.Assignment m t o)) = IsInstant t
+IsNamed (key.Withdrawal (named.TopUp r a c t)) = IsReference r
 
 abbrev pub AreNamed : List Entry → Type 0
 AreNamed records = (e : Entry) → Member e records → IsNamed e.key
