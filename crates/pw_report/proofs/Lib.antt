@@ -8,3 +8,4 @@ pub mod Sums
 pub mod Held
 pub mod Uploading
 pub mod Texts
+pub mod Moving

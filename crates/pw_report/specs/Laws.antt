@@ -1,5 +1,5 @@
 -- The laws of these texts. Each is the contract of a function of the module `laws`.
-use Rattle.std.specs.Prelude.{◌≡◌, ℕ, ◌≤◌, cond, List, length, ◌↔◌, ℤ, pos, ◌*ℤ◌, ◌+ℤ◌, ◌≤ℤ◌, ◌<ℤ◌}
+use Rattle.std.specs.Prelude.{◌≡◌, ℕ, ◌≤◌, cond, List, [], ◌++◌, length, map, ◌⊎◌, ◌↔◌, ℤ, pos, ◌*ℤ◌, ◌+ℤ◌, ◌≤ℤ◌, ◌<ℤ◌}
 use Rattle.std.specs.List.{sum_by}
 use Rattle.pw_tariff.specs.declared.ids.Direction.{Direction}
 use Rattle.pw_tariff.specs.Office.{IsSound, OfficeFile, office_of}
@@ -13,6 +13,9 @@ use Rattle.pw_record.specs.declared.row.RowKind.{RowKind}
 use Rattle.pw_record.specs.declared.rows.TheConstants.{MOST_ROWS}
 use Rattle.pw_record.specs.Listed.{AreListed}
 use Rattle.pw_record.specs.Rows.{RowsGive}
+use Rattle.pw_record.specs.Uploads.{Upload, Assignments, TopUps, Withdrawals}
+use Rattle.pw_record.specs.declared.row.RowKind.TheVariants.{Assignment, TopUp, Withdrawal}
+use Rattle.pw_book.specs.After.{After, Brings}
 use Rattle.pw_report.specs.declared.page.Page.{Page}
 use Rattle.pw_report.specs.Amounts.{cents_below}
 use Rattle.pw_report.specs.Exports.{energy_rows, records_text}
@@ -43,6 +46,38 @@ abbrev pub ExportsAreUploads : Type 0
 ExportsAreUploads = (file : OfficeFile) (kind : RowKind) (records entries : List Entry) → IsSound file → AllOfOffice (office_of file) records →
     ((e : Entry) → Member e records → IsOfRow kind e.key) → length records ≤ MOST_ROWS → AreListed records entries →
     RowsGive file kind (records_text file kind records) entries
+
+-- ---- a book moved to another one
+-- some of the records that were exported, all of one kind
+pub record Part : Type 0 where
+  pub kind : RowKind
+  pub records : List Entry
+
+-- at most 1,000 of these
+pub record IsPartOf (s : List Entry) (p : Part) : Type 0 where
+  pub held : (e : Entry) → Member e p.records → Member e s
+  pub kinds : (e : Entry) → Member e p.records → IsOfRow p.kind e.key
+  pub few : length p.records ≤ MOST_ROWS
+
+-- the upload that rows are
+abbrev pub rows_upload : RowKind → List ℕ → Upload
+rows_upload Assignment text = Assignments text
+rows_upload TopUp text = TopUps text
+rows_upload Withdrawal text = Withdrawals text
+
+abbrev pub part_upload : OfficeFile → Part → Upload
+part_upload file p = rows_upload p.kind (records_text file p.kind p.records)
+
+-- each record stands in a part, or another upload brings it, as one of telegrams; and none of these brings another one
+pub record AreMoved (file : OfficeFile) (s : List Entry) (parts : List Part) (others : List Upload) : Type 0 where
+  pub of_parts : (p : Part) → Member p parts → IsPartOf s p
+  pub of_others : (u : Upload) (e : Entry) → Member u others → Brings file u e → Member e s
+  pub all : (e : Entry) → Member e s → ((p : Part) × Member p parts × Member e p.records) ⊎ ((u : Upload) × Member u others × Brings file u e)
+
+-- behind all these uploads, in whatever order, a book of this office in which nothing was held has the same records
+abbrev pub ExportsMoveBooks : Type 0
+ExportsMoveBooks = (file : OfficeFile) (s : List Entry) (parts : List Part) (others : List Upload) (records : List Entry) → IsSound file → AllOfOffice (office_of file) s →
+    AreMoved file s parts others → After file [] (map (part_upload file) parts ++ others) records → SameMembers records s
 
 -- ---- conservation
 -- the energies of a direction that are exported add up to all that its neighbours rise by

@@ -3,7 +3,7 @@
 //! Each function does nothing. What counts is its contract, a law of the definitions in `specs/`, which is proved for
 //! all sets of records.
 
-ghost use Rattle.pw_report.specs.Laws.{CentsAreGreatest, EachPageHasOneText, ExportsAreUploads, NothingIsLostInExport};
+ghost use Rattle.pw_report.specs.Laws.{CentsAreGreatest, EachPageHasOneText, ExportsAreUploads, ExportsMoveBooks, NothingIsLostInExport};
 
 /// The cents of an amount are the greatest whole number of them that isn't above it.
 pub fn cents_are_greatest()
@@ -19,6 +19,13 @@ pub fn each_page_has_one_text()
 /// its header is an upload that gives the records that were exported, and no others, where these are of a sound office file.
 pub fn exports_are_uploads()
     ensures { ExportsAreUploads }
+{}
+
+/// A book moves to another one of the same office by what it exports: the assignments, top-ups and withdrawals in parts of
+/// at most 1,000 rows, each below its header, and telegrams or readouts that bring each reading held and no other. Behind all
+/// these uploads, in whatever order, a book in which nothing was held has the same records.
+pub fn exports_move_books()
+    ensures { ExportsMoveBooks }
 {}
 
 /// Conservation of energy: over all owners with nobody and all bands, the energies of a direction that are exported add up
