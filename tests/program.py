@@ -230,7 +230,7 @@ def statement(store, account="A1", office=OFFICE):
 
 ASKED = [
     ("statement", "A1"), ("statement", "A2"), ("export", "accounts"), ("export", "readings"), ("export", "assignments"),
-    ("export", "topups"), ("export", "energy"), ("export", "falls"), ("export", "disputes"),
+    ("export", "topups"), ("export", "withdrawals"), ("export", "energy"), ("export", "falls"), ("export", "disputes"),
 ]  # fmt: skip
 
 
@@ -385,7 +385,7 @@ def one_reply(connection):
 
 
 PAGES = ["/accounts/A1", "/accounts/A2", "/accounts", "/falls", "/disputes", "/export/readings", "/export/energy",
-         "/export/assignments", "/export/topups"]
+         "/export/assignments", "/export/topups", "/export/withdrawals"]
 
 
 def pages(connection):

@@ -193,6 +193,10 @@ at_all_top_ups : route_at (codes "/export/topups") ≡ Some (Table table.TopUps)
 unfolding route_table matchit_on_literals
 at_all_top_ups = refl
 
+at_all_withdrawals : route_at (codes "/export/withdrawals") ≡ Some (Table table.Withdrawals)
+unfolding route_table matchit_on_literals
+at_all_withdrawals = refl
+
 pub paths-reach : PathsReachRoutes
 paths-reach = record {
   telegrams = at_telegrams;
@@ -208,4 +212,5 @@ paths-reach = record {
   energies = at_energy;
   all_assignments = at_all_assignments;
   all_top_ups = at_all_top_ups;
+  all_withdrawals = at_all_withdrawals;
 }

@@ -37,3 +37,4 @@ pub record PathsReachRoutes : Type 0 where
   pub energies : route_at (codes "/export/energy") ≡ Some (Table table.Energies)
   pub all_assignments : route_at (codes "/export/assignments") ≡ Some (Table table.Assignments)
   pub all_top_ups : route_at (codes "/export/topups") ≡ Some (Table table.TopUps)
+  pub all_withdrawals : route_at (codes "/export/withdrawals") ≡ Some (Table table.Withdrawals)

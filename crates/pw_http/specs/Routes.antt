@@ -38,6 +38,7 @@ route_text (Table table.Readings) = codes "/export/readings"
 route_text (Table table.Energies) = codes "/export/energy"
 route_text (Table table.Assignments) = codes "/export/assignments"
 route_text (Table table.TopUps) = codes "/export/topups"
+route_text (Table table.Withdrawals) = codes "/export/withdrawals"
 
 -- ---- as `matchit` keeps it
 -- the rows with one more route, where its text reads as a route
@@ -50,9 +51,9 @@ added rows route = added_read (parse_route (route_text route)) route rows
 
 unfoldable pub route_table : RowsOf (RouteOf Route)
 route_table =
-    added (added (added (added (added (added (added (added (added (added (added (added (added [] Telegrams) Readouts) Assignments) TopUps)
+    added (added (added (added (added (added (added (added (added (added (added (added (added (added [] Telegrams) Readouts) Assignments) TopUps)
     Withdrawals) (Table table.Accounts)) (Table table.Falls)) (Table table.Disputes)) Account) (Table table.Readings)) (Table table.Energies))
-    (Table table.Assignments)) (Table table.TopUps)
+    (Table table.Assignments)) (Table table.TopUps)) (Table table.Withdrawals)
 
 abbrev pub row_value : RouteOf Route → Route
 row_value r = r.value

@@ -68,6 +68,7 @@ page_content (page.Table table.Readings) = Csv
 page_content (page.Table table.Energies) = Csv
 page_content (page.Table table.Assignments) = Csv
 page_content (page.Table table.TopUps) = Csv
+page_content (page.Table table.Withdrawals) = Csv
 
 -- to a question for a page
 abbrev pub page_reply : Page → Result (List ℕ) BookFault → Reply

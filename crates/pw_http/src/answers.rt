@@ -115,8 +115,13 @@ fn content_of(page: Page) -> ContentType
     ensures { result ≡ page_content page }
 {
     match page {
-        Page::Table(Table::Readings | Table::Energies | Table::Assignments | Table::TopUps) =>
-            ContentType::Csv,
+        Page::Table(
+            Table::Readings
+            | Table::Energies
+            | Table::Assignments
+            | Table::TopUps
+            | Table::Withdrawals,
+        ) => ContentType::Csv,
         Page::Statement(_) | Page::Table(_) => ContentType::Plain,
     }
 }

@@ -45,9 +45,9 @@ pub struct Routes {
 }
 
 impl Routes {
-    /// The thirteen routes. It takes all the memory that they need.
+    /// The fourteen routes. It takes all the memory that they need.
     pub fn new(alloc: Global) -> Result<Routes, InsertError> {
-        let router = thirteen_routes(alloc)?;
+        let router = fourteen_routes(alloc)?;
         Ok(Routes { router })
     }
 
@@ -62,8 +62,8 @@ impl Routes {
     }
 }
 
-/// The router of the thirteen routes.
-fn thirteen_routes(alloc: Global) -> Result<Router<Route>, InsertError>
+/// The router of the fourteen routes.
+fn fourteen_routes(alloc: Global) -> Result<Router<Route>, InsertError>
     ensures { IfOk result (λ router. router ≡ route_table) }
 {
     let mut router = Router::new(alloc);
@@ -80,6 +80,7 @@ fn thirteen_routes(alloc: Global) -> Result<Router<Route>, InsertError>
     router.insert("/export/energy", Route::Table(Table::Energies))?;
     router.insert("/export/assignments", Route::Table(Table::Assignments))?;
     router.insert("/export/topups", Route::Table(Table::TopUps))?;
+    router.insert("/export/withdrawals", Route::Table(Table::Withdrawals))?;
     Ok(router)
 }
 

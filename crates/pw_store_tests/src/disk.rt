@@ -242,9 +242,7 @@ fn standing_of(row: &ReadingRow) -> Standing {
 
 // Whether a reading is this one.
 fn is_row(row: &ReadingRow, (second, watt_hours, standing): Row) -> bool {
-    row.instant.seconds() == second
-        && row.wh.get() == watt_hours
-        && standing_of(row) == standing
+    row.instant.seconds() == second && row.wh.get() == watt_hours && standing_of(row) == standing
 }
 
 // Whether just these readings were told.

@@ -1,7 +1,7 @@
 //! Entries of the sample offices, from what is written for each. (What ends the process has no place in a library.)
 
 use crate::sample::{self, METER, NEW_YEAR};
-use pw_model::{Entry, Reference};
+use pw_model::{Content, Entry, Key, Named, Reference};
 use pw_obis::{Register, WattHours};
 use pw_tariff::{AccountId, MeterId, Owner};
 use pw_time::Instant;
@@ -47,4 +47,13 @@ pub fn given(rt: &impl Abort, meter: MeterId, second: u32, owner: Owner) -> Entr
 pub fn paid(rt: &impl Abort, reference: &[u8], account: AccountId, cents: u32) -> Entry {
     let reference = Reference::of(reference).expect(rt, "a reference");
     sample::paid(reference, account, cents, at(rt, NEW_YEAR))
+}
+
+/// The withdrawal of a record.
+pub fn withdrawn(rt: &impl Abort, record: &Entry) -> Entry {
+    let named = Named::of(record).expect(rt, "a record that can be named");
+    Entry {
+        key: Key::Withdrawal { named },
+        content: Content::Withdrawal,
+    }
 }

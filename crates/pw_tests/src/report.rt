@@ -11,7 +11,9 @@ use crate::books::book_of;
 use crate::offices::SAMPLE;
 use crate::uploads::ASSIGNMENT;
 use pw_book::{Accepted, Book, BookFault, Entry, PostFault};
-use pw_record::{UploadFault, assignment_records, telegram_records, topup_records};
+use pw_record::{
+    UploadFault, assignment_records, telegram_records, topup_records, withdrawal_records,
+};
 use pw_report::{
     Page, accounts_table, disputes_table, export_energy, export_readings, falls_table, page_text,
 };
@@ -28,6 +30,7 @@ enum Upload {
     Telegrams(&'static [u8]),
     Assignments(&'static [u8]),
     TopUps(&'static [u8]),
+    Withdrawals(&'static [u8]),
 }
 
 // Why there is no such book: for the office file, an upload's content, or the book's own fault.
@@ -72,6 +75,7 @@ fn entries_of(
         Upload::Telegrams(body) => telegram_records(alloc, office, zone, body),
         Upload::Assignments(body) => assignment_records(alloc, office, body),
         Upload::TopUps(body) => topup_records(alloc, office, body),
+        Upload::Withdrawals(body) => withdrawal_records(alloc, office, body),
     }
 }
 

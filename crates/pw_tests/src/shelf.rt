@@ -4,7 +4,7 @@ ghost use Rattle.std.specs.Prelude.{◌≡◌, ◌<◌, None, IsErrOf, IsSome, I
 ghost use Rattle.pw_shelf.specs.declared.fault.ShelfFault.TheVariants.{Device};
 
 use crate::books::empty_book;
-use crate::entries::{assigned, at, exported, paid, reading, shown, wh};
+use crate::entries::{assigned, at, exported, paid, reading, shown, wh, withdrawn};
 use crate::sample::{FIRST, FIVE, METER, SECOND, SEVEN, SIX, are_of_office, sample_office};
 use pw_book::{Book, PostFault};
 use pw_model::{Entry, Key};
@@ -206,6 +206,34 @@ fn each_call(rt: HostRuntime) {
     assert!(rt; calls_answered(&rt, rt.alloc(), MemoryShelf::new(rt.alloc())));
 }
 
+// The withdrawals of a reading, of an assignment and of a payment, none of which is held, in their order.
+fn three_withdrawals(rt: &impl Abort) -> [Entry; 3] {
+    [
+        withdrawn(rt, &reading(rt, SIX, 1_000_000)),
+        withdrawn(rt, &assigned(rt, FIVE, None)),
+        withdrawn(rt, &paid(rt, b"P1", FIRST, 2_000)),
+    ]
+}
+
+// Whether withdrawals are listed in their order, which isn't the one in which they come; and a payment isn't among them.
+fn withdrawals_kept<S: Shelf + Drop>(rt: &impl Abort, alloc: Global, mut shelf: S) -> bool
+    requires { (S.state shelf).begun ≡ None }
+{
+    let [first, second, third] = three_withdrawals(rt);
+    let payment = paid(rt, b"P2", FIRST, 5_000);
+    uploaded(&mut shelf, &third, &payment)
+        && uploaded(&mut shelf, &second, &first)
+        && lists(shelf.withdrawals(alloc), &[first, second, third])
+        && lists(shelf.topups(alloc), &[payment])
+}
+
+// bears on: pw_shelf shelf.rt Shelf::withdrawals memory
+// bears on: pw_shelf shelf.rt Shelf::withdrawals rows
+#[test]
+fn withdrawals_in_their_order(rt: HostRuntime) {
+    assert!(rt; withdrawals_kept(&rt, rt.alloc(), MemoryShelf::new(rt.alloc())));
+}
+
 // Whether so many records are held, and not this one.
 fn is_as_before<S: Shelf>(shelf: &mut S, entry: &Entry, before: u32) -> bool
     ensures { (S.state shelf.new).begun ≡ (S.state shelf.old).begun }
@@ -277,6 +305,7 @@ fn is_one_or_refused(found: Result<Vec<Entry>, ShelfFault>) -> bool {
 fn lists_change_nothing<S: Shelf>(alloc: Global, shelf: &mut S) -> bool {
     let before = shelf.count();
     is_one_or_refused(shelf.topups(alloc))
+        && is_one_or_refused(shelf.withdrawals(alloc))
         && is_one_or_refused(shelf.readings_of(alloc, METER, Register::I1))
         && is_one_or_refused(shelf.assignments_of(alloc, METER))
         && before.is_ok()
@@ -289,6 +318,7 @@ fn nothing_changed<S: Shelf + Drop>(rt: &impl Abort, alloc: Global, mut shelf: S
     added_or_refused(&mut shelf, &reading(rt, FIVE, 1_000_000))
         && added_or_refused(&mut shelf, &assigned(rt, FIVE, Some(SECOND)))
         && added_or_refused(&mut shelf, &paid(rt, b"P1", FIRST, 2_000))
+        && added_or_refused(&mut shelf, &withdrawn(rt, &paid(rt, b"P2", FIRST, 2_000)))
         && lists_change_nothing(alloc, &mut shelf)
 }
 
@@ -606,6 +636,7 @@ fn is_told<S: Shelf>(alloc: Global, shelf: &mut S, payment: &Entry) -> bool
     ensures { (S.state shelf.new).begun ≡ (S.state shelf.old).begun }
 {
     lists(shelf.topups(alloc), &[*payment])
+        && lists(shelf.withdrawals(alloc), &[])
         && shelf.count() == Ok(1)
         && shelf.holds(payment) == Ok(true)
 }
@@ -624,6 +655,7 @@ fn told_within<S: Shelf + Drop>(alloc: Global, mut shelf: S, payment: &Entry) ->
 
 // bears on: pw_shelf shelf.rt Shelf::count asked
 // bears on: pw_shelf shelf.rt Shelf::topups asked
+// bears on: pw_shelf shelf.rt Shelf::withdrawals asked
 #[test]
 fn questions_within_an_upload(rt: HostRuntime) {
     let payment = paid(&rt, b"P1", FIRST, 2_000);
@@ -657,6 +689,24 @@ fn rows_at_keys_counted<S: Shelf + Drop>(rt: &impl Abort, inner: S) -> bool
 #[test]
 fn rows_at_keys_and_of_totals_counted(rt: HostRuntime) {
     assert!(rt; rows_at_keys_counted(&rt, MemoryShelf::new(rt.alloc())));
+}
+
+// Behind eight calls, a call and a row for each withdrawal.
+fn list_counted<S: Shelf + Drop>(rt: &impl Abort, alloc: Global, inner: S) -> bool
+    requires { (S.state inner).begun ≡ None }
+{
+    let mut shelf = CountShelf::new(inner);
+    let [first, second, _] = three_withdrawals(rt);
+    uploaded(&mut shelf, &second, &first)
+        && shelf.seen() == 8
+        && lists(shelf.withdrawals(alloc), &[first, second])
+        && shelf.seen() == 8 + 3
+}
+
+// bears on: pw_shelf shelf.rt Shelf::withdrawals asked
+#[test]
+fn rows_of_a_list_counted(rt: HostRuntime) {
+    assert!(rt; list_counted(&rt, rt.alloc(), MemoryShelf::new(rt.alloc())));
 }
 
 // Whether the first call fails, and the second lists nothing.

@@ -6,6 +6,10 @@ pub const ASSIGNMENT: &[u8] = b"meter,start,account\n4D31,2024-01-01T00:00:00Z,A
 /// A payment of the first account.
 pub const TOPUP: &[u8] = b"reference,account,cents,instant\nP1,A1,5000,2024-01-01T00:00:00Z\n";
 
+/// Withdrawals of an assignment to nobody and of a payment, neither of which comes.
+pub const TWO_WITHDRAWALS: &[u8] =
+    b"kind,first,second,third,fourth\nassignment,4D31,2024-01-02T05:30:00Z,\ntopup,P2,A1,5000,2024-01-01T00:00:00Z\n";
+
 /// The first and the last reading of two hours.
 pub const TWO_READINGS: &[u8] =
     b"/PWB5X\r\n\r\n0-0:1.0.0(240102060000W)\r\n0-0:96.1.1(4D31)\r\n1-0:1.8.1(001000.000*kWh)\r\n!1790\r\n/PWB5X\r\n\r\n0-0:1.0.0(240102080000W)\r\n0-0:96.1.1(4D31)\r\n1-0:1.8.1(001003.001*kWh)\r\n!C033\r\n";

@@ -11,7 +11,7 @@ use std::alloc::Global;
 // The call of the store that fails: an upload of one record is begun by the third.
 const FAILING: u32 = 4;
 
-const PAGES: [Page; 8] = [
+const PAGES: [Page; 9] = [
     Page::Statement(AccountId(0)),
     Page::Table(Table::Accounts),
     Page::Table(Table::Falls),
@@ -20,6 +20,7 @@ const PAGES: [Page; 8] = [
     Page::Table(Table::Energies),
     Page::Table(Table::Assignments),
     Page::Table(Table::TopUps),
+    Page::Table(Table::Withdrawals),
 ];
 
 /// A book whose upload failed, and couldn't be taken back.

@@ -17,11 +17,12 @@ static KINDS: [&str; 5] = [
 ];
 
 /// The words of what can be exported.
-static TABLES: [&str; 7] = [
+static TABLES: [&str; 8] = [
     "readings",
     "energy",
     "assignments",
     "topups",
+    "withdrawals",
     "accounts",
     "falls",
     "disputes",
@@ -94,7 +95,7 @@ static COMMANDS: [Asked; 7] = [
     },
     Asked {
         name: "export",
-        about: "Prints a table of a store: readings, energy, assignments and topups as CSV, accounts, falls and disputes as text",
+        about: "Prints a table of a store: readings, energy, assignments, topups and withdrawals as CSV, accounts, falls and disputes as text",
         end: "Exit status: 0; 1 refused; 2 wrong words; 3 a file, stream, store or memory failed.\nExample: powerbook export office.toml book.db readings > readings.csv",
         words: &[Word::Office, Word::Store, Word::Table],
     },
@@ -223,7 +224,7 @@ fn command<'a>(alloc: Global, asked: &Asked) -> Result<Command<'a>, AllocError> 
 // The parser without its commands.
 fn empty_parser<'a>(alloc: Global) -> Result<Command<'a>, AllocError> {
     Command::new(alloc, "powerbook")
-        .version("1.4.0")
+        .version("1.5.0")
         .about("Meter readings and prepaid accounts of an electricity cooperative")
         .after_help(
             "Without a command it acts as pipe. Each command tells more: powerbook load --help.",

@@ -246,6 +246,7 @@ fn table_named(name: &str) -> Option<Table>
         "energy" => Some(Table::Energies),
         "assignments" => Some(Table::Assignments),
         "topups" => Some(Table::TopUps),
+        "withdrawals" => Some(Table::Withdrawals),
         "accounts" => Some(Table::Accounts),
         "falls" => Some(Table::Falls),
         "disputes" => Some(Table::Disputes),

@@ -1,5 +1,5 @@
 -- The listings of whole tables as values: the text of each, the tree that it reads, and what it shows of a row. It serves
--- `src/listings.rt`, `src/opening.rt`, `src/sums.rt` and `src/asking.rt`.
+-- `src/listings.rt` and `src/sums.rt`.
 -- (A format of this project.)
 use Rattle.std.specs.Prelude.{ℕ, List, codes, map}
 use Rattle.std.specs.List.Sorted.{IsPermutation}

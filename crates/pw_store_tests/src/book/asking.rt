@@ -1,6 +1,6 @@
 //! The questions to a book, each with what it asks of its caller asserted before.
 
-use pw_book::{Book, BookFault};
+use pw_book::{Book, BookFault, Entry};
 use pw_model::{Dispute, Fall, ReadingRow};
 use pw_obis::Register;
 use pw_shelf::Shelf;
@@ -57,6 +57,10 @@ pub fn falls<S: Shelf>(alloc: Global, book: &mut Book<S>) -> Result<Vec<Fall>, B
 
 pub fn disputes<S: Shelf>(alloc: Global, book: &mut Book<S>) -> Result<Vec<Dispute>, BookFault> {
     book.disputes(alloc)
+}
+
+pub fn withdrawals<S: Shelf>(alloc: Global, book: &mut Book<S>) -> Result<Vec<Entry>, BookFault> {
+    book.withdrawals(alloc)
 }
 
 pub fn count<S: Shelf>(book: &mut Book<S>) -> Result<u32, BookFault> {

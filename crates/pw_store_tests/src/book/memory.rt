@@ -1,9 +1,9 @@
 //! The book with an allocation refused: what is right, or want of memory, and the next call is right.
 //! (To be run with the first allocation refused, with the second, and so on.)
 
-use super::agreeing::all_agree;
+use super::agreeing::{all_agree, length};
 use super::{Books, asking, imported, lengths, money, post, takes};
-use crate::entries::{assigned, paid, reading};
+use crate::entries::{assigned, paid, reading, withdrawn};
 use pw_book::{Book, BookFault, PostFault};
 use pw_model::Entry;
 use pw_shelf::Shelf;
@@ -30,14 +30,16 @@ fn posted_or_refused<S: Shelf>(
     Ok(())
 }
 
-// What the questions are answered: a fall and a rise in the high band, and a payment that is disputed.
+// What the questions are answered: a fall and a rise in the high band, a payment that is disputed, and one that is
+// withdrawn before it comes.
 fn told<S: Shelf>(rt: &impl Abort, alloc: Global, book: &mut Book<S>) -> Result<(), BookFault> {
     let energies = imported(rt, book)?;
     let paid = money(rt, book, FIRST)?;
     let lists = lengths(rt, alloc, book)?;
+    let withdrawals = length(asking::withdrawals(alloc, book))?;
     let held = asking::count(book)?;
     assert!(rt; energies == (0, 70_000) && paid == (0, -21_000_000_000));
-    assert!(rt; lists == (1, 1, 3) && held == 6);
+    assert!(rt; lists == (1, 1, 3) && withdrawals == 1 && held == 7);
     Ok(())
 }
 
@@ -67,6 +69,7 @@ fn uploads_and_questions<S: Shelf>(
         assigned(rt, NEW_YEAR, Some(FIRST)),
         paid(rt, b"P1", FIRST, 2_000),
         paid(rt, b"P1", FIRST, 3_000),
+        withdrawn(rt, &paid(rt, b"P2", FIRST, 2_000)),
     ];
     let (first, others) = entries.split_at(3);
     posted_or_refused(rt, alloc, book, &[], first)?;

@@ -27,15 +27,17 @@ enum List {
     Readings,
     Falls,
     Disputes,
+    Withdrawals,
 }
 
-const QUESTIONS: [Question; 7] = [
+const QUESTIONS: [Question; 8] = [
     Question::Imported,
     Question::ToppedUp,
     Question::Balance,
     Question::Listed(List::Readings),
     Question::Listed(List::Falls),
     Question::Listed(List::Disputes),
+    Question::Listed(List::Withdrawals),
     Question::Count,
 ];
 
@@ -50,6 +52,7 @@ fn fault_of_list<S: Shelf>(
         List::Readings => asking::readings(rt, alloc, book, METER, Register::I1).err(),
         List::Falls => asking::falls(alloc, book).err(),
         List::Disputes => asking::disputes(alloc, book).err(),
+        List::Withdrawals => asking::withdrawals(alloc, book).err(),
     }
 }
 
@@ -86,6 +89,7 @@ fn fails_once<S: Shelf>(rt: &impl Abort, alloc: Global, book: &mut Book<S>, ques
 
 // Each question to such a device.
 // bears on: pw_book book/questions.rt Book::readings question
+// bears on: pw_book book/questions.rt Book::withdrawals question
 // bears on: pw_book fault.rt BookFault from_gives
 pub(super) fn failing_device<B: Books>(
     rt: &impl Abort,

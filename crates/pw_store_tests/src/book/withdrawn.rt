@@ -1,9 +1,9 @@
 //! Withdrawals, told one at a time: behind each of them the book answers what the definitions give, and its store keeps the
 //! parts of all.
 
-use super::agreeing::all_agree;
+use super::agreeing::{all_agree, is_list};
 use super::kept::parts_agree;
-use super::{Books, takes};
+use super::{Books, asking, takes};
 use crate::entries::{assigned, paid, reading, withdrawn};
 use pw_book::Entry;
 use pw_tests::sample::{FIRST, FIVE, NEW_YEAR, SECOND, SEVEN, SIX};
@@ -41,6 +41,31 @@ fn owner_and_payment(rt: &impl Abort, alloc: Global) -> Result<Vec<Entry>, Alloc
     Ok(told)
 }
 
+// The withdrawals of both, in the order of what they name.
+fn withdrawals(rt: &impl Abort) -> [Entry; 5] {
+    [
+        withdrawn(rt, &reading(rt, SIX, 1_001_000)),
+        withdrawn(rt, &reading(rt, SIX, 1_001_200)),
+        withdrawn(rt, &reading(rt, SIX, 1_001_500)),
+        withdrawn(rt, &assigned(rt, FIVE + 1_800, Some(SECOND))),
+        withdrawn(rt, &paid(rt, b"P1", FIRST, 5_000)),
+    ]
+}
+
+// Whether a book lists them behind an upload of all that is told.
+fn lists_withdrawals<B: Books>(
+    rt: &impl Abort,
+    alloc: Global,
+    books: &B,
+    told: &[Entry],
+) -> Result<(), Fail> {
+    assert!(rt; told.len() <= 100);
+    let mut book = books.empty(rt, alloc, 100)?;
+    takes(rt, alloc, &mut book, told, (told.len() as u32, 0));
+    assert!(rt; is_list(asking::withdrawals(alloc, &mut book), &withdrawals(rt)));
+    Ok(())
+}
+
 fn agrees_behind<B: Books>(
     rt: &impl Abort,
     alloc: Global,
@@ -60,10 +85,12 @@ fn agrees_behind<B: Books>(
 // bears on: pw_book book.rt Book::post posted
 // bears on: pw_book book/questions.rt Book::disputes disputes
 // bears on: pw_book book/questions.rt Book::readings readings
+// bears on: pw_book book/questions.rt Book::withdrawals withdrawals
 // bears on: pw_model laws.rt one_more_bearing ensures
 // bears on: pw_model laws.rt one_more_payment ensures
 // bears on: pw_shelf shelf.rt Shelf::add added
 // bears on: pw_shelf shelf.rt Shelf::contents_at rows
+// bears on: pw_shelf shelf.rt Shelf::withdrawals rows
 pub(super) fn agrees_behind_each<B: Books>(
     rt: &impl Abort,
     alloc: Global,
@@ -75,5 +102,5 @@ pub(super) fn agrees_behind_each<B: Books>(
     for number in 0..told.len() + 1 {
         agrees_behind(rt, alloc, books, told.split_at(number).0)?;
     }
-    Ok(())
+    lists_withdrawals(rt, alloc, books, &told)
 }

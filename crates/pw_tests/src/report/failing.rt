@@ -58,5 +58,6 @@ fn failing_device(rt: HostRuntime) -> Result<(), Fail> {
     }
     assert!(rt; 0 < calls_of(&rt, rt.alloc(), Page::Table(Table::Assignments))?);
     assert!(rt; 0 < calls_of(&rt, rt.alloc(), Page::Table(Table::TopUps))?);
+    assert!(rt; 0 < calls_of(&rt, rt.alloc(), Page::Table(Table::Withdrawals))?);
     Ok(())
 }

@@ -3,7 +3,7 @@
 
 use super::{Upload, book_behind, page_of};
 use crate::sample::FIRST;
-use crate::uploads::{BESIDE, BETWEEN, TOPUP, TWO_READINGS};
+use crate::uploads::{BESIDE, BETWEEN, TOPUP, TWO_READINGS, TWO_WITHDRAWALS};
 use pw_book::{Book, BookFault};
 use pw_report::{Page, Table};
 use pw_shelf::Shelf;
@@ -47,6 +47,7 @@ const PAGES: &[(Page, usize)] = &[
     (Page::Table(Table::Energies), 239),
     (Page::Table(Table::Assignments), 49),
     (Page::Table(Table::TopUps), 64),
+    (Page::Table(Table::Withdrawals), 107),
 ];
 
 fn have_lengths<S: Shelf>(rt: &impl Abort, alloc: Global, book: &mut Book<S>) -> bool {
@@ -63,6 +64,7 @@ fn memory_refused(rt: HostRuntime) {
     let uploads = [
         Upload::Telegrams(TWO_READINGS),
         Upload::TopUps(TOPUP),
+        Upload::Withdrawals(TWO_WITHDRAWALS),
         Upload::Telegrams(BETWEEN),
         Upload::Telegrams(BESIDE),
     ];
