@@ -4,8 +4,9 @@ use crate::fault::Fault;
 use crate::figures::{Figures, more};
 use crate::folder::Folder;
 use crate::frames::{readout, telegram};
-use crate::meter::Meter;
+use crate::meter::{Levels, Meter};
 use crate::moment::quarter_begin;
+use crate::rows::{Comes, Rows, assignment_row, reading_row};
 use std::alloc::Global;
 use std::mem;
 
@@ -18,6 +19,9 @@ pub struct Desk<'a> {
     alloc: Global,
     pub folder: Folder<'a>,
     pub figures: Figures,
+    pub assignments: Rows,
+    pub topups: Rows,
+    pub withdrawals: Rows,
     /// Telegrams that have come and stand in no file yet, and how many they are.
     body: Vec<u8>,
     frames: u32,
@@ -34,6 +38,9 @@ impl<'a> Desk<'a> {
             alloc,
             folder,
             figures,
+            assignments: Rows::new(alloc, "assignments", "meter,start,account\n"),
+            topups: Rows::new(alloc, "topups", "reference,account,cents,instant\n"),
+            withdrawals: Rows::new(alloc, "withdrawals", "kind,first,second,third,fourth\n"),
             body: Vec::new(alloc),
             frames: 0,
             late: Vec::new(alloc),
@@ -54,7 +61,14 @@ impl<'a> Desk<'a> {
             }
         }
         if is_at(meter.plan.otherwise, quarter) {
-            self.take_otherwise(meter, second)?;
+            more(&mut self.figures.disputed_readings, 1);
+            self.take_otherwise(meter, &wrong_levels(meter), second)?;
+        }
+        if is_at(meter.plan.withdrawn, quarter) {
+            let levels = wrong_levels(meter);
+            self.take_otherwise(meter, &levels, second)?;
+            let row = reading_row(self.alloc, meter, &levels, second)?;
+            self.withdraw("reading", row.as_str(), &[Comes::Today])?;
         }
         if !is_at(meter.plan.late, quarter) {
             return self.send(frame.as_slice());
@@ -66,13 +80,34 @@ impl<'a> Desk<'a> {
         }
     }
 
+    /// Writes down a meter's assignment to an account or to nobody, from a second on, and answers its row.
+    pub fn assign(
+        &mut self,
+        meter: &Meter,
+        start: u32,
+        owner: Option<u32>,
+        comes: Comes,
+    ) -> Result<String, Fault> {
+        let row = assignment_row(self.alloc, meter, start, owner)?;
+        more(&mut self.figures.assignments, 1);
+        self.assignments.add(comes, row.as_str())?;
+        Ok(row)
+    }
+
+    /// Writes down the withdrawal of a record, by its kind and its row, for the files with which it comes.
+    pub fn withdraw(&mut self, kind: &str, row: &str, comes: &[Comes]) -> Result<(), Fault> {
+        let row = format!(in self.alloc; "{kind},{row}")?;
+        for each in comes {
+            self.withdrawals.add(*each, row.as_str())?;
+        }
+        more(&mut self.figures.withdrawals, 1);
+        Ok(())
+    }
+
     // A telegram of the same second with another value of the first register.
-    fn take_otherwise(&mut self, meter: &Meter, second: u32) -> Result<(), Fault> {
-        let mut levels = meter.levels;
-        levels.import[0] = levels.import[0].saturating_add(7);
-        let frame = telegram(self.alloc, meter, &levels, second)?;
+    fn take_otherwise(&mut self, meter: &Meter, levels: &Levels, second: u32) -> Result<(), Fault> {
+        let frame = telegram(self.alloc, meter, levels, second)?;
         more(&mut self.figures.readings, 1);
-        more(&mut self.figures.disputed_readings, 1);
         match self.again.push(frame) {
             Ok(()) => Ok(()),
             Err(_) => Err(Fault::Memory),
@@ -87,6 +122,16 @@ impl<'a> Desk<'a> {
             return Ok(());
         }
         self.make_file()
+    }
+
+    /// Makes files of the rows that come today: assignments, then top-ups, then withdrawals.
+    pub fn make_rows(&mut self) -> Result<(), Fault> {
+        let (folder, figures) = (&mut self.folder, &mut self.figures);
+        self.assignments
+            .make_file(folder, &mut figures.assignment_files)?;
+        self.topups.make_file(folder, &mut figures.topup_files)?;
+        self.withdrawals
+            .make_file(folder, &mut figures.withdrawal_files)
     }
 
     /// Makes a file of the telegrams that stand in none yet.
@@ -157,6 +202,13 @@ impl<'a> Desk<'a> {
         meter.waiting_frames = 0;
         Ok(())
     }
+}
+
+// Another value of the first register.
+fn wrong_levels(meter: &Meter) -> Levels {
+    let mut levels = meter.levels;
+    levels.import[0] = levels.import[0].saturating_add(7);
+    levels
 }
 
 fn wait(meter: &mut Meter, frame: &[u8]) -> Result<(), Fault> {

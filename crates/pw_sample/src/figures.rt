@@ -15,6 +15,7 @@ pub struct Figures {
     pub readout_files: u32,
     pub assignment_files: u32,
     pub topup_files: u32,
+    pub withdrawal_files: u32,
     pub telegrams: u32,
     pub readouts: u32,
     pub late_frames: u32,
@@ -22,6 +23,7 @@ pub struct Figures {
     pub readings: u32,
     pub assignments: u32,
     pub topups: u32,
+    pub withdrawals: u32,
     pub disputed_readings: u32,
     pub falls: u32,
 }
@@ -55,8 +57,17 @@ impl Figures {
         line(&mut text, "readout_files", self.readout_files)?;
         line(&mut text, "assignment_files", self.assignment_files)?;
         line(&mut text, "topup_files", self.topup_files)?;
+        line(&mut text, "withdrawal_files", self.withdrawal_files)?;
         self.push_records(&mut text)?;
         Ok(text)
+    }
+
+    // What is held: what is withdrawn too, and each withdrawal.
+    fn records(&self) -> u32 {
+        self.readings
+            .saturating_add(self.assignments)
+            .saturating_add(self.topups)
+            .saturating_add(self.withdrawals)
     }
 
     fn push_records(&self, text: &mut String) -> Result<(), AllocError> {
@@ -65,11 +76,11 @@ impl Figures {
         line(text, "readouts", self.readouts)?;
         line(text, "late_frames", self.late_frames)?;
         line(text, "repeated_frames", self.repeated_frames)?;
-        let others = self.assignments.saturating_add(self.topups);
-        line(text, "records", self.readings.saturating_add(others))?;
+        line(text, "records", self.records())?;
         line(text, "readings", self.readings)?;
         line(text, "assignments", self.assignments)?;
         line(text, "topups", self.topups)?;
+        line(text, "withdrawals", self.withdrawals)?;
         line(text, "disputed_readings", self.disputed_readings)?;
         line(text, "falls", self.falls)
     }
@@ -85,6 +96,7 @@ const NONE: Figures = Figures {
     readout_files: 0,
     assignment_files: 0,
     topup_files: 0,
+    withdrawal_files: 0,
     telegrams: 0,
     readouts: 0,
     late_frames: 0,
@@ -92,6 +104,7 @@ const NONE: Figures = Figures {
     readings: 0,
     assignments: 0,
     topups: 0,
+    withdrawals: 0,
     disputed_readings: 0,
     falls: 0,
 };

@@ -11,6 +11,7 @@ mod frames;
 mod meter;
 mod moment;
 mod office;
+mod rows;
 mod sample;
 
 use crate::asked::{Asked, USAGE, read_words};

@@ -31,13 +31,14 @@ pub struct Levels {
     pub export: [u64; 2],
 }
 
-/// Which quarter of an hour of a day has a telegram that comes late, one that comes again, and one that is told otherwise as
-/// well.
+/// Which quarter of an hour of a day has a telegram that comes late, one that comes again, one that is told otherwise as
+/// well, and one whose other value is withdrawn then.
 #[derive(Clone, Copy)]
 pub struct Plan {
     pub late: Option<u32>,
     pub again: Option<u32>,
     pub otherwise: Option<u32>,
+    pub withdrawn: Option<u32>,
 }
 
 /// A meter.
@@ -92,6 +93,14 @@ impl Meter {
         }
     }
 
+    /// Its first register, and what that shows of levels.
+    pub fn first_register(&self, levels: &Levels) -> (&'static str, u64) {
+        match self.shown {
+            Shown::Totals => ("I0", levels.import[0].saturating_add(levels.import[1])),
+            Shown::Rates => ("I1", levels.import[0]),
+        }
+    }
+
     /// Lets a quarter of an hour pass.
     pub fn pass(&mut self, quarter: u32, draws: &mut Draws) {
         let by_day = 24 <= quarter && quarter < 88;
@@ -113,6 +122,7 @@ pub const NO_PLAN: Plan = Plan {
     late: None,
     again: None,
     otherwise: None,
+    withdrawn: None,
 };
 
 /// The account of a meter at first: of three meters in a row the first has one account, the other two share one.

@@ -6,9 +6,10 @@ use crate::fault::Fault;
 use crate::figures::{Figures, more};
 use crate::folder::Folder;
 use crate::meter::{Clock, Meter, NO_PLAN, Plan, first_account};
-use crate::moment::{QUARTERS, day_begin, first_midnight, push_bytes, utc_text};
-use crate::office::{account_list, office_text, push_account};
-use std::alloc::{AllocError, Global};
+use crate::moment::{QUARTERS, day_begin, first_midnight};
+use crate::office::{account_list, office_text};
+use crate::rows::{Comes, topup_row};
+use std::alloc::Global;
 
 /// The quarter of an hour at which a register is set back.
 const SET_BACK: u32 = 50;
@@ -21,6 +22,8 @@ struct Cooperative<'a> {
     draws: Draws,
     accounts: u32,
     meters: Vec<Meter>,
+    /// How many payments have a reference: those that came, and those that never come.
+    payments: u32,
 }
 
 /// Makes a sample of so many meters and days in a folder that isn't there yet.
@@ -46,6 +49,7 @@ pub fn make_sample(
         draws,
         accounts,
         meters,
+        payments: 0,
     };
     cooperative.open()?;
     for day in 0..days {
@@ -67,14 +71,12 @@ fn all_meters(alloc: Global, count: u32, draws: &mut Draws) -> Result<Vec<Meter>
 impl<'a> Cooperative<'a> {
     // The first assignments, and a top-up of each account.
     fn open(&mut self) -> Result<(), Fault> {
-        let mut rows = String::from_str(self.alloc, "meter,start,account\n")?;
         for meter in self.meters.iter() {
-            push_assignment(&mut rows, meter, first_midnight())?;
-            more(&mut self.desk.figures.assignments, 1);
+            self.desk
+                .assign(meter, first_midnight(), meter.owner, Comes::Today)?;
         }
-        more(&mut self.desk.figures.assignment_files, 1);
-        self.desk.folder.put("assignments", rows.as_bytes())?;
-        self.top_up(0)
+        self.top_up(0)?;
+        self.desk.make_rows()
     }
 
     // A day of uploads. On the day of the fall a register is set back.
@@ -88,16 +90,22 @@ impl<'a> Cooperative<'a> {
         self.desk.take_again()?;
         self.desk.make_file()?;
         self.change_hands(day)?;
-        if day == 0 { Ok(()) } else { self.top_up(day) }
+        self.assign_wrongly(day)?;
+        if day > 0 {
+            self.top_up(day)?;
+        }
+        self.bounce(day)?;
+        self.desk.make_rows()
     }
 
-    // What is late still, the list of the uploads, and the figures.
+    // What is to come still, the list of the uploads, and the figures.
     fn close(&mut self) -> Result<(), Fault> {
         self.desk.take_late()?;
         self.desk.make_file()?;
         for meter in self.meters.iter_mut() {
             self.desk.make_readouts(meter)?;
         }
+        self.desk.make_rows()?;
         self.desk.folder.write_list()?;
         let figures = self.desk.figures.text(self.alloc, self.desk.folder.files)?;
         self.desk.folder.write("figures.txt", figures.as_bytes())
@@ -138,47 +146,89 @@ impl<'a> Cooperative<'a> {
 
     // Each day one meter of twenty is given to another account, or to nobody, from 10:00 UTC on.
     fn change_hands(&mut self, day: u32) -> Result<(), Fault> {
-        let mut rows = String::from_str(self.alloc, "meter,start,account\n")?;
-        let before = self.desk.figures.assignments;
         for meter in self.meters.iter_mut() {
             if meter.number.saturating_add(day.saturating_mul(3)) % 20 == 0 {
                 meter.owner = owner_after(meter, day, self.accounts);
-                push_assignment(&mut rows, meter, day_begin(day).saturating_add(36_000))?;
-                more(&mut self.desk.figures.assignments, 1);
+                let start = day_begin(day).saturating_add(36_000);
+                self.desk.assign(meter, start, meter.owner, Comes::Today)?;
             }
         }
-        if self.desk.figures.assignments == before {
-            return Ok(());
+        Ok(())
+    }
+
+    // Each day about one meter of 30 is assigned by mistake, from 12:00 UTC on, and about as many from 14:00 on: the second
+    // row comes on the next day, behind its withdrawal.
+    fn assign_wrongly(&mut self, day: u32) -> Result<(), Fault> {
+        for meter in self.meters.iter() {
+            let has_all = day == 0 && meter.number == 0;
+            for (second, comes) in [(43_200, Comes::Today), (50_400, Comes::Tomorrow)] {
+                if has_all || self.draws.once_in(30) {
+                    let owner = owner_after(meter, day, self.accounts);
+                    let start = day_begin(day).saturating_add(second);
+                    let row = self.desk.assign(meter, start, owner, comes)?;
+                    self.desk
+                        .withdraw("assignment", row.as_str(), &[Comes::Today])?;
+                }
+            }
         }
-        more(&mut self.desk.figures.assignment_files, 1);
-        self.desk.folder.put("assignments", rows.as_bytes())
+        Ok(())
     }
 
     // On the first day each account is topped up, on each later one an account of eight.
     fn top_up(&mut self, day: u32) -> Result<(), Fault> {
-        let mut rows = String::from_str(self.alloc, "reference,account,cents,instant\n")?;
-        let before = self.desk.figures.topups;
         for account in 0..self.accounts {
             if day == 0 || self.draws.once_in(8) {
-                more(&mut self.desk.figures.topups, 1);
-                let number = self.desk.figures.topups;
-                push_topup(&mut rows, number, account, day, &mut self.draws)?;
+                self.pay(account, day)?;
             }
         }
-        if self.desk.figures.topups == before {
-            return Ok(());
+        Ok(())
+    }
+
+    // Each day about one account of 24 has a payment that bounces: it is withdrawn on the next day. About as many have one
+    // that never comes: it is withdrawn today, and again on the next day.
+    fn bounce(&mut self, day: u32) -> Result<(), Fault> {
+        for account in 0..self.accounts {
+            let has_all = day == 0 && account == 0;
+            if has_all || self.draws.once_in(24) {
+                let row = self.pay(account, day)?;
+                self.desk
+                    .withdraw("topup", row.as_str(), &[Comes::Tomorrow])?;
+            }
+            if has_all || self.draws.once_in(24) {
+                let row = self.payment(account, day)?;
+                let comes = [Comes::Today, Comes::Tomorrow];
+                self.desk.withdraw("topup", row.as_str(), &comes)?;
+            }
         }
-        more(&mut self.desk.figures.topup_files, 1);
-        self.desk.folder.put("topups", rows.as_bytes())
+        Ok(())
+    }
+
+    // A payment that comes today.
+    fn pay(&mut self, account: u32, day: u32) -> Result<String, Fault> {
+        let row = self.payment(account, day)?;
+        more(&mut self.desk.figures.topups, 1);
+        self.desk.topups.add(Comes::Today, row.as_str())?;
+        Ok(row)
+    }
+
+    // A payment under the next reference: from 08:00 to 18:00 UTC, 10 to 199 euro.
+    fn payment(&mut self, account: u32, day: u32) -> Result<String, Fault> {
+        more(&mut self.payments, 1);
+        let second = self.draws.below(36_000) as u32;
+        let instant = day_begin(day).saturating_add(28_800).saturating_add(second);
+        let cents = self.draws.below(190).saturating_add(10).saturating_mul(100);
+        let row = topup_row(self.alloc, self.payments, account, cents, instant)?;
+        Ok(row)
     }
 }
 
-// What of a meter's telegrams of a day is out of the common; each of the three, where it has to be.
+// What of a meter's telegrams of a day is out of the common; each of the four, where it has to be.
 fn plan_of(has_all: bool, draws: &mut Draws) -> Plan {
     Plan {
         late: place_in(has_all || draws.once_in(4), 8, 32, draws),
         again: place_in(has_all || draws.once_in(4), 40, 24, draws),
         otherwise: place_in(has_all || draws.once_in(12), 64, 26, draws),
+        withdrawn: place_in(has_all || draws.once_in(12), 90, 6, draws),
     }
 }
 
@@ -198,33 +248,4 @@ fn owner_after(meter: &Meter, day: u32, accounts: u32) -> Option<u32> {
         Some(_) if accounts < 2 || meter.number.saturating_add(day) % 3 == 2 => None,
         Some(owner) => Some(owner.saturating_add(1) % accounts),
     }
-}
-
-fn push_assignment(rows: &mut String, meter: &Meter, start: u32) -> Result<(), AllocError> {
-    rows.push_str(meter.id.as_str())?;
-    rows.push(',')?;
-    push_bytes(rows, &utc_text(start))?;
-    rows.push(',')?;
-    if let Some(account) = meter.owner {
-        push_account(rows, account)?;
-    }
-    rows.push('\n')
-}
-
-// From 08:00 to 18:00 UTC, 10 to 199 euro.
-fn push_topup(
-    rows: &mut String,
-    number: u32,
-    account: u32,
-    day: u32,
-    draws: &mut Draws,
-) -> Result<(), AllocError> {
-    let second = draws.below(36_000) as u32;
-    let instant = day_begin(day).saturating_add(28_800).saturating_add(second);
-    let cents = draws.below(190).saturating_add(10).saturating_mul(100);
-    write!(rows, "P{number:06},")?;
-    push_account(rows, account)?;
-    write!(rows, ",{cents},")?;
-    push_bytes(rows, &utc_text(instant))?;
-    rows.push('\n')
 }
