@@ -43,6 +43,7 @@ enum Word {
     Count,
     Port,
     Origin,
+    Tell,
 }
 
 /// A command: its name, what it does, how it ends with an example, and the words that it takes.
@@ -109,6 +110,7 @@ static COMMANDS: [Asked; 7] = [
             Word::Port,
             Word::Limit,
             Word::Origin,
+            Word::Tell,
         ],
     },
 ];
@@ -183,6 +185,15 @@ fn origin<'a>(alloc: Global) -> Arg<'a> {
         )
 }
 
+fn told<'a>(alloc: Global) -> Arg<'a> {
+    Arg::new(alloc, "tell")
+        .long("tell")
+        .action(ArgAction::SetTrue)
+        .help(
+            "Tells each upload that was answered on standard error: when, where to, and the status",
+        )
+}
+
 fn meter<'a>(alloc: Global) -> Result<Arg<'a>, AllocError> {
     Arg::new(alloc, "meter")
         .long("meter")
@@ -206,6 +217,7 @@ fn argument<'a>(alloc: Global, word: Word) -> Result<Arg<'a>, AllocError> {
         Word::Count => Ok(count(alloc)),
         Word::Port => Ok(port(alloc)),
         Word::Origin => Ok(origin(alloc)),
+        Word::Tell => Ok(told(alloc)),
     }
 }
 

@@ -1,7 +1,7 @@
 use Rattle.std.proofs.Common.{refl}
 use Rattle.pw_http.specs.Routes.{route_table}
 use Rattle.matchit.proofs.OnLiterals.{matchit_on_literals}
-use Rattle.pw_http.proofs.routes.twelve_routes.Goals as goal
+use Rattle.pw_http.proofs.routes.thirteen_routes.Goals as goal
 
 pub returns : goal.returns
 unfolding route_table matchit_on_literals
