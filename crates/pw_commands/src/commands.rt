@@ -158,6 +158,7 @@ fn obey<I: Read, O: Write, E: Write, W: Watch>(
             port,
             limit,
             origins,
+            tells,
         } => {
             let origins = match origins_of(rt.alloc(), origins.as_slice()) {
                 Ok(origins) => origins,
@@ -165,7 +166,7 @@ fn obey<I: Read, O: Write, E: Write, W: Watch>(
             };
             let audience = Audience::Here(origins.as_slice());
             match book_at(rt, office, store, Purpose::Take, limit, watch) {
-                Ok(book) => serve(rt, book, audience, count, port, out, err),
+                Ok(book) => serve(rt, book, audience, count, port, tells, out, err),
                 Err(fault) => tell(rt.alloc(), fault, err),
             }
         }

@@ -14,6 +14,7 @@ mod progress;
 mod serving;
 mod store;
 mod telling;
+mod trail;
 
 pub use commands::{entries_of, run, run_watched};
 pub use fault::Fault;

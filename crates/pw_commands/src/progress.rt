@@ -9,7 +9,8 @@ const MANY: usize = 100_000;
 /// The parts of a store.
 const PARTS: u8 = 10;
 
-const UPGRADED: &[u8] = b"powerbook: the store was of version 1 and is of version 2 now: an older powerbook won't open it any more\n";
+const UPGRADED: &[u8] =
+    b"powerbook: the store was of version 1 and is of version 2 now: an older powerbook won't open it any more\n";
 
 /// Tells that a store was brought to a later version, and a person who waits each part that was checked, where there are
 /// many records.

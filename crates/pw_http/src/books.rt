@@ -8,7 +8,7 @@ ghost use Rattle.pw_http.specs.inner.Answered.{reply_of};
 
 use crate::answers::{Answer, answer_at, said};
 use crate::audience::Audience;
-use crate::conversation::serve_within;
+use crate::conversation::{MOST_TURNS, serve_for};
 use crate::fault::WireFault;
 use crate::replies::Status;
 use crate::routes::{Place, Routes};
@@ -19,9 +19,6 @@ use pw_book::Book;
 use pw_shelf::Shelf;
 use std::alloc::Global;
 use std::io::{Read, Write};
-
-/// The most calls of `read` in a conversation.
-pub const MOST_TURNS: u32 = 16_777_216;
 
 /// Uploads are posted, and pages are asked for, each by its route.
 impl<S: Shelf> Service for Book<S> {
@@ -45,7 +42,8 @@ impl<S: Shelf> Service for Book<S> {
     }
 }
 
-fn reply_to<S: Shelf>(
+/// What a book replies to a request.
+pub(crate) fn reply_to<S: Shelf>(
     book: &mut Book<S>,
     alloc: Global,
     routes: &Routes,
@@ -73,10 +71,7 @@ fn converse_for<S: Shelf, R: Read, W: Write>(
     ensures talk { IsTalk audience.entry (Answers S.Shelf) (R.remaining reader.old) (R.remaining reader.new) (W.contents writer.old) (W.contents writer.new) book.old book.new turns result }
     ensures headline { HasHeadline S.Shelf audience.entry (R.remaining reader.old) (R.remaining reader.new) (W.contents writer.old) (W.contents writer.new) book.old book.new result }
 {
-    let Ok(routes) = Routes::new(alloc) else {
-        return Err(WireFault::Memory);
-    };
-    serve_within(alloc, book, &routes, audience, reader, writer, turns)
+    serve_for(alloc, book, audience, reader, writer, turns)
 }
 
 /// Reads requests and writes what a book replies, by at most `turns` calls of `read`, until the stream or the

@@ -19,6 +19,9 @@ use httparse::spans::{EMPTY_HEADER_SPAN, HeaderSpan};
 use std::alloc::Global;
 use std::io::{Read, Write};
 
+/// The most calls of `read` in a conversation.
+pub const MOST_TURNS: u32 = 16_777_216;
+
 /// What one look at the bytes received led to.
 #[derive(Clone, Copy, Debug, PartialEq, Eq)]
 pub(crate) enum Turn {
@@ -177,4 +180,35 @@ pub fn serve_within<S: Service, R: Read, W: Write>(
         }
     }
     Err(WireFault::TooManyTurns)
+}
+
+/// The same by the routes of this project.
+pub(crate) fn serve_for<S: Service, R: Read, W: Write>(
+    alloc: Global,
+    service: &mut S,
+    audience: Audience,
+    reader: &mut R,
+    writer: &mut W,
+    turns: u32,
+) -> Result<Served, WireFault>
+    ensures talk { IsTalk audience.entry S.serves (R.remaining reader.old) (R.remaining reader.new) (W.contents writer.old) (W.contents writer.new) service.old service.new turns result }
+{
+    let Ok(routes) = Routes::new(alloc) else {
+        return Err(WireFault::Memory);
+    };
+    serve_within(alloc, service, &routes, audience, reader, writer, turns)
+}
+
+/// Reads requests and writes what a service replies to those that are let in, by at most 16,777,216 calls of `read`:
+/// [`serve_within`] by the routes of this project.
+pub fn serve_to<S: Service, R: Read, W: Write>(
+    alloc: Global,
+    service: &mut S,
+    audience: Audience,
+    reader: &mut R,
+    writer: &mut W,
+) -> Result<Served, WireFault>
+    ensures talk { IsTalk audience.entry S.serves (R.remaining reader.old) (R.remaining reader.new) (W.contents writer.old) (W.contents writer.new) service.old service.new MOST_TURNS result }
+{
+    serve_for(alloc, service, audience, reader, writer, MOST_TURNS)
 }

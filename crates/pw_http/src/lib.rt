@@ -16,10 +16,11 @@ mod routes;
 mod send;
 mod served;
 mod service;
+mod trail;
 
 pub use audience::{Audience, Origin, Scheme};
-pub use books::{MOST_TURNS, converse, converse_with, converse_within};
-pub use conversation::serve_within;
+pub use books::{converse, converse_with, converse_within};
+pub use conversation::{MOST_TURNS, serve_to, serve_within};
 pub use fault::WireFault;
 pub use heads::{LONGEST_HEAD, MOST_FIELDS};
 pub use pw_frame::LONGEST_BODY;
@@ -29,3 +30,4 @@ pub use routes::{Place, Route, Routes};
 pub use send::send_reply;
 pub use served::Served;
 pub use service::Service;
+pub use trail::{Trail, Trailed};

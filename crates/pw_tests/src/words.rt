@@ -22,7 +22,7 @@ fn no_words(rt: HostRuntime) -> Result<(), Fail> {
     Ok(())
 }
 
-fn serve<'a>(alloc: Global, count: u32, port: u16) -> Command<'a> {
+fn serve<'a>(alloc: Global, count: u32, port: u16, tells: bool) -> Command<'a> {
     Command::Serve {
         office: "o",
         store: "s",
@@ -30,6 +30,7 @@ fn serve<'a>(alloc: Global, count: u32, port: u16) -> Command<'a> {
         port,
         limit: LIMIT,
         origins: Vec::new(alloc),
+        tells,
     }
 }
 
@@ -38,15 +39,15 @@ fn words_of_servers(rt: HostRuntime) -> Result<(), Fail> {
     let cases = [
         (
             ["serve", "o", "s", "--count", "0"].as_slice(),
-            serve(rt.alloc(), 0, 8_460),
+            serve(rt.alloc(), 0, 8_460, false),
         ),
         (
             ["serve", "o", "s", "--count", "4294967295", "--port", "1"].as_slice(),
-            serve(rt.alloc(), u32::MAX, 1),
+            serve(rt.alloc(), u32::MAX, 1, false),
         ),
         (
-            ["serve", "o", "s", "--port=65535", "--count=2"].as_slice(),
-            serve(rt.alloc(), 2, 65_535),
+            ["serve", "o", "s", "--tell", "--port=65535", "--count=2"].as_slice(),
+            serve(rt.alloc(), 2, 65_535, true),
         ),
     ];
     for (words, wanted) in cases {

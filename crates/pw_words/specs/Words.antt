@@ -41,7 +41,7 @@ IsSound (command.Pipe office limit) = IsLimit limit
 IsSound (command.Load office store kind file limit) = IsLimit limit
 IsSound (command.Statement office store account) = ⊤
 IsSound (command.Export office store what) = ⊤
-IsSound (command.Serve office store count port limit origins) = IsLimit limit × (1 ≤ port)
+IsSound (command.Serve office store count port limit origins tells) = IsLimit limit × (1 ≤ port)
 
 -- why words give no command, where they ask for no help
 abbrev pub IsRefusal : WordsFault → Type 0

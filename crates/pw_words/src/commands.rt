@@ -41,7 +41,7 @@ pub enum Command<'a> {
         what: Table,
     },
     /// `count` connections to a port of this machine are served; pages of these origins, as their words stand, may ask
-    /// too.
+    /// too; and each upload that was answered is told, where `tells` says so.
     Serve {
         office: &'a str,
         store: &'a str,
@@ -49,5 +49,6 @@ pub enum Command<'a> {
         port: u16,
         limit: u32,
         origins: Vec<&'a str>,
+        tells: bool,
     },
 }

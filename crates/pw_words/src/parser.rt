@@ -44,6 +44,7 @@ enum Word {
     Count,
     Port,
     Origin,
+    Tell,
 }
 
 /// A command: its name, what it does, how it ends with an example, and the words that it takes.
@@ -110,6 +111,7 @@ static COMMANDS: [Asked; 7] = [
             Word::Port,
             Word::Limit,
             Word::Origin,
+            Word::Tell,
         ],
     },
 ];
@@ -184,6 +186,15 @@ fn origin<'a>(alloc: Global) -> Arg<'a> {
         )
 }
 
+fn told<'a>(alloc: Global) -> Arg<'a> {
+    Arg::new(alloc, "tell")
+        .long("tell")
+        .action(ArgAction::SetTrue)
+        .help(
+            "Tells each upload that was answered on standard error: when, where to, and the status",
+        )
+}
+
 fn meter<'a>(alloc: Global) -> Result<Arg<'a>, AllocError> {
     Arg::new(alloc, "meter")
         .long("meter")
@@ -207,6 +218,7 @@ fn argument<'a>(alloc: Global, word: Word) -> Result<Arg<'a>, AllocError> {
         Word::Count => Ok(count(alloc)),
         Word::Port => Ok(port(alloc)),
         Word::Origin => Ok(origin(alloc)),
+        Word::Tell => Ok(told(alloc)),
     }
 }
 

@@ -200,6 +200,7 @@ fn serve_of<'a>(words: &ArgMatches<'a>, origins: Vec<&'a str>) -> Option<Command
         port,
         limit: limit_of(words)?,
         origins,
+        tells: words.get_flag("tell"),
     })
 }
 
