@@ -1,11 +1,7 @@
 use Rattle.std.proofs.Common.{refl}
 use Rattle.pw_http.specs.Routes.{route_table}
 use Rattle.matchit.proofs.OnLiterals.{matchit_on_literals}
-<<<<<<<< HEAD:crates/pw_http/proofs/routes/fourteen_routes/Answers.antt
 use Rattle.pw_http.proofs.routes.fourteen_routes.Goals as goal
-========
-use Rattle.pw_http.proofs.routes.thirteen_routes.Goals as goal
->>>>>>>> fdd3004795e53a5300436a92b4a9ff1fa91ca52e:crates/pw_http/proofs/routes/thirteen_routes/Answers.antt
 
 pub returns : goal.returns
 unfolding route_table matchit_on_literals
