@@ -1,5 +1,5 @@
 -- A book whose exports are uploaded to another one.
-use Rattle.std.proofs.Common.{◌≡◌, List, ℕ, [], ◌∷◌, ◌++◌, map, sym, refl, subst, inl, inr}
+use Rattle.std.proofs.Common.{◌≡◌, List, ℕ, [], ◌∷◌, ◌++◌, map, refl, subst, inl, inr}
 use Rattle.pw_tariff.specs.Office.{IsSound, OfficeFile, office_of}
 use Rattle.pw_model.specs.declared.records.Entry.{Entry}
 use Rattle.pw_model.specs.Counting.{Member}
@@ -14,7 +14,7 @@ use Rattle.pw_record.proofs.EachListed.{listed-there_is}
 use Rattle.pw_record.proofs.OneOutcome.{one-outcome}
 use Rattle.pw_book.specs.After.{Brings}
 use Rattle.pw_report.specs.Exports.{records_text}
-use Rattle.pw_report.specs.Laws.{AreMoved, ExportsMoveBooks, IsPartOf, Part, part_upload, rows_upload}
+use Rattle.pw_report.specs.Laws.{ExportsMoveBooks, IsPartOf, Part, part_upload, rows_upload}
 use Rattle.pw_report.proofs.Uploading.{exports-are-uploads}
 
 gives-rows : (file : OfficeFile) (kind : RowKind) (text : List ℕ) (entries : List Entry) → RowsGive file kind text entries → Gives file (rows_upload kind text) entries

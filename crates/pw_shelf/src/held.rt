@@ -1,6 +1,6 @@
 //! The records of a store in memory, in order.
 
-ghost use Rattle.std.specs.Prelude.{◌≡◌, ◌<◌, ◌≤◌, [], IfOk, IfErr, OnOk, OnErr, IsTrue, ◌↔◌, length};
+ghost use Rattle.std.specs.Prelude.{◌≡◌, ◌<◌, ◌≤◌, [], IfErr, OnOk, OnErr, IsTrue, ◌↔◌, length};
 ghost use Rattle.pw_model.specs.Office.{most_records};
 ghost use Rattle.pw_model.specs.Counting.{Member, IsInserted};
 ghost use Rattle.pw_model.specs.Counting.{EachOnce};
@@ -10,7 +10,7 @@ ghost use Rattle.pw_shelf.specs.declared.fault.ShelfFault.TheVariants.{Memory};
 ghost use Rattle.pw_model.specs.declared.records.Key.TheVariants as key;
 
 use crate::fault::ShelfFault;
-use pw_model::{Contents, Entry, Key, Named};
+use pw_model::{Entry, Key, Named};
 use std::alloc::Global;
 use std::collections::BTreeSet;
 

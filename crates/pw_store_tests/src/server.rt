@@ -114,6 +114,7 @@ fn is_replied_behind_another<S: Shelf>(rt: &HostRuntime, book: &mut Book<S>) -> 
 }
 
 // bears on: pw_commands serving.rt serve_on ensures
+// bears on: pw_http conversation.rt serve_to talk
 #[test]
 fn two_connections(rt: HostRuntime) -> Result<(), Fail> {
     let mut book = book_of(rt.alloc(), SAMPLE, LIMIT).map_err(|_| "the sample office")?;

@@ -3,7 +3,9 @@
 use super::counted::{failing_device, failing_device_and_abandon};
 use super::memory::memory_refused;
 use super::sql::OverSql;
-use super::{Books, Counting, InMemory, questions, uploads, withdrawn};
+use super::uploads::agrees_behind_each;
+use super::withdrawn::withdrawn_records;
+use super::{Books, Counting, InMemory, questions};
 use std::alloc::Global;
 use std::process::Abort;
 use std::test::Fail;
@@ -31,8 +33,8 @@ fn group_holds<B: Books>(
 ) -> Result<(), Fail> {
     match group {
         Group::Uploads => {
-            uploads::agrees_behind_each(rt, alloc, books)?;
-            withdrawn::agrees_behind_each(rt, alloc, books)
+            agrees_behind_each(rt, alloc, books)?;
+            withdrawn_records(rt, alloc, books)
         }
         Group::Memory => memory_refused(rt, alloc, books),
         Group::Failures => failures(rt, alloc, books),

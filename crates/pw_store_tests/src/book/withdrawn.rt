@@ -91,7 +91,7 @@ fn agrees_behind<B: Books>(
 // bears on: pw_shelf shelf.rt Shelf::add added
 // bears on: pw_shelf shelf.rt Shelf::contents_at rows
 // bears on: pw_shelf shelf.rt Shelf::withdrawals rows
-pub(super) fn agrees_behind_each<B: Books>(
+pub(super) fn withdrawn_records<B: Books>(
     rt: &impl Abort,
     alloc: Global,
     books: &B,

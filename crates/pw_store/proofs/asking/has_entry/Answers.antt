@@ -1,5 +1,4 @@
 use Rattle.sqlite.specs.Held.{state}
-use Rattle.pw_store.specs.inner.Records.{entry_as}
 use Rattle.pw_schema.proofs.Outcomes.{early}
 use Rattle.pw_store.proofs.OneKind.{found_moved, no_foreign}
 use Rattle.pw_store.proofs.asking.has_entry.Goals as goal
