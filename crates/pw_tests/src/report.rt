@@ -75,7 +75,7 @@ fn entries_of(
         Upload::Telegrams(body) => telegram_records(alloc, office, zone, body),
         Upload::Assignments(body) => assignment_records(alloc, office, body),
         Upload::TopUps(body) => topup_records(alloc, office, body),
-        Upload::Withdrawals(body) => withdrawal_records(alloc, office, body),
+        Upload::Withdrawals(body) => withdrawal_records(alloc, office, zone, body),
     }
 }
 
