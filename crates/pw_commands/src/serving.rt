@@ -9,7 +9,10 @@ use crate::fault::Fault;
 use crate::store::{FileBook, close_book};
 use crate::telling::{tell, write_whole};
 use crate::trail::Lines;
+use pw_book::Book;
 use pw_http::{Audience, MOST_TURNS, Served, Service, Trailed, WireFault, serve_to};
+use pw_store::SqlShelf;
+use sqlite::Alter;
 use std::alloc::Global;
 use std::io::Write;
 use std::net::{TcpListener, TcpStream};
@@ -29,13 +32,44 @@ pub fn serve<O: Write, E: Write>(
 ) -> u8
     ensures { (result ≡ 0) ⊎ (result ≡ 3) }
 {
-    if !tells {
-        let status = listen(rt, &mut book, audience, count, port, out, err);
+    if tells {
+        let (status, book) = serve_told(rt, book, audience, count, port, out, err);
         return closed(rt.alloc(), book, status, err);
     }
+    let status = serve_book(rt, &mut book, audience, count, port, out, err);
+    closed(rt.alloc(), book, status, err)
+}
+
+// Serves connections with a book over any store that is written to as SQLite's are.
+fn serve_book<S: Alter, O: Write, E: Write>(
+    rt: &HostRuntime,
+    book: &mut Book<SqlShelf<S>>,
+    audience: Audience<'_>,
+    count: u32,
+    port: u16,
+    out: &mut O,
+    err: &mut E,
+) -> u8
+    ensures { (result ≡ 0) ⊎ (result ≡ 3) }
+{
+    listen(rt, book, audience, count, port, out, err)
+}
+
+// The same, with a line for each upload that was answered.
+fn serve_told<S: Alter, O: Write, E: Write>(
+    rt: &HostRuntime,
+    book: Book<SqlShelf<S>>,
+    audience: Audience<'_>,
+    count: u32,
+    port: u16,
+    out: &mut O,
+    err: &mut E,
+) -> (u8, Book<SqlShelf<S>>)
+    ensures { (result.0 ≡ 0) ⊎ (result.0 ≡ 3) }
+{
     let mut told = Trailed::new(book, Lines::new(rt, rt.stderr()));
     let status = listen(rt, &mut told, audience, count, port, out, err);
-    closed(rt.alloc(), told.into_book(), status, err)
+    (status, told.into_book())
 }
 
 // The exit status behind a server, whose book is closed.
