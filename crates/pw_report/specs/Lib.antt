@@ -4,7 +4,7 @@
 -- Exports: the exports of readings and energies, and of records as the rows of their uploads
 -- Pages: what each page says of a set of records
 -- Reports: what a report leaves of a book
--- Laws: one text for each page, and what the export of energies adds up to
+-- Laws: one text for each page, what the export of energies adds up to, and what a book's exports move to another one
 pub mod Amounts
 pub mod Tables
 pub mod Exports

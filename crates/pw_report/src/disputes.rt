@@ -13,8 +13,8 @@ use pw_shelf::Shelf;
 use pw_tariff::Office;
 use std::alloc::{AllocError, Global};
 
-/// The disputes, by the records held: the keys that two or more of them have, and how many. Readings first, then
-/// assignments, then top-ups; each by its key.
+/// The disputes, by the records held: the keys that two or more of them have that aren't withdrawn, and how many. Readings
+/// first, then assignments, then top-ups; each by its key.
 ///
 /// `Device`, `Memory` and `Reopen` (of a shut book) leave the records as they are.
 pub fn disputes_table<S: Shelf>(book: &mut Book<S>, alloc: Global) -> Result<Vec<u8>, BookFault>

@@ -24,7 +24,7 @@ use pw_shelf::Shelf;
 use pw_tariff::MeterId;
 use std::alloc::Global;
 
-/// All readings held, as CSV, each with whether it counts. By meter, register, instant and Wh.
+/// All readings held, as CSV, each with whether it counts, doesn't, or is withdrawn. By meter, register, instant and Wh.
 ///
 /// `Device`, `Memory` and `Reopen` (of a shut book) leave the records as they are.
 pub fn export_readings<S: Shelf>(book: &mut Book<S>, alloc: Global) -> Result<Vec<u8>, BookFault>

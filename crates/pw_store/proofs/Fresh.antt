@@ -1,5 +1,5 @@
 -- What `open` makes where nothing was there may be opened.
-use Rattle.std.proofs.Common.{◌≡◌, inr, unwrap_or, ℕ, IsTrue, cond, List, [], ◌∷◌, refl, sym, ap, subst, ◌∙◌, ◌≤◌, length, arith}
+use Rattle.std.proofs.Common.{◌≡◌, inl, inr, unwrap_or, ℕ, IsTrue, cond, List, [], ◌∷◌, refl, sym, ap, subst, ◌∙◌, ◌≤◌, length, arith}
 use Rattle.std.specs.List.{AllByRecursion}
 use Rattle.std.specs.List.Sorted.{IsPermutation}
 use Rattle.std.proofs.lemmas.List.Sorted.{IsPermutation-refl}
@@ -95,6 +95,7 @@ fresh_opened office body old new idle none fresh now = record {
   settled = now.settled;
   may_open = fresh_opens body new.now fresh office;
   found = inr (ap (λ (d : Database). d.schema) (sym idle.settled) ∙ none, fresh_content body new.now fresh);
+  opens = inl (ap (λ (d : Database). d.schema) (sym idle.settled) ∙ none);
 }
 
 -- of an open connection on which nothing waits, a crash leaves what it holds

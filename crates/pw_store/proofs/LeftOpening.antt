@@ -39,7 +39,7 @@ use Rattle.pw_store.specs.Opening.{HasRows, IsFound, IsOpenable, KeepsText, Name
 use Rattle.pw_store.proofs.KeyedRows.{row_told, told_row}
 use Rattle.pw_store.proofs.LeftStores.{all_members}
 use Rattle.pw_store.proofs.Neighbours.{all_member}
-use Rattle.pw_store.proofs.Openable.{opens}
+use Rattle.pw_store.proofs.Openable.{opens_version}
 use Rattle.pw_store.proofs.Others.{same_total-decides}
 use Rattle.pw_store.proofs.Reopening.{found_ours}
 
@@ -143,7 +143,7 @@ module _ (s opened : State) (was : KeepsOpened s opened) (office : OfficeFile) (
   left_ours = ours
 
 pub left_opens : (s opened : State) → KeepsOpened s opened → LeftOpens s opened
-left_opens s opened was office body found is it fault = opens Second (office_of office) body found fault (openable s opened was office body found is it)
+left_opens s opened was office body found is it fault = opens_version Second (office_of office) body found fault (openable s opened was office body found is it)
 
 -- ---- opened again
 module _ {A E : Type 0} (s opened found : State) (was : KeepsOpened s opened) (body : List ℕ) (it : IsLeftBehind s opened body found) where

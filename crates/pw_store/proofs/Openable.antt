@@ -1,5 +1,5 @@
 -- A store of this office, of either version, and of this text is refused only for the engine's sake, or for memory.
-use Rattle.std.proofs.Common.{arith, ◌≡◌, inl, inr, ℕ, pos, length, List, [], ◌∷◌, refl, sym, ap, subst, ◌∙◌}
+use Rattle.std.proofs.Common.{arith, ◌≡◌, ◌⊎◌, inl, inr, ℕ, pos, length, List, [], ◌∷◌, refl, sym, ap, subst, ◌∙◌}
 use Rattle.std.specs.List.Sorted.{IsPermutation}
 use Rattle.std.proofs.lemmas.List.Sorted.{IsPermutation-sym, IsPermutation-trans}
 use Rattle.sqlite.specs.declared.types.Value.{Value}
@@ -11,10 +11,11 @@ use Rattle.pw_tariff.specs.Office.{OfficeRules}
 use Rattle.pw_schema.specs.declared.kind.StoreVersion.{StoreVersion}
 use Rattle.pw_schema.specs.declared.kind.StoreVersion.TheVariants.{First, Second}
 use Rattle.pw_schema.specs.Judging.{HasVersion}
-use Rattle.pw_schema.specs.Tables.{IsOf, version_number}
+use Rattle.pw_schema.specs.Tables.{BeginsAsOurs, IsOf, no_schema, version_number}
 use Rattle.sqlite.proofs.Callers.{one_permutation}
+use Rattle.pw_store.specs.declared.fault.OpenFault.{OpenFault}
 use Rattle.pw_store.specs.declared.fault.OpenFault.TheVariants.{Store, Memory, OfficeDiffers, Version, Unclean}
-use Rattle.pw_store.specs.Opening.{HoldsTables, IsOpenable, IsSpoilt, KeepsText, OpenableOpens, offices}
+use Rattle.pw_store.specs.Opening.{HoldsTables, IsOpenable, IsSpoilt, KeepsText, OpenableOpens, Refuses, offices}
 use Rattle.pw_store.proofs.OfficeFirst.{version_begins}
 use Rattle.pw_store.proofs.OfContent.{records_held, sums_held}
 
@@ -59,24 +60,39 @@ module _ (v : StoreVersion) (office : OfficeRules) (body : List ℕ) (db : Datab
   not_spoilt (inr (inr (inl sums))) = sums (sums_held v office db.trees it.rows it.of_office it.truth it.named)
   not_spoilt (inr (inr (inr untrue))) = untrue it.truth
 
-pub opens : OpenableOpens
-opens v office body db Store it r = inl refl
-opens v office body db Memory it r = inr refl
-opens v office body db OfficeDiffers it r =
+pub opens_version : (v : StoreVersion) (office : OfficeRules) (body : List ℕ) (db : Database) (fault : OpenFault) → IsOpenable v office body db → Refuses office body db fault → (fault ≡ Store) ⊎ (fault ≡ Memory)
+opens_version v office body db Store it r = inl refl
+opens_version v office body db Memory it r = inr refl
+opens_version v office body db OfficeDiffers it r =
     let told = r.1.1.1 in
     let other = told.1.1 in
     let same = same_as v office body db it other.0 told.0 told.1.0 other.1 in
     absurd (other.3 (subst (λ (row : Row). column row 1 ≡ _) (sym same) it.text.1.1.3))
-opens v office body db Version it r =
+opens_version v office body db Version it r =
     let told = r.1 in
     let other = told.1.1 in
     let same = same_as v office body db it other.0 told.0 told.1.0 other.1 in
     absurd (other.2 v (subst (λ (row : Row). column row 0 ≡ _) (sym same) it.text.1.1.2))
-opens v office body db Unclean it (inl r) = absurd (r.1 (version_begins v db.schema it.ours.schema_is))
-opens v office body db Unclean it (inr r) = elim r.1 [
+opens_version v office body db Unclean it (inl r) = absurd (r.1 (version_begins v db.schema it.ours.schema_is))
+opens_version v office body db Unclean it (inr r) = elim r.1 [
   | inl none ↦ absurd (none.1.1 it.text.1.1.0 (same_row _ it.text.0 none.0 it.text.1.1.0 it.text.1.0 none.1.0 it.text.1.1.1))
   | inr more ↦ elim more [
     | inl beside ↦ absurd (not_beside v office body db it beside.0 beside.1.0 beside.1.1)
     | inr spoilt ↦ absurd (not_spoilt v office body db it (subst (λ w. IsSpoilt w office db.trees) (one_version spoilt.0 v db.schema spoilt.1.0.schema_is it.ours.schema_is) spoilt.1.1.1))
   ]
 ]
+
+not_begun : (s : Schema) → s ≡ no_schema → BeginsAsOurs s → ⊥
+not_begun s none begun = let e : 0 ≡ 8 = ap length (subst BeginsAsOurs none begun).tables in omega (arith, e)
+
+nothing_opens : (office : OfficeRules) (body : List ℕ) (db : Database) (fault : OpenFault) → db.schema ≡ no_schema → Refuses office body db fault → (fault ≡ Store) ⊎ (fault ≡ Memory)
+nothing_opens office body db Store none r = inl refl
+nothing_opens office body db Memory none r = inr refl
+nothing_opens office body db OfficeDiffers none r = absurd (not_begun db.schema none r.0)
+nothing_opens office body db Version none r = absurd (not_begun db.schema none r.0)
+nothing_opens office body db Unclean none (inl r) = absurd (r.0 none)
+nothing_opens office body db Unclean none (inr r) = absurd (not_begun db.schema none r.0)
+
+pub opens : OpenableOpens
+opens office body db fault (inl none) r = nothing_opens office body db fault none r
+opens office body db fault (inr it) r = opens_version it.0 office body db fault it.1 r

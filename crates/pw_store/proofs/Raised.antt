@@ -1,5 +1,5 @@
 -- A store of version 1 brought to version 2: its content, and what refuses its rows.
-use Rattle.std.proofs.Common.{◌≡◌, inl, inr, Result, Ok, Err, IfErr, OnErr, ℕ, false, List, [], map, unwrap_or, length, refl, sym, ap, subst, ◌∙◌, arith}
+use Rattle.std.proofs.Common.{◌≡◌, ◌≤◌, inl, inr, Result, Ok, Err, IfErr, OnErr, ℕ, false, List, [], map, unwrap_or, length, refl, sym, ap, subst, ◌∙◌, arith}
 use Rattle.std.specs.List.{AllByRecursion}
 use Rattle.std.specs.List.Sorted.{IsPermutation}
 use Rattle.sqlite.specs.Order.{Row}
@@ -8,9 +8,11 @@ use Rattle.sqlite.specs.Effect.{Database}
 use Rattle.sqlite.specs.State.{State, HasCleanDisk, IsUnchanged, Shows, Survives}
 use Rattle.sqlite.proofs.StateLemmas.{survives_then, survives_weaker}
 use Rattle.pw_tariff.specs.Office.{OfficeRules}
+use Rattle.pw_model.specs.declared.records.Entry.{Entry}
 use Rattle.pw_model.specs.declared.records.TotalKey.{TotalKey}
 use Rattle.pw_model.specs.declared.records.TotalKey.TheVariants as total
 use Rattle.pw_model.specs.Counting.{EachOnce, Member}
+use Rattle.pw_model.specs.Office.{AllOfOffice, most_records}
 use Rattle.pw_model.specs.Shelf.{IsTrueContent}
 use Rattle.pw_schema.specs.declared.kind.RecordKind.{RecordKind}
 use Rattle.pw_schema.specs.declared.kind.RecordKind.TheVariants.{Readings, Assignments, TopUps, WithdrawnReadings, WithdrawnAssignments, WithdrawnTopUps}
@@ -19,15 +21,18 @@ use Rattle.pw_schema.specs.declared.kind.TotalKind.TheVariants.{Energies, Paymen
 use Rattle.pw_schema.specs.declared.kind.StoreVersion.{StoreVersion}
 use Rattle.pw_schema.specs.declared.kind.StoreVersion.TheVariants.{First, Second}
 use Rattle.pw_schema.specs.Fresh.{IsIdleAt}
-use Rattle.pw_schema.specs.Judging.{HasOtherText, HasVersion, KeepsVersion}
+use Rattle.pw_schema.specs.Judging.{HasOtherText, HasVersion, IsTotalOf, KeepsVersion}
 use Rattle.pw_schema.specs.Raised.{IsRaised}
 use Rattle.pw_schema.proofs.Outcomes.{early}
-use Rattle.pw_store.specs.Content.{IsRowOf, content_of, content_of_version, energy_told, entry_in, payment_told, point_in, records_of, records_of_version, start_in, total_in, tree_of}
-use Rattle.pw_store.specs.Left.{MayBeMade, MayBeUpgraded}
-use Rattle.pw_store.specs.Opening.{BegunRefuses, HoldsAllRecords, HoldsKept, HoldsRecords, HoldsSums, HoldsTables, HoldsTotals, IsSpoilt, KeepsText, Refuses, offices}
+use Rattle.pw_store.specs.Content.{IsAssignmentRow, IsReadingRow, IsRowOf, content_of, content_of_version, energy_in, energy_told, entry_in, kinds_of, payment_in, payment_told, point_in, records_of, records_of_version, start_in, total_in, tree_of}
+use Rattle.pw_store.specs.Keyed.{IsEnergyRow, IsPaymentRow}
+use Rattle.pw_store.specs.Kept.{key_in_point, key_in_start}
+use Rattle.pw_store.specs.Left.{IsUpgraded, MayBeMade, MayBeUpgraded}
+use Rattle.pw_store.specs.Opening.{AreRows, BegunRefuses, HasRows, HoldsAllRecords, HoldsKept, HoldsRecords, HoldsSums, HoldsTables, HoldsTotals, IsOpenable, IsSpoilt, KeepsText, NamesOffice, Refuses, offices}
 use Rattle.pw_store.specs.inner.Opened.{IsOpened, IsReady, IsSound, MayOpen, RowRefuses, RowsRefuse}
 use Rattle.pw_store.specs.declared.fault.OpenFault.{OpenFault}
 use Rattle.pw_store.specs.declared.fault.OpenFault.TheVariants.{Store, Memory, OfficeDiffers, Version, Unclean}
+use Rattle.pw_store.proofs.LeftStores.{rows_of}
 
 module _ (before db : Trees) (h : IsRaised before db) where
   totals : total_in db ≡ total_in before
@@ -92,6 +97,54 @@ module _ (before db : Trees) (h : IsRaised before db) where
   refused_before office Version r = r
   refused_before office Unclean r = spoilt_before office r
 
+-- ---- a store of version 1 that was raised to a sound one opens
+module _ (before db : Trees) (h : IsRaised before db) where
+  kinds_before : ((k : RecordKind) → Member k (kinds_of Second) → AllByRecursion (IsRowOf k) (db (tree_of k))) → (k : RecordKind) → Member k (kinds_of First) → AllByRecursion (IsRowOf k) (before (tree_of k))
+  kinds_before rows k (inl e) = subst (λ j. AllByRecursion (IsRowOf j) (before (tree_of j))) (sym e) (subst (AllByRecursion (IsRowOf Readings)) h.same.0 (rows Readings (inl refl)))
+  kinds_before rows k (inr (inl e)) = subst (λ j. AllByRecursion (IsRowOf j) (before (tree_of j))) (sym e) (subst (AllByRecursion (IsRowOf Assignments)) h.same.1.0 (rows Assignments (inr (inl refl))))
+  kinds_before rows k (inr (inr (inl e))) = subst (λ j. AllByRecursion (IsRowOf j) (before (tree_of j))) (sym e) (subst (AllByRecursion (IsRowOf TopUps)) h.same.1.1.0 (rows TopUps (inr (inr (inl refl)))))
+  kinds_before rows k (inr (inr (inr none))) = absurd none
+
+  rows_before : HasRows Second db → HasRows First before
+  rows_before it = record {
+    rows = kinds_before it.rows;
+    once = subst EachOnce (records before db h) it.once;
+    points = subst (AreRows IsReadingRow key_in_point) h.same.1.1.1.0 it.points;
+    starts = subst (AreRows IsAssignmentRow key_in_start) h.same.1.1.1.1.0 it.starts;
+    energies = subst (AreRows IsEnergyRow energy_in) h.same.1.1.1.1.1.0 it.energies;
+    payments = subst (AreRows IsPaymentRow payment_in) h.same.1.1.1.1.1.1.0 it.payments;
+  }
+
+  named_before : (office : OfficeRules) → NamesOffice office db → NamesOffice office before
+  named_before office it = record {
+    energies = subst (AllByRecursion (λ r. IsTotalOf office (energy_in r))) h.same.1.1.1.1.1.0 it.energies;
+    payments = subst (AllByRecursion (λ r. IsTotalOf office (payment_in r))) h.same.1.1.1.1.1.1.0 it.payments;
+  }
+
+first_openable : (office : OfficeRules) (body : List ℕ) (before db : Database) → IsUpgraded body before db → IsSound office db → IsOpenable First office body before
+first_openable office body before db up sound =
+    let same = records before.trees db.trees up.raised in
+    record {
+      ours = up.was;
+      text = up.was_text;
+      rows = rows_before before.trees db.trees up.raised (rows_of db sound.store);
+      named = named_before before.trees db.trees up.raised office sound.named;
+      of_office = subst (AllOfOffice office) same sound.of_office;
+      few = subst (λ (s : List Entry). length s ≤ most_records) same sound.few;
+      truth = subst (IsTrueContent office) up.content sound.truth;
+    }
+
+second_openable : (office : OfficeRules) (body : List ℕ) (db : Database) → HoldsTables Second db → KeepsText (KeepsVersion Second body) db.trees → IsSound office db → IsOpenable Second office body db
+second_openable office body db ours text sound = record {
+  ours = ours;
+  text = text;
+  rows = rows_of db sound.store;
+  named = sound.named;
+  of_office = sound.of_office;
+  few = sound.few;
+  truth = sound.truth;
+}
+
 -- ---- what is opened
 may_open : (office : OfficeRules) (body : List ℕ) (db : Database) → HoldsTables Second db → KeepsText (KeepsVersion Second body) db.trees → IsSound office db → MayOpen office body db
 may_open office body db ours text sound = record {
@@ -111,18 +164,23 @@ upgrade_opened office body before mid new ready shows = record {
   outside = shows.mode;
   settled = shows.now_is ∙ sym shows.committed_is;
   may_open = subst (MayOpen office body) (sym shows.now_is) (may_open office body mid.now ready.upgraded.ours ready.upgraded.text ready.sound);
-  found = inl (First, (ready.upgraded.was, ap (λ (d : Database). content_of d.trees) shows.now_is ∙ ready.upgraded.content));
+  found = inl (First, (ready.upgraded.was.schema_is, ap (λ (d : Database). content_of d.trees) shows.now_is ∙ ready.upgraded.content));
+  opens = inr (First, first_openable office body before mid.now ready.upgraded ready.sound);
 }
 
 -- a store of version 2 is as it was
 pub second_opened : (office : OfficeRules) (body : List ℕ) (s0 s1 s2 : State) → IsIdleAt s0 → IsUnchanged s0 s1 → IsUnchanged s1 s2 → HoldsTables Second s1.now → KeepsText (KeepsVersion Second body) s1.now.trees → IsSound office s2.now → IsOpened office body s0.now s2
-second_opened office body s0 s1 s2 idle a b ours text sound = record {
-  is_open = b.0.is_open;
-  outside = b.0.mode ∙ a.0.mode ∙ idle.outside;
-  settled = b.0.now_is ∙ a.0.now_is ∙ idle.settled ∙ sym (b.0.committed_is ∙ a.0.committed_is);
-  may_open = may_open office body s2.now (subst (HoldsTables Second) (sym b.0.now_is) ours) (subst (λ (d : Database). KeepsText (KeepsVersion Second body) d.trees) (sym b.0.now_is) text) sound;
-  found = inl (Second, (subst (λ (d : Database). IsOf Second d.schema) a.0.now_is ours.schema_is, ap (λ (d : Database). content_of d.trees) (b.0.now_is ∙ a.0.now_is)));
-}
+second_opened office body s0 s1 s2 idle a b ours text sound =
+    let tables = subst (HoldsTables Second) (sym b.0.now_is) ours in
+    let kept = subst (λ (d : Database). KeepsText (KeepsVersion Second body) d.trees) (sym b.0.now_is) text in
+    record {
+      is_open = b.0.is_open;
+      outside = b.0.mode ∙ a.0.mode ∙ idle.outside;
+      settled = b.0.now_is ∙ a.0.now_is ∙ idle.settled ∙ sym (b.0.committed_is ∙ a.0.committed_is);
+      may_open = may_open office body s2.now tables kept sound;
+      found = inl (Second, (subst (λ (d : Database). IsOf Second d.schema) a.0.now_is ours.schema_is, ap (λ (d : Database). content_of d.trees) (b.0.now_is ∙ a.0.now_is)));
+      opens = inr (Second, subst (IsOpenable Second office body) (b.0.now_is ∙ a.0.now_is) (second_openable office body s2.now tables kept sound));
+    }
 
 -- ---- what a crash leaves about the COMMIT
 pub upgrade_survives : (office : OfficeRules) (body : List ℕ) (old mid new : State) → (HasCleanDisk mid → IsReady office body old.now mid) → Survives old mid (λ _. ⊥) → Survives mid new (λ db. db ≡ mid.now.trees) → Survives old new (MayBeUpgraded body old.now)

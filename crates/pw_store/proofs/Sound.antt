@@ -1,5 +1,5 @@
 -- From rows that were read in order to the records of the tables, each once.
-use Rattle.std.proofs.Common.{◌≡◌, ◌<◌, inl, inr, ℕ, ◌+◌, take, List, [], ◌∷◌, ◌++◌, map, append_assoc, refl, sym, ap, subst, subst₂, ◌∙◌, arith}
+use Rattle.std.proofs.Common.{◌≡◌, ◌<◌, inl, inr, ℕ, zero, suc, ◌+◌, take, List, [], ◌∷◌, ◌++◌, map, append_assoc, refl, sym, ap, subst, subst₂, ◌∙◌, arith}
 use Rattle.std.proofs.lemmas.Bool.{cases_lt}
 use Rattle.std.specs.List.{AllByRecursion}
 use Rattle.std.specs.List.Sorted.{IsPermutation}
@@ -112,43 +112,24 @@ place_low WithdrawnReadings = omega arith
 place_low WithdrawnAssignments = omega arith
 place_low WithdrawnTopUps = omega arith
 
+abbrev kind_of_place : ℕ → RecordKind
+kind_of_place zero = Readings
+kind_of_place (suc zero) = Assignments
+kind_of_place (suc (suc zero)) = TopUps
+kind_of_place (suc (suc (suc zero))) = WithdrawnReadings
+kind_of_place (suc (suc (suc (suc zero)))) = WithdrawnAssignments
+kind_of_place _ = WithdrawnTopUps
+
+placed : (k : RecordKind) → kind_of_place (place k) ≡ k
+placed Readings = refl
+placed Assignments = refl
+placed TopUps = refl
+placed WithdrawnReadings = refl
+placed WithdrawnAssignments = refl
+placed WithdrawnTopUps = refl
+
 same_kind : (j k : RecordKind) → place j ≡ place k → j ≡ k
-same_kind Readings Readings e = refl
-same_kind Assignments Assignments e = refl
-same_kind TopUps TopUps e = refl
-same_kind WithdrawnReadings WithdrawnReadings e = refl
-same_kind WithdrawnAssignments WithdrawnAssignments e = refl
-same_kind WithdrawnTopUps WithdrawnTopUps e = refl
-same_kind Readings Assignments e = absurd (omega (arith, e))
-same_kind Readings TopUps e = absurd (omega (arith, e))
-same_kind Readings WithdrawnReadings e = absurd (omega (arith, e))
-same_kind Readings WithdrawnAssignments e = absurd (omega (arith, e))
-same_kind Readings WithdrawnTopUps e = absurd (omega (arith, e))
-same_kind Assignments Readings e = absurd (omega (arith, e))
-same_kind Assignments TopUps e = absurd (omega (arith, e))
-same_kind Assignments WithdrawnReadings e = absurd (omega (arith, e))
-same_kind Assignments WithdrawnAssignments e = absurd (omega (arith, e))
-same_kind Assignments WithdrawnTopUps e = absurd (omega (arith, e))
-same_kind TopUps Readings e = absurd (omega (arith, e))
-same_kind TopUps Assignments e = absurd (omega (arith, e))
-same_kind TopUps WithdrawnReadings e = absurd (omega (arith, e))
-same_kind TopUps WithdrawnAssignments e = absurd (omega (arith, e))
-same_kind TopUps WithdrawnTopUps e = absurd (omega (arith, e))
-same_kind WithdrawnReadings Readings e = absurd (omega (arith, e))
-same_kind WithdrawnReadings Assignments e = absurd (omega (arith, e))
-same_kind WithdrawnReadings TopUps e = absurd (omega (arith, e))
-same_kind WithdrawnReadings WithdrawnAssignments e = absurd (omega (arith, e))
-same_kind WithdrawnReadings WithdrawnTopUps e = absurd (omega (arith, e))
-same_kind WithdrawnAssignments Readings e = absurd (omega (arith, e))
-same_kind WithdrawnAssignments Assignments e = absurd (omega (arith, e))
-same_kind WithdrawnAssignments TopUps e = absurd (omega (arith, e))
-same_kind WithdrawnAssignments WithdrawnReadings e = absurd (omega (arith, e))
-same_kind WithdrawnAssignments WithdrawnTopUps e = absurd (omega (arith, e))
-same_kind WithdrawnTopUps Readings e = absurd (omega (arith, e))
-same_kind WithdrawnTopUps Assignments e = absurd (omega (arith, e))
-same_kind WithdrawnTopUps TopUps e = absurd (omega (arith, e))
-same_kind WithdrawnTopUps WithdrawnReadings e = absurd (omega (arith, e))
-same_kind WithdrawnTopUps WithdrawnAssignments e = absurd (omega (arith, e))
+same_kind j k e = sym (placed j) ∙ ap kind_of_place e ∙ placed k
 
 behind_none : (xs : List Entry) → xs ++ [] ≡ xs
 behind_none [] = refl

@@ -18,7 +18,7 @@ use Rattle.pw_store.specs.Keyed.{IsEnergyRow, IsPaymentRow}
 use Rattle.pw_store.specs.Kept.{key_in_point, key_in_start}
 use Rattle.pw_store.specs.Left.{IsUpgraded, UpgradedHolds, UpgradedOpens}
 use Rattle.pw_store.specs.Opening.{AreRows, HasRows, IsOpenable, NamesOffice}
-use Rattle.pw_store.proofs.Openable.{opens}
+use Rattle.pw_store.proofs.Openable.{opens_version}
 use Rattle.pw_store.proofs.Raised.{raised_content}
 use Rattle.pw_store.proofs.Reopening.{found_ours}
 
@@ -64,7 +64,7 @@ upgraded_openable office body before found it up =
     }
 
 pub upgraded_opens : UpgradedOpens
-upgraded_opens office body before found fault it up = opens Second office body found fault (upgraded_openable office body before found it up)
+upgraded_opens office body before found fault it up = opens_version Second office body found fault (upgraded_openable office body before found it up)
 
 pub upgraded_holds : UpgradedHolds
-upgraded_holds body before found c up is = inl (First, (up.was, found_ours found c up.ours.schema_is is ∙ up.content))
+upgraded_holds body before found c up is = inl (First, (up.was.schema_is, found_ours found c up.ours.schema_is is ∙ up.content))

@@ -12,11 +12,11 @@ use Rattle.pw_tariff.specs.Text.{IsOfficeOf}
 use Rattle.pw_model.specs.Office.{AllOfOffice, most_records}
 use Rattle.pw_model.specs.Shelf.{IsTrueContent, ShelfContent}
 use Rattle.pw_schema.specs.Conflicts.{AreWithoutConflict}
-use Rattle.pw_schema.specs.Judging.{KeepsOffice}
+use Rattle.pw_schema.specs.Judging.{KeepsOffice, KeepsVersion}
 use Rattle.pw_schema.specs.Rows.{number}
 use Rattle.pw_schema.specs.Fresh.{AreNew}
 use Rattle.pw_schema.specs.Raised.{IsRaised}
-use Rattle.pw_schema.specs.Tables.{IsOf, IsOurs, no_schema}
+use Rattle.pw_schema.specs.Tables.{IsOurs, no_schema}
 use Rattle.pw_schema.specs.declared.kind.StoreVersion.TheVariants.{First, Second}
 use Rattle.pw_store.specs.Content.{content_of, content_of_version, energy_in, energy_told, payment_in, payment_told, payment_tree, total_tree}
 use Rattle.pw_store.specs.declared.fault.OpenFault.{OpenFault}
@@ -54,10 +54,11 @@ KeepsOpened s opened = HasCleanDisk s → IsLeftOf s opened
 abbrev pub MayBeNew : List ℕ → Sql → Trees → Type 0
 MayBeNew body s db = (s.committed.schema ≡ no_schema) × AreNew body db
 
--- a store of version 1 brought to version 2 whole: the tables of version 2 with this text, whose rows are those of before,
--- and so its content
+-- a store of version 1 with this text brought to version 2 whole: the tables of version 2 with this text, whose rows are
+-- those of before, and so its content
 pub record IsUpgraded (body : List ℕ) (before found : Database) : Type 0 where
-  pub was : IsOf First before.schema
+  pub was : HoldsTables First before
+  pub was_text : KeepsText (KeepsVersion First body) before.trees
   pub ours : HoldsTables Second found
   pub listed : IsDatabase found
   pub text : KeepsText (KeepsOffice body) found.trees

@@ -151,9 +151,13 @@ pub record IsOpenable (v : StoreVersion) (office : OfficeRules) (body : List ℕ
   pub few : length (records_of_version v db.trees) ≤ most_records
   pub truth : IsTrueContent office (content_of_version v db.trees)
 
--- what is found refuses such a store, of either version, only for the engine's sake, or for memory
+-- nothing, or such a store, of either version
+abbrev pub Opens : OfficeRules → List ℕ → Database → Type 0
+Opens office body db = (db.schema ≡ no_schema) ⊎ ((v : StoreVersion) × IsOpenable v office body db)
+
+-- what opens is refused only for the engine's sake, or for memory
 abbrev pub OpenableOpens : Type 0
-OpenableOpens = (v : StoreVersion) (office : OfficeRules) (body : List ℕ) (db : Database) (fault : OpenFault) → IsOpenable v office body db → Refuses office body db fault → (fault ≡ Store) ⊎ (fault ≡ Memory)
+OpenableOpens = (office : OfficeRules) (body : List ℕ) (db : Database) (fault : OpenFault) → Opens office body db → Refuses office body db fault → (fault ≡ Store) ⊎ (fault ≡ Memory)
 
 -- ---- what is opened
 -- what a file holds: nothing where it shows nothing, else what the tables of its version hold

@@ -13,7 +13,7 @@ ghost use Rattle.pw_schema.specs.Tables.{IsOurs};
 ghost use Rattle.pw_store.specs.Content.{content_of};
 ghost use Rattle.pw_store.specs.Kept.{held_of, left_of, state_of};
 ghost use Rattle.pw_store.specs.Left.{IsOfText, MayBeMade};
-ghost use Rattle.pw_store.specs.Opening.{IsFound, KeepsText, Refuses};
+ghost use Rattle.pw_store.specs.Opening.{IsFound, KeepsText, Opens, Refuses};
 ghost use Rattle.pw_schema.specs.Judging.{KeepsOffice};
 
 use crate::fault::OpenFault;
@@ -44,6 +44,7 @@ impl<S: Alter> SqlShelf<S> {
         ensures few { IfOk result (λ s. HasCleanDisk (state S.Store s.conn) → length (held_of (state S.Store s.conn) (state S.Store s.base.value)).records ≤ most_records) }
         ensures kept_text { IfOk result (λ s. HasCleanDisk (state S.Store s.conn) → IsOurs (state S.Store s.conn).now.schema × KeepsText (KeepsOffice office_text.now) (state S.Store s.conn).now.trees) }
         ensures opened { IfOk result (λ s. HasCleanDisk (state S.Store s.conn) → (office : OfficeFile) × IsOfficeOf office_text.now office × IsOfText (office_of office) office_text.now (state S.Store s.opened.value).now.trees) }
+        ensures taken { IfOk result (λ s. HasCleanDisk (state S.Store s.conn) → (office : OfficeFile) × IsOfficeOf office_text.now office × Opens (office_of office) office_text.now (state S.Store connection).committed) }
         ensures was_open { IfOk result (λ s. HasCleanDisk (state S.Store s.conn) → HasCleanDisk (state S.Store connection) × IsTrue (state S.Store connection).is_open) }
         ensures idle { IfOk result (λ s. s.begun ≡ false) }
         ensures counts { IfOk result (λ s. (s.failures.count ≡ 0) × (s.failed_abandons.count ≡ 0) × (s.tally.count ≡ 0)) }
@@ -69,6 +70,7 @@ impl<S: Alter> SqlShelf<S> {
         ensures few { IfOk result (λ s. HasCleanDisk (state S.Store s.conn) → length (held_of (state S.Store s.conn) (state S.Store s.base.value)).records ≤ most_records) }
         ensures kept_text { IfOk result (λ s. HasCleanDisk (state S.Store s.conn) → IsOurs (state S.Store s.conn).now.schema × KeepsText (KeepsOffice office_text.now) (state S.Store s.conn).now.trees) }
         ensures opened { IfOk result (λ s. HasCleanDisk (state S.Store s.conn) → (office : OfficeFile) × IsOfficeOf office_text.now office × IsOfText (office_of office) office_text.now (state S.Store s.opened.value).now.trees) }
+        ensures taken { IfOk result (λ s. HasCleanDisk (state S.Store s.conn) → (office : OfficeFile) × IsOfficeOf office_text.now office × Opens (office_of office) office_text.now (state S.Store connection).committed) }
         ensures was_open { IfOk result (λ s. HasCleanDisk (state S.Store s.conn) → HasCleanDisk (state S.Store connection) × IsTrue (state S.Store connection).is_open) }
         ensures idle { IfOk result (λ s. s.begun ≡ false) }
         ensures counts { IfOk result (λ s. (s.failures.count ≡ 0) × (s.failed_abandons.count ≡ 0) × (s.tally.count ≡ 0)) }
@@ -97,6 +99,7 @@ impl<S: Alter> SqlShelf<S> {
         ensures few { IfOk result (λ s. HasCleanDisk (state S.Store s.conn) → length (held_of (state S.Store s.conn) (state S.Store s.base.value)).records ≤ most_records) }
         ensures kept_text { IfOk result (λ s. HasCleanDisk (state S.Store s.conn) → IsOurs (state S.Store s.conn).now.schema × KeepsText (KeepsOffice office_text.now) (state S.Store s.conn).now.trees) }
         ensures opened { IfOk result (λ s. HasCleanDisk (state S.Store s.conn) → IsOfText (office_of office.now) office_text.now (state S.Store s.opened.value).now.trees) }
+        ensures taken { IfOk result (λ s. HasCleanDisk (state S.Store s.conn) → Opens (office_of office.now) office_text.now (state S.Store connection).committed) }
         ensures was_open { IfOk result (λ s. HasCleanDisk (state S.Store s.conn) → HasCleanDisk (state S.Store connection) × IsTrue (state S.Store connection).is_open) }
         ensures idle { IfOk result (λ s. s.begun ≡ false) }
         ensures counts { IfOk result (λ s. (s.failures.count ≡ 0) × (s.failed_abandons.count ≡ 0) × (s.tally.count ≡ 0)) }

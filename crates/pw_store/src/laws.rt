@@ -35,8 +35,9 @@ pub fn store_stays_as_it_was_opened<S: Alter>(old: &SqlShelf<S>, new: &SqlShelf<
     ensures { ⟦<SqlShelf<S> as Shelf>⟧.same_store old.entry.now new.entry.now ↔ (new.entry.now.opened.value ≡ old.entry.now.opened.value) }
 {}
 
-/// Where the tables are those of a store of this office, of version 1 or 2, and of this text, `open` refuses them with
-/// `Store` or `Memory` alone: what it says of the cause of a refusal leaves no other.
+/// Where nothing is there, or the tables are those of a store of this office, of version 1 or 2, and of this text, `open`
+/// refuses them with `Store` or `Memory` alone: what it says of the cause of a refusal leaves no other. And it takes nothing
+/// else: its clause `taken` says so of what it opened.
 pub fn openable_stores_open()
     ensures { OpenableOpens }
 {}

@@ -11,7 +11,7 @@ ghost use Rattle.pw_schema.specs.Conflicts.{AreWithoutConflict};
 ghost use Rattle.pw_schema.specs.Fresh.{IsIdleAt, IsWithin};
 ghost use Rattle.pw_store.specs.Content.{records_of, entries_of};
 ghost use Rattle.pw_schema.specs.Judging.{HasVersion, KeepsOffice, KeepsVersion};
-ghost use Rattle.pw_schema.specs.Tables.{BeginsAsOurs, IsOf, IsOurs, no_schema, schema_of};
+ghost use Rattle.pw_schema.specs.Tables.{BeginsAsOurs, IsOurs, no_schema, schema_of};
 ghost use Rattle.pw_store.specs.Left.{IsUpgraded, MayBeMade, MayBeUpgraded};
 ghost use Rattle.pw_store.specs.Opening.{BegunRefuses, HoldsAllRecords, HoldsTables, HoldsRecords, KeepsText, Refuses, offices};
 ghost use Rattle.pw_store.specs.inner.Opened.{IsOpened, IsReady, IsSettled, IsSound, RefusesUnless, RowRefuses, RowsRefuse, VersionRefuses};
@@ -222,7 +222,8 @@ fn see_raised<S: Alter>(conn: &mut Connection<S>, text: &[u8]) -> Result<(), Err
 
 // Brings a store of version 1 to version 2 within a transaction, whatever rows it has.
 fn raise<S: Alter>(conn: &mut Connection<S>, text: &[u8]) -> Result<(), Error>
-    requires { HasCleanDisk (state S.Store conn.old) → IsOf StoreVersion.First (state S.Store conn.old).now.schema }
+    requires first { HasCleanDisk (state S.Store conn.old) → HoldsTables StoreVersion.First (state S.Store conn.old).now }
+    requires first_text { HasCleanDisk (state S.Store conn.old) → KeepsText (KeepsVersion StoreVersion.First text.now) (state S.Store conn.old).now.trees }
     ensures within { HasCleanDisk (state S.Store conn.new) → OnOk result (IsWithin (schema_of StoreVersion.Second) (state S.Store conn.new)) }
     ensures upgraded { HasCleanDisk (state S.Store conn.new) → OnOk result (IsUpgraded text.now (state S.Store conn.old).now (state S.Store conn.new).now) }
     ensures kept { HasCleanDisk (state S.Store conn.new) → KeepsCommit (state S.Store conn.old) (state S.Store conn.new) }
@@ -244,7 +245,8 @@ fn raise_and_check<S: Alter, W: Watch>(
     text: &[u8],
     watch: &mut W,
 ) -> Result<u32, OpenFault>
-    requires { HasCleanDisk (state S.Store conn.old) → IsOf StoreVersion.First (state S.Store conn.old).now.schema }
+    requires first { HasCleanDisk (state S.Store conn.old) → HoldsTables StoreVersion.First (state S.Store conn.old).now }
+    requires first_text { HasCleanDisk (state S.Store conn.old) → KeepsText (KeepsVersion StoreVersion.First text.now) (state S.Store conn.old).now.trees }
     ensures counted { HasCleanDisk (state S.Store conn.new) → IfOk result (λ held. length (records_of (state S.Store conn.new).now.trees) ≡ held) }
     ensures ready { HasCleanDisk (state S.Store conn.new) → OnOk result (IsReady (office_of office.now) text.now (state S.Store conn.old).now (state S.Store conn.new)) }
     ensures cause { HasCleanDisk (state S.Store conn.new) → IfErr result (RowsRefuse StoreVersion.First (office_of office.now) (state S.Store conn.old).now.trees) }
@@ -274,7 +276,8 @@ fn upgrade<S: Alter, W: Watch>(
     watch: &mut W,
 ) -> Result<u32, OpenFault>
     requires idle { HasCleanDisk (state S.Store conn.old) → IsIdleAt (state S.Store conn.old) }
-    requires first { HasCleanDisk (state S.Store conn.old) → IsOf StoreVersion.First (state S.Store conn.old).now.schema }
+    requires first { HasCleanDisk (state S.Store conn.old) → HoldsTables StoreVersion.First (state S.Store conn.old).now }
+    requires first_text { HasCleanDisk (state S.Store conn.old) → KeepsText (KeepsVersion StoreVersion.First text.now) (state S.Store conn.old).now.trees }
     ensures counted { HasCleanDisk (state S.Store conn.new) → IfOk result (λ held. length (records_of (state S.Store conn.new).now.trees) ≡ held) }
     ensures opened { HasCleanDisk (state S.Store conn.new) → OnOk result (IsOpened (office_of office.now) text.now (state S.Store conn.old).now (state S.Store conn.new)) }
     ensures cause { HasCleanDisk (state S.Store conn.new) → IfErr result (RowsRefuse StoreVersion.First (office_of office.now) (state S.Store conn.old).now.trees) }

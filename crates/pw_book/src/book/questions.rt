@@ -74,8 +74,8 @@ impl<S: Shelf> Book<S> {
         Ok(nano)
     }
 
-    /// The readings held of a register, by instant and then by Wh, each with whether it counts. It asks for a meter of the
-    /// office.
+    /// The readings held of a register, by instant and then by Wh, each with whether it counts and whether it is withdrawn.
+    /// It asks for a meter of the office.
     pub fn readings(
         &mut self,
         alloc: Global,
@@ -133,8 +133,8 @@ impl<S: Shelf> Book<S> {
         Ok(falls)
     }
 
-    /// The disputes: the keys that two or more of the records held have, and how many. Readings first, then assignments, then
-    /// top-ups; each by its key.
+    /// The disputes: the keys that two or more of the records held have that aren't withdrawn, and how many. Readings first,
+    /// then assignments, then top-ups; each by its key.
     pub fn disputes(&mut self, alloc: Global) -> Result<Vec<Dispute>, BookFault>
         ensures disputes { S.clean self.new.shelf → IfOk result (λ disputes. AreDisputes (S.state self.old.shelf).content.records disputes.items) }
         ensures question { IsQuestion S.Shelf result self.old self.new }

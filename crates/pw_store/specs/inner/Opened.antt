@@ -22,7 +22,7 @@ use Rattle.pw_model.specs.Shelf.{IsTrueContent}
 use Rattle.pw_store.specs.Content.{content_of, records_of}
 use Rattle.pw_store.specs.Kept.{IsStore}
 use Rattle.pw_store.specs.Left.{IsUpgraded}
-use Rattle.pw_store.specs.Opening.{KeepsText, NamesOffice, HasNoRow, HoldsTables, IsFound, IsSpoilt}
+use Rattle.pw_store.specs.Opening.{KeepsText, NamesOffice, HasNoRow, HoldsTables, IsFound, IsSpoilt, Opens}
 
 -- a connection that was open and is, and inside of no transaction
 pub record IsSettled (old new : State) : Type 0 where
@@ -55,13 +55,14 @@ pub record MayOpen (office : OfficeRules) (body : List ℕ) (db : Database) : Ty
   pub truth : IsTrueContent office (content_of db.trees)
 
 -- what an opened connection is: that of before, or where nothing was there, a store without records, or one of version 1
--- brought to version 2
+-- brought to version 2; and what was there opens
 pub record IsOpened (office : OfficeRules) (body : List ℕ) (before : Database) (s : State) : Type 0 where
   pub is_open : IsTrue s.is_open
   pub outside : s.in_transaction ≡ false
   pub settled : s.now ≡ s.committed
   pub may_open : MayOpen office body s.now
   pub found : IsFound before (content_of s.now.trees)
+  pub opens : Opens office body before
 
 -- a store of version 1 that stands within a transaction as one of version 2, which may be committed
 pub record IsReady (office : OfficeRules) (body : List ℕ) (before : Database) (s : State) : Type 0 where
