@@ -10,17 +10,11 @@ use Rattle.pw_book.specs.declared.fault.BookFault.{BookFault}
 use Rattle.pw_book.specs.declared.fault.BookFault.TheVariants as book
 
 -- ---- of an upload
-abbrev pub post_number : PostFault → ℕ
-post_number (post.Full held limit) = 60
-post_number post.Device = 61
-post_number post.Memory = 62
-post_number post.Reopen = 63
-
-abbrev pub post_name : PostFault → List ℕ
-post_name (post.Full held limit) = codes "Full"
-post_name post.Device = codes "Device"
-post_name post.Memory = codes "Memory"
-post_name post.Reopen = codes "Reopen"
+abbrev pub post_told : PostFault → ℕ × List ℕ
+post_told (post.Full held limit) = (60, codes "Full")
+post_told post.Device = (61, codes "Device")
+post_told post.Memory = (62, codes "Memory")
+post_told post.Reopen = (63, codes "Reopen")
 
 -- behind the number and the name, that of the records held and the limit
 abbrev pub full_line : ℕ → List ℕ → ℕ → ℕ → List ℕ
@@ -29,25 +23,20 @@ full_line number name held limit =
 
 abbrev pub post_line : PostFault → List ℕ
 post_line (post.Full held limit) = full_line 60 (codes "Full") held limit
-post_line fault = refused_line (post_number fault) (post_name fault)
+post_line fault = refused_line (post_told fault).0 (post_told fault).1
 
 abbrev pub post_fault : ShelfFault → PostFault
 post_fault shelf.Memory = post.Memory
 post_fault shelf.Device = post.Device
 
 -- ---- of a question
-abbrev pub book_number : BookFault → ℕ
-book_number book.Device = 61
-book_number book.Memory = 62
-book_number book.Reopen = 63
-
-abbrev pub book_name : BookFault → List ℕ
-book_name book.Device = codes "Device"
-book_name book.Memory = codes "Memory"
-book_name book.Reopen = codes "Reopen"
+abbrev pub book_told : BookFault → ℕ × List ℕ
+book_told book.Device = (61, codes "Device")
+book_told book.Memory = (62, codes "Memory")
+book_told book.Reopen = (63, codes "Reopen")
 
 abbrev pub book_line : BookFault → List ℕ
-book_line fault = refused_line (book_number fault) (book_name fault)
+book_line fault = refused_line (book_told fault).0 (book_told fault).1
 
 abbrev pub book_fault : ShelfFault → BookFault
 book_fault shelf.Memory = book.Memory

@@ -2,7 +2,7 @@
 
 ghost use Rattle.std.specs.Prelude.{◌≡◌, ◌<◌};
 ghost use Rattle.arrayvec.specs.ArrayString.{array_string_len};
-ghost use Rattle.pw_book.specs.Faults.{book_line, book_name, book_number, full_line, post_line, post_name, post_number};
+ghost use Rattle.pw_book.specs.Faults.{book_line, book_told, full_line, post_line, post_told};
 
 use pw_line::{Line, ROOM, push_number, refused};
 use pw_shelf::ShelfFault;
@@ -36,25 +36,28 @@ pub enum BookFault {
 impl PostFault {
     /// The number under which the fault is reported: 60 to 63.
     pub fn number(self) -> u8
-        ensures { result ≡ post_number self }
+        ensures { result ≡ (post_told self).0 }
     {
-        match self {
-            PostFault::Full { .. } => 60,
-            PostFault::Device => 61,
-            PostFault::Memory => 62,
-            PostFault::Reopen => 63,
-        }
+        self.told().0
     }
 
     /// The name under which the fault is reported: that of the variant.
     pub fn name(self) -> &'static str
-        ensures { result.now ≡ post_name self }
+        ensures { result.now ≡ (post_told self).1 }
+    {
+        self.told().1
+    }
+
+    // The number and the name.
+    fn told(self) -> (u8, &'static str)
+        ensures number { result.0 ≡ (post_told self).0 }
+        ensures name { result.1.now ≡ (post_told self).1 }
     {
         match self {
-            PostFault::Full { .. } => "Full",
-            PostFault::Device => "Device",
-            PostFault::Memory => "Memory",
-            PostFault::Reopen => "Reopen",
+            PostFault::Full { .. } => (60, "Full"),
+            PostFault::Device => (61, "Device"),
+            PostFault::Memory => (62, "Memory"),
+            PostFault::Reopen => (63, "Reopen"),
         }
     }
 
@@ -74,7 +77,7 @@ impl PostFault {
 }
 
 fn full_line_of(fault: PostFault, held: u32, limit: u32) -> Line
-    ensures text { result.bytes ≡ full_line (post_number fault) (post_name fault) held limit }
+    ensures text { result.bytes ≡ full_line (post_told fault).0 (post_told fault).1 held limit }
     ensures fits { array_string_len result < ROOM }
 {
     let mut line = refused(fault.number(), fault.name());
@@ -88,23 +91,27 @@ fn full_line_of(fault: PostFault, held: u32, limit: u32) -> Line
 impl BookFault {
     /// The number under which the fault is reported: 61 to 63.
     pub fn number(self) -> u8
-        ensures { result ≡ book_number self }
+        ensures { result ≡ (book_told self).0 }
     {
-        match self {
-            BookFault::Device => 61,
-            BookFault::Memory => 62,
-            BookFault::Reopen => 63,
-        }
+        self.told().0
     }
 
     /// The name under which the fault is reported: that of the variant.
     pub fn name(self) -> &'static str
-        ensures { result.now ≡ book_name self }
+        ensures { result.now ≡ (book_told self).1 }
+    {
+        self.told().1
+    }
+
+    // The number and the name.
+    fn told(self) -> (u8, &'static str)
+        ensures number { result.0 ≡ (book_told self).0 }
+        ensures name { result.1.now ≡ (book_told self).1 }
     {
         match self {
-            BookFault::Device => "Device",
-            BookFault::Memory => "Memory",
-            BookFault::Reopen => "Reopen",
+            BookFault::Device => (61, "Device"),
+            BookFault::Memory => (62, "Memory"),
+            BookFault::Reopen => (63, "Reopen"),
         }
     }
 

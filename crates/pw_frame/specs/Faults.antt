@@ -5,21 +5,13 @@ use Rattle.pw_frame.specs.declared.frame.FrameFault.{FrameFault}
 use Rattle.pw_frame.specs.declared.frame.FrameFault.TheVariants.{Header, NoEnd, Crc, Trailer, BlockCheck, HighBit}
 use Rattle.pw_frame.specs.Hexadecimal.{two_digits, four_digits}
 
-abbrev pub frame_fault_number : FrameFault → ℕ
-frame_fault_number (Header at) = 10
-frame_fault_number (NoEnd at) = 11
-frame_fault_number (Crc at stated computed) = 12
-frame_fault_number (Trailer at) = 13
-frame_fault_number (BlockCheck at stated computed) = 14
-frame_fault_number (HighBit at) = 15
-
-abbrev pub frame_fault_name : FrameFault → List ℕ
-frame_fault_name (Header at) = codes "Header"
-frame_fault_name (NoEnd at) = codes "NoEnd"
-frame_fault_name (Crc at stated computed) = codes "Crc"
-frame_fault_name (Trailer at) = codes "Trailer"
-frame_fault_name (BlockCheck at stated computed) = codes "BlockCheck"
-frame_fault_name (HighBit at) = codes "HighBit"
+abbrev pub frame_fault_told : FrameFault → ℕ × List ℕ
+frame_fault_told (Header at) = (10, codes "Header")
+frame_fault_told (NoEnd at) = (11, codes "NoEnd")
+frame_fault_told (Crc at stated computed) = (12, codes "Crc")
+frame_fault_told (Trailer at) = (13, codes "Trailer")
+frame_fault_told (BlockCheck at stated computed) = (14, codes "BlockCheck")
+frame_fault_told (HighBit at) = (15, codes "HighBit")
 
 abbrev pub place_text : ℕ → List ℕ
 place_text at = codes "at " ++ decimal at

@@ -2,7 +2,7 @@
 
 ghost use Rattle.std.specs.Prelude.{◌≡◌, ◌≤◌, ◌++◌};
 ghost use Rattle.arrayvec.specs.ArrayString.{array_string_len};
-ghost use Rattle.pw_frame.specs.Faults.{checks_text, frame_fault_details, frame_fault_name, frame_fault_number, place_text};
+ghost use Rattle.pw_frame.specs.Faults.{checks_text, frame_fault_details, frame_fault_told, place_text};
 
 use crate::frame::FrameFault;
 use crate::hexadecimal::{four_digits, two_digits};
@@ -12,29 +12,30 @@ use std::fmt;
 impl FrameFault {
     /// The number under which the fault is reported, from 10 to 15.
     pub fn number(self) -> u8
-        ensures { result ≡ frame_fault_number self }
+        ensures { result ≡ (frame_fault_told self).0 }
     {
-        match self {
-            FrameFault::Header { .. } => 10,
-            FrameFault::NoEnd { .. } => 11,
-            FrameFault::Crc { .. } => 12,
-            FrameFault::Trailer { .. } => 13,
-            FrameFault::BlockCheck { .. } => 14,
-            FrameFault::HighBit { .. } => 15,
-        }
+        self.told().0
     }
 
     /// The name under which the fault is reported: that of the variant.
     pub fn name(self) -> &'static str
-        ensures { result.now ≡ frame_fault_name self }
+        ensures { result.now ≡ (frame_fault_told self).1 }
+    {
+        self.told().1
+    }
+
+    // The number and the name.
+    fn told(self) -> (u8, &'static str)
+        ensures number { result.0 ≡ (frame_fault_told self).0 }
+        ensures name { result.1.now ≡ (frame_fault_told self).1 }
     {
         match self {
-            FrameFault::Header { .. } => "Header",
-            FrameFault::NoEnd { .. } => "NoEnd",
-            FrameFault::Crc { .. } => "Crc",
-            FrameFault::Trailer { .. } => "Trailer",
-            FrameFault::BlockCheck { .. } => "BlockCheck",
-            FrameFault::HighBit { .. } => "HighBit",
+            FrameFault::Header { .. } => (10, "Header"),
+            FrameFault::NoEnd { .. } => (11, "NoEnd"),
+            FrameFault::Crc { .. } => (12, "Crc"),
+            FrameFault::Trailer { .. } => (13, "Trailer"),
+            FrameFault::BlockCheck { .. } => (14, "BlockCheck"),
+            FrameFault::HighBit { .. } => (15, "HighBit"),
         }
     }
 

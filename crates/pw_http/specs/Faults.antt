@@ -5,17 +5,11 @@ use Rattle.pw_line.specs.Refused.{refused_line}
 use Rattle.pw_http.specs.declared.fault.WireFault.{WireFault}
 use Rattle.pw_http.specs.declared.fault.WireFault.TheVariants.{Read, Write, TooManyTurns, Memory}
 
-abbrev pub wire_number : WireFault → ℕ
-wire_number Read = 80
-wire_number Write = 81
-wire_number TooManyTurns = 82
-wire_number Memory = 62
-
-abbrev pub wire_name : WireFault → List ℕ
-wire_name Read = codes "Read"
-wire_name Write = codes "Write"
-wire_name TooManyTurns = codes "TooManyTurns"
-wire_name Memory = codes "Memory"
+abbrev pub wire_told : WireFault → ℕ × List ℕ
+wire_told Read = (80, codes "Read")
+wire_told Write = (81, codes "Write")
+wire_told TooManyTurns = (82, codes "TooManyTurns")
+wire_told Memory = (62, codes "Memory")
 
 abbrev pub wire_line : WireFault → List ℕ
-wire_line fault = refused_line (wire_number fault) (wire_name fault)
+wire_line fault = refused_line (wire_told fault).0 (wire_told fault).1

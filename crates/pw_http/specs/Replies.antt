@@ -8,27 +8,16 @@ use Rattle.pw_http.specs.declared.requests.Refusal.{Refusal}
 use Rattle.pw_http.specs.declared.requests.Refusal.TheVariants.{BadHead, NotForThisServer, NotSupported, BodyTooLarge, BadBody}
 
 -- ---- the status
-abbrev pub status_number : Status → ℕ
-status_number Fine = 200
-status_number BadRequest = 400
-status_number Forbidden = 403
-status_number NotFound = 404
-status_number MethodNotAllowed = 405
-status_number PayloadTooLarge = 413
-status_number NotImplemented = 501
-status_number Unavailable = 503
-status_number InsufficientStorage = 507
-
-abbrev pub status_phrase : Status → List ℕ
-status_phrase Fine = codes "OK"
-status_phrase BadRequest = codes "Bad Request"
-status_phrase Forbidden = codes "Forbidden"
-status_phrase NotFound = codes "Not Found"
-status_phrase MethodNotAllowed = codes "Method Not Allowed"
-status_phrase PayloadTooLarge = codes "Payload Too Large"
-status_phrase NotImplemented = codes "Not Implemented"
-status_phrase Unavailable = codes "Service Unavailable"
-status_phrase InsufficientStorage = codes "Insufficient Storage"
+abbrev pub status_told : Status → ℕ × List ℕ
+status_told Fine = (200, codes "OK")
+status_told BadRequest = (400, codes "Bad Request")
+status_told Forbidden = (403, codes "Forbidden")
+status_told NotFound = (404, codes "Not Found")
+status_told MethodNotAllowed = (405, codes "Method Not Allowed")
+status_told PayloadTooLarge = (413, codes "Payload Too Large")
+status_told NotImplemented = (501, codes "Not Implemented")
+status_told Unavailable = (503, codes "Service Unavailable")
+status_told InsufficientStorage = (507, codes "Insufficient Storage")
 
 -- ---- the reply
 abbrev pub content_name : ContentType → List ℕ
@@ -46,7 +35,7 @@ close_line closing = if closing then codes "Connection: close\r\n" else []
 -- with the length of the body; the conversation may end after it
 unfoldable pub reply_head : Status → ContentType → ℕ → Bool → List ℕ
 reply_head status content size closing =
-    codes "HTTP/1.1 " ++ decimal (status_number status) ++ codes " " ++ status_phrase status
+    codes "HTTP/1.1 " ++ decimal (status_told status).0 ++ codes " " ++ (status_told status).1
     ++ codes "\r\nContent-Type: " ++ content_name content
     ++ codes "\r\nContent-Length: " ++ decimal size
     ++ codes "\r\n" ++ close_line closing ++ codes "\r\n"

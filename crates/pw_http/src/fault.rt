@@ -18,29 +18,32 @@ pub enum WireFault {
 
 impl WireFault {
     ghost use Rattle.std.specs.Prelude.{◌≡◌};
-    ghost use Rattle.pw_http.specs.Faults.{wire_name, wire_number};
+    ghost use Rattle.pw_http.specs.Faults.{wire_told};
 
     /// The number under which the fault is reported: 80 to 82, or 62.
     pub fn number(self) -> u8
-        ensures { result ≡ wire_number self }
+        ensures { result ≡ (wire_told self).0 }
     {
-        match self {
-            WireFault::Read => 80,
-            WireFault::Write => 81,
-            WireFault::TooManyTurns => 82,
-            WireFault::Memory => 62,
-        }
+        self.told().0
     }
 
     /// The name under which the fault is reported: that of the variant.
     pub fn name(self) -> &'static str
-        ensures { result.now ≡ wire_name self }
+        ensures { result.now ≡ (wire_told self).1 }
+    {
+        self.told().1
+    }
+
+    // The number and the name.
+    fn told(self) -> (u8, &'static str)
+        ensures number { result.0 ≡ (wire_told self).0 }
+        ensures name { result.1.now ≡ (wire_told self).1 }
     {
         match self {
-            WireFault::Read => "Read",
-            WireFault::Write => "Write",
-            WireFault::TooManyTurns => "TooManyTurns",
-            WireFault::Memory => "Memory",
+            WireFault::Read => (80, "Read"),
+            WireFault::Write => (81, "Write"),
+            WireFault::TooManyTurns => (82, "TooManyTurns"),
+            WireFault::Memory => (62, "Memory"),
         }
     }
 }

@@ -1,7 +1,7 @@
 //! The text of a reply. It takes no memory.
 
 ghost use Rattle.std.specs.Prelude.{◌≡◌, ◌≤◌, length};
-ghost use Rattle.pw_http.specs.Replies.{close_line, content_name, refusal_line, refusal_status, reply_head, status_number, status_phrase};
+ghost use Rattle.pw_http.specs.Replies.{close_line, content_name, refusal_line, refusal_status, reply_head, status_told};
 
 use crate::requests::Refusal;
 use http::StatusCode;
@@ -31,7 +31,7 @@ pub enum ContentType {
 impl Status {
     /// The number of the status.
     pub fn number(self) -> u16
-        ensures { result ≡ status_number self }
+        ensures { result ≡ (status_told self).0 }
     {
         match self {
             Status::Fine => 200,
@@ -48,7 +48,7 @@ impl Status {
 
     /// The phrase of the status.
     pub fn phrase(self) -> &'static str
-        ensures text { result.now ≡ status_phrase self }
+        ensures text { result.now ≡ (status_told self).1 }
         ensures short { length result.now ≤ 20 }
     {
         match self.code().canonical_reason() {
@@ -58,7 +58,7 @@ impl Status {
     }
 
     fn code(self) -> StatusCode
-        ensures { result ≡ status_number self }
+        ensures { result ≡ (status_told self).0 }
     {
         match StatusCode::from_u16(self.number()) {
             Ok(code) => code,

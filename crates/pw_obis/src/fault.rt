@@ -1,7 +1,7 @@
 //! How faults are reported.
 
 ghost use Rattle.std.specs.Prelude.{◌≡◌};
-ghost use Rattle.pw_obis.specs.Faults.{line_fault_name, line_fault_number, value_fault_name, value_fault_number};
+ghost use Rattle.pw_obis.specs.Faults.{line_fault_told, value_fault_told};
 
 use crate::reader::LineFault;
 use crate::value::ValueFault;
@@ -9,14 +9,14 @@ use crate::value::ValueFault;
 impl LineFault {
     /// The number under which the fault is reported: 20.
     pub fn number(self) -> u8
-        ensures { result ≡ line_fault_number }
+        ensures { result ≡ line_fault_told.0 }
     {
         20
     }
 
     /// The name under which the fault is reported.
     pub fn name(self) -> &'static str
-        ensures { result.now ≡ line_fault_name }
+        ensures { result.now ≡ line_fault_told.1 }
     {
         "Line"
     }
@@ -25,23 +25,27 @@ impl LineFault {
 impl ValueFault {
     /// The number under which the fault is reported, from 21 to 23.
     pub fn number(self) -> u8
-        ensures { result ≡ value_fault_number self }
+        ensures { result ≡ (value_fault_told self).0 }
     {
-        match self {
-            ValueFault::Digits => 21,
-            ValueFault::Unit => 22,
-            ValueFault::TooLarge => 23,
-        }
+        self.told().0
     }
 
     /// The name under which the fault is reported: that of the variant.
     pub fn name(self) -> &'static str
-        ensures { result.now ≡ value_fault_name self }
+        ensures { result.now ≡ (value_fault_told self).1 }
+    {
+        self.told().1
+    }
+
+    // The number and the name.
+    fn told(self) -> (u8, &'static str)
+        ensures number { result.0 ≡ (value_fault_told self).0 }
+        ensures name { result.1.now ≡ (value_fault_told self).1 }
     {
         match self {
-            ValueFault::Digits => "Digits",
-            ValueFault::Unit => "Unit",
-            ValueFault::TooLarge => "TooLarge",
+            ValueFault::Digits => (21, "Digits"),
+            ValueFault::Unit => (22, "Unit"),
+            ValueFault::TooLarge => (23, "TooLarge"),
         }
     }
 }

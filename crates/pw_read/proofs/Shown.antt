@@ -14,7 +14,9 @@ use Rattle.pw_obis.specs.Block.{HasSets}
 use Rattle.pw_obis.specs.Line.{SetText}
 use Rattle.pw_obis.proofs.EachLine.{one_list}
 use Rattle.pw_read.specs.Lines.{SetShows, SetsShow}
-use Rattle.pw_read.specs.inner.Sets.{set_text}
+use Rattle.pw_read.specs.declared.fault.Halt.{Halt}
+use Rattle.pw_read.specs.declared.fault.Halt.TheVariants.{Memory, Refused}
+use Rattle.pw_read.specs.inner.Sets.{FrameHalts, SetHalts, SetsHalt, set_text}
 use Rattle.pw_read.specs.Text.{FirstWrong, FrameShows, FramesShow, FrameRefused, Stops}
 
 pub sets_more : (kind : Kind) (sets : List SetText) (set : SetText) (lines line : List ℕ) → SetsShow kind sets lines → SetShows kind set (Ok line)
@@ -52,6 +54,23 @@ wrong_behind kind all done behind first lines set fault g e s f = record {
   right = s;
   fault_is = f;
 }
+
+-- why the line of a set can't be written, behind sets whose lines are shown, is why those of the frame's sets can't be
+pub sets_halted : (frame : FrameText) (all done behind : List SetText) (first : SetText) (lines : List ℕ) (set : Set) (halt : Halt) → HasSets frame.block all None → IsGiven first set
+    → all ≡ done ++ first ∷ behind → SetsShow frame.kind done lines → SetHalts frame.kind (set_text set) halt → SetsHalt frame halt
+sets_halted frame all done behind first lines set Memory h g e s f = tt
+sets_halted frame all done behind first lines set (Refused (Frame fault)) h g e s f = absurd f
+sets_halted frame all done behind first lines set (Refused Line) h g e s f = absurd f
+sets_halted frame all done behind first lines set (Refused (Value fault)) h g e s f = (all, h, wrong_behind frame.kind all done behind first lines set fault g e s f)
+sets_halted frame all done behind first lines set (Refused (Instant fault)) h g e s f = absurd f
+
+-- and so the frame's text can't
+pub frame_halted : (clock : Clock) (frame : FrameText) (halt : Halt) → SetsHalt frame halt → FrameHalts clock frame halt
+frame_halted clock frame Memory f = tt
+frame_halted clock frame (Refused (Frame fault)) f = absurd f
+frame_halted clock frame (Refused Line) f = absurd f
+frame_halted clock frame (Refused (Value fault)) f = f
+frame_halted clock frame (Refused (Instant fault)) f = absurd f
 
 -- a set that is shown, behind sets that are
 pub shown_behind : (kind : Kind) (all done behind : List SetText) (first : SetText) (set : Set) → IsGiven first set

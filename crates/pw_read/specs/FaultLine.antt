@@ -9,17 +9,11 @@ use Rattle.pw_read.specs.declared.fault.Cause.{Cause}
 use Rattle.pw_read.specs.declared.fault.Cause.TheVariants.{Frame, Line, Value, Instant}
 use Rattle.pw_read.specs.declared.fault.Refusal.{Refusal}
 
-abbrev pub cause_number : Cause → ℕ
-cause_number (Frame fault) = frame_fault.frame_fault_number fault
-cause_number Line = obis_fault.line_fault_number
-cause_number (Value fault) = obis_fault.value_fault_number fault
-cause_number (Instant fault) = stamp_fault.stamp_fault_number fault
-
-abbrev pub cause_name : Cause → List ℕ
-cause_name (Frame fault) = frame_fault.frame_fault_name fault
-cause_name Line = obis_fault.line_fault_name
-cause_name (Value fault) = obis_fault.value_fault_name fault
-cause_name (Instant fault) = stamp_fault.stamp_fault_name fault
+abbrev pub cause_told : Cause → ℕ × List ℕ
+cause_told (Frame fault) = frame_fault.frame_fault_told fault
+cause_told Line = obis_fault.line_fault_told
+cause_told (Value fault) = obis_fault.value_fault_told fault
+cause_told (Instant fault) = stamp_fault.stamp_fault_told fault
 
 -- what stands behind the part's number
 abbrev pub cause_details : Cause → List ℕ
@@ -30,5 +24,5 @@ cause_details (Instant fault) = []
 
 abbrev pub fault_line : Refusal → List ℕ
 fault_line refusal =
-    refused_line (cause_number refusal.cause) (cause_name refusal.cause)
+    refused_line (cause_told refusal.cause).0 (cause_told refusal.cause).1
     ++ (codes " part " ++ (decimal refusal.part ++ cause_details refusal.cause))

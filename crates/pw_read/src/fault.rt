@@ -1,6 +1,6 @@
 ghost use Rattle.std.specs.Prelude.{◌≡◌, ◌<◌, ◌≤◌, ◌++◌};
 ghost use Rattle.arrayvec.specs.ArrayString.{array_string_len};
-ghost use Rattle.pw_read.specs.FaultLine.{cause_details, cause_name, cause_number, fault_line};
+ghost use Rattle.pw_read.specs.FaultLine.{cause_details, cause_told, fault_line};
 
 use pw_frame::FrameFault;
 use pw_line::{Line, ROOM, push_number, refused};
@@ -58,24 +58,27 @@ pub enum ReadFault {
 
 impl Cause {
     fn number(self) -> u8
-        ensures { result ≡ cause_number self }
+        ensures { result ≡ (cause_told self).0 }
     {
-        match self {
-            Cause::Frame(fault) => fault.number(),
-            Cause::Line => 20,
-            Cause::Value(fault) => fault.number(),
-            Cause::Instant(fault) => fault.number(),
-        }
+        self.told().0
     }
 
     fn name(self) -> &'static str
-        ensures { result.now ≡ cause_name self }
+        ensures { result.now ≡ (cause_told self).1 }
+    {
+        self.told().1
+    }
+
+    // The number and the name.
+    fn told(self) -> (u8, &'static str)
+        ensures number { result.0 ≡ (cause_told self).0 }
+        ensures name { result.1.now ≡ (cause_told self).1 }
     {
         match self {
-            Cause::Frame(fault) => fault.name(),
-            Cause::Line => "Line",
-            Cause::Value(fault) => fault.name(),
-            Cause::Instant(fault) => fault.name(),
+            Cause::Frame(fault) => (fault.number(), fault.name()),
+            Cause::Line => (20, "Line"),
+            Cause::Value(fault) => (fault.number(), fault.name()),
+            Cause::Instant(fault) => (fault.number(), fault.name()),
         }
     }
 }

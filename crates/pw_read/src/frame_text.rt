@@ -1,15 +1,16 @@
-ghost use Rattle.std.specs.Prelude.{◌≡◌, ℕ, ◌++◌, List, Option, Some, None, Err, IfOk, OnOk, IfErr};
+ghost use Rattle.std.specs.Prelude.{◌≡◌, ℕ, ◌++◌, List, Some, None, IfOk, OnOk, IfErr};
 ghost use Rattle.pw_frame.specs.Frame.{frame_text};
 ghost use Rattle.pw_obis.specs.Line.{SetText};
 ghost use Rattle.pw_obis.specs.Block.{HasSets};
 ghost use Rattle.pw_read.specs.Lines.{SetsShow};
-ghost use Rattle.pw_read.specs.Text.{kind_name as name_of, heading, InstantShows, FrameShows, FirstWrong, FrameRefused, BodyShows, BodyFails};
+ghost use Rattle.pw_read.specs.Text.{kind_name as name_of, heading, InstantShows, FrameShows, BodyShows, BodyFails};
+ghost use Rattle.pw_read.specs.inner.Sets.{FrameHalts, SetsHalt};
 
 use crate::fault::{Cause, Halt, ReadFault, Refusal};
 use crate::moment::frame_instant;
-use crate::set_line::{SetHalt, put_line, put_set};
+use crate::set_line::{put_line, put_set};
 use pw_frame::{Frame, Frames, Kind};
-use pw_obis::{LineFault, Sets, ValueFault};
+use pw_obis::{LineFault, Sets};
 use pw_time::{Clock, Instant, Zone, write_utc};
 use std::alloc::{AllocError, Global};
 
@@ -56,17 +57,13 @@ fn put_frame(
     frame: &Frame,
 ) -> Result<(), Halt>
     ensures ok { OnOk result ((shown : List ℕ) × FrameShows clock (frame_text frame.now) shown × (text.new.items ≡ text.old.items ++ shown)) }
-    ensures err { (cause : Cause) → result ≡ Err (Halt.Refused cause) → FrameRefused clock (frame_text frame.now) cause }
+    ensures err { IfErr result (FrameHalts clock (frame_text frame.now)) }
 {
     let Ok(()) = check_lines(frame.block) else {
         return Err(Halt::Refused(Cause::Line));
     };
     put_heading(text, frame)?;
-    match put_sets(text, alloc, frame) {
-        Ok(()) => {}
-        Err(SetHalt::Memory) => return Err(Halt::Memory),
-        Err(SetHalt::Value(fault)) => return Err(Halt::Refused(Cause::Value(fault))),
-    }
+    put_sets(text, alloc, frame)?;
     match frame_instant(frame, clock, zone) {
         Ok(instant) => Ok(put_instant(text, instant)?),
         Err(fault) => Err(Halt::Refused(Cause::Instant(fault))),
@@ -115,20 +112,17 @@ fn put_heading(text: &mut Vec<u8>, frame: &Frame) -> Result<(), AllocError>
 }
 
 /// Writes the lines of a frame's sets behind the text.
-fn put_sets(text: &mut Vec<u8>, alloc: Global, frame: &Frame) -> Result<(), SetHalt>
+fn put_sets(text: &mut Vec<u8>, alloc: Global, frame: &Frame) -> Result<(), Halt>
     requires { (sets : List SetText) × HasSets frame.now.block.now sets None }
     ensures ok { OnOk result ((sets : List SetText) × (lines : List ℕ) × HasSets frame.now.block.now sets None × SetsShow frame.now.kind sets lines × (text.new.items ≡ text.old.items ++ lines)) }
-    ensures err { (fault : ValueFault) → result ≡ Err (SetHalt.Value fault) → (sets : List SetText) × HasSets frame.now.block.now sets None × FirstWrong frame.now.kind sets fault }
+    ensures err { IfErr result (SetsHalt (frame_text frame.now)) }
 {
     let mut sets = Sets::new(frame.block);
     'sets: while let Some(next) = sets.next_set() {
         let Ok(set) = next else {
             return Ok(());
         };
-        match put_set(text, alloc, frame.kind, &set) {
-            Ok(()) => {}
-            Err(halt) => return Err(halt),
-        }
+        put_set(text, alloc, frame.kind, &set)?;
     }
     Ok(())
 }

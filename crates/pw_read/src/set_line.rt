@@ -1,32 +1,14 @@
-ghost use Rattle.std.specs.Prelude.{◌≡◌, ℕ, ◌++◌, List, IfSome, IfNone, IfOk, IfErr, OnOk, Ok, Err, codes};
+ghost use Rattle.std.specs.Prelude.{◌≡◌, ℕ, ◌++◌, List, IfSome, IfNone, IfErr, OnOk, Ok};
 ghost use Rattle.pw_obis.specs.Address.{IsCodeOf};
 ghost use Rattle.pw_read.specs.Lines.{IsTextName, line_of, SetShows};
-ghost use Rattle.pw_read.specs.inner.Sets.{set_text};
+ghost use Rattle.pw_read.specs.inner.Sets.{SetHalts, set_text};
 
+use crate::fault::{Cause, Halt};
 use pw_frame::Kind;
 use pw_obis::{
-    Code, Set, ValueFault, first_value, is_date, is_identifier, is_stamp, is_time, register,
-    watt_hours,
+    Code, Set, first_value, is_date, is_identifier, is_stamp, is_time, register, watt_hours,
 };
 use std::alloc::{AllocError, Global};
-
-/// Why the line of a set can't be written.
-#[derive(Clone, Copy, Debug, PartialEq, Eq)]
-pub enum SetHalt {
-    Memory,
-    Value(ValueFault),
-}
-
-impl From<AllocError> for SetHalt {
-    ghost use Rattle.std.specs.Prelude.{◌≡◌};
-    ghost use Rattle.pw_read.specs.declared.set_line.SetHalt.TheVariants.{Memory};
-
-    ghost from_gives = { λ _ halt. halt ≡ Memory };
-
-    fn from(_error: AllocError) -> SetHalt {
-        SetHalt::Memory
-    }
-}
 
 /// The name under which a set's first value is printed as it stands: identifier and stamp belong to telegrams, time and
 /// date to readouts.
@@ -44,10 +26,10 @@ fn text_name(kind: Kind, code: &Code) -> Option<&'static str>
 }
 
 /// Writes the line of a set behind the text, where its code has one.
-pub fn put_set(text: &mut Vec<u8>, alloc: Global, kind: Kind, set: &Set) -> Result<(), SetHalt>
+pub fn put_set(text: &mut Vec<u8>, alloc: Global, kind: Kind, set: &Set) -> Result<(), Halt>
     requires { IsCodeOf set.now.address.now set.now.code }
     ensures ok { OnOk result ((line : List ℕ) × SetShows kind (set_text set.now) (Ok line) × (text.new.items ≡ text.old.items ++ line)) }
-    ensures err { (fault : ValueFault) → result ≡ Err (SetHalt.Value fault) → SetShows kind (set_text set.now) (Err fault) }
+    ensures err { IfErr result (SetHalts kind (set_text set.now)) }
 {
     let Some(code) = set.code else {
         return Ok(());
@@ -66,7 +48,7 @@ pub fn put_set(text: &mut Vec<u8>, alloc: Global, kind: Kind, set: &Set) -> Resu
             put_line(text, register.name().as_bytes(), digits.as_bytes())?;
             Ok(())
         }
-        Err(fault) => Err(SetHalt::Value(fault)),
+        Err(fault) => Err(Halt::Refused(Cause::Value(fault))),
     }
 }
 

@@ -2,7 +2,7 @@
 
 ghost use Rattle.std.specs.Prelude.{◌≡◌, ◌+◌, ◌<◌, ◌≤◌, ◌++◌};
 ghost use Rattle.arrayvec.specs.ArrayString.{array_string_len};
-ghost use Rattle.pw_record.specs.Causes.{cause_details, cause_name, cause_number, fault_line};
+ghost use Rattle.pw_record.specs.Causes.{cause_details, cause_told, fault_line};
 
 use pw_frame::FrameFault;
 use pw_line::{Line, ROOM, push_number, refused};
@@ -82,57 +82,44 @@ pub struct UploadFault {
 impl Cause {
     /// The number under which the cause is reported.
     pub fn number(self) -> u8
-        ensures { result ≡ cause_number self }
+        ensures { result ≡ (cause_told self).0 }
     {
-        match self {
-            Cause::Instant(fault) => fault.number(),
-            Cause::Frame(fault) => fault.number(),
-            Cause::Line(fault) => fault.number(),
-            Cause::Value(fault) => fault.number(),
-            Cause::NoMeter => 40,
-            Cause::UnknownMeter => 41,
-            Cause::WrongKind => 42,
-            Cause::NoInstant => 43,
-            Cause::RegisterTwice => 44,
-            Cause::NoRegister => 45,
-            Cause::UnknownAccount => 46,
-            Cause::CsvForm => 47,
-            Cause::Header => 48,
-            Cause::Cents => 49,
-            Cause::Reference => 50,
-            Cause::TooManyParts => 51,
-            Cause::TwiceGiven => 52,
-            Cause::Kind => 53,
-            Cause::RegisterName => 54,
-            Cause::Memory => 62,
-        }
+        self.told().0
     }
 
     /// The name under which the cause is reported: that of the variant, or of the fault that it holds.
     pub fn name(self) -> &'static str
-        ensures { result.now ≡ cause_name self }
+        ensures { result.now ≡ (cause_told self).1 }
+    {
+        self.told().1
+    }
+
+    // The number and the name.
+    fn told(self) -> (u8, &'static str)
+        ensures number { result.0 ≡ (cause_told self).0 }
+        ensures name { result.1.now ≡ (cause_told self).1 }
     {
         match self {
-            Cause::Instant(fault) => fault.name(),
-            Cause::Frame(fault) => fault.name(),
-            Cause::Line(fault) => fault.name(),
-            Cause::Value(fault) => fault.name(),
-            Cause::NoMeter => "NoMeter",
-            Cause::UnknownMeter => "UnknownMeter",
-            Cause::WrongKind => "WrongKind",
-            Cause::NoInstant => "NoInstant",
-            Cause::RegisterTwice => "RegisterTwice",
-            Cause::NoRegister => "NoRegister",
-            Cause::UnknownAccount => "UnknownAccount",
-            Cause::CsvForm => "CsvForm",
-            Cause::Header => "Header",
-            Cause::Cents => "Cents",
-            Cause::Reference => "Reference",
-            Cause::TooManyParts => "TooManyParts",
-            Cause::TwiceGiven => "TwiceGiven",
-            Cause::Kind => "Kind",
-            Cause::RegisterName => "RegisterName",
-            Cause::Memory => "Memory",
+            Cause::Instant(fault) => (fault.number(), fault.name()),
+            Cause::Frame(fault) => (fault.number(), fault.name()),
+            Cause::Line(fault) => (fault.number(), fault.name()),
+            Cause::Value(fault) => (fault.number(), fault.name()),
+            Cause::NoMeter => (40, "NoMeter"),
+            Cause::UnknownMeter => (41, "UnknownMeter"),
+            Cause::WrongKind => (42, "WrongKind"),
+            Cause::NoInstant => (43, "NoInstant"),
+            Cause::RegisterTwice => (44, "RegisterTwice"),
+            Cause::NoRegister => (45, "NoRegister"),
+            Cause::UnknownAccount => (46, "UnknownAccount"),
+            Cause::CsvForm => (47, "CsvForm"),
+            Cause::Header => (48, "Header"),
+            Cause::Cents => (49, "Cents"),
+            Cause::Reference => (50, "Reference"),
+            Cause::TooManyParts => (51, "TooManyParts"),
+            Cause::TwiceGiven => (52, "TwiceGiven"),
+            Cause::Kind => (53, "Kind"),
+            Cause::RegisterName => (54, "RegisterName"),
+            Cause::Memory => (62, "Memory"),
         }
     }
 }

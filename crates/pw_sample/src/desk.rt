@@ -56,9 +56,7 @@ impl<'a> Desk<'a> {
         if is_at(meter.plan.again, quarter) {
             more(&mut self.figures.repeated_frames, 1);
             let again = frame.clone()?;
-            if self.again.push(again).is_err() {
-                return Err(Fault::Memory);
-            }
+            self.again.push(again)?;
         }
         if is_at(meter.plan.otherwise, quarter) {
             more(&mut self.figures.disputed_readings, 1);
@@ -74,10 +72,7 @@ impl<'a> Desk<'a> {
             return self.send(frame.as_slice());
         }
         more(&mut self.figures.late_frames, 1);
-        match self.late.push(frame) {
-            Ok(()) => Ok(()),
-            Err(_) => Err(Fault::Memory),
-        }
+        Ok(self.late.push(frame)?)
     }
 
     /// Writes down a meter's assignment to an account or to nobody, from a second on, and answers its row.
@@ -108,10 +103,7 @@ impl<'a> Desk<'a> {
     fn take_otherwise(&mut self, meter: &Meter, levels: &Levels, second: u32) -> Result<(), Fault> {
         let frame = telegram(self.alloc, meter, levels, second)?;
         more(&mut self.figures.readings, 1);
-        match self.again.push(frame) {
-            Ok(()) => Ok(()),
-            Err(_) => Err(Fault::Memory),
-        }
+        Ok(self.again.push(frame)?)
     }
 
     fn send(&mut self, frame: &[u8]) -> Result<(), Fault> {

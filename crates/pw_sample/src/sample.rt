@@ -61,9 +61,7 @@ pub fn make_sample(
 fn all_meters(alloc: Global, count: u32, draws: &mut Draws) -> Result<Vec<Meter>, Fault> {
     let mut meters = Vec::new(alloc);
     for number in 0..count {
-        if meters.push(Meter::at(alloc, number, draws)?).is_err() {
-            return Err(Fault::Memory);
-        }
+        meters.push(Meter::at(alloc, number, draws)?)?;
     }
     Ok(meters)
 }

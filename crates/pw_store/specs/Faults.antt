@@ -5,19 +5,12 @@ use Rattle.pw_line.specs.Refused.{refused_line}
 use Rattle.pw_store.specs.declared.fault.OpenFault.{OpenFault}
 use Rattle.pw_store.specs.declared.fault.OpenFault.TheVariants.{Store, Memory, OfficeDiffers, Version, Unclean}
 
-abbrev pub open_number : OpenFault → ℕ
-open_number Store = 70
-open_number Memory = 62
-open_number OfficeDiffers = 71
-open_number Version = 72
-open_number Unclean = 73
-
-abbrev pub open_name : OpenFault → List ℕ
-open_name Store = codes "Store"
-open_name Memory = codes "Memory"
-open_name OfficeDiffers = codes "OfficeDiffers"
-open_name Version = codes "Version"
-open_name Unclean = codes "Unclean"
+abbrev pub open_told : OpenFault → ℕ × List ℕ
+open_told Store = (70, codes "Store")
+open_told Memory = (62, codes "Memory")
+open_told OfficeDiffers = (71, codes "OfficeDiffers")
+open_told Version = (72, codes "Version")
+open_told Unclean = (73, codes "Unclean")
 
 abbrev pub open_line : OpenFault → List ℕ
-open_line fault = refused_line (open_number fault) (open_name fault)
+open_line fault = refused_line (open_told fault).0 (open_told fault).1

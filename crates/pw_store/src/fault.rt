@@ -67,31 +67,33 @@ pub enum OpenFault {
 }
 
 impl OpenFault {
-    ghost use Rattle.pw_store.specs.Faults.{open_name, open_number};
+    ghost use Rattle.pw_store.specs.Faults.{open_told};
 
     /// The number under which the fault is reported: 70 to 73, or 62.
     pub fn number(self) -> u8
-        ensures { result ≡ open_number self }
+        ensures { result ≡ (open_told self).0 }
     {
-        match self {
-            OpenFault::Store => 70,
-            OpenFault::Memory => 62,
-            OpenFault::OfficeDiffers => 71,
-            OpenFault::Version => 72,
-            OpenFault::Unclean => 73,
-        }
+        self.told().0
     }
 
     /// The name under which the fault is reported: that of the variant.
     pub fn name(self) -> &'static str
-        ensures { result.now ≡ open_name self }
+        ensures { result.now ≡ (open_told self).1 }
+    {
+        self.told().1
+    }
+
+    // The number and the name.
+    fn told(self) -> (u8, &'static str)
+        ensures number { result.0 ≡ (open_told self).0 }
+        ensures name { result.1.now ≡ (open_told self).1 }
     {
         match self {
-            OpenFault::Store => "Store",
-            OpenFault::Memory => "Memory",
-            OpenFault::OfficeDiffers => "OfficeDiffers",
-            OpenFault::Version => "Version",
-            OpenFault::Unclean => "Unclean",
+            OpenFault::Store => (70, "Store"),
+            OpenFault::Memory => (62, "Memory"),
+            OpenFault::OfficeDiffers => (71, "OfficeDiffers"),
+            OpenFault::Version => (72, "Version"),
+            OpenFault::Unclean => (73, "Unclean"),
         }
     }
 }

@@ -7,14 +7,14 @@ use pw_schema::{
     commit, create, is_nothing, is_of, keeps_office, read_rows, roll_back,
 };
 use pw_tariff::Office;
-use pw_tests::offices::ONE_METER;
+use pw_tests::offices::SAMPLE;
 use sqlite::{Connection, Error, MemStore, Row};
 use std::alloc::Global;
 use std::process::Abort;
 use std::test::Fail;
 
 fn office(rt: &impl Abort, alloc: Global) -> Office {
-    Office::read(alloc, ONE_METER.as_bytes()).expect(rt, "an office")
+    Office::read(alloc, SAMPLE.as_bytes()).expect(rt, "an office")
 }
 
 fn rows(rt: &impl Abort, alloc: Global, text: &str) -> Vec<Row> {
@@ -117,7 +117,7 @@ fn an_upload_is_rolled_back_or_committed(rt: HostRuntime) -> Result<(), Fail> {
 const FOREIGN: [(RecordKind, &str); 17] = [
     (RecordKind::Readings, "SELECT 0, 9, 1704067200, 1"),
     (RecordKind::Readings, "SELECT 0, 0, 1704067200, 1"),
-    (RecordKind::Readings, "SELECT 1, 5, 1704067200, 1"),
+    (RecordKind::Readings, "SELECT 3, 5, 1704067200, 1"),
     (RecordKind::Readings, "SELECT 0, 5, 5, 1"),
     (
         RecordKind::Readings,

@@ -12,7 +12,7 @@ use pw_shelf::{Shelf, ShelfFault};
 use pw_store::laws::{closed_is_opened_again, left_is_opened_again};
 use pw_store::{OpenFault, SqlShelf};
 use pw_tariff::{AccountId, BandId, Direction, Office};
-use pw_tests::offices::ONE_METER;
+use pw_tests::offices::SAMPLE;
 use pw_tests::sample::METER;
 use pw_time::Instant;
 use sqlite::{Connection, MemStore};
@@ -38,8 +38,8 @@ fn opened(
 ) -> Result<SqlShelf<MemStore>, (OpenFault, Connection<MemStore>)>
     ensures { IfOk result (λ shelf. shelf.begun ≡ false) }
 {
-    let _office = Office::read(alloc, ONE_METER.as_bytes()).expect(rt, "an office");
-    SqlShelf::open(alloc, connection, ONE_METER.as_bytes())
+    let _office = Office::read(alloc, SAMPLE.as_bytes()).expect(rt, "an office");
+    SqlShelf::open(alloc, connection, SAMPLE.as_bytes())
 }
 
 // The store of a connection.
@@ -143,14 +143,14 @@ fn is_opened_behind(
     shelf: &SqlShelf<MemStore>,
     left: Connection<MemStore>,
 ) -> bool {
-    let _office = Office::read(alloc, ONE_METER.as_bytes()).expect(rt, "an office");
-    left_is_opened_again(alloc, shelf, left, ONE_METER.as_bytes()).is_ok()
+    let _office = Office::read(alloc, SAMPLE.as_bytes()).expect(rt, "an office");
+    left_is_opened_again(alloc, shelf, left, SAMPLE.as_bytes()).is_ok()
 }
 
 // The store, closed and opened again.
 fn reopened(rt: &impl Abort, alloc: Global, shelf: SqlShelf<MemStore>) -> SqlShelf<MemStore> {
-    let _office = Office::read(alloc, ONE_METER.as_bytes()).expect(rt, "an office");
-    match closed_is_opened_again(alloc, shelf, ONE_METER.as_bytes()) {
+    let _office = Office::read(alloc, SAMPLE.as_bytes()).expect(rt, "an office");
+    match closed_is_opened_again(alloc, shelf, SAMPLE.as_bytes()) {
         Ok(again) => again,
         Err(_) => panic!(rt; "not opened"),
     }

@@ -29,41 +29,38 @@ pub enum OfficeFault {
 
 impl OfficeFault {
     ghost use Rattle.std.specs.Prelude.{◌≡◌};
-    ghost use Rattle.pw_tariff.specs.Faults.{office_fault_name, office_fault_number};
+    ghost use Rattle.pw_tariff.specs.Faults.{office_fault_told};
 
     /// The number under which the fault is reported: 30 to 38, and 62.
     pub fn number(self) -> u8
-        ensures { result ≡ office_fault_number self }
+        ensures { result ≡ (office_fault_told self).0 }
     {
-        match self {
-            OfficeFault::Toml => 30,
-            OfficeFault::MissingField => 31,
-            OfficeFault::BadName => 32,
-            OfficeFault::TwiceNamed => 33,
-            OfficeFault::Week => 34,
-            OfficeFault::Price => 35,
-            OfficeFault::RegistersOverlap => 36,
-            OfficeFault::Empty => 37,
-            OfficeFault::TooMany => 38,
-            OfficeFault::Memory => 62,
-        }
+        self.told().0
     }
 
     /// The name under which the fault is reported: that of the variant.
     pub fn name(self) -> &'static str
-        ensures { result.now ≡ office_fault_name self }
+        ensures { result.now ≡ (office_fault_told self).1 }
+    {
+        self.told().1
+    }
+
+    // The number and the name.
+    fn told(self) -> (u8, &'static str)
+        ensures number { result.0 ≡ (office_fault_told self).0 }
+        ensures name { result.1.now ≡ (office_fault_told self).1 }
     {
         match self {
-            OfficeFault::Toml => "Toml",
-            OfficeFault::MissingField => "MissingField",
-            OfficeFault::BadName => "BadName",
-            OfficeFault::TwiceNamed => "TwiceNamed",
-            OfficeFault::Week => "Week",
-            OfficeFault::Price => "Price",
-            OfficeFault::RegistersOverlap => "RegistersOverlap",
-            OfficeFault::Empty => "Empty",
-            OfficeFault::TooMany => "TooMany",
-            OfficeFault::Memory => "Memory",
+            OfficeFault::Toml => (30, "Toml"),
+            OfficeFault::MissingField => (31, "MissingField"),
+            OfficeFault::BadName => (32, "BadName"),
+            OfficeFault::TwiceNamed => (33, "TwiceNamed"),
+            OfficeFault::Week => (34, "Week"),
+            OfficeFault::Price => (35, "Price"),
+            OfficeFault::RegistersOverlap => (36, "RegistersOverlap"),
+            OfficeFault::Empty => (37, "Empty"),
+            OfficeFault::TooMany => (38, "TooMany"),
+            OfficeFault::Memory => (62, "Memory"),
         }
     }
 }

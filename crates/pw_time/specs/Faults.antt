@@ -3,20 +3,11 @@ use Rattle.std.specs.Prelude.{ℕ, List, codes}
 use Rattle.pw_time.specs.declared.fault.StampFault.{StampFault}
 use Rattle.pw_time.specs.declared.fault.StampFault.TheVariants.{Form, NoSuchDate, NoSuchTime, Mark, Range, Gap, Fold}
 
-abbrev pub stamp_fault_number : StampFault → ℕ
-stamp_fault_number Form = 1
-stamp_fault_number NoSuchDate = 2
-stamp_fault_number NoSuchTime = 3
-stamp_fault_number Mark = 4
-stamp_fault_number Range = 5
-stamp_fault_number Gap = 6
-stamp_fault_number Fold = 7
-
-abbrev pub stamp_fault_name : StampFault → List ℕ
-stamp_fault_name Form = codes "Form"
-stamp_fault_name NoSuchDate = codes "NoSuchDate"
-stamp_fault_name NoSuchTime = codes "NoSuchTime"
-stamp_fault_name Mark = codes "Mark"
-stamp_fault_name Range = codes "Range"
-stamp_fault_name Gap = codes "Gap"
-stamp_fault_name Fold = codes "Fold"
+abbrev pub stamp_fault_told : StampFault → ℕ × List ℕ
+stamp_fault_told Form = (1, codes "Form")
+stamp_fault_told NoSuchDate = (2, codes "NoSuchDate")
+stamp_fault_told NoSuchTime = (3, codes "NoSuchTime")
+stamp_fault_told Mark = (4, codes "Mark")
+stamp_fault_told Range = (5, codes "Range")
+stamp_fault_told Gap = (6, codes "Gap")
+stamp_fault_told Fold = (7, codes "Fold")

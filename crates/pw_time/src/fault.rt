@@ -20,35 +20,35 @@ pub enum StampFault {
 
 impl StampFault {
     ghost use Rattle.std.specs.Prelude.{◌≡◌};
-    ghost use Rattle.pw_time.specs.Faults.{stamp_fault_name, stamp_fault_number};
+    ghost use Rattle.pw_time.specs.Faults.{stamp_fault_told};
 
     /// The number under which the fault is reported, from 1 to 7.
     pub fn number(self) -> u8
-        ensures { result ≡ stamp_fault_number self }
+        ensures { result ≡ (stamp_fault_told self).0 }
     {
-        match self {
-            StampFault::Form => 1,
-            StampFault::NoSuchDate => 2,
-            StampFault::NoSuchTime => 3,
-            StampFault::Mark => 4,
-            StampFault::Range => 5,
-            StampFault::Gap => 6,
-            StampFault::Fold => 7,
-        }
+        self.told().0
     }
 
     /// The name under which the fault is reported: that of the variant.
     pub fn name(self) -> &'static str
-        ensures { result.now ≡ stamp_fault_name self }
+        ensures { result.now ≡ (stamp_fault_told self).1 }
+    {
+        self.told().1
+    }
+
+    // The number and the name.
+    fn told(self) -> (u8, &'static str)
+        ensures number { result.0 ≡ (stamp_fault_told self).0 }
+        ensures name { result.1.now ≡ (stamp_fault_told self).1 }
     {
         match self {
-            StampFault::Form => "Form",
-            StampFault::NoSuchDate => "NoSuchDate",
-            StampFault::NoSuchTime => "NoSuchTime",
-            StampFault::Mark => "Mark",
-            StampFault::Range => "Range",
-            StampFault::Gap => "Gap",
-            StampFault::Fold => "Fold",
+            StampFault::Form => (1, "Form"),
+            StampFault::NoSuchDate => (2, "NoSuchDate"),
+            StampFault::NoSuchTime => (3, "NoSuchTime"),
+            StampFault::Mark => (4, "Mark"),
+            StampFault::Range => (5, "Range"),
+            StampFault::Gap => (6, "Gap"),
+            StampFault::Fold => (7, "Fold"),
         }
     }
 }

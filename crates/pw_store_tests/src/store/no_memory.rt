@@ -13,7 +13,7 @@ use pw_obis::{Register, WattHours};
 use pw_shelf::{Shelf, ShelfFault};
 use pw_store::{OpenFault, SqlShelf};
 use pw_tariff::Office;
-use pw_tests::offices::ONE_METER;
+use pw_tests::offices::SAMPLE;
 use pw_tests::sample::METER;
 use pw_time::{FIRST_SECOND, Instant, LAST_SECOND};
 use sqlite::{Connection, MemStore};
@@ -40,10 +40,10 @@ fn is_new(rt: &impl Abort, alloc: Global, connection: Connection<MemStore>) -> b
 
 // Whether a new store is opened: at once, or, where it is refused for want of memory, at the next try.
 fn is_opened<O: Write>(rt: &impl Abort, alloc: Global, out: &mut O) -> bool {
-    let _office = Office::read(alloc, ONE_METER.as_bytes()).expect(rt, "an office");
+    let _office = Office::read(alloc, SAMPLE.as_bytes()).expect(rt, "an office");
     let connection = memory(rt, alloc);
     tell(out, b"one may be refused\n");
-    let opened = SqlShelf::open(alloc, connection, ONE_METER.as_bytes());
+    let opened = SqlShelf::open(alloc, connection, SAMPLE.as_bytes());
     tell(out, b"all is given\n");
     match opened {
         Ok(mut store) => store.count() == Ok(0),

@@ -1,6 +1,6 @@
 use Rattle.std.proofs.Common.{◌≡◌, ◌∙◌, List, ℕ, ◌++◌, ap, codes}
 use Rattle.std.specs.Prelude.{decimal}
-use Rattle.pw_http.specs.Replies.{reply_head, status_number}
+use Rattle.pw_http.specs.Replies.{reply_head, status_told}
 use Rattle.pw_http.proofs.replies.head.Goals as goal
 
 -- eleven texts, one behind another
@@ -21,7 +21,7 @@ joined t1 t2 t3 t4 t5 t6 t7 t8 t9 t10 t11 b c d e f g h i j k f1 e2 e3 e4 e5 e6 
 pub returns : goal.returns
 unfolding reply_head
 returns c =
-    let number : decimal c.number.result ≡ decimal (status_number c.args.status) = ap decimal c.number.ensures in
+    let number : decimal c.number.result ≡ decimal (status_told c.args.status).0 = ap decimal c.number.ensures in
     let phrase = c.phrase.ensures.text in
     let content = c.content_text.ensures.text in
     let close = c.closing_line.ensures.text in

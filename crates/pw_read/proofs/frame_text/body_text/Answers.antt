@@ -1,4 +1,4 @@
-use Rattle.std.proofs.Common.{Err, ◌≡◌, ℕ, List, ◌<◌, ◌++◌, ◌∷◌, [], arith, subst, ap, sym, ◌∙◌, rules}
+use Rattle.std.proofs.Common.{◌≡◌, ℕ, List, ◌<◌, ◌++◌, ◌∷◌, [], arith, subst, sym, ◌∙◌, rules}
 use Rattle.std.proofs.lemmas.List.{length-append}
 use Rattle.pw_frame.specs.Frame.{frame_text}
 use Rattle.pw_frame.specs.Body.{Front, BodyFault, BodyReading}
@@ -22,7 +22,7 @@ returns-in-Err-Refused-clause-fault c =
       shown = c.frames.text.items;
       right = i.4;
       part_is = i.5;
-      stops = stops_at c.args.clock c.args.body.now i.0 (frame_text c.in-Ok.frame) c.next_frame.new.self.place c.in-Err-Refused.cause front (c.in-Err-Refused.ensures.err c.in-Err-Refused.cause (ap Err c.in-Err-Refused.field-0-is));
+      stops = stops_at c.args.clock c.args.body.now i.0 (frame_text c.in-Ok.frame) c.next_frame.new.self.place c.in-Err-Refused.cause front (rw c.in-Err-Refused.field-0-is at c.in-Err-Refused.ensures.err);
     })
 
 pub frames-preserved : goal.frames-preserved

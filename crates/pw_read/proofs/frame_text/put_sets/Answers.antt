@@ -1,24 +1,26 @@
-use Rattle.std.proofs.Common.{◌++◌, ◌∷◌, [], List, ap, sym, ◌∙◌, append_assoc}
+use Rattle.std.proofs.Common.{◌++◌, ◌∷◌, [], List, IfErr, ap, sym, subst, ◌∙◌, append_assoc}
+use Rattle.std.proofs.lemmas.Result.{err_from_is_err_and}
+use Rattle.pw_frame.specs.Frame.{frame_text}
 use Rattle.pw_obis.specs.Line.{SetText}
-use Rattle.pw_read.specs.inner.Sets.{set_text}
-use Rattle.pw_read.proofs.Shown.{sets_more, no_refusal, wrong_behind, shown_behind, all_shown}
+use Rattle.pw_read.specs.inner.Sets.{SetsHalt, set_text}
+use Rattle.pw_read.proofs.Shown.{sets_more, no_refusal, sets_halted, shown_behind, all_shown}
 use Rattle.pw_read.proofs.frame_text.put_sets.Goals as goal
 
-pub returns-in-Err-clause-err : goal.returns-in-Err-clause-err
-returns-in-Err-clause-err c = λ fault e.
+pub returns-in_err-put_set-clause-err : goal.returns-in_err-put_set-clause-err
+returns-in_err-put_set-clause-err c =
     let i = c.sets.invariant in
-    let h = rw c.in-Ok.is at c.in-Some.ensures in (
-      c.new-sets.result.sets,
-      no_refusal c.args.frame.now.block.now c.new-sets.result.sets c.new-sets.result.refusal c.requires c.new-sets.ensures,
-      wrong_behind c.args.frame.now.kind c.new-sets.result.sets i.0 c.next_set.new.self.sets h.0 i.1 c.in-Ok.set fault h.1 (i.2 ∙ ap (λ (x : List SetText). i.0 ++ x) h.2) i.4
-          (c.in-Err.ensures.err fault e),
-    )
+    let h = rw c.in-Ok.is at c.in-Some.ensures in
+    let p = err_from_is_err_and c.from_residual.result c.from_residual.ensures.1 in
+    let frame = frame_text c.args.frame.now in
+    let all = no_refusal c.args.frame.now.block.now c.new-sets.result.sets c.new-sets.result.refusal c.requires c.new-sets.ensures in
+    let halted = sets_halted frame c.new-sets.result.sets i.0 c.next_set.new.self.sets h.0 i.1 c.in-Ok.set c.in_err-put_set.field-0.0 all h.1 (i.2 ∙ ap (λ (x : List SetText). i.0 ++ x) h.2) i.4 c.in_err-put_set.ensures.err in
+    subst (λ r. IfErr r (SetsHalt frame)) (sym p.1) (subst (SetsHalt frame) (sym p.2) halted)
 
 pub sets-preserved : goal.sets-preserved
 sets-preserved c =
     let i = c.sets.invariant in
     let h = rw c.in-Ok.is at c.in-Some.ensures in
-    let o = c.in-Ok-put_set.ensures.ok in (
+    let o = c.in_ok-put_set.ensures.ok in (
       i.0 ++ set_text c.in-Ok.set ∷ [],
       i.1 ++ o.0,
       shown_behind c.args.frame.now.kind c.new-sets.result.sets i.0 c.next_set.new.self.sets h.0 c.in-Ok.set h.1 (i.2 ∙ ap (λ (x : List SetText). i.0 ++ x) h.2),

@@ -5,8 +5,5 @@ use Rattle.pw_report.proofs.records.export_assignments.Goals as goal
 
 pub returns-clause-text : goal.returns-clause-text
 returns-clause-text g c = λ k.
-    let records = (g.S.Shelf.state c.args.book.now.shelf).content.records in
-    let header = c.in_ok-put_assignments_header.ensures.text [] c.new-rows.ensures in
-    let written = c.in_ok-put_records.ensures.text _ header in
-    records-told _ Assignment c.args.book.now.office _ records _ _ (c.office.ensures ∙ c.in_ok-assignments.ensures.question.office) c.deref.ensures.value (c.in_ok-assignments.ensures.assignments k)
-    (c.finish.ensures.text _ [] written)
+    records-told _ Assignment c.args.book.now.office _ _ _ _ (c.office.ensures ∙ c.in_ok-assignments.ensures.question.office) c.deref.ensures.value (c.in_ok-assignments.ensures.assignments k)
+    (c.finish.ensures.text _ [] (c.in_ok-put_records.ensures.text _ (c.in_ok-put_assignments_header.ensures.text [] c.new-rows.ensures)))

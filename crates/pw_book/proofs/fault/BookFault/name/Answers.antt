@@ -1,5 +1,0 @@
-use Rattle.std.proofs.Common.{rules}
-use Rattle.pw_book.proofs.fault.BookFault.name.Goals as goal
-
-pub returns-in-Reopen : goal.returns-in-Reopen
-returns-in-Reopen c = search rules
