@@ -36,7 +36,7 @@ fn status_of(rt: &HostRuntime) -> u8 {
         return run(rt, words.as_slice(), &mut input, &mut out, &mut err);
     }
     name_unreadable(rt, words.as_slice(), &mut err);
-    let mut told = Progress::new(rt.stderr(), true);
+    let mut told = Progress::new(rt, rt.stderr(), true);
     run_watched(
         rt,
         words.as_slice(),

@@ -1,6 +1,6 @@
 -- Why a command is refused: the line, and the exit status. One table over all faults.
 -- (A format of this project.)
-use Rattle.std.specs.Prelude.{◌≡◌, ◌⊎◌, ℕ, List, Option, Result, Ok, Err, ◌++◌, codes}
+use Rattle.std.specs.Prelude.{◌≡◌, ◌⊎◌, ℕ, List, Option, Result, Ok, Err, ◌++◌, codes, decimal}
 use Rattle.std.specs.Io.KnownBytes.{Appends}
 use Rattle.pw_line.specs.Refused.{memory_line}
 use Rattle.pw_read.specs.Run.{WritesFront}
@@ -40,6 +40,11 @@ post_status _ = 3
 abbrev pub IsOfReading : Fault → Type 0
 IsOfReading f = (f ≡ fault.Device) ⊎ (f ≡ fault.Memory)
 
+-- why a list of uploads isn't read
+abbrev pub IsOfList : Fault → Type 0
+IsOfList (fault.List line) = Unit {0}
+IsOfList f = f ≡ fault.Memory
+
 -- what a store that isn't looked at or opened is to a command
 abbrev pub fault_of_refusal : Refusal → Fault
 fault_of_refusal refusal.NoSuchStore = fault.NoSuchStore
@@ -58,6 +63,7 @@ abbrev pub fault_status : Fault → ℕ
 fault_status (fault.Office of_office) = office_status of_office
 fault_status fault.TooLarge = 1
 fault_status (fault.Upload of_upload) = cause_status of_upload.cause
+fault_status (fault.List line) = 1
 fault_status fault.NoSuchAccount = 1
 fault_status fault.NoSuchStore = 1
 fault_status (fault.Store of_opening) = 3
@@ -77,6 +83,7 @@ abbrev pub fault_text : Fault → List ℕ
 fault_text (fault.Office of_office) = office_fault.office_fault_line of_office
 fault_text fault.TooLarge = codes "body too large"
 fault_text (fault.Upload of_upload) = upload_fault.fault_line of_upload
+fault_text (fault.List line) = codes "line " ++ (decimal line ++ codes " of the list names no upload")
 fault_text fault.NoSuchAccount = codes "no such account"
 fault_text fault.NoSuchStore = codes "no such store"
 fault_text (fault.Store of_opening) = store_fault.open_line of_opening

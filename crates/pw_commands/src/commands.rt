@@ -12,14 +12,15 @@ ghost use Rattle.pw_words.specs.declared.commands.Command.TheVariants.{Read};
 
 use crate::fault::Fault;
 use crate::files::{LONGEST_OFFICE, read_file};
+use crate::loading::{Target, load};
 use crate::pipe::pipe_run;
-use crate::progress::Progress;
+use crate::progress::{Follow, Progress};
 use crate::serving::serve;
 use crate::store::{FileBook, close_book, open_book};
 use crate::telling::{finish, tell};
 use pw_book::{Book, BookFault};
 use pw_found::Purpose;
-use pw_http::{Audience, LONGEST_BODY, Origin};
+use pw_http::{Audience, Origin};
 use pw_model::{Entry, MOST_RECORDS};
 use pw_read::read_run;
 use pw_record::{UploadBytes, UploadFault, UploadKind, upload_records};
@@ -32,9 +33,6 @@ use pw_words::{Command, SAMPLE, WordsFault};
 use sqlite::Alter;
 use std::alloc::Global;
 use std::io::{Read, Write};
-
-/// No line of an accepted upload is longer, in bytes.
-const LONGEST_LINE: usize = 64;
 
 /// The exit status for words that no command has.
 const WRONG_WORDS: u8 = 2;
@@ -51,12 +49,13 @@ pub fn run<I: Read, O: Write, E: Write>(
     out: &mut O,
     err: &mut E,
 ) -> u8 {
-    let mut told = Progress::new(rt.stderr(), false);
+    let mut told = Progress::new(rt, rt.stderr(), false);
     run_watched(rt, words, input, out, err, &mut told)
 }
 
-/// Does what `run` does, and tells `watch` how far the opening of a store is, and what it changed.
-pub fn run_watched<I: Read, O: Write, E: Write, W: Watch>(
+/// Does what `run` does, and tells `watch` how far the opening of a store is, what it changed, and how far a load of many
+/// files is.
+pub fn run_watched<I: Read, O: Write, E: Write, W: Follow>(
     rt: &HostRuntime,
     words: &[&str],
     input: &mut I,
@@ -104,7 +103,7 @@ fn origins_of<'a>(alloc: Global, urls: &[&'a str]) -> Result<Vec<Origin<'a>>, Wo
 }
 
 // Does what a command asks for, and answers the exit status.
-fn obey<I: Read, O: Write, E: Write, W: Watch>(
+fn obey<I: Read, O: Write, E: Write, W: Follow>(
     rt: &HostRuntime,
     asked: Command<'_>,
     input: &mut I,
@@ -123,16 +122,15 @@ fn obey<I: Read, O: Write, E: Write, W: Watch>(
         Command::Load {
             office,
             store,
-            kind,
-            file,
+            source,
             limit,
         } => {
-            finish(
-                rt.alloc(),
-                load(rt, office, store, kind, file, limit, watch),
-                out,
-                err,
-            )
+            let target = Target {
+                office,
+                store,
+                limit,
+            };
+            load(rt, target, source, out, err, watch)
         }
         Command::Statement {
             office,
@@ -200,54 +198,6 @@ fn check(rt: &HostRuntime, office: &str) -> Result<Vec<u8>, Fault> {
     let (accounts, meters, bands) = (office.accounts(), office.meters(), office.bands());
     match format!(in rt.alloc(); "office accounts {accounts} meters {meters} bands {bands}\n") {
         Ok(line) => Ok(line.into_bytes()),
-        Err(_) => Err(Fault::Memory),
-    }
-}
-
-/// The acceptance line of an upload that a store has taken.
-fn load<W: Watch>(
-    rt: &HostRuntime,
-    office: &str,
-    store: &str,
-    kind: UploadKind<'_>,
-    file: &str,
-    limit: u32,
-    watch: &mut W,
-) -> Result<Vec<u8>, Fault>
-    requires { IsLimit limit }
-{
-    let text = read_file(rt, office, LONGEST_OFFICE)?;
-    let office = Office::read(rt.alloc(), text.as_slice())?;
-    let body = read_file(rt, file, LONGEST_BODY as u32)?;
-    let entries = entries_of(rt, &office, kind, body.as_slice())?;
-    let mut book = open_book(
-        rt,
-        store,
-        Purpose::Take,
-        office,
-        text.as_slice(),
-        limit,
-        watch,
-    )?;
-    let line = post(rt, &mut book, entries.as_slice());
-    close_book(book)?;
-    line
-}
-
-fn post<S: Alter>(
-    rt: &HostRuntime,
-    book: &mut Book<SqlShelf<S>>,
-    entries: &[Entry],
-) -> Result<Vec<u8>, Fault>
-    requires { AllOfOffice (office_of book.old.office) entries.now }
-{
-    // Room for the line comes first, so that an upload which was accepted isn't told as refused.
-    let Ok(mut line) = Vec::with_capacity(rt.alloc(), LONGEST_LINE) else {
-        return Err(Fault::Memory);
-    };
-    let accepted = book.post(rt.alloc(), entries)?;
-    match writeln!(line, "{accepted}") {
-        Ok(()) => Ok(line),
         Err(_) => Err(Fault::Memory),
     }
 }

@@ -21,6 +21,8 @@ pub enum Fault {
     TooLarge,
     /// The file of an upload is refused.
     Upload(UploadFault),
+    /// A line of a list names no upload: its number, from 1.
+    List { line: u32 },
     /// The office has no account with the name.
     NoSuchAccount,
     /// No store is at the path, and the command makes none.
@@ -55,6 +57,7 @@ impl Fault {
             Fault::Post(PostFault::Full { .. })
             | Fault::Office(_)
             | Fault::TooLarge
+            | Fault::List { .. }
             | Fault::NoSuchAccount
             | Fault::NoSuchStore => 1,
             Fault::Store(_)
@@ -80,6 +83,7 @@ impl fmt::Display for Fault {
             Fault::Office(fault) => write!(f, "{fault}"),
             Fault::TooLarge => write!(f, "body too large"),
             Fault::Upload(fault) => write!(f, "{fault}"),
+            Fault::List { line } => write!(f, "line {line} of the list names no upload"),
             Fault::NoSuchAccount => write!(f, "no such account"),
             Fault::NoSuchStore => write!(f, "no such store"),
             Fault::Store(fault) => write!(f, "{fault}"),

@@ -1,7 +1,7 @@
 //! What a person at a terminal is told beside the fault lines: which file can't be opened, and why.
 
-use pw_words::Command;
 use pw_words::words::command;
+use pw_words::{Command, Source};
 use std::fs;
 use std::fs::File;
 use std::io::{self, ErrorKind, Write};
@@ -21,11 +21,11 @@ pub fn name_unreadable<E: Write>(rt: &HostRuntime, words: &[&str], err: &mut E) 
         Command::Load {
             office,
             store,
-            file,
+            source,
             ..
         } => {
             name_file(rt, office, err);
-            name_file(rt, file, err);
+            name_source(rt, &source, err);
             name_store(rt, store, err);
         }
         Command::Statement { office, store, .. }
@@ -34,6 +34,17 @@ pub fn name_unreadable<E: Write>(rt: &HostRuntime, words: &[&str], err: &mut E) 
             name_file(rt, office, err);
             name_store(rt, store, err);
         }
+    }
+}
+
+fn name_source<E: Write>(rt: &HostRuntime, source: &Source<'_>, err: &mut E) {
+    match source {
+        Source::Files { files, .. } => {
+            for file in files.as_slice() {
+                name_file(rt, file, err);
+            }
+        }
+        Source::List { list } => name_file(rt, list, err),
     }
 }
 

@@ -1,7 +1,11 @@
-//! What the opening of a store does, told beside it: how far one with many records is, and that it changed the store.
+//! What a command does, told beside it: how far the opening of a store with many records is, that it changed the store, and
+//! how far a load of many files is.
 
+use pw_book::Accepted;
 use pw_store::{Part, Watch};
-use std::io::Write;
+use std::fmt;
+use std::io::{self, Write};
+use std::time::{Clock, Instant};
 
 /// From how many records on a person is told.
 const MANY: usize = 100_000;
@@ -12,28 +16,102 @@ const PARTS: u8 = 10;
 const UPGRADED: &[u8] =
     b"powerbook: the store was of version 1 and is of version 2 now: an older powerbook won't open it any more\n";
 
+/// Takes what stands in a terminal's line away, and goes to its begin.
+const CLEARED: &[u8] = b"\r\x1b[K";
+
+/// How far a load of many files is: the files that are through, of how many, and their records, fresh and repeated.
+#[derive(Clone, Copy, Debug, PartialEq, Eq)]
+pub struct Loaded {
+    files: u64,
+    all: u64,
+    records: u64,
+}
+
+impl Loaded {
+    pub(crate) fn none_of(all: usize) -> Loaded {
+        Loaded {
+            files: 0,
+            all: all as u64,
+            records: 0,
+        }
+    }
+
+    /// A file was accepted.
+    pub(crate) fn add(&mut self, accepted: Accepted) {
+        let records = u64::from(accepted.fresh) + u64::from(accepted.repeated);
+        self.records = self.records.saturating_add(records);
+        self.pass();
+    }
+
+    /// A file is through.
+    pub(crate) fn pass(&mut self) {
+        self.files = self.files.saturating_add(1);
+    }
+}
+
+impl fmt::Display for Loaded {
+    fn fmt<W: fmt::Write>(&self, f: &mut fmt::Formatter<W>) -> fmt::Result {
+        let Loaded {
+            files,
+            all,
+            records,
+        } = *self;
+        write!(f, "files {files} of {all}, records {records}")
+    }
+}
+
+/// Who is told how far an opening is, and how far a load of many files.
+pub trait Follow: Watch {
+    /// One more file is through.
+    fn loaded(&mut self, loaded: &Loaded);
+
+    /// A line is about to be written: what stands in its place is taken away.
+    fn clear(&mut self);
+}
+
 /// Tells that a store was brought to a later version, and a person who waits each part that was checked, where there are
-/// many records.
+/// many records, and how far a load of many files is, in one line that changes.
 #[derive(Drop)]
-pub struct Progress<E: Write> {
+pub struct Progress<C: Clock, E: Write> {
+    clock: C,
     err: E,
     is_waited_for: bool,
     // the records checked so far
     records: usize,
+    // when the first file was through, and how far the load was then
+    first: Option<(Instant, Loaded)>,
+    is_shown: bool,
 }
 
-impl<E: Write> Progress<E> {
-    /// Lines go to `err`; `is_waited_for` is whether a person waits there.
-    pub fn new(err: E, is_waited_for: bool) -> Progress<E> {
+impl<C: Clock, E: Write> Progress<C, E> {
+    /// Lines go to `err`; `is_waited_for` is whether a person waits there. How fast a load is tells the clock.
+    pub fn new(clock: C, err: E, is_waited_for: bool) -> Progress<C, E> {
         Progress {
+            clock,
             err,
             is_waited_for,
             records: 0,
+            first: None,
+            is_shown: false,
         }
+    }
+
+    // How far a load is; from its second file on how fast, and how long it will take yet.
+    fn show(&mut self, loaded: &Loaded) -> io::Result<()> {
+        write!(self.err, "powerbook: {loaded}")?;
+        let Some((start, first)) = self.first else {
+            self.first = Some((Instant::now(&self.clock)?, *loaded));
+            return Ok(());
+        };
+        let seconds = start.elapsed(&self.clock)?.as_secs().max(1);
+        let rate = loaded.records.saturating_sub(first.records) / seconds;
+        let files = loaded.files.saturating_sub(first.files).max(1);
+        let left = seconds.saturating_mul(loaded.all.saturating_sub(loaded.files)) / files;
+        write!(self.err, ", {rate} a second, {left} s left")
     }
 }
 
-impl<E: Write> Watch for Progress<E> {
+impl<C: Clock, E: Write> Watch for Progress<C, E> {
     fn checked(&mut self, part: Part, rows: usize) {
         let (place, name) = told(part);
         if place <= 6 {
@@ -57,6 +135,23 @@ impl<E: Write> Watch for Progress<E> {
 
     fn upgraded(&mut self) {
         let _ = self.err.write_all(UPGRADED);
+    }
+}
+
+impl<C: Clock, E: Write> Follow for Progress<C, E> {
+    fn loaded(&mut self, loaded: &Loaded) {
+        if self.is_waited_for {
+            self.clear();
+            let _ = self.show(loaded);
+            self.is_shown = true;
+        }
+    }
+
+    fn clear(&mut self) {
+        if self.is_shown {
+            let _ = self.err.write_all(CLEARED);
+            self.is_shown = false;
+        }
     }
 }
 

@@ -1,11 +1,15 @@
 -- What words ask for, and what holds of each command.
 -- (Definitions of this project.)
-use Rattle.std.specs.Prelude.{◌≡◌, ◌≤◌, ℕ, List, [], ◌∷◌, codes, ⊤}
+use Rattle.std.specs.Prelude.{◌≡◌, ◌≤◌, ℕ, List, [], ◌∷◌, Option, Some, codes, length, ⊤}
 use Rattle.pw_time.specs.declared.zone.Clock.{Clock}
 use Rattle.pw_time.specs.declared.zone.Clock.TheVariants.{Marked, Winter, Local}
 use Rattle.pw_words.specs.declared.commands.Command.{Command}
 use Rattle.pw_words.specs.declared.commands.Command.TheVariants as command
+use Rattle.pw_words.specs.declared.commands.Source.{Source}
+use Rattle.pw_words.specs.declared.commands.Source.TheVariants as source
 use Rattle.pw_model.specs.declared.limits.TheConstants.{MOST_RECORDS}
+use Rattle.pw_record.specs.declared.laws.UploadKind.{UploadKind}
+use Rattle.pw_record.specs.declared.laws.UploadKind.TheVariants.{Telegrams, Readouts, Assignments, TopUps, Withdrawals}
 use Rattle.pw_words.specs.declared.fault.WordsFault.{WordsFault}
 use Rattle.pw_words.specs.declared.fault.WordsFault.TheVariants as fault
 
@@ -29,16 +33,29 @@ AsksToPipe [] = ⊤
 AsksToPipe (command ∷ []) = command ≡ codes "pipe"
 AsksToPipe (command ∷ other ∷ words) = ⊥
 
+-- the word of a kind of upload; of readouts the meter too
+abbrev pub IsKindWord : UploadKind → List ℕ → Option (List ℕ) → Type 0
+IsKindWord Telegrams word meter = word ≡ codes "telegrams"
+IsKindWord (Readouts id) word meter = (word ≡ codes "readouts") × (meter ≡ Some id.now)
+IsKindWord Assignments word meter = word ≡ codes "assignments"
+IsKindWord TopUps word meter = word ≡ codes "topups"
+IsKindWord Withdrawals word meter = word ≡ codes "withdrawals"
+
 -- the most records of a book
 abbrev pub IsLimit : ℕ → Type 0
 IsLimit limit = (1 ≤ limit) × (limit ≤ MOST_RECORDS)
 
--- a limit that a book takes, and a port that can be listened on
+-- one file or more, or a list
+abbrev pub NamesFiles : Source → Type 0
+NamesFiles (source.Files kind files) = 1 ≤ length files.items
+NamesFiles (source.List list) = ⊤
+
+-- a limit that a book takes, files to load, and a port that can be listened on
 abbrev pub IsSound : Command → Type 0
 IsSound (command.Read clock) = (clock ≡ Marked) → ⊥
 IsSound (command.Check office) = ⊤
 IsSound (command.Pipe office limit) = IsLimit limit
-IsSound (command.Load office store kind file limit) = IsLimit limit
+IsSound (command.Load office store files limit) = IsLimit limit × NamesFiles files
 IsSound (command.Statement office store account) = ⊤
 IsSound (command.Export office store what) = ⊤
 IsSound (command.Serve office store count port limit origins tells) = IsLimit limit × (1 ≤ port)

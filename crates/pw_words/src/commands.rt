@@ -4,6 +4,20 @@ use pw_record::UploadKind;
 use pw_report::Table;
 use pw_time::Clock;
 
+/// Where the uploads of a load stand.
+#[derive(Debug, Drop, PartialEq, Eq)]
+pub enum Source<'a> {
+    /// Files of one kind: one or more.
+    Files {
+        kind: UploadKind<'a>,
+        files: Vec<&'a str>,
+    },
+    /// The files that a list names, with the kind of each.
+    List {
+        list: &'a str,
+    },
+}
+
 /// What the program's words ask for. Files are told by their paths; a limit is 1 to 10,000,000 records.
 #[derive(Debug, Drop, PartialEq, Eq)]
 pub enum Command<'a> {
@@ -20,12 +34,11 @@ pub enum Command<'a> {
         office: Option<&'a str>,
         limit: u32,
     },
-    /// An upload is taken into a store.
+    /// Uploads are taken into a store.
     Load {
         office: &'a str,
         store: &'a str,
-        kind: UploadKind<'a>,
-        file: &'a str,
+        source: Source<'a>,
         limit: u32,
     },
     /// The statement of the account with this name is printed.

@@ -36,6 +36,7 @@ enum Word {
     Store,
     Kind,
     File,
+    List,
     Account,
     Table,
     Meter,
@@ -77,13 +78,14 @@ static COMMANDS: [Asked; 7] = [
     },
     Asked {
         name: "load",
-        about: "Loads a file of telegrams, readouts, assignments, top-ups or withdrawals into a store, whole or not at all",
-        end: "Exit status: 0; 1 refused; 2 wrong words; 3 a file, stream, store or memory failed.\nExample: powerbook load office.toml book.db telegrams day.txt",
+        about: "Loads files of telegrams, readouts, assignments, top-ups or withdrawals into a store, each whole or not at all",
+        end: "With more than one file each line stands behind its file's name, and one that is refused doesn't stop the rest.\nExit status: 0; 1 refused; 2 wrong words; 3 a file, stream, store or memory failed.\nExamples:\n  powerbook load office.toml book.db telegrams day.txt\n  powerbook load office.toml book.db telegrams monday.txt tuesday.txt\n  powerbook load office.toml book.db --list loads",
         words: &[
             Word::Office,
             Word::Store,
             Word::Kind,
             Word::File,
+            Word::List,
             Word::Meter,
             Word::Limit,
         ],
@@ -132,8 +134,28 @@ fn store<'a>(alloc: Global) -> Arg<'a> {
     )
 }
 
-fn kind<'a>(alloc: Global) -> Arg<'a> {
-    required(alloc, "KIND", "What the file holds").value_parser(KINDS.as_slice())
+fn kind<'a>(alloc: Global) -> Result<Arg<'a>, AllocError> {
+    Arg::new(alloc, "KIND")
+        .help("What the files hold")
+        .value_parser(KINDS.as_slice())
+        .required_unless_present("list")
+}
+
+fn files<'a>(alloc: Global) -> Result<Arg<'a>, AllocError> {
+    Arg::new(alloc, "FILE")
+        .help("The file, of at most 262,144 bytes; or more files")
+        .num_args(1..)
+        .required_unless_present("list")
+}
+
+fn list<'a>(alloc: Global) -> Result<Arg<'a>, AllocError> {
+    Arg::new(alloc, "list")
+        .long("list")
+        .value_name("LIST")
+        .help(
+            "A list of files, a line each: KIND FILE, or readouts FILE METER; paths from its folder",
+        )
+        .conflicts_with_all(&["KIND", "FILE", "meter"])
 }
 
 fn table<'a>(alloc: Global) -> Arg<'a> {
@@ -208,8 +230,9 @@ fn argument<'a>(alloc: Global, word: Word) -> Result<Arg<'a>, AllocError> {
         Word::Office => Ok(required(alloc, "OFFICE", "The office file (TOML)")),
         Word::OfficeOrSample => Ok(office_or_sample(alloc)),
         Word::Store => Ok(store(alloc)),
-        Word::Kind => Ok(kind(alloc)),
-        Word::File => Ok(required(alloc, "FILE", "The file, of at most 262,144 bytes")),
+        Word::Kind => kind(alloc),
+        Word::File => files(alloc),
+        Word::List => list(alloc),
         Word::Account => Ok(required(alloc, "ACCOUNT", "The account's name")),
         Word::Table => Ok(table(alloc)),
         Word::Meter => meter(alloc),
@@ -236,7 +259,7 @@ fn command<'a>(alloc: Global, asked: &Asked) -> Result<Command<'a>, AllocError> 
 // The parser without its commands.
 fn empty_parser<'a>(alloc: Global) -> Result<Command<'a>, AllocError> {
     Command::new(alloc, "powerbook")
-        .version("1.4.0")
+        .version("1.5.0")
         .about("Meter readings and prepaid accounts of an electricity cooperative")
         .after_help(
             "Without a command it acts as pipe. Each command tells more: powerbook load --help.",

@@ -3,11 +3,11 @@
 ghost use Rattle.std.specs.Prelude.{◌≡◌, ◌↔◌, IfOk, IfSome, IfNone, IsTrue, None, Ok, map, option_map};
 ghost use Rattle.pw_time.specs.declared.zone.Clock.{Clock};
 ghost use Rattle.clap.specs.Values.{kind_of};
-ghost use Rattle.pw_words.specs.Words.{AsksToPipe, IsClockWord, IsLimit, IsRefusal, IsSound, StatesClock};
+ghost use Rattle.pw_words.specs.Words.{AsksToPipe, IsClockWord, IsKindWord, IsLimit, IsRefusal, IsSound, NamesFiles, StatesClock};
 ghost use Rattle.pw_words.specs.declared.commands.Command.TheVariants as asks;
-ghost use Rattle.pw_words.specs.inner.Told.{IsKindWord, IsTableWord};
+ghost use Rattle.pw_words.specs.inner.Told.{IsTableWord};
 
-use crate::commands::Command;
+use crate::commands::{Command, Source};
 use crate::fault::{WordsFault, fault_of};
 use crate::parser::parser;
 use clap::error::ErrorKind;
@@ -56,8 +56,9 @@ fn parsed<'a>(alloc: Global, words: &'a [&'a str]) -> Result<Command<'a>, WordsF
         Ok(matches) => matches,
         Err(error) => return Err(fault_of(alloc, &error)),
     };
-    let origins = origins_of(alloc, &matches)?;
-    match command_of(&matches, origins) {
+    let files = words_at(alloc, &matches, "load", "FILE")?;
+    let origins = words_at(alloc, &matches, "serve", "origin")?;
+    match command_of(&matches, files, origins) {
         Some(command) => Ok(command),
         None => Err(word_missing(alloc)?),
     }
@@ -117,18 +118,29 @@ fn stated_clock(words: &[&str]) -> Option<Clock>
     }
 }
 
-// The words of `--origin`, of which `serve` alone has any.
-fn origins_of<'a>(alloc: Global, matches: &ArgMatches<'a>) -> Result<Vec<&'a str>, AllocError> {
-    let mut origins = Vec::new(alloc);
-    if let Some(("serve", words)) = matches.subcommand() {
-        if let Some(urls) = words.get_strs("origin") {
-            origins.extend_from_slice(urls)?;
+// The words at a place of a command that takes any number there; none of other commands.
+fn words_at<'a>(
+    alloc: Global,
+    matches: &ArgMatches<'a>,
+    command: &str,
+    place: &str,
+) -> Result<Vec<&'a str>, AllocError> {
+    let mut found = Vec::new(alloc);
+    if let Some((name, words)) = matches.subcommand() {
+        if name == command {
+            if let Some(given) = words.get_strs(place) {
+                found.extend_from_slice(given)?;
+            }
         }
     }
-    Ok(origins)
+    Ok(found)
 }
 
-fn command_of<'a>(matches: &ArgMatches<'a>, origins: Vec<&'a str>) -> Option<Command<'a>>
+fn command_of<'a>(
+    matches: &ArgMatches<'a>,
+    files: Vec<&'a str>,
+    origins: Vec<&'a str>,
+) -> Option<Command<'a>>
     ensures { IfSome result IsSound }
 {
     match matches.subcommand() {
@@ -146,7 +158,7 @@ fn command_of<'a>(matches: &ArgMatches<'a>, origins: Vec<&'a str>) -> Option<Com
             office: words.get_str("OFFICE"),
             limit: limit_of(words)?,
         }),
-        Some(("load", words)) => load_of(words),
+        Some(("load", words)) => load_of(words, files),
         Some(("statement", words)) => statement_of(words),
         Some(("export", words)) => export_of(words),
         Some(("serve", words)) => serve_of(words, origins),
@@ -154,16 +166,28 @@ fn command_of<'a>(matches: &ArgMatches<'a>, origins: Vec<&'a str>) -> Option<Com
     }
 }
 
-fn load_of<'a>(words: &ArgMatches<'a>) -> Option<Command<'a>>
+fn load_of<'a>(words: &ArgMatches<'a>, files: Vec<&'a str>) -> Option<Command<'a>>
     ensures { IfSome result IsSound }
 {
     Some(Command::Load {
         office: words.get_str("OFFICE")?,
         store: words.get_str("STORE")?,
-        kind: kind_named(words.get_str("KIND")?, words.get_str("meter"))?,
-        file: words.get_str("FILE")?,
+        source: source_of(words, files)?,
         limit: limit_of(words)?,
     })
+}
+
+fn source_of<'a>(words: &ArgMatches<'a>, files: Vec<&'a str>) -> Option<Source<'a>>
+    ensures { IfSome result NamesFiles }
+{
+    if let Some(list) = words.get_str("list") {
+        return Some(Source::List { list });
+    }
+    if files.is_empty() {
+        return None;
+    }
+    let kind = kind_named(words.get_str("KIND")?, words.get_str("meter"))?;
+    Some(Source::Files { kind, files })
 }
 
 fn statement_of<'a>(words: &ArgMatches<'a>) -> Option<Command<'a>>
@@ -226,8 +250,11 @@ fn clock_named(name: &str) -> Option<Clock>
     }
 }
 
-fn kind_named<'a>(name: &str, meter: Option<&'a str>) -> Option<UploadKind<'a>>
-    ensures { IfSome result (λ kind. IsKindWord kind name.now (option_map (λ id. id.now) meter.entry)) }
+/// The kind of upload that a word names: `telegrams`, `readouts` of a meter with this id, `assignments`, `topups` or
+/// `withdrawals`. None where it names none, or readouts without a meter.
+pub fn kind_named<'a>(name: &str, meter: Option<&'a str>) -> Option<UploadKind<'a>>
+    ensures some { IfSome result (λ kind. IsKindWord kind name.now (option_map (λ id. id.now) meter.entry)) }
+    ensures none { IfNone result ((kind : UploadKind) → IsKindWord kind name.now (option_map (λ id. id.now) meter.entry) → ⊥) }
 {
     match name {
         "telegrams" => Some(UploadKind::Telegrams),

@@ -1,7 +1,7 @@
 use Rattle.std.proofs.Common.{subst, sym}
 use Rattle.pw_tariff.specs.Office.{office_of}
 use Rattle.pw_model.specs.Office.{AllOfOffice}
-use Rattle.pw_commands.proofs.commands.load.Goals as goal
+use Rattle.pw_commands.proofs.loading.load_file.Goals as goal
 
 pub post-line-requires : goal.post-line-requires
 post-line-requires g c =

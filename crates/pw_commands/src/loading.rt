@@ -1,0 +1,264 @@
+//! Uploads in files, loaded into a store.
+
+ghost use Rattle.pw_tariff.specs.Office.{office_of};
+ghost use Rattle.pw_model.specs.Office.{AllOfOffice};
+ghost use Rattle.pw_words.specs.Words.{IsLimit};
+
+use crate::commands::entries_of;
+use crate::fault::Fault;
+use crate::files::{LONGEST_OFFICE, read_file};
+use crate::listed::{LONGEST_LIST, Upload, uploads_in, uploads_of};
+use crate::progress::{Follow, Loaded};
+use crate::store::{close_book, open_book};
+use crate::telling::{finish, tell};
+use pw_book::{Accepted, Book};
+use pw_found::Purpose;
+use pw_http::LONGEST_BODY;
+use pw_model::Entry;
+use pw_record::UploadKind;
+use pw_store::{SqlShelf, Watch};
+use pw_tariff::Office;
+use pw_words::Source;
+use sqlite::Alter;
+use std::io::Write;
+use std::{fs, io};
+
+/// No line of an accepted upload is longer, in bytes.
+const LONGEST_LINE: usize = 64;
+
+/// Where uploads are loaded: the paths of the office file and of the store, and the most records of its book.
+#[derive(Clone, Copy)]
+pub(crate) struct Target<'a> {
+    pub(crate) office: &'a str,
+    pub(crate) store: &'a str,
+    pub(crate) limit: u32,
+}
+
+/// Loads what a source has, and answers the exit status. Of one file the acceptance line goes to `out`, or the fault's to
+/// `err`; of more each line stands behind its file's name.
+pub(crate) fn load<O: Write, E: Write, F: Follow>(
+    rt: &HostRuntime,
+    target: Target<'_>,
+    source: Source<'_>,
+    out: &mut O,
+    err: &mut E,
+    follow: &mut F,
+) -> u8
+    requires { IsLimit target.limit }
+{
+    let loaded = match source {
+        Source::Files { kind, files } => match files.as_slice() {
+            [file] => {
+                let line = load_file(rt, target, kind, file, follow);
+                return finish(rt.alloc(), line, out, err);
+            }
+            files => load_files(rt, target, kind, files, out, err, follow),
+        },
+        Source::List { list } => load_list(rt, target, list, out, err, follow),
+    };
+    match loaded {
+        Ok(status) => status,
+        Err(fault) => tell(rt.alloc(), fault, err),
+    }
+}
+
+/// The acceptance line of an upload that a store has taken.
+fn load_file<W: Watch>(
+    rt: &HostRuntime,
+    target: Target<'_>,
+    kind: UploadKind<'_>,
+    file: &str,
+    watch: &mut W,
+) -> Result<Vec<u8>, Fault>
+    requires { IsLimit target.limit }
+{
+    let text = read_file(rt, target.office, LONGEST_OFFICE)?;
+    let office = Office::read(rt.alloc(), text.as_slice())?;
+    let body = read_file(rt, file, LONGEST_BODY as u32)?;
+    let entries = entries_of(rt, &office, kind, body.as_slice())?;
+    let mut book = open_book(
+        rt,
+        target.store,
+        Purpose::Take,
+        office,
+        text.as_slice(),
+        target.limit,
+        watch,
+    )?;
+    let line = post(rt, &mut book, entries.as_slice());
+    close_book(book)?;
+    line
+}
+
+fn post<S: Alter>(
+    rt: &HostRuntime,
+    book: &mut Book<SqlShelf<S>>,
+    entries: &[Entry],
+) -> Result<Vec<u8>, Fault>
+    requires { AllOfOffice (office_of book.old.office) entries.now }
+{
+    // Room for the line comes first, so that an upload which was accepted isn't told as refused.
+    let Ok(mut line) = Vec::with_capacity(rt.alloc(), LONGEST_LINE) else {
+        return Err(Fault::Memory);
+    };
+    let accepted = book.post(rt.alloc(), entries)?;
+    match writeln!(line, "{accepted}") {
+        Ok(()) => Ok(line),
+        Err(_) => Err(Fault::Memory),
+    }
+}
+
+fn load_files<O: Write, E: Write, F: Follow>(
+    rt: &HostRuntime,
+    target: Target<'_>,
+    kind: UploadKind<'_>,
+    files: &[&str],
+    out: &mut O,
+    err: &mut E,
+    follow: &mut F,
+) -> Result<u8, Fault>
+    requires { IsLimit target.limit }
+{
+    match uploads_in(rt.alloc(), kind, files) {
+        Ok(uploads) => load_all(rt, target, uploads.as_slice(), out, err, follow),
+        Err(_) => Err(Fault::Memory),
+    }
+}
+
+fn load_list<O: Write, E: Write, F: Follow>(
+    rt: &HostRuntime,
+    target: Target<'_>,
+    list: &str,
+    out: &mut O,
+    err: &mut E,
+    follow: &mut F,
+) -> Result<u8, Fault>
+    requires { IsLimit target.limit }
+{
+    let text = read_file(rt, list, LONGEST_LIST)?;
+    let uploads = uploads_of(rt.alloc(), list, text.as_slice())?;
+    load_all(rt, target, uploads.as_slice(), out, err, follow)
+}
+
+// Loads uploads, each whole or not at all, and answers the exit status. That all files are there is seen before the store
+// is opened.
+fn load_all<O: Write, E: Write, F: Follow>(
+    rt: &HostRuntime,
+    target: Target<'_>,
+    uploads: &[Upload<'_>],
+    out: &mut O,
+    err: &mut E,
+    follow: &mut F,
+) -> Result<u8, Fault>
+    requires { IsLimit target.limit }
+{
+    let text = read_file(rt, target.office, LONGEST_OFFICE)?;
+    let office = Office::read(rt.alloc(), text.as_slice())?;
+    if !are_there(rt, uploads, err) {
+        return Ok(Fault::Device.status());
+    }
+    let mut book = open_book(
+        rt,
+        target.store,
+        Purpose::Take,
+        office,
+        text.as_slice(),
+        target.limit,
+        follow,
+    )?;
+    let status = take_all(rt, &mut book, uploads, out, err, follow);
+    close_book(book)?;
+    Ok(status)
+}
+
+// Whether each upload's file is there. Those that aren't are told.
+fn are_there<E: Write>(rt: &HostRuntime, uploads: &[Upload<'_>], err: &mut E) -> bool {
+    let mut all = true;
+    for upload in uploads {
+        let is_there = match fs::metadata(rt, upload.path.as_str()) {
+            Ok(found) => !found.is_dir(),
+            Err(_) => false,
+        };
+        if !is_there {
+            tell_of(upload, Fault::Device, err);
+            all = false;
+        }
+    }
+    all
+}
+
+// Takes uploads into a book, one behind another, and answers the exit status. One that is refused for what its file holds
+// doesn't stop the rest; what else fails does.
+fn take_all<S: Alter, O: Write, E: Write, F: Follow>(
+    rt: &HostRuntime,
+    book: &mut Book<SqlShelf<S>>,
+    uploads: &[Upload<'_>],
+    out: &mut O,
+    err: &mut E,
+    follow: &mut F,
+) -> u8 {
+    let mut status = 0;
+    let mut loaded = Loaded::none_of(uploads.len());
+    for upload in uploads {
+        match taken(rt, book, upload, out, follow) {
+            Ok(accepted) => loaded.add(accepted),
+            Err(fault) => {
+                follow.clear();
+                tell_of(upload, fault, err);
+                if !is_of_file(fault) {
+                    let _ = writeln!(err, "powerbook: stopped: {loaded}");
+                    return fault.status();
+                }
+                loaded.pass();
+                status = fault.status();
+            }
+        }
+        follow.loaded(&loaded);
+    }
+    follow.clear();
+    status
+}
+
+// Takes an upload into a book, and tells it.
+fn taken<S: Alter, O: Write, F: Follow>(
+    rt: &HostRuntime,
+    book: &mut Book<SqlShelf<S>>,
+    upload: &Upload<'_>,
+    out: &mut O,
+    follow: &mut F,
+) -> Result<Accepted, Fault> {
+    let accepted = take(rt, book, upload)?;
+    follow.clear();
+    match told_of(upload, accepted, out) {
+        Ok(()) => Ok(accepted),
+        Err(_) => Err(Fault::Device),
+    }
+}
+
+// Takes an upload into a book.
+fn take<S: Alter>(
+    rt: &HostRuntime,
+    book: &mut Book<SqlShelf<S>>,
+    upload: &Upload<'_>,
+) -> Result<Accepted, Fault> {
+    let body = read_file(rt, upload.path.as_str(), LONGEST_BODY as u32)?;
+    let entries = entries_of(rt, book.office(), upload.kind, body.as_slice())?;
+    Ok(book.post(rt.alloc(), entries.as_slice())?)
+}
+
+// Whether a fault says only that the file of an upload is wrong.
+fn is_of_file(fault: Fault) -> bool {
+    match fault {
+        Fault::Upload(_) | Fault::TooLarge => fault.status() == 1,
+        _ => false,
+    }
+}
+
+fn told_of<O: Write>(upload: &Upload<'_>, accepted: Accepted, out: &mut O) -> io::Result<()> {
+    writeln!(out, "{}: {accepted}", upload.path)?;
+    out.flush()
+}
+
+fn tell_of<E: Write>(upload: &Upload<'_>, fault: Fault, err: &mut E) {
+    let _ = writeln!(err, "{}: {fault}", upload.path);
+}
