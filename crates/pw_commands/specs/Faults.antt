@@ -40,11 +40,6 @@ post_status _ = 3
 abbrev pub IsOfReading : Fault → Type 0
 IsOfReading f = (f ≡ fault.Device) ⊎ (f ≡ fault.Memory)
 
--- why a list of uploads isn't read
-abbrev pub IsOfList : Fault → Type 0
-IsOfList (fault.List line) = Unit {0}
-IsOfList f = f ≡ fault.Memory
-
 -- what a store that isn't looked at or opened is to a command
 abbrev pub fault_of_refusal : Refusal → Fault
 fault_of_refusal refusal.NoSuchStore = fault.NoSuchStore

@@ -4,3 +4,5 @@ pub mod Limits
 pub mod Accepting
 -- Piping: what the conversation of `pipe` comes to
 pub mod Piping
+-- Listed: why a list of uploads isn't read
+pub mod Listed

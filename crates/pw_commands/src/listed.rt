@@ -1,7 +1,7 @@
 //! Lists of uploads in files.
 
 ghost use Rattle.std.specs.Prelude.{IfErr};
-ghost use Rattle.pw_commands.specs.Faults.{IsOfList};
+ghost use Rattle.pw_commands.specs.inner.Listed.{IsOfList};
 
 use crate::fault::Fault;
 use pw_record::UploadKind;
