@@ -1,10 +1,11 @@
 """Which edits a run has to try: those of each crate on which something has changed since all of its edits were refused,
 and a tenth of the others.
 
-What an edit shows depends on the files of its crate and of the crates below it, on the kit and on the script that tries
-it. The file edits.tried keeps, for each crate, a sum of these at which all of its edits were refused. The run that
-refused them writes it. A line that is altered, or that stands there twice, is no sum of anything: its crate is tried
-again."""
+What an edit shows depends on the files of its crate, on what of the crates below it can be seen from above, on the kit and
+on the script that tries it. A proof sees of the crates below their definitions, types, contracts and lemmas; it doesn't
+see the body of a function, which its contract stands for, nor the proof of it. The file edits.tried keeps, for each
+crate, a sum of these at which all of its edits were refused. The run that refused them writes it. A line that is altered,
+or that stands there twice, is no sum of anything: its crate is tried again."""
 import collections
 import glob
 import hashlib
@@ -19,6 +20,11 @@ FOLDER = "refused"
 SHARE = 10
 # A line of an edit that nothing which is tried depends on.
 SHOWS = b"shows: "
+# How a function begins, and how a clause of its contract does.
+FUNCTION = re.compile(r"( *)(?:pub(?:\(crate\))? )?fn \w")
+CLAUSE = re.compile(r" *(?:requires|ensures|ghost)\b")
+# The files of a function's own proof, in a folder of its name.
+OWN_PROOFS = ("Answers.antt", "Invariants.antt", "Proof.antt")
 
 
 def sum_of(*parts):
@@ -49,12 +55,57 @@ def edit_text(path):
     return [it for it in lines if not it.startswith(SHOWS)]
 
 
+def body_of(lines, at, indent):
+    """The lines of the body of a function that begins at a line, as `rt fmt` lays it out: behind the signature, or behind
+    the contract in a line of its own, up to a brace at the function's depth. None where it has none, or isn't so."""
+    in_contract = False
+    for begin in range(at, len(lines)):
+        line = lines[begin]
+        in_contract = in_contract or CLAUSE.match(line)
+        if line == f"{indent}{{" or (line.endswith(" {") and not in_contract):
+            ends = (it for it in range(begin + 1, len(lines)) if lines[it] == f"{indent}}}")
+            end = next(ends, None)
+            return None if end is None else (begin, end)
+        if not line or line.endswith(";"):
+            return None
+    return None
+
+
+def without_bodies(text):
+    """A source without the bodies of its functions. One with macros, which may write what they like, is left whole."""
+    if "macro_rules!" in text:
+        return text
+    lines, kept, at = text.split("\n"), [], 0
+    while at < len(lines):
+        begins = FUNCTION.match(lines[at])
+        body = body_of(lines, at, begins.group(1)) if begins else None
+        begin, end = body or (at, at)
+        kept += lines[at : begin + 1]
+        at = end + 1
+    return "\n".join(kept)
+
+
+def seen_from_above(rt, crate):
+    """What of a crate's files proofs of the crates above it can see."""
+    for path in rt.files_of(crate.folder):
+        name = os.path.relpath(path, crate.folder)
+        is_own_proof = name.count(os.sep) > 1 and os.path.basename(name) in OWN_PROOFS
+        if not (name.startswith(f"proofs{os.sep}") and is_own_proof):
+            told = content(path)
+            yield name, without_bodies(told.decode()) if name.endswith(".rt") else told
+
+
 def sums_of(rt, crates):
-    """For each crate a sum of all that its edits stand on. (rt's stamp is one of the sources, of the crate's line of
-    crates.txt and of the same of the crates below.)"""
+    """For each crate a sum of all that its edits stand on."""
     tool = kit_sum(rt.KIT), content(SCRIPT)
-    edits = {crate.name: [(os.path.basename(it), edit_text(it)) for it in files_of(crate)] for crate in crates}
-    return {crate.name: sum_of(tool, crate.stamp(), edits[crate.name]) for crate in crates}
+    seen = {crate.name: sum_of(crate.said, *seen_from_above(rt, crate)) for crate in crates}
+    found = {}
+    for crate in crates:
+        own = [(os.path.relpath(it, crate.folder), content(it)) for it in rt.files_of(crate.folder)]
+        edits = [(os.path.basename(it), edit_text(it)) for it in files_of(crate)]
+        below = [(it.name, seen[it.name]) for it in crate.below()]
+        found[crate.name] = sum_of(tool, crate.said, own, below, edits)
+    return found
 
 
 def kept_sums():
