@@ -385,7 +385,7 @@ def one_reply(connection):
 
 
 PAGES = ["/accounts/A1", "/accounts/A2", "/accounts", "/falls", "/disputes", "/export/readings", "/export/energy",
-         "/export/assignments", "/export/topups", "/export/withdrawals"]
+         "/export/assignments", "/export/topups", "/export/withdrawals", "/export/readings/4D31"]
 
 
 def pages(connection):

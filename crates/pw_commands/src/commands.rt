@@ -24,12 +24,12 @@ use pw_http::{Audience, Origin};
 use pw_model::{Entry, MOST_RECORDS};
 use pw_read::read_run;
 use pw_record::{UploadBytes, UploadFault, UploadKind, upload_records};
-use pw_report::{Page, Table, page_text};
+use pw_report::{Page, page_text};
 use pw_store::{SqlShelf, Watch};
 use pw_tariff::Office;
 use pw_time::Zone;
 use pw_words::words::{command, no_origin};
-use pw_words::{Command, SAMPLE, WordsFault};
+use pw_words::{Command, Exported, SAMPLE, WordsFault};
 use sqlite::Alter;
 use std::alloc::Global;
 use std::io::{Read, Write};
@@ -262,13 +262,37 @@ fn export<W: Watch>(
     rt: &HostRuntime,
     office: &str,
     store: &str,
-    table: Table,
+    what: Exported<'_>,
     watch: &mut W,
 ) -> Result<Vec<u8>, Fault> {
-    let mut book = book_at(rt, office, store, Purpose::Ask, MOST_RECORDS, watch)?;
-    let text = shown(rt, &mut book, Page::Table(table));
+    let text = read_file(rt, office, LONGEST_OFFICE)?;
+    let office = Office::read(rt.alloc(), text.as_slice())?;
+    let page = page_of(&office, what)?;
+    let mut book = open_book(
+        rt,
+        store,
+        Purpose::Ask,
+        office,
+        text.as_slice(),
+        MOST_RECORDS,
+        watch,
+    )?;
+    let text = shown(rt, &mut book, page);
     close_book(book)?;
     Ok(text?)
+}
+
+// The page that is to be exported.
+fn page_of(office: &Office, what: Exported<'_>) -> Result<Page, Fault>
+    ensures { IfOk result (IsPageOf office.now) }
+{
+    match what {
+        Exported::Table(table) => Ok(Page::Table(table)),
+        Exported::MeterReadings(id) => match office.meter(id.as_bytes()) {
+            Some(meter) => Ok(Page::MeterReadings(meter)),
+            None => Err(Fault::NoSuchMeter),
+        },
+    }
 }
 
 fn shown<S: Alter>(

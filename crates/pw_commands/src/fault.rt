@@ -25,6 +25,8 @@ pub enum Fault {
     List { line: u32 },
     /// The office has no account with the name.
     NoSuchAccount,
+    /// The office has no meter with the id.
+    NoSuchMeter,
     /// No store is at the path, and the command makes none.
     NoSuchStore,
     /// 70 to 73, 62: the store isn't opened.
@@ -59,6 +61,7 @@ impl Fault {
             | Fault::TooLarge
             | Fault::List { .. }
             | Fault::NoSuchAccount
+            | Fault::NoSuchMeter
             | Fault::NoSuchStore => 1,
             Fault::Store(_)
             | Fault::Unopened(_)
@@ -85,6 +88,7 @@ impl fmt::Display for Fault {
             Fault::Upload(fault) => write!(f, "{fault}"),
             Fault::List { line } => write!(f, "line {line} of the list names no upload"),
             Fault::NoSuchAccount => write!(f, "no such account"),
+            Fault::NoSuchMeter => write!(f, "no such meter"),
             Fault::NoSuchStore => write!(f, "no such store"),
             Fault::Store(fault) => write!(f, "{fault}"),
             Fault::Unopened(cause) => write!(f, "{cause}\ndevice failed"),

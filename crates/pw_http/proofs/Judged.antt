@@ -29,9 +29,9 @@ use Rattle.pw_http.specs.declared.routes.Route.TheVariants as route
 use Rattle.pw_http.specs.Headline.{AnswersFairly, IsJudged, if_fine, sent_by}
 use Rattle.pw_http.specs.Replies.{Reply}
 use Rattle.pw_http.specs.Requests.{Asked, Whole, Faulty}
-use Rattle.pw_http.specs.Routes.{account_in, meter_in, place_of}
+use Rattle.pw_http.specs.Routes.{account_in, exported_meter_in, meter_in, place_of}
 use Rattle.pw_http.specs.Runs.{Asking, Step, asking_of}
-use Rattle.pw_http.specs.Steps.{Answers, AnswersAt, ArePosted, IsTaken, Shows, ShowsAccount, Takes, held, posted_reply, refused_status, upload_at, upload_of, upload_reply}
+use Rattle.pw_http.specs.Steps.{Answers, AnswersAt, ArePosted, IsTaken, Shows, ShowsAccount, ShowsMeter, Takes, held, posted_reply, refused_status, upload_at, upload_of, upload_reply}
 
 -- ---- want of memory
 memory-or-not : (c : Cause) → (c ≡ cause.Memory) ⊎ (refused_status c ≡ BadRequest)
@@ -265,6 +265,10 @@ module _ {S : Type 0} (shelf : Ghosts S) where
   account-comes name a reply b (inl x) = nothing-comes a reply b x.1.1
   account-comes name a reply b (inr x) = shows-comes (page.Statement x.0) a reply b x.2
 
+  meter-comes : (id : List ℕ) (a : Book S shelf) (reply : Reply) (b : Book S shelf) → ShowsMeter shelf id a reply b → Comes a None reply b
+  meter-comes id a reply b (inl x) = nothing-comes a reply b x.1.1
+  meter-comes id a reply b (inr x) = shows-comes (page.MeterReadings x.0) a reply b x.2
+
   -- by where the request goes
   pub answer-comes : (p : Place) (target body : List ℕ) (a : Book S shelf) (reply : Reply) (b : Book S shelf) → AnswersAt shelf p target body a reply b → Comes a (upload_at p target body) reply b
   answer-comes NoPage target body a reply b x = nothing-comes a reply b x.1
@@ -275,6 +279,7 @@ module _ {S : Type 0} (shelf : Ghosts S) where
   answer-comes (At route.TopUps) target body a reply b x = takes-comes (TopUps body) a reply b x
   answer-comes (At route.Withdrawals) target body a reply b x = takes-comes (Withdrawals body) a reply b x
   answer-comes (At route.Account) target body a reply b x = account-comes (account_in target) a reply b x
+  answer-comes (At route.MeterReadings) target body a reply b x = meter-comes (exported_meter_in target) a reply b x
   answer-comes (At (route.Table table)) target body a reply b x = shows-comes (page.Table table) a reply b x
 
   pub asked-comes : (a : Book S shelf) (asking : Asking) (reply : Reply) (b : Book S shelf) → Answers shelf a asking reply b → Comes a (upload_of asking) reply b

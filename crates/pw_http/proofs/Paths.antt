@@ -11,7 +11,7 @@ use Rattle.matchit.specs.Router.{RouteOf}
 use Rattle.pw_http.specs.Routes.{meter_in, route_table, route_at, row_value}
 use Rattle.pw_http.specs.Laws.{PathsReachRoutes}
 use Rattle.pw_http.specs.declared.routes.Route.{Route}
-use Rattle.pw_http.specs.declared.routes.Route.TheVariants.{Telegrams, Readouts, Assignments, TopUps, Withdrawals, Account, Table}
+use Rattle.pw_http.specs.declared.routes.Route.TheVariants.{Telegrams, Readouts, Assignments, TopUps, Withdrawals, Account, MeterReadings, Table}
 use Rattle.pw_report.specs.declared.page.Table.TheVariants as table
 
 abbrev Row : Type 0
@@ -73,16 +73,33 @@ all_of_it n r [] e = refl
 all_of_it zero r (b ∷ p) e = absurd (omega (arith, e))
 all_of_it (suc n) r (b ∷ p) e = all_of_it n r p (omega (arith, e))
 
-param_last : (b : ℕ) (rest : List ℕ) → b < 256 → has_slash (b ∷ rest) ≡ false → first ((256 ∷ [], account_route) ∷ []) (b ∷ rest) ≡ Some account_route
+-- a route that ends with a parameter
+param_last : (r : RouteOf Route) (b : ℕ) (rest : List ℕ) → b < 256 → has_slash (b ∷ rest) ≡ false → first ((256 ∷ [], r) ∷ []) (b ∷ rest) ≡ Some r
 unfolding seek param_step
-param_last b rest small plain =
+param_last r b rest small plain =
     let apart : (256 == b) ≡ false = grind (arith, nat_tests, small) in
     let whole : length (b ∷ rest) - 1 ≡ length rest = omega arith in
-    rw (apart, seek_none 0 rest, plain) (ap (λ o. or_else o None) (all_of_it (length (b ∷ rest) - 1) account_route rest whole))
+    rw (apart, seek_none 0 rest, plain) (ap (λ o. or_else o None) (all_of_it (length (b ∷ rest) - 1) r rest whole))
 
 at_each_account : (b : ℕ) (rest : List ℕ) → b < 256 → has_slash (b ∷ rest) ≡ false → route_at (codes "/accounts/" ++ b ∷ rest) ≡ Some Account
 at_each_account b rest small plain =
-    ap (λ o. option_map row_value o) (free_walk (codes "/accounts/") route_table (b ∷ rest) is_free_account ∙ (ap (λ rs. first rs (b ∷ rest)) along_account ∙ param_last b rest small plain))
+    ap (λ o. option_map row_value o) (free_walk (codes "/accounts/") route_table (b ∷ rest) is_free_account ∙ (ap (λ rs. first rs (b ∷ rest)) along_account ∙ param_last account_route b rest small plain))
+
+-- ---- a meter's readings
+abbrev meter_route : RouteOf Route
+meter_route = record { pattern = codes "/export/readings/" ++ 256 ∷ []; text = codes "/export/readings/{meter}"; names = (18, 23) ∷ []; value = MeterReadings }
+
+is_free_export : is_free (codes "/export/readings/") route_table ≡ true
+unfolding route_table matchit_on_literals
+is_free_export = refl
+
+along_export : along (codes "/export/readings/") route_table ≡ (256 ∷ [], meter_route) ∷ []
+unfolding route_table matchit_on_literals
+along_export = refl
+
+at_each_export : (b : ℕ) (rest : List ℕ) → b < 256 → has_slash (b ∷ rest) ≡ false → route_at (codes "/export/readings/" ++ b ∷ rest) ≡ Some MeterReadings
+at_each_export b rest small plain =
+    ap (λ o. option_map row_value o) (free_walk (codes "/export/readings/") route_table (b ∷ rest) is_free_export ∙ (ap (λ rs. first rs (b ∷ rest)) along_export ∙ param_last meter_route b rest small plain))
 
 -- ---- a meter's readouts
 abbrev tail_route : RouteOf Route
@@ -209,6 +226,7 @@ paths-reach = record {
   falls = at_falls;
   disputes = at_disputes;
   readings = at_readings;
+  readings_of = λ b w small plain. (at_each_export b w small plain, refl);
   energies = at_energy;
   all_assignments = at_all_assignments;
   all_top_ups = at_all_top_ups;

@@ -1,9 +1,9 @@
 -- The laws of these definitions. Each is the contract of a function of the module `laws`.
 use Rattle.std.specs.Prelude.{◌≡◌, ◌<◌, ℕ, false, List, ◌∷◌, ◌++◌, Option, Some, codes}
 use Rattle.matchit.specs.Seek.{has_slash}
-use Rattle.pw_http.specs.declared.routes.Route.TheVariants.{Telegrams, Readouts, Assignments, TopUps, Withdrawals, Account, Table}
+use Rattle.pw_http.specs.declared.routes.Route.TheVariants.{Telegrams, Readouts, Assignments, TopUps, Withdrawals, Account, MeterReadings, Table}
 use Rattle.pw_report.specs.declared.page.Table.TheVariants as table
-use Rattle.pw_http.specs.Routes.{account_in, meter_in, route_at}
+use Rattle.pw_http.specs.Routes.{account_in, exported_meter_in, meter_in, route_at}
 use Rattle.pw_http.specs.Requests.{Request, Asked, Requests}
 use Rattle.pw_http.specs.declared.audience.Audience.{Audience}
 
@@ -34,6 +34,8 @@ pub record PathsReachRoutes : Type 0 where
   pub falls : route_at (codes "/falls") ≡ Some (Table table.Falls)
   pub disputes : route_at (codes "/disputes") ≡ Some (Table table.Disputes)
   pub readings : route_at (codes "/export/readings") ≡ Some (Table table.Readings)
+  pub readings_of : (b : ℕ) (rest : List ℕ) → b < 256 → has_slash (b ∷ rest) ≡ false →
+      (route_at (codes "/export/readings/" ++ b ∷ rest) ≡ Some MeterReadings) × (exported_meter_in (codes "/export/readings/" ++ b ∷ rest) ≡ b ∷ rest)
   pub energies : route_at (codes "/export/energy") ≡ Some (Table table.Energies)
   pub all_assignments : route_at (codes "/export/assignments") ≡ Some (Table table.Assignments)
   pub all_top_ups : route_at (codes "/export/topups") ≡ Some (Table table.TopUps)

@@ -9,7 +9,7 @@ use Rattle.matchit.specs.Route.{Scan, parse_route}
 use Rattle.matchit.specs.Router.{RouteOf, route_from}
 use Rattle.matchit.specs.declared.error.InsertError.{InsertError}
 use Rattle.pw_http.specs.declared.routes.Route.{Route}
-use Rattle.pw_http.specs.declared.routes.Route.TheVariants.{Telegrams, Readouts, Assignments, TopUps, Withdrawals, Account, Table}
+use Rattle.pw_http.specs.declared.routes.Route.TheVariants.{Telegrams, Readouts, Assignments, TopUps, Withdrawals, Account, MeterReadings, Table}
 use Rattle.pw_report.specs.declared.page.Table.TheVariants as table
 use Rattle.pw_http.specs.declared.routes.Place.{Place}
 use Rattle.pw_http.specs.declared.routes.Place.TheVariants.{NoPage, NoMethod, At}
@@ -22,6 +22,7 @@ method_name Assignments = codes "POST"
 method_name TopUps = codes "POST"
 method_name Withdrawals = codes "POST"
 method_name Account = codes "GET"
+method_name MeterReadings = codes "GET"
 method_name (Table table) = codes "GET"
 
 abbrev pub route_text : Route → List ℕ
@@ -39,6 +40,7 @@ route_text (Table table.Energies) = codes "/export/energy"
 route_text (Table table.Assignments) = codes "/export/assignments"
 route_text (Table table.TopUps) = codes "/export/topups"
 route_text (Table table.Withdrawals) = codes "/export/withdrawals"
+route_text MeterReadings = codes "/export/readings/{meter}"
 
 -- ---- as `matchit` keeps it
 -- the rows with one more route, where its text reads as a route
@@ -51,9 +53,9 @@ added rows route = added_read (parse_route (route_text route)) route rows
 
 unfoldable pub route_table : RowsOf (RouteOf Route)
 route_table =
-    added (added (added (added (added (added (added (added (added (added (added (added (added (added [] Telegrams) Readouts) Assignments) TopUps)
-    Withdrawals) (Table table.Accounts)) (Table table.Falls)) (Table table.Disputes)) Account) (Table table.Readings)) (Table table.Energies))
-    (Table table.Assignments)) (Table table.TopUps)) (Table table.Withdrawals)
+    added (added (added (added (added (added (added (added (added (added (added (added (added (added (added [] Telegrams) Readouts) Assignments)
+    TopUps) Withdrawals) (Table table.Accounts)) (Table table.Falls)) (Table table.Disputes)) Account) (Table table.Readings)) (Table
+    table.Energies)) (Table table.Assignments)) (Table table.TopUps)) (Table table.Withdrawals)) MeterReadings
 
 abbrev pub row_value : RouteOf Route → Route
 row_value r = r.value
@@ -75,6 +77,10 @@ place_of method target = if is_utf8 target then by_method method (route_at targe
 -- what stands in a target behind `/accounts/`
 abbrev pub account_in : List ℕ → List ℕ
 account_in target = drop (length (codes "/accounts/")) target
+
+-- what stands in a target behind `/export/readings/`
+abbrev pub exported_meter_in : List ℕ → List ℕ
+exported_meter_in target = drop (length (codes "/export/readings/")) target
 
 -- what stands in a target between `/meters/` and `/readouts`
 abbrev pub meter_in : List ℕ → List ℕ

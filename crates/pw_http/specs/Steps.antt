@@ -1,7 +1,8 @@
 -- What a book answers to a request, and what it is behind it.
 -- (Definitions of this project.)
-use Rattle.std.specs.Prelude.{◌≡◌, ◌≢◌, ◌↔◌, ◌+◌, ◌<◌, ◌⊎◌, ℕ, true, Option, Some, None, List, ◌++◌, codes, slice_get, Result, Ok, Err, IfOk, IsErrOf}
+use Rattle.std.specs.Prelude.{◌≡◌, ◌≢◌, ◌↔◌, ◌+◌, ◌<◌, ◌⊎◌, ℕ, true, Option, Some, None, List, ◌++◌, codes, option_map, slice_get, Result, Ok, Err, IfOk, IsErrOf}
 use Rattle.pw_tariff.specs.declared.ids.AccountId.{AccountId}
+use Rattle.pw_tariff.specs.declared.ids.MeterId.{MeterId}
 use Rattle.pw_tariff.specs.Office.{office_of}
 use Rattle.pw_model.specs.declared.records.Entry.{Entry}
 use Rattle.pw_model.specs.Shelf.{ShelfContent}
@@ -32,7 +33,7 @@ use Rattle.pw_http.specs.declared.routes.Route.TheVariants as route
 use Rattle.pw_http.specs.declared.routes.Place.{Place}
 use Rattle.pw_http.specs.declared.routes.Place.TheVariants.{NoPage, NoMethod, At}
 use Rattle.pw_http.specs.Replies.{Reply}
-use Rattle.pw_http.specs.Routes.{account_in, meter_in, place_of}
+use Rattle.pw_http.specs.Routes.{account_in, exported_meter_in, meter_in, place_of}
 use Rattle.pw_http.specs.Runs.{Asking}
 
 -- ---- replies
@@ -61,6 +62,7 @@ upload_reply (Posted answer) = posted_reply answer
 -- exports are CSV
 abbrev pub page_content : Page → ContentType
 page_content (page.Statement account) = Plain
+page_content (page.MeterReadings meter) = Csv
 page_content (page.Table table.Accounts) = Plain
 page_content (page.Table table.Falls) = Plain
 page_content (page.Table table.Disputes) = Plain
@@ -140,6 +142,12 @@ module _ {S : Type 0} (shelf : Ghosts S) where
       (((a : ℕ) → slice_get old.office.accounts a ≢ Some name) × Says NotFound (codes "no such account") old reply new)
       ⊎ ((a : AccountId) × (slice_get old.office.accounts a.0 ≡ Some name) × Shows (page.Statement a) old reply new)
 
+  -- the readings of the meter of an id, if the office has one
+  abbrev pub ShowsMeter : List ℕ → Book S shelf → Reply → Book S shelf → Type 0
+  ShowsMeter id old reply new =
+      (((m : ℕ) → option_map (λ t. t.id) (slice_get old.office.meters m) ≢ Some id) × Says NotFound (codes "no such meter") old reply new)
+      ⊎ ((m : MeterId) × (option_map (λ t. t.id) (slice_get old.office.meters m.0) ≡ Some id) × Shows (page.MeterReadings m) old reply new)
+
   -- by where the request goes
   abbrev pub AnswersAt : Place → List ℕ → List ℕ → Book S shelf → Reply → Book S shelf → Type 0
   AnswersAt NoPage target body = Says NotFound (codes "no such page")
@@ -150,6 +158,7 @@ module _ {S : Type 0} (shelf : Ghosts S) where
   AnswersAt (At route.TopUps) target body = Takes (TopUps body)
   AnswersAt (At route.Withdrawals) target body = Takes (Withdrawals body)
   AnswersAt (At route.Account) target body = ShowsAccount (account_in target)
+  AnswersAt (At route.MeterReadings) target body = ShowsMeter (exported_meter_in target)
   AnswersAt (At (route.Table table)) target body = Shows (page.Table table)
 
   -- one step: what a book answers to a request, and what it is behind it

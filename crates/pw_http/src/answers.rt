@@ -5,12 +5,12 @@ ghost use Rattle.std.specs.Prelude.{◌≡◌, ◌<◌, ◌≤◌, length};
 ghost use Rattle.pw_book.specs.After.{Refused};
 ghost use Rattle.pw_record.specs.Laws.{upload_with};
 ghost use Rattle.pw_report.specs.Pages.{IsPageOf};
-ghost use Rattle.pw_http.specs.Steps.{AnswersAt, Shows, ShowsAccount, Takes, line_reply, page_content, posted_reply, posted_status as status_posted, refused_status as status_refused, upload_reply};
+ghost use Rattle.pw_http.specs.Steps.{AnswersAt, Shows, ShowsAccount, ShowsMeter, Takes, line_reply, page_content, posted_reply, posted_status as status_posted, refused_status as status_refused, upload_reply};
 ghost use Rattle.pw_http.specs.declared.routes.Place.TheVariants.{At};
 ghost use Rattle.pw_http.specs.inner.Answered.{body_text, reply_of};
 
 use crate::replies::{ContentType, Status};
-use crate::routes::{Route, account_in, meter_in};
+use crate::routes::{Route, account_in, exported_meter_in, meter_in};
 use pw_book::{Accepted, Book, PostFault};
 use pw_line::{Line, ROOM, ended, line_of};
 use pw_record::{Cause, UploadBytes, UploadFault, UploadKind, upload_records};
@@ -115,7 +115,8 @@ fn content_of(page: Page) -> ContentType
     ensures { result ≡ page_content page }
 {
     match page {
-        Page::Table(
+        Page::MeterReadings(_)
+        | Page::Table(
             Table::Readings
             | Table::Energies
             | Table::Assignments
@@ -151,6 +152,16 @@ fn show_account<S: Shelf>(book: &mut Book<S>, alloc: Global, name: &[u8]) -> Ans
     }
 }
 
+/// Asks for the readings of the meter of an id.
+fn show_meter<S: Shelf>(book: &mut Book<S>, alloc: Global, id: &[u8]) -> Answer
+    ensures { ShowsMeter S.Shelf id.now book.old (reply_of result) book.new }
+{
+    match book.office().meter(id) {
+        Some(meter) => show(book, alloc, Page::MeterReadings(meter)),
+        None => said(Status::NotFound, "no such meter"),
+    }
+}
+
 /// What a book answers to a request that goes to a route.
 pub(crate) fn answer_at<S: Shelf>(
     book: &mut Book<S>,
@@ -168,6 +179,7 @@ pub(crate) fn answer_at<S: Shelf>(
         Route::TopUps => take(book, alloc, UploadKind::TopUps, body),
         Route::Withdrawals => take(book, alloc, UploadKind::Withdrawals, body),
         Route::Account => show_account(book, alloc, account_in(target)),
+        Route::MeterReadings => show_meter(book, alloc, exported_meter_in(target)),
         Route::Table(table) => show(book, alloc, Page::Table(table)),
     }
 }

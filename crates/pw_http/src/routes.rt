@@ -1,7 +1,7 @@
 //! The routes.
 
 ghost use Rattle.std.specs.Prelude.{◌≡◌, IfOk, drop};
-ghost use Rattle.pw_http.specs.Routes.{account_in as account_of, by_method, meter_in as meter_of, method_name, place_of, route_at, route_table};
+ghost use Rattle.pw_http.specs.Routes.{account_in as account_of, by_method, exported_meter_in as exported_meter_of, meter_in as meter_of, method_name, place_of, route_at, route_table};
 
 use matchit::{InsertError, Router};
 use pw_report::Table;
@@ -23,6 +23,8 @@ pub enum Route {
     Withdrawals,
     /// An account's statement.
     Account,
+    /// The readings of a meter.
+    MeterReadings,
     /// A table of the book.
     Table(Table),
 }
@@ -45,9 +47,9 @@ pub struct Routes {
 }
 
 impl Routes {
-    /// The fourteen routes. It takes all the memory that they need.
+    /// The fifteen routes. It takes all the memory that they need.
     pub fn new(alloc: Global) -> Result<Routes, InsertError> {
-        let router = fourteen_routes(alloc)?;
+        let router = fifteen_routes(alloc)?;
         Ok(Routes { router })
     }
 
@@ -62,8 +64,8 @@ impl Routes {
     }
 }
 
-/// The router of the fourteen routes.
-fn fourteen_routes(alloc: Global) -> Result<Router<Route>, InsertError>
+/// The router of the fifteen routes.
+fn fifteen_routes(alloc: Global) -> Result<Router<Route>, InsertError>
     ensures { IfOk result (λ router. router ≡ route_table) }
 {
     let mut router = Router::new(alloc);
@@ -81,6 +83,7 @@ fn fourteen_routes(alloc: Global) -> Result<Router<Route>, InsertError>
     router.insert("/export/assignments", Route::Table(Table::Assignments))?;
     router.insert("/export/topups", Route::Table(Table::TopUps))?;
     router.insert("/export/withdrawals", Route::Table(Table::Withdrawals))?;
+    router.insert("/export/readings/{meter}", Route::MeterReadings)?;
     Ok(router)
 }
 
@@ -119,7 +122,7 @@ fn method_of(route: Route) -> &'static [u8]
         | Route::Assignments
         | Route::TopUps
         | Route::Withdrawals => b"POST",
-        Route::Account | Route::Table(_) => b"GET",
+        Route::Account | Route::MeterReadings | Route::Table(_) => b"GET",
     }
 }
 
@@ -136,6 +139,13 @@ pub(crate) fn meter_in(target: &[u8]) -> &[u8]
 {
     let end = target.len().saturating_sub(b"/readouts".len());
     behind(&target[..end], b"/meters/".len())
+}
+
+/// What a target of a meter's readings names.
+pub(crate) fn exported_meter_in(target: &[u8]) -> &[u8]
+    ensures { result.now ≡ exported_meter_of target.now }
+{
+    behind(target, b"/export/readings/".len())
 }
 
 // What stands behind the first `n` bytes.

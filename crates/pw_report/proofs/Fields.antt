@@ -13,10 +13,10 @@ use Rattle.pw_model.specs.Lists.{AreReadings}
 use Rattle.pw_model.specs.Shelf.{ShelfContent}
 use Rattle.pw_record.specs.declared.row.RowKind.{RowKind}
 use Rattle.pw_record.specs.Row.{header_of}
-use Rattle.pw_report.specs.Exports.{csv_line, meter_lines, reading_line, readings_header, readings_text, record_line, records_text}
+use Rattle.pw_report.specs.Exports.{csv_line, meter_lines, one_meter_text, reading_line, readings_header, readings_text, record_line, records_text}
 use Rattle.pw_report.specs.Layout.{listed_below}
 use Rattle.pw_report.specs.Names.{meter_name}
-use Rattle.pw_report.specs.Pages.{IsOfRow, IsReadingsText, IsRecordsText}
+use Rattle.pw_report.specs.Pages.{IsOfRow, IsOneMeterText, IsReadingsText, IsRecordsText}
 use Rattle.pw_report.specs.declared.rows.Rows.{Rows}
 use Rattle.pw_report.specs.inner.Rows.{HasText}
 use Rattle.pw_report.proofs.Listed.{listed-next}
@@ -94,6 +94,13 @@ register-next new old content was now name m readings before i d c e within are 
 -- ---- what the rows end with
 pub ended-is : {E : Type 0} (result : Result (Vec ℕ Global) E) (a b : List ℕ) → a ≡ b → IfOk result (λ v. v.items ≡ a) → IfOk result (λ v. v.items ≡ b)
 ended-is result a b e h = subst (λ (t : List ℕ). IfOk result (λ v. v.items ≡ t)) e h
+
+pub meter-told : {E : Type 0} (result : Result (Vec ℕ Global) E) (file now : OfficeFile) (s : List Entry) (m : ℕ) (readings : Register → List ReadingRow) → now ≡ file →
+    ((r : Register) → AreReadings s m r (readings r)) →
+    IfOk result (λ v. v.items ≡ csv_line readings_header ++ meter_lines (meter_name now m) readings) → IfOk result (λ v. IsOneMeterText file s m v.items)
+unfolding one_meter_text
+meter-told (Ok v) file now s m readings o are h = (readings, are, h ∙ (λ i. csv_line readings_header ++ meter_lines (meter_name (o i) m) readings))
+meter-told (Err fault) file now s m readings o are h = tt
 
 pub readings-told : {E : Type 0} (result : Result (Vec ℕ Global) E) (file : OfficeFile) (s : List Entry) (readings : ℕ → Register → List ReadingRow) (n : ℕ) → n ≡ length file.meters →
     ((m : ℕ) (r : Register) → AreReadings s m r (readings m r)) →

@@ -2,6 +2,7 @@ pub mod Asking
 pub mod Fields
 pub mod Flexible
 pub mod Lines
+pub mod Meters
 pub mod Listed
 pub mod Parts
 pub mod Sums

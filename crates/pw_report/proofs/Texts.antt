@@ -15,10 +15,10 @@ use Rattle.pw_model.proofs.Answers.{lists-are_at_most_one, order_counts_nothing}
 use Rattle.pw_model.proofs.Existence.{lists-exist}
 use Rattle.pw_record.specs.declared.row.RowKind.TheVariants as row
 use Rattle.pw_report.specs.declared.page.Page.{Page}
-use Rattle.pw_report.specs.declared.page.Page.TheVariants.{Statement, Table}
+use Rattle.pw_report.specs.declared.page.Page.TheVariants.{Statement, MeterReadings, Table}
 use Rattle.pw_report.specs.declared.page.Table.TheVariants.{Accounts, Falls, Disputes, Readings, Energies, Assignments, TopUps, Withdrawals}
 use Rattle.pw_report.specs.Amounts.{balance_text, euro_text}
-use Rattle.pw_report.specs.Exports.{EnergyRow, csv_line, energies_header, energies_text, energy_row_line, energy_rows, owner_rows, readings_text, records_text}
+use Rattle.pw_report.specs.Exports.{EnergyRow, csv_line, energies_header, energies_text, energy_row_line, energy_rows, one_meter_text, owner_rows, readings_text, records_text}
 use Rattle.pw_report.specs.Laws.{EachPageHasOneText}
 use Rattle.pw_report.specs.Layout.{listed_below}
 use Rattle.pw_report.specs.Names.{account_name, band_name}
@@ -29,6 +29,7 @@ use Rattle.pw_report.specs.Tables.{account_line, accounts_text, band_line, dispu
 -- ---- one
 exists : (page : Page) (file : OfficeFile) (s : List Entry) → (text : List ℕ) × IsAnswer page file s text
 exists (Statement a) file s = (statement_text file s a.0, refl)
+exists (MeterReadings m) file s = let l = (lists-exist s).readings m.0 in (one_meter_text file m.0 (λ r. (l r).0), ((λ r. (l r).0), (λ r. (l r).1), refl))
 exists (Table Accounts) file s = (accounts_text file s, refl)
 exists (Table Falls) file s = let l = (lists-exist s).falls in (falls_text file l.0, (l.0, l.1, refl))
 exists (Table Disputes) file s = let l = (lists-exist s).disputes in (disputes_text file l.0, (l.0, l.1, refl))
@@ -41,6 +42,7 @@ exists (Table Withdrawals) file s = let l = held-there_is IsWithdrawal withdrawa
 -- ---- and no other
 only : (page : Page) (file : OfficeFile) (s : List Entry) (a b : List ℕ) → IsAnswer page file s a → IsAnswer page file s b → a ≡ b
 only (Statement x) file s a b p q = p ∙ sym q
+only (MeterReadings m) file s a b p q = p.2 ∙ (λ i. one_meter_text file m.0 (λ r. (lists-are_at_most_one s).readings m.0 r _ _ (p.1 r) (q.1 r) i)) ∙ sym q.2
 only (Table Accounts) file s a b p q = p ∙ sym q
 only (Table Falls) file s a b p q = p.2 ∙ ap (falls_text file) ((lists-are_at_most_one s).falls _ _ p.1 q.1) ∙ sym q.2
 only (Table Disputes) file s a b p q = p.2 ∙ ap (disputes_text file) ((lists-are_at_most_one s).disputes _ _ p.1 q.1) ∙ sym q.2
@@ -73,6 +75,7 @@ module _ (file : OfficeFile) (s t : List Entry) (h : HaveSameAnswers (office_of 
 
 there : (page : Page) (file : OfficeFile) (s t : List Entry) (text : List ℕ) → SameMembers s t → HaveSameAnswers (office_of file) s t → IsAnswer page file s text → IsAnswer page file t text
 there (Statement a) file s t text m h p = p ∙ statement-same file s t h a.0
+there (MeterReadings n) file s t text m h p = (p.0, (λ r. (h.readings n.0 r (p.0 r)).0 (p.1 r)), p.2)
 there (Table Accounts) file s t text m h p = p ∙ accounts-same file s t h
 there (Table Falls) file s t text m h p = (p.0, (h.falls p.0).0 p.1, p.2)
 there (Table Disputes) file s t text m h p = (p.0, (h.disputes p.0).0 p.1, p.2)
@@ -84,6 +87,7 @@ there (Table Withdrawals) file s t text m h p = (p.0, held-half IsWithdrawal s t
 
 back : (page : Page) (file : OfficeFile) (s t : List Entry) (text : List ℕ) → SameMembers t s → HaveSameAnswers (office_of file) s t → IsAnswer page file t text → IsAnswer page file s text
 back (Statement a) file s t text m h p = p ∙ sym (statement-same file s t h a.0)
+back (MeterReadings n) file s t text m h p = (p.0, (λ r. (h.readings n.0 r (p.0 r)).1 (p.1 r)), p.2)
 back (Table Accounts) file s t text m h p = p ∙ sym (accounts-same file s t h)
 back (Table Falls) file s t text m h p = (p.0, (h.falls p.0).1 p.1, p.2)
 back (Table Disputes) file s t text m h p = (p.0, (h.disputes p.0).1 p.1, p.2)

@@ -52,6 +52,10 @@ unfoldable pub readings_text : OfficeFile → (ℕ → Register → List Reading
 readings_text file rows =
     csv_line readings_header ++ listed_below (length file.meters) (λ m. meter_lines (meter_name file m) (rows m))
 
+-- of one meter, by register
+unfoldable pub one_meter_text : OfficeFile → ℕ → (Register → List ReadingRow) → List ℕ
+one_meter_text file m rows = csv_line readings_header ++ meter_lines (meter_name file m) rows
+
 -- ---- energies
 -- the energy of an owner in a band and a direction, in Wh
 pub record EnergyRow : Type 0 where

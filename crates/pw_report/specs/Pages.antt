@@ -13,17 +13,18 @@ use Rattle.pw_model.specs.Lists.{AreDisputes, AreFalls, AreReadings}
 use Rattle.pw_record.specs.declared.row.RowKind.{RowKind}
 use Rattle.pw_record.specs.declared.row.RowKind.TheVariants.{Assignment, TopUp, Withdrawal}
 use Rattle.pw_report.specs.declared.page.Page.{Page}
-use Rattle.pw_report.specs.declared.page.Page.TheVariants.{Statement, Table}
+use Rattle.pw_report.specs.declared.page.Page.TheVariants.{Statement, MeterReadings, Table}
 use Rattle.pw_report.specs.declared.page.Table.TheVariants.{Accounts, Falls, Disputes, Readings, Energies, Assignments, TopUps, Withdrawals}
-use Rattle.pw_report.specs.Exports.{energies_text, readings_text, records_text}
+use Rattle.pw_report.specs.Exports.{energies_text, one_meter_text, readings_text, records_text}
 use Rattle.pw_report.specs.Tables.{accounts_text, disputes_text, falls_text, statement_text}
 
 -- the page is one of the office's
 abbrev pub IsPageOf : OfficeFile → Page → Type 0
 IsPageOf file (Statement a) = a.0 < length file.accounts
+IsPageOf file (MeterReadings m) = m.0 < length file.meters
 IsPageOf file (Table table) = Unit {0}
 
--- the text of the falls, of the disputes, of the readings that a set of records has
+-- the text of the falls, of the disputes, of the readings, of those of one meter, that a set of records has
 abbrev pub IsFallsText : OfficeFile → List Entry → List ℕ → Type 0
 IsFallsText file s text = (falls : List Fall) × AreFalls s falls × (text ≡ falls_text file falls)
 
@@ -33,6 +34,9 @@ IsDisputesText file s text = (disputes : List Dispute) × AreDisputes s disputes
 abbrev pub IsReadingsText : OfficeFile → List Entry → List ℕ → Type 0
 IsReadingsText file s text =
     (rows : ℕ → Register → List ReadingRow) × ((m : ℕ) (r : Register) → AreReadings s m r (rows m r)) × (text ≡ readings_text file rows)
+
+abbrev pub IsOneMeterText : OfficeFile → List Entry → ℕ → List ℕ → Type 0
+IsOneMeterText file s m text = (rows : Register → List ReadingRow) × ((r : Register) → AreReadings s m r (rows r)) × (text ≡ one_meter_text file m rows)
 
 -- the key of a record that a row of the kind gives
 abbrev pub IsOfRow : RowKind → Key → Type 0
@@ -47,6 +51,7 @@ IsRecordsText kind file s text = (records : List Entry) × ListsHeld (IsOfRow ki
 -- the text of a page
 abbrev pub IsAnswer : Page → OfficeFile → List Entry → List ℕ → Type 0
 IsAnswer (Statement a) file s text = text ≡ statement_text file s a.0
+IsAnswer (MeterReadings m) file s text = IsOneMeterText file s m.0 text
 IsAnswer (Table Accounts) file s text = text ≡ accounts_text file s
 IsAnswer (Table Falls) file s text = IsFallsText file s text
 IsAnswer (Table Disputes) file s text = IsDisputesText file s text

@@ -20,6 +20,6 @@ pub use disputes::disputes_table;
 pub use energies::export_energy;
 pub use falls::falls_table;
 pub use page::{Page, Table, page_text};
-pub use readings::export_readings;
+pub use readings::{export_meter, export_readings};
 pub use records::{export_assignments, export_topups, export_withdrawals};
 pub use statements::statement;

@@ -8,12 +8,12 @@ use crate::accounts::accounts_table;
 use crate::disputes::disputes_table;
 use crate::energies::export_energy;
 use crate::falls::falls_table;
-use crate::readings::export_readings;
+use crate::readings::{export_meter, export_readings};
 use crate::records::{export_assignments, export_topups, export_withdrawals};
 use crate::statements::statement;
 use pw_book::{Book, BookFault};
 use pw_shelf::Shelf;
-use pw_tariff::AccountId;
+use pw_tariff::{AccountId, MeterId};
 use std::alloc::Global;
 
 /// A table of a whole book.
@@ -42,10 +42,13 @@ pub enum Table {
 pub enum Page {
     /// The statement of an account.
     Statement(AccountId),
+    /// The export of the readings of a meter, as CSV.
+    MeterReadings(MeterId),
     Table(Table),
 }
 
-/// The text of a page, by the records held. It asks for a page of the office: a statement of one of its accounts.
+/// The text of a page, by the records held. It asks for a page of the office: a statement of one of its accounts,
+/// readings of one of its meters.
 ///
 /// `Device`, `Memory` and `Reopen` (of a shut book) leave the records as they are.
 pub fn page_text<S: Shelf>(
@@ -59,6 +62,7 @@ pub fn page_text<S: Shelf>(
 {
     match page {
         Page::Statement(account) => statement(book, alloc, account),
+        Page::MeterReadings(meter) => export_meter(book, alloc, meter),
         Page::Table(Table::Accounts) => accounts_table(book, alloc),
         Page::Table(Table::Falls) => falls_table(book, alloc),
         Page::Table(Table::Disputes) => disputes_table(book, alloc),

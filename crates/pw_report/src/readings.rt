@@ -8,7 +8,7 @@ ghost use Rattle.pw_model.specs.declared.records.ReadingRow.{ReadingRow as ARead
 ghost use Rattle.pw_obis.specs.declared.reference.Register.{Register as ARegister};
 ghost use Rattle.pw_report.specs.Exports.{csv_line, mark, meter_lines, reading_line, readings_header};
 ghost use Rattle.pw_report.specs.Names.{meter_name as name_of_meter};
-ghost use Rattle.pw_report.specs.Pages.{IsReadingsText};
+ghost use Rattle.pw_report.specs.Pages.{IsOneMeterText, IsReadingsText};
 ghost use Rattle.pw_report.specs.Reports.{IsReport};
 ghost use Rattle.pw_report.specs.inner.Rows.{HasText};
 
@@ -37,6 +37,26 @@ pub fn export_readings<S: Shelf>(book: &mut Book<S>, alloc: Global) -> Result<Ve
     for meter in 0..book.office().meters() {
         put_meter(book, alloc, MeterId(meter), &mut rows)?;
     }
+    rows.finish()
+}
+
+/// The readings held of a meter, as CSV, each with whether it counts, doesn't, or is withdrawn. By register, instant and Wh.
+/// It asks for a meter of the office.
+///
+/// `Device`, `Memory` and `Reopen` (of a shut book) leave the records as they are.
+pub fn export_meter<S: Shelf>(
+    book: &mut Book<S>,
+    alloc: Global,
+    meter: MeterId,
+) -> Result<Vec<u8>, BookFault>
+    requires { meter.0 < length book.old.office.meters }
+    ensures text { S.clean book.new.shelf → IfOk result (λ text. IsOneMeterText book.old.office (S.state book.old.shelf).content.records meter.0 text.items) }
+    ensures report { IsReport S.Shelf result book.old book.new }
+{
+    still_open(book)?;
+    let mut rows = Rows::new(alloc);
+    put_header(&mut rows)?;
+    put_meter(book, alloc, meter, &mut rows)?;
     rows.finish()
 }
 

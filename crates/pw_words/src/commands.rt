@@ -18,6 +18,15 @@ pub enum Source<'a> {
     },
 }
 
+/// What is to be exported.
+#[derive(Clone, Copy, Debug, PartialEq, Eq)]
+pub enum Exported<'a> {
+    /// A table of the whole book.
+    Table(Table),
+    /// The readings of the meter with this id.
+    MeterReadings(&'a str),
+}
+
 /// What the program's words ask for. Files are told by their paths; a limit is 1 to 10,000,000 records.
 #[derive(Debug, Drop, PartialEq, Eq)]
 pub enum Command<'a> {
@@ -47,11 +56,11 @@ pub enum Command<'a> {
         store: &'a str,
         account: &'a str,
     },
-    /// A table is printed.
+    /// A table is printed, or the readings of a meter.
     Export {
         office: &'a str,
         store: &'a str,
-        what: Table,
+        what: Exported<'a>,
     },
     /// `count` connections to a port of this machine are served; pages of these origins, as their words stand, may ask
     /// too; and each upload that was answered is told, where `tells` says so.

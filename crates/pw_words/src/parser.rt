@@ -40,6 +40,7 @@ enum Word {
     Account,
     Table,
     Meter,
+    OneMeter,
     Limit,
     Clock,
     Count,
@@ -100,7 +101,7 @@ static COMMANDS: [Asked; 7] = [
         name: "export",
         about: "Prints a table of a store: readings, energy, assignments, topups and withdrawals as CSV, accounts, falls and disputes as text",
         end: "Exit status: 0; 1 refused; 2 wrong words; 3 a file, stream, store or memory failed.\nExample: powerbook export office.toml book.db readings > readings.csv",
-        words: &[Word::Office, Word::Store, Word::Table],
+        words: &[Word::Office, Word::Store, Word::Table, Word::OneMeter],
     },
     Asked {
         name: "serve",
@@ -225,6 +226,13 @@ fn meter<'a>(alloc: Global) -> Result<Arg<'a>, AllocError> {
         .required_if_eq("KIND", "readouts")
 }
 
+fn one_meter<'a>(alloc: Global) -> Arg<'a> {
+    Arg::new(alloc, "meter")
+        .long("meter")
+        .value_name("ID")
+        .help("Of the readings, those of this meter alone")
+}
+
 fn argument<'a>(alloc: Global, word: Word) -> Result<Arg<'a>, AllocError> {
     match word {
         Word::Office => Ok(required(alloc, "OFFICE", "The office file (TOML)")),
@@ -236,6 +244,7 @@ fn argument<'a>(alloc: Global, word: Word) -> Result<Arg<'a>, AllocError> {
         Word::Account => Ok(required(alloc, "ACCOUNT", "The account's name")),
         Word::Table => Ok(table(alloc)),
         Word::Meter => meter(alloc),
+        Word::OneMeter => Ok(one_meter(alloc)),
         Word::Limit => Ok(limit(alloc)),
         Word::Clock => Ok(clock(alloc)),
         Word::Count => Ok(count(alloc)),

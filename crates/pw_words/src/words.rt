@@ -7,7 +7,7 @@ ghost use Rattle.pw_words.specs.Words.{AsksToPipe, IsClockWord, IsKindWord, IsLi
 ghost use Rattle.pw_words.specs.declared.commands.Command.TheVariants as asks;
 ghost use Rattle.pw_words.specs.inner.Told.{IsTableWord};
 
-use crate::commands::{Command, Source};
+use crate::commands::{Command, Exported, Source};
 use crate::fault::{WordsFault, fault_of};
 use crate::parser::parser;
 use clap::error::ErrorKind;
@@ -23,6 +23,9 @@ const USUAL_LIMIT: u32 = 1_000_000;
 
 /// What an origin is.
 const ORIGIN_FORM: &str = "an origin is http:// or https://, a host, and its port, if any";
+
+/// What a meter stands beside.
+const METER_ALONE: &str = "the argument '--meter <ID>' goes with 'readings' alone";
 
 /// The command that the words behind the program's name ask for. No word asks for `pipe`.
 ///
@@ -60,7 +63,7 @@ fn parsed<'a>(alloc: Global, words: &'a [&'a str]) -> Result<Command<'a>, WordsF
     let origins = words_at(alloc, &matches, "serve", "origin")?;
     match command_of(&matches, files, origins) {
         Some(command) => Ok(command),
-        None => Err(word_missing(alloc)?),
+        None => Err(no_command(alloc, &matches)?),
     }
 }
 
@@ -81,9 +84,16 @@ fn wrong_origin(alloc: Global, url: &str) -> Result<Error, AllocError>
     parser(alloc)?.error(ErrorKind::ValueValidation, why.as_str())
 }
 
-// That the parser asks for no word which a command needs: the text is its own.
-fn word_missing(alloc: Global) -> Result<WordsFault, AllocError> {
-    let error = parser(alloc)?.error(ErrorKind::MissingRequiredArgument, "a word is missing")?;
+// Why words that the parser takes ask for no command: a meter stands beside another table than the readings; or it asked
+// for no word which a command needs, and the text is its own.
+fn no_command(alloc: Global, matches: &ArgMatches<'_>) -> Result<WordsFault, AllocError> {
+    let (kind, why) = match matches.subcommand() {
+        Some(("export", words)) if words.get_str("meter").is_some() => {
+            (ErrorKind::ArgumentConflict, METER_ALONE)
+        }
+        _ => (ErrorKind::MissingRequiredArgument, "a word is missing"),
+    };
+    let error = parser(alloc)?.error(kind, why)?;
     Ok(fault_of(alloc, &error))
 }
 
@@ -206,8 +216,17 @@ fn export_of<'a>(words: &ArgMatches<'a>) -> Option<Command<'a>>
     Some(Command::Export {
         office: words.get_str("OFFICE")?,
         store: words.get_str("STORE")?,
-        what: table_named(words.get_str("WHAT")?)?,
+        what: exported(table_named(words.get_str("WHAT")?)?, words.get_str("meter"))?,
     })
+}
+
+// A table, or of the readings those of a meter.
+fn exported(table: Table, meter: Option<&str>) -> Option<Exported<'_>> {
+    match meter {
+        None => Some(Exported::Table(table)),
+        Some(id) if table == Table::Readings => Some(Exported::MeterReadings(id)),
+        Some(_) => None,
+    }
 }
 
 fn serve_of<'a>(words: &ArgMatches<'a>, origins: Vec<&'a str>) -> Option<Command<'a>>

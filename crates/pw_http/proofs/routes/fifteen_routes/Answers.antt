@@ -1,7 +1,7 @@
 use Rattle.std.proofs.Common.{refl}
 use Rattle.pw_http.specs.Routes.{route_table}
 use Rattle.matchit.proofs.OnLiterals.{matchit_on_literals}
-use Rattle.pw_http.proofs.routes.fourteen_routes.Goals as goal
+use Rattle.pw_http.proofs.routes.fifteen_routes.Goals as goal
 
 pub returns : goal.returns
 unfolding route_table matchit_on_literals
@@ -20,4 +20,5 @@ returns c =
     let a12 = c.in_ok-insert-12.ensures in
     let a13 = c.in_ok-insert-13.ensures in
     let a14 = c.in_ok-insert-14.ensures in
-    rw (a14.1, a13.1, a12.1, a11.1, a10.1, a9.1, a8.1, a7.1, a6.1, a5.1, a4.1, a3.1, a2.1, a1.1, c.new-router.ensures) refl
+    let a15 = c.in_ok-insert-15.ensures in
+    rw (a15.1, a14.1, a13.1, a12.1, a11.1, a10.1, a9.1, a8.1, a7.1, a6.1, a5.1, a4.1, a3.1, a2.1, a1.1, c.new-router.ensures) refl
