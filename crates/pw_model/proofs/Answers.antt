@@ -16,6 +16,7 @@ use Rattle.pw_model.specs.Counting.{Member, SameMembers, EachOnce, Counts, stand
 use Rattle.pw_tariff.specs.Office.{OfficeRules}
 use Rattle.pw_model.specs.Energy.{energy, energy_where, of_band, cost}
 use Rattle.pw_model.specs.Payments.{stands_in, sum_once, keys, cents_for, topped_up, balance, nano_in_cent}
+use Rattle.pw_model.specs.Kinds.{IsAssignment, IsTopUp, IsWithdrawal, ListsHeld}
 use Rattle.pw_model.specs.Lists.{Lists, IsFall, IsDispute, IsReading, fall_numbers, fall_order, dispute_order, reading_numbers, reading_order, reading_entry, records_at, record_count, AreFalls, AreDisputes, AreReadings}
 use Rattle.pw_model.specs.Laws.{OrderCountsNothing, CountIsLength, ListsAreAtMostOne}
 use Rattle.pw_model.proofs.Same.{same_key-decides, same_entry-decides}
@@ -113,6 +114,19 @@ readings-half s t h m r rows a = record {
   members = λ row. (λ k. reading-half s t h m r row ((a.members row).0 k), λ x. (a.members row).1 (reading-half t s (members-back s t h) m r row x));
 }
 
+held-half : (Of : Key → Type 0) (s t found : List Entry) → SameMembers s t → ListsHeld Of s found → ListsHeld Of t found
+held-half Of s t found h a = record {
+  rising = a.rising;
+  members = λ e. (
+    λ m. (let q = (a.members e).0 m in ((h e).0 q.0, q.1)),
+    λ p. (a.members e).1 ((h e).1 p.0, p.1),
+  );
+}
+
+-- the lists of a kind, both ways
+helds-same : (Of : Key → Type 0) (s t : List Entry) → SameMembers s t → (found : List Entry) → ListsHeld Of s found ↔ ListsHeld Of t found
+helds-same Of s t h found = (held-half Of s t found h, held-half Of t s found (members-back s t h))
+
 pub order_counts_nothing : OrderCountsNothing
 order_counts_nothing office s t h = record {
   contents = contents-same s t h;
@@ -123,6 +137,9 @@ order_counts_nothing office s t h = record {
   falls = λ fs. (falls-half s t h fs, falls-half t s (members-back s t h) fs);
   disputes = λ ds. (disputes-half s t h ds, disputes-half t s (members-back s t h) ds);
   readings = λ m r rows. (readings-half s t h m r rows, readings-half t s (members-back s t h) m r rows);
+  assignments = helds-same IsAssignment s t h;
+  topups = helds-same IsTopUp s t h;
+  withdrawals = helds-same IsWithdrawal s t h;
 }
 
 -- ---- one list at most

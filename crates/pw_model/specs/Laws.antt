@@ -16,6 +16,7 @@ use Rattle.pw_tariff.specs.Office.{OfficeRules}
 use Rattle.pw_model.specs.Office.{HasBands, HasOwner, AllOfOffice}
 use Rattle.pw_model.specs.Energy.{energy, over_owners, over_bands, all_rises}
 use Rattle.pw_model.specs.Payments.{topped_up, balance, cents_in, IsTopUpFor}
+use Rattle.pw_model.specs.Kinds.{IsAssignment, IsTopUp, IsWithdrawal, ListsHeld}
 use Rattle.pw_model.specs.Lists.{AreFalls, AreDisputes, AreReadings, record_count}
 use Rattle.pw_model.specs.Shelf.{total_among}
 
@@ -33,6 +34,9 @@ pub record HaveSameAnswers (office : OfficeRules) (s t : List Entry) : Type 0 wh
   pub falls : (fs : List Fall) → AreFalls s fs ↔ AreFalls t fs
   pub disputes : (ds : List Dispute) → AreDisputes s ds ↔ AreDisputes t ds
   pub readings : (m : ℕ) (r : Register) (rows : List ReadingRow) → AreReadings s m r rows ↔ AreReadings t m r rows
+  pub assignments : (held : List Entry) → ListsHeld IsAssignment s held ↔ ListsHeld IsAssignment t held
+  pub topups : (held : List Entry) → ListsHeld IsTopUp s held ↔ ListsHeld IsTopUp t held
+  pub withdrawals : (held : List Entry) → ListsHeld IsWithdrawal s held ↔ ListsHeld IsWithdrawal t held
 
 abbrev pub OrderCountsNothing : Type 0
 OrderCountsNothing = (office : OfficeRules) (s t : List Entry) → SameMembers s t → HaveSameAnswers office s t

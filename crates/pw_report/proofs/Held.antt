@@ -3,7 +3,7 @@ use Rattle.std.proofs.Common.{◌≡◌, ◌⊎◌, List, [], ◌∷◌, inl, in
 use Rattle.pw_model.specs.declared.records.Key.{Key}
 use Rattle.pw_model.specs.declared.records.Key.TheVariants as key
 use Rattle.pw_model.specs.declared.records.Entry.{Entry}
-use Rattle.pw_model.specs.Counting.{Member, SameMembers}
+use Rattle.pw_model.specs.Counting.{Member}
 use Rattle.pw_model.specs.Kinds.{IsAssignment, IsTopUp, IsWithdrawal, ListsHeld}
 use Rattle.pw_model.specs.Lists.{IsInOrder}
 use Rattle.pw_model.specs.Same.{entry_order}
@@ -83,13 +83,3 @@ module _ (Of : Key → Type 0) (known : (k : Key) → Of k ⊎ (Of k → ⊥)) w
 
 pub held-one : (Of : Key → Type 0) (s t u : List Entry) → ListsHeld Of s t → ListsHeld Of s u → t ≡ u
 held-one Of s t u a b = lists-one entry_order entry-strict (λ e. Member e s × Of e.key) (λ e. Member e s × Of e.key) (λ e. (λ h. h, λ h. h)) t u a b
-
--- by whatever list
-pub held-half : (Of : Key → Type 0) (s t found : List Entry) → SameMembers s t → ListsHeld Of s found → ListsHeld Of t found
-held-half Of s t found h a = record {
-  rising = a.rising;
-  members = λ e. (
-    λ m. (let q = (a.members e).0 m in ((h e).0 q.0, q.1)),
-    λ p. (a.members e).1 ((h e).1 p.0, p.1),
-  );
-}

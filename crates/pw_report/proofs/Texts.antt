@@ -7,7 +7,6 @@ use Rattle.pw_tariff.specs.declared.ids.Direction.{Direction}
 use Rattle.pw_tariff.specs.declared.ids.Direction.TheVariants.{Import, Export}
 use Rattle.pw_tariff.specs.Office.{OfficeFile, office_of}
 use Rattle.pw_model.specs.declared.records.Entry.{Entry}
-use Rattle.pw_model.specs.Counting.{SameMembers}
 use Rattle.pw_model.specs.Energy.{account}
 use Rattle.pw_model.specs.Kinds.{IsAssignment, IsTopUp, IsWithdrawal}
 use Rattle.pw_model.specs.Laws.{HaveSameAnswers}
@@ -23,7 +22,7 @@ use Rattle.pw_report.specs.Laws.{EachPageHasOneText}
 use Rattle.pw_report.specs.Layout.{listed_below}
 use Rattle.pw_report.specs.Names.{account_name, band_name}
 use Rattle.pw_report.specs.Pages.{IsAnswer}
-use Rattle.pw_report.proofs.Held.{assignment-known, held-half, held-one, held-there_is, topup-known, withdrawal-known}
+use Rattle.pw_report.proofs.Held.{assignment-known, held-one, held-there_is, topup-known, withdrawal-known}
 use Rattle.pw_report.specs.Tables.{account_line, accounts_text, band_line, disputes_text, falls_text, statement_text}
 
 -- ---- one
@@ -73,29 +72,29 @@ module _ (file : OfficeFile) (s t : List Entry) (h : HaveSameAnswers (office_of 
       let rows = λ (o : Option AccountId). listed_below (length file.bands) (λ b. row o b Import ∷ row o b Export ∷ []) in
       csv_line energies_header ++ flat_map (energy_row_line file) (rows None ++ listed_below (length file.accounts) (λ a. rows (Some (account a))))
 
-there : (page : Page) (file : OfficeFile) (s t : List Entry) (text : List ℕ) → SameMembers s t → HaveSameAnswers (office_of file) s t → IsAnswer page file s text → IsAnswer page file t text
-there (Statement a) file s t text m h p = p ∙ statement-same file s t h a.0
-there (MeterReadings n) file s t text m h p = (p.0, (λ r. (h.readings n.0 r (p.0 r)).0 (p.1 r)), p.2)
-there (Table Accounts) file s t text m h p = p ∙ accounts-same file s t h
-there (Table Falls) file s t text m h p = (p.0, (h.falls p.0).0 p.1, p.2)
-there (Table Disputes) file s t text m h p = (p.0, (h.disputes p.0).0 p.1, p.2)
-there (Table Readings) file s t text m h p = (p.0, (λ n r. (h.readings n r (p.0 n r)).0 (p.1 n r)), p.2)
-there (Table Energies) file s t text m h p = p ∙ energies-same file s t h
-there (Table Assignments) file s t text m h p = (p.0, held-half IsAssignment s t p.0 m p.1, p.2)
-there (Table TopUps) file s t text m h p = (p.0, held-half IsTopUp s t p.0 m p.1, p.2)
-there (Table Withdrawals) file s t text m h p = (p.0, held-half IsWithdrawal s t p.0 m p.1, p.2)
+there : (page : Page) (file : OfficeFile) (s t : List Entry) (text : List ℕ) → HaveSameAnswers (office_of file) s t → IsAnswer page file s text → IsAnswer page file t text
+there (Statement a) file s t text h p = p ∙ statement-same file s t h a.0
+there (MeterReadings n) file s t text h p = (p.0, (λ r. (h.readings n.0 r (p.0 r)).0 (p.1 r)), p.2)
+there (Table Accounts) file s t text h p = p ∙ accounts-same file s t h
+there (Table Falls) file s t text h p = (p.0, (h.falls p.0).0 p.1, p.2)
+there (Table Disputes) file s t text h p = (p.0, (h.disputes p.0).0 p.1, p.2)
+there (Table Readings) file s t text h p = (p.0, (λ n r. (h.readings n r (p.0 n r)).0 (p.1 n r)), p.2)
+there (Table Energies) file s t text h p = p ∙ energies-same file s t h
+there (Table Assignments) file s t text h p = (p.0, (h.assignments p.0).0 p.1, p.2)
+there (Table TopUps) file s t text h p = (p.0, (h.topups p.0).0 p.1, p.2)
+there (Table Withdrawals) file s t text h p = (p.0, (h.withdrawals p.0).0 p.1, p.2)
 
-back : (page : Page) (file : OfficeFile) (s t : List Entry) (text : List ℕ) → SameMembers t s → HaveSameAnswers (office_of file) s t → IsAnswer page file t text → IsAnswer page file s text
-back (Statement a) file s t text m h p = p ∙ sym (statement-same file s t h a.0)
-back (MeterReadings n) file s t text m h p = (p.0, (λ r. (h.readings n.0 r (p.0 r)).1 (p.1 r)), p.2)
-back (Table Accounts) file s t text m h p = p ∙ sym (accounts-same file s t h)
-back (Table Falls) file s t text m h p = (p.0, (h.falls p.0).1 p.1, p.2)
-back (Table Disputes) file s t text m h p = (p.0, (h.disputes p.0).1 p.1, p.2)
-back (Table Readings) file s t text m h p = (p.0, (λ n r. (h.readings n r (p.0 n r)).1 (p.1 n r)), p.2)
-back (Table Energies) file s t text m h p = p ∙ sym (energies-same file s t h)
-back (Table Assignments) file s t text m h p = (p.0, held-half IsAssignment t s p.0 m p.1, p.2)
-back (Table TopUps) file s t text m h p = (p.0, held-half IsTopUp t s p.0 m p.1, p.2)
-back (Table Withdrawals) file s t text m h p = (p.0, held-half IsWithdrawal t s p.0 m p.1, p.2)
+back : (page : Page) (file : OfficeFile) (s t : List Entry) (text : List ℕ) → HaveSameAnswers (office_of file) s t → IsAnswer page file t text → IsAnswer page file s text
+back (Statement a) file s t text h p = p ∙ sym (statement-same file s t h a.0)
+back (MeterReadings n) file s t text h p = (p.0, (λ r. (h.readings n.0 r (p.0 r)).1 (p.1 r)), p.2)
+back (Table Accounts) file s t text h p = p ∙ sym (accounts-same file s t h)
+back (Table Falls) file s t text h p = (p.0, (h.falls p.0).1 p.1, p.2)
+back (Table Disputes) file s t text h p = (p.0, (h.disputes p.0).1 p.1, p.2)
+back (Table Readings) file s t text h p = (p.0, (λ n r. (h.readings n r (p.0 n r)).1 (p.1 n r)), p.2)
+back (Table Energies) file s t text h p = p ∙ sym (energies-same file s t h)
+back (Table Assignments) file s t text h p = (p.0, (h.assignments p.0).1 p.1, p.2)
+back (Table TopUps) file s t text h p = (p.0, (h.topups p.0).1 p.1, p.2)
+back (Table Withdrawals) file s t text h p = (p.0, (h.withdrawals p.0).1 p.1, p.2)
 
 pub each-page-has-one-text : EachPageHasOneText
 each-page-has-one-text page file s = record {
@@ -103,5 +102,5 @@ each-page-has-one-text page file s = record {
   only = λ a b p q. only page file s a b p q;
   same = λ t text m.
       let h = order_counts_nothing (office_of file) s t m in
-      (there page file s t text m h, back page file s t text (λ e. ((m e).1, (m e).0)) h);
+      (there page file s t text h, back page file s t text h);
 }
