@@ -1,6 +1,7 @@
 //! Uploads in files, loaded into a store.
 
 ghost use Rattle.pw_tariff.specs.Office.{office_of};
+ghost use Rattle.pw_tariff.specs.Text.{IsOfficeOf};
 ghost use Rattle.pw_model.specs.Office.{AllOfOffice};
 ghost use Rattle.pw_words.specs.Words.{IsLimit};
 
@@ -119,10 +120,12 @@ fn load_files<O: Write, E: Write, F: Follow>(
 ) -> Result<u8, Fault>
     requires { IsLimit target.limit }
 {
-    match uploads_in(rt.alloc(), kind, files) {
-        Ok(uploads) => load_all(rt, target, uploads.as_slice(), out, err, follow),
-        Err(_) => Err(Fault::Memory),
-    }
+    let text = read_file(rt, target.office, LONGEST_OFFICE)?;
+    let office = Office::read(rt.alloc(), text.as_slice())?;
+    let Ok(uploads) = uploads_in(rt.alloc(), kind, files) else {
+        return Err(Fault::Memory);
+    };
+    load_all(rt, target, office, &text, &uploads, out, err, follow)
 }
 
 fn load_list<O: Write, E: Write, F: Follow>(
@@ -135,9 +138,11 @@ fn load_list<O: Write, E: Write, F: Follow>(
 ) -> Result<u8, Fault>
     requires { IsLimit target.limit }
 {
-    let text = read_file(rt, list, LONGEST_LIST)?;
-    let uploads = uploads_of(rt.alloc(), list, text.as_slice())?;
-    load_all(rt, target, uploads.as_slice(), out, err, follow)
+    let text = read_file(rt, target.office, LONGEST_OFFICE)?;
+    let office = Office::read(rt.alloc(), text.as_slice())?;
+    let lines = read_file(rt, list, LONGEST_LIST)?;
+    let uploads = uploads_of(rt.alloc(), list, lines.as_slice())?;
+    load_all(rt, target, office, &text, &uploads, out, err, follow)
 }
 
 // Loads uploads, each whole or not at all, and answers the exit status. That all files are there is seen before the store
@@ -145,27 +150,21 @@ fn load_list<O: Write, E: Write, F: Follow>(
 fn load_all<O: Write, E: Write, F: Follow>(
     rt: &HostRuntime,
     target: Target<'_>,
+    office: Office,
+    text: &[u8],
     uploads: &[Upload<'_>],
     out: &mut O,
     err: &mut E,
     follow: &mut F,
 ) -> Result<u8, Fault>
-    requires { IsLimit target.limit }
+    requires office { IsOfficeOf text.now office }
+    requires limit { IsLimit target.limit }
 {
-    let text = read_file(rt, target.office, LONGEST_OFFICE)?;
-    let office = Office::read(rt.alloc(), text.as_slice())?;
     if !are_there(rt, uploads, err) {
         return Ok(Fault::Device.status());
     }
-    let mut book = open_book(
-        rt,
-        target.store,
-        Purpose::Take,
-        office,
-        text.as_slice(),
-        target.limit,
-        follow,
-    )?;
+    let (store, limit) = (target.store, target.limit);
+    let mut book = open_book(rt, store, Purpose::Take, office, text, limit, follow)?;
     let status = take_all(rt, &mut book, uploads, out, err, follow);
     close_book(book)?;
     Ok(status)

@@ -115,8 +115,8 @@ fn content_of(page: Page) -> ContentType
     ensures { result ≡ page_content page }
 {
     match page {
-        Page::MeterReadings(_)
-        | Page::Table(
+        Page::MeterReadings(_) => ContentType::Csv,
+        Page::Table(
             Table::Readings
             | Table::Energies
             | Table::Assignments

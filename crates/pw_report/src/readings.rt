@@ -8,7 +8,7 @@ ghost use Rattle.pw_model.specs.declared.records.ReadingRow.{ReadingRow as ARead
 ghost use Rattle.pw_obis.specs.declared.reference.Register.{Register as ARegister};
 ghost use Rattle.pw_report.specs.Exports.{csv_line, mark, meter_lines, reading_line, readings_header};
 ghost use Rattle.pw_report.specs.Names.{meter_name as name_of_meter};
-ghost use Rattle.pw_report.specs.Pages.{IsOneMeterText, IsReadingsText};
+ghost use Rattle.pw_report.specs.Pages.{IsReadingsText};
 ghost use Rattle.pw_report.specs.Reports.{IsReport};
 ghost use Rattle.pw_report.specs.inner.Rows.{HasText};
 
@@ -40,27 +40,8 @@ pub fn export_readings<S: Shelf>(book: &mut Book<S>, alloc: Global) -> Result<Ve
     rows.finish()
 }
 
-/// The readings held of a meter, as CSV, each with whether it counts, doesn't, or is withdrawn. By register, instant and Wh.
-/// It asks for a meter of the office.
-///
-/// `Device`, `Memory` and `Reopen` (of a shut book) leave the records as they are.
-pub fn export_meter<S: Shelf>(
-    book: &mut Book<S>,
-    alloc: Global,
-    meter: MeterId,
-) -> Result<Vec<u8>, BookFault>
-    requires { meter.0 < length book.old.office.meters }
-    ensures text { S.clean book.new.shelf → IfOk result (λ text. IsOneMeterText book.old.office (S.state book.old.shelf).content.records meter.0 text.items) }
-    ensures report { IsReport S.Shelf result book.old book.new }
-{
-    still_open(book)?;
-    let mut rows = Rows::new(alloc);
-    put_header(&mut rows)?;
-    put_meter(book, alloc, meter, &mut rows)?;
-    rows.finish()
-}
-
-fn put_header(rows: &mut Rows) -> Result<(), BookFault>
+/// Writes the header.
+pub(crate) fn put_header(rows: &mut Rows) -> Result<(), BookFault>
     ensures text { (before : List ℕ) → HasText rows.old before [] → OnOk result (HasText rows.new (before ++ csv_line readings_header) []) }
     ensures fault { IfErr result (λ fault. fault ≡ Memory) }
 {
@@ -72,8 +53,8 @@ fn put_header(rows: &mut Rows) -> Result<(), BookFault>
     rows.end()
 }
 
-// The readings of a meter, register by register.
-fn put_meter<S: Shelf>(
+/// Writes the readings of a meter, register by register.
+pub(crate) fn put_meter<S: Shelf>(
     book: &mut Book<S>,
     alloc: Global,
     meter: MeterId,

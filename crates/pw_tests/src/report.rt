@@ -103,15 +103,17 @@ fn post_all<S: Shelf>(
     Ok(())
 }
 
-// A page of a book. A statement is of one of the office's accounts.
+// A page of a book. A statement is of one of the office's accounts, and readings are of one of its meters.
 fn page_of<S: Shelf>(
     rt: &impl Abort,
     alloc: Global,
     book: &mut Book<S>,
     page: Page,
 ) -> Result<Vec<u8>, BookFault> {
-    if let Page::Statement(account) = page {
-        assert!(rt; account.0 < book.office().accounts());
+    match page {
+        Page::Statement(account) => assert!(rt; account.0 < book.office().accounts()),
+        Page::MeterReadings(meter) => assert!(rt; meter.0 < book.office().meters()),
+        Page::Table(_) => {}
     }
     page_text(book, alloc, page)
 }

@@ -5,14 +5,15 @@ use crate::shelves::{book_over, payment};
 use pw_book::{Book, BookFault, PostFault};
 use pw_report::{Page, Table, page_text};
 use pw_shelf::{CountShelf, MemoryShelf, Shelf};
-use pw_tariff::{AccountId, Office};
+use pw_tariff::{AccountId, MeterId, Office};
 use std::alloc::Global;
 
 // The call of the store that fails: an upload of one record is begun by the third.
 const FAILING: u32 = 4;
 
-const PAGES: [Page; 9] = [
+const PAGES: [Page; 10] = [
     Page::Statement(AccountId(0)),
+    Page::MeterReadings(MeterId(0)),
     Page::Table(Table::Accounts),
     Page::Table(Table::Falls),
     Page::Table(Table::Disputes),
@@ -54,10 +55,13 @@ pub(crate) fn is_still_shut<S: Shelf>(alloc: Global, book: &mut Book<S>) -> bool
 
 // Why there is no page of the office, if there is none.
 fn fault_of<S: Shelf>(alloc: Global, book: &mut Book<S>, page: Page) -> Option<BookFault> {
-    if let Page::Statement(account) = page {
-        if account.0 >= book.office().accounts() {
-            return None;
-        }
+    let is_of_office = match page {
+        Page::Statement(account) => account.0 < book.office().accounts(),
+        Page::MeterReadings(meter) => meter.0 < book.office().meters(),
+        Page::Table(_) => true,
+    };
+    if !is_of_office {
+        return None;
     }
     page_text(book, alloc, page).err()
 }

@@ -2,7 +2,7 @@
 
 use super::page_of;
 use crate::books::empty_book;
-use crate::sample::{FIRST, sample_office};
+use crate::sample::{FIRST, METER, sample_office};
 use pw_book::{Book, BookFault};
 use pw_report::{Page, Table};
 use pw_shelf::{CountShelf, MemoryShelf, Shelf};
@@ -48,6 +48,7 @@ fn calls_of(rt: &impl Abort, alloc: Global, page: Page) -> Result<u32, OfficeFau
 fn failing_device(rt: HostRuntime) -> Result<(), Fail> {
     for page in [
         Page::Statement(FIRST),
+        Page::MeterReadings(METER),
         Page::Table(Table::Accounts),
         Page::Table(Table::Falls),
         Page::Table(Table::Disputes),

@@ -2,7 +2,7 @@
 //! (To be run with the first allocation refused, with the second, and so on.)
 
 use super::{Upload, book_behind, page_of};
-use crate::sample::FIRST;
+use crate::sample::{FIRST, METER};
 use crate::uploads::{BESIDE, BETWEEN, TOPUP, TWO_READINGS, TWO_WITHDRAWALS};
 use pw_book::{Book, BookFault};
 use pw_report::{Page, Table};
@@ -40,6 +40,7 @@ fn has_length<S: Shelf>(
 
 const PAGES: &[(Page, usize)] = &[
     (Page::Statement(FIRST), 160),
+    (Page::MeterReadings(METER), 190),
     (Page::Table(Table::Accounts), 147),
     (Page::Table(Table::Falls), 29),
     (Page::Table(Table::Disputes), 51),

@@ -1,12 +1,11 @@
-use Rattle.std.proofs.Common.{◌<◌, ◌≡◌, ◌∙◌, [], length, subst, sym}
+use Rattle.std.proofs.Common.{◌<◌, ◌∙◌, [], length, subst, sym}
 use Rattle.pw_obis.specs.declared.reference.Register.{Register}
 use Rattle.pw_tariff.specs.Office.{OfficeFile}
 use Rattle.pw_model.specs.Lists.{AreReadings}
 use Rattle.pw_model.specs.Shelf.{ShelfContent}
 use Rattle.pw_model.proofs.Existence.{lists-exist}
-use Rattle.pw_report.proofs.Asking.{asked-then}
 use Rattle.pw_report.proofs.Fields.{meter-told}
-use Rattle.pw_report.proofs.readings.export_meter.Goals as goal
+use Rattle.pw_report.proofs.one_meter.export_meter.Goals as goal
 
 pub put_meter-requires-clause-meter : goal.put_meter-requires-clause-meter
 put_meter-requires-clause-meter g c = subst (λ (o : OfficeFile). c.args.meter.0 < length o.meters) (sym c.in_ok-still_open.ensures.report.asked.office) c.requires
