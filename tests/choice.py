@@ -23,6 +23,8 @@ SHOWS = b"shows: "
 # How a function begins, and how a clause of its contract does.
 FUNCTION = re.compile(r"( *)(?:pub(?:\(crate\))? )?fn \w")
 CLAUSE = re.compile(r" *(?:requires|ensures|ghost)\b")
+# The folders that a crate is made from.
+PARTS = ("src", "specs", "proofs")
 # The files of a function's own proof, in a folder of its name.
 OWN_PROOFS = ("Answers.antt", "Invariants.antt", "Proof.antt")
 
@@ -85,23 +87,30 @@ def without_bodies(text):
     return "\n".join(kept)
 
 
-def seen_from_above(rt, crate):
+def sources_of(crate):
+    """The files that a crate is made from, by their names in its folder."""
+    for part in PARTS:
+        for at, folders, names in os.walk(f"{crate.folder}/{part}"):
+            folders.sort()
+            for name in sorted(names):
+                yield os.path.relpath(f"{at}/{name}", crate.folder), content(f"{at}/{name}")
+
+
+def seen_from_above(crate):
     """What of a crate's files proofs of the crates above it can see."""
-    for path in rt.files_of(crate.folder):
-        name = os.path.relpath(path, crate.folder)
+    for name, told in sources_of(crate):
         is_own_proof = name.count(os.sep) > 1 and os.path.basename(name) in OWN_PROOFS
         if not (name.startswith(f"proofs{os.sep}") and is_own_proof):
-            told = content(path)
             yield name, without_bodies(told.decode()) if name.endswith(".rt") else told
 
 
 def sums_of(rt, crates):
     """For each crate a sum of all that its edits stand on."""
     tool = kit_sum(rt.KIT), content(SCRIPT)
-    seen = {crate.name: sum_of(crate.said, *seen_from_above(rt, crate)) for crate in crates}
+    seen = {crate.name: sum_of(crate.said, *seen_from_above(crate)) for crate in crates}
     found = {}
     for crate in crates:
-        own = [(os.path.relpath(it, crate.folder), content(it)) for it in rt.files_of(crate.folder)]
+        own = list(sources_of(crate))
         edits = [(os.path.basename(it), edit_text(it)) for it in files_of(crate)]
         below = [(it.name, seen[it.name]) for it in crate.below()]
         found[crate.name] = sum_of(tool, crate.said, own, below, edits)
