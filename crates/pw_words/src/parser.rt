@@ -28,6 +28,9 @@ static TABLES: [&str; 8] = [
     "disputes",
 ];
 
+/// What a list has in its lines, so that it doesn't stand beside it.
+static LISTED: [&str; 3] = ["KIND", "FILE", "meter"];
+
 /// A word that a command takes: by its place, or behind a flag.
 #[derive(Clone, Copy)]
 enum Word {
@@ -156,7 +159,7 @@ fn list<'a>(alloc: Global) -> Result<Arg<'a>, AllocError> {
         .help(
             "A list of files, a line each: KIND FILE, or readouts FILE METER; paths from its folder",
         )
-        .conflicts_with_all(&["KIND", "FILE", "meter"])
+        .conflicts_with_all(LISTED.as_slice())
 }
 
 fn table<'a>(alloc: Global) -> Arg<'a> {
