@@ -28,9 +28,6 @@ static TABLES: [&str; 8] = [
     "disputes",
 ];
 
-/// What a list has in its lines, so that it doesn't stand beside it.
-static LISTED: [&str; 3] = ["KIND", "FILE", "meter"];
-
 /// A word that a command takes: by its place, or behind a flag.
 #[derive(Clone, Copy)]
 enum Word {
@@ -159,7 +156,9 @@ fn list<'a>(alloc: Global) -> Result<Arg<'a>, AllocError> {
         .help(
             "A list of files, a line each: KIND FILE, or readouts FILE METER; paths from its folder",
         )
-        .conflicts_with_all(LISTED.as_slice())
+        .conflicts_with("KIND")?
+        .conflicts_with("FILE")?
+        .conflicts_with("meter")
 }
 
 fn table<'a>(alloc: Global) -> Arg<'a> {
