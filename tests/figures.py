@@ -45,10 +45,12 @@ def clock(instant, ahead):
 
 
 class Office:
-    """Accounts, bands (name, import price, export price), meters (id, clock, registers), and a week of band letters."""
+    """Accounts, bands (name, import price, export price), meters (id, clock, registers), a week of band letters, and
+    later periods (start, week, import prices, export prices), each with prices by band."""
 
-    def __init__(self, accounts, bands, meters, week):
-        self.accounts, self.bands, self.meters, self.week = accounts, bands, meters, week
+    def __init__(self, accounts, bands, meters, week, later=()):
+        self.accounts, self.bands, self.meters, self.week, self.later = accounts, bands, meters, week, later
+        self.starts = [seconds(start) for start, *_ in later]
         self.known = {}
 
     def text(self):
@@ -58,22 +60,32 @@ class Office:
         lines = [f"accounts = {listed(self.accounts)}", f"week = {listed(self.week)}"]
         for name, bought, sold in self.bands:
             lines += ["", "[[band]]", f'name = "{name}"', f"import = {bought}", f"export = {sold}"]
+        for start, week, bought, sold in self.later:
+            lines += ["", "[[period]]", f'start = "{start}"', f"week = {listed(week)}"]
+            lines += [f"import = {list(bought)}", f"export = {list(sold)}"]
         for name, kind, registers in self.meters:
             lines += ["", "[[meter]]", f'id = "{name}"', f'clock = "{kind}"', f"registers = {listed(registers)}"]
         return "\n".join([*lines, ""])
 
-    def band(self, instant):
-        """The place of the band of a second: that of its local weekday and hour."""
+    def periods(self):
+        """The periods by their places."""
+        return range(1 + len(self.later))
+
+    def tariff(self, instant):
+        """The places of the period and of the band of a second: the latest period begun, and in its week the letter of
+        the local weekday and hour."""
         hour = instant // 3_600
         if hour not in self.known:
             local = datetime.datetime.fromtimestamp(instant + offset(instant), datetime.timezone.utc)
-            letter = self.week[local.weekday()][local.hour]
-            self.known[hour] = [name for name, _, _ in self.bands].index(letter)
+            period = bisect.bisect_right(self.starts, instant)
+            week = self.later[period - 1][1] if period else self.week
+            letter = week[local.weekday()][local.hour]
+            self.known[hour] = period, [name for name, _, _ in self.bands].index(letter)
         return self.known[hour]
 
-    def cost(self, band, direction, wh):
-        """An energy's price in nano-euro; a direction is 0 for import, 1 for export."""
-        return self.bands[band][1 + direction] * wh
+    def price(self, period, band, direction):
+        """In nano-euro per Wh; a direction is 0 for import, 1 for export."""
+        return self.later[period - 1][2 + direction][band] if period else self.bands[band][1 + direction]
 
 
 def counting(records, key):
@@ -97,7 +109,7 @@ def falls(points):
 
 
 def energies(office, points, starts):
-    """The energy of each owner, band and direction above 0, in Wh: the sum over seconds of the levels' rise."""
+    """The energy of each owner, period, band and direction above 0, in Wh: the sum over seconds of the levels' rise."""
     owners = defaultdict(lambda: ([], []))
     for meter, start, owner in starts:
         owners[meter][0].append(start)
@@ -113,8 +125,14 @@ def energies(office, points, starts):
             if rise:
                 level += rise
                 place = bisect.bisect_right(at, second)
-                total[who[place - 1] if place else 0, office.band(second), register // 3] += rise
+                total[who[place - 1] if place else 0, *office.tariff(second), register // 3] += rise
     return total
+
+
+def over_periods(office, total, owner, band, direction):
+    """The energy of all periods in Wh, and what it costs in nano-euro: in each period at its price."""
+    each = [(total[owner, it, band, direction], office.price(it, band, direction)) for it in office.periods()]
+    return sum(wh for wh, _ in each), sum(wh * price for wh, price in each)
 
 
 def paid(payments):
@@ -126,9 +144,9 @@ def paid(payments):
 
 
 def balance(office, account, total, cents):
-    """An account's balance in nano-euro, of energies by owner (the account's place and 1), band and direction."""
+    """An account's balance in nano-euro, of energies by owner (the account's place and 1), period, band, direction."""
     owner, nano = account + 1, NANO_PER_CENT * cents[account]
     for band in range(len(office.bands)):
-        nano -= office.cost(band, 0, total[owner, band, 0])
-        nano += office.cost(band, 1, total[owner, band, 1])
+        nano -= over_periods(office, total, owner, band, 0)[1]
+        nano += over_periods(office, total, owner, band, 1)[1]
     return nano

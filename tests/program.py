@@ -41,10 +41,10 @@ UNOPENED = {
 }
 
 
-# A store of version 1 that powerbook made, and what is told when one is brought to version 2.
-VERSION_1 = f"{TOP}/tests/version_1.db"
+# Stores of older versions, each made by the powerbook of its time, and what is told when one is brought to version 3.
+OLDER = {version: f"{TOP}/tests/version_{version}.db" for version in (1, 2)}
 UPGRADED = (
-    "powerbook: the store was of version 1 and is of version 2 now: an older powerbook won't open it any more\n"
+    "powerbook: the store was of an older version and is of version 3 now: an older powerbook won't open it any more\n"
 )
 
 

@@ -2,6 +2,7 @@
 use Rattle.std.proofs.Common.{◌≡◌, ℕ, ◌+◌, ◌<◌, ◌≤◌, ◌⊎◌, Bool, IsTrue, true, cond, Option, Some, None, refl, ap, sym, subst, ◌∙◌, arith, inl, inr, ◌↔◌}
 use Rattle.pw_tariff.specs.declared.ids.AccountId.{AccountId}
 use Rattle.pw_tariff.specs.declared.ids.BandId.{BandId}
+use Rattle.pw_tariff.specs.declared.ids.PeriodId.{PeriodId}
 use Rattle.pw_tariff.specs.declared.ids.Direction.{Direction}
 use Rattle.pw_tariff.specs.declared.ids.Direction.TheVariants.{Import, Export}
 use Rattle.pw_tariff.specs.Office.{OfficeRules}
@@ -82,39 +83,51 @@ moves-at key more less a b c d p q f = record {
 }
 
 -- ---- which totals are moved
-pub in-office : (office : OfficeRules) (o : Option AccountId) (b : BandId) (d : Direction) → HasOwner office o → b.0 < office.bands → OfOwners office.bands office.accounts (Energy o b d)
-in-office office None b Import h l = inl (inl (b, l, refl))
-in-office office None b Export h l = inl (inr (b, l, refl))
-in-office office (Some a) b Import h l = inr (a, h, inl (b, l, refl))
-in-office office (Some a) b Export h l = inr (a, h, inr (b, l, refl))
+pub in-office : (office : OfficeRules) (o : Option AccountId) (p : PeriodId) (b : BandId) (d : Direction) → HasOwner office o → p.0 < office.periods → b.0 < office.bands → OfOwners office.periods office.bands office.accounts (Energy o p b d)
+in-office office None p b Import h l m = inl (inl (p, b, l, m, refl))
+in-office office None p b Export h l m = inl (inr (p, b, l, m, refl))
+in-office office (Some a) p b Import h l m = inr (a, h, inl (p, b, l, m, refl))
+in-office office (Some a) p b Export h l m = inr (a, h, inr (p, b, l, m, refl))
 
 -- an energy key that moves is one of the office
 abbrev pub is-energy : TotalKey → ℕ
-is-energy (Energy o b d) = 1
+is-energy (Energy o p b d) = 1
 is-energy (TopUps a) = 0
 
+abbrev pub period_in : TotalKey → ℕ
+period_in (Energy o p b d) = p.0
+period_in (TopUps a) = 0
+
 abbrev pub band_in : TotalKey → ℕ
-band_in (Energy o b d) = b.0
+band_in (Energy o p b d) = b.0
 band_in (TopUps a) = 0
 
 abbrev pub owner_in : TotalKey → Option AccountId
-owner_in (Energy o b d) = o
+owner_in (Energy o p b d) = o
 owner_in (TopUps a) = None
 
-owner-direction : (bands : ℕ) (o : Option AccountId) (d : Direction) (k : TotalKey) → InDirection o d bands k → (is-energy k ≡ 1) × (band_in k < bands) × (owner_in k ≡ o)
-owner-direction bands o d k i = (ap is-energy i.2, (let e = ap band_in i.2 in let l = i.1 in omega (arith, e, l)), ap owner_in i.2)
+owner-direction : (periods bands : ℕ) (o : Option AccountId) (d : Direction) (k : TotalKey) → InDirection o d periods bands k → (is-energy k ≡ 1) × (period_in k < periods) × (band_in k < bands) × (owner_in k ≡ o)
+owner-direction periods bands o d k i = (
+  ap is-energy i.4,
+  (let e = ap period_in i.4 in let l = i.2 in omega (arith, e, l)),
+  (let e = ap band_in i.4 in let l = i.3 in omega (arith, e, l)),
+  ap owner_in i.4,
+)
 
-of-owner : (bands : ℕ) (o : Option AccountId) (k : TotalKey) → OfOwner bands o k → (is-energy k ≡ 1) × (band_in k < bands) × (owner_in k ≡ o)
-of-owner bands o k (inl i) = owner-direction bands o Import k i
-of-owner bands o k (inr i) = owner-direction bands o Export k i
+of-owner : (periods bands : ℕ) (o : Option AccountId) (k : TotalKey) → OfOwner periods bands o k → (is-energy k ≡ 1) × (period_in k < periods) × (band_in k < bands) × (owner_in k ≡ o)
+of-owner periods bands o k (inl i) = owner-direction periods bands o Import k i
+of-owner periods bands o k (inr i) = owner-direction periods bands o Export k i
 
-pub of-owners : (office : OfficeRules) (k : TotalKey) → OfOwners office.bands office.accounts k → (is-energy k ≡ 1) × (band_in k < office.bands) × HasOwner office (owner_in k)
-of-owners office k (inl i) = (let r = of-owner office.bands None k i in (r.0, r.1, subst (HasOwner office) (sym r.2) tt))
-of-owners office k (inr i) = (let r = of-owner office.bands (Some i.0) k i.2 in (r.0, r.1, subst (HasOwner office) (sym r.2) i.1))
+pub of-owners : (office : OfficeRules) (k : TotalKey) → OfOwners office.periods office.bands office.accounts k → (is-energy k ≡ 1) × (period_in k < office.periods) × (band_in k < office.bands) × HasOwner office (owner_in k)
+of-owners office k (inl i) = (let r = of-owner office.periods office.bands None k i in (r.0, r.1, r.2, subst (HasOwner office) (sym r.3) tt))
+of-owners office k (inr i) = (let r = of-owner office.periods office.bands (Some i.0) k i.2 in (r.0, r.1, r.2, subst (HasOwner office) (sym r.3) i.1))
 
--- whether an energy is one of the office is told by its owner, where its band is one
-pub energy-told : (office : OfficeRules) (k : TotalKey) (o : Option AccountId) (b : BandId) (d : Direction) (known : Bool) → k ≡ Energy o b d → b.0 < office.bands → IsTrue known ↔ HasOwner office o →
-    IsTrue known ↔ OfOwners office.bands office.accounts k
-energy-told office k o b d known e l h =
-    let P : TotalKey → Type 0 = λ x. IsTrue known ↔ OfOwners office.bands office.accounts x in
-    subst P (sym e) (λ t. in-office office o b d (h.0 t) l, λ i. h.1 (of-owners office (Energy o b d) i).2)
+-- whether an energy is one of the office is told by its owner, its period and its band
+pub energy-told : (office : OfficeRules) (k : TotalKey) (o : Option AccountId) (p : PeriodId) (b : BandId) (d : Direction) (known : Bool) → k ≡ Energy o p b d →
+    IsTrue known ↔ (HasOwner office o × (p.0 < office.periods) × (b.0 < office.bands)) → IsTrue known ↔ OfOwners office.periods office.bands office.accounts k
+energy-told office k o p b d known e h =
+    let P : TotalKey → Type 0 = λ x. IsTrue known ↔ OfOwners office.periods office.bands office.accounts x in
+    subst P (sym e) (
+      λ t. (let g = h.0 t in in-office office o p b d g.0 g.1 g.2),
+      λ i. (let g = of-owners office (Energy o p b d) i in h.1 (g.3, g.1, g.2)),
+    )

@@ -19,7 +19,7 @@ differ-back office was is less more h = λ k. sym (h k)
 
 -- totals that moved by the difference are those of what counts then
 pub settled-by : (office : OfficeRules) (was is : Key → Contents) (old mid moved new : ShelfContent) (less more : TotalKey → ℕ) → mid ≡ old →
-    Differ office was is less more → MovesTotals (OfOwners office.bands office.accounts) more less mid moved → new.records ≡ moved.records → ((k : TotalKey) → new.total k ≡ moved.total k) →
+    Differ office was is less more → MovesTotals (OfOwners office.periods office.bands office.accounts) more less mid moved → new.records ≡ moved.records → ((k : TotalKey) → new.total k ≡ moved.total k) →
     IsSettled office was is old new
 settled-by office was is old mid moved new less more e d m r n = record {
   records = r ∙ m.records ∙ ap (λ (c : ShelfContent). c.records) e;

@@ -10,8 +10,8 @@ pub mod Shared
 pub mod WithdrawnTold
 pub mod Falling
 pub mod RowFacts
-pub mod Offices
 pub mod Capped
+pub mod ByParts
 pub mod Segments
 pub mod Fallen
 pub mod Contested

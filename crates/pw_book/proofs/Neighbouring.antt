@@ -8,7 +8,7 @@ use Rattle.pw_flow.proofs.Points.{LastIs, NextIs, last-told, next-told}
 use Rattle.pw_obis.specs.declared.reference.Register.{Register}
 use Rattle.pw_tariff.specs.declared.ids.AccountId.{AccountId}
 use Rattle.pw_tariff.specs.declared.ids.Direction.{Direction}
-use Rattle.pw_tariff.specs.Office.{OfficeFile, office_of, band_at}
+use Rattle.pw_tariff.specs.Office.{OfficeFile, office_of, period_at, band_at}
 use Rattle.pw_tariff.specs.Owners.{StartsIncrease, owner_by_starts, same_owner}
 use Rattle.pw_tariff.specs.Shares.{class_seconds}
 use Rattle.pw_model.specs.declared.records.Key.{Key}
@@ -17,7 +17,7 @@ use Rattle.pw_model.specs.declared.records.TotalKey.{TotalKey}
 use Rattle.pw_model.specs.declared.records.TotalKey.TheVariants.{Energy, TopUps}
 use Rattle.pw_model.specs.Changes.{IsOneMoreReading, in_direction}
 use Rattle.pw_model.specs.Counting.{point, start}
-use Rattle.pw_model.specs.Energy.{asked_seconds, of_band, owner_at as owner_told}
+use Rattle.pw_model.specs.Energy.{asked_seconds, of_class, owner_at as owner_told}
 use Rattle.pw_model.specs.Lists.{IsInOrder}
 use Rattle.pw_model.specs.Same.{direction_of, same_direction}
 use Rattle.pw_model.proofs.Energy.{one-more_reading}
@@ -89,10 +89,10 @@ pairs-with keeps None (Some b) here = omega arith
 pairs-with keeps (Some a) None here = omega arith
 pairs-with keeps (Some a) (Some b) here = omega arith
 
--- ---- the seconds of an owner and a band
-pub seconds-told : (file : OfficeFile) (owners : List (ℕ × Option AccountId)) (at : Key → Contents) (m : ℕ) (owner : Option AccountId) (band : ℕ) → ((t : ℕ) → owner_by_starts owners t ≡ owner_told at m t) →
-    class_seconds file owners owner band ≡ asked_seconds at (of_band (office_of file) owner band) m
-seconds-told file owners at m owner band h = λ i t. (same_owner (h t i) owner && (band_at file t == band))
+-- ---- the seconds of an owner, a period and a band
+pub seconds-told : (file : OfficeFile) (owners : List (ℕ × Option AccountId)) (at : Key → Contents) (m : ℕ) (owner : Option AccountId) (period band : ℕ) → ((t : ℕ) → owner_by_starts owners t ≡ owner_told at m t) →
+    class_seconds file owners owner period band ≡ asked_seconds at (of_class (office_of file) owner period band) m
+seconds-told file owners at m owner period band h = λ i t. (same_owner (h t i) owner && ((period_at file t == period) && (band_at file t == band)))
 
 -- ---- with a reading and without it
 pub around-differ : (file : OfficeFile) (free is : Key → Contents) (m : ℕ) (r : Register) (z w : ℕ) (p : ℕ → Option ℕ) (owners : List (ℕ × Option AccountId)) (below above : Option (ℕ × ℕ)) (without with : List (ℕ × ℕ)) (k : TotalKey) →
@@ -102,14 +102,14 @@ pub around-differ : (file : OfficeFile) (free is : Key → Contents) (m : ℕ) (
     without ≡ point_listed below (point_listed None (point_listed above [])) → with ≡ point_listed below (point_listed (Some (z, w)) (point_listed above [])) →
     energy_told (office_of file) free k + pairs_for file owners (direction_of r) with k ≡ energy_told (office_of file) is k + pairs_for file owners (direction_of r) without k
 around-differ file free is m r z w p owners below above without with (TopUps a) l c s o e h b f g j = refl
-around-differ file free is m r z w p owners below above without with (Energy owner band d) l c s o e h b f g j =
+around-differ file free is m r z w p owners below above without with (Energy owner period band d) l c s o e h b f g j =
     let office = office_of file in
-    let asked = of_band office owner band.0 in
+    let asked = of_class office owner period.0 band.0 in
     let same : (u : ℕ) → (u ≡ z → ⊥) → point free m r u ≡ point is m r u = λ u n. o.elsewhere m r u (λ _ _. n) in
     let around = stand-around p (point free m r) (point is m r) office.end z w below above s same o.free o.here e b f in
     let law = one-more_reading office free is m r z w below above o around l c asked d in
-    let keeps = class_seconds file owners owner band.0 in
-    let t : keeps ≡ asked_seconds free asked m = seconds-told file owners free m owner band.0 h in
+    let keeps = class_seconds file owners owner period.0 band.0 in
+    let t : keeps ≡ asked_seconds free asked m = seconds-told file owners free m owner period.0 band.0 h in
     let one : pairs_sum keeps without ≡ cell_between (asked_seconds free asked m) below above = ap (pairs_sum keeps) g ∙ pairs-without keeps below above ∙ ap (λ (q : ℕ → Bool). cell_between q below above) t in
     let two : pairs_sum keeps with ≡ cell_between (asked_seconds free asked m) below (Some (z, w)) + cell_between (asked_seconds free asked m) (Some (z, w)) above =
     ap (pairs_sum keeps) j ∙ pairs-with keeps below above (z, w) ∙ ap (λ (q : ℕ → Bool). cell_between q below (Some (z, w)) + cell_between q (Some (z, w)) above) t in

@@ -7,6 +7,7 @@ use Rattle.pw_obis.specs.declared.reference.Register.{Register}
 use Rattle.pw_time.specs.declared.instant.TheConstants.{END_SECOND}
 use Rattle.pw_tariff.specs.declared.ids.AccountId.{AccountId}
 use Rattle.pw_tariff.specs.declared.ids.BandId.{BandId}
+use Rattle.pw_tariff.specs.declared.ids.PeriodId.{PeriodId}
 use Rattle.pw_tariff.specs.declared.ids.Direction.{Direction}
 use Rattle.pw_tariff.specs.declared.ids.Direction.TheVariants.{Import, Export}
 use Rattle.pw_tariff.specs.Office.{OfficeRules}
@@ -17,7 +18,7 @@ use Rattle.pw_model.specs.declared.records.TotalKey.{TotalKey}
 use Rattle.pw_model.specs.declared.records.TotalKey.TheVariants.{Energy, TopUps}
 use Rattle.pw_model.specs.Changes.{IsOtherStart}
 use Rattle.pw_model.specs.Counting.{point, start}
-use Rattle.pw_model.specs.Energy.{Asked, of_band, over_registers, owner_at, share_of}
+use Rattle.pw_model.specs.Energy.{Asked, of_class, over_registers, owner_at, share_of}
 use Rattle.pw_model.specs.Shelf.{ShelfContent}
 use Rattle.pw_model.proofs.Assignments.{one-more_assignment}
 use Rattle.pw_shelf.specs.Changes.{starts_with, with_start}
@@ -78,9 +79,9 @@ pub changed-there : (c d : ShelfContent) (was is : Key → Contents) (m z until 
 changed-there c d was is m z until owners others e h = let P : ShelfContent → Type 0 = λ x. IsStartChanged x was is m z until owners others in subst P (sym e) h
 
 -- ---- all registers
-registers-told : (office : OfficeRules) (at : Key → Contents) (m : ℕ) (o : Option AccountId) (b : BandId) (d : Direction) → sum_by (register_told office at m (Energy o b d)) registers ≡ over_registers d (share_of office at (of_band office o b.0) m)
-registers-told office at m o b Import = omega arith
-registers-told office at m o b Export = omega arith
+registers-told : (office : OfficeRules) (at : Key → Contents) (m : ℕ) (o : Option AccountId) (p : PeriodId) (b : BandId) (d : Direction) → sum_by (register_told office at m (Energy o p b d)) registers ≡ over_registers d (share_of office at (of_class office o p.0 b.0) m)
+registers-told office at m o p b Import = omega arith
+registers-told office at m o p b Export = omega arith
 
 pub all-moved : (office : OfficeRules) (was is : Key → Contents) (m z i : ℕ) (less more : TotalKey → ℕ) → IsOtherStart was is m z → m < office.meters → 6 ≤ i → i ≤ 6 →
     ((k : TotalKey) → more k + sum_by (register_told office was m k) (take i registers) ≡ less k + sum_by (register_told office is m k) (take i registers)) → Differ office was is less more
@@ -90,12 +91,12 @@ all-moved office was is m z i less more o l f g h (TopUps a) =
     let y = ap (λ (n : ℕ). sum_by (register_told office is m (TopUps a)) (take n registers)) e in
     let t = h (TopUps a) in
     omega (arith, x, y, t)
-all-moved office was is m z i less more o l f g h (Energy p b d) =
+all-moved office was is m z i less more o l f g h (Energy q p b d) =
     let e : i ≡ 6 = omega (arith, f, g) in
-    let x = ap (λ (n : ℕ). sum_by (register_told office was m (Energy p b d)) (take n registers)) e ∙ registers-told office was m p b d in
-    let y = ap (λ (n : ℕ). sum_by (register_told office is m (Energy p b d)) (take n registers)) e ∙ registers-told office is m p b d in
-    let t = h (Energy p b d) in
-    let asked : Asked = of_band office p b.0 in
+    let x = ap (λ (n : ℕ). sum_by (register_told office was m (Energy q p b d)) (take n registers)) e ∙ registers-told office was m q p b d in
+    let y = ap (λ (n : ℕ). sum_by (register_told office is m (Energy q p b d)) (take n registers)) e ∙ registers-told office is m q p b d in
+    let t = h (Energy q p b d) in
+    let asked : Asked = of_class office q p.0 b.0 in
     let law = (one-more_assignment office was is m z o).energies asked d (share_of office was asked m) (share_of office is asked m) l (λ r. omega arith) in
     omega (arith, x, y, t, law)
 
@@ -139,7 +140,7 @@ start-changed c d was is m z until owner owners others old_lent new_lent old_sta
 
 -- ---- totals and the start changed
 pub start-settled : (office : OfficeRules) (was is : Key → Contents) (b c d e f : ShelfContent) (less more : TotalKey → ℕ) (m z : ℕ) (owner : Option (Option AccountId)) → c ≡ b → d ≡ c → Differ office was is less more →
-    MovesTotals (OfOwners office.bands office.accounts) more less d e → f ≡ with_start e m z owner → IsSettled office was is b f
+    MovesTotals (OfOwners office.periods office.bands office.accounts) more less d e → f ≡ with_start e m z owner → IsSettled office was is b f
 start-settled office was is b c d e f less more m z owner x y differ moves q =
     let p = y ∙ x in
     record {

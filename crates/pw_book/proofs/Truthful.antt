@@ -5,6 +5,7 @@ use Rattle.std.proofs.lemmas.Option.{none-some, same_Some}
 use Rattle.pw_obis.specs.declared.reference.Register.{Register}
 use Rattle.pw_tariff.specs.declared.ids.AccountId.{AccountId}
 use Rattle.pw_tariff.specs.declared.ids.BandId.{BandId}
+use Rattle.pw_tariff.specs.declared.ids.PeriodId.{PeriodId}
 use Rattle.pw_tariff.specs.declared.ids.Direction.{Direction}
 use Rattle.pw_tariff.specs.Office.{OfficeRules}
 use Rattle.pw_model.specs.declared.records.Key.{Key}
@@ -18,7 +19,7 @@ use Rattle.pw_model.specs.declared.records.TotalKey.{TotalKey}
 use Rattle.pw_model.specs.declared.records.TotalKey.TheVariants.{Energy, TopUps}
 use Rattle.pw_model.specs.Changes.{IsOneMoreReading, IsOtherStart}
 use Rattle.pw_model.specs.Counting.{contents_at, point, start, wh_of, owner_of, reading_key, assignment_key}
-use Rattle.pw_model.specs.Energy.{of_band}
+use Rattle.pw_model.specs.Energy.{of_class}
 use Rattle.pw_model.specs.Office.{AllOfOffice, HasOwner, IsOffice, most_records}
 use Rattle.pw_model.specs.Payments.{cents_for, topped_up}
 use Rattle.pw_model.specs.Same.{same_key}
@@ -50,6 +51,19 @@ on-ok-three (Err a) f p q t = tt
 owner-known : (office : OfficeRules) (o : Option AccountId) → HasOwner office o ⊎ (HasOwner office o → ⊥)
 owner-known office None = inl tt
 owner-known office (Some a) = elim (cases_lt a.0 office.accounts) [ inl l ↦ inl l | inr m ↦ inr (λ l. absurd (omega (arith, l, m))) ]
+
+-- so an energy is one of the office, or it isn't
+energy-known : (office : OfficeRules) (o : Option AccountId) (p : PeriodId) (b : BandId) (d : Direction) → OfOwners office.periods office.bands office.accounts (Energy o p b d) ⊎ (OfOwners office.periods office.bands office.accounts (Energy o p b d) → ⊥)
+energy-known office o p b d = elim (cases_lt p.0 office.periods) [
+  | inl l ↦ elim (cases_lt b.0 office.bands) [
+    | inl m ↦ elim (owner-known office o) [
+      | inl h ↦ inl (in-office office o p b d h l m)
+      | inr n ↦ inr (λ i. n (of-owners office (Energy o p b d) i).3)
+    ]
+    | inr g ↦ inr (λ i. let m = (of-owners office (Energy o p b d) i).2 in absurd (omega (arith, m, g)))
+  ]
+  | inr g ↦ inr (λ i. let l = (of-owners office (Energy o p b d) i).1 in absurd (omega (arith, l, g)))
+]
 
 -- ---- truth
 -- totals among a list fit
@@ -93,29 +107,27 @@ module _ (office : OfficeRules) (o : IsOffice office) (s : List Entry) (k : Key)
     totals = λ l. total l ∙ ap (λ (r : List Entry). total_among office r l) (sym m.records);
   }
     where
-      energy-other : (owner : Option AccountId) (b : BandId) (d : Direction) → (OfOwners office.bands office.accounts (Energy owner b d) → ⊥) → total_among office s (Energy owner b d) ≡ total_among office old.records (Energy owner b d)
-      energy-other owner b d n = elim (cases_lt b.0 office.bands) [
-        | inl l ↦ elim (owner-known office owner) [
-          | inl h ↦ absurd (n (in-office office owner b d h l))
-          | inr h ↦ (foreign-totals_are_none office s).owners j.small owner b d h ∙ sym ((foreign-totals_are_none office old.records).owners j.of_office owner b d h)
+      -- an energy that isn't one of the office is none, whatever counts
+      energy-other : (owner : Option AccountId) (period : PeriodId) (band : BandId) (d : Direction) → (OfOwners office.periods office.bands office.accounts (Energy owner period band d) → ⊥) →
+          total_among office s (Energy owner period band d) ≡ total_among office old.records (Energy owner period band d)
+      energy-other owner period band d n = elim (cases_lt period.0 office.periods) [
+        | inl l ↦ elim (cases_lt band.0 office.bands) [
+          | inl f ↦ elim (owner-known office owner) [
+            | inl h ↦ absurd (n (in-office office owner period band d h l f))
+            | inr h ↦ (foreign-totals_are_none office s).owners j.small owner period band d h ∙ sym ((foreign-totals_are_none office old.records).owners j.of_office owner period band d h)
+          ]
+          | inr g ↦ (foreign-totals_are_none office s).bands o.band owner period band d g ∙ sym ((foreign-totals_are_none office old.records).bands o.band owner period band d g)
         ]
-        | inr g ↦ (foreign-totals_are_none office s).bands o.band owner b d g ∙ sym ((foreign-totals_are_none office old.records).bands o.band owner b d g)
+        | inr g ↦ (foreign-totals_are_none office s).periods o.period owner period band d g ∙ sym ((foreign-totals_are_none office old.records).periods o.period owner period band d g)
       ]
 
       total : (l : TotalKey) → new.total l ≡ total_among office old.records l
       total (TopUps a) =
           m.elsewhere (TopUps a) (λ i. let r = of-owners office (TopUps a) i in let z : 0 ≡ 1 = r.0 in absurd (omega (arith, z)))
           ∙ j.still.totals (TopUps a) ∙ sym (t a.0)
-      total (Energy owner b d) = elim (cases_lt b.0 office.bands) [
-        | inl l ↦ elim (owner-known office owner) [
-          | inl h ↦ m.energies (Energy owner b d) (in-office office owner b d h l) (j.still.totals (Energy owner b d)) (total-fits office old.records o j.of_office j.few (Energy owner b d))
-          | inr h ↦ (
-              let n : OfOwners office.bands office.accounts (Energy owner b d) → ⊥ = λ i. h (of-owners office (Energy owner b d) i).2 in
-              m.elsewhere (Energy owner b d) n ∙ j.still.totals (Energy owner b d) ∙ energy-other owner b d n)
-        ]
-        | inr g ↦ (
-            let n : OfOwners office.bands office.accounts (Energy owner b d) → ⊥ = λ i. let l = (of-owners office (Energy owner b d) i).1 in absurd (omega (arith, l, g)) in
-            m.elsewhere (Energy owner b d) n ∙ j.still.totals (Energy owner b d) ∙ energy-other owner b d n)
+      total (Energy owner period band d) = elim (energy-known office owner period band d) [
+        | inl i ↦ m.energies (Energy owner period band d) i (j.still.totals (Energy owner period band d)) (total-fits office old.records o j.of_office j.few (Energy owner period band d))
+        | inr n ↦ m.elsewhere (Energy owner period band d) n ∙ j.still.totals (Energy owner period band d) ∙ energy-other owner period band d n
       ]
 
   -- where the same counts, all is true as it is
@@ -123,7 +135,7 @@ module _ (office : OfficeRules) (o : IsOffice office) (s : List Entry) (k : Key)
   same-true p q t = record { points = j.still.points ∙ p; starts = j.still.starts ∙ q; totals = λ l. j.still.totals l ∙ total l }
     where
       total : (l : TotalKey) → total_among office s l ≡ total_among office old.records l
-      total (Energy owner b d) = energy-alike office (contents_at s) (contents_at old.records) d (of_band office owner b.0) p q
+      total (Energy owner period band d) = energy-alike office (contents_at s) (contents_at old.records) d (of_class office owner period.0 band.0) p q
       total (TopUps a) = sym (t a.0)
 
 -- ---- a reading
@@ -277,7 +289,7 @@ none-of true = refl
 none-of false = refl
 
 abbrev account-in : TotalKey → ℕ
-account-in (Energy o b d) = 0
+account-in (Energy o p b d) = 0
 account-in (TopUps a) = a.0
 
 -- what counts for an account, of what is paid
@@ -308,8 +320,8 @@ module _ (office : OfficeRules) (o : IsOffice office) (s : List Entry) (r : List
   starts-stay : start (contents_at s) ≡ start (contents_at old.records)
   starts-stay = λ i m t. j.starts m t (λ p. cc) i
 
-  energy-stays : (q : Option AccountId) (b : BandId) (d : Direction) → total_among office s (Energy q b d) ≡ total_among office old.records (Energy q b d)
-  energy-stays q b d = energy-alike office (contents_at s) (contents_at old.records) d (of_band office q b.0) points-stay starts-stay
+  energy-stays : (q : Option AccountId) (p : PeriodId) (b : BandId) (d : Direction) → total_among office s (Energy q p b d) ≡ total_among office old.records (Energy q p b d)
+  energy-stays q p b d = energy-alike office (contents_at s) (contents_at old.records) d (of_class office q p.0 b.0) points-stay starts-stay
 
   -- top-ups change by what counts
   paid-more : (a : ℕ) → topped_up old.records a + cents_paid a (paid_of before) ≡ topped_up s a + cents_paid a (paid_of behind)
@@ -325,7 +337,7 @@ module _ (office : OfficeRules) (o : IsOffice office) (s : List Entry) (r : List
   }
     where
       total : (k : TotalKey) → new.total k ≡ total_among office old.records k
-      total (Energy q b d) = m.elsewhere (Energy q b d) (λ i. let e = ap is-energy i in absurd (omega (arith, e))) ∙ j.still.totals (Energy q b d) ∙ energy-stays q b d
+      total (Energy q p b d) = m.elsewhere (Energy q p b d) (λ i. let e = ap is-energy i in absurd (omega (arith, e))) ∙ j.still.totals (Energy q p b d) ∙ energy-stays q p b d
       total (TopUps x) = elim (cases_eq a.0 x.0) [
         | inl e ↦ (
             let i : TopUps x ≡ TopUps a = ap (λ n. let y : AccountId = record { 0 = n } in TopUps y) (sym e) in

@@ -11,6 +11,7 @@ use Rattle.std.proofs.lemmas.Cmp.{tied_itself}
 use Rattle.std.proofs.lemmas.Nat.{mul-add-lt, row_fits}
 use Rattle.pw_tariff.specs.declared.ids.AccountId.{AccountId}
 use Rattle.pw_tariff.specs.declared.ids.BandId.{BandId}
+use Rattle.pw_tariff.specs.declared.ids.PeriodId.{PeriodId}
 use Rattle.pw_tariff.specs.declared.ids.Direction.{Direction}
 use Rattle.pw_tariff.specs.declared.ids.Direction.TheVariants.{Import, Export}
 use Rattle.pw_tariff.specs.Cells.{owner_place}
@@ -87,13 +88,13 @@ unfolding IsStrictlySortedBy
 first-apart rows e rest r = behind-apart e.0 rest r.rises.0
 
 -- ---- totals that are moved so far: those of the office of which no change is still to come
-abbrev pub Moved : ℕ → ℕ → List (TotalKey × Change) → TotalKey → Type 0
-Moved bands accounts rest k = OfOwners bands accounts k × IsApart k rest
+abbrev pub Moved : ℕ → ℕ → ℕ → List (TotalKey × Change) → TotalKey → Type 0
+Moved periods bands accounts rest k = OfOwners periods bands accounts k × IsApart k rest
 
-pub walk-begins : (bands accounts : ℕ) (more less : Side) (rows : BTreeMap TotalKey Change) (rest : List (TotalKey × Change)) (c d : ShelfContent) → d ≡ c → rest ≡ rows.entries →
-    MovesTotals (Moved bands accounts rest) (gathered more rows) (gathered less rows) c d
-walk-begins bands accounts more less rows rest c d q e =
-    moves-none (Moved bands accounts rest) (gathered more rows) (gathered less rows) c d q (λ k t. (
+pub walk-begins : (periods bands accounts : ℕ) (more less : Side) (rows : BTreeMap TotalKey Change) (rest : List (TotalKey × Change)) (c d : ShelfContent) → d ≡ c → rest ≡ rows.entries →
+    MovesTotals (Moved periods bands accounts rest) (gathered more rows) (gathered less rows) c d
+walk-begins periods bands accounts more less rows rest c d q e =
+    moves-none (Moved periods bands accounts rest) (gathered more rows) (gathered less rows) c d q (λ k t. (
     let P : List (TotalKey × Change) → Type 0 = λ es. IsApart k es in
     let a : IsApart k rows.entries = subst P e t.1 in
     let x = none-gathered more rows k a in
@@ -101,48 +102,48 @@ walk-begins bands accounts more less rows rest c d q e =
     omega (arith, x, y)))
 
 -- one that is of the office
-pub walk-moves : (bands accounts : ℕ) (more less : Side) (rows : BTreeMap TotalKey Change) (e : TotalKey × Change) (rest : List (TotalKey × Change)) (a b : ℕ) (was mid now : ShelfContent) → IsRest rows (e ∷ rest) → OfOwners bands accounts e.0 →
+pub walk-moves : (periods bands accounts : ℕ) (more less : Side) (rows : BTreeMap TotalKey Change) (e : TotalKey × Change) (rest : List (TotalKey × Change)) (a b : ℕ) (was mid now : ShelfContent) → IsRest rows (e ∷ rest) → OfOwners periods bands accounts e.0 →
     a ≡ gathered more rows e.0 → b ≡ gathered less rows e.0 →
-    MovesTotals (Moved bands accounts (e ∷ rest)) (gathered more rows) (gathered less rows) was mid → MovesTotals (λ k. k ≡ e.0) (λ k. a) (λ k. b) mid now →
-    MovesTotals (Moved bands accounts rest) (gathered more rows) (gathered less rows) was now
-walk-moves bands accounts more less rows e rest a b was mid now r o p q f g =
-    moves-told (λ k. Moved bands accounts (e ∷ rest) k ⊎ (k ≡ e.0)) (Moved bands accounts rest) (gathered more rows) (gathered less rows) was now
+    MovesTotals (Moved periods bands accounts (e ∷ rest)) (gathered more rows) (gathered less rows) was mid → MovesTotals (λ k. k ≡ e.0) (λ k. a) (λ k. b) mid now →
+    MovesTotals (Moved periods bands accounts rest) (gathered more rows) (gathered less rows) was now
+walk-moves periods bands accounts more less rows e rest a b was mid now r o p q f g =
+    moves-told (λ k. Moved periods bands accounts (e ∷ rest) k ⊎ (k ≡ e.0)) (Moved periods bands accounts rest) (gathered more rows) (gathered less rows) was now
     (λ k. (
       λ t. elim t [
         | inl i ↦ (i.0, i.1.1)
-        | inr j ↦ (let P : TotalKey → Type 0 = Moved bands accounts rest in subst P (sym j) (o, first-apart rows e rest r))
+        | inr j ↦ (let P : TotalKey → Type 0 = Moved periods bands accounts rest in subst P (sym j) (o, first-apart rows e rest r))
       ],
       λ t. elim (cases_Bool (same_total e.0 k)) [
         | inl y ↦ inr (sym ((same_total-decides e.0 k).0 y))
         | inr n ↦ inl (t.0, ((λ j. true≢false (sym ((same_total-decides e.0 k).1 j) ∙ n)), t.1))
       ],
     ))
-    (moves-then (Moved bands accounts (e ∷ rest)) (λ k. k ≡ e.0) (gathered more rows) (gathered less rows) was mid now
+    (moves-then (Moved periods bands accounts (e ∷ rest)) (λ k. k ≡ e.0) (gathered more rows) (gathered less rows) was mid now
     (λ k i j. i.1.0 (sym j))
     f (moves-at e.0 (gathered more rows) (gathered less rows) a b mid now p q g))
 
 -- one that isn't is passed over
-pub walk-passes : (bands accounts : ℕ) (more less : Side) (rows : BTreeMap TotalKey Change) (e : TotalKey × Change) (rest : List (TotalKey × Change)) (was now : ShelfContent) → (OfOwners bands accounts e.0 → ⊥) →
-    MovesTotals (Moved bands accounts (e ∷ rest)) (gathered more rows) (gathered less rows) was now → MovesTotals (Moved bands accounts rest) (gathered more rows) (gathered less rows) was now
-walk-passes bands accounts more less rows e rest was now n f =
-    moves-told (Moved bands accounts (e ∷ rest)) (Moved bands accounts rest) (gathered more rows) (gathered less rows) was now
+pub walk-passes : (periods bands accounts : ℕ) (more less : Side) (rows : BTreeMap TotalKey Change) (e : TotalKey × Change) (rest : List (TotalKey × Change)) (was now : ShelfContent) → (OfOwners periods bands accounts e.0 → ⊥) →
+    MovesTotals (Moved periods bands accounts (e ∷ rest)) (gathered more rows) (gathered less rows) was now → MovesTotals (Moved periods bands accounts rest) (gathered more rows) (gathered less rows) was now
+walk-passes periods bands accounts more less rows e rest was now n f =
+    moves-told (Moved periods bands accounts (e ∷ rest)) (Moved periods bands accounts rest) (gathered more rows) (gathered less rows) was now
     (λ k. (
       λ t. (t.0, t.1.1),
-      λ t. (t.0, ((λ j. n (let P : TotalKey → Type 0 = OfOwners bands accounts in subst P (sym j) t.0)), t.1)),
+      λ t. (t.0, ((λ j. n (let P : TotalKey → Type 0 = OfOwners periods bands accounts in subst P (sym j) t.0)), t.1)),
     ))
     f
 
-pub walk-ends : (bands accounts : ℕ) (more less : TotalKey → ℕ) (rest : List (TotalKey × Change)) (was now : ShelfContent) → rest ≡ [] →
-    MovesTotals (Moved bands accounts rest) more less was now → MovesTotals (OfOwners bands accounts) more less was now
-walk-ends bands accounts more less rest was now e f =
-    moves-told (Moved bands accounts rest) (OfOwners bands accounts) more less was now
+pub walk-ends : (periods bands accounts : ℕ) (more less : TotalKey → ℕ) (rest : List (TotalKey × Change)) (was now : ShelfContent) → rest ≡ [] →
+    MovesTotals (Moved periods bands accounts rest) more less was now → MovesTotals (OfOwners periods bands accounts) more less was now
+walk-ends periods bands accounts more less rest was now e f =
+    moves-told (Moved periods bands accounts rest) (OfOwners periods bands accounts) more less was now
     (λ k. (λ t. t.0, λ t. (t, (let P : List (TotalKey × Change) → Type 0 = λ es. IsApart k es in subst P (sym e) tt)))) f
 
 -- ---- how many calls and rows
 -- the place of an energy of the office among all of them
-abbrev pub place : ℕ → TotalKey → ℕ
-place bands (Energy o b d) = (owner_place o * bands + b.0) * 2 + direction_place d
-place bands (TopUps a) = 0
+abbrev pub place : ℕ → ℕ → TotalKey → ℕ
+place periods bands (Energy o p b d) = ((owner_place o * periods + p.0) * bands + b.0) * 2 + direction_place d
+place periods bands (TopUps a) = 0
 
 then-less : (o p : Ordering) → ordering_then o p ≡ Less → (o ≡ Less) ⊎ ((o ≡ Equal) × (p ≡ Less))
 then-less Less p h = inl refl
@@ -153,25 +154,43 @@ one-of_two : (d : Direction) → direction_place d ≤ 1
 one-of_two Import = omega arith
 one-of_two Export = omega arith
 
+-- a place in a later row, or behind another in its row
+row-rises : (n a b x y : ℕ) → x < n → (a < b) ⊎ ((a ≡ b) × (x < y)) → a * n + x < b * n + y
+row-rises n a b x y l (inl h) = let z = row_fits a n b n h (omega arith) in omega (arith, l, z)
+row-rises n a b x y l (inr h) = let z : a * n ≡ b * n = ap (λ (m : ℕ). m * n) h.0 in let w = h.1 in omega (arith, z, w)
+
 -- energies are placed in their order
-place-rises : (bands : ℕ) (o p : Option AccountId) (b c : BandId) (d e : Direction) → b.0 < bands → c.0 < bands → total_order (Energy o b d) (Energy p c e) ≡ Less → place bands (Energy o b d) < place bands (Energy p c e)
+place-rises : (periods bands : ℕ) (o q : Option AccountId) (p r : PeriodId) (b c : BandId) (d e : Direction) → p.0 < periods → b.0 < bands → total_order (Energy o p b d) (Energy q r c e) ≡ Less →
+    place periods bands (Energy o p b d) < place periods bands (Energy q r c e)
 unfolding total_numbers
-place-rises bands o p b c d e l m h =
+place-rises periods bands o q p r b c d e l m h =
     let x = one-of_two d in
-    let y = one-of_two e in
-    elim (then-less (nat_cmp (owner_place o) (owner_place p)) _ h) [
+    elim (then-less (nat_cmp (owner_place o) (owner_place q)) _ h) [
       | inl i ↦ (
-          let z = row_fits (owner_place o) bands (owner_place p) bands (less-is (owner_place o) (owner_place p) i) (omega arith) in
-          omega (arith, l, m, x, y, z))
+          let y = row-rises periods (owner_place o) (owner_place q) p.0 r.0 l (inl (less-is (owner_place o) (owner_place q) i)) in
+          let z = row-rises bands (owner_place o * periods + p.0) (owner_place q * periods + r.0) b.0 c.0 m (inl y) in
+          omega (arith, x, z))
       | inr i ↦ (
-          let q : owner_place o * bands ≡ owner_place p * bands = ap (λ (n : ℕ). n * bands) (nat_cmp-IsAntisymmetric (owner_place o) (owner_place p) i.0) in
-          elim (then-less (nat_cmp b.0 c.0) _ i.1) [
-            | inl j ↦ (let k = less-is b.0 c.0 j in omega (arith, q, k, x, y))
+          let u : owner_place o ≡ owner_place q = nat_cmp-IsAntisymmetric (owner_place o) (owner_place q) i.0 in
+          elim (then-less (nat_cmp p.0 r.0) _ i.1) [
+            | inl j ↦ (
+                let y = row-rises periods (owner_place o) (owner_place q) p.0 r.0 l (inr (u, less-is p.0 r.0 j)) in
+                let z = row-rises bands (owner_place o * periods + p.0) (owner_place q * periods + r.0) b.0 c.0 m (inl y) in
+                omega (arith, x, z))
             | inr j ↦ (
-                let k : b.0 ≡ c.0 = nat_cmp-IsAntisymmetric b.0 c.0 j.0 in
-                elim (then-less (nat_cmp (direction_place d) (direction_place e)) _ j.1) [
-                  | inl n ↦ (let v = less-is (direction_place d) (direction_place e) n in omega (arith, q, k, v))
-                  | inr n ↦ absurd (let w : Equal ≡ Less = n.1 in cc)
+                let v : p.0 ≡ r.0 = nat_cmp-IsAntisymmetric p.0 r.0 j.0 in
+                let w : owner_place o * periods + p.0 ≡ owner_place q * periods + r.0 = λ t. u t * periods + v t in
+                elim (then-less (nat_cmp b.0 c.0) _ j.1) [
+                  | inl k ↦ (
+                      let z = row-rises bands (owner_place o * periods + p.0) (owner_place q * periods + r.0) b.0 c.0 m (inr (w, less-is b.0 c.0 k)) in
+                      omega (arith, x, z))
+                  | inr k ↦ (
+                      let f : b.0 ≡ c.0 = nat_cmp-IsAntisymmetric b.0 c.0 k.0 in
+                      let z : (owner_place o * periods + p.0) * bands + b.0 ≡ (owner_place q * periods + r.0) * bands + c.0 = λ t. w t * bands + f t in
+                      elim (then-less (nat_cmp (direction_place d) (direction_place e)) _ k.1) [
+                        | inl n ↦ (let g = less-is (direction_place d) (direction_place e) n in omega (arith, z, g))
+                        | inr n ↦ absurd (let g : Equal ≡ Less = n.1 in cc)
+                      ])
                 ])
           ])
     ]
@@ -180,31 +199,33 @@ owner-within : (office : OfficeRules) (o : Option AccountId) → HasOwner office
 owner-within office None h = omega arith
 owner-within office (Some a) h = omega (arith, h)
 
-pub place-within : (office : OfficeRules) (k : TotalKey) → OfOwners office.bands office.accounts k → place office.bands k < 2 * classes_of office
+pub place-within : (office : OfficeRules) (k : TotalKey) → OfOwners office.periods office.bands office.accounts k → place office.periods office.bands k < 2 * classes_of office
 place-within office (TopUps a) h = absurd (let z : 0 ≡ 1 = (of-owners office (TopUps a) h).0 in omega (arith, z))
-place-within office (Energy o b d) h =
-    let i = of-owners office (Energy o b d) h in
-    let w = mul-add-lt (owner_place o) office.bands b.0 (office.accounts + 1) (owner-within office o i.2) i.1 in
+place-within office (Energy o p b d) h =
+    let i = of-owners office (Energy o p b d) h in
+    let y = mul-add-lt (owner_place o) office.periods p.0 (office.accounts + 1) (owner-within office o i.3) i.1 in
+    let z = mul-add-lt (owner_place o * office.periods + p.0) office.bands b.0 (office.periods * (office.accounts + 1)) y i.2 in
     let x = one-of_two d in
-    omega (arith, w, x)
+    omega (arith, z, x)
 
 -- calls and rows so far: three for each place that was passed
 pub record HasTaken (office : OfficeRules) (rest : List (TotalKey × Change)) (was now : ℕ) : Type 0 where
   pub far : ℕ
   pub taken : now ≤ was + 3 * far
   pub within : far ≤ 2 * classes_of office
-  pub ahead : (e : TotalKey × Change) → Member e rest → OfOwners office.bands office.accounts e.0 → far ≤ place office.bands e.0
+  pub ahead : (e : TotalKey × Change) → Member e rest → OfOwners office.periods office.bands office.accounts e.0 → far ≤ place office.periods office.bands e.0
 
 pub taken-none : (office : OfficeRules) (rest : List (TotalKey × Change)) (was now : ℕ) → now ≤ was → HasTaken office rest was now
 taken-none office rest was now l = record { far = 0; taken = omega (arith, l); within = omega arith; ahead = λ e m o. omega arith }
 
-energy-behind : (office : OfficeRules) (k l : TotalKey) → OfOwners office.bands office.accounts k → OfOwners office.bands office.accounts l → total_key_order k l ≡ Less → place office.bands k < place office.bands l
+energy-behind : (office : OfficeRules) (k l : TotalKey) → OfOwners office.periods office.bands office.accounts k → OfOwners office.periods office.bands office.accounts l → total_key_order k l ≡ Less → place office.periods office.bands k < place office.periods office.bands l
 energy-behind office (TopUps a) l h i o = absurd (let z : 0 ≡ 1 = (of-owners office (TopUps a) h).0 in omega (arith, z))
-energy-behind office (Energy p b d) (TopUps a) h i o = absurd (let z : 0 ≡ 1 = (of-owners office (TopUps a) i).0 in omega (arith, z))
-energy-behind office (Energy p b d) (Energy q c e) h i o =
-    place-rises office.bands p q b c d e (of-owners office (Energy p b d) h).1 (of-owners office (Energy q c e) i).1 (sym (totals-ordered (Energy p b d) (Energy q c e)) ∙ o)
+energy-behind office (Energy q p b d) (TopUps a) h i o = absurd (let z : 0 ≡ 1 = (of-owners office (TopUps a) i).0 in omega (arith, z))
+energy-behind office (Energy q p b d) (Energy s r c e) h i o =
+    let f = of-owners office (Energy q p b d) h in
+    place-rises office.periods office.bands q s p r b c d e f.1 f.2 (sym (totals-ordered (Energy q p b d) (Energy s r c e)) ∙ o)
 
-pub taken-more : (office : OfficeRules) (rows : BTreeMap TotalKey Change) (e : TotalKey × Change) (rest : List (TotalKey × Change)) (was mid now : ℕ) → IsRest rows (e ∷ rest) → OfOwners office.bands office.accounts e.0 →
+pub taken-more : (office : OfficeRules) (rows : BTreeMap TotalKey Change) (e : TotalKey × Change) (rest : List (TotalKey × Change)) (was mid now : ℕ) → IsRest rows (e ∷ rest) → OfOwners office.periods office.bands office.accounts e.0 →
     HasTaken office (e ∷ rest) was mid → now ≤ mid + 3 → HasTaken office rest was now
 unfolding IsStrictlySortedBy
 taken-more office rows e rest was mid now r o t l =
@@ -212,7 +233,7 @@ taken-more office rows e rest was mid now r o t l =
     let b = t.taken in
     let c = place-within office e.0 o in
     record {
-      far = place office.bands e.0 + 1;
+      far = place office.periods office.bands e.0 + 1;
       taken = omega (arith, a, b, l);
       within = omega (arith, c);
       ahead = λ f m p. (let q = energy-behind office e.0 f.0 o p (all-key (λ y. total_key_order e.0 y ≡ Less) rest f r.rises.0 m) in omega (arith, q));

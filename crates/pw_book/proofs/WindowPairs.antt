@@ -11,7 +11,7 @@ use Rattle.pw_flow.proofs.Pairs.{energy-pairs}
 use Rattle.pw_flow.proofs.Points.{option-cases}
 use Rattle.pw_tariff.specs.declared.ids.AccountId.{AccountId}
 use Rattle.pw_tariff.specs.declared.ids.Direction.{Direction}
-use Rattle.pw_tariff.specs.Office.{OfficeFile, OfficeRules, band_at, counts_at, office_of}
+use Rattle.pw_tariff.specs.Office.{OfficeFile, OfficeRules, band_at, counts_at, office_of, period_at}
 use Rattle.pw_tariff.specs.Owners.{owner_by_starts, same_owner}
 use Rattle.pw_tariff.specs.Shares.{class_seconds}
 use Rattle.pw_model.specs.declared.records.Key.{Key}
@@ -20,7 +20,7 @@ use Rattle.pw_model.specs.declared.records.TotalKey.{TotalKey}
 use Rattle.pw_model.specs.declared.records.TotalKey.TheVariants.{Energy, TopUps}
 use Rattle.pw_model.specs.Changes.{IsOtherStart, TakesIn}
 use Rattle.pw_model.specs.Counting.{Member, point, start}
-use Rattle.pw_model.specs.Energy.{Asked, asked_seconds, of_band, owner_at}
+use Rattle.pw_model.specs.Energy.{Asked, asked_seconds, of_class, owner_at}
 use Rattle.pw_model.specs.Lists.{IsInOrder}
 use Rattle.pw_model.specs.Same.{direction_of, same_direction}
 use Rattle.pw_model.specs.Shelf.{ShelfContent}
@@ -203,22 +203,22 @@ taken-changes office old new m z r asked (a ∷ ps) o e t =
     other-window office old new m z o r asked a ps t (e (last_of a ps).0 (last_of a ps).1 (chain-last (point old m r) a ps t.chain))
 
 -- ---- by totals
-seconds-alike : (file : OfficeFile) (owners : List (ℕ × Option AccountId)) (at : Key → Contents) (m : ℕ) (owner : Option AccountId) (band : ℕ) → ((t : ℕ) → owner_by_starts owners t ≡ owner_at at m t) →
-    class_seconds file owners owner band ≡ asked_seconds at (of_band (office_of file) owner band) m
-seconds-alike file owners at m owner band h = λ i t. (same_owner (h t i) owner && (band_at file t == band))
+seconds-alike : (file : OfficeFile) (owners : List (ℕ × Option AccountId)) (at : Key → Contents) (m : ℕ) (owner : Option AccountId) (period band : ℕ) → ((t : ℕ) → owner_by_starts owners t ≡ owner_at at m t) →
+    class_seconds file owners owner period band ≡ asked_seconds at (of_class (office_of file) owner period band) m
+seconds-alike file owners at m owner period band h = λ i t. (same_owner (h t i) owner && ((period_at file t == period) && (band_at file t == band)))
 
 -- what a register that counts gains and loses
 pub register-moved : (file : OfficeFile) (c : ShelfContent) (was is : Key → Contents) (m z until : ℕ) (owners others : List (ℕ × Option AccountId)) (r : Register) (ps : List (ℕ × ℕ)) → counts_at file m r ≡ true →
     IsStartChanged c was is m z until owners others → IsTaken was m r z ps → (k : TotalKey) →
     pairs_for file others (direction_of r) ps k + register_told (office_of file) was m k r ≡ pairs_for file owners (direction_of r) ps k + register_told (office_of file) is m k r
 register-moved file c was is m z until owners others r ps y h t (TopUps a) = refl
-register-moved file c was is m z until owners others r ps y h t (Energy o b e) = elim (cases_Bool (same_direction (direction_of r) e)) [
+register-moved file c was is m z until owners others r ps y h t (Energy o p b e) = elim (cases_Bool (same_direction (direction_of r) e)) [
   | inl d ↦ (
-      let asked : Asked = of_band (office_of file) o b.0 in
-      let p : pairs_sum (class_seconds file owners o b.0) ps ≡ pairs_sum (asked_seconds was asked m) ps = ap (λ (s : ℕ → Bool). pairs_sum s ps) (seconds-alike file owners was m o b.0 h.before) in
-      let q : pairs_sum (class_seconds file others o b.0) ps ≡ pairs_sum (asked_seconds is asked m) ps = ap (λ (s : ℕ → Bool). pairs_sum s ps) (seconds-alike file others is m o b.0 h.after) in
+      let asked : Asked = of_class (office_of file) o p.0 b.0 in
+      let u : pairs_sum (class_seconds file owners o p.0 b.0) ps ≡ pairs_sum (asked_seconds was asked m) ps = ap (λ (s : ℕ → Bool). pairs_sum s ps) (seconds-alike file owners was m o p.0 b.0 h.before) in
+      let v : pairs_sum (class_seconds file others o p.0 b.0) ps ≡ pairs_sum (asked_seconds is asked m) ps = ap (λ (s : ℕ → Bool). pairs_sum s ps) (seconds-alike file others is m o p.0 b.0 h.after) in
       let s = taken-changes (office_of file) was is m z r asked ps h.other (h.ended r) t in
-      rw (d, y) (omega (arith, p, q, s)))
+      rw (d, y) (omega (arith, u, v, s)))
   | inr n ↦ rw n refl
 ]
 

@@ -1,5 +1,5 @@
 -- Whether a record is withdrawn, by what is told at the key of its withdrawal.
-use Rattle.std.proofs.Common.{◌≡◌, true, false, Some, None, List, refl, sym, ◌∙◌, subst}
+use Rattle.std.proofs.Common.{◌≡◌, true, Some, None, List, refl, sym, ◌∙◌, subst}
 use Rattle.std.proofs.lemmas.Bool.{true≢false}
 use Rattle.std.specs.Cmp.{both_ways}
 use Rattle.pw_model.specs.declared.records.Key.{Key}

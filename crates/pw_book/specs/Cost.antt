@@ -16,9 +16,9 @@ use Rattle.pw_model.specs.Lists.{IsInOrder, record_count}
 use Rattle.pw_model.specs.Shelf.{ShelfContent}
 use Rattle.pw_model.specs.Seconds.{ListsSeconds, by_second}
 
--- the totals of energy of a direction: one for each band, of nobody and of each account
+-- the totals of energy of a direction: one for each period and band, of nobody and of each account
 abbrev pub classes_of : OfficeRules → ℕ
-classes_of office = office.bands * (office.accounts + 1)
+classes_of office = office.periods * office.bands * (office.accounts + 1)
 
 -- a meter has so many counting starts at most
 abbrev pub HasStarts : ShelfContent → ℕ → ℕ → Type 0

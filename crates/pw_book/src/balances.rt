@@ -6,14 +6,15 @@ ghost use Rattle.pw_model.specs.Energy.{cost as cost_of};
 ghost use Rattle.pw_model.specs.Office.{AllOfOffice, most_records};
 ghost use Rattle.pw_model.specs.Payments.{balance as balance_of};
 ghost use Rattle.pw_model.specs.Shelf.{IsTrueContent};
+ghost use Rattle.pw_model.specs.inner.Tariff.{period_cost};
 ghost use Rattle.pw_shelf.specs.Calls.{failures_told};
-ghost use Rattle.pw_tariff.specs.Office.{office_of};
+ghost use Rattle.pw_tariff.specs.Office.{office_of, periods_in};
 ghost use Rattle.pw_book.specs.Asking.{IsOnlyAsked};
 
 use crate::asked::total_held;
 use pw_model::{NANO_IN_CENT, TotalKey};
 use pw_shelf::{Shelf, ShelfFault};
-use pw_tariff::{AccountId, BandId, Direction, Office};
+use pw_tariff::{AccountId, BandId, Direction, Office, PeriodId};
 
 // The balance of an account, in nano-euro: what was topped up, less what its imported energy costs, plus what its exported
 // energy does.
@@ -27,7 +28,7 @@ pub(crate) fn balance_held<S: Shelf>(
     requires of_office { S.clean shelf.old → AllOfOffice (office_of office.now) (S.state shelf.old).content.records }
     requires truth { S.clean shelf.old → IsTrueContent (office_of office.now) (S.state shelf.old).content }
     ensures balance { S.clean shelf.new → IfOk result (λ nano. nano ≡ balance_of (office_of office.now) (S.state shelf.old).content.records account.0) }
-    ensures tally { (S.state shelf.new).tally ≤ (S.state shelf.old).tally + 2 * (2 * length office.now.bands + 1) }
+    ensures tally { (S.state shelf.new).tally ≤ (S.state shelf.old).tally + 2 * (2 * (periods_in office.now * length office.now.bands) + 1) }
     ensures asked { IsOnlyAsked S.Shelf (failures_told result) shelf.old shelf.new }
 {
     let imported = cost_held(shelf, office, account, Direction::Import)?;
@@ -57,6 +58,30 @@ fn cost_held<S: Shelf>(
     requires truth { S.clean shelf.old → IsTrueContent (office_of office.now) (S.state shelf.old).content }
     ensures cost { S.clean shelf.new → IfOk result (λ nano. nano ≡ cost_of (office_of office.now) (held_at (S.state shelf.old).content.records) (Some account) direction) }
     ensures bound { IfOk result (λ nano. nano < 2 ^ 120) }
+    ensures tally { (S.state shelf.new).tally ≤ (S.state shelf.old).tally + 2 * (periods_in office.now * length office.now.bands) }
+    ensures asked { IsOnlyAsked S.Shelf (failures_told result) shelf.old shelf.new }
+{
+    let mut nano: u128 = 0;
+    for period in 0..office.periods() {
+        let part = cost_in_period(shelf, office, account, PeriodId(period), direction)?;
+        nano += part;
+    }
+    Ok(nano)
+}
+
+// What it costs within one period, in nano-euro.
+fn cost_in_period<S: Shelf>(
+    shelf: &mut S,
+    office: &Office,
+    account: AccountId,
+    period: PeriodId,
+    direction: Direction,
+) -> Result<u128, ShelfFault>
+    requires idle { IsNone (S.state shelf.old).begun }
+    requires period { period.0 < periods_in office.now }
+    requires truth { S.clean shelf.old → IsTrueContent (office_of office.now) (S.state shelf.old).content }
+    ensures cost { S.clean shelf.new → IfOk result (λ nano. nano ≡ period_cost (office_of office.now) (held_at (S.state shelf.old).content.records) (Some account) period.0 direction) }
+    ensures bound { IfOk result (λ nano. nano < 2 ^ 104) }
     ensures tally { (S.state shelf.new).tally ≤ (S.state shelf.old).tally + 2 * length office.now.bands }
     ensures asked { IsOnlyAsked S.Shelf (failures_told result) shelf.old shelf.new }
 {
@@ -64,11 +89,12 @@ fn cost_held<S: Shelf>(
     for band in 0..office.bands() {
         let key = TotalKey::Energy {
             owner: Some(account),
+            period,
             band: BandId(band),
             direction,
         };
         let wh = total_held(shelf, &key)?;
-        nano += price_of(wh, office.price(BandId(band), direction));
+        nano += price_of(wh, office.price(period, BandId(band), direction));
     }
     Ok(nano)
 }

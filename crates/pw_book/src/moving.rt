@@ -4,7 +4,7 @@ ghost use Rattle.std.specs.Prelude.{◌≡◌, ℕ, ◌+◌, ◌*◌, ◌<◌, �
 ghost use Rattle.pw_model.specs.declared.records.TotalKey.{TotalKey as AnyTotal};
 ghost use Rattle.pw_model.specs.Office.{HasOwner};
 ghost use Rattle.pw_shelf.specs.Calls.{GoesOn, failures_told};
-ghost use Rattle.pw_tariff.specs.Office.{office_of};
+ghost use Rattle.pw_tariff.specs.Office.{office_of, periods_in};
 ghost use Rattle.pw_book.specs.Cost.{classes_of};
 ghost use Rattle.pw_parts.specs.declared.changes.Side.{Side as ASide};
 ghost use Rattle.pw_book.specs.inner.Moves.{MovesTotals, OfOwners, most_total};
@@ -14,7 +14,7 @@ use pw_model::{MOST_RECORDS, TotalKey};
 use pw_obis::LARGEST_WATT_HOURS;
 use pw_parts::{Changes, Side};
 use pw_shelf::{Shelf, ShelfFault};
-use pw_tariff::{Office, Owner};
+use pw_tariff::{BandId, Office, Owner, PeriodId};
 
 // The greatest amount of a total: that of 10,000,000 records of the largest reading.
 const MOST_TOTAL: u64 = MOST_RECORDS as u64 * LARGEST_WATT_HOURS;
@@ -60,20 +60,30 @@ fn is_owner_of(office: &Office, owner: Owner) -> bool
     }
 }
 
+// Whether an office has this owner, this period and this band.
+fn has_class(office: &Office, owner: Owner, period: PeriodId, band: BandId) -> bool
+    ensures { IsTrue result ↔ (HasOwner (office_of office.now) owner × (period.0 < periods_in office.now) × (band.0 < length office.now.bands)) }
+{
+    is_owner_of(office, owner) && period.0 < office.periods() && band.0 < office.bands()
+}
+
 // Whether a total is an energy of the office.
 fn is_energy_of(office: &Office, key: &TotalKey) -> bool
-    ensures { IsTrue result ↔ OfOwners (length office.now.bands) (length office.now.accounts) key.now }
+    ensures { IsTrue result ↔ OfOwners (periods_in office.now) (length office.now.bands) (length office.now.accounts) key.now }
 {
     match key {
-        TotalKey::Energy { owner, band, .. } => {
-            band.0 < office.bands() && is_owner_of(office, *owner)
-        }
+        TotalKey::Energy {
+            owner,
+            period,
+            band,
+            ..
+        } => has_class(office, *owner, *period, *band),
         TotalKey::TopUps { .. } => false,
     }
 }
 
 // Changes the energies that are gathered: each loses what is gathered on one side, and gains what is gathered on the
-// other. (A store alone that isn't clean names owners that the office doesn't have; their energies stay as they are.)
+// other. (A store alone that isn't clean names what the office doesn't have; such energies stay as they are.)
 pub(crate) fn move_energies<S: Shelf>(
     shelf: &mut S,
     office: &Office,
@@ -82,7 +92,7 @@ pub(crate) fn move_energies<S: Shelf>(
 ) -> Result<(), ShelfFault>
     requires begun { IsSome (S.state shelf.old).begun }
     requires few { (side : ASide) (k : AnyTotal) → gathered side changes.now.rows k < 2 ^ 127 }
-    ensures moved { S.clean shelf.new → OnOk result (MovesTotals (OfOwners (length office.now.bands) (length office.now.accounts)) (gathered (other_side taken) changes.now.rows) (gathered taken changes.now.rows) (S.state shelf.old).content (S.state shelf.new).content) }
+    ensures moved { S.clean shelf.new → OnOk result (MovesTotals (OfOwners (periods_in office.now) (length office.now.bands) (length office.now.accounts)) (gathered (other_side taken) changes.now.rows) (gathered taken changes.now.rows) (S.state shelf.old).content (S.state shelf.new).content) }
     ensures tally { (S.state shelf.new).tally ≤ (S.state shelf.old).tally + 6 * classes_of (office_of office.now) }
     ensures kept { GoesOn S.state S.left S.clean S.same_store (failures_told result) shelf.old shelf.new }
 {

@@ -33,7 +33,7 @@ module _ (text : List ℕ) (office : OfficeFile) (is : IsOfficeOf text office) (
   }
 
   -- opened again, it holds that
-  pub holds-whole : {X E : Type 0} (first : Database) (again : Result X E) (clean : X → Type 0) (content : X → ShelfContent) → WasHeld first before →
+  pub holds-whole : {X E : Type 0} (first : Database) (again : Result X E) (clean : X → Type 0) (content : X → ShelfContent) → WasHeld (office_of office) first before →
       IfOk again (λ x. clean x → content x ≡ content_of found.committed.trees) → IfOk again (λ x. clean x → HoldsWhole (office_of office) first uploads (content x))
   holds-whole first again clean content was h =
       IfOk-weaker again (λ x. clean x → content x ≡ content_of found.committed.trees) (λ x. clean x → HoldsWhole (office_of office) first uploads (content x))

@@ -16,9 +16,9 @@ pub record IsCrashed (s : Sql) (found : Database) : Type 0 where
   pub left : s.may_leave found.trees
 
 -- what a store held when it was opened: what its tables had, or nothing where they were made
-abbrev pub WasHeld : Database → ShelfContent → Type 0
-WasHeld found c = IsFound found c
+abbrev pub WasHeld : OfficeRules → Database → ShelfContent → Type 0
+WasHeld office found c = IsFound office found c
 
 -- beside that, whole uploads, and each that was accepted
 abbrev pub HoldsWhole : OfficeRules → Database → List Sent → ShelfContent → Type 0
-HoldsWhole office found uploads c = (before : ShelfContent) × WasHeld found before × IsLeftWhole office before.records uploads c
+HoldsWhole office found uploads c = (before : ShelfContent) × WasHeld office found before × IsLeftWhole office before.records uploads c

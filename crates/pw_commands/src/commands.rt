@@ -13,6 +13,7 @@ ghost use Rattle.pw_words.specs.declared.commands.Command.TheVariants.{Read};
 use crate::fault::Fault;
 use crate::files::{LONGEST_OFFICE, read_file};
 use crate::loading::{Target, load};
+use crate::offices::office_text;
 use crate::pipe::pipe_run;
 use crate::progress::{Follow, Progress};
 use crate::serving::serve;
@@ -118,7 +119,9 @@ fn obey<I: Read, O: Write, E: Write, W: Follow>(
     match asked {
         Command::Read { clock } => read_run(rt.alloc(), clock, input, out, err),
         Command::Pipe { office, limit } => pipe(rt, office, limit, input, out, err),
-        Command::Check { office } => finish(rt.alloc(), check(rt, office), out, err),
+        Command::Check { office, verbose } => {
+            finish(rt.alloc(), check(rt, office, verbose), out, err)
+        }
         Command::Load {
             office,
             store,
@@ -191,13 +194,12 @@ fn pipe<I: Read, O: Write, E: Write>(
     }
 }
 
-/// `office`, and how many accounts, meters and bands it has.
-fn check(rt: &HostRuntime, office: &str) -> Result<Vec<u8>, Fault> {
+// How large the office of a file is; where it is asked for, its periods too.
+fn check(rt: &HostRuntime, office: &str, verbose: bool) -> Result<Vec<u8>, Fault> {
     let text = read_file(rt, office, LONGEST_OFFICE)?;
     let office = Office::read(rt.alloc(), text.as_slice())?;
-    let (accounts, meters, bands) = (office.accounts(), office.meters(), office.bands());
-    match format!(in rt.alloc(); "office accounts {accounts} meters {meters} bands {bands}\n") {
-        Ok(line) => Ok(line.into_bytes()),
+    match office_text(rt.alloc(), &office, verbose) {
+        Ok(text) => Ok(text),
         Err(_) => Err(Fault::Memory),
     }
 }

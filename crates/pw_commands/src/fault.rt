@@ -15,7 +15,7 @@ use std::fmt;
 /// Why a command is refused.
 #[derive(Clone, Copy, Debug, Drop, PartialEq, Eq)]
 pub enum Fault {
-    /// 30 to 38, 62: the office file is refused.
+    /// 30 to 39, 62: the office file is refused.
     Office(OfficeFault),
     /// A file is longer than its kind may be.
     TooLarge,

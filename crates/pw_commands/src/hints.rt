@@ -13,7 +13,7 @@ pub fn name_unreadable<E: Write>(rt: &HostRuntime, words: &[&str], err: &mut E) 
     };
     match asked {
         Command::Read { .. } | Command::Pipe { office: None, .. } => {}
-        Command::Check { office } => name_file(rt, office, err),
+        Command::Check { office, .. } => name_file(rt, office, err),
         Command::Pipe {
             office: Some(office),
             ..

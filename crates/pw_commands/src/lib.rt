@@ -11,6 +11,7 @@ pub mod laws;
 mod limits;
 mod listed;
 mod loading;
+mod offices;
 mod pipe;
 mod progress;
 mod serving;

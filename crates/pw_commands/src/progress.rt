@@ -14,7 +14,7 @@ const MANY: usize = 100_000;
 const PARTS: u8 = 10;
 
 const UPGRADED: &[u8] =
-    b"powerbook: the store was of version 1 and is of version 2 now: an older powerbook won't open it any more\n";
+    b"powerbook: the store was of an older version and is of version 3 now: an older powerbook won't open it any more\n";
 
 /// Takes what stands in a terminal's line away, and goes to its begin.
 const CLEARED: &[u8] = b"\r\x1b[K";

@@ -7,6 +7,7 @@ ghost use Rattle.sqlite.specs.Effect.{IsDatabase};
 ghost use Rattle.sqlite.specs.Files.{file_state, image_of};
 ghost use Rattle.sqlite.specs.Start.{FindsIn};
 ghost use Rattle.sqlite_wal.specs.Reads.{OnlyReads};
+ghost use Rattle.pw_tariff.specs.Office.{office_of};
 ghost use Rattle.pw_tariff.specs.Text.{IsOfficeOf};
 ghost use Rattle.pw_words.specs.Words.{IsLimit};
 ghost use Rattle.pw_schema.specs.Tables.{no_schema};
@@ -123,7 +124,7 @@ pub fn open_from<D: Disk + Drop, W: Watch>(
     requires limit { IsLimit limit }
     ensures office { IfOk result (λ book. book.office ≡ office) }
     ensures limit { IfOk result (λ book. book.limit ≡ limit) }
-    ensures content { IfOk result (λ book. HasCleanDisk (file_state book.shelf.conn) → OpensWith purpose (image_of D.Disk files) (⟦<SqlShelf<FileStore<D>> as Shelf>⟧.state book.shelf).content) }
+    ensures content { IfOk result (λ book. HasCleanDisk (file_state book.shelf.conn) → OpensWith (office_of office) purpose (image_of D.Disk files) (⟦<SqlShelf<FileStore<D>> as Shelf>⟧.state book.shelf).content) }
     ensures cause { IfErr result (λ e. IsOfOpening e.0) }
     ensures untouched { IfErr result (λ e. e.0 ≡ Fault.Unopened Cause.LogAlone → OnlyReads D.Disk files.log e.1.log × OnlyReads D.Disk files.db e.1.db) }
 {
@@ -210,7 +211,7 @@ fn book_over<S: Alter, W: Watch>(
     requires limit { IsLimit limit }
     ensures office { IfOk result (λ book. book.office ≡ office) }
     ensures limit { IfOk result (λ book. book.limit ≡ limit) }
-    ensures content { IfOk result (λ book. HasCleanDisk (state S.Store book.shelf.conn) → HasCleanDisk (state S.Store connection) × WasHeld (state S.Store connection).committed (⟦<SqlShelf<S> as Shelf>⟧.state book.shelf).content) }
+    ensures content { IfOk result (λ book. HasCleanDisk (state S.Store book.shelf.conn) → HasCleanDisk (state S.Store connection) × WasHeld (office_of office) (state S.Store connection).committed (⟦<SqlShelf<S> as Shelf>⟧.state book.shelf).content) }
 {
     match SqlShelf::open_watched(alloc, connection, text, watch) {
         Ok(shelf) => Ok(Book::new(office, Zone::central(), shelf, limit)),

@@ -14,7 +14,7 @@ use Rattle.pw_obis.specs.declared.reference.Register.{Register}
 use Rattle.pw_model.specs.Same.{same_key, same_entry, key_numbers}
 use Rattle.pw_model.specs.Counting.{Member, SameMembers, EachOnce, Counts, standing, contents_at}
 use Rattle.pw_tariff.specs.Office.{OfficeRules}
-use Rattle.pw_model.specs.Energy.{energy, energy_where, of_band, cost}
+use Rattle.pw_model.specs.Energy.{energy, energy_in_period, energy_where, of_band, of_class, cost}
 use Rattle.pw_model.specs.Payments.{stands_in, sum_once, keys, cents_for, topped_up, balance, nano_in_cent}
 use Rattle.pw_model.specs.Kinds.{IsAssignment, IsTopUp, IsWithdrawal, ListsHeld}
 use Rattle.pw_model.specs.Lists.{Lists, IsFall, IsDispute, IsReading, fall_numbers, fall_order, dispute_order, reading_numbers, reading_order, reading_entry, records_at, record_count, AreFalls, AreDisputes, AreReadings}
@@ -44,6 +44,9 @@ keys-same s t h k = (keys-half s t h k, keys-half t s (λ e. ((h e).1, (h e).0))
 
 pub energy-same : (office : OfficeRules) (s t : List Entry) → SameMembers s t → (o : Option AccountId) (b : ℕ) (d : Direction) → energy office s o b d ≡ energy office t o b d
 energy-same office s t h o b d = ap (λ (at : Key → Contents). energy_where office at d (of_band office o b)) (contents-same s t h)
+
+pub period-same : (office : OfficeRules) (s t : List Entry) → SameMembers s t → (o : Option AccountId) (p b : ℕ) (d : Direction) → energy_in_period office s o p b d ≡ energy_in_period office t o p b d
+period-same office s t h o p b d = ap (λ (at : Key → Contents). energy_where office at d (of_class office o p b)) (contents-same s t h)
 
 cost-same : (office : OfficeRules) (s t : List Entry) → SameMembers s t → (o : Option AccountId) (d : Direction) → cost office (contents_at s) o d ≡ cost office (contents_at t) o d
 cost-same office s t h o d = ap (λ (at : Key → Contents). cost office at o d) (contents-same s t h)
@@ -132,6 +135,7 @@ order_counts_nothing office s t h = record {
   contents = contents-same s t h;
   count = count-same s t h;
   energies = energy-same office s t h;
+  in_periods = period-same office s t h;
   topped = topped-same s t h;
   balances = balance-same office s t h;
   falls = λ fs. (falls-half s t h fs, falls-half t s (members-back s t h) fs);

@@ -1,6 +1,6 @@
--- What is no account or band of the office has no total.
+-- What is no account, period or band of the office has no total.
 use Rattle.std.proofs.Common.{◌≡◌, ℕ, ◌<◌, ◌≤◌, Bool, true, false, cond, ◌==◌, ◌&&◌, Option, Some, None, List, refl, ap, subst, arith}
-use Rattle.std.proofs.lemmas.Bool.{ne_eqb}
+use Rattle.std.proofs.lemmas.Bool.{ne_eqb, and_left}
 use Rattle.pw_tariff.specs.declared.ids.AccountId.{AccountId}
 use Rattle.pw_tariff.specs.declared.ids.Direction.{Direction}
 use Rattle.pw_tariff.specs.Office.{OfficeRules}
@@ -14,7 +14,7 @@ use Rattle.pw_model.specs.declared.records.Entry.{Entry}
 use Rattle.pw_model.specs.Same.{same_key}
 use Rattle.pw_model.specs.Counting.{contents_at, point}
 use Rattle.pw_model.specs.Office.{AllOfOffice, HasOwner}
-use Rattle.pw_model.specs.Energy.{Asked, owner_at, asked_seconds, share_of, meter_share, energy_where, of_band}
+use Rattle.pw_model.specs.Energy.{Asked, owner_at, asked_seconds, share_of, meter_share, energy_where, of_class}
 use Rattle.pw_model.specs.Payments.{keys, cents_for, topped_up}
 use Rattle.pw_model.specs.Laws.{ForeignTotalsAreNone}
 use Rattle.pw_flow.specs.Energy.{kept, register_energy}
@@ -29,7 +29,7 @@ none-kept : (k : ℕ → Bool) (p : ℕ → Option ℕ) (end : ℕ) → ((t : �
 unfolding register_energy
 none-kept k p end h = sum-none (kept k (flow p end)) 0 end (λ t x y. ap (λ (b : Bool). cond b (flow p end t) 0) (h t))
 
-none-asked : (office : OfficeRules) (at : Key → Contents) (d : Direction) (asked : Asked) → ((m t : ℕ) → asked (owner_at at m t) t ≡ false) → energy_where office at d asked ≡ 0
+pub none-asked : (office : OfficeRules) (at : Key → Contents) (d : Direction) (asked : Asked) → ((m t : ℕ) → asked (owner_at at m t) t ≡ false) → energy_where office at d asked ≡ 0
 unfolding energy_where
 none-asked office at d asked h =
     sum-none (meter_share office at d asked) 0 office.meters
@@ -41,9 +41,14 @@ other-owner office None (Some a) b h n = refl
 other-owner office (Some c) (Some a) b h n =
     rw (ne_eqb c.0 a.0 (λ e. let P : ℕ → Type 0 = λ v. v < office.accounts in n (subst P e h)))
 
-other-band : (c : Bool) (b band bands : ℕ) → b < bands → bands ≤ band → (c && (b == band)) ≡ false
-other-band true b band bands l k = ne_eqb b band (λ e. absurd (omega arith))
-other-band false b band bands l k = refl
+pub other-period : (c : Bool) (p period : ℕ) (b : Bool) → (p ≡ period → ⊥) → (c && ((p == period) && b)) ≡ false
+other-period true p period b n = and_left (p == period) b (ne_eqb p period n)
+other-period false p period b n = refl
+
+other-band : (c d : Bool) (b band bands : ℕ) → b < bands → bands ≤ band → (c && (d && (b == band))) ≡ false
+other-band true true b band bands l k = ne_eqb b band (λ e. absurd (omega arith))
+other-band true false b band bands l k = refl
+other-band false d b band bands l k = refl
 
 -- ---- top-ups
 no-cents : (office : OfficeRules) (a : ℕ) (k : Key) (r : Contents) → office.accounts ≤ a → ToldOf office k r → cents_for a r ≡ 0
@@ -65,7 +70,11 @@ no-top_ups office s a h l = once-zero same_key (λ k. cents_for a (contents_at s
 
 pub foreign-totals_are_none : ForeignTotalsAreNone
 foreign-totals_are_none office s = record {
-  owners = λ h o b d n. none-asked office (contents_at s) d (of_band office o b.0) (λ m t. other-owner office (owner_at (contents_at s) m t) o (office.band t == b.0) (owner-fits office s m t h) n);
-  bands = λ h o b d l. none-asked office (contents_at s) d (of_band office o b.0) (λ m t. other-band (same_owner (owner_at (contents_at s) m t) o) (office.band t) b.0 office.bands (h t) l);
+  owners = λ h o p b d n. none-asked office (contents_at s) d (of_class office o p.0 b.0)
+      (λ m t. other-owner office (owner_at (contents_at s) m t) o ((office.period t == p.0) && (office.band t == b.0)) (owner-fits office s m t h) n);
+  periods = λ h o p b d l. none-asked office (contents_at s) d (of_class office o p.0 b.0)
+      (λ m t. other-period (same_owner (owner_at (contents_at s) m t) o) (office.period t) p.0 (office.band t == b.0) (λ e. let k = h t in absurd (omega (arith, e, k, l))));
+  bands = λ h o p b d l. none-asked office (contents_at s) d (of_class office o p.0 b.0)
+      (λ m t. other-band (same_owner (owner_at (contents_at s) m t) o) (office.period t == p.0) (office.band t) b.0 office.bands (h t) l);
   top_ups = λ h a l. no-top_ups office s a.0 h l;
 }

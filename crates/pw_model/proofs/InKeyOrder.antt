@@ -238,8 +238,8 @@ directions-ordered Export Export = refl
 
 pub totals-ordered : (a b : TotalKey) → derived_total.ghosts.cmp a b ≡ total_order a b
 unfolding total_numbers
-totals-ordered (Energy o b d) (Energy p c e) =
-    λ i. ordering_then (owners-ordered o p i) (ordering_then (nat_cmp b.0 c.0) ((directions-ordered d e ∙ sym (then-equal (nat_cmp (direction_place d) (direction_place e)))) i))
+totals-ordered (Energy o p b d) (Energy q r c e) =
+    λ i. ordering_then (owners-ordered o q i) (ordering_then (nat_cmp p.0 r.0) (ordering_then (nat_cmp b.0 c.0) ((directions-ordered d e ∙ sym (then-equal (nat_cmp (direction_place d) (direction_place e)))) i)))
 totals-ordered (TopUps a) (TopUps b) = sym (then-equal (nat_cmp a.0 b.0))
-totals-ordered (Energy o b d) (TopUps a) = refl
-totals-ordered (TopUps a) (Energy o b d) = refl
+totals-ordered (Energy o p b d) (TopUps a) = refl
+totals-ordered (TopUps a) (Energy o p b d) = refl

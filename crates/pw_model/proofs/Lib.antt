@@ -32,3 +32,6 @@ pub mod Existence
 pub mod Foreign
 pub mod TopUps
 pub mod TotalKeys
+pub mod Exchange
+pub mod Periods
+pub mod Repeated

@@ -25,7 +25,8 @@ use Rattle.pw_model.specs.Same.{direction_of}
 use Rattle.pw_model.specs.Counting.{contents_at, point, reading_key}
 use Rattle.pw_tariff.specs.Office.{OfficeRules}
 use Rattle.pw_model.specs.Office.{IsOffice, AllOfOffice, IsOfOffice, most_records}
-use Rattle.pw_model.specs.Energy.{Asked, over_registers, share_of, meter_share, energy_where, asked_seconds, of_band, cost}
+use Rattle.pw_model.specs.Energy.{Asked, over_registers, share_of, meter_share, energy_where, asked_seconds, of_class, cost}
+use Rattle.pw_model.specs.inner.Tariff.{period_cost}
 use Rattle.pw_model.specs.Bounds.{BalancesFit}
 use Rattle.pw_model.proofs.Bounded.{totals-bounded}
 use Rattle.pw_model.proofs.Counting.{entry}
@@ -135,23 +136,36 @@ plain-share office s asked m r ps result o h c e v f =
     ∙ energy-listed office s m r ps (asked_seconds (contents_at s) asked m) h (all-early ps e) v ∙ sym (ap (λ b. cond b (register_energy (asked_seconds (contents_at s) asked m) (point (contents_at s) m r) office.end) 0) c)
 
 -- ---- prices
-pub price-fits : (office : OfficeRules) (b wh : ℕ) (d : Direction) → IsOffice office → b < office.bands → wh ≤ 999_999_999_990_000_000 → office.price b d * wh ≤ 999_999_999_990_000_000_000_000_000
-price-fits office b wh d o l h = mul-le (office.price b d) wh 1_000_000_000 999_999_999_990_000_000 (o.price b d l) h
+pub price-fits : (office : OfficeRules) (p b wh : ℕ) (d : Direction) → IsOffice office → p < office.periods → b < office.bands → wh ≤ 999_999_999_990_000_000 → office.price p b d * wh ≤ 999_999_999_990_000_000_000_000_000
+price-fits office p b wh d o k l h = mul-le (office.price p b d) wh 1_000_000_000 999_999_999_990_000_000 (o.price p b d k l) h
 
-costs-to : (office : OfficeRules) (s : List Entry) (owner : Option AccountId) (d : Direction) (n : ℕ) → IsOffice office → AllOfOffice office s → length s ≤ most_records → n ≤ office.bands →
-    sum_over (λ b. office.price b d * energy_where office (contents_at s) d (of_band office owner b)) 0 n ≤ n * 999_999_999_990_000_000_000_000_000
+bands-cost : (office : OfficeRules) (s : List Entry) (owner : Option AccountId) (p : ℕ) (d : Direction) (n : ℕ) → IsOffice office → AllOfOffice office s → length s ≤ most_records → p < office.periods → n ≤ office.bands →
+    sum_over (λ b. office.price p b d * energy_where office (contents_at s) d (of_class office owner p b)) 0 n ≤ n * 999_999_999_990_000_000_000_000_000
 unfolding sum_over
-costs-to office s owner d zero o h few l = omega arith
-costs-to office s owner d (suc n) o h few l =
-    let r = costs-to office s owner d n o h few (omega arith) in
-    let w = energy-fits office s d (of_band office owner (0 + n)) o h few in
-    let p = price-fits office (0 + n) (energy_where office (contents_at s) d (of_band office owner (0 + n))) d o (omega arith) w in
-    omega (arith, r, p)
+bands-cost office s owner p d zero o h few k l = omega arith
+bands-cost office s owner p d (suc n) o h few k l =
+    let r = bands-cost office s owner p d n o h few k (omega arith) in
+    let w = energy-fits office s d (of_class office owner p (0 + n)) o h few in
+    let m = price-fits office p (0 + n) (energy_where office (contents_at s) d (of_class office owner p (0 + n))) d o k (omega arith) w in
+    omega (arith, r, m)
+
+period-fits : (office : OfficeRules) (s : List Entry) (owner : Option AccountId) (p : ℕ) (d : Direction) → IsOffice office → AllOfOffice office s → length s ≤ most_records → p < office.periods →
+    period_cost office (contents_at s) owner p d ≤ 7_999_999_999_920_000_000_000_000_000
+period-fits office s owner p d o h few k = let c = bands-cost office s owner p d office.bands o h few k (omega arith) in omega (arith, c, o.bands)
+
+periods-cost : (office : OfficeRules) (s : List Entry) (owner : Option AccountId) (d : Direction) (n : ℕ) → IsOffice office → AllOfOffice office s → length s ≤ most_records → n ≤ office.periods →
+    sum_over (λ p. period_cost office (contents_at s) owner p d) 0 n ≤ n * 7_999_999_999_920_000_000_000_000_000
+unfolding sum_over
+periods-cost office s owner d zero o h few l = omega arith
+periods-cost office s owner d (suc n) o h few l =
+    let r = periods-cost office s owner d n o h few (omega arith) in
+    let m : period_cost office (contents_at s) owner (0 + n) d ≤ 7_999_999_999_920_000_000_000_000_000 = period-fits office s owner (0 + n) d o h few (omega arith) in
+    omega (arith, r, m)
 
 pub cost-fits : (office : OfficeRules) (s : List Entry) (owner : Option AccountId) (d : Direction) → IsOffice office → AllOfOffice office s → length s ≤ most_records →
-    cost office (contents_at s) owner d ≤ 7_999_999_999_920_000_000_000_000_000
+    cost office (contents_at s) owner d ≤ 127_999_999_998_720_000_000_000_000_000
 unfolding cost
-cost-fits office s owner d o h few = let c = costs-to office s owner d office.bands o h few (omega arith) in omega (arith, c, o.bands)
+cost-fits office s owner d o h few = let c = periods-cost office s owner d office.periods o h few (omega arith) in omega (arith, c, o.periods)
 
 pub topped-fits : (office : OfficeRules) (s : List Entry) (a : ℕ) → IsOffice office → AllOfOffice office s → length s ≤ most_records → topped_up s a ≤ 1_000_000_000_000_000
 topped-fits office s a o h few = let c = (totals-bounded office s o h).topped a in omega (arith, c, few)

@@ -6,6 +6,7 @@ use Rattle.std.proofs.lemmas.Bool.{cases_Bool}
 use Rattle.std.proofs.lemmas.Bool.Decides.{Decides-like}
 use Rattle.pw_tariff.specs.declared.ids.AccountId.{AccountId}
 use Rattle.pw_tariff.specs.declared.ids.BandId.{BandId}
+use Rattle.pw_tariff.specs.declared.ids.PeriodId.{PeriodId}
 use Rattle.pw_tariff.specs.declared.ids.Direction.{Direction}
 use Rattle.pw_tariff.specs.declared.ids.Direction.TheVariants.{Import, Export}
 use Rattle.pw_model.specs.declared.records.TotalKey.{TotalKey}
@@ -16,6 +17,9 @@ use Rattle.pw_model.specs.contracts.records.TotalKeyOrd.TheImpl as derived_total
 
 abbrev account : ℕ → AccountId
 account n = record { 0 = n }
+
+abbrev period : ℕ → PeriodId
+period n = record { 0 = n }
 
 abbrev band : ℕ → BandId
 band n = record { 0 = n }
@@ -32,22 +36,24 @@ same-direction Export = refl
 
 total-numbers-one : (k l : TotalKey) → total_numbers k ≡ total_numbers l → k ≡ l
 unfolding total_numbers
-total-numbers-one (Energy None b d) (Energy None c e) h =
-    let q : b ≡ c = ap band (cc) in
-    let r : d ≡ e = direction-one d e (cc) in
+total-numbers-one (Energy None p b d) (Energy None q c e) h =
+    let i : p ≡ q = ap period (cc) in
+    let j : b ≡ c = ap band (cc) in
+    let k : d ≡ e = direction-one d e (cc) in
     cc
-total-numbers-one (Energy (Some x) b d) (Energy (Some y) c e) h =
+total-numbers-one (Energy (Some x) p b d) (Energy (Some y) q c e) h =
     let n : x.0 + 1 ≡ y.0 + 1 = cc in
     let m : x.0 ≡ y.0 = omega (arith, n) in
-    let p : x ≡ y = ap account m in
-    let q : b ≡ c = ap band (cc) in
-    let r : d ≡ e = direction-one d e (cc) in
+    let l : x ≡ y = ap account m in
+    let i : p ≡ q = ap period (cc) in
+    let j : b ≡ c = ap band (cc) in
+    let k : d ≡ e = direction-one d e (cc) in
     cc
-total-numbers-one (Energy None b d) (Energy (Some y) c e) h = let n : 0 ≡ y.0 + 1 = cc in absurd (omega (arith, n))
-total-numbers-one (Energy (Some x) b d) (Energy None c e) h = let n : x.0 + 1 ≡ 0 = cc in absurd (omega (arith, n))
+total-numbers-one (Energy None p b d) (Energy (Some y) q c e) h = let n : 0 ≡ y.0 + 1 = cc in absurd (omega (arith, n))
+total-numbers-one (Energy (Some x) p b d) (Energy None q c e) h = let n : x.0 + 1 ≡ 0 = cc in absurd (omega (arith, n))
 total-numbers-one (TopUps x) (TopUps y) h = let p : x ≡ y = ap account (cc) in cc
-total-numbers-one (Energy o b d) (TopUps y) h = cc
-total-numbers-one (TopUps x) (Energy o b d) h = cc
+total-numbers-one (Energy o p b d) (TopUps y) h = cc
+total-numbers-one (TopUps x) (Energy o p b d) h = cc
 
 pub same_total-decides : (k l : TotalKey) → Decides (same_total k l) (k ≡ l)
 same_total-decides k l = Decides-like (same_total k l) (total-numbers-one k l) (λ e. ap total_numbers e) (bytes_decides (total_numbers k) (total_numbers l))

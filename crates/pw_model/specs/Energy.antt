@@ -51,9 +51,24 @@ of_band office owner band o t = same_owner o owner && (office.band t == band)
 abbrev pub energy : OfficeRules → List Entry → Option AccountId → ℕ → Direction → ℕ
 energy office s owner band direction = energy_where office (contents_at s) direction (of_band office owner band)
 
--- what the energy of an owner in a direction costs, in nano-euro
+-- the seconds with this owner, period and band
+abbrev pub of_class : OfficeRules → Option AccountId → ℕ → ℕ → Asked
+of_class office owner period band o t = same_owner o owner && ((office.period t == period) && (office.band t == band))
+
+abbrev pub energy_in_period : OfficeRules → List Entry → Option AccountId → ℕ → ℕ → Direction → ℕ
+energy_in_period office s owner period band direction = energy_where office (contents_at s) direction (of_class office owner period band)
+
+-- over all periods, and over all bands
+abbrev pub over_periods : OfficeRules → (ℕ → ℕ) → ℕ
+over_periods office f = sum_over f 0 office.periods
+
+abbrev pub over_bands : OfficeRules → (ℕ → ℕ) → ℕ
+over_bands office f = sum_over f 0 office.bands
+
+-- what the energy of an owner in a direction costs, in nano-euro: each energy at the price of its period and band
 unfoldable pub cost : OfficeRules → (Key → Contents) → Option AccountId → Direction → ℕ
-cost office at owner direction = sum_over (λ b. office.price b direction * energy_where office at direction (of_band office owner b)) 0 office.bands
+cost office at owner direction =
+    over_periods office (λ p. over_bands office (λ b. office.price p b direction * energy_where office at direction (of_class office owner p b)))
 
 -- ---- the whole, however it is shared out
 abbrev pub account : ℕ → AccountId
@@ -62,9 +77,6 @@ account a = record { 0 = a }
 -- over nobody, and all accounts
 abbrev pub over_owners : OfficeRules → (Option AccountId → ℕ) → ℕ
 over_owners office f = f None + sum_over (λ a. f (Some (account a))) 0 office.accounts
-
-abbrev pub over_bands : OfficeRules → (ℕ → ℕ) → ℕ
-over_bands office f = sum_over f 0 office.bands
 
 -- of a meter's register, where it counts
 abbrev pub register_rises : OfficeRules → (Key → Contents) → ℕ → Register → ℕ

@@ -1,9 +1,10 @@
 -- The laws of these definitions. Each is the contract of a function of the module `laws`.
-use Rattle.std.specs.Prelude.{◌≡◌, ℕ, ◌≤◌, length, Option, List, ◌↔◌}
+use Rattle.std.specs.Prelude.{◌≡◌, ℕ, ◌≤◌, length, Option, Some, List, ◌∷◌, ◌++◌, ◌↔◌}
 use Rattle.std.specs.List.{sum_by}
 use Rattle.pw_obis.specs.declared.reference.Register.{Register}
 use Rattle.pw_tariff.specs.declared.ids.AccountId.{AccountId}
 use Rattle.pw_tariff.specs.declared.ids.BandId.{BandId}
+use Rattle.pw_tariff.specs.declared.ids.PeriodId.{PeriodId}
 use Rattle.pw_tariff.specs.declared.ids.Direction.{Direction}
 use Rattle.pw_model.specs.declared.records.Contents.TheVariants.{One}
 use Rattle.pw_model.specs.declared.records.Entry.{Entry}
@@ -12,9 +13,9 @@ use Rattle.pw_model.specs.declared.records.Fall.{Fall}
 use Rattle.pw_model.specs.declared.records.Dispute.{Dispute}
 use Rattle.pw_model.specs.declared.records.ReadingRow.{ReadingRow}
 use Rattle.pw_model.specs.Counting.{Member, SameMembers, EachOnce, IsNoWithdrawal, Counts, contents_at}
-use Rattle.pw_tariff.specs.Office.{OfficeRules}
-use Rattle.pw_model.specs.Office.{HasBands, HasOwner, AllOfOffice}
-use Rattle.pw_model.specs.Energy.{energy, over_owners, over_bands, all_rises}
+use Rattle.pw_tariff.specs.Office.{OfficeRules, OfficeFile, PeriodText, IsSound, week_of_period, price_in, price_at, office_of}
+use Rattle.pw_model.specs.Office.{HasBands, HasPeriods, HasOwner, AllOfOffice}
+use Rattle.pw_model.specs.Energy.{energy, energy_in_period, cost, over_owners, over_periods, over_bands, all_rises}
 use Rattle.pw_model.specs.Payments.{topped_up, balance, cents_in, IsTopUpFor}
 use Rattle.pw_model.specs.Kinds.{IsAssignment, IsTopUp, IsWithdrawal, ListsHeld}
 use Rattle.pw_model.specs.Lists.{AreFalls, AreDisputes, AreReadings, record_count}
@@ -29,6 +30,7 @@ pub record HaveSameAnswers (office : OfficeRules) (s t : List Entry) : Type 0 wh
   pub contents : contents_at s ≡ contents_at t
   pub count : record_count s ≡ record_count t
   pub energies : (o : Option AccountId) (b : ℕ) (d : Direction) → energy office s o b d ≡ energy office t o b d
+  pub in_periods : (o : Option AccountId) (p b : ℕ) (d : Direction) → energy_in_period office s o p b d ≡ energy_in_period office t o p b d
   pub topped : (a : ℕ) → topped_up s a ≡ topped_up t a
   pub balances : (a : ℕ) → balance office s a ≡ balance office t a
   pub falls : (fs : List Fall) → AreFalls s fs ↔ AreFalls t fs
@@ -63,12 +65,14 @@ ListsExist = (s : List Entry) → HasLists s
 abbrev pub CountIsLength : Type 0
 CountIsLength = (s : List Entry) → EachOnce s → record_count s ≡ length s
 
--- what is no account or band of the office has no total
+-- what is no account, period or band of the office has no total
 pub record ForeignHaveNone (office : OfficeRules) (s : List Entry) : Type 0 where
   -- where all records are of the office, an owner that is no account of it has no energy
-  pub owners : AllOfOffice office s → (o : Option AccountId) (b : BandId) (d : Direction) → (HasOwner office o → ⊥) → total_among office s (Energy o b d) ≡ 0
+  pub owners : AllOfOffice office s → (o : Option AccountId) (p : PeriodId) (b : BandId) (d : Direction) → (HasOwner office o → ⊥) → total_among office s (Energy o p b d) ≡ 0
+  -- where each second's period is one of the office's, another period has no energy
+  pub periods : HasPeriods office → (o : Option AccountId) (p : PeriodId) (b : BandId) (d : Direction) → office.periods ≤ p.0 → total_among office s (Energy o p b d) ≡ 0
   -- where each second's band is one of the office's, another band has no energy
-  pub bands : HasBands office → (o : Option AccountId) (b : BandId) (d : Direction) → office.bands ≤ b.0 → total_among office s (Energy o b d) ≡ 0
+  pub bands : HasBands office → (o : Option AccountId) (p : PeriodId) (b : BandId) (d : Direction) → office.bands ≤ b.0 → total_among office s (Energy o p b d) ≡ 0
   -- where all records are of the office, what is no account of it has no top-ups
   pub top_ups : AllOfOffice office s → (a : AccountId) → office.accounts ≤ a.0 → total_among office s (TopUps a) ≡ 0
 
@@ -92,3 +96,47 @@ TopUpsAddUp = (s : List Entry) (a : ℕ) → IsSumOfTopUps s a
 abbrev pub NothingIsLost : Type 0
 NothingIsLost = (office : OfficeRules) (s : List Entry) (d : Direction) → HasBands office → AllOfOffice office s →
     over_owners office (λ o. over_bands office (λ b. energy office s o b d)) ≡ all_rises office (contents_at s) d
+
+-- an energy is the sum of those of the periods
+abbrev pub EnergyIsOfPeriods : Type 0
+EnergyIsOfPeriods = (office : OfficeRules) (s : List Entry) (o : Option AccountId) (b : ℕ) (d : Direction) → HasPeriods office →
+    energy office s o b d ≡ over_periods office (λ p. energy_in_period office s o p b d)
+
+-- the office b is a with some of its periods split: each second of a period of b is one of the period of a in which that lies,
+-- with its prices; all else is the same, the bands of the seconds too
+pub record SplitsPeriods (a b : OfficeRules) : Type 0 where
+  pub accounts : a.accounts ≡ b.accounts
+  pub meters : a.meters ≡ b.meters
+  pub bands : a.bands ≡ b.bands
+  pub end : a.end ≡ b.end
+  pub counts : a.counts ≡ b.counts
+  pub band : a.band ≡ b.band
+  -- the period of a in which a period of b lies
+  pub whole : ℕ → ℕ
+  pub within : (t : ℕ) → a.period t ≡ whole (b.period t)
+  pub price : (p n : ℕ) (d : Direction) → b.price p n d ≡ a.price (whole p) n d
+
+-- the same energies, costs and balances in two offices
+pub record HaveSameFigures (a b : OfficeRules) (s : List Entry) : Type 0 where
+  pub energies : (o : Option AccountId) (n : ℕ) (d : Direction) → energy a s o n d ≡ energy b s o n d
+  pub costs : (o : Option AccountId) (d : Direction) → cost a (contents_at s) o d ≡ cost b (contents_at s) o d
+  pub balances : (x : ℕ) → balance a s x ≡ balance b s x
+
+-- a period that changes neither the bands of its seconds nor their prices changes no figure
+abbrev pub SplitPeriodsChangeNothing : Type 0
+SplitPeriodsChangeNothing = (a b : OfficeRules) (s : List Entry) → HasPeriods a → HasPeriods b → SplitsPeriods a b → HaveSameFigures a b s
+
+-- an office file with these periods behind its first
+abbrev pub with_later : OfficeFile → List PeriodText → OfficeFile
+with_later file later = record { accounts = file.accounts; bands = file.bands; meters = file.meters; week = file.week; later = later }
+
+-- a period with the week and the prices of the last one before it
+pub record RepeatsPeriod (file : OfficeFile) (before : List PeriodText) (p : PeriodText) : Type 0 where
+  pub week : p.week ≡ week_of_period (with_later file before) (length before)
+  pub price : (n : ℕ) (d : Direction) → price_in (Some p) n d ≡ price_at (with_later file before) (length before) n d
+
+-- where an office file writes such a period, it has the figures of the file without it
+abbrev pub RepeatedPeriodChangesNothing : Type 0
+RepeatedPeriodChangesNothing = (file : OfficeFile) (before behind : List PeriodText) (p : PeriodText) (s : List Entry) →
+    IsSound (with_later file (before ++ p ∷ behind)) → RepeatsPeriod file before p →
+    HaveSameFigures (office_of (with_later file (before ++ behind))) (office_of (with_later file (before ++ p ∷ behind))) s

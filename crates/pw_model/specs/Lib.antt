@@ -7,7 +7,7 @@
 -- Payments: what was topped up, and the balance
 -- Lists: falls, disputes, the readings of a register
 -- Shelf: what a store holds, and when that is true
--- Laws: order counts nothing, nothing is lost
+-- Laws: order counts nothing, nothing is lost, periods that change nothing
 -- Bounds: how large totals are
 pub mod References
 pub mod Same

@@ -4,7 +4,7 @@ use Rattle.std.specs.Prelude.{◌≡◌, ℕ, ◌<◌, ◌≤◌, true, Option, 
 use Rattle.pw_obis.specs.declared.energy.TheConstants.{LARGEST_WATT_HOURS}
 use Rattle.pw_tariff.specs.declared.ids.AccountId.{AccountId}
 use Rattle.pw_tariff.specs.declared.ids.Direction.{Direction}
-use Rattle.pw_tariff.specs.declared.limits.TheConstants.{MOST_ACCOUNTS, MOST_METERS, MOST_BANDS, MOST_PRICE}
+use Rattle.pw_tariff.specs.declared.limits.TheConstants.{MOST_ACCOUNTS, MOST_METERS, MOST_BANDS, MOST_PERIODS, MOST_PRICE}
 use Rattle.pw_tariff.specs.Office.{OfficeRules, OfficeFile, IsSound, office_of}
 use Rattle.pw_time.specs.declared.instant.TheConstants.{END_SECOND}
 use Rattle.pw_time.specs.Instants.{IsInstant}
@@ -57,14 +57,20 @@ AllOfOffice office s = (e : Entry) → Member e s → IsOfOffice office e
 abbrev pub HasBands : OfficeRules → Type 0
 HasBands office = (t : ℕ) → office.band t < office.bands
 
+-- each second's period is one of the office's
+abbrev pub HasPeriods : OfficeRules → Type 0
+HasPeriods office = (t : ℕ) → office.period t < office.periods
+
 -- what the office file ensures
 pub record IsOffice (office : OfficeRules) : Type 0 where
   pub accounts : office.accounts ≤ MOST_ACCOUNTS
   pub meters : office.meters ≤ MOST_METERS
   pub bands : office.bands ≤ MOST_BANDS
+  pub periods : office.periods ≤ MOST_PERIODS
   pub end : office.end ≡ END_SECOND
   pub band : HasBands office
-  pub price : (b : ℕ) (d : Direction) → b < office.bands → office.price b d ≤ MOST_PRICE
+  pub period : HasPeriods office
+  pub price : (p b : ℕ) (d : Direction) → p < office.periods → b < office.bands → office.price p b d ≤ MOST_PRICE
 
 -- a sound office file is an office
 abbrev pub SoundOfficeIsOffice : Type 0

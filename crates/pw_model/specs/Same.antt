@@ -77,9 +77,9 @@ abbrev pub direction_place : Direction → ℕ
 direction_place Import = 0
 direction_place Export = 1
 
--- energies first, by owner (nobody first), band and direction; then top-ups, by account
+-- energies first, by owner (nobody first), period, band and direction; then top-ups, by account
 unfoldable pub total_numbers : TotalKey → List ℕ
-total_numbers (Energy o b d) = 0 ∷ owner_place o ∷ b.0 ∷ direction_place d ∷ []
+total_numbers (Energy o p b d) = 0 ∷ owner_place o ∷ p.0 ∷ b.0 ∷ direction_place d ∷ []
 total_numbers (TopUps a) = 1 ∷ a.0 ∷ []
 
 abbrev pub same_total : TotalKey → TotalKey → Bool

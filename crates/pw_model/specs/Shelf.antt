@@ -10,7 +10,7 @@ use Rattle.pw_model.specs.declared.records.Entry.{Entry}
 use Rattle.pw_model.specs.Counting.{SameMembers, contents_at, point, start}
 use Rattle.pw_tariff.specs.Office.{OfficeRules}
 use Rattle.pw_model.specs.Office.{AllOfOffice, IsOffice, most_records}
-use Rattle.pw_model.specs.Energy.{energy}
+use Rattle.pw_model.specs.Energy.{energy_in_period}
 use Rattle.pw_model.specs.Payments.{topped_up}
 
 pub record ShelfContent : Type 0 where
@@ -25,10 +25,10 @@ pub record ShelfContent : Type 0 where
 
 -- the total of the records, for every key
 abbrev pub total_among : OfficeRules → List Entry → TotalKey → ℕ
-total_among office s (Energy o b d) = energy office s o b.0 d
+total_among office s (Energy o p b d) = energy_in_period office s o p.0 b.0 d
 total_among office s (TopUps a) = topped_up s a.0
 
--- points and starts are those of the records held, and the total at each key, whatever account or band it names,
+-- points and starts are those of the records held, and the total at each key, whatever account, period or band it names,
 -- is the energy or the top-ups that the records give for it
 pub record IsTrueContent (office : OfficeRules) (c : ShelfContent) : Type 0 where
   pub points : c.point ≡ point (contents_at c.records)

@@ -46,7 +46,8 @@ pub fn compare_entries(a: &Entry, b: &Entry) -> Ordering
     Entry::cmp(a, b)
 }
 
-/// Energies stand before top-ups; energies by owner (nobody first), band and direction, top-ups by account.
+/// Energies stand before top-ups; energies by owner (nobody first), period, band and direction, top-ups
+/// by account.
 pub fn compare_totals(a: &TotalKey, b: &TotalKey) -> Ordering
     ensures { result ≡ total_order a.now b.now }
 {

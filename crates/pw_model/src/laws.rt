@@ -5,7 +5,7 @@
 
 ghost use Rattle.pw_model.specs.Bearing.{OneMoreBearing};
 ghost use Rattle.pw_model.specs.Bounds.{BalancesFit, TotalsAreBounded};
-ghost use Rattle.pw_model.specs.Laws.{CountIsLength, ForeignTotalsAreNone, ListsAreAtMostOne, ListsExist, NothingIsLost, OneIsCounting, OrderCountsNothing, TopUpsAddUp};
+ghost use Rattle.pw_model.specs.Laws.{CountIsLength, EnergyIsOfPeriods, ForeignTotalsAreNone, ListsAreAtMostOne, ListsExist, NothingIsLost, OneIsCounting, OrderCountsNothing, RepeatedPeriodChangesNothing, SplitPeriodsChangeNothing, TopUpsAddUp};
 ghost use Rattle.pw_model.specs.Changes.{OtherStartWindow};
 ghost use Rattle.pw_model.specs.Changes.{OneMoreAssignment};
 ghost use Rattle.pw_model.specs.Changes.{OneMorePayment};
@@ -46,6 +46,23 @@ pub fn conservation_of_energy()
     ensures { NothingIsLost }
 {}
 
+/// Where each second has one of the office's periods, an energy is the sum of those of the periods.
+pub fn energy_is_of_periods()
+    ensures { EnergyIsOfPeriods }
+{}
+
+/// Splitting periods changes nothing: where an office is another one with some of its periods split, each part with the
+/// prices of the whole, and all seconds have the same bands, energies, costs and balances are the same in both.
+pub fn split_periods_change_nothing()
+    ensures { SplitPeriodsChangeNothing }
+{}
+
+/// A period that changes neither week nor prices changes nothing: where an office file has one that repeats those of the
+/// period before it, energies, costs and balances are as with the file without it.
+pub fn repeated_period_changes_nothing()
+    ensures { RepeatedPeriodChangesNothing }
+{}
+
 /// What one more counting reading changes, or one less.
 pub fn one_more_reading()
     ensures { OneMoreReading }
@@ -72,7 +89,8 @@ pub fn one_more_assignment()
 {}
 
 /// Totals of what isn't the office's are 0: where all records are of the office, energies of an owner that is no account
-/// of it and top-ups of what is no account of it; where each second has one of its bands, energies in another band.
+/// of it and top-ups of what is no account of it; where each second has one of its periods, energies in another period;
+/// where each second has one of its bands, energies in another band.
 pub fn foreign_totals_are_none()
     ensures { ForeignTotalsAreNone }
 {}
@@ -93,7 +111,7 @@ pub fn balances_fit()
     ensures { BalancesFit }
 {}
 
-/// A sound office file is an office: its bands, prices and limits are as the laws ask.
+/// A sound office file is an office: its bands, periods, prices and limits are as the laws ask.
 pub fn sound_office_is_office()
     ensures { SoundOfficeIsOffice }
 {}

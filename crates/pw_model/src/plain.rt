@@ -19,7 +19,7 @@ mod terms;
 
 pub use balances::balance;
 pub use dispute_list::disputes;
-pub use energies::energy;
+pub use energies::{energy, energy_in};
 pub use fall_list::falls;
 pub use of_office::{are_of_office, is_entry_of_office};
 pub use payments::topped_up;

@@ -2,7 +2,7 @@
 
 use crate::reference::Reference;
 use pw_obis::{Register, WattHours};
-use pw_tariff::{AccountId, BandId, Direction, MeterId, Owner};
+use pw_tariff::{AccountId, BandId, Direction, MeterId, Owner, PeriodId};
 use pw_time::Instant;
 
 /// What a record speaks of: no two records with one key count.
@@ -100,9 +100,10 @@ pub enum Contents {
 /// The key of a kept total.
 #[derive(Clone, Copy, Debug, PartialEq, Eq, PartialOrd, Ord, Hash)]
 pub enum TotalKey {
-    /// The energy of an owner in a band, in Wh.
+    /// The energy of an owner in a band within a period, in Wh.
     Energy {
         owner: Owner,
+        period: PeriodId,
         band: BandId,
         direction: Direction,
     },

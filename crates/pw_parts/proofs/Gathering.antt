@@ -8,10 +8,11 @@ use Rattle.std.proofs.lemmas.List.Sums.{sum_by-cons}
 use Rattle.std.proofs.Math.Seq.{drop-nil}
 use Rattle.pw_tariff.specs.declared.ids.AccountId.{AccountId}
 use Rattle.pw_tariff.specs.declared.ids.BandId.{BandId}
+use Rattle.pw_tariff.specs.declared.ids.PeriodId.{PeriodId}
 use Rattle.pw_tariff.specs.declared.ids.Direction.{Direction}
 use Rattle.pw_tariff.specs.declared.ids.Direction.TheVariants.{Import, Export}
 use Rattle.pw_tariff.specs.declared.cells.Cell.{Cell}
-use Rattle.pw_tariff.specs.Cells.{owner_place, IsBeforeClass, AreInOrder, is_of, energy_in, energy_of_all}
+use Rattle.pw_tariff.specs.Cells.{owner_place, IsBeforeTariff, IsBeforeCell, AreInOrder, is_of, energy_in, energy_of_all}
 use Rattle.pw_tariff.specs.Owners.{same_owner}
 use Rattle.pw_model.specs.declared.records.TotalKey.{TotalKey}
 use Rattle.pw_model.specs.declared.records.TotalKey.TheVariants.{Energy, TopUps}
@@ -65,7 +66,7 @@ gathered-same side old new k c e h l =
 -- ---- cells
 -- what a cell of a direction gives to a total
 abbrev pub cell_for : Direction → TotalKey → Cell → ℕ
-cell_for d k c = cond (same_total (Energy c.owner c.band d) k) c.wh 0
+cell_for d k c = cond (same_total (Energy c.owner c.period c.band d) k) c.wh 0
 
 same-owner : (o p : Option AccountId) → same_owner o p ≡ true → o ≡ p
 same-owner None None h = refl
@@ -84,53 +85,76 @@ and-split false b e = absurd (true≢false (sym e))
 and-both : (a b : Bool) → a ≡ true → b ≡ true → (a && b) ≡ true
 and-both a b e f = rw (e, f) refl
 
-abbrev energy_key : Option AccountId → ℕ → Direction → TotalKey
-energy_key o b d = Energy o (record { 0 = b }) d
-
-abbrev number_of : TotalKey → ℕ
-number_of (Energy o b d) = b.0
-number_of (TopUps a) = 0
+abbrev energy_key : Option AccountId → ℕ → ℕ → Direction → TotalKey
+energy_key o p b d = Energy o (record { 0 = p }) (record { 0 = b }) d
 
 abbrev owner_in : TotalKey → Option AccountId
-owner_in (Energy o b d) = o
+owner_in (Energy o p b d) = o
 owner_in (TopUps a) = None
 
--- the cell is that of the owner and the band exactly where its total is
-cell-of : (o : Option AccountId) (b : BandId) (d : Direction) (c : Cell) → is_of o b.0 c ≡ same_total (Energy c.owner c.band d) (Energy o b d)
-cell-of o b d c = elim (cases_Bool (same_total (Energy c.owner c.band d) (Energy o b d))) [
+abbrev period_in : TotalKey → ℕ
+period_in (Energy o p b d) = p.0
+period_in (TopUps a) = 0
+
+abbrev band_in : TotalKey → ℕ
+band_in (Energy o p b d) = b.0
+band_in (TopUps a) = 0
+
+-- what a cell of an owner, a period and a band has
+class-split : (o : Option AccountId) (p b : ℕ) (c : Cell) → is_of o p b c ≡ true → (c.owner ≡ o) × (c.period.0 ≡ p) × (c.band.0 ≡ b)
+class-split o p b c t =
+    let s = and-split (same_owner c.owner o) ((c.period.0 == p) && (c.band.0 == b)) t in
+    let r = and-split (c.period.0 == p) (c.band.0 == b) s.1 in
+    (same-owner c.owner o s.0, eqb-true c.period.0 p r.0, eqb-true c.band.0 b r.1)
+
+-- the cell is that of the owner, the period and the band exactly where its total is
+cell-of : (o : Option AccountId) (p : PeriodId) (b : BandId) (d : Direction) (c : Cell) → is_of o p.0 b.0 c ≡ same_total (Energy c.owner c.period c.band d) (Energy o p b d)
+cell-of o p b d c = elim (cases_Bool (same_total (Energy c.owner c.period c.band d) (Energy o p b d))) [
   | inl y ↦ (
-      let e = (same_total-decides (Energy c.owner c.band d) (Energy o b d)).0 y in
-      let p : same_owner c.owner o ≡ true = ap (λ k. same_owner (owner_in k) o) e ∙ owner-itself o in
-      let q : c.band.0 ≡ b.0 = ap number_of e in
-      and-both (same_owner c.owner o) (c.band.0 == b.0) p (eq-eqb c.band.0 b.0 q) ∙ sym y)
-  | inr n ↦ (elim (cases_Bool (is_of o b.0 c)) [
+      let e = (same_total-decides (Energy c.owner c.period c.band d) (Energy o p b d)).0 y in
+      let u : same_owner c.owner o ≡ true = ap (λ k. same_owner (owner_in k) o) e ∙ owner-itself o in
+      let v : c.period.0 ≡ p.0 = ap period_in e in
+      let w : c.band.0 ≡ b.0 = ap band_in e in
+      let x : ((c.period.0 == p.0) && (c.band.0 == b.0)) ≡ true = and-both (c.period.0 == p.0) (c.band.0 == b.0) (eq-eqb c.period.0 p.0 v) (eq-eqb c.band.0 b.0 w) in
+      and-both (same_owner c.owner o) ((c.period.0 == p.0) && (c.band.0 == b.0)) u x ∙ sym y)
+  | inr n ↦ (elim (cases_Bool (is_of o p.0 b.0 c)) [
     | inl t ↦ (
-        let s = and-split (same_owner c.owner o) (c.band.0 == b.0) t in
-        let p : c.owner ≡ o = same-owner c.owner o s.0 in
-        let q : c.band.0 ≡ b.0 = eqb-true c.band.0 b.0 s.1 in
-        let e : Energy c.owner c.band d ≡ Energy o b d = λ i. energy_key (p i) (q i) d in
-        absurd (true≢false (sym ((same_total-decides (Energy c.owner c.band d) (Energy o b d)).1 e) ∙ n)))
+        let s = class-split o p.0 b.0 c t in
+        let e : Energy c.owner c.period c.band d ≡ Energy o p b d = λ i. energy_key (s.0 i) (s.1 i) (s.2 i) d in
+        absurd (true≢false (sym ((same_total-decides (Energy c.owner c.period c.band d) (Energy o p b d)).1 e) ∙ n)))
     | inr f ↦ f ∙ sym n
   ])
 ]
 
 -- cells behind one stand apart from it
-before-not : (o : Option AccountId) (b : ℕ) (c x : Cell) → is_of o b c ≡ true → IsBeforeClass c x.owner x.band.0 → is_of o b x ≡ false
-before-not o b c x t h = elim (cases_Bool (is_of o b x)) [
+tariff-apart : (c : Cell) (p b : ℕ) → IsBeforeTariff c p b → c.period.0 ≡ p → c.band.0 ≡ b → ⊥
+tariff-apart c p b (inl l) u v = absurd (omega (arith, l, u))
+tariff-apart c p b (inr l) u v = let m = l.1 in absurd (omega (arith, m, v))
+
+class-apart : (c x : Cell) → IsBeforeCell c x → owner_place c.owner ≡ owner_place x.owner → c.period.0 ≡ x.period.0 → c.band.0 ≡ x.band.0 → ⊥
+class-apart c x (inl l) u v w = absurd (omega (arith, l, u))
+class-apart c x (inr l) u v w = tariff-apart c x.period.0 x.band.0 l.1 v w
+
+before-not : (o : Option AccountId) (p b : ℕ) (c x : Cell) → is_of o p b c ≡ true → IsBeforeCell c x → is_of o p b x ≡ false
+before-not o p b c x t h = elim (cases_Bool (is_of o p b x)) [
   | inl y ↦ (
-      let s = and-split (same_owner c.owner o) (c.band.0 == b) t in
-      let r = and-split (same_owner x.owner o) (x.band.0 == b) y in
-      let p : owner_place c.owner ≡ owner_place x.owner = ap owner_place (same-owner c.owner o s.0 ∙ sym (same-owner x.owner o r.0)) in
-      let q : c.band.0 ≡ x.band.0 = eqb-true c.band.0 b s.1 ∙ sym (eqb-true x.band.0 b r.1) in
-      elim h [ inl l ↦ absurd (omega (arith, l, p)) | inr l ↦ (let m = l.1 in absurd (omega (arith, m, q))) ])
+      let s = class-split o p b c t in
+      let r = class-split o p b x y in
+      absurd (class-apart c x h (ap owner_place (s.0 ∙ sym r.0)) (s.1 ∙ sym r.1) (s.2 ∙ sym r.2)))
   | inr f ↦ f
 ]
 
-before-then : (c x y : Cell) → IsBeforeClass c x.owner x.band.0 → IsBeforeClass x y.owner y.band.0 → IsBeforeClass c y.owner y.band.0
+tariff-then : (c x y : Cell) → IsBeforeTariff c x.period.0 x.band.0 → IsBeforeTariff x y.period.0 y.band.0 → IsBeforeTariff c y.period.0 y.band.0
+tariff-then c x y (inl a) (inl b) = inl (omega (arith, a, b))
+tariff-then c x y (inl a) (inr b) = let p = b.0 in inl (omega (arith, a, p))
+tariff-then c x y (inr a) (inl b) = let p = a.0 in inl (omega (arith, p, b))
+tariff-then c x y (inr a) (inr b) = let p = a.1 in let q = b.1 in inr (a.0 ∙ b.0, omega (arith, p, q))
+
+before-then : (c x y : Cell) → IsBeforeCell c x → IsBeforeCell x y → IsBeforeCell c y
 before-then c x y (inl a) (inl b) = inl (omega (arith, a, b))
 before-then c x y (inl a) (inr b) = let p = b.0 in inl (omega (arith, a, p))
 before-then c x y (inr a) (inl b) = let p = a.0 in inl (omega (arith, p, b))
-before-then c x y (inr a) (inr b) = let p = a.1 in let q = b.1 in inr (a.0 ∙ b.0, omega (arith, p, q))
+before-then c x y (inr a) (inr b) = inr (a.0 ∙ b.0, tariff-then c x y a.1 b.1)
 
 in-order-without : (c x : Cell) (cells : List Cell) → AreInOrder (c ∷ x ∷ cells) → AreInOrder (c ∷ cells)
 in-order-without c x [] h = tt
@@ -140,34 +164,34 @@ in-order-behind : (c : Cell) (cells : List Cell) → AreInOrder (c ∷ cells) �
 in-order-behind c [] h = tt
 in-order-behind c (x ∷ cells) h = h.1
 
-cells-apart : (o : Option AccountId) (b : BandId) (d : Direction) (c : Cell) (cells : List Cell) → AreInOrder (c ∷ cells) → is_of o b.0 c ≡ true →
-    sum_by (cell_for d (Energy o b d)) cells ≡ 0
-cells-apart o b d c [] h t = refl
-cells-apart o b d c (x ∷ cells) h t =
-    let r = cells-apart o b d c cells (in-order-without c x cells h) t in
-    let e = sum_by-cons (cell_for d (Energy o b d)) x cells in
-    let q : cell_for d (Energy o b d) x ≡ 0 = ap (λ t. cond t x.wh 0) (sym (cell-of o b d x) ∙ before-not o b.0 c x t h.0) in
+cells-apart : (o : Option AccountId) (p : PeriodId) (b : BandId) (d : Direction) (c : Cell) (cells : List Cell) → AreInOrder (c ∷ cells) → is_of o p.0 b.0 c ≡ true →
+    sum_by (cell_for d (Energy o p b d)) cells ≡ 0
+cells-apart o p b d c [] h t = refl
+cells-apart o p b d c (x ∷ cells) h t =
+    let r = cells-apart o p b d c cells (in-order-without c x cells h) t in
+    let e = sum_by-cons (cell_for d (Energy o p b d)) x cells in
+    let q : cell_for d (Energy o p b d) x ≡ 0 = ap (λ t. cond t x.wh 0) (sym (cell-of o p b d x) ∙ before-not o p.0 b.0 c x t h.0) in
     omega (arith, r, e, q)
 
 -- cells in order give what is found among them
-cells-in : (o : Option AccountId) (b : BandId) (d : Direction) (cells : List Cell) → AreInOrder cells → sum_by (cell_for d (Energy o b d)) cells ≡ energy_in cells o b.0
+cells-in : (o : Option AccountId) (p : PeriodId) (b : BandId) (d : Direction) (cells : List Cell) → AreInOrder cells → sum_by (cell_for d (Energy o p b d)) cells ≡ energy_in cells o p.0 b.0
 unfolding energy_in
-cells-in o b d [] h = refl
-cells-in o b d (c ∷ cells) h =
-    let e = sum_by-cons (cell_for d (Energy o b d)) c cells in
-    elim (cases_Bool (is_of o b.0 c)) [
+cells-in o p b d [] h = refl
+cells-in o p b d (c ∷ cells) h =
+    let e = sum_by-cons (cell_for d (Energy o p b d)) c cells in
+    elim (cases_Bool (is_of o p.0 b.0 c)) [
       | inl y ↦ (
-          let r = cells-apart o b d c cells h y in
-          let q : cell_for d (Energy o b d) c ≡ c.wh = ap (λ t. cond t c.wh 0) (sym (cell-of o b d c) ∙ y) in
+          let r = cells-apart o p b d c cells h y in
+          let q : cell_for d (Energy o p b d) c ≡ c.wh = ap (λ t. cond t c.wh 0) (sym (cell-of o p b d c) ∙ y) in
           rw y (omega (arith, e, r, q)))
       | inr n ↦ (
-          let r = cells-in o b d cells (in-order-behind c cells h) in
-          let q : cell_for d (Energy o b d) c ≡ 0 = ap (λ t. cond t c.wh 0) (sym (cell-of o b d c) ∙ n) in
+          let r = cells-in o p b d cells (in-order-behind c cells h) in
+          let q : cell_for d (Energy o p b d) c ≡ 0 = ap (λ t. cond t c.wh 0) (sym (cell-of o p b d c) ∙ n) in
           rw n (omega (arith, e, r, q)))
     ]
 
 -- of another kind they give nothing
-cells-other : (d : Direction) (k : TotalKey) (cells : List Cell) → ((c : Cell) → same_total (Energy c.owner c.band d) k ≡ false) → sum_by (cell_for d k) cells ≡ 0
+cells-other : (d : Direction) (k : TotalKey) (cells : List Cell) → ((c : Cell) → same_total (Energy c.owner c.period c.band d) k ≡ false) → sum_by (cell_for d k) cells ≡ 0
 cells-other d k [] h = refl
 cells-other d k (c ∷ cells) h =
     let r = cells-other d k cells h in
@@ -176,16 +200,16 @@ cells-other d k (c ∷ cells) h =
     omega (arith, r, e, q)
 
 abbrev direction_in : TotalKey → ℕ
-direction_in (Energy o b d) = direction_place d
+direction_in (Energy o p b d) = direction_place d
 direction_in (TopUps a) = 7
 
 pub cells-give : (d : Direction) (k : TotalKey) (cells : List Cell) → AreInOrder cells → sum_by (cell_for d k) cells ≡ cells_for d cells k
-cells-give Import (Energy o b Import) cells h = cells-in o b Import cells h
-cells-give Export (Energy o b Export) cells h = cells-in o b Export cells h
-cells-give Import (Energy o b Export) cells h = cells-other Import (Energy o b Export) cells (λ c. total-apart (Energy c.owner c.band Import) (Energy o b Export) (λ e. let n = ap direction_in e in absurd (omega (arith, n))))
-cells-give Export (Energy o b Import) cells h = cells-other Export (Energy o b Import) cells (λ c. total-apart (Energy c.owner c.band Export) (Energy o b Import) (λ e. let n = ap direction_in e in absurd (omega (arith, n))))
-cells-give Import (TopUps a) cells h = cells-other Import (TopUps a) cells (λ c. total-apart (Energy c.owner c.band Import) (TopUps a) (λ e. let n = ap direction_in e in absurd (omega (arith, n))))
-cells-give Export (TopUps a) cells h = cells-other Export (TopUps a) cells (λ c. total-apart (Energy c.owner c.band Export) (TopUps a) (λ e. let n = ap direction_in e in absurd (omega (arith, n))))
+cells-give Import (Energy o p b Import) cells h = cells-in o p b Import cells h
+cells-give Export (Energy o p b Export) cells h = cells-in o p b Export cells h
+cells-give Import (Energy o p b Export) cells h = cells-other Import (Energy o p b Export) cells (λ c. total-apart (Energy c.owner c.period c.band Import) (Energy o p b Export) (λ e. let n = ap direction_in e in absurd (omega (arith, n))))
+cells-give Export (Energy o p b Import) cells h = cells-other Export (Energy o p b Import) cells (λ c. total-apart (Energy c.owner c.period c.band Export) (Energy o p b Import) (λ e. let n = ap direction_in e in absurd (omega (arith, n))))
+cells-give Import (TopUps a) cells h = cells-other Import (TopUps a) cells (λ c. total-apart (Energy c.owner c.period c.band Import) (TopUps a) (λ e. let n = ap direction_in e in absurd (omega (arith, n))))
+cells-give Export (TopUps a) cells h = cells-other Export (TopUps a) cells (λ c. total-apart (Energy c.owner c.period c.band Export) (TopUps a) (λ e. let n = ap direction_in e in absurd (omega (arith, n))))
 
 -- all of them together
 pub cells-whole : (cells : List Cell) → sum_by (λ (c : Cell). c.wh) cells ≡ energy_of_all cells
@@ -195,7 +219,7 @@ cells-whole (c ∷ cells) = let r = cells-whole cells in let e = sum_by-cons (λ
 
 -- ---- how much
 cell-part : (d : Direction) (k : TotalKey) (c : Cell) → cell_for d k c ≤ c.wh
-cell-part d k c = elim (cases_Bool (same_total (Energy c.owner c.band d) k)) [ inl y ↦ rw y (omega arith) | inr n ↦ rw n (omega arith) ]
+cell-part d k c = elim (cases_Bool (same_total (Energy c.owner c.period c.band d) k)) [ inl y ↦ rw y (omega arith) | inr n ↦ rw n (omega arith) ]
 
 cells-part : (d : Direction) (k : TotalKey) (cells : List Cell) → sum_by (cell_for d k) cells ≤ sum_by (λ (c : Cell). c.wh) cells
 cells-part d k [] = omega arith
@@ -215,23 +239,23 @@ cells-bound d k cells h =
     omega (arith, g, p, w)
 
 -- ---- one cell after the other
-cell-itself : (d : Direction) (c : Cell) → cell_for d (Energy c.owner c.band d) c ≡ c.wh
-cell-itself d c = ap (λ b. cond b c.wh 0) (total-itself (Energy c.owner c.band d))
+cell-itself : (d : Direction) (c : Cell) → cell_for d (Energy c.owner c.period c.band d) c ≡ c.wh
+cell-itself d c = ap (λ b. cond b c.wh 0) (total-itself (Energy c.owner c.period c.band d))
 
-cell-here : (d : Direction) (cells : List Cell) (i : ℕ) (x : Cell) → i < length cells → (get_or cells i x).wh ≤ sum_by (cell_for d (Energy (get_or cells i x).owner (get_or cells i x).band d)) (drop i cells)
+cell-here : (d : Direction) (cells : List Cell) (i : ℕ) (x : Cell) → i < length cells → (get_or cells i x).wh ≤ sum_by (cell_for d (Energy (get_or cells i x).owner (get_or cells i x).period (get_or cells i x).band d)) (drop i cells)
 cell-here d [] i x l = absurd (omega (arith, l))
 cell-here d (c ∷ cells) zero x l =
-    let a = sum_by-cons (cell_for d (Energy c.owner c.band d)) c cells in
+    let a = sum_by-cons (cell_for d (Energy c.owner c.period c.band d)) c cells in
     let b = cell-itself d c in
     omega (arith, a, b)
 cell-here d (c ∷ cells) (suc i) x l = cell-here d cells i x (omega (arith, l))
 
 pub cell-fits : (d : Direction) (cells : List Cell) (i : ℕ) (x : Cell) (now was most : ℕ) → i < length cells →
-    let k : TotalKey = Energy (get_or cells i x).owner (get_or cells i x).band d in
+    let k : TotalKey = Energy (get_or cells i x).owner (get_or cells i x).period (get_or cells i x).band d in
     now + sum_by (cell_for d k) (drop i cells) ≡ was + sum_by (cell_for d k) cells → was + energy_of_all cells < most → now + (get_or cells i x).wh < most
 cell-fits d cells i x now was most l e f =
     let h = cell-here d cells i x l in
-    let p = cells-part d (Energy (get_or cells i x).owner (get_or cells i x).band d) cells in
+    let p = cells-part d (Energy (get_or cells i x).owner (get_or cells i x).period (get_or cells i x).band d) cells in
     let w = cells-whole cells in
     omega (arith, e, f, h, p, w)
 
@@ -252,15 +276,15 @@ pub none-in-all : (cells : List Cell) → cells ≡ [] → energy_of_all cells �
 unfolding energy_of_all
 none-in-all cells e = rw e (omega arith)
 
-pub none-for : (cells : List Cell) (o : Option AccountId) (b : ℕ) → cells ≡ [] → energy_in cells o b ≡ 0
+pub none-for : (cells : List Cell) (o : Option AccountId) (p b : ℕ) → cells ≡ [] → energy_in cells o p b ≡ 0
 unfolding energy_in
-none-for cells o b e = ap (λ (xs : List Cell). energy_in xs o b) e
+none-for cells o p b e = ap (λ (xs : List Cell). energy_in xs o p b) e
 
 -- where no window of two is left, no pair is
 pub pairs-ended-for : (office : OfficeFile) (owners : List (ℕ × Option AccountId)) (d : Direction) (rest : List (ℕ × ℕ)) (k : TotalKey) → length rest < 2 → pairs_for office owners d rest k ≡ 0
 pairs-ended-for office owners d rest (TopUps a) l = refl
-pairs-ended-for office owners d rest (Energy o b e) l =
-    ap (λ n. cond (same_direction d e) n 0) (pairs-ended (class_seconds office owners o b.0) rest l) ∙ none-kept (same_direction d e)
+pairs-ended-for office owners d rest (Energy o p b e) l =
+    ap (λ n. cond (same_direction d e) n 0) (pairs-ended (class_seconds office owners o p.0 b.0) rest l) ∙ none-kept (same_direction d e)
   where
     none-kept : (b : Bool) → let n : ℕ = cond b 0 0 in n ≡ 0
     none-kept true = refl

@@ -22,7 +22,7 @@ use Rattle.pw_model.specs.declared.records.Entry.{Entry}
 use Rattle.pw_model.specs.declared.records.TotalKey.{TotalKey}
 use Rattle.pw_model.specs.declared.records.TotalKey.TheVariants.{Energy, TopUps}
 use Rattle.pw_model.specs.Counting.{Counts, Member, contents_at, point, start}
-use Rattle.pw_model.specs.Energy.{owner_at as owner_told, energy_where, of_band, share_of}
+use Rattle.pw_model.specs.Energy.{owner_at as owner_told, energy_where, of_class, share_of}
 use Rattle.pw_model.specs.Office.{AllOfOffice}
 use Rattle.pw_model.specs.Same.{direction_of, same_total, total_numbers}
 use Rattle.pw_model.proofs.Counting.{standing-part}
@@ -56,18 +56,18 @@ way-none Export Export = refl
 
 module _ (file : OfficeFile) (s : List Entry) (m : ℕ) (r : Register) where
   pub register-none : (office_of file).counts m r ≡ false → (k : TotalKey) → register_given (office_of file) s m r k ≡ 0
-  register-none c (Energy o b e) = ap (λ n. in_way (direction_of r) e n) (sym (uncounted-share file s (of_band (office_of file) o b.0) m r c)) ∙ way-none (direction_of r) e
+  register-none c (Energy o p b e) = ap (λ n. in_way (direction_of r) e n) (sym (uncounted-share file s (of_class (office_of file) o p.0 b.0) m r c)) ∙ way-none (direction_of r) e
   register-none c (TopUps a) = refl
 
   pub register-is : (owners : List (ℕ × Option AccountId)) (d : Direction) (ps : List (ℕ × ℕ)) → d ≡ direction_of r → AllOfOffice (office_of file) s →
       ((t : ℕ) → owner_by_starts owners t ≡ owner_told (contents_at s) m t) → (office_of file).counts m r ≡ true → ListsSeconds (point (contents_at s) m r) ps →
       (k : TotalKey) → pairs_for file owners d ps k ≡ register_given (office_of file) s m r k
-  register-is owners d ps i h w c l (Energy o b e) =
+  register-is owners d ps i h w c l (Energy o p b e) =
       let told = point (contents_at s) m r in
-      let asked = class_seconds file owners o b.0 in
+      let asked = class_seconds file owners o p.0 b.0 in
       let pairs : register_energy asked told END_SECOND ≡ pairs_sum asked ps = energy-pairs asked told END_SECOND ps (listed told END_SECOND ps l (points-end (office_of file) s m r h)) in
-      let share = counted-share file owners s m r o b.0 (pairs_sum asked ps) w c (sym pairs) in
-      ap (λ n. in_way d e n) share ∙ ap (λ (x : Direction). in_way x e (share_of (office_of file) (contents_at s) (of_band (office_of file) o b.0) m r)) i
+      let share = counted-share file owners s m r o p.0 b.0 (pairs_sum asked ps) w c (sym pairs) in
+      ap (λ n. in_way d e n) share ∙ ap (λ (x : Direction). in_way x e (share_of (office_of file) (contents_at s) (of_class (office_of file) o p.0 b.0) m r)) i
   register-is owners d ps i h w c l (TopUps a) = refl
 
 -- ---- some registers
@@ -78,7 +78,7 @@ registers-more office s m rs i d k l = sum_by-drop_more (λ (r : Register). regi
 -- ---- all meters
 pub meters-all : (office : OfficeRules) (s : List Entry) (n : ℕ) (k : TotalKey) → n ≡ office.meters → sum_over (λ m. meter_given office s m k) 0 n ≡ energies_given office s k
 unfolding energy_where
-meters-all office s n (Energy o b d) e = ap (sum_over (λ m. meter_given office s m (Energy o b d)) 0) e
+meters-all office s n (Energy o p b d) e = ap (sum_over (λ m. meter_given office s m (Energy o p b d)) 0) e
 meters-all office s n (TopUps a) e = sum-none (λ m. 0) 0 n (λ t x y. refl)
 
 pub meter-room : (office : OfficeRules) (s : List Entry) (m : ℕ) (k : TotalKey) (old now : ℕ) → m < office.meters → now ≡ old + sum_over (λ i. meter_given office s i k) 0 m → old + energies_given office s k < 2 ^ 64 →
@@ -108,7 +108,7 @@ and-true false = refl
 
 pub paid-is : (e : Entry) (a : AccountId) (n p t : ℕ) (k : TotalKey) → e.content ≡ content.TopUp a n t → p ≡ n → let n : ℕ = cond (same_total (TopUps a) k) p 0 in n ≡ payment_given e k
 unfolding total_numbers
-paid-is e a n p t (Energy o b d) i j = refl
+paid-is e a n p t (Energy o q b d) i j = refl
 paid-is e a n p t (TopUps b) i j = rw (i, j) (ap (λ x. cond x n 0) (and-true (a.0 == b.0)))
 
 -- ---- what a list of readings or assignments tells

@@ -12,7 +12,7 @@ use Rattle.pw_model.specs.declared.records.Entry.{Entry}
 use Rattle.pw_model.specs.declared.records.TotalKey.{TotalKey}
 use Rattle.pw_model.specs.declared.records.TotalKey.TheVariants.{Energy, TopUps}
 use Rattle.pw_model.specs.Counting.{Member, IsNoWithdrawal, is_withdrawn, standing, Counts, contents_at, point, start, reading_key, assignment_key}
-use Rattle.pw_model.specs.Energy.{Asked, energy_where, of_band}
+use Rattle.pw_model.specs.Energy.{Asked, energy_where, of_class}
 use Rattle.pw_model.specs.Laws.{AreTopUps}
 use Rattle.pw_model.specs.Lists.{IsBeforeAll, IsInOrder, Lists}
 use Rattle.pw_model.specs.Office.{AllOfOffice, IsOffice, most_records}
@@ -129,18 +129,18 @@ module _ (s counted : List Entry) (l : Lists entry_order (Counts s) counted) whe
       c.sum es h ∙ sym ((top-ups_add_up s a).sum es t)
 
   pub totals-same : (office : OfficeRules) (k : TotalKey) → total_among office counted k ≡ total_among office s k
-  totals-same office (Energy o b d) = energies-same office d (of_band office o b.0)
+  totals-same office (Energy o p b d) = energies-same office d (of_class office o p.0 b.0)
   totals-same office (TopUps a) = topped-same a.0
 
 -- ---- totals of records that all count
 pub totals-whole : (office : OfficeRules) (s tops : List Entry) (k : TotalKey) → AreCounted office s → ListsHeld IsTopUp s tops → energies_given office s k + payments_given tops k ≡ total_among office s k
-totals-whole office s tops (Energy o b d) c l = omega arith
+totals-whole office s tops (Energy o p b d) c l = omega arith
 totals-whole office s tops (TopUps a) c l = let e = topped-up-is office s tops a.0 c.of_office (all-count IsTopUp s tops c.counting l) in omega (arith, e)
 
 pub total-fits : (office : OfficeRules) (s : List Entry) (k : TotalKey) → IsOffice office → AllOfOffice office s → length s ≤ most_records → total_among office s k < 2 ^ 64
-total-fits office s (Energy q b d) o h few = let f = energy-fits office s d (of_band office q b.0) o h few in omega (arith, f)
+total-fits office s (Energy q p b d) o h few = let f = energy-fits office s d (of_class office q p.0 b.0) o h few in omega (arith, f)
 total-fits office s (TopUps a) o h few = let f = topped-fits office s a.0 o h few in omega (arith, f)
 
 pub energies-fit : (office : OfficeRules) (s : List Entry) (k : TotalKey) → IsOffice office → AllOfOffice office s → length s ≤ most_records → energies_given office s k < 2 ^ 64
-energies-fit office s (Energy q b d) o h few = total-fits office s (Energy q b d) o h few
+energies-fit office s (Energy q p b d) o h few = total-fits office s (Energy q p b d) o h few
 energies-fit office s (TopUps a) o h few = omega arith

@@ -34,5 +34,5 @@ gathered side rows k = amount_told side (get total_key_order rows k)
 
 -- what the neighbouring pairs of a list of points of a direction give to a total
 abbrev pub pairs_for : OfficeFile → List (ℕ × Option AccountId) → Direction → List (ℕ × ℕ) → TotalKey → ℕ
-pairs_for office owners d points (Energy o b e) = cond (same_direction d e) (pairs_sum (class_seconds office owners o b.0) points) 0
+pairs_for office owners d points (Energy o p b e) = cond (same_direction d e) (pairs_sum (class_seconds office owners o p.0 b.0) points) 0
 pairs_for office owners d points (TopUps a) = 0

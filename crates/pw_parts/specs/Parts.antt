@@ -16,7 +16,7 @@ use Rattle.pw_parts.specs.declared.parts.Parts.{Parts}
 abbrev pub by_key : Entry → Entry → Ordering
 by_key e f = key_order e.key f.key
 
--- energies first, by owner (nobody first), band and direction; then top-ups, by account
+-- energies first, by owner (nobody first), period, band and direction; then top-ups, by account
 abbrev pub by_total : TotalKey × ℕ → TotalKey × ℕ → Ordering
 by_total a b = total_order a.0 b.0
 

@@ -129,6 +129,7 @@ impl Changes {
         for cell in cells {
             let key = TotalKey::Energy {
                 owner: cell.owner,
+                period: cell.period,
                 band: cell.band,
                 direction,
             };

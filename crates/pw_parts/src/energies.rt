@@ -18,7 +18,7 @@ use pw_tariff::{MeterId, Office, Owners};
 use pw_time::Zone;
 use std::alloc::{AllocError, Global};
 
-// Gives each owner and band what flows for them through all meters, told by records in order that all count.
+// Gives each owner, period and band what flows for them through all meters, told by records in order that all count.
 pub(crate) fn add_meters(
     totals: &mut Changes,
     alloc: Global,
@@ -36,7 +36,7 @@ pub(crate) fn add_meters(
     Ok(())
 }
 
-// Gives each owner and band what flows for them through a meter.
+// Gives each owner, period and band what flows for them through a meter.
 fn add_meter(
     totals: &mut Changes,
     alloc: Global,
@@ -63,8 +63,8 @@ fn add_meter(
     Ok(())
 }
 
-// Gives each owner and band what flows for them in a register of a meter with these owners: nothing where the register
-// doesn't count.
+// Gives each owner, period and band what flows for them in a register of a meter with these owners: nothing where the
+// register doesn't count.
 fn add_register(
     totals: &mut Changes,
     alloc: Global,

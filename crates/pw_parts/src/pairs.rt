@@ -1,4 +1,4 @@
-//! The energy that pairs of readings give to owners and bands.
+//! The energy that pairs of readings give to owners, periods and bands.
 
 ghost use Rattle.std.specs.Prelude.{◌≡◌, ℕ, ◌+◌, ◌*◌, ◌<◌, ◌≤◌, ◌^◌, Option, IfOk, OnOk, length};
 ghost use Rattle.pw_flow.specs.Energy.{cell};
@@ -44,7 +44,7 @@ pub fn add_pairs(
     Ok(())
 }
 
-// What each owner gets in each band of what flows between two readings: nothing where the later shows less.
+// What each owner gets in each period and band of what flows between two readings: nothing where the later shows less.
 fn cells_of_pair(
     alloc: Global,
     office: &Office,
@@ -53,7 +53,7 @@ fn cells_of_pair(
     from: Point,
     to: Point,
 ) -> Result<Vec<Cell>, AllocError>
-    ensures cells { from.0 < to.0 → IfOk result (λ cells. (o : Option AnAccount) (b : ℕ) → energy_in cells.items o b ≡ cell (class_seconds office.now owners.now o b) from to) }
+    ensures cells { from.0 < to.0 → IfOk result (λ cells. (o : Option AnAccount) (p b : ℕ) → energy_in cells.items o p b ≡ cell (class_seconds office.now owners.now o p b) from to) }
     ensures in_order { IfOk result (λ cells. AreInOrder cells.items) }
     ensures bound { IfOk result (λ cells. energy_of_all cells.items ≤ LARGEST_WATT_HOURS) }
 {

@@ -25,8 +25,8 @@ pub struct Parts {
     pub points: Vec<Entry>,
     /// The assignments that count, in the order of their keys.
     pub starts: Vec<Entry>,
-    /// The totals above 0, each with its key: energies in Wh first, by owner (nobody first), band and direction, then
-    /// top-ups in cents, by account.
+    /// The totals above 0, each with its key: energies in Wh first, by owner (nobody first), period, band and direction,
+    /// then top-ups in cents, by account.
     pub totals: Vec<(TotalKey, u64)>,
 }
 

@@ -9,7 +9,7 @@ use Rattle.pw_model.specs.declared.records.Entry.{Entry}
 use Rattle.pw_model.specs.Energy.{account, energy}
 use Rattle.pw_model.specs.Payments.{balance}
 use Rattle.pw_report.specs.Amounts.{balance_text}
-use Rattle.pw_report.specs.Exports.{energy_row_line}
+use Rattle.pw_report.specs.Exports.{energy_cost, energy_row, energy_row_line}
 use Rattle.pw_report.specs.Names.{account_name, band_name}
 use Rattle.pw_report.specs.Tables.{account_line, balance_line, band_line, energy_line}
 
@@ -31,9 +31,7 @@ energy-line file one other named s t u a b imported exported name f g h j k p q 
     let z : exported ≡ energy (office_of file) s (Some (account a)) b Export = q ∙ (λ i. energy (office_of (g i)) (k i) (Some (account a)) b Export) in
     λ i. band_line (x i) (decimal (y i)) (decimal (z i))
 
-pub row-line : (file asked named : OfficeFile) (s t : List Entry) (o : Option AccountId) (b : ℕ) (d : Direction) (wh : ℕ) → asked ≡ file → named ≡ file → t ≡ s →
-    wh ≡ energy (office_of asked) t o b d →
-    energy_row_line named (record { owner = o; band = b; direction = d; wh = wh }) ≡ energy_row_line file (record { owner = o; band = b; direction = d; wh = energy (office_of file) s o b d })
-row-line file asked named s t o b d wh f g h p =
-    let e : wh ≡ energy (office_of file) s o b d = p ∙ (λ i. energy (office_of (f i)) (h i) o b d) in
-    λ i. energy_row_line (g i) (record { owner = o; band = b; direction = d; wh = e i })
+pub row-line : (file named : OfficeFile) (s : List Entry) (o : Option AccountId) (b : ℕ) (d : Direction) (wh nano : ℕ) → named ≡ file →
+    wh ≡ energy (office_of file) s o b d → nano ≡ energy_cost file s o b d →
+    energy_row_line named (record { owner = o; band = b; direction = d; wh = wh; nano = nano }) ≡ energy_row_line file (energy_row file s o b d)
+row-line file named s o b d wh nano g p q = λ i. energy_row_line (g i) (record { owner = o; band = b; direction = d; wh = p i; nano = q i })

@@ -40,4 +40,4 @@ nothing-is-lost-in-export file s d sound of_office =
     let f : EnergyRow → ℕ = λ row. cond (same_direction row.direction d) row.wh 0 in
     sum_by-append f (owner_rows file s None) _
     ∙ (λ i. owner-sum file s d None i + sum-listed f (λ a. owner_rows file s (Some (account a))) (λ a. over_bands (office_of file) (λ b. energy (office_of file) s (Some (account a)) b d)) (length file.accounts) (λ a. owner-sum file s d (Some (account a))) i)
-    ∙ nothing-is_lost (office_of file) s d (bands-of file sound) of_office
+    ∙ nothing-is_lost (office_of file) s d (λ t. (bands-of file sound t).band) of_office

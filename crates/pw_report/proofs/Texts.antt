@@ -1,13 +1,13 @@
 -- Each page has one text.
-use Rattle.std.proofs.Common.{◌≡◌, ◌∙◌, ◌++◌, ℕ, List, length, Option, Some, None, [], ◌∷◌, ap, refl, sym}
+use Rattle.std.proofs.Common.{◌≡◌, ◌∙◌, ◌++◌, ◌*◌, ℕ, List, length, Option, Some, None, [], ◌∷◌, ap, refl, sym}
 use Rattle.std.specs.Prelude.{codes, decimal}
 use Rattle.std.specs.List.{flat_map}
 use Rattle.pw_tariff.specs.declared.ids.AccountId.{AccountId}
 use Rattle.pw_tariff.specs.declared.ids.Direction.{Direction}
 use Rattle.pw_tariff.specs.declared.ids.Direction.TheVariants.{Import, Export}
-use Rattle.pw_tariff.specs.Office.{OfficeFile, office_of}
+use Rattle.pw_tariff.specs.Office.{OfficeFile, office_of, price_at}
 use Rattle.pw_model.specs.declared.records.Entry.{Entry}
-use Rattle.pw_model.specs.Energy.{account}
+use Rattle.pw_model.specs.Energy.{account, over_periods}
 use Rattle.pw_model.specs.Kinds.{IsAssignment, IsTopUp, IsWithdrawal}
 use Rattle.pw_model.specs.Laws.{HaveSameAnswers}
 use Rattle.pw_model.proofs.Answers.{lists-are_at_most_one, order_counts_nothing}
@@ -17,7 +17,7 @@ use Rattle.pw_report.specs.declared.page.Page.{Page}
 use Rattle.pw_report.specs.declared.page.Page.TheVariants.{Statement, MeterReadings, Table}
 use Rattle.pw_report.specs.declared.page.Table.TheVariants.{Accounts, Falls, Disputes, Readings, Energies, Assignments, TopUps, Withdrawals}
 use Rattle.pw_report.specs.Amounts.{balance_text, euro_text}
-use Rattle.pw_report.specs.Exports.{EnergyRow, csv_line, energies_header, energies_text, energy_row_line, energy_rows, one_meter_text, owner_rows, readings_text, records_text}
+use Rattle.pw_report.specs.Exports.{EnergyRow, csv_line, energies_header, energies_text, energy_cost, energy_row_line, energy_rows, one_meter_text, owner_rows, readings_text, records_text}
 use Rattle.pw_report.specs.Laws.{EachPageHasOneText}
 use Rattle.pw_report.specs.Layout.{listed_below}
 use Rattle.pw_report.specs.Names.{account_name, band_name}
@@ -66,9 +66,10 @@ module _ (file : OfficeFile) (s t : List Entry) (h : HaveSameAnswers (office_of 
   accounts-same = λ i. account_line (codes "account") (codes "balance EUR") ++ listed_below (length file.accounts) (λ a. account_line (account_name file a) (balance_text (h.balances a i)))
 
   energies-same : energies_text file s ≡ energies_text file t
-  unfolding energies_text energy_rows owner_rows
+  unfolding energies_text energy_rows owner_rows energy_cost
   energies-same = λ i.
-      let row : Option AccountId → ℕ → Direction → EnergyRow = λ o b d. record { owner = o; band = b; direction = d; wh = h.energies o b d i } in
+      let nano = λ (o : Option AccountId) (b : ℕ) (d : Direction). over_periods (office_of file) (λ p. price_at file p b d * h.in_periods o p b d i) in
+      let row : Option AccountId → ℕ → Direction → EnergyRow = λ o b d. record { owner = o; band = b; direction = d; wh = h.energies o b d i; nano = nano o b d } in
       let rows = λ (o : Option AccountId). listed_below (length file.bands) (λ b. row o b Import ∷ row o b Export ∷ []) in
       csv_line energies_header ++ flat_map (energy_row_line file) (rows None ++ listed_below (length file.accounts) (λ a. rows (Some (account a))))
 

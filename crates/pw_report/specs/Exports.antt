@@ -20,7 +20,7 @@ use Rattle.pw_model.specs.declared.records.Entry.{Entry}
 use Rattle.pw_model.specs.declared.records.Named.{Named}
 use Rattle.pw_model.specs.declared.records.Named.TheVariants as named
 use Rattle.pw_model.specs.declared.records.ReadingRow.{ReadingRow}
-use Rattle.pw_model.specs.Energy.{account, energy}
+use Rattle.pw_model.specs.Energy.{account, energy, energy_in_period, over_periods}
 use Rattle.pw_record.specs.declared.row.RowKind.{RowKind}
 use Rattle.pw_record.specs.Row.{header_of}
 use Rattle.pw_report.specs.Layout.{instant_text, listed_below}
@@ -57,15 +57,20 @@ unfoldable pub one_meter_text : OfficeFile → ℕ → (Register → List Readin
 one_meter_text file m rows = csv_line readings_header ++ meter_lines (meter_name file m) rows
 
 -- ---- energies
--- the energy of an owner in a band and a direction, in Wh
+-- the energy of an owner in a band and a direction, in Wh, and what it costs, in nano-euro
 pub record EnergyRow : Type 0 where
   pub owner : Option AccountId
   pub band : ℕ
   pub direction : Direction
   pub wh : ℕ
+  pub nano : ℕ
+
+-- in each period at its price
+unfoldable pub energy_cost : OfficeFile → List Entry → Option AccountId → ℕ → Direction → ℕ
+energy_cost file s o b d = over_periods (office_of file) (λ p. price_at file p b d * energy_in_period (office_of file) s o p b d)
 
 abbrev pub energy_row : OfficeFile → List Entry → Option AccountId → ℕ → Direction → EnergyRow
-energy_row file s o b d = record { owner = o; band = b; direction = d; wh = energy (office_of file) s o b d }
+energy_row file s o b d = record { owner = o; band = b; direction = d; wh = energy (office_of file) s o b d; nano = energy_cost file s o b d }
 
 -- of an owner, band by band
 unfoldable pub owner_rows : OfficeFile → List Entry → Option AccountId → List EnergyRow
@@ -78,10 +83,9 @@ energy_rows file s = owner_rows file s None ++ listed_below (length file.account
 abbrev pub energies_header : List (List ℕ)
 energies_header = codes "owner" ∷ codes "band" ∷ codes "direction" ∷ codes "wh" ∷ codes "nano" ∷ []
 
--- with what the energy costs in nano-euro, by the price of its band and direction
 abbrev pub energy_row_line : OfficeFile → EnergyRow → List ℕ
 energy_row_line file row =
-    csv_line (owner_name file row.owner ∷ band_name file row.band ∷ direction_name row.direction ∷ decimal row.wh ∷ decimal (price_at file row.band row.direction * row.wh) ∷ [])
+    csv_line (owner_name file row.owner ∷ band_name file row.band ∷ direction_name row.direction ∷ decimal row.wh ∷ decimal row.nano ∷ [])
 
 unfoldable pub energies_text : OfficeFile → List Entry → List ℕ
 energies_text file s =

@@ -1,10 +1,10 @@
 //! The export of energies.
 
-ghost use Rattle.std.specs.Prelude.{◌≡◌, ◌++◌, ◌<◌, ℕ, List, [], IfErr, IfOk, OnOk, false, length};
+ghost use Rattle.std.specs.Prelude.{◌≡◌, ◌++◌, ◌*◌, ◌^◌, ◌<◌, ℕ, List, [], IfErr, IfOk, OnOk, false, length};
 ghost use Rattle.std.specs.List.{flat_map};
 ghost use Rattle.pw_book.specs.declared.fault.BookFault.TheVariants.{Memory};
 ghost use Rattle.pw_model.specs.Office.{HasOwner};
-ghost use Rattle.pw_report.specs.Exports.{csv_line, energies_header, energies_text, energy_row_line, owner_rows};
+ghost use Rattle.pw_report.specs.Exports.{csv_line, energies_header, energies_text, energy_cost, energy_row, energy_row_line, owner_rows};
 ghost use Rattle.pw_report.specs.Names.{owner_name as name_of_owner};
 ghost use Rattle.pw_report.specs.Reports.{IsReport};
 ghost use Rattle.pw_report.specs.inner.Rows.{HasText};
@@ -16,11 +16,11 @@ use crate::rows::Rows;
 use itoa::Buffer;
 use pw_book::{Book, BookFault};
 use pw_shelf::Shelf;
-use pw_tariff::{AccountId, BandId, Direction, Office, Owner};
+use pw_tariff::{AccountId, BandId, Direction, Office, Owner, PeriodId};
 use std::alloc::Global;
 
 /// The energies of nobody and of each account, band by band, as CSV: imported and exported Wh, and what they cost in
-/// nano-euro.
+/// nano-euro, each at the price of its period.
 ///
 /// `Device`, `Memory` and `Reopen` (of a shut book) leave the records as they are.
 pub fn export_energy<S: Shelf>(book: &mut Book<S>, alloc: Global) -> Result<Vec<u8>, BookFault>
@@ -63,29 +63,63 @@ fn put_owner<S: Shelf>(
 {
     for band in 0..book.office().bands() {
         let band = BandId(band);
-        let imported = book.energy(owner, band, Direction::Import)?;
-        put_energy(
-            rows,
-            book.office(),
-            owner,
-            band,
-            Direction::Import,
-            imported,
-        )?;
-        let exported = book.energy(owner, band, Direction::Export)?;
-        put_energy(
-            rows,
-            book.office(),
-            owner,
-            band,
-            Direction::Export,
-            exported,
-        )?;
+        put_direction(book, owner, band, Direction::Import, rows)?;
+        put_direction(book, owner, band, Direction::Export, rows)?;
     }
     Ok(())
 }
 
 // The energy of an owner in a band and a direction, with what it costs.
+fn put_direction<S: Shelf>(
+    book: &mut Book<S>,
+    owner: Owner,
+    band: BandId,
+    direction: Direction,
+    rows: &mut Rows,
+) -> Result<(), BookFault>
+    requires owner { HasOwner (office_of book.old.office) owner }
+    requires band { band.0 < length book.old.office.bands }
+    requires open_yet { book.old.shut ≡ false }
+    ensures text { S.clean book.new.shelf → (before : List ℕ) → HasText rows.old before [] → OnOk result (HasText rows.new (before ++ energy_row_line book.old.office (energy_row book.old.office (S.state book.old.shelf).content.records owner band.0 direction)) []) }
+    ensures report { IsReport S.Shelf result book.old book.new }
+{
+    let wh = book.energy(owner, band, direction)?;
+    let nano = cost(book, owner, band, direction)?;
+    put_energy(rows, book.office(), owner, band, direction, wh, nano)?;
+    Ok(())
+}
+
+// What the energy of an owner in a band and a direction costs, in nano-euro: in each period at its price.
+fn cost<S: Shelf>(
+    book: &mut Book<S>,
+    owner: Owner,
+    band: BandId,
+    direction: Direction,
+) -> Result<u128, BookFault>
+    requires owner { HasOwner (office_of book.old.office) owner }
+    requires band { band.0 < length book.old.office.bands }
+    requires open_yet { book.old.shut ≡ false }
+    ensures cost { S.clean book.new.shelf → IfOk result (λ nano. nano ≡ energy_cost book.old.office (S.state book.old.shelf).content.records owner band.0 direction) }
+    ensures report { IsReport S.Shelf result book.old book.new }
+{
+    let mut nano: u128 = 0;
+    for period in 0..book.office().periods() {
+        let period = PeriodId(period);
+        let wh = book.energy_in(owner, period, band, direction)?;
+        nano += price_of(wh, book.office().price(period, band, direction));
+    }
+    Ok(nano)
+}
+
+// What energy costs at a price, in nano-euro.
+fn price_of(wh: u64, price: u32) -> u128
+    ensures price { result ≡ price * wh }
+    ensures bound { result < 2 ^ 96 }
+{
+    u128::from(price) * u128::from(wh)
+}
+
+// A row: the energy of an owner in a band and a direction, in Wh, and what it costs, in nano-euro.
 fn put_energy(
     rows: &mut Rows,
     office: &Office,
@@ -93,13 +127,13 @@ fn put_energy(
     band: BandId,
     direction: Direction,
     wh: u64,
+    nano: u128,
 ) -> Result<(), BookFault>
     requires owner { HasOwner (office_of office.now) owner }
     requires band { band.0 < length office.now.bands }
-    ensures text { (before : List ℕ) → HasText rows.old before [] → OnOk result (HasText rows.new (before ++ energy_row_line office.now (record { owner = owner; band = band.0; direction = direction; wh = wh })) []) }
+    ensures text { (before : List ℕ) → HasText rows.old before [] → OnOk result (HasText rows.new (before ++ energy_row_line office.now (record { owner = owner; band = band.0; direction = direction; wh = wh; nano = nano })) []) }
     ensures fault { IfErr result (λ fault. fault ≡ Memory) }
 {
-    let nano = u128::from(office.price(band, direction)) * u128::from(wh);
     rows.put(owner_name(office, owner))?;
     rows.put(&[band_letter(office, band)])?;
     rows.put(direction.name().as_bytes())?;

@@ -18,6 +18,11 @@ pub fn day_begin(day: u32) -> u32 {
     BEGIN.saturating_add(day.saturating_mul(86_400))
 }
 
+/// The second of a day's noon in UTC.
+pub fn noon(day: u32) -> u32 {
+    day_begin(day).saturating_add(43_200)
+}
+
 /// The second of the first midnight of Central European time.
 pub fn first_midnight() -> u32 {
     BEGIN - 3600

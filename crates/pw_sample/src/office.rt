@@ -1,6 +1,7 @@
 //! The office file of a sample.
 
 use crate::meter::{Clock, Meter, Shown};
+use crate::moment::{push_bytes, utc_text};
 use std::alloc::{AllocError, Global};
 
 const WEEK: &str = r#"week = [
@@ -12,7 +13,9 @@ const WEEK: &str = r#"week = [
   "LLLLLLLLLLLLLLLLLLLLLLLL",
   "LLLLLLLLLLLLLLLLLLLLLLLL",
 ]
+"#;
 
+const BANDS: &str = r#"
 [[band]]
 name = "L"
 import = 200000
@@ -22,6 +25,11 @@ export = 50000
 name = "H"
 import = 300000
 export = 50000
+"#;
+
+/// What the bands cost once import is dearer.
+const LATER_PRICES: &str = r#"import = [220000, 330000]
+export = [50000, 50000]
 "#;
 
 /// Adds the name of the account at a place of the office file.
@@ -40,8 +48,13 @@ pub fn account_list(alloc: Global, accounts: u32) -> Result<String, AllocError> 
     Ok(text)
 }
 
-/// The office file: accounts, week and bands, meters.
-pub fn office_text(alloc: Global, accounts: u32, meters: &[Meter]) -> Result<String, AllocError> {
+/// The office file: accounts, week and bands, the period that begins at a second, meters.
+pub fn office_text(
+    alloc: Global,
+    accounts: u32,
+    later: u32,
+    meters: &[Meter],
+) -> Result<String, AllocError> {
     let mut text = String::from_str(alloc, "accounts = [\n")?;
     for account in 0..accounts {
         text.push_str("  \"")?;
@@ -50,10 +63,21 @@ pub fn office_text(alloc: Global, accounts: u32, meters: &[Meter]) -> Result<Str
     }
     text.push_str("]\n")?;
     text.push_str(WEEK)?;
+    text.push_str(BANDS)?;
+    push_period(&mut text, later)?;
     for meter in meters {
         push_meter(&mut text, meter)?;
     }
     Ok(text)
+}
+
+// The period in which import is dearer, in the same week.
+fn push_period(text: &mut String, start: u32) -> Result<(), AllocError> {
+    text.push_str("\n[[period]]\nstart = \"")?;
+    push_bytes(text, &utc_text(start))?;
+    text.push_str("\"\n")?;
+    text.push_str(WEEK)?;
+    text.push_str(LATER_PRICES)
 }
 
 fn push_meter(text: &mut String, meter: &Meter) -> Result<(), AllocError> {

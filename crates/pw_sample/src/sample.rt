@@ -6,7 +6,7 @@ use crate::fault::Fault;
 use crate::figures::{Figures, more};
 use crate::folder::Folder;
 use crate::meter::{Clock, Meter, NO_PLAN, Plan, first_account};
-use crate::moment::{QUARTERS, day_begin, first_midnight};
+use crate::moment::{QUARTERS, day_begin, first_midnight, noon};
 use crate::office::{account_list, office_text};
 use crate::rows::{Comes, topup_row};
 use std::alloc::Global;
@@ -39,7 +39,7 @@ pub fn make_sample(
     let mut draws = Draws::new(seed);
     let accounts = first_account(meters.saturating_sub(1)).saturating_add(1);
     let meters = all_meters(alloc, meters, &mut draws)?;
-    let office = office_text(alloc, accounts, meters.as_slice())?;
+    let office = office_text(alloc, accounts, noon(days / 2), meters.as_slice())?;
     folder.write("office.toml", office.as_bytes())?;
     folder.write("accounts", account_list(alloc, accounts)?.as_bytes())?;
     let figures = Figures::of(accounts, meters.as_slice());

@@ -8,6 +8,7 @@ pub mod Creating
 pub mod Making
 pub mod OfficeRow
 pub mod Version
+pub mod Emptied
 pub mod Raising
 pub mod Shapes
 pub mod Stripped

@@ -17,7 +17,7 @@ use Rattle.sqlite.proofs.Callers.{IsPlain, command_of}
 use Rattle.pw_schema.specs.Conflicts.{listing, only_text}
 use Rattle.pw_schema.specs.Tables.{IsKnown, schema_of}
 use Rattle.pw_schema.specs.declared.kind.StoreVersion.{StoreVersion}
-use Rattle.pw_schema.specs.declared.kind.StoreVersion.TheVariants.{First, Second}
+use Rattle.pw_schema.specs.declared.kind.StoreVersion.TheVariants.{First, Second, Third}
 use Rattle.pw_schema.specs.inner.Listed.{ShowsTexts}
 use Rattle.pw_schema.proofs.Scans.{outputs, scans}
 
@@ -41,16 +41,19 @@ texts_is : (v : StoreVersion) → command_of (understood (schema_of v) texts_tex
 unfolding understood everything listing_schema
 texts_is First = refl
 texts_is Second = refl
+texts_is Third = refl
 
 texts_plain : (v : StoreVersion) → IsPlain (understood (schema_of v) texts_text)
 unfolding understood everything listing_schema
 texts_plain First = (refl, refl)
 texts_plain Second = (refl, refl)
+texts_plain Third = (refl, refl)
 
 texts_listed : (v : StoreVersion) → reads_listing (schema_of v) texts_text ≡ true
 unfolding understood everything
 texts_listed First = refl
 texts_listed Second = refl
+texts_listed Third = refl
 
 pub known_plain : (s : Schema) → IsKnown s → IsPlain (understood s texts_text)
 known_plain s known = subst (λ t. IsPlain (understood t texts_text)) (sym known.1) (texts_plain known.0)

@@ -27,10 +27,10 @@ use Rattle.pw_schema.proofs.Outcomes.{fails, keeps_commit}
 use Rattle.sqlite.proofs.InsideLemmas.{unchanged_keeps}
 
 abbrev pub put_office_text : List ℕ
-put_office_text = codes "INSERT INTO office (id, version, body) VALUES (1, 2, ?1)"
+put_office_text = codes "INSERT INTO office (id, version, body) VALUES (1, 3, ?1)"
 
 abbrev terms : List Term
-terms = lit (Int (pos 1)) ∷ lit Null ∷ lit (Int (pos 2)) ∷ col 0 0 ∷ []
+terms = lit (Int (pos 1)) ∷ lit Null ∷ lit (Int (pos 3)) ∷ col 0 0 ∷ []
 
 pub put_office_is : command_of (understood (ours_with only_one) put_office_text) ≡ Insert 0 (Values terms 4)
 unfolding understood everything
@@ -75,7 +75,7 @@ module _ (old new : State) (body : List ℕ) (count : ℕ) (blank : IsBlank (our
       let t = it.tables in
       record {
         schema_is = applied.0;
-        office = it.rows ∙ rw (cast_null, cast_int 1, cast_int 2, empty.0) refl;
+        office = it.rows ∙ rw (cast_null, cast_int 1, cast_int 3, empty.0) refl;
         reading = t.1.0 (λ e. absurd (omega (arith, e))) ∙ empty.1.0;
         assignment = t.1.1.0 (λ e. absurd (omega (arith, e))) ∙ empty.1.1.0;
         topup = t.1.1.1.0 (λ e. absurd (omega (arith, e))) ∙ empty.1.1.1.0;
@@ -86,6 +86,7 @@ module _ (old new : State) (body : List ℕ) (count : ℕ) (blank : IsBlank (our
         withdrawn_reading = t.1.1.1.1.1.1.1.1.0 (λ e. absurd (omega (arith, e))) ∙ empty.1.1.1.1.1.1.1.1.0;
         withdrawn_assignment = t.1.1.1.1.1.1.1.1.1.0 (λ e. absurd (omega (arith, e))) ∙ empty.1.1.1.1.1.1.1.1.1.0;
         withdrawn_topup = t.1.1.1.1.1.1.1.1.1.1.0 (λ e. absurd (omega (arith, e))) ∙ empty.1.1.1.1.1.1.1.1.1.1.0;
+        period_total = t.1.1.1.1.1.1.1.1.1.1.1.0 (λ e. absurd (omega (arith, e))) ∙ empty.1.1.1.1.1.1.1.1.1.1.1.0;
       }
 
   pub listed : IsDatabase new.now

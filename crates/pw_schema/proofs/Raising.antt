@@ -1,26 +1,25 @@
--- What three tables more, and the version that is set, make of the trees of version 1.
-use Rattle.std.proofs.Common.{◌++◌, ◌∙◌}
+-- What is made of the trees of a store that is brought to version 3, one statement behind the other.
+use Rattle.std.proofs.Common.{refl, ◌∙◌}
 use Rattle.sqlite.specs.Tree.{Trees}
-use Rattle.pw_schema.specs.Raised.{HasSame, IsRaised, first_trees, later_trees}
-use Rattle.pw_schema.specs.declared.table.StoreTable.TheVariants.{WithdrawnReadings, WithdrawnAssignments, WithdrawnTopUps}
-use Rattle.pw_schema.specs.inner.Stages.{Grows}
+use Rattle.pw_schema.specs.Raised.{HasSame, IsRaised, lasting_trees}
+use Rattle.pw_schema.specs.declared.kind.StoreVersion.{StoreVersion}
+use Rattle.pw_schema.specs.declared.kind.StoreVersion.TheVariants.{First, Second, Third}
 
--- the three, one behind the other
-pub three : (a b c d : Trees) → Grows WithdrawnReadings a b → Grows WithdrawnAssignments b c → Grows WithdrawnTopUps c d → IsRaised a d
-three a b c d p q r =
-    let x = p.others in
-    let y = q.others in
-    let z = r.others in
-    record {
-      same = (z.1.0 ∙ y.1.0 ∙ x.1.0, (z.1.1.0 ∙ y.1.1.0 ∙ x.1.1.0, (z.1.1.1.0 ∙ y.1.1.1.0 ∙ x.1.1.1.0, (z.1.1.1.1.0 ∙ y.1.1.1.1.0 ∙ x.1.1.1.1.0, (z.1.1.1.1.1.0 ∙ y.1.1.1.1.1.0 ∙ x.1.1.1.1.1.0, (z.1.1.1.1.1.1.0 ∙ y.1.1.1.1.1.1.0 ∙ x.1.1.1.1.1.1.0, (z.1.1.1.1.1.1.1.0 ∙ y.1.1.1.1.1.1.1.0 ∙ x.1.1.1.1.1.1.1.0, tt)))))));
-      empty = (z.1.1.1.1.1.1.1.1.0 ∙ y.1.1.1.1.1.1.1.1.0 ∙ p.empty, (z.1.1.1.1.1.1.1.1.1.0 ∙ q.empty, (r.empty, tt)));
-    }
+-- where the rows that stay are the same
+pub raised_on : (v : StoreVersion) (a b c : Trees) → IsRaised v a b → HasSame lasting_trees b c → IsRaised v a c
+raised_on First a b c r s = record {
+  same = (s.0 ∙ r.same.0, (s.1.0 ∙ r.same.1.0, (s.1.1.0 ∙ r.same.1.1.0, (s.1.1.1.0 ∙ r.same.1.1.1.0, (s.1.1.1.1.0 ∙ r.same.1.1.1.1.0, (s.1.1.1.1.1.0 ∙ r.same.1.1.1.1.1.0, tt))))));
+  empty = (s.1.1.1.1.1.1.0 ∙ r.empty.0, (s.1.1.1.1.1.1.1.0 ∙ r.empty.1.0, (s.1.1.1.1.1.1.1.1.0 ∙ r.empty.1.1.0, tt)));
+}
+raised_on Second a b c r s = record {
+  same = (s.0 ∙ r.same.0, (s.1.0 ∙ r.same.1.0, (s.1.1.0 ∙ r.same.1.1.0, (s.1.1.1.0 ∙ r.same.1.1.1.0, (s.1.1.1.1.0 ∙ r.same.1.1.1.1.0, (s.1.1.1.1.1.0 ∙ r.same.1.1.1.1.1.0, (s.1.1.1.1.1.1.0 ∙ r.same.1.1.1.1.1.1.0, (s.1.1.1.1.1.1.1.0 ∙ r.same.1.1.1.1.1.1.1.0, (s.1.1.1.1.1.1.1.1.0 ∙ r.same.1.1.1.1.1.1.1.1.0, tt)))))))));
+  empty = tt;
+}
+raised_on Third a b c r s = record {
+  same = (s.0 ∙ r.same.0, (s.1.0 ∙ r.same.1.0, (s.1.1.0 ∙ r.same.1.1.0, (s.1.1.1.0 ∙ r.same.1.1.1.0, (s.1.1.1.1.0 ∙ r.same.1.1.1.1.0, (s.1.1.1.1.1.0 ∙ r.same.1.1.1.1.1.0, (s.1.1.1.1.1.1.0 ∙ r.same.1.1.1.1.1.1.0, (s.1.1.1.1.1.1.1.0 ∙ r.same.1.1.1.1.1.1.1.0, (s.1.1.1.1.1.1.1.1.0 ∙ r.same.1.1.1.1.1.1.1.1.0, tt)))))))));
+  empty = tt;
+}
 
-pub raised_on : (a b c : Trees) → IsRaised a b → HasSame (first_trees ++ later_trees) b c → IsRaised a c
-raised_on a b c r s =
-    let t = r.same in
-    let e = r.empty in
-    record {
-      same = (s.0 ∙ t.0, (s.1.0 ∙ t.1.0, (s.1.1.0 ∙ t.1.1.0, (s.1.1.1.0 ∙ t.1.1.1.0, (s.1.1.1.1.0 ∙ t.1.1.1.1.0, (s.1.1.1.1.1.0 ∙ t.1.1.1.1.1.0, (s.1.1.1.1.1.1.0 ∙ t.1.1.1.1.1.1.0, tt)))))));
-      empty = (s.1.1.1.1.1.1.1.0 ∙ e.0, (s.1.1.1.1.1.1.1.1.0 ∙ e.1.0, (s.1.1.1.1.1.1.1.1.1.0 ∙ e.1.1.0, tt)));
-    }
+-- where nothing is done
+pub raised_itself : (db : Trees) → IsRaised Third db db
+raised_itself db = record { same = (refl, (refl, (refl, (refl, (refl, (refl, (refl, (refl, (refl, tt))))))))); empty = tt }

@@ -22,11 +22,12 @@ directions_one Export Export h = refl
 
 pub totals_one : (k l : TotalKey) → total_numbers k ≡ total_numbers l → k ≡ l
 unfolding total_numbers
-totals_one (Energy o b d) (Energy p c e) h =
-    let i : owner_place o ≡ owner_place p = cc in
-    let j : b.0 ≡ c.0 = cc in
-    let k : direction_place d ≡ direction_place e = cc in
-    λ n. Energy (owners_one o p i n) (record { 0 = j n }) (directions_one d e k n)
+totals_one (Energy o p b d) (Energy q r c e) h =
+    let i : owner_place o ≡ owner_place q = cc in
+    let j : p.0 ≡ r.0 = cc in
+    let k : b.0 ≡ c.0 = cc in
+    let l : direction_place d ≡ direction_place e = cc in
+    λ n. Energy (owners_one o q i n) (record { 0 = j n }) (record { 0 = k n }) (directions_one d e l n)
 totals_one (TopUps a) (TopUps b) h = let i : a.0 ≡ b.0 = cc in λ n. TopUps (record { 0 = i n })
-totals_one (Energy o b d) (TopUps a) h = cc
-totals_one (TopUps a) (Energy o b d) h = cc
+totals_one (Energy o p b d) (TopUps a) h = cc
+totals_one (TopUps a) (Energy o p b d) h = cc

@@ -1,5 +1,5 @@
 -- What the UPDATE of the version leaves as it was.
-use Rattle.std.proofs.Common.{◌≡◌, ℕ, pos, negsuc, List, [], ◌∷◌, ◌++◌, codes, false, cond, None, Option, Ok, Err, Result, OnOk, sym, ap, subst, ◌∙◌, refl, arith}
+use Rattle.std.proofs.Common.{◌≡◌, ℕ, pos, negsuc, List, [], ◌∷◌, codes, false, cond, None, Option, Ok, Err, Result, OnOk, sym, ap, subst, ◌∙◌, refl, arith}
 use Rattle.sqlite.specs.Order.{Row}
 use Rattle.sqlite.specs.declared.error.Error.{Error}
 use Rattle.sqlite.specs.Table.{Table}
@@ -29,7 +29,7 @@ use Rattle.sqlite_sql.specs.declared.ops.CompareOp.TheVariants.{Eq}
 use Rattle.sqlite_tied.specs.Compute.{everything}
 use Rattle.sqlite.proofs.Callers.{IsPlain}
 use Rattle.pw_schema.specs.Fresh.{IsWithin}
-use Rattle.pw_schema.specs.Raised.{HasSame, first_trees, later_trees}
+use Rattle.pw_schema.specs.Raised.{HasSame, lasting_trees}
 use Rattle.pw_schema.specs.Tables.{office_at, only_one, ours_with}
 use Rattle.pw_schema.proofs.Outcomes.{fails, keeps_commit}
 use Rattle.pw_schema.proofs.Steps.{went, same_value, plain_task, uncounted}
@@ -50,14 +50,14 @@ one_update limit keys schema t params mode db at q tally after none h =
     (ap (λ (d : Database). d.schema) now, (given.0, subst (Applies schema keys db (edit_of db (uncounted t) (ids_of given.0) Given 1 given.0)) after_trees got))
 
 abbrev pub set_version_text : List ℕ
-set_version_text = codes "UPDATE office SET version = 2 WHERE id = 1"
+set_version_text = codes "UPDATE office SET version = 3 WHERE id = 1"
 
 abbrev set_version_query : Query
 set_version_query = record {
   from = inner 0 end;
   filter = op2 (Compare Eq Binary) (col 1 0) (lit (Int (pos 1))) ∷ [];
   group = None;
-  project = col 1 0 ∷ col 1 0 ∷ lit Null ∷ lit (Int (pos 2)) ∷ col 1 3 ∷ [];
+  project = col 1 0 ∷ col 1 0 ∷ lit Null ∷ lit (Int (pos 3)) ∷ col 1 3 ∷ [];
   distinct = false;
   collations = [];
   order = [];
@@ -91,16 +91,16 @@ module _ (old new : State) (at : IsWithin own old) where
     shown : Shows old new new.now (cond old.in_transaction old.committed new.now) old.in_transaction
     shown = (runs_as set_version_text [] old new own at.schema_is (Update 0 program) set_version_is set_version_plain count h).shown
 
-    others : HasSame (first_trees ++ later_trees) old.now.trees new.now.trees
+    others : HasSame lasting_trees old.now.trees new.now.trees
     others =
         let t = applied.1.1.tables in
-        (t.1.0 (λ e. absurd (omega (arith, e))), (t.1.1.0 (λ e. absurd (omega (arith, e))), (t.1.1.1.0 (λ e. absurd (omega (arith, e))), (t.1.1.1.1.0 (λ e. absurd (omega (arith, e))), (t.1.1.1.1.1.0 (λ e. absurd (omega (arith, e))), (t.1.1.1.1.1.1.0 (λ e. absurd (omega (arith, e))), (t.1.1.1.1.1.1.1.0 (λ e. absurd (omega (arith, e))), (t.1.1.1.1.1.1.1.1.0 (λ e. absurd (omega (arith, e))), (t.1.1.1.1.1.1.1.1.1.0 (λ e. absurd (omega (arith, e))), (t.1.1.1.1.1.1.1.1.1.1.0 (λ e. absurd (omega (arith, e))), tt))))))))))
+        (t.1.0 (λ e. absurd (omega (arith, e))), (t.1.1.0 (λ e. absurd (omega (arith, e))), (t.1.1.1.0 (λ e. absurd (omega (arith, e))), (t.1.1.1.1.0 (λ e. absurd (omega (arith, e))), (t.1.1.1.1.1.0 (λ e. absurd (omega (arith, e))), (t.1.1.1.1.1.1.1.0 (λ e. absurd (omega (arith, e))), (t.1.1.1.1.1.1.1.1.0 (λ e. absurd (omega (arith, e))), (t.1.1.1.1.1.1.1.1.1.0 (λ e. absurd (omega (arith, e))), (t.1.1.1.1.1.1.1.1.1.1.0 (λ e. absurd (omega (arith, e))), tt)))))))))
 
   pub version_within : (r : Result ℕ Error) → Executes set_version_text [] old new r → OnOk r (IsWithin own new)
   version_within (Err e) h = tt
   version_within (Ok n) h = record { is_open = (shown n h).is_open; inside = (shown n h).mode ∙ at.inside; schema_is = (applied n h).0 }
 
-  pub version_same : (r : Result ℕ Error) → Executes set_version_text [] old new r → OnOk r (HasSame (first_trees ++ later_trees) old.now.trees new.now.trees)
+  pub version_same : (r : Result ℕ Error) → Executes set_version_text [] old new r → OnOk r (HasSame lasting_trees old.now.trees new.now.trees)
   version_same (Err e) h = tt
   version_same (Ok n) h = others n h
 

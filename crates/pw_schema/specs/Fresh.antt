@@ -10,9 +10,9 @@ use Rattle.sqlite.specs.State.{State}
 use Rattle.pw_schema.specs.Conflicts.{AreWithoutConflict}
 use Rattle.pw_schema.specs.Tables.{ours_with, only_one}
 
--- the one row of `office`: its id, which is the rowid and kept as NULL, version 2, and the office file's bytes
+-- the one row of `office`: its id, which is the rowid and kept as NULL, version 3, and the office file's bytes
 abbrev pub office_row : List ℕ → Row
-office_row body = Int (pos 1) ∷ Null ∷ Int (pos 2) ∷ Blob body ∷ []
+office_row body = Int (pos 1) ∷ Null ∷ Int (pos 3) ∷ Blob body ∷ []
 
 -- all tables, with the office alone
 pub record IsFresh (body : List ℕ) (db : Database) : Type 0 where
@@ -28,6 +28,7 @@ pub record IsFresh (body : List ℕ) (db : Database) : Type 0 where
   pub withdrawn_reading : db.trees 14 ≡ []
   pub withdrawn_assignment : db.trees 16 ≡ []
   pub withdrawn_topup : db.trees 18 ≡ []
+  pub period_total : db.trees 20 ≡ []
 
 -- such a database, whose file lists these tables, in whose texts no conflict is spoken of
 pub record IsNew (body : List ℕ) (db : Database) : Type 0 where

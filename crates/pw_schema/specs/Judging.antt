@@ -16,7 +16,7 @@ use Rattle.pw_model.specs.Lists.{IsInOrder}
 use Rattle.pw_model.specs.Office.{HasOwner, IsOfOffice}
 use Rattle.pw_schema.specs.declared.kind.RecordKind.{RecordKind}
 use Rattle.pw_schema.specs.declared.kind.StoreVersion.{StoreVersion}
-use Rattle.pw_schema.specs.declared.kind.StoreVersion.TheVariants.{Second}
+use Rattle.pw_schema.specs.declared.kind.StoreVersion.TheVariants.{Third}
 use Rattle.pw_schema.specs.declared.kind.TotalKind.{TotalKind}
 use Rattle.pw_schema.specs.Tables.{version_number}
 use Rattle.pw_schema.specs.Rows.{told, Tells, told_key, told_amount, TellsTotal}
@@ -37,9 +37,9 @@ pub record AreInOrder (office : OfficeRules) (k : RecordKind) (rows : List Row) 
   pub rising : IsInOrder entry_order (map (told k) rows)
 
 -- ---- totals
--- the key of a total names an owner and a band, or an account, of the office
+-- the key of a total names an owner, a period and a band, or an account, of the office
 abbrev pub IsTotalOf : OfficeRules → TotalKey → Type 0
-IsTotalOf office (Energy o b d) = HasOwner office o × (b.0 < office.bands)
+IsTotalOf office (Energy o p b d) = HasOwner office o × (p.0 < office.periods) × (b.0 < office.bands)
 IsTotalOf office (TopUps a) = a.0 < office.accounts
 
 abbrev pub IsTotal : OfficeRules → TotalKind → Row → Type 0
@@ -85,7 +85,7 @@ KeepsVersion v body rows =
 
 -- so it is of an opened store
 abbrev pub KeepsOffice : List ℕ → List Row → Type 0
-KeepsOffice = KeepsVersion Second
+KeepsOffice = KeepsVersion Third
 
 -- there is a row, of this version
 abbrev pub HasVersion : StoreVersion → List Row → Type 0

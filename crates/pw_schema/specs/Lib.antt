@@ -3,7 +3,7 @@
 -- Calls: what calls leave of a connection, by their answer
 -- Conflicts: whether the texts of a file's objects say what becomes of a row that breaks a rule
 -- Fresh: what a new store holds
--- Raised: what the upgrade of a store of version 1 makes of its trees
+-- Raised: what bringing a store to version 3 makes of its trees
 -- Rows: what the rows of the tables say
 -- Judging: which rows are of an office, and what the row of `office` says
 -- Judges: what a judge is behind the rows that it took, one at a time

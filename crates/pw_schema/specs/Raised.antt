@@ -1,21 +1,35 @@
--- What the upgrade of a store of version 1 makes of its trees.
+-- What bringing a store to version 3 makes of its trees.
 -- (Definitions of this project.)
 use Rattle.std.specs.Prelude.{◌≡◌, ℕ, List, [], ◌∷◌}
 use Rattle.std.specs.List.{AllByRecursion}
 use Rattle.sqlite.specs.Tree.{Trees}
+use Rattle.pw_schema.specs.declared.kind.StoreVersion.{StoreVersion}
+use Rattle.pw_schema.specs.declared.kind.StoreVersion.TheVariants.{First, Second, Third}
 
--- those of version 1 but for `office`: of records, points, starts and totals
-abbrev pub first_trees : List ℕ
-first_trees = 1 ∷ 3 ∷ 5 ∷ 7 ∷ 9 ∷ 11 ∷ 13 ∷ []
+-- whose rows stay: those of records, points, starts and totals of top-ups. The row of `office` gets another version, `total`
+-- is emptied, and totals of energy are put by period
+abbrev pub lasting_trees : List ℕ
+lasting_trees = 1 ∷ 3 ∷ 5 ∷ 7 ∷ 9 ∷ 13 ∷ 14 ∷ 16 ∷ 18 ∷ []
 
--- those of the three tables that version 2 has more
-abbrev pub later_trees : List ℕ
-later_trees = 14 ∷ 16 ∷ 18 ∷ []
+-- of these, those that a version has
+abbrev pub kept_trees : StoreVersion → List ℕ
+kept_trees First = 1 ∷ 3 ∷ 5 ∷ 7 ∷ 9 ∷ 13 ∷ []
+kept_trees Second = lasting_trees
+kept_trees Third = lasting_trees
+
+-- and those that it lacks: of withdrawn records
+abbrev pub lacked_trees : StoreVersion → List ℕ
+lacked_trees First = 14 ∷ 16 ∷ 18 ∷ []
+lacked_trees Second = []
+lacked_trees Third = []
 
 abbrev pub HasSame : List ℕ → Trees → Trees → Type 0
 HasSame trees before db = AllByRecursion (λ t. db t ≡ before t) trees
 
--- the rows of the seven tables are as they were, and those of the three are none
-pub record IsRaised (before db : Trees) : Type 0 where
-  pub same : HasSame first_trees before db
-  pub empty : AllByRecursion (λ t. db t ≡ []) later_trees
+abbrev pub AreEmpty : List ℕ → Trees → Type 0
+AreEmpty trees db = AllByRecursion (λ t. db t ≡ []) trees
+
+-- the rows that the version has are as they were, and the tables that it lacked have none
+pub record IsRaised (v : StoreVersion) (before db : Trees) : Type 0 where
+  pub same : HasSame (kept_trees v) before db
+  pub empty : AreEmpty (lacked_trees v) db

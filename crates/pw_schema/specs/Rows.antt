@@ -126,19 +126,19 @@ pub record ReadsRows (k : RecordKind) (rows : List Row) (found : List Entry) : T
   pub rising : IsInOrder entry_order found
 
 -- ---- totals
--- of a table of energies: owner, band, direction, Wh; of payments: account, cents
+-- of a table of energies: owner, period, band, direction, Wh; of payments: account, cents
 abbrev pub told_key : TotalKind → Row → TotalKey
 told_key Energies r =
-    Energy (owner_at (number (column r 0))) (record { 0 = number (column r 1) }) (direction_at (number (column r 2)))
+    Energy (owner_at (number (column r 0))) (record { 0 = number (column r 1) }) (record { 0 = number (column r 2) }) (direction_at (number (column r 3)))
 told_key Payments r = TotalOfTopUps (record { 0 = number (column r 0) })
 
 abbrev pub told_amount : TotalKind → Row → ℕ
-told_amount Energies r = number (column r 3)
+told_amount Energies r = number (column r 4)
 told_amount Payments r = number (column r 1)
 
 abbrev pub TellsTotal : TotalKind → Row → Type 0
 TellsTotal Energies r =
-    IsNumber (column r 0) × (IsNumber (column r 1) × (IsDirection (column r 2) × IsNumber (column r 3)))
+    IsNumber (column r 0) × (IsNumber (column r 1) × (IsNumber (column r 2) × (IsDirection (column r 3) × IsNumber (column r 4))))
 TellsTotal Payments r = IsNumber (column r 0) × IsNumber (column r 1)
 
 -- ---- what is told of a key, from two rows at most

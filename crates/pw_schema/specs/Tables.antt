@@ -1,4 +1,4 @@
--- The tables: the eight of version 1, and behind them the three of version 2.
+-- The tables: the eight of version 1, behind them the three of version 2, and behind these the one of version 3.
 -- (A format of this project. Trees are numbered by the place of their object in the file's list of objects, from 0; an
 -- index that SQLite makes for a key stands directly behind its table.)
 use Rattle.std.specs.Prelude.{◌≡◌, ℕ, ◌+◌, pos, true, false, [], ◌∷◌, Some, None, codes, List, take}
@@ -15,7 +15,7 @@ use Rattle.sqlite_sql.specs.declared.ops.BinaryOp.TheVariants.{Compare}
 use Rattle.sqlite_sql.specs.declared.ops.CompareOp.TheVariants.{Eq}
 use Rattle.sqlite_value.specs.Keys.{plain}
 use Rattle.pw_schema.specs.declared.kind.StoreVersion.{StoreVersion}
-use Rattle.pw_schema.specs.declared.kind.StoreVersion.TheVariants.{First, Second}
+use Rattle.pw_schema.specs.declared.kind.StoreVersion.TheVariants.{First, Second, Third}
 
 -- ---- the parts of a table
 -- a column that takes values of its type alone, and no NULL
@@ -99,6 +99,10 @@ withdrawn_assignment_at tree = keyed (codes "withdrawn_assignment") tree (of_int
 abbrev pub withdrawn_topup_at : ℕ → Table
 withdrawn_topup_at tree = keyed (codes "withdrawn_topup") tree (column_of (codes "reference") Text ∷ of_integers (codes "account" ∷ codes "cents" ∷ codes "instant" ∷ [])) (1 ∷ 2 ∷ 3 ∷ 4 ∷ [])
 
+-- of totals of energy by period, which stand in place of those of `total`
+abbrev pub period_total_at : ℕ → Table
+period_total_at tree = keyed (codes "period_total") tree (of_integers (codes "owner" ∷ codes "period" ∷ codes "band" ∷ codes "direction" ∷ codes "wh" ∷ [])) (1 ∷ 2 ∷ 3 ∷ 4 ∷ [])
+
 -- id = 1
 abbrev pub only_one : List Term
 only_one = op2 (Compare Eq Binary) (col 1 0) (lit (Int (pos 1))) ∷ []
@@ -122,9 +126,9 @@ first_with checks = record {
   views = [];
 }
 
--- those of version 2, which is that of a store once it is opened
-abbrev pub ours_with : List Term → Schema
-ours_with checks = record {
+-- those of version 2
+abbrev pub second_with : List Term → Schema
+second_with checks = record {
   tables =
       office_at 0 checks ∷ reading_at 1 ∷ assignment_at 3 ∷ topup_at 5 ∷ point_at 7 ∷ start_at 9 ∷ total_at 11 ∷ total_topup_at 13
       ∷ withdrawn_reading_at 14 ∷ withdrawn_assignment_at 16 ∷ withdrawn_topup_at 18 ∷ [];
@@ -142,6 +146,27 @@ ours_with checks = record {
   views = [];
 }
 
+-- those of version 3, which is that of a store once it is opened
+abbrev pub ours_with : List Term → Schema
+ours_with checks = record {
+  tables =
+      office_at 0 checks ∷ reading_at 1 ∷ assignment_at 3 ∷ topup_at 5 ∷ point_at 7 ∷ start_at 9 ∷ total_at 11 ∷ total_topup_at 13
+      ∷ withdrawn_reading_at 14 ∷ withdrawn_assignment_at 16 ∷ withdrawn_topup_at 18 ∷ period_total_at 20 ∷ [];
+  indexes =
+      index_of (codes "sqlite_autoindex_record_reading_1") 1 (1 ∷ 2 ∷ 3 ∷ 4 ∷ [])
+      ∷ index_of (codes "sqlite_autoindex_record_assignment_1") 3 (1 ∷ 2 ∷ 3 ∷ [])
+      ∷ index_of (codes "sqlite_autoindex_record_topup_1") 5 (1 ∷ 2 ∷ 3 ∷ 4 ∷ [])
+      ∷ index_of (codes "sqlite_autoindex_point_1") 7 (1 ∷ 2 ∷ 3 ∷ [])
+      ∷ index_of (codes "sqlite_autoindex_start_1") 9 (1 ∷ 2 ∷ [])
+      ∷ index_of (codes "sqlite_autoindex_total_1") 11 (1 ∷ 2 ∷ 3 ∷ [])
+      ∷ index_of (codes "sqlite_autoindex_withdrawn_reading_1") 14 (1 ∷ 2 ∷ 3 ∷ 4 ∷ [])
+      ∷ index_of (codes "sqlite_autoindex_withdrawn_assignment_1") 16 (1 ∷ 2 ∷ 3 ∷ [])
+      ∷ index_of (codes "sqlite_autoindex_withdrawn_topup_1") 18 (1 ∷ 2 ∷ 3 ∷ 4 ∷ [])
+      ∷ index_of (codes "sqlite_autoindex_period_total_1") 20 (1 ∷ 2 ∷ 3 ∷ 4 ∷ [])
+      ∷ [];
+  views = [];
+}
+
 -- a file without objects
 abbrev pub no_schema : Schema
 no_schema = record { tables = []; indexes = []; views = [] }
@@ -151,10 +176,18 @@ no_schema = record { tables = []; indexes = []; views = [] }
 abbrev pub version_number : StoreVersion → ℕ
 version_number First = 1
 version_number Second = 2
+version_number Third = 3
+
+-- before version 3
+abbrev pub IsEarlier : StoreVersion → Type 0
+IsEarlier First = Unit {0}
+IsEarlier Second = Unit {0}
+IsEarlier Third = ⊥
 
 abbrev pub schema_of : StoreVersion → Schema
 schema_of First = first_with only_one
-schema_of Second = ours_with only_one
+schema_of Second = second_with only_one
+schema_of Third = ours_with only_one
 
 -- the schema is that of a version: an equation, so it has one proof at most
 abbrev pub IsOf : StoreVersion → Schema → Type 0

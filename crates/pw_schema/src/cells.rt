@@ -13,7 +13,7 @@ ghost use Rattle.pw_schema.specs.Rows.{IsDirection, IsNumber, IsRegister, direct
 
 use pw_model::Reference;
 use pw_obis::{Register, WattHours};
-use pw_tariff::{AccountId, BandId, Direction, MeterId, Owner};
+use pw_tariff::{AccountId, BandId, Direction, MeterId, Owner, PeriodId};
 use pw_time::Instant;
 use sqlite::Row;
 use sqlite::types::ValueRef;
@@ -85,6 +85,16 @@ pub(crate) fn meter_at(row: &Row, at: usize) -> Option<MeterId>
 {
     let position = position_at(row, at)?;
     Some(MeterId(position))
+}
+
+/// The period that stands at a place of a row, by its position, if one does that fits.
+pub(crate) fn period_at(row: &Row, at: usize) -> Option<PeriodId>
+    ensures some { IfSome result (λ period. column row.now at ≡ Int (pos period.0)) }
+    ensures none { IfNone result ((n : ℕ) → n < 2 ^ 8 → column row.now at ≡ Int (pos n) → ⊥) }
+{
+    let number = number_at(row, at)?;
+    let position = u8::try_from(number).ok()?;
+    Some(PeriodId(position))
 }
 
 /// The band that stands at a place of a row, by its position, if one does that fits.

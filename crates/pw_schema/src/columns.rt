@@ -126,5 +126,16 @@ pub(crate) fn are_columns(columns: &[Column], table: StoreTable) -> bool
             columns,
             [owner, b"band".as_slice(), b"direction".as_slice(), wh].as_slice(),
         ),
+        StoreTable::PeriodTotals => are_integers(
+            columns,
+            [
+                owner,
+                b"period".as_slice(),
+                b"band".as_slice(),
+                b"direction".as_slice(),
+                wh,
+            ]
+            .as_slice(),
+        ),
     }
 }

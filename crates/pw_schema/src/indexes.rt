@@ -54,6 +54,7 @@ pub(crate) fn are_indexes(found: &[Index], version: StoreVersion) -> bool
 {
     match version {
         StoreVersion::First => are_these(found, &StoreTable::INDEXED[..6]),
-        StoreVersion::Second => are_these(found, StoreTable::INDEXED.as_slice()),
+        StoreVersion::Second => are_these(found, &StoreTable::INDEXED[..9]),
+        StoreVersion::Third => are_these(found, StoreTable::INDEXED.as_slice()),
     }
 }

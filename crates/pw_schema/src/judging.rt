@@ -76,7 +76,12 @@ fn has_key(office: &Office, key: &TotalKey) -> bool
     ensures { IsTrue result ↔ IsTotalOf (office_of office.now) key.now }
 {
     match key {
-        TotalKey::Energy { owner, band, .. } => has_owner(office, owner) && band.0 < office.bands(),
+        TotalKey::Energy {
+            owner,
+            period,
+            band,
+            ..
+        } => has_owner(office, owner) && period.0 < office.periods() && band.0 < office.bands(),
         TotalKey::TopUps { account } => account.0 < office.accounts(),
     }
 }

@@ -5,6 +5,7 @@
 pub enum StoreVersion {
     First,
     Second,
+    Third,
 }
 
 /// A kind of records: readings, assignments and top-ups, and withdrawals by what they name.
@@ -18,7 +19,7 @@ pub enum RecordKind {
     WithdrawnTopUps,
 }
 
-/// A kind of totals: energies by owner, band and direction, or what was topped up by account.
+/// A kind of totals: energies by owner, period, band and direction, or what was topped up by account.
 #[derive(Clone, Copy, Debug, PartialEq, Eq)]
 pub enum TotalKind {
     Energies,

@@ -49,7 +49,7 @@ fn put_office<S: Alter>(conn: &mut Connection<S>, body: &[u8]) -> Result<usize, 
     ensures crash { Survives (state S.Store conn.old) (state S.Store conn.new) (λ _. ⊥) }
 {
     conn.execute(
-        "INSERT INTO office (id, version, body) VALUES (1, 2, ?1)",
+        "INSERT INTO office (id, version, body) VALUES (1, 3, ?1)",
         params![body],
     )
 }

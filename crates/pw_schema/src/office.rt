@@ -28,6 +28,7 @@ fn version_of(row: &Row) -> Option<StoreVersion>
     match row.get_ref(0) {
         Ok(ValueRef::Int(1)) => Some(StoreVersion::First),
         Ok(ValueRef::Int(2)) => Some(StoreVersion::Second),
+        Ok(ValueRef::Int(3)) => Some(StoreVersion::Third),
         _ => None,
     }
 }
@@ -71,6 +72,7 @@ fn number_of(version: StoreVersion) -> i64
     match version {
         StoreVersion::First => 1,
         StoreVersion::Second => 2,
+        StoreVersion::Third => 3,
     }
 }
 

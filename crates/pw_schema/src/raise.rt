@@ -1,10 +1,10 @@
-//! A store of version 1 brought to version 2, within a transaction.
+//! A store brought to version 3, within a transaction.
 
-ghost use Rattle.std.specs.Prelude.{◌++◌, OnOk};
+ghost use Rattle.std.specs.Prelude.{OnOk};
 ghost use Rattle.sqlite.specs.Held.{state};
 ghost use Rattle.sqlite.specs.State.{HasCleanDisk, KeepsCommit, Survives};
 ghost use Rattle.pw_schema.specs.Fresh.{IsWithin};
-ghost use Rattle.pw_schema.specs.Raised.{HasSame, IsRaised, first_trees, later_trees};
+ghost use Rattle.pw_schema.specs.Raised.{HasSame, IsRaised, lasting_trees};
 ghost use Rattle.pw_schema.specs.Tables.{schema_of};
 
 use crate::kind::StoreVersion;
@@ -12,11 +12,11 @@ use crate::make::make;
 use crate::table::StoreTable;
 use sqlite::{Alter, Connection, Error};
 
-// Makes the later tables behind those of version 1.
-fn make_later<S: Alter>(conn: &mut Connection<S>) -> Result<(), Error>
+// Makes the tables of version 2 behind those of version 1.
+fn make_withdrawn<S: Alter>(conn: &mut Connection<S>) -> Result<(), Error>
     requires { HasCleanDisk (state S.Store conn.old) → IsWithin (schema_of StoreVersion.First) (state S.Store conn.old) }
     ensures made { HasCleanDisk (state S.Store conn.new) → OnOk result (IsWithin (schema_of StoreVersion.Second) (state S.Store conn.new)) }
-    ensures raised { HasCleanDisk (state S.Store conn.new) → OnOk result (IsRaised (state S.Store conn.old).now.trees (state S.Store conn.new).now.trees) }
+    ensures raised { HasCleanDisk (state S.Store conn.new) → OnOk result (IsRaised StoreVersion.First (state S.Store conn.old).now.trees (state S.Store conn.new).now.trees) }
     ensures kept { HasCleanDisk (state S.Store conn.new) → KeepsCommit (state S.Store conn.old) (state S.Store conn.new) }
     ensures crash { Survives (state S.Store conn.old) (state S.Store conn.new) (λ _. ⊥) }
 {
@@ -26,27 +26,83 @@ fn make_later<S: Alter>(conn: &mut Connection<S>) -> Result<(), Error>
     Ok(())
 }
 
-// Sets the version. What it makes of the row of `office` is to be read afterwards.
-fn set_version<S: Alter>(conn: &mut Connection<S>) -> Result<usize, Error>
+// Makes the table of version 3 behind those of version 2.
+fn make_period_totals<S: Alter>(conn: &mut Connection<S>) -> Result<(), Error>
     requires { HasCleanDisk (state S.Store conn.old) → IsWithin (schema_of StoreVersion.Second) (state S.Store conn.old) }
-    ensures made { HasCleanDisk (state S.Store conn.new) → OnOk result (IsWithin (schema_of StoreVersion.Second) (state S.Store conn.new)) }
-    ensures others { HasCleanDisk (state S.Store conn.new) → OnOk result (HasSame (first_trees ++ later_trees) (state S.Store conn.old).now.trees (state S.Store conn.new).now.trees) }
+    ensures made { HasCleanDisk (state S.Store conn.new) → OnOk result (IsWithin (schema_of StoreVersion.Third) (state S.Store conn.new)) }
+    ensures raised { HasCleanDisk (state S.Store conn.new) → OnOk result (IsRaised StoreVersion.Second (state S.Store conn.old).now.trees (state S.Store conn.new).now.trees) }
     ensures kept { HasCleanDisk (state S.Store conn.new) → KeepsCommit (state S.Store conn.old) (state S.Store conn.new) }
     ensures crash { Survives (state S.Store conn.old) (state S.Store conn.new) (λ _. ⊥) }
 {
-    conn.execute("UPDATE office SET version = 2 WHERE id = 1", &[])
+    make(conn, StoreTable::PeriodTotals)?;
+    Ok(())
 }
 
-/// Makes the tables of version 2 behind those of version 1, whatever rows these have, and sets the version. What becomes
-/// of the row of `office` is to be read before it is committed.
-pub fn raise_to_second<S: Alter>(conn: &mut Connection<S>) -> Result<(), Error>
+// Makes the tables of versions 2 and 3 behind those of version 1.
+fn make_later<S: Alter>(conn: &mut Connection<S>) -> Result<(), Error>
     requires { HasCleanDisk (state S.Store conn.old) → IsWithin (schema_of StoreVersion.First) (state S.Store conn.old) }
-    ensures made { HasCleanDisk (state S.Store conn.new) → OnOk result (IsWithin (schema_of StoreVersion.Second) (state S.Store conn.new)) }
-    ensures raised { HasCleanDisk (state S.Store conn.new) → OnOk result (IsRaised (state S.Store conn.old).now.trees (state S.Store conn.new).now.trees) }
+    ensures made { HasCleanDisk (state S.Store conn.new) → OnOk result (IsWithin (schema_of StoreVersion.Third) (state S.Store conn.new)) }
+    ensures raised { HasCleanDisk (state S.Store conn.new) → OnOk result (IsRaised StoreVersion.First (state S.Store conn.old).now.trees (state S.Store conn.new).now.trees) }
     ensures kept { HasCleanDisk (state S.Store conn.new) → KeepsCommit (state S.Store conn.old) (state S.Store conn.new) }
     ensures crash { Survives (state S.Store conn.old) (state S.Store conn.new) (λ _. ⊥) }
 {
-    make_later(conn)?;
+    make_withdrawn(conn)?;
+    make_period_totals(conn)?;
+    Ok(())
+}
+
+// Makes the tables that a version lacks behind its own.
+fn make_missing<S: Alter>(conn: &mut Connection<S>, version: StoreVersion) -> Result<(), Error>
+    requires { HasCleanDisk (state S.Store conn.old) → IsWithin (schema_of version) (state S.Store conn.old) }
+    ensures made { HasCleanDisk (state S.Store conn.new) → OnOk result (IsWithin (schema_of StoreVersion.Third) (state S.Store conn.new)) }
+    ensures raised { HasCleanDisk (state S.Store conn.new) → OnOk result (IsRaised version (state S.Store conn.old).now.trees (state S.Store conn.new).now.trees) }
+    ensures kept { HasCleanDisk (state S.Store conn.new) → KeepsCommit (state S.Store conn.old) (state S.Store conn.new) }
+    ensures crash { Survives (state S.Store conn.old) (state S.Store conn.new) (λ _. ⊥) }
+{
+    match version {
+        StoreVersion::First => make_later(conn),
+        StoreVersion::Second => make_period_totals(conn),
+        StoreVersion::Third => Ok(()),
+    }
+}
+
+// Empties `total`. What it leaves there is to be read afterwards.
+fn empty_total<S: Alter>(conn: &mut Connection<S>) -> Result<usize, Error>
+    requires { HasCleanDisk (state S.Store conn.old) → IsWithin (schema_of StoreVersion.Third) (state S.Store conn.old) }
+    ensures made { HasCleanDisk (state S.Store conn.new) → OnOk result (IsWithin (schema_of StoreVersion.Third) (state S.Store conn.new)) }
+    ensures others { HasCleanDisk (state S.Store conn.new) → OnOk result (HasSame lasting_trees (state S.Store conn.old).now.trees (state S.Store conn.new).now.trees) }
+    ensures kept { HasCleanDisk (state S.Store conn.new) → KeepsCommit (state S.Store conn.old) (state S.Store conn.new) }
+    ensures crash { Survives (state S.Store conn.old) (state S.Store conn.new) (λ _. ⊥) }
+{
+    conn.execute("DELETE FROM total", &[])
+}
+
+// Sets the version. What it makes of the row of `office` is to be read afterwards.
+fn set_version<S: Alter>(conn: &mut Connection<S>) -> Result<usize, Error>
+    requires { HasCleanDisk (state S.Store conn.old) → IsWithin (schema_of StoreVersion.Third) (state S.Store conn.old) }
+    ensures made { HasCleanDisk (state S.Store conn.new) → OnOk result (IsWithin (schema_of StoreVersion.Third) (state S.Store conn.new)) }
+    ensures others { HasCleanDisk (state S.Store conn.new) → OnOk result (HasSame lasting_trees (state S.Store conn.old).now.trees (state S.Store conn.new).now.trees) }
+    ensures kept { HasCleanDisk (state S.Store conn.new) → KeepsCommit (state S.Store conn.old) (state S.Store conn.new) }
+    ensures crash { Survives (state S.Store conn.old) (state S.Store conn.new) (λ _. ⊥) }
+{
+    conn.execute("UPDATE office SET version = 3 WHERE id = 1", &[])
+}
+
+/// Makes the tables that a version lacks behind its own, whatever rows these have, empties `total`, and sets the version.
+/// What becomes of the row of `office` and of the rows of `total` is to be read before it is committed, and totals of energy
+/// by period are to be put.
+pub fn raise_to_third<S: Alter>(
+    conn: &mut Connection<S>,
+    version: StoreVersion,
+) -> Result<(), Error>
+    requires { HasCleanDisk (state S.Store conn.old) → IsWithin (schema_of version) (state S.Store conn.old) }
+    ensures made { HasCleanDisk (state S.Store conn.new) → OnOk result (IsWithin (schema_of StoreVersion.Third) (state S.Store conn.new)) }
+    ensures raised { HasCleanDisk (state S.Store conn.new) → OnOk result (IsRaised version (state S.Store conn.old).now.trees (state S.Store conn.new).now.trees) }
+    ensures kept { HasCleanDisk (state S.Store conn.new) → KeepsCommit (state S.Store conn.old) (state S.Store conn.new) }
+    ensures crash { Survives (state S.Store conn.old) (state S.Store conn.new) (λ _. ⊥) }
+{
+    make_missing(conn, version)?;
+    empty_total(conn)?;
     set_version(conn)?;
     Ok(())
 }

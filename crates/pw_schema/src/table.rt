@@ -17,11 +17,12 @@ pub(crate) enum StoreTable {
     WithdrawnReadings,
     WithdrawnAssignments,
     WithdrawnTopUps,
+    PeriodTotals,
 }
 
 impl StoreTable {
     /// The tables in the order in which they are made.
-    pub(crate) const ALL: [StoreTable; 11] = [
+    pub(crate) const ALL: [StoreTable; 12] = [
         StoreTable::Office,
         StoreTable::Readings,
         StoreTable::Assignments,
@@ -33,10 +34,11 @@ impl StoreTable {
         StoreTable::WithdrawnReadings,
         StoreTable::WithdrawnAssignments,
         StoreTable::WithdrawnTopUps,
+        StoreTable::PeriodTotals,
     ];
 
     /// Those whose key has an index: the others' keys are rowids.
-    pub(crate) const INDEXED: [StoreTable; 9] = [
+    pub(crate) const INDEXED: [StoreTable; 10] = [
         StoreTable::Readings,
         StoreTable::Assignments,
         StoreTable::TopUps,
@@ -46,6 +48,7 @@ impl StoreTable {
         StoreTable::WithdrawnReadings,
         StoreTable::WithdrawnAssignments,
         StoreTable::WithdrawnTopUps,
+        StoreTable::PeriodTotals,
     ];
 
     /// The text that makes the table.
@@ -86,6 +89,9 @@ impl StoreTable {
             StoreTable::WithdrawnTopUps => {
                 "CREATE TABLE withdrawn_topup (reference TEXT NOT NULL, account INTEGER NOT NULL, cents INTEGER NOT NULL, instant INTEGER NOT NULL, PRIMARY KEY (reference, account, cents, instant)) STRICT"
             }
+            StoreTable::PeriodTotals => {
+                "CREATE TABLE period_total (owner INTEGER NOT NULL, period INTEGER NOT NULL, band INTEGER NOT NULL, direction INTEGER NOT NULL, wh INTEGER NOT NULL, PRIMARY KEY (owner, period, band, direction)) STRICT"
+            }
         }
     }
 
@@ -105,6 +111,7 @@ impl StoreTable {
             StoreTable::WithdrawnReadings => b"withdrawn_reading".as_slice(),
             StoreTable::WithdrawnAssignments => b"withdrawn_assignment".as_slice(),
             StoreTable::WithdrawnTopUps => b"withdrawn_topup".as_slice(),
+            StoreTable::PeriodTotals => b"period_total".as_slice(),
         }
     }
 
@@ -125,6 +132,7 @@ impl StoreTable {
             StoreTable::WithdrawnReadings => 14,
             StoreTable::WithdrawnAssignments => 16,
             StoreTable::WithdrawnTopUps => 18,
+            StoreTable::PeriodTotals => 20,
         }
     }
 
@@ -142,7 +150,8 @@ impl StoreTable {
             StoreTable::Readings
             | StoreTable::TopUps
             | StoreTable::WithdrawnReadings
-            | StoreTable::WithdrawnTopUps => [1, 2, 3, 4].as_slice(),
+            | StoreTable::WithdrawnTopUps
+            | StoreTable::PeriodTotals => [1, 2, 3, 4].as_slice(),
         }
     }
 }

@@ -73,6 +73,7 @@ pub(crate) fn are_tables(found: &[Table], version: StoreVersion) -> bool
 {
     match version {
         StoreVersion::First => are_these(found, &StoreTable::ALL[..8]),
-        StoreVersion::Second => are_these(found, StoreTable::ALL.as_slice()),
+        StoreVersion::Second => are_these(found, &StoreTable::ALL[..11]),
+        StoreVersion::Third => are_these(found, StoreTable::ALL.as_slice()),
     }
 }

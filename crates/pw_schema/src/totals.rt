@@ -7,7 +7,7 @@ ghost use Rattle.pw_schema.specs.Judging.{IsTotal};
 ghost use Rattle.pw_schema.specs.Rows.{TellsTotal, told_amount, told_key};
 ghost use Rattle.pw_schema.specs.inner.Told.{ReadsTotal};
 
-use crate::cells::{account_at, amount_at, band_at, direction_at, owner_at};
+use crate::cells::{account_at, amount_at, band_at, direction_at, owner_at, period_at};
 use crate::kind::TotalKind;
 use pw_model::TotalKey;
 use sqlite::Row;
@@ -16,12 +16,14 @@ fn energy_of(row: &Row) -> Option<(TotalKey, u64)>
     ensures { ReadsTotal TotalKind.Energies row.now result }
 {
     let owner = owner_at(row, 0)?;
-    let band = band_at(row, 1)?;
-    let direction = direction_at(row, 2)?;
-    let amount = amount_at(row, 3)?;
+    let period = period_at(row, 1)?;
+    let band = band_at(row, 2)?;
+    let direction = direction_at(row, 3)?;
+    let amount = amount_at(row, 4)?;
     Some((
         TotalKey::Energy {
             owner,
+            period,
             band,
             direction,
         },

@@ -31,7 +31,7 @@ use Rattle.pw_schema.specs.Tables.{ours_with, only_one, IsOurs, topup_at, readin
 use Rattle.pw_schema.specs.Rows.{register_at, owner_at, withdrawal}
 use Rattle.pw_schema.specs.declared.kind.RecordKind.{RecordKind}
 use Rattle.pw_schema.specs.declared.kind.RecordKind.TheVariants.{Readings, Assignments, TopUps, WithdrawnReadings, WithdrawnAssignments, WithdrawnTopUps}
-use Rattle.pw_schema.specs.declared.kind.StoreVersion.TheVariants.{Second}
+use Rattle.pw_schema.specs.declared.kind.StoreVersion.TheVariants.{Third}
 use Rattle.pw_model.specs.declared.records.Entry.{Entry}
 use Rattle.pw_model.specs.declared.records.Named.TheVariants as named
 use Rattle.pw_store.specs.Content.{records_of, entries_of, entry_in, kinds_of, tree_of, IsRowOf, energy_in, payment_in, IsReadingRow, IsAssignmentRow, reading_tree, assignment_tree, topup_tree, withdrawn_reading_tree, withdrawn_assignment_tree, withdrawn_topup_tree}
@@ -86,7 +86,7 @@ pub execute_fails : (text : List ℕ) (old new : State) (params : Row) (r : Resu
 execute_fails text old new params (Ok n) h = tt
 execute_fails text old new params (Err e) h = fails old new text params e h
 
-insert_survives : (text : List ℕ) (at width : ℕ) (terms : List Term) → IsInsert text at width terms → (old new : State) (params : Row) → (HasCleanDisk old → IsOurs old.now.schema) → (HasCleanDisk old → IsTrue old.in_transaction) → Survives old new (CommitsBy text params old) → Survives old new (λ _. ⊥)
+pub insert_survives : (text : List ℕ) (at width : ℕ) (terms : List Term) → IsInsert text at width terms → (old new : State) (params : Row) → (HasCleanDisk old → IsOurs old.now.schema) → (HasCleanDisk old → IsTrue old.in_transaction) → Survives old new (CommitsBy text params old) → Survives old new (λ _. ⊥)
 insert_survives text at width terms it old new params ours inside =
     keeps_commit old new text params (Insert at (Values terms width)) (λ clean. ap (λ s. command_of (understood s text)) (ours clean) ∙ it.is only_one) (λ name e. absurd cc) (λ e. absurd cc) inside
 
@@ -189,15 +189,15 @@ same_kind_or_not WithdrawnTopUps WithdrawnReadings = inr (λ e. let same = ap tr
 same_kind_or_not WithdrawnTopUps WithdrawnAssignments = inr (λ e. let same = ap tree_of e in omega (arith, same))
 same_kind_or_not WithdrawnTopUps WithdrawnTopUps = inl refl
 
-outside : (k : RecordKind) → (tree_of k < 7) ⊎ (13 < tree_of k)
+outside : (k : RecordKind) → (tree_of k < 7) ⊎ ((13 < tree_of k) × (tree_of k < 20))
 outside Readings = inl (omega arith)
 outside Assignments = inl (omega arith)
 outside TopUps = inl (omega arith)
-outside WithdrawnReadings = inr (omega arith)
-outside WithdrawnAssignments = inr (omega arith)
-outside WithdrawnTopUps = inr (omega arith)
+outside WithdrawnReadings = inr (omega arith, omega arith)
+outside WithdrawnAssignments = inr (omega arith, omega arith)
+outside WithdrawnTopUps = inr (omega arith, omega arith)
 
-behind_office : (k : RecordKind) → (0 < tree_of k) × (tree_of k < 20)
+behind_office : (k : RecordKind) → (0 < tree_of k) × (tree_of k < 22)
 behind_office Readings = (omega arith, omega arith)
 behind_office Assignments = (omega arith, omega arith)
 behind_office TopUps = (omega arith, omega arith)
@@ -213,16 +213,16 @@ module _ (k : RecordKind) (table : Table) (given row : Row) (e : Entry) (old new
   inserted : IsInserted e (records_of old.now.trees) (records_of new.now.trees)
   inserted =
       let here = subst (λ x. IsInserted x (entries_of k old.now.trees) (map (entry_in k) (put_row row (old.now.trees (tree_of k))))) one (put_inserts (entry_in k) row (old.now.trees (tree_of k)) free) in
-      inserted_among (kinds_of Second) old.now.trees new.now.trees k e (kinds_once Second) (each_kind k) others
+      inserted_among (kinds_of Third) old.now.trees new.now.trees k e (kinds_once Third) (each_kind k) others
       (subst (λ xs. IsInserted e (entries_of k old.now.trees) (map (entry_in k) xs)) (sym rows) here)
 
   sums : SameSums old.now.trees new.now.trees
-  sums = same_sums only_one table.tree old.now.trees new.now.trees (subst (λ t. (t < 7) ⊎ (13 < t)) (sym at) (outside k)) applied.1.tables
+  sums = same_sums only_one table.tree old.now.trees new.now.trees (subst (λ t. (t < 7) ⊎ ((13 < t) × (t < 20))) (sym at) (outside k)) applied.1.tables
 
   keeps : StillKeeps old.now.trees new.now.trees
   keeps =
-      let low = subst (λ t. (0 < t) × (t < 20)) (sym at) (behind_office k) in
-      keeps_sums only_one _ old.now.trees new.now.trees _ applied.1 low.0 low.1 sums.total sums.payment
+      let low = subst (λ t. (0 < t) × (t < 22)) (sym at) (behind_office k) in
+      keeps_sums only_one _ old.now.trees new.now.trees _ applied.1 low.0 low.1 sums.energy sums.payment
 
   kept_rows : (j : RecordKind) → AllByRecursion (IsRowOf j) (new.now.trees (tree_of j))
   kept_rows j = elim (same_kind_or_not j k) [
@@ -237,8 +237,9 @@ module _ (k : RecordKind) (table : Table) (given row : Row) (e : Entry) (old new
     once = inserted-once e (records_of old.now.trees) (records_of new.now.trees) inserted fresh store.once;
     points = subst (AreKeyed IsReadingRow key_in_point) (sym sums.point) store.points;
     starts = subst (AreKeyed IsAssignmentRow key_in_start) (sym sums.start) store.starts;
-    energies = subst (AreKeyed IsEnergyRow energy_in) (sym sums.total) store.energies;
+    energies = subst (AreKeyed IsEnergyRow energy_in) (sym sums.energy) store.energies;
     payments = subst (AreKeyed IsPaymentRow payment_in) (sym sums.payment) store.payments;
+    old = sums.old_total ∙ store.old;
   }
 
   pub adds : (Member e (records_of old.now.trees) → ⊥) → Shows old new new.now old.committed true → Adds e old new

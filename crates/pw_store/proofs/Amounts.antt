@@ -13,6 +13,7 @@ use Rattle.sqlite_trees.proofs.ListLemmas.{filter_same, all_weaker}
 use Rattle.pw_tariff.specs.declared.ids.AccountId.{AccountId}
 use Rattle.pw_tariff.specs.declared.ids.BandId.{BandId}
 use Rattle.pw_tariff.specs.declared.ids.Direction.{Direction}
+use Rattle.pw_tariff.specs.declared.ids.PeriodId.{PeriodId}
 use Rattle.pw_model.specs.declared.records.TotalKey.TheVariants as total
 use Rattle.pw_schema.specs.Rows.{number}
 use Rattle.pw_store.specs.Content.{total_in}
@@ -49,21 +50,21 @@ module _ (show : Row → Row) (value : Row → ℕ) (is : (r : Row) → number (
   one_amount (x ∷ y ∷ xs) (r ∷ rows) h few = absurd (let n = many (x ∷ y ∷ xs) (r ∷ rows) h in omega (arith, n, few))
 
 -- ---- of energy
-module _ (o : Option AccountId) (b : BandId) (d : Direction) where
-  energies_shown : (rows : List Row) → map (λ (x : Output). x.1) (map (output (scan_of 11 total_query)) (map (λ r. energy.params o b d ∷ r ∷ []) rows)) ≡ map (λ r. column r 4 ∷ []) rows
+module _ (o : Option AccountId) (p : PeriodId) (b : BandId) (d : Direction) where
+  energies_shown : (rows : List Row) → map (λ (x : Output). x.1) (map (output (scan_of 20 total_query)) (map (λ r. energy.params o p b d ∷ r ∷ []) rows)) ≡ map (λ r. column r 5 ∷ []) rows
   energies_shown [] = refl
-  energies_shown (r ∷ rows) = ap (λ xs. (column r 4 ∷ []) ∷ xs) (energies_shown rows)
+  energies_shown (r ∷ rows) = ap (λ xs. (column r 5 ∷ []) ∷ xs) (energies_shown rows)
 
-pub energy_if : {Z : Type 0} (old new : State) (o : Option AccountId) (b : BandId) (d : Direction) (out : Result (Vec Row Z) Error) → IsStore old.now → IfOk out (λ rows. Shown total_text (energy.params o b d) old new rows.items)
-    → IfOk out (λ rows. length rows.items ≤ 1 → first_amount rows.items ≡ total_in old.now.trees (total.Energy o b d))
-energy_if old new o b d (Err e) store h = tt
-energy_if old new o b d (Ok rows) store h = λ few.
-    let table = old.now.trees 11 in
-    let s = seen total_text 11 total_query total_is (energy.params o b d) old new rows.items store.ours h in
-    let same = filter_same (energy.passes o b d) (energy.at_key o b d) table (all_weaker IsEnergyRow (λ row. energy.passes o b d row ≡ energy.at_key o b d row) (energy.passes_at o b d) table store.energies.each) in
-    let perm : IsPermutation (map (λ r. column r 4 ∷ []) (filter (energy.at_key o b d) table)) rows.items = subst₂ IsPermutation (energies_shown o b d (filter (energy.passes o b d) table) ∙ ap (map (λ r. column r 4 ∷ [])) same) (sym s.2) s.1 in
-    one_amount (λ r. column r 4 ∷ []) (λ r. number (column r 4)) (λ r. refl) (filter (energy.at_key o b d) table) rows.items perm few
-    ∙ ap (λ r. unwrap_or (option_map (λ x. number (column x 4)) r) 0) (sym (find_head (energy.at_key o b d) table))
+pub energy_if : {Z : Type 0} (old new : State) (o : Option AccountId) (p : PeriodId) (b : BandId) (d : Direction) (out : Result (Vec Row Z) Error) → IsStore old.now → IfOk out (λ rows. Shown total_text (energy.params o p b d) old new rows.items)
+    → IfOk out (λ rows. length rows.items ≤ 1 → first_amount rows.items ≡ total_in old.now.trees (total.Energy o p b d))
+energy_if old new o p b d (Err e) store h = tt
+energy_if old new o p b d (Ok rows) store h = λ few.
+    let table = old.now.trees 20 in
+    let s = seen total_text 20 total_query total_is (energy.params o p b d) old new rows.items store.ours h in
+    let same = filter_same (energy.passes o p b d) (energy.at_key o p b d) table (all_weaker IsEnergyRow (λ row. energy.passes o p b d row ≡ energy.at_key o p b d row) (energy.passes_at o p b d) table store.energies.each) in
+    let perm : IsPermutation (map (λ r. column r 5 ∷ []) (filter (energy.at_key o p b d) table)) rows.items = subst₂ IsPermutation (energies_shown o p b d (filter (energy.passes o p b d) table) ∙ ap (map (λ r. column r 5 ∷ [])) same) (sym s.2) s.1 in
+    one_amount (λ r. column r 5 ∷ []) (λ r. number (column r 5)) (λ r. refl) (filter (energy.at_key o p b d) table) rows.items perm few
+    ∙ ap (λ r. unwrap_or (option_map (λ x. number (column x 5)) r) 0) (sym (find_head (energy.at_key o p b d) table))
 
 -- ---- of top-ups
 module _ (a : AccountId) where

@@ -1,7 +1,5 @@
 -- How many records are held, as the store keeps it beside the connection.
 use Rattle.std.proofs.Common.{◌≡◌, ◌⊎◌, ◌+◌, ◌<◌, inl, inr, ℕ, Bool, IsTrue, true, false, cond, length, List, refl, sym, ap, subst, ◌∙◌, arith}
-use Rattle.std.specs.List.Sorted.{IsPermutation}
-use Rattle.std.proofs.lemmas.List.Sorted.{length_permutation}
 use Rattle.std.proofs.lemmas.Bool.{cases_Bool}
 use Rattle.sqlite.specs.Tree.{Trees}
 use Rattle.sqlite.specs.Effect.{Database}
@@ -43,8 +41,8 @@ changed_records (TakePoint m r t) c = refl
 changed_records (PutPoint m r t w) c = refl
 changed_records (TakeStart m t) c = refl
 changed_records (PutStart m t o) c = refl
-changed_records (TakeEnergy o b d) c = refl
-changed_records (PutEnergy o b d w) c = refl
+changed_records (TakeEnergy o p b d) c = refl
+changed_records (PutEnergy o p b d w) c = refl
 changed_records (TakePayment a) c = refl
 changed_records (PutPayment a n) c = refl
 
@@ -99,6 +97,3 @@ counted_fresh body s new = ap length (fresh_records body s.now new)
 -- an open connection on which nothing waits
 pub counted_opened : (s at : State) (held : ℕ) (office : OfficeRules) (body : List ℕ) (before : Database) → at ≡ s → (HasCleanDisk s → IsOpened office body before s) → (HasCleanDisk s → records_in s.now.trees ≡ held) → BaseIsCounted s held at
 counted_opened s at held office body before is opened counted = counted_snapshot s at held is (λ clean. ap (λ (d : Database). records_in d.trees) (sym (opened clean).settled) ∙ counted clean)
-
-pub counted_listed : (s1 s2 s3 : State) (records : List Entry) → IsPermutation (records_of s1.now.trees) records → IsUnchanged s1 s2 → IsUnchanged s2 s3 → records_in s3.now.trees ≡ length records
-counted_listed s1 s2 s3 records listed b c = ap records_in (trees_same s2 s3 c ∙ trees_same s1 s2 b) ∙ sym (length_permutation (records_of s1.now.trees) records listed)

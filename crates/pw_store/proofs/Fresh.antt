@@ -41,7 +41,7 @@ module _ (body : List ℕ) (db : Database) (new : IsNew body db) where
   fresh_totals = λ i k. go k i
     where
       go : (k : TotalKey) → total_in db.trees k ≡ 0
-      go (total.Energy o b d) = ap (λ (rows : List Row). unwrap_or (energy_told rows (total.Energy o b d)) 0) fresh.total
+      go (total.Energy o p b d) = ap (λ (rows : List Row). unwrap_or (energy_told rows (total.Energy o p b d)) 0) fresh.period_total
       go (total.TopUps a) = ap (λ (rows : List Row). unwrap_or (payment_told rows (total.TopUps a)) 0) fresh.total_topup
 
   pub fresh_content : content_of db.trees ≡ no_content
@@ -67,8 +67,9 @@ module _ (body : List ℕ) (db : Database) (new : IsNew body db) where
     once = subst EachOnce (sym fresh_records) tt;
     points = subst (AreKeyed IsReadingRow key_in_point) (sym fresh.point) (record { each = tt; ids = tt; numbered = tt; once = tt });
     starts = subst (AreKeyed IsAssignmentRow key_in_start) (sym fresh.start) (record { each = tt; ids = tt; numbered = tt; once = tt });
-    energies = subst (AreKeyed IsEnergyRow energy_in) (sym fresh.total) (record { each = tt; ids = tt; numbered = tt; once = tt });
+    energies = subst (AreKeyed IsEnergyRow energy_in) (sym fresh.period_total) (record { each = tt; ids = tt; numbered = tt; once = tt });
     payments = subst (AreKeyed IsPaymentRow payment_in) (sym fresh.total_topup) (record { each = tt; ids = tt; numbered = tt; once = tt });
+    old = fresh.total;
   }
 
   fresh_offices : offices db.trees ≡ shown_office (office_row body) ∷ []
@@ -80,7 +81,7 @@ module _ (body : List ℕ) (db : Database) (new : IsNew body db) where
     plain = new.plain;
     kept = (shown_office (office_row body) ∷ [], (subst (IsPermutation (offices db.trees)) fresh_offices (IsPermutation-refl (offices db.trees)), (shown_office (office_row body), refl, refl, refl)));
     named = record {
-      energies = subst (AllByRecursion (λ r. IsTotalOf office (energy_in r))) (sym fresh.total) tt;
+      energies = subst (AllByRecursion (λ r. IsTotalOf office (energy_in r))) (sym fresh.period_total) tt;
       payments = subst (AllByRecursion (λ r. IsTotalOf office (payment_in r))) (sym fresh.total_topup) tt;
     };
     of_office = λ e m. absurd (subst (Member e) fresh_records m);
@@ -103,8 +104,8 @@ pub left_alone : (s base : State) (office : OfficeRules) (body : List ℕ) (befo
 left_alone s base office body before it law c l =
     sym l.2 ∙ ap content_of (law l.0 it.is_open l.1 ∙ sym (ap (λ (d : Database). d.trees) it.settled)) ∙ sym (ap (λ b. content_of (cond b s.now.trees base.committed.trees)) it.is_open)
 
-pub open_content : (s base : State) (office : OfficeRules) (body : List ℕ) (before : Database) → IsOpened office body before s → IsFound before (held_of s base)
-open_content s base office body before it = subst (IsFound before) (sym (ap (λ b. content_of (cond b s.now.trees base.committed.trees)) it.is_open)) it.found
+pub open_content : (s base : State) (office : OfficeRules) (body : List ℕ) (before : Database) → IsOpened office body before s → IsFound office before (held_of s base)
+open_content s base office body before it = subst (IsFound office before) (sym (ap (λ b. content_of (cond b s.now.trees base.committed.trees)) it.is_open)) it.found
 
 pub open_few : (s base : State) (office : OfficeRules) (body : List ℕ) (before : Database) → IsOpened office body before s → length (held_of s base).records ≤ most_records
 open_few s base office body before it = subst (λ b. length (records_of (cond b s.now.trees base.committed.trees)) ≤ most_records) (sym it.is_open) it.may_open.few

@@ -1,5 +1,5 @@
 -- What was judged may be opened, or is refused with cause.
-use Rattle.std.proofs.Common.{◌≡◌, ◌⊎◌, inl, inr, ◌<◌, ◌≤◌, List, length, Result, Err, refl, sym, ap, subst, ◌∙◌, arith}
+use Rattle.std.proofs.Common.{◌≡◌, ◌⊎◌, inl, inr, ◌<◌, ◌≤◌, ℕ, List, length, Result, Err, refl, sym, ap, subst, ◌∙◌, arith}
 use Rattle.std.specs.List.Sorted.{IsPermutation}
 use Rattle.std.proofs.lemmas.List.Sorted.{length_permutation}
 use Rattle.sqlite.specs.Tree.{Trees}
@@ -8,90 +8,94 @@ use Rattle.sqlite.specs.State.{State, IsUnchanged}
 use Rattle.pw_tariff.specs.Office.{OfficeRules}
 use Rattle.pw_model.specs.declared.records.Entry.{Entry}
 use Rattle.pw_model.specs.Office.{AllOfOffice, most_records}
-use Rattle.pw_schema.specs.declared.kind.StoreVersion.TheVariants.{Second}
+use Rattle.pw_parts.specs.declared.parts.Parts.{Parts}
+use Rattle.pw_parts.specs.Parts.{IsPartsOf}
+use Rattle.pw_schema.specs.declared.kind.StoreVersion.TheVariants.{Second, Third}
 use Rattle.pw_schema.specs.Tables.{IsOurs}
 use Rattle.pw_store.specs.declared.fault.OpenFault.{OpenFault}
 use Rattle.pw_store.specs.declared.fault.OpenFault.TheVariants.{Store, Memory, OfficeDiffers, Version, Unclean}
 use Rattle.pw_store.specs.Content.{records_of}
 use Rattle.pw_store.specs.Opening.{HoldsAllRecords, HoldsSums, IsSpoilt}
-use Rattle.pw_store.specs.inner.Opened.{IsSound, RefusesUnless, RowsRefuse}
+use Rattle.pw_store.specs.inner.Opened.{AreJudged, IsSound, RecordsRefuse, RefusesUnless, RowsRefuse}
 use Rattle.pw_store.specs.inner.Sums.{AreAllNumbered, Listed, TellsSums}
-use Rattle.pw_store.specs.inner.Truth.{HaveParts, HaveOtherParts}
+use Rattle.pw_store.specs.inner.Truth.{AreRead}
 use Rattle.pw_store.proofs.OfParts.{have_truth, have_none}
 use Rattle.pw_store.proofs.OfContent.{names_office}
 use Rattle.pw_store.proofs.InTurn.{trees_same}
 use Rattle.pw_store.proofs.Sound.{sound_store, sound_office}
 
--- of s1, at which everything begins: s2 is behind the records, s3 behind points, starts and totals
-module _ (office : OfficeRules) (s1 s2 s3 : State) (records : List Entry) (sums : Listed) (b : IsUnchanged s1 s2) (c : IsUnchanged s2 s3)
-    (ours : IsOurs s1.now.schema) (all : HoldsAllRecords Second office s1.now.trees) (listed : IsPermutation (records_of s1.now.trees) records)
-    (holds : HoldsSums office s2.now.trees) (numbered : AreAllNumbered s2.now.trees) (tells : TellsSums s2.now.trees sums) where
-  abbrev db : Trees
-  db = s3.now.trees
+-- ---- records
+-- of those that were read, as the connection is behind them
+pub are_judged : (office : OfficeRules) (old new : State) (records : List Entry) (parts : Parts) → IsUnchanged old new → HoldsAllRecords Third office old.now.trees → IsPermutation (records_of old.now.trees) records
+    → length records ≤ most_records → IsPartsOf office records parts → AreJudged office new.now.trees parts
+are_judged office old new records parts same all listed few is =
+    let here = sym (trees_same old new same) in
+    let many = length_permutation (records_of old.now.trees) records listed in
+    subst (λ db. AreJudged office db parts) here (record { all = all; few = omega (arith, few, many); parts_of = (records, listed, is) })
 
-  first : s1.now.trees ≡ db
-  first = sym (trees_same s2 s3 c ∙ trees_same s1 s2 b)
+pub judged_many : (old new : State) (records : List Entry) (held : ℕ) → IsUnchanged old new → IsPermutation (records_of old.now.trees) records → length records ≡ held → length (records_of new.now.trees) ≡ held
+judged_many old new records held same listed told = ap (λ db. length (records_of db)) (trees_same old new same) ∙ sym (length_permutation (records_of old.now.trees) records listed) ∙ told
 
-  ours_now : IsOurs s3.now.schema
-  ours_now = subst IsOurs (sym (ap (λ (d : Database). d.schema) (c.0.now_is ∙ b.0.now_is))) ours
+-- their rows were refused
+pub records_refused : (office : OfficeRules) (db : Trees) (fault : OpenFault) → RefusesUnless (HoldsAllRecords Third office db) fault → RecordsRefuse office db fault
+records_refused office db Store refuse = tt
+records_refused office db Memory refuse = tt
+records_refused office db OfficeDiffers refuse = refuse
+records_refused office db Version refuse = refuse
+records_refused office db Unclean refuse = inl refuse
 
-  records_now : HoldsAllRecords Second office db
-  records_now = subst (HoldsAllRecords Second office) first all
+-- they have no parts: they are too many, or memory was refused
+pub parts_refused : {A : Type 0} (office : OfficeRules) (db : Trees) (records : List Entry) (fault : OpenFault) → IsPermutation (records_of db) records
+    → (◌≡◌ {A = Result A OpenFault} (Err fault) (Err Unclean) → most_records < length records) → (◌≡◌ {A = Result A OpenFault} (Err fault) (Err Unclean)) ⊎ (◌≡◌ {A = Result A OpenFault} (Err fault) (Err Memory)) → RecordsRefuse office db fault
+parts_refused office db records Store listed many others = tt
+parts_refused office db records Memory listed many others = tt
+parts_refused office db records OfficeDiffers listed many others = elim others [ inl i ↦ absurd cc | inr i ↦ absurd cc ]
+parts_refused office db records Version listed many others = elim others [ inl i ↦ absurd cc | inr i ↦ absurd cc ]
+parts_refused office db records Unclean listed many others =
+    let much = many refl in
+    let same = length_permutation (records_of db) records listed in
+    inr (omega (arith, much, same))
 
-  listed_now : IsPermutation (records_of db) records
-  listed_now = subst (λ d. IsPermutation (records_of d) records) first listed
+-- so the rows of the tables are
+pub rows_refused : (office : OfficeRules) (db : Trees) (fault : OpenFault) → RecordsRefuse office db fault → RowsRefuse Third office db fault
+rows_refused office db Store refuse = tt
+rows_refused office db Memory refuse = tt
+rows_refused office db OfficeDiffers refuse = refuse
+rows_refused office db Version refuse = refuse
+rows_refused office db Unclean (inl none) = inl none
+rows_refused office db Unclean (inr many) = inr (inl many)
 
-  holds_now : HoldsSums office db
-  holds_now = subst (HoldsSums office) (sym (trees_same s2 s3 c)) holds
+pub earlier_refused : (office : OfficeRules) (db : Trees) (fault : OpenFault) → RecordsRefuse office db fault → RowsRefuse Second office db fault
+earlier_refused office db Store refuse = tt
+earlier_refused office db Memory refuse = tt
+earlier_refused office db OfficeDiffers refuse = refuse
+earlier_refused office db Version refuse = refuse
+earlier_refused office db Unclean (inl none) = inl none
+earlier_refused office db Unclean (inr many) = inr (inl many)
 
-  numbered_now : AreAllNumbered db
-  numbered_now = subst AreAllNumbered (sym (trees_same s2 s3 c)) numbered
+-- ---- points, starts and totals
+-- those that were read are the parts of the records, or not
+module _ (office : OfficeRules) (db : Database) (parts : Parts) (sums : Listed) (ours : IsOurs db.schema) (records : AreJudged office db.trees parts)
+    (holds : HoldsSums office db.trees) (numbered : AreAllNumbered db.trees) (tells : TellsSums db.trees sums) where
+  of_office : AllOfOffice office (records_of db.trees)
+  of_office = sound_office office db ours records.all holds numbered
 
-  tells_now : TellsSums db sums
-  tells_now = subst (λ d. TellsSums d sums) (sym (trees_same s2 s3 c)) tells
-
-  of_office : AllOfOffice office (records_of db)
-  of_office = sound_office office s3.now ours_now records_now holds_now numbered_now
-
-  many : length records ≡ length (records_of db)
-  many = length_permutation (records_of db) records listed_now
-
-  pub judged : length records ≤ most_records → HaveParts office records sums → IsSound office s3.now
-  judged few parts = record {
-    store = sound_store office s3.now ours_now records_now holds_now numbered_now;
-    named = names_office office db holds_now;
+  pub judged : AreRead parts sums → IsSound office db
+  judged read = record {
+    store = sound_store office db ours records.all holds numbered;
+    named = names_office office db.trees holds;
     of_office = of_office;
-    few = omega (arith, few, many);
-    truth = have_truth office db records sums holds_now tells_now listed_now of_office parts;
+    few = records.few;
+    truth = have_truth office db.trees records.parts_of.0 sums holds tells records.parts_of.1 of_office (parts, records.parts_of.2, read);
   }
 
-  pub judged_others : HaveOtherParts office records sums → IsSpoilt Second office s1.now.trees
-  judged_others parts = subst (IsSpoilt Second office) (sym first) (inr (inr (inr (have_none office db records sums holds_now tells_now listed_now of_office parts))))
+  pub judged_others : (AreRead parts sums → ⊥) → IsSpoilt Third office db.trees
+  judged_others other = inr (inr (inr (have_none office db.trees records.parts_of.0 sums holds tells records.parts_of.1 of_office (parts, records.parts_of.2, other))))
 
--- the rows of the records were refused
-pub records_refused : (office : OfficeRules) (s1 : State) (fault : OpenFault) → RefusesUnless (HoldsAllRecords Second office s1.now.trees) fault → RowsRefuse Second office s1.now.trees fault
-records_refused office s1 Store refuse = tt
-records_refused office s1 Memory refuse = tt
-records_refused office s1 OfficeDiffers refuse = refuse
-records_refused office s1 Version refuse = refuse
-records_refused office s1 Unclean refuse = inl refuse
-
--- the records have no parts: they are too many, or memory was refused
-pub parts_refused : {A : Type 0} (office : OfficeRules) (s1 : State) (records : List Entry) (fault : OpenFault) → IsPermutation (records_of s1.now.trees) records
-    → (◌≡◌ {A = Result A OpenFault} (Err fault) (Err Unclean) → most_records < length records) → (◌≡◌ {A = Result A OpenFault} (Err fault) (Err Unclean)) ⊎ (◌≡◌ {A = Result A OpenFault} (Err fault) (Err Memory)) → RowsRefuse Second office s1.now.trees fault
-parts_refused office s1 records Store listed many others = tt
-parts_refused office s1 records Memory listed many others = tt
-parts_refused office s1 records OfficeDiffers listed many others = elim others [ inl i ↦ absurd cc | inr i ↦ absurd cc ]
-parts_refused office s1 records Version listed many others = elim others [ inl i ↦ absurd cc | inr i ↦ absurd cc ]
-parts_refused office s1 records Unclean listed many others =
-    let much = many refl in
-    let same = length_permutation (records_of s1.now.trees) records listed in
-    inr (inl (omega (arith, much, same)))
-
--- points, starts and totals were refused
-pub sums_refused : (office : OfficeRules) (s1 s2 : State) (fault : OpenFault) → IsUnchanged s1 s2 → RefusesUnless (HoldsSums office s2.now.trees) fault → RowsRefuse Second office s1.now.trees fault
-sums_refused office s1 s2 Store b refuse = tt
-sums_refused office s1 s2 Memory b refuse = tt
-sums_refused office s1 s2 OfficeDiffers b refuse = refuse
-sums_refused office s1 s2 Version b refuse = refuse
-sums_refused office s1 s2 Unclean b refuse = inr (inr (inl (subst (λ d. HoldsSums office d → ⊥) (trees_same s1 s2 b) refuse)))
+-- they were refused
+pub sums_refused : (office : OfficeRules) (db : Trees) (fault : OpenFault) → RefusesUnless (HoldsSums office db) fault → RowsRefuse Third office db fault
+sums_refused office db Store refuse = tt
+sums_refused office db Memory refuse = tt
+sums_refused office db OfficeDiffers refuse = refuse
+sums_refused office db Version refuse = refuse
+sums_refused office db Unclean refuse = inr (inr (inl refuse))

@@ -100,27 +100,38 @@ starts_is = record { names = codes "start" ∷ codes "owner" ∷ []; is = λ che
 
 -- ---- totals of energy
 abbrev pub delete_total_text : List ℕ
-delete_total_text = codes "DELETE FROM total WHERE owner = ?1 AND band = ?2 AND direction = ?3"
+delete_total_text = codes "DELETE FROM period_total WHERE owner = ?1 AND period = ?2 AND band = ?3 AND direction = ?4"
 
 abbrev pub delete_total_query : Query
-delete_total_query = plain_query 11 (eq 1 0 ∷ eq 2 1 ∷ eq 3 2 ∷ []) (col 1 0 ∷ [])
+delete_total_query = plain_query 20 (eq 1 0 ∷ eq 2 1 ∷ eq 3 2 ∷ eq 4 3 ∷ []) (col 1 0 ∷ [])
 
-pub delete_total_is : IsDelete delete_total_text 6 delete_total_query
+pub delete_total_is : IsDelete delete_total_text 11 delete_total_query
 unfolding understood everything
 delete_total_is = record { is = λ checks. refl; plain = λ checks. (refl, refl) }
 
 abbrev pub insert_total_text : List ℕ
-insert_total_text = codes "INSERT INTO total (owner, band, direction, wh) VALUES (?1, ?2, ?3, ?4)"
+insert_total_text = codes "INSERT INTO period_total (owner, period, band, direction, wh) VALUES (?1, ?2, ?3, ?4, ?5)"
 
-pub insert_total_is : IsInsert insert_total_text 6 5 four_terms
+abbrev pub five_terms : List Term
+five_terms = lit Null ∷ col 0 0 ∷ col 0 1 ∷ col 0 2 ∷ col 0 3 ∷ col 0 4 ∷ []
+
+pub insert_total_is : IsInsert insert_total_text 11 6 five_terms
 unfolding understood everything
 insert_total_is = record { is = λ checks. refl; plain = λ checks. (refl, refl) }
 
+-- where a store is brought to version 3
+abbrev pub fill_text : List ℕ
+fill_text = codes "INSERT INTO period_total VALUES (?1, ?2, ?3, ?4, ?5)"
+
+pub fill_is : IsInsert fill_text 11 6 five_terms
+unfolding understood everything
+fill_is = record { is = λ checks. refl; plain = λ checks. (refl, refl) }
+
 abbrev pub total_text : List ℕ
-total_text = codes "SELECT wh FROM total WHERE owner = ?1 AND band = ?2 AND direction = ?3"
+total_text = codes "SELECT wh FROM period_total WHERE owner = ?1 AND period = ?2 AND band = ?3 AND direction = ?4"
 
 abbrev pub total_query : Query
-total_query = plain_query 11 (eq 1 0 ∷ eq 2 1 ∷ eq 3 2 ∷ []) (col 1 4 ∷ [])
+total_query = plain_query 20 (eq 1 0 ∷ eq 2 1 ∷ eq 3 2 ∷ eq 4 3 ∷ []) (col 1 5 ∷ [])
 
 pub total_is : IsQuery total_text total_query
 unfolding understood everything

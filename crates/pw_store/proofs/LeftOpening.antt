@@ -15,12 +15,13 @@ use Rattle.sqlite_sql.specs.declared.ops.CompareOp.TheVariants.{Eq}
 use Rattle.pw_tariff.specs.declared.ids.AccountId.{AccountId}
 use Rattle.pw_tariff.specs.declared.ids.BandId.{BandId}
 use Rattle.pw_tariff.specs.declared.ids.Direction.{Direction}
+use Rattle.pw_tariff.specs.declared.ids.PeriodId.{PeriodId}
 use Rattle.pw_tariff.specs.Office.{OfficeFile, OfficeRules, office_of}
 use Rattle.pw_tariff.specs.Text.{IsOfficeOf}
 use Rattle.pw_tariff.proofs.Answered.{bands-of, office-sound}
 use Rattle.pw_model.specs.declared.records.TotalKey.TheVariants as total
 use Rattle.pw_model.specs.Counting.{Member}
-use Rattle.pw_model.specs.Office.{AllOfOffice, HasBands, HasOwner}
+use Rattle.pw_model.specs.Office.{AllOfOffice, HasBands, HasOwner, HasPeriods}
 use Rattle.pw_model.specs.Shelf.{IsTrueContent, ShelfContent, total_among}
 use Rattle.pw_model.proofs.Foreign.{foreign-totals_are_none}
 use Rattle.pw_shelf.specs.Changes.{same_total}
@@ -30,10 +31,10 @@ use Rattle.pw_schema.specs.Conflicts.{AreWithoutConflict, IsWithoutConflict, onl
 use Rattle.pw_schema.specs.Judging.{IsTotalOf}
 use Rattle.pw_schema.specs.Rows.{direction_at, number, owner_at}
 use Rattle.pw_schema.specs.Tables.{IsOurs}
-use Rattle.pw_schema.specs.declared.kind.StoreVersion.TheVariants.{Second}
+use Rattle.pw_schema.specs.declared.kind.StoreVersion.TheVariants.{Third}
 use Rattle.pw_store.specs.declared.fault.OpenFault.{OpenFault}
 use Rattle.pw_store.specs.declared.fault.OpenFault.TheVariants.{Store, Memory}
-use Rattle.pw_store.specs.Content.{content_of, energy_in, energy_told, payment_in, payment_told, payment_tree, records_of, total_in, total_tree}
+use Rattle.pw_store.specs.Content.{content_of, energy_in, energy_told, energy_tree, payment_in, payment_told, payment_tree, records_of, total_in}
 use Rattle.pw_store.specs.Left.{IsLeftBehind, IsLeftSound, IsOldEnergy, IsOldPayment, Keeps, KeepsOpened, LeftOpens}
 use Rattle.pw_store.specs.Opening.{HasRows, IsFound, IsOpenable, KeepsText, NamesOffice, Refuses, offices, shown_office}
 use Rattle.pw_store.proofs.KeyedRows.{row_told, told_row}
@@ -52,20 +53,26 @@ owner_or_none office None = inl tt
 owner_or_none office (Some a) = elim (cases_lt a.0 office.accounts) [ inl low ↦ inl low | inr high ↦ inr (λ low. omega (arith, high, low)) ]
 
 -- ---- a total above 0 names what the office has
-module _ (office : OfficeRules) (bands : HasBands office) (db : Trees) (of : AllOfOffice office (records_of db)) where
-  energy_above : (o : Option AccountId) (b : BandId) (d : Direction) → 0 < total_among office (records_of db) (total.Energy o b d) → IsTotalOf office (total.Energy o b d)
-  energy_above o b d above = (owner, band)
+module _ (office : OfficeRules) (periods : HasPeriods office) (bands : HasBands office) (db : Trees) (of : AllOfOffice office (records_of db)) where
+  energy_above : (o : Option AccountId) (p : PeriodId) (b : BandId) (d : Direction) → 0 < total_among office (records_of db) (total.Energy o p b d) → IsTotalOf office (total.Energy o p b d)
+  energy_above o p b d above = (owner, period, band)
     where
       owner : HasOwner office o
       owner = elim (owner_or_none office o) [
         | inl has ↦ has
-        | inr none ↦ absurd (let zero = (foreign-totals_are_none office (records_of db)).owners of o b d none in omega (arith, above, zero))
+        | inr none ↦ absurd (let zero = (foreign-totals_are_none office (records_of db)).owners of o p b d none in omega (arith, above, zero))
+      ]
+
+      period : p.0 < office.periods
+      period = elim (cases_lt p.0 office.periods) [
+        | inl low ↦ low
+        | inr high ↦ absurd (let zero = (foreign-totals_are_none office (records_of db)).periods periods o p b d high in omega (arith, above, zero))
       ]
 
       band : b.0 < office.bands
       band = elim (cases_lt b.0 office.bands) [
         | inl low ↦ low
-        | inr high ↦ absurd (let zero = (foreign-totals_are_none office (records_of db)).bands bands o b d high in omega (arith, above, zero))
+        | inr high ↦ absurd (let zero = (foreign-totals_are_none office (records_of db)).bands bands o p b d high in omega (arith, above, zero))
       ]
 
   payment_above : (a : AccountId) → 0 < total_among office (records_of db) (total.TopUps a) → IsTotalOf office (total.TopUps a)
@@ -75,19 +82,19 @@ module _ (office : OfficeRules) (bands : HasBands office) (db : Trees) (of : All
   ]
 
   -- ---- each total that is kept does
-  module _ (before : Trees) (keeps : Keeps before db) (rows : HasRows Second db) (named : NamesOffice office before) (truth : IsTrueContent office (content_of db)) where
-    energy_named : (r : Row) → Member r (db total_tree) → IsTotalOf office (energy_in r)
-    energy_named r m = elim (cases_lt 0 (number (column r 4))) [
+  module _ (before : Trees) (keeps : Keeps before db) (rows : HasRows Third db) (named : NamesOffice Third office before) (truth : IsTrueContent office (content_of db)) where
+    energy_named : (r : Row) → Member r (db energy_tree) → IsTotalOf office (energy_in r)
+    energy_named r m = elim (cases_lt 0 (number (column r 5))) [
       | inl above ↦ (
-          let told = row_told same_total same_total-decides energy_in (λ x. number (column x 4)) (db total_tree) r rows.energies.once m in
-          let is : total_in db (energy_in r) ≡ number (column r 4) = ap (λ o. unwrap_or o 0) told in
+          let told = row_told same_total same_total-decides energy_in (λ x. number (column x 5)) (db energy_tree) r rows.energies.rows.once m in
+          let is : total_in db (energy_in r) ≡ number (column r 5) = ap (λ o. unwrap_or o 0) told in
           let true_one : total_in db (energy_in r) ≡ total_among office (records_of db) (energy_in r) = truth.totals (energy_in r) in
-          energy_above (owner_at (number (column r 1))) (record { 0 = number (column r 2) }) (direction_at (number (column r 3))) (subst (λ n. 0 < n) (sym is ∙ true_one) above))
+          energy_above (owner_at (number (column r 1))) (record { 0 = number (column r 2) }) (record { 0 = number (column r 3) }) (direction_at (number (column r 4))) (subst (λ n. 0 < n) (sym is ∙ true_one) above))
       | inr none ↦ (
-          let old = all_member (IsOldEnergy before) (db total_tree) r keeps.energies m in
-          let had = something (energy_told (before total_tree) (energy_in r)) (old (omega (arith, none))) in
-          let row = told_row same_total same_total-decides energy_in (λ x. number (column x 4)) (before total_tree) (energy_in r) had.0 had.1 in
-          subst (IsTotalOf office) row.1.1.0 (all_member (λ x. IsTotalOf office (energy_in x)) (before total_tree) row.0 named.energies row.1.0))
+          let old = all_member (IsOldEnergy before) (db energy_tree) r keeps.energies m in
+          let had = something (energy_told (before energy_tree) (energy_in r)) (old (omega (arith, none))) in
+          let row = told_row same_total same_total-decides energy_in (λ x. number (column x 5)) (before energy_tree) (energy_in r) had.0 had.1 in
+          subst (IsTotalOf office) row.1.1.0 (all_member (λ x. IsTotalOf office (energy_in x)) (before energy_tree) row.0 named.energies row.1.0))
     ]
 
     payment_named : (r : Row) → Member r (db payment_tree) → IsTotalOf office (payment_in r)
@@ -104,9 +111,9 @@ module _ (office : OfficeRules) (bands : HasBands office) (db : Trees) (of : All
           subst (IsTotalOf office) row.1.1.0 (all_member (λ x. IsTotalOf office (payment_in x)) (before payment_tree) row.0 named.payments row.1.0))
     ]
 
-    pub names : NamesOffice office db
+    pub names : NamesOffice Third office db
     names = record {
-      energies = all_members (λ r. IsTotalOf office (energy_in r)) (db total_tree) energy_named;
+      energies = all_members (λ r. IsTotalOf office (energy_in r)) (db energy_tree) energy_named;
       payments = all_members (λ r. IsTotalOf office (payment_in r)) (db payment_tree) payment_named;
     }
 
@@ -122,18 +129,18 @@ keeps_plain before db keeps plain = subst (λ (rows : List Row). AllByRecursion 
 
 -- ---- what is left
 module _ (s opened : State) (was : KeepsOpened s opened) (office : OfficeFile) (body : List ℕ) (found : Database) (is : IsOfficeOf body office) (it : IsLeftSound s opened (office_of office) body found) where
-  left : HasRows Second found.trees × Keeps opened.now.trees found.trees
+  left : HasRows Third found.trees × Keeps opened.now.trees found.trees
   left = (was it.clean).left found.trees it.left
 
   ours : IsOurs found.schema
   ours = (was it.clean).ours found it.database left.1.listed
 
-  pub openable : IsOpenable Second (office_of office) body found
+  pub openable : IsOpenable Third (office_of office) body found
   openable = record {
     ours = record { schema_is = ours; plain = keeps_plain opened.now.trees found.trees left.1 it.text.1.1 };
     text = keeps_text _ opened.now.trees found.trees left.1 it.text.0;
     rows = left.0;
-    named = names (office_of office) (bands-of office (office-sound body office is)) found.trees it.sound.of_office opened.now.trees left.1 left.0 it.text.1.0 it.sound.truth;
+    named = names (office_of office) (λ t. (bands-of office (office-sound body office is) t).period) (λ t. (bands-of office (office-sound body office is) t).band) found.trees it.sound.of_office opened.now.trees left.1 left.0 it.text.1.0 it.sound.truth;
     of_office = it.sound.of_office;
     few = it.sound.few;
     truth = it.sound.truth;
@@ -143,7 +150,7 @@ module _ (s opened : State) (was : KeepsOpened s opened) (office : OfficeFile) (
   left_ours = ours
 
 pub left_opens : (s opened : State) → KeepsOpened s opened → LeftOpens s opened
-left_opens s opened was office body found is it fault = opens_version Second (office_of office) body found fault (openable s opened was office body found is it)
+left_opens s opened was office body found is it fault = opens_version Third (office_of office) body found fault (openable s opened was office body found is it)
 
 -- ---- opened again
 module _ {A E : Type 0} (s opened found : State) (was : KeepsOpened s opened) (body : List ℕ) (it : IsLeftBehind s opened body found) where
@@ -153,8 +160,8 @@ module _ {A E : Type 0} (s opened found : State) (was : KeepsOpened s opened) (b
   refused_again CleanAt fault (Ok a) cause = tt
   refused_again CleanAt fault (Err e) cause = λ clean. let why = cause clean in left_opens s opened was why.0 body found.committed why.1 (it why.0 why.1) (fault e) why.2
 
-  pub content_again : (office : OfficeFile) → IsOfficeOf body office → (CleanAt : A → Type 0) (held : A → ShelfContent) (r : Result A E)
-      → IfOk r (λ a. CleanAt a → IsFound found.committed (held a))
+  pub content_again : (CleanAt : A → Type 0) (held : A → ShelfContent) (r : Result A E)
+      → IfOk r (λ a. CleanAt a → (office : OfficeFile) × IsOfficeOf body office × IsFound (office_of office) found.committed (held a))
       → IfOk r (λ a. CleanAt a → held a ≡ content_of found.committed.trees)
-  content_again office is CleanAt held (Err e) content = tt
-  content_again office is CleanAt held (Ok a) content = λ clean. found_ours found.committed (held a) (left_ours s opened was office body found.committed is (it office is)) (content clean)
+  content_again CleanAt held (Err e) content = tt
+  content_again CleanAt held (Ok a) content = λ clean. let why = content clean in found_ours (office_of why.0) found.committed (held a) (left_ours s opened was why.0 body found.committed why.1 (it why.0 why.1)) why.2

@@ -10,10 +10,10 @@ use Rattle.sqlite_catalog.specs.Listing.{Lists}
 use Rattle.sqlite_trees.specs.Objects.{catalog_tree}
 use Rattle.pw_model.specs.Counting.{Member}
 use Rattle.pw_schema.specs.Tables.{IsOurs}
-use Rattle.pw_schema.specs.declared.kind.StoreVersion.TheVariants.{Second}
+use Rattle.pw_schema.specs.declared.kind.StoreVersion.TheVariants.{Third}
 use Rattle.pw_schema.proofs.Outcomes.{early}
 use Rattle.pw_schema.specs.Rows.{number}
-use Rattle.pw_store.specs.Content.{energy_in, payment_in, payment_tree, total_tree}
+use Rattle.pw_store.specs.Content.{energy_in, energy_tree, payment_in, payment_tree}
 use Rattle.pw_store.specs.Kept.{IsStore}
 use Rattle.pw_store.specs.Left.{IsLeftOf, IsOfText, IsOldEnergy, IsOldPayment, Keeps, KeepsOpened}
 use Rattle.pw_store.specs.inner.Changing.{StillKeeps}
@@ -24,13 +24,13 @@ use Rattle.pw_store.proofs.KeyedRows.{row_told}
 use Rattle.pw_store.proofs.Others.{same_total-decides}
 use Rattle.pw_shelf.specs.Changes.{same_total}
 
-pub rows_of : (db : Database) → IsStore db → HasRows Second db.trees
+pub rows_of : (db : Database) → IsStore db → HasRows Third db.trees
 rows_of db store = record {
   rows = λ k at. store.rows k;
   once = store.once;
   points = record { each = store.points.each; once = store.points.once };
   starts = record { each = store.starts.each; once = store.starts.once };
-  energies = record { each = store.energies.each; once = store.energies.once };
+  energies = record { rows = record { each = store.energies.each; once = store.energies.once }; none = store.old };
   payments = record { each = store.payments.each; once = store.payments.once };
 }
 
@@ -46,8 +46,8 @@ itself : (db : Database) → IsStore db → Keeps db.trees db.trees
 itself db store = record {
   listed = refl;
   office = refl;
-  energies = all_members (IsOldEnergy db.trees) (db.trees total_tree)
-      (λ r m zero. told_something _ _ (row_told same_total same_total-decides energy_in (λ x. number (column x 4)) (db.trees total_tree) r store.energies.once m));
+  energies = all_members (IsOldEnergy db.trees) (db.trees energy_tree)
+      (λ r m zero. told_something _ _ (row_told same_total same_total-decides energy_in (λ x. number (column x 5)) (db.trees energy_tree) r store.energies.once m));
   payments = all_members (IsOldPayment db.trees) (db.trees payment_tree)
       (λ r m zero. told_something _ _ (row_told same_total same_total-decides payment_in (λ x. number (column x 2)) (db.trees payment_tree) r store.payments.once m));
 }
@@ -64,7 +64,7 @@ opened_keeps s live open_now settled store law clean =
       committed = λ _. subst (λ (d : Database). Keeps s.now.trees d.trees) settled mine;
       left = λ db may.
           (let is : s.now.trees ≡ db = ap (λ (d : Database). d.trees) settled ∙ sym (law db open_now may) in
-          (subst (HasRows Second) is (rows_of s.now store), subst (Keeps s.now.trees) is mine));
+          (subst (HasRows Third) is (rows_of s.now store), subst (Keeps s.now.trees) is mine));
     }
 
 -- where it may be opened
@@ -76,11 +76,11 @@ opening_text s at office body before is it = subst (λ (o : State). IsOfText off
 
 -- ---- a call
 module _ (old new opened : State) (was : KeepsOpened old opened) where
-  left_before : Survives old new (λ _. ⊥) → HasCleanDisk new → (db : Trees) → new.may_leave db → HasRows Second db × Keeps opened.now.trees db
+  left_before : Survives old new (λ _. ⊥) → HasCleanDisk new → (db : Trees) → new.may_leave db → HasRows Third db × Keeps opened.now.trees db
   left_before s clean db may = (was (early old new s clean)).left db (elim (s.crash clean db may) [ inl before ↦ before | inr none ↦ absurd none ])
 
   shown : (now committed : Database) (mode : Bool) → HasCleanDisk old → Shows old new now committed mode → Keeps opened.now.trees now.trees → Keeps opened.now.trees committed.trees
-      → ((db : Trees) → new.may_leave db → HasRows Second db × Keeps opened.now.trees db) → IsLeftOf new opened
+      → ((db : Trees) → new.may_leave db → HasRows Third db × Keeps opened.now.trees db) → IsLeftOf new opened
   shown now committed mode clean is n c left = record {
     ours = (was clean).ours;
     now = λ _. subst (λ (d : Database). Keeps opened.now.trees d.trees) (sym is.now_is) n;
@@ -88,7 +88,7 @@ module _ (old new opened : State) (was : KeepsOpened old opened) where
     left = left;
   }
 
-  ended : HasCleanDisk old → IsUnchanged old new ⊎ IsRolledBack old new → ((db : Trees) → new.may_leave db → HasRows Second db × Keeps opened.now.trees db) → IsLeftOf new opened
+  ended : HasCleanDisk old → IsUnchanged old new ⊎ IsRolledBack old new → ((db : Trees) → new.may_leave db → HasRows Third db × Keeps opened.now.trees db) → IsLeftOf new opened
   ended clean (inl same) left = shown old.now old.committed old.in_transaction clean same.0 ((was clean).now same.0.was_open) ((was clean).committed same.0.was_open) left
   ended clean (inr back) left = record {
     ours = (was clean).ours;
@@ -120,12 +120,12 @@ module _ (old new opened : State) (was : KeepsOpened old opened) where
       shown new.now old.committed true before (is clean) (keeps clean opened.now.trees ((was before).now (is clean).was_open)) ((was before).committed (is clean).was_open) (left_before s clean)
 
   -- what was written is committed, or may be found whole after a crash
-  left_or_whole : Survives old new (λ db. db ≡ old.now.trees) → HasCleanDisk new → IsTrue old.is_open → IsStore old.now → (db : Trees) → new.may_leave db → HasRows Second db × Keeps opened.now.trees db
+  left_or_whole : Survives old new (λ db. db ≡ old.now.trees) → HasCleanDisk new → IsTrue old.is_open → IsStore old.now → (db : Trees) → new.may_leave db → HasRows Third db × Keeps opened.now.trees db
   left_or_whole s clean live store db may =
       let before = early old new s clean in
       elim (s.crash clean db may) [
         | inl left ↦ (was before).left db left
-        | inr is ↦ (subst (HasRows Second) (sym is) (rows_of old.now store), subst (Keeps opened.now.trees) (sym is) ((was before).now live))
+        | inr is ↦ (subst (HasRows Third) (sym is) (rows_of old.now store), subst (Keeps opened.now.trees) (sym is) ((was before).now live))
       ]
 
   pub keeps_committed : Survives old new (λ db. db ≡ old.now.trees) → (HasCleanDisk old → IsTrue old.is_open → IsStore old.now) → (HasCleanDisk new → Shows old new old.now old.now false) → KeepsOpened new opened

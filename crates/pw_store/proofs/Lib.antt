@@ -7,6 +7,7 @@ pub mod AtTopup
 pub mod Checked
 pub mod Counted
 pub mod EnergyRows
+pub mod Filled
 pub mod Finding
 pub mod Fresh
 pub mod HeldKinds
@@ -24,6 +25,7 @@ pub mod Lists
 pub mod Listed
 pub mod Lacking
 pub mod Neighbours
+pub mod NoneListed
 pub mod OfContent
 pub mod OfMeter
 pub mod OfParts

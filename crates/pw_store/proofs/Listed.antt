@@ -12,7 +12,7 @@ use Rattle.pw_schema.specs.declared.kind.RecordKind.TheVariants.{Readings, Assig
 use Rattle.pw_schema.specs.declared.kind.TotalKind.TheVariants.{Energies, Payments}
 use Rattle.pw_store.specs.declared.listings.KeptKind.TheVariants.{Points, Starts}
 use Rattle.pw_store.specs.declared.listings.Listing.{Listing}
-use Rattle.pw_store.specs.declared.listings.Listing.TheVariants.{Records, Kept, Totals, KeptRowids, EnergyRowids}
+use Rattle.pw_store.specs.declared.listings.Listing.TheVariants.{Records, Kept, Totals, KeptRowids, EnergyRowids, OldTotals}
 use Rattle.pw_store.specs.inner.Listings.{ShowsAll, listed_tree, shown_by, text_of}
 use Rattle.pw_store.proofs.Texts.{IsQuery, plain_query, up}
 use Rattle.pw_store.proofs.Scans.{outputs}
@@ -29,20 +29,22 @@ columns (Records WithdrawnAssignments) = 1 ∷ 2 ∷ 3 ∷ []
 columns (Records WithdrawnTopUps) = 1 ∷ 2 ∷ 3 ∷ 4 ∷ []
 columns (Kept Points) = 1 ∷ 2 ∷ 3 ∷ 4 ∷ []
 columns (Kept Starts) = 1 ∷ 2 ∷ 3 ∷ []
-columns (Totals Energies) = 1 ∷ 2 ∷ 3 ∷ 4 ∷ []
+columns (Totals Energies) = 1 ∷ 2 ∷ 3 ∷ 4 ∷ 5 ∷ []
 columns (Totals Payments) = 0 ∷ 2 ∷ []
 columns (KeptRowids k) = 0 ∷ []
 columns EnergyRowids = 0 ∷ []
+columns OldTotals = 0 ∷ []
 
 -- of those by which its rows are sorted
 abbrev keys : Listing → List ℕ
 keys (Records k) = columns (Records k)
 keys (Kept Points) = 1 ∷ 2 ∷ 3 ∷ []
 keys (Kept Starts) = 1 ∷ 2 ∷ []
-keys (Totals Energies) = 1 ∷ 2 ∷ 3 ∷ []
+keys (Totals Energies) = 1 ∷ 2 ∷ 3 ∷ 4 ∷ []
 keys (Totals Payments) = 0 ∷ []
 keys (KeptRowids k) = 0 ∷ []
 keys EnergyRowids = 0 ∷ []
+keys OldTotals = 0 ∷ []
 
 abbrev query_of : Listing → Query
 query_of l = record (plain_query (listed_tree l) [] (map (col 1) (columns l))) { order = map (λ at. (col 1 at, up)) (keys l) }
@@ -57,11 +59,12 @@ is_query (Records WithdrawnAssignments) = record { names = codes "meter" ∷ cod
 is_query (Records WithdrawnTopUps) = record { names = codes "reference" ∷ codes "account" ∷ codes "cents" ∷ codes "instant" ∷ []; is = λ checks. refl; unlisted = λ checks. refl; plain = λ checks. (refl, refl) }
 is_query (Kept Points) = record { names = codes "meter" ∷ codes "register" ∷ codes "instant" ∷ codes "wh" ∷ []; is = λ checks. refl; unlisted = λ checks. refl; plain = λ checks. (refl, refl) }
 is_query (Kept Starts) = record { names = codes "meter" ∷ codes "start" ∷ codes "owner" ∷ []; is = λ checks. refl; unlisted = λ checks. refl; plain = λ checks. (refl, refl) }
-is_query (Totals Energies) = record { names = codes "owner" ∷ codes "band" ∷ codes "direction" ∷ codes "wh" ∷ []; is = λ checks. refl; unlisted = λ checks. refl; plain = λ checks. (refl, refl) }
+is_query (Totals Energies) = record { names = codes "owner" ∷ codes "period" ∷ codes "band" ∷ codes "direction" ∷ codes "wh" ∷ []; is = λ checks. refl; unlisted = λ checks. refl; plain = λ checks. (refl, refl) }
 is_query (Totals Payments) = record { names = codes "account" ∷ codes "cents" ∷ []; is = λ checks. refl; unlisted = λ checks. refl; plain = λ checks. (refl, refl) }
 is_query (KeptRowids Points) = record { names = codes "rowid" ∷ []; is = λ checks. refl; unlisted = λ checks. refl; plain = λ checks. (refl, refl) }
 is_query (KeptRowids Starts) = record { names = codes "rowid" ∷ []; is = λ checks. refl; unlisted = λ checks. refl; plain = λ checks. (refl, refl) }
 is_query EnergyRowids = record { names = codes "rowid" ∷ []; is = λ checks. refl; unlisted = λ checks. refl; plain = λ checks. (refl, refl) }
+is_query OldTotals = record { names = codes "rowid" ∷ []; is = λ checks. refl; unlisted = λ checks. refl; plain = λ checks. (refl, refl) }
 
 -- ---- what it shows
 row_shown : (l : Listing) (r : Row) → (output (query_of l) ([] ∷ r ∷ [])).1 ≡ shown_by l r
@@ -77,6 +80,7 @@ row_shown (Totals Energies) r = refl
 row_shown (Totals Payments) r = refl
 row_shown (KeptRowids k) r = refl
 row_shown EnergyRowids r = refl
+row_shown OldTotals r = refl
 
 rows_shown : (l : Listing) (rows : List Row) → map second (outputs (query_of l) [] rows) ≡ map (shown_by l) rows
 rows_shown l [] = refl

@@ -16,9 +16,11 @@ use Rattle.pw_model.proofs.Same.{same_key-decides}
 use Rattle.pw_parts.specs.Laws.{assignment_entry}
 use Rattle.pw_parts.proofs.Seconds.{wh-one, owner-one}
 use Rattle.pw_schema.specs.declared.kind.StoreVersion.{StoreVersion}
+use Rattle.pw_schema.specs.declared.kind.StoreVersion.TheVariants.{First, Second, Third}
 use Rattle.pw_schema.specs.Rows.{number, register_at, owner_at}
-use Rattle.pw_store.specs.Content.{content_of_version, kinds_of, records_of_version, reading_in, assignment_in, energy_in, payment_in, payment_tree, point_tree, start_tree, total_tree}
-use Rattle.pw_store.specs.Opening.{HasRows, NamesOffice, HoldsAllRecords, HoldsSums, IsTotalRow, key_of_total}
+use Rattle.pw_store.specs.Content.{content_of_version, kinds_of, records_of_version, reading_in, assignment_in, energy_in, energy_tree, payment_in, payment_tree, point_tree, start_tree}
+use Rattle.pw_store.specs.inner.Opened.{HoldsEnergies}
+use Rattle.pw_store.specs.Opening.{HasEnergiesOf, HasRows, NamesEnergies, NamesOffice, HoldsAllRecords, HoldsLasting, HoldsSums, HoldsSumsOf, IsTotalRow, key_of_total}
 use Rattle.pw_schema.specs.declared.kind.TotalKind.TheVariants.{Energies, Payments}
 use Rattle.pw_schema.specs.Judging.{IsTotalOf}
 use Rattle.sqlite_trees.proofs.ListLemmas.{all_weaker}
@@ -29,10 +31,14 @@ all_two : {X : Type 0} (P Q : X → Type 0) (xs : List X) → AllByRecursion P x
 all_two P Q [] p q = tt
 all_two P Q (x ∷ xs) p q = ((p.0, q.0), all_two P Q xs p.1 q.1)
 
+-- of the totals that are held, those of energy
+pub energies_held : (office : OfficeRules) (db : Trees) → HoldsSums office db → HoldsEnergies office db
+energies_held office db sums = record { energies = sums.energies; old = sums.old }
+
 -- totals of the office name what it has
-pub names_office : (office : OfficeRules) (db : Trees) → HoldsSums office db → NamesOffice office db
+pub names_office : (office : OfficeRules) (db : Trees) → HoldsSums office db → NamesOffice Third office db
 names_office office db sums = record {
-  energies = all_weaker (λ row. IsTotalRow Energies row × IsTotalOf office (key_of_total Energies row)) (λ row. IsTotalOf office (energy_in row)) (λ row it. it.1) (db total_tree) sums.energies.rows;
+  energies = all_weaker (λ row. IsTotalRow Energies row × IsTotalOf office (key_of_total Energies row)) (λ row. IsTotalOf office (energy_in row)) (λ row it. it.1) (db energy_tree) sums.energies.rows;
   payments = all_weaker (λ row. IsTotalRow Payments row × IsTotalOf office (key_of_total Payments row)) (λ row. IsTotalOf office (payment_in row)) (λ row it. it.1) (db payment_tree) sums.payments.rows;
 }
 
@@ -44,7 +50,7 @@ module _ (v : StoreVersion) (office : OfficeRules) (db : Trees) (rows : HasRows 
     of_office = λ e m. of e (among_kinds (kinds_of v) db k e at m);
   }
 
-  module _ (it : IsTrueContent office (content_of_version v db)) (named : NamesOffice office db) where
+  module _ (it : IsTrueContent office (content_of_version office v db)) (named : NamesOffice v office db) where
     point_of_office : (r : Row) → Member r (db point_tree) → IsOfOffice office (reading_in r)
     point_of_office r m =
         let meter = number (column r 1) in
@@ -72,10 +78,23 @@ module _ (v : StoreVersion) (office : OfficeRules) (db : Trees) (rows : HasRows 
     starts_of_office : AllOfOffice office (map assignment_in (db start_tree))
     starts_of_office e m = let r = before_map assignment_in e (db start_tree) m in subst (IsOfOffice office) (sym r.1.1) (start_of_office r.0 r.1.0)
 
-    pub sums_held : HoldsSums office db
-    sums_held = record {
+    lasting_held : HoldsLasting office db
+    lasting_held = record {
       points = record { rows = rows.points.each; once = rows.points.once; of_office = points_of_office };
       starts = record { rows = rows.starts.each; once = rows.starts.once; of_office = starts_of_office };
-      energies = record { rows = all_two _ _ _ rows.energies.each named.energies; once = rows.energies.once };
       payments = record { rows = all_two _ _ _ rows.payments.each named.payments; once = rows.payments.once };
     }
+
+    held_by : (w : StoreVersion) → HasEnergiesOf w db → NamesEnergies w office db → HoldsSumsOf w office db
+    held_by First has names = lasting_held
+    held_by Second has names = lasting_held
+    held_by Third has names = record {
+      points = lasting_held.points;
+      starts = lasting_held.starts;
+      energies = record { rows = all_two _ _ _ has.rows.each names; once = has.rows.once };
+      payments = lasting_held.payments;
+      old = has.none;
+    }
+
+    pub sums_held : HoldsSumsOf v office db
+    sums_held = held_by v rows.energies named.energies

@@ -18,7 +18,7 @@ use Rattle.pw_model.specs.Same.{key_numbers, key_order, named_numbers}
 use Rattle.pw_schema.specs.declared.kind.RecordKind.{RecordKind}
 use Rattle.pw_schema.specs.declared.kind.RecordKind.TheVariants.{Readings, Assignments, TopUps, WithdrawnReadings, WithdrawnAssignments, WithdrawnTopUps}
 use Rattle.pw_schema.specs.declared.kind.StoreVersion.{StoreVersion}
-use Rattle.pw_schema.specs.declared.kind.StoreVersion.TheVariants.{First, Second}
+use Rattle.pw_schema.specs.declared.kind.StoreVersion.TheVariants.{First, Second, Third}
 use Rattle.pw_store.specs.Content.{entries_of, entry_in, kinds_of, records_among, records_of, tree_of}
 use Rattle.pw_store.specs.inner.Lists.{kind_at, kind_of_named}
 use Rattle.pw_store.proofs.Placing.{before, behind}
@@ -121,12 +121,8 @@ not_among k [] low m = m
 not_among k (j ∷ kinds) low (inl i) = let same = ap place i in let less = low.0 in omega (arith, same, less)
 not_among k (j ∷ kinds) low (inr m) = not_among k kinds low.1 m
 
-pub kinds_once : (v : StoreVersion) → EachOnce (kinds_of v)
-kinds_once First = (
-  not_among Readings (Assignments ∷ TopUps ∷ []) (omega arith, (omega arith, tt)),
-  (not_among Assignments (TopUps ∷ []) (omega arith, tt), (not_among TopUps [] tt, tt)),
-)
-kinds_once Second = (
+all_once : EachOnce (kinds_of Third)
+all_once = (
   not_among Readings (Assignments ∷ TopUps ∷ WithdrawnReadings ∷ WithdrawnAssignments ∷ WithdrawnTopUps ∷ []) (omega arith, (omega arith, (omega arith, (omega arith, (omega arith, tt))))),
   (
     not_among Assignments (TopUps ∷ WithdrawnReadings ∷ WithdrawnAssignments ∷ WithdrawnTopUps ∷ []) (omega arith, (omega arith, (omega arith, (omega arith, tt)))),
@@ -140,7 +136,15 @@ kinds_once Second = (
   ),
 )
 
-pub each_kind : (k : RecordKind) → Member k (kinds_of Second)
+pub kinds_once : (v : StoreVersion) → EachOnce (kinds_of v)
+kinds_once First = (
+  not_among Readings (Assignments ∷ TopUps ∷ []) (omega arith, (omega arith, tt)),
+  (not_among Assignments (TopUps ∷ []) (omega arith, tt), (not_among TopUps [] tt, tt)),
+)
+kinds_once Second = all_once
+kinds_once Third = all_once
+
+pub each_kind : (k : RecordKind) → Member k (kinds_of Third)
 each_kind Readings = inl refl
 each_kind Assignments = inr (inl refl)
 each_kind TopUps = inr (inr (inl refl))
@@ -194,7 +198,7 @@ inserted_among (j ∷ kinds) old new k e each (inr n) same it =
 
 -- ---- of a store that is open
 pub in_table : (db : Trees) (x : Entry) (k : RecordKind) → kind_at x.key ≡ k → Member x (records_of db) → Member x (entries_of k db)
-in_table db x k is m = let it = some_kind (kinds_of Second) db x m in subst (λ j. Member x (entries_of j db)) (sym (of_kind it.0 _ x it.1.1) ∙ is) it.1.1
+in_table db x k is m = let it = some_kind (kinds_of Third) db x m in subst (λ j. Member x (entries_of j db)) (sym (of_kind it.0 _ x it.1.1) ∙ is) it.1.1
 
 pub from_table : (db : Trees) (x : Entry) (k : RecordKind) → Member x (entries_of k db) → Member x (records_of db)
-from_table db x k m = among_kinds (kinds_of Second) db k x (each_kind k) m
+from_table db x k m = among_kinds (kinds_of Third) db k x (each_kind k) m

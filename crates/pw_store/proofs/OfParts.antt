@@ -9,6 +9,7 @@ use Rattle.pw_obis.specs.declared.reference.Register.{Register}
 use Rattle.pw_tariff.specs.declared.ids.AccountId.{AccountId}
 use Rattle.pw_tariff.specs.declared.ids.BandId.{BandId}
 use Rattle.pw_tariff.specs.declared.ids.Direction.{Direction}
+use Rattle.pw_tariff.specs.declared.ids.PeriodId.{PeriodId}
 use Rattle.pw_tariff.specs.Office.{OfficeRules}
 use Rattle.pw_model.specs.declared.records.Key.{Key}
 use Rattle.pw_model.specs.declared.records.Key.TheVariants as key
@@ -22,7 +23,7 @@ use Rattle.pw_model.specs.Lists.{IsBeforeAll, IsInOrder, reading_entry}
 use Rattle.pw_model.specs.Office.{AllOfOffice, IsOf}
 use Rattle.pw_model.specs.Same.{same_key, key_numbers, total_numbers, total_order}
 use Rattle.pw_model.specs.Shelf.{IsTrueContent, ShelfContent, total_among}
-use Rattle.pw_model.proofs.Answers.{energy-same, topped-same}
+use Rattle.pw_model.proofs.Answers.{period-same, topped-same}
 use Rattle.pw_model.proofs.Counting.{contents-same, standing-part}
 use Rattle.pw_model.proofs.InOrder.{by-numbers, rising-one}
 use Rattle.pw_model.proofs.Same.{same_key-decides}
@@ -36,7 +37,7 @@ use Rattle.pw_schema.specs.declared.kind.TotalKind.{TotalKind}
 use Rattle.pw_schema.specs.declared.kind.TotalKind.TheVariants.{Energies, Payments}
 use Rattle.pw_schema.specs.Judges.{is_above_zero}
 use Rattle.pw_schema.specs.Rows.{number, register_at, owner_at}
-use Rattle.pw_store.specs.Content.{content_of, records_of, point_in, start_in, total_in, reading_in, assignment_in, energy_in, payment_in, energy_told, payment_told, point_tree, start_tree, total_tree, payment_tree}
+use Rattle.pw_store.specs.Content.{content_of, records_of, point_in, start_in, total_in, reading_in, assignment_in, energy_in, payment_in, energy_told, payment_told, point_tree, start_tree, energy_tree, payment_tree}
 use Rattle.pw_store.specs.Opening.{HoldsSums, key_of_total}
 use Rattle.pw_store.specs.inner.Opened.{amount_of_total}
 use Rattle.pw_store.specs.inner.Sums.{Listed, TellsSums, total_in_row}
@@ -90,20 +91,45 @@ member_front x [] ys m = absurd m
 member_front x (z ∷ xs) ys (inl i) = inl i
 member_front x (z ∷ xs) ys (inr m) = inr (member_front x xs ys m)
 
-energy_before : (o : Option AccountId) (b : BandId) (d : Direction) (a : AccountId) → total_order (total.Energy o b d) (total.TopUps a) ≡ Less
+energy_before : (o : Option AccountId) (p : PeriodId) (b : BandId) (d : Direction) (a : AccountId) → total_order (total.Energy o p b d) (total.TopUps a) ≡ Less
 unfolding total_numbers
-energy_before o b d a = refl
+energy_before o p b d a = refl
 
 no_energy_row : (a : AccountId) (r : Row) → total.TopUps a ≡ energy_in r → ⊥
 no_energy_row a r e = cc
 
-no_payment_row : (o : Option AccountId) (b : BandId) (d : Direction) (r : Row) → total.Energy o b d ≡ payment_in r → ⊥
-no_payment_row o b d r e = cc
+no_payment_row : (o : Option AccountId) (p : PeriodId) (b : BandId) (d : Direction) (r : Row) → total.Energy o p b d ≡ payment_in r → ⊥
+no_payment_row o p b d r e = cc
 
 -- ---- amounts
 some_amount : (q : Option ℕ) (n : ℕ) → 0 < n → unwrap_or q 0 ≡ n → q ≡ Some n
 some_amount None n l e = absurd (omega (arith, l, e))
 some_amount (Some v) n l e = ap Some e
+
+-- of a table of totals: the value of its row with this key, and no other
+module _ (k : TotalKind) (table : List Row) (found : List (TotalKey × ℕ)) (told : IsPermutation (map (total_in_row k) table) found) (once : EachOnce (map (key_of_total k) table)) where
+  abbrev pub amount_at : TotalKey → Option ℕ
+  amount_at l = option_map (amount_of_total k) (find (λ x. same_total l (key_of_total k x)) table)
+
+  pub amounts_read : (l : TotalKey) (n : ℕ) → amount_at l ≡ Some n ↔ Member (l, n) found
+  amounts_read l n =
+      let members = permuted (map (total_in_row k) table) found told in (
+        λ e.
+            let it = told_row same_total same_total-decides (key_of_total k) (amount_of_total k) table l n e in
+            let one : total_in_row k it.0 ≡ (l, n) = λ i. (it.1.1.0 i, it.1.1.1 i) in
+            (members (l, n)).0 (subst (λ x. Member x (map (total_in_row k) table)) one (image (total_in_row k) it.0 table it.1.0)),
+        λ m.
+            let it = before_map (total_in_row k) (l, n) table ((members (l, n)).1 m) in
+            let key_is : key_of_total k it.0 ≡ l = ap (λ (x : TotalKey × ℕ). x.0) (sym it.1.1) in
+            let amount_is : amount_of_total k it.0 ≡ n = ap (λ (x : TotalKey × ℕ). x.1) (sym it.1.1) in
+            subst (λ j. amount_at j ≡ Some n) key_is (row_told same_total same_total-decides (key_of_total k) (amount_of_total k) table it.0 once it.1.0 ∙ ap Some amount_is),
+      )
+
+  -- each key found is that of a row
+  pub key_found : (x : TotalKey × ℕ) → Member x found → (r : Row) × (x.0 ≡ key_of_total k r)
+  key_found x m =
+      let it = before_map (total_in_row k) x table ((permuted (map (total_in_row k) table) found told x).1 m) in
+      (it.0, ap (λ (y : TotalKey × ℕ). y.0) it.1.1)
 
 module _ (office : OfficeRules) (db : Trees) (records : List Entry) (sums : Listed) (holds : HoldsSums office db) (tells : TellsSums db sums) (same : IsPermutation (records_of db) records) (of : AllOfOffice office (records_of db)) where
   abbrev now : ShelfContent
@@ -147,51 +173,26 @@ module _ (office : OfficeRules) (db : Trees) (records : List Entry) (sums : List
             subst (λ (l : Key). start_at l ≡ Some o) key_is (row_told same_key same_key-decides (λ x. (assignment_in x).key) (λ x. owner_at (number (column x 3))) (db start_tree) it.0 holds.starts.once it.1.0 ∙ ap Some owner_is),
       )
 
-  -- of a table of totals: the value of its row with this key, and no other
-  module _ (k : TotalKind) (table : List Row) (found : List (TotalKey × ℕ)) (told : IsPermutation (map (total_in_row k) table) found) (once : EachOnce (map (key_of_total k) table)) where
-    abbrev amount_at : TotalKey → Option ℕ
-    amount_at l = option_map (amount_of_total k) (find (λ x. same_total l (key_of_total k x)) table)
-
-    amounts_read : (l : TotalKey) (n : ℕ) → amount_at l ≡ Some n ↔ Member (l, n) found
-    amounts_read l n =
-        let members = permuted (map (total_in_row k) table) found told in (
-          λ e.
-              let it = told_row same_total same_total-decides (key_of_total k) (amount_of_total k) table l n e in
-              let one : total_in_row k it.0 ≡ (l, n) = λ i. (it.1.1.0 i, it.1.1.1 i) in
-              (members (l, n)).0 (subst (λ x. Member x (map (total_in_row k) table)) one (image (total_in_row k) it.0 table it.1.0)),
-          λ m.
-              let it = before_map (total_in_row k) (l, n) table ((members (l, n)).1 m) in
-              let key_is : key_of_total k it.0 ≡ l = ap (λ (x : TotalKey × ℕ). x.0) (sym it.1.1) in
-              let amount_is : amount_of_total k it.0 ≡ n = ap (λ (x : TotalKey × ℕ). x.1) (sym it.1.1) in
-              subst (λ j. amount_at j ≡ Some n) key_is (row_told same_total same_total-decides (key_of_total k) (amount_of_total k) table it.0 once it.1.0 ∙ ap Some amount_is),
-        )
-
-    -- each key found is that of a row
-    key_found : (x : TotalKey × ℕ) → Member x found → (r : Row) × (x.0 ≡ key_of_total k r)
-    key_found x m =
-        let it = before_map (total_in_row k) x table ((permuted (map (total_in_row k) table) found told x).1 m) in
-        (it.0, ap (λ (y : TotalKey × ℕ). y.0) it.1.1)
-
-  energies_read : (l : TotalKey) (n : ℕ) → energy_told (db total_tree) l ≡ Some n ↔ Member (l, n) sums.energies
-  energies_read = amounts_read Energies (db total_tree) sums.energies tells.energies_told.told holds.energies.once
+  energies_read : (l : TotalKey) (n : ℕ) → energy_told (db energy_tree) l ≡ Some n ↔ Member (l, n) sums.energies
+  energies_read = amounts_read Energies (db energy_tree) sums.energies tells.energies_told.told holds.energies.once
 
   payments_read : (l : TotalKey) (n : ℕ) → payment_told (db payment_tree) l ≡ Some n ↔ Member (l, n) sums.payments
   payments_read = amounts_read Payments (db payment_tree) sums.payments tells.payments_told.told holds.payments.once
 
   -- no key of a total of top-ups is among the energies, and none of a total of energy among the top-ups
   no_payment : (a : AccountId) (n : ℕ) → Member (total.TopUps a, n) sums.energies → ⊥
-  no_payment a n m = let it = key_found Energies (db total_tree) sums.energies tells.energies_told.told holds.energies.once (total.TopUps a, n) m in no_energy_row a it.0 it.1
+  no_payment a n m = let it = key_found Energies (db energy_tree) sums.energies tells.energies_told.told holds.energies.once (total.TopUps a, n) m in no_energy_row a it.0 it.1
 
-  no_energy : (o : Option AccountId) (b : BandId) (d : Direction) (n : ℕ) → Member (total.Energy o b d, n) sums.payments → ⊥
-  no_energy o b d n m = let it = key_found Payments (db payment_tree) sums.payments tells.payments_told.told holds.payments.once (total.Energy o b d, n) m in no_payment_row o b d it.0 it.1
+  no_energy : (o : Option AccountId) (p : PeriodId) (b : BandId) (d : Direction) (n : ℕ) → Member (total.Energy o p b d, n) sums.payments → ⊥
+  no_energy o p b d n m = let it = key_found Payments (db payment_tree) sums.payments tells.payments_told.told holds.payments.once (total.Energy o p b d, n) m in no_payment_row o p b d it.0 it.1
 
   totals_read : (l : TotalKey) (n : ℕ) → 0 < n → total_in db l ≡ n ↔ Member (l, n) positive
-  totals_read (total.Energy o b d) n lt = (
-    λ e. kept-member is_above_zero (sums.energies ++ sums.payments) (total.Energy o b d, n)
-        (member_front (total.Energy o b d, n) sums.energies sums.payments ((energies_read (total.Energy o b d) n).0 (some_amount (energy_told (db total_tree) (total.Energy o b d)) n lt e))) (lt-ltb 0 n lt),
-    λ m. elim (member_in (total.Energy o b d, n) sums.energies sums.payments (member-kept is_above_zero (sums.energies ++ sums.payments) (total.Energy o b d, n) m).0) [
-      | inl i ↦ ap (λ q. unwrap_or q 0) ((energies_read (total.Energy o b d) n).1 i)
-      | inr j ↦ absurd (no_energy o b d n j)
+  totals_read (total.Energy o p b d) n lt = (
+    λ e. kept-member is_above_zero (sums.energies ++ sums.payments) (total.Energy o p b d, n)
+        (member_front (total.Energy o p b d, n) sums.energies sums.payments ((energies_read (total.Energy o p b d) n).0 (some_amount (energy_told (db energy_tree) (total.Energy o p b d)) n lt e))) (lt-ltb 0 n lt),
+    λ m. elim (member_in (total.Energy o p b d, n) sums.energies sums.payments (member-kept is_above_zero (sums.energies ++ sums.payments) (total.Energy o p b d, n) m).0) [
+      | inl i ↦ ap (λ q. unwrap_or q 0) ((energies_read (total.Energy o p b d) n).1 i)
+      | inr j ↦ absurd (no_energy o p b d n j)
     ],
   )
   totals_read (total.TopUps a) n lt = (
@@ -204,9 +205,9 @@ module _ (office : OfficeRules) (db : Trees) (records : List Entry) (sums : List
   )
 
   energies_first : (x y : TotalKey × ℕ) → Member x sums.energies → Member y sums.payments → by_total x y ≡ Less
-  energies_first (total.Energy o b d, n) (total.TopUps a, p) m k = energy_before o b d a
+  energies_first (total.Energy o p b d, n) (total.TopUps a, q) m k = energy_before o p b d a
   energies_first (total.TopUps a, n) y m k = absurd (no_payment a n m)
-  energies_first (total.Energy o b d, n) (total.Energy p c e, q) m k = absurd (no_energy p c e q k)
+  energies_first (total.Energy o p b d, n) (total.Energy q r c e, w) m k = absurd (no_energy q r c e w k)
 
   positive_rises : IsInOrder by_total positive
   positive_rises = rising_filter by_total is_above_zero (sums.energies ++ sums.payments) (rising_both by_total sums.energies sums.payments tells.energies_told.rising tells.payments_told.rising energies_first)
@@ -264,7 +265,7 @@ module _ (office : OfficeRules) (db : Trees) (records : List Entry) (sums : List
     same_contents = sym (contents-same (records_of db) records (permuted (records_of db) records same))
 
     same_sums : (k : TotalKey) → total_among office records k ≡ total_among office (records_of db) k
-    same_sums (total.Energy o b d) = sym (energy-same office (records_of db) records (permuted (records_of db) records same) o b.0 d)
+    same_sums (total.Energy o q b d) = sym (period-same office (records_of db) records (permuted (records_of db) records same) o q.0 b.0 d)
     same_sums (total.TopUps a) = sym (topped-same (records_of db) records (permuted (records_of db) records same) a.0)
 
     pub true_if : AreRead parts sums → IsTrueContent office now

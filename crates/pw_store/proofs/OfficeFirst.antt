@@ -15,7 +15,7 @@ use Rattle.sqlite_tied.specs.Compute.{everything}
 use Rattle.sqlite.proofs.Callers.{IsPlain, command_of}
 use Rattle.pw_schema.specs.Tables.{BeginsAsOurs, IsOf, IsOurs, office_at, only_one}
 use Rattle.pw_schema.specs.declared.kind.StoreVersion.{StoreVersion}
-use Rattle.pw_schema.specs.declared.kind.StoreVersion.TheVariants.{First, Second}
+use Rattle.pw_schema.specs.declared.kind.StoreVersion.TheVariants.{First, Second, Third}
 use Rattle.pw_store.specs.Opening.{offices, shown_office}
 use Rattle.pw_store.proofs.Texts.{office_text, office_query}
 use Rattle.pw_store.proofs.Scans.{answer_of, scan_of}
@@ -47,6 +47,7 @@ office_first s begun = λ i. record { tables = head_is 7 s.tables _ _ begun.tabl
 pub version_begins : (v : StoreVersion) (s : Schema) → IsOf v s → BeginsAsOurs s
 version_begins First s is = subst BeginsAsOurs (sym is) (record { tables = refl; indexes = refl })
 version_begins Second s is = subst BeginsAsOurs (sym is) (record { tables = refl; indexes = refl })
+version_begins Third s is = subst BeginsAsOurs (sym is) (record { tables = refl; indexes = refl })
 
 pub ours_begin : (s : Schema) → IsOurs s → BeginsAsOurs s
 ours_begin s ours = subst BeginsAsOurs (sym ours) (record { tables = refl; indexes = refl })

@@ -23,7 +23,7 @@ use Rattle.pw_store.specs.declared.forms.Form.{Form}
 use Rattle.pw_store.specs.declared.forms.Form.TheVariants.{Record, Withdrawal}
 use Rattle.pw_schema.specs.declared.kind.RecordKind.{RecordKind}
 use Rattle.pw_schema.specs.declared.kind.RecordKind.TheVariants.{Readings, Assignments, TopUps, WithdrawnReadings, WithdrawnAssignments, WithdrawnTopUps}
-use Rattle.pw_schema.specs.declared.kind.StoreVersion.TheVariants.{Second}
+use Rattle.pw_schema.specs.declared.kind.StoreVersion.TheVariants.{Third}
 use Rattle.pw_schema.specs.Rows.{ReadsRows, withdrawal}
 use Rattle.pw_store.proofs.Finding.{name_of}
 use Rattle.pw_store.proofs.OfKinds.{some_kind}
@@ -50,7 +50,7 @@ of_rows f one (r ∷ rows) e (inl i) = subst HasForm (sym i) (one r)
 of_rows f one (r ∷ rows) e (inr m) = of_rows f one rows e m
 
 held_form : (db : Trees) (e : Entry) → Member e (records_of db) → HasForm e
-held_form db e m = let it = some_kind (kinds_of Second) db e m in of_rows (entry_in it.0) (form_in it.0) (db (tree_of it.0)) e it.1.1
+held_form db e m = let it = some_kind (kinds_of Third) db e m in of_rows (entry_in it.0) (form_in it.0) (db (tree_of it.0)) e it.1.1
 
 -- so what has none isn't held
 pub no_foreign : (db : Trees) (e : Entry) → IsForeign e → (IsTrue false ↔ Member e (records_of db))

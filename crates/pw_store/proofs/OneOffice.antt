@@ -6,6 +6,8 @@ use Rattle.pw_tariff.proofs.Answered.{one-answer}
 use Rattle.pw_model.specs.Office.{AllOfOffice}
 use Rattle.pw_model.specs.Shelf.{ShelfContent, IsTrueContent}
 use Rattle.pw_model.specs.declared.records.Entry.{Entry}
+use Rattle.sqlite.specs.Effect.{Database}
+use Rattle.pw_store.specs.Opening.{IsFound}
 
 same-ok : {A B : Type 0} (x y : A) (answer : Result A B) → answer ≡ Ok x → answer ≡ Ok y → x ≡ y
 same-ok x y answer e f = cc
@@ -24,3 +26,8 @@ pub opened-true : (text : List ℕ) (office : OfficeFile) (content : ShelfConten
     (other : OfficeFile) × IsOfficeOf text other × IsTrueContent (office_of other) content → IsTrueContent (office_of office) content
 opened-true text office content h (other, k, truth) =
     subst (λ o. IsTrueContent (office_of o) content) (one-office text other office k h) truth
+
+pub opened-found : (text : List ℕ) (office : OfficeFile) (found : Database) (content : ShelfContent) → IsOfficeOf text office →
+    (other : OfficeFile) × IsOfficeOf text other × IsFound (office_of other) found content → IsFound (office_of office) found content
+opened-found text office found content h (other, k, it) =
+    subst (λ o. IsFound (office_of o) found content) (one-office text other office k h) it

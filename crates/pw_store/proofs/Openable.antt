@@ -1,4 +1,4 @@
--- A store of this office, of either version, and of this text is refused only for the engine's sake, or for memory.
+-- A store of this office, of any version, and of this text is refused only for the engine's sake, or for memory.
 use Rattle.std.proofs.Common.{arith, ◌≡◌, ◌⊎◌, inl, inr, ℕ, pos, length, List, [], ◌∷◌, refl, sym, ap, subst, ◌∙◌}
 use Rattle.std.specs.List.Sorted.{IsPermutation}
 use Rattle.std.proofs.lemmas.List.Sorted.{IsPermutation-sym, IsPermutation-trans}
@@ -9,7 +9,7 @@ use Rattle.sqlite.specs.Schema.{Schema}
 use Rattle.sqlite.specs.Effect.{Database}
 use Rattle.pw_tariff.specs.Office.{OfficeRules}
 use Rattle.pw_schema.specs.declared.kind.StoreVersion.{StoreVersion}
-use Rattle.pw_schema.specs.declared.kind.StoreVersion.TheVariants.{First, Second}
+use Rattle.pw_schema.specs.declared.kind.StoreVersion.TheVariants.{First, Second, Third}
 use Rattle.pw_schema.specs.Judging.{HasVersion}
 use Rattle.pw_schema.specs.Tables.{BeginsAsOurs, IsOf, no_schema, version_number}
 use Rattle.sqlite.proofs.Callers.{one_permutation}
@@ -30,18 +30,42 @@ row_is x y xs a b = let e : y ∷ [] ≡ x ∷ [] = sym b ∙ a in cc
 one_number : (v w : StoreVersion) → version_number v ≡ version_number w → v ≡ w
 one_number First First e = refl
 one_number First Second e = absurd (omega (arith, e))
+one_number First Third e = absurd (omega (arith, e))
 one_number Second First e = absurd (omega (arith, e))
 one_number Second Second e = refl
+one_number Second Third e = absurd (omega (arith, e))
+one_number Third First e = absurd (omega (arith, e))
+one_number Third Second e = absurd (omega (arith, e))
+one_number Third Third e = refl
 
 abbrev number_of : Value → ℕ
 number_of (Int (pos n)) = n
 number_of _ = 0
 
+-- so many tables
+abbrev tables_of : StoreVersion → ℕ
+tables_of First = 8
+tables_of Second = 11
+tables_of Third = 12
+
+counted : (v : StoreVersion) (s : Schema) → IsOf v s → length s.tables ≡ tables_of v
+counted First s is = ap (λ (x : Schema). length x.tables) is
+counted Second s is = ap (λ (x : Schema). length x.tables) is
+counted Third s is = ap (λ (x : Schema). length x.tables) is
+
+one_count : (v w : StoreVersion) → tables_of v ≡ tables_of w → v ≡ w
+one_count First First e = refl
+one_count First Second e = absurd (omega (arith, e))
+one_count First Third e = absurd (omega (arith, e))
+one_count Second First e = absurd (omega (arith, e))
+one_count Second Second e = refl
+one_count Second Third e = absurd (omega (arith, e))
+one_count Third First e = absurd (omega (arith, e))
+one_count Third Second e = absurd (omega (arith, e))
+one_count Third Third e = refl
+
 pub one_version : (v w : StoreVersion) (s : Schema) → IsOf v s → IsOf w s → v ≡ w
-one_version First First s a b = refl
-one_version Second Second s a b = refl
-one_version First Second s a b = let e : 8 ≡ 11 = ap (λ (x : Schema). length x.tables) (sym a ∙ b) in absurd (omega (arith, e))
-one_version Second First s a b = let e : 11 ≡ 8 = ap (λ (x : Schema). length x.tables) (sym a ∙ b) in absurd (omega (arith, e))
+one_version v w s a b = one_count v w (sym (counted v s a) ∙ counted w s b)
 
 module _ (v : StoreVersion) (office : OfficeRules) (body : List ℕ) (db : Database) (it : IsOpenable v office body db) where
   same_as : (other : Row) (rows : List Row) → IsPermutation (offices db.trees) rows → rows ≡ other ∷ [] → other ≡ it.text.1.1.0

@@ -1,5 +1,5 @@
 -- What DELETE and INSERT make of the totals of top-ups.
-use Rattle.std.proofs.Common.{◌≡◌, ◌<◌, ℕ, pos, List, [], ◌∷◌, find, Bool, true, false, not, ◌&&◌, option_map, Some, None, Ok, Err, Result, OnOk, IsTrue, refl, sym, ap, subst, ◌∙◌, nat_cmp, arith}
+use Rattle.std.proofs.Common.{◌≡◌, ◌<◌, ℕ, pos, List, [], ◌∷◌, find, Bool, true, false, not, ◌&&◌, option_map, Some, None, Ok, Err, Result, OnOk, IsTrue, refl, sym, ap, subst, ◌∙◌, inl, nat_cmp, arith}
 use Rattle.std.specs.List.{AllByRecursion, list_all, filter}
 use Rattle.std.specs.Ordering.{is_eq}
 use Rattle.sqlite.specs.declared.types.Value.TheVariants.{Null, Int}
@@ -32,7 +32,7 @@ use Rattle.pw_store.proofs.OneTable.{HasDeleted, HasInserted, deletes, inserts, 
 use Rattle.pw_store.proofs.Taking.{delete_inside, both_true, none_found}
 
 abbrev account_of_total : TotalKey → ℕ
-account_of_total (total.Energy o b d) = 0
+account_of_total (total.Energy o p b d) = 0
 account_of_total (total.TopUps a) = a.0
 
 abbrev pub at_key : AccountId → Row → Bool
@@ -80,19 +80,20 @@ module _ (old new : State) (a : AccountId) (count : ℕ) (store : IsStore old.no
   others = deleted.1.2.tables
 
   told_left : total_in new.now.trees ≡ totals_with (total_in old.now.trees) (total.TopUps a) 0
-  told_left = payments_with old.now.trees new.now.trees a None (others.1.1.1.1.1.1.0 (λ e. absurd (omega (arith, e)))) (λ l. ap (λ rows. payment_told rows l) left ∙ gone_told same_total same_total-decides payment_in (λ x. number (column x 2)) (total.TopUps a) l (old.now.trees 13))
+  told_left = payments_with old.now.trees new.now.trees a None (others.1.1.1.1.1.1.1.1.1.1.1.0 (λ e. absurd (omega (arith, e)))) (λ l. ap (λ rows. payment_told rows l) left ∙ gone_told same_total same_total-decides payment_in (λ x. number (column x 2)) (total.TopUps a) l (old.now.trees 13))
 
   pub takes : Makes (λ c. with_total c (total.TopUps a) 0) old new
   takes = record {
-    store = store_kept old.now new.now deleted.0 (same_records own 13 old.now.trees new.now.trees (omega arith) (omega arith) others) store
+    store = store_kept old.now new.now deleted.0 (same_records own 13 old.now.trees new.now.trees (omega arith) (inl (omega arith)) others) store
         (subst (AreKeyed IsReadingRow key_in_point) (sym (others.1.1.1.1.0 (λ e. absurd (omega (arith, e))))) store.points)
         (subst (AreKeyed IsAssignmentRow key_in_start) (sym (others.1.1.1.1.1.0 (λ e. absurd (omega (arith, e))))) store.starts)
-        (subst (AreKeyed IsEnergyRow energy_in) (sym (others.1.1.1.1.1.1.0 (λ e. absurd (omega (arith, e))))) store.energies)
-        (subst (AreKeyed IsPaymentRow payment_in) (sym left) (keyed_gone same_total same_total-decides payment_in (λ x. number (column x 2)) IsPaymentRow (total.TopUps a) (old.now.trees 13) store.payments));
+        (subst (AreKeyed IsEnergyRow energy_in) (sym (others.1.1.1.1.1.1.1.1.1.1.1.0 (λ e. absurd (omega (arith, e))))) store.energies)
+        (subst (AreKeyed IsPaymentRow payment_in) (sym left) (keyed_gone same_total same_total-decides payment_in (λ x. number (column x 2)) IsPaymentRow (total.TopUps a) (old.now.trees 13) store.payments))
+        (others.1.1.1.1.1.1.0 (λ e. absurd (omega (arith, e))));
     keeps = keeps_rows own _ old.now.trees new.now.trees _ deleted.1.2 (omega arith) (omega arith)
-        (λ before all. subst (AllByRecursion (IsOldEnergy before)) (sym (others.1.1.1.1.1.1.0 (λ e. absurd (omega (arith, e))))) all)
+        (λ before all. subst (AllByRecursion (IsOldEnergy before)) (sym (others.1.1.1.1.1.1.1.1.1.1.1.0 (λ e. absurd (omega (arith, e))))) all)
         (λ before all. fewer (IsOldPayment before) (λ row. not (at_key a row)) (old.now.trees 13) (new.now.trees 13) left all);
-    content = content_with_total old.now.trees new.now.trees (total.TopUps a) 0 (same_records own 13 old.now.trees new.now.trees (omega arith) (omega arith) others) (others.1.1.1.1.0 (λ e. absurd (omega (arith, e)))) (others.1.1.1.1.1.0 (λ e. absurd (omega (arith, e)))) told_left;
+    content = content_with_total old.now.trees new.now.trees (total.TopUps a) 0 (same_records own 13 old.now.trees new.now.trees (omega arith) (inl (omega arith)) others) (others.1.1.1.1.0 (λ e. absurd (omega (arith, e)))) (others.1.1.1.1.1.0 (λ e. absurd (omega (arith, e)))) told_left;
     shows = delete_inside delete_payment_text 7 delete_payment_query delete_payment_is old new store.ours (params a) count h inside;
   }
 
@@ -129,19 +130,20 @@ module _ (old new : State) (a : AccountId) (v : ℕ) (count : ℕ) (above : 0 < 
   elsewhere = inserted.1.tables
 
   told_put : total_in new.now.trees ≡ totals_with (total_in old.now.trees) (total.TopUps a) v
-  told_put = payments_with old.now.trees new.now.trees a (Some v) (elsewhere.1.1.1.1.1.1.0 (λ e. absurd (omega (arith, e)))) (λ l. ap (λ rows. payment_told rows l) put ∙ put_told same_total same_total-decides payment_in (λ x. number (column x 2)) (total.TopUps a) l row (old.now.trees 13) key_is free unseen)
+  told_put = payments_with old.now.trees new.now.trees a (Some v) (elsewhere.1.1.1.1.1.1.1.1.1.1.1.0 (λ e. absurd (omega (arith, e)))) (λ l. ap (λ rows. payment_told rows l) put ∙ put_told same_total same_total-decides payment_in (λ x. number (column x 2)) (total.TopUps a) l row (old.now.trees 13) key_is free unseen)
 
   pub puts : Makes (λ c. with_total c (total.TopUps a) v) old new
   puts = record {
-    store = store_kept old.now new.now inserted.0 (same_records checks 13 old.now.trees new.now.trees (omega arith) (omega arith) elsewhere) store
+    store = store_kept old.now new.now inserted.0 (same_records checks 13 old.now.trees new.now.trees (omega arith) (inl (omega arith)) elsewhere) store
         (subst (AreKeyed IsReadingRow key_in_point) (sym (elsewhere.1.1.1.1.0 (λ e. absurd (omega (arith, e))))) store.points)
         (subst (AreKeyed IsAssignmentRow key_in_start) (sym (elsewhere.1.1.1.1.1.0 (λ e. absurd (omega (arith, e))))) store.starts)
-        (subst (AreKeyed IsEnergyRow energy_in) (sym (elsewhere.1.1.1.1.1.1.0 (λ e. absurd (omega (arith, e))))) store.energies)
-        (subst (AreKeyed IsPaymentRow payment_in) (sym put) (keyed_put same_total same_total-decides payment_in (λ x. number (column x 2)) IsPaymentRow (total.TopUps a) row (old.now.trees 13) key_is (refl, refl) refl free unseen store.payments));
+        (subst (AreKeyed IsEnergyRow energy_in) (sym (elsewhere.1.1.1.1.1.1.1.1.1.1.1.0 (λ e. absurd (omega (arith, e))))) store.energies)
+        (subst (AreKeyed IsPaymentRow payment_in) (sym put) (keyed_put same_total same_total-decides payment_in (λ x. number (column x 2)) IsPaymentRow (total.TopUps a) row (old.now.trees 13) key_is (refl, refl) refl free unseen store.payments))
+        (elsewhere.1.1.1.1.1.1.0 (λ e. absurd (omega (arith, e))));
     keeps = keeps_rows checks _ old.now.trees new.now.trees _ inserted.1 (omega arith) (omega arith)
-        (λ before all. subst (AllByRecursion (IsOldEnergy before)) (sym (elsewhere.1.1.1.1.1.1.0 (λ e. absurd (omega (arith, e))))) all)
+        (λ before all. subst (AllByRecursion (IsOldEnergy before)) (sym (elsewhere.1.1.1.1.1.1.1.1.1.1.1.0 (λ e. absurd (omega (arith, e))))) all)
         (λ before all. more (IsOldPayment before) row (old.now.trees 13) (new.now.trees 13) put (λ none. absurd (omega (arith, above, none))) all);
-    content = content_with_total old.now.trees new.now.trees (total.TopUps a) v (same_records checks 13 old.now.trees new.now.trees (omega arith) (omega arith) elsewhere) (elsewhere.1.1.1.1.0 (λ e. absurd (omega (arith, e)))) (elsewhere.1.1.1.1.1.0 (λ e. absurd (omega (arith, e)))) told_put;
+    content = content_with_total old.now.trees new.now.trees (total.TopUps a) v (same_records checks 13 old.now.trees new.now.trees (omega arith) (inl (omega arith)) elsewhere) (elsewhere.1.1.1.1.0 (λ e. absurd (omega (arith, e)))) (elsewhere.1.1.1.1.1.0 (λ e. absurd (omega (arith, e)))) told_put;
     shows = insert_inside insert_payment_text 7 3 payment_terms insert_payment_is old new store.ours given count h inside;
   }
 

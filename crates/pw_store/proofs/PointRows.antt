@@ -1,5 +1,5 @@
 -- What DELETE and INSERT make of the points.
-use Rattle.std.proofs.Common.{◌≡◌, ℕ, pos, List, [], ◌∷◌, find, Bool, true, false, not, ◌&&◌, option_map, Some, None, Ok, Err, Result, OnOk, IsTrue, refl, sym, ap, subst, ◌∙◌, nat_cmp, arith}
+use Rattle.std.proofs.Common.{◌≡◌, ℕ, pos, List, [], ◌∷◌, find, Bool, true, false, not, ◌&&◌, option_map, Some, None, Ok, Err, Result, OnOk, IsTrue, refl, sym, ap, subst, ◌∙◌, inl, nat_cmp, arith}
 use Rattle.std.specs.List.{list_all, filter}
 use Rattle.std.specs.Ordering.{is_eq}
 use Rattle.sqlite.specs.declared.types.Value.TheVariants.{Null, Int}
@@ -90,13 +90,14 @@ module _ (old new : State) (m : ℕ) (g : Register) (i : ℕ) (count : ℕ) (sto
 
   pub takes : Makes (λ c. with_point c m g i None) old new
   takes = record {
-    store = store_kept old.now new.now deleted.0 (same_records own 7 old.now.trees new.now.trees (omega arith) (omega arith) others) store
+    store = store_kept old.now new.now deleted.0 (same_records own 7 old.now.trees new.now.trees (omega arith) (inl (omega arith)) others) store
         (subst (AreKeyed IsReadingRow key_in_point) (sym left) (keyed_gone same_key same_key-decides key_in_point (λ x. number (column x 4)) IsReadingRow (reading_key m g i) (old.now.trees 7) store.points))
         (subst (AreKeyed IsAssignmentRow key_in_start) (sym (others.1.1.1.1.1.0 (λ e. absurd (omega (arith, e))))) store.starts)
-        (subst (AreKeyed IsEnergyRow energy_in) (sym (others.1.1.1.1.1.1.0 (λ e. absurd (omega (arith, e))))) store.energies)
-        (subst (AreKeyed IsPaymentRow payment_in) (sym (others.1.1.1.1.1.1.1.0 (λ e. absurd (omega (arith, e))))) store.payments);
-    keeps = keeps_sums own _ old.now.trees new.now.trees _ deleted.1.2 (omega arith) (omega arith) (others.1.1.1.1.1.1.0 (λ e. absurd (omega (arith, e)))) (others.1.1.1.1.1.1.1.0 (λ e. absurd (omega (arith, e))));
-    content = content_with_point old.now.trees new.now.trees m g i (None) (same_records own 7 old.now.trees new.now.trees (omega arith) (omega arith) others) (others.1.1.1.1.1.0 (λ e. absurd (omega (arith, e)))) (others.1.1.1.1.1.1.0 (λ e. absurd (omega (arith, e)))) (others.1.1.1.1.1.1.1.0 (λ e. absurd (omega (arith, e)))) told_left;
+        (subst (AreKeyed IsEnergyRow energy_in) (sym (others.1.1.1.1.1.1.1.1.1.1.1.0 (λ e. absurd (omega (arith, e))))) store.energies)
+        (subst (AreKeyed IsPaymentRow payment_in) (sym (others.1.1.1.1.1.1.1.0 (λ e. absurd (omega (arith, e))))) store.payments)
+        (others.1.1.1.1.1.1.0 (λ e. absurd (omega (arith, e))));
+    keeps = keeps_sums own _ old.now.trees new.now.trees _ deleted.1.2 (omega arith) (omega arith) (others.1.1.1.1.1.1.1.1.1.1.1.0 (λ e. absurd (omega (arith, e)))) (others.1.1.1.1.1.1.1.0 (λ e. absurd (omega (arith, e))));
+    content = content_with_point old.now.trees new.now.trees m g i (None) (same_records own 7 old.now.trees new.now.trees (omega arith) (inl (omega arith)) others) (others.1.1.1.1.1.0 (λ e. absurd (omega (arith, e)))) (others.1.1.1.1.1.1.1.1.1.1.1.0 (λ e. absurd (omega (arith, e)))) (others.1.1.1.1.1.1.1.0 (λ e. absurd (omega (arith, e)))) told_left;
     shows = delete_inside delete_point_text 4 delete_point_query delete_point_is old new store.ours (params m g i) count h inside;
   }
 
@@ -137,13 +138,14 @@ module _ (old new : State) (m : ℕ) (g : Register) (i : ℕ) (v : ℕ) (count :
 
   pub puts : Makes (λ c. with_point c m g i (Some v)) old new
   puts = record {
-    store = store_kept old.now new.now inserted.0 (same_records checks 7 old.now.trees new.now.trees (omega arith) (omega arith) elsewhere) store
+    store = store_kept old.now new.now inserted.0 (same_records checks 7 old.now.trees new.now.trees (omega arith) (inl (omega arith)) elsewhere) store
         (subst (AreKeyed IsReadingRow key_in_point) (sym put) (keyed_put same_key same_key-decides key_in_point (λ x. number (column x 4)) IsReadingRow (reading_key m g i) row (old.now.trees 7) key_is (refl, (ap (λ (s : Register). Int (pos (register_place s))) (sym (register_back g)), (refl, refl))) refl free unseen store.points))
         (subst (AreKeyed IsAssignmentRow key_in_start) (sym (elsewhere.1.1.1.1.1.0 (λ e. absurd (omega (arith, e))))) store.starts)
-        (subst (AreKeyed IsEnergyRow energy_in) (sym (elsewhere.1.1.1.1.1.1.0 (λ e. absurd (omega (arith, e))))) store.energies)
-        (subst (AreKeyed IsPaymentRow payment_in) (sym (elsewhere.1.1.1.1.1.1.1.0 (λ e. absurd (omega (arith, e))))) store.payments);
-    keeps = keeps_sums checks _ old.now.trees new.now.trees _ inserted.1 (omega arith) (omega arith) (elsewhere.1.1.1.1.1.1.0 (λ e. absurd (omega (arith, e)))) (elsewhere.1.1.1.1.1.1.1.0 (λ e. absurd (omega (arith, e))));
-    content = content_with_point old.now.trees new.now.trees m g i (Some v) (same_records checks 7 old.now.trees new.now.trees (omega arith) (omega arith) elsewhere) (elsewhere.1.1.1.1.1.0 (λ e. absurd (omega (arith, e)))) (elsewhere.1.1.1.1.1.1.0 (λ e. absurd (omega (arith, e)))) (elsewhere.1.1.1.1.1.1.1.0 (λ e. absurd (omega (arith, e)))) told_put;
+        (subst (AreKeyed IsEnergyRow energy_in) (sym (elsewhere.1.1.1.1.1.1.1.1.1.1.1.0 (λ e. absurd (omega (arith, e))))) store.energies)
+        (subst (AreKeyed IsPaymentRow payment_in) (sym (elsewhere.1.1.1.1.1.1.1.0 (λ e. absurd (omega (arith, e))))) store.payments)
+        (elsewhere.1.1.1.1.1.1.0 (λ e. absurd (omega (arith, e))));
+    keeps = keeps_sums checks _ old.now.trees new.now.trees _ inserted.1 (omega arith) (omega arith) (elsewhere.1.1.1.1.1.1.1.1.1.1.1.0 (λ e. absurd (omega (arith, e)))) (elsewhere.1.1.1.1.1.1.1.0 (λ e. absurd (omega (arith, e))));
+    content = content_with_point old.now.trees new.now.trees m g i (Some v) (same_records checks 7 old.now.trees new.now.trees (omega arith) (inl (omega arith)) elsewhere) (elsewhere.1.1.1.1.1.0 (λ e. absurd (omega (arith, e)))) (elsewhere.1.1.1.1.1.1.1.1.1.1.1.0 (λ e. absurd (omega (arith, e)))) (elsewhere.1.1.1.1.1.1.1.0 (λ e. absurd (omega (arith, e)))) told_put;
     shows = insert_inside insert_point_text 4 5 four_terms insert_point_is old new store.ours given count h inside;
   }
 

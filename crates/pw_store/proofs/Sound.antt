@@ -14,9 +14,9 @@ use Rattle.pw_model.specs.declared.records.Entry.{Entry}
 use Rattle.pw_model.specs.Office.{AllOfOffice, IsOfOffice}
 use Rattle.pw_schema.specs.declared.kind.RecordKind.{RecordKind}
 use Rattle.pw_schema.specs.declared.kind.RecordKind.TheVariants.{Readings, Assignments, TopUps, WithdrawnReadings, WithdrawnAssignments, WithdrawnTopUps}
-use Rattle.pw_schema.specs.declared.kind.StoreVersion.TheVariants.{Second}
+use Rattle.pw_schema.specs.declared.kind.StoreVersion.TheVariants.{Third}
 use Rattle.pw_schema.specs.Tables.{IsOurs}
-use Rattle.pw_store.specs.Content.{IsRowOf, entries_of, entry_in, kinds_of, payment_tree, records_among, records_of, total_tree, tree_of}
+use Rattle.pw_store.specs.Content.{IsRowOf, energy_tree, entries_of, entry_in, kinds_of, payment_tree, records_among, records_of, tree_of}
 use Rattle.pw_store.specs.Kept.{IsStore}
 use Rattle.pw_store.specs.declared.listings.Listing.TheVariants as listing
 use Rattle.pw_store.specs.inner.Lists.{shown}
@@ -80,25 +80,26 @@ good_back office k db rows shows held = record {
 pub all_both : (office : OfficeRules) (xs ys : List Entry) → AllOfOffice office xs → AllOfOffice office ys → AllOfOffice office (xs ++ ys)
 all_both office xs ys a b e m = elim (member_in e xs ys m) [ inl i ↦ a e i | inr j ↦ b e j ]
 
-module _ (office : OfficeRules) (db : Database) (ours : IsOurs db.schema) (all : HoldsAllRecords Second office db.trees) (s : HoldsSums office db.trees) (n : AreAllNumbered db.trees) where
+module _ (office : OfficeRules) (db : Database) (ours : IsOurs db.schema) (all : HoldsAllRecords Third office db.trees) (s : HoldsSums office db.trees) (n : AreAllNumbered db.trees) where
   pub sound_store : IsStore db
   sound_store = record {
     ours = ours;
     rows = λ k. (all k (each_kind k)).rows;
-    once = once_among (kinds_of Second) db.trees (kinds_once Second) (λ k at. (all k at).once);
+    once = once_among (kinds_of Third) db.trees (kinds_once Third) (λ k at. (all k at).once);
     points = record { each = s.points.rows; ids = n.points.ids; numbered = n.points.numbered; once = s.points.once };
     starts = record { each = s.starts.rows; ids = n.starts.ids; numbered = n.starts.numbered; once = s.starts.once };
-    energies = record { each = all_weaker (λ row. IsTotalRow Energies row × IsTotalOf office (key_of_total Energies row)) IsEnergyRow (λ row it. it.0) (db.trees total_tree) s.energies.rows; ids = n.energies.ids; numbered = n.energies.numbered; once = s.energies.once };
+    energies = record { each = all_weaker (λ row. IsTotalRow Energies row × IsTotalOf office (key_of_total Energies row)) IsEnergyRow (λ row it. it.0) (db.trees energy_tree) s.energies.rows; ids = n.energies.ids; numbered = n.energies.numbered; once = s.energies.once };
     payments = record { each = all_weaker (λ row. IsTotalRow Payments row × IsTotalOf office (key_of_total Payments row)) IsPaymentRow (λ row it. it.0) (db.trees payment_tree) s.payments.rows; ids = n.payments.ids; numbered = n.payments.numbered; once = s.payments.once };
+    old = s.old;
   }
 
   pub sound_office : AllOfOffice office (records_of db.trees)
-  sound_office = office_among office (kinds_of Second) db.trees (λ k at. (all k at).of_office)
+  sound_office = office_among office (kinds_of Third) db.trees (λ k at. (all k at).of_office)
 
 -- ---- the kinds, checked one after the other
 -- of so many kinds: their records
 abbrev pub first_records : ℕ → Trees → List Entry
-first_records n db = records_among (take n (kinds_of Second)) db
+first_records n db = records_among (take n (kinds_of Third)) db
 
 -- and that they are those of the office, each once
 abbrev pub HoldsFirst : ℕ → OfficeRules → Trees → Type 0
@@ -136,13 +137,13 @@ behind_none [] = refl
 behind_none (x ∷ xs) = ap (λ ys. x ∷ ys) (behind_none xs)
 
 next_records : (k : RecordKind) (db : Trees) → first_records (place k) db ++ entries_of k db ≡ first_records (place k + 1) db
-next_records k db = records_next (take (place k) (kinds_of Second)) k db ∙ ap (λ kinds. records_among kinds db) (taken k)
+next_records k db = records_next (take (place k) (kinds_of Third)) k db ∙ ap (λ kinds. records_among kinds db) (taken k)
   where
     records_next : (kinds : List RecordKind) (j : RecordKind) (d : Trees) → records_among kinds d ++ entries_of j d ≡ records_among (kinds ++ j ∷ []) d
     records_next [] j d = sym (behind_none (entries_of j d))
     records_next (l ∷ kinds) j d = append_assoc (entries_of l d) (records_among kinds d) (entries_of j d) ∙ ap (λ xs. entries_of l d ++ xs) (records_next kinds j d)
 
-    taken : (j : RecordKind) → take (place j) (kinds_of Second) ++ j ∷ [] ≡ take (place j + 1) (kinds_of Second)
+    taken : (j : RecordKind) → take (place j) (kinds_of Third) ++ j ∷ [] ≡ take (place j + 1) (kinds_of Third)
     taken Readings = refl
     taken Assignments = refl
     taken TopUps = refl
@@ -151,7 +152,7 @@ next_records k db = records_next (take (place k) (kinds_of Second)) k db ∙ ap 
     taken WithdrawnTopUps = refl
 
 -- all of them at last
-pub all_hold : (office : OfficeRules) (db : Trees) → HoldsFirst 6 office db → HoldsAllRecords Second office db
+pub all_hold : (office : OfficeRules) (db : Trees) → HoldsFirst 6 office db → HoldsAllRecords Third office db
 all_hold office db first k at = first k (place_low k)
 
 -- the next kind, checked at a connection that is as it was
@@ -171,5 +172,5 @@ module _ (office : OfficeRules) (old now : State) (same : IsUnchanged old now) (
       let both = IsPermutation-append (first_records (place k) db) all (entries_of k db) found (subst (λ m. IsPermutation (first_records m db) all) at before) (subst (λ d. IsPermutation (entries_of k d) found) here it) in
       subst₂ IsPermutation (next_records k db ∙ ap (λ m. first_records (m + 1) db) (sym at)) (sym is) both
 
-  pub one_refused : (fault : OpenFault) → RefusesUnless (HoldsRecords office k now.now.trees) fault → RefusesUnless (HoldsAllRecords Second office old.now.trees) fault
+  pub one_refused : (fault : OpenFault) → RefusesUnless (HoldsRecords office k now.now.trees) fault → RefusesUnless (HoldsAllRecords Third office old.now.trees) fault
   one_refused fault refused = refuses_more _ _ fault (λ all. subst (HoldsRecords office k) (sym here) (all k (each_kind k))) refused

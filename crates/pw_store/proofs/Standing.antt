@@ -11,7 +11,7 @@ use Rattle.pw_model.specs.declared.records.Named.{Named}
 use Rattle.pw_model.specs.Counting.{Member, EachOnce, is_withdrawn, named_entry, standing}
 use Rattle.pw_model.proofs.Counting.{entry, standing-member, standing-told}
 use Rattle.pw_schema.specs.declared.kind.RecordKind.{RecordKind}
-use Rattle.pw_schema.specs.declared.kind.StoreVersion.TheVariants.{Second}
+use Rattle.pw_schema.specs.declared.kind.StoreVersion.TheVariants.{Third}
 use Rattle.pw_schema.specs.Rows.{withdrawal}
 use Rattle.pw_store.specs.Content.{entries_of, entry_in, kinds_of, records_of, tree_of}
 use Rattle.pw_store.proofs.Adding.{was_not}
@@ -98,7 +98,7 @@ module _ (db : Trees) (k : RecordKind) (key : Key) (of : kind_at key ≡ k) wher
       )
 
   pub once_stand : EachOnce (records_of db) → EachOnce (map (entry_in k) (filter (λ r. stands (entry_in k r)) (db (tree_of k))))
-  once_stand once = subst EachOnce (sym (map_filter (entry_in k) stands (db (tree_of k)))) (once_filtered stands (entries_of k db) (once_of_kind (kinds_of Second) db k (each_kind k) once))
+  once_stand once = subst EachOnce (sym (map_filter (entry_in k) stands (db (tree_of k)))) (once_filtered stands (entries_of k db) (once_of_kind (kinds_of Third) db k (each_kind k) once))
 
 -- ---- no row of the withdrawals is tied to a row where its record stands
 pub none_tied : (db : Trees) (n : Named) (found : ℕ) → (0 < found → Member (withdrawal n) (records_of db)) → (Member (withdrawal n) (records_of db) → 0 < found) → is_none found ≡ not (is_withdrawn (records_of db) (named_entry n))

@@ -1,5 +1,5 @@
 -- What DELETE and INSERT make of the starts.
-use Rattle.std.proofs.Common.{◌≡◌, ℕ, pos, List, [], ◌∷◌, find, Bool, true, false, cond, not, ◌&&◌, Option, option_map, Some, None, Ok, Err, Result, OnOk, IsTrue, refl, sym, ap, subst, ◌∙◌, nat_cmp, arith}
+use Rattle.std.proofs.Common.{◌≡◌, ℕ, pos, List, [], ◌∷◌, find, Bool, true, false, cond, not, ◌&&◌, Option, option_map, Some, None, Ok, Err, Result, OnOk, IsTrue, refl, sym, ap, subst, ◌∙◌, inl, nat_cmp, arith}
 use Rattle.std.specs.List.{list_all, filter}
 use Rattle.std.specs.Ordering.{is_eq}
 use Rattle.sqlite.specs.declared.types.Value.TheVariants.{Null, Int}
@@ -87,13 +87,14 @@ module _ (old new : State) (m i : ℕ) (count : ℕ) (store : IsStore old.now) (
 
   pub takes : Makes (λ c. with_start c m i None) old new
   takes = record {
-    store = store_kept old.now new.now deleted.0 (same_records own 9 old.now.trees new.now.trees (omega arith) (omega arith) others) store
+    store = store_kept old.now new.now deleted.0 (same_records own 9 old.now.trees new.now.trees (omega arith) (inl (omega arith)) others) store
         (subst (AreKeyed IsReadingRow key_in_point) (sym (others.1.1.1.1.0 (λ e. absurd (omega (arith, e))))) store.points)
         (subst (AreKeyed IsAssignmentRow key_in_start) (sym left) (keyed_gone same_key same_key-decides key_in_start (λ x. owner_at (number (column x 3))) IsAssignmentRow (assignment_key m i) (old.now.trees 9) store.starts))
-        (subst (AreKeyed IsEnergyRow energy_in) (sym (others.1.1.1.1.1.1.0 (λ e. absurd (omega (arith, e))))) store.energies)
-        (subst (AreKeyed IsPaymentRow payment_in) (sym (others.1.1.1.1.1.1.1.0 (λ e. absurd (omega (arith, e))))) store.payments);
-    keeps = keeps_sums own _ old.now.trees new.now.trees _ deleted.1.2 (omega arith) (omega arith) (others.1.1.1.1.1.1.0 (λ e. absurd (omega (arith, e)))) (others.1.1.1.1.1.1.1.0 (λ e. absurd (omega (arith, e))));
-    content = content_with_start old.now.trees new.now.trees m i (None) (same_records own 9 old.now.trees new.now.trees (omega arith) (omega arith) others) (others.1.1.1.1.0 (λ e. absurd (omega (arith, e)))) (others.1.1.1.1.1.1.0 (λ e. absurd (omega (arith, e)))) (others.1.1.1.1.1.1.1.0 (λ e. absurd (omega (arith, e)))) told_left;
+        (subst (AreKeyed IsEnergyRow energy_in) (sym (others.1.1.1.1.1.1.1.1.1.1.1.0 (λ e. absurd (omega (arith, e))))) store.energies)
+        (subst (AreKeyed IsPaymentRow payment_in) (sym (others.1.1.1.1.1.1.1.0 (λ e. absurd (omega (arith, e))))) store.payments)
+        (others.1.1.1.1.1.1.0 (λ e. absurd (omega (arith, e))));
+    keeps = keeps_sums own _ old.now.trees new.now.trees _ deleted.1.2 (omega arith) (omega arith) (others.1.1.1.1.1.1.1.1.1.1.1.0 (λ e. absurd (omega (arith, e)))) (others.1.1.1.1.1.1.1.0 (λ e. absurd (omega (arith, e))));
+    content = content_with_start old.now.trees new.now.trees m i (None) (same_records own 9 old.now.trees new.now.trees (omega arith) (inl (omega arith)) others) (others.1.1.1.1.0 (λ e. absurd (omega (arith, e)))) (others.1.1.1.1.1.1.1.1.1.1.1.0 (λ e. absurd (omega (arith, e)))) (others.1.1.1.1.1.1.1.0 (λ e. absurd (omega (arith, e)))) told_left;
     shows = delete_inside delete_start_text 5 delete_start_query delete_start_is old new store.ours (params m i) count h inside;
   }
 
@@ -134,13 +135,14 @@ module _ (old new : State) (m i : ℕ) (o : Option AccountId) (count : ℕ) (sto
 
   pub puts : Makes (λ c. with_start c m i (Some o)) old new
   puts = record {
-    store = store_kept old.now new.now inserted.0 (same_records checks 9 old.now.trees new.now.trees (omega arith) (omega arith) elsewhere) store
+    store = store_kept old.now new.now inserted.0 (same_records checks 9 old.now.trees new.now.trees (omega arith) (inl (omega arith)) elsewhere) store
         (subst (AreKeyed IsReadingRow key_in_point) (sym (elsewhere.1.1.1.1.0 (λ e. absurd (omega (arith, e))))) store.points)
         (subst (AreKeyed IsAssignmentRow key_in_start) (sym put) (keyed_put same_key same_key-decides key_in_start (λ x. owner_at (number (column x 3))) IsAssignmentRow (assignment_key m i) row (old.now.trees 9) key_is (refl, (refl, refl)) refl free unseen store.starts))
-        (subst (AreKeyed IsEnergyRow energy_in) (sym (elsewhere.1.1.1.1.1.1.0 (λ e. absurd (omega (arith, e))))) store.energies)
-        (subst (AreKeyed IsPaymentRow payment_in) (sym (elsewhere.1.1.1.1.1.1.1.0 (λ e. absurd (omega (arith, e))))) store.payments);
-    keeps = keeps_sums checks _ old.now.trees new.now.trees _ inserted.1 (omega arith) (omega arith) (elsewhere.1.1.1.1.1.1.0 (λ e. absurd (omega (arith, e)))) (elsewhere.1.1.1.1.1.1.1.0 (λ e. absurd (omega (arith, e))));
-    content = content_with_start old.now.trees new.now.trees m i (Some o) (same_records checks 9 old.now.trees new.now.trees (omega arith) (omega arith) elsewhere) (elsewhere.1.1.1.1.0 (λ e. absurd (omega (arith, e)))) (elsewhere.1.1.1.1.1.1.0 (λ e. absurd (omega (arith, e)))) (elsewhere.1.1.1.1.1.1.1.0 (λ e. absurd (omega (arith, e)))) told_put;
+        (subst (AreKeyed IsEnergyRow energy_in) (sym (elsewhere.1.1.1.1.1.1.1.1.1.1.1.0 (λ e. absurd (omega (arith, e))))) store.energies)
+        (subst (AreKeyed IsPaymentRow payment_in) (sym (elsewhere.1.1.1.1.1.1.1.0 (λ e. absurd (omega (arith, e))))) store.payments)
+        (elsewhere.1.1.1.1.1.1.0 (λ e. absurd (omega (arith, e))));
+    keeps = keeps_sums checks _ old.now.trees new.now.trees _ inserted.1 (omega arith) (omega arith) (elsewhere.1.1.1.1.1.1.1.1.1.1.1.0 (λ e. absurd (omega (arith, e)))) (elsewhere.1.1.1.1.1.1.1.0 (λ e. absurd (omega (arith, e))));
+    content = content_with_start old.now.trees new.now.trees m i (Some o) (same_records checks 9 old.now.trees new.now.trees (omega arith) (inl (omega arith)) elsewhere) (elsewhere.1.1.1.1.0 (λ e. absurd (omega (arith, e)))) (elsewhere.1.1.1.1.1.1.1.1.1.1.1.0 (λ e. absurd (omega (arith, e)))) (elsewhere.1.1.1.1.1.1.1.0 (λ e. absurd (omega (arith, e)))) told_put;
     shows = insert_inside insert_start_text 5 4 three_terms insert_start_is old new store.ours given count h inside;
   }
 

@@ -10,7 +10,7 @@ use Rattle.sqlite_trees.specs.Objects.{catalog_tree}
 use Rattle.sqlite_trees.proofs.ListLemmas.{all-filter}
 use Rattle.sqlite_trees.proofs.TreeLemmas.{all-put_row}
 use Rattle.pw_schema.specs.Tables.{ours_with}
-use Rattle.pw_store.specs.Content.{payment_tree, total_tree}
+use Rattle.pw_store.specs.Content.{energy_tree, payment_tree}
 use Rattle.pw_store.specs.Left.{IsOldEnergy, IsOldPayment}
 use Rattle.pw_store.specs.inner.Changing.{StillKeeps}
 
@@ -22,16 +22,16 @@ pub more : (P : Row → Type 0) (row : Row) (old new : List Row) → new ≡ put
 more P row old new is one all = subst (AllByRecursion P) (sym is) (all-put_row P row old one all)
 
 -- ---- an edit of a table behind `office`
-module _ (checks : List Term) (keys : Keys) (old new : Trees) (edit : Edit) (it : Applies (ours_with checks) keys old edit new) (behind : 0 < edit.table.tree) (low : edit.table.tree < 20) where
+module _ (checks : List Term) (keys : Keys) (old new : Trees) (edit : Edit) (it : Applies (ours_with checks) keys old edit new) (behind : 0 < edit.table.tree) (low : edit.table.tree < 22) where
   listed_same : new catalog_tree ≡ old catalog_tree
   listed_same = it.others catalog_tree (λ e. absurd (omega (arith, e, low)))
-      (λ e. absurd (omega (arith, e)), (λ e. absurd (omega (arith, e)), (λ e. absurd (omega (arith, e)), (λ e. absurd (omega (arith, e)), (λ e. absurd (omega (arith, e)), (λ e. absurd (omega (arith, e)), (λ e. absurd (omega (arith, e)), (λ e. absurd (omega (arith, e)), (λ e. absurd (omega (arith, e)), tt)))))))))
+      (λ e. absurd (omega (arith, e)), (λ e. absurd (omega (arith, e)), (λ e. absurd (omega (arith, e)), (λ e. absurd (omega (arith, e)), (λ e. absurd (omega (arith, e)), (λ e. absurd (omega (arith, e)), (λ e. absurd (omega (arith, e)), (λ e. absurd (omega (arith, e)), (λ e. absurd (omega (arith, e)), (λ e. absurd (omega (arith, e)), tt))))))))))
 
   office_same : new 0 ≡ old 0
   office_same = it.tables.0 (λ e. absurd (omega (arith, e, behind)))
 
   -- totals are the same, or what was kept of them is
-  pub keeps_rows : ((before : Trees) → AllByRecursion (IsOldEnergy before) (old total_tree) → AllByRecursion (IsOldEnergy before) (new total_tree))
+  pub keeps_rows : ((before : Trees) → AllByRecursion (IsOldEnergy before) (old energy_tree) → AllByRecursion (IsOldEnergy before) (new energy_tree))
       → ((before : Trees) → AllByRecursion (IsOldPayment before) (old payment_tree) → AllByRecursion (IsOldPayment before) (new payment_tree))
       → StillKeeps old new
   keeps_rows energies payments before k = record {
@@ -41,5 +41,5 @@ module _ (checks : List Term) (keys : Keys) (old new : Trees) (edit : Edit) (it 
     payments = payments before k.payments;
   }
 
-  pub keeps_sums : new total_tree ≡ old total_tree → new payment_tree ≡ old payment_tree → StillKeeps old new
+  pub keeps_sums : new energy_tree ≡ old energy_tree → new payment_tree ≡ old payment_tree → StillKeeps old new
   keeps_sums t p = keeps_rows (λ before all. subst (AllByRecursion (IsOldEnergy before)) (sym t) all) (λ before all. subst (AllByRecursion (IsOldPayment before)) (sym p) all)

@@ -6,7 +6,7 @@ use Rattle.sqlite.specs.Order.{Row, column}
 use Rattle.sqlite.specs.Tree.{Trees}
 use Rattle.pw_obis.specs.declared.reference.Register.{Register}
 use Rattle.pw_tariff.specs.declared.ids.AccountId.{AccountId}
-use Rattle.pw_tariff.specs.Office.{register_place}
+use Rattle.pw_tariff.specs.Office.{OfficeRules, register_place}
 use Rattle.pw_model.specs.declared.records.Key.TheVariants as key
 use Rattle.pw_model.specs.declared.records.Content.TheVariants as content
 use Rattle.pw_model.specs.declared.records.Entry.{Entry}
@@ -15,12 +15,12 @@ use Rattle.pw_model.specs.declared.records.TotalKey.{TotalKey}
 use Rattle.pw_model.specs.declared.records.TotalKey.TheVariants as total
 use Rattle.pw_model.specs.Counting.{assignment_key, reading_key}
 use Rattle.pw_model.specs.Same.{same_key}
-use Rattle.pw_model.specs.Shelf.{ShelfContent}
+use Rattle.pw_model.specs.Shelf.{ShelfContent, total_among}
 use Rattle.pw_shelf.specs.Changes.{same_total}
 use Rattle.pw_schema.specs.declared.kind.RecordKind.{RecordKind}
 use Rattle.pw_schema.specs.declared.kind.RecordKind.TheVariants.{Readings, Assignments, TopUps, WithdrawnReadings, WithdrawnAssignments, WithdrawnTopUps}
 use Rattle.pw_schema.specs.declared.kind.StoreVersion.{StoreVersion}
-use Rattle.pw_schema.specs.declared.kind.StoreVersion.TheVariants.{First, Second}
+use Rattle.pw_schema.specs.declared.kind.StoreVersion.TheVariants.{First, Second, Third}
 use Rattle.pw_schema.specs.Rows.{direction_at, number, owner_at, register_at, text, withdrawal}
 
 -- where each table's rows are
@@ -39,6 +39,7 @@ point_tree = 7
 abbrev pub start_tree : ℕ
 start_tree = 9
 
+-- of totals of energy by owner, band and direction alone, as versions before the third keep them
 abbrev pub total_tree : ℕ
 total_tree = 11
 
@@ -53,6 +54,10 @@ withdrawn_assignment_tree = 16
 
 abbrev pub withdrawn_topup_tree : ℕ
 withdrawn_topup_tree = 18
+
+-- of totals of energy by owner, period, band and direction
+abbrev pub energy_tree : ℕ
+energy_tree = 20
 
 -- ---- the record of a row of a table, behind its rowid
 abbrev pub reading_in : Row → Entry
@@ -121,6 +126,7 @@ entries_of k db = map (entry_in k) (db (tree_of k))
 abbrev pub kinds_of : StoreVersion → List RecordKind
 kinds_of First = Readings ∷ Assignments ∷ TopUps ∷ []
 kinds_of Second = Readings ∷ Assignments ∷ TopUps ∷ WithdrawnReadings ∷ WithdrawnAssignments ∷ WithdrawnTopUps ∷ []
+kinds_of Third = Readings ∷ Assignments ∷ TopUps ∷ WithdrawnReadings ∷ WithdrawnAssignments ∷ WithdrawnTopUps ∷ []
 
 abbrev pub records_among : List RecordKind → Trees → List Entry
 records_among [] db = []
@@ -132,13 +138,13 @@ records_of_version v db = records_among (kinds_of v) db
 
 -- of a store that is open: the records of the three older kinds, and behind them the withdrawals
 abbrev pub records_of : Trees → List Entry
-records_of db = records_of_version Second db
+records_of db = records_of_version Third db
 
 -- ---- points, starts and totals: a point is kept as a reading is, a start as an assignment
--- the key of a total in a row of `total`, behind its rowid
+-- the key of a total in a row of `period_total`, behind its rowid
 abbrev pub energy_in : Row → TotalKey
 energy_in r =
-    total.Energy (owner_at (number (column r 1))) (record { 0 = number (column r 2) }) (direction_at (number (column r 3)))
+    total.Energy (owner_at (number (column r 1))) (record { 0 = number (column r 2) }) (record { 0 = number (column r 3) }) (direction_at (number (column r 4)))
 
 -- the key of a total in a row of `total_topup`, whose account is the rowid
 abbrev pub payment_in : Row → TotalKey
@@ -152,26 +158,41 @@ abbrev pub start_in : List Row → ℕ → ℕ → Option (Option AccountId)
 start_in rows m t = option_map (λ x. owner_at (number (column x 3))) (find (λ x. same_key (assignment_key m t) (assignment_in x).key) rows)
 
 abbrev pub energy_told : List Row → TotalKey → Option ℕ
-energy_told rows k = option_map (λ x. number (column x 4)) (find (λ x. same_total k (energy_in x)) rows)
+energy_told rows k = option_map (λ x. number (column x 5)) (find (λ x. same_total k (energy_in x)) rows)
 
 abbrev pub payment_told : List Row → TotalKey → Option ℕ
 payment_told rows k = option_map (λ x. number (column x 2)) (find (λ x. same_total k (payment_in x)) rows)
 
 -- absent is 0
 abbrev pub total_in : Trees → TotalKey → ℕ
-total_in db (total.Energy o b d) = unwrap_or (energy_told (db total_tree) (total.Energy o b d)) 0
+total_in db (total.Energy o p b d) = unwrap_or (energy_told (db energy_tree) (total.Energy o p b d)) 0
 total_in db (total.TopUps a) = unwrap_or (payment_told (db payment_tree) (total.TopUps a)) 0
 
 -- ---- the content
--- of the tables of a version
-abbrev pub content_of_version : StoreVersion → Trees → ShelfContent
-content_of_version v db = record {
-  records = records_of_version v db;
+-- of a store that is open
+abbrev pub content_of : Trees → ShelfContent
+content_of db = record {
+  records = records_of db;
   point = point_in (db point_tree);
   start = start_in (db start_tree);
   total = total_in db;
 }
 
--- of a store that is open
-abbrev pub content_of : Trees → ShelfContent
-content_of db = content_of_version Second db
+-- a version before the third keeps no energies by period: what the records of its tables give stands for them
+abbrev pub earlier_total : OfficeRules → StoreVersion → Trees → TotalKey → ℕ
+earlier_total office v db (total.Energy o p b d) = total_among office (records_of_version v db) (total.Energy o p b d)
+earlier_total office v db (total.TopUps a) = total_in db (total.TopUps a)
+
+abbrev pub total_of_version : OfficeRules → StoreVersion → Trees → TotalKey → ℕ
+total_of_version office First db = earlier_total office First db
+total_of_version office Second db = earlier_total office Second db
+total_of_version office Third db = total_in db
+
+-- of the tables of a version
+abbrev pub content_of_version : OfficeRules → StoreVersion → Trees → ShelfContent
+content_of_version office v db = record {
+  records = records_of_version v db;
+  point = point_in (db point_tree);
+  start = start_in (db start_tree);
+  total = total_of_version office v db;
+}

@@ -1,6 +1,6 @@
 -- What is known of a store over SQL: of its connection, and of the connection as it was when the last upload ended.
 -- (Definitions of this project.)
-use Rattle.std.specs.Prelude.{◌≡◌, ℕ, Bool, true, false, cond, length, Option, Some, None, IsTrue, refl}
+use Rattle.std.specs.Prelude.{◌≡◌, ℕ, Bool, true, false, cond, [], length, Option, Some, None, IsTrue, refl}
 use Rattle.std.proofs.Math.Logic.{∥∥₁_elim}
 use Rattle.std.specs.List.{AllByRecursion}
 use mathlib.Core.HLevel.{⊥_prop}
@@ -14,7 +14,7 @@ use Rattle.pw_model.specs.Shelf.{ShelfContent}
 use Rattle.pw_shelf.specs.State.{State}
 use Rattle.pw_schema.specs.Tables.{IsOurs}
 use Rattle.pw_schema.specs.declared.kind.RecordKind.{RecordKind}
-use Rattle.pw_store.specs.Content.{content_of, IsReadingRow, IsAssignmentRow, IsRowOf, tree_of, reading_in, assignment_in, energy_in, payment_in, point_tree, start_tree, total_tree, payment_tree, records_of}
+use Rattle.pw_store.specs.Content.{content_of, IsReadingRow, IsAssignmentRow, IsRowOf, tree_of, reading_in, assignment_in, energy_in, payment_in, point_tree, start_tree, total_tree, energy_tree, payment_tree, records_of}
 use Rattle.pw_store.specs.Keyed.{AreKeyed, IsEnergyRow, IsPaymentRow}
 
 -- a point is kept as a reading is, a start as an assignment
@@ -24,15 +24,17 @@ key_in_point r = (reading_in r).key
 abbrev pub key_in_start : Row → Key
 key_in_start r = (assignment_in r).key
 
--- ---- a database that is a store: our tables, each row a record, each record once; points, starts and totals by their keys
+-- ---- a database that is a store: our tables, each row a record, each record once; points, starts and totals by their keys,
+-- and none in the table of totals by band alone
 pub record IsStore (db : Database) : Type 0 where
   pub ours : IsOurs db.schema
   pub rows : (k : RecordKind) → AllByRecursion (IsRowOf k) (db.trees (tree_of k))
   pub once : EachOnce (records_of db.trees)
   pub points : AreKeyed IsReadingRow key_in_point (db.trees point_tree)
   pub starts : AreKeyed IsAssignmentRow key_in_start (db.trees start_tree)
-  pub energies : AreKeyed IsEnergyRow energy_in (db.trees total_tree)
+  pub energies : AreKeyed IsEnergyRow energy_in (db.trees energy_tree)
   pub payments : AreKeyed IsPaymentRow payment_in (db.trees payment_tree)
+  pub old : db.trees total_tree ≡ []
 
 -- ---- what the fields keep to
 -- what was committed last holds each record once, also when the connection is shut

@@ -9,9 +9,9 @@ use Rattle.sqlite.specs.Edit.{id_in}
 use Rattle.pw_model.specs.Counting.{EachOnce}
 use Rattle.pw_schema.specs.Rows.{IsDirection, IsNumber}
 
--- the values of a row of `total`, behind its rowid, are of the kinds of those of a total of energy
+-- the values of a row of `period_total`, behind its rowid, are of the kinds of those of a total of energy
 abbrev pub IsEnergyRow : Row → Type 0
-IsEnergyRow r = IsNumber (column r 1) × (IsNumber (column r 2) × (IsDirection (column r 3) × IsNumber (column r 4)))
+IsEnergyRow r = IsNumber (column r 1) × (IsNumber (column r 2) × (IsNumber (column r 3) × (IsDirection (column r 4) × IsNumber (column r 5))))
 
 -- of `total_topup`, whose account is the rowid
 abbrev pub IsPaymentRow : Row → Type 0

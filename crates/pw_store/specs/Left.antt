@@ -1,32 +1,39 @@
 -- What each database that a crash may leave keeps of the store that was opened.
 -- (Definitions of this project.)
-use Rattle.std.specs.Prelude.{◌≡◌, ◌⊎◌, ℕ, None, IsTrue, List, ◌≤◌, length}
+use Rattle.std.specs.Prelude.{◌≡◌, ◌⊎◌, ℕ, Option, None, IsTrue, List, [], ◌≤◌, length}
 use Rattle.std.specs.List.{AllByRecursion}
 use Rattle.sqlite.specs.Order.{Row, column}
 use Rattle.sqlite.specs.Tree.{Trees}
 use Rattle.sqlite.specs.Effect.{Database, IsDatabase}
 use Rattle.sqlite.specs.State.{State as Sql, HasCleanDisk}
 use Rattle.sqlite_trees.specs.Objects.{catalog_tree}
+use Rattle.pw_tariff.specs.declared.ids.AccountId.{AccountId}
+use Rattle.pw_tariff.specs.declared.ids.BandId.{BandId}
+use Rattle.pw_tariff.specs.declared.ids.Direction.{Direction}
+use Rattle.pw_tariff.specs.declared.ids.PeriodId.{PeriodId}
 use Rattle.pw_tariff.specs.Office.{OfficeFile, OfficeRules, office_of}
 use Rattle.pw_tariff.specs.Text.{IsOfficeOf}
 use Rattle.pw_model.specs.Office.{AllOfOffice, most_records}
-use Rattle.pw_model.specs.Shelf.{IsTrueContent, ShelfContent}
+use Rattle.pw_model.specs.declared.records.TotalKey.TheVariants.{Energy}
+use Rattle.pw_model.specs.Shelf.{IsTrueContent, ShelfContent, total_among}
 use Rattle.pw_schema.specs.Conflicts.{AreWithoutConflict}
 use Rattle.pw_schema.specs.Judging.{KeepsOffice, KeepsVersion}
 use Rattle.pw_schema.specs.Rows.{number}
 use Rattle.pw_schema.specs.Fresh.{AreNew}
 use Rattle.pw_schema.specs.Raised.{IsRaised}
-use Rattle.pw_schema.specs.Tables.{IsOurs, no_schema}
-use Rattle.pw_schema.specs.declared.kind.StoreVersion.TheVariants.{First, Second}
-use Rattle.pw_store.specs.Content.{content_of, content_of_version, energy_in, energy_told, payment_in, payment_told, payment_tree, total_tree}
+use Rattle.pw_schema.specs.Tables.{IsEarlier, IsOurs, no_schema}
+use Rattle.pw_schema.specs.declared.kind.StoreVersion.{StoreVersion}
+use Rattle.pw_schema.specs.declared.kind.StoreVersion.TheVariants.{Third}
+use Rattle.pw_schema.specs.declared.kind.TotalKind.TheVariants.{Energies}
+use Rattle.pw_store.specs.Content.{content_of, content_of_version, energy_in, energy_told, energy_tree, payment_in, payment_told, payment_tree, records_of, total_in, total_tree}
 use Rattle.pw_store.specs.declared.fault.OpenFault.{OpenFault}
 use Rattle.pw_store.specs.declared.fault.OpenFault.TheVariants.{Store, Memory}
-use Rattle.pw_store.specs.Opening.{HasRows, HoldsTables, IsFound, IsOpenable, KeepsText, NamesOffice, Refuses}
+use Rattle.pw_store.specs.Opening.{HasRows, HoldsTables, HoldsTotals, IsFound, IsOpenable, KeepsText, NamesOffice, Refuses}
 
 -- ---- what is kept of earlier trees
 -- a total of 0 has a key that had a row there
 abbrev pub IsOldEnergy : Trees → Row → Type 0
-IsOldEnergy before r = number (column r 4) ≡ 0 → energy_told (before total_tree) (energy_in r) ≡ None → ⊥
+IsOldEnergy before r = number (column r 5) ≡ 0 → energy_told (before energy_tree) (energy_in r) ≡ None → ⊥
 
 abbrev pub IsOldPayment : Trees → Row → Type 0
 IsOldPayment before r = number (column r 2) ≡ 0 → payment_told (before payment_tree) (payment_in r) ≡ None → ⊥
@@ -35,7 +42,7 @@ IsOldPayment before r = number (column r 2) ≡ 0 → payment_told (before payme
 pub record Keeps (before db : Trees) : Type 0 where
   pub listed : db catalog_tree ≡ before catalog_tree
   pub office : db 0 ≡ before 0
-  pub energies : AllByRecursion (IsOldEnergy before) (db total_tree)
+  pub energies : AllByRecursion (IsOldEnergy before) (db energy_tree)
   pub payments : AllByRecursion (IsOldPayment before) (db payment_tree)
 
 -- ---- what the fields keep to: of a connection, and of it as it was when the store was opened
@@ -44,7 +51,7 @@ pub record IsLeftOf (s opened : Sql) : Type 0 where
   pub ours : (found : Database) → IsDatabase found → found.trees catalog_tree ≡ opened.now.trees catalog_tree → IsOurs found.schema
   pub now : IsTrue s.is_open → Keeps opened.now.trees s.now.trees
   pub committed : IsTrue s.is_open → Keeps opened.now.trees s.committed.trees
-  pub left : (db : Trees) → s.may_leave db → HasRows Second db × Keeps opened.now.trees db
+  pub left : (db : Trees) → s.may_leave db → HasRows Third db × Keeps opened.now.trees db
 
 abbrev pub KeepsOpened : Sql → Sql → Type 0
 KeepsOpened s opened = HasCleanDisk s → IsLeftOf s opened
@@ -54,28 +61,38 @@ KeepsOpened s opened = HasCleanDisk s → IsLeftOf s opened
 abbrev pub MayBeNew : List ℕ → Sql → Trees → Type 0
 MayBeNew body s db = (s.committed.schema ≡ no_schema) × AreNew body db
 
--- a store of version 1 with this text brought to version 2 whole: the tables of version 2 with this text, whose rows are
--- those of before, and so its content
-pub record IsUpgraded (body : List ℕ) (before found : Database) : Type 0 where
-  pub was : HoldsTables First before
-  pub was_text : KeepsText (KeepsVersion First body) before.trees
-  pub ours : HoldsTables Second found
+-- the totals of energy by period are those of the records, each row one of the office and no key twice, and by band alone
+-- there is none
+pub record IsFilled (office : OfficeRules) (db : Trees) : Type 0 where
+  pub energies : HoldsTotals office Energies (db energy_tree)
+  pub old : db total_tree ≡ []
+  pub told : (o : Option AccountId) (p : PeriodId) (b : BandId) (d : Direction) → total_in db (Energy o p b d) ≡ total_among office (records_of db) (Energy o p b d)
+
+-- a store of an earlier version with this text brought to version 3 whole: the tables of version 3 with this text, whose
+-- rows of records, points, starts and top-ups are those of before, with the energies that the records give, and so its
+-- content
+pub record IsUpgraded (v : StoreVersion) (office : OfficeRules) (body : List ℕ) (before found : Database) : Type 0 where
+  pub earlier : IsEarlier v
+  pub was : HoldsTables v before
+  pub was_text : KeepsText (KeepsVersion v body) before.trees
+  pub ours : HoldsTables Third found
   pub listed : IsDatabase found
   pub text : KeepsText (KeepsOffice body) found.trees
-  pub raised : IsRaised before.trees found.trees
-  pub content : content_of found.trees ≡ content_of_version First before.trees
+  pub raised : IsRaised v before.trees found.trees
+  pub filled : IsFilled office found.trees
+  pub content : content_of found.trees ≡ content_of_version office v before.trees
 
-abbrev pub MayBeUpgraded : List ℕ → Database → Trees → Type 0
-MayBeUpgraded body before db = (found : Database) × (IsUpgraded body before found × (db ≡ found.trees))
+abbrev pub MayBeUpgraded : OfficeRules → List ℕ → Database → Trees → Type 0
+MayBeUpgraded office body before db = (v : StoreVersion) × ((found : Database) × (IsUpgraded v office body before found × (db ≡ found.trees)))
 
--- of either: the one where nothing was there, the other where a store of version 1 was
-abbrev pub MayBeMade : List ℕ → Sql → Trees → Type 0
-MayBeMade body s db = MayBeNew body s db ⊎ MayBeUpgraded body s.committed db
+-- of either: the one where nothing was there, the other where a store of an earlier version was
+abbrev pub MayBeMade : OfficeRules → List ℕ → Sql → Trees → Type 0
+MayBeMade office body s db = MayBeNew body s db ⊎ MayBeUpgraded office body s.committed db
 
 -- ---- what a crash leaves opens again
 -- the tables of a store of this office and text
 abbrev pub IsOfText : OfficeRules → List ℕ → Trees → Type 0
-IsOfText office body db = KeepsText (KeepsOffice body) db × (NamesOffice office db × AreWithoutConflict db)
+IsOfText office body db = KeepsText (KeepsOffice body) db × (NamesOffice Third office db × AreWithoutConflict db)
 
 -- a true content of at most 10,000,000 entries of the office
 pub record IsSoundOf (office : OfficeRules) (c : ShelfContent) : Type 0 where
@@ -101,13 +118,13 @@ LeftOpens s opened =
 abbrev pub IsLeftBehind : Sql → Sql → List ℕ → Sql → Type 0
 IsLeftBehind s opened body found = (office : OfficeFile) → IsOfficeOf body office → IsLeftSound s opened (office_of office) body found.committed
 
--- ---- what is left of a store of version 1 that was being brought to version 2 opens again
--- what is found refuses it only for the engine's sake, or for memory, where the store of version 1 was such as opens
+-- ---- what is left of a store of an earlier version that was being brought to version 3 opens again
+-- what is found refuses it only for the engine's sake, or for memory, where the store of before was such as opens
 abbrev pub UpgradedOpens : Type 0
 UpgradedOpens =
-    (office : OfficeRules) (body : List ℕ) (before found : Database) (fault : OpenFault) → IsOpenable First office body before → IsUpgraded body before found
+    (v : StoreVersion) (office : OfficeRules) (body : List ℕ) (before found : Database) (fault : OpenFault) → IsOpenable v office body before → IsUpgraded v office body before found
     → Refuses office body found fault → (fault ≡ Store) ⊎ (fault ≡ Memory)
 
--- what it holds then is what the store of version 1 held
+-- what it holds then is what the store of before held
 abbrev pub UpgradedHolds : Type 0
-UpgradedHolds = (body : List ℕ) (before found : Database) (c : ShelfContent) → IsUpgraded body before found → IsFound found c → IsFound before c
+UpgradedHolds = (v : StoreVersion) (office : OfficeRules) (body : List ℕ) (before found : Database) (c : ShelfContent) → IsUpgraded v office body before found → IsFound office found c → IsFound office before c

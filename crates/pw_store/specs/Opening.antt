@@ -26,7 +26,8 @@ use Rattle.pw_store.specs.declared.fault.OpenFault.{OpenFault}
 use Rattle.pw_store.specs.declared.fault.OpenFault.TheVariants.{Store, Memory, OfficeDiffers, Version, Unclean}
 use Rattle.pw_model.specs.Shelf.{IsTrueContent, ShelfContent, no_content}
 use Rattle.pw_schema.specs.declared.kind.StoreVersion.{StoreVersion}
-use Rattle.pw_store.specs.Content.{content_of_version, energy_in, payment_in, IsReadingRow, IsAssignmentRow, IsRowOf, entries_of, entry_in, kinds_of, point_tree, records_of_version, start_tree, total_tree, payment_tree, tree_of}
+use Rattle.pw_schema.specs.declared.kind.StoreVersion.TheVariants.{First, Second, Third}
+use Rattle.pw_store.specs.Content.{content_of_version, energy_in, payment_in, IsReadingRow, IsAssignmentRow, IsRowOf, entries_of, entry_in, kinds_of, point_tree, records_of_version, start_tree, total_tree, energy_tree, payment_tree, tree_of}
 use Rattle.pw_store.specs.Kept.{key_in_point, key_in_start}
 use Rattle.pw_store.specs.Keyed.{IsEnergyRow, IsPaymentRow}
 
@@ -67,12 +68,25 @@ pub record HoldsTotals (office : OfficeRules) (k : TotalKind) (table : List Row)
   pub rows : AllByRecursion (λ r. IsTotalRow k r × IsTotalOf office (key_of_total k r)) table
   pub once : EachOnce (map (key_of_total k) table)
 
+-- points, starts and totals of top-ups
+pub record HoldsLasting (office : OfficeRules) (db : Trees) : Type 0 where
+  pub points : HoldsKept office Readings (db point_tree)
+  pub starts : HoldsKept office Assignments (db start_tree)
+  pub payments : HoldsTotals office Payments (db payment_tree)
+
 -- points, starts and totals
 pub record HoldsSums (office : OfficeRules) (db : Trees) : Type 0 where
   pub points : HoldsKept office Readings (db point_tree)
   pub starts : HoldsKept office Assignments (db start_tree)
-  pub energies : HoldsTotals office Energies (db total_tree)
+  pub energies : HoldsTotals office Energies (db energy_tree)
   pub payments : HoldsTotals office Payments (db payment_tree)
+  pub old : db total_tree ≡ []
+
+-- by version: before the third, totals of energy aren't judged
+abbrev pub HoldsSumsOf : StoreVersion → OfficeRules → Trees → Type 0
+HoldsSumsOf First office db = HoldsLasting office db
+HoldsSumsOf Second office db = HoldsLasting office db
+HoldsSumsOf Third office db = HoldsSums office db
 
 -- ---- why it is refused
 abbrev pub HasNoRow : List Row → Type 0
@@ -90,7 +104,7 @@ HoldsAllRecords v office db = (k : RecordKind) → Member k (kinds_of v) → Hol
 abbrev pub IsSpoilt : StoreVersion → OfficeRules → Trees → Type 0
 IsSpoilt v office db =
     (HoldsAllRecords v office db → ⊥)
-    ⊎ (HoldsTooMany v db ⊎ ((HoldsSums office db → ⊥) ⊎ (IsTrueContent office (content_of_version v db) → ⊥)))
+    ⊎ (HoldsTooMany v db ⊎ ((HoldsSumsOf v office db → ⊥) ⊎ (IsTrueContent office (content_of_version office v db) → ⊥)))
 
 -- the tables are those of this version alone, and no text of theirs speaks of a conflict
 pub record HoldsTables (v : StoreVersion) (db : Database) : Type 0 where
@@ -126,6 +140,17 @@ pub record AreRows {K : Type 0} (IsRow : Row → Type 0) (key_in : Row → K) (r
   pub each : AllByRecursion IsRow rows
   pub once : EachOnce (map key_in rows)
 
+-- totals of energy by period, and none by band alone
+pub record HasEnergies (db : Trees) : Type 0 where
+  pub rows : AreRows IsEnergyRow energy_in (db energy_tree)
+  pub none : db total_tree ≡ []
+
+-- by version: before the third, anything
+abbrev pub HasEnergiesOf : StoreVersion → Trees → Type 0
+HasEnergiesOf First db = Unit {0}
+HasEnergiesOf Second db = Unit {0}
+HasEnergiesOf Third db = HasEnergies db
+
 -- each row of the tables of this version is of the kinds of its table, and no record stands twice, nor the key of a point,
 -- a start or a total
 pub record HasRows (v : StoreVersion) (db : Trees) : Type 0 where
@@ -133,12 +158,18 @@ pub record HasRows (v : StoreVersion) (db : Trees) : Type 0 where
   pub once : EachOnce (records_of_version v db)
   pub points : AreRows IsReadingRow key_in_point (db point_tree)
   pub starts : AreRows IsAssignmentRow key_in_start (db start_tree)
-  pub energies : AreRows IsEnergyRow energy_in (db total_tree)
+  pub energies : HasEnergiesOf v db
   pub payments : AreRows IsPaymentRow payment_in (db payment_tree)
 
+-- each total of energy by period names what the office has
+abbrev pub NamesEnergies : StoreVersion → OfficeRules → Trees → Type 0
+NamesEnergies First office db = Unit {0}
+NamesEnergies Second office db = Unit {0}
+NamesEnergies Third office db = AllByRecursion (λ r. IsTotalOf office (energy_in r)) (db energy_tree)
+
 -- each total that is kept, a total of 0 too, names what the office has
-pub record NamesOffice (office : OfficeRules) (db : Trees) : Type 0 where
-  pub energies : AllByRecursion (λ r. IsTotalOf office (energy_in r)) (db total_tree)
+pub record NamesOffice (v : StoreVersion) (office : OfficeRules) (db : Trees) : Type 0 where
+  pub energies : NamesEnergies v office db
   pub payments : AllByRecursion (λ r. IsTotalOf office (payment_in r)) (db payment_tree)
 
 -- the tables of this version with this text, whose content is true and has entries of the office, and not too many
@@ -146,12 +177,12 @@ pub record IsOpenable (v : StoreVersion) (office : OfficeRules) (body : List ℕ
   pub ours : HoldsTables v db
   pub text : KeepsText (KeepsVersion v body) db.trees
   pub rows : HasRows v db.trees
-  pub named : NamesOffice office db.trees
+  pub named : NamesOffice v office db.trees
   pub of_office : AllOfOffice office (records_of_version v db.trees)
   pub few : length (records_of_version v db.trees) ≤ most_records
-  pub truth : IsTrueContent office (content_of_version v db.trees)
+  pub truth : IsTrueContent office (content_of_version office v db.trees)
 
--- nothing, or such a store, of either version
+-- nothing, or such a store, of any version
 abbrev pub Opens : OfficeRules → List ℕ → Database → Type 0
 Opens office body db = (db.schema ≡ no_schema) ⊎ ((v : StoreVersion) × IsOpenable v office body db)
 
@@ -161,5 +192,5 @@ OpenableOpens = (office : OfficeRules) (body : List ℕ) (db : Database) (fault 
 
 -- ---- what is opened
 -- what a file holds: nothing where it shows nothing, else what the tables of its version hold
-abbrev pub IsFound : Database → ShelfContent → Type 0
-IsFound db c = ((v : StoreVersion) × (IsOf v db.schema × (c ≡ content_of_version v db.trees))) ⊎ ((db.schema ≡ no_schema) × (c ≡ no_content))
+abbrev pub IsFound : OfficeRules → Database → ShelfContent → Type 0
+IsFound office db c = ((v : StoreVersion) × (IsOf v db.schema × (c ≡ content_of_version office v db.trees))) ⊎ ((db.schema ≡ no_schema) × (c ≡ no_content))

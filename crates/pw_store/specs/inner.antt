@@ -7,4 +7,5 @@ pub mod Seconds
 pub mod Sums
 pub mod Listings
 pub mod Truth
+pub mod Filling
 pub mod Scanning

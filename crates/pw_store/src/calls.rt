@@ -287,11 +287,13 @@ impl<S: Alter> Shelf for SqlShelf<S> {
         match key {
             TotalKey::Energy {
                 owner,
+                period,
                 band,
                 direction,
             } => {
                 let take = Change::TakeEnergy {
                     owner: *owner,
+                    period: *period,
                     band: *band,
                     direction: *direction,
                 };
@@ -302,6 +304,7 @@ impl<S: Alter> Shelf for SqlShelf<S> {
                     take,
                     Change::PutEnergy {
                         owner: *owner,
+                        period: *period,
                         band: *band,
                         direction: *direction,
                         wh: amount,

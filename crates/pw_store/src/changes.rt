@@ -11,7 +11,7 @@ use crate::points::{put_point, take_point};
 use crate::starts::{put_start, take_start};
 use crate::totals::{put_energy, put_payment, take_energy, take_payment};
 use pw_obis::{Register, WattHours};
-use pw_tariff::{AccountId, BandId, Direction, MeterId, Owner};
+use pw_tariff::{AccountId, BandId, Direction, MeterId, Owner, PeriodId};
 use pw_time::Instant;
 use sqlite::{Alter, Connection, Error};
 
@@ -40,11 +40,13 @@ pub(crate) enum Change {
     },
     TakeEnergy {
         owner: Owner,
+        period: PeriodId,
         band: BandId,
         direction: Direction,
     },
     PutEnergy {
         owner: Owner,
+        period: PeriodId,
         band: BandId,
         direction: Direction,
         wh: u64,
@@ -88,15 +90,17 @@ pub(crate) fn make<S: Alter>(conn: &mut Connection<S>, change: Change) -> Result
         } => put_start(conn, meter, start, owner),
         Change::TakeEnergy {
             owner,
+            period,
             band,
             direction,
-        } => take_energy(conn, owner, band, direction),
+        } => take_energy(conn, owner, period, band, direction),
         Change::PutEnergy {
             owner,
+            period,
             band,
             direction,
             wh,
-        } => put_energy(conn, owner, band, direction, wh),
+        } => put_energy(conn, owner, period, band, direction, wh),
         Change::TakePayment { account } => take_payment(conn, account),
         Change::PutPayment { account, cents } => put_payment(conn, account, cents),
     }

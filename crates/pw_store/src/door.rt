@@ -28,17 +28,17 @@ use std::snapshot::Snapshot;
 
 impl<S: Alter> SqlShelf<S> {
     /// Opens a connection as a store of the office of a text: rolls back a transaction that the connection is inside of,
-    /// makes the tables where nothing is there, and else judges what is there, and brings a store of version 1 to version 2.
-    /// A refused connection is given back, with what was committed. Where nothing was there, a crash behind a refusal may
-    /// leave the tables that were being made, whole; where a store of version 1 was, it may leave that store as one of
-    /// version 2, whole, with the same content.
+    /// makes the tables where nothing is there, and else judges what is there, and brings a store of version 1 or 2 to
+    /// version 3, with the totals of energy that its records give. A refused connection is given back, with what was
+    /// committed. Where nothing was there, a crash behind a refusal may leave the tables that were being made, whole; where a
+    /// store of version 1 or 2 was, it may leave that store as one of version 3, whole, with the same content.
     pub fn open(
         alloc: Global,
         connection: Connection<S>,
         office_text: &[u8],
     ) -> Result<SqlShelf<S>, (OpenFault, Connection<S>)>
         requires { (office : OfficeFile) × IsOfficeOf office_text.now office }
-        ensures content { IfOk result (λ s. HasCleanDisk (state S.Store s.conn) → IsFound (state S.Store connection).committed (held_of (state S.Store s.conn) (state S.Store s.base.value))) }
+        ensures content { IfOk result (λ s. HasCleanDisk (state S.Store s.conn) → (office : OfficeFile) × IsOfficeOf office_text.now office × IsFound (office_of office) (state S.Store connection).committed (held_of (state S.Store s.conn) (state S.Store s.base.value))) }
         ensures of_office { IfOk result (λ s. HasCleanDisk (state S.Store s.conn) → (office : OfficeFile) × IsOfficeOf office_text.now office × AllOfOffice (office_of office) (held_of (state S.Store s.conn) (state S.Store s.base.value)).records) }
         ensures truth { IfOk result (λ s. HasCleanDisk (state S.Store s.conn) → (office : OfficeFile) × IsOfficeOf office_text.now office × IsTrueContent (office_of office) (held_of (state S.Store s.conn) (state S.Store s.base.value))) }
         ensures few { IfOk result (λ s. HasCleanDisk (state S.Store s.conn) → length (held_of (state S.Store s.conn) (state S.Store s.base.value)).records ≤ most_records) }
@@ -51,7 +51,7 @@ impl<S: Alter> SqlShelf<S> {
         ensures left { IfOk result (λ s. HasCleanDisk (state S.Store s.conn) → LeavesOnly (held_of (state S.Store s.conn) (state S.Store s.base.value)) (left_of (state S.Store s.conn))) }
         ensures cause { IfErr result (λ e. HasCleanDisk (state S.Store e.1) → (office : OfficeFile) × IsOfficeOf office_text.now office × Refuses (office_of office) office_text.now (state S.Store connection).committed e.0) }
         ensures refused { IfErr result (λ e. HasCleanDisk (state S.Store e.1) → KeepsCommit (state S.Store connection) (state S.Store e.1) ⊎ (e.1 ≡ connection)) }
-        ensures crash { IfErr result (λ e. Survives (state S.Store connection) (state S.Store e.1) (MayBeMade office_text.now (state S.Store connection))) }
+        ensures crash { IfErr result (λ e. (office : OfficeFile) × IsOfficeOf office_text.now office × Survives (state S.Store connection) (state S.Store e.1) (MayBeMade (office_of office) office_text.now (state S.Store connection))) }
     {
         SqlShelf::open_watched(alloc, connection, office_text, &mut Unwatched)
     }
@@ -64,7 +64,7 @@ impl<S: Alter> SqlShelf<S> {
         watch: &mut W,
     ) -> Result<SqlShelf<S>, (OpenFault, Connection<S>)>
         requires { (office : OfficeFile) × IsOfficeOf office_text.now office }
-        ensures content { IfOk result (λ s. HasCleanDisk (state S.Store s.conn) → IsFound (state S.Store connection).committed (held_of (state S.Store s.conn) (state S.Store s.base.value))) }
+        ensures content { IfOk result (λ s. HasCleanDisk (state S.Store s.conn) → (office : OfficeFile) × IsOfficeOf office_text.now office × IsFound (office_of office) (state S.Store connection).committed (held_of (state S.Store s.conn) (state S.Store s.base.value))) }
         ensures of_office { IfOk result (λ s. HasCleanDisk (state S.Store s.conn) → (office : OfficeFile) × IsOfficeOf office_text.now office × AllOfOffice (office_of office) (held_of (state S.Store s.conn) (state S.Store s.base.value)).records) }
         ensures truth { IfOk result (λ s. HasCleanDisk (state S.Store s.conn) → (office : OfficeFile) × IsOfficeOf office_text.now office × IsTrueContent (office_of office) (held_of (state S.Store s.conn) (state S.Store s.base.value))) }
         ensures few { IfOk result (λ s. HasCleanDisk (state S.Store s.conn) → length (held_of (state S.Store s.conn) (state S.Store s.base.value)).records ≤ most_records) }
@@ -77,7 +77,7 @@ impl<S: Alter> SqlShelf<S> {
         ensures left { IfOk result (λ s. HasCleanDisk (state S.Store s.conn) → LeavesOnly (held_of (state S.Store s.conn) (state S.Store s.base.value)) (left_of (state S.Store s.conn))) }
         ensures cause { IfErr result (λ e. HasCleanDisk (state S.Store e.1) → (office : OfficeFile) × IsOfficeOf office_text.now office × Refuses (office_of office) office_text.now (state S.Store connection).committed e.0) }
         ensures refused { IfErr result (λ e. HasCleanDisk (state S.Store e.1) → KeepsCommit (state S.Store connection) (state S.Store e.1) ⊎ (e.1 ≡ connection)) }
-        ensures crash { IfErr result (λ e. Survives (state S.Store connection) (state S.Store e.1) (MayBeMade office_text.now (state S.Store connection))) }
+        ensures crash { IfErr result (λ e. (office : OfficeFile) × IsOfficeOf office_text.now office × Survives (state S.Store connection) (state S.Store e.1) (MayBeMade (office_of office) office_text.now (state S.Store connection))) }
     {
         match Office::read(alloc, office_text) {
             Ok(office) => SqlShelf::open_for(alloc, connection, &office, office_text, watch),
@@ -93,7 +93,7 @@ impl<S: Alter> SqlShelf<S> {
         office_text: &[u8],
         watch: &mut W,
     ) -> Result<SqlShelf<S>, (OpenFault, Connection<S>)>
-        ensures content { IfOk result (λ s. HasCleanDisk (state S.Store s.conn) → IsFound (state S.Store connection).committed (held_of (state S.Store s.conn) (state S.Store s.base.value))) }
+        ensures content { IfOk result (λ s. HasCleanDisk (state S.Store s.conn) → IsFound (office_of office.now) (state S.Store connection).committed (held_of (state S.Store s.conn) (state S.Store s.base.value))) }
         ensures of_office { IfOk result (λ s. HasCleanDisk (state S.Store s.conn) → AllOfOffice (office_of office.now) (held_of (state S.Store s.conn) (state S.Store s.base.value)).records) }
         ensures truth { IfOk result (λ s. HasCleanDisk (state S.Store s.conn) → IsTrueContent (office_of office.now) (held_of (state S.Store s.conn) (state S.Store s.base.value))) }
         ensures few { IfOk result (λ s. HasCleanDisk (state S.Store s.conn) → length (held_of (state S.Store s.conn) (state S.Store s.base.value)).records ≤ most_records) }
@@ -106,7 +106,7 @@ impl<S: Alter> SqlShelf<S> {
         ensures left { IfOk result (λ s. HasCleanDisk (state S.Store s.conn) → LeavesOnly (held_of (state S.Store s.conn) (state S.Store s.base.value)) (left_of (state S.Store s.conn))) }
         ensures cause { IfErr result (λ e. HasCleanDisk (state S.Store e.1) → Refuses (office_of office.now) office_text.now (state S.Store connection).committed e.0) }
         ensures refused { IfErr result (λ e. HasCleanDisk (state S.Store e.1) → KeepsCommit (state S.Store connection) (state S.Store e.1)) }
-        ensures crash { IfErr result (λ e. Survives (state S.Store connection) (state S.Store e.1) (MayBeMade office_text.now (state S.Store connection))) }
+        ensures crash { IfErr result (λ e. Survives (state S.Store connection) (state S.Store e.1) (MayBeMade (office_of office.now) office_text.now (state S.Store connection))) }
     {
         match prepare(alloc, &mut connection, office, office_text, watch) {
             Ok(held) => {

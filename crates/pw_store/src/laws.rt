@@ -35,20 +35,20 @@ pub fn store_stays_as_it_was_opened<S: Alter>(old: &SqlShelf<S>, new: &SqlShelf<
     ensures { ⟦<SqlShelf<S> as Shelf>⟧.same_store old.entry.now new.entry.now ↔ (new.entry.now.opened.value ≡ old.entry.now.opened.value) }
 {}
 
-/// Where nothing is there, or the tables are those of a store of this office, of version 1 or 2, and of this text, `open`
+/// Where nothing is there, or the tables are those of a store of this office, of version 1, 2 or 3, and of this text, `open`
 /// refuses them with `Store` or `Memory` alone: what it says of the cause of a refusal leaves no other. And it takes nothing
 /// else: its clause `taken` says so of what it opened.
 pub fn openable_stores_open()
     ensures { OpenableOpens }
 {}
 
-/// A store of version 1 that a crash has left as one of version 2 opens again, as that store would have: `open` refuses it
-/// with `Store` or `Memory` alone.
+/// A store of an earlier version that a crash has left as one of version 3 opens again, as that store would have: `open`
+/// refuses it with `Store` or `Memory` alone.
 pub fn upgraded_stores_open()
     ensures { UpgradedOpens }
 {}
 
-/// And it holds then what the store of version 1 held.
+/// And it holds then what the store of before held.
 pub fn upgraded_stores_hold_the_same()
     ensures { UpgradedHolds }
 {}

@@ -7,6 +7,7 @@ mod changes;
 mod door;
 mod entries;
 mod fault;
+mod filling;
 mod forms;
 mod keys;
 pub mod laws;

@@ -33,7 +33,8 @@ impl KeptKind {
     }
 }
 
-/// A listing of a whole table: of its rows in the order of their keys, or of their rowids alone.
+/// A listing of a whole table: of its rows in the order of their keys, or of their rowids alone. Old totals are those by band
+/// alone, of which version 3 has none.
 #[derive(Clone, Copy)]
 pub(crate) enum Listing {
     Records(RecordKind),
@@ -41,6 +42,7 @@ pub(crate) enum Listing {
     Totals(TotalKind),
     KeptRowids(KeptKind),
     EnergyRowids,
+    OldTotals,
 }
 
 impl Listing {
@@ -74,14 +76,15 @@ impl Listing {
                 "SELECT meter, start, owner FROM start ORDER BY meter, start"
             }
             Listing::Totals(TotalKind::Energies) => {
-                "SELECT owner, band, direction, wh FROM total ORDER BY owner, band, direction"
+                "SELECT owner, period, band, direction, wh FROM period_total ORDER BY owner, period, band, direction"
             }
             Listing::Totals(TotalKind::Payments) => {
                 "SELECT account, cents FROM total_topup ORDER BY account"
             }
             Listing::KeptRowids(KeptKind::Points) => "SELECT rowid FROM point ORDER BY rowid",
             Listing::KeptRowids(KeptKind::Starts) => "SELECT rowid FROM start ORDER BY rowid",
-            Listing::EnergyRowids => "SELECT rowid FROM total ORDER BY rowid",
+            Listing::EnergyRowids => "SELECT rowid FROM period_total ORDER BY rowid",
+            Listing::OldTotals => "SELECT rowid FROM total ORDER BY rowid",
         }
     }
 }

@@ -9,14 +9,16 @@ ghost use Rattle.pw_model.specs.Office.{AllOfOffice};
 ghost use Rattle.pw_schema.specs.Calls.{Looks};
 ghost use Rattle.pw_schema.specs.Conflicts.{AreWithoutConflict};
 ghost use Rattle.pw_schema.specs.Fresh.{IsIdleAt, IsWithin};
+ghost use Rattle.pw_schema.specs.Raised.{HasSame, IsRaised, lasting_trees};
 ghost use Rattle.pw_store.specs.Content.{records_of, entries_of};
 ghost use Rattle.pw_schema.specs.Judging.{HasVersion, KeepsOffice, KeepsVersion};
-ghost use Rattle.pw_schema.specs.Tables.{BeginsAsOurs, IsOurs, no_schema, schema_of};
-ghost use Rattle.pw_store.specs.Left.{IsUpgraded, MayBeMade, MayBeUpgraded};
+ghost use Rattle.pw_schema.specs.Tables.{BeginsAsOurs, IsEarlier, IsOurs, no_schema, schema_of};
+ghost use Rattle.pw_store.specs.Left.{IsFilled, MayBeMade, MayBeUpgraded};
 ghost use Rattle.pw_store.specs.Opening.{BegunRefuses, HoldsAllRecords, HoldsTables, HoldsRecords, KeepsText, Refuses, offices};
-ghost use Rattle.pw_store.specs.inner.Opened.{IsOpened, IsReady, IsSettled, IsSound, RefusesUnless, RowRefuses, RowsRefuse, VersionRefuses};
+ghost use Rattle.pw_store.specs.inner.Opened.{AreJudged, IsOpened, IsReady, IsSettled, IsSound, RecordsRefuse, RefusesUnless, RowRefuses, RowsRefuse, VersionRefuses};
 
 use crate::fault::{OpenFault, fault_in};
+use crate::filling::fill;
 use crate::listings::{Listing, judge_listing};
 use crate::office::office_rows;
 use crate::sums::read_sums;
@@ -24,9 +26,10 @@ use crate::truth::parts_of;
 use crate::waking::wake;
 use crate::watch::{Part, Watch};
 use pw_model::Entry;
+use pw_parts::Parts;
 use pw_schema::{
     OfficeFault, RecordKind, Records, StoreVersion, begin, begins_as_ours, commit, create,
-    has_no_conflict, is_nothing, is_of, judge_version, keeps_office, raise_to_second, roll_back,
+    has_no_conflict, is_nothing, is_of, judge_version, keeps_office, raise_to_third, roll_back,
 };
 use pw_tariff::Office;
 use sqlite::{Alter, Connection, Error, ErrorCode, Row};
@@ -74,10 +77,10 @@ fn check_records<S: Alter, W: Watch>(
 ) -> Result<Vec<Entry>, OpenFault>
     requires is_open { HasCleanDisk (state S.Store conn.old) → IsTrue (state S.Store conn.old).is_open }
     requires ours { HasCleanDisk (state S.Store conn.old) → IsOurs (state S.Store conn.old).now.schema }
-    ensures sound { HasCleanDisk (state S.Store conn.new) → OnOk result (HoldsAllRecords StoreVersion.Second (office_of office.now) (state S.Store conn.old).now.trees) }
+    ensures sound { HasCleanDisk (state S.Store conn.new) → OnOk result (HoldsAllRecords StoreVersion.Third (office_of office.now) (state S.Store conn.old).now.trees) }
     ensures listed { HasCleanDisk (state S.Store conn.new) → IfOk result (λ found. IsPermutation (records_of (state S.Store conn.old).now.trees) found.items) }
     ensures of_office { IfOk result (λ found. AllOfOffice (office_of office.now) found.items) }
-    ensures cause { HasCleanDisk (state S.Store conn.new) → IfErr result (RefusesUnless (HoldsAllRecords StoreVersion.Second (office_of office.now) (state S.Store conn.old).now.trees)) }
+    ensures cause { HasCleanDisk (state S.Store conn.new) → IfErr result (RefusesUnless (HoldsAllRecords StoreVersion.Third (office_of office.now) (state S.Store conn.old).now.trees)) }
     ensures looks { Looks result (state S.Store conn.old) (state S.Store conn.new) }
 {
     let mut all = Vec::new(alloc);
@@ -172,6 +175,51 @@ fn check_office<S: Alter>(conn: &mut Connection<S>, text: &[u8]) -> Result<Store
     Ok(version)
 }
 
+// The records of our tables, judged, and the parts that they have: how many records there are.
+fn judge_records<S: Alter, W: Watch>(
+    alloc: Global,
+    conn: &mut Connection<S>,
+    office: &Office,
+    watch: &mut W,
+) -> Result<(u32, Parts), OpenFault>
+    requires is_open { HasCleanDisk (state S.Store conn.old) → IsTrue (state S.Store conn.old).is_open }
+    requires ours { HasCleanDisk (state S.Store conn.old) → IsOurs (state S.Store conn.old).now.schema }
+    ensures counted { HasCleanDisk (state S.Store conn.new) → IfOk result (λ it. length (records_of (state S.Store conn.new).now.trees) ≡ it.0) }
+    ensures judged { HasCleanDisk (state S.Store conn.new) → IfOk result (λ it. AreJudged (office_of office.now) (state S.Store conn.new).now.trees it.1) }
+    ensures cause { HasCleanDisk (state S.Store conn.new) → IfErr result (RecordsRefuse (office_of office.now) (state S.Store conn.old).now.trees) }
+    ensures looks { Looks result (state S.Store conn.old) (state S.Store conn.new) }
+{
+    let records = match check_records(alloc, conn, office, watch) {
+        Ok(records) => records,
+        Err(fault) => return Err(fault),
+    };
+    let held = records.len();
+    match parts_of(alloc, office, records) {
+        Ok(parts) => Ok((held as u32, parts)),
+        Err(fault) => Err(fault),
+    }
+}
+
+// Points, starts and totals, judged and compared with the parts of the records.
+fn check_sums<S: Alter, W: Watch>(
+    conn: &mut Connection<S>,
+    office: &Office,
+    parts: &Parts,
+    watch: &mut W,
+) -> Result<(), OpenFault>
+    requires ours { HasCleanDisk (state S.Store conn.old) → IsOurs (state S.Store conn.old).now.schema }
+    requires judged { HasCleanDisk (state S.Store conn.old) → AreJudged (office_of office.now) (state S.Store conn.old).now.trees parts.now }
+    ensures sound { HasCleanDisk (state S.Store conn.new) → OnOk result (IsSound (office_of office.now) (state S.Store conn.new).now) }
+    ensures cause { HasCleanDisk (state S.Store conn.new) → IfErr result (RowsRefuse StoreVersion.Third (office_of office.now) (state S.Store conn.old).now.trees) }
+    ensures looks { Looks result (state S.Store conn.old) (state S.Store conn.new) }
+{
+    match read_sums(conn, office, parts, watch) {
+        Ok(true) => Ok(()),
+        Ok(false) => Err(OpenFault::Unclean),
+        Err(fault) => Err(fault),
+    }
+}
+
 // The rows of our tables, judged: how many records there are.
 fn check_rows<S: Alter, W: Watch>(
     alloc: Global,
@@ -183,21 +231,15 @@ fn check_rows<S: Alter, W: Watch>(
     requires ours { HasCleanDisk (state S.Store conn.old) → IsOurs (state S.Store conn.old).now.schema }
     ensures counted { HasCleanDisk (state S.Store conn.new) → IfOk result (λ held. length (records_of (state S.Store conn.new).now.trees) ≡ held) }
     ensures sound { HasCleanDisk (state S.Store conn.new) → OnOk result (IsSound (office_of office.now) (state S.Store conn.new).now) }
-    ensures cause { HasCleanDisk (state S.Store conn.new) → IfErr result (RowsRefuse StoreVersion.Second (office_of office.now) (state S.Store conn.old).now.trees) }
+    ensures cause { HasCleanDisk (state S.Store conn.new) → IfErr result (RowsRefuse StoreVersion.Third (office_of office.now) (state S.Store conn.old).now.trees) }
     ensures looks { Looks result (state S.Store conn.old) (state S.Store conn.new) }
 {
-    let records = match check_records(alloc, conn, office, watch) {
-        Ok(records) => records,
+    let (held, parts) = match judge_records(alloc, conn, office, watch) {
+        Ok(judged) => judged,
         Err(fault) => return Err(fault),
     };
-    let held = records.len();
-    let parts = match parts_of(alloc, office, records) {
-        Ok(parts) => parts,
-        Err(fault) => return Err(fault),
-    };
-    match read_sums(conn, office, &parts, watch) {
-        Ok(true) => Ok(held as u32),
-        Ok(false) => Err(OpenFault::Unclean),
+    match check_sums(conn, office, &parts, watch) {
+        Ok(()) => Ok(held),
         Err(fault) => Err(fault),
     }
 }
@@ -210,7 +252,7 @@ fn see_raised<S: Alter>(conn: &mut Connection<S>, text: &[u8]) -> Result<(), Err
     ensures looks { Looks result (state S.Store conn.old) (state S.Store conn.new) }
 {
     let rows = office_rows(conn)?;
-    if !keeps_office(rows.as_slice(), StoreVersion::Second, text) {
+    if !keeps_office(rows.as_slice(), StoreVersion::Third, text) {
         return Err(Error::SqliteFailure(ErrorCode::DatabaseCorrupt));
     }
     if has_no_conflict(conn)? {
@@ -220,43 +262,83 @@ fn see_raised<S: Alter>(conn: &mut Connection<S>, text: &[u8]) -> Result<(), Err
     }
 }
 
-// Brings a store of version 1 to version 2 within a transaction, whatever rows it has.
-fn raise<S: Alter>(conn: &mut Connection<S>, text: &[u8]) -> Result<(), Error>
-    requires first { HasCleanDisk (state S.Store conn.old) → HoldsTables StoreVersion.First (state S.Store conn.old).now }
-    requires first_text { HasCleanDisk (state S.Store conn.old) → KeepsText (KeepsVersion StoreVersion.First text.now) (state S.Store conn.old).now.trees }
-    ensures within { HasCleanDisk (state S.Store conn.new) → OnOk result (IsWithin (schema_of StoreVersion.Second) (state S.Store conn.new)) }
-    ensures upgraded { HasCleanDisk (state S.Store conn.new) → OnOk result (IsUpgraded text.now (state S.Store conn.old).now (state S.Store conn.new).now) }
+// Makes a store of an earlier version one of version 3 within a transaction, but for its totals of energy, whatever rows it
+// has.
+fn raise<S: Alter>(conn: &mut Connection<S>, version: StoreVersion) -> Result<(), Error>
+    requires old_tables { HasCleanDisk (state S.Store conn.old) → HoldsTables version (state S.Store conn.old).now }
+    ensures within { HasCleanDisk (state S.Store conn.new) → OnOk result (IsWithin (schema_of StoreVersion.Third) (state S.Store conn.new)) }
+    ensures raised { HasCleanDisk (state S.Store conn.new) → OnOk result (IsRaised version (state S.Store conn.old).now.trees (state S.Store conn.new).now.trees) }
     ensures kept { HasCleanDisk (state S.Store conn.new) → KeepsCommit (state S.Store conn.old) (state S.Store conn.new) }
     ensures crash { Survives (state S.Store conn.old) (state S.Store conn.new) (λ _. ⊥) }
 {
     begin(conn)?;
-    raise_to_second(conn)?;
-    see_raised(conn, text)?;
-    // it says that the file lists these tables
-    let _ = conn.schema();
+    raise_to_third(conn, version)?;
     Ok(())
 }
 
-// Brings a store of version 1 to version 2 within a transaction, and judges its rows: how many records there are.
+// The rows of our tables but for totals of energy, judged, and these put, as the records give them: how many records there
+// are.
+fn fill_and_check<S: Alter, W: Watch>(
+    alloc: Global,
+    conn: &mut Connection<S>,
+    office: &Office,
+    watch: &mut W,
+) -> Result<u32, OpenFault>
+    requires { HasCleanDisk (state S.Store conn.old) → IsWithin (schema_of StoreVersion.Third) (state S.Store conn.old) }
+    ensures within { HasCleanDisk (state S.Store conn.new) → OnOk result (IsWithin (schema_of StoreVersion.Third) (state S.Store conn.new)) }
+    ensures lasting { HasCleanDisk (state S.Store conn.new) → OnOk result (HasSame lasting_trees (state S.Store conn.old).now.trees (state S.Store conn.new).now.trees) }
+    ensures filled { HasCleanDisk (state S.Store conn.new) → OnOk result (IsFilled (office_of office.now) (state S.Store conn.new).now.trees) }
+    ensures sound { HasCleanDisk (state S.Store conn.new) → OnOk result (IsSound (office_of office.now) (state S.Store conn.new).now) }
+    ensures counted { HasCleanDisk (state S.Store conn.new) → IfOk result (λ held. length (records_of (state S.Store conn.new).now.trees) ≡ held) }
+    ensures cause { HasCleanDisk (state S.Store conn.new) → IfErr result (RowsRefuse StoreVersion.Second (office_of office.now) (state S.Store conn.old).now.trees) }
+    ensures kept { HasCleanDisk (state S.Store conn.new) → KeepsCommit (state S.Store conn.old) (state S.Store conn.new) }
+    ensures crash { Survives (state S.Store conn.old) (state S.Store conn.new) (λ _. ⊥) }
+{
+    let (held, parts) = match judge_records(alloc, conn, office, watch) {
+        Ok(judged) => judged,
+        Err(fault) => return Err(fault),
+    };
+    if let Err(fault) = fill(conn, office, &parts) {
+        return Err(fault);
+    }
+    match check_sums(conn, office, &parts, watch) {
+        Ok(()) => Ok(held),
+        Err(fault) => Err(fault),
+    }
+}
+
+// Brings a store of an earlier version to version 3 within a transaction, if its rows are those of the office: how many
+// records there are.
 fn raise_and_check<S: Alter, W: Watch>(
     alloc: Global,
     conn: &mut Connection<S>,
     office: &Office,
     text: &[u8],
+    version: StoreVersion,
     watch: &mut W,
 ) -> Result<u32, OpenFault>
-    requires first { HasCleanDisk (state S.Store conn.old) → HoldsTables StoreVersion.First (state S.Store conn.old).now }
-    requires first_text { HasCleanDisk (state S.Store conn.old) → KeepsText (KeepsVersion StoreVersion.First text.now) (state S.Store conn.old).now.trees }
+    requires earlier { IsEarlier version }
+    requires old_tables { HasCleanDisk (state S.Store conn.old) → HoldsTables version (state S.Store conn.old).now }
+    requires old_text { HasCleanDisk (state S.Store conn.old) → KeepsText (KeepsVersion version text.now) (state S.Store conn.old).now.trees }
     ensures counted { HasCleanDisk (state S.Store conn.new) → IfOk result (λ held. length (records_of (state S.Store conn.new).now.trees) ≡ held) }
-    ensures ready { HasCleanDisk (state S.Store conn.new) → OnOk result (IsReady (office_of office.now) text.now (state S.Store conn.old).now (state S.Store conn.new)) }
-    ensures cause { HasCleanDisk (state S.Store conn.new) → IfErr result (RowsRefuse StoreVersion.First (office_of office.now) (state S.Store conn.old).now.trees) }
+    ensures ready { HasCleanDisk (state S.Store conn.new) → OnOk result (IsReady version (office_of office.now) text.now (state S.Store conn.old).now (state S.Store conn.new)) }
+    ensures cause { HasCleanDisk (state S.Store conn.new) → IfErr result (RowsRefuse version (office_of office.now) (state S.Store conn.old).now.trees) }
     ensures kept { HasCleanDisk (state S.Store conn.new) → KeepsCommit (state S.Store conn.old) (state S.Store conn.new) }
     ensures crash { Survives (state S.Store conn.old) (state S.Store conn.new) (λ _. ⊥) }
 {
-    if let Err(error) = raise(conn, text) {
+    if let Err(error) = raise(conn, version) {
         return Err(fault_in(error));
     }
-    check_rows(alloc, conn, office, watch)
+    let held = match fill_and_check(alloc, conn, office, watch) {
+        Ok(held) => held,
+        Err(fault) => return Err(fault),
+    };
+    if let Err(error) = see_raised(conn, text) {
+        return Err(fault_in(error));
+    }
+    // it says that the file lists these tables
+    let _ = conn.schema();
+    Ok(held)
 }
 
 // Undoes the transaction, if it still stands.
@@ -267,25 +349,27 @@ fn undo<S: Alter>(conn: &mut Connection<S>)
     let _ = roll_back(conn);
 }
 
-// Brings a store of version 1 to version 2, if its rows are those of the office: how many records there are.
+// Brings a store of an earlier version to version 3, if its rows are those of the office: how many records there are.
 fn upgrade<S: Alter, W: Watch>(
     alloc: Global,
     conn: &mut Connection<S>,
     office: &Office,
     text: &[u8],
+    version: StoreVersion,
     watch: &mut W,
 ) -> Result<u32, OpenFault>
     requires idle { HasCleanDisk (state S.Store conn.old) → IsIdleAt (state S.Store conn.old) }
-    requires first { HasCleanDisk (state S.Store conn.old) → HoldsTables StoreVersion.First (state S.Store conn.old).now }
-    requires first_text { HasCleanDisk (state S.Store conn.old) → KeepsText (KeepsVersion StoreVersion.First text.now) (state S.Store conn.old).now.trees }
+    requires earlier { IsEarlier version }
+    requires old_tables { HasCleanDisk (state S.Store conn.old) → HoldsTables version (state S.Store conn.old).now }
+    requires old_text { HasCleanDisk (state S.Store conn.old) → KeepsText (KeepsVersion version text.now) (state S.Store conn.old).now.trees }
     ensures counted { HasCleanDisk (state S.Store conn.new) → IfOk result (λ held. length (records_of (state S.Store conn.new).now.trees) ≡ held) }
     ensures opened { HasCleanDisk (state S.Store conn.new) → OnOk result (IsOpened (office_of office.now) text.now (state S.Store conn.old).now (state S.Store conn.new)) }
-    ensures cause { HasCleanDisk (state S.Store conn.new) → IfErr result (RowsRefuse StoreVersion.First (office_of office.now) (state S.Store conn.old).now.trees) }
+    ensures cause { HasCleanDisk (state S.Store conn.new) → IfErr result (RowsRefuse version (office_of office.now) (state S.Store conn.old).now.trees) }
     ensures kept { HasCleanDisk (state S.Store conn.new) → OnErr result (KeepsCommit (state S.Store conn.old) (state S.Store conn.new)) }
     ensures clean { HasCleanDisk (state S.Store conn.new) → HasCleanDisk (state S.Store conn.old) }
-    ensures crash { Survives (state S.Store conn.old) (state S.Store conn.new) (MayBeUpgraded text.now (state S.Store conn.old).now) }
+    ensures crash { Survives (state S.Store conn.old) (state S.Store conn.new) (MayBeUpgraded (office_of office.now) text.now (state S.Store conn.old).now) }
 {
-    match raise_and_check(alloc, conn, office, text, watch) {
+    match raise_and_check(alloc, conn, office, text, version, watch) {
         Ok(held) => match commit(conn) {
             Ok(()) => {
                 watch.upgraded();
@@ -300,8 +384,8 @@ fn upgrade<S: Alter, W: Watch>(
     }
 }
 
-// What is there, behind the tables of version 1 and in them, judged, and a store of version 1 brought to version 2: how many
-// records there are.
+// What is there, behind the tables of version 1 and in them, judged, and a store of an earlier version brought to version 3:
+// how many records there are.
 fn check<S: Alter, W: Watch>(
     alloc: Global,
     conn: &mut Connection<S>,
@@ -316,17 +400,18 @@ fn check<S: Alter, W: Watch>(
     ensures cause { HasCleanDisk (state S.Store conn.new) → IfErr result (BegunRefuses (office_of office.now) text.now (state S.Store conn.old).now) }
     ensures kept { HasCleanDisk (state S.Store conn.new) → OnErr result (KeepsCommit (state S.Store conn.old) (state S.Store conn.new)) }
     ensures clean { HasCleanDisk (state S.Store conn.new) → HasCleanDisk (state S.Store conn.old) }
-    ensures crash { Survives (state S.Store conn.old) (state S.Store conn.new) (MayBeUpgraded text.now (state S.Store conn.old).now) }
+    ensures crash { Survives (state S.Store conn.old) (state S.Store conn.new) (MayBeUpgraded (office_of office.now) text.now (state S.Store conn.old).now) }
 {
     match check_office(conn, text) {
-        Ok(StoreVersion::First) => upgrade(alloc, conn, office, text, watch),
-        Ok(StoreVersion::Second) => check_rows(alloc, conn, office, watch),
+        Ok(StoreVersion::First) => upgrade(alloc, conn, office, text, StoreVersion::First, watch),
+        Ok(StoreVersion::Second) => upgrade(alloc, conn, office, text, StoreVersion::Second, watch),
+        Ok(StoreVersion::Third) => check_rows(alloc, conn, office, watch),
         Err(fault) => Err(fault),
     }
 }
 
-// Makes the tables where nothing is there, else judges what is there, and brings a store of version 1 to version 2: how
-// many records there are.
+// Makes the tables where nothing is there, else judges what is there, and brings a store of an earlier version to version 3:
+// how many records there are.
 fn make_or_check<S: Alter, W: Watch>(
     alloc: Global,
     conn: &mut Connection<S>,
@@ -340,7 +425,7 @@ fn make_or_check<S: Alter, W: Watch>(
     ensures cause { HasCleanDisk (state S.Store conn.new) → IfErr result (Refuses (office_of office.now) text.now (state S.Store conn.old).committed) }
     ensures kept { HasCleanDisk (state S.Store conn.new) → OnErr result (KeepsCommit (state S.Store conn.old) (state S.Store conn.new)) }
     ensures clean { HasCleanDisk (state S.Store conn.new) → HasCleanDisk (state S.Store conn.old) }
-    ensures crash { OnErr result (Survives (state S.Store conn.old) (state S.Store conn.new) (MayBeMade text.now (state S.Store conn.old))) }
+    ensures crash { OnErr result (Survives (state S.Store conn.old) (state S.Store conn.new) (MayBeMade (office_of office.now) text.now (state S.Store conn.old))) }
 {
     match look(conn) {
         Found::Nothing => match create(conn, text) {
@@ -390,7 +475,7 @@ pub(crate) fn prepare<S: Alter, W: Watch>(
     ensures was_open { HasCleanDisk (state S.Store conn.new) → OnOk result (IsTrue (state S.Store conn.old).is_open) }
     ensures kept { HasCleanDisk (state S.Store conn.new) → OnErr result (KeepsCommit (state S.Store conn.old) (state S.Store conn.new)) }
     ensures clean { HasCleanDisk (state S.Store conn.new) → HasCleanDisk (state S.Store conn.old) }
-    ensures crash { OnErr result (Survives (state S.Store conn.old) (state S.Store conn.new) (MayBeMade text.now (state S.Store conn.old))) }
+    ensures crash { OnErr result (Survives (state S.Store conn.old) (state S.Store conn.new) (MayBeMade (office_of office.now) text.now (state S.Store conn.old))) }
 {
     if let Err(error) = settle(conn) {
         return Err(fault_in(error));

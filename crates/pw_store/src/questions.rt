@@ -163,9 +163,10 @@ fn total_rows<S: Alter>(conn: &mut Connection<S>, key: &TotalKey) -> Result<Vec<
     match key {
         TotalKey::Energy {
             owner,
+            period,
             band,
             direction,
-        } => energy_rows(conn, *owner, *band, *direction),
+        } => energy_rows(conn, *owner, *period, *band, *direction),
         TotalKey::TopUps { account } => payment_rows(conn, *account),
     }
 }

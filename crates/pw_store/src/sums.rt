@@ -10,10 +10,10 @@ ghost use Rattle.pw_model.specs.declared.records.TotalKey.{TotalKey as TotalKeyS
 ghost use Rattle.pw_schema.specs.Calls.{Looks};
 ghost use Rattle.pw_schema.specs.Judges.{IsRest, is_above_zero};
 ghost use Rattle.pw_schema.specs.Tables.{IsOurs};
-ghost use Rattle.pw_store.specs.Content.{payment_tree, total_tree};
+ghost use Rattle.pw_store.specs.Content.{energy_tree, payment_tree, total_tree};
 ghost use Rattle.pw_store.specs.Opening.{HoldsKept, HoldsSums, HoldsTotals};
 ghost use Rattle.pw_store.specs.inner.Listings.{kept_as, kept_tree, listed_tree, shown_by};
-ghost use Rattle.pw_store.specs.inner.Opened.{RefusesUnless};
+ghost use Rattle.pw_store.specs.inner.Opened.{HoldsEnergies, RefusesUnless};
 ghost use Rattle.pw_store.specs.inner.Scanning.{IsOther};
 ghost use Rattle.pw_store.specs.inner.Sums.{AreAllNumbered, AreNumbered, Listed, TellsKept, TellsSums, TellsTotals, shown_id};
 ghost use Rattle.pw_store.specs.inner.Truth.{AreRead};
@@ -23,7 +23,7 @@ use crate::listings::{KeptKind, Listing, judge_listing};
 use crate::watch::{Part, Watch};
 use pw_model::{Entry, TotalKey};
 use pw_parts::Parts;
-use pw_schema::{KeptEntries, KeptTotals, Rowids, TotalKind};
+use pw_schema::{KeptEntries, KeptTotals, NoRows, Rowids, TotalKind};
 use pw_tariff::Office;
 use sqlite::{Alter, Connection};
 
@@ -68,17 +68,17 @@ fn read_kept<S: Alter>(
     }
 }
 
-// The totals of energy.
-fn read_energies<'a, S: Alter>(
+// The totals of energy by period.
+fn read_by_period<'a, S: Alter>(
     conn: &mut Connection<S>,
     office: &'a Office,
     expected: &'a [(TotalKey, u64)],
 ) -> Result<(usize, Option<&'a [(TotalKey, u64)]>), OpenFault>
     requires ours { HasCleanDisk (state S.Store conn.old) → IsOurs (state S.Store conn.old).now.schema }
-    ensures holds { HasCleanDisk (state S.Store conn.new) → OnOk result (HoldsTotals (office_of office.now) TotalKind.Energies ((state S.Store conn.old).now.trees total_tree)) }
-    ensures numbered { HasCleanDisk (state S.Store conn.new) → OnOk result (AreNumbered ((state S.Store conn.old).now.trees total_tree)) }
-    ensures tells { HasCleanDisk (state S.Store conn.new) → IfOk result (λ read. (found : List (TotalKeySpec × ℕ)) × TellsTotals TotalKind.Energies ((state S.Store conn.old).now.trees total_tree) found × IsRest (Some expected.now) (filter is_above_zero found) (option_copied read.1)) }
-    ensures cause { HasCleanDisk (state S.Store conn.new) → IfErr result (RefusesUnless (HoldsTotals (office_of office.now) TotalKind.Energies ((state S.Store conn.old).now.trees total_tree))) }
+    ensures holds { HasCleanDisk (state S.Store conn.new) → OnOk result (HoldsTotals (office_of office.now) TotalKind.Energies ((state S.Store conn.old).now.trees energy_tree)) }
+    ensures numbered { HasCleanDisk (state S.Store conn.new) → OnOk result (AreNumbered ((state S.Store conn.old).now.trees energy_tree)) }
+    ensures tells { HasCleanDisk (state S.Store conn.new) → IfOk result (λ read. (found : List (TotalKeySpec × ℕ)) × TellsTotals TotalKind.Energies ((state S.Store conn.old).now.trees energy_tree) found × IsRest (Some expected.now) (filter is_above_zero found) (option_copied read.1)) }
+    ensures cause { HasCleanDisk (state S.Store conn.new) → IfErr result (RefusesUnless (HoldsTotals (office_of office.now) TotalKind.Energies ((state S.Store conn.old).now.trees energy_tree))) }
     ensures looks { Looks result (state S.Store conn.old) (state S.Store conn.new) }
 {
     let mut energies = KeptTotals::new(office, TotalKind::Energies, Some(expected));
@@ -88,6 +88,44 @@ fn read_energies<'a, S: Alter>(
     };
     match check_rowids(conn, Listing::EnergyRowids) {
         Ok(()) => Ok((count, energies.rest())),
+        Err(fault) => Err(fault),
+    }
+}
+
+// Sees that no total is kept by band alone.
+fn check_old_totals<S: Alter>(conn: &mut Connection<S>) -> Result<(), OpenFault>
+    requires ours { HasCleanDisk (state S.Store conn.old) → IsOurs (state S.Store conn.old).now.schema }
+    ensures none { HasCleanDisk (state S.Store conn.new) → OnOk result ((state S.Store conn.old).now.trees total_tree ≡ []) }
+    ensures cause { HasCleanDisk (state S.Store conn.new) → IfErr result (RefusesUnless ((state S.Store conn.old).now.trees total_tree ≡ [])) }
+    ensures looks { Looks result (state S.Store conn.old) (state S.Store conn.new) }
+{
+    let mut judge = NoRows;
+    match judge_listing(conn, Listing::OldTotals, &mut judge) {
+        Ok(_) => Ok(()),
+        Err(fault) => Err(fault),
+    }
+}
+
+/// The totals of energy: how many there are by period, if there is none by band alone, and what of a list stands behind
+/// them, where it begins with those above 0.
+pub(crate) fn read_energies<'a, S: Alter>(
+    conn: &mut Connection<S>,
+    office: &'a Office,
+    expected: &'a [(TotalKey, u64)],
+) -> Result<(usize, Option<&'a [(TotalKey, u64)]>), OpenFault>
+    requires ours { HasCleanDisk (state S.Store conn.old) → IsOurs (state S.Store conn.old).now.schema }
+    ensures holds { HasCleanDisk (state S.Store conn.new) → OnOk result (HoldsTotals (office_of office.now) TotalKind.Energies ((state S.Store conn.old).now.trees energy_tree)) }
+    ensures none { HasCleanDisk (state S.Store conn.new) → OnOk result ((state S.Store conn.old).now.trees total_tree ≡ []) }
+    ensures numbered { HasCleanDisk (state S.Store conn.new) → OnOk result (AreNumbered ((state S.Store conn.old).now.trees energy_tree)) }
+    ensures tells { HasCleanDisk (state S.Store conn.new) → IfOk result (λ read. (found : List (TotalKeySpec × ℕ)) × TellsTotals TotalKind.Energies ((state S.Store conn.old).now.trees energy_tree) found × IsRest (Some expected.now) (filter is_above_zero found) (option_copied read.1)) }
+    ensures cause { HasCleanDisk (state S.Store conn.new) → IfErr result (RefusesUnless (HoldsEnergies (office_of office.now) (state S.Store conn.old).now.trees)) }
+    ensures looks { Looks result (state S.Store conn.old) (state S.Store conn.new) }
+{
+    if let Err(fault) = check_old_totals(conn) {
+        return Err(fault);
+    }
+    match read_by_period(conn, office, expected) {
+        Ok(energies) => Ok(energies),
         Err(fault) => Err(fault),
     }
 }

@@ -13,26 +13,28 @@ ghost use Rattle.pw_store.specs.inner.Seconds.{first_amount};
 
 use crate::changes::Change;
 use pw_schema::{direction_place, integer, owner_place, wide};
-use pw_tariff::{AccountId, BandId, Direction, Owner};
+use pw_tariff::{AccountId, BandId, Direction, Owner, PeriodId};
 use sqlite::{Alter, Connection, Error, Row};
 
 /// Takes the row of a total of energy away, if there is one.
 pub(crate) fn take_energy<S: Alter>(
     conn: &mut Connection<S>,
     owner: Owner,
+    period: PeriodId,
     band: BandId,
     direction: Direction,
 ) -> Result<usize, Error>
     requires inside { HasCleanDisk (state S.Store conn.old) → IsTrue (state S.Store conn.old).in_transaction }
     requires store { HasCleanDisk (state S.Store conn.old) → IsStore (state S.Store conn.old).now }
-    ensures done { HasCleanDisk (state S.Store conn.new) → OnOk result (Makes (changed (Change.TakeEnergy owner band direction)) (state S.Store conn.old) (state S.Store conn.new)) }
-    ensures taken { HasCleanDisk (state S.Store conn.new) → OnOk result (IsTaken (Change.TakeEnergy owner band direction) (state S.Store conn.new).now.trees) }
+    ensures done { HasCleanDisk (state S.Store conn.new) → OnOk result (Makes (changed (Change.TakeEnergy owner period band direction)) (state S.Store conn.old) (state S.Store conn.new)) }
+    ensures taken { HasCleanDisk (state S.Store conn.new) → OnOk result (IsTaken (Change.TakeEnergy owner period band direction) (state S.Store conn.new).now.trees) }
     ensures writes { Writes result (state S.Store conn.old) (state S.Store conn.new) }
 {
     conn.execute(
-        "DELETE FROM total WHERE owner = ?1 AND band = ?2 AND direction = ?3",
+        "DELETE FROM period_total WHERE owner = ?1 AND period = ?2 AND band = ?3 AND direction = ?4",
         &[
             integer(owner_place(owner)),
+            integer(u32::from(period.0)),
             integer(u32::from(band.0)),
             integer(direction_place(direction)),
         ],
@@ -43,21 +45,23 @@ pub(crate) fn take_energy<S: Alter>(
 pub(crate) fn put_energy<S: Alter>(
     conn: &mut Connection<S>,
     owner: Owner,
+    period: PeriodId,
     band: BandId,
     direction: Direction,
     wh: u64,
 ) -> Result<usize, Error>
     requires inside { HasCleanDisk (state S.Store conn.old) → IsTrue (state S.Store conn.old).in_transaction }
     requires store { HasCleanDisk (state S.Store conn.old) → IsStore (state S.Store conn.old).now }
-    requires free { HasCleanDisk (state S.Store conn.old) → IsFree (Change.PutEnergy owner band direction wh) (state S.Store conn.old).now.trees }
-    requires fits { Fits (Change.PutEnergy owner band direction wh) }
-    ensures done { HasCleanDisk (state S.Store conn.new) → OnOk result (Makes (changed (Change.PutEnergy owner band direction wh)) (state S.Store conn.old) (state S.Store conn.new)) }
+    requires free { HasCleanDisk (state S.Store conn.old) → IsFree (Change.PutEnergy owner period band direction wh) (state S.Store conn.old).now.trees }
+    requires fits { Fits (Change.PutEnergy owner period band direction wh) }
+    ensures done { HasCleanDisk (state S.Store conn.new) → OnOk result (Makes (changed (Change.PutEnergy owner period band direction wh)) (state S.Store conn.old) (state S.Store conn.new)) }
     ensures writes { Writes result (state S.Store conn.old) (state S.Store conn.new) }
 {
     conn.execute(
-        "INSERT INTO total (owner, band, direction, wh) VALUES (?1, ?2, ?3, ?4)",
+        "INSERT INTO period_total (owner, period, band, direction, wh) VALUES (?1, ?2, ?3, ?4, ?5)",
         &[
             integer(owner_place(owner)),
+            integer(u32::from(period.0)),
             integer(u32::from(band.0)),
             integer(direction_place(direction)),
             wide(wh),
@@ -69,17 +73,19 @@ pub(crate) fn put_energy<S: Alter>(
 pub(crate) fn energy_rows<S: Alter>(
     conn: &mut Connection<S>,
     owner: Owner,
+    period: PeriodId,
     band: BandId,
     direction: Direction,
 ) -> Result<Vec<Row>, Error>
     requires store { HasCleanDisk (state S.Store conn.old) → IsStore (state S.Store conn.old).now }
-    ensures amount { HasCleanDisk (state S.Store conn.new) → IfOk result (λ rows. length rows.items ≤ 1 → first_amount rows.items ≡ total_in (state S.Store conn.old).now.trees (total.Energy owner band direction)) }
+    ensures amount { HasCleanDisk (state S.Store conn.new) → IfOk result (λ rows. length rows.items ≤ 1 → first_amount rows.items ≡ total_in (state S.Store conn.old).now.trees (total.Energy owner period band direction)) }
     ensures asks { Asks result (state S.Store conn.old) (state S.Store conn.new) }
 {
     conn.query_all(
-        "SELECT wh FROM total WHERE owner = ?1 AND band = ?2 AND direction = ?3",
+        "SELECT wh FROM period_total WHERE owner = ?1 AND period = ?2 AND band = ?3 AND direction = ?4",
         &[
             integer(owner_place(owner)),
+            integer(u32::from(period.0)),
             integer(u32::from(band.0)),
             integer(direction_place(direction)),
         ],

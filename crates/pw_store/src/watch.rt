@@ -20,7 +20,7 @@ pub trait Watch {
     /// So many rows of a part have been read, and are those of the office.
     fn checked(&mut self, part: Part, rows: usize);
 
-    /// The store was of version 1, and is one of version 2 now.
+    /// The store was of an earlier version, and is one of version 3 now.
     fn upgraded(&mut self);
 }
 

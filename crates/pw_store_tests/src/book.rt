@@ -11,6 +11,7 @@ mod counted;
 mod kept;
 mod limits;
 mod memory;
+mod periods;
 mod questions;
 mod sql;
 mod stores;

@@ -9,7 +9,8 @@ use pw_model::ReadingRow;
 use pw_obis::Register;
 use pw_shelf::Shelf;
 use pw_store::{OpenFault, SqlShelf};
-use pw_tests::sample::{FIRST, FIVE, KINDS, METER, NEW_YEAR, SECOND, SEVEN, SIX};
+use pw_tariff::{BandId, Direction, Owner};
+use pw_tests::sample::{FIRST, FIVE, KINDS, METER, NEW_YEAR, PERIOD, SECOND, SEVEN, SIX};
 use sqlite::{Alter, Connection, FileStore, Files, Options};
 use sqlite_disk::{Crash, Disk, Fuse, Memory};
 use std::alloc::Global;
@@ -62,6 +63,8 @@ const DISPUTED_READINGS: [Upload; 4] = [FIRST_OWNER, TOPUP, TWO_READINGS, AT_SIX
 const READINGS: [Upload; 1] = [TWO_READINGS];
 
 const WITHDRAWALS: [Upload; 1] = [TWO_WITHDRAWALS];
+
+const SETTLED_READINGS: [Upload; 5] = [FIRST_OWNER, TOPUP, TWO_READINGS, AT_SIX, TWO_WITHDRAWALS];
 
 const PASSING_ON: [Upload; 1] = [MID_PAIR];
 
@@ -154,8 +157,19 @@ const SETTLED: Told = Told {
     ],
 };
 
-// What makes a store one of version 1, which knows no withdrawals.
-const TO_VERSION_1: [&str; 4] = [
+// What makes a store with two withdrawals one of version 2, whose totals of energy have no period.
+const TO_VERSION_2: [&str; 4] = [
+    "INSERT INTO total (owner, band, direction, wh) VALUES (1, 0, 0, 1000)",
+    "INSERT INTO total (owner, band, direction, wh) VALUES (1, 1, 0, 2001)",
+    "DROP TABLE period_total",
+    "UPDATE office SET version = 2",
+];
+
+// What makes a store with both readings one of version 1, which knows no withdrawals either.
+const TO_VERSION_1: [&str; 7] = [
+    "INSERT INTO total (owner, band, direction, wh) VALUES (1, 0, 0, 1500)",
+    "INSERT INTO total (owner, band, direction, wh) VALUES (1, 1, 0, 1501)",
+    "DROP TABLE period_total",
     "DROP TABLE withdrawn_reading",
     "DROP TABLE withdrawn_assignment",
     "DROP TABLE withdrawn_topup",
@@ -259,10 +273,21 @@ fn are_rows(told: Result<Vec<ReadingRow>, BookFault>, wanted: &[Row]) -> bool {
     }
 }
 
+// Whether this is an energy, and that of the one period.
+fn is_energy<S: Shelf>(
+    rt: &impl Abort,
+    book: &mut Book<S>,
+    (owner, band, direction): (Owner, BandId, Direction),
+    watt_hours: u64,
+) -> bool {
+    asking::energy(rt, book, owner, band, direction) == Ok(watt_hours)
+        && asking::energy_in(rt, book, owner, PERIOD, band, direction) == Ok(watt_hours)
+}
+
 // Whether these are the energies of `KINDS`.
 fn are_energies<S: Shelf>(rt: &impl Abort, book: &mut Book<S>, wanted: &[u64; 12]) -> bool {
-    for ((owner, band, direction), watt_hours) in KINDS.iter().zip(wanted.iter()) {
-        if asking::energy(rt, book, *owner, *band, *direction) != Ok(*watt_hours) {
+    for (kind, watt_hours) in KINDS.iter().zip(wanted.iter()) {
+        if !is_energy(rt, book, *kind, *watt_hours) {
             return false;
         }
     }
@@ -527,17 +552,36 @@ fn new_files(rt: &impl Abort, alloc: Global, uploads: &[Upload], closes: bool) -
     files
 }
 
-// What the files of a store of version 1 hold, of which the log has what made it one.
-fn stored_in_version_1(rt: &impl Abort, alloc: Global, uploads: &[Upload]) -> Image {
+// What the files of a store of an older version hold, of which the log has what made it one.
+fn stored_in_older_version(
+    rt: &impl Abort,
+    alloc: Global,
+    uploads: &[Upload],
+    statements: &[&str],
+) -> Image {
     let files = new_files(rt, alloc, uploads, true);
     match connected(rt, alloc, files, LONG) {
         Ok(mut connection) => {
-            for statement in &TO_VERSION_1 {
+            for statement in statements {
                 execute(rt, &mut connection, statement);
             }
             image_of(rt, alloc, &files_left(connection))
         }
         Err(_) => panic!(rt; "no connection"),
+    }
+}
+
+// Each file stops at each of its calls, as a store of an older version is opened, which tells this.
+fn opening_stops(rt: &impl Abort, alloc: Global, store: &Image, told: Told) {
+    for (pages, db_end) in [(LONG, End::NoConnection), (SHORT, End::NoStore)] {
+        let case = Case {
+            uploads: &[],
+            before: told,
+            behind: told,
+            pages,
+        };
+        stops_at_each(rt, alloc, store, &case, true, End::NoStore);
+        stops_at_each(rt, alloc, store, &case, false, db_end);
     }
 }
 
@@ -582,21 +626,23 @@ fn two_withdrawals_are_there_or_none(rt: HostRuntime) {
     stops_with_each_log(&rt, alloc, &store, &WITHDRAWALS, [IN_DISPUTE, SETTLED]);
 }
 
-// bears on: pw_schema raise.rt raise_to_second crash
+// bears on: pw_schema raise.rt raise_to_third crash
 // bears on: pw_store laws.rt upgraded_stores_open ensures
 // bears on: pw_store laws.rt upgraded_stores_hold_the_same ensures
 #[test]
 fn a_store_of_version_1_holds_the_same_wherever_its_opening_stops(rt: HostRuntime) {
     let alloc = rt.alloc();
-    let store = stored_in_version_1(&rt, alloc, &PAYMENT_AND_READINGS);
-    for (pages, db_end) in [(LONG, End::NoConnection), (SHORT, End::NoStore)] {
-        let case = Case {
-            uploads: &[],
-            before: BEHIND_READINGS,
-            behind: BEHIND_READINGS,
-            pages,
-        };
-        stops_at_each(&rt, alloc, &store, &case, true, End::NoStore);
-        stops_at_each(&rt, alloc, &store, &case, false, db_end);
-    }
+    let store = stored_in_older_version(&rt, alloc, &PAYMENT_AND_READINGS, &TO_VERSION_1);
+    opening_stops(&rt, alloc, &store, BEHIND_READINGS);
+}
+
+// bears on: pw_schema raise.rt raise_to_third crash
+// bears on: pw_schema raise.rt raise_to_third raised
+// bears on: pw_store laws.rt upgraded_stores_open ensures
+// bears on: pw_store laws.rt upgraded_stores_hold_the_same ensures
+#[test]
+fn a_store_of_version_2_holds_the_same_wherever_its_opening_stops(rt: HostRuntime) {
+    let alloc = rt.alloc();
+    let store = stored_in_older_version(&rt, alloc, &SETTLED_READINGS, &TO_VERSION_2);
+    opening_stops(&rt, alloc, &store, SETTLED);
 }

@@ -45,7 +45,7 @@ fn new_store(rt: &impl Abort, alloc: Global) -> Connection<MemStore> {
 // Whether the tables are ours behind a statement.
 fn are_ours_behind(rt: &impl Abort, conn: &mut Connection<MemStore>, statement: &str) -> bool {
     execute(rt, conn, statement);
-    is_of(conn.schema(), StoreVersion::Second)
+    is_of(conn.schema(), StoreVersion::Third)
 }
 
 // The rows of `office`.
@@ -58,8 +58,9 @@ fn office_rows(rt: &impl Abort, conn: &mut Connection<MemStore>) -> Vec<Row> {
 fn is_text_kept(rt: &impl Abort, conn: &mut Connection<MemStore>) -> bool {
     let kept = office_rows(rt, conn);
     let rows = kept.as_slice();
-    keeps_office(rows, StoreVersion::Second, b"text".as_slice())
-        && !keeps_office(rows, StoreVersion::Second, b"test".as_slice())
+    keeps_office(rows, StoreVersion::Third, b"text".as_slice())
+        && !keeps_office(rows, StoreVersion::Third, b"test".as_slice())
+        && !keeps_office(rows, StoreVersion::Second, b"text".as_slice())
         && !keeps_office(rows, StoreVersion::First, b"text".as_slice())
 }
 
@@ -73,9 +74,10 @@ fn is_text_kept(rt: &impl Abort, conn: &mut Connection<MemStore>) -> bool {
 #[test]
 fn tables_that_are_made_are_ours(rt: HostRuntime) {
     let conn = memory(&rt, rt.alloc());
-    assert!(rt; is_nothing(conn.schema()) && !is_of(conn.schema(), StoreVersion::Second));
+    assert!(rt; is_nothing(conn.schema()) && !is_of(conn.schema(), StoreVersion::Third));
     let mut conn = new_store(&rt, rt.alloc());
-    assert!(rt; is_of(conn.schema(), StoreVersion::Second) && !is_nothing(conn.schema()));
+    assert!(rt; is_of(conn.schema(), StoreVersion::Third) && !is_nothing(conn.schema()));
+    assert!(rt; !is_of(conn.schema(), StoreVersion::Second));
     assert!(rt; is_text_kept(&rt, &mut conn));
     let other = "CREATE TABLE other (id INTEGER) STRICT";
     assert!(rt; !are_ours_behind(&rt, &mut conn, other));

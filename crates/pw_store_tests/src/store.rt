@@ -13,7 +13,7 @@ use pw_store::laws::{closed_is_opened_again, left_is_opened_again};
 use pw_store::{OpenFault, SqlShelf};
 use pw_tariff::{AccountId, BandId, Direction, Office};
 use pw_tests::offices::SAMPLE;
-use pw_tests::sample::METER;
+use pw_tests::sample::{METER, PERIOD};
 use pw_time::Instant;
 use sqlite::{Connection, MemStore};
 use std::alloc::Global;
@@ -22,6 +22,7 @@ use std::test::Fail;
 
 const ENERGY: TotalKey = TotalKey::Energy {
     owner: Some(AccountId(0)),
+    period: PERIOD,
     band: BandId(0),
     direction: Direction::Import,
 };
@@ -207,23 +208,41 @@ const RECORDS: [&str; 9] = [
     "INSERT INTO start VALUES (0, 1704067200, 1)",
     "INSERT INTO point VALUES (0, 1, 1704067200, 1000)",
     "INSERT INTO point VALUES (0, 1, 1704070800, 1100)",
-    "INSERT INTO total VALUES (1, 0, 0, 100)",
+    "INSERT INTO period_total VALUES (1, 0, 0, 0, 100)",
     "INSERT INTO total_topup VALUES (0, 500)",
 ];
 
 // What makes these sums untrue, and what makes them true again.
-const DAMAGES: [(&str, &str); 13] = [
-    ("UPDATE total SET wh = 101", "UPDATE total SET wh = 100"),
-    ("UPDATE total SET wh = 99", "UPDATE total SET wh = 100"),
-    ("UPDATE total SET wh = 0", "UPDATE total SET wh = 100"),
+const DAMAGES: [(&str, &str); 16] = [
     (
-        "DELETE FROM total",
+        "UPDATE period_total SET wh = 101",
+        "UPDATE period_total SET wh = 100",
+    ),
+    (
+        "UPDATE period_total SET wh = 99",
+        "UPDATE period_total SET wh = 100",
+    ),
+    (
+        "UPDATE period_total SET wh = 0",
+        "UPDATE period_total SET wh = 100",
+    ),
+    (
+        "DELETE FROM period_total",
+        "INSERT INTO period_total VALUES (1, 0, 0, 0, 100)",
+    ),
+    (
+        "INSERT INTO period_total VALUES (2, 0, 0, 0, 1)",
+        "DELETE FROM period_total WHERE owner = 2",
+    ),
+    (
+        "UPDATE period_total SET period = 1",
+        "UPDATE period_total SET period = 0",
+    ),
+    (
         "INSERT INTO total VALUES (1, 0, 0, 100)",
+        "DELETE FROM total",
     ),
-    (
-        "INSERT INTO total VALUES (2, 0, 0, 1)",
-        "DELETE FROM total WHERE owner = 2",
-    ),
+    ("INSERT INTO total VALUES (1, 0, 0, 0)", "DELETE FROM total"),
     (
         "UPDATE total_topup SET cents = 501",
         "UPDATE total_topup SET cents = 500",

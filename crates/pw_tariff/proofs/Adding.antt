@@ -5,7 +5,7 @@ use Rattle.std.proofs.lemmas.Bool.{cases_lt, cases_eq, eq-eqb, ne_eqb}
 use Rattle.pw_tariff.specs.declared.ids.AccountId.{AccountId}
 use Rattle.pw_tariff.specs.declared.cells.Cell.{Cell}
 use Rattle.pw_tariff.specs.Owners.{same_owner}
-use Rattle.pw_tariff.specs.Cells.{owner_place, IsBeforeClass, AreInOrder, AreAboveZero, is_of, energy_in, energy_of_all}
+use Rattle.pw_tariff.specs.Cells.{owner_place, IsBeforeTariff, IsBeforeCell, AreInOrder, AreAboveZero, is_of, energy_in, energy_of_all}
 use Rattle.pw_tariff.specs.inner.Shares.{IsAdded}
 
 -- ---- whose cell it is
@@ -19,48 +19,64 @@ same-place (Some a) (Some b) =
       | inr d ↦ (let f : a.0 + 1 ≡ b.0 + 1 → ⊥ = λ e. d (omega arith) in rw (ne_eqb a.0 b.0 d, ne_eqb (a.0 + 1) (b.0 + 1) f))
     ]
 
-pub is-of : (o : Option AccountId) (b : ℕ) (c : Cell) → owner_place c.owner ≡ owner_place o → c.band.0 ≡ b → is_of o b c ≡ true
-is-of o b c h k = rw (same-place c.owner o, eq-eqb _ _ h, eq-eqb _ _ k)
+pub is-of : (o : Option AccountId) (p b : ℕ) (c : Cell) → owner_place c.owner ≡ owner_place o → c.period.0 ≡ p → c.band.0 ≡ b → is_of o p b c ≡ true
+is-of o p b c h k l = rw (same-place c.owner o, eq-eqb _ _ h, eq-eqb _ _ k, eq-eqb _ _ l)
 
-pub is-not : (o : Option AccountId) (b : ℕ) (c : Cell) → (owner_place c.owner ≡ owner_place o → c.band.0 ≡ b → ⊥) → is_of o b c ≡ false
-is-not o b c h =
+pub is-not : (o : Option AccountId) (p b : ℕ) (c : Cell) → (owner_place c.owner ≡ owner_place o → c.period.0 ≡ p → c.band.0 ≡ b → ⊥) → is_of o p b c ≡ false
+is-not o p b c h =
     elim (cases_eq (owner_place c.owner) (owner_place o)) [
-      | inl e ↦ rw (same-place c.owner o, eq-eqb _ _ e, ne_eqb c.band.0 b (h e))
       | inr d ↦ rw (same-place c.owner o, ne_eqb _ _ d)
+      | inl e ↦ elim (cases_eq c.period.0 p) [
+        | inr d ↦ rw (same-place c.owner o, eq-eqb _ _ e, ne_eqb c.period.0 p d)
+        | inl f ↦ rw (same-place c.owner o, eq-eqb _ _ e, eq-eqb _ _ f, ne_eqb c.band.0 b (h e f))
+      ]
     ]
 
-pub data IsOf (o : Option AccountId) (b : ℕ) (c : Cell) : Type 0 where
-  here : is_of o b c ≡ true → owner_place c.owner ≡ owner_place o → c.band.0 ≡ b → IsOf o b c
-  other : is_of o b c ≡ false → (owner_place c.owner ≡ owner_place o → c.band.0 ≡ b → ⊥) → IsOf o b c
+pub data IsOf (o : Option AccountId) (p b : ℕ) (c : Cell) : Type 0 where
+  here : is_of o p b c ≡ true → owner_place c.owner ≡ owner_place o → c.period.0 ≡ p → c.band.0 ≡ b → IsOf o p b c
+  other : is_of o p b c ≡ false → (owner_place c.owner ≡ owner_place o → c.period.0 ≡ p → c.band.0 ≡ b → ⊥) → IsOf o p b c
 
-pub whose : (o : Option AccountId) (b : ℕ) (c : Cell) → IsOf o b c
-whose o b c =
+pub whose : (o : Option AccountId) (p b : ℕ) (c : Cell) → IsOf o p b c
+whose o p b c =
     elim (cases_eq (owner_place c.owner) (owner_place o)) [
-      | inr d ↦ other (is-not o b c (λ e f. d e)) (λ e f. d e)
-      | inl e ↦ elim (cases_eq c.band.0 b) [
-        | inl f ↦ here (is-of o b c e f) e f
-        | inr d ↦ other (is-not o b c (λ x f. d f)) (λ x f. d f)
+      | inr d ↦ other (is-not o p b c (λ e f g. d e)) (λ e f g. d e)
+      | inl e ↦ elim (cases_eq c.period.0 p) [
+        | inr d ↦ other (is-not o p b c (λ x f g. d f)) (λ x f g. d f)
+        | inl f ↦ elim (cases_eq c.band.0 b) [
+          | inl g ↦ here (is-of o p b c e f g) e f g
+          | inr d ↦ other (is-not o p b c (λ x y g. d g)) (λ x y g. d g)
+        ]
       ]
     ]
 
 -- ---- the order
-differs : (c : Cell) (o : Option AccountId) (b : ℕ) → IsBeforeClass c o b → owner_place c.owner ≡ owner_place o → c.band.0 ≡ b → ⊥
-differs c o b (inl h) e f = absurd (omega arith)
-differs c o b (inr h) e f = let k : c.band.0 < b = h.1 in absurd (omega arith)
+tariff-differs : (c d : Cell) → IsBeforeTariff c d.period.0 d.band.0 → c.period.0 ≡ d.period.0 → c.band.0 ≡ d.band.0 → ⊥
+tariff-differs c d (inl h) f g = absurd (omega arith)
+tariff-differs c d (inr h) f g = let k : c.band.0 < d.band.0 = h.1 in absurd (omega arith)
 
-follows : (x c : Cell) (b : Cell) → IsBeforeClass x c.owner c.band.0 → IsBeforeClass c b.owner b.band.0 → IsBeforeClass x b.owner b.band.0
+differs : (c d : Cell) → IsBeforeCell c d → owner_place c.owner ≡ owner_place d.owner → c.period.0 ≡ d.period.0 → c.band.0 ≡ d.band.0 → ⊥
+differs c d (inl h) e f g = absurd (omega arith)
+differs c d (inr h) e f g = tariff-differs c d h.1 f g
+
+tariff-follows : (x c b : Cell) → IsBeforeTariff x c.period.0 c.band.0 → IsBeforeTariff c b.period.0 b.band.0 → IsBeforeTariff x b.period.0 b.band.0
+tariff-follows x c b (inl h) (inl k) = inl (omega arith)
+tariff-follows x c b (inl h) (inr k) = let e = k.0 in inl (omega (arith, h, e))
+tariff-follows x c b (inr h) (inl k) = let e = h.0 in inl (omega (arith, k, e))
+tariff-follows x c b (inr h) (inr k) = inr (h.0 ∙ k.0, let p : x.band.0 < c.band.0 = h.1 in let q : c.band.0 < b.band.0 = k.1 in omega arith)
+
+follows : (x c b : Cell) → IsBeforeCell x c → IsBeforeCell c b → IsBeforeCell x b
 follows x c b (inl h) (inl k) = inl (omega arith)
 follows x c b (inl h) (inr k) = let e = k.0 in inl (omega (arith, h, e))
 follows x c b (inr h) (inl k) = let e = h.0 in inl (omega (arith, k, e))
-follows x c b (inr h) (inr k) = inr (h.0 ∙ k.0, let p : x.band.0 < c.band.0 = h.1 in let q : c.band.0 < b.band.0 = k.1 in omega arith)
+follows x c b (inr h) (inr k) = inr (h.0 ∙ k.0, tariff-follows x c b h.1 k.1)
 
 -- what stands neither before a class nor at it stands behind it
-pub behind : (c x : Cell) → (IsBeforeClass c x.owner x.band.0 → ⊥) → (owner_place c.owner ≡ owner_place x.owner → c.band.0 ≡ x.band.0 → ⊥) → IsBeforeClass x c.owner c.band.0
-behind c x n d =
-    elim (cases_lt (owner_place c.owner) (owner_place x.owner)) [
+tariff-behind : (c x : Cell) → (IsBeforeTariff c x.period.0 x.band.0 → ⊥) → (c.period.0 ≡ x.period.0 → c.band.0 ≡ x.band.0 → ⊥) → IsBeforeTariff x c.period.0 c.band.0
+tariff-behind c x n d =
+    elim (cases_lt c.period.0 x.period.0) [
       | inl l ↦ absurd (n (inl l))
-      | inr g ↦ elim (cases_eq (owner_place c.owner) (owner_place x.owner)) [
-        | inr m ↦ inl (let m2 : owner_place x.owner ≡ owner_place c.owner → ⊥ = λ e. m (sym e) in omega arith)
+      | inr g ↦ elim (cases_eq c.period.0 x.period.0) [
+        | inr m ↦ inl (let m2 : x.period.0 ≡ c.period.0 → ⊥ = λ e. m (sym e) in omega arith)
         | inl e ↦ elim (cases_lt c.band.0 x.band.0) [
           | inl l ↦ absurd (n (inr (e, l)))
           | inr h ↦ inr (sym e, elim (cases_eq c.band.0 x.band.0) [ inl f ↦ absurd (d e f) | inr f ↦ (let f2 : x.band.0 ≡ c.band.0 → ⊥ = λ z. f (sym z) in omega arith) ])
@@ -68,9 +84,19 @@ behind c x n d =
       ]
     ]
 
+pub behind : (c x : Cell) → (IsBeforeCell c x → ⊥) → (owner_place c.owner ≡ owner_place x.owner → c.period.0 ≡ x.period.0 → c.band.0 ≡ x.band.0 → ⊥) → IsBeforeCell x c
+behind c x n d =
+    elim (cases_lt (owner_place c.owner) (owner_place x.owner)) [
+      | inl l ↦ absurd (n (inl l))
+      | inr g ↦ elim (cases_eq (owner_place c.owner) (owner_place x.owner)) [
+        | inr m ↦ inl (let m2 : owner_place x.owner ≡ owner_place c.owner → ⊥ = λ e. m (sym e) in omega arith)
+        | inl e ↦ inr (sym e, tariff-behind c x (λ h. n (inr (e, h))) (d e))
+      ]
+    ]
+
 abbrev FirstBehind : Cell → List Cell → Type 0
 FirstBehind x [] = Unit {0}
-FirstBehind x (c ∷ cs) = IsBeforeClass x c.owner c.band.0
+FirstBehind x (c ∷ cs) = IsBeforeCell x c
 
 order-cons : (x : Cell) (cs : List Cell) → FirstBehind x cs → AreInOrder cs → AreInOrder (x ∷ cs)
 order-cons x [] f h = tt
@@ -89,24 +115,24 @@ order-skip x c [] h = tt
 order-skip x c (b ∷ cs) h = (follows x c b h.0 h.1.0, h.1.1)
 
 -- a class has nothing behind a cell of its own
-pub none-behind : (x : Cell) (cs : List Cell) (o : Option AccountId) (b : ℕ) → AreInOrder (x ∷ cs) → owner_place x.owner ≡ owner_place o → x.band.0 ≡ b → energy_in cs o b ≡ 0
+pub none-behind : (x : Cell) (cs : List Cell) (o : Option AccountId) (p b : ℕ) → AreInOrder (x ∷ cs) → owner_place x.owner ≡ owner_place o → x.period.0 ≡ p → x.band.0 ≡ b → energy_in cs o p b ≡ 0
 unfolding energy_in
-none-behind x [] o b h e f = refl
-none-behind x (c ∷ cs) o b h e f =
-    let n : is_of o b c ≡ false = is-not o b c (λ i j. differs x c.owner c.band.0 h.0 (e ∙ sym i) (f ∙ sym j)) in
-    rw n (none-behind x cs o b (order-skip x c cs h) e f)
+none-behind x [] o p b h e f g = refl
+none-behind x (c ∷ cs) o p b h e f g =
+    let n : is_of o p b c ≡ false = is-not o p b c (λ i j k. differs x c h.0 (e ∙ sym i) (f ∙ sym j) (g ∙ sym k)) in
+    rw n (none-behind x cs o p b (order-skip x c cs h) e f g)
 
 -- ---- a cell of a new class
-first-insert : (c x : Cell) (cs : List Cell) (k : ℕ) → k ≤ length cs → IsBeforeClass c x.owner x.band.0 → FirstBehind c cs → FirstBehind c (insert cs k x)
+first-insert : (c x : Cell) (cs : List Cell) (k : ℕ) → k ≤ length cs → IsBeforeCell c x → FirstBehind c cs → FirstBehind c (insert cs k x)
 first-insert c x cs zero l h f = h
 first-insert c x [] (suc k) l h f = absurd (omega arith)
 first-insert c x (b ∷ cs) (suc k) l h f = f
 
 abbrev pub AllBefore : List Cell → ℕ → Cell → Type 0
-AllBefore cs k x = (j : ℕ) (d : Cell) → j < k → IsBeforeClass (get_or cs j d) x.owner x.band.0
+AllBefore cs k x = (j : ℕ) (d : Cell) → j < k → IsBeforeCell (get_or cs j d) x
 
 abbrev pub StandsBehind : List Cell → ℕ → Cell → Type 0
-StandsBehind cs k x = (d : Cell) → k < length cs → IsBeforeClass x (get_or cs k d).owner (get_or cs k d).band.0
+StandsBehind cs k x = (d : Cell) → k < length cs → IsBeforeCell x (get_or cs k d)
 
 all-before-rest : (c x : Cell) (cs : List Cell) (k : ℕ) → AllBefore (c ∷ cs) (suc k) x → AllBefore cs k x
 all-before-rest c x cs k h j d l = h (suc j) d (omega arith)
@@ -131,21 +157,21 @@ elim-first : (cs : List Cell) (x : Cell) → StandsBehind cs 0 x → FirstBehind
 elim-first [] x s = tt
 elim-first (c ∷ cs) x s = s c (omega arith)
 
-insert-energy : (cs : List Cell) (k : ℕ) (x : Cell) (o : Option AccountId) (b : ℕ) → k ≤ length cs → AllBefore cs k x → StandsBehind cs k x → AreInOrder cs →
-    energy_in (insert cs k x) o b ≡ energy_in cs o b + cond (is_of o b x) x.wh 0
+insert-energy : (cs : List Cell) (k : ℕ) (x : Cell) (o : Option AccountId) (p b : ℕ) → k ≤ length cs → AllBefore cs k x → StandsBehind cs k x → AreInOrder cs →
+    energy_in (insert cs k x) o p b ≡ energy_in cs o p b + cond (is_of o p b x) x.wh 0
 unfolding energy_in
-insert-energy cs zero x o b l a s h =
-    elim (whose o b x) [
-      | here t e f ↦ (let z : energy_in cs o b ≡ 0 = none-behind x cs o b (order-cons x cs (elim-first cs x s) h) e f in rw t (omega arith))
+insert-energy cs zero x o p b l a s h =
+    elim (whose o p b x) [
+      | here t e f g ↦ (let z : energy_in cs o p b ≡ 0 = none-behind x cs o p b (order-cons x cs (elim-first cs x s) h) e f g in rw t (omega arith))
       | other t n ↦ rw t (omega arith)
     ]
-insert-energy [] (suc k) x o b l a s h = absurd (omega arith)
-insert-energy (c ∷ cs) (suc k) x o b l a s h =
-    elim (whose o b c) [
-      | here t e f ↦ (
-          let n : is_of o b x ≡ false = is-not o b x (λ i j. differs c x.owner x.band.0 (a 0 c (omega arith)) (e ∙ sym i) (f ∙ sym j)) in
+insert-energy [] (suc k) x o p b l a s h = absurd (omega arith)
+insert-energy (c ∷ cs) (suc k) x o p b l a s h =
+    elim (whose o p b c) [
+      | here t e f g ↦ (
+          let n : is_of o p b x ≡ false = is-not o p b x (λ i j m. differs c x (a 0 c (omega arith)) (e ∙ sym i) (f ∙ sym j) (g ∙ sym m)) in
           rw (t, n) (omega arith))
-      | other t n ↦ rw t (insert-energy cs k x o b (omega arith) (all-before-rest c x cs k a) (behind-rest c x cs k s) (order-rest c cs h))
+      | other t n ↦ rw t (insert-energy cs k x o p b (omega arith) (all-before-rest c x cs k a) (behind-rest c x cs k s) (order-rest c cs h))
     ]
 
 insert-whole : (cs : List Cell) (k : ℕ) (x : Cell) → k ≤ length cs → energy_of_all (insert cs k x) ≡ energy_of_all cs + x.wh
@@ -158,13 +184,13 @@ pub inserted : (cs : List Cell) (k : ℕ) (x : Cell) → k ≤ length cs → 0 <
 inserted cs k x l p a s h z = record {
   in_order = insert-order cs k x l a s h;
   above_zero = insert-above cs k x l p z;
-  energy = λ o b. insert-energy cs k x o b l a s h;
+  energy = λ o n b. insert-energy cs k x o n b l a s h;
   whole = insert-whole cs k x l;
 }
 
 -- ---- more in a cell that stands already
 abbrev pub more : Cell → Cell → Cell
-more c x = record { owner = c.owner; band = c.band; wh = c.wh + x.wh }
+more c x = record { owner = c.owner; period = c.period; band = c.band; wh = c.wh + x.wh }
 
 set-first : (b c x : Cell) (cs : List Cell) (k : ℕ) → FirstBehind b cs → k < length cs → c ≡ get_or cs k c → FirstBehind b (set cs k (more c x))
 set-first b c x [] k f l e = absurd (omega arith)
@@ -173,7 +199,7 @@ set-first b c x (a ∷ cs) (suc k) f l e = f
 
 head-same : (a c x : Cell) (cs : List Cell) → c ≡ a → FirstBehind a cs → FirstBehind (more c x) cs
 head-same a c x [] e f = tt
-head-same a c x (b ∷ cs) e f = let P : Cell → Type 0 = λ y. IsBeforeClass y b.owner b.band.0 in subst P (sym e) f
+head-same a c x (b ∷ cs) e f = let P : Cell → Type 0 = λ y. IsBeforeCell y b in subst P (sym e) f
 
 set-order : (cs : List Cell) (k : ℕ) (c x : Cell) → k < length cs → c ≡ get_or cs k c → AreInOrder cs → AreInOrder (set cs k (more c x))
 set-order [] k c x l e h = absurd (omega arith)
@@ -185,27 +211,27 @@ set-above [] k c x l e p h = absurd (omega arith)
 set-above (a ∷ cs) zero c x l e p h = (let q : 0 < c.wh + x.wh = omega arith in q, h.1)
 set-above (a ∷ cs) (suc k) c x l e p h = (h.0, set-above cs k c x (omega arith) e p h.1)
 
-set-energy : (cs : List Cell) (k : ℕ) (c x : Cell) (o : Option AccountId) (b : ℕ) → k < length cs → c ≡ get_or cs k c → AllBefore cs k x →
-    owner_place c.owner ≡ owner_place x.owner → c.band.0 ≡ x.band.0 →
-    energy_in (set cs k (more c x)) o b ≡ energy_in cs o b + cond (is_of o b x) x.wh 0
+set-energy : (cs : List Cell) (k : ℕ) (c x : Cell) (o : Option AccountId) (p b : ℕ) → k < length cs → c ≡ get_or cs k c → AllBefore cs k x →
+    owner_place c.owner ≡ owner_place x.owner → c.period.0 ≡ x.period.0 → c.band.0 ≡ x.band.0 →
+    energy_in (set cs k (more c x)) o p b ≡ energy_in cs o p b + cond (is_of o p b x) x.wh 0
 unfolding energy_in
-set-energy [] k c x o b l e a i j = absurd (omega arith)
-set-energy (y ∷ cs) zero c x o b l e a i j =
-    elim (whose o b c) [
-      | here t p q ↦ (let u : is_of o b x ≡ true = is-of o b x (sym i ∙ p) (sym j ∙ q) in
-          let v : is_of o b y ≡ true = rw e at t in
+set-energy [] k c x o p b l e a i j m = absurd (omega arith)
+set-energy (y ∷ cs) zero c x o p b l e a i j m =
+    elim (whose o p b c) [
+      | here t q r s ↦ (let u : is_of o p b x ≡ true = is-of o p b x (sym i ∙ q) (sym j ∙ r) (sym m ∙ s) in
+          let v : is_of o p b y ≡ true = rw e at t in
           let w : c.wh ≡ y.wh = ap (λ z. z.wh) e in
           rw (t, u, v) (omega arith))
-      | other t n ↦ (let u : is_of o b x ≡ false = is-not o b x (λ p q. n (i ∙ p) (j ∙ q)) in
-          let v : is_of o b y ≡ false = rw e at t in
+      | other t n ↦ (let u : is_of o p b x ≡ false = is-not o p b x (λ q r s. n (i ∙ q) (j ∙ r) (m ∙ s)) in
+          let v : is_of o p b y ≡ false = rw e at t in
           rw (t, u, v) (omega arith))
     ]
-set-energy (y ∷ cs) (suc k) c x o b l e a i j =
-    elim (whose o b y) [
-      | here t p q ↦ (
-          let n : is_of o b x ≡ false = is-not o b x (λ r s. differs y x.owner x.band.0 (a 0 y (omega arith)) (p ∙ sym r) (q ∙ sym s)) in
+set-energy (y ∷ cs) (suc k) c x o p b l e a i j m =
+    elim (whose o p b y) [
+      | here t q r s ↦ (
+          let n : is_of o p b x ≡ false = is-not o p b x (λ u v w. differs y x (a 0 y (omega arith)) (q ∙ sym u) (r ∙ sym v) (s ∙ sym w)) in
           rw (t, n) (omega arith))
-      | other t n ↦ rw t (set-energy cs k c x o b (omega arith) e (all-before-rest y x cs k a) i j)
+      | other t n ↦ rw t (set-energy cs k c x o p b (omega arith) e (all-before-rest y x cs k a) i j m)
     ]
 
 set-whole : (cs : List Cell) (k : ℕ) (c x : Cell) → k < length cs → c ≡ get_or cs k c → energy_of_all (set cs k (more c x)) ≡ energy_of_all cs + x.wh
@@ -215,11 +241,11 @@ set-whole (a ∷ cs) zero c x l e = let w : c.wh ≡ a.wh = ap (λ z. z.wh) e in
 set-whole (a ∷ cs) (suc k) c x l e = let w : energy_of_all (set cs k (more c x)) ≡ energy_of_all cs + x.wh = set-whole cs k c x (omega arith) e in omega arith
 
 pub enlarged : (cs : List Cell) (k : ℕ) (c x : Cell) → k < length cs → c ≡ get_or cs k c → 0 < x.wh → AllBefore cs k x →
-    owner_place c.owner ≡ owner_place x.owner → c.band.0 ≡ x.band.0 → AreInOrder cs → AreAboveZero cs → IsAdded cs (set cs k (more c x)) x
-enlarged cs k c x l e p a i j h z = record {
+    owner_place c.owner ≡ owner_place x.owner → c.period.0 ≡ x.period.0 → c.band.0 ≡ x.band.0 → AreInOrder cs → AreAboveZero cs → IsAdded cs (set cs k (more c x)) x
+enlarged cs k c x l e p a i j m h z = record {
   in_order = set-order cs k c x l e h;
   above_zero = set-above cs k c x l e p z;
-  energy = λ o b. set-energy cs k c x o b l e a i j;
+  energy = λ o n b. set-energy cs k c x o n b l e a i j m;
   whole = set-whole cs k c x l e;
 }
 

@@ -9,19 +9,23 @@ use Rattle.toml.specs.Parse.{parse_document}
 use Rattle.pw_time.specs.Summer.{local_weekday, local_hour, local_second}
 use Rattle.pw_time.proofs.SummerFacts.{local_same}
 use Rattle.pw_tariff.specs.declared.fault.OfficeFault.{OfficeFault}
-use Rattle.pw_tariff.specs.declared.fault.OfficeFault.TheVariants.{Toml, MissingField, BadName, TwiceNamed, Week, Price, RegistersOverlap, Empty, TooMany, Memory}
-use Rattle.pw_tariff.specs.Office.{OfficeFile, IsDay, band_at}
+use Rattle.pw_tariff.specs.declared.fault.OfficeFault.TheVariants.{Toml, MissingField, BadName, TwiceNamed, Week, Price, RegistersOverlap, Empty, TooMany, Period, Memory}
+use Rattle.pw_tariff.specs.Office.{OfficeFile, IsDay, band_at, period_at, week_of_period}
 use Rattle.pw_tariff.specs.Checks.{first_refusal}
-use Rattle.pw_tariff.specs.Text.{IsTable, office_checks, file_of_table, accounts_checks, bands_checks, meters_checks, week_checks}
+use Rattle.pw_tariff.specs.Text.{IsTable, office_checks, file_of_table, accounts_checks, bands_checks, meters_checks, week_checks, periods_checks}
 use Rattle.pw_tariff.specs.Laws.{IsAnswer, TextHasOneAnswer, OfficeOfTextIsSound, BandIsConstantWithinAnHour, BandsAreOfTheOffice}
 use Rattle.pw_tariff.proofs.Behind.{left, right}
+use Rattle.pw_tariff.proofs.InTime.{same-period, period-bound, week-is}
 use Rattle.pw_tariff.proofs.Refusing.{IsOfTable, first-of-table, office-of-table}
 use Rattle.pw_tariff.proofs.Sound.{sound}
 
 -- ---- bands
-pub same-band : BandIsConstantWithinAnHour
+pub same-hour : BandIsConstantWithinAnHour
 unfolding band_at
-same-band file t u h = let l = local_same t u h in rw (l.1, l.2) refl
+same-hour file s t u h =
+    let l = local_same t u h in
+    let p = same-period file s t u h in
+    record { period = p; band = rw (p, l.1, l.2) refl }
 
 hour-bound : (n : ℕ) → n % 86400 / 3600 < 24
 hour-bound n = omega arith
@@ -30,9 +34,10 @@ pub bands-of : BandsAreOfTheOffice
 unfolding band_at
 bands-of file s t =
     let w : local_weekday t < 7 = weekday_number_bound (pos (local_second t / 86400)) in
-    let d : IsDay file.bands (get_or file.week (local_weekday t) []) = s.hours (local_weekday t) [] (let n = s.days in omega (arith, n, w)) in
+    let week = week-is file (period_at file t) s (period-bound file t) in
+    let d : IsDay file.bands (get_or (week_of_period file (period_at file t)) (local_weekday t) []) = week.1 (local_weekday t) [] (let n = week.0 in omega (arith, n, w)) in
     let h : local_hour t < 24 = hour-bound (local_second t) in
-    d.1 (local_hour t) 0 (let n = d.0 in omega (arith, n, h))
+    record { band = d.1 (local_hour t) 0 (let n = d.0 in omega (arith, n, h)); period = period-bound file t }
 
 -- ---- answers
 no-truth : false ≡ true → ⊥
@@ -55,6 +60,7 @@ judged text (Err Price) h = refused h.0 h.1 Price h.2 refl
 judged text (Err RegistersOverlap) h = refused h.0 h.1 RegistersOverlap h.2 refl
 judged text (Err Empty) h = refused h.0 h.1 Empty h.2 refl
 judged text (Err TooMany) h = refused h.0 h.1 TooMany h.2 refl
+judged text (Err Period) h = refused h.0 h.1 Period h.2 refl
 
 one-table : (text : List ℕ) (t u : Members) → IsTable text t → IsTable text u → t ≡ u
 one-table text t u h k = same_Some t u (sym h.1 ∙ k.1)
@@ -92,6 +98,7 @@ refusal-of text t h Price d p = (t, h, p)
 refusal-of text t h RegistersOverlap d p = (t, h, p)
 refusal-of text t h Empty d p = (t, h, p)
 refusal-of text t h TooMany d p = (t, h, p)
+refusal-of text t h Period d p = (t, h, p)
 
 of-table : (text : List ℕ) (t : Members) → IsTable text t → (r : Option OfficeFault) →
     first_refusal (office_checks t) ≡ r → AnAnswer text
@@ -118,8 +125,10 @@ office-sound text file h =
     let t = h.0 in
     let two = accounts_checks t ++ bands_checks t in
     let three = two ++ meters_checks t in
-    let first_three = left three (week_checks t) h.2 in
+    let four = three ++ week_checks t in
+    let first_four = left four (periods_checks t) h.2 in
+    let first_three = left three (week_checks t) first_four in
     let first_two = left two (meters_checks t) first_three in
     rw h.3 (sound t (left (accounts_checks t) (bands_checks t) first_two)
     (right (accounts_checks t) (bands_checks t) first_two) (right two (meters_checks t) first_three)
-    (right three (week_checks t) h.2))
+    (right three (week_checks t) first_four) (right four (periods_checks t) h.2))

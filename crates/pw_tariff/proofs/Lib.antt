@@ -7,6 +7,12 @@ pub mod Order
 pub mod Parts
 pub mod Behind
 pub mod Distinct
+pub mod Hours
+pub mod InTime
+pub mod Weeks
+pub mod Prices
+pub mod Turns
+pub mod Later
 pub mod Sound
 pub mod Refusing
 pub mod Answered

@@ -3,7 +3,7 @@ use Rattle.std.proofs.Common.{◌≡◌, ℕ, zero, suc, ◌+◌, ◌<◌, ◌�
 use Rattle.std.proofs.lemmas.List.{drop_more, map-append}
 use Rattle.std.proofs.Math.ListN.{drop_of_length-le}
 use Rattle.pw_tariff.specs.declared.fault.OfficeFault.{OfficeFault}
-use Rattle.pw_tariff.specs.declared.fault.OfficeFault.TheVariants.{Toml, MissingField, BadName, TwiceNamed, Week, Price, RegistersOverlap, Empty, TooMany, Memory}
+use Rattle.pw_tariff.specs.declared.fault.OfficeFault.TheVariants.{Toml, MissingField, BadName, TwiceNamed, Week, Price, RegistersOverlap, Empty, TooMany, Period, Memory}
 use Rattle.pw_tariff.specs.Checks.{Check, first_refusal, each_in_turn, length_checks, list_checks}
 use Rattle.pw_tariff.specs.inner.Checks.{IsListFault}
 use Rattle.pw_tariff.specs.inner.Checks.{IsRefusal}
@@ -40,6 +40,7 @@ refusal-lift ls bs Price h r = h Price r
 refusal-lift ls bs RegistersOverlap h r = h RegistersOverlap r
 refusal-lift ls bs Empty h r = h Empty r
 refusal-lift ls bs TooMany h r = h TooMany r
+refusal-lift ls bs Period h r = h Period r
 refusal-lift ls bs Memory h r = tt
 
 pub refusal-front : (cs ds : List Check) (e : OfficeFault) → IsRefusal cs e → IsRefusal (cs ++ ds) e
@@ -66,13 +67,14 @@ list-fault most name checks list Price h = absurd h
 list-fault most name checks list RegistersOverlap h = absurd h
 list-fault most name checks list Empty h = absurd h
 list-fault most name checks list TooMany h = absurd h
+list-fault most name checks list Period h = absurd h
 
 pub list-there : {A : Type 0} (most : ℕ) (name : A → List ℕ) (checks : List (List ℕ) → A → List Check) (list : Option (List A)) (xs : List A) → list ≡ Some xs →
     first_refusal (list_checks most name checks list) ≡ first_refusal (length_checks (length xs) most ++ each_in_turn name checks [] xs)
 list-there most name checks list xs h = rw h refl
 
 -- ---- one element after another
-drop-step : {X : Type 0} (xs : List X) (i : ℕ) (x : X) → i < length xs → x ≡ get_or xs i x → drop i xs ≡ x ∷ drop (i + 1) xs
+pub drop-step : {X : Type 0} (xs : List X) (i : ℕ) (x : X) → i < length xs → x ≡ get_or xs i x → drop i xs ≡ x ∷ drop (i + 1) xs
 drop-step xs i x l e = drop_more xs i x l ∙ ap (λ y. y ∷ drop (i + 1) xs) (sym e)
 
 pub take-step : {X : Type 0} (xs : List X) (i : ℕ) (x : X) → i < length xs → x ≡ get_or xs i x → take (i + 1) xs ≡ take i xs ++ x ∷ []

@@ -1,13 +1,14 @@
 -- What the checks of a table can refuse.
-use Rattle.std.proofs.Common.{◌≡◌, ℕ, Option, Some, None, List, [], ◌∷◌, ◌++◌, Bool, true, false, cond, codes, not}
+use Rattle.std.proofs.Common.{◌≡◌, ℕ, ℤ, Option, Some, None, unwrap_or, List, [], ◌∷◌, ◌++◌, Bool, true, false, cond, codes, not}
+use Rattle.pw_time.specs.declared.instant.TheConstants.{FIRST_SECOND}
 use Rattle.std.proofs.lemmas.Option.{none-some, same_Some}
 use Rattle.toml.specs.Data.{Members}
 use Rattle.pw_tariff.specs.declared.fault.OfficeFault.{OfficeFault}
 use Rattle.pw_tariff.specs.declared.fault.OfficeFault.TheVariants.{Toml, Memory, RegistersOverlap}
 use Rattle.pw_tariff.specs.declared.limits.TheConstants.{MOST_ACCOUNTS, MOST_BANDS, MOST_METERS}
 use Rattle.pw_tariff.specs.Checks.{Check, check, first_refusal, each_in_turn, list_checks}
-use Rattle.pw_tariff.specs.Office.{overlap}
-use Rattle.pw_tariff.specs.Text.{texts_at, tables_at, account_checks, accounts_checks, band_name_of, band_checks, bands_checks, id_of, register_texts, registers_of, register_checks, registers_in_turn, meter_checks, meters_checks, week_checks, office_checks}
+use Rattle.pw_tariff.specs.Office.{BandText, overlap}
+use Rattle.pw_tariff.specs.Text.{texts_at, tables_at, account_checks, accounts_checks, band_name_of, band_checks, bands_checks, id_of, register_texts, registers_of, register_checks, registers_in_turn, meter_checks, meters_checks, week_checks, whole_numbers_of, prices_checks, period_checks, period_of_table, periods_in_turn, period_tables, bands_of_table, periods_checks, office_checks}
 
 -- it is a fault of what the table says
 abbrev pub IsOfTable : OfficeFault → Type 0
@@ -66,6 +67,22 @@ of-meter earlier m =
     let in_turn = each (λ (text : List ℕ). text) register_checks of-register [] texts in
     (tt, (tt, (tt, (tt, (tt, both (registers_in_turn texts) last in_turn (tt, tt))))))
 
+of-prices : (bands : List BandText) (prices : List ℤ) → AreOfTable (prices_checks bands prices)
+of-prices bands prices = (tt, (tt, tt))
+
+of-period : (bands : List BandText) (before : ℕ) (p : Members) → AreOfTable (period_checks bands before p)
+of-period bands before p =
+    let imports = whole_numbers_of (codes "import") p in
+    let exports = whole_numbers_of (codes "export") p in
+    (tt, (tt, (tt, both (prices_checks bands imports) (prices_checks bands exports) (of-prices bands imports) (of-prices bands exports))))
+
+of-periods : (bands : List BandText) (before : ℕ) (periods : List Members) → AreOfTable (periods_in_turn bands before periods)
+unfolding periods_in_turn
+of-periods bands before [] = tt
+of-periods bands before (p ∷ periods) =
+    both (period_checks bands before p) (periods_in_turn bands (period_of_table p).start periods) (of-period bands before p)
+    (of-periods bands (period_of_table p).start periods)
+
 pub office-of-table : (t : Members) → AreOfTable (office_checks t)
 office-of-table t =
     let accounts =
@@ -74,4 +91,6 @@ office-of-table t =
     let meters = in-list MOST_METERS id_of meter_checks of-meter (tables_at (codes "meter") t) in
     let two = both (accounts_checks t) (bands_checks t) accounts bands in
     let three = both (accounts_checks t ++ bands_checks t) (meters_checks t) two meters in
-    both (accounts_checks t ++ bands_checks t ++ meters_checks t) (week_checks t) three (tt, (tt, tt))
+    let four = both (accounts_checks t ++ bands_checks t ++ meters_checks t) (week_checks t) three (tt, (tt, tt)) in
+    let periods : AreOfTable (periods_checks t) = (tt, (tt, of-periods (bands_of_table t) FIRST_SECOND (unwrap_or (period_tables t) []))) in
+    both (accounts_checks t ++ bands_checks t ++ meters_checks t ++ week_checks t) (periods_checks t) four periods

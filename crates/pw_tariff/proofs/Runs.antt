@@ -1,4 +1,4 @@
--- One run of seconds after another of a difference, each of one owner and one band.
+-- One run of seconds after another of a difference, each of one owner, one period and one band.
 use Rattle.std.proofs.Common.{◌≡◌, ℕ, ◌+◌, ◌-◌, ◌%◌, ◌<◌, ◌≤◌, min, Option, List, [], cond, Bool, true, false, sym, ◌∙◌, arith, inl, inr}
 use Rattle.std.proofs.lemmas.Bool.{cases_lt}
 use Rattle.pw_flow.specs.Time.{sum_over}
@@ -12,13 +12,13 @@ use Rattle.pw_tariff.specs.declared.ids.AccountId.{AccountId}
 use Rattle.pw_tariff.specs.declared.cells.Cell.{Cell}
 use Rattle.pw_tariff.specs.declared.pieces.Class.{Class}
 use Rattle.pw_tariff.specs.declared.spread.Span.{Span}
-use Rattle.pw_tariff.specs.Office.{OfficeFile}
+use Rattle.pw_tariff.specs.Office.{OfficeFile, IsSound}
 use Rattle.pw_tariff.specs.Cells.{is_of, energy_in, energy_of_all, AreInOrder, AreAboveZero}
 use Rattle.pw_tariff.specs.Shares.{class_seconds, AreShares}
 use Rattle.pw_tariff.specs.inner.Shares.{IsAdded}
 use Rattle.pw_tariff.specs.inner.Starts.{IsNextStart}
 use Rattle.pw_tariff.specs.inner.Pieces.{IsPiece, IsClassAt}
-use Rattle.pw_tariff.proofs.Answered.{same-band}
+use Rattle.pw_tariff.proofs.Answered.{same-hour}
 use Rattle.pw_tariff.proofs.Starts.{steady-owner}
 
 -- ---- pieces and runs
@@ -34,15 +34,19 @@ piece-is starts t end hour next l e n =
       over = λ o. elim (cases_lt next hour) [ inl h ↦ inr (n.there h) | inr h ↦ inl (omega arith) ];
     }
 
--- all seconds from one on up to another have one owner and one band
+-- all seconds from one on up to another have one owner, one period and one band
 abbrev pub AreOf : OfficeFile → List (ℕ × Option AccountId) → Class → ℕ → ℕ → Type 0
 AreOf office starts class from until = (s : ℕ) → from ≤ s → s < until → IsClassAt office starts s class
 
-pub piece-of_class : (office : OfficeFile) (starts : List (ℕ × Option AccountId)) (class : Class) (from end until : ℕ) → IsClassAt office starts from class → IsPiece starts from end until → AreOf office starts class from until
-piece-of_class office starts class from end until c p s a b = record {
-  owner = c.owner ∙ sym (p.owner s a b);
-  band = c.band ∙ same-band office from s (sym (p.hour s a b));
-}
+pub piece-of_class : (office : OfficeFile) (starts : List (ℕ × Option AccountId)) (class : Class) (from end until : ℕ) → IsSound office →
+    IsClassAt office starts from class → IsPiece starts from end until → AreOf office starts class from until
+piece-of_class office starts class from end until sound c p s a b =
+    let same = same-hour office sound from s (sym (p.hour s a b)) in
+    record {
+      owner = c.owner ∙ sym (p.owner s a b);
+      period = c.period ∙ same.period;
+      band = c.band ∙ same.band;
+    }
 
 pub joined : (office : OfficeFile) (starts : List (ℕ × Option AccountId)) (class : Class) (from until next : ℕ) → AreOf office starts class from until → AreOf office starts class until next → AreOf office starts class from next
 joined office starts class from until next f g s a b = elim (cases_lt s until) [ inl h ↦ f s a h | inr h ↦ g s h b ]
@@ -69,8 +73,8 @@ run-gives asked false x w y v t u l r a h = (piece-of_one_kind asked x w y v t u
 -- ---- run after run
 -- the cells as far as the seconds before t
 pub record SoFar (office : OfficeFile) (owners : List (ℕ × Option AccountId)) (x w y v t : ℕ) (cells : List Cell) : Type 0 where
-  pub shares : (owner : Option AccountId) (band : ℕ) →
-      energy_in cells owner band ≡ sum_over (kept (class_seconds office owners owner band) (pair_flow (x, w) (y, v))) x (t - x)
+  pub shares : (owner : Option AccountId) (period band : ℕ) →
+      energy_in cells owner period band ≡ sum_over (kept (class_seconds office owners owner period band) (pair_flow (x, w) (y, v))) x (t - x)
   pub above_zero : AreAboveZero cells
   pub in_order : AreInOrder cells
   pub whole : energy_of_all cells + w ≡ level x w y v t
@@ -78,35 +82,35 @@ pub record SoFar (office : OfficeFile) (owners : List (ℕ × Option AccountId))
 pub nothing-yet : (office : OfficeFile) (owners : List (ℕ × Option AccountId)) (x w y v : ℕ) → SoFar office owners x w y v x []
 unfolding energy_in energy_of_all
 nothing-yet office owners x w y v = record {
-  shares = λ o b. sym (sum-from_start _ x);
+  shares = λ o p b. sym (sum-from_start _ x);
   above_zero = tt;
   in_order = tt;
   whole = let e : level x w y v x ≡ w = level-start x w y v in omega arith;
 }
 
 abbrev pub share-of : Class → ℕ → Cell
-share-of class wh = record { owner = class.owner; band = class.band; wh = wh }
+share-of class wh = record { owner = class.owner; period = class.period; band = class.band; wh = wh }
 
--- what the seconds of a run give to an owner and a band
+-- what the seconds of a run give to an owner, a period and a band
 run-shares : (office : OfficeFile) (owners : List (ℕ × Option AccountId)) (x w y v t u l n : ℕ) (class : Class) → x < y → w ≤ v → x ≤ t → t ≤ u →
-    l ≡ level x w y v t → n ≡ level x w y v u → AreOf office owners class t u → (o : Option AccountId) (b : ℕ) →
-    sum_over (kept (class_seconds office owners o b) (pair_flow (x, w) (y, v))) x (u - x)
-    ≡ sum_over (kept (class_seconds office owners o b) (pair_flow (x, w) (y, v))) x (t - x) + cond (is_of o b (share-of class (n - l))) (n - l) 0
-run-shares office owners x w y v t u l n class p r a c e f i o b =
-    let j = sum-join (kept (class_seconds office owners o b) (pair_flow (x, w) (y, v))) x t u a c in
-    let k : (s : ℕ) → t ≤ s → s < u → class_seconds office owners o b s ≡ is_of o b (share-of class (n - l)) = λ s g h. (let q = i s g h in rw (q.owner, q.band)) in
-    let m = run-gives (class_seconds office owners o b) (is_of o b (share-of class (n - l))) x w y v t u p r c k in
+    l ≡ level x w y v t → n ≡ level x w y v u → AreOf office owners class t u → (o : Option AccountId) (d b : ℕ) →
+    sum_over (kept (class_seconds office owners o d b) (pair_flow (x, w) (y, v))) x (u - x)
+    ≡ sum_over (kept (class_seconds office owners o d b) (pair_flow (x, w) (y, v))) x (t - x) + cond (is_of o d b (share-of class (n - l))) (n - l) 0
+run-shares office owners x w y v t u l n class p r a c e f i o d b =
+    let j = sum-join (kept (class_seconds office owners o d b) (pair_flow (x, w) (y, v))) x t u a c in
+    let k : (s : ℕ) → t ≤ s → s < u → class_seconds office owners o d b s ≡ is_of o d b (share-of class (n - l)) = λ s g h. (let q = i s g h in rw (q.owner, q.period, q.band)) in
+    let m = run-gives (class_seconds office owners o d b) (is_of o d b (share-of class (n - l))) x w y v t u p r c k in
     rw (e, f) (rw m at j)
 
 -- a run in which nothing flows
 pub nothing-more : (office : OfficeFile) (owners : List (ℕ × Option AccountId)) (x w y v t u l n : ℕ) (class : Class) (cells : List Cell) → x < y → w ≤ v → x ≤ t → t ≤ u →
     l ≡ level x w y v t → n ≡ level x w y v u → AreOf office owners class t u → n - l ≤ 0 → SoFar office owners x w y v t cells → SoFar office owners x w y v u cells
 nothing-more office owners x w y v t u l n class cells p r a c e f i z s = record {
-  shares = λ o b.
-      let m = run-shares office owners x w y v t u l n class p r a c e f i o b in
+  shares = λ o d b.
+      let m = run-shares office owners x w y v t u l n class p r a c e f i o d b in
       let k : n - l ≡ 0 = omega arith in
-      let q : cond (is_of o b (share-of class (n - l))) (n - l) 0 ≡ 0 = kept-nothing (is_of o b (share-of class (n - l))) (n - l) k in
-      let g = s.shares o b in
+      let q : cond (is_of o d b (share-of class (n - l))) (n - l) 0 ≡ 0 = kept-nothing (is_of o d b (share-of class (n - l))) (n - l) k in
+      let g = s.shares o d b in
       omega (arith, m, q, g);
   above_zero = s.above_zero;
   in_order = s.in_order;
@@ -118,10 +122,10 @@ pub share-more : (office : OfficeFile) (owners : List (ℕ × Option AccountId))
     l ≡ level x w y v t → n ≡ level x w y v u → AreOf office owners class t u → IsAdded old new (share-of class (n - l)) →
     SoFar office owners x w y v t old → SoFar office owners x w y v u new
 share-more office owners x w y v t u l n class old new p r a c e f i d s = record {
-  shares = λ o b.
-      let m = run-shares office owners x w y v t u l n class p r a c e f i o b in
-      let g = s.shares o b in
-      let h = d.energy o b in
+  shares = λ o k b.
+      let m = run-shares office owners x w y v t u l n class p r a c e f i o k b in
+      let g = s.shares o k b in
+      let h = d.energy o k b in
       omega (arith, m, g, h);
   above_zero = d.above_zero;
   in_order = d.in_order;
@@ -133,7 +137,7 @@ pub all-shared : (office : OfficeFile) (owners : List (ℕ × Option AccountId))
     x ≡ span.from → w ≡ span.low → y ≡ span.to → v ≡ span.high → t ≡ y → x < y → w ≤ v → SoFar office owners x w y v t cells → AreShares office owners span cells
 unfolding cell
 all-shared office owners span x w y v t cells a b c d e l r s = record {
-  shares = λ o k. (let g = s.shares o k in rw (← a, ← b, ← c, ← d) (rw e at g));
+  shares = λ o i k. (let g = s.shares o i k in rw (← a, ← b, ← c, ← d) (rw e at g));
   above_zero = s.above_zero;
   in_order = s.in_order;
   whole =

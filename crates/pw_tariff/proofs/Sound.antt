@@ -1,27 +1,24 @@
 -- What holds of an office whose file passes all checks.
-use Rattle.std.proofs.Common.{◌≡◌, ◌==◌, ◌&&◌, ℕ, zero, suc, ◌<◌, ◌≤◌, ℤ, pos, negsuc, Option, Some, is_some, unwrap_or, slice_get, List, [], ◌∷◌, ◌++◌, length, map, All, nat_le, nat_lt, not, codes, Bool, true, false, refl, arith, eqb-true}
-use Rattle.std.specs.List.{list_all}
+use Rattle.std.proofs.Common.{◌≡◌, ℕ, zero, suc, ◌≤◌, Option, Some, is_some, unwrap_or, slice_get, List, [], ◌∷◌, ◌++◌, length, map, All, nat_le, not, codes, Bool, true, false, refl, arith}
 use Rattle.std.proofs.lemmas.List.{length-map, map-id}
 use Rattle.std.proofs.lemmas.Option.{none-some, same_Some}
 use Rattle.std.proofs.lemmas.Simd.{map-map}
-use Rattle.std.proofs.lemmas.Bool.{leb-true, ltb-true}
+use Rattle.std.proofs.lemmas.Bool.{leb-true}
 use Rattle.toml.specs.Data.{Members}
 use Rattle.pw_tariff.specs.declared.limits.TheConstants.{MOST_PRICE, MOST_ACCOUNTS, MOST_BANDS, MOST_METERS, LONGEST_ACCOUNT_NAME, LONGEST_METER_ID}
-use Rattle.pw_tariff.specs.Office.{IsSound, AreDistinct, IsDay, BandText, MeterText, band_named, overlap}
+use Rattle.pw_tariff.specs.Office.{IsSound, AreDistinct, BandText, MeterText, overlap}
 use Rattle.pw_tariff.specs.Words.{is_price, is_name, is_capital, is_band_name, is_new, clock_named}
 use Rattle.pw_tariff.specs.declared.fault.OfficeFault.TheVariants.{MissingField, BadName, TwiceNamed, Week, Price, RegistersOverlap, Empty, TooMany}
 use Rattle.pw_tariff.specs.Checks.{Check, check, each_in_turn, length_checks, list_checks}
 use Rattle.pw_tariff.specs.inner.Checks.{Passes}
-use Rattle.pw_tariff.specs.Text.{has_band_keys, has_meter_keys, clock_of, texts_at, tables_at, accounts_checks, account_checks, bands_checks, meters_checks, week_checks, file_of_table, band_of_table, meter_of_table, whole_of, whole_number_of, band_name_of, id_of, register_texts, register_of, registers_of, registers_in_turn, registers_checks, letter_of, is_day, is_week, week_of, bands_of_table, band_checks, meter_checks}
+use Rattle.pw_tariff.specs.Text.{has_band_keys, has_meter_keys, clock_of, texts_at, tables_at, accounts_checks, account_checks, bands_checks, meters_checks, week_checks, periods_checks, file_of_table, band_of_table, meter_of_table, whole_number_of, band_name_of, id_of, register_texts, register_of, registers_of, registers_in_turn, registers_checks, letter_of, is_week, week_of, bands_of_table, band_checks, meter_checks}
 use Rattle.pw_tariff.proofs.Behind.{left, right, first-of}
 use Rattle.pw_tariff.proofs.Distinct.{distinct}
+use Rattle.pw_tariff.proofs.Weeks.{price-bound, week-of}
+use Rattle.pw_tariff.proofs.Prices.{listed as listed-periods}
 
 no-truth : false ≡ true → ⊥
 no-truth h = cc
-
-both : (a b : Bool) → (a && b) ≡ true → (a ≡ true) × (b ≡ true)
-both true b h = (refl, h)
-both false b h = absurd (no-truth h)
 
 each-all : {A T : Type 0} (P : T → Type 0) → (h : A → T) (name : A → List ℕ) (checks : List (List ℕ) → A → List Check) → ((earlier : List (List ℕ)) (x : A) → Passes (checks earlier x) → P (h x)) →
     (earlier : List (List ℕ)) (xs : List A) → Passes (each_in_turn name checks earlier xs) → All P (map h xs)
@@ -44,10 +41,6 @@ listed most name checks list p =
     let b = first-of (check Empty (nat_le 1 (length xs))) (check TooMany (nat_le (length xs) most) ∷ each_in_turn name checks [] xs) a.1 in
     let c = first-of (check TooMany (nat_le (length xs) most)) (each_in_turn name checks [] xs) b.1 in
     record { some = leb-true 1 (length xs) b.0; few = leb-true (length xs) most c.0; each = c.1 }
-
-price-bound : (z : ℤ) → is_price z ≡ true → whole_of z ≤ MOST_PRICE
-price-bound (pos n) h = leb-true n MOST_PRICE h
-price-bound (negsuc n) h = absurd (no-truth h)
 
 last-two : (a b c d e : Check) → Passes (a ∷ b ∷ c ∷ d ∷ e ∷ []) → (d.passes ≡ true) × (e.passes ≡ true)
 last-two a b c d e p =
@@ -84,16 +77,6 @@ meter-totals earlier m p =
     (check BadName (is_some (clock_named (clock_of m)))) (check Empty (nat_le 1 (length (register_texts m)))) (registers_in_turn (register_texts m) ++ last) p in
     let o = right (registers_in_turn (register_texts m)) last s in
     negated (overlap (registers_of (register_texts m))) (first-of (check RegistersOverlap (not (overlap (registers_of (register_texts m))))) [] o).0
-
-all-of : {A : Type 0} (p : A → Bool) (P : A → Type 0) → ((x : A) → p x ≡ true → P x) → (xs : List A) → list_all p xs ≡ true → All P xs
-all-of p P k [] h i d l = absurd (omega arith)
-all-of p P k (x ∷ xs) h zero d l = k x (both (p x) (list_all p xs) h).0
-all-of p P k (x ∷ xs) h (suc i) d l = all-of p P k xs (both (p x) (list_all p xs) h).1 i d (omega arith)
-
-day-of : (bands : List BandText) (day : List ℕ) → is_day bands day ≡ true → IsDay bands day
-day-of bands day h =
-    let b = both (length day == 24) (list_all (λ c. nat_lt (band_named bands c) (length bands)) day) h in
-    (eqb-true (length day) 24 b.0, all-of (λ c. nat_lt (band_named bands c) (length bands)) (λ c. band_named bands c < length bands) (λ c k. ltb-true _ _ k) day b.1)
 
 -- ---- names
 account-word : (earlier : List (List ℕ)) (name : List ℕ) → Passes (account_checks earlier name) → is_name LONGEST_ACCOUNT_NAME name ≡ true
@@ -145,14 +128,14 @@ meter-registers earlier m p =
     let k = behind-four (check MissingField (has_meter_keys m)) (check BadName (is_name LONGEST_METER_ID (id_of m))) (check TwiceNamed (is_new (id_of m) earlier)) (check BadName (is_some (clock_named (clock_of m)))) (empty ∷ behind) p in
     rw (length-map (register_texts m) register_of) (leb-true 1 (length (register_texts m)) (first-of empty behind k).0)
 
-pub sound : (t : Members) → Passes (accounts_checks t) → Passes (bands_checks t) → Passes (meters_checks t) → Passes (week_checks t) → IsSound (file_of_table t)
-sound t p q m w =
+pub sound : (t : Members) → Passes (accounts_checks t) → Passes (bands_checks t) → Passes (meters_checks t) → Passes (week_checks t) → Passes (periods_checks t) → IsSound (file_of_table t)
+sound t p q m w r =
     let a = listed MOST_ACCOUNTS (λ (name : List ℕ). name) account_checks (texts_at (codes "accounts") t) p in
     let b = listed MOST_BANDS band_name_of band_checks (tables_at (codes "band") t) q in
     let n = listed MOST_METERS id_of meter_checks (tables_at (codes "meter") t) m in
     let there = first-of (check MissingField (is_some (texts_at (codes "week") t))) (check Week (is_week (bands_of_table t) (week_of t)) ∷ []) w in
     let week = first-of (check Week (is_week (bands_of_table t) (week_of t))) [] there.1 in
-    let days = both (length (week_of t) == 7) (list_all (is_day (bands_of_table t)) (week_of t)) week.0 in
+    let periods = listed-periods t r in
     let bl : length (bands_of_table t) ≡ length (unwrap_or (tables_at (codes "band") t) []) = length-map (unwrap_or (tables_at (codes "band") t) []) band_of_table in
     let ml : length (map meter_of_table (unwrap_or (tables_at (codes "meter") t) [])) ≡ length (unwrap_or (tables_at (codes "meter") t) []) = length-map (unwrap_or (tables_at (codes "meter") t) []) meter_of_table in
     let names = unwrap_or (texts_at (codes "accounts") t) [] in
@@ -180,6 +163,8 @@ sound t p q m w =
       meters = rw ml (n.some, n.few);
       prices = each-all (λ (x : BandText). (x.import_price ≤ MOST_PRICE) × (x.export_price ≤ MOST_PRICE)) band_of_table band_name_of band_checks band-prices [] _ b.each;
       totals = each-all (λ (x : MeterText). overlap x.registers ≡ false) meter_of_table id_of meter_checks meter-totals [] _ n.each;
-      days = eqb-true (length (week_of t)) 7 days.0;
-      hours = all-of (is_day (bands_of_table t)) (IsDay (bands_of_table t)) (day-of (bands_of_table t)) (week_of t) days.1;
+      week = week-of (bands_of_table t) (week_of t) week.0;
+      periods = periods.few;
+      later = periods.sound.each;
+      in_time = periods.sound.in_time;
     }

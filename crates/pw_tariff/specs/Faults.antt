@@ -1,7 +1,7 @@
 -- The numbers and names under which refusals of an office file are reported, and the line that tells one.
 use Rattle.std.specs.Prelude.{ℕ, List, ◌++◌, codes, decimal}
 use Rattle.pw_tariff.specs.declared.fault.OfficeFault.{OfficeFault}
-use Rattle.pw_tariff.specs.declared.fault.OfficeFault.TheVariants.{Toml, MissingField, BadName, TwiceNamed, Week, Price, RegistersOverlap, Empty, TooMany, Memory}
+use Rattle.pw_tariff.specs.declared.fault.OfficeFault.TheVariants.{Toml, MissingField, BadName, TwiceNamed, Week, Price, RegistersOverlap, Empty, TooMany, Period, Memory}
 
 abbrev pub office_fault_told : OfficeFault → ℕ × List ℕ
 office_fault_told Toml = (30, codes "Toml")
@@ -13,6 +13,7 @@ office_fault_told Price = (35, codes "Price")
 office_fault_told RegistersOverlap = (36, codes "RegistersOverlap")
 office_fault_told Empty = (37, codes "Empty")
 office_fault_told TooMany = (38, codes "TooMany")
+office_fault_told Period = (39, codes "Period")
 office_fault_told Memory = (62, codes "Memory")
 
 -- `refused`, the number, the name; single spaces stand between

@@ -1,21 +1,38 @@
 -- What follows from the definitions alone.
-use Rattle.std.specs.Prelude.{◌≡◌, ◌<◌, ◌/◌, ℕ, Option, List, Result, Ok, Err}
+use Rattle.std.specs.Prelude.{◌≡◌, ◌<◌, ◌≤◌, ◌/◌, ℕ, Option, Some, slice_get, List, Result, Ok, Err}
+use Rattle.pw_time.specs.Instants.{IsInstant}
 use Rattle.pw_tariff.specs.declared.ids.AccountId.{AccountId}
 use Rattle.pw_tariff.specs.declared.cells.Cell.{Cell}
 use Rattle.pw_tariff.specs.declared.spread.Span.{Span}
 use Rattle.pw_tariff.specs.declared.fault.OfficeFault.{OfficeFault}
 use Rattle.pw_tariff.specs.declared.fault.OfficeFault.TheVariants.{Memory}
-use Rattle.pw_tariff.specs.Office.{OfficeFile, IsSound, band_at, office_of}
+use Rattle.pw_tariff.specs.Office.{OfficeFile, IsSound, period_at, period_starts, band_at, office_of}
 use Rattle.pw_tariff.specs.Shares.{AreShares}
 use Rattle.pw_tariff.specs.Text.{IsOfficeOf, IsRefused}
 
--- the band is the same throughout an hour of UTC
-abbrev pub BandIsConstantWithinAnHour : Type 0
-BandIsConstantWithinAnHour = (file : OfficeFile) (t u : ℕ) → t / 3600 ≡ u / 3600 → band_at file t ≡ band_at file u
+-- period and band are the same throughout an hour of UTC
+pub record AreOfOneHour (file : OfficeFile) (t u : ℕ) : Type 0 where
+  pub period : period_at file t ≡ period_at file u
+  pub band : band_at file t ≡ band_at file u
 
--- the band of each second is one of the office's
+abbrev pub BandIsConstantWithinAnHour : Type 0
+BandIsConstantWithinAnHour = (file : OfficeFile) → IsSound file → (t u : ℕ) → t / 3600 ≡ u / 3600 → AreOfOneHour file t u
+
+-- the period of an instant is the one with the latest start that isn't later
+pub record IsLatestPeriod (file : OfficeFile) (t period : ℕ) : Type 0 where
+  pub begun : (start : ℕ) × (slice_get (period_starts file) period ≡ Some start) × (start ≤ t)
+  pub latest : (other start : ℕ) → slice_get (period_starts file) other ≡ Some start → start ≤ t → other ≤ period
+
+abbrev pub PeriodIsTheLatest : Type 0
+PeriodIsTheLatest = (file : OfficeFile) → IsSound file → (t : ℕ) → IsInstant t → IsLatestPeriod file t (period_at file t)
+
+-- the band of each second is one of the office's, and so is its period
+pub record AreOfTheOffice (file : OfficeFile) (t : ℕ) : Type 0 where
+  pub band : (office_of file).band t < (office_of file).bands
+  pub period : (office_of file).period t < (office_of file).periods
+
 abbrev pub BandsAreOfTheOffice : Type 0
-BandsAreOfTheOffice = (file : OfficeFile) → IsSound file → (t : ℕ) → (office_of file).band t < (office_of file).bands
+BandsAreOfTheOffice = (file : OfficeFile) → IsSound file → (t : ℕ) → AreOfTheOffice file t
 
 -- what a text is answered; want of memory is no answer
 abbrev pub IsAnswer : List ℕ → Result OfficeFile OfficeFault → Type 0

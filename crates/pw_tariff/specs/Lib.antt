@@ -1,10 +1,10 @@
 -- Read these, in this order:
 -- Office: what an office file says, and what it means
--- Words: how names, clocks, registers and prices are written
+-- Words: how names, clocks, registers, prices and hours are written
 -- Checks: checks in an order, and the first that fails
 -- Text: the office of a text, or its first refusal
 -- Owners: the owner at a second
--- Cells: shares by owner and band
+-- Cells: shares by owner, period and band
 -- Shares: how a difference is shared out
 -- Laws: what follows
 pub mod Office

@@ -1,7 +1,7 @@
 -- The office of a text.
 -- (Definitions of this project over TOML 1.1. `parse_document` is the function from a text to its table by which the
 -- library that reads TOML states what it reads.)
-use Rattle.std.specs.Prelude.{◌≡◌, ◌==◌, ◌&&◌, ℕ, ℤ, pos, Option, Some, None, List, [], ◌∷◌, ◌++◌, length, map, option_and_then, is_some, unwrap_or, codes, nat_le, nat_lt, not, Bool, IsUtf8}
+use Rattle.std.specs.Prelude.{◌≡◌, ◌==◌, ◌&&◌, ℕ, ℤ, pos, Option, Some, None, List, [], ◌∷◌, ◌++◌, length, map, option_and_then, is_some, unwrap_or, codes, nat_le, nat_lt, not, Bool, false, cond, IsUtf8}
 use Rattle.std.specs.List.{list_all}
 use Rattle.toml.specs.Parse.{parse_document}
 use Rattle.toml.specs.Data.{Items, no_items, item, Members, get_member, as_str, as_integer, as_array, as_table}
@@ -9,10 +9,11 @@ use Rattle.pw_obis.specs.declared.reference.Register.{Register}
 use Rattle.pw_obis.specs.declared.reference.Register.TheVariants.{I0}
 use Rattle.pw_time.specs.declared.zone.Clock.TheVariants.{Marked}
 use Rattle.pw_tariff.specs.declared.fault.OfficeFault.{OfficeFault}
-use Rattle.pw_tariff.specs.declared.fault.OfficeFault.TheVariants.{Toml, MissingField, BadName, TwiceNamed, Week, Price, RegistersOverlap, Empty, Memory}
-use Rattle.pw_tariff.specs.declared.limits.TheConstants.{MOST_ACCOUNTS, MOST_METERS, MOST_BANDS, LONGEST_ACCOUNT_NAME, LONGEST_METER_ID}
-use Rattle.pw_tariff.specs.Office.{OfficeFile, BandText, MeterText, band_named, overlap}
-use Rattle.pw_tariff.specs.Words.{is_name, is_band_name, is_new, clock_named, register_named, is_price}
+use Rattle.pw_tariff.specs.declared.fault.OfficeFault.TheVariants.{Toml, MissingField, BadName, TwiceNamed, Week, Price, RegistersOverlap, Empty, TooMany, Period, Memory}
+use Rattle.pw_tariff.specs.declared.limits.TheConstants.{MOST_ACCOUNTS, MOST_METERS, MOST_BANDS, MOST_PERIODS, LONGEST_ACCOUNT_NAME, LONGEST_METER_ID}
+use Rattle.pw_time.specs.declared.instant.TheConstants.{FIRST_SECOND}
+use Rattle.pw_tariff.specs.Office.{OfficeFile, BandText, MeterText, PeriodText, band_named, overlap}
+use Rattle.pw_tariff.specs.Words.{is_name, is_band_name, is_new, clock_named, register_named, is_price, whole_hour}
 use Rattle.pw_tariff.specs.Checks.{Check, check, first_refusal, each_in_turn, list_checks}
 
 -- ---- what stands at a key, if it is there and of that kind
@@ -42,6 +43,14 @@ tables_of (item d ds) = put_before (as_table d) (tables_of ds)
 
 abbrev pub texts_at : List ℕ → Members → Option (List (List ℕ))
 texts_at key t = option_and_then texts_of (list_at key t)
+
+-- its whole numbers, likewise
+abbrev pub integers_of : Items → Option (List ℤ)
+integers_of no_items = Some []
+integers_of (item d ds) = put_before (as_integer d) (integers_of ds)
+
+abbrev pub integers_at : List ℕ → Members → Option (List ℤ)
+integers_at key t = option_and_then integers_of (list_at key t)
 
 abbrev pub tables_at : List ℕ → Members → Option (List Members)
 tables_at key t = option_and_then tables_of (list_at key t)
@@ -165,9 +174,66 @@ abbrev pub week_checks : Members → List Check
 week_checks t =
     check MissingField (is_some (texts_at (codes "week") t)) ∷ check Week (is_week (bands_of_table t) (week_of t)) ∷ []
 
+-- ---- the periods behind the first
+abbrev pub start_of : Members → Option ℕ
+start_of p = option_and_then whole_hour (text_at (codes "start") p)
+
+abbrev pub whole_numbers_of : List ℕ → Members → List ℤ
+whole_numbers_of key p = unwrap_or (integers_at key p) []
+
+abbrev pub has_period_keys : Members → Bool
+has_period_keys p = (is_some (text_at (codes "start") p) && is_some (texts_at (codes "week") p))
+    && (is_some (integers_at (codes "import") p) && is_some (integers_at (codes "export") p))
+
+-- it is one, and later than the start before
+abbrev pub is_later : ℕ → Option ℕ → Bool
+is_later before None = false
+is_later before (Some start) = nat_lt before start
+
+-- a price for each band
+abbrev pub prices_checks : List BandText → List ℤ → List Check
+prices_checks bands prices =
+    check Period (length prices == length bands) ∷ check Price (list_all is_price prices) ∷ []
+
+-- of a period behind a start, in an office of these bands
+abbrev pub period_checks : List BandText → ℕ → Members → List Check
+period_checks bands before p =
+    check MissingField (has_period_keys p)
+    ∷ check Period (is_later before (start_of p))
+    ∷ check Week (is_week bands (week_of p))
+    ∷ (prices_checks bands (whole_numbers_of (codes "import") p) ++ prices_checks bands (whole_numbers_of (codes "export") p))
+
+abbrev pub period_of_table : Members → PeriodText
+period_of_table p = record {
+  start = unwrap_or (start_of p) FIRST_SECOND;
+  week = week_of p;
+  import_prices = map whole_of (whole_numbers_of (codes "import") p);
+  export_prices = map whole_of (whole_numbers_of (codes "export") p);
+}
+
+-- of each period in turn, behind the start of the one before it
+unfoldable pub periods_in_turn : List BandText → ℕ → List Members → List Check
+periods_in_turn bands before [] = []
+periods_in_turn bands before (p ∷ periods) =
+    period_checks bands before p ++ periods_in_turn bands (period_of_table p).start periods
+
+-- the tables of the key `period`; a file may leave it out
+abbrev pub period_tables : Members → Option (List Members)
+period_tables t = cond (is_some (get_member (codes "period") t)) (tables_at (codes "period") t) (Some [])
+
+-- the first period is no table, and begins with the first instant
+abbrev pub periods_checks : Members → List Check
+periods_checks t = let periods = unwrap_or (period_tables t) [] in
+    check MissingField (is_some (period_tables t))
+    ∷ check TooMany (nat_lt (length periods) MOST_PERIODS)
+    ∷ periods_in_turn (bands_of_table t) FIRST_SECOND periods
+
+abbrev pub later_of_table : Members → List PeriodText
+later_of_table t = map period_of_table (unwrap_or (period_tables t) [])
+
 -- ---- the file
 abbrev pub office_checks : Members → List Check
-office_checks t = accounts_checks t ++ bands_checks t ++ meters_checks t ++ week_checks t
+office_checks t = accounts_checks t ++ bands_checks t ++ meters_checks t ++ week_checks t ++ periods_checks t
 
 abbrev pub file_of_table : Members → OfficeFile
 file_of_table t = record {
@@ -175,6 +241,7 @@ file_of_table t = record {
   bands = bands_of_table t;
   meters = meters_of_table t;
   week = week_of t;
+  later = later_of_table t;
 }
 
 -- the table that a text is

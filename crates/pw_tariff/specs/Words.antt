@@ -1,12 +1,14 @@
--- The words of an office file: names, clocks, registers, prices.
+-- The words of an office file: names, clocks, registers, prices, hours.
 -- (Definitions of this project. Bytes are ASCII codes: 45 is '-', 48 to 57 the digits, 65 to 90 A to Z, 95 '_', 97 to 122 a to z.)
-use Rattle.std.specs.Prelude.{◌==◌, ◌&&◌, ◌||◌, ℕ, ℤ, pos, negsuc, Option, Some, None, List, [], ◌∷◌, length, codes, nat_le, not, find, Bool, false, cond}
+use Rattle.std.specs.Prelude.{◌==◌, ◌&&◌, ◌||◌, ℕ, zero, suc, ◌+◌, ◌-◌, ◌/◌, ℤ, pos, negsuc, Option, Some, None, List, [], ◌∷◌, length, codes, nat_le, not, find, Bool, false, cond}
 use Rattle.std.specs.List.{list_all, list_any}
 use Rattle.std.specs.Cmp.Lexicographic.{pointwise}
 use Rattle.pw_obis.specs.declared.reference.Register.{Register}
 use Rattle.pw_obis.specs.Registers.{registers, register_name}
 use Rattle.pw_time.specs.declared.zone.Clock.{Clock}
 use Rattle.pw_time.specs.declared.zone.Clock.TheVariants.{Marked, Winter, Local}
+use Rattle.pw_time.specs.declared.instant.TheConstants.{FIRST_SECOND, END_SECOND}
+use Rattle.pw_time.specs.Written.{utc_text}
 use Rattle.pw_tariff.specs.declared.limits.TheConstants.{MOST_PRICE}
 
 abbrev pub same_text : List ℕ → List ℕ → Bool
@@ -47,3 +49,12 @@ register_named text = find (λ r. same_text text (register_name r)) registers
 abbrev pub is_price : ℤ → Bool
 is_price (pos n) = nat_le n MOST_PRICE
 is_price (negsuc n) = false
+
+-- so many whole hours, from a second on
+unfoldable pub hours_from : ℕ → ℕ → List ℕ
+hours_from t zero = []
+hours_from t (suc n) = t ∷ hours_from (t + 3600) n
+
+-- the whole hour of UTC that a text tells as `YYYY-MM-DDThh:mm:ssZ`: the one of all instants that is written so
+unfoldable pub whole_hour : List ℕ → Option ℕ
+whole_hour text = find (λ t. same_text (utc_text t) text) (hours_from FIRST_SECOND ((END_SECOND - FIRST_SECOND) / 3600))

@@ -119,7 +119,7 @@ fn is_new_letter(letter: u8, earlier: &[Band]) -> bool
 }
 
 // A price in nano-euro per Wh, if it is in range.
-fn price(value: i64) -> Option<u32>
+pub(crate) fn price(value: i64) -> Option<u32>
     ensures { MatchOption result (is_price value ≡ false) (λ p. (is_price value ≡ true) × (p ≡ whole_of value)) }
 {
     if value < 0 || value > i64::from(MOST_PRICE) {

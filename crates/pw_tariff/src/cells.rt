@@ -1,16 +1,17 @@
-//! Shares of energy by owner and band.
+//! Shares of energy by owner, period and band.
 
 ghost use Rattle.std.specs.Prelude.{◌≡◌, ◌+◌, ◌^◌, ◌<◌, ◌≤◌, ◌↔◌, ℕ, length, slice_index_or, IfOk, IsTrue};
-ghost use Rattle.pw_tariff.specs.Cells.{AreAboveZero, AreInOrder, IsBeforeClass, energy_of_all, owner_place};
-ghost use Rattle.pw_tariff.specs.inner.Shares.{IsAdded};
+ghost use Rattle.pw_tariff.specs.Cells.{AreAboveZero, AreInOrder, IsBeforeCell, IsBeforeTariff, energy_of_all, owner_place};
+ghost use Rattle.pw_tariff.specs.inner.Shares.{IsAdded, IsOfOneClass};
 
-use crate::{BandId, Owner};
+use crate::{BandId, Owner, PeriodId};
 use std::alloc::AllocError;
 
-/// What an owner gets in a band, in Wh.
+/// What an owner gets in a band within a period, in Wh.
 #[derive(Clone, Copy, Debug, PartialEq, Eq)]
 pub struct Cell {
     pub owner: Owner,
+    pub period: PeriodId,
     pub band: BandId,
     pub wh: u64,
 }
@@ -26,38 +27,48 @@ fn place(owner: Owner) -> u32
 }
 
 impl Cell {
-    // Whether it stands before the cell of an owner and a band.
-    fn is_before(&self, owner: Owner, band: BandId) -> bool
-        ensures { IsTrue result ↔ IsBeforeClass self.now owner band.0 }
+    // Whether its period and its band stand before these.
+    fn is_before_tariff(&self, period: PeriodId, band: BandId) -> bool
+        ensures { IsTrue result ↔ IsBeforeTariff self.now period.0 band.0 }
     {
-        let own = place(self.owner);
-        let other = place(owner);
-        own < other || own == other && self.band.0 < band.0
+        self.period.0 < period.0 || self.period.0 == period.0 && self.band.0 < band.0
     }
 
-    // Whether it is the cell of an owner and a band.
-    fn is_of(&self, owner: Owner, band: BandId) -> bool
-        ensures { IsTrue result ↔ ((owner_place self.now.owner ≡ owner_place owner) × (self.now.band.0 ≡ band.0)) }
+    // Whether it stands before the cell of another share.
+    fn is_before(&self, share: &Cell) -> bool
+        ensures { IsTrue result ↔ IsBeforeCell self.now share.now }
     {
-        place(self.owner) == place(owner) && self.band.0 == band.0
+        let own = place(self.owner);
+        let other = place(share.owner);
+        let tariff = self.is_before_tariff(share.period, share.band);
+        own < other || own == other && tariff
+    }
+
+    // Whether it is of the owner, the period and the band of another share.
+    fn is_like(&self, share: &Cell) -> bool
+        ensures { IsTrue result ↔ IsOfOneClass self.now share.now }
+    {
+        place(self.owner) == place(share.owner)
+            && self.period.0 == share.period.0
+            && self.band.0 == share.band.0
     }
 }
 
-// How many cells from the first on stand before that of an owner and a band.
-fn before(cells: &[Cell], owner: Owner, band: BandId) -> usize
+// How many cells from the first on stand before that of a share.
+fn before(cells: &[Cell], share: &Cell) -> usize
     ensures bound { result ≤ length cells.now }
-    ensures before { (k : ℕ) (d : Cell) → k < result → IsBeforeClass (slice_index_or cells.now k d) owner band.0 }
-    ensures there { (d : Cell) → result < length cells.now → ¬ (IsBeforeClass (slice_index_or cells.now result d) owner band.0) }
+    ensures before { (k : ℕ) (d : Cell) → k < result → IsBeforeCell (slice_index_or cells.now k d) share.now }
+    ensures there { (d : Cell) → result < length cells.now → ¬ (IsBeforeCell (slice_index_or cells.now result d) share.now) }
 {
     for (i, cell) in cells.iter().enumerate() {
-        if !cell.is_before(owner, band) {
+        if !cell.is_before(share) {
             return i;
         }
     }
     cells.len()
 }
 
-// Adds a share to the cell of its owner and band.
+// Adds a share to the cell of its owner, period and band.
 pub(crate) fn add(cells: &mut Vec<Cell>, share: Cell) -> Result<(), AllocError>
     requires in_order { AreInOrder cells.old.items }
     requires above_zero { AreAboveZero cells.old.items }
@@ -65,8 +76,8 @@ pub(crate) fn add(cells: &mut Vec<Cell>, share: Cell) -> Result<(), AllocError>
     requires fits { energy_of_all cells.old.items + share.wh < 2 ^ 64 }
     ensures { IfOk result (λ _. IsAdded cells.old.items cells.new.items share) }
 {
-    let at = before(cells, share.owner, share.band);
-    if at < cells.len() && cells[at].is_of(share.owner, share.band) {
+    let at = before(cells, &share);
+    if at < cells.len() && cells[at].is_like(&share) {
         cells[at].wh += share.wh;
         return Ok(());
     }

@@ -21,8 +21,11 @@ pub enum OfficeFault {
     RegistersOverlap,
     /// There are no accounts, no bands or no meters, or a meter counts no register.
     Empty,
-    /// There are more than 256 accounts, 8 bands or 1,024 meters.
+    /// There are more than 256 accounts, 8 bands, 1,024 meters or 15 later periods.
     TooMany,
+    /// A later period doesn't begin at a whole hour of UTC behind the start of the one before it, or doesn't have one price
+    /// for each band.
+    Period,
     /// Memory was refused.
     Memory,
 }
@@ -31,7 +34,7 @@ impl OfficeFault {
     ghost use Rattle.std.specs.Prelude.{◌≡◌};
     ghost use Rattle.pw_tariff.specs.Faults.{office_fault_told};
 
-    /// The number under which the fault is reported: 30 to 38, and 62.
+    /// The number under which the fault is reported: 30 to 39, and 62.
     pub fn number(self) -> u8
         ensures { result ≡ (office_fault_told self).0 }
     {
@@ -60,6 +63,7 @@ impl OfficeFault {
             OfficeFault::RegistersOverlap => (36, "RegistersOverlap"),
             OfficeFault::Empty => (37, "Empty"),
             OfficeFault::TooMany => (38, "TooMany"),
+            OfficeFault::Period => (39, "Period"),
             OfficeFault::Memory => (62, "Memory"),
         }
     }

@@ -1,4 +1,4 @@
-//! What an office's accounts, meters and bands are called in the program.
+//! What an office's accounts, meters, bands and periods are called in the program.
 
 /// An account, by its position in the office file's list, from 0.
 #[derive(Clone, Copy, Debug, PartialEq, Eq, PartialOrd, Ord, Hash)]
@@ -11,6 +11,10 @@ pub struct MeterId(pub u16);
 /// A tariff band, by its position in the office file's list, from 0.
 #[derive(Clone, Copy, Debug, PartialEq, Eq, PartialOrd, Ord, Hash)]
 pub struct BandId(pub u8);
+
+/// A tariff period, by its position in time, from 0: the office file's own week and prices, then its list of periods.
+#[derive(Clone, Copy, Debug, PartialEq, Eq, PartialOrd, Ord, Hash)]
+pub struct PeriodId(pub u8);
 
 /// An account, or nobody.
 pub type Owner = Option<AccountId>;

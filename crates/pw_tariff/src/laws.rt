@@ -2,18 +2,23 @@
 //!
 //! Each function does nothing. What counts is its contract, a law of the definitions in `specs/`.
 
-ghost use Rattle.pw_tariff.specs.Laws.{BandIsConstantWithinAnHour, BandsAreOfTheOffice, OfficeOfTextIsSound, SharesAreUnique, TextHasOneAnswer};
+ghost use Rattle.pw_tariff.specs.Laws.{BandIsConstantWithinAnHour, BandsAreOfTheOffice, OfficeOfTextIsSound, PeriodIsTheLatest, SharesAreUnique, TextHasOneAnswer};
 
 pub use pw_flow::laws::{
     classes_add_up, flow_is_level_rise, flows_of_a_piece_add_up, piece_of_one_kind,
 };
 
-/// The tariff band is the same throughout an hour of UTC.
+/// Tariff period and band are the same throughout an hour of UTC.
 pub fn band_is_constant_within_an_hour()
     ensures { BandIsConstantWithinAnHour }
 {}
 
-/// The band of each second is one of the office's.
+/// The period of an instant is the one with the latest start that isn't later.
+pub fn period_is_the_latest()
+    ensures { PeriodIsTheLatest }
+{}
+
+/// The band of each second is one of the office's, and so is its period.
 pub fn bands_are_of_the_office()
     ensures { BandsAreOfTheOffice }
 {}
@@ -23,7 +28,7 @@ pub fn text_has_one_answer()
     ensures { TextHasOneAnswer }
 {}
 
-/// The office of a text is sound: its limits, names, prices, registers and week are as those of every office.
+/// The office of a text is sound: its limits, names, prices, registers, week and periods are as those of every office.
 pub fn office_of_text_is_sound()
     ensures { OfficeOfTextIsSound }
 {}

@@ -1,4 +1,4 @@
-//! The office file, its tariff bands and prices, and how the difference between two readings is shared out.
+//! The office file, its tariff bands, periods and prices, and how the difference between two readings is shared out.
 #![tactic(auto)]
 
 mod accounts;
@@ -11,6 +11,7 @@ mod limits;
 mod meters;
 mod office;
 mod owners;
+mod periods;
 mod pieces;
 mod read;
 mod spread;
@@ -21,9 +22,10 @@ mod words;
 
 pub use cells::Cell;
 pub use fault::OfficeFault;
-pub use ids::{AccountId, BandId, Direction, MeterId, Owner};
+pub use ids::{AccountId, BandId, Direction, MeterId, Owner, PeriodId};
 pub use limits::{
-    LONGEST_ACCOUNT_NAME, LONGEST_METER_ID, MOST_ACCOUNTS, MOST_BANDS, MOST_METERS, MOST_PRICE,
+    LONGEST_ACCOUNT_NAME, LONGEST_METER_ID, MOST_ACCOUNTS, MOST_BANDS, MOST_METERS, MOST_PERIODS,
+    MOST_PRICE,
 };
 pub use office::Office;
 pub use owners::Owners;

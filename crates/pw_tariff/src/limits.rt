@@ -9,8 +9,14 @@ pub const MOST_METERS: usize = 1_024;
 /// The most tariff bands that an office has.
 pub const MOST_BANDS: usize = 8;
 
+/// The most tariff periods that an office has.
+pub const MOST_PERIODS: usize = 16;
+
 /// The highest price, in nano-euro per Wh.
 pub const MOST_PRICE: u32 = 1_000_000_000;
+
+// The seconds of an hour.
+pub(crate) const HOUR: u32 = 3_600;
 
 /// The most characters of an account's name.
 pub const LONGEST_ACCOUNT_NAME: usize = 32;

@@ -1,15 +1,15 @@
-//! An office: its accounts, meters and bands, its prices, and its week.
+//! An office: its accounts, meters, bands and periods, its prices, and its weeks.
 
-ghost use Rattle.std.specs.Prelude.{◌≡◌, ◌≢◌, ◌<◌, ◌≤◌, ℕ, length, slice_get, option_map, IfSome, IfNone};
-ghost use Rattle.pw_tariff.specs.Office.{IsSound, band_at, band_named, counts_at, has_register, price_at};
-ghost use Rattle.pw_tariff.specs.Held.{bands_of};
+ghost use Rattle.std.specs.Prelude.{◌≡◌, ◌≢◌, ◌<◌, ◌≤◌, ℕ, Some, length, map, slice_get, option_map, string_bytes, IfSome, IfNone};
+ghost use Rattle.pw_tariff.specs.Office.{IsSound, IsWeek, band_at, band_named, counts_at, has_register, period_at, period_starts, periods_in, price_at, price_in, price_of, week_of_period};
+ghost use Rattle.pw_tariff.specs.Held.{band_of, bands_of, period_of};
 ghost use Rattle.pw_tariff.specs.Ids.{ids_below};
 
 use crate::limits::MOST_PRICE;
 use crate::walks::{AccountIds, BandIds, MeterIds};
-use crate::{AccountId, BandId, Direction, MeterId};
+use crate::{AccountId, BandId, Direction, MeterId, PeriodId};
 use pw_obis::Register;
-use pw_time::{Clock, Instant, Zone, week_hour};
+use pw_time::{Clock, FIRST_SECOND, Instant, Zone, week_hour};
 use std::marker::Model;
 
 // A tariff band: its letter, and its prices in nano-euro per Wh.
@@ -20,6 +20,15 @@ pub(crate) struct Band {
     pub(crate) export_price: u32,
 }
 
+// A period behind the first: its first second, its week, and in each direction a price for each band, in nano-euro per Wh.
+#[derive(Drop)]
+pub(crate) struct Period {
+    pub(crate) start: Instant,
+    pub(crate) week: Vec<String>,
+    pub(crate) import_prices: Vec<u32>,
+    pub(crate) export_prices: Vec<u32>,
+}
+
 // A meter: its id, what its clock tells, and the registers that count.
 #[derive(Drop)]
 pub(crate) struct Meter {
@@ -28,14 +37,15 @@ pub(crate) struct Meter {
     pub(crate) registers: Vec<Register>,
 }
 
-/// An office, as its file tells it: accounts, meters with their clocks and registers, tariff bands with their prices,
-/// and the band of each hour of the week.
+/// An office, as its file tells it: accounts, meters with their clocks and registers, tariff bands, and periods, each with
+/// its prices and the band of each hour of the week.
 #[derive(Drop)]
 pub struct Office {
     pub(crate) accounts: Vec<String>,
     pub(crate) bands: Vec<Band>,
     pub(crate) meters: Vec<Meter>,
     pub(crate) week: Vec<String>,
+    pub(crate) later: Vec<Period>,
 }
 
 impl Model for Office {
@@ -72,6 +82,14 @@ impl Office {
         ensures sound { IsSound self.now }
     {
         self.bands.len() as u8
+    }
+
+    /// The number of tariff periods, the first included.
+    pub fn periods(&self) -> u8
+        ensures count { result ≡ periods_in self.now }
+        ensures sound { IsSound self.now }
+    {
+        self.later.len() as u8 + 1
     }
 
     /// The accounts as ids, in the file's order.
@@ -163,26 +181,91 @@ impl Office {
         holds(&self.meters[meter.0 as usize].registers, register)
     }
 
-    /// The tariff band of an instant, by the weekday and hour that local clocks show.
+    /// The tariff period of an instant: the one with the latest start that isn't later.
+    pub fn period(&self, instant: Instant) -> PeriodId
+        ensures period { result.0 ≡ period_at self.now instant }
+        ensures within { result.0 < periods_in self.now }
+        ensures sound { IsSound self.now }
+    {
+        let mut begun = 0;
+        for period in &self.later {
+            if period.start.seconds() <= instant.seconds() {
+                begun += 1;
+            }
+        }
+        PeriodId(begun)
+    }
+
+    /// The first second of a period. That of the first is the first second of all instants.
+    pub fn period_start(&self, period: PeriodId) -> u32
+        requires { period.0 < periods_in self.now }
+        ensures { slice_get (period_starts self.now) period.0 ≡ Some result }
+    {
+        if period.0 == 0 {
+            return FIRST_SECOND;
+        }
+        self.later[(period.0 - 1) as usize].start.seconds()
+    }
+
+    /// The tariff band of an instant, by the weekday and hour that local clocks show, in the week of its period.
     pub fn band(&self, instant: Instant, zone: &Zone) -> BandId
         ensures band { result.0 ≡ band_at self.now instant }
         ensures within { result.0 < length self.now.bands }
     {
         let local = week_hour(instant, zone);
-        let letter = self.week[local.day as usize].as_bytes()[local.hour as usize];
+        let week = self.week_of(self.period(instant));
+        let letter = week[local.day as usize].as_bytes()[local.hour as usize];
         BandId(named(&self.bands, letter) as u8)
     }
 
-    /// The price of a band in a direction, in nano-euro per Wh.
-    pub fn price(&self, band: BandId, direction: Direction) -> u32
-        requires { band.0 < length self.now.bands }
-        ensures price { result ≡ price_at self.now band.0 direction }
+    // The week of a period.
+    fn week_of(&self, period: PeriodId) -> &[String]
+        requires { period.0 < periods_in self.now }
+        ensures week { map string_bytes result.now ≡ week_of_period self.now period.0 }
+        ensures sound { IsWeek self.now.bands (map string_bytes result.now) }
+    {
+        if period.0 == 0 {
+            return &self.week;
+        }
+        &self.later[(period.0 - 1) as usize].week
+    }
+
+    /// The price of a band in a period and a direction, in nano-euro per Wh.
+    pub fn price(&self, period: PeriodId, band: BandId, direction: Direction) -> u32
+        requires period { period.0 < periods_in self.now }
+        requires band { band.0 < length self.now.bands }
+        ensures price { result ≡ price_at self.now period.0 band.0 direction }
         ensures bound { result ≤ MOST_PRICE }
     {
-        let band = self.bands[band.0 as usize];
+        if period.0 == 0 {
+            return self.bands[band.0 as usize].price(direction);
+        }
+        self.later[(period.0 - 1) as usize].price(band, direction)
+    }
+}
+
+impl Band {
+    // Its own price in a direction: that of the first period.
+    fn price(&self, direction: Direction) -> u32
+        ensures { result ≡ price_of (Some (band_of self.now)) direction }
+    {
         match direction {
-            Direction::Import => band.import_price,
-            Direction::Export => band.export_price,
+            Direction::Import => self.import_price,
+            Direction::Export => self.export_price,
+        }
+    }
+}
+
+impl Period {
+    // The price of a band in a direction.
+    fn price(&self, band: BandId, direction: Direction) -> u32
+        requires import_prices { band.0 < length self.now.import_prices.items }
+        requires export_prices { band.0 < length self.now.export_prices.items }
+        ensures { result ≡ price_in (Some (period_of self.now)) band.0 direction }
+    {
+        match direction {
+            Direction::Import => self.import_prices[band.0 as usize],
+            Direction::Export => self.export_prices[band.0 as usize],
         }
     }
 }

@@ -1,18 +1,19 @@
-//! Pieces of a span, one behind another, each of one owner and one band.
+//! Pieces of a span, one behind another, each of one owner, one period and one band.
 
 ghost use Rattle.std.specs.Prelude.{◌<◌};
 ghost use Rattle.pw_time.specs.Instants.{IsInstant};
+ghost use Rattle.pw_tariff.specs.Office.{IsSound};
 ghost use Rattle.pw_tariff.specs.inner.Pieces.{IsClassAt, IsPiece, IsRun};
 
-use crate::{BandId, Office, Owner, Owners};
+use crate::limits::HOUR;
+use crate::{BandId, Office, Owner, Owners, PeriodId};
 use pw_time::{Instant, Zone};
 
-const HOUR: u32 = 3_600;
-
-// The owner and the band of a second.
+// The owner, the period and the band of a second.
 #[derive(Clone, Copy, PartialEq, Eq)]
 pub(crate) struct Class {
     pub(crate) owner: Owner,
+    pub(crate) period: PeriodId,
     pub(crate) band: BandId,
 }
 
@@ -23,16 +24,18 @@ pub(crate) struct Run {
     pub(crate) until: u32,
 }
 
-// The owner and the band of a second.
+// The owner, the period and the band of a second.
 pub(crate) fn class_at(office: &Office, zone: &Zone, owners: &Owners, second: u32) -> Class
     requires { IsInstant second }
-    ensures { IsClassAt office.now owners.now second result }
+    ensures class { IsClassAt office.now owners.now second result }
+    ensures sound { IsSound office.now }
 {
     let Some(instant) = Instant::of(second) else {
         unreachable!();
     };
     Class {
         owner: owners.at(second),
+        period: office.period(instant),
         band: office.band(instant, zone),
     }
 }

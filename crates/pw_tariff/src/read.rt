@@ -10,6 +10,7 @@ ghost use Rattle.pw_tariff.specs.inner.Checks.{IsNoTable};
 use crate::accounts::read_accounts;
 use crate::bands::read_bands;
 use crate::meters::read_meters;
+use crate::periods::read_periods;
 use crate::week::read_week;
 use crate::{Office, OfficeFault};
 use std::alloc::Global;
@@ -67,10 +68,15 @@ fn office_of(alloc: Global, table: &Table) -> Result<Office, OfficeFault>
         Ok(week) => week,
         Err(fault) => return Err(fault),
     };
+    let later = match read_periods(alloc, table, &bands) {
+        Ok(later) => later,
+        Err(fault) => return Err(fault),
+    };
     Ok(Office {
         accounts,
         bands,
         meters,
         week,
+        later,
     })
 }

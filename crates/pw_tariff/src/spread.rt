@@ -1,4 +1,4 @@
-//! The difference between two readings, shared out over owners and bands.
+//! The difference between two readings, shared out over owners, periods and bands.
 
 ghost use Rattle.std.specs.Prelude.{◌≡◌, ◌-◌, ◌<◌, ◌≤◌, IfOk};
 ghost use Rattle.pw_tariff.specs.Shares.{AreShares};
@@ -20,11 +20,11 @@ pub struct Span {
     pub high: WattHours,
 }
 
-/// What each owner gets of the difference in each band: the flow of the seconds of the span with that owner and band,
-/// in Wh. Together the cells are the whole difference.
+/// What each owner gets of the difference in each period and band: the flow of the seconds of the span with that owner,
+/// period and band, in Wh. Together the cells are the whole difference.
 ///
-/// A cell stands for each owner and band with energy above 0, nobody first, then by account, then by band. It fails
-/// only where memory is refused.
+/// A cell stands for each owner, period and band with energy above 0, nobody first, then by account, by period, by band.
+/// It fails only where memory is refused.
 #[tactic(auto, using(crate::proofs::Runs::rising))]
 pub fn apportion(
     alloc: Global,
@@ -53,8 +53,18 @@ pub fn apportion(
         let next = level_at(from, to, run.until);
         let wh = next - level;
         if wh > 0 {
-            let Class { owner, band } = run.class;
-            add(&mut cells, Cell { owner, band, wh })?;
+            let Class {
+                owner,
+                period,
+                band,
+            } = run.class;
+            let share = Cell {
+                owner,
+                period,
+                band,
+                wh,
+            };
+            add(&mut cells, share)?;
         }
         at = run.until;
         level = next;

@@ -1,8 +1,9 @@
 //! What stands at the keys of a TOML table.
 
-ghost use Rattle.std.specs.Prelude.{◌≡◌, IsTrue, false, None, Some, MatchResult, map, option_copied, option_map, string_bytes};
+ghost use Rattle.std.specs.Prelude.{◌≡◌, IsTrue, false, None, Some, MatchResult, is_some, map, option_copied, option_map, string_bytes};
+ghost use Rattle.toml.specs.Data.{get_member};
 ghost use Rattle.toml.specs.View.{array_view, table_view};
-ghost use Rattle.pw_tariff.specs.Text.{integer_at, list_at, tables_of, text_at, texts_at, texts_of};
+ghost use Rattle.pw_tariff.specs.Text.{integer_at, integers_at, integers_of, list_at, tables_of, text_at, texts_at, texts_of};
 ghost use Rattle.pw_tariff.specs.inner.Held.{table_in};
 ghost use Rattle.pw_tariff.specs.Checks.{length_checks};
 ghost use Rattle.pw_tariff.specs.inner.Checks.{IsListFault};
@@ -13,6 +14,13 @@ use crate::OfficeFault;
 use std::alloc::Global;
 use toml::Table;
 use toml::value::Array;
+
+// Whether something stands at a key.
+pub(crate) fn has_key(table: &Table, key: &str) -> bool
+    ensures { result ≡ is_some (get_member key.now (table_view table.now)) }
+{
+    table.get(key).is_some()
+}
 
 // The text at a key.
 pub(crate) fn text_at<'t>(table: &'t Table, key: &str) -> Option<&'t str>
@@ -71,6 +79,32 @@ pub(crate) fn texts_at(alloc: Global, table: &Table, key: &str) -> Result<Vec<St
         return Err(OfficeFault::MissingField);
     };
     texts(alloc, array)
+}
+
+// The whole numbers of a list, each of whose elements has to be one.
+fn integers(alloc: Global, array: &Array) -> Result<Vec<i64>, OfficeFault>
+    ensures { MatchResult result (λ v. integers_of (array_view array.now) ≡ Some v.items) (λ e. IsListFault (integers_of (array_view array.now)) e) }
+{
+    let mut integers = Vec::new(alloc);
+    for value in array {
+        let Some(integer) = value.as_integer() else {
+            return Err(OfficeFault::MissingField);
+        };
+        if integers.push(integer).is_err() {
+            return Err(OfficeFault::Memory);
+        }
+    }
+    Ok(integers)
+}
+
+// The whole numbers of the list at a key.
+pub(crate) fn integers_at(alloc: Global, table: &Table, key: &str) -> Result<Vec<i64>, OfficeFault>
+    ensures { MatchResult result (λ v. integers_at key.now (table_view table.now) ≡ Some v.items) (λ e. IsListFault (integers_at key.now (table_view table.now)) e) }
+{
+    let Some(array) = list_at(table, key) else {
+        return Err(OfficeFault::MissingField);
+    };
+    integers(alloc, array)
 }
 
 // Whether each element of a list is a table.

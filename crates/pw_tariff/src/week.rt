@@ -36,7 +36,7 @@ pub(crate) fn read_week(
     Ok(week)
 }
 
-fn is_week(bands: &[Band], week: &[String]) -> bool
+pub(crate) fn is_week(bands: &[Band], week: &[String]) -> bool
     ensures { result ≡ is_week (bands_of bands.now) (map string_bytes week.now) }
 {
     let seven = week.len() == 7;

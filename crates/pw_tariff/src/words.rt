@@ -1,11 +1,12 @@
-//! The words of an office file: names, clocks, registers.
+//! The words of an office file: names, clocks, registers, hours.
 
-ghost use Rattle.std.specs.Prelude.{◌≡◌, ◌&&◌, length, map, nat_le, string_bytes};
+ghost use Rattle.std.specs.Prelude.{◌≡◌, ◌&&◌, MatchOption, None, Some, length, map, nat_le, string_bytes};
 ghost use Rattle.std.specs.List.{list_all};
-ghost use Rattle.pw_tariff.specs.Words.{clock_named, is_between, is_capital, is_name, is_name_character, is_new, register_named};
+ghost use Rattle.pw_tariff.specs.Words.{clock_named, is_between, is_capital, is_name, is_name_character, is_new, register_named, whole_hour};
 
+use crate::limits::HOUR;
 use pw_obis::Register;
-use pw_time::Clock;
+use pw_time::{Clock, Instant, utc};
 
 fn is_between(low: u8, high: u8, byte: u8) -> bool
     ensures { result ≡ is_between low high byte }
@@ -83,4 +84,17 @@ pub(crate) fn register_named(text: &[u8]) -> Option<Register>
         .iter()
         .copied()
         .find(|register| text == register.name().as_bytes())
+}
+
+// The whole hour of UTC that a text tells.
+pub(crate) fn whole_hour(text: &[u8]) -> Option<Instant>
+    ensures { MatchOption result (whole_hour text.now ≡ None) (λ instant. whole_hour text.now ≡ Some instant) }
+{
+    let Ok(instant) = utc(text) else {
+        return None;
+    };
+    if instant.seconds() % HOUR != 0 {
+        return None;
+    }
+    Some(instant)
 }

@@ -14,3 +14,25 @@ meter = [
   { id = "4D32", clock = "marked", registers = ["I1", "I2", "E1", "E2"] },
 ]
 "#;
+
+/// The same, and a period from 2024-01-02T06:00:00Z on, in which each hour is of the first band, and import costs more.
+pub const RISING: &str = r#"accounts = ["A1", "A2"]
+week = [
+  "LLLLLLLHHHHHHHHHHHHHHHHL", "LLLLLLLHHHHHHHHHHHHHHHHL", "LLLLLLLHHHHHHHHHHHHHHHHL", "LLLLLLLHHHHHHHHHHHHHHHHL",
+  "LLLLLLLHHHHHHHHHHHHHHHHL", "LLLLLLLLLLLLLLLLLLLLLLLL", "LLLLLLLLLLLLLLLLLLLLLLLL",
+]
+band = [{ name = "L", import = 200000, export = 50000 }, { name = "H", import = 300000, export = 50000 }]
+meter = [
+  { id = "4D31", clock = "marked", registers = ["I1", "I2", "E1", "E2"] },
+  { id = "4D32", clock = "marked", registers = ["I1", "I2", "E1", "E2"] },
+]
+
+[[period]]
+start = "2024-01-02T06:00:00Z"
+week = [
+  "LLLLLLLLLLLLLLLLLLLLLLLL", "LLLLLLLLLLLLLLLLLLLLLLLL", "LLLLLLLLLLLLLLLLLLLLLLLL", "LLLLLLLLLLLLLLLLLLLLLLLL",
+  "LLLLLLLLLLLLLLLLLLLLLLLL", "LLLLLLLLLLLLLLLLLLLLLLLL", "LLLLLLLLLLLLLLLLLLLLLLLL",
+]
+import = [250000, 300000]
+export = [50000, 50000]
+"#;

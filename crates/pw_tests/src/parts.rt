@@ -4,7 +4,7 @@
 mod memory;
 
 use crate::entries::{assigned, paid, shown};
-use crate::sample::{FIRST, KINDS, SECOND, are_of_office};
+use crate::sample::{FIRST, KINDS, PERIOD, SECOND, are_of_office};
 use pw_model::plain::{self, OfficeTerms};
 use pw_model::{Entry, TotalKey};
 use pw_obis::Register;
@@ -59,6 +59,7 @@ fn listed_as(total: Total) -> (TotalKey, u64) {
         Total::Energy(owner, band, direction, wh) => (
             TotalKey::Energy {
                 owner,
+                period: PERIOD,
                 band,
                 direction,
             },
@@ -169,6 +170,7 @@ fn energies_agree(
 fn energy_in(parts: &Parts, (owner, band, direction): (Owner, BandId, Direction)) -> u64 {
     let key = TotalKey::Energy {
         owner,
+        period: PERIOD,
         band,
         direction,
     };

@@ -8,7 +8,7 @@ use crate::offices::SAMPLE;
 use pw_model::plain::{self, OfficeTerms};
 use pw_model::{Content, Entry, Key, Reference};
 use pw_obis::{Register, WattHours};
-use pw_tariff::{AccountId, BandId, Direction, MeterId, Office, OfficeFault, Owner};
+use pw_tariff::{AccountId, BandId, Direction, MeterId, Office, OfficeFault, Owner, PeriodId};
 use pw_time::{Instant, Zone};
 use std::alloc::Global;
 
@@ -31,6 +31,9 @@ pub const LOW: BandId = BandId(0);
 pub const HIGH: BandId = BandId(1);
 
 pub const METER: MeterId = MeterId(0);
+
+/// The one period that the sample offices have.
+pub const PERIOD: PeriodId = PeriodId(0);
 
 /// The owners' energies in the bands, in the order in which they are listed.
 pub const KINDS: &[(Owner, BandId, Direction)] = &[

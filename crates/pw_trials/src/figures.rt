@@ -1,13 +1,13 @@
 //! The figures of a list of records by the plain program of the definitions: no store, no book.
 
-ghost use Rattle.std.specs.Prelude.{◌≡◌, ◌++◌, ◌<◌, ◌≤◌, IfOk, OnOk, Some, encode_utf8, length, string_bytes};
+ghost use Rattle.std.specs.Prelude.{◌≡◌, ◌++◌, ◌*◌, ◌^◌, ◌<◌, ◌≤◌, IfOk, OnOk, Some, encode_utf8, length, string_bytes};
 ghost use Rattle.pw_model.specs.Office.{AllOfOffice, HasOwner, most_records};
 ghost use Rattle.pw_tariff.specs.Office.{office_of};
-ghost use Rattle.pw_trials.specs.inner.Figures.{balance_fields as fields_of_balance, balance_line as line_of_balance, energy_fields as fields_of_energy, energy_line as line_of_energy, owner_name as name_of_owner};
+ghost use Rattle.pw_trials.specs.inner.Figures.{balance_fields as fields_of_balance, balance_line as line_of_balance, energy_cost as cost_of_energy, energy_fields as fields_of_energy, energy_line as line_of_energy, owner_name as name_of_owner};
 
 use pw_model::Entry;
-use pw_model::plain::{OfficeTerms, balance, energy, topped_up};
-use pw_tariff::{AccountId, BandId, Direction, Office, Owner};
+use pw_model::plain::{OfficeTerms, balance, energy, energy_in, topped_up};
+use pw_tariff::{AccountId, BandId, Direction, Office, Owner, PeriodId};
 use pw_time::Zone;
 use std::alloc::{AllocError, Global};
 
@@ -88,9 +88,42 @@ fn energy_line(
         band,
         direction,
     )?;
-    let nano = u128::from(office.price(band, direction)) * u128::from(wh);
+    let nano = energy_cost(alloc, office, zone, entries, owner, band, direction)?;
     let (name, letter) = (owner_name(office, owner), office.band_name(band));
     energy_fields(alloc, name, letter, direction, wh, nano)
+}
+
+// What an owner's energy in a band and a direction costs: in each period at its price.
+fn energy_cost(
+    alloc: Global,
+    office: &Office,
+    zone: &Zone,
+    entries: &[Entry],
+    owner: Owner,
+    band: BandId,
+    direction: Direction,
+) -> Result<u128, AllocError>
+    requires entries { AllOfOffice (office_of office.now) entries.now }
+    requires few { length entries.now ≤ most_records }
+    requires band { band.0 < length office.now.bands }
+    ensures { IfOk result (λ nano. nano ≡ cost_of_energy office.now entries.now owner band.0 direction) }
+{
+    let terms = OfficeTerms::new(office, zone);
+    let mut nano: u128 = 0;
+    for period in 0..office.periods() {
+        let period = PeriodId(period);
+        let wh = energy_in(alloc, &terms, entries, owner, period, band, direction)?;
+        nano += price_of(wh, office.price(period, band, direction));
+    }
+    Ok(nano)
+}
+
+// What energy costs at a price, in nano-euro.
+fn price_of(wh: u64, price: u32) -> u128
+    ensures price { result ≡ price * wh }
+    ensures bound { result < 2 ^ 96 }
+{
+    u128::from(price) * u128::from(wh)
 }
 
 fn energy_fields(

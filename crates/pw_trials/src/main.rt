@@ -42,6 +42,14 @@ meter = [
   { id = "4D31", clock = "marked", registers = ["I1", "I2", "E1", "E2"] },
   { id = "Z7", clock = "winter", registers = ["I0"] },
 ]
+[[period]]
+start = "2024-01-02T06:00:00Z"
+week = [
+  "LLLLLLLHHHHHHHHHHHHHHHHL", "LLLLLLLHHHHHHHHHHHHHHHHL", "LLLLLLLHHHHHHHHHHHHHHHHL", "LLLLLLLHHHHHHHHHHHHHHHHL",
+  "LLLLLLLHHHHHHHHHHHHHHHHL", "LLLLLLLLLLLLLLLLLLLLLLLL", "LLLLLLLLLLLLLLLLLLLLLLLL",
+]
+import = [250000, 350000]
+export = [60000, 60000]
 "#;
 
 /// The exit status where what the trials need can't be made.

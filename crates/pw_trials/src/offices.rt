@@ -2,8 +2,8 @@
 
 use pw_model::Reference;
 use pw_obis::Register;
-use pw_tariff::{AccountId, BandId, Direction, MeterId, Office, Owners};
-use pw_time::{Clock, Instant, Zone};
+use pw_tariff::{AccountId, BandId, Direction, MeterId, Office, Owners, PeriodId};
+use pw_time::{Clock, FIRST_SECOND, Instant, Zone};
 
 // 2024-01-02T05:00:00Z, which is six o'clock on a Tuesday, and the hour behind it.
 const FIVE: u32 = 1_704_171_600;
@@ -52,11 +52,15 @@ fn is_priced(office: &Office) -> bool {
     let Some(six) = Instant::of(SIX) else {
         return false;
     };
-    if office.bands() != 2 {
+    if office.bands() != 2 || office.periods() != 2 {
         return false;
     }
     office.band(six, &Zone::central()) == BandId(1)
-        && office.price(BandId(1), Direction::Import) == 300_000
+        && office.period(six) == PeriodId(1)
+        && office.period_start(PeriodId(0)) == FIRST_SECOND
+        && office.period_start(PeriodId(1)) == SIX
+        && office.price(PeriodId(0), BandId(1), Direction::Import) == 300_000
+        && office.price(PeriodId(1), BandId(0), Direction::Export) == 60_000
 }
 
 fn is_owned() -> bool {

@@ -53,7 +53,7 @@ NamesFiles (source.List list) = ⊤
 -- a limit that a book takes, files to load, and a port that can be listened on
 abbrev pub IsSound : Command → Type 0
 IsSound (command.Read clock) = (clock ≡ Marked) → ⊥
-IsSound (command.Check office) = ⊤
+IsSound (command.Check office verbose) = ⊤
 IsSound (command.Pipe office limit) = IsLimit limit
 IsSound (command.Load office store files limit) = IsLimit limit × NamesFiles files
 IsSound (command.Statement office store account) = ⊤

@@ -34,9 +34,10 @@ pub enum Command<'a> {
     Read {
         clock: Clock,
     },
-    /// The size of an office is printed.
+    /// The size of an office is printed; where it is `verbose`, each period too.
     Check {
         office: &'a str,
+        verbose: bool,
     },
     /// Requests are read and replies written; without an office file, of the sample office.
     Pipe {

@@ -43,6 +43,7 @@ enum Word {
     OneMeter,
     Limit,
     Clock,
+    Verbose,
     Count,
     Port,
     Origin,
@@ -67,9 +68,9 @@ static COMMANDS: [Asked; 7] = [
     },
     Asked {
         name: "check",
-        about: "Reads an office file, and prints how many accounts, meters and bands it has",
-        end: "Exit status: 0; 1 refused; 2 wrong words; 3 the file or memory failed.\nExample: powerbook check office.toml",
-        words: &[Word::Office],
+        about: "Reads an office file, and prints how many accounts, meters, bands and periods it has",
+        end: "Exit status: 0; 1 refused; 2 wrong words; 3 the file or memory failed.\nExamples:\n  powerbook check office.toml\n  powerbook check --verbose office.toml",
+        words: &[Word::Office, Word::Verbose],
     },
     Asked {
         name: "pipe",
@@ -183,6 +184,13 @@ fn clock<'a>(alloc: Global) -> Arg<'a> {
         .help("The clock that readouts tell their time by")
 }
 
+fn verbose<'a>(alloc: Global) -> Arg<'a> {
+    Arg::new(alloc, "verbose")
+        .long("verbose")
+        .action(ArgAction::SetTrue)
+        .help("Tells each period too: its start, and by band the prices of import and export")
+}
+
 fn count<'a>(alloc: Global) -> Arg<'a> {
     Arg::new(alloc, "count")
         .long("count")
@@ -249,6 +257,7 @@ fn argument<'a>(alloc: Global, word: Word) -> Result<Arg<'a>, AllocError> {
         Word::OneMeter => Ok(one_meter(alloc)),
         Word::Limit => Ok(limit(alloc)),
         Word::Clock => Ok(clock(alloc)),
+        Word::Verbose => Ok(verbose(alloc)),
         Word::Count => Ok(count(alloc)),
         Word::Port => Ok(port(alloc)),
         Word::Origin => Ok(origin(alloc)),
@@ -270,7 +279,7 @@ fn command<'a>(alloc: Global, asked: &Asked) -> Result<Command<'a>, AllocError> 
 // The parser without its commands.
 fn empty_parser<'a>(alloc: Global) -> Result<Command<'a>, AllocError> {
     Command::new(alloc, "powerbook")
-        .version("1.5.0")
+        .version("1.6.0")
         .about("Meter readings and prepaid accounts of an electricity cooperative")
         .after_help(
             "Without a command it acts as pipe. Each command tells more: powerbook load --help.",

@@ -163,6 +163,7 @@ fn command_of<'a>(
         }),
         Some(("check", words)) => Some(Command::Check {
             office: words.get_str("OFFICE")?,
+            verbose: words.get_flag("verbose"),
         }),
         Some(("pipe", words)) => Some(Command::Pipe {
             office: words.get_str("OFFICE"),

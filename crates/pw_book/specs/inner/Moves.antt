@@ -4,6 +4,7 @@ use Rattle.std.specs.Prelude.{◌≡◌, ℕ, ◌+◌, ◌*◌, ◌<◌, ◌≤�
 use Rattle.pw_obis.specs.declared.energy.TheConstants.{LARGEST_WATT_HOURS}
 use Rattle.pw_tariff.specs.declared.ids.AccountId.{AccountId}
 use Rattle.pw_tariff.specs.declared.ids.BandId.{BandId}
+use Rattle.pw_tariff.specs.declared.ids.PeriodId.{PeriodId}
 use Rattle.pw_tariff.specs.declared.ids.Direction.{Direction}
 use Rattle.pw_tariff.specs.declared.ids.Direction.TheVariants.{Import, Export}
 use Rattle.pw_model.specs.declared.records.TotalKey.{TotalKey}
@@ -24,14 +25,14 @@ pub record MovesTotals (these : TotalKey → Type 0) (more less : TotalKey → �
   pub elsewhere : (k : TotalKey) → (these k → ⊥) → new.total k ≡ old.total k
 
 -- ---- which totals
--- the energies of an owner in a direction, in the bands before one
-abbrev pub InDirection : Option AccountId → Direction → ℕ → TotalKey → Type 0
-InDirection o d bands k = (b : BandId) × (b.0 < bands) × (k ≡ Energy o b d)
+-- the energies of an owner in a direction, in so many periods and bands
+abbrev pub InDirection : Option AccountId → Direction → ℕ → ℕ → TotalKey → Type 0
+InDirection o d periods bands k = (p : PeriodId) × (b : BandId) × (p.0 < periods) × (b.0 < bands) × (k ≡ Energy o p b d)
 
 -- in both directions
-abbrev pub OfOwner : ℕ → Option AccountId → TotalKey → Type 0
-OfOwner bands o k = InDirection o Import bands k ⊎ InDirection o Export bands k
+abbrev pub OfOwner : ℕ → ℕ → Option AccountId → TotalKey → Type 0
+OfOwner periods bands o k = InDirection o Import periods bands k ⊎ InDirection o Export periods bands k
 
 -- of nobody, and of the accounts before one
-abbrev pub OfOwners : ℕ → ℕ → TotalKey → Type 0
-OfOwners bands accounts k = OfOwner bands None k ⊎ ((a : AccountId) × (a.0 < accounts) × OfOwner bands (Some a) k)
+abbrev pub OfOwners : ℕ → ℕ → ℕ → TotalKey → Type 0
+OfOwners periods bands accounts k = OfOwner periods bands None k ⊎ ((a : AccountId) × (a.0 < accounts) × OfOwner periods bands (Some a) k)

@@ -13,7 +13,7 @@ use Rattle.pw_model.specs.declared.records.TotalKey.{TotalKey}
 use Rattle.pw_model.specs.declared.records.TotalKey.TheVariants.{Energy, TopUps}
 use Rattle.pw_model.specs.Changes.{IsOtherStart, in_direction}
 use Rattle.pw_model.specs.Counting.{point, start}
-use Rattle.pw_model.specs.Energy.{of_band, owner_at, share_of}
+use Rattle.pw_model.specs.Energy.{of_class, owner_at, share_of}
 use Rattle.pw_model.specs.Lists.{Lists}
 use Rattle.pw_model.specs.Shelf.{ShelfContent}
 use Rattle.pw_model.specs.Seconds.{by_second}
@@ -24,9 +24,9 @@ use Rattle.pw_book.specs.inner.Sums.{energy_told}
 -- the energies that were those of the one are those of the other, and no records and no other totals are changed
 pub record IsSettled (office : OfficeRules) (was is : Key → Contents) (old new : ShelfContent) : Type 0 where
   pub records : new.records ≡ old.records
-  pub energies : (k : TotalKey) → OfOwners office.bands office.accounts k → old.total k ≡ energy_told office was k → energy_told office is k ≤ most_total →
+  pub energies : (k : TotalKey) → OfOwners office.periods office.bands office.accounts k → old.total k ≡ energy_told office was k → energy_told office is k ≤ most_total →
       new.total k ≡ energy_told office is k
-  pub elsewhere : (k : TotalKey) → (OfOwners office.bands office.accounts k → ⊥) → new.total k ≡ old.total k
+  pub elsewhere : (k : TotalKey) → (OfOwners office.periods office.bands office.accounts k → ⊥) → new.total k ≡ old.total k
 
 -- the points of a register all lie before the end of all instants
 abbrev pub EndsBefore : ℕ → (ℕ → Option ℕ) → Type 0
@@ -59,5 +59,5 @@ pub record IsStartChanged (c : ShelfContent) (was is : Key → Contents) (m from
 
 -- what a register gives to a total, where what counts is told by keys
 abbrev pub register_told : OfficeRules → (Key → Contents) → ℕ → TotalKey → Register → ℕ
-register_told office at m (Energy o b d) r = in_direction d r (share_of office at (of_band office o b.0) m r)
+register_told office at m (Energy o p b d) r = in_direction d r (share_of office at (of_class office o p.0 b.0) m r)
 register_told office at m (TopUps a) r = 0

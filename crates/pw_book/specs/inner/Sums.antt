@@ -7,7 +7,7 @@ use Rattle.pw_model.specs.declared.records.Key.{Key}
 use Rattle.pw_model.specs.declared.records.Contents.{Contents}
 use Rattle.pw_model.specs.declared.records.TotalKey.{TotalKey}
 use Rattle.pw_model.specs.declared.records.TotalKey.TheVariants.{Energy, TopUps}
-use Rattle.pw_model.specs.Energy.{energy_where, of_band}
+use Rattle.pw_model.specs.Energy.{energy_where, of_class}
 use Rattle.pw_parts.specs.Changes.{gathered}
 use Rattle.pw_parts.specs.declared.changes.Change.{Change}
 use Rattle.pw_parts.specs.declared.changes.Side.TheVariants.{Loses, Gains}
@@ -19,7 +19,7 @@ point_listed (Some a) points = a ∷ points
 
 -- the energy of a total, where what counts is told by keys
 abbrev pub energy_told : OfficeRules → (Key → Contents) → TotalKey → ℕ
-energy_told office at (Energy o b d) = energy_where office at d (of_band office o b.0)
+energy_told office at (Energy o p b d) = energy_where office at d (of_class office o p.0 b.0)
 energy_told office at (TopUps a) = 0
 
 -- from the one to the other, each energy loses and gains what is gathered

@@ -1,8 +1,8 @@
 //! The questions to a book.
 
 ghost use Rattle.std.specs.Prelude.{◌≡◌, ◌+◌, ◌*◌, ◌<◌, IfOk, MatchResult, true, false, length};
-ghost use Rattle.pw_tariff.specs.Office.{office_of};
-ghost use Rattle.pw_model.specs.Energy.{energy as energy_of};
+ghost use Rattle.pw_tariff.specs.Office.{office_of, periods_in};
+ghost use Rattle.pw_model.specs.Energy.{energy as energy_of, energy_in_period};
 ghost use Rattle.pw_model.specs.Kinds.{IsAssignment, IsTopUp, IsWithdrawal, ListsHeld};
 ghost use Rattle.pw_model.specs.Lists.{AreDisputes, AreFalls, AreReadings, record_count};
 ghost use Rattle.pw_model.specs.Office.{HasOwner};
@@ -15,18 +15,19 @@ use crate::asked::{count_held, topups_held, total_held, withdrawals_held};
 use crate::assignments::all_assignments;
 use crate::balances::balance_held;
 use crate::disputes::disputes_held;
+use crate::energies::energy_held;
 use crate::falls::falls_held;
 use crate::fault::BookFault;
 use crate::rows::rows_held;
 use pw_model::{Dispute, Entry, Fall, ReadingRow, TotalKey};
 use pw_obis::Register;
 use pw_shelf::Shelf;
-use pw_tariff::{AccountId, BandId, Direction, MeterId, Owner};
+use pw_tariff::{AccountId, BandId, Direction, MeterId, Owner, PeriodId};
 use std::alloc::Global;
 
 impl<S: Shelf> Book<S> {
-    /// The energy of an owner in a band, in Wh, of the direction, by the records held. It asks for an account and a band of the
-    /// office; the owner may be nobody.
+    /// The energy of an owner in a band, in Wh, of the direction, by the records held: that of all periods together. It asks
+    /// for an account and a band of the office; the owner may be nobody.
     ///
     /// As with each question, `Device`, `Memory` and `Reopen` (of a shut book) leave the records as they are.
     pub fn energy(
@@ -38,12 +39,34 @@ impl<S: Shelf> Book<S> {
         requires owner { HasOwner (office_of self.old.office) owner }
         requires band { band.0 < length self.old.office.bands }
         ensures energy { S.clean self.new.shelf → IfOk result (λ wh. wh ≡ energy_of (office_of self.old.office) (S.state self.old.shelf).content.records owner band.0 direction) }
+        ensures cost { RisesAtMost (2 * periods_in self.old.office) (S.state self.old.shelf).tally (S.state self.new.shelf).tally }
+        ensures question { IsQuestion S.Shelf result self.old self.new }
+    {
+        self.still_open()?;
+        let wh = energy_held(&mut self.shelf, &self.office, owner, band, direction)?;
+        Ok(wh)
+    }
+
+    /// The energy of an owner in a band within a period, in Wh, of the direction, by the records held. It asks for an account,
+    /// a period and a band of the office; the owner may be nobody.
+    pub fn energy_in(
+        &mut self,
+        owner: Owner,
+        period: PeriodId,
+        band: BandId,
+        direction: Direction,
+    ) -> Result<u64, BookFault>
+        requires owner { HasOwner (office_of self.old.office) owner }
+        requires period { period.0 < periods_in self.old.office }
+        requires band { band.0 < length self.old.office.bands }
+        ensures energy { S.clean self.new.shelf → IfOk result (λ wh. wh ≡ energy_in_period (office_of self.old.office) (S.state self.old.shelf).content.records owner period.0 band.0 direction) }
         ensures cost { RisesAtMost 2 (S.state self.old.shelf).tally (S.state self.new.shelf).tally }
         ensures question { IsQuestion S.Shelf result self.old self.new }
     {
         self.still_open()?;
         let key = TotalKey::Energy {
             owner,
+            period,
             band,
             direction,
         };
@@ -62,11 +85,12 @@ impl<S: Shelf> Book<S> {
     }
 
     /// The balance of an account, in nano-euro, by the records held: what was topped up, less the price of its imported energy,
-    /// plus the price of its exported energy. It asks for an account of the office.
+    /// plus the price of its exported energy, each energy at the price of its period and band. It asks for an account of the
+    /// office.
     pub fn balance(&mut self, account: AccountId) -> Result<i128, BookFault>
         requires { account.0 < length self.old.office.accounts }
         ensures balance { S.clean self.new.shelf → IfOk result (λ nano. nano ≡ balance_of (office_of self.old.office) (S.state self.old.shelf).content.records account.0) }
-        ensures cost { RisesAtMost (2 * (2 * length self.old.office.bands + 1)) (S.state self.old.shelf).tally (S.state self.new.shelf).tally }
+        ensures cost { RisesAtMost (2 * (2 * (periods_in self.old.office * length self.old.office.bands) + 1)) (S.state self.old.shelf).tally (S.state self.new.shelf).tally }
         ensures question { IsQuestion S.Shelf result self.old self.new }
     {
         self.still_open()?;

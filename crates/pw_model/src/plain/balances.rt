@@ -5,13 +5,14 @@ ghost use Rattle.pw_model.specs.Counting.{contents_at as held_at};
 ghost use Rattle.pw_model.specs.Energy.{cost as cost_of};
 ghost use Rattle.pw_model.specs.Office.{AllOfOffice, IsOffice, most_records};
 ghost use Rattle.pw_model.specs.Payments.{balance as balance_of};
+ghost use Rattle.pw_model.specs.inner.Tariff.{period_cost};
 
-use super::energies::energy;
+use super::energies::energy_in;
 use super::payments::topped_up;
 use super::terms::Terms;
 use crate::limits::NANO_IN_CENT;
 use crate::records::Entry;
-use pw_tariff::{AccountId, BandId, Direction};
+use pw_tariff::{AccountId, BandId, Direction, PeriodId};
 use std::alloc::{AllocError, Global};
 
 /// The balance of an account, in nano-euro: what was topped up, less what it took, and what it gave.
@@ -41,7 +42,7 @@ fn difference(paid: u128, imported: u128, exported: u128) -> i128
     paid as i128 - imported as i128 + exported as i128
 }
 
-// What an account's energy costs, in nano-euro.
+// What an account's energy costs, in nano-euro: that of each period at its prices.
 fn cost<T: Terms>(
     alloc: Global,
     terms: &T,
@@ -53,13 +54,45 @@ fn cost<T: Terms>(
     requires entries { AllOfOffice (T.office terms.now) entries.now }
     requires few { length entries.now ≤ most_records }
     ensures cost { IfOk result (λ nano. nano ≡ cost_of (T.office terms.now) (held_at entries.now) (Some account) direction) }
+    ensures bound { IfOk result (λ nano. nano ≤ 127999999998720000000000000000) }
+{
+    let mut nano = 0;
+    for period in 0..terms.periods() {
+        let part = cost_in(alloc, terms, entries, account, PeriodId(period), direction)?;
+        nano += part;
+    }
+    Ok(nano)
+}
+
+// What an account's energy of a period costs, in nano-euro.
+fn cost_in<T: Terms>(
+    alloc: Global,
+    terms: &T,
+    entries: &[Entry],
+    account: AccountId,
+    period: PeriodId,
+    direction: Direction,
+) -> Result<u128, AllocError>
+    requires office { IsOffice (T.office terms.now) }
+    requires entries { AllOfOffice (T.office terms.now) entries.now }
+    requires few { length entries.now ≤ most_records }
+    requires period { period.0 < (T.office terms.now).periods }
+    ensures cost { IfOk result (λ nano. nano ≡ period_cost (T.office terms.now) (held_at entries.now) (Some account) period.0 direction) }
     ensures bound { IfOk result (λ nano. nano ≤ 7999999999920000000000000000) }
 {
     let mut nano = 0;
     for band in 0..terms.bands() {
         let band = BandId(band);
-        let wh = energy(alloc, terms, entries, Some(account), band, direction)?;
-        nano += u128::from(terms.price(band, direction)) * u128::from(wh);
+        let wh = energy_in(
+            alloc,
+            terms,
+            entries,
+            Some(account),
+            period,
+            band,
+            direction,
+        )?;
+        nano += u128::from(terms.price(period, band, direction)) * u128::from(wh);
     }
     Ok(nano)
 }

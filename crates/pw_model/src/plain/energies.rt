@@ -1,13 +1,14 @@
-//! The energy of an owner in a band.
+//! The energy of an owner in a band, of all periods or of one.
 
 ghost use Rattle.std.specs.Prelude.{◌≡◌, ◌<◌, ◌≤◌, All, IfOk, length};
 ghost use Rattle.pw_flow.specs.Energy.{register_energy};
 ghost use Rattle.pw_flow.specs.Plain.{value_at};
 ghost use Rattle.pw_flow.specs.Time.{AreInTime};
 ghost use Rattle.pw_model.specs.Counting.{contents_at as held_at};
-ghost use Rattle.pw_model.specs.Energy.{energy as energy_of, meter_share, of_band, asked_seconds, share_of};
+ghost use Rattle.pw_model.specs.Energy.{energy as energy_of, energy_in_period, energy_where, meter_share, asked_seconds, share_of};
 ghost use Rattle.pw_model.specs.Office.{AllOfOffice, IsOffice, most_records};
 ghost use Rattle.pw_model.specs.inner.Search.{at_instants};
+ghost use Rattle.pw_model.specs.inner.Tariff.{asked_of, in_tariff};
 ghost use Rattle.pw_tariff.specs.Owners.{same_owner};
 ghost use Rattle.pw_time.specs.Instants.{IsInstant};
 ghost use Rattle.pw_time.specs.declared.instant.TheConstants.{END_SECOND as the_end};
@@ -18,7 +19,7 @@ use super::terms::Terms;
 use crate::records::Entry;
 use pw_flow::plain::Point;
 use pw_obis::Register;
-use pw_tariff::{BandId, Direction, MeterId, Owner};
+use pw_tariff::{BandId, Direction, MeterId, Owner, PeriodId};
 use pw_time::Instant;
 use std::alloc::{AllocError, Global};
 
@@ -36,6 +37,42 @@ pub fn energy<T: Terms>(
     requires few { length entries.now ≤ most_records }
     ensures { IfOk result (λ wh. wh ≡ energy_of (T.office terms.now) entries.now owner band.0 direction) }
 {
+    energy_asked(alloc, terms, entries, owner, None, band, direction)
+}
+
+/// The energy of an owner in a band within a period, in Wh.
+pub fn energy_in<T: Terms>(
+    alloc: Global,
+    terms: &T,
+    entries: &[Entry],
+    owner: Owner,
+    period: PeriodId,
+    band: BandId,
+    direction: Direction,
+) -> Result<u64, AllocError>
+    requires office { IsOffice (T.office terms.now) }
+    requires entries { AllOfOffice (T.office terms.now) entries.now }
+    requires few { length entries.now ≤ most_records }
+    ensures { IfOk result (λ wh. wh ≡ energy_in_period (T.office terms.now) entries.now owner period.0 band.0 direction) }
+{
+    energy_asked(alloc, terms, entries, owner, Some(period), band, direction)
+}
+
+// The energy of an owner in a band, within a period where one is named.
+fn energy_asked<T: Terms>(
+    alloc: Global,
+    terms: &T,
+    entries: &[Entry],
+    owner: Owner,
+    period: Option<PeriodId>,
+    band: BandId,
+    direction: Direction,
+) -> Result<u64, AllocError>
+    requires office { IsOffice (T.office terms.now) }
+    requires entries { AllOfOffice (T.office terms.now) entries.now }
+    requires few { length entries.now ≤ most_records }
+    ensures { IfOk result (λ wh. wh ≡ energy_where (T.office terms.now) (held_at entries.now) direction (asked_of (T.office terms.now) owner period band.0)) }
+{
     let mut total = 0;
     for meter in 0..terms.meters() {
         total += meter_energy(
@@ -44,6 +81,7 @@ pub fn energy<T: Terms>(
             entries,
             MeterId(meter),
             owner,
+            period,
             band,
             direction,
         )?;
@@ -57,6 +95,7 @@ fn meter_energy<T: Terms>(
     entries: &[Entry],
     meter: MeterId,
     owner: Owner,
+    period: Option<PeriodId>,
     band: BandId,
     direction: Direction,
 ) -> Result<u64, AllocError>
@@ -64,15 +103,15 @@ fn meter_energy<T: Terms>(
     requires entries { AllOfOffice (T.office terms.now) entries.now }
     requires few { length entries.now ≤ most_records }
     requires meter { meter.0 < (T.office terms.now).meters }
-    ensures { IfOk result (λ wh. wh ≡ meter_share (T.office terms.now) (held_at entries.now) direction (of_band (T.office terms.now) owner band.0) meter.0) }
+    ensures { IfOk result (λ wh. wh ≡ meter_share (T.office terms.now) (held_at entries.now) direction (asked_of (T.office terms.now) owner period band.0) meter.0) }
 {
     let [total, first, second] = match direction {
         Direction::Import => [Register::I0, Register::I1, Register::I2],
         Direction::Export => [Register::E0, Register::E1, Register::E2],
     };
-    let total = register_share(alloc, terms, entries, meter, total, owner, band)?;
-    let first = register_share(alloc, terms, entries, meter, first, owner, band)?;
-    let second = register_share(alloc, terms, entries, meter, second, owner, band)?;
+    let total = register_share(alloc, terms, entries, meter, total, owner, period, band)?;
+    let first = register_share(alloc, terms, entries, meter, first, owner, period, band)?;
+    let second = register_share(alloc, terms, entries, meter, second, owner, period, band)?;
     Ok(total + first + second)
 }
 
@@ -83,59 +122,79 @@ fn register_share<T: Terms>(
     meter: MeterId,
     register: Register,
     owner: Owner,
+    period: Option<PeriodId>,
     band: BandId,
 ) -> Result<u64, AllocError>
     requires office { IsOffice (T.office terms.now) }
     requires entries { AllOfOffice (T.office terms.now) entries.now }
     requires few { length entries.now ≤ most_records }
     requires meter { meter.0 < (T.office terms.now).meters }
-    ensures share { IfOk result (λ wh. wh ≡ share_of (T.office terms.now) (held_at entries.now) (of_band (T.office terms.now) owner band.0) meter.0 register) }
+    ensures share { IfOk result (λ wh. wh ≡ share_of (T.office terms.now) (held_at entries.now) (asked_of (T.office terms.now) owner period band.0) meter.0 register) }
     ensures bound { IfOk result (λ wh. wh ≤ 999999999990000000) }
 {
     if !terms.counts(meter, register) {
         return Ok(0);
     }
     let points = points_of(alloc, entries, meter, register)?;
-    let energy = points_energy(terms, entries, meter, owner, band, &points);
+    let energy = points_energy(terms, entries, meter, owner, period, band, &points);
     Ok(energy as u64)
 }
 
-// The energy of points over the seconds of a meter with this owner and band.
+// The energy of points over the seconds of a meter with this owner and band, within a period where one is named.
 fn points_energy<T: Terms>(
     terms: &T,
     entries: &[Entry],
     meter: MeterId,
     owner: Owner,
+    period: Option<PeriodId>,
     band: BandId,
     points: &[Point],
 ) -> u128
     requires rising { AreInTime (λ p. p.at) points.now }
     requires instants { All (λ p. IsInstant p.at) points.now }
-    ensures { result ≡ register_energy (asked_seconds (held_at entries.now) (of_band (T.office terms.now) owner band.0) meter.0) (value_at points.now) the_end }
+    ensures { result ≡ register_energy (asked_seconds (held_at entries.now) (asked_of (T.office terms.now) owner period band.0) meter.0) (value_at points.now) the_end }
 {
     pw_flow::plain::energy(
         points,
         |second: u32| -> bool
-            ensures { result ≡ at_instants (asked_seconds (held_at entries.entry.now) (of_band (T.office terms.entry.now) owner band.0) meter.0) second }
-        { is_of(terms, entries, meter, owner, band, second) },
+            ensures { result ≡ at_instants (asked_seconds (held_at entries.entry.now) (asked_of (T.office terms.entry.now) owner period band.0) meter.0) second }
+        { is_of(terms, entries, meter, owner, period, band, second) },
     )
 }
 
-// Whether a second is an instant of this owner and band.
+// Whether a second is an instant of this owner and band, within a period where one is named.
 fn is_of<T: Terms>(
     terms: &T,
     entries: &[Entry],
     meter: MeterId,
     owner: Owner,
+    period: Option<PeriodId>,
     band: BandId,
     second: u32,
 ) -> bool
-    ensures { result ≡ at_instants (asked_seconds (held_at entries.now) (of_band (T.office terms.now) owner band.0) meter.0) second }
+    ensures { result ≡ at_instants (asked_seconds (held_at entries.now) (asked_of (T.office terms.now) owner period band.0) meter.0) second }
 {
     let Some(instant) = Instant::of(second) else {
         return false;
     };
-    is_same_owner(owner_at(entries, meter, second), owner) && terms.band(instant).0 == band.0
+    is_same_owner(owner_at(entries, meter, second), owner)
+        && is_in_tariff(terms, period, band, instant)
+}
+
+// Whether an instant is one of a band, within a period where one is named.
+#[tactic(auto, unfolding(crate::specs::inner::Tariff::in_tariff))]
+fn is_in_tariff<T: Terms>(
+    terms: &T,
+    period: Option<PeriodId>,
+    band: BandId,
+    instant: Instant,
+) -> bool
+    ensures { result ≡ in_tariff (T.office terms.now) period band.0 instant }
+{
+    match period {
+        None => terms.band(instant).0 == band.0,
+        Some(period) => terms.period(instant).0 == period.0 && terms.band(instant).0 == band.0,
+    }
 }
 
 fn is_same_owner(a: Owner, b: Owner) -> bool

@@ -1,15 +1,15 @@
 //! What is fixed before any record comes.
 
 ghost use Rattle.std.specs.Prelude.{◌≡◌};
-ghost use Rattle.pw_tariff.specs.Office.{OfficeRules, office_of};
+ghost use Rattle.pw_tariff.specs.Office.{OfficeRules, office_of, price_at};
 ghost use Rattle.pw_model.specs.Office.{IsOffice};
 
 use pw_obis::Register;
-use pw_tariff::{BandId, Direction, MeterId, Office};
+use pw_tariff::{BandId, Direction, MeterId, Office, PeriodId};
 use pw_time::{Instant, Zone};
 use std::marker::Model;
 
-/// An office: its meters and the registers that count for them, its bands and prices.
+/// An office: its meters and the registers that count for them, its bands, periods and prices.
 pub trait Terms {
     // the office in the words of the definitions
     ghost office: { Self → OfficeRules };
@@ -26,6 +26,10 @@ pub trait Terms {
     fn bands(&self) -> u8
         ensures { result ≡ (office self.now).bands };
 
+    /// How many periods there are.
+    fn periods(&self) -> u8
+        ensures { result ≡ (office self.now).periods };
+
     /// Whether a meter's register counts.
     fn counts(&self, meter: MeterId, register: Register) -> bool
         ensures { result ≡ (office self.now).counts meter.0 register };
@@ -34,12 +38,16 @@ pub trait Terms {
     fn band(&self, instant: Instant) -> BandId
         ensures { result.0 ≡ (office self.now).band instant };
 
-    /// The price of a band, in nano-euro per Wh.
-    fn price(&self, band: BandId, direction: Direction) -> u32
-        ensures { result ≡ (office self.now).price band.0 direction };
+    /// The period of an instant.
+    fn period(&self, instant: Instant) -> PeriodId
+        ensures { result.0 ≡ (office self.now).period instant };
+
+    /// The price of a band in a period, in nano-euro per Wh.
+    fn price(&self, period: PeriodId, band: BandId, direction: Direction) -> u32
+        ensures { result ≡ (office self.now).price period.0 band.0 direction };
 }
 
-/// The terms of an office as its file tells them, with the bands that local clocks show.
+/// The terms of an office as its file tells them, with the bands that local clocks show in the week of each period.
 ///
 /// It borrows the office and the zone, and takes no memory.
 #[derive(Drop)]
@@ -82,6 +90,10 @@ impl<'a> Terms for OfficeTerms<'a> {
         self.office.bands()
     }
 
+    fn periods(&self) -> u8 {
+        self.office.periods()
+    }
+
     fn counts(&self, meter: MeterId, register: Register) -> bool {
         meter.0 < self.office.meters() && self.office.counts(meter, register)
     }
@@ -90,11 +102,24 @@ impl<'a> Terms for OfficeTerms<'a> {
         self.office.band(instant, self.zone)
     }
 
-    fn price(&self, band: BandId, direction: Direction) -> u32 {
-        if band.0 < self.office.bands() {
-            self.office.price(band, direction)
-        } else {
-            0
-        }
+    fn period(&self, instant: Instant) -> PeriodId {
+        self.office.period(instant)
     }
+
+    fn price(&self, period: PeriodId, band: BandId, direction: Direction) -> u32 {
+        price_held(self.office, period, band, direction)
+    }
+}
+
+// The price of a band in a period of an office: nothing where it hasn't both.
+fn price_held(office: &Office, period: PeriodId, band: BandId, direction: Direction) -> u32
+    ensures { result ≡ price_at office.now period.0 band.0 direction }
+{
+    if period.0 >= office.periods() {
+        return 0;
+    }
+    if band.0 >= office.bands() {
+        return 0;
+    }
+    office.price(period, band, direction)
 }

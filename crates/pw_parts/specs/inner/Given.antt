@@ -15,19 +15,19 @@ use Rattle.pw_model.specs.declared.records.TotalKey.{TotalKey}
 use Rattle.pw_model.specs.declared.records.TotalKey.TheVariants.{Energy, TopUps}
 use Rattle.pw_model.specs.Same.{same_direction, direction_of, entry_order}
 use Rattle.pw_model.specs.Counting.{Member, Counts, contents_at}
-use Rattle.pw_model.specs.Energy.{share_of, meter_share, of_band, energy}
+use Rattle.pw_model.specs.Energy.{share_of, meter_share, of_class, energy_in_period}
 use Rattle.pw_model.specs.Lists.{IsInOrder}
 use Rattle.pw_model.specs.Office.{AllOfOffice}
 use Rattle.pw_model.specs.Payments.{cents_for}
 
--- to energies by owner, band and direction, and nothing to top-ups
-abbrev pub to_energies : (Option AccountId → ℕ → Direction → ℕ) → TotalKey → ℕ
-to_energies f (Energy o b d) = f o b.0 d
+-- to energies by owner, period, band and direction, and nothing to top-ups
+abbrev pub to_energies : (Option AccountId → ℕ → ℕ → Direction → ℕ) → TotalKey → ℕ
+to_energies f (Energy o p b d) = f o p.0 b.0 d
 to_energies f (TopUps a) = 0
 
 -- to top-ups by account, and nothing to energies
 abbrev pub to_payments : (ℕ → ℕ) → TotalKey → ℕ
-to_payments f (Energy o b d) = 0
+to_payments f (Energy o p b d) = 0
 to_payments f (TopUps a) = f a.0
 
 -- n in this direction alone
@@ -36,12 +36,12 @@ in_way d e n = cond (same_direction d e) n 0
 
 -- what cells of a direction give to a total
 abbrev pub cells_for : Direction → List Cell → TotalKey → ℕ
-cells_for d cells (Energy o b e) = cond (same_direction d e) (energy_in cells o b.0) 0
+cells_for d cells (Energy o p b e) = cond (same_direction d e) (energy_in cells o p.0 b.0) 0
 cells_for d cells (TopUps a) = 0
 
 -- a register of a meter, of a set of records
 abbrev pub register_given : OfficeRules → List Entry → ℕ → Register → TotalKey → ℕ
-register_given office s m r = to_energies (λ o b e. in_way (direction_of r) e (share_of office (contents_at s) (of_band office o b) m r))
+register_given office s m r = to_energies (λ o p b e. in_way (direction_of r) e (share_of office (contents_at s) (of_class office o p b) m r))
 
 -- some registers of a meter
 abbrev pub registers_given : OfficeRules → List Entry → ℕ → List Register → TotalKey → ℕ
@@ -49,11 +49,11 @@ registers_given office s m rs k = sum_by (λ r. register_given office s m r k) r
 
 -- a meter
 abbrev pub meter_given : OfficeRules → List Entry → ℕ → TotalKey → ℕ
-meter_given office s m = to_energies (λ o b e. meter_share office (contents_at s) e (of_band office o b) m)
+meter_given office s m = to_energies (λ o p b e. meter_share office (contents_at s) e (of_class office o p b) m)
 
 -- all meters
 abbrev pub energies_given : OfficeRules → List Entry → TotalKey → ℕ
-energies_given office s = to_energies (λ o b e. energy office s o b e)
+energies_given office s = to_energies (λ o p b e. energy_in_period office s o p b e)
 
 -- a top-up
 abbrev pub payment_given : Entry → TotalKey → ℕ

@@ -11,14 +11,14 @@ use Rattle.sqlite.specs.State.{State}
 use Rattle.sqlite.specs.Tree.{Trees}
 use Rattle.sqlite_catalog.specs.Change.{KeepsRows}
 use Rattle.pw_schema.specs.declared.table.StoreTable.{StoreTable}
-use Rattle.pw_schema.specs.declared.table.StoreTable.TheVariants.{Office, Readings, Assignments, TopUps, Points, Starts, Totals, TotalTopUps, WithdrawnReadings, WithdrawnAssignments, WithdrawnTopUps}
-use Rattle.pw_schema.specs.Tables.{no_schema, only_one, office_at, reading_at, assignment_at, topup_at, point_at, start_at, total_at, total_topup_at, withdrawn_reading_at, withdrawn_assignment_at, withdrawn_topup_at, index_of}
+use Rattle.pw_schema.specs.declared.table.StoreTable.TheVariants.{Office, Readings, Assignments, TopUps, Points, Starts, Totals, TotalTopUps, WithdrawnReadings, WithdrawnAssignments, WithdrawnTopUps, PeriodTotals}
+use Rattle.pw_schema.specs.Tables.{no_schema, only_one, office_at, reading_at, assignment_at, topup_at, point_at, start_at, total_at, total_topup_at, withdrawn_reading_at, withdrawn_assignment_at, withdrawn_topup_at, period_total_at, index_of}
 
 -- the tables in the order in which they are made
 abbrev pub all_tables : List StoreTable
 all_tables =
     Office ∷ Readings ∷ Assignments ∷ TopUps ∷ Points ∷ Starts ∷ Totals ∷ TotalTopUps
-    ∷ WithdrawnReadings ∷ WithdrawnAssignments ∷ WithdrawnTopUps ∷ []
+    ∷ WithdrawnReadings ∷ WithdrawnAssignments ∷ WithdrawnTopUps ∷ PeriodTotals ∷ []
 
 -- the place of a table among them, and the tree at which it stands in a store, both from 0
 abbrev pub places : StoreTable → ℕ × ℕ
@@ -33,6 +33,7 @@ places TotalTopUps = (7, 13)
 places WithdrawnReadings = (8, 14)
 places WithdrawnAssignments = (9, 16)
 places WithdrawnTopUps = (10, 18)
+places PeriodTotals = (11, 20)
 
 abbrev pub place : StoreTable → ℕ
 place t = (places t).0
@@ -53,6 +54,7 @@ text_of TotalTopUps = codes "CREATE TABLE total_topup (account INTEGER PRIMARY K
 text_of WithdrawnReadings = codes "CREATE TABLE withdrawn_reading (meter INTEGER NOT NULL, register INTEGER NOT NULL, instant INTEGER NOT NULL, wh INTEGER NOT NULL, PRIMARY KEY (meter, register, instant, wh)) STRICT"
 text_of WithdrawnAssignments = codes "CREATE TABLE withdrawn_assignment (meter INTEGER NOT NULL, start INTEGER NOT NULL, owner INTEGER NOT NULL, PRIMARY KEY (meter, start, owner)) STRICT"
 text_of WithdrawnTopUps = codes "CREATE TABLE withdrawn_topup (reference TEXT NOT NULL, account INTEGER NOT NULL, cents INTEGER NOT NULL, instant INTEGER NOT NULL, PRIMARY KEY (reference, account, cents, instant)) STRICT"
+text_of PeriodTotals = codes "CREATE TABLE period_total (owner INTEGER NOT NULL, period INTEGER NOT NULL, band INTEGER NOT NULL, direction INTEGER NOT NULL, wh INTEGER NOT NULL, PRIMARY KEY (owner, period, band, direction)) STRICT"
 
 -- the table itself, at a tree
 abbrev pub table_at : StoreTable → ℕ → Table
@@ -67,6 +69,7 @@ table_at TotalTopUps tree = total_topup_at tree
 table_at WithdrawnReadings tree = withdrawn_reading_at tree
 table_at WithdrawnAssignments tree = withdrawn_assignment_at tree
 table_at WithdrawnTopUps tree = withdrawn_topup_at tree
+table_at PeriodTotals tree = period_total_at tree
 
 -- the table as it stands in a store
 abbrev pub stored : StoreTable → Table

@@ -11,7 +11,7 @@ use Rattle.pw_shelf.specs.Changes.{with_point, with_start, with_total}
 use Rattle.pw_shelf.specs.State.{IsWithRecord}
 use Rattle.pw_store.specs.declared.changes.Change.{Change}
 use Rattle.pw_store.specs.declared.changes.Change.TheVariants.{TakePoint, PutPoint, TakeStart, PutStart, TakeEnergy, PutEnergy, TakePayment, PutPayment}
-use Rattle.pw_store.specs.Content.{content_of, point_in, start_in, energy_told, payment_told, point_tree, start_tree, total_tree, payment_tree}
+use Rattle.pw_store.specs.Content.{content_of, point_in, start_in, energy_told, payment_told, point_tree, start_tree, energy_tree, payment_tree}
 use Rattle.pw_store.specs.Kept.{IsStore}
 use Rattle.pw_store.specs.Left.{Keeps}
 
@@ -39,8 +39,8 @@ changed (TakePoint m r t) c = with_point c m.0 r t None
 changed (PutPoint m r t w) c = with_point c m.0 r t (Some w)
 changed (TakeStart m t) c = with_start c m.0 t None
 changed (PutStart m t o) c = with_start c m.0 t (Some o)
-changed (TakeEnergy o b d) c = with_total c (total.Energy o b d) 0
-changed (PutEnergy o b d w) c = with_total c (total.Energy o b d) w
+changed (TakeEnergy o p b d) c = with_total c (total.Energy o p b d) 0
+changed (PutEnergy o p b d w) c = with_total c (total.Energy o p b d) w
 changed (TakePayment a) c = with_total c (total.TopUps a) 0
 changed (PutPayment a n) c = with_total c (total.TopUps a) n
 
@@ -48,7 +48,7 @@ changed (PutPayment a n) c = with_total c (total.TopUps a) n
 abbrev pub IsFree : Change → Trees → Type 0
 IsFree (PutPoint m r t w) db = point_in (db point_tree) m.0 r t ≡ None
 IsFree (PutStart m t o) db = start_in (db start_tree) m.0 t ≡ None
-IsFree (PutEnergy o b d w) db = energy_told (db total_tree) (total.Energy o b d) ≡ None
+IsFree (PutEnergy o p b d w) db = energy_told (db energy_tree) (total.Energy o p b d) ≡ None
 IsFree (PutPayment a n) db = payment_told (db payment_tree) (total.TopUps a) ≡ None
 IsFree _ db = Unit {0}
 
@@ -56,12 +56,12 @@ IsFree _ db = Unit {0}
 abbrev pub IsTaken : Change → Trees → Type 0
 IsTaken (TakePoint m r t) db = point_in (db point_tree) m.0 r t ≡ None
 IsTaken (TakeStart m t) db = start_in (db start_tree) m.0 t ≡ None
-IsTaken (TakeEnergy o b d) db = energy_told (db total_tree) (total.Energy o b d) ≡ None
+IsTaken (TakeEnergy o p b d) db = energy_told (db energy_tree) (total.Energy o p b d) ≡ None
 IsTaken (TakePayment a) db = payment_told (db payment_tree) (total.TopUps a) ≡ None
 IsTaken _ db = Unit {0}
 
 -- an amount is above 0, and fits a column
 abbrev pub Fits : Change → Type 0
-Fits (PutEnergy o b d w) = (0 < w) × (w < 2 ^ 63)
+Fits (PutEnergy o p b d w) = (0 < w) × (w < 2 ^ 63)
 Fits (PutPayment a n) = (0 < n) × (n < 2 ^ 63)
 Fits _ = Unit {0}

@@ -12,8 +12,8 @@ use Rattle.pw_schema.specs.declared.kind.TotalKind.TheVariants.{Energies, Paymen
 use Rattle.pw_store.specs.declared.listings.KeptKind.{KeptKind}
 use Rattle.pw_store.specs.declared.listings.KeptKind.TheVariants.{Points, Starts}
 use Rattle.pw_store.specs.declared.listings.Listing.{Listing}
-use Rattle.pw_store.specs.declared.listings.Listing.TheVariants.{Records, Kept, Totals, KeptRowids, EnergyRowids}
-use Rattle.pw_store.specs.Content.{payment_tree, point_tree, start_tree, total_tree, tree_of}
+use Rattle.pw_store.specs.declared.listings.Listing.TheVariants.{Records, Kept, Totals, KeptRowids, EnergyRowids, OldTotals}
+use Rattle.pw_store.specs.Content.{energy_tree, payment_tree, point_tree, start_tree, total_tree, tree_of}
 use Rattle.pw_store.specs.inner.Lists.{shown}
 use Rattle.pw_store.specs.inner.Sums.{shown_id, shown_total}
 
@@ -28,7 +28,7 @@ kept_tree Points = point_tree
 kept_tree Starts = start_tree
 
 abbrev pub totals_tree : TotalKind → ℕ
-totals_tree Energies = total_tree
+totals_tree Energies = energy_tree
 totals_tree Payments = payment_tree
 
 -- ---- of a listing
@@ -42,11 +42,12 @@ text_of (Records WithdrawnAssignments) = codes "SELECT meter, start, owner FROM 
 text_of (Records WithdrawnTopUps) = codes "SELECT reference, account, cents, instant FROM withdrawn_topup ORDER BY reference, account, cents, instant"
 text_of (Kept Points) = codes "SELECT meter, register, instant, wh FROM point ORDER BY meter, register, instant"
 text_of (Kept Starts) = codes "SELECT meter, start, owner FROM start ORDER BY meter, start"
-text_of (Totals Energies) = codes "SELECT owner, band, direction, wh FROM total ORDER BY owner, band, direction"
+text_of (Totals Energies) = codes "SELECT owner, period, band, direction, wh FROM period_total ORDER BY owner, period, band, direction"
 text_of (Totals Payments) = codes "SELECT account, cents FROM total_topup ORDER BY account"
 text_of (KeptRowids Points) = codes "SELECT rowid FROM point ORDER BY rowid"
 text_of (KeptRowids Starts) = codes "SELECT rowid FROM start ORDER BY rowid"
-text_of EnergyRowids = codes "SELECT rowid FROM total ORDER BY rowid"
+text_of EnergyRowids = codes "SELECT rowid FROM period_total ORDER BY rowid"
+text_of OldTotals = codes "SELECT rowid FROM total ORDER BY rowid"
 
 -- the tree that it reads
 abbrev pub listed_tree : Listing → ℕ
@@ -54,7 +55,8 @@ listed_tree (Records k) = tree_of k
 listed_tree (Kept k) = kept_tree k
 listed_tree (Totals k) = totals_tree k
 listed_tree (KeptRowids k) = kept_tree k
-listed_tree EnergyRowids = total_tree
+listed_tree EnergyRowids = energy_tree
+listed_tree OldTotals = total_tree
 
 -- what it shows of a row
 abbrev pub shown_by : Listing → Row → Row
@@ -63,6 +65,7 @@ shown_by (Kept k) = shown (kept_as k)
 shown_by (Totals k) = shown_total k
 shown_by (KeptRowids k) = shown_id
 shown_by EnergyRowids = shown_id
+shown_by OldTotals = shown_id
 
 -- the rows shown are those of its table, in some order
 abbrev pub ShowsAll : Listing → Trees → List Row → Type 0

@@ -14,14 +14,14 @@ use Rattle.pw_schema.specs.declared.kind.RecordKind.TheVariants.{Readings, Assig
 use Rattle.pw_schema.specs.declared.kind.TotalKind.{TotalKind}
 use Rattle.pw_schema.specs.declared.kind.TotalKind.TheVariants.{Energies, Payments}
 use Rattle.pw_schema.specs.Judging.{by_key, by_total}
-use Rattle.pw_store.specs.Content.{point_tree, start_tree, total_tree, payment_tree, entry_in}
+use Rattle.pw_store.specs.Content.{point_tree, start_tree, energy_tree, payment_tree, entry_in}
 use Rattle.pw_store.specs.Keyed.{HasRowid}
 use Rattle.pw_store.specs.Opening.{key_of_total}
 use Rattle.pw_store.specs.inner.Opened.{amount_of_total}
 
 -- all but the rowid; of a total of top-ups the account, which is the rowid
 abbrev pub shown_total : TotalKind → Row → Row
-shown_total Energies r = column r 1 ∷ column r 2 ∷ column r 3 ∷ column r 4 ∷ []
+shown_total Energies r = column r 1 ∷ column r 2 ∷ column r 3 ∷ column r 4 ∷ column r 5 ∷ []
 shown_total Payments r = column r 0 ∷ column r 2 ∷ []
 
 -- the rowid alone
@@ -37,7 +37,7 @@ pub record AreNumbered (rows : List Row) : Type 0 where
 pub record AreAllNumbered (db : Trees) : Type 0 where
   pub points : AreNumbered (db point_tree)
   pub starts : AreNumbered (db start_tree)
-  pub energies : AreNumbered (db total_tree)
+  pub energies : AreNumbered (db energy_tree)
   pub payments : AreNumbered (db payment_tree)
 
 -- the points or starts of a table are these, in the order of their keys
@@ -64,5 +64,5 @@ pub record Listed : Type 0 where
 pub record TellsSums (db : Trees) (sums : Listed) : Type 0 where
   pub points_told : TellsKept Readings (db point_tree) sums.points
   pub starts_told : TellsKept Assignments (db start_tree) sums.starts
-  pub energies_told : TellsTotals Energies (db total_tree) sums.energies
+  pub energies_told : TellsTotals Energies (db energy_tree) sums.energies
   pub payments_told : TellsTotals Payments (db payment_tree) sums.payments

@@ -1,6 +1,6 @@
 -- What is kept of a store has one proof at most.
-use Rattle.std.specs.Prelude.{◌≡◌, ℕ, List, length, map, Bool, true}
-use mathlib.Core.HLevel.{⊥_prop}
+use Rattle.std.specs.Prelude.{◌≡◌, ℕ, List, [], length, map, Bool, true}
+use mathlib.Core.HLevel.{Unit-prop, ⊥_prop}
 use Rattle.std.specs.Coded.{×_prop, Π_prop, Coded-set}
 use mathlib.Core.Bool.{Bool-set}
 use native.Mathlib.Nat.{ℕ_set}
@@ -14,13 +14,13 @@ use Rattle.sqlite_value.specs.declared.value.Value.{Value}
 use Rattle.sqlite_value.specs.contracts.value.Value as value
 use Rattle.sqlite_schema.specs.contracts.schema.Schema as schema_row
 use Rattle.pw_shelf.specs.inner.Held.{EachOnce-prop}
-use Rattle.pw_store.specs.Content.{IsReadingRow, IsAssignmentRow, IsTopupRow, IsRowOf, energy_in, payment_in, point_tree, start_tree, total_tree, payment_tree, records_of, records_of_version, tree_of}
+use Rattle.pw_store.specs.Content.{IsReadingRow, IsAssignmentRow, IsTopupRow, IsRowOf, energy_in, payment_in, point_tree, start_tree, total_tree, energy_tree, payment_tree, records_of, records_of_version, tree_of}
 use Rattle.pw_schema.specs.declared.kind.RecordKind.{RecordKind}
 use Rattle.pw_schema.specs.declared.kind.RecordKind.TheVariants.{Readings, Assignments, TopUps, WithdrawnReadings, WithdrawnAssignments, WithdrawnTopUps}
 use Rattle.pw_schema.specs.declared.kind.StoreVersion.{StoreVersion}
-use Rattle.pw_schema.specs.declared.kind.StoreVersion.TheVariants.{Second}
+use Rattle.pw_schema.specs.declared.kind.StoreVersion.TheVariants.{First, Second, Third}
 use Rattle.pw_store.specs.Keyed.{AreKeyed, HasRowid, IsEnergyRow, IsPaymentRow}
-use Rattle.pw_store.specs.Opening.{AreRows, HasRows}
+use Rattle.pw_store.specs.Opening.{AreRows, HasEnergies, HasEnergiesOf, HasRows}
 use Rattle.pw_store.specs.Left.{IsOldEnergy, IsOldPayment, Keeps, IsLeftOf, KeepsOpened}
 use Rattle.pw_store.specs.Kept.{key_in_point, key_in_start, IsStore, BaseIsOnce, NowIsStore, CommittedIsStore, IsSinceBase, IsIdle, IsInside, IsAwake, BaseIsCounted, NowIsCounted}
 
@@ -46,7 +46,7 @@ IsRowOf-prop WithdrawnAssignments r = IsAssignmentRow-prop r
 IsRowOf-prop WithdrawnTopUps r = IsTopupRow-prop r
 
 pub IsEnergyRow-prop : (r : Row) → IsProp (IsEnergyRow r)
-IsEnergyRow-prop r = ×_prop same_value (×_prop same_value (×_prop same_value same_value))
+IsEnergyRow-prop r = ×_prop same_value (×_prop same_value (×_prop same_value (×_prop same_value same_value)))
 
 pub IsPaymentRow-prop : (r : Row) → IsProp (IsPaymentRow r)
 IsPaymentRow-prop r = ×_prop same_value same_value
@@ -66,8 +66,9 @@ IsStore-prop db a b = λ i. record {
   once = EachOnce-prop (records_of db.trees) a.once b.once i;
   points = AreKeyed-prop IsReadingRow IsReadingRow-prop key_in_point (db.trees point_tree) a.points b.points i;
   starts = AreKeyed-prop IsAssignmentRow IsAssignmentRow-prop key_in_start (db.trees start_tree) a.starts b.starts i;
-  energies = AreKeyed-prop IsEnergyRow IsEnergyRow-prop energy_in (db.trees total_tree) a.energies b.energies i;
+  energies = AreKeyed-prop IsEnergyRow IsEnergyRow-prop energy_in (db.trees energy_tree) a.energies b.energies i;
   payments = AreKeyed-prop IsPaymentRow IsPaymentRow-prop payment_in (db.trees payment_tree) a.payments b.payments i;
+  old = rows_set (db.trees total_tree) [] a.old b.old i;
 }
 
 pub BaseIsOnce-prop : (s base : Sql) → IsProp (BaseIsOnce s base)
@@ -104,13 +105,24 @@ AreRows-prop IsRow prop key_in rows a b = λ i. record {
   once = EachOnce-prop (map key_in rows) a.once b.once i;
 }
 
+HasEnergies-prop : (db : Trees) → IsProp (HasEnergies db)
+HasEnergies-prop db a b = λ i. record {
+  rows = AreRows-prop IsEnergyRow IsEnergyRow-prop energy_in (db energy_tree) a.rows b.rows i;
+  none = rows_set (db total_tree) [] a.none b.none i;
+}
+
+HasEnergiesOf-prop : (v : StoreVersion) (db : Trees) → IsProp (HasEnergiesOf v db)
+HasEnergiesOf-prop First db = Unit-prop
+HasEnergiesOf-prop Second db = Unit-prop
+HasEnergiesOf-prop Third db = HasEnergies-prop db
+
 HasRows-prop : (v : StoreVersion) (db : Trees) → IsProp (HasRows v db)
 HasRows-prop v db a b = λ i. record {
   rows = Π_prop (λ k. Π_prop λ _. AllByRecursion-prop (IsRowOf k) (IsRowOf-prop k) (db (tree_of k))) a.rows b.rows i;
   once = EachOnce-prop (records_of_version v db) a.once b.once i;
   points = AreRows-prop IsReadingRow IsReadingRow-prop key_in_point (db point_tree) a.points b.points i;
   starts = AreRows-prop IsAssignmentRow IsAssignmentRow-prop key_in_start (db start_tree) a.starts b.starts i;
-  energies = AreRows-prop IsEnergyRow IsEnergyRow-prop energy_in (db total_tree) a.energies b.energies i;
+  energies = HasEnergiesOf-prop v db a.energies b.energies i;
   payments = AreRows-prop IsPaymentRow IsPaymentRow-prop payment_in (db payment_tree) a.payments b.payments i;
 }
 
@@ -118,7 +130,7 @@ Keeps-prop : (before db : Trees) → IsProp (Keeps before db)
 Keeps-prop before db a b = λ i. record {
   listed = rows_set (db catalog_tree) (before catalog_tree) a.listed b.listed i;
   office = rows_set (db 0) (before 0) a.office b.office i;
-  energies = AllByRecursion-prop (IsOldEnergy before) (λ r. Π_prop λ _. Π_prop λ _. ⊥_prop) (db total_tree) a.energies b.energies i;
+  energies = AllByRecursion-prop (IsOldEnergy before) (λ r. Π_prop λ _. Π_prop λ _. ⊥_prop) (db energy_tree) a.energies b.energies i;
   payments = AllByRecursion-prop (IsOldPayment before) (λ r. Π_prop λ _. Π_prop λ _. ⊥_prop) (db payment_tree) a.payments b.payments i;
 }
 
@@ -127,7 +139,7 @@ IsLeftOf-prop s opened a b = λ i. record {
   ours = Π_prop (λ found. Π_prop λ _. Π_prop λ _. Coded-set schema_row.the_row.coded found.schema _) a.ours b.ours i;
   now = Π_prop (λ _. Keeps-prop opened.now.trees s.now.trees) a.now b.now i;
   committed = Π_prop (λ _. Keeps-prop opened.now.trees s.committed.trees) a.committed b.committed i;
-  left = Π_prop (λ db. Π_prop λ _. ×_prop (HasRows-prop Second db) (Keeps-prop opened.now.trees db)) a.left b.left i;
+  left = Π_prop (λ db. Π_prop λ _. ×_prop (HasRows-prop Third db) (Keeps-prop opened.now.trees db)) a.left b.left i;
 }
 
 pub KeepsOpened-prop : (s opened : Sql) → IsProp (KeepsOpened s opened)

@@ -10,7 +10,7 @@ use pw_model::plain::{self, OfficeTerms};
 use pw_model::{Dispute, MOST_RECORDS};
 use pw_obis::Register;
 use pw_shelf::Shelf;
-use pw_tariff::{AccountId, BandId, Direction, MeterId, Office, Owner};
+use pw_tariff::{AccountId, BandId, Direction, MeterId, Office, Owner, PeriodId};
 use pw_tests::sample::{FIRST, KINDS, METER, SECOND, are_of_office};
 use pw_time::Zone;
 use std::alloc::{AllocError, Global};
@@ -84,6 +84,52 @@ fn energies_agree<S: Shelf>(
     for kind in KINDS {
         if !energy_agrees(rt, alloc, book, entries, *kind)? {
             return Ok(false);
+        }
+    }
+    Ok(true)
+}
+
+// The energy within a period that the definitions give, one second at a time.
+fn meant_energy_in(
+    rt: &impl Abort,
+    alloc: Global,
+    office: &Office,
+    zone: &Zone,
+    entries: &[Entry],
+    period: PeriodId,
+    (owner, band, direction): (Owner, BandId, Direction),
+) -> Result<u64, AllocError> {
+    assert!(rt; have_meaning(office, zone, entries));
+    let terms = OfficeTerms::new(office, zone);
+    plain::energy_in(alloc, &terms, entries, owner, period, band, direction)
+}
+
+fn energy_agrees_in<S: Shelf>(
+    rt: &impl Abort,
+    alloc: Global,
+    book: &mut Book<S>,
+    entries: &[Entry],
+    period: PeriodId,
+    (owner, band, direction): (Owner, BandId, Direction),
+) -> Result<bool, AllocError> {
+    let kind = (owner, band, direction);
+    let meant = meant_energy_in(rt, alloc, book.office(), book.zone(), entries, period, kind)?;
+    Ok(asking::energy_in(rt, book, owner, period, band, direction) == Ok(meant))
+}
+
+// Whether the book answers the energies of each period as the definitions do.
+pub(super) fn periods_agree<S: Shelf>(
+    rt: &impl Abort,
+    alloc: Global,
+    book: &mut Book<S>,
+    entries: &[Entry],
+) -> Result<bool, AllocError> {
+    let periods = book.office().periods();
+    for period in 0..periods {
+        for kind in KINDS {
+            if !energy_agrees_in(rt, alloc, book, entries, PeriodId(period), *kind)? {
+                return Ok(false);
+            }
         }
     }
     Ok(true)

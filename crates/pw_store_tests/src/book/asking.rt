@@ -4,7 +4,7 @@ use pw_book::{Book, BookFault, Entry};
 use pw_model::{Dispute, Fall, ReadingRow};
 use pw_obis::Register;
 use pw_shelf::Shelf;
-use pw_tariff::{AccountId, BandId, Direction, MeterId, Owner};
+use pw_tariff::{AccountId, BandId, Direction, MeterId, Owner, PeriodId};
 use std::alloc::Global;
 use std::process::Abort;
 
@@ -20,6 +20,22 @@ pub fn energy<S: Shelf>(
     }
     assert!(rt; band.0 < book.office().bands());
     book.energy(owner, band, direction)
+}
+
+pub fn energy_in<S: Shelf>(
+    rt: &impl Abort,
+    book: &mut Book<S>,
+    owner: Owner,
+    period: PeriodId,
+    band: BandId,
+    direction: Direction,
+) -> Result<u64, BookFault> {
+    if let Some(account) = owner {
+        assert!(rt; account.0 < book.office().accounts());
+    }
+    assert!(rt; period.0 < book.office().periods());
+    assert!(rt; band.0 < book.office().bands());
+    book.energy_in(owner, period, band, direction)
 }
 
 pub fn topped_up<S: Shelf>(

@@ -281,6 +281,7 @@ pub(super) fn failing_device<B: Books>(
 // bears on: pw_book book/questions.rt Book::count question
 // bears on: pw_book book/questions.rt Book::disputes question
 // bears on: pw_book book/questions.rt Book::energy question
+// bears on: pw_book book/questions.rt Book::energy_in question
 // bears on: pw_book book/questions.rt Book::falls question
 // bears on: pw_book book/questions.rt Book::topped_up question
 pub(super) fn failing_device_and_abandon<B: Books>(

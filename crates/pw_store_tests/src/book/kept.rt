@@ -8,8 +8,8 @@ use pw_model::{Content, Entry, Key, TotalKey};
 use pw_obis::Register;
 use pw_parts::{Parts, true_parts};
 use pw_shelf::{Shelf, ShelfFault};
-use pw_tariff::MeterId;
-use pw_tests::sample::{FIRST, KINDS, METER, SECOND};
+use pw_tariff::{Direction, MeterId, Owner, PeriodId};
+use pw_tests::sample::{FIRST, HIGH, LOW, METER, SECOND};
 use pw_time::{FIRST_SECOND, LAST_SECOND};
 use std::alloc::{AllocError, Global};
 use std::process::Abort;
@@ -88,16 +88,38 @@ fn add_total<S: Shelf>(
     Ok(())
 }
 
-// The totals above 0 that a store keeps, energies first.
-fn totals_kept<S: Shelf>(alloc: Global, shelf: &mut S) -> Result<Vec<(TotalKey, u64)>, ShelfFault> {
+// Adds the energies above 0 that a store keeps of an owner within a period.
+fn add_energies<S: Shelf>(
+    shelf: &mut S,
+    totals: &mut Vec<(TotalKey, u64)>,
+    owner: Owner,
+    period: PeriodId,
+) -> Result<(), ShelfFault> {
+    for band in [LOW, HIGH] {
+        for direction in [Direction::Import, Direction::Export] {
+            let key = TotalKey::Energy {
+                owner,
+                period,
+                band,
+                direction,
+            };
+            add_total(shelf, totals, key)?;
+        }
+    }
+    Ok(())
+}
+
+// The totals above 0 that a store of an office with so many periods keeps, energies first.
+fn totals_kept<S: Shelf>(
+    alloc: Global,
+    shelf: &mut S,
+    periods: u8,
+) -> Result<Vec<(TotalKey, u64)>, ShelfFault> {
     let mut totals = Vec::new(alloc);
-    for (owner, band, direction) in KINDS {
-        let key = TotalKey::Energy {
-            owner: *owner,
-            band: *band,
-            direction: *direction,
-        };
-        add_total(shelf, &mut totals, key)?;
+    for owner in [None, Some(FIRST), Some(SECOND)] {
+        for period in 0..periods {
+            add_energies(shelf, &mut totals, owner, PeriodId(period))?;
+        }
     }
     for account in [FIRST, SECOND] {
         add_total(shelf, &mut totals, TotalKey::TopUps { account })?;
@@ -116,10 +138,10 @@ fn parts_of<S: Shelf>(
     true_parts(alloc, book.office(), book.zone(), entries)
 }
 
-fn are_kept<S: Shelf>(rt: &impl Abort, alloc: Global, shelf: &mut S, parts: &Parts) {
+fn are_kept<S: Shelf>(rt: &impl Abort, alloc: Global, shelf: &mut S, periods: u8, parts: &Parts) {
     assert!(rt; is_list(points_kept(rt, alloc, shelf), &parts.points));
     assert!(rt; is_list(starts_kept(alloc, shelf), &parts.starts));
-    assert!(rt; is_list(totals_kept(alloc, shelf), &parts.totals));
+    assert!(rt; is_list(totals_kept(alloc, shelf, periods), &parts.totals));
 }
 
 // What the store of a book keeps are the parts of all the entries that the book took.
@@ -130,6 +152,7 @@ pub(super) fn parts_agree<S: Shelf + Drop>(
     entries: &[Entry],
 ) -> Result<(), Fail> {
     let parts = parts_of(rt, alloc, &book, entries)?;
-    are_kept(rt, alloc, &mut book.into_shelf(), &parts);
+    let periods = book.office().periods();
+    are_kept(rt, alloc, &mut book.into_shelf(), periods, &parts);
     Ok(())
 }

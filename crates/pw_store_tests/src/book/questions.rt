@@ -5,7 +5,8 @@ use super::{Books, InMemory, asking, imported, takes};
 use pw_book::{Book, BookFault, Entry};
 use pw_obis::Register;
 use pw_shelf::{CountShelf, Shelf};
-use pw_tests::sample::{FIRST, METER};
+use pw_tariff::Direction;
+use pw_tests::sample::{FIRST, LOW, METER, PERIOD};
 use std::alloc::Global;
 use std::process::Abort;
 use std::test::Fail;
@@ -15,6 +16,8 @@ use std::test::Fail;
 enum Question {
     // both energies that the first account imported
     Imported,
+    // the first of them within the one period
+    ImportedIn,
     ToppedUp,
     Balance,
     Count,
@@ -30,8 +33,9 @@ enum List {
     Withdrawals,
 }
 
-const QUESTIONS: [Question; 8] = [
+const QUESTIONS: [Question; 9] = [
     Question::Imported,
+    Question::ImportedIn,
     Question::ToppedUp,
     Question::Balance,
     Question::Listed(List::Readings),
@@ -65,6 +69,9 @@ fn fault_of<S: Shelf>(
 ) -> Option<BookFault> {
     match question {
         Question::Imported => imported(rt, book).err(),
+        Question::ImportedIn => {
+            asking::energy_in(rt, book, Some(FIRST), PERIOD, LOW, Direction::Import).err()
+        }
         Question::ToppedUp => asking::topped_up(rt, book, FIRST).err(),
         Question::Balance => asking::balance(rt, book, FIRST).err(),
         Question::Count => asking::count(book).err(),
@@ -136,14 +143,16 @@ fn cost_of(rt: &impl Abort, alloc: Global, question: Question) -> u64 {
     behind.saturating_sub(before)
 }
 
-// An energy, and what was topped up, takes at most 2; a balance over two bands at most 10.
+// An energy, where there is one period, and what was topped up, takes at most 2; a balance over two bands at most 10.
 // bears on: pw_book book/questions.rt Book::balance cost
 // bears on: pw_book book/questions.rt Book::energy cost
+// bears on: pw_book book/questions.rt Book::energy_in cost
 // bears on: pw_book book/questions.rt Book::topped_up cost
 #[test]
 fn costs(rt: HostRuntime) {
     for (question, most) in [
         (Question::Imported, 4),
+        (Question::ImportedIn, 2),
         (Question::ToppedUp, 2),
         (Question::Balance, 10),
     ] {

@@ -1,4 +1,4 @@
--- Lists that the reader of an office file holds on its way. It serves `src/table.rt`, `src/bands.rt`, `src/meters.rt`.
+-- Lists that the reader of an office file holds on its way. It serves `src/table.rt`, `src/bands.rt`, `src/meters.rt`, `src/periods.rt`.
 use Rattle.std.specs.Prelude.{ℕ, List, [], ◌∷◌, map, string_bytes, unwrap_or}
 use Rattle.toml.specs.Data.{Members, no_members, as_table}
 use Rattle.toml.specs.View.{view}

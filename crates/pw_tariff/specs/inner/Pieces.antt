@@ -4,7 +4,7 @@ use Rattle.pw_tariff.specs.declared.ids.AccountId.{AccountId}
 use Rattle.pw_tariff.specs.declared.pieces.Class.{Class}
 use Rattle.pw_tariff.specs.declared.pieces.Run.{Run}
 use Rattle.pw_tariff.specs.Owners.{start_at, owner_by_starts}
-use Rattle.pw_tariff.specs.Office.{OfficeFile, band_at}
+use Rattle.pw_tariff.specs.Office.{OfficeFile, period_at, band_at}
 
 -- from a second on up to the next hour of UTC, the next start, or the end, whichever comes first: the owner stays
 pub record IsPiece (starts : List (ℕ × Option AccountId)) (from end until : ℕ) : Type 0 where
@@ -14,12 +14,13 @@ pub record IsPiece (starts : List (ℕ × Option AccountId)) (from end until : �
   pub owner : (t : ℕ) → from ≤ t → t < until → owner_by_starts starts t ≡ owner_by_starts starts from
   pub over : until < end → (until % 3600 ≡ 0) ⊎ IsSome (start_at starts until)
 
--- the owner and the band of second t
+-- the owner, the period and the band of second t
 pub record IsClassAt (office : OfficeFile) (starts : List (ℕ × Option AccountId)) (t : ℕ) (class : Class) : Type 0 where
   pub owner : class.owner ≡ owner_by_starts starts t
+  pub period : class.period.0 ≡ period_at office t
   pub band : class.band.0 ≡ band_at office t
 
--- all seconds from one on that have its owner and band, up to the first that hasn't, or the end
+-- all seconds from one on that have its owner, period and band, up to the first that hasn't, or the end
 pub record IsRun (office : OfficeFile) (starts : List (ℕ × Option AccountId)) (from end : ℕ) (run : Run) : Type 0 where
   pub begun : from < run.until
   pub within : run.until ≤ end

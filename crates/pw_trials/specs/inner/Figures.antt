@@ -7,7 +7,7 @@ use Rattle.pw_tariff.specs.declared.ids.Direction.{Direction}
 use Rattle.pw_tariff.specs.Ids.{direction_name}
 use Rattle.pw_tariff.specs.Office.{OfficeFile, office_of, price_at}
 use Rattle.pw_model.specs.declared.records.Entry.{Entry}
-use Rattle.pw_model.specs.Energy.{energy}
+use Rattle.pw_model.specs.Energy.{energy, energy_in_period, over_periods}
 use Rattle.pw_model.specs.Payments.{balance, topped_up}
 
 -- an account's name, `-` for nobody
@@ -29,11 +29,14 @@ csv_line (field ∷ next ∷ more) = field ++ (codes "," ++ csv_line (next ∷ m
 abbrev pub energy_fields : List ℕ → List ℕ → Direction → ℕ → ℕ → List ℕ
 energy_fields owner band d wh nano = csv_line (owner ∷ band ∷ direction_name d ∷ decimal wh ∷ decimal nano ∷ [])
 
+-- what it costs: in each period at its price
+unfoldable pub energy_cost : OfficeFile → List Entry → Option AccountId → ℕ → Direction → ℕ
+energy_cost file s o b d = over_periods (office_of file) (λ p. price_at file p b d * energy_in_period (office_of file) s o p b d)
+
 -- of an owner in a band and a direction
 abbrev pub energy_line : OfficeFile → List Entry → Option AccountId → ℕ → Direction → List ℕ
 energy_line file s o b d =
-    let wh = energy (office_of file) s o b d in
-    energy_fields (owner_name file o) (band_name file b) d wh (price_at file b d * wh)
+    energy_fields (owner_name file o) (band_name file b) d (energy (office_of file) s o b d) (energy_cost file s o b d)
 
 -- what is topped up in cents, and the balance in nano-euro, behind the account's name
 abbrev pub balance_fields : List ℕ → ℕ → ℤ → List ℕ

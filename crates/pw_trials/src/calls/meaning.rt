@@ -8,10 +8,10 @@ use crate::calls::asked::Asked;
 use crate::calls::entries::{tell_content, tell_key};
 use crate::calls::names::{account, band_name, owner_name};
 use crate::calls::shares::tell_cell;
-use pw_model::plain::{OfficeTerms, are_of_office, balance, energy};
+use pw_model::plain::{OfficeTerms, are_of_office, balance, energy, energy_in};
 use pw_model::{Entry, TotalKey};
 use pw_parts::true_parts;
-use pw_tariff::{AccountId, BandId, Cell, Direction, Office, Owner};
+use pw_tariff::{AccountId, BandId, Cell, Direction, Office, Owner, PeriodId};
 use std::io::Write;
 
 /// The most records of an office.
@@ -43,8 +43,12 @@ fn answer_sound<O: Write>(asked: &Asked<'_>, words: &[&str], out: &mut O) -> Opt
     requires few { length asked.now.entries.now ≤ most_records }
 {
     match words {
-        ["imported"] => tell_energies(asked, Direction::Import, out),
-        ["exported"] => tell_energies(asked, Direction::Export, out),
+        ["imported"] => tell_energies(asked, None, Direction::Import, out),
+        ["exported"] => tell_energies(asked, None, Direction::Export, out),
+        ["imported", period] => {
+            let period = PeriodId(period.parse::<u8>().ok()?);
+            tell_energies(asked, Some(period), Direction::Import, out)
+        }
         ["balance", name] => {
             let terms = OfficeTerms::new(asked.office, asked.zone);
             let account = account(asked.office, name)?;
@@ -57,14 +61,20 @@ fn answer_sound<O: Write>(asked: &Asked<'_>, words: &[&str], out: &mut O) -> Opt
     }
 }
 
-// The energies above 0 in a direction, nobody's first, one second after another.
-fn tell_energies<O: Write>(asked: &Asked<'_>, direction: Direction, out: &mut O) -> Option<()>
+// The energies above 0 in a direction, nobody's first, one second after another: of all periods, or of one.
+fn tell_energies<O: Write>(
+    asked: &Asked<'_>,
+    period: Option<PeriodId>,
+    direction: Direction,
+    out: &mut O,
+) -> Option<()>
     requires of_office { AllOfOffice (office_of asked.now.office.now) asked.now.entries.now }
     requires few { length asked.now.entries.now ≤ most_records }
 {
-    tell_energies_of(asked, None, direction, out)?;
+    tell_energies_of(asked, None, period, direction, out)?;
     for account in 0..asked.office.accounts() {
-        tell_energies_of(asked, Some(AccountId(account)), direction, out)?;
+        let owner = Some(AccountId(account));
+        tell_energies_of(asked, owner, period, direction, out)?;
     }
     Some(())
 }
@@ -72,21 +82,53 @@ fn tell_energies<O: Write>(asked: &Asked<'_>, direction: Direction, out: &mut O)
 fn tell_energies_of<O: Write>(
     asked: &Asked<'_>,
     owner: Owner,
+    period: Option<PeriodId>,
     direction: Direction,
     out: &mut O,
 ) -> Option<()>
     requires of_office { AllOfOffice (office_of asked.now.office.now) asked.now.entries.now }
     requires few { length asked.now.entries.now ≤ most_records }
 {
-    let terms = OfficeTerms::new(asked.office, asked.zone);
     for band in 0..asked.office.bands() {
         let band = BandId(band);
-        let wh = energy(asked.alloc, &terms, asked.entries, owner, band, direction).ok()?;
+        let wh = energy_asked(asked, owner, period, band, direction)?;
         if wh > 0 {
-            tell_cell(asked.office, &Cell { owner, band, wh }, out);
+            let cell = Cell {
+                owner,
+                period: period.unwrap_or(PeriodId(0)),
+                band,
+                wh,
+            };
+            tell_cell(asked.office, &cell, out);
         }
     }
     Some(())
+}
+
+fn energy_asked(
+    asked: &Asked<'_>,
+    owner: Owner,
+    period: Option<PeriodId>,
+    band: BandId,
+    direction: Direction,
+) -> Option<u64>
+    requires of_office { AllOfOffice (office_of asked.now.office.now) asked.now.entries.now }
+    requires few { length asked.now.entries.now ≤ most_records }
+{
+    let terms = OfficeTerms::new(asked.office, asked.zone);
+    let told = match period {
+        None => energy(asked.alloc, &terms, asked.entries, owner, band, direction),
+        Some(period) => energy_in(
+            asked.alloc,
+            &terms,
+            asked.entries,
+            owner,
+            period,
+            band,
+            direction,
+        ),
+    };
+    told.ok()
 }
 
 // The points, the starts and the totals.
@@ -117,12 +159,17 @@ fn tell_total<O: Write>(office: &Office, key: TotalKey, amount: u64, out: &mut O
     match key {
         TotalKey::Energy {
             owner,
+            period,
             band,
             direction,
         } => {
             let (owner, band) = (owner_name(office, owner), band_name(office, band));
-            let direction = direction.name();
-            let _ = writeln!(out, "{owner} {band} {direction} {amount}");
+            let (period, direction) = (period.0, direction.name());
+            let _ = if period > 0 {
+                writeln!(out, "{owner} {period} {band} {direction} {amount}")
+            } else {
+                writeln!(out, "{owner} {band} {direction} {amount}")
+            };
         }
         TotalKey::TopUps { account } => {
             let account = owner_name(office, Some(account));

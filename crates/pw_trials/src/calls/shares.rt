@@ -65,9 +65,13 @@ fn tell_shares<O: Write>(
     Some(())
 }
 
-/// Tells what an owner gets in a band.
+/// Tells what an owner gets in a band; behind the first period its number stands before the band.
 pub(crate) fn tell_cell<O: Write>(office: &Office, cell: &Cell, out: &mut O) {
     let (owner, band) = (owner_name(office, cell.owner), band_name(office, cell.band));
-    let wh = cell.wh;
-    let _ = writeln!(out, "{owner} {band} {wh}");
+    let (period, wh) = (cell.period.0, cell.wh);
+    let _ = if period > 0 {
+        writeln!(out, "{owner} {period} {band} {wh}")
+    } else {
+        writeln!(out, "{owner} {band} {wh}")
+    };
 }

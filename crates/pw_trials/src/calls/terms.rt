@@ -1,18 +1,22 @@
-//! The calls on the terms of the office. Meters and bands are told by their numbers, from 0.
+//! The calls on the terms of the office. Meters, periods and bands are told by their numbers, from 0.
 
 use crate::calls::asked::Asked;
 use crate::calls::names::{band_name, direction};
 use crate::calls::words::{instant, register};
 use pw_model::plain::{OfficeTerms, Terms};
-use pw_tariff::{BandId, MeterId};
+use pw_tariff::{BandId, MeterId, PeriodId};
 use std::io::Write;
 
 pub(crate) fn answer<O: Write>(asked: &Asked<'_>, words: &[&str], out: &mut O) -> Option<()> {
     let terms = OfficeTerms::new(asked.office, asked.zone);
     match words {
         ["terms"] => {
-            let (accounts, meters, bands) = (terms.accounts(), terms.meters(), terms.bands());
-            let _ = writeln!(out, "accounts {accounts} meters {meters} bands {bands}");
+            let (accounts, meters) = (terms.accounts(), terms.meters());
+            let (bands, periods) = (terms.bands(), terms.periods());
+            let _ = writeln!(
+                out,
+                "accounts {accounts} meters {meters} bands {bands} periods {periods}"
+            );
         }
         ["counts", meter, of] => {
             let meter = MeterId(meter.parse::<u16>().ok()?);
@@ -23,9 +27,14 @@ pub(crate) fn answer<O: Write>(asked: &Asked<'_>, words: &[&str], out: &mut O) -
             let band = band_name(asked.office, terms.band(instant(at)?));
             let _ = writeln!(out, "{band}");
         }
-        ["price", band, word] => {
+        ["period", at] => {
+            let period = terms.period(instant(at)?).0;
+            let _ = writeln!(out, "{period}");
+        }
+        ["price", period, band, word] => {
+            let period = PeriodId(period.parse::<u8>().ok()?);
             let band = BandId(band.parse::<u8>().ok()?);
-            let price = terms.price(band, direction(word)?);
+            let price = terms.price(period, band, direction(word)?);
             let _ = writeln!(out, "{price}");
         }
         _ => return None,

@@ -1,38 +1,44 @@
-use Rattle.std.proofs.Common.{◌≡◌, ℕ, ◌*◌, Some, refl, ap, ◌∙◌, arith}
+use Rattle.std.proofs.Common.{◌≡◌, ℕ, Some, length, refl, ap, sym, subst, ◌∙◌, arith}
 use Rattle.pw_flow.specs.Time.{sum_over}
-use Rattle.pw_tariff.specs.Office.{office_of}
+use Rattle.pw_tariff.specs.Office.{office_of, periods_in}
 use Rattle.pw_model.specs.Counting.{contents_at}
-use Rattle.pw_model.specs.Energy.{cost, energy_where, of_band}
-use Rattle.pw_model.specs.declared.records.TotalKey.{TotalKey}
-use Rattle.pw_model.specs.declared.records.TotalKey.TheVariants.{Energy}
-use Rattle.pw_model.specs.Shelf.{ShelfContent}
+use Rattle.pw_model.specs.Energy.{cost}
+use Rattle.pw_model.specs.Shelf.{IsTrueContent, ShelfContent}
+use Rattle.pw_model.specs.inner.Tariff.{period_cost}
 use Rattle.pw_model.proofs.PlainEnergy.{sum-next}
+use Rattle.pw_book.proofs.ByParts.{part-all, part-more}
 use Rattle.pw_book.proofs.Chains.{asked-none, asked-then}
 use Rattle.pw_book.proofs.balances.cost_held.Goals as goal
 
-pub loop-band-init : goal.loop-band-init
+pub loop-period-init : goal.loop-period-init
 unfolding sum_over
-loop-band-init g c = record { sum = λ k. refl; few = omega arith; tally = omega arith; asked = asked-none _ g.met.S.Shelf.same_yet _ }
+loop-period-init g c = record { sum = λ k. refl; few = omega arith; tally = omega arith; asked = asked-none _ g.met.S.Shelf.same_yet _ }
 
-pub loop-band-preserved : goal.loop-band-preserved
-loop-band-preserved g c = record {
+pub cost_in_period-requires-clause-truth : goal.cost_in_period-requires-clause-truth
+cost_in_period-requires-clause-truth g c = λ k.
+    let T : ShelfContent → Type 0 = λ d. IsTrueContent (office_of c.args.office.now) d in
+    subst T (sym (c.loop-period.invariant.asked.content k)) (c.requires.truth (c.loop-period.invariant.asked.kept.clean k))
+
+pub returns-in_err-part-clause-tally : goal.returns-in_err-part-clause-tally
+returns-in_err-part-clause-tally g c =
+    part-more _ _ _ (length c.args.office.now.bands) c.loop-period.period (periods_in c.args.office.now) c.loop-period.invariant.tally c.cost_in_period.ensures.tally
+    (omega (arith, c.periods-period-end.ensures.count, c.loop-period-test.true))
+
+pub loop-period-preserved : goal.loop-period-preserved
+loop-period-preserved g c = record {
   sum = λ k.
-      let before = c.total_held.ensures.asked.kept.clean k in
-      let start = c.loop-band.invariant.asked.kept.clean before in
+      let before = c.cost_in_period.ensures.asked.kept.clean k in
       let office = office_of c.args.office.now in
       let was = (g.S.Shelf.state c.args.shelf.now).content in
-      let key : TotalKey = Energy (Some c.args.account) (record { 0 = c.loop-band.band }) c.args.direction in
-      let f : ℕ → ℕ = λ b. office.price b c.args.direction * energy_where office (contents_at was.records) c.args.direction (of_band office (Some c.args.account) b) in
-      let p : c.price.result ≡ office.price c.loop-band.band c.args.direction = c.price.ensures.price in
-      let q : c.in_ok-wh.wh ≡ energy_where office (contents_at was.records) c.args.direction (of_band office (Some c.args.account) c.loop-band.band) =
-      c.in_ok-wh.ensures.total k ∙ ap (λ (d : ShelfContent). d.total key) (c.loop-band.invariant.asked.content before) ∙ (c.requires.truth start).totals key in
-      let here : c.price_of-nano.result ≡ f c.loop-band.band = c.price_of-nano.ensures.price ∙ (λ i. p i * q i) in
-      let so_far = c.loop-band.invariant.sum before in
-      let next = sum-next f c.loop-band.band in
+      let f : ℕ → ℕ = λ p. period_cost office (contents_at was.records) (Some c.args.account) p c.args.direction in
+      let here : c.in_ok-part.part ≡ f c.loop-period.period =
+      c.in_ok-part.ensures.cost k ∙ ap (λ (d : ShelfContent). period_cost office (contents_at d.records) (Some c.args.account) c.loop-period.period c.args.direction) (c.loop-period.invariant.asked.content before) in
+      let so_far = c.loop-period.invariant.sum before in
+      let next = sum-next f c.loop-period.period in
       omega (arith, here, so_far, next);
-  few = let a = c.loop-band.invariant.few in let b = c.price_of-nano.ensures.bound in omega (arith, a, b);
-  tally = let a = c.loop-band.invariant.tally in let b = c.total_held.ensures.tally in omega (arith, a, b);
-  asked = asked-then _ g.met.S.Shelf.same_then _ _ _ _ c.loop-band.invariant.asked c.in_ok-wh.ensures.asked;
+  few = let a = c.loop-period.invariant.few in let b = c.in_ok-part.ensures.bound in omega (arith, a, b);
+  tally = let a = c.loop-period.invariant.tally in let b = c.cost_in_period.ensures.tally in omega (arith, a, b);
+  asked = asked-then _ g.met.S.Shelf.same_then _ _ _ _ c.loop-period.invariant.asked c.in_ok-part.ensures.asked;
 }
 
 pub returns-clause-cost : goal.returns-clause-cost
@@ -40,6 +46,11 @@ unfolding cost
 returns-clause-cost g c = λ k.
     let office = office_of c.args.office.now in
     let was = (g.S.Shelf.state c.args.shelf.now).content in
-    let f : ℕ → ℕ = λ b. office.price b c.args.direction * energy_where office (contents_at was.records) c.args.direction (of_band office (Some c.args.account) b) in
-    let all : c.loop-band.band ≡ office.bands = omega (arith, c.bands-band-end.ensures.count, c.loop-band.auto.band-end, c.loop-band-test.false) in
-    c.loop-band.invariant.sum k ∙ ap (sum_over f 0) all
+    let f : ℕ → ℕ = λ p. period_cost office (contents_at was.records) (Some c.args.account) p c.args.direction in
+    let all : c.loop-period.period ≡ office.periods = omega (arith, c.periods-period-end.ensures.count, c.loop-period.auto.period-end, c.loop-period-test.false) in
+    c.loop-period.invariant.sum k ∙ ap (sum_over f 0) all
+
+pub returns-clause-tally : goal.returns-clause-tally
+returns-clause-tally g c =
+    part-all _ _ (length c.args.office.now.bands) c.loop-period.period (periods_in c.args.office.now) c.loop-period.invariant.tally
+    (omega (arith, c.periods-period-end.ensures.count, c.loop-period.auto.period-end))

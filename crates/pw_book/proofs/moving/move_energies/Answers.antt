@@ -1,6 +1,6 @@
 use Rattle.std.proofs.Common.{◌∙◌, List, length, arith, refl, ap, sym, subst, rules}
 use Rattle.std.proofs.lemmas.Bool.{true≢false}
-use Rattle.pw_tariff.specs.Office.{office_of}
+use Rattle.pw_tariff.specs.Office.{office_of, periods_in}
 use Rattle.pw_model.specs.declared.records.TotalKey.{TotalKey}
 use Rattle.pw_parts.specs.declared.changes.Change.{Change}
 use Rattle.pw_parts.specs.declared.changes.Side.{Side}
@@ -15,7 +15,7 @@ loop-key-init g c =
     let gives = c.into_iter-key-iterator.ensures.into_iter_gives in
     record {
       rest = rest-all c.args.changes.now.rows _ gives.5 gives.0;
-      moved = λ k. walk-begins _ _ _ _ c.args.changes.now.rows _ _ _ refl gives.0;
+      moved = λ k. walk-begins (periods_in c.args.office.now) (length c.args.office.now.bands) (length c.args.office.now.accounts) _ _ c.args.changes.now.rows _ _ _ refl gives.0;
       tally = taken-none _ _ _ _ (omega arith);
       kept = kept-none g.S.Shelf.state g.S.Shelf.left g.S.Shelf.clean g.S.Shelf.same_store g.met.S.Shelf.same_yet c.args.shelf.now;
     }
@@ -35,16 +35,16 @@ loop-key-preserved-in-Continue-1 g c =
     let e : TotalKey × Change = (c.in-Some.key.now, c.in-Some.change.now) in
     let P : List (TotalKey × Change) → Type 0 = λ es. IsRest rows es in
     let r = subst P c.in-Some.ensures.steps c.loop-key.invariant.rest in
-    let own : OfOwners (length c.args.office.now.bands) (length c.args.office.now.accounts) c.in-Some.key.now = c.is_energy_of.ensures.0 (search rules) in
+    let own : OfOwners (periods_in c.args.office.now) (length c.args.office.now.bands) (length c.args.office.now.accounts) c.in-Some.key.now = c.is_energy_of.ensures.0 (search rules) in
     let more = c.on.ensures ∙ ap (λ (s : Side). amount_on s c.in-Some.change.now) c.other.ensures ∙ first-gathered (other_side c.args.taken) rows e _ r in
     let less = c.on-then-is_energy_of.ensures ∙ first-gathered c.args.taken rows e _ r in
     let T : List (TotalKey × Change) → Type 0 = λ es. HasTaken office es (g.S.Shelf.state c.args.shelf.now).tally (g.S.Shelf.state c.loop-key.shelf).tally in
     record {
       rest = rest-next rows e _ r;
       moved = λ k. (
-          let M : List (TotalKey × Change) → Type 0 = λ es. MovesTotals (Moved office.bands office.accounts es) (gathered (other_side c.args.taken) rows) (gathered c.args.taken rows) (g.S.Shelf.state c.args.shelf.now).content (g.S.Shelf.state c.loop-key.shelf).content in
+          let M : List (TotalKey × Change) → Type 0 = λ es. MovesTotals (Moved office.periods office.bands office.accounts es) (gathered (other_side c.args.taken) rows) (gathered c.args.taken rows) (g.S.Shelf.state c.args.shelf.now).content (g.S.Shelf.state c.loop-key.shelf).content in
           let so_far = subst M c.in-Some.ensures.steps (c.loop-key.invariant.moved (c.change_total.ensures.kept.clean k)) in
-          walk-moves office.bands office.accounts (other_side c.args.taken) c.args.taken rows e _ _ _ _ _ _ r own more less so_far (c.in_ok-change_total.ensures.moved k));
+          walk-moves office.periods office.bands office.accounts (other_side c.args.taken) c.args.taken rows e _ _ _ _ _ _ r own more less so_far (c.in_ok-change_total.ensures.moved k));
       tally = taken-more office rows e _ _ _ _ r own (subst T c.in-Some.ensures.steps c.loop-key.invariant.tally) c.change_total.ensures.tally;
       kept = kept-then _ _ _ _ g.met.S.Shelf.same_then _ _ _ _ c.loop-key.invariant.kept c.in_ok-change_total.ensures.kept;
     }
@@ -56,7 +56,7 @@ returns-in_err-change_total-clause-tally g c =
     let e : TotalKey × Change = (c.in-Some.key.now, c.in-Some.change.now) in
     let P : List (TotalKey × Change) → Type 0 = λ es. IsRest rows es in
     let r = subst P c.in-Some.ensures.steps c.loop-key.invariant.rest in
-    let own : OfOwners (length c.args.office.now.bands) (length c.args.office.now.accounts) c.in-Some.key.now = c.is_energy_of.ensures.0 (search rules) in
+    let own : OfOwners (periods_in c.args.office.now) (length c.args.office.now.bands) (length c.args.office.now.accounts) c.in-Some.key.now = c.is_energy_of.ensures.0 (search rules) in
     let T : List (TotalKey × Change) → Type 0 = λ es. HasTaken office es (g.S.Shelf.state c.args.shelf.now).tally (g.S.Shelf.state c.loop-key.shelf).tally in
     taken-all office _ _ _ (taken-more office rows e _ _ _ _ r own (subst T c.in-Some.ensures.steps c.loop-key.invariant.tally) c.change_total.ensures.tally)
 
@@ -71,15 +71,15 @@ loop-key-preserved g c =
     record {
       rest = rest-next rows e _ r;
       moved = λ k. (
-          let M : List (TotalKey × Change) → Type 0 = λ es. MovesTotals (Moved office.bands office.accounts es) (gathered (other_side c.args.taken) rows) (gathered c.args.taken rows) (g.S.Shelf.state c.args.shelf.now).content (g.S.Shelf.state c.loop-key.shelf).content in
+          let M : List (TotalKey × Change) → Type 0 = λ es. MovesTotals (Moved office.periods office.bands office.accounts es) (gathered (other_side c.args.taken) rows) (gathered c.args.taken rows) (g.S.Shelf.state c.args.shelf.now).content (g.S.Shelf.state c.loop-key.shelf).content in
           let so_far = subst M c.in-Some.ensures.steps (c.loop-key.invariant.moved k) in
-          walk-passes office.bands office.accounts (other_side c.args.taken) c.args.taken rows e _ _ _ (λ o. true≢false (sym (c.if-is_energy_of.ensures.1 o))) so_far);
+          walk-passes office.periods office.bands office.accounts (other_side c.args.taken) c.args.taken rows e _ _ _ (λ o. true≢false (sym (c.if-is_energy_of.ensures.1 o))) so_far);
       tally = taken-past office e _ _ _ (subst T c.in-Some.ensures.steps c.loop-key.invariant.tally);
       kept = c.loop-key.invariant.kept;
     }
 
 pub returns-clause-moved : goal.returns-clause-moved
-returns-clause-moved g c = λ k. walk-ends _ _ _ _ _ _ _ c.in-None.ensures.steps.0 (c.loop-key.invariant.moved k)
+returns-clause-moved g c = λ k. walk-ends (periods_in c.args.office.now) (length c.args.office.now.bands) (length c.args.office.now.accounts) _ _ _ _ _ c.in-None.ensures.steps.0 (c.loop-key.invariant.moved k)
 
 pub returns-clause-tally : goal.returns-clause-tally
 returns-clause-tally g c = taken-all (office_of c.args.office.now) _ _ _ c.loop-key.invariant.tally

@@ -2,8 +2,8 @@ use Rattle.std.proofs.Common.{refl, sym, subst}
 use Rattle.std.proofs.lemmas.Result.{on_ok_weaker}
 use Rattle.pw_tariff.specs.Office.{office_of}
 use Rattle.pw_model.specs.declared.records.Key.{Key}
+use Rattle.pw_model.proofs.SoundOffice.{sound-office}
 use Rattle.pw_book.specs.inner.Added.{ChangesOneKey, IsJustChanged, TakesAtMost}
-use Rattle.pw_book.proofs.Offices.{office-is}
 use Rattle.pw_book.proofs.Truthful.{paid-alone, paid-records, paid-true, withdrawal-true}
 use Rattle.pw_book.proofs.settling.settle.Goals as goal
 
@@ -41,7 +41,7 @@ pub returns-in-TopUp-clause-truth : goal.returns-in-TopUp-clause-truth
 returns-in-TopUp-clause-truth g c = λ k s j.
     let office = office_of c.args.basis.now.office.now in
     let J : Key → Type 0 = λ l. IsJustChanged office s l c.args.before.now c.args.behind.now (g.S.Shelf.state c.args.shelf.now).content in
-    on_ok_weaker c.top_up_changed.result (λ m. paid-true office (office-is c.args.basis.now.office.now c.requires.sound) s c.in-TopUp.reference c.args.before.now c.args.behind.now _ (subst J c.in-TopUp.is j) _ m) (c.top_up_changed.ensures.moved k)
+    on_ok_weaker c.top_up_changed.result (λ m. paid-true office (sound-office c.args.basis.now.office.now c.requires.sound) s c.in-TopUp.reference c.args.before.now c.args.behind.now _ (subst J c.in-TopUp.is j) _ m) (c.top_up_changed.ensures.moved k)
 
 pub returns-in-TopUp-clause-records : goal.returns-in-TopUp-clause-records
 returns-in-TopUp-clause-records g c = λ k s j. on_ok_weaker c.top_up_changed.result (λ m. paid-records _ _ _ _ m) (c.top_up_changed.ensures.moved k)
@@ -50,7 +50,7 @@ pub returns-in-Withdrawal-clause-truth : goal.returns-in-Withdrawal-clause-truth
 returns-in-Withdrawal-clause-truth g c = λ k s j.
     let office = office_of c.args.basis.now.office.now in
     let J : Key → Type 0 = λ l. IsJustChanged office s l c.args.before.now c.args.behind.now (g.S.Shelf.state c.args.shelf.now).content in
-    withdrawal-true office (office-is c.args.basis.now.office.now c.requires.sound) s c.in-Withdrawal.named c.args.before.now c.args.behind.now _ (subst J c.in-Withdrawal.is j)
+    withdrawal-true office (sound-office c.args.basis.now.office.now c.requires.sound) s c.in-Withdrawal.named c.args.before.now c.args.behind.now _ (subst J c.in-Withdrawal.is j)
 
 pub returns-in-Reading-clause-alone : goal.returns-in-Reading-clause-alone
 returns-in-Reading-clause-alone g c = λ k.

@@ -7,6 +7,7 @@ use Rattle.pw_model.specs.Shelf.{ShelfContent}
 use Rattle.pw_shelf.specs.Left.{LeavesOnly}
 use Rattle.pw_store.specs.Kept.{held_of, left_of}
 use Rattle.pw_store.specs.Left.{IsOfText}
+use Rattle.pw_store.proofs.OneOffice.{opened-found, opened-true}
 use Rattle.pw_book.specs.Crashes.{IsLeftWhole}
 use Rattle.pw_commands.specs.Crashes.{WasHeld}
 use Rattle.pw_commands.proofs.Crashed.{holds-whole, left-behind}
@@ -17,6 +18,9 @@ pub uploads_survive_a_crash-requires-clause-settled :
 uploads_survive_a_crash-requires-clause-settled g c =
     subst (λ shelf. HasCleanDisk (state g.S.Store shelf.conn) → LeavesOnly (held_of (state g.S.Store shelf.conn) (state g.S.Store shelf.base.value)) (left_of (state g.S.Store shelf.conn)))
     (sym c.new-book.ensures.shelf) c.in-Ok.ensures.left
+
+pub new-book-requires-clause-truth : goal.new-book-requires-clause-truth
+new-book-requires-clause-truth g c = λ clean. opened-true c.args.text.now c.args.office _ c.requires.office (c.in-Ok.ensures.truth clean)
 
 pub returns-in-Ok-clause-refused : goal.returns-in-Ok-clause-refused
 returns-in-Ok-clause-refused g c = λ it.
@@ -55,8 +59,8 @@ returns-in-Ok-clause-content g c = λ it.
     (sym c.uploads_survive_a_crash.ensures.store)
     (subst (λ shelf. (other : OfficeFile) × IsOfficeOf text other × IsOfText (office_of other) text (state g.S.Store shelf.opened.value).now.trees)
     (sym c.new-book.ensures.shelf) (c.in-Ok.ensures.opened first))) in
-    let was = subst (λ shelf. WasHeld (state g.S.Store c.args.connection).committed (held_of (state g.S.Store shelf.conn) (state g.S.Store shelf.base.value)))
-    (sym c.new-book.ensures.shelf) (c.in-Ok.ensures.content first) in
+    let was = subst (λ shelf. WasHeld (office_of c.args.office) (state g.S.Store c.args.connection).committed (held_of (state g.S.Store shelf.conn) (state g.S.Store shelf.base.value)))
+    (sym c.new-book.ensures.shelf) (opened-found text c.args.office (state g.S.Store c.args.connection).committed _ c.requires.office (c.in-Ok.ensures.content first)) in
     holds-whole text c.args.office c.requires.office before uploads (state g.S.Store c.into_shelf-left.result.conn) (state g.S.Store c.into_shelf-left.result.opened.value) (state g.T.Store c.args.found) left it
     (state g.S.Store c.args.connection).committed c.left_is_opened_again-again.result
     (λ s. HasCleanDisk (state g.T.Store s.conn)) (λ s. held_of (state g.T.Store s.conn) (state g.T.Store s.base.value)) was

@@ -1,9 +1,10 @@
 use Rattle.std.proofs.Common.{subst, sym}
 use Rattle.sqlite.specs.Held.{state}
 use Rattle.sqlite.specs.State.{HasCleanDisk}
+use Rattle.pw_tariff.specs.Office.{office_of}
 use Rattle.pw_store.specs.Kept.{held_of}
 use Rattle.pw_commands.specs.Crashes.{WasHeld}
-use Rattle.pw_store.proofs.OneOffice.{opened-of-office, opened-true}
+use Rattle.pw_store.proofs.OneOffice.{opened-found, opened-of-office, opened-true}
 use Rattle.pw_commands.proofs.store.book_over.Goals as goal
 
 pub new-requires-clause-of_office : goal.new-requires-clause-of_office
@@ -14,5 +15,5 @@ new-requires-clause-truth g c = λ clean. opened-true c.args.text.now c.args.off
 
 pub returns-in-Ok-clause-content : goal.returns-in-Ok-clause-content
 returns-in-Ok-clause-content g c =
-    subst (λ shelf. HasCleanDisk (state g.S.Store shelf.conn) → HasCleanDisk (state g.S.Store c.args.connection) × WasHeld (state g.S.Store c.args.connection).committed (held_of (state g.S.Store shelf.conn) (state g.S.Store shelf.base.value)))
-    (sym c.new.ensures.shelf) (λ clean. ((c.in-Ok.ensures.was_open clean).0, c.in-Ok.ensures.content clean))
+    subst (λ shelf. HasCleanDisk (state g.S.Store shelf.conn) → HasCleanDisk (state g.S.Store c.args.connection) × WasHeld (office_of c.args.office) (state g.S.Store c.args.connection).committed (held_of (state g.S.Store shelf.conn) (state g.S.Store shelf.base.value)))
+    (sym c.new.ensures.shelf) (λ clean. ((c.in-Ok.ensures.was_open clean).0, opened-found c.args.text.now c.args.office (state g.S.Store c.args.connection).committed _ c.requires.office (c.in-Ok.ensures.content clean)))

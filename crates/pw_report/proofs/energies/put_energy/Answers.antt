@@ -1,7 +1,6 @@
-use Rattle.std.proofs.Common.{◌≡◌, ◌∙◌, ◌*◌, [], ◌∷◌, ap}
+use Rattle.std.proofs.Common.{◌≡◌, ◌∙◌, [], ◌∷◌}
 use Rattle.std.specs.Prelude.{decimal}
 use Rattle.pw_tariff.specs.Ids.{direction_name}
-use Rattle.pw_tariff.specs.Office.{price_at}
 use Rattle.pw_report.specs.Names.{band_name, owner_name}
 use Rattle.pw_report.proofs.Fields.{row-of}
 use Rattle.pw_report.proofs.energies.put_energy.Goals as goal
@@ -13,6 +12,5 @@ returns-clause-text c = λ before h.
     let band : c.band_letter.result ∷ [] ≡ band_name c.args.office.now c.args.band.0 = c.band_letter.ensures in
     let direction : c.as_bytes.result.now ≡ direction_name c.args.direction = c.as_bytes.ensures.value ∙ c.name.ensures in
     let wh : c.as_bytes-2.result.now ≡ decimal c.args.wh = c.as_bytes-2.ensures.value ∙ c.format.ensures.text in
-    let nano : c.as_bytes-3.result.now ≡ decimal (price_at c.args.office.now c.args.band.0 c.args.direction * c.args.wh) =
-    c.as_bytes-3.ensures.value ∙ c.format-2.ensures.text ∙ ap decimal (λ i. (c.from.ensures ∙ c.price.ensures.price) i * c.from-2.ensures i) in
+    let nano : c.as_bytes-3.result.now ≡ decimal c.args.nano = c.as_bytes-3.ensures.value ∙ c.format-2.ensures.text in
     row-of _ _ _ _ _ (λ i. owner i ∷ band i ∷ direction i ∷ wh i ∷ nano i ∷ []) all

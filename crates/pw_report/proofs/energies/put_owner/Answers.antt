@@ -5,9 +5,8 @@ use Rattle.pw_tariff.specs.Office.{OfficeFile}
 use Rattle.pw_model.specs.Shelf.{ShelfContent}
 use Rattle.pw_report.specs.Exports.{energy_row, energy_row_line, owner_rows}
 use Rattle.pw_report.specs.Layout.{listed_below}
-use Rattle.pw_report.proofs.Asking.{asked-none, asked-once, asked-then}
+use Rattle.pw_report.proofs.Asking.{asked-none, asked-then}
 use Rattle.pw_report.proofs.Fields.{flat-none, text-is, two-next}
-use Rattle.pw_report.proofs.Lines.{row-line}
 use Rattle.pw_report.proofs.energies.put_owner.Goals as goal
 
 pub loop-band-init : goal.loop-band-init
@@ -16,13 +15,14 @@ loop-band-init g c = record { text = λ k before h. text-is _ _ _ (flat-none _ b
 pub loop-band-preserved : goal.loop-band-preserved
 loop-band-preserved g c =
     let was = c.loop-band.invariant in
-    let one = asked-once _ _ _ _ c.in_ok-imported.ensures.question in
-    let two = asked-once _ _ _ _ c.in_ok-exported.ensures.question in
+    let one = c.in_ok-put_direction.ensures.report.asked in
+    let two = c.in_ok-put_direction-2.ensures.report.asked in
     let first = asked-then _ g.met.S.Shelf.same_then _ _ _ _ was.asked one in
     let both = asked-then _ g.met.S.Shelf.same_then _ _ _ _ first two in
     let file = c.args.book.now.office in
     let records = (g.S.Shelf.state c.args.book.now.shelf).content.records in
-    let row = energy_row file records c.args.owner in
+    let o = c.args.owner in
+    let row = energy_row file records o in
     let rows = λ (b : ℕ). row b Import ∷ row b Export ∷ [] in
     let line = energy_row_line file in
     let b = c.loop-band.band in
@@ -30,10 +30,11 @@ loop-band-preserved g c =
       text = λ k before h.
           let between = two.kept.clean k in
           let prior = one.kept.clean between in
-          let imported = row-line file _ _ records _ c.args.owner b Import _ was.asked.office (c.office-in-loop-band.ensures ∙ first.office) (ap (λ (d : ShelfContent). d.records) (was.asked.content prior)) (c.in_ok-imported.ensures.energy between) in
-          let exported = row-line file _ _ records _ c.args.owner b Export _ first.office (c.office-in-loop-band-2.ensures ∙ both.office) (ap (λ (d : ShelfContent). d.records) (first.content between)) (c.in_ok-exported.ensures.energy k) in
-          text-is _ _ _ ((λ i. ((before ++ flat_map line (listed_below b rows)) ++ imported i) ++ exported i) ∙ two-next line before rows b (row b Import) (row b Export) refl)
-          (c.in_ok-put_energy-2.ensures.text _ (c.in_ok-put_energy.ensures.text _ (was.text prior before h)));
+          let was_same = ap (λ (d : ShelfContent). d.records) (was.asked.content prior) in
+          let then_same = ap (λ (d : ShelfContent). d.records) (first.content between) in
+          text-is _ _ _ ((λ i. ((before ++ flat_map line (listed_below b rows)) ++ energy_row_line (was.asked.office i) (energy_row (was.asked.office i) (was_same i) o b Import))
+          ++ energy_row_line (first.office i) (energy_row (first.office i) (then_same i) o b Export)) ∙ two-next line before rows b (row b Import) (row b Export) refl)
+          (c.in_ok-put_direction-2.ensures.text k _ (c.in_ok-put_direction.ensures.text between _ (was.text prior before h)));
       asked = both;
     }
 

@@ -1,4 +1,4 @@
-use Rattle.std.proofs.Common.{◌∙◌, ap}
+use Rattle.std.proofs.Common.{◌∙◌, ap, rules}
 use Rattle.pw_model.specs.Shelf.{ShelfContent}
 use Rattle.pw_report.proofs.Asking.{asked-none, asked-once, asked-then}
 use Rattle.pw_report.proofs.Lines.{energy-line}
@@ -27,3 +27,9 @@ loop-band-preserved g c =
           (c.in_ok-imported.ensures.energy between) (c.in_ok-exported.ensures.energy k) c.band_letter.ensures);
       asked = both;
     }
+
+pub returns-in_err-put_energy-clause-report : goal.returns-in_err-put_energy-clause-report
+returns-in_err-put_energy-clause-report g c =
+    let one = g.met.S.Shelf.same_then _ _ _ c.loop-band.invariant.asked.kept.store c.energy.ensures.question.asked.kept.store in
+    let store = g.met.S.Shelf.same_then _ _ _ one c.energy-in-loop-band.ensures.question.asked.kept.store in
+    search rules

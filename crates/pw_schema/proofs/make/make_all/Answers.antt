@@ -26,5 +26,5 @@ loop-table-preserved g c = record {
 
 pub returns-clause-made : goal.returns-clause-made
 returns-clause-made g c clean =
-    let all : c.loop-table.table-index ≡ 11 = omega (arith, c.loop-table-test.false, c.loop-table.auto.table-index-end) in
+    let all : c.loop-table.table-index ≡ 12 = omega (arith, c.loop-table-test.false, c.loop-table.auto.table-index-end) in
     subst (λ s. IsMaking s (state g.S.Store c.loop-table.conn)) (ap stage all ∙ all_made) (c.loop-table.invariant.making clean)

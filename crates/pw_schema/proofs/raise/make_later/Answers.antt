@@ -1,12 +1,12 @@
-use Rattle.std.proofs.Common.{◌∙◌, sym, subst}
 use Rattle.sqlite.specs.Held.{state}
-use Rattle.pw_schema.specs.Fresh.{IsWithin}
-use Rattle.pw_schema.specs.declared.table.StoreTable.TheVariants.{WithdrawnTopUps}
-use Rattle.pw_schema.proofs.Making.{all_made, first_made, next_stage}
+use Rattle.pw_schema.specs.declared.kind.StoreVersion.TheVariants.{First}
+use Rattle.pw_schema.proofs.Outcomes.{early}
+use Rattle.pw_schema.proofs.Raising.{raised_on}
 use Rattle.pw_schema.proofs.raise.make_later.Goals as goal
 
-pub make-requires : goal.make-requires
-make-requires g c clean = subst (λ s. IsWithin s (state g.S.Store c.args.conn.now)) (sym first_made) (c.requires clean)
-
-pub returns-clause-made : goal.returns-clause-made
-returns-clause-made g c clean = subst (λ s. IsWithin s (state g.S.Store c.make-3.new.conn)) (next_stage WithdrawnTopUps ∙ all_made) (c.in_ok-make-3.ensures.made clean)
+pub returns-clause-raised : goal.returns-clause-raised
+returns-clause-raised g c clean =
+    let s0 = state g.S.Store c.args.conn.now in
+    let s1 = state g.S.Store c.make_withdrawn.new.conn in
+    let s2 = state g.S.Store c.make_period_totals.new.conn in
+    raised_on First s0.now.trees s1.now.trees s2.now.trees (c.in_ok-make_withdrawn.ensures.raised (early s1 s2 c.in_ok-make_period_totals.ensures.crash clean)) (c.in_ok-make_period_totals.ensures.raised clean).same

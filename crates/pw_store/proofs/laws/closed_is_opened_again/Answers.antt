@@ -10,7 +10,7 @@ pub returns : goal.returns
 returns g c =
     let shelf = c.args.shelf in
     let before = state g.S.Store c.close.result in
-    reopened (HasCleanDisk before) _ (λ s. HasCleanDisk (state g.S.Store s.conn)) (λ s. held_of (state g.S.Store s.conn) (state g.S.Store s.base.value))
+    reopened c.args.office_text.now (HasCleanDisk before) _ (λ s. HasCleanDisk (state g.S.Store s.conn)) (λ s. held_of (state g.S.Store s.conn) (state g.S.Store s.base.value))
     before.committed (committed (state_of (state g.S.Store shelf.conn) (state g.S.Store shelf.base.value) shelf.begun shelf.failures.count shelf.failed_abandons.count shelf.tally.count))
     c.open.result c.close.ensures.committed
     (λ clean live. (subst (λ conn. CommittedIsStore (state g.S.Store conn)) (sym c.close.ensures.same) shelf.committed clean live).ours)

@@ -12,4 +12,4 @@ returns-clause-refused g c it =
 pub returns-clause-content : goal.returns-clause-content
 returns-clause-content g c it =
     let shelf = c.args.shelf.now in
-    content_again (state g.S.Store shelf.conn) (state g.S.Store shelf.opened.value) (state g.T.Store c.args.found) shelf.keeps c.args.office_text.now it c.requires.0 c.requires.1 (λ s. HasCleanDisk (state g.T.Store s.conn)) (λ s. held_of (state g.T.Store s.conn) (state g.T.Store s.base.value)) c.open.result c.open.ensures.content
+    content_again (state g.S.Store shelf.conn) (state g.S.Store shelf.opened.value) (state g.T.Store c.args.found) shelf.keeps c.args.office_text.now it (λ s. HasCleanDisk (state g.T.Store s.conn)) (λ s. held_of (state g.T.Store s.conn) (state g.T.Store s.base.value)) c.open.result c.open.ensures.content

@@ -16,4 +16,4 @@ returns-clause-cause g c clean =
 
 pub returns-clause-crash : goal.returns-clause-crash
 returns-clause-crash g c =
-    settled_survives c.make_or_check.result c.args.text.now (state g.S.Store c.args.conn.now) (state g.S.Store c.settle.new.conn) (state g.S.Store c.make_or_check.new.conn) (λ clean. (c.in_default.ensures.settled clean).committed) c.in_default.ensures.crash c.make_or_check.ensures.crash
+    settled_survives c.make_or_check.result (office_of c.args.office.now) c.args.text.now (state g.S.Store c.args.conn.now) (state g.S.Store c.settle.new.conn) (state g.S.Store c.make_or_check.new.conn) (λ clean. (c.in_default.ensures.settled clean).committed) c.in_default.ensures.crash c.make_or_check.ensures.crash

@@ -1,16 +1,38 @@
+use Rattle.std.proofs.Common.{ap, length, ◌∙◌}
 use Rattle.sqlite.specs.Held.{state}
+use Rattle.sqlite.specs.Tree.{Trees}
 use Rattle.pw_tariff.specs.Office.{office_of}
-use Rattle.pw_schema.specs.declared.kind.StoreVersion.TheVariants.{First, Second}
 use Rattle.pw_schema.proofs.Outcomes.{early}
-use Rattle.pw_store.specs.inner.Opened.{RowsRefuse}
-use Rattle.pw_store.proofs.Raised.{if_err, refused_before}
+use Rattle.pw_store.specs.Content.{records_of}
+use Rattle.pw_store.proofs.InTurn.{trees_same}
+use Rattle.pw_store.proofs.Raised.{is_ready, refused_before}
 use Rattle.pw_store.proofs.opening.raise_and_check.Goals as goal
 
-pub returns-clause-cause : goal.returns-clause-cause
-returns-clause-cause g c clean =
+pub returns-in-Err-fill_and_check-clause-cause : goal.returns-in-Err-fill_and_check-clause-cause
+returns-in-Err-fill_and_check-clause-cause g c clean =
     let old = state g.S.Store c.args.conn.now in
     let mid = state g.S.Store c.raise.new.conn in
-    let new = state g.S.Store c.check_rows.new.conn in
-    let office = office_of c.args.office.now in
-    let raised = (c.in_default.ensures.upgraded (early mid new c.check_rows.ensures.looks.crash clean)).raised in
-    if_err c.check_rows.result (RowsRefuse Second office mid.now.trees) (RowsRefuse First office old.now.trees) (refused_before old.now.trees mid.now.trees raised office) (c.check_rows.ensures.cause clean)
+    let new = state g.S.Store c.fill_and_check.new.conn in
+    let raised = c.in_default.ensures.raised (early mid new c.in-Err-fill_and_check.ensures.crash clean) in
+    refused_before (office_of c.args.office.now) old.now.trees mid.now.trees c.args.version c.requires.earlier raised c.in-Err-fill_and_check.fault (c.in-Err-fill_and_check.ensures.cause clean)
+
+pub returns-clause-counted : goal.returns-clause-counted
+returns-clause-counted g c clean =
+    let new = state g.S.Store c.fill_and_check.new.conn in
+    let last = state g.S.Store c.see_raised.new.conn in
+    let seen = c.in_default-see_raised.ensures in
+    ap (λ (db : Trees). length (records_of db)) (trees_same new last (seen.looks.same clean)) ∙ c.in-Ok.ensures.counted (early new last seen.looks.crash clean)
+
+pub returns-clause-ready : goal.returns-clause-ready
+returns-clause-ready g c clean =
+    let old = state g.S.Store c.args.conn.now in
+    let mid = state g.S.Store c.raise.new.conn in
+    let new = state g.S.Store c.fill_and_check.new.conn in
+    let last = state g.S.Store c.see_raised.new.conn in
+    let seen = c.in_default-see_raised.ensures in
+    let clean2 = early new last seen.looks.crash clean in
+    let clean1 = early mid new c.in-Ok.ensures.crash clean2 in
+    let before = early old mid c.in_default.ensures.crash clean1 in
+    is_ready c.args.version (office_of c.args.office.now) c.args.text.now old mid new last c.requires.earlier (c.requires.old_tables before) (c.requires.old_text before) (c.in_default.ensures.raised clean1)
+    (c.in-Ok.ensures.lasting clean2) (c.in-Ok.ensures.within clean2) (c.in-Ok.ensures.filled clean2) (c.in-Ok.ensures.sound clean2) (seen.kept_text clean) (seen.plain clean)
+    (seen.looks.same clean) (c.schema.ensures.live (seen.looks.same clean).0.is_open).0

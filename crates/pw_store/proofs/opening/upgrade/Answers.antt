@@ -9,4 +9,4 @@ returns-in-Ok-commit-clause-opened g c clean =
     let old = state g.S.Store c.args.conn.now in
     let mid = state g.S.Store c.raise_and_check.new.conn in
     let new = state g.S.Store c.commit.new.conn in
-    upgrade_opened (office_of c.args.office.now) c.args.text.now old.now mid new (c.in-Ok.ensures.ready (early mid new c.in-Ok-commit.ensures.crash clean)) (c.in-Ok-commit.ensures.done clean)
+    upgrade_opened c.args.version (office_of c.args.office.now) c.args.text.now old.now mid new (c.in-Ok.ensures.ready (early mid new c.in-Ok-commit.ensures.crash clean)) (c.in-Ok-commit.ensures.done clean)

@@ -1,16 +1,30 @@
-use Rattle.std.proofs.Common.{◌≡◌, ◌↔◌, Some, Ok, Err, IsTrue, filter, subst, ◌∙◌}
+use Rattle.std.proofs.Common.{◌≡◌, ◌↔◌, Some, Ok, Err, IsTrue, filter, sym, subst, ◌∙◌}
 use Rattle.std.specs.Option.{option_copied}
 use Rattle.sqlite.specs.Held.{state}
+use Rattle.pw_tariff.specs.Office.{office_of}
 use Rattle.pw_schema.specs.declared.kind.RecordKind.TheVariants.{Assignments}
 use Rattle.pw_schema.specs.declared.kind.TotalKind.TheVariants.{Energies, Payments}
 use Rattle.pw_schema.specs.Judges.{IsRest, is_above_zero}
 use Rattle.pw_schema.proofs.Outcomes.{early}
-use Rattle.pw_store.specs.Content.{start_tree, total_tree, payment_tree}
+use Rattle.pw_store.specs.Content.{start_tree, energy_tree, payment_tree}
+use Rattle.pw_store.specs.inner.Opened.{HoldsEnergies}
 use Rattle.pw_store.specs.inner.Sums.{TellsKept, TellsTotals}
 use Rattle.pw_store.proofs.Compared.{all_read}
 use Rattle.pw_store.proofs.InTurn.{trees_same}
-use Rattle.pw_store.proofs.Scanning.{looked, looks_last}
+use Rattle.pw_store.proofs.OfContent.{energies_held}
+use Rattle.pw_store.proofs.Scanning.{looked, looks_last, refuses_more}
 use Rattle.pw_store.proofs.sums.read_sums.Goals as goal
+
+pub returns-in-Err-read_energies-clause-cause : goal.returns-in-Err-read_energies-clause-cause
+returns-in-Err-read_energies-clause-cause g c clean =
+    let office = office_of c.args.office.now in
+    let s0 = state g.S.Store c.args.conn.now in
+    let s1 = state g.S.Store c.read_kept.new.conn in
+    let s2 = state g.S.Store c.read_kept-2.new.conn in
+    let clean2 = early s2 (state g.S.Store c.read_energies.new.conn) c.in-Err-read_energies.ensures.looks.crash clean in
+    let clean1 = early s1 s2 c.in-Ok-read_kept.ensures.looks.crash clean2 in
+    let same = trees_same s1 s2 (c.in-Ok-read_kept.ensures.looks.same clean2) ∙ trees_same s0 s1 (c.in-Ok.ensures.looks.same clean1) in
+    refuses_more _ _ c.in-Err-read_energies.fault (λ it. subst (HoldsEnergies office) (sym same) (energies_held office s0.now.trees it)) (c.in-Err-read_energies.ensures.cause clean)
 
 pub returns-in-Err-read_payments-clause-looks : goal.returns-in-Err-read_payments-clause-looks
 returns-in-Err-read_payments-clause-looks g c =
@@ -43,7 +57,7 @@ returns-clause-tells g c clean =
       record {
         points_told = p.1;
         starts_told = subst (λ db. TellsKept Assignments (db start_tree) s.0) same1 s.1;
-        energies_told = subst (λ db. TellsTotals Energies (db total_tree) e.0) same2 e.1;
+        energies_told = subst (λ db. TellsTotals Energies (db energy_tree) e.0) same2 e.1;
         payments_told = subst (λ db. TellsTotals Payments (db payment_tree) y.0) same3 y.1;
       },
       all_read c.args.parts.now p.0 s.0 e.0 y.0 (option_copied c.in-Ok-read_energies.energies.1) c.in-Ok.points.1 c.in-Ok-read_kept.starts.1 c.in-Ok-read_payments.payments.1 c.are_all.result c.are_all.ensures

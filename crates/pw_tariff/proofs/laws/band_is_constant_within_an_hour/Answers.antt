@@ -1,5 +1,5 @@
-use Rattle.pw_tariff.proofs.Answered.{same-band}
+use Rattle.pw_tariff.proofs.Answered.{same-hour}
 use Rattle.pw_tariff.proofs.laws.band_is_constant_within_an_hour.Goals as goal
 
 pub returns : goal.returns
-returns c = same-band
+returns c = same-hour

@@ -1,6 +1,6 @@
 use Rattle.std.proofs.Common.{refl}
 use Rattle.toml.specs.View.{table_view}
-use Rattle.pw_tariff.proofs.Parts.{accounts-refused, bands-refused, meters-refused, week-refused, all-passed}
+use Rattle.pw_tariff.proofs.Parts.{accounts-refused, bands-refused, meters-refused, week-refused, periods-refused, all-passed}
 use Rattle.pw_tariff.proofs.Sound.{sound}
 use Rattle.pw_tariff.proofs.read.office_of.Goals as goal
 
@@ -16,13 +16,16 @@ returns-in-Err-read_meters c = meters-refused (table_view c.args.table.now) c.in
 pub returns-in-Err-read_week : goal.returns-in-Err-read_week
 returns-in-Err-read_week c = week-refused (table_view c.args.table.now) c.in-Err-read_week.fault c.in-Ok.ensures.0 c.in-Ok-read_bands.ensures.0 c.in-Ok-read_meters.ensures.0 c.in-Err-read_week.ensures
 
+pub returns-in-Err-read_periods : goal.returns-in-Err-read_periods
+returns-in-Err-read_periods c = periods-refused (table_view c.args.table.now) c.in-Err-read_periods.fault c.in-Ok.ensures.0 c.in-Ok-read_bands.ensures.0 c.in-Ok-read_meters.ensures.0 c.in-Ok-read_week.ensures.0 c.in-Err-read_periods.ensures
+
 pub invariant_of-result : goal.invariant_of-result
 invariant_of-result c =
-    rw (c.in-Ok.ensures.1, c.in-Ok-read_bands.ensures.1, c.in-Ok-read_meters.ensures.1, c.in-Ok-read_week.ensures.1)
-    (sound (table_view c.args.table.now) c.in-Ok.ensures.0 c.in-Ok-read_bands.ensures.0 c.in-Ok-read_meters.ensures.0 c.in-Ok-read_week.ensures.0)
+    rw (c.in-Ok.ensures.1, c.in-Ok-read_bands.ensures.1, c.in-Ok-read_meters.ensures.1, c.in-Ok-read_week.ensures.1, c.in-Ok-read_periods.ensures.1)
+    (sound (table_view c.args.table.now) c.in-Ok.ensures.0 c.in-Ok-read_bands.ensures.0 c.in-Ok-read_meters.ensures.0 c.in-Ok-read_week.ensures.0 c.in-Ok-read_periods.ensures.0)
 
 pub returns : goal.returns
 returns c = (
-  all-passed (table_view c.args.table.now) c.in-Ok.ensures.0 c.in-Ok-read_bands.ensures.0 c.in-Ok-read_meters.ensures.0 c.in-Ok-read_week.ensures.0,
-  rw (c.in-Ok.ensures.1, c.in-Ok-read_bands.ensures.1, c.in-Ok-read_meters.ensures.1, c.in-Ok-read_week.ensures.1) refl,
+  all-passed (table_view c.args.table.now) c.in-Ok.ensures.0 c.in-Ok-read_bands.ensures.0 c.in-Ok-read_meters.ensures.0 c.in-Ok-read_week.ensures.0 c.in-Ok-read_periods.ensures.0,
+  rw (c.in-Ok.ensures.1, c.in-Ok-read_bands.ensures.1, c.in-Ok-read_meters.ensures.1, c.in-Ok-read_week.ensures.1, c.in-Ok-read_periods.ensures.1) refl,
 )

@@ -1,4 +1,4 @@
-use Rattle.std.proofs.Common.{◌∙◌, ◌*◌, ap, sym}
+use Rattle.std.proofs.Common.{◌∙◌, ap, sym}
 use Rattle.std.specs.Prelude.{encode_utf8, unwrap_or}
 use Rattle.std.proofs.lemmas.Result.{IfOk-weaker}
 use Rattle.pw_tariff.specs.Office.{OfficeFile, office_of}
@@ -11,6 +11,5 @@ returns c =
     let owner = c.owner_name-name.ensures in
     let band = ap (λ o. encode_utf8 (unwrap_or o 0)) (sym c.band_name-letter.ensures) in
     let wh = c.in_ok-wh.ensures ∙ ap (λ (file : OfficeFile). energy (office_of file) c.args.entries.now c.args.owner c.args.band.0 c.args.direction) c.new.ensures.file in
-    let price = c.from.ensures ∙ c.price.ensures.price in
-    let taken = c.from-2.ensures ∙ wh in
-    IfOk-weaker c.energy_fields.result _ _ (λ line e. e ∙ (λ i. energy_fields (owner i) (band i) c.args.direction (wh i) (price i * taken i))) c.energy_fields.ensures
+    let nano = c.in_ok-nano.ensures in
+    IfOk-weaker c.energy_fields.result _ _ (λ line e. e ∙ (λ i. energy_fields (owner i) (band i) c.args.direction (wh i) (nano i))) c.energy_fields.ensures

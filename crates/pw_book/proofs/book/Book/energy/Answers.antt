@@ -1,7 +1,5 @@
-use Rattle.std.proofs.Common.{◌∙◌}
-use Rattle.pw_model.specs.declared.records.TotalKey.TheVariants.{Energy}
+use Rattle.std.proofs.Common.{rules}
 use Rattle.pw_book.proofs.book.Book.energy.Goals as goal
 
-pub returns-clause-energy : goal.returns-clause-energy
-returns-clause-energy g c = λ k.
-    c.in_ok-total_held.ensures.total k ∙ (c.args.self.now.truth c.in_ok-still_open.ensures (c.total_held.ensures.asked.kept.clean k)).totals (Energy c.args.owner c.args.band c.args.direction)
+pub returns-in_err-wh-clause-cost : goal.returns-in_err-wh-clause-cost
+returns-in_err-wh-clause-cost g c = search rules

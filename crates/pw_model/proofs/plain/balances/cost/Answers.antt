@@ -1,30 +1,28 @@
-use Rattle.std.proofs.Common.{◌≡◌, ℕ, ◌*◌, Some, refl, ap, ◌∙◌, arith}
+use Rattle.std.proofs.Common.{◌≡◌, ℕ, Some, refl, ap, ◌∙◌, arith}
 use Rattle.pw_flow.specs.Time.{sum_over}
 use Rattle.pw_model.specs.Counting.{contents_at}
-use Rattle.pw_model.specs.Energy.{cost, energy_where, of_band}
-use Rattle.pw_model.proofs.PlainEnergy.{sum-next, price-fits, energy-fits}
+use Rattle.pw_model.specs.Energy.{cost}
+use Rattle.pw_model.specs.inner.Tariff.{period_cost}
+use Rattle.pw_model.proofs.PlainEnergy.{sum-next}
 use Rattle.pw_model.proofs.plain.balances.cost.Goals as goal
 
-pub loop-band-init : goal.loop-band-init
+pub loop-period-init : goal.loop-period-init
 unfolding sum_over
-loop-band-init g c = record { sum = refl; bound = omega arith }
+loop-period-init g c = record { sum = refl; bound = omega arith }
 
-pub loop-band-preserved : goal.loop-band-preserved
-loop-band-preserved g c =
+pub loop-period-preserved : goal.loop-period-preserved
+loop-period-preserved g c =
     let office = g.T.Terms.office c.args.terms.now in
-    let f : ℕ → ℕ = λ b. office.price b c.args.direction * energy_where office (contents_at c.args.entries.now) c.args.direction (of_band office (Some c.args.account) b) in
-    let a = sum-next f c.loop-band.band in
-    let p : c.from.result ≡ office.price c.loop-band.band c.args.direction = c.from.ensures ∙ c.price.ensures in
-    let q : c.from-in-loop-band.result ≡ energy_where office (contents_at c.args.entries.now) c.args.direction (of_band office (Some c.args.account) c.loop-band.band) = c.from-in-loop-band.ensures ∙ c.in_ok-wh.ensures in
-    let here : c.from.result * c.from-in-loop-band.result ≡ f c.loop-band.band = λ i. p i * q i in
-    let fit = energy-fits office c.args.entries.now c.args.direction (of_band office (Some c.args.account) c.loop-band.band) c.requires.office c.requires.entries c.requires.few in
-    let most = price-fits office c.loop-band.band (energy_where office (contents_at c.args.entries.now) c.args.direction (of_band office (Some c.args.account) c.loop-band.band)) c.args.direction c.requires.office (omega (arith, c.bands-band-end.ensures, c.loop-band-test.true)) fit in
-    record { sum = omega (arith, a, here, c.loop-band.invariant.sum); bound = omega (arith, here, most, c.loop-band.invariant.bound) }
+    let f : ℕ → ℕ = λ p. period_cost office (contents_at c.args.entries.now) (Some c.args.account) p c.args.direction in
+    let a = sum-next f c.loop-period.period in
+    let here : c.in_ok-part.part ≡ f c.loop-period.period = c.in_ok-part.ensures.cost in
+    let most = c.in_ok-part.ensures.bound in
+    record { sum = omega (arith, a, here, c.loop-period.invariant.sum); bound = omega (arith, most, c.loop-period.invariant.bound) }
 
 pub returns-clause-cost : goal.returns-clause-cost
 unfolding cost
 returns-clause-cost g c =
     let office = g.T.Terms.office c.args.terms.now in
-    let f : ℕ → ℕ = λ b. office.price b c.args.direction * energy_where office (contents_at c.args.entries.now) c.args.direction (of_band office (Some c.args.account) b) in
-    let e : c.loop-band.band ≡ office.bands = omega (arith, c.bands-band-end.ensures, c.loop-band.auto.band-end, c.loop-band-test.false) in
-    c.loop-band.invariant.sum ∙ ap (sum_over f 0) e
+    let f : ℕ → ℕ = λ p. period_cost office (contents_at c.args.entries.now) (Some c.args.account) p c.args.direction in
+    let e : c.loop-period.period ≡ office.periods = omega (arith, c.periods-period-end.ensures, c.loop-period.auto.period-end, c.loop-period-test.false) in
+    c.loop-period.invariant.sum ∙ ap (sum_over f 0) e

@@ -1,11 +1,11 @@
 use Rattle.std.proofs.Common.{◌≡◌, ◌*◌, ◌≤◌, Some}
 use Rattle.pw_flow.specs.Time.{sum_over}
 use Rattle.pw_model.specs.Counting.{contents_at}
-use Rattle.pw_model.specs.Energy.{energy_where, of_band}
+use Rattle.pw_model.specs.inner.Tariff.{period_cost}
 use Rattle.pw_model.proofs.plain.balances.cost.Given as goal
 
-abbrev pub invariant-loop-band : goal.invariant-loop-band
-invariant-loop-band g l = record {
-  sum : l.nano ≡ sum_over (λ b. (g.T.Terms.office l.terms).price b l.direction * energy_where (g.T.Terms.office l.terms) (contents_at l.entries) l.direction (of_band (g.T.Terms.office l.terms) (Some l.account) b)) 0 l.band;
-  bound : l.nano ≤ l.band * 999999999990000000000000000;
+abbrev pub invariant-loop-period : goal.invariant-loop-period
+invariant-loop-period g l = record {
+  sum : l.nano ≡ sum_over (λ p. period_cost (g.T.Terms.office l.terms) (contents_at l.entries) (Some l.account) p l.direction) 0 l.period;
+  bound : l.nano ≤ l.period * 7999999999920000000000000000;
 }

@@ -19,6 +19,7 @@ returns-clause-all c k =
 
 pub add-requires : goal.add-requires
 add-requires c =
-    let x : Cell = record { owner = None; band = record { 0 = 0 }; wh = 0 } in
-    let k : TotalKey = Energy (slice_index_or c.args.cells.now c.loop-cell.cell-index x).owner (slice_index_or c.args.cells.now c.loop-cell.cell-index x).band c.args.direction in
+    let x : Cell = record { owner = None; period = record { 0 = 0 }; band = record { 0 = 0 }; wh = 0 } in
+    let cell : Cell = slice_index_or c.args.cells.now c.loop-cell.cell-index x in
+    let k : TotalKey = Energy cell.owner cell.period cell.band c.args.direction in
     record { fits = cell-fits c.args.direction c.args.cells.now c.loop-cell.cell-index x _ _ _ c.loop-cell-test.true (c.loop-cell.invariant.told k) (c.requires.fits k) }

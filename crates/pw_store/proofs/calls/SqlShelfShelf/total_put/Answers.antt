@@ -11,7 +11,7 @@ returns-then-amount-eq0-clause-put g c clean =
     let old = held_of (state g.S.Store c.args.self.now.conn) (state g.S.Store c.args.self.now.base.value) in
     let new = held_of (state g.S.Store c.change.new.self.conn) (state g.S.Store c.change.new.self.base.value) in
     let zero : c.args.amount ≡ 0 = search rules in
-    let put = subst (λ n. OnOk c.change.result (new ≡ with_total old (total.Energy c.in-Energy.owner c.in-Energy.band c.in-Energy.direction) n)) (sym zero) (c.change.ensures.content clean) in
+    let put = subst (λ n. OnOk c.change.result (new ≡ with_total old (total.Energy c.in-Energy.owner c.in-Energy.period c.in-Energy.band c.in-Energy.direction) n)) (sym zero) (c.change.ensures.content clean) in
     subst (λ k. OnOk c.change.result (new ≡ with_total old k c.args.amount)) (sym c.in-Energy.is) put
 
 pub returns-then-cents-eq0-clause-put : goal.returns-then-cents-eq0-clause-put
@@ -25,7 +25,7 @@ returns-then-cents-eq0-clause-put g c clean =
 
 pub returns-else-amount-eq0-clause-put : goal.returns-else-amount-eq0-clause-put
 returns-else-amount-eq0-clause-put g c clean =
-    total_if c.replace.result _ (held_of (state g.S.Store c.args.self.now.conn) (state g.S.Store c.args.self.now.base.value)) (total.Energy c.in-Energy.owner c.in-Energy.band c.in-Energy.direction) c.args.key.now 0 c.args.amount c.in-Energy.is (c.replace.ensures.content clean)
+    total_if c.replace.result _ (held_of (state g.S.Store c.args.self.now.conn) (state g.S.Store c.args.self.now.base.value)) (total.Energy c.in-Energy.owner c.in-Energy.period c.in-Energy.band c.in-Energy.direction) c.args.key.now 0 c.args.amount c.in-Energy.is (c.replace.ensures.content clean)
 
 pub returns-else-cents-eq0-clause-put : goal.returns-else-cents-eq0-clause-put
 returns-else-cents-eq0-clause-put g c clean =

@@ -1,4 +1,4 @@
-use Rattle.std.proofs.Common.{arith, rules}
+use Rattle.std.proofs.Common.{arith}
 use Rattle.pw_tariff.proofs.Starts.{not-rising, rising-more}
 use Rattle.pw_tariff.proofs.owners.Owners.of.Goals as goal
 

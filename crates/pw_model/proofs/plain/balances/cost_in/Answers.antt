@@ -1,0 +1,29 @@
+use Rattle.std.proofs.Common.{◌≡◌, ℕ, ◌*◌, Some, refl, ap, ◌∙◌, arith}
+use Rattle.pw_flow.specs.Time.{sum_over}
+use Rattle.pw_model.specs.Counting.{contents_at}
+use Rattle.pw_model.specs.Energy.{energy_where, of_class}
+use Rattle.pw_model.proofs.PlainEnergy.{sum-next, price-fits, energy-fits}
+use Rattle.pw_model.proofs.plain.balances.cost_in.Goals as goal
+
+pub loop-band-init : goal.loop-band-init
+unfolding sum_over
+loop-band-init g c = record { sum = refl; bound = omega arith }
+
+pub loop-band-preserved : goal.loop-band-preserved
+loop-band-preserved g c =
+    let office = g.T.Terms.office c.args.terms.now in
+    let f : ℕ → ℕ = λ b. office.price c.args.period.0 b c.args.direction * energy_where office (contents_at c.args.entries.now) c.args.direction (of_class office (Some c.args.account) c.args.period.0 b) in
+    let a = sum-next f c.loop-band.band in
+    let p : c.from.result ≡ office.price c.args.period.0 c.loop-band.band c.args.direction = c.from.ensures ∙ c.price.ensures in
+    let q : c.from-in-loop-band.result ≡ energy_where office (contents_at c.args.entries.now) c.args.direction (of_class office (Some c.args.account) c.args.period.0 c.loop-band.band) = c.from-in-loop-band.ensures ∙ c.in_ok-wh.ensures in
+    let here : c.from.result * c.from-in-loop-band.result ≡ f c.loop-band.band = λ i. p i * q i in
+    let fit = energy-fits office c.args.entries.now c.args.direction (of_class office (Some c.args.account) c.args.period.0 c.loop-band.band) c.requires.office c.requires.entries c.requires.few in
+    let most = price-fits office c.args.period.0 c.loop-band.band (energy_where office (contents_at c.args.entries.now) c.args.direction (of_class office (Some c.args.account) c.args.period.0 c.loop-band.band)) c.args.direction c.requires.office c.requires.period (omega (arith, c.bands-band-end.ensures, c.loop-band-test.true)) fit in
+    record { sum = omega (arith, a, here, c.loop-band.invariant.sum); bound = omega (arith, here, most, c.loop-band.invariant.bound) }
+
+pub returns-clause-cost : goal.returns-clause-cost
+returns-clause-cost g c =
+    let office = g.T.Terms.office c.args.terms.now in
+    let f : ℕ → ℕ = λ b. office.price c.args.period.0 b c.args.direction * energy_where office (contents_at c.args.entries.now) c.args.direction (of_class office (Some c.args.account) c.args.period.0 b) in
+    let e : c.loop-band.band ≡ office.bands = omega (arith, c.bands-band-end.ensures, c.loop-band.auto.band-end, c.loop-band-test.false) in
+    c.loop-band.invariant.sum ∙ ap (sum_over f 0) e

@@ -1,0 +1,181 @@
+//! The totals of energy by period of a store that is brought to version 3: put, and read again.
+
+ghost use Rattle.std.specs.Prelude.{◌<◌, ◌^◌, IfErr, IsTrue, OnOk};
+ghost use Rattle.std.specs.Option.{option_copied};
+ghost use Rattle.sqlite.specs.Held.{state};
+ghost use Rattle.sqlite.specs.State.{HasCleanDisk, KeepsCommit, Survives};
+ghost use Rattle.pw_tariff.specs.Office.{office_of};
+ghost use Rattle.pw_schema.specs.Calls.{Looks};
+ghost use Rattle.pw_schema.specs.Fresh.{IsWithin};
+ghost use Rattle.pw_schema.specs.Raised.{HasSame, lasting_trees};
+ghost use Rattle.pw_schema.specs.Tables.{IsOurs, schema_of};
+ghost use Rattle.pw_schema.specs.declared.kind.StoreVersion.TheVariants.{Third};
+ghost use Rattle.pw_store.specs.Left.{IsFilled};
+ghost use Rattle.pw_store.specs.inner.Filling.{AreOfTopUps, IsOfEngine, IsOfTopUps, LeavesTopUps};
+ghost use Rattle.pw_store.specs.inner.Opened.{AreJudged};
+
+use crate::fault::{OpenFault, fault_in};
+use crate::sums::read_energies;
+use pw_model::TotalKey;
+use pw_parts::Parts;
+use pw_schema::{direction_place, integer, owner_place, wide};
+use pw_tariff::{BandId, Direction, Office, Owner, PeriodId};
+use sqlite::{Alter, Connection, Error, ErrorCode};
+
+// No column takes it, nor more.
+const TOO_WIDE: u64 = 0x8000_0000_0000_0000;
+
+// Puts a row, whatever the rows are.
+fn put_row<S: Alter>(
+    conn: &mut Connection<S>,
+    owner: Owner,
+    period: PeriodId,
+    band: BandId,
+    direction: Direction,
+    wh: u64,
+) -> Result<usize, Error>
+    requires within { HasCleanDisk (state S.Store conn.old) → IsWithin (schema_of Third) (state S.Store conn.old) }
+    requires fits { wh < 2 ^ 63 }
+    ensures within { HasCleanDisk (state S.Store conn.new) → OnOk result (IsWithin (schema_of Third) (state S.Store conn.new)) }
+    ensures lasting { HasCleanDisk (state S.Store conn.new) → OnOk result (HasSame lasting_trees (state S.Store conn.old).now.trees (state S.Store conn.new).now.trees) }
+    ensures kept { HasCleanDisk (state S.Store conn.new) → KeepsCommit (state S.Store conn.old) (state S.Store conn.new) }
+    ensures crash { Survives (state S.Store conn.old) (state S.Store conn.new) (λ _. ⊥) }
+{
+    conn.execute(
+        "INSERT INTO period_total VALUES (?1, ?2, ?3, ?4, ?5)",
+        &[
+            integer(owner_place(owner)),
+            integer(u32::from(period.0)),
+            integer(u32::from(band.0)),
+            integer(direction_place(direction)),
+            wide(wh),
+        ],
+    )
+}
+
+// Puts a total, if it is one of energy.
+fn put_total<S: Alter>(
+    conn: &mut Connection<S>,
+    key: &TotalKey,
+    amount: u64,
+) -> Result<usize, Error>
+    requires within { HasCleanDisk (state S.Store conn.old) → IsWithin (schema_of Third) (state S.Store conn.old) }
+    ensures within { HasCleanDisk (state S.Store conn.new) → OnOk result (IsWithin (schema_of Third) (state S.Store conn.new)) }
+    ensures lasting { HasCleanDisk (state S.Store conn.new) → OnOk result (HasSame lasting_trees (state S.Store conn.old).now.trees (state S.Store conn.new).now.trees) }
+    ensures kept { HasCleanDisk (state S.Store conn.new) → KeepsCommit (state S.Store conn.old) (state S.Store conn.new) }
+    ensures crash { Survives (state S.Store conn.old) (state S.Store conn.new) (λ _. ⊥) }
+{
+    if amount >= TOO_WIDE {
+        return Err(Error::SqliteFailure(ErrorCode::TooBig));
+    }
+    match key {
+        TotalKey::Energy {
+            owner,
+            period,
+            band,
+            direction,
+        } => put_row(conn, *owner, *period, *band, *direction, amount),
+        TotalKey::TopUps { .. } => Ok(0),
+    }
+}
+
+// Puts all totals of energy.
+fn put_all<S: Alter>(conn: &mut Connection<S>, totals: &[(TotalKey, u64)]) -> Result<(), Error>
+    requires within { HasCleanDisk (state S.Store conn.old) → IsWithin (schema_of Third) (state S.Store conn.old) }
+    ensures within { HasCleanDisk (state S.Store conn.new) → OnOk result (IsWithin (schema_of Third) (state S.Store conn.new)) }
+    ensures lasting { HasCleanDisk (state S.Store conn.new) → OnOk result (HasSame lasting_trees (state S.Store conn.old).now.trees (state S.Store conn.new).now.trees) }
+    ensures kept { HasCleanDisk (state S.Store conn.new) → KeepsCommit (state S.Store conn.old) (state S.Store conn.new) }
+    ensures crash { Survives (state S.Store conn.old) (state S.Store conn.new) (λ _. ⊥) }
+{
+    for (key, amount) in totals {
+        put_total(conn, key, *amount)?;
+    }
+    Ok(())
+}
+
+fn is_of_top_ups(total: &(TotalKey, u64)) -> bool
+    ensures { IsTrue result → IsOfTopUps total.now.0 }
+{
+    match total.0 {
+        TotalKey::Energy { .. } => false,
+        TotalKey::TopUps { .. } => true,
+    }
+}
+
+fn are_of_top_ups(totals: &[(TotalKey, u64)]) -> bool
+    ensures { IsTrue result → AreOfTopUps totals.now }
+{
+    let [total, totals @ ..] = totals else {
+        return true;
+    };
+    is_of_top_ups(total) && are_of_top_ups(totals)
+}
+
+// Whether totals of top-ups alone are left of a list.
+fn is_met(rest: Option<&[(TotalKey, u64)]>) -> bool
+    ensures { IsTrue result → LeavesTopUps (option_copied rest.entry) }
+{
+    match rest {
+        Some(rest) => are_of_top_ups(rest),
+        None => false,
+    }
+}
+
+// What a fault in reading them again is: not of what was found, but of what was put.
+fn fault_of_filling(fault: OpenFault) -> OpenFault
+    ensures { IsOfEngine result }
+{
+    match fault {
+        OpenFault::Memory => OpenFault::Memory,
+        _ => OpenFault::Store,
+    }
+}
+
+// Sees that the totals of energy are those of the parts.
+fn see_filled<S: Alter>(
+    conn: &mut Connection<S>,
+    office: &Office,
+    parts: &Parts,
+) -> Result<(), OpenFault>
+    requires ours { HasCleanDisk (state S.Store conn.old) → IsOurs (state S.Store conn.old).now.schema }
+    requires judged { HasCleanDisk (state S.Store conn.old) → AreJudged (office_of office.now) (state S.Store conn.old).now.trees parts.now }
+    ensures filled { HasCleanDisk (state S.Store conn.new) → OnOk result (IsFilled (office_of office.now) (state S.Store conn.old).now.trees) }
+    ensures engine { IfErr result IsOfEngine }
+    ensures looks { Looks result (state S.Store conn.old) (state S.Store conn.new) }
+{
+    let energies = match read_energies(conn, office, parts.totals.as_slice()) {
+        Ok(energies) => energies,
+        Err(fault) => return Err(fault_of_filling(fault)),
+    };
+    if is_met(energies.1) {
+        Ok(())
+    } else {
+        Err(OpenFault::Store)
+    }
+}
+
+/// Puts the totals of energy of the parts of the records, and sees that they are there. What it finds amiss then is told as a
+/// failure of the engine.
+pub(crate) fn fill<S: Alter>(
+    conn: &mut Connection<S>,
+    office: &Office,
+    parts: &Parts,
+) -> Result<(), OpenFault>
+    requires within { HasCleanDisk (state S.Store conn.old) → IsWithin (schema_of Third) (state S.Store conn.old) }
+    requires judged { HasCleanDisk (state S.Store conn.old) → AreJudged (office_of office.now) (state S.Store conn.old).now.trees parts.now }
+    ensures within { HasCleanDisk (state S.Store conn.new) → OnOk result (IsWithin (schema_of Third) (state S.Store conn.new)) }
+    ensures lasting { HasCleanDisk (state S.Store conn.new) → OnOk result (HasSame lasting_trees (state S.Store conn.old).now.trees (state S.Store conn.new).now.trees) }
+    ensures judged { HasCleanDisk (state S.Store conn.new) → OnOk result (AreJudged (office_of office.now) (state S.Store conn.new).now.trees parts.now) }
+    ensures filled { HasCleanDisk (state S.Store conn.new) → OnOk result (IsFilled (office_of office.now) (state S.Store conn.new).now.trees) }
+    ensures engine { IfErr result IsOfEngine }
+    ensures kept { HasCleanDisk (state S.Store conn.new) → KeepsCommit (state S.Store conn.old) (state S.Store conn.new) }
+    ensures crash { Survives (state S.Store conn.old) (state S.Store conn.new) (λ _. ⊥) }
+{
+    if let Err(error) = put_all(conn, parts.totals.as_slice()) {
+        return Err(fault_in(error));
+    }
+    match see_filled(conn, office, parts) {
+        Ok(()) => Ok(()),
+        Err(fault) => Err(fault),
+    }
+}

@@ -1,0 +1,47 @@
+use Rattle.std.proofs.Common.{◌∙◌, sym, ap, map}
+use Rattle.toml.specs.View.{table_view}
+use Rattle.pw_time.specs.declared.instant.TheConstants.{FIRST_SECOND}
+use Rattle.pw_tariff.specs.Office.{PeriodText}
+use Rattle.pw_tariff.specs.Held.{bands_of, period_of}
+use Rattle.pw_tariff.specs.inner.Held.{table_in}
+use Rattle.pw_tariff.specs.Text.{period_of_table, periods_in_turn}
+use Rattle.pw_tariff.proofs.Listed.{one-table, table-read}
+use Rattle.pw_tariff.proofs.Order.{all-taken, held-more}
+use Rattle.pw_tariff.proofs.Turns.{refused, passed, ended}
+use Rattle.pw_tariff.proofs.periods.read_each.Goals as goal
+
+pub returns-in_default : goal.returns-in_default
+returns-in_default c =
+    let items = rw c.deref-value-items.ensures.value at c.value-item.is in
+    let within = rw c.deref-value-items.ensures.value at c.loop-value-test.true in
+    absurd (one-table c.args.array.now.items c.loop-value.value-index c.value-item.result _ within items c.requires c.in_default.ensures)
+
+pub returns-in-Err : goal.returns-in-Err
+returns-in-Err c =
+    let t = table-read c.value-item.result (table_view c.in-Some.table.now) c.in-Some.ensures in
+    let r = rw (← t) at c.in-Err.ensures in
+    rw (← c.deref-value-items.ensures.value) (refused (periods_in_turn (bands_of c.args.bands.now) FIRST_SECOND (map table_in c.deref-value-items.result.now)) (bands_of c.args.bands.now) table_in c.loop-value.before c.deref-value-items.result.now c.loop-value.value-index c.value-item.result c.in-Err.fault
+    c.loop-value-test.true c.value-item.is c.loop-value.invariant.checks r)
+
+pub loop-value-preserved : goal.loop-value-preserved
+loop-value-preserved c =
+    let t = table-read c.value-item.result (table_view c.in-Some.table.now) c.in-Some.ensures in
+    let pushed = rw c.if-is_err.ensures.negation at c.push.ensures.items in
+    let read = c.in-Ok.ensures.1 ∙ ap period_of_table (sym t) in
+    let checked = c.in-Ok.ensures.0 in
+    let checked2 = rw (← t) at checked in
+    record {
+      checks = passed (periods_in_turn (bands_of c.args.bands.now) FIRST_SECOND (map table_in c.deref-value-items.result.now)) (bands_of c.args.bands.now) table_in c.loop-value.before c.seconds-before.result c.deref-value-items.result.now c.loop-value.value-index c.value-item.result
+          c.loop-value-test.true c.value-item.is (c.seconds-before.ensures.value ∙ ap (λ (p : PeriodText). p.start) read) c.loop-value.invariant.checks checked2;
+      periods = rw pushed (held-more period_of period_of_table table_in c.loop-value.periods.items c.in-Ok.period c.deref-value-items.result.now c.loop-value.value-index c.value-item.result
+          c.loop-value-test.true c.value-item.is c.loop-value.invariant.periods read);
+    }
+
+pub returns : goal.returns
+returns c =
+    let whole = all-taken c.deref-value-items.result.now c.loop-value.value-index c.loop-value-test.false in
+    let same = rw whole at c.loop-value.invariant.periods in
+    rw (← c.deref-value-items.ensures.value) (
+      ended (periods_in_turn (bands_of c.args.bands.now) FIRST_SECOND (map table_in c.deref-value-items.result.now)) (bands_of c.args.bands.now) table_in c.loop-value.before c.deref-value-items.result.now c.loop-value.value-index c.loop-value-test.false c.loop-value.invariant.checks,
+      same,
+    )
