@@ -1,6 +1,7 @@
 -- Calls of a shelf behind another.
-use Rattle.std.proofs.Common.{ℕ, ◌∙◌, refl, arith}
-use Rattle.pw_model.specs.Shelf.{ShelfContent}
+use Rattle.std.proofs.Common.{ℕ, ◌∙◌, refl, sym, subst, arith}
+use Rattle.pw_tariff.specs.Office.{OfficeRules}
+use Rattle.pw_model.specs.Shelf.{IsTrueContent, ShelfContent}
 use Rattle.pw_shelf.specs.Calls.{GoesOn}
 use Rattle.pw_shelf.specs.State.{State, CountsFailures}
 use Rattle.pw_shelf.specs.declared.shelf.Shelf.{Ghosts}
@@ -41,3 +42,7 @@ asked-none shelf yet a = record {
   content = λ k. refl;
   kept = kept-none shelf.state shelf.left shelf.clean shelf.same_store yet a;
 }
+
+-- a content that was only asked is as true as before
+pub asked-true : {S : Type 0} (shelf : Ghosts S) (office : OfficeRules) (a b : S) → (shelf.clean a → IsTrueContent office (shelf.state a).content) → IsOnlyAsked shelf 0 a b → shelf.clean b → IsTrueContent office (shelf.state b).content
+asked-true shelf office a b t h k = let T : ShelfContent → Type 0 = λ d. IsTrueContent office d in subst T (sym (h.content k)) (t (h.kept.clean k))

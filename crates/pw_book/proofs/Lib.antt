@@ -1,5 +1,4 @@
 pub mod EachOne
-pub mod Filtered
 pub mod NotHeld
 pub mod Joining
 pub mod Chains

@@ -19,7 +19,7 @@ use Rattle.pw_model.proofs.Places.{member-left, member-right, member-split}
 use Rattle.pw_model.proofs.InOrder.{before-member}
 use Rattle.pw_model.proofs.EntryOrder.{before-all}
 use Rattle.pw_parts.proofs.Groups.{rising-right}
-use Rattle.pw_book.proofs.Filtered.{filtered-member, member-filtered}
+use Rattle.pw_model.proofs.Filtered.{filtered-member, member-filtered}
 
 abbrev pub Start : Type 0
 Start = ℕ × Option AccountId

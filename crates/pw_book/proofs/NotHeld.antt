@@ -12,7 +12,7 @@ use Rattle.pw_model.proofs.Same.{same_entry-decides}
 use Rattle.pw_book.specs.Posting.{fresh_in}
 use Rattle.pw_book.specs.inner.Fresh.{AreFresh, fresh_of}
 use Rattle.pw_book.proofs.EachOne.{once-step}
-use Rattle.pw_book.proofs.Filtered.{filtered-member, filtered-once, member-filtered}
+use Rattle.pw_model.proofs.Filtered.{filtered-member, filtered-once, member-filtered}
 
 module _ (held : List Entry) where
   abbrev is_fresh : Entry → Bool

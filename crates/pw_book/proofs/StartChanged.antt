@@ -152,13 +152,12 @@ start-settled office was is b c d e f less more m z owner x y differ moves q =
       elsewhere = λ k t. ap (λ (s : ShelfContent). s.total k) q ∙ moves.elsewhere k t ∙ ap (λ (s : ShelfContent). s.total k) p;
     }
 
-pub point-kept : (these : TotalKey → Type 0) (more less : TotalKey → ℕ) (b c d e f : ShelfContent) (m z : ℕ) (owner : Option (Option AccountId)) → c ≡ b → d ≡ c → MovesTotals these more less d e → f ≡ with_start e m z owner → f.point ≡ b.point
-point-kept these more less b c d e f m z owner x y moves q = ap (λ (s : ShelfContent). s.point) q ∙ moves.point ∙ ap (λ (s : ShelfContent). s.point) (y ∙ x)
-
 pub start-kept : (these : TotalKey → Type 0) (more less : TotalKey → ℕ) (b c d e f : ShelfContent) (m z : ℕ) (owner : Option (Option AccountId)) → c ≡ b → d ≡ c → MovesTotals these more less d e → f ≡ with_start e m z owner →
-    f.start ≡ starts_with b.start m z owner
-start-kept these more less b c d e f m z owner x y moves q =
-    ap (λ (s : ShelfContent). s.start) q ∙ ap (λ (s : ℕ → ℕ → Option (Option AccountId)). starts_with s m z owner) (moves.start ∙ ap (λ (s : ShelfContent). s.start) (y ∙ x))
+    (f.point ≡ b.point) × (f.start ≡ starts_with b.start m z owner)
+start-kept these more less b c d e f m z owner x y moves q = (
+  ap (λ (s : ShelfContent). s.point) q ∙ moves.point ∙ ap (λ (s : ShelfContent). s.point) (y ∙ x),
+  ap (λ (s : ShelfContent). s.start) q ∙ ap (λ (s : ℕ → ℕ → Option (Option AccountId)). starts_with s m z owner) (moves.start ∙ ap (λ (s : ShelfContent). s.start) (y ∙ x)),
+)
 
 -- ---- how much is read
 -- the starts, and the points up to the next

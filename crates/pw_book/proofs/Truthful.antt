@@ -32,7 +32,7 @@ use Rattle.pw_model.proofs.Same.{same_key-decides}
 use Rattle.pw_model.proofs.Truth.{true-bounded}
 use Rattle.pw_shelf.specs.Changes.{points_with, starts_with}
 use Rattle.pw_book.specs.inner.Moves.{MovesTotals, OfOwners, most_total}
-use Rattle.pw_book.specs.inner.Added.{IsJustChanged, IsPaid, paid_of}
+use Rattle.pw_book.specs.inner.Added.{IsJustChanged, IsPaid, IsTrueAgain, paid_of}
 use Rattle.pw_book.specs.inner.Settling.{EndsBefore, IsSettled}
 use Rattle.pw_book.proofs.Changing.{in-office, is-energy, of-owners}
 use Rattle.pw_parts.proofs.Seconds.{owner-one, wh-one}
@@ -43,7 +43,7 @@ pub on-ok-two : {T E P Q W : Type 0} (r : Result T E) → (P → Q → W) → On
 on-ok-two (Ok a) f p q = f p q
 on-ok-two (Err a) f p q = tt
 
-pub on-ok-three : {T E P Q R W : Type 0} (r : Result T E) → (P → Q → R → W) → OnOk r P → OnOk r Q → OnOk r R → OnOk r W
+on-ok-three : {T E P Q R W : Type 0} (r : Result T E) → (P → Q → R → W) → OnOk r P → OnOk r Q → OnOk r R → OnOk r W
 on-ok-three (Ok a) f p q t = f p q t
 on-ok-three (Err a) f p q t = tt
 
@@ -172,16 +172,16 @@ module _ (office : OfficeRules) (o : IsOffice office) (s : List Entry) (m : ℕ)
       let is = no-cents office m r t a behind (fits-behind office o s here before behind old j) in
       omega (arith, p, was, is)
 
-  pub reading-ends : EndsBefore office.end (point (contents_at old.records) m r)
+  reading-ends : EndsBefore office.end (point (contents_at old.records) m r)
   reading-ends u w h = rw o.end (points-end office old.records m r j.of_office u w h)
 
-  pub reading-ended : EndsBefore office.end (point (contents_at s) m r)
+  reading-ended : EndsBefore office.end (point (contents_at s) m r)
   reading-ended u w h = rw o.end (points-end office s m r j.small u w h)
 
-  pub reading-begins : (w : ℕ) → wh_of before ≡ None → wh_of behind ≡ Some w → IsOneMoreReading (contents_at s) (contents_at old.records) m r t w
+  reading-begins : (w : ℕ) → wh_of before ≡ None → wh_of behind ≡ Some w → IsOneMoreReading (contents_at s) (contents_at old.records) m r t w
   reading-begins w p q = record { free = was-here ∙ p; here = is-here ∙ q; elsewhere = elsewhere; starts = starts-same }
 
-  pub reading-ceases : (w : ℕ) → wh_of before ≡ Some w → wh_of behind ≡ None → IsOneMoreReading (contents_at old.records) (contents_at s) m r t w
+  reading-ceases : (w : ℕ) → wh_of before ≡ Some w → wh_of behind ≡ None → IsOneMoreReading (contents_at old.records) (contents_at s) m r t w
   reading-ceases w p q = record { free = is-here ∙ q; here = was-here ∙ p; elsewhere = λ n q u d. sym (elsewhere n q u d); starts = sym starts-same }
 
   point-at : (w : Option ℕ) → wh_of behind ≡ w → (n : ℕ) (q : Register) (u : ℕ) → points_with old.point m r t w n q u ≡ point (contents_at old.records) n q u
@@ -192,8 +192,23 @@ module _ (office : OfficeRules) (o : IsOffice office) (s : List Entry) (m : ℕ)
         ∙ j.points n q u (λ i. true≢false (sym ((same_key-decides here (reading_key n q u)).1 (sym i)) ∙ f))
   ]
 
-  pub reading-true : (w : Option ℕ) → wh_of behind ≡ w → (new : ShelfContent) → IsSettled office (contents_at s) (contents_at old.records) old new → new.point ≡ points_with old.point m r t w → new.start ≡ old.start → IsTrueContent office new
+  reading-true : (w : Option ℕ) → wh_of behind ≡ w → (new : ShelfContent) → IsSettled office (contents_at s) (contents_at old.records) old new → new.point ≡ points_with old.point m r t w → new.start ≡ old.start → IsTrueContent office new
   reading-true w h new g p q = true-after office o s here before behind old j new g (p ∙ (λ i n q u. point-at w h n q u i)) (q ∙ j.still.starts ∙ starts-same) topped
+
+  -- the same of an answer, where the reading begins or ceases to count
+  reading-again : {T E : Type 0} (result : Result T E) (w : Option ℕ) (new : ShelfContent) → wh_of behind ≡ w → OnOk result (IsSettled office (contents_at s) (contents_at old.records) old new) →
+      OnOk result (new.point ≡ points_with old.point m r t w) → OnOk result (new.start ≡ old.start) → OnOk result (IsTrueAgain office old new)
+  reading-again result w new h a b d = on-ok-three result (λ g p q. record { truth = reading-true w h new g p q; records = g.records }) a b d
+
+  pub begun-again : {T E : Type 0} (result : Result T E) (w : ℕ) (new : ShelfContent) → wh_of before ≡ None → wh_of behind ≡ Some w →
+      ((was is : Key → Contents) → old.point ≡ point was → old.start ≡ start was → IsOneMoreReading was is m r t w → EndsBefore office.end (point is m r) → OnOk result (IsSettled office was is old new)) →
+      OnOk result (new.point ≡ points_with old.point m r t (Some w)) → OnOk result (new.start ≡ old.start) → OnOk result (IsTrueAgain office old new)
+  begun-again result w new p q f b d = reading-again result (Some w) new q (f (contents_at s) (contents_at old.records) j.still.points j.still.starts (reading-begins w p q) reading-ends) b d
+
+  pub ceased-again : {T E : Type 0} (result : Result T E) (w : ℕ) (new : ShelfContent) → wh_of before ≡ Some w → wh_of behind ≡ None →
+      ((was is : Key → Contents) → old.point ≡ point was → old.start ≡ start was → IsOneMoreReading is was m r t w → EndsBefore office.end (point was m r) → OnOk result (IsSettled office was is old new)) →
+      OnOk result (new.point ≡ points_with old.point m r t None) → OnOk result (new.start ≡ old.start) → OnOk result (IsTrueAgain office old new)
+  ceased-again result w new p q f b d = reading-again result None new q (f (contents_at s) (contents_at old.records) j.still.points j.still.starts (reading-ceases w p q) reading-ended) b d
 
   -- where the same counts
   pub reading-same : wh_of before ≡ wh_of behind → IsTrueContent office old
@@ -244,13 +259,13 @@ module _ (office : OfficeRules) (o : IsOffice office) (s : List Entry) (m t : �
       let is = no-cents-given office m t a behind (fits-behind office o s there before behind old j) in
       omega (arith, p, was, is)
 
-  pub other-start : IsOtherStart (contents_at s) (contents_at old.records) m t
+  other-start : IsOtherStart (contents_at s) (contents_at old.records) m t
   other-start = record { points = points-same; elsewhere = λ n u d. j.starts n u (λ i. d (ap meter_in i) (ap second_in i)) }
 
-  pub start-is : (w : Option (Option AccountId)) → owner_of behind ≡ w → start (contents_at old.records) m t ≡ w
+  start-is : (w : Option (Option AccountId)) → owner_of behind ≡ w → start (contents_at old.records) m t ≡ w
   start-is w h = is-there ∙ h
 
-  pub start-ends : (r : Register) → EndsBefore office.end (point (contents_at s) m r)
+  start-ends : (r : Register) → EndsBefore office.end (point (contents_at s) m r)
   start-ends r u w h = rw o.end (points-end office s m r j.small u w h)
 
   start-at : (w : Option (Option AccountId)) → owner_of behind ≡ w → (n u : ℕ) → starts_with old.start m t w n u ≡ start (contents_at old.records) n u
@@ -261,8 +276,16 @@ module _ (office : OfficeRules) (o : IsOffice office) (s : List Entry) (m t : �
         ∙ j.starts n u (λ i. true≢false (sym ((same_key-decides there (assignment_key n u)).1 (sym i)) ∙ f))
   ]
 
-  pub start-true : (w : Option (Option AccountId)) → owner_of behind ≡ w → (new : ShelfContent) → IsSettled office (contents_at s) (contents_at old.records) old new → new.point ≡ old.point → new.start ≡ starts_with old.start m t w → IsTrueContent office new
+  start-true : (w : Option (Option AccountId)) → owner_of behind ≡ w → (new : ShelfContent) → IsSettled office (contents_at s) (contents_at old.records) old new → new.point ≡ old.point → new.start ≡ starts_with old.start m t w → IsTrueContent office new
   start-true w h new g p q = true-after office o s there before behind old j new g (p ∙ j.still.points ∙ points-same) (q ∙ (λ i n u. start-at w h n u i)) topped-too
+
+  -- the same of an answer, where the assignment begins or ceases to count
+  pub start-again : {T E : Type 0} (result : Result T E) (w : Option (Option AccountId)) (new : ShelfContent) → owner_of behind ≡ w →
+      ((was is : Key → Contents) → old.point ≡ point was → old.start ≡ start was → IsOtherStart was is m t → start is m t ≡ w → ((r : Register) → EndsBefore office.end (point was m r)) → OnOk result (IsSettled office was is old new)) →
+      OnOk result ((new.point ≡ old.point) × (new.start ≡ starts_with old.start m t w)) → OnOk result (IsTrueAgain office old new)
+  start-again result w new h f a =
+      on-ok-two result (λ g p. record { truth = start-true w h new g p.0 p.1; records = g.records })
+      (f (contents_at s) (contents_at old.records) j.still.points j.still.starts other-start (start-is w h) start-ends) a
 
   -- where the same counts
   pub start-same : owner_of before ≡ owner_of behind → IsTrueContent office old

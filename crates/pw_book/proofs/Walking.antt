@@ -52,6 +52,10 @@ rest-all rows rest s e =
     subst P (sym e) (record { rises = s; held = λ t m. member-lookup rows.entries s t m })
 
 -- one behind another
+-- as the iterator gives it
+pub rest-same : (rows : BTreeMap TotalKey Change) {es fs : List (TotalKey × Change)} → es ≡ fs → IsRest rows es → IsRest rows fs
+rest-same rows e r = let P : List (TotalKey × Change) → Type 0 = λ xs. IsRest rows xs in subst P e r
+
 pub rest-next : (rows : BTreeMap TotalKey Change) (e : TotalKey × Change) (rest : List (TotalKey × Change)) → IsRest rows (e ∷ rest) → IsRest rows rest
 unfolding IsStrictlySortedBy
 rest-next rows e rest r = record { rises = r.rises.1; held = λ t m. r.held t (inr m) }
@@ -238,6 +242,9 @@ taken-more office rows e rest was mid now r o t l =
       within = omega (arith, c);
       ahead = λ f m p. (let q = energy-behind office e.0 f.0 o p (all-key (λ y. total_key_order e.0 y ≡ Less) rest f r.rises.0 m) in omega (arith, q));
     }
+
+pub taken-same : (office : OfficeRules) (was now : ℕ) {es fs : List (TotalKey × Change)} → es ≡ fs → HasTaken office es was now → HasTaken office fs was now
+taken-same office was now e h = let P : List (TotalKey × Change) → Type 0 = λ xs. HasTaken office xs was now in subst P e h
 
 pub taken-past : (office : OfficeRules) (e : TotalKey × Change) (rest : List (TotalKey × Change)) (was now : ℕ) → HasTaken office (e ∷ rest) was now → HasTaken office rest was now
 taken-past office e rest was now t = record { far = t.far; taken = t.taken; within = t.within; ahead = λ f m. t.ahead f (inr m) }

@@ -1,6 +1,6 @@
 //! An account's balance, of the totals that a shelf keeps.
 
-ghost use Rattle.std.specs.Prelude.{◌≡◌, ◌+◌, ◌*◌, ◌<◌, ◌≤◌, ◌^◌, Some, IfOk, IsNone, length, pos, ◌+ℤ◌, ◌-ℤ◌};
+ghost use Rattle.std.specs.Prelude.{◌≡◌, ◌+◌, ◌*◌, ◌<◌, ◌≤◌, ◌^◌, Some, IfOk, IsNone, length};
 ghost use Rattle.pw_model.specs.Counting.{contents_at as held_at};
 ghost use Rattle.pw_model.specs.Energy.{cost as cost_of};
 ghost use Rattle.pw_model.specs.Office.{AllOfOffice, most_records};
@@ -12,7 +12,8 @@ ghost use Rattle.pw_tariff.specs.Office.{office_of, periods_in};
 ghost use Rattle.pw_book.specs.Asking.{IsOnlyAsked};
 
 use crate::asked::total_held;
-use pw_model::{NANO_IN_CENT, TotalKey};
+use crate::energies::energy_in_held;
+use pw_model::{NANO_IN_CENT, TotalKey, left_over, price_of};
 use pw_shelf::{Shelf, ShelfFault};
 use pw_tariff::{AccountId, BandId, Direction, Office, PeriodId};
 
@@ -35,16 +36,7 @@ pub(crate) fn balance_held<S: Shelf>(
     let exported = cost_held(shelf, office, account, Direction::Export)?;
     let cents = total_held(shelf, &TotalKey::TopUps { account })?;
     let paid = NANO_IN_CENT * u128::from(cents);
-    Ok(difference(paid, imported, exported))
-}
-
-fn difference(paid: u128, imported: u128, exported: u128) -> i128
-    requires paid { paid < 2 ^ 120 }
-    requires imported { imported < 2 ^ 120 }
-    requires exported { exported < 2 ^ 120 }
-    ensures { result ≡ (pos paid -ℤ pos imported) +ℤ pos exported }
-{
-    paid as i128 - imported as i128 + exported as i128
+    Ok(left_over(paid, imported, exported))
 }
 
 // What an account's energy of a direction costs, in nano-euro.
@@ -87,22 +79,9 @@ fn cost_in_period<S: Shelf>(
 {
     let mut nano: u128 = 0;
     for band in 0..office.bands() {
-        let key = TotalKey::Energy {
-            owner: Some(account),
-            period,
-            band: BandId(band),
-            direction,
-        };
-        let wh = total_held(shelf, &key)?;
-        nano += price_of(wh, office.price(period, BandId(band), direction));
+        let band = BandId(band);
+        let wh = energy_in_held(shelf, office, Some(account), period, band, direction)?;
+        nano += price_of(wh, office.price(period, band, direction));
     }
     Ok(nano)
-}
-
-// What energy costs at a price, in nano-euro.
-fn price_of(wh: u64, price: u32) -> u128
-    ensures price { result ≡ price * wh }
-    ensures bound { result < 2 ^ 96 }
-{
-    u128::from(price) * u128::from(wh)
 }

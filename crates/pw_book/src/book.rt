@@ -61,7 +61,6 @@ impl fmt::Display for Accepted {
 }
 
 /// The book of an office over a store of records: it takes uploads, and answers what the records held mean.
-#[derive(Drop)]
 pub struct Book<S: Shelf> {
     office: Office,
     zone: Zone,
@@ -74,6 +73,19 @@ pub struct Book<S: Shelf> {
     ghost truth: { shut ≡ false → S.clean shelf → IsTrueContent (office_of office) (S.state shelf).content } by { Π_prop λ _. Π_prop λ _. IsTrueContent-prop (office_of office) (S.state shelf).content },
     ghost sound: { IsSound office },
     ghost idle: { shut ≡ false → IsNone (S.state shelf).begun } by { Π_prop λ _. Prim.hlevel props },
+}
+
+// It is written out, so that a caller doesn't prove again how each part is dropped.
+impl<S: Shelf + Drop> Drop for Book<S> {
+    fn drop(self) {
+        let Book {
+            office: _,
+            zone: _,
+            shelf: _,
+            limit: _,
+            shut: _,
+        } = self;
+    }
 }
 
 impl<S: Shelf> Book<S> {

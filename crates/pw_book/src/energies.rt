@@ -1,7 +1,7 @@
-//! The energies of all periods, of the totals that a shelf keeps.
+//! Energies, of the totals that a shelf keeps.
 
 ghost use Rattle.std.specs.Prelude.{◌≡◌, ◌+◌, ◌*◌, ◌^◌, ◌<◌, ◌≤◌, IfOk, IsNone, length};
-ghost use Rattle.pw_model.specs.Energy.{energy as energy_of};
+ghost use Rattle.pw_model.specs.Energy.{energy as energy_of, energy_in_period};
 ghost use Rattle.pw_model.specs.Office.{AllOfOffice, most_records};
 ghost use Rattle.pw_model.specs.Shelf.{IsTrueContent};
 ghost use Rattle.pw_shelf.specs.Calls.{failures_told};
@@ -31,16 +31,35 @@ pub(crate) fn energy_held<S: Shelf>(
 {
     let mut sum: u128 = 0;
     for period in 0..office.periods() {
-        let key = TotalKey::Energy {
-            owner,
-            period: PeriodId(period),
-            band,
-            direction,
-        };
-        let wh = total_held(shelf, &key)?;
+        let wh = energy_in_held(shelf, office, owner, PeriodId(period), band, direction)?;
         sum += u128::from(wh);
     }
     Ok(capped(sum))
+}
+
+// The energy of an owner in a band within a period, of the direction, in Wh.
+pub(crate) fn energy_in_held<S: Shelf>(
+    shelf: &mut S,
+    office: &Office,
+    owner: Owner,
+    period: PeriodId,
+    band: BandId,
+    direction: Direction,
+) -> Result<u64, ShelfFault>
+    requires idle { IsNone (S.state shelf.old).begun }
+    requires truth { S.clean shelf.old → IsTrueContent (office_of office.now) (S.state shelf.old).content }
+    ensures energy { S.clean shelf.new → IfOk result (λ wh. wh ≡ energy_in_period (office_of office.now) (S.state shelf.old).content.records owner period.0 band.0 direction) }
+    ensures tally { (S.state shelf.new).tally ≤ (S.state shelf.old).tally + 2 }
+    ensures asked { IsOnlyAsked S.Shelf (failures_told result) shelf.old shelf.new }
+{
+    let key = TotalKey::Energy {
+        owner,
+        period,
+        band,
+        direction,
+    };
+    let wh = total_held(shelf, &key)?;
+    Ok(wh)
 }
 
 // A sum of energies, where it fits. (Only over a store that isn't clean it can be larger: then it is capped.)

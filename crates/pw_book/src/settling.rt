@@ -4,10 +4,9 @@ ghost use Rattle.std.specs.Prelude.{◌≡◌, ℕ, ◌+◌, ◌*◌, ◌<◌, �
 ghost use Rattle.pw_model.specs.declared.records.Entry.{Entry as AnEntry};
 ghost use Rattle.pw_model.specs.declared.records.Key.TheVariants as key;
 ghost use Rattle.pw_model.specs.Counting.{owner_of, wh_of};
-ghost use Rattle.pw_model.specs.Shelf.{IsTrueContent};
 ghost use Rattle.pw_shelf.specs.Calls.{GoesOn, failures_told};
 ghost use Rattle.pw_tariff.specs.Office.{IsSound, counts_at, office_of};
-ghost use Rattle.pw_book.specs.inner.Added.{ChangesOneKey, IsJustChanged, IsKeyOf, IsPaid, TakesAtMost, paid_of};
+ghost use Rattle.pw_book.specs.inner.Added.{ChangesOneKey, IsJustChanged, IsKeyOf, IsPaid, IsTrueAgain, TakesAtMost, paid_of};
 ghost use Rattle.pw_model.specs.Kinds.{IsReading};
 ghost use Rattle.pw_book.specs.Cost.{HasStarts, classes_of};
 
@@ -65,8 +64,7 @@ fn reading_changed<S: Shelf>(
     requires sound { IsSound basis.now.office.now }
     requires meter { meter.0 < length basis.now.office.now.meters }
     requires counts { counts_at basis.now.office.now meter.0 register ≡ true }
-    ensures truth { S.clean shelf.new → (s : List AnEntry) → IsJustChanged (office_of basis.now.office.now) s (key.Reading meter register instant) before.now behind.now (S.state shelf.old).content → OnOk result (IsTrueContent (office_of basis.now.office.now) (S.state shelf.new).content) }
-    ensures records { S.clean shelf.new → (s : List AnEntry) → IsJustChanged (office_of basis.now.office.now) s (key.Reading meter register instant) before.now behind.now (S.state shelf.old).content → OnOk result ((S.state shelf.new).content.records ≡ (S.state shelf.old).content.records) }
+    ensures settled { S.clean shelf.new → (s : List AnEntry) → IsJustChanged (office_of basis.now.office.now) s (key.Reading meter register instant) before.now behind.now (S.state shelf.old).content → OnOk result (IsTrueAgain (office_of basis.now.office.now) (S.state shelf.old).content (S.state shelf.new).content) }
     ensures start { S.clean shelf.new → OnOk result ((S.state shelf.new).content.start ≡ (S.state shelf.old).content.start) }
     ensures alone { S.clean shelf.new → OnOk result (ChangesOneKey (key.Reading meter register instant) (S.state shelf.old).content (S.state shelf.new).content) }
     ensures tally { S.clean shelf.new → (starts : ℕ) → HasStarts (S.state shelf.old).content meter.0 starts → (S.state shelf.new).tally ≤ (S.state shelf.old).tally + (6 + starts) + 6 * classes_of (office_of basis.now.office.now) }
@@ -107,8 +105,7 @@ fn assignment_changed<S: Shelf>(
     requires begun { IsSome (S.state shelf.old).begun }
     requires sound { IsSound basis.now.office.now }
     requires meter { meter.0 < length basis.now.office.now.meters }
-    ensures truth { S.clean shelf.new → (s : List AnEntry) → IsJustChanged (office_of basis.now.office.now) s (key.Assignment meter start) before.now behind.now (S.state shelf.old).content → OnOk result (IsTrueContent (office_of basis.now.office.now) (S.state shelf.new).content) }
-    ensures records { S.clean shelf.new → (s : List AnEntry) → IsJustChanged (office_of basis.now.office.now) s (key.Assignment meter start) before.now behind.now (S.state shelf.old).content → OnOk result ((S.state shelf.new).content.records ≡ (S.state shelf.old).content.records) }
+    ensures settled { S.clean shelf.new → (s : List AnEntry) → IsJustChanged (office_of basis.now.office.now) s (key.Assignment meter start) before.now behind.now (S.state shelf.old).content → OnOk result (IsTrueAgain (office_of basis.now.office.now) (S.state shelf.old).content (S.state shelf.new).content) }
     ensures alone { S.clean shelf.new → OnOk result (ChangesOneKey (key.Assignment meter start) (S.state shelf.old).content (S.state shelf.new).content) }
     ensures tally { S.clean shelf.new → TakesAtMost 0 (office_of basis.now.office.now) (S.state shelf.old).content (key.Assignment meter start) (S.state shelf.old).tally (S.state shelf.new).tally }
     ensures kept { GoesOn S.state S.left S.clean S.same_store (failures_told result) shelf.old shelf.new }
@@ -156,8 +153,7 @@ pub(crate) fn settle<S: Shelf>(
     requires begun { IsSome (S.state shelf.old).begun }
     requires sound { IsSound basis.now.office.now }
     requires of_office { IsKeyOf (office_of basis.now.office.now) key.now }
-    ensures truth { S.clean shelf.new → (s : List AnEntry) → IsJustChanged (office_of basis.now.office.now) s key.now before.now behind.now (S.state shelf.old).content → OnOk result (IsTrueContent (office_of basis.now.office.now) (S.state shelf.new).content) }
-    ensures records { S.clean shelf.new → (s : List AnEntry) → IsJustChanged (office_of basis.now.office.now) s key.now before.now behind.now (S.state shelf.old).content → OnOk result ((S.state shelf.new).content.records ≡ (S.state shelf.old).content.records) }
+    ensures settled { S.clean shelf.new → (s : List AnEntry) → IsJustChanged (office_of basis.now.office.now) s key.now before.now behind.now (S.state shelf.old).content → OnOk result (IsTrueAgain (office_of basis.now.office.now) (S.state shelf.old).content (S.state shelf.new).content) }
     ensures start { S.clean shelf.new → IsReading key.now → OnOk result ((S.state shelf.new).content.start ≡ (S.state shelf.old).content.start) }
     ensures alone { S.clean shelf.new → OnOk result (ChangesOneKey key.now (S.state shelf.old).content (S.state shelf.new).content) }
     ensures tally { S.clean shelf.new → TakesAtMost 0 (office_of basis.now.office.now) (S.state shelf.old).content key.now (S.state shelf.old).tally (S.state shelf.new).tally }

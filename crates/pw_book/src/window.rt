@@ -53,8 +53,7 @@ pub(crate) fn change_start<S: Shelf>(
     requires begun { IsSome (S.state shelf.old).begun }
     requires meter { meter.0 < length basis.now.office.now.meters }
     ensures settled { S.clean shelf.new → (was is : AnyKey → AnyContents) → (S.state shelf.old).content.point ≡ point_told was → (S.state shelf.old).content.start ≡ start_told was → IsOtherStart was is meter.0 start → start_told is meter.0 start ≡ owner → ((r : AnyRegister) → EndsBefore (office_of basis.now.office.now).end (point_told was meter.0 r)) → OnOk result (IsSettled (office_of basis.now.office.now) was is (S.state shelf.old).content (S.state shelf.new).content) }
-    ensures point { S.clean shelf.new → OnOk result ((S.state shelf.new).content.point ≡ (S.state shelf.old).content.point) }
-    ensures start { S.clean shelf.new → OnOk result ((S.state shelf.new).content.start ≡ starts_with (S.state shelf.old).content.start meter.0 start owner) }
+    ensures start { S.clean shelf.new → OnOk result (((S.state shelf.new).content.point ≡ (S.state shelf.old).content.point) × ((S.state shelf.new).content.start ≡ starts_with (S.state shelf.old).content.start meter.0 start owner)) }
     ensures tally { S.clean shelf.new → (starts : ℕ) (points : AnyRegister → ℕ) → HasStarts (S.state shelf.old).content meter.0 starts → HavePoints (S.state shelf.old).content meter.0 start points → (S.state shelf.new).tally ≤ (S.state shelf.old).tally + (32 + starts) + (over_registers Import points + over_registers Export points) + 6 * classes_of (office_of basis.now.office.now) }
     ensures kept { GoesOn S.state S.left S.clean S.same_store (failures_told result) shelf.old shelf.new }
 {

@@ -2,6 +2,7 @@
 
 ghost use Rattle.std.specs.Prelude.{◌≡◌, ◌⊎◌, ◌<◌, List, Some, ℕ, IfOk, IfErr};
 ghost use Rattle.pw_tariff.specs.Office.{office_of};
+ghost use Rattle.pw_tariff.specs.Text.{IsOfficeOf};
 ghost use Rattle.pw_model.specs.Office.{AllOfOffice};
 ghost use Rattle.pw_read.specs.Run.{IsRun};
 ghost use Rattle.pw_report.specs.Pages.{IsPageOf};
@@ -246,18 +247,7 @@ fn statement_of<W: Watch>(
     let Some(account) = office.account(account.as_bytes()) else {
         return Err(Fault::NoSuchAccount);
     };
-    let mut book = open_book(
-        rt,
-        store,
-        Purpose::Ask,
-        office,
-        text.as_slice(),
-        MOST_RECORDS,
-        watch,
-    )?;
-    let page = shown(rt, &mut book, Page::Statement(account));
-    close_book(book)?;
-    Ok(page?)
+    page_from(rt, store, office, &text, Page::Statement(account), watch)
 }
 
 fn export<W: Watch>(
@@ -270,18 +260,7 @@ fn export<W: Watch>(
     let text = read_file(rt, office, LONGEST_OFFICE)?;
     let office = Office::read(rt.alloc(), text.as_slice())?;
     let page = page_of(&office, what)?;
-    let mut book = open_book(
-        rt,
-        store,
-        Purpose::Ask,
-        office,
-        text.as_slice(),
-        MOST_RECORDS,
-        watch,
-    )?;
-    let text = shown(rt, &mut book, page);
-    close_book(book)?;
-    Ok(text?)
+    page_from(rt, store, office, &text, page, watch)
 }
 
 // The page that is to be exported.
@@ -295,6 +274,24 @@ fn page_of(office: &Office, what: Exported<'_>) -> Result<Page, Fault>
             None => Err(Fault::NoSuchMeter),
         },
     }
+}
+
+// A page of a store, which is opened to ask, and closed again.
+fn page_from<W: Watch>(
+    rt: &HostRuntime,
+    store: &str,
+    office: Office,
+    text: &[u8],
+    page: Page,
+    watch: &mut W,
+) -> Result<Vec<u8>, Fault>
+    requires office { IsOfficeOf text.now office }
+    requires page { IsPageOf office page }
+{
+    let mut book = open_book(rt, store, Purpose::Ask, office, text, MOST_RECORDS, watch)?;
+    let told = shown(rt, &mut book, page);
+    close_book(book)?;
+    Ok(told?)
 }
 
 fn shown<S: Alter>(

@@ -17,6 +17,7 @@ use pw_found::Purpose;
 use pw_http::LONGEST_BODY;
 use pw_model::Entry;
 use pw_record::UploadKind;
+use pw_shelf::Shelf;
 use pw_store::{SqlShelf, Watch};
 use pw_tariff::Office;
 use pw_words::Source;
@@ -77,25 +78,41 @@ fn load_file<W: Watch>(
     let office = Office::read(rt.alloc(), text.as_slice())?;
     let body = read_file(rt, file, LONGEST_BODY as u32)?;
     let entries = entries_of(rt, &office, kind, body.as_slice())?;
-    let mut book = open_book(
-        rt,
-        target.store,
-        Purpose::Take,
-        office,
-        text.as_slice(),
-        target.limit,
-        watch,
-    )?;
-    let line = post(rt, &mut book, entries.as_slice());
+    post_into(rt, target, office, &text, &entries, watch)
+}
+
+// Takes the entries of an upload into a store, and answers the acceptance line.
+fn post_into<W: Watch>(
+    rt: &HostRuntime,
+    target: Target<'_>,
+    office: Office,
+    text: &[u8],
+    entries: &[Entry],
+    watch: &mut W,
+) -> Result<Vec<u8>, Fault>
+    requires office { IsOfficeOf text.now office }
+    requires of_office { AllOfOffice (office_of office) entries.now }
+    requires limit { IsLimit target.limit }
+{
+    let (store, limit) = (target.store, target.limit);
+    let mut book = open_book(rt, store, Purpose::Take, office, text, limit, watch)?;
+    let line = post_to_store(rt, &mut book, entries);
     close_book(book)?;
     line
 }
 
-fn post<S: Alter>(
+// Posts entries to a book over any store that is written to as SQLite's are.
+fn post_to_store<S: Alter>(
     rt: &HostRuntime,
     book: &mut Book<SqlShelf<S>>,
     entries: &[Entry],
 ) -> Result<Vec<u8>, Fault>
+    requires { AllOfOffice (office_of book.old.office) entries.now }
+{
+    post(rt, book, entries)
+}
+
+fn post<S: Shelf>(rt: &HostRuntime, book: &mut Book<S>, entries: &[Entry]) -> Result<Vec<u8>, Fault>
     requires { AllOfOffice (office_of book.old.office) entries.now }
 {
     // Room for the line comes first, so that an upload which was accepted isn't told as refused.
@@ -160,12 +177,30 @@ fn load_all<O: Write, E: Write, F: Follow>(
     requires office { IsOfficeOf text.now office }
     requires limit { IsLimit target.limit }
 {
-    if !are_there(rt, uploads, err) {
-        return Ok(Fault::Device.status());
+    if are_there(rt, uploads, err) {
+        take_into(rt, target, office, text, uploads, out, err, follow)
+    } else {
+        Ok(Fault::Device.status())
     }
+}
+
+// Takes uploads into a store, and answers the exit status.
+fn take_into<O: Write, E: Write, F: Follow>(
+    rt: &HostRuntime,
+    target: Target<'_>,
+    office: Office,
+    text: &[u8],
+    uploads: &[Upload<'_>],
+    out: &mut O,
+    err: &mut E,
+    follow: &mut F,
+) -> Result<u8, Fault>
+    requires office { IsOfficeOf text.now office }
+    requires limit { IsLimit target.limit }
+{
     let (store, limit) = (target.store, target.limit);
     let mut book = open_book(rt, store, Purpose::Take, office, text, limit, follow)?;
-    let status = take_all(rt, &mut book, uploads, out, err, follow);
+    let status = take_to_store(rt, &mut book, uploads, out, err, follow);
     close_book(book)?;
     Ok(status)
 }
@@ -186,11 +221,23 @@ fn are_there<E: Write>(rt: &HostRuntime, uploads: &[Upload<'_>], err: &mut E) ->
     all
 }
 
-// Takes uploads into a book, one behind another, and answers the exit status. One that is refused for what its file holds
-// doesn't stop the rest; what else fails does.
-fn take_all<S: Alter, O: Write, E: Write, F: Follow>(
+// Takes uploads into a book over any store that is written to as SQLite's are.
+fn take_to_store<S: Alter, O: Write, E: Write, F: Follow>(
     rt: &HostRuntime,
     book: &mut Book<SqlShelf<S>>,
+    uploads: &[Upload<'_>],
+    out: &mut O,
+    err: &mut E,
+    follow: &mut F,
+) -> u8 {
+    take_all(rt, book, uploads, out, err, follow)
+}
+
+// Takes uploads into a book, one behind another, and answers the exit status. One that is refused for what its file holds
+// doesn't stop the rest; what else fails does.
+fn take_all<S: Shelf, O: Write, E: Write, F: Follow>(
+    rt: &HostRuntime,
+    book: &mut Book<S>,
     uploads: &[Upload<'_>],
     out: &mut O,
     err: &mut E,
@@ -219,9 +266,9 @@ fn take_all<S: Alter, O: Write, E: Write, F: Follow>(
 }
 
 // Takes an upload into a book, and tells it.
-fn taken<S: Alter, O: Write, F: Follow>(
+fn taken<S: Shelf, O: Write, F: Follow>(
     rt: &HostRuntime,
-    book: &mut Book<SqlShelf<S>>,
+    book: &mut Book<S>,
     upload: &Upload<'_>,
     out: &mut O,
     follow: &mut F,
@@ -235,9 +282,9 @@ fn taken<S: Alter, O: Write, F: Follow>(
 }
 
 // Takes an upload into a book.
-fn take<S: Alter>(
+fn take<S: Shelf>(
     rt: &HostRuntime,
-    book: &mut Book<SqlShelf<S>>,
+    book: &mut Book<S>,
     upload: &Upload<'_>,
 ) -> Result<Accepted, Fault> {
     let body = read_file(rt, upload.path.as_str(), LONGEST_BODY as u32)?;

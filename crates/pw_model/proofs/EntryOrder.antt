@@ -67,6 +67,43 @@ pub before-all : {X : Type 0} (order : X → X → Ordering) (x : X) (xs : List 
 before-all order x [] h = tt
 before-all order x (y ∷ ys) h = (h y (inl (λ i. y)), before-all order x ys (λ z m. h z (inr m)))
 
+-- ---- the list of all that P holds of and that some tell: f of it stands among these
+-- one more of these, which tells nothing more
+pub told-skip : {X Y : Type 0} (order : X → X → Ordering) (P : X → Type 0) (f : X → Y) (y : Y) (some others : List Y) (xs : List X) → some ≡ y ∷ others → ((x : X) → P x → f x ≡ y → Member (f x) others) →
+    Lists order (λ x. P x × Member (f x) others) xs → Lists order (λ x. P x × Member (f x) some) xs
+told-skip {X} {Y} order P f y some others xs i n l =
+    let Q : List Y → Type 0 = λ v. Lists order (λ x. P x × Member (f x) v) xs in
+    subst Q (sym i) (record {
+      rising = l.rising;
+      members = λ x. (
+        λ m. (let r = (l.members x).0 m in (r.0, inr r.1)),
+        λ m. (l.members x).1 (m.0, elim m.1 [ inl k ↦ n x m.0 k | inr k ↦ k ]),
+      );
+    })
+
+-- one more of these, which tells what stands before all others
+pub told-more : {X Y : Type 0} (order : X → X → Ordering) (P : X → Type 0) (f : X → Y) (y : Y) (some others : List Y) (x : X) (xs zs : List X) → some ≡ y ∷ others → zs ≡ x ∷ xs → P x → y ≡ f x →
+    ((z : X) → Member z xs → order x z ≡ Less) → ((z : X) → P z → f z ≡ f x → z ≡ x) →
+    Lists order (λ z. P z × Member (f z) others) xs → Lists order (λ z. P z × Member (f z) some) zs
+told-more {X} {Y} order P f y some others x xs zs i j a k first one l =
+    let Q : List Y → Type 0 = λ v. Lists order (λ z. P z × Member (f z) v) zs in
+    let R : List X → Type 0 = λ v. Lists order (λ z. P z × Member (f z) (y ∷ others)) v in
+    let T : X → Type 0 = λ v. P v × Member (f v) (y ∷ others) in
+    subst Q (sym i) (subst R (sym j) (record {
+      rising = (before-all order x xs first, l.rising);
+      members = λ z. (
+        λ m. elim m [
+          | inl q ↦ subst T (sym q) (a, inl (sym k))
+          | inr q ↦ (let r = (l.members z).0 q in (r.0, inr r.1))
+        ],
+        λ m. elim m.1 [
+          | inl q ↦ inl (one z m.0 (q ∙ k))
+          | inr q ↦ inr ((l.members z).1 (m.0, q))
+        ],
+      );
+    }))
+
+-- ---- one record more in its order
 pub sorted-none : AreSorted [] []
 sorted-none = record { rising = tt; members = λ x. (λ m. m, λ m. m) }
 

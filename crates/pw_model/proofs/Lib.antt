@@ -6,6 +6,7 @@ pub mod Energy
 pub mod Answers
 pub mod Whole
 pub mod Alike
+pub mod Filtered
 pub mod Payments
 pub mod Assignments
 pub mod InKeyOrder

@@ -123,6 +123,16 @@ behind-place s m r x i j t p b f h a k l =
           absurd (omega arith))
     ]
 
+-- where none from place j on is a counting reading of the register before second y, none is behind second x
+none-between : (s : List Entry) (m : ℕ) (r : Register) (x i j y : ℕ) (b : Entry) → AreRegister s m r x i j b →
+    ((f : Entry) (p u : ℕ) → IsAt s p f → j ≤ p → f.key ≡ reading_key m r u → u < y → point (contents_at s) m r u ≡ None) → NoPoint (contents_at s) m r (x + 1) y s
+none-between s m r x i j y b h n = λ f mem u q g v.
+    let at = member-at s f mem in
+    elim (cases_lt at.0 j) [
+      | inl before ↦ h.passed.none at.0 f u (behind-place s m r x i j u at.0 b f h at.1 q g) before at.1 q
+      | inr behind ↦ n f at.0 u at.1 behind q v
+    ]
+
 pub next-here : (s : List Entry) (m : ℕ) (r : Register) (x i j t w y : ℕ) (b e : Entry) → AreRegister s m r x i j b → IsAt s j e → e.key ≡ reading_key m r t → e.content ≡ content.Reading w →
     Counts s e → t < y → IsEarliestAmong (contents_at s) m r (x + 1) y s (Some (t, w))
 next-here s m r x i j t w y b e h a k o c l =
@@ -138,17 +148,11 @@ next-here s m r x i j t w y b e h a k o c l =
       ap wh_of (counts-one s (reading_entry m r t w) (subst P same c)),
       not-same x t up apart,
       l,
-      λ f mem u q g v.
-          let at = member-at s f mem in
-          let above = behind-place s m r x i j u at.0 b f h at.1 q g in
-          elim (cases_lt at.0 j) [
-            | inl before ↦ h.passed.none at.0 f u above before at.1 q
-            | inr behind ↦ (
-                let S : Key → Type 0 = λ z. KeyUpTo z f.key in
-                let T : Key → Type 0 = λ z. KeyUpTo (reading_key m r t) z in
-                let z : t ≤ u = reading-up_to m r t u (subst T q (subst S k (at-up_to s j at.0 e f h.rising a at.1 behind))) in
-                absurd (omega arith))
-          ],
+      none-between s m r x i j t b h (λ f p u at behind q v.
+          let S : Key → Type 0 = λ z. KeyUpTo z f.key in
+          let T : Key → Type 0 = λ z. KeyUpTo (reading_key m r t) z in
+          let z : t ≤ u = reading-up_to m r t u (subst T q (subst S k (at-up_to s j p e f h.rising a at behind))) in
+          absurd (omega (arith, z, v))),
     )
   where
     not-same : (p q : ℕ) → p ≤ q → (p ≡ q → ⊥) → p + 1 ≤ q
@@ -160,23 +164,14 @@ next-here s m r x i j t w y b e h a k o c l =
 -- the records from place j on are behind those of the register
 pub next-stop : (s : List Entry) (m : ℕ) (r : Register) (x i j y : ℕ) (b e : Entry) → AreRegister s m r x i j b → IsAt s j e → ((t : ℕ) → e.key ≡ reading_key m r t → ⊥) →
     NoPoint (contents_at s) m r (x + 1) y s
-next-stop s m r x i j y b e h a n = λ f mem u q g v.
-    let at = member-at s f mem in
-    let above = behind-place s m r x i j u at.0 b f h at.1 q g in
-    elim (cases_lt at.0 j) [
-      | inl before ↦ h.passed.none at.0 f u above before at.1 q
-      | inr behind ↦ (
-          let P : Key → Type 0 = λ z. KeyUpTo z e.key in
-          let Q : Key → Type 0 = λ z. KeyUpTo e.key z in
-          let k = key-between m r x u e.key (subst P h.key (at-up_to s i j b e h.rising h.at a (let l = h.later in omega (arith, l)))) (subst Q q (at-up_to s j at.0 e f h.rising a at.1 behind)) in
-          absurd (n k.0 k.1))
-    ]
+next-stop s m r x i j y b e h a n = none-between s m r x i j y b h (λ f p u at behind q v.
+    let P : Key → Type 0 = λ z. KeyUpTo z e.key in
+    let Q : Key → Type 0 = λ z. KeyUpTo e.key z in
+    let k = key-between m r x u e.key (subst P h.key (at-up_to s i j b e h.rising h.at a (let l = h.later in omega (arith, l)))) (subst Q q (at-up_to s j p e f h.rising a at behind)) in
+    absurd (n k.0 k.1))
 
 pub next-end : (s : List Entry) (m : ℕ) (r : Register) (x i j y : ℕ) (b : Entry) → AreRegister s m r x i j b → length s ≤ j → NoPoint (contents_at s) m r (x + 1) y s
-next-end s m r x i j y b h l = λ f mem u q g v.
-    let at = member-at s f mem in
-    let above = behind-place s m r x i j u at.0 b f h at.1 q g in
-    h.passed.none at.0 f u above (let k = at.1.0 in omega (arith, k)) at.1 q
+next-end s m r x i j y b h l = none-between s m r x i j y b h (λ f p u at behind q v. absurd (let k = at.0 in omega (arith, k, l, behind)))
 
 -- what stands at the place is found there
 pub are-register : (s : List Entry) (m : ℕ) (r : Register) (x i j : ℕ) → IsInOrder entry_order s → AllStand s → i < length s → ((e : Entry) → IsAt s i e → e.key ≡ reading_key m r x) → i + 1 ≤ j → IsPassed s m r i j →

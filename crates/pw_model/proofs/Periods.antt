@@ -19,7 +19,7 @@ use Rattle.pw_model.specs.Counting.{contents_at, point}
 use Rattle.pw_model.specs.Office.{HasPeriods}
 use Rattle.pw_model.specs.Energy.{Asked, owner_at, asked_seconds, over_registers, share_of, meter_share, energy_where, of_band, energy, of_class, cost}
 use Rattle.pw_model.specs.Payments.{topped_up, nano_in_cent}
-use Rattle.pw_model.specs.Laws.{EnergyIsOfPeriods, SplitsPeriods, SplitPeriodsChangeNothing}
+use Rattle.pw_model.specs.Laws.{BalanceIsOfPeriods, EnergyIsOfPeriods, SplitsPeriods, SplitPeriodsChangeNothing}
 use Rattle.pw_model.proofs.Exchange.{sum-swap, sum-cond, sum-one, prices-gathered, class-first, wider-first}
 use Rattle.pw_model.proofs.Foreign.{none-asked, other-period}
 
@@ -139,6 +139,10 @@ costs-same a b at ha hb h o d =
     ∙ sum-same (λ n. sum_over (λ q. x q n) 0 a.periods) (λ n. sum_over (λ p. y p n) 0 b.periods) 0 a.bands (λ n u v. band-cost a b at o n d ha hb h)
     ∙ ap (λ (k : ℕ). sum_over (λ n. sum_over (λ p. y p n) 0 b.periods) 0 k) h.bands
     ∙ sym (sum-swap y b.periods 0 b.bands)
+
+pub balance-of_periods : BalanceIsOfPeriods
+unfolding cost
+balance-of_periods office s a = refl
 
 pub split-periods : SplitPeriodsChangeNothing
 split-periods a b s ha hb h = record {

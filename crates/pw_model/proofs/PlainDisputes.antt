@@ -17,7 +17,7 @@ use Rattle.pw_model.proofs.Counting.{inserted-same, standing-part}
 use Rattle.pw_model.proofs.Once.{stands-decides, once-same, once-fresh, once-behind, once-zero}
 use Rattle.pw_model.proofs.Answers.{key-to, key-back, records-all, records-standing}
 use Rattle.pw_model.proofs.InOrder.{before-member}
-use Rattle.pw_model.proofs.EntryOrder.{before-all, keys-tie}
+use Rattle.pw_model.proofs.EntryOrder.{keys-tie, told-more, told-skip}
 use Rattle.pw_model.proofs.Places.{at-one, drop-at, dropped-at, at-dropped, taken-at, taken-inserted, parts-same, rising-drop, entry-apart, same-between, key-behind}
 use Rattle.pw_model.proofs.SoFar.{IsSoFar, so-far-more, so-far-skip, so-far-all}
 
@@ -41,8 +41,6 @@ stands-not k ks h m = true≢false (sym ((stands-decides same_key same_key-decid
 pub disputes-more : (s : List Entry) (e : Entry) (some others : List Entry) (d : Dispute) (ds es : List Dispute) → some ≡ e ∷ others → IsInOrder entry_order some → es ≡ d ∷ ds →
     stands_in same_key e.key (keys others) ≡ false → e.key ≡ d.key → IsDispute s d → DisputesUnder s others ds → DisputesUnder s some es
 disputes-more s e some others d ds es i rising j no_key k a l =
-    let P : List Entry → Type 0 = λ v. DisputesUnder s v es in
-    let Q : List Dispute → Type 0 = λ v. DisputesUnder s (e ∷ others) v in
     let R : List Entry → Type 0 = IsInOrder entry_order in
     let up : IsInOrder entry_order (e ∷ others) = subst R i rising in
     let first : (g : Dispute) → Member g ds → dispute_order d g ≡ Less = λ g m. (
@@ -54,32 +52,12 @@ disputes-more s e some others d ds es i rising j no_key k a l =
     let S : Key → Type 0 = λ v. key_order v at.0.key ≡ Less in
     let T : Key → Type 0 = λ v. key_order d.key v ≡ Less in
     subst T at.1.1 (subst S k less)) in
-    subst P (sym i) (subst Q (sym j) (record {
-      rising = (before-all dispute_order d ds first, l.rising);
-      members = λ g. (
-        λ m. elim m [
-          | inl q ↦ (let T : Dispute → Type 0 = λ v. IsDispute s v × Member v.key (keys (e ∷ others)) in subst T (sym q) (a, inl (sym k)))
-          | inr q ↦ (let r = (l.members g).0 q in (r.0, inr r.1))
-        ],
-        λ m. elim m.1 [
-          | inl q ↦ inl (disputes-one s g d m.0 a (q ∙ k))
-          | inr q ↦ inr ((l.members g).1 (m.0, q))
-        ],
-      );
-    }))
+    told-more dispute_order (IsDispute s) (λ (g : Dispute). g.key) e.key (keys some) (keys others) d ds es (ap keys i) j a k first (λ g b q. disputes-one s g d b a q) l
 
 -- no dispute is under the first key of these records that isn't under another
 disputes-skip : (s : List Entry) (e : Entry) (some others : List Entry) (ds : List Dispute) → some ≡ e ∷ others → ((d : Dispute) → IsDispute s d → d.key ≡ e.key → Member d.key (keys others)) →
     DisputesUnder s others ds → DisputesUnder s some ds
-disputes-skip s e some others ds i n l =
-    let P : List Entry → Type 0 = λ v. DisputesUnder s v ds in
-    subst P (sym i) (record {
-      rising = l.rising;
-      members = λ g. (
-        λ m. (let r = (l.members g).0 m in (r.0, inr r.1)),
-        λ m. elim m.1 [ inl q ↦ (l.members g).1 (m.0, n g m.0 q) | inr q ↦ (l.members g).1 (m.0, q) ],
-      );
-    })
+disputes-skip s e some others ds i n l = told-skip dispute_order (IsDispute s) (λ (d : Dispute). d.key) e.key (keys some) (keys others) ds (ap keys i) n l
 
 pub disputes-again : (s : List Entry) (e : Entry) (some others : List Entry) (ds : List Dispute) → some ≡ e ∷ others → true ≡ stands_in same_key e.key (keys others) →
     DisputesUnder s others ds → DisputesUnder s some ds

@@ -65,6 +65,10 @@ pub sum-next : (f : ℕ → ℕ) (n : ℕ) → sum_over f 0 (n + 1) ≡ sum_over
 unfolding sum_over
 sum-next f n = let e : n + 1 ≡ suc n = omega arith in let k : f (0 + n) ≡ f n = ap f (omega arith) in rw e (omega (arith, k))
 
+-- a sum as far as it has come, and one part more
+pub sum-more : (f : ℕ → ℕ) (n sum part : ℕ) → sum ≡ sum_over f 0 n → part ≡ f n → sum + part ≡ sum_over f 0 (n + 1)
+sum-more f n sum part so_far here = let next = sum-next f n in omega (arith, next, so_far, here)
+
 pub sum-to : (f : ℕ → ℕ) (m n : ℕ) → m ≤ n → sum_over f 0 m ≤ sum_over f 0 n
 unfolding sum_over
 sum-to f zero n l = omega arith
@@ -134,6 +138,15 @@ pub plain-share : (office : OfficeRules) (s : List Entry) (asked : Asked) (m : �
 plain-share office s asked m r ps result o h c e v f =
     f ∙ ap (register_energy (asked_seconds (contents_at s) asked m) (value_at ps)) (sym o.end)
     ∙ energy-listed office s m r ps (asked_seconds (contents_at s) asked m) h (all-early ps e) v ∙ sym (ap (λ b. cond b (register_energy (asked_seconds (contents_at s) asked m) (point (contents_at s) m r) office.end) 0) c)
+
+-- so it fits
+pub plain-share-fits : (office : OfficeRules) (s : List Entry) (asked : Asked) (m : ℕ) (r : Register) (ps : List Point) (result : ℕ) → IsOffice office → AllOfOffice office s → length s ≤ most_records → m < office.meters → office.counts m r ≡ true →
+    All (λ p. IsInstant p.at) ps → ((t : ℕ) → t < END_SECOND → value_at ps t ≡ point (contents_at s) m r t) →
+    result ≡ register_energy (asked_seconds (contents_at s) asked m) (value_at ps) END_SECOND → result ≤ 999_999_999_990_000_000
+plain-share-fits office s asked m r ps result o h few l c e v f =
+    let share = plain-share office s asked m r ps result o h c e v f in
+    let fits = share-fits office s asked m r o h few l in
+    omega (arith, share, fits)
 
 -- ---- prices
 pub price-fits : (office : OfficeRules) (p b wh : ℕ) (d : Direction) → IsOffice office → p < office.periods → b < office.bands → wh ≤ 999_999_999_990_000_000 → office.price p b d * wh ≤ 999_999_999_990_000_000_000_000_000

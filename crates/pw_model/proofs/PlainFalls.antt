@@ -1,5 +1,5 @@
 -- The falls that the plain program finds.
-use Rattle.std.proofs.Common.{◌≡◌, ◌↔◌, ℕ, ◌+◌, ◌<◌, ◌≤◌, Bool, IsTrue, false, Option, Some, None, List, [], ◌∷◌, ◌++◌, length, drop, refl, ap, sym, subst, ◌∙◌, inl, inr, ⊎_elim, arith}
+use Rattle.std.proofs.Common.{◌≡◌, ◌↔◌, ℕ, ◌+◌, ◌<◌, ◌≤◌, Bool, IsTrue, false, Option, Some, None, List, [], ◌∷◌, ◌++◌, length, drop, refl, ap, sym, subst, ◌∙◌, ⊎_elim, arith}
 use Rattle.std.proofs.lemmas.Bool.{cases_lt, true≢false}
 use Rattle.std.specs.Ordering.{nat_cmp, ordering_then}
 use Rattle.std.specs.declared.cmp.Ordering.{Ordering}
@@ -20,7 +20,7 @@ use Rattle.pw_model.specs.inner.Search.{IsEarliestAmong, IsAt, FallsFrom, high_r
 use Rattle.pw_model.proofs.Counting.{standing-part, counts-one, one-is_counting}
 use Rattle.pw_model.proofs.Found.{no-point, wh-back}
 use Rattle.pw_model.proofs.InOrder.{before-member}
-use Rattle.pw_model.proofs.EntryOrder.{before-all}
+use Rattle.pw_model.proofs.EntryOrder.{told-more, told-skip}
 use Rattle.pw_model.proofs.Places.{drop-at, at-there, rising-drop}
 use Rattle.pw_model.proofs.SoFar.{IsSoFar, so-far-more, so-far-skip, so-far-all}
 
@@ -154,38 +154,16 @@ high-first f g h =
 pub falls-more : (s : List Entry) (e : Entry) (some others : List Entry) (f : Fall) (fs gs : List Fall) → some ≡ e ∷ others → IsInOrder entry_order some → gs ≡ f ∷ fs →
     IsFall (contents_at s) f × (e ≡ high_reading f) → FallsFrom s others fs → FallsFrom s some gs
 falls-more s e some others f fs gs i rising j a l =
-    let P : List Entry → Type 0 = λ v. FallsFrom s v gs in
-    let Q : List Fall → Type 0 = λ v. FallsFrom s (e ∷ others) v in
     let R : List Entry → Type 0 = IsInOrder entry_order in
     let up : IsInOrder entry_order (e ∷ others) = subst R i rising in
     let first : (g : Fall) → Member g fs → fall_order f g ≡ Less = λ g m. (
     let S : Entry → Type 0 = λ v. entry_order v (high_reading g) ≡ Less in
     high-first f g (subst S a.1 (before-member entry_order e (high_reading g) others up.0 ((l.members g).0 m).1))) in
-    subst P (sym i) (subst Q (sym j) (record {
-      rising = (before-all fall_order f fs first, l.rising);
-      members = λ g. (
-        λ m. elim m [
-          | inl k ↦ (let T : Fall → Type 0 = λ v. IsFall (contents_at s) v × Member (high_reading v) (e ∷ others) in subst T (sym k) (a.0, inl (sym a.1)))
-          | inr k ↦ (let r = (l.members g).0 k in (r.0, inr r.1))
-        ],
-        λ m. elim m.1 [
-          | inl k ↦ inl (falls-one s g f m.0 a.0 (k ∙ a.1))
-          | inr k ↦ inr ((l.members g).1 (m.0, k))
-        ],
-      );
-    }))
+    told-more fall_order (IsFall (contents_at s)) high_reading e some others f fs gs i j a.0 a.1 first (λ g b q. falls-one s g f b a.0 q) l
 
 pub falls-skip : (s : List Entry) (e : Entry) (some others : List Entry) (fs : List Fall) → some ≡ e ∷ others →
     ((f : Fall) → IsFall (contents_at s) f → e ≡ high_reading f → ⊥) → FallsFrom s others fs → FallsFrom s some fs
-falls-skip s e some others fs i n l =
-    let P : List Entry → Type 0 = λ v. FallsFrom s v fs in
-    subst P (sym i) (record {
-      rising = l.rising;
-      members = λ g. (
-        λ m. (let r = (l.members g).0 m in (r.0, inr r.1)),
-        λ m. elim m.1 [ inl k ↦ absurd (n g m.0 (sym k)) | inr k ↦ (l.members g).1 (m.0, k) ],
-      );
-    })
+falls-skip s e some others fs i n l = told-skip fall_order (IsFall (contents_at s)) high_reading e some others fs i (λ f a k. absurd (n f a (sym k))) l
 
 falls-whole : (s sorted : List Entry) (fs : List Fall) → AreSorted s sorted → FallsFrom s sorted fs → AreFalls s fs
 falls-whole s sorted fs a l = record {

@@ -45,25 +45,22 @@ abbrev account : ℕ → AccountId
 account n = record { 0 = n }
 
 -- ---- named records
-pub prefix-same : (xs ys zs ws : List ℕ) → length xs ≡ length ys → xs ++ zs ≡ ys ++ ws → xs ≡ ys
-prefix-same [] [] zs ws l h = refl
-prefix-same [] (y ∷ ys) zs ws l h = absurd (omega arith)
-prefix-same (x ∷ xs) [] zs ws l h = absurd (omega arith)
-prefix-same (x ∷ xs) (y ∷ ys) zs ws l h =
+append-same : (xs ys zs ws : List ℕ) → length xs ≡ length ys → xs ++ zs ≡ ys ++ ws → (xs ≡ ys) × (zs ≡ ws)
+append-same [] [] zs ws l h = (refl, h)
+append-same [] (y ∷ ys) zs ws l h = absurd (omega arith)
+append-same (x ∷ xs) [] zs ws l h = absurd (omega arith)
+append-same (x ∷ xs) (y ∷ ys) zs ws l h =
     let t : xs ++ zs ≡ ys ++ ws = cc in
     let m : length xs ≡ length ys = omega arith in
-    let e : xs ≡ ys = prefix-same xs ys zs ws m t in
+    let e : xs ≡ ys = (append-same xs ys zs ws m t).0 in
     let i : x ≡ y = cc in
-    cc
+    (cc, (append-same xs ys zs ws m t).1)
+
+pub prefix-same : (xs ys zs ws : List ℕ) → length xs ≡ length ys → xs ++ zs ≡ ys ++ ws → xs ≡ ys
+prefix-same xs ys zs ws l h = (append-same xs ys zs ws l h).0
 
 pub rest-same : (xs ys zs ws : List ℕ) → length xs ≡ length ys → xs ++ zs ≡ ys ++ ws → zs ≡ ws
-rest-same [] [] zs ws l h = h
-rest-same [] (y ∷ ys) zs ws l h = absurd (omega arith)
-rest-same (x ∷ xs) [] zs ws l h = absurd (omega arith)
-rest-same (x ∷ xs) (y ∷ ys) zs ws l h =
-    let t : xs ++ zs ≡ ys ++ ws = cc in
-    let m : length xs ≡ length ys = omega arith in
-    rest-same xs ys zs ws m t
+rest-same xs ys zs ws l h = (append-same xs ys zs ws l h).1
 
 -- two texts with rests of one length behind them
 pub lengths-same : (xs ys zs ws : List ℕ) → length zs ≡ length ws → xs ++ zs ≡ ys ++ ws → length xs ≡ length ys

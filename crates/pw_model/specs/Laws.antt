@@ -1,11 +1,12 @@
 -- The laws of these definitions. Each is the contract of a function of the module `laws`.
-use Rattle.std.specs.Prelude.{◌≡◌, ℕ, ◌≤◌, length, Option, Some, List, ◌∷◌, ◌++◌, ◌↔◌}
+use Rattle.std.specs.Prelude.{◌≡◌, ℕ, ◌*◌, ◌≤◌, length, Option, Some, List, ◌∷◌, ◌++◌, ◌↔◌, pos, ◌+ℤ◌, ◌-ℤ◌}
 use Rattle.std.specs.List.{sum_by}
 use Rattle.pw_obis.specs.declared.reference.Register.{Register}
 use Rattle.pw_tariff.specs.declared.ids.AccountId.{AccountId}
 use Rattle.pw_tariff.specs.declared.ids.BandId.{BandId}
 use Rattle.pw_tariff.specs.declared.ids.PeriodId.{PeriodId}
 use Rattle.pw_tariff.specs.declared.ids.Direction.{Direction}
+use Rattle.pw_tariff.specs.declared.ids.Direction.TheVariants.{Import, Export}
 use Rattle.pw_model.specs.declared.records.Contents.TheVariants.{One}
 use Rattle.pw_model.specs.declared.records.Entry.{Entry}
 use Rattle.pw_model.specs.declared.records.TotalKey.TheVariants.{Energy, TopUps}
@@ -16,7 +17,7 @@ use Rattle.pw_model.specs.Counting.{Member, SameMembers, EachOnce, IsNoWithdrawa
 use Rattle.pw_tariff.specs.Office.{OfficeRules, OfficeFile, PeriodText, IsSound, week_of_period, price_in, price_at, office_of}
 use Rattle.pw_model.specs.Office.{HasBands, HasPeriods, HasOwner, AllOfOffice}
 use Rattle.pw_model.specs.Energy.{energy, energy_in_period, cost, over_owners, over_periods, over_bands, all_rises}
-use Rattle.pw_model.specs.Payments.{topped_up, balance, cents_in, IsTopUpFor}
+use Rattle.pw_model.specs.Payments.{topped_up, balance, cents_in, nano_in_cent, IsTopUpFor}
 use Rattle.pw_model.specs.Kinds.{IsAssignment, IsTopUp, IsWithdrawal, ListsHeld}
 use Rattle.pw_model.specs.Lists.{AreFalls, AreDisputes, AreReadings, record_count}
 use Rattle.pw_model.specs.Shelf.{total_among}
@@ -101,6 +102,16 @@ NothingIsLost = (office : OfficeRules) (s : List Entry) (d : Direction) → HasB
 abbrev pub EnergyIsOfPeriods : Type 0
 EnergyIsOfPeriods = (office : OfficeRules) (s : List Entry) (o : Option AccountId) (b : ℕ) (d : Direction) → HasPeriods office →
     energy office s o b d ≡ over_periods office (λ p. energy_in_period office s o p b d)
+
+-- what the energies of an owner in a direction cost: of all periods and all bands, each energy at the price of its own
+abbrev pub cost_by_period : OfficeRules → List Entry → Option AccountId → Direction → ℕ
+cost_by_period office s o d = over_periods office (λ p. over_bands office (λ b. office.price p b d * energy_in_period office s o p b d))
+
+-- a balance is what was topped up, less what import costs by period and band, plus what export earns
+abbrev pub BalanceIsOfPeriods : Type 0
+BalanceIsOfPeriods = (office : OfficeRules) (s : List Entry) (a : ℕ) →
+    let o : Option AccountId = Some (record { 0 = a }) in
+    balance office s a ≡ (pos (nano_in_cent * topped_up s a) -ℤ pos (cost_by_period office s o Import)) +ℤ pos (cost_by_period office s o Export)
 
 -- the office b is a with some of its periods split: each second of a period of b is one of the period of a in which that lies,
 -- with its prices; all else is the same, the bands of the seconds too

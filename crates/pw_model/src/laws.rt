@@ -5,7 +5,7 @@
 
 ghost use Rattle.pw_model.specs.Bearing.{OneMoreBearing};
 ghost use Rattle.pw_model.specs.Bounds.{BalancesFit, TotalsAreBounded};
-ghost use Rattle.pw_model.specs.Laws.{CountIsLength, EnergyIsOfPeriods, ForeignTotalsAreNone, ListsAreAtMostOne, ListsExist, NothingIsLost, OneIsCounting, OrderCountsNothing, RepeatedPeriodChangesNothing, SplitPeriodsChangeNothing, TopUpsAddUp};
+ghost use Rattle.pw_model.specs.Laws.{BalanceIsOfPeriods, CountIsLength, EnergyIsOfPeriods, ForeignTotalsAreNone, ListsAreAtMostOne, ListsExist, NothingIsLost, OneIsCounting, OrderCountsNothing, RepeatedPeriodChangesNothing, SplitPeriodsChangeNothing, TopUpsAddUp};
 ghost use Rattle.pw_model.specs.Changes.{OtherStartWindow};
 ghost use Rattle.pw_model.specs.Changes.{OneMoreAssignment};
 ghost use Rattle.pw_model.specs.Changes.{OneMorePayment};
@@ -49,6 +49,11 @@ pub fn conservation_of_energy()
 /// Where each second has one of the office's periods, an energy is the sum of those of the periods.
 pub fn energy_is_of_periods()
     ensures { EnergyIsOfPeriods }
+{}
+
+/// A balance is the sum over periods and bands, each energy at the price of its own period and band.
+pub fn balance_is_of_periods()
+    ensures { BalanceIsOfPeriods }
 {}
 
 /// Splitting periods changes nothing: where an office is another one with some of its periods split, each part with the

@@ -1,6 +1,7 @@
 //! What a set of records means: what counts in it, and the energies, payments and balances that follow.
 #![tactic(auto)]
 
+mod amounts;
 mod compare;
 mod in_order;
 pub mod laws;
@@ -11,6 +12,7 @@ mod records;
 mod reference;
 mod registers;
 
+pub use amounts::{left_over, price_of};
 pub use compare::{
     compare_entries, compare_keys, compare_totals, is_same_content, is_same_entry, is_same_key,
 };

@@ -1,6 +1,6 @@
 //! The export of energies.
 
-ghost use Rattle.std.specs.Prelude.{◌≡◌, ◌++◌, ◌*◌, ◌^◌, ◌<◌, ℕ, List, [], IfErr, IfOk, OnOk, false, length};
+ghost use Rattle.std.specs.Prelude.{◌≡◌, ◌++◌, ◌<◌, ℕ, List, [], IfErr, IfOk, OnOk, false, length};
 ghost use Rattle.std.specs.List.{flat_map};
 ghost use Rattle.pw_book.specs.declared.fault.BookFault.TheVariants.{Memory};
 ghost use Rattle.pw_model.specs.Office.{HasOwner};
@@ -15,6 +15,7 @@ use crate::names::{account_name, band_letter};
 use crate::rows::Rows;
 use itoa::Buffer;
 use pw_book::{Book, BookFault};
+use pw_model::price_of;
 use pw_shelf::Shelf;
 use pw_tariff::{AccountId, BandId, Direction, Office, Owner, PeriodId};
 use std::alloc::Global;
@@ -109,14 +110,6 @@ fn cost<S: Shelf>(
         nano += price_of(wh, book.office().price(period, band, direction));
     }
     Ok(nano)
-}
-
-// What energy costs at a price, in nano-euro.
-fn price_of(wh: u64, price: u32) -> u128
-    ensures price { result ≡ price * wh }
-    ensures bound { result < 2 ^ 96 }
-{
-    u128::from(price) * u128::from(wh)
 }
 
 // A row: the energy of an owner in a band and a direction, in Wh, and what it costs, in nano-euro.

@@ -40,20 +40,26 @@ impl<'a> Folder<'a> {
 
     /// Makes the file of an upload behind those before it.
     pub fn put(&mut self, kind: &str, bytes: &[u8]) -> Result<(), Fault> {
-        self.files = self.files.saturating_add(1);
-        let (alloc, number) = (self.rt.alloc(), self.files);
-        let name = format!(in alloc; "{number:06}.{kind}")?;
+        let name = self.next_name(kind)?;
         writeln!(self.list, "{kind} {name}")?;
         self.write(name.as_str(), bytes)
     }
 
     /// Makes the file of a meter's readouts behind the uploads before it.
     pub fn put_readouts(&mut self, meter: &str, bytes: &[u8]) -> Result<(), Fault> {
-        self.files = self.files.saturating_add(1);
-        let (alloc, number) = (self.rt.alloc(), self.files);
-        let name = format!(in alloc; "{number:06}.readouts.{meter}")?;
+        let alloc = self.rt.alloc();
+        let ending = format!(in alloc; "readouts.{meter}")?;
+        let name = self.next_name(ending.as_str())?;
         writeln!(self.list, "readouts {name} {meter}")?;
         self.write(name.as_str(), bytes)
+    }
+
+    // The name of the next upload's file: its number, and an ending.
+    fn next_name(&mut self, ending: &str) -> Result<String, Fault> {
+        self.files = self.files.saturating_add(1);
+        let (alloc, number) = (self.rt.alloc(), self.files);
+        let name = format!(in alloc; "{number:06}.{ending}")?;
+        Ok(name)
     }
 
     /// Makes the file that lists the uploads.

@@ -4,33 +4,34 @@ use crate::meter::{Clock, Meter, Shown};
 use crate::moment::{push_bytes, utc_text};
 use std::alloc::{AllocError, Global};
 
-const WEEK: &str = r#"week = [
-  "LLLLLLLHHHHHHHHHHHHHHHHL",
-  "LLLLLLLHHHHHHHHHHHHHHHHL",
-  "LLLLLLLHHHHHHHHHHHHHHHHL",
-  "LLLLLLLHHHHHHHHHHHHHHHHL",
-  "LLLLLLLHHHHHHHHHHHHHHHHL",
-  "LLLLLLLLLLLLLLLLLLLLLLLL",
-  "LLLLLLLLLLLLLLLLLLLLLLLL",
-]
-"#;
+// The bands by the hours of a day: L by night, H by day, and L all through the weekend.
+const WORKDAY: &str = "LLLLLLLHHHHHHHHHHHHHHHHL";
 
-const BANDS: &str = r#"
-[[band]]
-name = "L"
-import = 200000
-export = 50000
+const WEEKEND: &str = "LLLLLLLLLLLLLLLLLLLLLLLL";
 
-[[band]]
-name = "H"
-import = 300000
-export = 50000
-"#;
+// A band, with its prices.
+struct Band {
+    name: &'static str,
+    import: u32,
+    export: u32,
+    // What import costs once it is dearer.
+    later_import: u32,
+}
 
-/// What the bands cost once import is dearer.
-const LATER_PRICES: &str = r#"import = [220000, 330000]
-export = [50000, 50000]
-"#;
+const BANDS: [Band; 2] = [
+    Band {
+        name: "L",
+        import: 200_000,
+        export: 50_000,
+        later_import: 220_000,
+    },
+    Band {
+        name: "H",
+        import: 300_000,
+        export: 50_000,
+        later_import: 330_000,
+    },
+];
 
 /// Adds the name of the account at a place of the office file.
 pub fn push_account(text: &mut String, account: u32) -> Result<(), AllocError> {
@@ -62,8 +63,10 @@ pub fn office_text(
         text.push_str("\",\n")?;
     }
     text.push_str("]\n")?;
-    text.push_str(WEEK)?;
-    text.push_str(BANDS)?;
+    push_week(&mut text)?;
+    for band in &BANDS {
+        push_band(&mut text, band)?;
+    }
     push_period(&mut text, later)?;
     for meter in meters {
         push_meter(&mut text, meter)?;
@@ -71,13 +74,37 @@ pub fn office_text(
     Ok(text)
 }
 
+// Five days of work, and the weekend.
+fn push_week(text: &mut String) -> Result<(), AllocError> {
+    text.push_str("week = [\n")?;
+    for day in 0..7 {
+        let letters = if day < 5 { WORKDAY } else { WEEKEND };
+        write!(text, "  \"{letters}\",\n")?;
+    }
+    text.push_str("]\n")
+}
+
+fn push_band(text: &mut String, band: &Band) -> Result<(), AllocError> {
+    let (name, import, export) = (band.name, band.import, band.export);
+    write!(
+        text,
+        "\n[[band]]\nname = \"{name}\"\nimport = {import}\nexport = {export}\n"
+    )
+}
+
 // The period in which import is dearer, in the same week.
 fn push_period(text: &mut String, start: u32) -> Result<(), AllocError> {
     text.push_str("\n[[period]]\nstart = \"")?;
     push_bytes(text, &utc_text(start))?;
     text.push_str("\"\n")?;
-    text.push_str(WEEK)?;
-    text.push_str(LATER_PRICES)
+    push_week(text)?;
+    let [low, high] = &BANDS;
+    push_prices(text, "import", low.later_import, high.later_import)?;
+    push_prices(text, "export", low.export, high.export)
+}
+
+fn push_prices(text: &mut String, direction: &str, low: u32, high: u32) -> Result<(), AllocError> {
+    write!(text, "{direction} = [{low}, {high}]\n")
 }
 
 fn push_meter(text: &mut String, meter: &Meter) -> Result<(), AllocError> {

@@ -7,8 +7,8 @@ pub mod Judged
 pub mod Creating
 pub mod Making
 pub mod OfficeRow
-pub mod Version
-pub mod Emptied
+pub mod Scans
+pub mod Changing
 pub mod Raising
 pub mod Shapes
 pub mod Stripped
@@ -16,11 +16,11 @@ pub mod TotalKeys
 pub mod Keyed
 pub mod Rising
 pub mod OneByOne
+pub mod Foreign
 pub mod Deciding
 pub mod Compared
 pub mod Taken
 pub mod Comparing
-pub mod Scans
 pub mod Queries
 pub mod Listed
 pub mod Conflicting

@@ -1,12 +1,12 @@
 -- What the query on the list of objects shows.
-use Rattle.std.proofs.Common.{◌≡◌, pos, negsuc, List, ℕ, [], ◌∷◌, map, codes, true, false, None, refl, sym, ap, subst, subst₂, ◌∙◌}
+use Rattle.std.proofs.Common.{◌≡◌, List, ℕ, [], ◌∷◌, map, codes, true, refl, sym, ap, subst, subst₂, ◌∙◌}
 use Rattle.std.specs.List.Sorted.{IsPermutation}
 use Rattle.std.proofs.lemmas.List.Sorted.{IsPermutation-map}
-use Rattle.sqlite.specs.declared.types.Value.TheVariants.{Null, Int}
+use Rattle.sqlite.specs.declared.types.Value.TheVariants.{Null}
 use Rattle.sqlite.specs.Order.{Row}
 use Rattle.sqlite.specs.Schema.{Schema}
-use Rattle.sqlite.specs.Term.{lit, col}
-use Rattle.sqlite.specs.Query.{Query, Output, inner, end}
+use Rattle.sqlite.specs.Term.{col}
+use Rattle.sqlite.specs.Query.{Query, Output}
 use Rattle.sqlite.specs.Program.{overlay}
 use Rattle.sqlite.specs.Command.TheVariants.{Select}
 use Rattle.sqlite.specs.Effect.{Database, Reads}
@@ -19,23 +19,13 @@ use Rattle.pw_schema.specs.Tables.{IsKnown, schema_of}
 use Rattle.pw_schema.specs.declared.kind.StoreVersion.{StoreVersion}
 use Rattle.pw_schema.specs.declared.kind.StoreVersion.TheVariants.{First, Second, Third}
 use Rattle.pw_schema.specs.inner.Listed.{ShowsTexts}
-use Rattle.pw_schema.proofs.Scans.{outputs, scans}
+use Rattle.pw_schema.proofs.Scans.{outputs, plain_query, scans}
 
 abbrev pub texts_text : List ℕ
 texts_text = codes "SELECT sql FROM sqlite_schema"
 
 abbrev texts_query : Query
-texts_query = record {
-  from = inner 0 end;
-  filter = [];
-  group = None;
-  project = col 1 5 ∷ [];
-  distinct = false;
-  collations = [];
-  order = [];
-  limit = lit (Int (negsuc 0));
-  offset = lit (Int (pos 0));
-}
+texts_query = plain_query 0 [] (col 1 5 ∷ [])
 
 texts_is : (v : StoreVersion) → command_of (understood (schema_of v) texts_text) ≡ Select (record { lets = []; body = texts_query }) (codes "sql" ∷ [])
 unfolding understood everything listing_schema

@@ -20,6 +20,10 @@ raised_on Third a b c r s = record {
   empty = tt;
 }
 
+-- by one statement and then another
+pub raised_behind : (v : StoreVersion) (a b c d : Trees) → IsRaised v a b → HasSame lasting_trees b c → HasSame lasting_trees c d → IsRaised v a d
+raised_behind v a b c d r s t = raised_on v a c d (raised_on v a b c r s) t
+
 -- where nothing is done
 pub raised_itself : (db : Trees) → IsRaised Third db db
 raised_itself db = record { same = (refl, (refl, (refl, (refl, (refl, (refl, (refl, (refl, (refl, tt))))))))); empty = tt }

@@ -1,9 +1,10 @@
 -- What a query over one table gives.
-use Rattle.std.proofs.Common.{◌≡◌, ℕ, List, [], ◌∷◌, ◌++◌, map, Bool, true, false, cond, None, refl, ap, subst, ◌∙◌}
+use Rattle.std.proofs.Common.{◌≡◌, ℕ, pos, negsuc, List, [], ◌∷◌, ◌++◌, map, Bool, true, false, cond, None, refl, ap, subst, ◌∙◌}
 use Rattle.std.specs.List.{list_all, filter, flat_map}
 use Rattle.std.specs.List.Sorted.{IsPermutation, IsSorted}
+use Rattle.sqlite.specs.declared.types.Value.TheVariants.{Int}
 use Rattle.sqlite.specs.Order.{Row}
-use Rattle.sqlite.specs.Term.{Term, holds}
+use Rattle.sqlite.specs.Term.{Term, holds, lit}
 use Rattle.sqlite.specs.Query.{Query, inner, end, IsAnswer, Output, output, output_cmp, page}
 use Rattle.sqlite.specs.Tree.{Trees}
 
@@ -17,6 +18,20 @@ one_slot params p (r ∷ rows) = elim (p r) as (λ b. (cond b ((params ∷ r ∷
   | true ↦ ap (λ xs. (params ∷ r ∷ []) ∷ xs) (one_slot params p rows)
   | false ↦ one_slot params p rows
 ]
+
+-- all rows of one table that pass, as they stand
+abbrev pub plain_query : ℕ → List Term → List Term → Query
+plain_query tree tests shown = record {
+  from = inner tree end;
+  filter = tests;
+  group = None;
+  project = shown;
+  distinct = false;
+  collations = [];
+  order = [];
+  limit = lit (Int (negsuc 0));
+  offset = lit (Int (pos 0));
+}
 
 -- what each row that passes is sorted by and shows
 abbrev pub outputs : Query → Row → List Row → List Output

@@ -14,13 +14,23 @@ use std::alloc::Global;
 ///
 /// Of its calls only `add`, those that put or take away and those that answer a list take memory; `begin`, `commit` and
 /// `abandon` always succeed.
-#[derive(Drop)]
 pub struct MemoryShelf {
     pub(crate) kept: Kept,
     // an upload is begun
     pub(crate) begun: bool,
     pub(crate) tally: Tally,
     ghost settled: { begun ≡ false → content_then kept ≡ content_now kept },
+}
+
+// It is written out, so that a caller doesn't prove again how each part is dropped.
+impl Drop for MemoryShelf {
+    fn drop(self) {
+        let MemoryShelf {
+            kept: _,
+            begun: _,
+            tally: _,
+        } = self;
+    }
 }
 
 impl MemoryShelf {

@@ -1,5 +1,5 @@
 -- What INSERT makes of the records.
-use Rattle.std.proofs.Common.{arith, add-one, Option, ◌≡◌, ◌⊎◌, inl, inr, ◌<◌, ℕ, pos, List, ◌∷◌, map, Bool, true, false, cond, not, ◌&&◌, Some, None, Ok, Err, Result, OnOk, OnErr, IsTrue, refl, sym, ap, subst, ◌∙◌}
+use Rattle.std.proofs.Common.{arith, add-one, Option, ◌≡◌, ◌⊎◌, inl, inr, ◌<◌, ℕ, ℤ, pos, List, ◌∷◌, map, Bool, true, false, cond, not, ◌&&◌, Some, None, Ok, Err, Result, OnOk, OnErr, IsTrue, refl, sym, ap, subst, ◌∙◌}
 use Rattle.std.specs.List.{AllByRecursion}
 use Rattle.sqlite.specs.declared.types.Value.{Value}
 use Rattle.sqlite.specs.declared.types.Value.TheVariants.{Null, Int}
@@ -61,6 +61,11 @@ cast_null = either _ Null
 pub cast_int : (n : ℕ) → cast Integer (Int (pos n)) ≡ Int (pos n)
 unfolding unary
 cast_int n = either _ (Int (pos n))
+
+-- of any rowid
+pub cast_rowid : (n : ℤ) → cast Integer (Int n) ≡ Int n
+unfolding unary
+cast_rowid n = either _ (Int n)
 
 pub was_not : (b : Bool) → not b ≡ true → b ≡ false
 was_not true e = absurd (let f : true ≡ false = sym e in cc)

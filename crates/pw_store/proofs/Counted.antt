@@ -1,5 +1,5 @@
 -- How many records are held, as the store keeps it beside the connection.
-use Rattle.std.proofs.Common.{◌≡◌, ◌⊎◌, ◌+◌, ◌<◌, inl, inr, ℕ, Bool, IsTrue, true, false, cond, length, List, refl, sym, ap, subst, ◌∙◌, arith}
+use Rattle.std.proofs.Common.{◌≡◌, ◌⊎◌, ◌+◌, ◌<◌, inl, inr, ℕ, zero, suc, Bool, IsTrue, true, false, cond, length, List, refl, sym, ap, subst, ◌∙◌, arith}
 use Rattle.std.proofs.lemmas.Bool.{cases_Bool}
 use Rattle.sqlite.specs.Tree.{Trees}
 use Rattle.sqlite.specs.Effect.{Database}
@@ -13,7 +13,7 @@ use Rattle.pw_schema.proofs.Outcomes.{early}
 use Rattle.pw_schema.specs.Fresh.{IsNew}
 use Rattle.pw_tariff.specs.Office.{OfficeRules}
 use Rattle.pw_store.specs.declared.changes.Change.{Change}
-use Rattle.pw_store.specs.declared.changes.Change.TheVariants.{TakePoint, PutPoint, TakeStart, PutStart, TakeEnergy, PutEnergy, TakePayment, PutPayment}
+use Rattle.pw_store.specs.declared.changes.Change.TheVariants.{TakePoint, PutPoint, TakeStart, PutStart, TakeTotal, SetTotal, PutTotal}
 use Rattle.pw_store.specs.Content.{content_of, records_of}
 use Rattle.pw_store.specs.Kept.{BaseIsCounted, IsIdle, IsInside, IsSinceBase, NowIsCounted, held_of}
 use Rattle.pw_store.specs.inner.Changing.{Makes, changed}
@@ -36,15 +36,16 @@ outside_counted s base held since counted settled clean = sym (elim (cases_Bool 
 ])
 
 -- ---- the calls
-changed_records : (change : Change) (c : ShelfContent) → (changed change c).records ≡ c.records
-changed_records (TakePoint m r t) c = refl
-changed_records (PutPoint m r t w) c = refl
-changed_records (TakeStart m t) c = refl
-changed_records (PutStart m t o) c = refl
-changed_records (TakeEnergy o p b d) c = refl
-changed_records (PutEnergy o p b d w) c = refl
-changed_records (TakePayment a) c = refl
-changed_records (PutPayment a n) c = refl
+changed_records : (change : Change) (n : ℕ) (c : ShelfContent) → (changed change n c).records ≡ c.records
+changed_records (TakePoint m r t) n c = refl
+changed_records (PutPoint m r t w) zero c = refl
+changed_records (PutPoint m r t w) (suc n) c = refl
+changed_records (TakeStart m t) n c = refl
+changed_records (PutStart m t o) n c = refl
+changed_records (TakeTotal k) n c = refl
+changed_records (SetTotal k a) zero c = refl
+changed_records (SetTotal k a) (suc n) c = refl
+changed_records (PutTotal k a) n c = refl
 
 module _ (old new : State) where
   -- it changes nothing, or fails, or undoes the transaction
@@ -82,9 +83,9 @@ module _ (old new : State) where
       (omega (arith, one, n), omega (arith, few, held, n))
 
   -- points, starts or totals are changed
-  pub counted_changed : (within : ℕ) (change : Change) → NowIsCounted old within → old.in_transaction ≡ true → Survives old new (λ _. ⊥) → (HasCleanDisk new → Makes (changed change) old new) → NowIsCounted new within
-  counted_changed within change was mode s made clean still =
-      ap (λ (c : ShelfContent). length c.records) (made clean).content ∙ ap length (changed_records change (content_of old.now.trees)) ∙ was (early old new s clean) mode
+  pub counted_changed : (within : ℕ) (change : Change) (n : ℕ) → NowIsCounted old within → old.in_transaction ≡ true → Survives old new (λ _. ⊥) → (HasCleanDisk new → Makes (changed change n) old new) → NowIsCounted new within
+  counted_changed within change n was mode s made clean still =
+      ap (λ (c : ShelfContent). length c.records) (made clean).content ∙ ap length (changed_records change n (content_of old.now.trees)) ∙ was (early old new s clean) mode
 
 -- what is remembered is the connection as it is now
 pub counted_snapshot : (s at : State) (held : ℕ) → at ≡ s → (HasCleanDisk s → records_in s.committed.trees ≡ held) → BaseIsCounted s held at

@@ -1,17 +1,18 @@
 -- Totals of energy that are put by period where a store is brought to version 3: what is known of them once they were read
 -- again, and of what the statements that put them leave.
-use Rattle.std.proofs.Common.{◌≡◌, ◌≤◌, ◌<◌, inl, inr, ℕ, true, List, [], ◌∷◌, map, filter, length, Option, Some, None, unwrap_or, Ok, Err, Result, OnOk, refl, sym, ap, subst, ◌∙◌, arith}
+use Rattle.std.proofs.Common.{◌≡◌, ◌≤◌, ◌<◌, ◌+◌, ◌⊎◌, inl, inr, ℕ, List, [], ◌∷◌, ◌++◌, map, filter, length, take, get_or, Option, Some, None, unwrap_or, Ok, Err, Result, OnErr, OnOk, refl, sym, ap, subst, subst₂, ◌∙◌, append_assoc, append-nil, arith}
 use Rattle.std.proofs.lemmas.Bool.{cases_lt, lt-ltb}
 use Rattle.std.specs.List.{AllByRecursion}
 use Rattle.std.specs.List.Sorted.{IsPermutation}
-use Rattle.sqlite.specs.declared.types.Value.TheVariants.{Null}
+use Rattle.std.proofs.lemmas.List.{take_more}
+use Rattle.std.proofs.lemmas.List.Elements.{filter-append}
+use Rattle.std.proofs.lemmas.List.Sorted.{IsPermutation-append, IsPermutation-append_comm, IsPermutation-middle, IsPermutation-refl, IsPermutation-sym, IsPermutation-trans}
 use Rattle.sqlite.specs.declared.error.Error.{Error}
 use Rattle.sqlite.specs.Order.{Row}
 use Rattle.sqlite.specs.Schema.{Schema}
-use Rattle.sqlite.specs.Table.{Table}
 use Rattle.sqlite.specs.Tree.{Trees}
 use Rattle.sqlite.specs.Effect.{Database}
-use Rattle.sqlite.specs.State.{State, CommitsBy, Executes, HasCleanDisk, IsUnchanged, KeepsCommit, Shows, Survives}
+use Rattle.sqlite.specs.State.{State, IsRolledBack, IsUnchanged, KeepsCommit, Survives}
 use Rattle.sqlite.proofs.InsideLemmas.{unchanged_keeps}
 use Rattle.pw_tariff.specs.declared.ids.AccountId.{AccountId}
 use Rattle.pw_tariff.specs.declared.ids.BandId.{BandId}
@@ -21,7 +22,7 @@ use Rattle.pw_tariff.specs.Office.{OfficeRules}
 use Rattle.pw_model.specs.declared.records.Entry.{Entry}
 use Rattle.pw_model.specs.declared.records.TotalKey.{TotalKey}
 use Rattle.pw_model.specs.declared.records.TotalKey.TheVariants as total
-use Rattle.pw_model.specs.Counting.{EachOnce, Member}
+use Rattle.pw_model.specs.Counting.{EachOnce, IsInserted, Member}
 use Rattle.pw_model.specs.Office.{most_records}
 use Rattle.pw_model.specs.Shelf.{IsTrueContent, total_among}
 use Rattle.pw_model.proofs.Answers.{period-same}
@@ -35,25 +36,22 @@ use Rattle.pw_schema.specs.declared.kind.TotalKind.TheVariants.{Energies}
 use Rattle.pw_schema.specs.Fresh.{IsWithin}
 use Rattle.pw_schema.specs.Judges.{IsRest, is_above_zero}
 use Rattle.pw_schema.specs.Raised.{HasSame, lasting_trees}
-use Rattle.pw_schema.specs.Tables.{period_total_at, schema_of}
-use Rattle.pw_schema.proofs.Outcomes.{fails}
+use Rattle.pw_schema.specs.Tables.{schema_of}
 use Rattle.pw_store.specs.declared.fault.OpenFault.{OpenFault}
 use Rattle.pw_store.specs.declared.fault.OpenFault.TheVariants.{Store, Memory, OfficeDiffers, Version, Unclean}
 use Rattle.pw_store.specs.Content.{IsRowOf, content_of, content_of_version, energy_told, energy_tree, entry_in, point_in, point_tree, records_of, start_in, start_tree, total_in, total_of_version, total_tree, tree_of}
 use Rattle.pw_store.specs.Left.{IsFilled}
 use Rattle.pw_store.specs.Opening.{HoldsRecords, HoldsTotals, IsSpoilt}
-use Rattle.pw_store.specs.inner.Filling.{AreTheEnergies, IsOfEngine, IsOfTopUps, LeavesTopUps}
+use Rattle.pw_store.specs.inner.Changing.{PutsEnergy, energy_row}
+use Rattle.pw_store.specs.inner.Filling.{AreTheEnergies, IsOfEngine, IsOfTopUps, LeavesTopUps, TellsMore, energies_among, energies_in, is_of_energy}
 use Rattle.pw_store.specs.inner.Opened.{AreJudged, RowsRefuse}
 use Rattle.pw_store.specs.inner.Sums.{TellsTotals}
-use Rattle.pw_store.proofs.Adding.{insert_inside, insert_survives}
-use Rattle.pw_store.proofs.EnergyRows.{energy_row}
+use Rattle.pw_store.proofs.EnergyRows.{told_more}
 use Rattle.pw_store.proofs.InTurn.{trees_same}
-use Rattle.pw_store.proofs.KeptTexts.{fill_is, fill_text, five_terms}
 use Rattle.pw_store.proofs.Neighbours.{all_member}
 use Rattle.pw_store.proofs.OfKinds.{member_front, member_in}
 use Rattle.pw_store.proofs.OfParts.{amounts_read}
 use Rattle.pw_store.proofs.Once.{permuted}
-use Rattle.pw_store.proofs.OneTable.{HasInserted, inserts}
 use Rattle.pw_store.proofs.Others.{records_kept}
 
 -- ---- trees that are as they were
@@ -122,39 +120,49 @@ survives_itself s P = record {
 }
 
 -- ---- a row that is put
-abbrev table : Table
-table = period_total_at 20
+module _ (given : Row) (old new : State) where
+  others : PutsEnergy given old new → HasSame lasting_trees old.now.trees new.now.trees
+  others it =
+      let t = it.applied.tables in
+      (t.1.0 (λ e. absurd (omega (arith, e))), (t.1.1.0 (λ e. absurd (omega (arith, e))), (t.1.1.1.0 (λ e. absurd (omega (arith, e))), (t.1.1.1.1.0 (λ e. absurd (omega (arith, e))), (t.1.1.1.1.1.0 (λ e. absurd (omega (arith, e))), (t.1.1.1.1.1.1.1.0 (λ e. absurd (omega (arith, e))), (t.1.1.1.1.1.1.1.1.0 (λ e. absurd (omega (arith, e))), (t.1.1.1.1.1.1.1.1.1.0 (λ e. absurd (omega (arith, e))), (t.1.1.1.1.1.1.1.1.1.1.0 (λ e. absurd (omega (arith, e))), tt)))))))))
 
-module _ (owner period band direction wh : ℕ) (old new : State) (at : IsWithin (schema_of Third) old) where
-  abbrev given : Row
-  given = energy_row owner period band direction wh
+  pub put_within : (r : Result ℕ Error) → OnOk r (PutsEnergy given old new) → OnOk r (IsWithin (schema_of Third) new)
+  put_within (Err e) it = tt
+  put_within (Ok n) it = record { is_open = it.shows.is_open; inside = it.shows.mode; schema_is = it.ours }
 
-  module _ (count : ℕ) (h : Executes fill_text given old new (Ok count)) where
-    put : HasInserted table (Null ∷ given) old new
-    put = inserts fill_text 11 given old new at.schema_is count h table 6 five_terms (Null ∷ given) fill_is (λ out does. does) (λ _. refl) refl
+  pub put_same : (r : Result ℕ Error) → OnOk r (PutsEnergy given old new) → OnOk r (HasSame lasting_trees old.now.trees new.now.trees)
+  put_same (Err e) it = tt
+  put_same (Ok n) it = others it
 
-    shown : Shows old new new.now old.committed true
-    shown = insert_inside fill_text 11 6 five_terms fill_is old new at.schema_is given count h at.inside
+  pub put_kept : (r : Result ℕ Error) → OnOk r (PutsEnergy given old new) → OnErr r (IsUnchanged old new ⊎ IsRolledBack old new) → KeepsCommit old new
+  put_kept (Ok n) it failed = record { was_open = λ _. it.shows.was_open; committed = λ _. it.shows.committed_is }
+  put_kept (Err e) it failed = unchanged_keeps old new failed
 
-    others : HasSame lasting_trees old.now.trees new.now.trees
-    others =
-        let t = put.1.tables in
-        (t.1.0 (λ e. absurd (omega (arith, e))), (t.1.1.0 (λ e. absurd (omega (arith, e))), (t.1.1.1.0 (λ e. absurd (omega (arith, e))), (t.1.1.1.1.0 (λ e. absurd (omega (arith, e))), (t.1.1.1.1.1.0 (λ e. absurd (omega (arith, e))), (t.1.1.1.1.1.1.1.0 (λ e. absurd (omega (arith, e))), (t.1.1.1.1.1.1.1.1.0 (λ e. absurd (omega (arith, e))), (t.1.1.1.1.1.1.1.1.1.0 (λ e. absurd (omega (arith, e))), (t.1.1.1.1.1.1.1.1.1.1.0 (λ e. absurd (omega (arith, e))), tt)))))))))
+-- ---- the totals that are told
+one_more : {X : Type 0} (x : X) (old new : List X) → IsInserted x old new → IsPermutation (old ++ x ∷ []) new
+one_more x old new i =
+    subst₂ (λ xs ys. IsPermutation (xs ++ x ∷ []) ys) (sym i.2) (sym i.3)
+    (IsPermutation-trans ((i.0 ++ i.1) ++ x ∷ []) (x ∷ (i.0 ++ i.1)) (i.0 ++ x ∷ i.1) (IsPermutation-append_comm (i.0 ++ i.1) (x ∷ [])) (IsPermutation-sym (i.0 ++ x ∷ i.1) (x ∷ (i.0 ++ i.1)) (IsPermutation-middle i.0 x i.1)))
 
-  pub put_within : (r : Result ℕ Error) → Executes fill_text given old new r → OnOk r (IsWithin (schema_of Third) new)
-  put_within (Err e) h = tt
-  put_within (Ok n) h = record { is_open = (shown n h).is_open; inside = (shown n h).mode; schema_is = (put n h).0 }
+pub put_told : (o : Option AccountId) (p : PeriodId) (b : BandId) (d : Direction) (v : ℕ) (old new : State) (r : Result ℕ Error) → OnOk r (PutsEnergy (energy_row o p b d v) old new)
+    → OnOk r (TellsMore ((total.Energy o p b d, v) ∷ []) old.now.trees new.now.trees)
+put_told o p b d v old new (Err e) it = tt
+put_told o p b d v old new (Ok n) it = one_more (total.Energy o p b d, v) (energies_in old.now.trees) (energies_in new.now.trees) (told_more old new o p b d v it)
 
-  pub put_same : (r : Result ℕ Error) → Executes fill_text given old new r → OnOk r (HasSame lasting_trees old.now.trees new.now.trees)
-  put_same (Err e) h = tt
-  put_same (Ok n) h = others n h
+pub told_itself : (db : Trees) → TellsMore [] db db
+told_itself db = subst (λ xs. IsPermutation xs (energies_in db)) (sym (append-nil (energies_in db))) (IsPermutation-refl (energies_in db))
 
-  pub put_kept : (r : Result ℕ Error) → Executes fill_text given old new r → KeepsCommit old new
-  put_kept (Ok n) h = let s = shown n h in record { was_open = λ _. s.was_open; committed = λ _. s.committed_is }
-  put_kept (Err e) h = unchanged_keeps old new (fails old new fill_text given e h)
+told_then : (old now new : Trees) (done : List (TotalKey × ℕ)) (next : TotalKey × ℕ) → TellsMore done old now → TellsMore (next ∷ []) now new → TellsMore (done ++ next ∷ []) old new
+told_then old now new done next before more =
+    let one = energies_among (next ∷ []) in
+    let both = ap (λ xs. energies_in old ++ xs) (filter-append (λ (t : TotalKey × ℕ). is_of_energy t.0) done (next ∷ [])) ∙ sym (append_assoc (energies_in old) (energies_among done) one) in
+    subst (λ xs. IsPermutation xs (energies_in new)) (sym both)
+    (IsPermutation-trans ((energies_in old ++ energies_among done) ++ one) (energies_in now ++ one) (energies_in new)
+    (IsPermutation-append (energies_in old ++ energies_among done) (energies_in now) one one before (IsPermutation-refl one)) more)
 
-pub put_survives : (params : Row) (old new : State) → (HasCleanDisk old → IsWithin (schema_of Third) old) → Survives old new (CommitsBy fill_text params old) → Survives old new (λ _. ⊥)
-put_survives params old new at = insert_survives fill_text 11 6 five_terms fill_is old new params (λ clean. (at clean).schema_is) (λ clean. (at clean).inside)
+-- one more of a list
+pub told_further : (totals : List (TotalKey × ℕ)) (i : ℕ) (d : TotalKey × ℕ) (old now new : Trees) → i < length totals → TellsMore (take i totals) old now → TellsMore (get_or totals i d ∷ []) now new → TellsMore (take (i + 1) totals) old new
+told_further totals i d old now new lt before more = subst (λ (done : List (TotalKey × ℕ)). TellsMore done old new) (sym (take_more totals i d lt)) (told_then old now new (take i totals) (get_or totals i d) before more)
 
 -- ---- what was read again
 pub are_the_energies : (totals found : List (TotalKey × ℕ)) (rest : Option (List (TotalKey × ℕ))) → IsRest (Some totals) (filter is_above_zero found) rest → LeavesTopUps rest → AreTheEnergies totals found

@@ -10,6 +10,7 @@ use Rattle.pw_model.specs.declared.records.Entry.{Entry}
 use Rattle.pw_model.specs.Office.{AllOfOffice, most_records}
 use Rattle.pw_parts.specs.declared.parts.Parts.{Parts}
 use Rattle.pw_parts.specs.Parts.{IsPartsOf}
+use Rattle.pw_schema.specs.declared.kind.StoreVersion.{StoreVersion}
 use Rattle.pw_schema.specs.declared.kind.StoreVersion.TheVariants.{Second, Third}
 use Rattle.pw_schema.specs.Tables.{IsOurs}
 use Rattle.pw_store.specs.declared.fault.OpenFault.{OpenFault}
@@ -57,21 +58,18 @@ parts_refused office db records Unclean listed many others =
     inr (omega (arith, much, same))
 
 -- so the rows of the tables are
+rows_of_version : (v : StoreVersion) (office : OfficeRules) (db : Trees) → (RecordsRefuse office db Unclean → RowsRefuse v office db Unclean) → (fault : OpenFault) → RecordsRefuse office db fault → RowsRefuse v office db fault
+rows_of_version v office db spoilt Store refuse = tt
+rows_of_version v office db spoilt Memory refuse = tt
+rows_of_version v office db spoilt OfficeDiffers refuse = refuse
+rows_of_version v office db spoilt Version refuse = refuse
+rows_of_version v office db spoilt Unclean refuse = spoilt refuse
+
 pub rows_refused : (office : OfficeRules) (db : Trees) (fault : OpenFault) → RecordsRefuse office db fault → RowsRefuse Third office db fault
-rows_refused office db Store refuse = tt
-rows_refused office db Memory refuse = tt
-rows_refused office db OfficeDiffers refuse = refuse
-rows_refused office db Version refuse = refuse
-rows_refused office db Unclean (inl none) = inl none
-rows_refused office db Unclean (inr many) = inr (inl many)
+rows_refused office db = rows_of_version Third office db (λ refuse. elim refuse [ inl none ↦ inl none | inr many ↦ inr (inl many) ])
 
 pub earlier_refused : (office : OfficeRules) (db : Trees) (fault : OpenFault) → RecordsRefuse office db fault → RowsRefuse Second office db fault
-earlier_refused office db Store refuse = tt
-earlier_refused office db Memory refuse = tt
-earlier_refused office db OfficeDiffers refuse = refuse
-earlier_refused office db Version refuse = refuse
-earlier_refused office db Unclean (inl none) = inl none
-earlier_refused office db Unclean (inr many) = inr (inl many)
+earlier_refused office db = rows_of_version Second office db (λ refuse. elim refuse [ inl none ↦ inl none | inr many ↦ inr (inl many) ])
 
 -- ---- points, starts and totals
 -- those that were read are the parts of the records, or not

@@ -1,5 +1,5 @@
 -- What the statements on points, starts and totals mean, whatever the check of `office` says.
-use Rattle.std.proofs.Common.{◌≡◌, ℕ, pos, List, [], ◌∷◌, codes, true, refl}
+use Rattle.std.proofs.Common.{◌≡◌, ℕ, pos, List, [], ◌∷◌, codes, Bool, true, false, refl}
 use Rattle.sqlite.specs.declared.types.Value.TheVariants.{Null, Int}
 use Rattle.sqlite.specs.Term.{Term, lit, col, op2}
 use Rattle.sqlite_value.specs.declared.keys.Key.{Key}
@@ -7,17 +7,29 @@ use Rattle.sqlite_value.specs.declared.keys.Collation.TheVariants.{Binary}
 use Rattle.sqlite_sql.specs.declared.ops.BinaryOp.TheVariants.{Compare}
 use Rattle.sqlite_sql.specs.declared.ops.CompareOp.TheVariants.{Lt, Gt, Le, Ge}
 use Rattle.sqlite.specs.Query.{Query}
-use Rattle.sqlite.specs.Command.TheVariants.{Delete}
+use Rattle.sqlite.specs.Command.{Command}
+use Rattle.sqlite.specs.Command.TheVariants.{Delete, Update}
 use Rattle.sqlite_tied.specs.Compute.{everything}
 use Rattle.sqlite.specs.Listing.{understood}
 use Rattle.sqlite.proofs.Callers.{IsPlain, command_of}
 use Rattle.pw_schema.specs.Tables.{ours_with}
 use Rattle.pw_store.proofs.Texts.{IsInsert, IsQuery, eq, four_terms, plain_query, three_terms, up}
 
--- a text that deletes from the table at this place the rows that the query finds
-pub record IsDelete (text : List ℕ) (at : ℕ) (q : Query) : Type 0 where
-  pub is : (checks : List Term) → command_of (understood (ours_with checks) text) ≡ Delete at (record { lets = []; body = q })
+-- the command that makes rows of the table at this place anew, or deletes them: those that the query finds
+abbrev pub edit_at : Bool → ℕ → Query → Command
+edit_at true at q = Update at (record { lets = []; body = q })
+edit_at false at q = Delete at (record { lets = []; body = q })
+
+-- a text that does so
+pub record IsEdit (sets : Bool) (text : List ℕ) (at : ℕ) (q : Query) : Type 0 where
+  pub is : (checks : List Term) → command_of (understood (ours_with checks) text) ≡ edit_at sets at q
   pub plain : (checks : List Term) → IsPlain (understood (ours_with checks) text)
+
+abbrev pub IsUpdate : List ℕ → ℕ → Query → Type 0
+IsUpdate = IsEdit true
+
+abbrev pub IsDelete : List ℕ → ℕ → Query → Type 0
+IsDelete = IsEdit false
 
 abbrev down : Key
 down = record { collation = Binary; descending = true }
@@ -119,13 +131,19 @@ pub insert_total_is : IsInsert insert_total_text 11 6 five_terms
 unfolding understood everything
 insert_total_is = record { is = λ checks. refl; plain = λ checks. (refl, refl) }
 
--- where a store is brought to version 3
-abbrev pub fill_text : List ℕ
-fill_text = codes "INSERT INTO period_total VALUES (?1, ?2, ?3, ?4, ?5)"
+abbrev pub set_total_text : List ℕ
+set_total_text = codes "UPDATE period_total SET wh = ?5 WHERE owner = ?1 AND period = ?2 AND band = ?3 AND direction = ?4"
 
-pub fill_is : IsInsert fill_text 11 6 five_terms
+-- the row with its rowid and key, and the amount that is given
+abbrev pub set_total_terms : List Term
+set_total_terms = col 1 0 ∷ col 1 1 ∷ col 1 2 ∷ col 1 3 ∷ col 1 4 ∷ col 0 4 ∷ []
+
+abbrev pub set_total_query : Query
+set_total_query = plain_query 20 delete_total_query.filter (col 1 0 ∷ set_total_terms)
+
+pub set_total_is : IsUpdate set_total_text 11 set_total_query
 unfolding understood everything
-fill_is = record { is = λ checks. refl; plain = λ checks. (refl, refl) }
+set_total_is = record { is = λ checks. refl; plain = λ checks. (refl, refl) }
 
 abbrev pub total_text : List ℕ
 total_text = codes "SELECT wh FROM period_total WHERE owner = ?1 AND period = ?2 AND band = ?3 AND direction = ?4"
@@ -157,6 +175,19 @@ payment_terms = col 0 0 ∷ lit Null ∷ col 0 1 ∷ []
 pub insert_payment_is : IsInsert insert_payment_text 7 3 payment_terms
 unfolding understood everything
 insert_payment_is = record { is = λ checks. refl; plain = λ checks. (refl, refl) }
+
+abbrev pub set_payment_text : List ℕ
+set_payment_text = codes "UPDATE total_topup SET cents = ?2 WHERE account = ?1"
+
+abbrev pub set_payment_terms : List Term
+set_payment_terms = col 1 0 ∷ lit Null ∷ col 0 1 ∷ []
+
+abbrev pub set_payment_query : Query
+set_payment_query = plain_query 13 delete_payment_query.filter (col 1 0 ∷ set_payment_terms)
+
+pub set_payment_is : IsUpdate set_payment_text 7 set_payment_query
+unfolding understood everything
+set_payment_is = record { is = λ checks. refl; plain = λ checks. (refl, refl) }
 
 abbrev pub payment_text : List ℕ
 payment_text = codes "SELECT cents FROM total_topup WHERE account = ?1"

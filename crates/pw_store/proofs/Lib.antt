@@ -5,6 +5,7 @@ pub mod AtReading
 pub mod AtAssignment
 pub mod AtTopup
 pub mod Checked
+pub mod Clashing
 pub mod Counted
 pub mod EnergyRows
 pub mod Filled

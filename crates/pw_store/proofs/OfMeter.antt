@@ -10,6 +10,7 @@ use Rattle.sqlite.specs.Order.{Row, column}
 use Rattle.sqlite.specs.Term.{holds}
 use Rattle.sqlite.specs.Query.{Output, output}
 use Rattle.sqlite.specs.State.{State, Shown}
+use Rattle.sqlite.specs.Tree.{Trees}
 use Rattle.pw_obis.specs.declared.reference.Register.{Register}
 use Rattle.pw_tariff.specs.declared.ids.MeterId.{MeterId}
 use Rattle.pw_tariff.specs.Office.{register_place}
@@ -21,7 +22,7 @@ use Rattle.pw_shelf.specs.Rows.{IsReadingOf, IsAssignmentOf}
 use Rattle.pw_schema.specs.declared.kind.RecordKind.{RecordKind}
 use Rattle.pw_schema.specs.declared.kind.RecordKind.TheVariants.{Readings, Assignments}
 use Rattle.pw_schema.specs.Rows.{number, register_at}
-use Rattle.pw_store.specs.Content.{reading_in, assignment_in, reading_tree, assignment_tree, records_of, IsReadingRow, IsAssignmentRow, entry_in}
+use Rattle.pw_store.specs.Content.{reading_in, assignment_in, reading_tree, assignment_tree, records_of, tree_of, IsReadingRow, IsAssignmentRow, IsRowOf, entry_in}
 use Rattle.pw_store.specs.Kept.{IsStore}
 use Rattle.pw_store.specs.inner.Lists.{kind_at, shown, ShowsKept}
 use Rattle.pw_schema.specs.Rows.{told, ReadsRows}
@@ -66,6 +67,15 @@ module _ (f : Row → Entry) (p : Row → Bool) (IsRow : Row → Type 0) (Of : K
 found_same : (k : RecordKind) (p : Row → Bool) (table rows : List Row) (found : List Entry) → IsPermutation (map (shown k) (filter p table)) rows → ReadsRows k rows found → SameMembers (map (entry_in k) (filter p table)) found
 found_same k p table rows found shows reads = subst (SameMembers (map (entry_in k) (filter p table))) (sym reads.are) (permuted _ (map (told k) rows) (told_permuted k (filter p table) rows shows))
 
+-- the list of the records of a kind with such a key
+shows_kept : (k : RecordKind) (Of : Key → Type 0) (passes : Row → Bool) → ((r : Row) → IsRowOf k r → passes r ≡ true → Of (entry_in k r).key) → ((r : Row) → IsRowOf k r → Of (entry_in k r).key → passes r ≡ true) → ((x : Key) → Of x → kind_at x ≡ k)
+    → (db : Trees) (rows : List Row) → AllByRecursion (IsRowOf k) (db (tree_of k)) → IsPermutation (map (shown k) (filter passes (db (tree_of k)))) rows → ShowsKept k Of db rows
+shows_kept k Of passes hits misses is_kind db rows each perm found reads = record {
+  rising = reads.rising;
+  members = lists_kept (entry_in k) passes (IsRowOf k) Of hits misses (records_of db) (db (tree_of k)) found each
+      (λ x n of. in_table db x k (is_kind x.key of) n) (λ x n. from_table db x k n) (found_same k passes (db (tree_of k)) rows found perm reads);
+}
+
 -- ---- readings
 module _ (m : MeterId) (g : Register) where
   abbrev params : Row
@@ -95,15 +105,10 @@ module _ (m : MeterId) (g : Register) where
   shown_readings (r ∷ rows) = ap (λ xs. shown Readings r ∷ xs) (shown_readings rows)
 
   pub shows_readings_of : (old new : State) (rows : List Row) → IsStore old.now → Shown list_readings_text params old new rows → ShowsKept Readings (IsReadingOf m g) old.now.trees rows
-  shows_readings_of old new rows store h found reads =
+  shows_readings_of old new rows store h =
       let table = old.now.trees reading_tree in
       let s = seen list_readings_text 1 list_readings_query list_readings_is params old new rows store.ours h in
-      let perm : IsPermutation (map (shown Readings) (filter passes_reading table)) rows = subst₂ IsPermutation (shown_readings (filter passes_reading table)) (sym s.2) s.1 in
-      record {
-        rising = reads.rising;
-        members = lists_kept reading_in passes_reading IsReadingRow (IsReadingOf m g) hits misses (records_of old.now.trees) table found (store.rows Readings)
-            (λ x n of. in_table old.now.trees x Readings (is_reading x.key of) n) (λ x n. from_table old.now.trees x Readings n) (found_same Readings passes_reading table rows found perm reads);
-      }
+      shows_kept Readings (IsReadingOf m g) passes_reading hits misses is_reading old.now.trees rows (store.rows Readings) (subst₂ IsPermutation (shown_readings (filter passes_reading table)) (sym s.2) s.1)
     where
       is_reading : (k : Key) → IsReadingOf m g k → kind_at k ≡ Readings
       is_reading (key.Reading n s t) of = refl
@@ -137,15 +142,10 @@ module _ (m : MeterId) where
   shown_assignments (r ∷ rows) = ap (λ xs. shown Assignments r ∷ xs) (shown_assignments rows)
 
   pub shows_assignments_of : (old new : State) (rows : List Row) → IsStore old.now → Shown list_assignments_text meter_params old new rows → ShowsKept Assignments (IsAssignmentOf m) old.now.trees rows
-  shows_assignments_of old new rows store h found reads =
+  shows_assignments_of old new rows store h =
       let table = old.now.trees assignment_tree in
       let s = seen list_assignments_text 3 list_assignments_query list_assignments_is meter_params old new rows store.ours h in
-      let perm : IsPermutation (map (shown Assignments) (filter passes_assignment table)) rows = subst₂ IsPermutation (shown_assignments (filter passes_assignment table)) (sym s.2) s.1 in
-      record {
-        rising = reads.rising;
-        members = lists_kept assignment_in passes_assignment IsAssignmentRow (IsAssignmentOf m) meter_hits meter_misses (records_of old.now.trees) table found (store.rows Assignments)
-            (λ x n of. in_table old.now.trees x Assignments (is_assignment x.key of) n) (λ x n. from_table old.now.trees x Assignments n) (found_same Assignments passes_assignment table rows found perm reads);
-      }
+      shows_kept Assignments (IsAssignmentOf m) passes_assignment meter_hits meter_misses is_assignment old.now.trees rows (store.rows Assignments) (subst₂ IsPermutation (shown_assignments (filter passes_assignment table)) (sym s.2) s.1)
     where
       is_assignment : (k : Key) → IsAssignmentOf m k → kind_at k ≡ Assignments
       is_assignment (key.Reading n s t) of = absurd of

@@ -1,5 +1,5 @@
 -- A store of this office, of any version, and of this text is refused only for the engine's sake, or for memory.
-use Rattle.std.proofs.Common.{arith, ◌≡◌, ◌⊎◌, inl, inr, ℕ, pos, length, List, [], ◌∷◌, refl, sym, ap, subst, ◌∙◌}
+use Rattle.std.proofs.Common.{arith, ◌≡◌, ◌<◌, ◌⊎◌, inl, inr, ℕ, pos, length, List, [], ◌∷◌, refl, sym, ap, subst, ◌∙◌}
 use Rattle.std.specs.List.Sorted.{IsPermutation}
 use Rattle.std.proofs.lemmas.List.Sorted.{IsPermutation-sym, IsPermutation-trans}
 use Rattle.sqlite.specs.declared.types.Value.{Value}
@@ -27,16 +27,20 @@ row_is : (x y : Row) (xs : List Row) → xs ≡ x ∷ [] → xs ≡ y ∷ [] →
 row_is x y xs a b = let e : y ∷ [] ≡ x ∷ [] = sym b ∙ a in cc
 
 -- ---- a store has one version
+-- a number that rises from version to version tells them apart
+one_by : (f : StoreVersion → ℕ) → f First < f Second → f Second < f Third → (v w : StoreVersion) → f v ≡ f w → v ≡ w
+one_by f a b First First e = refl
+one_by f a b First Second e = absurd (omega (arith, a, e))
+one_by f a b First Third e = absurd (omega (arith, a, b, e))
+one_by f a b Second First e = absurd (omega (arith, a, e))
+one_by f a b Second Second e = refl
+one_by f a b Second Third e = absurd (omega (arith, b, e))
+one_by f a b Third First e = absurd (omega (arith, a, b, e))
+one_by f a b Third Second e = absurd (omega (arith, b, e))
+one_by f a b Third Third e = refl
+
 one_number : (v w : StoreVersion) → version_number v ≡ version_number w → v ≡ w
-one_number First First e = refl
-one_number First Second e = absurd (omega (arith, e))
-one_number First Third e = absurd (omega (arith, e))
-one_number Second First e = absurd (omega (arith, e))
-one_number Second Second e = refl
-one_number Second Third e = absurd (omega (arith, e))
-one_number Third First e = absurd (omega (arith, e))
-one_number Third Second e = absurd (omega (arith, e))
-one_number Third Third e = refl
+one_number = one_by version_number (omega arith) (omega arith)
 
 abbrev number_of : Value → ℕ
 number_of (Int (pos n)) = n
@@ -53,19 +57,8 @@ counted First s is = ap (λ (x : Schema). length x.tables) is
 counted Second s is = ap (λ (x : Schema). length x.tables) is
 counted Third s is = ap (λ (x : Schema). length x.tables) is
 
-one_count : (v w : StoreVersion) → tables_of v ≡ tables_of w → v ≡ w
-one_count First First e = refl
-one_count First Second e = absurd (omega (arith, e))
-one_count First Third e = absurd (omega (arith, e))
-one_count Second First e = absurd (omega (arith, e))
-one_count Second Second e = refl
-one_count Second Third e = absurd (omega (arith, e))
-one_count Third First e = absurd (omega (arith, e))
-one_count Third Second e = absurd (omega (arith, e))
-one_count Third Third e = refl
-
 pub one_version : (v w : StoreVersion) (s : Schema) → IsOf v s → IsOf w s → v ≡ w
-one_version v w s a b = one_count v w (sym (counted v s a) ∙ counted w s b)
+one_version v w s a b = one_by tables_of (omega arith) (omega arith) v w (sym (counted v s a) ∙ counted w s b)
 
 module _ (v : StoreVersion) (office : OfficeRules) (body : List ℕ) (db : Database) (it : IsOpenable v office body db) where
   same_as : (other : Row) (rows : List Row) → IsPermutation (offices db.trees) rows → rows ≡ other ∷ [] → other ≡ it.text.1.1.0

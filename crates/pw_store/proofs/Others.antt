@@ -8,6 +8,7 @@ use Rattle.sqlite.specs.Tree.{Trees}
 use Rattle.sqlite.specs.Order.{Row}
 use Rattle.sqlite.specs.Term.{Term}
 use Rattle.sqlite.specs.Effect.{Database}
+use Rattle.sqlite.specs.State.{State, Shows}
 use Rattle.pw_obis.specs.declared.reference.Register.{Register}
 use Rattle.pw_tariff.specs.declared.ids.AccountId.{AccountId}
 use Rattle.pw_tariff.specs.declared.ids.BandId.{BandId}
@@ -24,11 +25,12 @@ use Rattle.pw_model.specs.declared.records.TotalKey.TheVariants as total
 use Rattle.pw_model.specs.Counting.{IsInserted}
 use Rattle.pw_shelf.specs.State.{IsWithRecord}
 use Rattle.pw_schema.proofs.TotalKeys.{totals_one}
-use Rattle.pw_schema.specs.Tables.{IsOurs, ours_with}
+use Rattle.pw_schema.specs.Tables.{IsOurs, only_one, ours_with}
 use Rattle.pw_schema.specs.declared.kind.RecordKind.{RecordKind}
 use Rattle.pw_schema.specs.declared.kind.RecordKind.TheVariants.{Readings, Assignments, TopUps, WithdrawnReadings, WithdrawnAssignments, WithdrawnTopUps}
 use Rattle.pw_schema.specs.declared.kind.StoreVersion.TheVariants.{Third}
 use Rattle.pw_store.specs.Content.{content_of, records_of, kinds_of, tree_of, IsRowOf, energy_in, payment_in, IsReadingRow, IsAssignmentRow, point_in, start_in, total_in, energy_told, payment_told, point_tree, start_tree, total_tree, energy_tree, payment_tree}
+use Rattle.pw_store.specs.inner.Changing.{Makes, StillKeeps}
 use Rattle.pw_store.proofs.OfKinds.{same_among}
 
 -- the trees of points, starts and totals are the same
@@ -173,3 +175,43 @@ content_with_total old new k a same p s told = λ i. record {
   start = ap start_in s i;
   total = told i;
 }
+
+-- ---- a statement that changes totals of one kind alone
+module _ (old new : State) (tree : ℕ) (behind : 11 < tree) (apart : (tree < 14) ⊎ (18 < tree)) (others : AreElseSame only_one tree old.now.trees new.now.trees) (store : IsStore old.now) (is : IsOurs new.now.schema)
+    (keeps : StillKeeps old.now.trees new.now.trees) (shows : Shows old new new.now old.committed true) where
+  same : SameRecords old.now.trees new.now.trees
+  same = same_records only_one tree old.now.trees new.now.trees (omega (arith, behind)) apart others
+
+  point_same : new.now.trees point_tree ≡ old.now.trees point_tree
+  point_same = others.1.1.1.1.0 (λ e. omega (arith, e, behind))
+
+  start_same : new.now.trees start_tree ≡ old.now.trees start_tree
+  start_same = others.1.1.1.1.1.0 (λ e. omega (arith, e, behind))
+
+  old_same : new.now.trees total_tree ≡ old.now.trees total_tree
+  old_same = others.1.1.1.1.1.1.0 (λ e. omega (arith, e, behind))
+
+  stays_store : AreKeyed IsEnergyRow energy_in (new.now.trees energy_tree) → AreKeyed IsPaymentRow payment_in (new.now.trees payment_tree) → IsStore new.now
+  stays_store energies payments = store_kept old.now new.now is same store (subst (AreKeyed IsReadingRow key_in_point) (sym point_same) store.points) (subst (AreKeyed IsAssignmentRow key_in_start) (sym start_same) store.starts) energies payments old_same
+
+  pub makes_total : (k : TotalKey) (a : ℕ) → AreKeyed IsEnergyRow energy_in (new.now.trees energy_tree) → AreKeyed IsPaymentRow payment_in (new.now.trees payment_tree) → total_in new.now.trees ≡ totals_with (total_in old.now.trees) k a → Makes (λ c. with_total c k a) old new
+  makes_total k a energies payments told = record {
+    store = stays_store energies payments;
+    keeps = keeps;
+    content = content_with_total old.now.trees new.now.trees k a same point_same start_same told;
+    shows = shows;
+  }
+
+  -- and changes no row
+  pub makes_nothing : new.now.trees energy_tree ≡ old.now.trees energy_tree → new.now.trees payment_tree ≡ old.now.trees payment_tree → Makes (λ c. c) old new
+  makes_nothing energies payments = record {
+    store = stays_store (subst (AreKeyed IsEnergyRow energy_in) (sym energies) store.energies) (subst (AreKeyed IsPaymentRow payment_in) (sym payments) store.payments);
+    keeps = keeps;
+    content = λ i. record {
+      records = records_kept old.now.trees new.now.trees same i;
+      point = ap point_in point_same i;
+      start = ap start_in start_same i;
+      total = same_totals old.now.trees new.now.trees energies payments i;
+    };
+    shows = shows;
+  }

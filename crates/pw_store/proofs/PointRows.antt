@@ -1,6 +1,6 @@
 -- What DELETE and INSERT make of the points.
-use Rattle.std.proofs.Common.{◌≡◌, ℕ, pos, List, [], ◌∷◌, find, Bool, true, false, not, ◌&&◌, option_map, Some, None, Ok, Err, Result, OnOk, IsTrue, refl, sym, ap, subst, ◌∙◌, inl, nat_cmp, arith}
-use Rattle.std.specs.List.{list_all, filter}
+use Rattle.std.proofs.Common.{◌≡◌, ℕ, pos, List, [], ◌∷◌, find, Bool, true, false, not, ◌&&◌, Some, None, Ok, Err, Result, OnOk, IsTrue, refl, sym, ap, subst, ◌∙◌, inl, nat_cmp, arith}
+use Rattle.std.specs.List.{AllByRecursion, list_all, filter}
 use Rattle.std.specs.Ordering.{is_eq}
 use Rattle.sqlite.specs.declared.types.Value.TheVariants.{Null, Int}
 use Rattle.sqlite.specs.declared.error.Error.{Error}
@@ -10,6 +10,11 @@ use Rattle.sqlite.specs.Table.{Table}
 use Rattle.sqlite.specs.Tree.{put_row}
 use Rattle.sqlite.specs.Edit.{is_taken, next_rowid}
 use Rattle.sqlite.specs.State.{State, Executes}
+use Rattle.sqlite_schema.specs.declared.schema.Constraint.TheVariants.{Unique}
+use Rattle.sqlite_schema.specs.Rules as rule
+use Rattle.sqlite_schema.specs.Rules.{agree, clashes}
+use Rattle.sqlite_trees.proofs.ListLemmas.{all_weaker}
+use Rattle.sqlite_value.specs.Keys.{first_key, plain}
 use Rattle.pw_obis.specs.declared.reference.Register.{Register}
 use Rattle.pw_tariff.specs.Office.{register_place}
 use Rattle.pw_model.specs.declared.records.Key.TheVariants as key
@@ -17,7 +22,7 @@ use Rattle.pw_model.specs.Counting.{reading_key}
 use Rattle.pw_model.specs.Same.{same_key}
 use Rattle.pw_model.proofs.Same.{same_key-decides}
 use Rattle.pw_shelf.specs.Changes.{points_with, with_point}
-use Rattle.pw_schema.specs.Tables.{only_one, point_at}
+use Rattle.pw_schema.specs.Tables.{only_one, ours_with, point_at}
 use Rattle.pw_schema.specs.Rows.{number, register_at}
 use Rattle.pw_store.specs.Content.{energy_in, payment_in, IsReadingRow, IsAssignmentRow, point_in}
 use Rattle.pw_store.specs.inner.Records.{reading_row}
@@ -31,9 +36,10 @@ use Rattle.pw_store.proofs.Finding.{first, second, same_number, meter_of, regist
 use Rattle.pw_store.proofs.Adding.{cast_null, cast_int, register_back, insert_inside, was_not}
 use Rattle.pw_store.proofs.StillKept.{keeps_sums}
 use Rattle.pw_store.proofs.Others.{AreElseSame, same_records, store_kept, content_with_point}
-use Rattle.pw_store.proofs.KeptRows.{find_gone, gone_told, put_told, keyed_gone, keyed_put}
+use Rattle.pw_store.proofs.Clashing.{key_free, of_new}
+use Rattle.pw_store.proofs.KeptRows.{gone_told, put_told, keyed_gone, keyed_put}
 use Rattle.pw_store.proofs.OneTable.{HasDeleted, HasInserted, deletes, inserts, others_left}
-use Rattle.pw_store.proofs.Taking.{delete_inside, both_true, none_found}
+use Rattle.pw_store.proofs.Taking.{edit_inside, both_true}
 
 abbrev pub at_key : ℕ → Register → ℕ → Row → Bool
 at_key m g i r = same_key (reading_key m g i) (key_in_point r)
@@ -98,14 +104,11 @@ module _ (old new : State) (m : ℕ) (g : Register) (i : ℕ) (count : ℕ) (sto
         (others.1.1.1.1.1.1.0 (λ e. absurd (omega (arith, e))));
     keeps = keeps_sums own _ old.now.trees new.now.trees _ deleted.1.2 (omega arith) (omega arith) (others.1.1.1.1.1.1.1.1.1.1.1.0 (λ e. absurd (omega (arith, e)))) (others.1.1.1.1.1.1.1.0 (λ e. absurd (omega (arith, e))));
     content = content_with_point old.now.trees new.now.trees m g i (None) (same_records own 7 old.now.trees new.now.trees (omega arith) (inl (omega arith)) others) (others.1.1.1.1.1.0 (λ e. absurd (omega (arith, e)))) (others.1.1.1.1.1.1.1.1.1.1.1.0 (λ e. absurd (omega (arith, e)))) (others.1.1.1.1.1.1.1.0 (λ e. absurd (omega (arith, e)))) told_left;
-    shows = delete_inside delete_point_text 4 delete_point_query delete_point_is old new store.ours (params m g i) count h inside;
+    shows = edit_inside false delete_point_text 4 delete_point_query delete_point_is old new store.ours (params m g i) count h inside;
   }
 
-  pub taken : point_in (new.now.trees 7) m g i ≡ None
-  taken = ap (option_map (λ x. number (column x 4))) (ap (find (at_key m g i)) left ∙ find_gone (at_key m g i) (old.now.trees 7))
-
 -- ---- INSERT
-module _ (old new : State) (m : ℕ) (g : Register) (i : ℕ) (v : ℕ) (count : ℕ) (store : IsStore old.now) (inside : IsTrue old.in_transaction) (none : point_in (old.now.trees 7) m g i ≡ None) (h : Executes insert_point_text (reading_row m (register_place g) i v) old new (Ok count)) where
+module _ (old new : State) (m : ℕ) (g : Register) (i : ℕ) (v : ℕ) (count : ℕ) (store : IsStore old.now) (inside : IsTrue old.in_transaction) (h : Executes insert_point_text (reading_row m (register_place g) i v) old new (Ok count)) where
   abbrev checks : List Term
   checks = only_one
 
@@ -127,8 +130,24 @@ module _ (old new : State) (m : ℕ) (g : Register) (i : ℕ) (v : ℕ) (count :
   key_is : key_in_point row ≡ reading_key m g i
   key_is = ap (λ (s : Register). reading_key m s i) (register_back g)
 
+  -- the rule of the index holds of the rows as they are now
+  passed : rule.passes Unique (ours_with only_one) new.now.trees table row ≡ true
+  passed = of_new (λ r. rule.passes Unique (ours_with only_one) new.now.trees table r ≡ true) row (old.now.trees 7)
+      (subst (AllByRecursion (λ r. rule.passes Unique (ours_with only_one) new.now.trees table r ≡ true)) put (inserted.1.fits.rules Unique (λ e. absurd cc)).1.1.1.1.0)
+
+  alone : clashes plain (1 ∷ 2 ∷ 3 ∷ []) (put_row row (old.now.trees 7)) row ≡ false
+  alone =
+      let unmet : (not (clashes plain (1 ∷ 2 ∷ 3 ∷ []) (new.now.trees 7) row) && true) ≡ true = passed in
+      subst (λ rows. clashes plain (1 ∷ 2 ∷ 3 ∷ []) rows row ≡ false) put (was_not _ (first _ _ unmet))
+
+  agrees_at : (r : Row) → IsReadingRow r → agree plain (1 ∷ 2 ∷ 3 ∷ []) r (1 ∷ 2 ∷ 3 ∷ []) row ≡ at_key m g i r
+  unfolding first_key
+  agrees_at r it = passes_at m g i r it
+
   unseen : find (at_key m g i) (old.now.trees 7) ≡ None
-  unseen = none_found (λ x. number (column x 4)) (find (at_key m g i) (old.now.trees 7)) none
+  unseen =
+      let same = all_weaker IsReadingRow (λ r. agree plain (1 ∷ 2 ∷ 3 ∷ []) r (1 ∷ 2 ∷ 3 ∷ []) row ≡ at_key m g i r) agrees_at (old.now.trees 7) store.points.each in
+      key_free plain (1 ∷ 2 ∷ 3 ∷ []) (next_rowid (old.now.trees 7)) given (at_key m g i) (old.now.trees 7) same store.points.ids free alone
 
   elsewhere : AreElseSame checks 7 old.now.trees new.now.trees
   elsewhere = inserted.1.tables
@@ -153,11 +172,3 @@ module _ (old new : State) (m : ℕ) (g : Register) (i : ℕ) (v : ℕ) (count :
 pub takes_if : (old new : State) (m : ℕ) (g : Register) (i : ℕ) (r : Result ℕ Error) → IsStore old.now → IsTrue old.in_transaction → Executes delete_point_text (params m g i) old new r → OnOk r (Makes (λ c. with_point c m g i None) old new)
 takes_if old new m g i (Ok n) store inside h = takes old new m g i n store inside h
 takes_if old new m g i (Err e) store inside h = tt
-
-pub taken_if : (old new : State) (m : ℕ) (g : Register) (i : ℕ) (r : Result ℕ Error) → IsStore old.now → IsTrue old.in_transaction → Executes delete_point_text (params m g i) old new r → OnOk r (point_in (new.now.trees 7) m g i ≡ None)
-taken_if old new m g i (Ok n) store inside h = taken old new m g i n store inside h
-taken_if old new m g i (Err e) store inside h = tt
-
-pub puts_if : (old new : State) (m : ℕ) (g : Register) (i : ℕ) (v : ℕ) (r : Result ℕ Error) → IsStore old.now → IsTrue old.in_transaction → point_in (old.now.trees 7) m g i ≡ None → Executes insert_point_text (reading_row m (register_place g) i v) old new r → OnOk r (Makes (λ c. with_point c m g i (Some v)) old new)
-puts_if old new m g i v (Ok n) store inside none h = puts old new m g i v n store inside none h
-puts_if old new m g i v (Err e) store inside none h = tt

@@ -284,6 +284,12 @@ pub if_err : {A : Type 0} (r : Result A OpenFault) (P Q : OpenFault → Type 0) 
 if_err (Ok a) P Q f h = tt
 if_err (Err fault) P Q f h = f fault h
 
+-- a call that judges the rows of the version that was found refuses the store for what is so of what was found
+pub version_refuses : {A : Type 0} (v w : StoreVersion) (office : OfficeRules) (body : List ℕ) (s0 s1 : State) (r : Result A OpenFault) → w ≡ v → IsUnchanged s0 s1 → HoldsTables w s1.now → KeepsText (KeepsVersion w body) s1.now.trees → IfErr r (RowsRefuse v office s1.now.trees)
+    → IfErr r (BegunRefuses office body s0.now)
+version_refuses v w office body s0 s1 r is same ours text = if_err r (RowsRefuse v office s1.now.trees) (BegunRefuses office body s0.now)
+    (λ fault it. rows_refuse v office body s0 s1 fault same (subst (λ x. HoldsTables x s1.now) is ours) (subst (λ x. KeepsText (KeepsVersion x body) s1.now.trees) is text) it)
+
 begun_refuses : (office : OfficeRules) (body : List ℕ) (db : Database) (fault : OpenFault) → BeginsAsOurs db.schema → BegunRefuses office body db fault → Refuses office body db fault
 begun_refuses office body db Store b r = tt
 begun_refuses office body db Memory b r = tt

@@ -33,7 +33,7 @@ use Rattle.pw_store.proofs.StillKept.{keeps_sums}
 use Rattle.pw_store.proofs.Others.{AreElseSame, same_records, store_kept, content_with_start}
 use Rattle.pw_store.proofs.KeptRows.{find_gone, gone_told, put_told, keyed_gone, keyed_put}
 use Rattle.pw_store.proofs.OneTable.{HasDeleted, HasInserted, deletes, inserts, others_left}
-use Rattle.pw_store.proofs.Taking.{delete_inside, both_true, none_found}
+use Rattle.pw_store.proofs.Taking.{edit_inside, both_true, none_found}
 
 abbrev pub at_key : ℕ → ℕ → Row → Bool
 at_key m i r = same_key (assignment_key m i) (key_in_start r)
@@ -95,7 +95,7 @@ module _ (old new : State) (m i : ℕ) (count : ℕ) (store : IsStore old.now) (
         (others.1.1.1.1.1.1.0 (λ e. absurd (omega (arith, e))));
     keeps = keeps_sums own _ old.now.trees new.now.trees _ deleted.1.2 (omega arith) (omega arith) (others.1.1.1.1.1.1.1.1.1.1.1.0 (λ e. absurd (omega (arith, e)))) (others.1.1.1.1.1.1.1.0 (λ e. absurd (omega (arith, e))));
     content = content_with_start old.now.trees new.now.trees m i (None) (same_records own 9 old.now.trees new.now.trees (omega arith) (inl (omega arith)) others) (others.1.1.1.1.0 (λ e. absurd (omega (arith, e)))) (others.1.1.1.1.1.1.1.1.1.1.1.0 (λ e. absurd (omega (arith, e)))) (others.1.1.1.1.1.1.1.0 (λ e. absurd (omega (arith, e)))) told_left;
-    shows = delete_inside delete_start_text 5 delete_start_query delete_start_is old new store.ours (params m i) count h inside;
+    shows = edit_inside false delete_start_text 5 delete_start_query delete_start_is old new store.ours (params m i) count h inside;
   }
 
   pub taken : start_in (new.now.trees 9) m i ≡ None

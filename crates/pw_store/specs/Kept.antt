@@ -80,10 +80,14 @@ abbrev pub begun_of : Bool → ShelfContent → Option ShelfContent
 begun_of true c = Some c
 begun_of false c = None
 
+-- the content that an upload began with, if one is begun
+abbrev pub begun_with : Bool → Sql → Option ShelfContent
+begun_with begun base = begun_of begun (content_of base.committed.trees)
+
 abbrev pub state_of : Sql → Sql → Bool → ℕ → ℕ → ℕ → State
 state_of s base begun failures failed_abandons tally = record {
   content = held_of s base;
-  begun = begun_of begun (content_of base.committed.trees);
+  begun = begun_with begun base;
   failures = failures;
   failed_abandons = failed_abandons;
   tally = tally;

@@ -15,13 +15,12 @@ use crate::questions::{point_after, point_before, points_between, starts_of, tot
 use crate::shelf::SqlShelf;
 use pw_model::{Contents, Entry, Key, TotalKey};
 use pw_obis::{Register, WattHours};
-use pw_schema::{begin, commit, roll_back};
+use pw_schema::roll_back;
 use pw_shelf::{Shelf, ShelfFault};
 use pw_tariff::{MeterId, Owner};
 use pw_time::Instant;
 use sqlite::Alter;
 use std::alloc::Global;
-use std::snapshot::Snapshot;
 
 // What a question is answered. An answer is so many rows, which are counted, and the connection is known to be open.
 // Behind a fault it may be shut, and a failure of the device is counted.
@@ -52,39 +51,11 @@ impl<S: Alter> Shelf for SqlShelf<S> {
     ghost same_store = { λ old new. new.opened.value ≡ old.opened.value };
 
     fn begin(&mut self) -> Result<(), ShelfFault> {
-        self.tally.tick(0);
-        match begin(&mut self.conn) {
-            Ok(()) => {
-                self.begun = true;
-                self.within = self.held;
-                self.doubtful = false;
-                Ok(())
-            }
-            Err(error) => {
-                self.doubtful = true;
-                Err(fault_of(error, &mut self.failures))
-            }
-        }
+        self.begin_upload()
     }
 
     fn commit(&mut self) -> Result<(), ShelfFault> {
-        self.tally.tick(0);
-        if self.conn.is_autocommit() {
-            return Err(device_fault(&mut self.failures));
-        }
-        match commit(&mut self.conn) {
-            Ok(()) => {
-                self.base = Snapshot::of(&self.conn);
-                self.held = self.within;
-                self.begun = false;
-                self.doubtful = false;
-                Ok(())
-            }
-            Err(error) => {
-                self.doubtful = true;
-                Err(fault_of(error, &mut self.failures))
-            }
-        }
+        self.commit_upload()
     }
 
     fn abandon(&mut self) -> Result<(), ShelfFault> {
@@ -160,13 +131,8 @@ impl<S: Alter> Shelf for SqlShelf<S> {
         answered!(self, asked, found, found.len() as u64)
     }
 
-    // No statement is run: the number is kept, also of a connection that is shut.
     fn count(&mut self) -> Result<u32, ShelfFault> {
-        self.tally.tick(0);
-        if self.conn.is_autocommit() {
-            return Ok(self.held);
-        }
-        Ok(self.within)
+        Ok(self.number_held())
     }
 
     fn point_put(
@@ -177,19 +143,7 @@ impl<S: Alter> Shelf for SqlShelf<S> {
         wh: WattHours,
     ) -> Result<(), ShelfFault> {
         self.tally.tick(0);
-        self.replace(
-            Change::TakePoint {
-                meter,
-                register,
-                instant,
-            },
-            Change::PutPoint {
-                meter,
-                register,
-                instant,
-                wh,
-            },
-        )
+        self.put_point(meter, register, instant, wh)
     }
 
     fn point_del(
@@ -203,7 +157,8 @@ impl<S: Alter> Shelf for SqlShelf<S> {
             meter,
             register,
             instant,
-        })
+        })?;
+        Ok(())
     }
 
     fn point_before(
@@ -265,7 +220,8 @@ impl<S: Alter> Shelf for SqlShelf<S> {
 
     fn start_del(&mut self, meter: MeterId, start: Instant) -> Result<(), ShelfFault> {
         self.tally.tick(0);
-        self.change(Change::TakeStart { meter, start })
+        self.change(Change::TakeStart { meter, start })?;
+        Ok(())
     }
 
     fn starts_of(
@@ -284,43 +240,11 @@ impl<S: Alter> Shelf for SqlShelf<S> {
 
     fn total_put(&mut self, key: &TotalKey, amount: u64) -> Result<(), ShelfFault> {
         self.tally.tick(0);
-        match key {
-            TotalKey::Energy {
-                owner,
-                period,
-                band,
-                direction,
-            } => {
-                let take = Change::TakeEnergy {
-                    owner: *owner,
-                    period: *period,
-                    band: *band,
-                    direction: *direction,
-                };
-                if amount == 0 {
-                    return self.change(take);
-                }
-                self.replace(
-                    take,
-                    Change::PutEnergy {
-                        owner: *owner,
-                        period: *period,
-                        band: *band,
-                        direction: *direction,
-                        wh: amount,
-                    },
-                )
-            }
-            TotalKey::TopUps { account } => {
-                let account = *account;
-                let cents = amount;
-                let take = Change::TakePayment { account };
-                if cents == 0 {
-                    return self.change(take);
-                }
-                self.replace(take, Change::PutPayment { account, cents })
-            }
+        if amount == 0 {
+            self.change(Change::TakeTotal { key: *key })?;
+            return Ok(());
         }
+        self.put_total(*key, amount)
     }
 
     ghost once = { λ s clean. once_held (state S.Store.own s.conn) (state S.Store.own s.base.value) s.base_once s.now clean };

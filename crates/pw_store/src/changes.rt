@@ -1,6 +1,6 @@
 //! What is changed of points, starts and totals, one row at a time.
 
-ghost use Rattle.std.specs.Prelude.{OnOk, IsTrue};
+ghost use Rattle.std.specs.Prelude.{IfOk, IsTrue};
 ghost use Rattle.sqlite.specs.Held.{state};
 ghost use Rattle.sqlite.specs.State.{HasCleanDisk};
 ghost use Rattle.pw_schema.specs.Calls.{Writes};
@@ -9,13 +9,16 @@ ghost use Rattle.pw_store.specs.inner.Changing.{Fits, IsFree, IsTaken, Makes, ch
 
 use crate::points::{put_point, take_point};
 use crate::starts::{put_start, take_start};
-use crate::totals::{put_energy, put_payment, take_energy, take_payment};
+use crate::totals::{put_total, set_total, take_total};
+use pw_model::TotalKey;
 use pw_obis::{Register, WattHours};
-use pw_tariff::{AccountId, BandId, Direction, MeterId, Owner, PeriodId};
+use pw_tariff::{MeterId, Owner};
 use pw_time::Instant;
 use sqlite::{Alter, Connection, Error};
 
-/// One row that is taken away by its key, or one that is put where none has its key.
+/// One row that is taken away by its key, one that is put where none has its key, or an amount that is set in the row
+/// that has its key. Where no row has the key of what is to be taken or set, or where one has the key of a point that is
+/// to be put, nothing changes.
 #[derive(Clone, Copy)]
 pub(crate) enum Change {
     TakePoint {
@@ -38,36 +41,27 @@ pub(crate) enum Change {
         start: Instant,
         owner: Owner,
     },
-    TakeEnergy {
-        owner: Owner,
-        period: PeriodId,
-        band: BandId,
-        direction: Direction,
+    TakeTotal {
+        key: TotalKey,
     },
-    PutEnergy {
-        owner: Owner,
-        period: PeriodId,
-        band: BandId,
-        direction: Direction,
-        wh: u64,
+    SetTotal {
+        key: TotalKey,
+        amount: u64,
     },
-    TakePayment {
-        account: AccountId,
-    },
-    PutPayment {
-        account: AccountId,
-        cents: u64,
+    PutTotal {
+        key: TotalKey,
+        amount: u64,
     },
 }
 
-/// Makes the change, by one statement.
+/// Makes the change, by one statement, and tells how many rows that has changed.
 pub(crate) fn make<S: Alter>(conn: &mut Connection<S>, change: Change) -> Result<usize, Error>
     requires inside { HasCleanDisk (state S.Store conn.old) → IsTrue (state S.Store conn.old).in_transaction }
     requires store { HasCleanDisk (state S.Store conn.old) → IsStore (state S.Store conn.old).now }
     requires free { HasCleanDisk (state S.Store conn.old) → IsFree change (state S.Store conn.old).now.trees }
     requires fits { Fits change }
-    ensures done { HasCleanDisk (state S.Store conn.new) → OnOk result (Makes (changed change) (state S.Store conn.old) (state S.Store conn.new)) }
-    ensures taken { HasCleanDisk (state S.Store conn.new) → OnOk result (IsTaken change (state S.Store conn.new).now.trees) }
+    ensures done { HasCleanDisk (state S.Store conn.new) → IfOk result (λ rows. Makes (changed change rows) (state S.Store conn.old) (state S.Store conn.new)) }
+    ensures taken { HasCleanDisk (state S.Store conn.new) → IfOk result (λ rows. IsTaken change rows (state S.Store conn.new).now.trees) }
     ensures writes { Writes result (state S.Store conn.old) (state S.Store conn.new) }
 {
     match change {
@@ -88,20 +82,8 @@ pub(crate) fn make<S: Alter>(conn: &mut Connection<S>, change: Change) -> Result
             start,
             owner,
         } => put_start(conn, meter, start, owner),
-        Change::TakeEnergy {
-            owner,
-            period,
-            band,
-            direction,
-        } => take_energy(conn, owner, period, band, direction),
-        Change::PutEnergy {
-            owner,
-            period,
-            band,
-            direction,
-            wh,
-        } => put_energy(conn, owner, period, band, direction, wh),
-        Change::TakePayment { account } => take_payment(conn, account),
-        Change::PutPayment { account, cents } => put_payment(conn, account, cents),
+        Change::TakeTotal { key } => take_total(conn, key),
+        Change::SetTotal { key, amount } => set_total(conn, key, amount),
+        Change::PutTotal { key, amount } => put_total(conn, key, amount),
     }
 }

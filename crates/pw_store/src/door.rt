@@ -136,19 +136,7 @@ impl<S: Alter> SqlShelf<S> {
         ensures same { result ≡ self.conn }
         ensures committed { HasCleanDisk (state S.Store result) → IsTrue (state S.Store result).is_open → content_of (state S.Store result).committed.trees ≡ committed (state_of (state S.Store self.conn) (state S.Store self.base.value) self.begun self.failures.count self.failed_abandons.count self.tally.count) }
     {
-        let SqlShelf {
-            conn,
-            base: _,
-            opened: _,
-            begun: _,
-            doubtful: _,
-            held: _,
-            within: _,
-            failures: _,
-            failed_abandons: _,
-            tally: _,
-        } = self;
-        conn
+        self.into_connection()
     }
 }
 

@@ -3,11 +3,12 @@
 ghost use Rattle.std.specs.Prelude.{◌≡◌, ◌+◌, ◌⊎◌};
 ghost use Rattle.pw_shelf.specs.Calls.{failures_in};
 ghost use Rattle.pw_shelf.specs.declared.fault.ShelfFault.TheVariants.{Device};
+ghost use Rattle.pw_store.specs.inner.Changing.{refuses_key};
 
 use pw_line::refused;
 use pw_schema::JudgeFault;
 use pw_shelf::{ShelfFault, Tally};
-use sqlite::{Error, ErrorCode};
+use sqlite::{Constraint, Error, ErrorCode};
 use std::fmt;
 
 /// Why a question has no answer.
@@ -37,6 +38,16 @@ pub(crate) fn device_fault(failures: &mut Tally) -> ShelfFault
 {
     failures.tick(0);
     ShelfFault::Device
+}
+
+/// Whether a row was refused because another has its key.
+pub(crate) fn is_key_taken(error: Error) -> bool
+    ensures { result ≡ refuses_key error }
+{
+    match error {
+        Error::SqliteFailure(ErrorCode::ConstraintViolation(Constraint::Unique)) => true,
+        _ => false,
+    }
 }
 
 /// What a question that has no answer is to a shelf: a failure of the device is counted.

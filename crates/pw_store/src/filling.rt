@@ -1,6 +1,6 @@
 //! The totals of energy by period of a store that is brought to version 3: put, and read again.
 
-ghost use Rattle.std.specs.Prelude.{◌<◌, ◌^◌, IfErr, IsTrue, OnOk};
+ghost use Rattle.std.specs.Prelude.{IfErr, IsTrue, OnOk};
 ghost use Rattle.std.specs.Option.{option_copied};
 ghost use Rattle.sqlite.specs.Held.{state};
 ghost use Rattle.sqlite.specs.State.{HasCleanDisk, KeepsCommit, Survives};
@@ -11,84 +11,28 @@ ghost use Rattle.pw_schema.specs.Raised.{HasSame, lasting_trees};
 ghost use Rattle.pw_schema.specs.Tables.{IsOurs, schema_of};
 ghost use Rattle.pw_schema.specs.declared.kind.StoreVersion.TheVariants.{Third};
 ghost use Rattle.pw_store.specs.Left.{IsFilled};
-ghost use Rattle.pw_store.specs.inner.Filling.{AreOfTopUps, IsOfEngine, IsOfTopUps, LeavesTopUps};
+ghost use Rattle.pw_store.specs.inner.Filling.{AreOfTopUps, IsOfEngine, IsOfTopUps, LeavesTopUps, TellsMore};
 ghost use Rattle.pw_store.specs.inner.Opened.{AreJudged};
 
 use crate::fault::{OpenFault, fault_in};
 use crate::sums::read_energies;
+use crate::totals::fill_total;
 use pw_model::TotalKey;
 use pw_parts::Parts;
-use pw_schema::{direction_place, integer, owner_place, wide};
-use pw_tariff::{BandId, Direction, Office, Owner, PeriodId};
-use sqlite::{Alter, Connection, Error, ErrorCode};
+use pw_tariff::Office;
+use sqlite::{Alter, Connection, Error};
 
-// No column takes it, nor more.
-const TOO_WIDE: u64 = 0x8000_0000_0000_0000;
-
-// Puts a row, whatever the rows are.
-fn put_row<S: Alter>(
-    conn: &mut Connection<S>,
-    owner: Owner,
-    period: PeriodId,
-    band: BandId,
-    direction: Direction,
-    wh: u64,
-) -> Result<usize, Error>
-    requires within { HasCleanDisk (state S.Store conn.old) → IsWithin (schema_of Third) (state S.Store conn.old) }
-    requires fits { wh < 2 ^ 63 }
-    ensures within { HasCleanDisk (state S.Store conn.new) → OnOk result (IsWithin (schema_of Third) (state S.Store conn.new)) }
-    ensures lasting { HasCleanDisk (state S.Store conn.new) → OnOk result (HasSame lasting_trees (state S.Store conn.old).now.trees (state S.Store conn.new).now.trees) }
-    ensures kept { HasCleanDisk (state S.Store conn.new) → KeepsCommit (state S.Store conn.old) (state S.Store conn.new) }
-    ensures crash { Survives (state S.Store conn.old) (state S.Store conn.new) (λ _. ⊥) }
-{
-    conn.execute(
-        "INSERT INTO period_total VALUES (?1, ?2, ?3, ?4, ?5)",
-        &[
-            integer(owner_place(owner)),
-            integer(u32::from(period.0)),
-            integer(u32::from(band.0)),
-            integer(direction_place(direction)),
-            wide(wh),
-        ],
-    )
-}
-
-// Puts a total, if it is one of energy.
-fn put_total<S: Alter>(
-    conn: &mut Connection<S>,
-    key: &TotalKey,
-    amount: u64,
-) -> Result<usize, Error>
-    requires within { HasCleanDisk (state S.Store conn.old) → IsWithin (schema_of Third) (state S.Store conn.old) }
-    ensures within { HasCleanDisk (state S.Store conn.new) → OnOk result (IsWithin (schema_of Third) (state S.Store conn.new)) }
-    ensures lasting { HasCleanDisk (state S.Store conn.new) → OnOk result (HasSame lasting_trees (state S.Store conn.old).now.trees (state S.Store conn.new).now.trees) }
-    ensures kept { HasCleanDisk (state S.Store conn.new) → KeepsCommit (state S.Store conn.old) (state S.Store conn.new) }
-    ensures crash { Survives (state S.Store conn.old) (state S.Store conn.new) (λ _. ⊥) }
-{
-    if amount >= TOO_WIDE {
-        return Err(Error::SqliteFailure(ErrorCode::TooBig));
-    }
-    match key {
-        TotalKey::Energy {
-            owner,
-            period,
-            band,
-            direction,
-        } => put_row(conn, *owner, *period, *band, *direction, amount),
-        TotalKey::TopUps { .. } => Ok(0),
-    }
-}
-
-// Puts all totals of energy.
+// Puts all totals of energy that are among these.
 fn put_all<S: Alter>(conn: &mut Connection<S>, totals: &[(TotalKey, u64)]) -> Result<(), Error>
     requires within { HasCleanDisk (state S.Store conn.old) → IsWithin (schema_of Third) (state S.Store conn.old) }
     ensures within { HasCleanDisk (state S.Store conn.new) → OnOk result (IsWithin (schema_of Third) (state S.Store conn.new)) }
     ensures lasting { HasCleanDisk (state S.Store conn.new) → OnOk result (HasSame lasting_trees (state S.Store conn.old).now.trees (state S.Store conn.new).now.trees) }
+    ensures told { HasCleanDisk (state S.Store conn.new) → OnOk result (TellsMore totals.now (state S.Store conn.old).now.trees (state S.Store conn.new).now.trees) }
     ensures kept { HasCleanDisk (state S.Store conn.new) → KeepsCommit (state S.Store conn.old) (state S.Store conn.new) }
     ensures crash { Survives (state S.Store conn.old) (state S.Store conn.new) (λ _. ⊥) }
 {
     for (key, amount) in totals {
-        put_total(conn, key, *amount)?;
+        fill_total(conn, key, *amount)?;
     }
     Ok(())
 }

@@ -1,6 +1,6 @@
 //! Points, each statement run by its own text.
 
-ghost use Rattle.std.specs.Prelude.{◌≡◌, ◌↔◌, ◌≤◌, ℕ, Some, IfOk, OnOk, IsTrue, map};
+ghost use Rattle.std.specs.Prelude.{◌≡◌, ◌↔◌, ◌≤◌, ℕ, Some, IfErr, IfOk, IsTrue, false, map};
 ghost use Rattle.sqlite.specs.Held.{state};
 ghost use Rattle.sqlite.specs.State.{HasCleanDisk};
 ghost use Rattle.pw_model.specs.Counting.{Member};
@@ -9,10 +9,11 @@ ghost use Rattle.pw_schema.specs.Calls.{Writes};
 ghost use Rattle.pw_schema.specs.inner.Calls.{Asks};
 ghost use Rattle.pw_store.specs.Content.{point_in, point_tree};
 ghost use Rattle.pw_store.specs.Kept.{IsStore};
-ghost use Rattle.pw_store.specs.inner.Changing.{IsFree, IsTaken, Makes, changed};
+ghost use Rattle.pw_store.specs.inner.Changing.{Makes, changed, refuses_key};
 ghost use Rattle.pw_store.specs.inner.Seconds.{first_point, point_told};
 
 use crate::changes::Change;
+use crate::fault::is_key_taken;
 use pw_obis::{Register, WattHours};
 use pw_schema::{integer, register_place, wide};
 use pw_tariff::MeterId;
@@ -28,8 +29,7 @@ pub(crate) fn take_point<S: Alter>(
 ) -> Result<usize, Error>
     requires inside { HasCleanDisk (state S.Store conn.old) → IsTrue (state S.Store conn.old).in_transaction }
     requires store { HasCleanDisk (state S.Store conn.old) → IsStore (state S.Store conn.old).now }
-    ensures done { HasCleanDisk (state S.Store conn.new) → OnOk result (Makes (changed (Change.TakePoint meter register instant)) (state S.Store conn.old) (state S.Store conn.new)) }
-    ensures taken { HasCleanDisk (state S.Store conn.new) → OnOk result (IsTaken (Change.TakePoint meter register instant) (state S.Store conn.new).now.trees) }
+    ensures done { HasCleanDisk (state S.Store conn.new) → IfOk result (λ rows. Makes (changed (Change.TakePoint meter register instant) rows) (state S.Store conn.old) (state S.Store conn.new)) }
     ensures writes { Writes result (state S.Store conn.old) (state S.Store conn.new) }
 {
     conn.execute(
@@ -42,7 +42,7 @@ pub(crate) fn take_point<S: Alter>(
     )
 }
 
-/// Puts the row of a point where none has its key.
+/// Puts the row of a point, and tells how many it has put: none where a row has its key.
 pub(crate) fn put_point<S: Alter>(
     conn: &mut Connection<S>,
     meter: MeterId,
@@ -52,11 +52,11 @@ pub(crate) fn put_point<S: Alter>(
 ) -> Result<usize, Error>
     requires inside { HasCleanDisk (state S.Store conn.old) → IsTrue (state S.Store conn.old).in_transaction }
     requires store { HasCleanDisk (state S.Store conn.old) → IsStore (state S.Store conn.old).now }
-    requires free { HasCleanDisk (state S.Store conn.old) → IsFree (Change.PutPoint meter register instant wh) (state S.Store conn.old).now.trees }
-    ensures done { HasCleanDisk (state S.Store conn.new) → OnOk result (Makes (changed (Change.PutPoint meter register instant wh)) (state S.Store conn.old) (state S.Store conn.new)) }
+    ensures done { HasCleanDisk (state S.Store conn.new) → IfOk result (λ rows. Makes (changed (Change.PutPoint meter register instant wh) rows) (state S.Store conn.old) (state S.Store conn.new)) }
+    ensures refused { IfErr result (λ e. refuses_key e ≡ false) }
     ensures writes { Writes result (state S.Store conn.old) (state S.Store conn.new) }
 {
-    conn.execute(
+    let put = conn.execute(
         "INSERT INTO point (meter, register, instant, wh) VALUES (?1, ?2, ?3, ?4)",
         &[
             integer(u32::from(meter.0)),
@@ -64,7 +64,17 @@ pub(crate) fn put_point<S: Alter>(
             integer(instant.seconds()),
             wide(wh.get()),
         ],
-    )
+    );
+    match put {
+        Ok(_) => Ok(1),
+        Err(error) => {
+            if is_key_taken(error) {
+                Ok(0)
+            } else {
+                Err(error)
+            }
+        }
+    }
 }
 
 /// The latest point strictly before an instant: one row at most.

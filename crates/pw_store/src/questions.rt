@@ -7,21 +7,21 @@ ghost use Rattle.pw_model.specs.Lists.{IsInOrder};
 ghost use Rattle.pw_shelf.specs.Seconds.{IsBefore, IsBehind, ListsSeconds, ListsSecondsWithin, by_second};
 ghost use Rattle.pw_schema.specs.inner.Calls.{Asks};
 ghost use Rattle.pw_store.specs.Content.{point_in, point_tree, start_in, start_tree, total_in};
-ghost use Rattle.pw_store.specs.Kept.{IsAwake, IsStore, NowIsStore};
+ghost use Rattle.pw_store.specs.Kept.{IsAwake, NowIsStore};
 ghost use Rattle.pw_store.specs.inner.Seconds.{first_amount, first_point, point_told, start_told};
 
 use crate::fault::AskFault;
 use crate::points::{after_rows, before_rows, between_rows};
 use crate::starts::start_rows;
 use crate::told::{all_points, all_starts, one_amount, one_point};
-use crate::totals::{energy_rows, payment_rows};
+use crate::totals::total_rows;
 use crate::waking::wake;
 use pw_model::TotalKey;
 use pw_obis::{Register, WattHours};
 use pw_schema::ReadFault;
 use pw_tariff::{MeterId, Owner};
 use pw_time::Instant;
-use sqlite::{Alter, Connection, Error, Row};
+use sqlite::{Alter, Connection, Row};
 use std::alloc::Global;
 
 fn read_point(rows: &[Row]) -> Result<Option<(Instant, WattHours)>, AskFault>
@@ -151,23 +151,6 @@ pub(crate) fn starts_of<S: Alter>(
     match start_rows(conn, meter) {
         Ok(rows) => read_starts(alloc, rows.as_slice()),
         Err(error) => Err(AskFault::Statement(error)),
-    }
-}
-
-// The rows of the total at a key.
-fn total_rows<S: Alter>(conn: &mut Connection<S>, key: &TotalKey) -> Result<Vec<Row>, Error>
-    requires store { HasCleanDisk (state S.Store conn.old) → IsStore (state S.Store conn.old).now }
-    ensures amount { HasCleanDisk (state S.Store conn.new) → IfOk result (λ rows. length rows.items ≤ 1 → first_amount rows.items ≡ total_in (state S.Store conn.old).now.trees key.now) }
-    ensures asks { Asks result (state S.Store conn.old) (state S.Store conn.new) }
-{
-    match key {
-        TotalKey::Energy {
-            owner,
-            period,
-            band,
-            direction,
-        } => energy_rows(conn, *owner, *period, *band, *direction),
-        TotalKey::TopUps { account } => payment_rows(conn, *account),
     }
 }
 

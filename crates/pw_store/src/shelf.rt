@@ -1,5 +1,6 @@
 //! The store over SQL, and what it keeps to.
 
+ghost use Rattle.std.specs.Prelude.{◌≡◌};
 ghost use Rattle.sqlite.specs.Held.{state};
 ghost use Rattle.pw_store.specs.Kept.{BaseIsOnce, NowIsStore, CommittedIsStore, IsSinceBase, IsIdle, IsInside, IsAwake, BaseIsCounted, NowIsCounted};
 ghost use Rattle.pw_store.specs.lemmas.OneProof.{BaseIsOnce-prop, NowIsStore-prop, CommittedIsStore-prop, IsSinceBase-prop, IsIdle-prop, IsInside-prop, IsAwake-prop, BaseIsCounted-prop, NowIsCounted-prop, KeepsOpened-prop};
@@ -10,7 +11,6 @@ use sqlite::{Alter, Connection};
 use std::snapshot::Snapshot;
 
 /// A store over SQL: a connection, and whether an upload is begun.
-#[derive(Drop)]
 pub struct SqlShelf<S: Alter> {
     pub(crate) conn: Connection<S>,
     // the connection as it was when the last upload ended
@@ -37,4 +37,43 @@ pub struct SqlShelf<S: Alter> {
     ghost base_counted: { BaseIsCounted (state S.Store conn) held (state S.Store base.value) } by { BaseIsCounted-prop (state S.Store conn) held (state S.Store base.value) },
     ghost now_counted: { NowIsCounted (state S.Store conn) within } by { NowIsCounted-prop (state S.Store conn) within },
     ghost keeps: { KeepsOpened (state S.Store conn) (state S.Store opened.value) } by { KeepsOpened-prop (state S.Store conn) (state S.Store opened.value) },
+}
+
+// It is written out, so that a caller doesn't prove again how each part is dropped.
+impl<S: Alter + Drop> Drop for SqlShelf<S> {
+    fn drop(self) {
+        let SqlShelf {
+            conn: _,
+            base: _,
+            opened: _,
+            begun: _,
+            doubtful: _,
+            held: _,
+            within: _,
+            failures: _,
+            failed_abandons: _,
+            tally: _,
+        } = self;
+    }
+}
+
+impl<S: Alter> SqlShelf<S> {
+    // The connection alone.
+    pub(crate) fn into_connection(self) -> Connection<S>
+        ensures { result ≡ self.conn }
+    {
+        let SqlShelf {
+            conn,
+            base: _,
+            opened: _,
+            begun: _,
+            doubtful: _,
+            held: _,
+            within: _,
+            failures: _,
+            failed_abandons: _,
+            tally: _,
+        } = self;
+        conn
+    }
 }

@@ -1,6 +1,6 @@
 //! Starts, each statement run by its own text.
 
-ghost use Rattle.std.specs.Prelude.{◌≡◌, ◌↔◌, ℕ, Option, Some, IfOk, OnOk, IsTrue, map};
+ghost use Rattle.std.specs.Prelude.{◌≡◌, ◌↔◌, ℕ, Option, Some, IfOk, IsTrue, map};
 ghost use Rattle.sqlite.specs.Held.{state};
 ghost use Rattle.sqlite.specs.State.{HasCleanDisk};
 ghost use Rattle.pw_tariff.specs.declared.ids.AccountId.{AccountId as Account};
@@ -26,8 +26,8 @@ pub(crate) fn take_start<S: Alter>(
 ) -> Result<usize, Error>
     requires inside { HasCleanDisk (state S.Store conn.old) → IsTrue (state S.Store conn.old).in_transaction }
     requires store { HasCleanDisk (state S.Store conn.old) → IsStore (state S.Store conn.old).now }
-    ensures done { HasCleanDisk (state S.Store conn.new) → OnOk result (Makes (changed (Change.TakeStart meter start)) (state S.Store conn.old) (state S.Store conn.new)) }
-    ensures taken { HasCleanDisk (state S.Store conn.new) → OnOk result (IsTaken (Change.TakeStart meter start) (state S.Store conn.new).now.trees) }
+    ensures done { HasCleanDisk (state S.Store conn.new) → IfOk result (λ rows. Makes (changed (Change.TakeStart meter start) rows) (state S.Store conn.old) (state S.Store conn.new)) }
+    ensures taken { HasCleanDisk (state S.Store conn.new) → IfOk result (λ rows. IsTaken (Change.TakeStart meter start) rows (state S.Store conn.new).now.trees) }
     ensures writes { Writes result (state S.Store conn.old) (state S.Store conn.new) }
 {
     conn.execute(
@@ -46,7 +46,7 @@ pub(crate) fn put_start<S: Alter>(
     requires inside { HasCleanDisk (state S.Store conn.old) → IsTrue (state S.Store conn.old).in_transaction }
     requires store { HasCleanDisk (state S.Store conn.old) → IsStore (state S.Store conn.old).now }
     requires free { HasCleanDisk (state S.Store conn.old) → IsFree (Change.PutStart meter start owner) (state S.Store conn.old).now.trees }
-    ensures done { HasCleanDisk (state S.Store conn.new) → OnOk result (Makes (changed (Change.PutStart meter start owner)) (state S.Store conn.old) (state S.Store conn.new)) }
+    ensures done { HasCleanDisk (state S.Store conn.new) → IfOk result (λ rows. Makes (changed (Change.PutStart meter start owner) rows) (state S.Store conn.old) (state S.Store conn.new)) }
     ensures writes { Writes result (state S.Store conn.old) (state S.Store conn.new) }
 {
     conn.execute(

@@ -1,23 +1,118 @@
 //! Totals, each statement run by its own text.
 
-ghost use Rattle.std.specs.Prelude.{◌≡◌, ◌≤◌, IfOk, OnOk, IsTrue, length};
+ghost use Rattle.std.specs.Prelude.{◌≡◌, ◌<◌, ◌≤◌, ◌^◌, [], ◌∷◌, IfOk, IsTrue, OnOk, length};
 ghost use Rattle.sqlite.specs.Held.{state};
-ghost use Rattle.sqlite.specs.State.{HasCleanDisk};
+ghost use Rattle.sqlite.specs.State.{HasCleanDisk, KeepsCommit, Survives};
 ghost use Rattle.pw_model.specs.declared.records.TotalKey.TheVariants as total;
 ghost use Rattle.pw_schema.specs.Calls.{Writes};
+ghost use Rattle.pw_schema.specs.Fresh.{IsWithin};
+ghost use Rattle.pw_schema.specs.Raised.{HasSame, lasting_trees};
+ghost use Rattle.pw_schema.specs.Tables.{IsOurs, schema_of};
+ghost use Rattle.pw_schema.specs.declared.kind.StoreVersion.TheVariants.{Third};
 ghost use Rattle.pw_schema.specs.inner.Calls.{Asks};
 ghost use Rattle.pw_store.specs.Content.{total_in};
 ghost use Rattle.pw_store.specs.Kept.{IsStore};
-ghost use Rattle.pw_store.specs.inner.Changing.{Fits, IsFree, IsTaken, Makes, changed};
+ghost use Rattle.pw_store.specs.inner.Changing.{Fits, IsFree, IsTaken, Makes, PutsEnergy, changed, energy_row};
+ghost use Rattle.pw_store.specs.inner.Filling.{TellsMore};
 ghost use Rattle.pw_store.specs.inner.Seconds.{first_amount};
 
 use crate::changes::Change;
+use pw_model::TotalKey;
 use pw_schema::{direction_place, integer, owner_place, wide};
 use pw_tariff::{AccountId, BandId, Direction, Owner, PeriodId};
-use sqlite::{Alter, Connection, Error, Row};
+use sqlite::{Alter, Connection, Error, ErrorCode, Row};
 
-/// Takes the row of a total of energy away, if there is one.
-pub(crate) fn take_energy<S: Alter>(
+// No column takes it, nor more.
+const TOO_WIDE: u64 = 0x8000_0000_0000_0000;
+
+/// Takes the row of a total away, if there is one.
+pub(crate) fn take_total<S: Alter>(conn: &mut Connection<S>, key: TotalKey) -> Result<usize, Error>
+    requires inside { HasCleanDisk (state S.Store conn.old) → IsTrue (state S.Store conn.old).in_transaction }
+    requires store { HasCleanDisk (state S.Store conn.old) → IsStore (state S.Store conn.old).now }
+    ensures done { HasCleanDisk (state S.Store conn.new) → IfOk result (λ rows. Makes (changed (Change.TakeTotal key) rows) (state S.Store conn.old) (state S.Store conn.new)) }
+    ensures writes { Writes result (state S.Store conn.old) (state S.Store conn.new) }
+{
+    match key {
+        TotalKey::Energy {
+            owner,
+            period,
+            band,
+            direction,
+        } => take_energy(conn, owner, period, band, direction),
+        TotalKey::TopUps { account } => take_payment(conn, account),
+    }
+}
+
+/// Sets a total in its row, if there is one, and tells how many rows there were.
+pub(crate) fn set_total<S: Alter>(
+    conn: &mut Connection<S>,
+    key: TotalKey,
+    amount: u64,
+) -> Result<usize, Error>
+    requires inside { HasCleanDisk (state S.Store conn.old) → IsTrue (state S.Store conn.old).in_transaction }
+    requires store { HasCleanDisk (state S.Store conn.old) → IsStore (state S.Store conn.old).now }
+    requires fits { Fits (Change.SetTotal key amount) }
+    ensures done { HasCleanDisk (state S.Store conn.new) → IfOk result (λ rows. Makes (changed (Change.SetTotal key amount) rows) (state S.Store conn.old) (state S.Store conn.new)) }
+    ensures taken { HasCleanDisk (state S.Store conn.new) → IfOk result (λ rows. IsTaken (Change.SetTotal key amount) rows (state S.Store conn.new).now.trees) }
+    ensures writes { Writes result (state S.Store conn.old) (state S.Store conn.new) }
+{
+    match key {
+        TotalKey::Energy {
+            owner,
+            period,
+            band,
+            direction,
+        } => set_energy(conn, owner, period, band, direction, amount),
+        TotalKey::TopUps { account } => set_payment(conn, account, amount),
+    }
+}
+
+/// Puts the row of a total where none has its key.
+pub(crate) fn put_total<S: Alter>(
+    conn: &mut Connection<S>,
+    key: TotalKey,
+    amount: u64,
+) -> Result<usize, Error>
+    requires inside { HasCleanDisk (state S.Store conn.old) → IsTrue (state S.Store conn.old).in_transaction }
+    requires store { HasCleanDisk (state S.Store conn.old) → IsStore (state S.Store conn.old).now }
+    requires free { HasCleanDisk (state S.Store conn.old) → IsFree (Change.PutTotal key amount) (state S.Store conn.old).now.trees }
+    requires fits { Fits (Change.PutTotal key amount) }
+    ensures done { HasCleanDisk (state S.Store conn.new) → IfOk result (λ rows. Makes (changed (Change.PutTotal key amount) rows) (state S.Store conn.old) (state S.Store conn.new)) }
+    ensures writes { Writes result (state S.Store conn.old) (state S.Store conn.new) }
+{
+    match key {
+        TotalKey::Energy {
+            owner,
+            period,
+            band,
+            direction,
+        } => put_energy(conn, owner, period, band, direction, amount),
+        TotalKey::TopUps { account } => put_payment(conn, account, amount),
+    }
+}
+
+/// The rows of the total at a key: one at most.
+pub(crate) fn total_rows<S: Alter>(
+    conn: &mut Connection<S>,
+    key: &TotalKey,
+) -> Result<Vec<Row>, Error>
+    requires store { HasCleanDisk (state S.Store conn.old) → IsStore (state S.Store conn.old).now }
+    ensures amount { HasCleanDisk (state S.Store conn.new) → IfOk result (λ rows. length rows.items ≤ 1 → first_amount rows.items ≡ total_in (state S.Store conn.old).now.trees key.now) }
+    ensures asks { Asks result (state S.Store conn.old) (state S.Store conn.new) }
+{
+    match key {
+        TotalKey::Energy {
+            owner,
+            period,
+            band,
+            direction,
+        } => energy_rows(conn, *owner, *period, *band, *direction),
+        TotalKey::TopUps { account } => payment_rows(conn, *account),
+    }
+}
+
+// Takes the row of a total of energy away, if there is one.
+fn take_energy<S: Alter>(
     conn: &mut Connection<S>,
     owner: Owner,
     period: PeriodId,
@@ -26,8 +121,7 @@ pub(crate) fn take_energy<S: Alter>(
 ) -> Result<usize, Error>
     requires inside { HasCleanDisk (state S.Store conn.old) → IsTrue (state S.Store conn.old).in_transaction }
     requires store { HasCleanDisk (state S.Store conn.old) → IsStore (state S.Store conn.old).now }
-    ensures done { HasCleanDisk (state S.Store conn.new) → OnOk result (Makes (changed (Change.TakeEnergy owner period band direction)) (state S.Store conn.old) (state S.Store conn.new)) }
-    ensures taken { HasCleanDisk (state S.Store conn.new) → OnOk result (IsTaken (Change.TakeEnergy owner period band direction) (state S.Store conn.new).now.trees) }
+    ensures done { HasCleanDisk (state S.Store conn.new) → IfOk result (λ rows. Makes (changed (Change.TakeTotal (total.Energy owner period band direction)) rows) (state S.Store conn.old) (state S.Store conn.new)) }
     ensures writes { Writes result (state S.Store conn.old) (state S.Store conn.new) }
 {
     conn.execute(
@@ -41,8 +135,8 @@ pub(crate) fn take_energy<S: Alter>(
     )
 }
 
-/// Puts the row of a total of energy where none has its key.
-pub(crate) fn put_energy<S: Alter>(
+// Sets a total of energy in its row, if there is one.
+fn set_energy<S: Alter>(
     conn: &mut Connection<S>,
     owner: Owner,
     period: PeriodId,
@@ -52,9 +146,36 @@ pub(crate) fn put_energy<S: Alter>(
 ) -> Result<usize, Error>
     requires inside { HasCleanDisk (state S.Store conn.old) → IsTrue (state S.Store conn.old).in_transaction }
     requires store { HasCleanDisk (state S.Store conn.old) → IsStore (state S.Store conn.old).now }
-    requires free { HasCleanDisk (state S.Store conn.old) → IsFree (Change.PutEnergy owner period band direction wh) (state S.Store conn.old).now.trees }
-    requires fits { Fits (Change.PutEnergy owner period band direction wh) }
-    ensures done { HasCleanDisk (state S.Store conn.new) → OnOk result (Makes (changed (Change.PutEnergy owner period band direction wh)) (state S.Store conn.old) (state S.Store conn.new)) }
+    requires fits { Fits (Change.SetTotal (total.Energy owner period band direction) wh) }
+    ensures done { HasCleanDisk (state S.Store conn.new) → IfOk result (λ rows. Makes (changed (Change.SetTotal (total.Energy owner period band direction) wh) rows) (state S.Store conn.old) (state S.Store conn.new)) }
+    ensures taken { HasCleanDisk (state S.Store conn.new) → IfOk result (λ rows. IsTaken (Change.SetTotal (total.Energy owner period band direction) wh) rows (state S.Store conn.new).now.trees) }
+    ensures writes { Writes result (state S.Store conn.old) (state S.Store conn.new) }
+{
+    conn.execute(
+        "UPDATE period_total SET wh = ?5 WHERE owner = ?1 AND period = ?2 AND band = ?3 AND direction = ?4",
+        &[
+            integer(owner_place(owner)),
+            integer(u32::from(period.0)),
+            integer(u32::from(band.0)),
+            integer(direction_place(direction)),
+            wide(wh),
+        ],
+    )
+}
+
+// Puts a row of a total of energy, whatever rows there are.
+fn put_energy<S: Alter>(
+    conn: &mut Connection<S>,
+    owner: Owner,
+    period: PeriodId,
+    band: BandId,
+    direction: Direction,
+    wh: u64,
+) -> Result<usize, Error>
+    requires inside { HasCleanDisk (state S.Store conn.old) → IsTrue (state S.Store conn.old).in_transaction }
+    requires ours { HasCleanDisk (state S.Store conn.old) → IsOurs (state S.Store conn.old).now.schema }
+    requires fits { wh < 2 ^ 63 }
+    ensures put { HasCleanDisk (state S.Store conn.new) → OnOk result (PutsEnergy (energy_row owner period band direction wh) (state S.Store conn.old) (state S.Store conn.new)) }
     ensures writes { Writes result (state S.Store conn.old) (state S.Store conn.new) }
 {
     conn.execute(
@@ -69,8 +190,8 @@ pub(crate) fn put_energy<S: Alter>(
     )
 }
 
-/// The total of energy at a key: one row at most.
-pub(crate) fn energy_rows<S: Alter>(
+// The total of energy at a key.
+fn energy_rows<S: Alter>(
     conn: &mut Connection<S>,
     owner: Owner,
     period: PeriodId,
@@ -92,15 +213,11 @@ pub(crate) fn energy_rows<S: Alter>(
     )
 }
 
-/// Takes the row of a total of top-ups away, if there is one.
-pub(crate) fn take_payment<S: Alter>(
-    conn: &mut Connection<S>,
-    account: AccountId,
-) -> Result<usize, Error>
+// Takes the row of a total of top-ups away, if there is one.
+fn take_payment<S: Alter>(conn: &mut Connection<S>, account: AccountId) -> Result<usize, Error>
     requires inside { HasCleanDisk (state S.Store conn.old) → IsTrue (state S.Store conn.old).in_transaction }
     requires store { HasCleanDisk (state S.Store conn.old) → IsStore (state S.Store conn.old).now }
-    ensures done { HasCleanDisk (state S.Store conn.new) → OnOk result (Makes (changed (Change.TakePayment account)) (state S.Store conn.old) (state S.Store conn.new)) }
-    ensures taken { HasCleanDisk (state S.Store conn.new) → OnOk result (IsTaken (Change.TakePayment account) (state S.Store conn.new).now.trees) }
+    ensures done { HasCleanDisk (state S.Store conn.new) → IfOk result (λ rows. Makes (changed (Change.TakeTotal (total.TopUps account)) rows) (state S.Store conn.old) (state S.Store conn.new)) }
     ensures writes { Writes result (state S.Store conn.old) (state S.Store conn.new) }
 {
     conn.execute(
@@ -109,17 +226,36 @@ pub(crate) fn take_payment<S: Alter>(
     )
 }
 
-/// Puts the row of a total of top-ups where none has its key.
-pub(crate) fn put_payment<S: Alter>(
+// Sets a total of top-ups in its row, if there is one.
+fn set_payment<S: Alter>(
     conn: &mut Connection<S>,
     account: AccountId,
     cents: u64,
 ) -> Result<usize, Error>
     requires inside { HasCleanDisk (state S.Store conn.old) → IsTrue (state S.Store conn.old).in_transaction }
     requires store { HasCleanDisk (state S.Store conn.old) → IsStore (state S.Store conn.old).now }
-    requires free { HasCleanDisk (state S.Store conn.old) → IsFree (Change.PutPayment account cents) (state S.Store conn.old).now.trees }
-    requires fits { Fits (Change.PutPayment account cents) }
-    ensures done { HasCleanDisk (state S.Store conn.new) → OnOk result (Makes (changed (Change.PutPayment account cents)) (state S.Store conn.old) (state S.Store conn.new)) }
+    requires fits { Fits (Change.SetTotal (total.TopUps account) cents) }
+    ensures done { HasCleanDisk (state S.Store conn.new) → IfOk result (λ rows. Makes (changed (Change.SetTotal (total.TopUps account) cents) rows) (state S.Store conn.old) (state S.Store conn.new)) }
+    ensures taken { HasCleanDisk (state S.Store conn.new) → IfOk result (λ rows. IsTaken (Change.SetTotal (total.TopUps account) cents) rows (state S.Store conn.new).now.trees) }
+    ensures writes { Writes result (state S.Store conn.old) (state S.Store conn.new) }
+{
+    conn.execute(
+        "UPDATE total_topup SET cents = ?2 WHERE account = ?1",
+        &[integer(u32::from(account.0)), wide(cents)],
+    )
+}
+
+// Puts the row of a total of top-ups where none has its key.
+fn put_payment<S: Alter>(
+    conn: &mut Connection<S>,
+    account: AccountId,
+    cents: u64,
+) -> Result<usize, Error>
+    requires inside { HasCleanDisk (state S.Store conn.old) → IsTrue (state S.Store conn.old).in_transaction }
+    requires store { HasCleanDisk (state S.Store conn.old) → IsStore (state S.Store conn.old).now }
+    requires free { HasCleanDisk (state S.Store conn.old) → IsFree (Change.PutTotal (total.TopUps account) cents) (state S.Store conn.old).now.trees }
+    requires fits { Fits (Change.PutTotal (total.TopUps account) cents) }
+    ensures done { HasCleanDisk (state S.Store conn.new) → IfOk result (λ rows. Makes (changed (Change.PutTotal (total.TopUps account) cents) rows) (state S.Store conn.old) (state S.Store conn.new)) }
     ensures writes { Writes result (state S.Store conn.old) (state S.Store conn.new) }
 {
     conn.execute(
@@ -128,11 +264,8 @@ pub(crate) fn put_payment<S: Alter>(
     )
 }
 
-/// The total of top-ups of an account: one row at most.
-pub(crate) fn payment_rows<S: Alter>(
-    conn: &mut Connection<S>,
-    account: AccountId,
-) -> Result<Vec<Row>, Error>
+// The total of top-ups of an account.
+fn payment_rows<S: Alter>(conn: &mut Connection<S>, account: AccountId) -> Result<Vec<Row>, Error>
     requires store { HasCleanDisk (state S.Store conn.old) → IsStore (state S.Store conn.old).now }
     ensures amount { HasCleanDisk (state S.Store conn.new) → IfOk result (λ rows. length rows.items ≤ 1 → first_amount rows.items ≡ total_in (state S.Store conn.old).now.trees (total.TopUps account)) }
     ensures asks { Asks result (state S.Store conn.old) (state S.Store conn.new) }
@@ -141,4 +274,31 @@ pub(crate) fn payment_rows<S: Alter>(
         "SELECT cents FROM total_topup WHERE account = ?1",
         &[integer(u32::from(account.0))],
     )
+}
+
+/// Puts a total where a store is brought to version 3, if it is one of energy.
+pub(crate) fn fill_total<S: Alter>(
+    conn: &mut Connection<S>,
+    key: &TotalKey,
+    amount: u64,
+) -> Result<usize, Error>
+    requires within { HasCleanDisk (state S.Store conn.old) → IsWithin (schema_of Third) (state S.Store conn.old) }
+    ensures within { HasCleanDisk (state S.Store conn.new) → OnOk result (IsWithin (schema_of Third) (state S.Store conn.new)) }
+    ensures lasting { HasCleanDisk (state S.Store conn.new) → OnOk result (HasSame lasting_trees (state S.Store conn.old).now.trees (state S.Store conn.new).now.trees) }
+    ensures told { HasCleanDisk (state S.Store conn.new) → OnOk result (TellsMore ((key.now, amount) ∷ []) (state S.Store conn.old).now.trees (state S.Store conn.new).now.trees) }
+    ensures kept { HasCleanDisk (state S.Store conn.new) → KeepsCommit (state S.Store conn.old) (state S.Store conn.new) }
+    ensures crash { Survives (state S.Store conn.old) (state S.Store conn.new) (λ _. ⊥) }
+{
+    if amount >= TOO_WIDE {
+        return Err(Error::SqliteFailure(ErrorCode::TooBig));
+    }
+    match key {
+        TotalKey::Energy {
+            owner,
+            period,
+            band,
+            direction,
+        } => put_energy(conn, *owner, *period, *band, *direction, amount),
+        TotalKey::TopUps { .. } => Ok(0),
+    }
 }

@@ -1,10 +1,12 @@
 //! A change of points, starts or totals within an upload.
 
-ghost use Rattle.std.specs.Prelude.{◌≡◌, ◌+◌, OnOk, true};
+ghost use Rattle.std.specs.Prelude.{◌≡◌, ◌+◌, ℕ, IfOk, OnOk, Some, true};
 ghost use Rattle.sqlite.specs.Held.{state};
 ghost use Rattle.sqlite.specs.State.{HasCleanDisk};
 ghost use Rattle.sqlite.specs.Tree.{Trees};
+ghost use Rattle.pw_model.specs.Shelf.{ShelfContent};
 ghost use Rattle.pw_shelf.specs.Calls.{failures_told};
+ghost use Rattle.pw_shelf.specs.Changes.{with_point, with_total};
 ghost use Rattle.pw_shelf.specs.Left.{LeavesNoMore};
 ghost use Rattle.pw_store.specs.Kept.{held_of, left_of};
 ghost use Rattle.pw_store.specs.inner.Changing.{Fits, IsFree, IsTaken, changed};
@@ -12,17 +14,22 @@ ghost use Rattle.pw_store.specs.inner.Changing.{Fits, IsFree, IsTaken, changed};
 use crate::changes::{Change, make};
 use crate::fault::{device_fault, fault_of};
 use crate::shelf::SqlShelf;
+use pw_model::TotalKey;
+use pw_obis::{Register, WattHours};
 use pw_shelf::ShelfFault;
+use pw_tariff::MeterId;
+use pw_time::Instant;
 use sqlite::Alter;
 
 impl<S: Alter> SqlShelf<S> {
-    // Makes one change. Where the engine has undone the upload, no statement is run.
-    pub(crate) fn change(&mut self, change: Change) -> Result<(), ShelfFault>
+    // Makes one change, and tells how many rows that has changed. Where the engine has undone the upload, no statement is
+    // run.
+    pub(crate) fn change(&mut self, change: Change) -> Result<usize, ShelfFault>
         requires begun { self.old.begun ≡ true }
         requires free { HasCleanDisk (state S.Store self.old.conn) → IsFree change (state S.Store self.old.conn).now.trees }
         requires fits { Fits change }
-        ensures content { HasCleanDisk (state S.Store self.new.conn) → OnOk result (held_of (state S.Store self.new.conn) (state S.Store self.new.base.value) ≡ changed change (held_of (state S.Store self.old.conn) (state S.Store self.old.base.value))) }
-        ensures taken { HasCleanDisk (state S.Store self.new.conn) → OnOk result (IsTaken change (state S.Store self.new.conn).now.trees) }
+        ensures content { HasCleanDisk (state S.Store self.new.conn) → IfOk result (λ rows. held_of (state S.Store self.new.conn) (state S.Store self.new.base.value) ≡ changed change rows (held_of (state S.Store self.old.conn) (state S.Store self.old.base.value))) }
+        ensures taken { HasCleanDisk (state S.Store self.new.conn) → IfOk result (λ rows. IsTaken change rows (state S.Store self.new.conn).now.trees) }
         ensures begun { self.new.begun ≡ self.old.begun }
         ensures base { self.new.base.value ≡ self.old.base.value }
         ensures opened { self.new.opened.value ≡ self.old.opened.value }
@@ -36,7 +43,10 @@ impl<S: Alter> SqlShelf<S> {
             return Err(device_fault(&mut self.failures));
         }
         match make(&mut self.conn, change) {
-            Ok(_) => Ok(()),
+            Ok(rows) => {
+                self.doubtful = false;
+                Ok(rows)
+            }
             Err(error) => {
                 self.doubtful = true;
                 Err(fault_of(error, &mut self.failures))
@@ -48,9 +58,10 @@ impl<S: Alter> SqlShelf<S> {
     pub(crate) fn replace(&mut self, take: Change, put: Change) -> Result<(), ShelfFault>
         requires begun { self.old.begun ≡ true }
         requires first { (db : Trees) → IsFree take db }
-        requires free { (db : Trees) → IsTaken take db → IsFree put db }
+        requires free { (rows : ℕ) (db : Trees) → IsTaken take rows db → IsFree put db }
         requires fits { Fits take × Fits put }
-        ensures content { HasCleanDisk (state S.Store self.new.conn) → OnOk result (held_of (state S.Store self.new.conn) (state S.Store self.new.base.value) ≡ changed put (changed take (held_of (state S.Store self.old.conn) (state S.Store self.old.base.value)))) }
+        requires steady { (rows : ℕ) (c : ShelfContent) → (changed take rows c ≡ changed take 1 c) × (changed put rows c ≡ changed put 1 c) }
+        ensures content { HasCleanDisk (state S.Store self.new.conn) → OnOk result (held_of (state S.Store self.new.conn) (state S.Store self.new.base.value) ≡ changed put 1 (changed take 1 (held_of (state S.Store self.old.conn) (state S.Store self.old.base.value)))) }
         ensures begun { self.new.begun ≡ self.old.begun }
         ensures base { self.new.base.value ≡ self.old.base.value }
         ensures opened { self.new.opened.value ≡ self.old.opened.value }
@@ -61,6 +72,68 @@ impl<S: Alter> SqlShelf<S> {
         ensures clean { HasCleanDisk (state S.Store self.new.conn) → HasCleanDisk (state S.Store self.old.conn) }
     {
         self.change(take)?;
-        self.change(put)
+        self.change(put)?;
+        Ok(())
+    }
+
+    // Puts a point. Where a row has its key, that is taken first, and the point is put then.
+    pub(crate) fn put_point(
+        &mut self,
+        meter: MeterId,
+        register: Register,
+        instant: Instant,
+        wh: WattHours,
+    ) -> Result<(), ShelfFault>
+        requires { self.old.begun ≡ true }
+        ensures content { HasCleanDisk (state S.Store self.new.conn) → OnOk result (held_of (state S.Store self.new.conn) (state S.Store self.new.base.value) ≡ with_point (held_of (state S.Store self.old.conn) (state S.Store self.old.base.value)) meter.0 register instant (Some wh)) }
+        ensures begun { self.new.begun ≡ self.old.begun }
+        ensures base { self.new.base.value ≡ self.old.base.value }
+        ensures opened { self.new.opened.value ≡ self.old.opened.value }
+        ensures failures { self.new.failures.count ≡ self.old.failures.count + failures_told result }
+        ensures abandons { self.new.failed_abandons.count ≡ self.old.failed_abandons.count }
+        ensures tally { self.new.tally.count ≡ self.old.tally.count }
+        ensures left { HasCleanDisk (state S.Store self.new.conn) → LeavesNoMore (left_of (state S.Store self.old.conn)) (left_of (state S.Store self.new.conn)) }
+        ensures clean { HasCleanDisk (state S.Store self.new.conn) → HasCleanDisk (state S.Store self.old.conn) }
+    {
+        let put = Change::PutPoint {
+            meter,
+            register,
+            instant,
+            wh,
+        };
+        if self.change(put)? > 0 {
+            return Ok(());
+        }
+        self.change(Change::TakePoint {
+            meter,
+            register,
+            instant,
+        })?;
+        if self.change(put)? > 0 {
+            Ok(())
+        } else {
+            Err(device_fault(&mut self.failures))
+        }
+    }
+
+    // Sets a total in its row, or puts a row where it has none.
+    pub(crate) fn put_total(&mut self, key: TotalKey, amount: u64) -> Result<(), ShelfFault>
+        requires begun { self.old.begun ≡ true }
+        requires fits { Fits (Change.PutTotal key amount) }
+        ensures content { HasCleanDisk (state S.Store self.new.conn) → OnOk result (held_of (state S.Store self.new.conn) (state S.Store self.new.base.value) ≡ with_total (held_of (state S.Store self.old.conn) (state S.Store self.old.base.value)) key amount) }
+        ensures begun { self.new.begun ≡ self.old.begun }
+        ensures base { self.new.base.value ≡ self.old.base.value }
+        ensures opened { self.new.opened.value ≡ self.old.opened.value }
+        ensures failures { self.new.failures.count ≡ self.old.failures.count + failures_told result }
+        ensures abandons { self.new.failed_abandons.count ≡ self.old.failed_abandons.count }
+        ensures tally { self.new.tally.count ≡ self.old.tally.count }
+        ensures left { HasCleanDisk (state S.Store self.new.conn) → LeavesNoMore (left_of (state S.Store self.old.conn)) (left_of (state S.Store self.new.conn)) }
+        ensures clean { HasCleanDisk (state S.Store self.new.conn) → HasCleanDisk (state S.Store self.old.conn) }
+    {
+        if self.change(Change::SetTotal { key, amount })? > 0 {
+            return Ok(());
+        }
+        self.change(Change::PutTotal { key, amount })?;
+        Ok(())
     }
 }

@@ -31,20 +31,21 @@ use std::process::Abort;
 
 const OTHER: MeterId = MeterId(1);
 
-/// Makes empty books of the office with two meters, over stores of one kind.
+/// Makes empty books over stores of one kind.
 trait Books {
     type Store: Shelf + Drop;
 
-    /// A book that takes so many records.
+    /// A book of the office that a text gives, which takes so many records.
     fn empty(
         &self,
         rt: &impl Abort,
         alloc: Global,
+        office: &str,
         limit: u32,
     ) -> Result<Book<Self::Store>, OfficeFault>;
 
-    /// One over a store that counts its calls, one of which fails, and where it is told to, each `abandon` behind it.
-    /// No call fails at 0.
+    /// One of the office with two meters, over a store that counts its calls, one of which fails, and where it is told to,
+    /// each `abandon` behind it. No call fails at 0.
     fn failing(
         &self,
         rt: &impl Abort,
@@ -92,9 +93,10 @@ impl Books for InMemory {
         &self,
         rt: &impl Abort,
         alloc: Global,
+        office: &str,
         limit: u32,
     ) -> Result<Book<MemoryShelf>, OfficeFault> {
-        let office = two_meters(alloc)?;
+        let office = Office::read(alloc, office.as_bytes())?;
         Ok(book_of(rt, office, MemoryShelf::new(alloc), limit))
     }
 
@@ -121,9 +123,10 @@ impl Books for Counting {
         &self,
         rt: &impl Abort,
         alloc: Global,
+        office: &str,
         limit: u32,
     ) -> Result<Book<CountShelf<MemoryShelf>>, OfficeFault> {
-        let office = two_meters(alloc)?;
+        let office = Office::read(alloc, office.as_bytes())?;
         Ok(book_of(rt, office, counting_shelf(alloc), limit))
     }
 

@@ -2,6 +2,7 @@
 //! that was written is there, and where what wasn't synced is lost: an upload is there whole, or not at all.
 
 use crate::book::{asking, money, post};
+use crate::ends::done;
 use crate::entries::{Sent, entries_of};
 use crate::sql_stores::{book_on, execute};
 use pw_book::{Book, BookFault, PostFault};
@@ -10,6 +11,7 @@ use pw_obis::Register;
 use pw_shelf::Shelf;
 use pw_store::{OpenFault, SqlShelf};
 use pw_tariff::{BandId, Direction, Owner};
+use pw_tests::offices::TWO_METERS;
 use pw_tests::sample::{FIRST, FIVE, KINDS, METER, NEW_YEAR, PERIOD, SECOND, SEVEN, SIX};
 use sqlite::{Alter, Connection, FileStore, Files, Options};
 use sqlite_disk::{Crash, Disk, Fuse, Memory};
@@ -47,8 +49,8 @@ const AT_SIX: Upload = &[
 ];
 
 const TWO_WITHDRAWALS: Upload = &[
-    Sent::Withdrawn(METER, Register::I1, SIX, 1_001_200),
-    Sent::Withdrawn(METER, Register::I1, SIX, 1_001_500),
+    Sent::ReadingWithdrawn(METER, Register::I1, SIX, 1_001_200),
+    Sent::ReadingWithdrawn(METER, Register::I1, SIX, 1_001_500),
 ];
 
 // The meter passes to the second account between the two readings.
@@ -320,8 +322,12 @@ fn is_behind_on<S: Alter + Drop>(
     connection: Connection<S>,
     case: &Case,
 ) -> bool {
-    match book_on(alloc, connection, 100) {
-        Ok(mut book) => is_behind(rt, alloc, &mut book, case),
+    match book_on(alloc, connection, TWO_METERS, 100) {
+        Ok(mut book) => {
+            let is_behind = is_behind(rt, alloc, &mut book, case);
+            done(book);
+            is_behind
+        }
         Err(_) => panic!(rt; "no store"),
     }
 }
@@ -341,7 +347,7 @@ fn is_behind_in<D: Disk + Drop>(
 
 // Whether an upload is taken. Else the device failed.
 fn is_taken<S: Shelf>(rt: &impl Abort, alloc: Global, book: &mut Book<S>, upload: Upload) -> bool {
-    let entries = entries_of(rt, alloc, upload).expect(rt, "memory");
+    let entries = entries_of(rt, alloc, upload);
     match post(rt, alloc, book, &entries) {
         Ok(_) => true,
         Err(PostFault::Device | PostFault::Reopen) => false,
@@ -408,7 +414,7 @@ fn attempt_on<D: Disk + Drop>(
     uploads: &[Upload],
     closes: bool,
 ) -> (End, Files<D>) {
-    match book_on(alloc, connection, 100) {
+    match book_on(alloc, connection, TWO_METERS, 100) {
         Ok(book) => {
             let (end, connection) = uploaded(rt, alloc, book, uploads);
             (end, files_of_connection(connection, closes))

@@ -5,7 +5,7 @@ use pw_obis::{Register, WattHours};
 use pw_tariff::{AccountId, MeterId, Owner};
 use pw_tests::sample::{self, METER, NEW_YEAR};
 use pw_time::Instant;
-use std::alloc::{AllocError, Global};
+use std::alloc::Global;
 use std::process::Abort;
 
 pub fn at(rt: &impl Abort, second: u32) -> Instant {
@@ -63,8 +63,12 @@ pub enum Sent {
     Shown(MeterId, Register, u32, u64),
     /// cents of an account under a reference
     Paid(&'static [u8], AccountId, u32),
+    /// the withdrawal of such an owner
+    OwnerWithdrawn(MeterId, u32, Owner),
     /// the withdrawal of what a register of a meter shows at a second
-    Withdrawn(MeterId, Register, u32, u64),
+    ReadingWithdrawn(MeterId, Register, u32, u64),
+    /// the withdrawal of such cents
+    PaymentWithdrawn(&'static [u8], AccountId, u32),
 }
 
 pub fn entry_of(rt: &impl Abort, sent: Sent) -> Entry {
@@ -74,16 +78,27 @@ pub fn entry_of(rt: &impl Abort, sent: Sent) -> Entry {
             shown(rt, meter, register, second, watt_hours)
         }
         Sent::Paid(reference, account, cents) => paid(rt, reference, account, cents),
-        Sent::Withdrawn(meter, register, second, watt_hours) => {
+        Sent::OwnerWithdrawn(meter, second, owner) => {
+            withdrawn(rt, &given(rt, meter, second, owner))
+        }
+        Sent::ReadingWithdrawn(meter, register, second, watt_hours) => {
             withdrawn(rt, &shown(rt, meter, register, second, watt_hours))
+        }
+        Sent::PaymentWithdrawn(reference, account, cents) => {
+            withdrawn(rt, &paid(rt, reference, account, cents))
         }
     }
 }
 
-pub fn entries_of(rt: &impl Abort, alloc: Global, sent: &[Sent]) -> Result<Vec<Entry>, AllocError> {
+pub fn entries_of(rt: &impl Abort, alloc: Global, sent: &[Sent]) -> Vec<Entry> {
     let mut entries = Vec::new(alloc);
     for one in sent {
-        entries.extend_from_slice(&[entry_of(rt, *one)])?;
+        add(rt, &mut entries, entry_of(rt, *one));
     }
-    Ok(entries)
+    entries
+}
+
+/// Adds an entry to a list.
+pub fn add(rt: &impl Abort, entries: &mut Vec<Entry>, entry: Entry) {
+    entries.extend_from_slice(&[entry]).expect(rt, "memory");
 }

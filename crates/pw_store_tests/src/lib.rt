@@ -7,6 +7,8 @@ mod book;
 #[cfg(test)]
 mod disk;
 #[cfg(test)]
+mod ends;
+#[cfg(test)]
 mod entries;
 #[cfg(test)]
 mod pipes;

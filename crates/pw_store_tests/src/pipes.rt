@@ -4,7 +4,6 @@ use pw_commands::pipe_run;
 use pw_tests::offices::SAMPLE;
 use std::alloc::Global;
 use std::io::{self, ErrorKind, Read, Write};
-use std::test::Fail;
 
 const LIMIT: u32 = 1_000_000;
 
@@ -50,20 +49,18 @@ fn piped<R: Read, O: Write, E: Write>(
 
 // bears on: pw_commands pipe.rt pipe_run memory
 #[test]
-fn requests_piped(rt: HostRuntime) -> Result<(), Fail> {
+fn requests_piped(rt: HostRuntime) {
     let mut reader = ASKED;
     let (mut out, mut err) = (Vec::new(rt.alloc()), Vec::new(rt.alloc()));
     let status = piped(rt.alloc(), &mut reader, &mut out, &mut err);
     assert!(rt; status == 0 && out.as_slice() == REPLIED && err.is_empty());
-    Ok(())
 }
 
 // bears on: pw_commands pipe.rt pipe_run status
 // bears on: pw_http fault.rt WireFault output
 #[test]
-fn faults_told(rt: HostRuntime) -> Result<(), Fail> {
+fn faults_told(rt: HostRuntime) {
     assert!(rt; is_reader_told(rt.alloc()) && is_writer_told(rt.alloc()));
-    Ok(())
 }
 
 // Whether an input that fails is told of.
@@ -84,7 +81,7 @@ fn is_writer_told(alloc: Global) -> bool {
 // bears on: pw_commands pipe.rt pipe_run piped
 // bears on: pw_commands pipe.rt pipe_run refused
 #[test]
-fn refused_office_told(rt: HostRuntime) -> Result<(), Fail> {
+fn refused_office_told(rt: HostRuntime) {
     let mut reader = ASKED;
     let (mut out, mut err) = (Vec::new(rt.alloc()), Vec::new(rt.alloc()));
     let office = b"accounts = []".as_slice();
@@ -92,5 +89,4 @@ fn refused_office_told(rt: HostRuntime) -> Result<(), Fail> {
     assert!(rt;
         status == 1 && out.is_empty() && err.as_slice() == b"refused 37 Empty\n".as_slice()
     );
-    Ok(())
 }

@@ -11,7 +11,6 @@ use pw_tests::offices::SAMPLE;
 use sqlite::{Connection, Error, MemStore, Row};
 use std::alloc::Global;
 use std::process::Abort;
-use std::test::Fail;
 
 fn office(rt: &impl Abort, alloc: Global) -> Office {
     Office::read(alloc, SAMPLE.as_bytes()).expect(rt, "an office")
@@ -108,11 +107,10 @@ fn rows_behind(conn: &mut Connection<MemStore>, is_committed: bool) -> Result<us
 // bears on: pw_schema transactions.rt roll_back memory
 // bears on: pw_schema transactions.rt roll_back undone
 #[test]
-fn an_upload_is_rolled_back_or_committed(rt: HostRuntime) -> Result<(), Fail> {
+fn an_upload_is_rolled_back_or_committed(rt: HostRuntime) {
     let mut conn = new_store(&rt, rt.alloc());
-    assert!(rt; rows_behind(&mut conn, false)? == 0);
-    assert!(rt; rows_behind(&mut conn, true)? == 1);
-    Ok(())
+    assert!(rt; rows_behind(&mut conn, false).ok() == Some(0));
+    assert!(rt; rows_behind(&mut conn, true).ok() == Some(1));
 }
 
 // Rows that are no records of the office.

@@ -1,15 +1,17 @@
 //! Connections that are served.
 
+use crate::ends::done;
 use pw_book::Book;
 use pw_commands::serve_on;
 use pw_http::Audience;
-use pw_shelf::Shelf;
+use pw_shelf::{MemoryShelf, Shelf};
 use pw_tests::books::book_of;
 use pw_tests::offices::SAMPLE;
+use std::alloc::Global;
 use std::cell::Cell;
 use std::io::{self, Read, Write};
 use std::net::{Shutdown, TcpListener, TcpStream};
-use std::test::Fail;
+use std::process::Abort;
 use std::time::{Clock, Duration};
 
 const LIMIT: u32 = 1_000_000;
@@ -18,6 +20,14 @@ const HERE: Audience<'static> = Audience::Here(&[]);
 
 const REQUESTS: &[u8] =
     b"POST /topups HTTP/1.1\r\nContent-Length: 64\r\n\r\nreference,account,cents,instant\nP1,A1,5000,2024-01-01T00:00:00Z\nGET /accounts/A1 HTTP/1.1\r\n\r\n";
+
+const HALF_A_HEAD: &[u8] = b"GET /acc";
+
+const NOTHING: &[u8] = b"";
+
+const READ_REFUSED: &[u8] = b"refused 80 Read\n";
+
+const WRITE_REFUSED: &[u8] = b"refused 81 Write\n";
 
 const REPLIES: &str =
     "HTTP/1.1 200 OK\r\nContent-Type: text/plain\r\nContent-Length: 28\r\n\r\naccepted fresh 1 repeated 0
@@ -63,98 +73,123 @@ fn client_of(rt: &HostRuntime, listener: &TcpListener, bytes: &[u8]) -> io::Resu
     Ok(client)
 }
 
-// Whether so many connections are served without a word.
-fn are_served<S: Shelf>(
-    rt: &HostRuntime,
+// Whether so many connections are served by a clock, and just this is told of them.
+fn are_served<R: Clock, S: Shelf>(
+    clock: &R,
+    alloc: Global,
     listener: &TcpListener,
     count: u32,
     book: &mut Book<S>,
+    told: &[u8],
 ) -> bool {
-    let mut err = Vec::new(rt.alloc());
-    serve_on(rt, rt.alloc(), listener, HERE, count, book, &mut err) == 0 && err.is_empty()
+    let mut err = Vec::new(alloc);
+    serve_on(clock, alloc, listener, HERE, count, book, &mut err) == 0 && err.as_slice() == told
 }
 
-// All that a client is replied to.
-fn replies(rt: &HostRuntime, client: &mut TcpStream) -> io::Result<Vec<u8>> {
-    let mut replies = Vec::new(rt.alloc());
+// What a client is replied to: both of its requests, that its head is bad, with a head alone, or nothing.
+#[derive(Clone, Copy)]
+enum Reply {
+    Both,
+    BadHead,
+    HeadAlone,
+    Nothing,
+}
+
+fn is_reply(reply: Reply, bytes: &[u8]) -> bool {
+    match reply {
+        Reply::Both => bytes == REPLIES.as_bytes(),
+        Reply::BadHead => bytes.ends_with(b"bad head\n"),
+        Reply::HeadAlone => bytes.ends_with(b"\r\n\r\n"),
+        Reply::Nothing => bytes.is_empty(),
+    }
+}
+
+// Whether a client is replied to so.
+fn is_replied(alloc: Global, client: &mut TcpStream, reply: Reply) -> io::Result<bool> {
+    let mut replies = Vec::new(alloc);
     client.read_to_end(&mut replies)?;
-    Ok(replies)
+    Ok(is_reply(reply, replies.as_slice()))
 }
 
-// Whether a client's requests are replied to.
-fn is_replied<S: Shelf>(rt: &HostRuntime, book: &mut Book<S>) -> io::Result<bool> {
+// Whether a client that sends these bytes, and no more, is replied to so by a clock, and just this is told.
+fn is_served<R: Clock, S: Shelf>(
+    rt: &HostRuntime,
+    clock: &R,
+    book: &mut Book<S>,
+    bytes: &[u8],
+    reply: Reply,
+    told: &[u8],
+) -> io::Result<bool> {
     let listener = TcpListener::bind(rt, ("127.0.0.1", 0))?;
-    let mut client = client_of(rt, &listener, REQUESTS)?;
-    let are_served = are_served(rt, &listener, 1, book);
-    let replies = replies(rt, &mut client)?;
-    Ok(are_served && replies.as_slice() == REPLIES.as_bytes())
+    let mut client = client_of(rt, &listener, bytes)?;
+    let are_served = are_served(clock, rt.alloc(), &listener, 1, book, told);
+    Ok(are_served && is_replied(rt.alloc(), &mut client, reply)?)
+}
+
+// Whether a client's requests are replied to behind another's, which sends half a head.
+fn are_both_served<S: Shelf>(rt: &HostRuntime, book: &mut Book<S>) -> io::Result<bool> {
+    let listener = TcpListener::bind(rt, ("127.0.0.1", 0))?;
+    let mut first = client_of(rt, &listener, HALF_A_HEAD)?;
+    let mut second = client_of(rt, &listener, REQUESTS)?;
+    let are_served = are_served(rt, rt.alloc(), &listener, 2, book, NOTHING);
+    let first_is_refused = is_replied(rt.alloc(), &mut first, Reply::BadHead)?;
+    let second_is_replied = is_replied(rt.alloc(), &mut second, Reply::Both)?;
+    Ok(are_served && first_is_refused && second_is_replied)
+}
+
+fn sample_book(rt: &impl Abort, alloc: Global) -> Book<MemoryShelf> {
+    book_of(alloc, SAMPLE, LIMIT).expect(rt, "the sample office")
 }
 
 // bears on: pw_commands serving.rt serve_on memory
 #[test]
-fn requests_on_a_connection(rt: HostRuntime) -> Result<(), Fail> {
-    let mut book = book_of(rt.alloc(), SAMPLE, LIMIT).map_err(|_| "the sample office")?;
-    assert!(rt; is_replied(&rt, &mut book)?);
-    Ok(())
-}
-
-// Whether a client's requests are replied to behind another's, which sends half a head.
-fn is_replied_behind_another<S: Shelf>(rt: &HostRuntime, book: &mut Book<S>) -> io::Result<bool> {
-    let listener = TcpListener::bind(rt, ("127.0.0.1", 0))?;
-    let mut first = client_of(rt, &listener, b"GET /acc")?;
-    let mut second = client_of(rt, &listener, REQUESTS)?;
-    let are_served = are_served(rt, &listener, 2, book);
-    let refusal = replies(rt, &mut first)?;
-    let replies = replies(rt, &mut second)?;
-    Ok(
-        are_served
-            && refusal.as_slice().ends_with(b"bad head\n")
-            && replies.as_slice() == REPLIES.as_bytes(),
-    )
+fn requests_on_a_connection(rt: HostRuntime) {
+    let mut book = sample_book(&rt, rt.alloc());
+    let is_served = is_served(&rt, &rt, &mut book, REQUESTS, Reply::Both, NOTHING);
+    assert!(rt; is_served.unwrap_or(false));
+    done(book);
 }
 
 // bears on: pw_commands serving.rt serve_on ensures
 // bears on: pw_http conversation.rt serve_to talk
 #[test]
-fn two_connections(rt: HostRuntime) -> Result<(), Fail> {
-    let mut book = book_of(rt.alloc(), SAMPLE, LIMIT).map_err(|_| "the sample office")?;
-    assert!(rt; is_replied_behind_another(&rt, &mut book)?);
-    Ok(())
+fn two_connections(rt: HostRuntime) {
+    let mut book = sample_book(&rt, rt.alloc());
+    assert!(rt; are_both_served(&rt, &mut book).unwrap_or(false));
+    done(book);
 }
 
-// What a client is replied to by a clock, and what is told, where it sends no more behind these bytes.
-fn said_by<R: Clock>(
+// How many seconds a clock is ahead each time, what a client sends, how it is replied to, and what is told.
+type Timed = (u64, &'static [u8], Reply, &'static [u8]);
+
+fn is_in_time<S: Shelf>(
     rt: &HostRuntime,
-    clock: &R,
-    bytes: &[u8],
-) -> Result<(Vec<u8>, Vec<u8>), Fail> {
-    let mut book = book_of(rt.alloc(), SAMPLE, LIMIT).map_err(|_| "the sample office")?;
-    let listener = TcpListener::bind(rt, ("127.0.0.1", 0))?;
-    let mut client = client_of(rt, &listener, bytes)?;
-    let mut err = Vec::new(rt.alloc());
-    serve_on(clock, rt.alloc(), &listener, HERE, 1, &mut book, &mut err);
-    Ok((replies(rt, &mut client)?, err))
+    book: &mut Book<S>,
+    (leap, bytes, reply, told): Timed,
+) -> io::Result<bool> {
+    is_served(rt, &leaping_by(leap), book, bytes, reply, told)
+}
+
+fn are_in_time(stop: &impl Abort, rt: &HostRuntime, rows: [Timed; 2]) {
+    for row in rows {
+        let mut book = sample_book(stop, rt.alloc());
+        assert!(stop; is_in_time(rt, &mut book, row).unwrap_or(false));
+        done(book);
+    }
 }
 
 // bears on: pw_commands serving.rt serve_on times
 #[test]
-fn a_request_takes_a_minute_at_most(rt: HostRuntime) -> Result<(), Fail> {
-    let (refusal, told) = said_by(&rt, &leaping_by(59), b"GET /acc")?;
-    assert!(rt; refusal.as_slice().ends_with(b"bad head\n") && told.is_empty());
-    let (refusal, told) = said_by(&rt, &leaping_by(60), b"GET /acc")?;
-    assert!(rt; refusal.is_empty() && told.as_slice() == b"refused 80 Read\n".as_slice());
-    Ok(())
+fn a_request_takes_a_minute_at_most(rt: HostRuntime) {
+    let bad_head: Timed = (59, HALF_A_HEAD, Reply::BadHead, NOTHING);
+    let too_late: Timed = (60, HALF_A_HEAD, Reply::Nothing, READ_REFUSED);
+    are_in_time(&rt, &rt, [bad_head, too_late]);
 }
 
 // bears on: pw_commands serving.rt serve_on times
 #[test]
-fn a_short_reply_takes_a_minute_at_most(rt: HostRuntime) -> Result<(), Fail> {
-    let (all, told) = said_by(&rt, &leaping_by(59), REQUESTS)?;
-    assert!(rt; all.as_slice() == REPLIES.as_bytes() && told.is_empty());
-    let (head, told) = said_by(&rt, &leaping_by(60), REQUESTS)?;
-    assert!(rt;
-        head.as_slice().ends_with(b"\r\n\r\n")
-            && told.as_slice() == b"refused 81 Write\n".as_slice()
-    );
-    Ok(())
+fn a_short_reply_takes_a_minute_at_most(rt: HostRuntime) {
+    let whole: Timed = (59, REQUESTS, Reply::Both, NOTHING);
+    let cut_short: Timed = (60, REQUESTS, Reply::HeadAlone, WRITE_REFUSED);
+    are_in_time(&rt, &rt, [whole, cut_short]);
 }

@@ -10,7 +10,6 @@ use pw_book::Book;
 use pw_shelf::{CountShelf, Shelf};
 use pw_store::{OpenFault, SqlShelf};
 use pw_tariff::Office;
-use pw_tests::offices::TWO_METERS;
 use pw_time::Zone;
 use sqlite::{Alter, Connection, MemStore};
 use std::alloc::Global;
@@ -26,7 +25,7 @@ pub fn execute<S: Alter>(rt: &impl Abort, connection: &mut Connection<S>, statem
 }
 
 /// The store of an office, whose text this is, over a connection.
-pub fn store_on<S: Alter>(
+fn store_on<S: Alter>(
     alloc: Global,
     connection: Connection<S>,
     office: &Office,
@@ -42,7 +41,7 @@ pub fn store_on<S: Alter>(
 }
 
 /// A book over a store of its office.
-pub fn book_over<S: Shelf>(office: Office, shelf: S, limit: u32) -> Book<S>
+fn book_over<S: Shelf>(office: Office, shelf: S, limit: u32) -> Book<S>
     requires few { S.clean shelf → length (S.state shelf).content.records ≤ most_records }
     requires of_office { S.clean shelf → AllOfOffice (office_of office) (S.state shelf).content.records }
     requires truth { S.clean shelf → IsTrueContent (office_of office) (S.state shelf).content }
@@ -55,7 +54,7 @@ pub fn book_over<S: Shelf>(office: Office, shelf: S, limit: u32) -> Book<S>
 }
 
 /// A book over a store of its office that counts its calls, one of which fails (`CountShelf::failing`).
-pub fn failing_over<S: Shelf>(
+fn failing_over<S: Shelf>(
     office: Office,
     shelf: S,
     fail_at: u32,
@@ -70,21 +69,52 @@ pub fn failing_over<S: Shelf>(
     book_over(office, failing, 2_000)
 }
 
-/// A book of the office with two meters over a connection; or why there is no store on it.
+/// The office that a text gives, with its store over a connection; or why there is no store on it.
+fn office_and_store<S: Alter>(
+    alloc: Global,
+    connection: Connection<S>,
+    text: &[u8],
+) -> Result<(Office, SqlShelf<S>), (OpenFault, Connection<S>)>
+    ensures few { IfOk result (λ r. ⟦<SqlShelf<S> as Shelf>⟧.clean r.1 → length (⟦<SqlShelf<S> as Shelf>⟧.state r.1).content.records ≤ most_records) }
+    ensures of_office { IfOk result (λ r. ⟦<SqlShelf<S> as Shelf>⟧.clean r.1 → AllOfOffice (office_of r.0) (⟦<SqlShelf<S> as Shelf>⟧.state r.1).content.records) }
+    ensures truth { IfOk result (λ r. ⟦<SqlShelf<S> as Shelf>⟧.clean r.1 → IsTrueContent (office_of r.0) (⟦<SqlShelf<S> as Shelf>⟧.state r.1).content) }
+    ensures idle { IfOk result (λ r. (⟦<SqlShelf<S> as Shelf>⟧.state r.1).begun ≡ None) }
+{
+    let Ok(office) = Office::read(alloc, text) else {
+        return Err((OpenFault::Memory, connection));
+    };
+    match store_on(alloc, connection, &office, text) {
+        Ok(shelf) => Ok((office, shelf)),
+        Err(left) => Err(left),
+    }
+}
+
+/// A book of the office that a text gives, over a connection; or why there is no store on it.
 pub fn book_on<S: Alter>(
     alloc: Global,
     connection: Connection<S>,
+    office: &str,
     limit: u32,
 ) -> Result<Book<SqlShelf<S>>, (OpenFault, Connection<S>)>
     requires least { 1 ≤ limit }
     requires most { limit ≤ most_records }
 {
-    let text = TWO_METERS.as_bytes();
-    let Ok(office) = Office::read(alloc, text) else {
-        return Err((OpenFault::Memory, connection));
-    };
-    match store_on(alloc, connection, &office, text) {
-        Ok(shelf) => Ok(book_over(office, shelf, limit)),
+    match office_and_store(alloc, connection, office.as_bytes()) {
+        Ok((office, shelf)) => Ok(book_over(office, shelf, limit)),
+        Err(left) => Err(left),
+    }
+}
+
+/// One over a store that counts its calls, one of which fails.
+pub fn failing_on<S: Alter>(
+    alloc: Global,
+    connection: Connection<S>,
+    office: &str,
+    fail_at: u32,
+    abandon_fails: bool,
+) -> Result<Book<CountShelf<SqlShelf<S>>>, (OpenFault, Connection<S>)> {
+    match office_and_store(alloc, connection, office.as_bytes()) {
+        Ok((office, shelf)) => Ok(failing_over(office, shelf, fail_at, abandon_fails)),
         Err(left) => Err(left),
     }
 }

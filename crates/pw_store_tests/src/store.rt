@@ -1,6 +1,8 @@
 //! Stores over memory: what is kept, and what is refused when one is opened again.
 
 ghost use Rattle.std.specs.Prelude.{◌≡◌, IfOk, None, false};
+ghost use Rattle.pw_tariff.specs.Office.{OfficeFile};
+ghost use Rattle.pw_tariff.specs.Text.{IsOfficeOf};
 
 mod no_memory;
 
@@ -18,7 +20,6 @@ use pw_time::Instant;
 use sqlite::{Connection, MemStore};
 use std::alloc::Global;
 use std::process::Abort;
-use std::test::Fail;
 
 const ENERGY: TotalKey = TotalKey::Energy {
     owner: Some(AccountId(0)),
@@ -31,6 +32,13 @@ const PAYMENTS: TotalKey = TotalKey::TopUps {
     account: AccountId(1),
 };
 
+// Sees that a text is that of an office.
+fn see_office(rt: &impl Abort, alloc: Global, text: &[u8])
+    ensures { (office : OfficeFile) × IsOfficeOf text.now office }
+{
+    let _office = Office::read(alloc, text).expect(rt, "an office");
+}
+
 // A connection, opened as a store, or why it isn't, and the connection.
 fn opened(
     rt: &impl Abort,
@@ -39,8 +47,9 @@ fn opened(
 ) -> Result<SqlShelf<MemStore>, (OpenFault, Connection<MemStore>)>
     ensures { IfOk result (λ shelf. shelf.begun ≡ false) }
 {
-    let _office = Office::read(alloc, SAMPLE.as_bytes()).expect(rt, "an office");
-    SqlShelf::open(alloc, connection, SAMPLE.as_bytes())
+    let text = SAMPLE.as_bytes();
+    see_office(rt, alloc, text);
+    SqlShelf::open(alloc, connection, text)
 }
 
 // The store of a connection.
@@ -87,6 +96,11 @@ fn a_point_put_again_is_the_last(rt: HostRuntime) {
     assert!(rt; point_put_twice(&rt, &mut shelf) == Ok(Some(last)));
 }
 
+// Whether a store keeps such a total.
+fn has_total<S: Shelf>(shelf: &mut S, key: &TotalKey, amount: u64) -> bool {
+    shelf.total(key) == Ok(amount)
+}
+
 // Puts a total, gives the upload up, and answers the total.
 fn abandoned_total<S: Shelf>(shelf: &mut S) -> Result<u64, ShelfFault>
     requires { (S.state shelf.old).begun ≡ None }
@@ -116,6 +130,11 @@ fn committed_start<S: Shelf>(rt: &impl Abort, shelf: &mut S) -> Result<(), Shelf
     shelf.commit()
 }
 
+// How many starts of the meter there are.
+fn starts_held<S: Shelf>(alloc: Global, shelf: &mut S) -> Result<usize, ShelfFault> {
+    Ok(shelf.starts_of(alloc, METER)?.len())
+}
+
 // bears on: pw_shelf shelf.rt Shelf::commit memory
 // bears on: pw_shelf shelf.rt Shelf::start_put memory
 // bears on: pw_shelf shelf.rt Shelf::start_put put
@@ -125,7 +144,7 @@ fn committed_start<S: Shelf>(rt: &impl Abort, shelf: &mut S) -> Result<(), Shelf
 // bears on: pw_store door.rt SqlShelf::open memory
 // bears on: pw_store door.rt SqlShelf::open_watched memory
 #[test]
-fn a_start_is_there_when_opened_again(rt: HostRuntime) -> Result<(), Fail> {
+fn a_start_is_there_when_opened_again(rt: HostRuntime) {
     let alloc = rt.alloc();
     let mut shelf = empty_shelf(&rt, alloc);
     assert!(rt; committed_start(&rt, &mut shelf).is_ok());
@@ -133,8 +152,7 @@ fn a_start_is_there_when_opened_again(rt: HostRuntime) -> Result<(), Fail> {
     let assignment = "INSERT INTO record_assignment VALUES (0, 1704067200, 2)";
     execute(&rt, &mut connection, assignment);
     let mut again = shelf_of(&rt, alloc, connection);
-    assert!(rt; again.starts_of(alloc, METER)?.len() == 1);
-    Ok(())
+    assert!(rt; starts_held(alloc, &mut again) == Ok(1));
 }
 
 // Whether what is left of a store opens.
@@ -144,14 +162,16 @@ fn is_opened_behind(
     shelf: &SqlShelf<MemStore>,
     left: Connection<MemStore>,
 ) -> bool {
-    let _office = Office::read(alloc, SAMPLE.as_bytes()).expect(rt, "an office");
-    left_is_opened_again(alloc, shelf, left, SAMPLE.as_bytes()).is_ok()
+    let text = SAMPLE.as_bytes();
+    see_office(rt, alloc, text);
+    left_is_opened_again(alloc, shelf, left, text).is_ok()
 }
 
 // The store, closed and opened again.
 fn reopened(rt: &impl Abort, alloc: Global, shelf: SqlShelf<MemStore>) -> SqlShelf<MemStore> {
-    let _office = Office::read(alloc, SAMPLE.as_bytes()).expect(rt, "an office");
-    match closed_is_opened_again(alloc, shelf, SAMPLE.as_bytes()) {
+    let text = SAMPLE.as_bytes();
+    see_office(rt, alloc, text);
+    match closed_is_opened_again(alloc, shelf, text) {
         Ok(again) => again,
         Err(_) => panic!(rt; "not opened"),
     }
@@ -172,7 +192,7 @@ fn an_upload_still_begun_is_gone_when_opened_again(rt: HostRuntime) {
     let mut shelf = empty_shelf(&rt, rt.alloc());
     assert!(rt; begun_total(&mut shelf).is_ok());
     let mut again = reopened(&rt, rt.alloc(), shelf);
-    assert!(rt; again.total(&PAYMENTS) == Ok(0));
+    assert!(rt; has_total(&mut again, &PAYMENTS, 0));
 }
 
 // bears on: pw_store laws.rt left_is_opened_again memory
@@ -336,7 +356,7 @@ fn what_is_kept_beside_records_must_be_true(rt: HostRuntime) {
         connection = repaired(&rt, rt.alloc(), connection, damage, repair);
     }
     let mut shelf = shelf_of(&rt, rt.alloc(), connection);
-    assert!(rt; shelf.total(&ENERGY) == Ok(100));
+    assert!(rt; has_total(&mut shelf, &ENERGY, 100));
 }
 
 const NOBODY: TotalKey = TotalKey::TopUps {
@@ -360,5 +380,5 @@ fn a_total_of_0_at_any_key_opens_again(rt: HostRuntime) {
     let mut shelf = empty_shelf(&rt, rt.alloc());
     assert!(rt; committed_total_of_0(&mut shelf).is_ok());
     let mut again = shelf_of(&rt, rt.alloc(), shelf.close());
-    assert!(rt; again.total(&NOBODY) == Ok(0));
+    assert!(rt; has_total(&mut again, &NOBODY, 0));
 }

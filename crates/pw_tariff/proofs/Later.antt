@@ -41,6 +41,15 @@ period-is bands ps i p l e h =
     let same : get_or (map period_of ps) i (period_of p) ≡ period_of p = get_or-map period_of ps i p (period_of p) l ∙ ap period_of (sym e) in
     subst (IsPeriod bands) same (h i (period_of p) (omega arith))
 
+-- it has a price for each band in each direction
+pub prices-there : (bands : List BandText) (ps : List Period) (p band : ℕ) (q : Period) → 0 < p → p < length (map period_of ps) + 1 → q ≡ get_or ps (p - 1) q → All (IsPeriod bands) (map period_of ps) → band < length bands →
+    (band < length q.import_prices.items) × (band < length q.export_prices.items)
+prices-there bands ps p band q l n is sound b =
+    let it = period-is bands ps (p - 1) q (later-within ps p l n) is sound in
+    let imports = it.import_prices.0 in
+    let exports = it.export_prices.0 in
+    (omega (arith, imports, b), omega (arith, exports, b))
+
 -- a price of a band
 pub price-bound : (bands : List BandText) (prices : List ℕ) (band : ℕ) → ArePrices bands prices → band < length bands → get_or prices band 0 ≤ MOST_PRICE
 price-bound bands prices band h l = let n = h.0 in h.1 band 0 (omega (arith, n, l))

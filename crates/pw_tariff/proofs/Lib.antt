@@ -4,6 +4,7 @@ pub mod Named
 pub mod Runs
 pub mod Listed
 pub mod Order
+pub mod EachTable
 pub mod Parts
 pub mod Behind
 pub mod Distinct

@@ -38,8 +38,12 @@ pub own-text : (a : List ℕ) → pointwise ◌==◌ a a ≡ true
 own-text [] = refl
 own-text (x ∷ a) = rw (eq-eqb x x refl) (own-text a)
 
-pub named-here : {X : Type 0} (f : X → List ℕ) → (xs : List X) (i : ℕ) (x : X) (name : List ℕ) → i < length xs → x ≡ get_or xs i x → pointwise ◌==◌ (f x) name ≡ true → option_map f (slice_get xs i) ≡ Some name
+named-here : {X : Type 0} (f : X → List ℕ) → (xs : List X) (i : ℕ) (x : X) (name : List ℕ) → i < length xs → x ≡ get_or xs i x → pointwise ◌==◌ (f x) name ≡ true → option_map f (slice_get xs i) ≡ Some name
 named-here f xs i x name l e t = rw (slice_get_read xs (length xs) i x refl l e) (ap Some (same-text (f x) name t))
+
+-- the same, of a list that is equal to the one that was walked over
+pub found-here : {X : Type 0} (f : X → List ℕ) → (whole xs : List X) (i : ℕ) (x : X) (name : List ℕ) → xs ≡ whole → i < length xs → x ≡ get_or xs i x → pointwise ◌==◌ (f x) name ≡ true → option_map f (slice_get whole i) ≡ Some name
+found-here f whole xs i x name same l e t = subst (λ ys. option_map f (slice_get ys i) ≡ Some name) same (named-here f xs i x name l e t)
 
 pub unnamed-more : {X : Type 0} (f : X → List ℕ) → (xs : List X) (i : ℕ) (x : X) (name : List ℕ) → i < length xs → x ≡ get_or xs i x → pointwise ◌==◌ (f x) name ≡ false →
     ((k : ℕ) → k < i → option_map f (slice_get xs k) ≡ Some name → ⊥) → (k : ℕ) → k < i + 1 → option_map f (slice_get xs k) ≡ Some name → ⊥

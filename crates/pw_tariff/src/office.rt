@@ -39,13 +39,25 @@ pub(crate) struct Meter {
 
 /// An office, as its file tells it: accounts, meters with their clocks and registers, tariff bands, and periods, each with
 /// its prices and the band of each hour of the week.
-#[derive(Drop)]
 pub struct Office {
     pub(crate) accounts: Vec<String>,
     pub(crate) bands: Vec<Band>,
     pub(crate) meters: Vec<Meter>,
     pub(crate) week: Vec<String>,
     pub(crate) later: Vec<Period>,
+}
+
+// It is written out, so that a caller doesn't prove again how each part is dropped.
+impl Drop for Office {
+    fn drop(self) {
+        let Office {
+            accounts: _,
+            bands: _,
+            meters: _,
+            week: _,
+            later: _,
+        } = self;
+    }
 }
 
 impl Model for Office {

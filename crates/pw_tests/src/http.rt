@@ -9,7 +9,6 @@ use pw_http::{
 };
 use std::alloc::Global;
 use std::io::Write;
-use std::test::Fail;
 
 // It says yes.
 #[derive(Drop)]
@@ -38,33 +37,23 @@ impl Service for Yes {
 
 const YES: &[u8] = b"HTTP/1.1 200 OK\r\nContent-Type: text/plain\r\nContent-Length: 4\r\n\r\nyes\n";
 
-fn said(alloc: Global, stream: &[u8], turns: u32) -> (Result<Served, WireFault>, Vec<u8>) {
-    let mut reader = stream;
-    let mut text = Vec::new(alloc);
+const PAGE: &[u8] = b"GET /accounts/A1 HTTP/1.1\r\n\r\n";
+
+// Whether a request is served, and answered by yes.
+fn is_yes_said(alloc: Global) -> bool {
     let Ok(routes) = Routes::new(alloc) else {
-        return (Err(WireFault::Memory), text);
+        return false;
     };
-    let served = serve_within(
-        alloc,
-        &mut Yes,
-        &routes,
-        Audience::Everybody,
-        &mut reader,
-        &mut text,
-        turns,
-    );
-    (served, text)
+    let (mut reader, mut text) = (PAGE, Vec::new(alloc));
+    let all = Audience::Everybody;
+    let served = serve_within(alloc, &mut Yes, &routes, all, &mut reader, &mut text, 10);
+    served == Ok(Served { requests: 1 }) && text.as_slice() == YES
 }
 
 // bears on: pw_http conversation.rt serve_within memory
 // bears on: pw_http routes.rt Routes::new memory
 // bears on: pw_http service.rt Service::serve serving
 #[test]
-fn one_request(rt: HostRuntime) -> Result<(), Fail> {
-    let (served, text) = said(rt.alloc(), PAGE, 10);
-    assert!(rt; served == Ok(Served { requests: 1 }));
-    assert!(rt; text.as_slice() == YES);
-    Ok(())
+fn one_request(rt: HostRuntime) {
+    assert!(rt; is_yes_said(rt.alloc()));
 }
-
-const PAGE: &[u8] = b"GET /accounts/A1 HTTP/1.1\r\n\r\n";

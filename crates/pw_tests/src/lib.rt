@@ -9,9 +9,9 @@ mod entries;
 mod flow;
 #[cfg(test)]
 mod http;
-pub mod offices;
 #[cfg(test)]
-mod parts;
+mod new_books;
+pub mod offices;
 #[cfg(test)]
 mod read;
 #[cfg(test)]
@@ -22,9 +22,10 @@ pub mod sample;
 #[cfg(test)]
 mod shelf;
 #[cfg(test)]
-mod tariff;
+mod streams;
 #[cfg(test)]
 mod time;
-pub mod uploads;
+#[cfg(test)]
+mod uploads;
 #[cfg(test)]
 mod words;

@@ -3,23 +3,53 @@
 ghost use Rattle.std.specs.Prelude.{◌≡◌, ◌<◌, None, IsErrOf, IsSome, IsTrue, OnErr, OnOk, length};
 ghost use Rattle.pw_shelf.specs.declared.fault.ShelfFault.TheVariants.{Device};
 
-use crate::books::empty_book;
 use crate::entries::{assigned, at, exported, paid, reading, shown, wh, withdrawn};
-use crate::sample::{FIRST, FIVE, METER, SECOND, SEVEN, SIX, are_of_office, sample_office};
+use crate::new_books::holds_of_failing;
+use crate::sample::{FIRST, FIVE, METER, SECOND, SEVEN, SIX, are_of_office};
 use pw_book::{Book, PostFault};
 use pw_model::{Entry, Key};
 use pw_obis::{Register, WattHours};
 use pw_shelf::laws::memory_abandons;
 use pw_shelf::{Contents, CountShelf, MemoryShelf, Shelf, ShelfFault, TotalKey};
-use pw_tariff::{AccountId, MeterId, OfficeFault, Owner};
+use pw_tariff::{AccountId, MeterId, Owner};
 use pw_time::Instant;
 use std::alloc::Global;
 use std::process::Abort;
-use std::test::Fail;
 
 const TOPUPS: TotalKey = TotalKey::TopUps {
     account: AccountId(0),
 };
+
+// Whether an upload is begun. (What is told of calls here is what the next one asks: proofs of chains cost less so.)
+fn begins<S: Shelf>(shelf: &mut S) -> bool
+    requires { (S.state shelf.old).begun ≡ None }
+    ensures { IsTrue result → IsSome (S.state shelf.new).begun }
+{
+    shelf.begin().is_ok()
+}
+
+// Whether it is kept.
+fn commits<S: Shelf>(shelf: &mut S) -> bool
+    requires { IsSome (S.state shelf.old).begun }
+    ensures { IsTrue result → (S.state shelf.new).begun ≡ None }
+{
+    shelf.commit().is_ok()
+}
+
+// Whether it is given up.
+fn abandons<S: Shelf>(shelf: &mut S) -> bool
+    requires { IsSome (S.state shelf.old).begun }
+    ensures { IsTrue result → (S.state shelf.new).begun ≡ None }
+{
+    shelf.abandon().is_ok()
+}
+
+// Whether so many records are held.
+fn counts<S: Shelf>(shelf: &mut S, wanted: u32) -> bool
+    ensures { (S.state shelf.new).begun ≡ (S.state shelf.old).begun }
+{
+    shelf.count() == Ok(wanted)
+}
 
 // Adds a record to the upload, and answers whether it was new and there was room.
 fn put<S: Shelf>(shelf: &mut S, entry: &Entry) -> bool
@@ -40,7 +70,7 @@ fn uploaded<S: Shelf>(shelf: &mut S, first: &Entry, second: &Entry) -> bool
     requires { (S.state shelf.old).begun ≡ None }
     ensures { IsTrue result → (S.state shelf.new).begun ≡ None }
 {
-    shelf.begin().is_ok() && put(shelf, first) && put(shelf, second) && shelf.commit().is_ok()
+    begins(shelf) && put(shelf, first) && put(shelf, second) && commits(shelf)
 }
 
 // Whether a second content at a key is seen within an upload. It is gone behind it.
@@ -48,10 +78,10 @@ fn disputed<S: Shelf>(shelf: &mut S, other: &Entry) -> bool
     requires { (S.state shelf.old).begun ≡ None }
     ensures { IsTrue result → (S.state shelf.new).begun ≡ None }
 {
-    shelf.begin().is_ok()
+    begins(shelf)
         && put(shelf, other)
         && contents_are(shelf, &other.key, Contents::Several)
-        && shelf.abandon().is_ok()
+        && abandons(shelf)
 }
 
 fn contents_are<S: Shelf>(shelf: &mut S, key: &Key, wanted: Contents) -> bool
@@ -68,8 +98,14 @@ fn lists<T: PartialEq + Drop>(found: Result<Vec<T>, ShelfFault>, wanted: &[T]) -
     }
 }
 
+fn is_held<S: Shelf>(shelf: &mut S, entry: &Entry) -> bool
+    ensures { (S.state shelf.new).begun ≡ (S.state shelf.old).begun }
+{
+    shelf.holds(entry) == Ok(true)
+}
+
 fn found_at<S: Shelf>(shelf: &mut S, entry: &Entry) -> bool {
-    shelf.holds(entry) == Ok(true) && contents_are(shelf, &entry.key, Contents::One(entry.content))
+    is_held(shelf, entry) && contents_are(shelf, &entry.key, Contents::One(entry.content))
 }
 
 fn never_at<S: Shelf>(shelf: &mut S, entry: &Entry) -> bool
@@ -135,12 +171,12 @@ fn begun_and_given_up(shelf: &mut MemoryShelf) -> Result<(), ShelfFault>
 fn added_once<S: Shelf>(shelf: &mut S, entry: &Entry) -> bool
     requires { (S.state shelf.old).begun ≡ None }
 {
-    shelf.begin().is_ok()
+    begins(shelf)
         && put(shelf, entry)
-        && shelf.commit().is_ok()
-        && shelf.begin().is_ok()
-        && shelf.holds(entry) == Ok(true)
-        && shelf.commit().is_ok()
+        && commits(shelf)
+        && begins(shelf)
+        && is_held(shelf, entry)
+        && commits(shelf)
 }
 
 // Whether each question is answered by the six records, and one of another register.
@@ -151,7 +187,7 @@ fn seven_told<S: Shelf>(rt: &impl Abort, alloc: Global, shelf: &mut S) -> bool {
         && never_at(shelf, &assigned(rt, SIX, Some(FIRST)))
         && listed(alloc, shelf, &readings, &owner, &two_topups(rt))
         && unlisted(alloc, shelf)
-        && shelf.count() == Ok(7)
+        && counts(shelf, 7)
 }
 
 // Whether records are held behind three uploads, and the second content of a key isn't behind a fourth.
@@ -238,7 +274,7 @@ fn withdrawals_in_their_order(rt: HostRuntime) {
 fn is_as_before<S: Shelf>(shelf: &mut S, entry: &Entry, before: u32) -> bool
     ensures { (S.state shelf.new).begun ≡ (S.state shelf.old).begun }
 {
-    shelf.count() == Ok(before) && never_at(shelf, entry)
+    counts(shelf, before) && never_at(shelf, entry)
 }
 
 // Whether a new record is added, or the content is as before where memory was refused.
@@ -259,7 +295,7 @@ fn added_to<S: Shelf>(shelf: &mut S, entry: &Entry, before: u32) -> bool
     ensures { IsTrue result → (S.state shelf.new).begun ≡ None }
 {
     match add_alone(shelf, entry) {
-        Ok(()) => shelf.count() == Ok(before + 1),
+        Ok(()) => counts(shelf, before + 1),
         Err(ShelfFault::Memory) => is_as_before(shelf, entry, before),
         Err(ShelfFault::Device) => false,
     }
@@ -410,39 +446,30 @@ fn given_up<S: Shelf>(rt: &impl Abort, shelf: &mut S) -> bool
     requires { (S.state shelf.old).begun ≡ None }
     ensures { IsTrue result → (S.state shelf.new).begun ≡ None }
 {
-    shelf.begin().is_ok()
+    begins(shelf)
         && changed(rt, shelf, &GIVEN_UP).is_ok()
-        && is_before(rt, shelf, SIX, None)
+        && are_beside(rt, shelf, SIX, None, None)
         && is_total(shelf, 0)
-        && shelf.abandon().is_ok()
+        && abandons(shelf)
 }
 
 fn point(rt: &impl Abort, second: u32, watt_hours: u64) -> (Instant, WattHours) {
     (at(rt, second), wh(rt, watt_hours))
 }
 
-// Whether this point is the latest before the second.
-fn is_before<S: Shelf>(
+// Whether these points are the latest before the second and the earliest behind it.
+fn are_beside<S: Shelf>(
     rt: &impl Abort,
     shelf: &mut S,
     second: u32,
-    wanted: Option<(Instant, WattHours)>,
+    before: Option<(Instant, WattHours)>,
+    behind: Option<(Instant, WattHours)>,
 ) -> bool
     ensures { (S.state shelf.new).begun ≡ (S.state shelf.old).begun }
 {
-    shelf.point_before(METER, Register::I1, at(rt, second)) == Ok(wanted)
-}
-
-// Whether it is the earliest behind it.
-fn is_behind<S: Shelf>(
-    rt: &impl Abort,
-    shelf: &mut S,
-    second: u32,
-    wanted: Option<(Instant, WattHours)>,
-) -> bool
-    ensures { (S.state shelf.new).begun ≡ (S.state shelf.old).begun }
-{
-    shelf.point_after(METER, Register::I1, at(rt, second)) == Ok(wanted)
+    let instant = at(rt, second);
+    shelf.point_before(METER, Register::I1, instant) == Ok(before)
+        && shelf.point_after(METER, Register::I1, instant) == Ok(behind)
 }
 
 // Whether just these points are from one second to another.
@@ -470,10 +497,8 @@ fn points_there<S: Shelf>(rt: &impl Abort, alloc: Global, shelf: &mut S) -> bool
     ensures { (S.state shelf.new).begun ≡ (S.state shelf.old).begun }
 {
     let both = [point(rt, FIVE, 8), point(rt, SIX, 9)];
-    is_before(rt, shelf, SIX, Some(point(rt, FIVE, 8)))
-        && is_before(rt, shelf, FIVE, None)
-        && is_behind(rt, shelf, FIVE, Some(point(rt, SIX, 9)))
-        && is_behind(rt, shelf, SIX, None)
+    are_beside(rt, shelf, FIVE, None, Some(both[1]))
+        && are_beside(rt, shelf, SIX, Some(both[0]), None)
         && are_between(rt, alloc, shelf, FIVE, SIX, &both)
         && are_between(rt, alloc, shelf, SIX, FIVE, &[])
 }
@@ -515,10 +540,10 @@ fn each_part_kept_and_given_back(rt: HostRuntime) {
 fn later_there<S: Shelf>(rt: &impl Abort, alloc: Global, shelf: &mut S) -> bool
     ensures { (S.state shelf.new).begun ≡ (S.state shelf.old).begun }
 {
-    is_before(rt, shelf, SIX, None)
-        && is_behind(rt, shelf, FIVE, Some(point(rt, SIX, 9)))
-        && is_behind(rt, shelf, SIX, None)
-        && are_between(rt, alloc, shelf, FIVE, SEVEN, &[point(rt, SIX, 9)])
+    let late = [point(rt, SIX, 9)];
+    are_beside(rt, shelf, FIVE, None, Some(late[0]))
+        && are_beside(rt, shelf, SIX, None, None)
+        && are_between(rt, alloc, shelf, FIVE, SEVEN, &late)
         && lists(shelf.starts_of(alloc, METER), &[(at(rt, SIX), None)])
         && is_total(shelf, 0)
 }
@@ -528,10 +553,10 @@ fn taken_away_and_given_up<S: Shelf>(rt: &impl Abort, alloc: Global, shelf: &mut
     requires { (S.state shelf.old).begun ≡ None }
     ensures { IsTrue result → (S.state shelf.new).begun ≡ None }
 {
-    shelf.begin().is_ok()
+    begins(shelf)
         && changed(rt, shelf, &TAKEN_AWAY).is_ok()
         && later_there(rt, alloc, shelf)
-        && shelf.abandon().is_ok()
+        && abandons(shelf)
         && points_there(rt, alloc, shelf)
         && starts_there(rt, alloc, shelf)
 }
@@ -540,7 +565,7 @@ fn taken_away_and_given_up<S: Shelf>(rt: &impl Abort, alloc: Global, shelf: &mut
 fn begun_for_nothing<S: Shelf>(rt: &impl Abort, alloc: Global, shelf: &mut S) -> bool
     requires { (S.state shelf.old).begun ≡ None }
 {
-    shelf.begin().is_ok() && shelf.abandon().is_ok() && later_there(rt, alloc, shelf)
+    begins(shelf) && abandons(shelf) && later_there(rt, alloc, shelf)
 }
 
 fn removals_hold<S: Shelf + Drop>(rt: &impl Abort, alloc: Global, mut shelf: S) -> bool
@@ -637,20 +662,19 @@ fn is_told<S: Shelf>(alloc: Global, shelf: &mut S, payment: &Entry) -> bool
 {
     lists(shelf.topups(alloc), &[*payment])
         && lists(shelf.withdrawals(alloc), &[])
-        && shelf.count() == Ok(1)
-        && shelf.holds(payment) == Ok(true)
+        && counts(shelf, 1)
+        && is_held(shelf, payment)
 }
 
 // Whether a record added is told by each question within an upload, and isn't there behind it.
 fn told_within<S: Shelf + Drop>(alloc: Global, mut shelf: S, payment: &Entry) -> bool
     requires { (S.state shelf).begun ≡ None }
 {
-    shelf.begin().is_ok()
+    begins(&mut shelf)
         && put(&mut shelf, payment)
         && is_told(alloc, &mut shelf, payment)
-        && shelf.abandon().is_ok()
-        && never_at(&mut shelf, payment)
-        && shelf.count() == Ok(0)
+        && abandons(&mut shelf)
+        && is_as_before(&mut shelf, payment, 0)
 }
 
 // bears on: pw_shelf shelf.rt Shelf::count asked
@@ -735,36 +759,42 @@ fn refused_by<S: Shelf>(alloc: Global, book: &mut Book<S>, entry: Entry) -> Opti
     book.post(alloc, &entries).err()
 }
 
-// A book over an empty store whose call fails.
-fn failing_book(
+// Whether an upload is refused so, and nothing is held where it was given up.
+fn is_refused_by<S: Shelf>(
     alloc: Global,
-    fail_at: u32,
-    abandon_fails: bool,
-) -> Result<Book<CountShelf<MemoryShelf>>, OfficeFault> {
-    let office = sample_office(alloc)?;
-    let shelf = CountShelf::failing(MemoryShelf::new(alloc), fail_at, abandon_fails);
-    Ok(empty_book(office, shelf, 10))
+    book: &mut Book<S>,
+    entry: Entry,
+    fault: Option<PostFault>,
+) -> bool {
+    refused_by(alloc, book, entry) == fault
+        && (fault != Some(PostFault::Device) || book.count() == Ok(0))
 }
 
-// The calls are `count`, `holds`, `begin`, `contents_at`, `add`, `contents_at`, `total`, `total_put` and `commit`. Nothing
-// is held where the upload was given up.
+// The call that fails, whether `abandon` fails behind it, and the upload's fault.
+const FAILING: [(u32, bool, Option<PostFault>); 5] = [
+    (3, true, Some(PostFault::Device)),
+    (4, true, Some(PostFault::Reopen)),
+    (4, false, Some(PostFault::Device)),
+    (9, false, Some(PostFault::Device)),
+    (10, false, None),
+];
+
+// The calls are `count`, `holds`, `begin`, `contents_at`, `add`, `contents_at`, `total`, `total_put` and `commit`.
 // bears on: pw_book book.rt Book::post failures
 // bears on: pw_book book.rt Book::post posted
 // bears on: pw_book book.rt Book::post reopen
 #[test]
-fn posting_with_a_call_that_fails(rt: HostRuntime) -> Result<(), Fail> {
+fn posting_with_a_call_that_fails(rt: HostRuntime) {
+    let alloc = rt.alloc();
     let payment = paid(&rt, b"P1", FIRST, 2_000);
-    for (fail_at, abandon_fails, fault) in [
-        (3, true, PostFault::Device),
-        (4, true, PostFault::Reopen),
-        (4, false, PostFault::Device),
-        (9, false, PostFault::Device),
-    ] {
-        let mut book = failing_book(rt.alloc(), fail_at, abandon_fails)?;
-        assert!(rt; refused_by(rt.alloc(), &mut book, payment) == Some(fault));
-        assert!(rt; fault != PostFault::Device || book.count() == Ok(0));
+    for (fail_at, abandon_fails, fault) in FAILING {
+        assert!(rt;
+            holds_of_failing(
+                alloc,
+                fail_at,
+                abandon_fails,
+                |book| is_refused_by(alloc, book, payment, fault)
+            )
+        );
     }
-    let mut book = failing_book(rt.alloc(), 10, false)?;
-    assert!(rt; refused_by(rt.alloc(), &mut book, payment).is_none());
-    Ok(())
 }

@@ -3,27 +3,47 @@
 use pw_words::Command;
 use pw_words::words::command;
 use std::alloc::Global;
-use std::test::Fail;
 
 const LIMIT: u32 = 1_000_000;
 
-fn pipe<'a>(office: Option<&'a str>, limit: u32) -> Command<'a> {
-    Command::Pipe { office, limit }
+// Whether words ask for this.
+fn is_asked_for(alloc: Global, words: &[&str], wanted: &Command<'_>) -> bool {
+    match command(alloc, words) {
+        Ok(given) => given == *wanted,
+        Err(_) => false,
+    }
 }
 
 // bears on: pw_words words.rt command memory
 // bears on: pw_words words.rt command pipe
 #[test]
-fn no_words(rt: HostRuntime) -> Result<(), Fail> {
-    match command(rt.alloc(), &[]) {
-        Ok(given) => assert!(rt; given == pipe(None, LIMIT)),
-        Err(fault) => panic!(rt; "{fault:?}"),
-    }
-    Ok(())
+fn no_words(rt: HostRuntime) {
+    let pipe = Command::Pipe {
+        office: None,
+        limit: LIMIT,
+    };
+    assert!(rt; is_asked_for(rt.alloc(), &[], &pipe));
 }
 
-fn serve<'a>(alloc: Global, count: u32, port: u16, tells: bool) -> Command<'a> {
-    Command::Serve {
+// Words of servers, and what they say: how many connections, the port, and whether uploads are told.
+const SERVERS: [(&[&str], u32, u16, bool); 3] = [
+    (&["serve", "o", "s", "--count", "0"], 0, 8_460, false),
+    (
+        &["serve", "o", "s", "--count", "4294967295", "--port", "1"],
+        u32::MAX,
+        1,
+        false,
+    ),
+    (
+        &["serve", "o", "s", "--tell", "--port=65535", "--count=2"],
+        2,
+        65_535,
+        true,
+    ),
+];
+
+fn is_server_asked_for(alloc: Global, words: &[&str], count: u32, port: u16, tells: bool) -> bool {
+    let server = Command::Serve {
         office: "o",
         store: "s",
         count,
@@ -31,30 +51,13 @@ fn serve<'a>(alloc: Global, count: u32, port: u16, tells: bool) -> Command<'a> {
         limit: LIMIT,
         origins: Vec::new(alloc),
         tells,
-    }
+    };
+    is_asked_for(alloc, words, &server)
 }
 
 #[test]
-fn words_of_servers(rt: HostRuntime) -> Result<(), Fail> {
-    let cases = [
-        (
-            ["serve", "o", "s", "--count", "0"].as_slice(),
-            serve(rt.alloc(), 0, 8_460, false),
-        ),
-        (
-            ["serve", "o", "s", "--count", "4294967295", "--port", "1"].as_slice(),
-            serve(rt.alloc(), u32::MAX, 1, false),
-        ),
-        (
-            ["serve", "o", "s", "--tell", "--port=65535", "--count=2"].as_slice(),
-            serve(rt.alloc(), 2, 65_535, true),
-        ),
-    ];
-    for (words, wanted) in cases {
-        match command(rt.alloc(), words) {
-            Ok(given) => assert!(rt; given == wanted, "of {words:?}"),
-            Err(fault) => panic!(rt; "of {words:?}: {fault:?}"),
-        }
+fn words_of_servers(rt: HostRuntime) {
+    for (words, count, port, tells) in SERVERS {
+        assert!(rt; is_server_asked_for(rt.alloc(), words, count, port, tells));
     }
-    Ok(())
 }

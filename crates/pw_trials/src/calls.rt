@@ -6,6 +6,7 @@
 mod asked;
 mod counting;
 mod entries;
+mod faults;
 mod flows;
 mod frames;
 mod instants;
@@ -101,6 +102,7 @@ fn tell_answer<O: Write>(asked: &Asked<'_>, words: &[&str], line: &str, out: &mu
     let is_answered = frames::answer(asked.alloc, words, out).is_some()
         || sets::answer(asked.alloc, words, out).is_some()
         || instants::answer(asked.zone, words, out).is_some()
+        || faults::answer(words, out).is_some()
         || terms::answer(asked, words, out).is_some()
         || shares::answer(asked, words, out).is_some()
         || flows::answer(asked, words, out).is_some()

@@ -23,23 +23,30 @@ pub(crate) fn figures_text(
     requires few { length entries.now ≤ most_records }
 {
     let mut text = String::from_str(alloc, "owner,band,direction,wh,nano\n")?;
-    put_energies(alloc, office, zone, entries, None, &mut text)?;
+    put_figures(alloc, office, zone, entries, &mut text)?;
+    Ok(text)
+}
+
+fn put_figures(
+    alloc: Global,
+    office: &Office,
+    zone: &Zone,
+    entries: &[Entry],
+    text: &mut String,
+) -> Result<(), AllocError>
+    requires entries { AllOfOffice (office_of office.now) entries.now }
+    requires few { length entries.now ≤ most_records }
+{
+    put_energies(alloc, office, zone, entries, None, text)?;
     for account in 0..office.accounts() {
-        put_energies(
-            alloc,
-            office,
-            zone,
-            entries,
-            Some(AccountId(account)),
-            &mut text,
-        )?;
+        put_energies(alloc, office, zone, entries, Some(AccountId(account)), text)?;
     }
     text.push_str("account,cents,nano\n")?;
     for account in 0..office.accounts() {
         let line = balance_line(alloc, office, zone, entries, AccountId(account))?;
         text.push_str(&line)?;
     }
-    Ok(text)
+    Ok(())
 }
 
 // The energies of an owner, band by band.

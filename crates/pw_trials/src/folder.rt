@@ -53,12 +53,16 @@ pub(crate) fn tell_figures(rt: &HostRuntime, folder: &str) -> u8 {
 
 fn folder_figures(rt: &HostRuntime, folder: &str) -> Result<String, Fault> {
     let office = office_in(rt, folder)?;
+    figures_in(rt, folder, &office)
+}
+
+fn figures_in(rt: &HostRuntime, folder: &str, office: &Office) -> Result<String, Fault> {
     let zone = Zone::central();
-    let entries = entries_in(rt, folder, &office, &zone)?;
+    let entries = entries_in(rt, folder, office, &zone)?;
     if entries.len() > MOST_RECORDS {
         return Err(Fault::Refused);
     }
-    Ok(figures_text(rt.alloc(), &office, &zone, &entries)?)
+    Ok(figures_text(rt.alloc(), office, &zone, &entries)?)
 }
 
 fn office_in(rt: &HostRuntime, folder: &str) -> Result<Office, Fault> {

@@ -22,10 +22,9 @@ mod shut;
 mod uploads;
 
 ghost use Rattle.std.specs.Prelude.{IsSome};
-ghost use Rattle.pw_shelf.specs.Memory.{state_of};
 
 use pw_book::Book;
-use pw_shelf::{CountShelf, MemoryShelf};
+use pw_shelf::{MemoryShelf, Shelf};
 use pw_tariff::Office;
 use std::alloc::Global;
 use std::env;
@@ -79,86 +78,118 @@ fn status_of(rt: &HostRuntime) -> u8 {
 
 // Makes the trials, and answers the exit status.
 fn trials(rt: &HostRuntime) -> u8 {
-    let (Ok(office), Ok(other), Ok(third)) = (
-        Office::read(rt.alloc(), OFFICE.as_bytes()),
-        Office::read(rt.alloc(), OFFICE.as_bytes()),
-        Office::read(rt.alloc(), OFFICE.as_bytes()),
-    ) else {
-        return NO_MEMORY;
-    };
-    let mut shelf = MemoryShelf::new(rt.alloc());
-    if !shelves::is_begun(&mut shelf) {
-        return NO_MEMORY;
-    }
-    let Some(mut book) = posts::filled(rt.alloc(), other) else {
-        return NO_MEMORY;
-    };
-    let Some(mut store) = uploads::begun(rt.alloc()) else {
-        return NO_MEMORY;
-    };
-    let Some(mut shut) = shut::shut_book(rt.alloc(), third) else {
-        return NO_MEMORY;
-    };
     let mut out = rt.stdout();
-    without_memory(&mut out, rt.alloc(), &mut shelf, &mut store, office);
-    shut_without_memory(&mut out, rt.alloc(), &mut shut);
-    with_one_refused(&mut out, rt.alloc(), &mut book);
-    0
+    let are_made = without_memory(&mut out, rt.alloc())
+        && shut_without_memory(&mut out, rt.alloc())
+        && with_one_refused(&mut out, rt.alloc());
+    if are_made { 0 } else { NO_MEMORY }
 }
 
-/// The calls that take no memory.
-fn without_memory<O: Write>(
-    out: &mut O,
-    alloc: Global,
-    shelf: &mut MemoryShelf,
-    store: &mut MemoryShelf,
-    office: Office,
-)
-    requires shelf { IsSome (state_of shelf.old).begun }
-    requires store { IsSome (state_of store.old).begun }
+/// The calls that take no memory; whether what they need could be made. (Each store is made by a function that lends it.)
+fn without_memory<O: Write>(out: &mut O, alloc: Global) -> bool {
+    let mut begun = MemoryShelf::new(alloc);
+    shelves::is_begun(&mut begun) && beside_begun(out, alloc, &mut begun)
+}
+
+fn beside_begun<O: Write, S: Shelf>(out: &mut O, alloc: Global, begun: &mut S) -> bool
+    requires { IsSome (S.state begun.old).begun }
 {
-    tell(out, b"no memory\n");
-    tell(out, line(instants::are_right(), b"instants right\n"));
-    tell(out, line(frames::are_right(), b"frames right\n"));
-    tell(out, line(sets::are_right(), b"data sets right\n"));
-    tell(out, line(offices::is_right(&office), b"office right\n"));
-    let is_taken_back = shelves::is_taken_back(shelf);
-    tell(out, line(is_taken_back, b"upload taken back\n"));
-    tell(out, line(uploads::is_kept(store), b"upload kept\n"));
-    tell(out, line(shelves::is_counted(alloc), b"calls counted\n"));
-    tell(out, line(shelves::is_kept(alloc, office), b"book right\n"));
-    tell(out, b"memory again\n");
+    let mut changed = MemoryShelf::new(alloc);
+    uploads::is_changed(&mut changed) && beside_changed(out, alloc, begun, &mut changed)
 }
 
-/// A book that is shut.
-fn shut_without_memory<O: Write>(
+fn beside_changed<O: Write, S: Shelf, T: Shelf>(
     out: &mut O,
     alloc: Global,
-    book: &mut Book<CountShelf<MemoryShelf>>,
-) {
-    tell(out, b"no memory\n");
-    tell(
-        out,
-        line(shut::is_still_shut(alloc, book), b"shut book right\n"),
-    );
-    tell(out, b"memory again\n");
+    begun: &mut S,
+    changed: &mut T,
+) -> bool
+    requires begun { IsSome (S.state begun.old).begun }
+    requires changed { IsSome (T.state changed.old).begun }
+{
+    match Office::read(alloc, OFFICE.as_bytes()) {
+        Ok(office) => {
+            tell(out, b"no memory\n");
+            tell_values(out, &office);
+            tell_stores(out, begun, changed);
+            tell_made(out, alloc, office);
+            tell(out, b"memory again\n");
+            true
+        }
+        Err(_) => false,
+    }
 }
 
-/// The calls that answer that memory was refused, and are right when they are made again.
-fn with_one_refused<O: Write>(out: &mut O, alloc: Global, book: &mut Book<MemoryShelf>) {
-    let is_taken_back = uploads::is_taken_back(alloc, out) == Ok(true);
-    tell(out, line(is_taken_back, b"upload given up\n"));
+fn tell_values<O: Write>(out: &mut O, office: &Office) {
+    tell_trial(out, instants::are_right(), b"instants right\n");
+    tell_trial(out, frames::are_right(), b"frames right\n");
+    tell_trial(out, sets::are_right(), b"data sets right\n");
+    tell_trial(out, offices::is_right(office), b"office right\n");
+}
+
+fn tell_stores<O: Write, S: Shelf, T: Shelf>(out: &mut O, begun: &mut S, changed: &mut T)
+    requires begun { IsSome (S.state begun.old).begun }
+    requires changed { IsSome (T.state changed.old).begun }
+{
+    tell_trial(out, shelves::is_taken_back(begun), b"upload taken back\n");
+    tell_trial(out, uploads::is_kept(changed), b"upload kept\n");
+}
+
+// A counting store and a book, which are made without memory.
+fn tell_made<O: Write>(out: &mut O, alloc: Global, office: Office) {
+    tell_trial(out, shelves::is_counted(alloc), b"calls counted\n");
+    let is_kept = shelves::is_kept(office, MemoryShelf::new(alloc));
+    tell_trial(out, is_kept, b"book right\n");
+}
+
+/// A book that is shut; whether it could be made.
+fn shut_without_memory<O: Write>(out: &mut O, alloc: Global) -> bool {
+    match Office::read(alloc, OFFICE.as_bytes()) {
+        Ok(office) => tell_shut(out, alloc, &mut shut::failing_book(alloc, office)),
+        Err(_) => false,
+    }
+}
+
+fn tell_shut<O: Write, S: Shelf>(out: &mut O, alloc: Global, book: &mut Book<S>) -> bool {
+    let is_shut = shut::is_refused(alloc, book);
+    tell(out, b"no memory\n");
+    tell_trial(out, shut::is_still_shut(alloc, book), b"shut book right\n");
+    tell(out, b"memory again\n");
+    is_shut
+}
+
+/// The calls that answer that memory was refused, and are right when they are made again; whether their book could be made.
+fn with_one_refused<O: Write>(out: &mut O, alloc: Global) -> bool {
+    let is_taken_back = uploads::is_taken_back(alloc, out);
+    tell_trial(out, is_taken_back, b"upload given up\n");
+    match Office::read(alloc, OFFICE.as_bytes()) {
+        Ok(office) => posted_with_one_refused(
+            out,
+            alloc,
+            &mut shelves::empty_book(alloc, office, 100),
+        ),
+        Err(_) => false,
+    }
+}
+
+fn posted_with_one_refused<O: Write, S: Shelf>(
+    out: &mut O,
+    alloc: Global,
+    book: &mut Book<S>,
+) -> bool {
+    let is_filled = posts::is_filled(alloc, book);
     tell(out, b"one may be refused\n");
     let are_told = posts::are_told(alloc, book.office(), book.zone());
-    tell(out, line(are_told, b"parts right\n"));
-    tell(out, line(posts::is_taken(alloc, book), b"upload right\n"));
+    tell_trial(out, are_told, b"parts right\n");
+    tell_trial(out, posts::is_taken(alloc, book), b"upload right\n");
     tell(out, b"all is given\n");
     tell(out, b"done\n");
+    is_filled
 }
 
-/// The line of a trial.
-fn line<'a>(right: bool, text: &'a [u8]) -> &'a [u8] {
-    if right { text } else { b"wrong\n" }
+/// Writes the line of a trial.
+fn tell_trial<O: Write>(out: &mut O, is_right: bool, text: &[u8]) {
+    tell(out, if is_right { text } else { b"wrong\n" });
 }
 
 /// Writes a line. One that can't be written is missing from the output, which is compared.

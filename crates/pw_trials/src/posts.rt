@@ -4,15 +4,15 @@ ghost use Rattle.std.specs.Prelude.{IsTrue, ◌↔◌};
 ghost use Rattle.pw_model.specs.Office.{AllOfOffice};
 ghost use Rattle.pw_tariff.specs.Office.{office_of};
 
-use crate::shelves::empty_book;
-use pw_book::{Accepted, Book, Parts, PostFault, true_parts};
+use crate::shelves::payment;
+use pw_book::{Accepted, Book, PostFault, true_parts};
 use pw_model::plain::{self, OfficeTerms};
-use pw_model::{Content, Entry, Key};
+use pw_model::{Content, Entry, Key, TotalKey};
 use pw_obis::{Register, WattHours};
-use pw_shelf::{MemoryShelf, Shelf};
-use pw_tariff::{AccountId, BandId, Direction, MeterId, Office, Owner};
+use pw_shelf::Shelf;
+use pw_tariff::{AccountId, BandId, Direction, MeterId, Office, Owner, PeriodId};
 use pw_time::{Instant, Zone};
-use std::alloc::Global;
+use std::alloc::{AllocError, Global};
 
 // 2024-01-02T05:00:00Z, and the hours behind it.
 const FIVE: u32 = 1_704_171_600;
@@ -26,20 +26,21 @@ const BEFORE: [u64; 4] = [1_000, 2_001, 0, 0];
 
 const BEHIND: [u64; 4] = [1_333, 333, 0, 1_335];
 
-/// A book that holds an assignment and three readings.
-pub(crate) fn filled(alloc: Global, office: Office) -> Option<Book<MemoryShelf>> {
-    let mut book = empty_book(alloc, office, 100);
-    let entries = [
-        assigned(FIVE - 3_600, AccountId(0))?,
+/// Whether a book takes an assignment and three readings.
+pub(crate) fn is_filled<S: Shelf>(alloc: Global, book: &mut Book<S>) -> bool {
+    match first_upload() {
+        Some(entries) => post(alloc, book, &entries) == Ok((4, 0)),
+        None => false,
+    }
+}
+
+fn first_upload() -> Option<[Entry; 4]> {
+    Some([
+        assigned(FIVE - 3_600, Some(AccountId(0)))?,
         reading(FIVE, 1_000_000)?,
         reading(SIX, 1_001_000)?,
         reading(SEVEN, 1_003_001)?,
-    ];
-    if post(alloc, &mut book, &entries) == Ok((4, 0)) {
-        Some(book)
-    } else {
-        None
-    }
+    ])
 }
 
 // A late reading, one that disputes another, and an assignment.
@@ -47,7 +48,7 @@ fn upload() -> Option<[Entry; 3]> {
     Some([
         reading(SIX + 1_800, 1_002_000)?,
         reading(SIX, 1_001_500)?,
-        assigned(SIX + 900, AccountId(1))?,
+        assigned(SIX + 900, Some(AccountId(1)))?,
     ])
 }
 
@@ -64,15 +65,13 @@ fn reading(second: u32, watt_hours: u64) -> Option<Entry> {
     })
 }
 
-fn assigned(second: u32, account: AccountId) -> Option<Entry> {
+fn assigned(second: u32, owner: Owner) -> Option<Entry> {
     Some(Entry {
         key: Key::Assignment {
             meter: MeterId(0),
             start: Instant::of(second)?,
         },
-        content: Content::Assignment {
-            owner: Some(account),
-        },
+        content: Content::Assignment { owner },
     })
 }
 
@@ -96,61 +95,105 @@ pub(crate) fn post<S: Shelf>(
     Ok((fresh, repeated))
 }
 
-// What the two accounts imported in each band.
-fn figures(book: &mut Book<MemoryShelf>) -> Option<[u64; 4]> {
-    if book.office().accounts() < 2 || book.office().bands() < 2 {
-        return None;
-    }
-    let first = imported(book, Some(AccountId(0)))?;
-    let second = imported(book, Some(AccountId(1)))?;
-    Some([first.0, first.1, second.0, second.1])
+// Whether the two accounts imported this in each band.
+fn are_figures<S: Shelf>(book: &mut Book<S>, figures: [u64; 4]) -> bool {
+    let [low, high, other_low, other_high] = figures;
+    is_imported(book, AccountId(0), BandId(0), low)
+        && is_imported(book, AccountId(0), BandId(1), high)
+        && is_imported(book, AccountId(1), BandId(0), other_low)
+        && is_imported(book, AccountId(1), BandId(1), other_high)
 }
 
-fn imported(book: &mut Book<MemoryShelf>, owner: Owner) -> Option<(u64, u64)> {
-    let account = owner?;
-    if account.0 >= book.office().accounts() || book.office().bands() < 2 {
-        return None;
+fn is_imported<S: Shelf>(book: &mut Book<S>, account: AccountId, band: BandId, wh: u64) -> bool {
+    if account.0 >= book.office().accounts() || band.0 >= book.office().bands() {
+        return false;
     }
-    let low = book.energy(owner, BandId(0), Direction::Import).ok()?;
-    let high = book.energy(owner, BandId(1), Direction::Import).ok()?;
-    Some((low, high))
+    book.energy(Some(account), band, Direction::Import) == Ok(wh)
 }
 
 /// Whether an upload is taken: at once, or, where it is refused for want of memory, with all as before, at the next try.
-pub(crate) fn is_taken(alloc: Global, book: &mut Book<MemoryShelf>) -> bool {
+pub(crate) fn is_taken<S: Shelf>(alloc: Global, book: &mut Book<S>) -> bool {
     let Some(entries) = upload() else {
         return false;
     };
     match post(alloc, book, &entries) {
-        Ok(both) => both == (3, 0) && figures(book) == Some(BEHIND),
-        Err(fault) => {
-            fault == PostFault::Memory
-                && book.count() == Ok(4)
-                && figures(book) == Some(BEFORE)
-                && post(alloc, book, &entries) == Ok((3, 0))
-                && book.count() == Ok(7)
-                && figures(book) == Some(BEHIND)
-        }
+        Ok(both) => both == (3, 0) && are_figures(book, BEHIND),
+        Err(fault) => fault == PostFault::Memory
+            && is_as_before(book)
+            && is_taken_then(alloc, book, &entries),
     }
 }
 
-/// Whether the parts of the upload's records are told: at once, or at the next try.
+fn is_as_before<S: Shelf>(book: &mut Book<S>) -> bool {
+    book.count() == Ok(4) && are_figures(book, BEFORE)
+}
+
+fn is_taken_then<S: Shelf>(alloc: Global, book: &mut Book<S>, entries: &[Entry]) -> bool {
+    post(alloc, book, entries) == Ok((3, 0)) && book.count() == Ok(7) && are_figures(book, BEHIND)
+}
+
+// A meter that is given back, readings of two hours, two unlike ones between them, and a payment.
+fn records() -> Option<[Entry; 7]> {
+    Some([
+        assigned(FIVE - 3_600, Some(AccountId(0)))?,
+        assigned(SIX, None)?,
+        reading(SEVEN, 1_003_001)?,
+        reading(SIX, 1_001_000)?,
+        reading(SIX, 1_001_500)?,
+        reading(FIVE, 1_000_000)?,
+        payment()?,
+    ])
+}
+
+// The second hour is of the second period.
+const TOTALS: [(TotalKey, u64); 3] = [
+    (
+        TotalKey::Energy {
+            owner: None,
+            period: PeriodId(1),
+            band: BandId(1),
+            direction: Direction::Import,
+        },
+        1_501,
+    ),
+    (
+        TotalKey::Energy {
+            owner: Some(AccountId(0)),
+            period: PeriodId(0),
+            band: BandId(0),
+            direction: Direction::Import,
+        },
+        1_500,
+    ),
+    (
+        TotalKey::TopUps {
+            account: AccountId(0),
+        },
+        5_000,
+    ),
+];
+
+/// Whether the parts of records are told: at once, or at the next try.
 pub(crate) fn are_told(alloc: Global, office: &Office, zone: &Zone) -> bool {
-    let Some(entries) = upload() else {
+    let Some(entries) = records() else {
         return false;
     };
-    if !are_of_office(office, zone, &entries) {
-        return false;
-    }
-    match true_parts(alloc, office, zone, &entries) {
-        Ok(parts) => are_right(&parts),
-        Err(_) => match true_parts(alloc, office, zone, &entries) {
-            Ok(parts) => are_right(&parts),
-            Err(_) => false,
-        },
+    match are_parts_right(alloc, office, zone, &entries) {
+        Ok(are_right) => are_right,
+        Err(_) => are_parts_right(alloc, office, zone, &entries) == Ok(true),
     }
 }
 
-fn are_right(parts: &Parts) -> bool {
-    parts.points.len() == 2 && parts.starts.len() == 1 && parts.totals.len() == 2
+fn are_parts_right(
+    alloc: Global,
+    office: &Office,
+    zone: &Zone,
+    entries: &[Entry; 7],
+) -> Result<bool, AllocError> {
+    if !are_of_office(office, zone, entries) {
+        return Ok(false);
+    }
+    let parts = true_parts(alloc, office, zone, entries)?;
+    let are_totals = parts.totals.as_slice() == TOTALS.as_slice();
+    Ok(are_totals && parts.points.len() == 2 && parts.starts.len() == 2)
 }

@@ -1,9 +1,8 @@
 //! The calls on a store in memory, and on a book over it.
 
-ghost use Rattle.std.specs.Prelude.{◌≡◌, ◌≤◌, IsSome, None, true};
+ghost use Rattle.std.specs.Prelude.{◌≡◌, ◌≤◌, IsSome, IsTrue, None};
 ghost use Rattle.pw_model.specs.Office.{most_records};
 ghost use Rattle.pw_model.specs.Shelf.{no_content};
-ghost use Rattle.pw_shelf.specs.Memory.{state_of};
 
 use pw_book::Book;
 use pw_model::{Content, Entry, Key, Reference};
@@ -13,20 +12,18 @@ use pw_time::{FIRST_SECOND, Instant, Zone};
 use std::alloc::Global;
 
 /// Begins an upload of one record, which is neither ended nor taken back; whether that was done.
-pub(crate) fn is_begun(shelf: &mut MemoryShelf) -> bool
-    requires empty { (state_of shelf.old).content ≡ no_content }
-    requires idle { (state_of shelf.old).begun ≡ None }
-    ensures { result ≡ true → IsSome (state_of shelf.new).begun }
+pub(crate) fn is_begun<S: Shelf>(shelf: &mut S) -> bool
+    requires empty { (S.state shelf.old).content ≡ no_content }
+    requires idle { (S.state shelf.old).begun ≡ None }
+    ensures { IsTrue result → IsSome (S.state shelf.new).begun }
 {
-    let Some(entry) = payment() else {
-        return false;
-    };
-    if shelf.begin().is_err() {
-        return false;
+    match payment() {
+        Some(entry) => shelf.begin().is_ok() && shelf.add(&entry).is_ok(),
+        None => false,
     }
-    shelf.add(&entry).is_ok()
 }
 
+/// A payment of the first account.
 pub(crate) fn payment() -> Option<Entry> {
     let reference = Reference::of(b"P1")?;
     let instant = Instant::of(FIRST_SECOND)?;
@@ -34,15 +31,15 @@ pub(crate) fn payment() -> Option<Entry> {
         key: Key::TopUp { reference },
         content: Content::TopUp {
             account: AccountId(0),
-            cents: 1,
+            cents: 5_000,
             instant,
         },
     })
 }
 
 /// Whether an upload is taken back.
-pub(crate) fn is_taken_back(shelf: &mut MemoryShelf) -> bool
-    requires { IsSome (state_of shelf.old).begun }
+pub(crate) fn is_taken_back<S: Shelf>(shelf: &mut S) -> bool
+    requires { IsSome (S.state shelf.old).begun }
 {
     shelf.abandon().is_ok() && shelf.count() == Ok(0)
 }
@@ -66,8 +63,11 @@ pub(crate) fn empty_book(alloc: Global, office: Office, limit: u32) -> Book<Memo
 }
 
 /// Whether a book is made, tells its office, and gives its store back.
-pub(crate) fn is_kept(alloc: Global, office: Office) -> bool {
-    let book = empty_book(alloc, office, 1);
+pub(crate) fn is_kept<S: Shelf + Drop>(office: Office, shelf: S) -> bool
+    requires empty { (S.state shelf).content ≡ no_content }
+    requires idle { (S.state shelf).begun ≡ None }
+{
+    let book = book_over(office, shelf, 1);
     let _ = book.zone();
     let accounts = book.office().accounts();
     let mut shelf = book.into_shelf();
@@ -77,7 +77,14 @@ pub(crate) fn is_kept(alloc: Global, office: Office) -> bool {
 /// Whether calls are counted, and one fails where it is told to.
 pub(crate) fn is_counted(alloc: Global) -> bool {
     let mut counted = CountShelf::new(MemoryShelf::new(alloc));
-    let is_first = counted.count() == Ok(0) && counted.seen() == 1;
     let mut failing = CountShelf::failing(MemoryShelf::new(alloc), 2, false);
-    is_first && failing.count().is_ok() && failing.count().is_err() && failing.seen() == 2
+    is_call_counted(&mut counted) && is_second_failing(&mut failing)
+}
+
+fn is_call_counted<S: Shelf>(shelf: &mut CountShelf<S>) -> bool {
+    shelf.count() == Ok(0) && shelf.seen() == 1
+}
+
+fn is_second_failing<S: Shelf>(shelf: &mut CountShelf<S>) -> bool {
+    shelf.count().is_ok() && shelf.count().is_err() && shelf.seen() == 2
 }

@@ -24,19 +24,14 @@ const PAGES: [Page; 10] = [
     Page::Table(Table::Withdrawals),
 ];
 
-/// A book whose upload failed, and couldn't be taken back.
-pub(crate) fn shut_book(alloc: Global, office: Office) -> Option<Book<CountShelf<MemoryShelf>>> {
+/// A book whose first upload fails, and can't be taken back.
+pub(crate) fn failing_book(alloc: Global, office: Office) -> Book<CountShelf<MemoryShelf>> {
     let shelf = CountShelf::failing(MemoryShelf::new(alloc), FAILING, true);
-    let mut book = book_over(office, shelf, 100);
-    if is_refused(alloc, &mut book) {
-        Some(book)
-    } else {
-        None
-    }
+    book_over(office, shelf, 100)
 }
 
-// Whether an upload is answered that the book has to be opened again.
-fn is_refused<S: Shelf>(alloc: Global, book: &mut Book<S>) -> bool {
+/// Whether an upload is answered that the book has to be opened again.
+pub(crate) fn is_refused<S: Shelf>(alloc: Global, book: &mut Book<S>) -> bool {
     match payment() {
         Some(entry) => post(alloc, book, &[entry]) == Err(PostFault::Reopen),
         None => false,

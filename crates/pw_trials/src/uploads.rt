@@ -1,6 +1,6 @@
 //! Uploads into a store in memory: one that is kept with no memory, and one that is given up while one request is refused.
 
-ghost use Rattle.std.specs.Prelude.{◌≡◌, IfSome, IsSome, None};
+ghost use Rattle.std.specs.Prelude.{◌≡◌, IsSome, IsTrue, None};
 ghost use Rattle.pw_shelf.specs.Memory.{state_of};
 
 use crate::tell;
@@ -43,6 +43,10 @@ fn second(number: u8) -> Result<Instant, ShelfFault> {
     Instant::of(FIRST_SECOND + u32::from(number)).ok_or(ShelfFault::Device)
 }
 
+fn point(number: u8) -> Result<(Instant, WattHours), ShelfFault> {
+    Ok((second(number)?, watt_hours(number)?))
+}
+
 fn watt_hours(number: u8) -> Result<WattHours, ShelfFault> {
     WattHours::of(u64::from(number)).ok_or(ShelfFault::Device)
 }
@@ -66,9 +70,9 @@ fn payment(number: u8) -> Option<Entry> {
     })
 }
 
-fn add(shelf: &mut MemoryShelf, number: u8) -> Result<(), ShelfFault>
-    requires { IsSome (state_of shelf.old).begun }
-    ensures { (state_of shelf.new).begun ≡ (state_of shelf.old).begun }
+fn add<S: Shelf>(shelf: &mut S, number: u8) -> Result<(), ShelfFault>
+    requires { IsSome (S.state shelf.old).begun }
+    ensures { (S.state shelf.new).begun ≡ (S.state shelf.old).begun }
 {
     let Some(entry) = payment(number) else {
         return Err(ShelfFault::Device);
@@ -80,94 +84,117 @@ fn add(shelf: &mut MemoryShelf, number: u8) -> Result<(), ShelfFault>
 }
 
 // Puts a row of each part.
-fn put(shelf: &mut MemoryShelf, number: u8) -> Result<(), ShelfFault>
-    requires { IsSome (state_of shelf.old).begun }
-    ensures { (state_of shelf.new).begun ≡ (state_of shelf.old).begun }
+fn put<S: Shelf>(shelf: &mut S, number: u8) -> Result<(), ShelfFault>
+    requires { IsSome (S.state shelf.old).begun }
+    ensures { (S.state shelf.new).begun ≡ (S.state shelf.old).begun }
 {
-    let instant = second(number)?;
+    let (instant, wh) = point(number)?;
     add(shelf, number)?;
-    shelf.point_put(METER, Register::I1, instant, watt_hours(number)?)?;
+    shelf.point_put(METER, Register::I1, instant, wh)?;
     shelf.start_put(METER, instant, Some(AccountId(1)))?;
     shelf.total_put(&total_key(number), 7)
 }
 
 // Adds some rows of each part, changes one and takes one away.
-fn change(shelf: &mut MemoryShelf) -> Result<(), ShelfFault>
-    requires { IsSome (state_of shelf.old).begun }
-    ensures { (state_of shelf.new).begun ≡ (state_of shelf.old).begun }
+fn change<S: Shelf>(shelf: &mut S) -> Result<(), ShelfFault>
+    requires { IsSome (S.state shelf.old).begun }
+    ensures { (S.state shelf.new).begun ≡ (S.state shelf.old).begun }
 {
     for number in HELD..HELD + ADDED {
         put(shelf, number)?;
     }
-    shelf.point_put(METER, Register::I1, second(CHANGED)?, watt_hours(HELD)?)?;
-    shelf.start_put(METER, second(CHANGED)?, None)?;
+    let (changed, taken) = (second(CHANGED)?, second(TAKEN)?);
+    shelf.point_put(METER, Register::I1, changed, watt_hours(HELD)?)?;
+    shelf.start_put(METER, changed, None)?;
     shelf.total_put(&total_key(CHANGED), 0)?;
-    shelf.point_del(METER, Register::I1, second(TAKEN)?)?;
-    shelf.start_del(METER, second(TAKEN)?)
+    shelf.point_del(METER, Register::I1, taken)?;
+    shelf.start_del(METER, taken)
 }
 
-// A store with some rows, each from an upload of its own.
-fn filled(alloc: Global) -> Option<MemoryShelf>
-    ensures { IfSome result (λ shelf. (state_of shelf).begun ≡ None) }
+// Whether a store takes some rows, each in an upload of its own.
+fn is_filled<S: Shelf>(shelf: &mut S) -> bool
+    requires { (S.state shelf.old).begun ≡ None }
+    ensures { IsTrue result → (S.state shelf.new).begun ≡ None }
 {
-    let mut shelf = MemoryShelf::new(alloc);
     for number in 0..HELD {
-        shelf.begin().ok()?;
-        put(&mut shelf, number).ok()?;
-        shelf.commit().ok()?;
+        if !is_put_alone(shelf, number) {
+            return false;
+        }
     }
-    Some(shelf)
+    true
 }
 
-/// A store with some rows, and an upload that is begun and has changed some.
-pub(crate) fn begun(alloc: Global) -> Option<MemoryShelf>
-    ensures { IfSome result (λ shelf. IsSome (state_of shelf).begun) }
+fn is_put_alone<S: Shelf>(shelf: &mut S, number: u8) -> bool
+    requires { (S.state shelf.old).begun ≡ None }
+    ensures { IsTrue result → (S.state shelf.new).begun ≡ None }
 {
-    let mut shelf = filled(alloc)?;
-    shelf.begin().ok()?;
-    change(&mut shelf).ok()?;
-    Some(shelf)
+    shelf.begin().is_ok() && put(shelf, number).is_ok() && shelf.commit().is_ok()
+}
+
+/// Whether a store takes some rows, and the changes of an upload that is begun then.
+pub(crate) fn is_changed<S: Shelf>(shelf: &mut S) -> bool
+    requires { (S.state shelf.old).begun ≡ None }
+    ensures { IsTrue result → IsSome (S.state shelf.new).begun }
+{
+    is_filled(shelf) && shelf.begin().is_ok() && change(shelf).is_ok()
 }
 
 /// Whether an upload is kept, and another one begun and given up.
-pub(crate) fn is_kept(shelf: &mut MemoryShelf) -> bool
-    requires { IsSome (state_of shelf.old).begun }
+pub(crate) fn is_kept<S: Shelf>(shelf: &mut S) -> bool
+    requires { IsSome (S.state shelf.old).begun }
 {
     shelf.commit().is_ok()
         && shelf.begin().is_ok()
         && shelf.abandon().is_ok()
-        && shelf.count() == Ok(20)
+        && is_changed_then(shelf)
+}
+
+// Whether the records that were added are held, the total is as it was changed, and the point that was taken away is
+// passed over.
+fn is_changed_then<S: Shelf>(shelf: &mut S) -> bool {
+    shelf.count() == Ok(20)
         && shelf.total(&total_key(CHANGED)) == Ok(0)
         && is_passed_over(shelf) == Ok(true)
 }
 
-// Whether the point that was taken away is passed over.
-fn is_passed_over(shelf: &mut MemoryShelf) -> Result<bool, ShelfFault> {
-    let before = shelf.point_before(METER, Register::I1, second(TAKEN + 1)?)?;
-    let behind = shelf.point_after(METER, Register::I1, second(TAKEN - 1)?)?;
-    let fourth = (second(TAKEN - 1)?, watt_hours(TAKEN - 1)?);
-    let sixth = (second(TAKEN + 1)?, watt_hours(TAKEN + 1)?);
+fn is_passed_over<S: Shelf>(shelf: &mut S) -> Result<bool, ShelfFault> {
+    let (fourth, sixth) = (point(TAKEN - 1)?, point(TAKEN + 1)?);
+    let before = shelf.point_before(METER, Register::I1, sixth.0)?;
+    let behind = shelf.point_after(METER, Register::I1, fourth.0)?;
     Ok(before == Some(fourth) && behind == Some(sixth))
 }
 
-fn told(alloc: Global, shelf: &mut MemoryShelf) -> Result<Listed, ShelfFault>
-    ensures { (state_of shelf.new).begun ≡ (state_of shelf.old).begun }
+fn told<S: Shelf>(alloc: Global, shelf: &mut S) -> Result<Listed, ShelfFault>
+    ensures { (S.state shelf.new).begun ≡ (S.state shelf.old).begun }
 {
-    let Some(last) = Instant::of(LAST_SECOND) else {
-        return Err(ShelfFault::Device);
-    };
+    let totals = totals(shelf)?;
     let topups = shelf.topups(alloc)?;
-    let points = shelf.points_between(alloc, METER, Register::I1, second(0)?, last)?;
     let starts = shelf.starts_of(alloc, METER)?;
-    let added = shelf.total(&total_key(HELD))?;
-    let changed = shelf.total(&total_key(CHANGED))?;
-    let taken = shelf.total(&total_key(TAKEN))?;
+    let points = points(alloc, shelf)?;
     Ok(Listed {
         topups,
         points,
         starts,
-        totals: [added, changed, taken],
+        totals,
     })
+}
+
+fn totals<S: Shelf>(shelf: &mut S) -> Result<[u64; 3], ShelfFault>
+    ensures { (S.state shelf.new).begun ≡ (S.state shelf.old).begun }
+{
+    let added = shelf.total(&total_key(HELD))?;
+    let changed = shelf.total(&total_key(CHANGED))?;
+    let taken = shelf.total(&total_key(TAKEN))?;
+    Ok([added, changed, taken])
+}
+
+fn points<S: Shelf>(alloc: Global, shelf: &mut S) -> Result<Vec<(Instant, WattHours)>, ShelfFault>
+    ensures { (S.state shelf.new).begun ≡ (S.state shelf.old).begun }
+{
+    let (Some(first), Some(last)) = (Instant::of(FIRST_SECOND), Instant::of(LAST_SECOND)) else {
+        return Err(ShelfFault::Device);
+    };
+    shelf.points_between(alloc, METER, Register::I1, first, last)
 }
 
 fn is_same(a: &Listed, b: &Listed) -> bool {
@@ -191,22 +218,48 @@ fn is_given_up(shelf: &mut MemoryShelf) -> bool
 
 /// Whether a store holds what it held before when an upload was given up one of whose requests may have been refused, and
 /// the next upload is kept.
-pub(crate) fn is_taken_back<O: Write>(alloc: Global, out: &mut O) -> Result<bool, ShelfFault> {
-    let Some(mut shelf) = filled(alloc) else {
-        return Ok(false);
-    };
-    let before = told(alloc, &mut shelf)?;
+pub(crate) fn is_taken_back<O: Write>(alloc: Global, out: &mut O) -> bool {
+    let mut shelf = MemoryShelf::new(alloc);
+    is_filled(&mut shelf) && is_filled_taken_back(alloc, out, &mut shelf)
+}
+
+fn is_filled_taken_back<O: Write>(alloc: Global, out: &mut O, shelf: &mut MemoryShelf) -> bool
+    requires { (state_of shelf.old).begun ≡ None }
+{
+    match told(alloc, shelf) {
+        Ok(before) => is_given_up_between(out, shelf) && is_as_before(alloc, shelf, &before),
+        Err(_) => false,
+    }
+}
+
+// Tells between which lines a request may be refused.
+fn is_given_up_between<O: Write>(out: &mut O, shelf: &mut MemoryShelf) -> bool
+    requires { (state_of shelf.old).begun ≡ None }
+    ensures { (state_of shelf.new).begun ≡ None }
+{
     tell(out, b"one may be refused\n");
-    let is_given_up = is_given_up(&mut shelf);
+    let is_given_up = is_given_up(shelf);
     tell(out, b"all is given\n");
-    let now = told(alloc, &mut shelf)?;
-    let is_whole = before.points.len() == 15 && before.starts.len() == 15;
-    Ok(is_whole && is_given_up && is_same(&before, &now) && is_kept_then(&mut shelf))
+    is_given_up
+}
+
+// Whether a store holds what it held before, and the next upload is kept.
+fn is_as_before<S: Shelf>(alloc: Global, shelf: &mut S, before: &Listed) -> bool
+    requires { (S.state shelf.old).begun ≡ None }
+{
+    match told(alloc, shelf) {
+        Ok(now) => is_whole(before) && is_same(before, &now) && is_kept_then(shelf),
+        Err(_) => false,
+    }
+}
+
+fn is_whole(listed: &Listed) -> bool {
+    listed.points.len() == 15 && listed.starts.len() == 15
 }
 
 // Whether the next upload is kept.
-fn is_kept_then(shelf: &mut MemoryShelf) -> bool
-    requires { (state_of shelf.old).begun ≡ None }
+fn is_kept_then<S: Shelf>(shelf: &mut S) -> bool
+    requires { (S.state shelf.old).begun ≡ None }
 {
     shelf.begin().is_ok() && change(shelf).is_ok() && is_kept(shelf)
 }

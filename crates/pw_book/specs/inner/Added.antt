@@ -53,6 +53,11 @@ pub record IsJustChanged (office : OfficeRules) (s : List Entry) (k : Key) (befo
   pub few : length c.records ≤ most_records
   pub still : IsTrueOf office s c
 
+-- all is true again, of the same records
+pub record IsTrueAgain (office : OfficeRules) (old new : ShelfContent) : Type 0 where
+  pub truth : IsTrueContent office new
+  pub records : new.records ≡ old.records
+
 -- the account and the cents of the top-up that counts
 abbrev pub paid_of : Contents → Option (AccountId × ℕ)
 paid_of (One (content.TopUp a c t)) = Some (a, c)

@@ -15,7 +15,7 @@ use crate::asked::{count_held, topups_held, total_held, withdrawals_held};
 use crate::assignments::all_assignments;
 use crate::balances::balance_held;
 use crate::disputes::disputes_held;
-use crate::energies::energy_held;
+use crate::energies::{energy_held, energy_in_held};
 use crate::falls::falls_held;
 use crate::fault::BookFault;
 use crate::rows::rows_held;
@@ -64,13 +64,15 @@ impl<S: Shelf> Book<S> {
         ensures question { IsQuestion S.Shelf result self.old self.new }
     {
         self.still_open()?;
-        let key = TotalKey::Energy {
+        let wh = energy_in_held(
+            &mut self.shelf,
+            &self.office,
             owner,
             period,
             band,
             direction,
-        };
-        Ok(total_held(&mut self.shelf, &key)?)
+        )?;
+        Ok(wh)
     }
 
     /// What was topped up for an account, in cents, by the records held. It asks for an account of the office.

@@ -1,6 +1,6 @@
 -- What the plain program finds among some of the records. It serves the plain program (`src/plain`).
 -- (Definitions of this project.)
-use Rattle.std.specs.Prelude.{◌≡◌, ℕ, ◌+◌, ◌<◌, ◌≤◌, ◌⊎◌, ◌↔◌, ◌&&◌, Bool, IsTrue, cond, nat_le, Option, Some, None, List, [], ◌∷◌, length, get_or}
+use Rattle.std.specs.Prelude.{◌≡◌, ℕ, ◌+◌, ◌<◌, ◌≤◌, ◌⊎◌, ◌↔◌, ◌&&◌, Bool, IsTrue, cond, nat_le, Option, Some, None, List, length, get_or, filter}
 use Rattle.pw_time.specs.declared.instant.TheConstants.{FIRST_SECOND, LAST_SECOND}
 use Rattle.pw_obis.specs.declared.reference.Register.{Register}
 use Rattle.pw_model.specs.declared.records.Key.{Key}
@@ -75,8 +75,7 @@ pays a e = nat_le 1 (cents_for a (One e.content))
 
 -- those of some records that do
 abbrev pub paying : ℕ → List Entry → List Entry
-paying a [] = []
-paying a (e ∷ some) = cond (pays a e) (e ∷ paying a some) (paying a some)
+paying a = filter (pays a)
 
 -- ---- places in a list
 -- x stands at place i

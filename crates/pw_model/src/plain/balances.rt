@@ -1,6 +1,6 @@
 //! The balance of an account.
 
-ghost use Rattle.std.specs.Prelude.{◌≡◌, ◌<◌, ◌≤◌, ◌^◌, IfOk, Some, length, pos, ◌+ℤ◌, ◌-ℤ◌};
+ghost use Rattle.std.specs.Prelude.{◌≡◌, ◌<◌, ◌≤◌, IfOk, Some, length};
 ghost use Rattle.pw_model.specs.Counting.{contents_at as held_at};
 ghost use Rattle.pw_model.specs.Energy.{cost as cost_of};
 ghost use Rattle.pw_model.specs.Office.{AllOfOffice, IsOffice, most_records};
@@ -10,6 +10,7 @@ ghost use Rattle.pw_model.specs.inner.Tariff.{period_cost};
 use super::energies::energy_in;
 use super::payments::topped_up;
 use super::terms::Terms;
+use crate::amounts::{left_over, price_of};
 use crate::limits::NANO_IN_CENT;
 use crate::records::Entry;
 use pw_tariff::{AccountId, BandId, Direction, PeriodId};
@@ -30,16 +31,7 @@ pub fn balance<T: Terms>(
     let imported = cost(alloc, terms, entries, account, Direction::Import)?;
     let exported = cost(alloc, terms, entries, account, Direction::Export)?;
     let paid = NANO_IN_CENT * topped_up(entries, account);
-    Ok(difference(paid, imported, exported))
-}
-
-fn difference(paid: u128, imported: u128, exported: u128) -> i128
-    requires paid { paid < 2 ^ 120 }
-    requires imported { imported < 2 ^ 120 }
-    requires exported { exported < 2 ^ 120 }
-    ensures { result ≡ (pos paid -ℤ pos imported) +ℤ pos exported }
-{
-    paid as i128 - imported as i128 + exported as i128
+    Ok(left_over(paid, imported, exported))
 }
 
 // What an account's energy costs, in nano-euro: that of each period at its prices.
@@ -92,7 +84,7 @@ fn cost_in<T: Terms>(
             band,
             direction,
         )?;
-        nano += u128::from(terms.price(period, band, direction)) * u128::from(wh);
+        nano += price_of(wh, terms.price(period, band, direction));
     }
     Ok(nano)
 }

@@ -1,18 +1,21 @@
 -- The tables as values, and the schema after so many of them. It serves `src/table.rt`, `src/make.rt`,
 -- `src/raise.rt`, `src/tables.rt` and `src/indexes.rt`.
-use Rattle.std.specs.Prelude.{◌≡◌, ℕ, true, List, [], ◌∷◌, ◌++◌, codes, take, IsTrue}
+use Rattle.std.specs.Prelude.{◌≡◌, ℕ, true, List, [], ◌∷◌, ◌++◌, codes, take, IsTrue, OnOk, Result}
 use Rattle.std.specs.List.{AllByRecursion}
 use Rattle.sqlite.specs.Table.{Table}
 use Rattle.sqlite_schema.specs.declared.schema.Index.{Index}
 use Rattle.sqlite.specs.Schema.{Schema}
 use Rattle.sqlite.specs.Change.{created}
 use Rattle.sqlite.specs.Effect.{Database}
-use Rattle.sqlite.specs.State.{State}
+use Rattle.sqlite.specs.State.{State, HasCleanDisk, KeepsCommit, Survives}
 use Rattle.sqlite.specs.Tree.{Trees}
 use Rattle.sqlite_catalog.specs.Change.{KeepsRows}
 use Rattle.pw_schema.specs.declared.table.StoreTable.{StoreTable}
 use Rattle.pw_schema.specs.declared.table.StoreTable.TheVariants.{Office, Readings, Assignments, TopUps, Points, Starts, Totals, TotalTopUps, WithdrawnReadings, WithdrawnAssignments, WithdrawnTopUps, PeriodTotals}
-use Rattle.pw_schema.specs.Tables.{no_schema, only_one, office_at, reading_at, assignment_at, topup_at, point_at, start_at, total_at, total_topup_at, withdrawn_reading_at, withdrawn_assignment_at, withdrawn_topup_at, period_total_at, index_of}
+use Rattle.pw_schema.specs.declared.kind.StoreVersion.{StoreVersion}
+use Rattle.pw_schema.specs.Fresh.{IsWithin}
+use Rattle.pw_schema.specs.Raised.{IsRaised}
+use Rattle.pw_schema.specs.Tables.{no_schema, only_one, office_at, reading_at, assignment_at, topup_at, point_at, start_at, total_at, total_topup_at, withdrawn_reading_at, withdrawn_assignment_at, withdrawn_topup_at, period_total_at, index_of, schema_of}
 
 -- the tables in the order in which they are made
 abbrev pub all_tables : List StoreTable
@@ -110,3 +113,14 @@ pub record IsMaking (schema : Schema) (s : State) : Type 0 where
   pub is_open : IsTrue s.is_open
   pub inside : s.in_transaction ≡ true
   pub blank : IsBlank schema s.now
+
+-- a call within a transaction, behind which the tables are those of a version
+pub record BringsTo (v : StoreVersion) {T E : Type 0} (answer : Result T E) (old new : State) : Type 0 where
+  pub made : HasCleanDisk new → OnOk answer (IsWithin (schema_of v) new)
+  pub kept : HasCleanDisk new → KeepsCommit old new
+  pub crash : Survives old new (λ _. ⊥)
+
+-- and the rows that stood in the tables of the version before it stay, beside tables without rows
+pub record Raises (from to : StoreVersion) {T E : Type 0} (answer : Result T E) (old new : State) : Type 0 where
+  pub tables : BringsTo to answer old new
+  pub raised : HasCleanDisk new → OnOk answer (IsRaised from old.now.trees new.now.trees)

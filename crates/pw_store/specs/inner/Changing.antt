@@ -1,17 +1,33 @@
 -- What a statement within an upload makes of a store. It serves `src/points.rt`, `src/starts.rt`, `src/totals.rt`,
--- `src/changes.rt`, `src/records.rt` and `src/entries.rt`.
+-- `src/fault.rt`, `src/changes.rt`, `src/upload.rt`, `src/records.rt` and `src/entries.rt`.
 -- (Definitions of this project.)
-use Rattle.std.specs.Prelude.{◌≡◌, ◌<◌, ◌^◌, Some, None, true}
+use Rattle.std.specs.Prelude.{◌≡◌, ◌<◌, ◌^◌, ℕ, zero, suc, pos, Bool, Option, Some, None, [], ◌∷◌, true, false}
+use Rattle.sqlite.specs.declared.types.Value.TheVariants.{Null, Int}
+use Rattle.sqlite.specs.Order.{Row}
 use Rattle.sqlite.specs.Tree.{Trees}
-use Rattle.sqlite.specs.State.{State, Shows}
+use Rattle.sqlite.specs.Edit.{Applies, edit_of}
+use Rattle.sqlite.specs.Rowids.TheVariants.{Chosen}
+use Rattle.sqlite.specs.State.{State, Shows, mode_of}
+use Rattle.sqlite.specs.declared.error.Error.{Error}
+use Rattle.sqlite.specs.declared.error.Error.TheVariants.{SqliteFailure}
+use Rattle.sqlite.specs.declared.error.ErrorCode.TheVariants.{ConstraintViolation}
+use Rattle.sqlite_schema.specs.declared.schema.Constraint.TheVariants.{Unique}
+use Rattle.pw_tariff.specs.declared.ids.AccountId.{AccountId}
+use Rattle.pw_tariff.specs.declared.ids.BandId.{BandId}
+use Rattle.pw_tariff.specs.declared.ids.Direction.{Direction}
+use Rattle.pw_tariff.specs.declared.ids.PeriodId.{PeriodId}
+use Rattle.pw_tariff.specs.Cells.{owner_place}
 use Rattle.pw_model.specs.declared.records.Entry.{Entry}
+use Rattle.pw_model.specs.declared.records.TotalKey.{TotalKey}
 use Rattle.pw_model.specs.declared.records.TotalKey.TheVariants as total
+use Rattle.pw_model.specs.Same.{direction_place}
 use Rattle.pw_model.specs.Shelf.{ShelfContent}
 use Rattle.pw_shelf.specs.Changes.{with_point, with_start, with_total}
 use Rattle.pw_shelf.specs.State.{IsWithRecord}
+use Rattle.pw_schema.specs.Tables.{IsOurs, only_one, ours_with, period_total_at}
 use Rattle.pw_store.specs.declared.changes.Change.{Change}
-use Rattle.pw_store.specs.declared.changes.Change.TheVariants.{TakePoint, PutPoint, TakeStart, PutStart, TakeEnergy, PutEnergy, TakePayment, PutPayment}
-use Rattle.pw_store.specs.Content.{content_of, point_in, start_in, energy_told, payment_told, point_tree, start_tree, energy_tree, payment_tree}
+use Rattle.pw_store.specs.declared.changes.Change.TheVariants.{TakePoint, PutPoint, TakeStart, PutStart, TakeTotal, SetTotal, PutTotal}
+use Rattle.pw_store.specs.Content.{content_of, start_in, energy_told, payment_told, start_tree, energy_tree, payment_tree}
 use Rattle.pw_store.specs.Kept.{IsStore}
 use Rattle.pw_store.specs.Left.{Keeps}
 
@@ -34,34 +50,56 @@ pub record Adds (entry : Entry) (old new : State) : Type 0 where
   pub shows : Shows old new new.now old.committed true
 
 -- ---- changes
-abbrev pub changed : Change → ShelfContent → ShelfContent
-changed (TakePoint m r t) c = with_point c m.0 r t None
-changed (PutPoint m r t w) c = with_point c m.0 r t (Some w)
-changed (TakeStart m t) c = with_start c m.0 t None
-changed (PutStart m t o) c = with_start c m.0 t (Some o)
-changed (TakeEnergy o p b d) c = with_total c (total.Energy o p b d) 0
-changed (PutEnergy o p b d w) c = with_total c (total.Energy o p b d) w
-changed (TakePayment a) c = with_total c (total.TopUps a) 0
-changed (PutPayment a n) c = with_total c (total.TopUps a) n
+-- the new content, where so many rows were changed; the old one, where none was
+abbrev pub where_any : ℕ → ShelfContent → ShelfContent → ShelfContent
+where_any zero old new = old
+where_any (suc n) old new = new
+
+-- what a change makes of a content, where its statement has changed so many rows
+abbrev pub changed : Change → ℕ → ShelfContent → ShelfContent
+changed (TakePoint m r t) n c = with_point c m.0 r t None
+changed (PutPoint m r t w) n c = where_any n c (with_point c m.0 r t (Some w))
+changed (TakeStart m t) n c = with_start c m.0 t None
+changed (PutStart m t o) n c = with_start c m.0 t (Some o)
+changed (TakeTotal k) n c = with_total c k 0
+changed (SetTotal k a) n c = where_any n c (with_total c k a)
+changed (PutTotal k a) n c = with_total c k a
+
+-- the amount of the row of a total, if it has one
+abbrev pub total_told : Trees → TotalKey → Option ℕ
+total_told db (total.Energy o p b d) = energy_told (db energy_tree) (total.Energy o p b d)
+total_told db (total.TopUps a) = payment_told (db payment_tree) (total.TopUps a)
 
 -- no row has the key of what is to be put
 abbrev pub IsFree : Change → Trees → Type 0
-IsFree (PutPoint m r t w) db = point_in (db point_tree) m.0 r t ≡ None
 IsFree (PutStart m t o) db = start_in (db start_tree) m.0 t ≡ None
-IsFree (PutEnergy o p b d w) db = energy_told (db energy_tree) (total.Energy o p b d) ≡ None
-IsFree (PutPayment a n) db = payment_told (db payment_tree) (total.TopUps a) ≡ None
+IsFree (PutTotal k a) db = total_told db k ≡ None
 IsFree _ db = Unit {0}
 
--- no row has the key of what was taken
-abbrev pub IsTaken : Change → Trees → Type 0
-IsTaken (TakePoint m r t) db = point_in (db point_tree) m.0 r t ≡ None
-IsTaken (TakeStart m t) db = start_in (db start_tree) m.0 t ≡ None
-IsTaken (TakeEnergy o p b d) db = energy_told (db energy_tree) (total.Energy o p b d) ≡ None
-IsTaken (TakePayment a) db = payment_told (db payment_tree) (total.TopUps a) ≡ None
-IsTaken _ db = Unit {0}
+-- no row has the key of what was taken, or was to be set where no row was changed
+abbrev pub IsTaken : Change → ℕ → Trees → Type 0
+IsTaken (TakeStart m t) n db = start_in (db start_tree) m.0 t ≡ None
+IsTaken (SetTotal k a) n db = n ≡ 0 → total_told db k ≡ None
+IsTaken _ n db = Unit {0}
 
 -- an amount is above 0, and fits a column
 abbrev pub Fits : Change → Type 0
-Fits (PutEnergy o p b d w) = (0 < w) × (w < 2 ^ 63)
-Fits (PutPayment a n) = (0 < n) × (n < 2 ^ 63)
+Fits (SetTotal k a) = (0 < a) × (a < 2 ^ 63)
+Fits (PutTotal k a) = (0 < a) × (a < 2 ^ 63)
 Fits _ = Unit {0}
+
+-- the engine has refused a row because another has its key
+abbrev pub refuses_key : Error → Bool
+refuses_key (SqliteFailure (ConstraintViolation Unique)) = true
+refuses_key _ = false
+
+-- ---- a row of a total of energy that is put, whatever rows there are
+-- as it is given to INSERT
+abbrev pub energy_row : Option AccountId → PeriodId → BandId → Direction → ℕ → Row
+energy_row o p b d v = Int (pos (owner_place o)) ∷ Int (pos p.0) ∷ Int (pos b.0) ∷ Int (pos (direction_place d)) ∷ Int (pos v) ∷ []
+
+-- it was put into their table, with a rowid of its own, and no row of another table is changed; and the upload goes on
+pub record PutsEnergy (given : Row) (old new : State) : Type 0 where
+  pub ours : IsOurs new.now.schema
+  pub applied : Applies (ours_with only_one) (mode_of old).keys old.now.trees (edit_of old.now.trees (period_total_at energy_tree) [] Chosen 0 ((Null ∷ given) ∷ [])) new.now.trees
+  pub shows : Shows old new new.now old.committed true

@@ -1,13 +1,37 @@
--- Which totals are put by period where a store is brought to version 3. It serves `src/filling.rt`.
+-- Which totals are put by period where a store is brought to version 3. It serves `src/totals.rt` and
+-- `src/filling.rt`.
 -- (Definitions of this project.)
-use Rattle.std.specs.Prelude.{◌≡◌, ◌⊎◌, ◌++◌, ℕ, List, filter, Option, Some, None}
+use Rattle.std.specs.Prelude.{◌≡◌, ◌⊎◌, ◌++◌, ℕ, Bool, true, false, List, filter, map, Option, Some, None}
 use Rattle.std.specs.List.{AllByRecursion}
+use Rattle.std.specs.List.Sorted.{IsPermutation}
+use Rattle.sqlite.specs.Tree.{Trees}
 use Rattle.pw_model.specs.declared.records.TotalKey.{TotalKey}
 use Rattle.pw_model.specs.declared.records.TotalKey.TheVariants.{Energy, TopUps}
 use Rattle.pw_schema.specs.Judges.{is_above_zero}
+use Rattle.pw_schema.specs.declared.kind.TotalKind.TheVariants.{Energies}
+use Rattle.pw_store.specs.Content.{energy_tree}
 use Rattle.pw_store.specs.declared.fault.OpenFault.{OpenFault}
 use Rattle.pw_store.specs.declared.fault.OpenFault.TheVariants.{Store, Memory}
+use Rattle.pw_store.specs.inner.Sums.{total_in_row}
 
+-- ---- what is put
+-- the totals that the rows of energy by period tell
+abbrev pub energies_in : Trees → List (TotalKey × ℕ)
+energies_in db = map (total_in_row Energies) (db energy_tree)
+
+-- those of a list that are of energy
+abbrev pub is_of_energy : TotalKey → Bool
+is_of_energy (Energy o p b d) = true
+is_of_energy (TopUps a) = false
+
+abbrev pub energies_among : List (TotalKey × ℕ) → List (TotalKey × ℕ)
+energies_among totals = filter (λ t. is_of_energy t.0) totals
+
+-- beside what the rows told before they tell these
+abbrev pub TellsMore : List (TotalKey × ℕ) → Trees → Trees → Type 0
+TellsMore totals old new = IsPermutation (energies_in old ++ energies_among totals) (energies_in new)
+
+-- ---- what is read again
 -- of top-ups
 abbrev pub IsOfTopUps : TotalKey → Type 0
 IsOfTopUps (Energy o p b d) = ⊥

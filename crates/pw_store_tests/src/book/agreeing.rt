@@ -5,17 +5,16 @@ ghost use Rattle.pw_model.specs.Office.{AllOfOffice, most_records};
 ghost use Rattle.pw_tariff.specs.Office.{office_of};
 
 use super::{OTHER, asking, money};
-use pw_book::{Book, Entry};
+use pw_book::{Book, BookFault, Entry};
+use pw_model::MOST_RECORDS;
 use pw_model::plain::{self, OfficeTerms};
-use pw_model::{Dispute, MOST_RECORDS};
 use pw_obis::Register;
 use pw_shelf::Shelf;
 use pw_tariff::{AccountId, BandId, Direction, MeterId, Office, Owner, PeriodId};
 use pw_tests::sample::{FIRST, KINDS, METER, SECOND, are_of_office};
 use pw_time::Zone;
-use std::alloc::{AllocError, Global};
+use std::alloc::Global;
 use std::process::Abort;
-use std::test::Fail;
 
 // Whether a list was told, and is the expected one.
 pub(super) fn is_list<T: PartialEq + Drop, E: Drop>(
@@ -49,90 +48,77 @@ pub(super) fn have_meaning(office: &Office, zone: &Zone, entries: &[Entry]) -> b
     are_few(entries) && are_of_office(office, zone, entries)
 }
 
-// The energy that the definitions give, one second at a time.
+// The energy that the definitions give, one second at a time: that within a period, or that of all.
 fn meant_energy(
     rt: &impl Abort,
     alloc: Global,
     office: &Office,
     zone: &Zone,
     entries: &[Entry],
+    within: Option<PeriodId>,
     (owner, band, direction): (Owner, BandId, Direction),
-) -> Result<u64, AllocError> {
+) -> u64 {
     assert!(rt; have_meaning(office, zone, entries));
     let terms = OfficeTerms::new(office, zone);
-    plain::energy(alloc, &terms, entries, owner, band, direction)
+    let meant = match within {
+        Some(period) => plain::energy_in(alloc, &terms, entries, owner, period, band, direction),
+        None => plain::energy(alloc, &terms, entries, owner, band, direction),
+    };
+    meant.expect(rt, "memory")
 }
 
-fn energy_agrees<S: Shelf>(
+// The energy that a book tells.
+fn told_energy<S: Shelf>(
     rt: &impl Abort,
-    alloc: Global,
     book: &mut Book<S>,
-    entries: &[Entry],
+    within: Option<PeriodId>,
     (owner, band, direction): (Owner, BandId, Direction),
-) -> Result<bool, AllocError> {
-    let kind = (owner, band, direction);
-    let meant = meant_energy(rt, alloc, book.office(), book.zone(), entries, kind)?;
-    Ok(asking::energy(rt, book, owner, band, direction) == Ok(meant))
+) -> Result<u64, BookFault> {
+    match within {
+        Some(period) => asking::energy_in(rt, book, owner, period, band, direction),
+        None => asking::energy(rt, book, owner, band, direction),
+    }
 }
 
+// Whether a book answers the energies as the definitions do.
 fn energies_agree<S: Shelf>(
     rt: &impl Abort,
     alloc: Global,
     book: &mut Book<S>,
     entries: &[Entry],
-) -> Result<bool, AllocError> {
+    within: Option<PeriodId>,
+) -> bool {
     for kind in KINDS {
-        if !energy_agrees(rt, alloc, book, entries, *kind)? {
-            return Ok(false);
+        let meant = meant_energy(
+            rt,
+            alloc,
+            book.office(),
+            book.zone(),
+            entries,
+            within,
+            *kind,
+        );
+        if told_energy(rt, book, within, *kind) != Ok(meant) {
+            return false;
         }
     }
-    Ok(true)
+    true
 }
 
-// The energy within a period that the definitions give, one second at a time.
-fn meant_energy_in(
-    rt: &impl Abort,
-    alloc: Global,
-    office: &Office,
-    zone: &Zone,
-    entries: &[Entry],
-    period: PeriodId,
-    (owner, band, direction): (Owner, BandId, Direction),
-) -> Result<u64, AllocError> {
-    assert!(rt; have_meaning(office, zone, entries));
-    let terms = OfficeTerms::new(office, zone);
-    plain::energy_in(alloc, &terms, entries, owner, period, band, direction)
-}
-
-fn energy_agrees_in<S: Shelf>(
-    rt: &impl Abort,
-    alloc: Global,
-    book: &mut Book<S>,
-    entries: &[Entry],
-    period: PeriodId,
-    (owner, band, direction): (Owner, BandId, Direction),
-) -> Result<bool, AllocError> {
-    let kind = (owner, band, direction);
-    let meant = meant_energy_in(rt, alloc, book.office(), book.zone(), entries, period, kind)?;
-    Ok(asking::energy_in(rt, book, owner, period, band, direction) == Ok(meant))
-}
-
-// Whether the book answers the energies of each period as the definitions do.
+// Whether it answers those of each period so.
 pub(super) fn periods_agree<S: Shelf>(
     rt: &impl Abort,
     alloc: Global,
     book: &mut Book<S>,
     entries: &[Entry],
-) -> Result<bool, AllocError> {
+) -> bool {
     let periods = book.office().periods();
     for period in 0..periods {
-        for kind in KINDS {
-            if !energy_agrees_in(rt, alloc, book, entries, PeriodId(period), *kind)? {
-                return Ok(false);
-            }
+        if !energies_agree(rt, alloc, book, entries, Some(PeriodId(period))) {
+            return false;
         }
     }
-    Ok(true)
+    true
 }
 
 // What was topped up for an account by the definitions, and its balance.
@@ -143,11 +129,11 @@ fn meant_money(
     zone: &Zone,
     entries: &[Entry],
     account: AccountId,
-) -> Result<(u128, i128), AllocError> {
+) -> (u128, i128) {
     assert!(rt; have_meaning(office, zone, entries));
     let terms = OfficeTerms::new(office, zone);
-    let nano = plain::balance(alloc, &terms, entries, account)?;
-    Ok((plain::topped_up(entries, account), nano))
+    let nano = plain::balance(alloc, &terms, entries, account).expect(rt, "memory");
+    (plain::topped_up(entries, account), nano)
 }
 
 fn money_agrees<S: Shelf>(
@@ -156,30 +142,22 @@ fn money_agrees<S: Shelf>(
     book: &mut Book<S>,
     entries: &[Entry],
     account: AccountId,
-) -> Result<bool, AllocError> {
-    let meant = meant_money(rt, alloc, book.office(), book.zone(), entries, account)?;
+) -> bool {
+    let meant = meant_money(rt, alloc, book.office(), book.zone(), entries, account);
     match money(rt, book, account) {
-        Ok((cents, nano)) => Ok((u128::from(cents), nano) == meant),
-        Err(_) => Ok(false),
+        Ok((cents, nano)) => (u128::from(cents), nano) == meant,
+        Err(_) => false,
     }
 }
 
 fn falls_agree<S: Shelf>(
+    rt: &impl Abort,
     alloc: Global,
     book: &mut Book<S>,
     entries: &[Entry],
-) -> Result<bool, AllocError> {
-    let falls = plain::falls(alloc, entries)?;
-    Ok(is_list(asking::falls(alloc, book), &falls))
-}
-
-fn meant_disputes(
-    rt: &impl Abort,
-    alloc: Global,
-    entries: &[Entry],
-) -> Result<Vec<Dispute>, AllocError> {
-    assert!(rt; are_few(entries));
-    plain::disputes(alloc, entries)
+) -> bool {
+    let falls = plain::falls(alloc, entries).expect(rt, "memory");
+    is_list(asking::falls(alloc, book), &falls)
 }
 
 fn disputes_agree<S: Shelf>(
@@ -187,9 +165,10 @@ fn disputes_agree<S: Shelf>(
     alloc: Global,
     book: &mut Book<S>,
     entries: &[Entry],
-) -> Result<bool, AllocError> {
-    let disputes = meant_disputes(rt, alloc, entries)?;
-    Ok(is_list(asking::disputes(alloc, book), &disputes))
+) -> bool {
+    assert!(rt; are_few(entries));
+    let disputes = plain::disputes(alloc, entries).expect(rt, "memory");
+    is_list(asking::disputes(alloc, book), &disputes)
 }
 
 fn rows_agree<S: Shelf>(
@@ -199,9 +178,9 @@ fn rows_agree<S: Shelf>(
     entries: &[Entry],
     meter: MeterId,
     register: Register,
-) -> Result<bool, AllocError> {
-    let rows = plain::readings(alloc, entries, meter, register)?;
-    Ok(is_list(asking::readings(rt, alloc, book, meter, register), &rows))
+) -> bool {
+    let rows = plain::readings(alloc, entries, meter, register).expect(rt, "memory");
+    is_list(asking::readings(rt, alloc, book, meter, register), &rows)
 }
 
 fn registers_agree<S: Shelf>(
@@ -210,52 +189,29 @@ fn registers_agree<S: Shelf>(
     book: &mut Book<S>,
     entries: &[Entry],
     meter: MeterId,
-) -> Result<bool, AllocError> {
+) -> bool {
     for register in [Register::I1, Register::I2, Register::E1, Register::E2] {
-        if !rows_agree(rt, alloc, book, entries, meter, register)? {
-            return Ok(false);
+        if !rows_agree(rt, alloc, book, entries, meter, register) {
+            return false;
         }
     }
-    Ok(true)
+    true
 }
 
-fn lists_agree<S: Shelf>(
-    rt: &impl Abort,
-    alloc: Global,
-    book: &mut Book<S>,
-    entries: &[Entry],
-) -> Result<bool, AllocError> {
-    Ok(
-        falls_agree(alloc, book, entries)?
-            && disputes_agree(rt, alloc, book, entries)?
-            && registers_agree(rt, alloc, book, entries, METER)?
-            && registers_agree(rt, alloc, book, entries, OTHER)?,
-    )
-}
-
-fn sums_agree<S: Shelf>(
-    rt: &impl Abort,
-    alloc: Global,
-    book: &mut Book<S>,
-    entries: &[Entry],
-) -> Result<bool, AllocError> {
-    Ok(
-        energies_agree(rt, alloc, book, entries)?
-            && money_agrees(rt, alloc, book, entries, FIRST)?
-            && money_agrees(rt, alloc, book, entries, SECOND)?,
-    )
-}
-
-// The book answers all questions as the definitions do, and holds so many records.
+// Whether a book answers all questions as the definitions do, and holds so many records.
 pub(super) fn all_agree<S: Shelf>(
     rt: &impl Abort,
     alloc: Global,
     book: &mut Book<S>,
     entries: &[Entry],
     held: u32,
-) -> Result<(), Fail> {
-    assert!(rt; asking::count(book) == Ok(held));
-    assert!(rt; sums_agree(rt, alloc, book, entries)?);
-    assert!(rt; lists_agree(rt, alloc, book, entries)?);
-    Ok(())
+) -> bool {
+    asking::count(book) == Ok(held)
+        && energies_agree(rt, alloc, book, entries, None)
+        && money_agrees(rt, alloc, book, entries, FIRST)
+        && money_agrees(rt, alloc, book, entries, SECOND)
+        && falls_agree(rt, alloc, book, entries)
+        && disputes_agree(rt, alloc, book, entries)
+        && registers_agree(rt, alloc, book, entries, METER)
+        && registers_agree(rt, alloc, book, entries, OTHER)
 }

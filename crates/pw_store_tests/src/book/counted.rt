@@ -3,35 +3,30 @@
 use super::agreeing::all_agree;
 use super::questions::none_is_answered;
 use super::{Books, InMemory, asking, imported, lengths, money, post, takes};
-use crate::entries::{assigned, paid, reading, withdrawn};
+use crate::ends::done;
+use crate::entries::{add, assigned, paid, reading, withdrawn};
 use pw_book::{Book, PostFault};
 use pw_model::Entry;
 use pw_shelf::{CountShelf, Shelf};
 use pw_tests::sample::{FIRST, FIVE, NEW_YEAR, SECOND, SEVEN};
-use std::alloc::{AllocError, Global};
+use std::alloc::Global;
 use std::process::Abort;
-use std::test::Fail;
 
 // Ten days behind the new year, 2024-01-11T05:00:00Z: an hour of one band, and no change of it near.
 const MIDDLE: u32 = FIVE + 777_600;
 
 // An owner, and readings five minutes apart from an instant on.
-fn rising(
-    rt: &impl Abort,
-    alloc: Global,
-    from: u32,
-    number: u32,
-) -> Result<Vec<Entry>, AllocError> {
+fn rising(rt: &impl Abort, alloc: Global, from: u32, number: u32) -> Vec<Entry> {
     let mut entries = Vec::new(alloc);
-    entries.extend_from_slice(&[assigned(rt, NEW_YEAR, Some(FIRST))])?;
+    add(rt, &mut entries, assigned(rt, NEW_YEAR, Some(FIRST)));
     let mut second = from;
     let mut watt_hours = 1_000u64;
     for _ in 0..number {
-        entries.extend_from_slice(&[reading(rt, second, watt_hours)])?;
+        add(rt, &mut entries, reading(rt, second, watt_hours));
         second = second.saturating_add(300);
         watt_hours = watt_hours.saturating_add(100);
     }
-    Ok(entries)
+    entries
 }
 
 // An upload of records that aren't held.
@@ -75,7 +70,7 @@ fn reading_cost(rt: &impl Abort, alloc: Global, number: u32) -> u64 {
     let from = MIDDLE.saturating_sub(half.saturating_mul(300));
     let watt_hours = u64::from(half).saturating_mul(100).saturating_add(1_050);
     let fresh = reading(rt, MIDDLE + 150, watt_hours);
-    let held = rising(rt, alloc, from, number).expect(rt, "memory");
+    let held = rising(rt, alloc, from, number);
     cost_of(rt, alloc, &held, fresh)
 }
 
@@ -83,8 +78,8 @@ fn reading_cost(rt: &impl Abort, alloc: Global, number: u32) -> u64 {
 fn assignment_cost(rt: &impl Abort, alloc: Global, number: u32) -> u64 {
     let next = assigned(rt, MIDDLE + 1_700, Some(FIRST));
     let fresh = assigned(rt, MIDDLE + 400, Some(SECOND));
-    let mut held = rising(rt, alloc, MIDDLE, number.saturating_add(6)).expect(rt, "memory");
-    held.extend_from_slice(&[next]).expect(rt, "memory");
+    let mut held = rising(rt, alloc, MIDDLE, number.saturating_add(6));
+    add(rt, &mut held, next);
     cost_of(rt, alloc, &held, fresh)
 }
 
@@ -95,7 +90,7 @@ fn assignment_cost(rt: &impl Abort, alloc: Global, number: u32) -> u64 {
 #[test]
 fn calls_and_rows_of_a_reading(rt: HostRuntime) {
     let fresh = reading(&rt, MIDDLE + 900, 1_300);
-    let held = rising(&rt, rt.alloc(), MIDDLE, 3).expect(&rt, "memory");
+    let held = rising(&rt, rt.alloc(), MIDDLE, 3);
     assert!(rt; cost_of(&rt, rt.alloc(), &held, fresh) == 17);
 }
 
@@ -114,12 +109,12 @@ fn payment(rt: &impl Abort, alloc: Global, place: u32) -> Entry {
 }
 
 // So many payments.
-fn payments(rt: &impl Abort, alloc: Global, number: u32) -> Result<Vec<Entry>, AllocError> {
+fn payments(rt: &impl Abort, alloc: Global, number: u32) -> Vec<Entry> {
     let mut entries = Vec::new(alloc);
     for place in 0..number {
-        entries.extend_from_slice(&[payment(rt, alloc, place)])?;
+        add(rt, &mut entries, payment(rt, alloc, place));
     }
-    Ok(entries)
+    entries
 }
 
 // A top-up among those held takes at most 24 calls and rows.
@@ -138,20 +133,20 @@ fn empty_cost(rt: &impl Abort, alloc: Global, held: &[Entry]) {
 // bears on: pw_book book.rt Book::post cost
 #[test]
 fn payments_among_1000(rt: HostRuntime) {
-    let held = payments(&rt, rt.alloc(), 1_000).expect(&rt, "memory");
+    let held = payments(&rt, rt.alloc(), 1_000);
     topup_cost(&rt, rt.alloc(), &held);
     empty_cost(&rt, rt.alloc(), &held);
 }
 
 // So many owners, two at each instant, of whom none counts.
-fn disputed(rt: &impl Abort, alloc: Global, number: u32) -> Result<Vec<Entry>, AllocError> {
+fn disputed(rt: &impl Abort, alloc: Global, number: u32) -> Vec<Entry> {
     let mut entries = Vec::new(alloc);
     for place in 0..number {
         let second = NEW_YEAR.saturating_add((place / 2).saturating_mul(60));
         let owner = if place % 2 == 0 { FIRST } else { SECOND };
-        entries.extend_from_slice(&[assigned(rt, second, Some(owner))])?;
+        add(rt, &mut entries, assigned(rt, second, Some(owner)));
     }
-    Ok(entries)
+    entries
 }
 
 // With no counting start and no point, two bands and two accounts, an assignment takes at most 56 + 4 + 12 * 6.
@@ -159,7 +154,7 @@ fn disputed(rt: &impl Abort, alloc: Global, number: u32) -> Result<Vec<Entry>, A
 #[test]
 fn assignment_among_1000_disputed(rt: HostRuntime) {
     let fresh = assigned(&rt, MIDDLE, None);
-    let held = disputed(&rt, rt.alloc(), 1_000).expect(&rt, "memory");
+    let held = disputed(&rt, rt.alloc(), 1_000);
     let cost = cost_of(&rt, rt.alloc(), &held, fresh);
     assert!(rt; 0 < cost && cost <= 132);
 }
@@ -169,7 +164,7 @@ fn assignment_among_1000_disputed(rt: HostRuntime) {
 // bears on: pw_model laws.rt one_more_bearing ensures
 #[test]
 fn withdrawal_of_a_reading(rt: HostRuntime) {
-    let held = rising(&rt, rt.alloc(), MIDDLE, 10).expect(&rt, "memory");
+    let held = rising(&rt, rt.alloc(), MIDDLE, 10);
     let fresh = withdrawn(&rt, &reading(&rt, MIDDLE, 1_000));
     let cost = cost_of(&rt, rt.alloc(), &held, fresh);
     assert!(rt; 0 < cost && cost <= 68);
@@ -201,11 +196,10 @@ fn tells_upload<S: Shelf>(rt: &impl Abort, alloc: Global, book: &mut Book<S>) ->
 }
 
 // An upload that was taken back left nothing, and is taken the next time.
-fn is_as_before<S: Shelf>(rt: &impl Abort, alloc: Global, book: &mut Book<S>) -> Result<(), Fail> {
-    all_agree(rt, alloc, book, &[], 0)?;
+fn is_as_before<S: Shelf>(rt: &impl Abort, alloc: Global, book: &mut Book<S>) {
+    assert!(rt; all_agree(rt, alloc, book, &[], 0));
     takes(rt, alloc, book, &upload(rt), (4, 0));
     assert!(rt; tells_upload(rt, alloc, book));
-    Ok(())
 }
 
 // Takes one upload over a device that fails at a call, and again where nothing was begun: what it was first answered.
@@ -213,14 +207,14 @@ fn taken_failing<S: Shelf>(
     rt: &impl Abort,
     alloc: Global,
     book: &mut Book<S>,
-) -> Result<Option<PostFault>, Fail> {
+) -> Option<PostFault> {
     let told = post(rt, alloc, book, &upload(rt));
     match told {
         Ok(counts) => assert!(rt; counts == (4, 0)),
         Err(PostFault::Reopen) => is_shut(rt, alloc, book),
-        Err(_) => is_as_before(rt, alloc, book)?,
+        Err(_) => is_as_before(rt, alloc, book),
     }
-    Ok(told.err())
+    told.err()
 }
 
 fn told_failing<B: Books>(
@@ -229,9 +223,13 @@ fn told_failing<B: Books>(
     books: &B,
     fail_at: u32,
     abandon_fails: bool,
-) -> Result<Option<PostFault>, Fail> {
-    let mut book = books.failing(rt, alloc, fail_at, abandon_fails)?;
-    taken_failing(rt, alloc, &mut book)
+) -> Option<PostFault> {
+    let mut book = books
+        .failing(rt, alloc, fail_at, abandon_fails)
+        .expect(rt, "a book");
+    let told = taken_failing(rt, alloc, &mut book);
+    done(book);
+    told
 }
 
 // Takes one upload over a device that fails at the first call, at the second, and so on, until it is taken: at which
@@ -241,11 +239,11 @@ fn taken_at_last<B: Books>(
     alloc: Global,
     books: &B,
     abandon_fails: bool,
-) -> Result<(u32, bool), Fail> {
+) -> (u32, bool) {
     let mut begun = false;
     for fail_at in 1..200 {
-        let Some(fault) = told_failing(rt, alloc, books, fail_at, abandon_fails)? else {
-            return Ok((fail_at, begun));
+        let Some(fault) = told_failing(rt, alloc, books, fail_at, abandon_fails) else {
+            return (fail_at, begun);
         };
         begun = begun || fault == PostFault::Reopen;
         let expected = if begun {
@@ -263,14 +261,9 @@ fn taken_at_last<B: Books>(
 // bears on: pw_book book.rt Book::post reopen
 // bears on: pw_shelf shelf.rt Shelf::begin unbegun
 // bears on: pw_shelf shelf.rt Shelf::commit begun
-pub(super) fn failing_device<B: Books>(
-    rt: &impl Abort,
-    alloc: Global,
-    books: &B,
-) -> Result<(), Fail> {
-    let (fail_at, begun) = taken_at_last(rt, alloc, books, false)?;
+pub(super) fn failing_device<B: Books>(rt: &impl Abort, alloc: Global, books: &B) {
+    let (fail_at, begun) = taken_at_last(rt, alloc, books, false);
     assert!(rt; fail_at > 20 && !begun);
-    Ok(())
 }
 
 // bears on: pw_book book.rt Book idle
@@ -284,12 +277,7 @@ pub(super) fn failing_device<B: Books>(
 // bears on: pw_book book/questions.rt Book::energy_in question
 // bears on: pw_book book/questions.rt Book::falls question
 // bears on: pw_book book/questions.rt Book::topped_up question
-pub(super) fn failing_device_and_abandon<B: Books>(
-    rt: &impl Abort,
-    alloc: Global,
-    books: &B,
-) -> Result<(), Fail> {
-    let (_, begun) = taken_at_last(rt, alloc, books, true)?;
+pub(super) fn failing_device_and_abandon<B: Books>(rt: &impl Abort, alloc: Global, books: &B) {
+    let (_, begun) = taken_at_last(rt, alloc, books, true);
     assert!(rt; begun);
-    Ok(())
 }

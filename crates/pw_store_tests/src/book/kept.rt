@@ -1,7 +1,7 @@
-//! The points, starts and totals that the store of a book keeps beside its records, against those of its uploads.
+//! A book and what its store keeps beside its records, points, starts and totals, against the definitions.
 
 use super::OTHER;
-use super::agreeing::{have_meaning, is_list};
+use super::agreeing::{all_agree, have_meaning, is_list};
 use crate::entries::at;
 use pw_book::Book;
 use pw_model::{Content, Entry, Key, TotalKey};
@@ -11,9 +11,8 @@ use pw_shelf::{Shelf, ShelfFault};
 use pw_tariff::{Direction, MeterId, Owner, PeriodId};
 use pw_tests::sample::{FIRST, HIGH, LOW, METER, SECOND};
 use pw_time::{FIRST_SECOND, LAST_SECOND};
-use std::alloc::{AllocError, Global};
+use std::alloc::Global;
 use std::process::Abort;
-use std::test::Fail;
 
 // Adds the points that a store keeps of a register, as readings.
 fn add_points<S: Shelf>(
@@ -128,31 +127,34 @@ fn totals_kept<S: Shelf>(
 }
 
 // The parts of all the entries that a book took.
-fn parts_of<S: Shelf>(
-    rt: &impl Abort,
-    alloc: Global,
-    book: &Book<S>,
-    entries: &[Entry],
-) -> Result<Parts, AllocError> {
+fn parts_of<S: Shelf>(rt: &impl Abort, alloc: Global, book: &Book<S>, entries: &[Entry]) -> Parts {
     assert!(rt; have_meaning(book.office(), book.zone(), entries));
-    true_parts(alloc, book.office(), book.zone(), entries)
+    true_parts(alloc, book.office(), book.zone(), entries).expect(rt, "memory")
 }
 
-fn are_kept<S: Shelf>(rt: &impl Abort, alloc: Global, shelf: &mut S, periods: u8, parts: &Parts) {
-    assert!(rt; is_list(points_kept(rt, alloc, shelf), &parts.points));
-    assert!(rt; is_list(starts_kept(alloc, shelf), &parts.starts));
-    assert!(rt; is_list(totals_kept(alloc, shelf, periods), &parts.totals));
-}
-
-// What the store of a book keeps are the parts of all the entries that the book took.
-pub(super) fn parts_agree<S: Shelf + Drop>(
+fn are_kept<S: Shelf>(
     rt: &impl Abort,
     alloc: Global,
-    book: Book<S>,
+    shelf: &mut S,
+    periods: u8,
+    parts: &Parts,
+) -> bool {
+    is_list(points_kept(rt, alloc, shelf), &parts.points)
+        && is_list(starts_kept(alloc, shelf), &parts.starts)
+        && is_list(totals_kept(alloc, shelf, periods), &parts.totals)
+}
+
+// A book answers all questions as the definitions do of all the entries that it took, and holds so many records; and what
+// its store keeps are the parts of these entries.
+pub(super) fn book_and_store_agree<S: Shelf + Drop>(
+    rt: &impl Abort,
+    alloc: Global,
+    mut book: Book<S>,
     entries: &[Entry],
-) -> Result<(), Fail> {
-    let parts = parts_of(rt, alloc, &book, entries)?;
+    held: u32,
+) {
+    assert!(rt; all_agree(rt, alloc, &mut book, entries, held));
+    let parts = parts_of(rt, alloc, &book, entries);
     let periods = book.office().periods();
-    are_kept(rt, alloc, &mut book.into_shelf(), periods, &parts);
-    Ok(())
+    assert!(rt; are_kept(rt, alloc, &mut book.into_shelf(), periods, &parts));
 }

@@ -16,7 +16,6 @@ use pw_tests::sample::FIRST;
 use pw_time::Zone;
 use std::alloc::Global;
 use std::process::Abort;
-use std::test::Fail;
 
 // An upload is refused, since with two records held a book for one has no room for it.
 fn is_full<S: Shelf>(rt: &impl Abort, alloc: Global, book: &mut Book<S>, entries: &[Entry]) {
@@ -36,29 +35,19 @@ fn with_limit<S: Shelf>(book: Book<S>, office: Office, limit: u32) -> Book<S>
 }
 
 // A book that holds two records over a limit of one.
-fn over_limit<S: Shelf + Drop>(
-    rt: &impl Abort,
-    alloc: Global,
-    mut book: Book<S>,
-    office: Office,
-) -> Result<(), Fail>
+fn over_limit<S: Shelf + Drop>(rt: &impl Abort, alloc: Global, mut book: Book<S>, office: Office)
     requires { office ≡ book.office }
 {
     let two = [paid(rt, b"P1", FIRST, 1), paid(rt, b"P2", FIRST, 1)];
     let told = post(rt, alloc, &mut book, &two).expect(rt, "an upload that is taken");
     assert!(rt; told == (2, 0));
-    stays_over_limit(rt, alloc, &mut with_limit(book, office, 1), &two)
+    stays_over_limit(rt, alloc, &mut with_limit(book, office, 1), &two);
 }
 
-fn stays_over_limit<S: Shelf>(
-    rt: &impl Abort,
-    alloc: Global,
-    book: &mut Book<S>,
-    two: &[Entry],
-) -> Result<(), Fail> {
+fn stays_over_limit<S: Shelf>(rt: &impl Abort, alloc: Global, book: &mut Book<S>, two: &[Entry]) {
     is_full(rt, alloc, book, &[]);
     is_full(rt, alloc, book, two);
-    all_agree(rt, alloc, book, two, 2)
+    assert!(rt; all_agree(rt, alloc, book, two, 2));
 }
 
 // The office twice.
@@ -71,21 +60,26 @@ fn offices(alloc: Global) -> Result<(Office, Office), OfficeFault>
 }
 
 // Such a book over an empty store.
-fn over_limit_in<S: Shelf + Drop>(rt: &impl Abort, alloc: Global, shelf: S) -> Result<(), Fail>
+fn over_limit_in<S: Shelf + Drop>(
+    rt: &impl Abort,
+    alloc: Global,
+    shelf: S,
+) -> Result<(), OfficeFault>
     requires empty { (S.state shelf).content ≡ no_content }
     requires idle { (S.state shelf).begun ≡ None }
 {
     let (office, again) = offices(alloc)?;
-    over_limit(rt, alloc, book_of(rt, office, shelf, 2), again)
+    over_limit(rt, alloc, book_of(rt, office, shelf, 2), again);
+    Ok(())
 }
 
 // bears on: pw_book book.rt Book limited
 // bears on: pw_book book.rt Book::new limit
 #[test]
-fn over_its_limit(rt: HostRuntime) -> Result<(), Fail> {
+fn over_its_limit(rt: HostRuntime) {
     let alloc = rt.alloc();
-    over_limit_in(&rt, alloc, MemoryShelf::new(alloc))?;
-    over_limit_in(&rt, alloc, counting_shelf(alloc))
+    assert!(rt; over_limit_in(&rt, alloc, MemoryShelf::new(alloc)).is_ok());
+    assert!(rt; over_limit_in(&rt, alloc, counting_shelf(alloc)).is_ok());
 }
 
 // Neither the making of a book nor its end asks anything of the store.
@@ -128,21 +122,19 @@ fn numbers_and_names(rt: HostRuntime) {
     book_faults_told(&rt);
 }
 
-fn has_line(rt: &impl Abort, alloc: Global, fault: BookFault, expected: &str) -> Result<(), Fail> {
-    let line = format!(in alloc; "{fault}")?;
-    assert!(rt; line.as_str() == expected);
-    Ok(())
+fn has_line(rt: &impl Abort, alloc: Global, fault: BookFault, expected: &str) -> bool {
+    let line = format!(in alloc; "{fault}").expect(rt, "memory");
+    line.as_str() == expected
 }
 
 // bears on: pw_book fault.rt BookFault output
 #[test]
-fn lines_of_questions(rt: HostRuntime) -> Result<(), Fail> {
+fn lines_of_questions(rt: HostRuntime) {
     for (fault, line) in [
         (BookFault::Device, "refused 61 Device"),
         (BookFault::Memory, "refused 62 Memory"),
         (BookFault::Reopen, "refused 63 Reopen"),
     ] {
-        has_line(&rt, rt.alloc(), fault, line)?;
+        assert!(rt; has_line(&rt, rt.alloc(), fault, line));
     }
-    Ok(())
 }

@@ -1,23 +1,25 @@
 //! Questions to a book whose device fails, to one that is shut, and what questions cost.
 
-use super::counted::{seen_by, upload};
-use super::{Books, InMemory, asking, imported, takes};
-use pw_book::{Book, BookFault, Entry};
+use super::counted::upload;
+use super::{Books, Counting, asking, imported, takes};
+use crate::ends::done;
+use pw_book::{Book, BookFault};
 use pw_obis::Register;
 use pw_shelf::{CountShelf, Shelf};
-use pw_tariff::Direction;
+use pw_tariff::{Direction, PeriodId};
+use pw_tests::offices::{RISING, TWO_METERS};
 use pw_tests::sample::{FIRST, LOW, METER, PERIOD};
 use std::alloc::Global;
 use std::process::Abort;
-use std::test::Fail;
 
 // What a book is asked.
 #[derive(Clone, Copy)]
 enum Question {
     // both energies that the first account imported
     Imported,
-    // the first of them within the one period
-    ImportedIn,
+    // the first of them, and that within a period
+    ImportedLow,
+    ImportedLowIn(PeriodId),
     ToppedUp,
     Balance,
     Count,
@@ -35,7 +37,7 @@ enum List {
 
 const QUESTIONS: [Question; 9] = [
     Question::Imported,
-    Question::ImportedIn,
+    Question::ImportedLowIn(PERIOD),
     Question::ToppedUp,
     Question::Balance,
     Question::Listed(List::Readings),
@@ -69,8 +71,11 @@ fn fault_of<S: Shelf>(
 ) -> Option<BookFault> {
     match question {
         Question::Imported => imported(rt, book).err(),
-        Question::ImportedIn => {
-            asking::energy_in(rt, book, Some(FIRST), PERIOD, LOW, Direction::Import).err()
+        Question::ImportedLow => {
+            asking::energy(rt, book, Some(FIRST), LOW, Direction::Import).err()
+        }
+        Question::ImportedLowIn(period) => {
+            asking::energy_in(rt, book, Some(FIRST), period, LOW, Direction::Import).err()
         }
         Question::ToppedUp => asking::topped_up(rt, book, FIRST).err(),
         Question::Balance => asking::balance(rt, book, FIRST).err(),
@@ -98,49 +103,41 @@ fn fails_once<S: Shelf>(rt: &impl Abort, alloc: Global, book: &mut Book<S>, ques
 // bears on: pw_book book/questions.rt Book::readings question
 // bears on: pw_book book/questions.rt Book::withdrawals question
 // bears on: pw_book fault.rt BookFault from_gives
-pub(super) fn failing_device<B: Books>(
-    rt: &impl Abort,
-    alloc: Global,
-    books: &B,
-) -> Result<(), Fail> {
+pub(super) fn failing_device<B: Books>(rt: &impl Abort, alloc: Global, books: &B) {
     for question in QUESTIONS {
-        let mut book = books.failing(rt, alloc, 1, false)?;
+        let mut book = books.failing(rt, alloc, 1, false).expect(rt, "a book");
         fails_once(rt, alloc, &mut book, question);
+        done(book);
     }
-    Ok(())
 }
 
-// An upload is taken, and a question behind it is answered.
-fn is_answered_behind<S: Shelf>(
-    rt: &impl Abort,
-    alloc: Global,
-    book: &mut Book<S>,
-    held: &[Entry],
-    question: Question,
-) {
-    takes(rt, alloc, book, held, (4, 0));
-    assert!(rt; fault_of(rt, alloc, book, question).is_none());
-}
-
-// The calls and rows that an upload and a question behind it take.
+// The calls and rows that an upload and these questions behind it take.
 fn seen_behind<S: Shelf + Drop>(
     rt: &impl Abort,
     alloc: Global,
     mut book: Book<CountShelf<S>>,
-    held: &[Entry],
-    question: Question,
+    questions: &[Question],
 ) -> u64 {
-    is_answered_behind(rt, alloc, &mut book, held, question);
+    takes(rt, alloc, &mut book, &upload(rt), (4, 0));
+    for question in questions {
+        assert!(rt; fault_of(rt, alloc, &mut book, *question).is_none());
+    }
     book.into_shelf().seen()
 }
 
-// The calls and rows that a question to a store in memory takes.
-fn cost_of(rt: &impl Abort, alloc: Global, question: Question) -> u64 {
-    let held = upload(rt);
-    let before = seen_by(rt, alloc, &[held.as_slice()]);
-    let book = InMemory.failing(rt, alloc, 0, false).expect(rt, "a book");
-    let behind = seen_behind(rt, alloc, book, &held, question);
-    behind.saturating_sub(before)
+// The same of an office over a store in memory.
+fn seen_in_memory(rt: &impl Abort, alloc: Global, office: &str, questions: &[Question]) -> u64 {
+    let book = Counting.empty(rt, alloc, office, 100).expect(rt, "a book");
+    seen_behind(rt, alloc, book, questions)
+}
+
+// Each question takes some, and so many at most.
+fn are_cheap(rt: &impl Abort, alloc: Global, office: &str, rows: &[(Question, u64)]) {
+    let before = seen_in_memory(rt, alloc, office, &[]);
+    for (question, most) in rows {
+        let behind = seen_in_memory(rt, alloc, office, &[*question]);
+        assert!(rt; before < behind && behind.saturating_sub(before) <= *most);
+    }
 }
 
 // An energy, where there is one period, and what was topped up, takes at most 2; a balance over two bands at most 10.
@@ -150,13 +147,25 @@ fn cost_of(rt: &impl Abort, alloc: Global, question: Question) -> u64 {
 // bears on: pw_book book/questions.rt Book::topped_up cost
 #[test]
 fn costs(rt: HostRuntime) {
-    for (question, most) in [
+    let rows = [
         (Question::Imported, 4),
-        (Question::ImportedIn, 2),
+        (Question::ImportedLowIn(PERIOD), 2),
         (Question::ToppedUp, 2),
         (Question::Balance, 10),
-    ] {
-        let cost = cost_of(&rt, rt.alloc(), question);
-        assert!(rt; 0 < cost && cost <= most);
-    }
+    ];
+    are_cheap(&rt, rt.alloc(), TWO_METERS, &rows);
+}
+
+// Of two periods an energy takes at most 4, that of one at most 2, and a balance over two bands at most 18.
+// bears on: pw_book book/questions.rt Book::balance cost
+// bears on: pw_book book/questions.rt Book::energy cost
+// bears on: pw_book book/questions.rt Book::energy_in cost
+#[test]
+fn costs_of_two_periods(rt: HostRuntime) {
+    let rows = [
+        (Question::ImportedLow, 4),
+        (Question::ImportedLowIn(PeriodId(1)), 2),
+        (Question::Balance, 18),
+    ];
+    are_cheap(&rt, rt.alloc(), RISING, &rows);
 }

@@ -2,65 +2,62 @@
 
 use super::counted::{failing_device, failing_device_and_abandon};
 use super::memory::memory_refused;
+use super::periods::energies_by_period;
 use super::sql::OverSql;
 use super::uploads::agrees_behind_each;
 use super::withdrawn::withdrawn_records;
 use super::{Books, Counting, InMemory, questions};
 use std::alloc::Global;
 use std::process::Abort;
-use std::test::Fail;
 
 // The rows of a test.
 #[derive(Clone, Copy)]
 enum Group {
     Uploads,
+    Periods,
     Memory,
     Failures,
 }
 
 // A call of the store that fails: each in turn.
-fn failures<B: Books>(rt: &impl Abort, alloc: Global, books: &B) -> Result<(), Fail> {
-    failing_device(rt, alloc, books)?;
-    failing_device_and_abandon(rt, alloc, books)?;
-    questions::failing_device(rt, alloc, books)
+fn failures<B: Books>(rt: &impl Abort, alloc: Global, books: &B) {
+    failing_device(rt, alloc, books);
+    failing_device_and_abandon(rt, alloc, books);
+    questions::failing_device(rt, alloc, books);
 }
 
-fn group_holds<B: Books>(
-    rt: &impl Abort,
-    alloc: Global,
-    books: &B,
-    group: Group,
-) -> Result<(), Fail> {
+fn try_rows<B: Books>(rt: &impl Abort, alloc: Global, books: &B, group: Group) {
     match group {
         Group::Uploads => {
-            agrees_behind_each(rt, alloc, books)?;
-            withdrawn_records(rt, alloc, books)
+            agrees_behind_each(rt, alloc, books);
+            withdrawn_records(rt, alloc, books);
         }
+        Group::Periods => energies_by_period(rt, alloc, books),
         Group::Memory => memory_refused(rt, alloc, books),
         Group::Failures => failures(rt, alloc, books),
     }
 }
 
-fn in_memory(rt: &impl Abort, alloc: Global, rows: Group) -> Result<(), Fail> {
-    group_holds(rt, alloc, &InMemory, rows)
+fn in_memory(rt: &impl Abort, alloc: Global, rows: Group) {
+    try_rows(rt, alloc, &InMemory, rows);
 }
 
-fn with_calls_counted(rt: &impl Abort, alloc: Global, rows: Group) -> Result<(), Fail> {
-    group_holds(rt, alloc, &Counting, rows)
+fn with_calls_counted(rt: &impl Abort, alloc: Global, rows: Group) {
+    try_rows(rt, alloc, &Counting, rows);
 }
 
-fn over_sql(rt: &impl Abort, alloc: Global, rows: Group) -> Result<(), Fail> {
-    group_holds(rt, alloc, &OverSql, rows)
-}
-
-#[test]
-fn uploads_in_memory(rt: HostRuntime) -> Result<(), Fail> {
-    in_memory(&rt, rt.alloc(), Group::Uploads)
+fn over_sql(rt: &impl Abort, alloc: Global, rows: Group) {
+    try_rows(rt, alloc, &OverSql, rows);
 }
 
 #[test]
-fn uploads_with_calls_counted(rt: HostRuntime) -> Result<(), Fail> {
-    with_calls_counted(&rt, rt.alloc(), Group::Uploads)
+fn uploads_in_memory(rt: HostRuntime) {
+    in_memory(&rt, rt.alloc(), Group::Uploads);
+}
+
+#[test]
+fn uploads_with_calls_counted(rt: HostRuntime) {
+    with_calls_counted(&rt, rt.alloc(), Group::Uploads);
 }
 
 // bears on: pw_schema reading.rt contents_in ensures
@@ -76,36 +73,51 @@ fn uploads_with_calls_counted(rt: HostRuntime) -> Result<(), Fail> {
 // bears on: pw_shelf shelf.rt Shelf::start_del memory
 // bears on: pw_shelf shelf.rt Shelf::starts_of rows
 #[test]
-fn uploads_over_sql(rt: HostRuntime) -> Result<(), Fail> {
-    over_sql(&rt, rt.alloc(), Group::Uploads)
+fn uploads_over_sql(rt: HostRuntime) {
+    over_sql(&rt, rt.alloc(), Group::Uploads);
 }
 
 #[test]
-fn memory_refused_in_memory(rt: HostRuntime) -> Result<(), Fail> {
-    in_memory(&rt, rt.alloc(), Group::Memory)
+fn periods_in_memory(rt: HostRuntime) {
+    in_memory(&rt, rt.alloc(), Group::Periods);
 }
 
 #[test]
-fn memory_refused_with_calls_counted(rt: HostRuntime) -> Result<(), Fail> {
-    with_calls_counted(&rt, rt.alloc(), Group::Memory)
+fn periods_with_calls_counted(rt: HostRuntime) {
+    with_calls_counted(&rt, rt.alloc(), Group::Periods);
 }
 
 #[test]
-fn memory_refused_over_sql(rt: HostRuntime) -> Result<(), Fail> {
-    over_sql(&rt, rt.alloc(), Group::Memory)
+fn periods_over_sql(rt: HostRuntime) {
+    over_sql(&rt, rt.alloc(), Group::Periods);
 }
 
 #[test]
-fn failures_in_memory(rt: HostRuntime) -> Result<(), Fail> {
-    in_memory(&rt, rt.alloc(), Group::Failures)
+fn memory_refused_in_memory(rt: HostRuntime) {
+    in_memory(&rt, rt.alloc(), Group::Memory);
 }
 
 #[test]
-fn failures_with_calls_counted(rt: HostRuntime) -> Result<(), Fail> {
-    with_calls_counted(&rt, rt.alloc(), Group::Failures)
+fn memory_refused_with_calls_counted(rt: HostRuntime) {
+    with_calls_counted(&rt, rt.alloc(), Group::Memory);
 }
 
 #[test]
-fn failures_over_sql(rt: HostRuntime) -> Result<(), Fail> {
-    over_sql(&rt, rt.alloc(), Group::Failures)
+fn memory_refused_over_sql(rt: HostRuntime) {
+    over_sql(&rt, rt.alloc(), Group::Memory);
+}
+
+#[test]
+fn failures_in_memory(rt: HostRuntime) {
+    in_memory(&rt, rt.alloc(), Group::Failures);
+}
+
+#[test]
+fn failures_with_calls_counted(rt: HostRuntime) {
+    with_calls_counted(&rt, rt.alloc(), Group::Failures);
+}
+
+#[test]
+fn failures_over_sql(rt: HostRuntime) {
+    over_sql(&rt, rt.alloc(), Group::Failures);
 }

@@ -1,17 +1,16 @@
 //! Records of all kinds, told one at a time: behind each of them the book answers what the definitions give, its store keeps
 //! the parts of all, and a book that has room for no more refuses the next.
 
-use super::agreeing::all_agree;
-use super::kept::parts_agree;
+use super::kept::book_and_store_agree;
 use super::{Books, OTHER, post, takes};
-use crate::entries::{Sent, entry_of, paid};
+use crate::entries::{Sent, add, entry_of, paid};
 use pw_book::{Book, Entry, PostFault};
 use pw_obis::Register;
 use pw_shelf::Shelf;
+use pw_tests::offices::TWO_METERS;
 use pw_tests::sample::{FIRST, FIVE, METER, NEW_YEAR, SECOND, SEVEN, SIX};
-use std::alloc::{AllocError, Global};
+use std::alloc::Global;
 use std::process::Abort;
-use std::test::Fail;
 
 // What is told, and how many of it are fresh and repeated.
 #[derive(Clone, Copy)]
@@ -55,12 +54,12 @@ const STEPS: [Step; 22] = [
     Step(Sent::Paid(b"P1", FIRST, 5_000), REPEATED),
 ];
 
-fn entries_of(rt: &impl Abort, alloc: Global, steps: &[Step]) -> Result<Vec<Entry>, AllocError> {
+fn entries_of(rt: &impl Abort, alloc: Global, steps: &[Step]) -> Vec<Entry> {
     let mut entries = Vec::new(alloc);
     for Step(sent, _) in steps {
-        entries.extend_from_slice(&[entry_of(rt, *sent)])?;
+        add(rt, &mut entries, entry_of(rt, *sent));
     }
-    Ok(entries)
+    entries
 }
 
 // How many records are held behind these steps.
@@ -86,6 +85,20 @@ fn is_full<S: Shelf>(rt: &impl Abort, alloc: Global, book: &mut Book<S>, held: u
     assert!(rt; post(rt, alloc, book, &[paid(rt, b"P3", FIRST, 1)]) == Err(full));
 }
 
+// Takes all steps, behind which a book that has room for just what they give is full.
+fn takes_all<S: Shelf>(
+    rt: &impl Abort,
+    alloc: Global,
+    book: &mut Book<S>,
+    steps: &[Step],
+    held: u32,
+) {
+    takes_each(rt, alloc, book, steps);
+    if held > 0 {
+        is_full(rt, alloc, book, held);
+    }
+}
+
 // Behind these steps an empty book, with room for just what they give, agrees, and so does its store.
 fn agrees_behind<S: Shelf + Drop>(
     rt: &impl Abort,
@@ -93,14 +106,9 @@ fn agrees_behind<S: Shelf + Drop>(
     mut book: Book<S>,
     steps: &[Step],
     held: u32,
-) -> Result<(), Fail> {
-    let entries = entries_of(rt, alloc, steps).expect(rt, "memory");
-    takes_each(rt, alloc, &mut book, steps);
-    if held > 0 {
-        is_full(rt, alloc, &mut book, held);
-    }
-    all_agree(rt, alloc, &mut book, &entries, held)?;
-    parts_agree(rt, alloc, book, &entries)
+) {
+    takes_all(rt, alloc, &mut book, steps, held);
+    book_and_store_agree(rt, alloc, book, &entries_of(rt, alloc, steps), held);
 }
 
 // bears on: pw_book book.rt Book of_office
@@ -123,16 +131,13 @@ fn agrees_behind<S: Shelf + Drop>(
 // bears on: pw_shelf memory.rt MemoryShelf::new left
 // bears on: pw_shelf shelf.rt Shelf::total amount
 // bears on: pw_shelf shelf.rt Shelf::total_put put
-pub(super) fn agrees_behind_each<B: Books>(
-    rt: &impl Abort,
-    alloc: Global,
-    books: &B,
-) -> Result<(), Fail> {
+pub(super) fn agrees_behind_each<B: Books>(rt: &impl Abort, alloc: Global, books: &B) {
     for number in 0..STEPS.len() + 1 {
         let (steps, _) = STEPS.split_at(number);
         let held = held_behind(steps);
-        let book = books.empty(rt, alloc, held.max(1))?;
-        agrees_behind(rt, alloc, book, steps, held)?;
+        let book = books
+            .empty(rt, alloc, TWO_METERS, held.max(1))
+            .expect(rt, "a book");
+        agrees_behind(rt, alloc, book, steps, held);
     }
-    Ok(())
 }

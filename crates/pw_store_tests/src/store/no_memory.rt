@@ -7,12 +7,11 @@
 
 ghost use Rattle.std.specs.Prelude.{◌≡◌, IsSome, None, OnOk};
 
-use super::{begun_total, empty_shelf, shelf_of};
+use super::{begun_total, empty_shelf, see_office, shelf_of};
 use crate::sql_stores::memory;
 use pw_obis::{Register, WattHours};
 use pw_shelf::{Shelf, ShelfFault};
 use pw_store::{OpenFault, SqlShelf};
-use pw_tariff::Office;
 use pw_tests::offices::SAMPLE;
 use pw_tests::sample::METER;
 use pw_time::{FIRST_SECOND, Instant, LAST_SECOND};
@@ -33,21 +32,25 @@ fn is_closed(store: SqlShelf<MemStore>) -> bool {
     !connection.is_autocommit()
 }
 
-fn is_new(rt: &impl Abort, alloc: Global, connection: Connection<MemStore>) -> bool {
-    let mut store = shelf_of(rt, alloc, connection);
+fn is_empty<S: Shelf>(store: &mut S) -> bool {
     store.count() == Ok(0)
+}
+
+fn is_new(rt: &impl Abort, alloc: Global, connection: Connection<MemStore>) -> bool {
+    is_empty(&mut shelf_of(rt, alloc, connection))
 }
 
 // Whether a new store is opened: at once, or, where it is refused for want of memory, at the next try.
 fn is_opened<O: Write>(rt: &impl Abort, alloc: Global, out: &mut O) -> bool {
-    let _office = Office::read(alloc, SAMPLE.as_bytes()).expect(rt, "an office");
+    let text = SAMPLE.as_bytes();
+    see_office(rt, alloc, text);
     let connection = memory(rt, alloc);
     tell(out, b"one may be refused\n");
-    let opened = SqlShelf::open(alloc, connection, SAMPLE.as_bytes());
+    let opened = SqlShelf::open(alloc, connection, text);
     tell(out, b"all is given\n");
     match opened {
-        Ok(mut store) => store.count() == Ok(0),
-        Err((fault, refused)) => fault == OpenFault::Memory && is_new(rt, alloc, refused),
+        Ok(mut store) => is_empty(&mut store),
+        Err((fault, refused)) => is_new(rt, alloc, refused) && fault == OpenFault::Memory,
     }
 }
 

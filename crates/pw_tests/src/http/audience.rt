@@ -1,11 +1,11 @@
 //! Who is let in.
 
-use super::books::{empty_book, is_served};
+use super::books::is_served;
+use crate::new_books::holds_in_memory;
 use pw_book::Book;
 use pw_http::{Audience, Origin, Served, converse_with};
 use pw_shelf::Shelf;
 use std::alloc::Global;
-use std::test::Fail;
 
 // Requests of this machine, and of its own pages.
 const LET_IN: [&[u8]; 12] = [
@@ -102,39 +102,34 @@ fn are_replied<S: Shelf>(
     streams: &[&[u8]],
     expected: &[u8],
 ) -> bool {
-    let mut all = true;
     for stream in streams {
         if !is_replied(alloc, book, audience, stream, expected) {
-            all = false;
+            return false;
         }
     }
-    all
+    true
+}
+
+// Whether requests of this machine are let in, and those of others aren't.
+fn are_let_in_here<S: Shelf>(alloc: Global, book: &mut Book<S>) -> bool {
+    let here = Audience::Here(&[]);
+    are_replied(alloc, book, here, &LET_IN, NO_PAGE)
+        && are_replied(alloc, book, here, &NOT_LET_IN, NOT_FOR_THIS_SERVER)
 }
 
 // bears on: pw_http books.rt converse_with talk
 #[test]
-fn this_machine(rt: HostRuntime) -> Result<(), Fail> {
-    let mut book = empty_book(rt.alloc())?;
-    let here = Audience::Here(&[]);
-    assert!(rt; are_replied(rt.alloc(), &mut book, here, &LET_IN, NO_PAGE));
-    assert!(rt;
-        are_replied(
-            rt.alloc(),
-            &mut book,
-            here,
-            &NOT_LET_IN,
-            NOT_FOR_THIS_SERVER
-        )
-    );
-    Ok(())
+fn this_machine(rt: HostRuntime) {
+    let alloc = rt.alloc();
+    assert!(rt; holds_in_memory(alloc, |book| are_let_in_here(alloc, book)));
 }
 
 // Whether these pages are let in, and others aren't.
 fn are_let_in_by_name<S: Shelf>(alloc: Global, book: &mut Book<S>) -> bool {
-    let Some(meters) = Origin::of(b"https://meters.example") else {
-        return false;
-    };
-    let Some(other) = Origin::of(b"HTTP://10.0.0.7:8080") else {
+    let (Some(meters), Some(other)) = (
+        Origin::of(b"https://meters.example"),
+        Origin::of(b"HTTP://10.0.0.7:8080"),
+    ) else {
         return false;
     };
     let pages = [meters, other];
@@ -146,10 +141,9 @@ fn are_let_in_by_name<S: Shelf>(alloc: Global, book: &mut Book<S>) -> bool {
 // bears on: pw_http books.rt converse_with talk
 // bears on: pw_http audience.rt Origin::of ensures
 #[test]
-fn named_pages(rt: HostRuntime) -> Result<(), Fail> {
-    let mut book = empty_book(rt.alloc())?;
-    assert!(rt; are_let_in_by_name(rt.alloc(), &mut book));
-    Ok(())
+fn named_pages(rt: HostRuntime) {
+    let alloc = rt.alloc();
+    assert!(rt; holds_in_memory(alloc, |book| are_let_in_by_name(alloc, book)));
 }
 
 // Texts that are no origins.
@@ -165,20 +159,12 @@ const NO_ORIGINS: [&[u8]; 9] = [
     b"https://meters example",
 ];
 
-fn are_no_origins() -> bool {
-    let mut none = true;
-    for url in &NO_ORIGINS {
-        if Origin::of(url).is_some() {
-            none = false;
-        }
-    }
-    none
-}
-
 // bears on: pw_http audience.rt Origin::of ensures
 #[test]
 fn no_origins(rt: HostRuntime) {
-    assert!(rt; are_no_origins());
+    for url in NO_ORIGINS {
+        assert!(rt; Origin::of(url).is_none());
+    }
 }
 
 // A payment of another page, whose body is a payment too.
@@ -190,13 +176,21 @@ const STATEMENT: &[u8] = b"GET /accounts/A1 HTTP/1.1\r\n\r\n";
 const NOTHING_PAID: &[u8] =
     b"HTTP/1.1 200 OK\r\nContent-Type: text/plain\r\nContent-Length: 158\r\n\r\naccount A1\nband       import Wh       export Wh\nL                  0               0\nH                  0               0\ntopped up EUR 0.00\nbalance EUR 0.00\n";
 
+// Whether a refused request is the end of a conversation, and its body is no request.
+fn is_nothing_paid<S: Shelf>(alloc: Global, book: &mut Book<S>) -> bool {
+    is_replied(
+        alloc,
+        book,
+        Audience::Here(&[]),
+        PAID_TWICE,
+        NOT_FOR_THIS_SERVER,
+    ) && is_served(alloc, book, STATEMENT, 1, NOTHING_PAID)
+}
+
 // bears on: pw_http books.rt converse_with talk
 // bears on: pw_http books.rt converse_with headline
 #[test]
-fn request_in_a_body(rt: HostRuntime) -> Result<(), Fail> {
-    let mut book = empty_book(rt.alloc())?;
-    let here = Audience::Here(&[]);
-    assert!(rt; is_replied(rt.alloc(), &mut book, here, PAID_TWICE, NOT_FOR_THIS_SERVER));
-    assert!(rt; is_served(rt.alloc(), &mut book, STATEMENT, 1, NOTHING_PAID));
-    Ok(())
+fn request_in_a_body(rt: HostRuntime) {
+    let alloc = rt.alloc();
+    assert!(rt; holds_in_memory(alloc, |book| is_nothing_paid(alloc, book)));
 }

@@ -1,20 +1,9 @@
 //! Conversations with a book over a store in memory.
 
-ghost use Rattle.std.specs.Prelude.{◌≤◌};
-ghost use Rattle.pw_model.specs.Office.{most_records};
-
-use crate::books::book_of;
-use crate::offices::SAMPLE;
 use pw_book::Book;
 use pw_http::{Served, WireFault, converse};
-use pw_shelf::{MemoryShelf, Shelf};
-use pw_tariff::OfficeFault;
+use pw_shelf::Shelf;
 use std::alloc::Global;
-
-/// An empty book of the sample office.
-pub(super) fn empty_book(alloc: Global) -> Result<Book<MemoryShelf>, OfficeFault> {
-    book_of(alloc, SAMPLE, 100)
-}
 
 /// What a book replies to a stream.
 pub(super) fn replies<S: Shelf>(

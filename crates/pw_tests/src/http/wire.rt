@@ -1,12 +1,13 @@
 //! Streams in pieces, and readers and writers that fail.
 
-use super::books::{empty_book, is_served, replies};
+use super::books::{is_served, replies};
+use crate::new_books::holds_in_memory;
+use crate::streams::{ByteByByte, Narrow, byte_by_byte};
 use pw_book::Book;
 use pw_http::{Served, WireFault, converse, converse_within};
 use pw_shelf::Shelf;
 use std::alloc::Global;
-use std::io::{self, ErrorKind, Read, Write};
-use std::test::Fail;
+use std::io::{self, Read};
 
 // A payment and a statement.
 const PAID: &[u8] =
@@ -36,68 +37,6 @@ impl<'a> Read for TwoPieces<'a> {
         } else {
             self.first.read(buf)
         }
-    }
-}
-
-// Gives one byte a call, and so many calls; then it fails. It counts its calls.
-#[derive(Drop)]
-struct ByteByByte<'a> {
-    bytes: &'a [u8],
-    left: u32,
-    calls: u32,
-}
-
-impl<'a> Read for ByteByByte<'a> {
-    fn read(&mut self, buf: &mut [u8]) -> io::Result<usize> {
-        self.calls = self.calls.saturating_add(1);
-        if self.left == 0 {
-            return Err(io::Error::from(ErrorKind::Other));
-        }
-        self.left -= 1;
-        let most = buf.len().min(1);
-        self.bytes.read(&mut buf[..most])
-    }
-}
-
-// Takes one byte a call, and so many calls; then it fails.
-#[derive(Drop)]
-struct Narrow {
-    text: Vec<u8>,
-    left: u32,
-}
-
-impl Write for Narrow {
-    fn write(&mut self, bytes: &[u8]) -> io::Result<usize> {
-        let Some(byte) = bytes.first() else {
-            return Ok(0);
-        };
-        if self.left == 0 || self.text.push(*byte).is_err() {
-            return Err(io::Error::from(ErrorKind::Other));
-        }
-        self.left -= 1;
-        Ok(1)
-    }
-
-    fn flush(&mut self) -> io::Result<()> {
-        Ok(())
-    }
-}
-
-// Takes so many bytes, and then none, without a fault.
-#[derive(Drop)]
-struct Narrowing {
-    left: usize,
-}
-
-impl Write for Narrowing {
-    fn write(&mut self, bytes: &[u8]) -> io::Result<usize> {
-        let most = self.left.min(bytes.len());
-        self.left -= most;
-        Ok(most)
-    }
-
-    fn flush(&mut self) -> io::Result<()> {
-        Ok(())
     }
 }
 
@@ -132,67 +71,47 @@ fn is_served_to<S: Shelf, R: Read>(
     served == Ok(Served { requests }) && text.as_slice() == expected.0
 }
 
-// Whether a new book replies to a stream in two pieces as to one.
-fn is_same_in_pieces(alloc: Global, pieces: (&[u8], &[u8]), expected: (&[u8], u64)) -> bool {
-    let (first, second) = pieces;
-    match empty_book(alloc) {
-        Ok(mut book) => {
-            is_served_to(alloc, &mut book, &mut TwoPieces { first, second }, expected)
+// Whether a new book replies to a stream in two pieces as to one, wherever it is cut.
+fn is_same_in_pieces(alloc: Global, stream: &[u8], expected: (&[u8], u64)) -> bool {
+    for place in 0..stream.len() {
+        let (first, second) = stream.split_at(place);
+        let mut reader = TwoPieces { first, second };
+        if !holds_in_memory(
+            alloc,
+            |book| is_served_to(alloc, book, &mut reader, expected),
+        ) {
+            return false;
         }
-        Err(_) => false,
     }
+    true
 }
 
 // bears on: pw_http books.rt converse_within talk
 #[test]
 fn cut_at_every_byte(rt: HostRuntime) {
-    for place in 0..PAID.len() {
-        let pieces = PAID.split_at(place);
-        assert!(rt;
-            is_same_in_pieces(rt.alloc(), pieces, (PAID_REPLIES, 2)),
-            "at {place}"
-        );
-    }
+    assert!(rt; is_same_in_pieces(rt.alloc(), PAID, (PAID_REPLIES, 2)));
 }
 
 // bears on: pw_http books.rt converse_within streams
 // bears on: pw_http laws.rt streams_have_one_reading ensures
 #[test]
 fn four_requests_cut_at_every_byte(rt: HostRuntime) {
-    for place in 0..FIRST.len() {
-        let pieces = FIRST.split_at(place);
-        assert!(rt;
-            is_same_in_pieces(rt.alloc(), pieces, (FIRST_REPLIES, 4)),
-            "at {place}"
-        );
-    }
-}
-
-// A reader that gives one byte a call, and fails behind so many.
-fn byte_by_byte(bytes: &[u8], left: u32) -> ByteByByte<'_> {
-    ByteByByte {
-        bytes,
-        left,
-        calls: 0,
-    }
-}
-
-// Whether a new book replies to single bytes as to one stream.
-fn is_same_byte_by_byte(alloc: Global) -> bool {
-    match empty_book(alloc) {
-        Ok(mut book) => {
-            let mut reader = byte_by_byte(FIRST, 10_000);
-            is_served_to(alloc, &mut book, &mut reader, (FIRST_REPLIES, 4))
-        }
-        Err(_) => false,
-    }
+    assert!(rt; is_same_in_pieces(rt.alloc(), FIRST, (FIRST_REPLIES, 4)));
 }
 
 // bears on: pw_http books.rt converse_within talk
 // bears on: pw_http conversation.rt serve_within talk
 #[test]
 fn one_byte_a_call(rt: HostRuntime) {
-    assert!(rt; is_same_byte_by_byte(rt.alloc()));
+    let alloc = rt.alloc();
+    let mut reader = byte_by_byte(FIRST, 10_000);
+    let expected = (FIRST_REPLIES, 4);
+    assert!(rt;
+        holds_in_memory(
+            alloc,
+            |book| is_served_to(alloc, book, &mut reader, expected)
+        )
+    );
 }
 
 // Whether a conversation of three turns ends with the third, and leaves nothing in the book's way.
@@ -207,93 +126,129 @@ fn is_ended_at_third<S: Shelf>(alloc: Global, book: &mut Book<S>) -> bool {
 // bears on: pw_http books.rt converse_within memory
 // bears on: pw_http books.rt converse_within turns
 #[test]
-fn too_many_turns(rt: HostRuntime) -> Result<(), Fail> {
-    let mut book = empty_book(rt.alloc())?;
-    assert!(rt; is_ended_at_third(rt.alloc(), &mut book));
-    Ok(())
+fn too_many_turns(rt: HostRuntime) {
+    let alloc = rt.alloc();
+    assert!(rt; holds_in_memory(alloc, |book| is_ended_at_third(alloc, book)));
 }
 
-// How many calls a reader without an end gets, where it is told of.
-fn calls_of_endless<S: Shelf>(alloc: Global, book: &mut Book<S>) -> Option<u32> {
+// Whether a reader without an end is told of behind the most turns that a conversation has.
+fn is_end_told_of_endless<S: Shelf>(alloc: Global, book: &mut Book<S>) -> bool {
     let mut reader = Endless {
         rest: b"",
         calls: 0,
     };
-    match converse(alloc, book, &mut reader, &mut io::sink()) {
-        Err(WireFault::TooManyTurns) => Some(reader.calls),
-        _ => None,
-    }
+    let served = converse(alloc, book, &mut reader, &mut io::sink());
+    served == Err(WireFault::TooManyTurns) && reader.calls == 16_777_216
 }
 
 // bears on: pw_http books.rt converse talk
 #[test]
-fn most_turns(rt: HostRuntime) -> Result<(), Fail> {
-    let mut book = empty_book(rt.alloc())?;
-    assert!(rt; calls_of_endless(rt.alloc(), &mut book) == Some(16_777_216));
-    Ok(())
+fn most_turns(rt: HostRuntime) {
+    let alloc = rt.alloc();
+    assert!(rt; holds_in_memory(alloc, |book| is_end_told_of_endless(alloc, book)));
 }
 
 // Whether a reader that fails behind so many bytes is told of, behind a front of the replies.
-fn is_read_fault_told<S: Shelf>(alloc: Global, book: &mut Book<S>, left: u32) -> bool {
-    let mut reader = byte_by_byte(FIRST, left);
+fn is_read_fault_told<S: Shelf>(
+    alloc: Global,
+    book: &mut Book<S>,
+    reader: &mut ByteByByte<'_>,
+    whole: &[u8],
+) -> bool {
     let mut text = Vec::new(alloc);
-    let served = converse(alloc, book, &mut reader, &mut text);
-    served == Err(WireFault::Read) && FIRST_REPLIES.starts_with(&text)
+    let served = converse(alloc, book, reader, &mut text);
+    served == Err(WireFault::Read) && whole.starts_with(&text)
+}
+
+// Whether it is, wherever it fails.
+fn are_read_faults_told(alloc: Global, stream: &[u8], whole: &[u8]) -> bool {
+    for left in 0..stream.len() {
+        let mut reader = byte_by_byte(stream, left);
+        if !holds_in_memory(
+            alloc,
+            |book| is_read_fault_told(alloc, book, &mut reader, whole),
+        ) {
+            return false;
+        }
+    }
+    true
 }
 
 // bears on: pw_http books.rt converse_within talk
 #[test]
-fn reader_failing_at_each_call(rt: HostRuntime) -> Result<(), Fail> {
-    for left in 0..FIRST.len() as u32 {
-        let mut book = empty_book(rt.alloc())?;
-        assert!(rt; is_read_fault_told(rt.alloc(), &mut book, left));
+fn reader_failing_at_each_call(rt: HostRuntime) {
+    assert!(rt; are_read_faults_told(rt.alloc(), FIRST, FIRST_REPLIES));
+}
+
+// A writer that takes one byte a call, and has room for so many.
+fn narrow(alloc: Global, room: usize, fails: bool) -> Narrow {
+    Narrow {
+        text: Vec::new(alloc),
+        room,
+        most: 1,
+        fails,
     }
-    Ok(())
 }
 
 // Whether a writer that fails behind so many bytes has a front of the replies, and is told of if it isn't whole.
-fn has_front<S: Shelf>(alloc: Global, book: &mut Book<S>, left: u32) -> bool {
-    let mut reader = FIRST;
-    let text = Vec::new(alloc);
-    let mut writer = Narrow { text, left };
-    let served = converse(alloc, book, &mut reader, &mut writer);
-    served.is_ok() == (writer.text.len() == FIRST_REPLIES.len())
-        && writer.text.len() == (left as usize)
-        && FIRST_REPLIES.starts_with(&writer.text)
+fn has_front<S: Shelf>(
+    alloc: Global,
+    book: &mut Book<S>,
+    mut stream: &[u8],
+    whole: &[u8],
+    room: usize,
+) -> bool {
+    let mut writer = narrow(alloc, room, true);
+    let served = converse(alloc, book, &mut stream, &mut writer);
+    served.is_ok() == (room == whole.len())
+        && writer.text.len() == room
+        && whole.starts_with(&writer.text)
+}
+
+// Whether it has, wherever it fails.
+fn have_fronts(alloc: Global, stream: &[u8], whole: &[u8]) -> bool {
+    for room in 0..whole.len().saturating_add(1) {
+        if !holds_in_memory(alloc, |book| has_front(alloc, book, stream, whole, room)) {
+            return false;
+        }
+    }
+    true
 }
 
 // bears on: pw_http books.rt converse_within talk
 // bears on: pw_http send.rt send_reply fault
 // bears on: pw_http service.rt Service::serve fault
 #[test]
-fn writer_failing_at_each_call(rt: HostRuntime) -> Result<(), Fail> {
-    let whole = FIRST_REPLIES.len() as u32;
-    for left in 0..whole + 1 {
-        let mut book = empty_book(rt.alloc())?;
-        assert!(rt; has_front(rt.alloc(), &mut book, left));
-    }
-    Ok(())
+fn writer_failing_at_each_call(rt: HostRuntime) {
+    assert!(rt; have_fronts(rt.alloc(), FIRST, FIRST_REPLIES));
 }
 
 // Whether a writer that takes no byte behind so many is told of.
-fn is_write_fault_told<S: Shelf>(alloc: Global, book: &mut Book<S>, left: usize) -> bool {
-    let mut reader = FIRST;
-    let served = converse(alloc, book, &mut reader, &mut Narrowing { left });
+fn is_write_fault_told<S: Shelf>(
+    alloc: Global,
+    book: &mut Book<S>,
+    mut stream: &[u8],
+    room: usize,
+) -> bool {
+    let served = converse(alloc, book, &mut stream, &mut narrow(alloc, room, false));
     served == Err(WireFault::Write)
+}
+
+// Whether it is, with room for nothing, for one byte, and for all but one.
+fn are_write_faults_told(alloc: Global, stream: &[u8], whole: &[u8]) -> bool {
+    for room in [0, 1, whole.len().saturating_sub(1)] {
+        if !holds_in_memory(alloc, |book| is_write_fault_told(alloc, book, stream, room)) {
+            return false;
+        }
+    }
+    true
 }
 
 // bears on: pw_http books.rt converse_within talk
 // bears on: pw_http send.rt send_reply written
 #[test]
-fn writer_taking_no_byte(rt: HostRuntime) -> Result<(), Fail> {
-    for left in [0, 1, FIRST_REPLIES.len() - 1] {
-        let mut book = empty_book(rt.alloc())?;
-        assert!(rt;
-            is_write_fault_told(rt.alloc(), &mut book, left),
-            "behind {left}"
-        );
-    }
-    Ok(())
+fn writer_taking_no_byte(rt: HostRuntime) {
+    assert!(rt; are_write_faults_told(rt.alloc(), FIRST, FIRST_REPLIES));
 }
 
 // bears on: pw_http fault.rt WireFault::name ensures
@@ -306,8 +261,7 @@ fn numbers_and_names(rt: HostRuntime) {
         (WireFault::Write, 81, "Write"),
         (WireFault::TooManyTurns, 82, "TooManyTurns"),
     ] {
-        assert!(rt; fault.number() == number);
-        assert!(rt; fault.name() == name);
+        assert!(rt; fault.number() == number && fault.name() == name);
     }
 }
 
@@ -318,32 +272,40 @@ const BAD_BODY: &[u8] =
     b"HTTP/1.1 400 Bad Request\r\nContent-Type: text/plain\r\nContent-Length: 9\r\nConnection: close\r\n\r\nbad body\n";
 
 // Whether the text is a front of the replies, and then one of these refusals, if any.
-fn is_front(text: &[u8]) -> bool {
-    let mut fits = FIRST_REPLIES.starts_with(text);
+fn is_front(text: &[u8], whole: &[u8]) -> bool {
+    let mut fits = whole.starts_with(text);
     for refusal in [BAD_HEAD, BAD_BODY] {
         if let Some(front) = text.strip_suffix(refusal) {
-            fits = fits || FIRST_REPLIES.starts_with(front);
+            fits = fits || whole.starts_with(front);
         }
     }
     fits
 }
 
 // Whether a stream that ends early is served, and replied to by a front of the replies and a refusal, if any.
-fn is_front_replied<S: Shelf>(alloc: Global, book: &mut Book<S>, stream: &[u8]) -> bool {
+fn is_front_replied<S: Shelf>(
+    alloc: Global,
+    book: &mut Book<S>,
+    stream: &[u8],
+    whole: &[u8],
+) -> bool {
     let (served, text) = replies(alloc, book, stream);
-    served.is_ok() && is_front(&text)
+    served.is_ok() && is_front(&text, whole)
+}
+
+// Whether it is, wherever it ends.
+fn are_fronts_replied(alloc: Global, stream: &[u8], whole: &[u8]) -> bool {
+    for place in 0..stream.len() {
+        let front = &stream[..place];
+        if !holds_in_memory(alloc, |book| is_front_replied(alloc, book, front, whole)) {
+            return false;
+        }
+    }
+    true
 }
 
 // bears on: pw_http books.rt converse_within talk
 #[test]
-fn stream_ending_at_each_byte(rt: HostRuntime) -> Result<(), Fail> {
-    for place in 0..FIRST.len() {
-        let mut book = empty_book(rt.alloc())?;
-        let (front, _) = FIRST.split_at(place);
-        assert!(rt;
-            is_front_replied(rt.alloc(), &mut book, front),
-            "at {place}"
-        );
-    }
-    Ok(())
+fn stream_ending_at_each_byte(rt: HostRuntime) {
+    assert!(rt; are_fronts_replied(rt.alloc(), FIRST, FIRST_REPLIES));
 }

@@ -1,64 +1,70 @@
 //! Pages of a book whose device fails at one call.
 
 use super::page_of;
-use crate::books::empty_book;
-use crate::sample::{FIRST, METER, sample_office};
+use crate::new_books::holds_of_failing;
+use crate::sample::{FIRST, METER};
 use pw_book::{Book, BookFault};
 use pw_report::{Page, Table};
-use pw_shelf::{CountShelf, MemoryShelf, Shelf};
-use pw_tariff::OfficeFault;
+use pw_shelf::Shelf;
 use std::alloc::Global;
-use std::process::Abort;
-use std::test::Fail;
 
-// An empty book over a store that fails at a call.
-fn failing_book(alloc: Global, fail_at: u32) -> Result<Book<CountShelf<MemoryShelf>>, OfficeFault> {
-    let office = sample_office(alloc)?;
-    let shelf = CountShelf::failing(MemoryShelf::new(alloc), fail_at, false);
-    Ok(empty_book(office, shelf, 100))
+// Pages that take more than two calls of an empty store.
+const OF_MANY_CALLS: [Page; 7] = [
+    Page::Statement(FIRST),
+    Page::MeterReadings(METER),
+    Page::Table(Table::Accounts),
+    Page::Table(Table::Falls),
+    Page::Table(Table::Disputes),
+    Page::Table(Table::Readings),
+    Page::Table(Table::Energies),
+];
+
+// Pages that take one at least.
+const OF_A_CALL: [Page; 3] = [
+    Page::Table(Table::Assignments),
+    Page::Table(Table::TopUps),
+    Page::Table(Table::Withdrawals),
+];
+
+// Whether a page of a book fails by its device, and is given when it is asked for again.
+fn fails_once<S: Shelf>(alloc: Global, book: &mut Book<S>, page: Page) -> bool {
+    page_of(alloc, book, page).err() == Some(BookFault::Device) && is_given(alloc, book, page)
 }
 
-// Whether a page of a book fails by its device, and is given when it is asked for again. (A page that is given doesn't fail.)
-fn fails_once<S: Shelf>(rt: &impl Abort, alloc: Global, book: &mut Book<S>, page: Page) -> bool {
-    let Some(fault) = page_of(rt, alloc, book, page).err() else {
-        return false;
-    };
-    assert!(rt; fault == BookFault::Device);
-    assert!(rt; page_of(rt, alloc, book, page).is_ok());
-    true
+fn is_given<S: Shelf>(alloc: Global, book: &mut Book<S>, page: Page) -> bool {
+    page_of(alloc, book, page).is_ok()
 }
 
-fn fails_at(rt: &impl Abort, alloc: Global, page: Page, fail_at: u32) -> Result<bool, OfficeFault> {
-    let mut book = failing_book(alloc, fail_at)?;
-    Ok(fails_once(rt, alloc, &mut book, page))
+fn fails_at(alloc: Global, page: Page, fail_at: u32) -> bool {
+    holds_of_failing(alloc, fail_at, false, |book| fails_once(alloc, book, page))
+}
+
+// Whether it is given all the same, as it takes fewer calls.
+fn is_given_at(alloc: Global, page: Page, fail_at: u32) -> bool {
+    holds_of_failing(alloc, fail_at, false, |book| is_given(alloc, book, page))
 }
 
 // How many calls a page takes, each of which is told where it fails.
-fn calls_of(rt: &impl Abort, alloc: Global, page: Page) -> Result<u32, OfficeFault> {
+fn calls_of(alloc: Global, page: Page) -> u32 {
     for fail_at in 1..200 {
-        if !fails_at(rt, alloc, page, fail_at)? {
-            return Ok(fail_at - 1);
+        if !fails_at(alloc, page, fail_at) {
+            return if is_given_at(alloc, page, fail_at) {
+                fail_at - 1
+            } else {
+                0
+            };
         }
     }
-    panic!(rt; "a page takes fewer calls")
+    0
 }
 
 // bears on: pw_report statements.rt statement report
 #[test]
-fn failing_device(rt: HostRuntime) -> Result<(), Fail> {
-    for page in [
-        Page::Statement(FIRST),
-        Page::MeterReadings(METER),
-        Page::Table(Table::Accounts),
-        Page::Table(Table::Falls),
-        Page::Table(Table::Disputes),
-        Page::Table(Table::Readings),
-        Page::Table(Table::Energies),
-    ] {
-        assert!(rt; 2 < calls_of(&rt, rt.alloc(), page)?);
+fn failing_device(rt: HostRuntime) {
+    for page in OF_MANY_CALLS {
+        assert!(rt; 2 < calls_of(rt.alloc(), page));
     }
-    assert!(rt; 0 < calls_of(&rt, rt.alloc(), Page::Table(Table::Assignments))?);
-    assert!(rt; 0 < calls_of(&rt, rt.alloc(), Page::Table(Table::TopUps))?);
-    assert!(rt; 0 < calls_of(&rt, rt.alloc(), Page::Table(Table::Withdrawals))?);
-    Ok(())
+    for page in OF_A_CALL {
+        assert!(rt; 0 < calls_of(rt.alloc(), page));
+    }
 }

@@ -1,40 +1,36 @@
 //! The pages with an allocation refused: the page, or want of memory, and the next call gives the page.
 //! (To be run with the first allocation refused, with the second, and so on.)
 
-use super::{Upload, book_behind, page_of};
+use super::{Upload, are_posted, page_of};
+use crate::new_books::holds_in_memory;
 use crate::sample::{FIRST, METER};
-use crate::uploads::{BESIDE, BETWEEN, TOPUP, TWO_READINGS, TWO_WITHDRAWALS};
+use crate::uploads::{ASSIGNMENT, BESIDE, BETWEEN, TOPUP, TWO_READINGS, TWO_WITHDRAWALS};
 use pw_book::{Book, BookFault};
 use pw_report::{Page, Table};
 use pw_shelf::Shelf;
 use std::alloc::Global;
-use std::process::Abort;
 
-fn length_of<S: Shelf>(
-    rt: &impl Abort,
-    alloc: Global,
-    book: &mut Book<S>,
-    page: Page,
-) -> Result<usize, BookFault> {
-    match page_of(rt, alloc, book, page) {
+const UPLOADS: &[Upload] = &[
+    Upload::Assignments(ASSIGNMENT),
+    Upload::Telegrams(TWO_READINGS),
+    Upload::TopUps(TOPUP),
+    Upload::Withdrawals(TWO_WITHDRAWALS),
+    Upload::Telegrams(BETWEEN),
+    Upload::Telegrams(BESIDE),
+];
+
+fn length_of<S: Shelf>(alloc: Global, book: &mut Book<S>, page: Page) -> Result<usize, BookFault> {
+    match page_of(alloc, book, page) {
         Ok(text) => Ok(text.len()),
         Err(fault) => Err(fault),
     }
 }
 
 // Whether a page has this length; it is asked for again where memory was refused.
-fn has_length<S: Shelf>(
-    rt: &impl Abort,
-    alloc: Global,
-    book: &mut Book<S>,
-    page: Page,
-    length: usize,
-) -> bool {
-    match length_of(rt, alloc, book, page) {
+fn has_length<S: Shelf>(alloc: Global, book: &mut Book<S>, page: Page, length: usize) -> bool {
+    match length_of(alloc, book, page) {
         Ok(told) => told == length,
-        Err(fault) => {
-            fault == BookFault::Memory && length_of(rt, alloc, book, page) == Ok(length)
-        }
+        Err(fault) => { fault == BookFault::Memory && length_of(alloc, book, page) == Ok(length) }
     }
 }
 
@@ -51,25 +47,21 @@ const PAGES: &[(Page, usize)] = &[
     (Page::Table(Table::Withdrawals), 107),
 ];
 
-fn have_lengths<S: Shelf>(rt: &impl Abort, alloc: Global, book: &mut Book<S>) -> bool {
+// Whether the uploads were taken, and a page has another length.
+fn is_page_wrong<S: Shelf>(alloc: Global, book: &mut Book<S>) -> bool {
+    if !are_posted(alloc, book, UPLOADS) {
+        return false;
+    }
     for (page, length) in PAGES {
-        if !has_length(rt, alloc, book, *page, *length) {
-            return false;
+        if !has_length(alloc, book, *page, *length) {
+            return true;
         }
     }
-    true
+    false
 }
 
 #[test]
 fn memory_refused(rt: HostRuntime) {
-    let uploads = [
-        Upload::Telegrams(TWO_READINGS),
-        Upload::TopUps(TOPUP),
-        Upload::Withdrawals(TWO_WITHDRAWALS),
-        Upload::Telegrams(BETWEEN),
-        Upload::Telegrams(BESIDE),
-    ];
-    if let Ok(mut book) = book_behind(rt.alloc(), &uploads) {
-        assert!(rt; have_lengths(&rt, rt.alloc(), &mut book));
-    }
+    let alloc = rt.alloc();
+    assert!(rt; !holds_in_memory(alloc, |book| is_page_wrong(alloc, book)));
 }

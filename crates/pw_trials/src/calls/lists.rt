@@ -1,16 +1,14 @@
 //! The calls that list falls, disputes, readings and points. Behind `last` all but the last row is left out.
 
-ghost use Rattle.std.specs.Prelude.{◌≤◌};
-
 use crate::calls::asked::Asked;
 use crate::calls::entries::tell_key;
 use crate::calls::meaning::MOST_RECORDS;
 use crate::calls::names::{meter, meter_name};
 use crate::calls::words::register;
+use pw_flow::plain::Point;
 use pw_model::plain::{disputes, falls, points_of, readings};
-use pw_model::{Fall, ReadingRow};
-use pw_obis::Register;
-use pw_tariff::{MeterId, Office};
+use pw_model::{Dispute, Fall, ReadingRow};
+use pw_tariff::Office;
 use std::io::Write;
 
 pub(crate) fn answer<O: Write>(asked: &Asked<'_>, words: &[&str], out: &mut O) -> Option<()> {
@@ -26,36 +24,46 @@ fn answer_list<O: Write>(
     is_last: bool,
     out: &mut O,
 ) -> Option<()> {
+    let (alloc, office, entries) = (asked.alloc, asked.office, asked.entries);
     match words {
-        ["falls"] => tell_falls(asked, is_last, out),
-        ["disputes"] => tell_disputes(asked, is_last, out),
-        ["readings", name, of] => {
-            let (meter, register) = (meter(asked.office, name)?, register(of)?);
-            tell_readings(asked, meter, register, is_last, out)
+        ["falls"] => tell_falls(office, &falls(alloc, entries).ok()?, is_last, out),
+        ["disputes"] if entries.len() <= MOST_RECORDS => {
+            tell_disputes(office, &disputes(alloc, entries).ok()?, is_last, out);
         }
-        ["points", name, of] => {
-            let (meter, register) = (meter(asked.office, name)?, register(of)?);
-            tell_points(asked, meter, register, is_last, out)
+        [list, name, of] => {
+            let (meter, register) = (meter(office, name)?, register(of)?);
+            match *list {
+                "readings" => {
+                    let rows = readings(alloc, entries, meter, register).ok()?;
+                    tell_readings(&rows, is_last, out);
+                }
+                "points" => {
+                    let points = points_of(alloc, entries, meter, register).ok()?;
+                    tell_points(&points, is_last, out);
+                }
+                _ => return None,
+            }
         }
-        _ => None,
+        _ => return None,
     }
-}
-
-// The place of the first row that is told.
-fn first_told(count: usize, is_last: bool) -> usize
-    ensures { result ≤ count }
-{
-    if is_last { count.saturating_sub(1) } else { 0 }
-}
-
-fn tell_falls<O: Write>(asked: &Asked<'_>, is_last: bool, out: &mut O) -> Option<()> {
-    let falls = falls(asked.alloc, asked.entries).ok()?;
-    let count = falls.len();
-    for fall in &falls[first_told(count, is_last)..] {
-        tell_fall(asked.office, fall, out);
-    }
-    let _ = writeln!(out, "{count} falls");
     Some(())
+}
+
+// The rows that are told.
+fn told<T>(rows: &[T], is_last: bool) -> &[T] {
+    if is_last {
+        &rows[rows.len().saturating_sub(1)..]
+    } else {
+        rows
+    }
+}
+
+fn tell_falls<O: Write>(office: &Office, falls: &[Fall], is_last: bool, out: &mut O) {
+    for fall in told(falls, is_last) {
+        tell_fall(office, fall, out);
+    }
+    let count = falls.len();
+    let _ = writeln!(out, "{count} falls");
 }
 
 fn tell_fall<O: Write>(office: &Office, fall: &Fall, out: &mut O) {
@@ -64,40 +72,27 @@ fn tell_fall<O: Write>(office: &Office, fall: &Fall, out: &mut O) {
     let _ = writeln!(out, "{meter} {register} {from} {high} {to} {low}");
 }
 
-fn tell_disputes<O: Write>(asked: &Asked<'_>, is_last: bool, out: &mut O) -> Option<()> {
-    if asked.entries.len() > MOST_RECORDS {
-        return None;
-    }
-    let disputes = disputes(asked.alloc, asked.entries).ok()?;
-    let count = disputes.len();
-    for dispute in &disputes[first_told(count, is_last)..] {
-        tell_key(asked.office, &dispute.key, out);
+fn tell_disputes<O: Write>(office: &Office, disputes: &[Dispute], is_last: bool, out: &mut O) {
+    for dispute in told(disputes, is_last) {
+        tell_key(office, &dispute.key, out);
         let contents = dispute.contents;
         let _ = writeln!(out, " {contents}");
     }
+    let count = disputes.len();
     let of_two = disputes
         .iter()
         .filter(|dispute| dispute.contents == 2)
         .count();
     let _ = writeln!(out, "{count} disputes, {of_two} of two records");
-    Some(())
 }
 
-fn tell_readings<O: Write>(
-    asked: &Asked<'_>,
-    meter: MeterId,
-    register: Register,
-    is_last: bool,
-    out: &mut O,
-) -> Option<()> {
-    let rows = readings(asked.alloc, asked.entries, meter, register).ok()?;
-    let count = rows.len();
-    for row in &rows[first_told(count, is_last)..] {
+fn tell_readings<O: Write>(rows: &[ReadingRow], is_last: bool, out: &mut O) {
+    for row in told(rows, is_last) {
         tell_reading(row, out);
     }
+    let count = rows.len();
     let counting = rows.iter().filter(|row| row.counted).count();
     let _ = writeln!(out, "{count} readings, {counting} counting");
-    Some(())
 }
 
 fn tell_reading<O: Write>(row: &ReadingRow, out: &mut O) {
@@ -116,19 +111,11 @@ fn mark_of(row: &ReadingRow) -> &'static str {
     }
 }
 
-fn tell_points<O: Write>(
-    asked: &Asked<'_>,
-    meter: MeterId,
-    register: Register,
-    is_last: bool,
-    out: &mut O,
-) -> Option<()> {
-    let points = points_of(asked.alloc, asked.entries, meter, register).ok()?;
-    let count = points.len();
-    for point in &points[first_told(count, is_last)..] {
+fn tell_points<O: Write>(points: &[Point], is_last: bool, out: &mut O) {
+    for point in told(points, is_last) {
         let (at, wh) = (point.at, point.watt_hours);
         let _ = writeln!(out, "{at} {wh}");
     }
+    let count = points.len();
     let _ = writeln!(out, "{count} points");
-    Some(())
 }

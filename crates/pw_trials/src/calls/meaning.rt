@@ -10,9 +10,12 @@ use crate::calls::names::{account, band_name, owner_name};
 use crate::calls::shares::tell_cell;
 use pw_model::plain::{OfficeTerms, are_of_office, balance, energy, energy_in};
 use pw_model::{Entry, TotalKey};
-use pw_parts::true_parts;
+use pw_parts::{Parts, true_parts};
 use pw_tariff::{AccountId, BandId, Cell, Direction, Office, Owner, PeriodId};
 use std::io::Write;
+
+// Of which energies: of all periods or of one, and the direction.
+type Part = (Option<PeriodId>, Direction);
 
 /// The most records of an office.
 pub(crate) const MOST_RECORDS: usize = 10_000_000;
@@ -43,11 +46,11 @@ fn answer_sound<O: Write>(asked: &Asked<'_>, words: &[&str], out: &mut O) -> Opt
     requires few { length asked.now.entries.now ≤ most_records }
 {
     match words {
-        ["imported"] => tell_energies(asked, None, Direction::Import, out),
-        ["exported"] => tell_energies(asked, None, Direction::Export, out),
+        ["imported"] => tell_energies(asked, (None, Direction::Import), out),
+        ["exported"] => tell_energies(asked, (None, Direction::Export), out),
         ["imported", period] => {
             let period = PeriodId(period.parse::<u8>().ok()?);
-            tell_energies(asked, Some(period), Direction::Import, out)
+            tell_energies(asked, (Some(period), Direction::Import), out)
         }
         ["balance", name] => {
             let terms = OfficeTerms::new(asked.office, asked.zone);
@@ -61,42 +64,29 @@ fn answer_sound<O: Write>(asked: &Asked<'_>, words: &[&str], out: &mut O) -> Opt
     }
 }
 
-// The energies above 0 in a direction, nobody's first, one second after another: of all periods, or of one.
-fn tell_energies<O: Write>(
-    asked: &Asked<'_>,
-    period: Option<PeriodId>,
-    direction: Direction,
-    out: &mut O,
-) -> Option<()>
+// The energies above 0 in a direction, nobody's first, one band after another: of all periods, or of one.
+fn tell_energies<O: Write>(asked: &Asked<'_>, of: Part, out: &mut O) -> Option<()>
     requires of_office { AllOfOffice (office_of asked.now.office.now) asked.now.entries.now }
     requires few { length asked.now.entries.now ≤ most_records }
 {
-    tell_energies_of(asked, None, period, direction, out)?;
+    tell_energies_of(asked, None, of, out)?;
     for account in 0..asked.office.accounts() {
-        let owner = Some(AccountId(account));
-        tell_energies_of(asked, owner, period, direction, out)?;
+        tell_energies_of(asked, Some(AccountId(account)), of, out)?;
     }
     Some(())
 }
 
-fn tell_energies_of<O: Write>(
-    asked: &Asked<'_>,
-    owner: Owner,
-    period: Option<PeriodId>,
-    direction: Direction,
-    out: &mut O,
-) -> Option<()>
+fn tell_energies_of<O: Write>(asked: &Asked<'_>, owner: Owner, of: Part, out: &mut O) -> Option<()>
     requires of_office { AllOfOffice (office_of asked.now.office.now) asked.now.entries.now }
     requires few { length asked.now.entries.now ≤ most_records }
 {
     for band in 0..asked.office.bands() {
-        let band = BandId(band);
-        let wh = energy_asked(asked, owner, period, band, direction)?;
+        let wh = energy_asked(asked, owner, BandId(band), of)?;
         if wh > 0 {
             let cell = Cell {
                 owner,
-                period: period.unwrap_or(PeriodId(0)),
-                band,
+                period: of.0.unwrap_or(PeriodId(0)),
+                band: BandId(band),
                 wh,
             };
             tell_cell(asked.office, &cell, out);
@@ -105,28 +95,17 @@ fn tell_energies_of<O: Write>(
     Some(())
 }
 
-fn energy_asked(
-    asked: &Asked<'_>,
-    owner: Owner,
-    period: Option<PeriodId>,
-    band: BandId,
-    direction: Direction,
-) -> Option<u64>
+fn energy_asked(asked: &Asked<'_>, owner: Owner, band: BandId, of: Part) -> Option<u64>
     requires of_office { AllOfOffice (office_of asked.now.office.now) asked.now.entries.now }
     requires few { length asked.now.entries.now ≤ most_records }
 {
+    let (alloc, entries) = (asked.alloc, asked.entries);
     let terms = OfficeTerms::new(asked.office, asked.zone);
-    let told = match period {
-        None => energy(asked.alloc, &terms, asked.entries, owner, band, direction),
-        Some(period) => energy_in(
-            asked.alloc,
-            &terms,
-            asked.entries,
-            owner,
-            period,
-            band,
-            direction,
-        ),
+    let told = match of {
+        (None, direction) => energy(alloc, &terms, entries, owner, band, direction),
+        (Some(period), direction) => {
+            energy_in(alloc, &terms, entries, owner, period, band, direction)
+        }
     };
     told.ok()
 }
@@ -137,12 +116,16 @@ fn tell_parts<O: Write>(asked: &Asked<'_>, out: &mut O) -> Option<()>
     requires few { length asked.now.entries.now ≤ most_records }
 {
     let parts = true_parts(asked.alloc, asked.office, asked.zone, asked.entries).ok()?;
-    tell_entries(asked.office, &parts.points, out);
-    tell_entries(asked.office, &parts.starts, out);
-    for (key, amount) in &parts.totals {
-        tell_total(asked.office, *key, *amount, out);
-    }
+    tell_all(asked.office, &parts, out);
     Some(())
+}
+
+fn tell_all<O: Write>(office: &Office, parts: &Parts, out: &mut O) {
+    tell_entries(office, &parts.points, out);
+    tell_entries(office, &parts.starts, out);
+    for (key, amount) in &parts.totals {
+        tell_total(office, *key, *amount, out);
+    }
 }
 
 fn tell_entries<O: Write>(office: &Office, entries: &[Entry], out: &mut O) {

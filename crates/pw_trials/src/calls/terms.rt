@@ -1,10 +1,10 @@
 //! The calls on the terms of the office. Meters, periods and bands are told by their numbers, from 0.
 
 use crate::calls::asked::Asked;
-use crate::calls::names::{band_name, direction};
+use crate::calls::names::{band_name, direction, meter_name, owner_name};
 use crate::calls::words::{instant, register};
 use pw_model::plain::{OfficeTerms, Terms};
-use pw_tariff::{BandId, MeterId, PeriodId};
+use pw_tariff::{BandId, MeterId, Office, PeriodId};
 use std::io::Write;
 
 pub(crate) fn answer<O: Write>(asked: &Asked<'_>, words: &[&str], out: &mut O) -> Option<()> {
@@ -18,6 +18,7 @@ pub(crate) fn answer<O: Write>(asked: &Asked<'_>, words: &[&str], out: &mut O) -
                 "accounts {accounts} meters {meters} bands {bands} periods {periods}"
             );
         }
+        ["names"] => tell_names(asked.office, out),
         ["counts", meter, of] => {
             let meter = MeterId(meter.parse::<u16>().ok()?);
             let counts = terms.counts(meter, register(of)?);
@@ -40,4 +41,21 @@ pub(crate) fn answer<O: Write>(asked: &Asked<'_>, words: &[&str], out: &mut O) -
         _ => return None,
     }
     Some(())
+}
+
+// The names of all accounts, meters and bands, each in its place.
+fn tell_names<O: Write>(office: &Office, out: &mut O) {
+    for account in office.account_ids() {
+        let _ = out.write_all(owner_name(office, Some(account)).as_bytes());
+        let _ = out.write_all(b" ");
+    }
+    for meter in office.meter_ids() {
+        let _ = out.write_all(meter_name(office, meter).as_bytes());
+        let _ = out.write_all(b" ");
+    }
+    for band in office.band_ids() {
+        let letter = band_name(office, band);
+        let _ = write!(out, "{letter}");
+    }
+    let _ = out.write_all(b"\n");
 }

@@ -23,9 +23,9 @@ returns-clause-balance g c = λ k.
     let imported = c.in_ok-imported.ensures.cost first in
     let exported = c.in_ok-exported.ensures.cost second ∙ ap (λ (d : ShelfContent). cost office (contents_at d.records) (Some c.args.account) Export) a in
     let cents = c.from-paid.ensures ∙ c.in_ok-cents.ensures.total k ∙ ap (λ (d : ShelfContent). d.total (TopUps c.args.account)) b ∙ (c.requires.truth before).totals (TopUps c.args.account) in
-    let e : c.difference.result ≡ balance office was.records c.args.account.0 =
-    c.difference.ensures ∙ (λ i. (pos (10_000_000 * cents i) -ℤ pos (imported i)) +ℤ pos (exported i)) in
+    let e : c.left_over.result ≡ balance office was.records c.args.account.0 =
+    c.left_over.ensures ∙ (λ i. (pos (10_000_000 * cents i) -ℤ pos (imported i)) +ℤ pos (exported i)) in
     let paid : 10_000_000 * c.from-paid.result < 2 ^ 120 = omega arith in
     let fits : FitsSigned w128 (balance office was.records c.args.account.0) =
-    subst (FitsSigned w128) e (subst (FitsSigned w128) (sym c.difference.ensures) (difference-fits (10_000_000 * c.from-paid.result) c.in_ok-imported.imported c.in_ok-exported.exported paid c.in_ok-imported.ensures.bound c.in_ok-exported.ensures.bound)) in
+    subst (FitsSigned w128) e (subst (FitsSigned w128) (sym c.left_over.ensures) (difference-fits (10_000_000 * c.from-paid.result) c.in_ok-imported.imported c.in_ok-exported.exported paid c.in_ok-imported.ensures.bound c.in_ok-exported.ensures.bound)) in
     ap (λ (z : ℤ). to_z w128 (of_z w128 z)) e ∙ to_z-of_z w128 (balance office was.records c.args.account.0) fits

@@ -7,7 +7,7 @@ use Rattle.pw_parts.specs.declared.changes.Side.{Side}
 use Rattle.pw_book.specs.inner.Moves.{MovesTotals, OfOwners}
 use Rattle.pw_parts.specs.Changes.{amount_on, gathered, other_side}
 use Rattle.pw_book.proofs.Chains.{kept-then, kept-none}
-use Rattle.pw_book.proofs.Walking.{HasTaken, IsRest, Moved, first-gathered, rest-all, rest-next, taken-all, taken-more, taken-none, taken-past, walk-begins, walk-ends, walk-moves, walk-passes}
+use Rattle.pw_book.proofs.Walking.{Moved, first-gathered, rest-all, rest-next, rest-same, taken-all, taken-more, taken-none, taken-past, taken-same, walk-begins, walk-ends, walk-moves, walk-passes}
 use Rattle.pw_book.proofs.moving.move_energies.Goals as goal
 
 pub loop-key-init : goal.loop-key-init
@@ -22,8 +22,7 @@ loop-key-init g c =
 
 pub change_total-requires-clause-fits : goal.change_total-requires-clause-fits
 change_total-requires-clause-fits g c =
-    let P : List (TotalKey × Change) → Type 0 = λ es. IsRest c.args.changes.now.rows es in
-    let r = subst P c.in-Some.ensures.steps c.loop-key.invariant.rest in
+    let r = rest-same c.args.changes.now.rows c.in-Some.ensures.steps c.loop-key.invariant.rest in
     let more = c.on.ensures ∙ ap (λ (s : Side). amount_on s c.in-Some.change.now) c.other.ensures ∙ first-gathered (other_side c.args.taken) c.args.changes.now.rows (c.in-Some.key.now, c.in-Some.change.now) _ r in
     let few = c.requires.few (other_side c.args.taken) c.in-Some.key.now in
     omega (arith, more, few)
@@ -33,19 +32,17 @@ loop-key-preserved-in-Continue-1 g c =
     let rows = c.args.changes.now.rows in
     let office = office_of c.args.office.now in
     let e : TotalKey × Change = (c.in-Some.key.now, c.in-Some.change.now) in
-    let P : List (TotalKey × Change) → Type 0 = λ es. IsRest rows es in
-    let r = subst P c.in-Some.ensures.steps c.loop-key.invariant.rest in
+    let r = rest-same rows c.in-Some.ensures.steps c.loop-key.invariant.rest in
     let own : OfOwners (periods_in c.args.office.now) (length c.args.office.now.bands) (length c.args.office.now.accounts) c.in-Some.key.now = c.is_energy_of.ensures.0 (search rules) in
     let more = c.on.ensures ∙ ap (λ (s : Side). amount_on s c.in-Some.change.now) c.other.ensures ∙ first-gathered (other_side c.args.taken) rows e _ r in
     let less = c.on-then-is_energy_of.ensures ∙ first-gathered c.args.taken rows e _ r in
-    let T : List (TotalKey × Change) → Type 0 = λ es. HasTaken office es (g.S.Shelf.state c.args.shelf.now).tally (g.S.Shelf.state c.loop-key.shelf).tally in
     record {
       rest = rest-next rows e _ r;
       moved = λ k. (
           let M : List (TotalKey × Change) → Type 0 = λ es. MovesTotals (Moved office.periods office.bands office.accounts es) (gathered (other_side c.args.taken) rows) (gathered c.args.taken rows) (g.S.Shelf.state c.args.shelf.now).content (g.S.Shelf.state c.loop-key.shelf).content in
           let so_far = subst M c.in-Some.ensures.steps (c.loop-key.invariant.moved (c.change_total.ensures.kept.clean k)) in
           walk-moves office.periods office.bands office.accounts (other_side c.args.taken) c.args.taken rows e _ _ _ _ _ _ r own more less so_far (c.in_ok-change_total.ensures.moved k));
-      tally = taken-more office rows e _ _ _ _ r own (subst T c.in-Some.ensures.steps c.loop-key.invariant.tally) c.change_total.ensures.tally;
+      tally = taken-more office rows e _ _ _ _ r own (taken-same office _ _ c.in-Some.ensures.steps c.loop-key.invariant.tally) c.change_total.ensures.tally;
       kept = kept-then _ _ _ _ g.met.S.Shelf.same_then _ _ _ _ c.loop-key.invariant.kept c.in_ok-change_total.ensures.kept;
     }
 
@@ -54,27 +51,23 @@ returns-in_err-change_total-clause-tally g c =
     let rows = c.args.changes.now.rows in
     let office = office_of c.args.office.now in
     let e : TotalKey × Change = (c.in-Some.key.now, c.in-Some.change.now) in
-    let P : List (TotalKey × Change) → Type 0 = λ es. IsRest rows es in
-    let r = subst P c.in-Some.ensures.steps c.loop-key.invariant.rest in
+    let r = rest-same rows c.in-Some.ensures.steps c.loop-key.invariant.rest in
     let own : OfOwners (periods_in c.args.office.now) (length c.args.office.now.bands) (length c.args.office.now.accounts) c.in-Some.key.now = c.is_energy_of.ensures.0 (search rules) in
-    let T : List (TotalKey × Change) → Type 0 = λ es. HasTaken office es (g.S.Shelf.state c.args.shelf.now).tally (g.S.Shelf.state c.loop-key.shelf).tally in
-    taken-all office _ _ _ (taken-more office rows e _ _ _ _ r own (subst T c.in-Some.ensures.steps c.loop-key.invariant.tally) c.change_total.ensures.tally)
+    taken-all office _ _ _ (taken-more office rows e _ _ _ _ r own (taken-same office _ _ c.in-Some.ensures.steps c.loop-key.invariant.tally) c.change_total.ensures.tally)
 
 pub loop-key-preserved : goal.loop-key-preserved
 loop-key-preserved g c =
     let rows = c.args.changes.now.rows in
     let office = office_of c.args.office.now in
     let e : TotalKey × Change = (c.in-Some.key.now, c.in-Some.change.now) in
-    let P : List (TotalKey × Change) → Type 0 = λ es. IsRest rows es in
-    let r = subst P c.in-Some.ensures.steps c.loop-key.invariant.rest in
-    let T : List (TotalKey × Change) → Type 0 = λ es. HasTaken office es (g.S.Shelf.state c.args.shelf.now).tally (g.S.Shelf.state c.loop-key.shelf).tally in
+    let r = rest-same rows c.in-Some.ensures.steps c.loop-key.invariant.rest in
     record {
       rest = rest-next rows e _ r;
       moved = λ k. (
           let M : List (TotalKey × Change) → Type 0 = λ es. MovesTotals (Moved office.periods office.bands office.accounts es) (gathered (other_side c.args.taken) rows) (gathered c.args.taken rows) (g.S.Shelf.state c.args.shelf.now).content (g.S.Shelf.state c.loop-key.shelf).content in
           let so_far = subst M c.in-Some.ensures.steps (c.loop-key.invariant.moved k) in
           walk-passes office.periods office.bands office.accounts (other_side c.args.taken) c.args.taken rows e _ _ _ (λ o. true≢false (sym (c.if-is_energy_of.ensures.1 o))) so_far);
-      tally = taken-past office e _ _ _ (subst T c.in-Some.ensures.steps c.loop-key.invariant.tally);
+      tally = taken-past office e _ _ _ (taken-same office _ _ c.in-Some.ensures.steps c.loop-key.invariant.tally);
       kept = c.loop-key.invariant.kept;
     }
 

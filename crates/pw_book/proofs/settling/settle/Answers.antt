@@ -7,25 +7,15 @@ use Rattle.pw_book.specs.inner.Added.{ChangesOneKey, IsJustChanged, TakesAtMost}
 use Rattle.pw_book.proofs.Truthful.{paid-alone, paid-records, paid-true, withdrawal-true}
 use Rattle.pw_book.proofs.settling.settle.Goals as goal
 
-pub returns-in-Reading-clause-truth : goal.returns-in-Reading-clause-truth
-returns-in-Reading-clause-truth g c = λ k s j.
+pub returns-in-Reading-clause-settled : goal.returns-in-Reading-clause-settled
+returns-in-Reading-clause-settled g c = λ k s j.
     let J : Key → Type 0 = λ l. IsJustChanged (office_of c.args.basis.now.office.now) s l c.args.before.now c.args.behind.now (g.S.Shelf.state c.args.shelf.now).content in
-    c.reading_changed.ensures.truth k s (subst J c.in-Reading.is j)
+    c.reading_changed.ensures.settled k s (subst J c.in-Reading.is j)
 
-pub returns-in-Reading-clause-records : goal.returns-in-Reading-clause-records
-returns-in-Reading-clause-records g c = λ k s j.
+pub returns-in-Assignment-clause-settled : goal.returns-in-Assignment-clause-settled
+returns-in-Assignment-clause-settled g c = λ k s j.
     let J : Key → Type 0 = λ l. IsJustChanged (office_of c.args.basis.now.office.now) s l c.args.before.now c.args.behind.now (g.S.Shelf.state c.args.shelf.now).content in
-    c.reading_changed.ensures.records k s (subst J c.in-Reading.is j)
-
-pub returns-in-Assignment-clause-truth : goal.returns-in-Assignment-clause-truth
-returns-in-Assignment-clause-truth g c = λ k s j.
-    let J : Key → Type 0 = λ l. IsJustChanged (office_of c.args.basis.now.office.now) s l c.args.before.now c.args.behind.now (g.S.Shelf.state c.args.shelf.now).content in
-    c.assignment_changed.ensures.truth k s (subst J c.in-Assignment.is j)
-
-pub returns-in-Assignment-clause-records : goal.returns-in-Assignment-clause-records
-returns-in-Assignment-clause-records g c = λ k s j.
-    let J : Key → Type 0 = λ l. IsJustChanged (office_of c.args.basis.now.office.now) s l c.args.before.now c.args.behind.now (g.S.Shelf.state c.args.shelf.now).content in
-    c.assignment_changed.ensures.records k s (subst J c.in-Assignment.is j)
+    c.assignment_changed.ensures.settled k s (subst J c.in-Assignment.is j)
 
 pub returns-in-Assignment-clause-tally : goal.returns-in-Assignment-clause-tally
 returns-in-Assignment-clause-tally g c = λ k.
@@ -37,20 +27,17 @@ returns-in-Assignment-clause-alone g c = λ k.
     let P : Key → Type 0 = λ l. ChangesOneKey l (g.S.Shelf.state c.args.shelf.now).content (g.S.Shelf.state c.assignment_changed.new.shelf).content in
     on_ok_weaker c.assignment_changed.result (λ h. subst P (sym c.in-Assignment.is) h) (c.assignment_changed.ensures.alone k)
 
-pub returns-in-TopUp-clause-truth : goal.returns-in-TopUp-clause-truth
-returns-in-TopUp-clause-truth g c = λ k s j.
+pub returns-in-TopUp-clause-settled : goal.returns-in-TopUp-clause-settled
+returns-in-TopUp-clause-settled g c = λ k s j.
     let office = office_of c.args.basis.now.office.now in
     let J : Key → Type 0 = λ l. IsJustChanged office s l c.args.before.now c.args.behind.now (g.S.Shelf.state c.args.shelf.now).content in
-    on_ok_weaker c.top_up_changed.result (λ m. paid-true office (sound-office c.args.basis.now.office.now c.requires.sound) s c.in-TopUp.reference c.args.before.now c.args.behind.now _ (subst J c.in-TopUp.is j) _ m) (c.top_up_changed.ensures.moved k)
+    on_ok_weaker c.top_up_changed.result (λ m. record { truth = paid-true office (sound-office c.args.basis.now.office.now c.requires.sound) s c.in-TopUp.reference c.args.before.now c.args.behind.now _ (subst J c.in-TopUp.is j) _ m; records = paid-records _ _ _ _ m }) (c.top_up_changed.ensures.moved k)
 
-pub returns-in-TopUp-clause-records : goal.returns-in-TopUp-clause-records
-returns-in-TopUp-clause-records g c = λ k s j. on_ok_weaker c.top_up_changed.result (λ m. paid-records _ _ _ _ m) (c.top_up_changed.ensures.moved k)
-
-pub returns-in-Withdrawal-clause-truth : goal.returns-in-Withdrawal-clause-truth
-returns-in-Withdrawal-clause-truth g c = λ k s j.
+pub returns-in-Withdrawal-clause-settled : goal.returns-in-Withdrawal-clause-settled
+returns-in-Withdrawal-clause-settled g c = λ k s j.
     let office = office_of c.args.basis.now.office.now in
     let J : Key → Type 0 = λ l. IsJustChanged office s l c.args.before.now c.args.behind.now (g.S.Shelf.state c.args.shelf.now).content in
-    withdrawal-true office (sound-office c.args.basis.now.office.now c.requires.sound) s c.in-Withdrawal.named c.args.before.now c.args.behind.now _ (subst J c.in-Withdrawal.is j)
+    record { truth = withdrawal-true office (sound-office c.args.basis.now.office.now c.requires.sound) s c.in-Withdrawal.named c.args.before.now c.args.behind.now _ (subst J c.in-Withdrawal.is j); records = refl }
 
 pub returns-in-Reading-clause-alone : goal.returns-in-Reading-clause-alone
 returns-in-Reading-clause-alone g c = λ k.

@@ -6,7 +6,6 @@ use Rattle.pw_model.specs.Bearing.{bears_on}
 use Rattle.pw_model.specs.Counting.{contents_at}
 use Rattle.pw_model.specs.Kinds.{IsReading}
 use Rattle.pw_book.specs.inner.Added.{ChangesOneKey, IsJustChanged, IsKeyOf, TakesAtMost}
-use Rattle.pw_book.proofs.Truthful.{on-ok-two}
 use Rattle.pw_book.proofs.Putting.{added-then, just-changed, key-of, put-added, takes-more, with-record}
 use Rattle.pw_book.proofs.upload.put.Goals as goal
 
@@ -31,7 +30,7 @@ returns-clause-put g c = λ k t h.
     (c.in_ok-before.ensures.rows first ∙ ap (contents_at old.records) c.bears_on-key.ensures) (c.in_ok-behind.ensures.rows third ∙ ap (contents_at mid.records) c.bears_on-key.ensures)
     c.requires.of_office h (c.requires.room start) t in
     let i = subst J (sym c.bears_on-key.ensures) j in
-    on-ok-two c.settle.result (λ u r. put-added office e old _ mid _ _ (c.in_ok-before.ensures.asked.same first) (c.in_ok-add.ensures.added second) (c.in_ok-behind.ensures.asked.same third) r u) (c.settle.ensures.truth k old.records i) (c.settle.ensures.records k old.records i)
+    on_ok_weaker c.settle.result (λ h. put-added office e old _ mid _ _ (c.in_ok-before.ensures.asked.same first) (c.in_ok-add.ensures.added second) (c.in_ok-behind.ensures.asked.same third) h.records h.truth) (c.settle.ensures.settled k old.records i)
 
 pub returns-clause-start : goal.returns-clause-start
 returns-clause-start g c = λ k r.

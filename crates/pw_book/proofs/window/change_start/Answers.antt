@@ -3,7 +3,7 @@ use Rattle.std.proofs.lemmas.Result.{on_ok_weaker}
 use Rattle.pw_tariff.specs.declared.ids.AccountId.{AccountId}
 use Rattle.pw_tariff.specs.Office.{office_of}
 use Rattle.pw_model.specs.Seconds.{ListsSeconds}
-use Rattle.pw_book.proofs.StartChanged.{point-kept, start-changed, start-kept, start-settled, window-counted}
+use Rattle.pw_book.proofs.StartChanged.{start-changed, start-kept, start-settled, window-counted}
 use Rattle.pw_book.proofs.window.change_start.Goals as goal
 
 pub returns-clause-settled : goal.returns-clause-settled
@@ -24,15 +24,6 @@ returns-clause-settled g c = λ k was is p s o h e.
     let differ = c.in_ok-changes.ensures.moved second was is changed in
     on_ok_weaker c.keep_start.result
     (λ q. start-settled office was is _ _ _ _ _ _ _ m z c.args.owner (c.in_ok-old.ensures.asked.same first) (c.in_ok-changes.ensures.same second) differ (c.in_ok-move_energies.ensures.moved third) q)
-    (c.keep_start.ensures.kept_start k)
-
-pub returns-clause-point : goal.returns-clause-point
-returns-clause-point g c = λ k.
-    let third = c.keep_start.ensures.kept.clean k in
-    let second = c.move_energies.ensures.kept.clean third in
-    let first = c.weigh_window.ensures.kept.clean second in
-    on_ok_weaker c.keep_start.result
-    (λ q. point-kept _ _ _ _ _ _ _ _ c.args.meter.0 c.args.start c.args.owner (c.in_ok-old.ensures.asked.same first) (c.in_ok-changes.ensures.same second) (c.in_ok-move_energies.ensures.moved third) q)
     (c.keep_start.ensures.kept_start k)
 
 pub returns-clause-start : goal.returns-clause-start

@@ -1,16 +1,10 @@
 use Rattle.sqlite.specs.Held.{state}
-use Rattle.pw_schema.proofs.Emptied.{emptied_kept, emptied_same, emptied_survives, emptied_within}
-use Rattle.pw_schema.proofs.Outcomes.{early}
+use Rattle.sqlite.specs.Command.TheVariants.{Delete}
+use Rattle.pw_schema.proofs.Changing.{empties_total, empty_total, empty_total_means, empty_total_text, same_others, stays_third}
 use Rattle.pw_schema.proofs.raise.empty_total.Goals as goal
 
-pub returns-clause-made : goal.returns-clause-made
-returns-clause-made g c clean = emptied_within (state g.S.Store c.args.conn.now) (state g.S.Store c.execute.new.self) (c.requires (early (state g.S.Store c.args.conn.now) (state g.S.Store c.execute.new.self) c.execute.ensures.survives clean)) c.execute.result (c.execute.ensures.runs clean)
+pub returns-clause-tables : goal.returns-clause-tables
+returns-clause-tables g c = stays_third empty_total_text (Delete 6 empty_total) empty_total_means empties_total (state g.S.Store c.args.conn.now) (state g.S.Store c.execute.new.self) c.execute.result (λ name e. absurd cc) (λ e. absurd cc) c.requires c.execute.ensures.runs c.execute.ensures.survives
 
 pub returns-clause-others : goal.returns-clause-others
-returns-clause-others g c clean = emptied_same (state g.S.Store c.args.conn.now) (state g.S.Store c.execute.new.self) (c.requires (early (state g.S.Store c.args.conn.now) (state g.S.Store c.execute.new.self) c.execute.ensures.survives clean)) c.execute.result (c.execute.ensures.runs clean)
-
-pub returns-clause-kept : goal.returns-clause-kept
-returns-clause-kept g c clean = emptied_kept (state g.S.Store c.args.conn.now) (state g.S.Store c.execute.new.self) (c.requires (early (state g.S.Store c.args.conn.now) (state g.S.Store c.execute.new.self) c.execute.ensures.survives clean)) c.execute.result (c.execute.ensures.runs clean)
-
-pub returns-clause-crash : goal.returns-clause-crash
-returns-clause-crash g c = emptied_survives (state g.S.Store c.args.conn.now) (state g.S.Store c.execute.new.self) c.requires c.execute.ensures.survives
+returns-clause-others g c = same_others empty_total_text (Delete 6 empty_total) empty_total_means empties_total (state g.S.Store c.args.conn.now) (state g.S.Store c.execute.new.self) c.execute.result c.requires c.execute.ensures.runs c.execute.ensures.survives

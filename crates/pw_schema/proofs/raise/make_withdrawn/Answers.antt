@@ -1,4 +1,4 @@
-use Rattle.std.proofs.Common.{◌∙◌, sym, subst}
+use Rattle.std.proofs.Common.{◌∙◌, sym, subst, rules}
 use Rattle.sqlite.specs.Held.{state}
 use Rattle.pw_schema.specs.Fresh.{IsWithin}
 use Rattle.pw_schema.specs.declared.table.StoreTable.TheVariants.{WithdrawnTopUps}
@@ -8,5 +8,12 @@ use Rattle.pw_schema.proofs.raise.make_withdrawn.Goals as goal
 pub make-requires : goal.make-requires
 make-requires g c clean = subst (λ s. IsWithin s (state g.S.Store c.args.conn.now)) (sym first_made) (c.requires clean)
 
-pub returns-clause-made : goal.returns-clause-made
-returns-clause-made g c clean = subst (λ s. IsWithin s (state g.S.Store c.make-3.new.conn)) (next_stage WithdrawnTopUps ∙ second_made) (c.in_ok-make-3.ensures.made clean)
+pub returns : goal.returns
+returns g c = record {
+  tables = record {
+    made = λ clean. subst (λ s. IsWithin s (state g.S.Store c.make-3.new.conn)) (next_stage WithdrawnTopUps ∙ second_made) (c.in_ok-make-3.ensures.made clean);
+    kept = search rules;
+    crash = search rules;
+  };
+  raised = search rules;
+}

@@ -1,16 +1,10 @@
 use Rattle.sqlite.specs.Held.{state}
-use Rattle.pw_schema.proofs.Outcomes.{early}
-use Rattle.pw_schema.proofs.Version.{version_kept, version_same, version_survives, version_within}
+use Rattle.sqlite.specs.Command.TheVariants.{Update}
+use Rattle.pw_schema.proofs.Changing.{sets_version, set_version, set_version_means, set_version_text, same_others, stays_third}
 use Rattle.pw_schema.proofs.raise.set_version.Goals as goal
 
-pub returns-clause-made : goal.returns-clause-made
-returns-clause-made g c clean = version_within (state g.S.Store c.args.conn.now) (state g.S.Store c.execute.new.self) (c.requires (early (state g.S.Store c.args.conn.now) (state g.S.Store c.execute.new.self) c.execute.ensures.survives clean)) c.execute.result (c.execute.ensures.runs clean)
+pub returns-clause-tables : goal.returns-clause-tables
+returns-clause-tables g c = stays_third set_version_text (Update 0 set_version) set_version_means sets_version (state g.S.Store c.args.conn.now) (state g.S.Store c.execute.new.self) c.execute.result (λ name e. absurd cc) (λ e. absurd cc) c.requires c.execute.ensures.runs c.execute.ensures.survives
 
 pub returns-clause-others : goal.returns-clause-others
-returns-clause-others g c clean = version_same (state g.S.Store c.args.conn.now) (state g.S.Store c.execute.new.self) (c.requires (early (state g.S.Store c.args.conn.now) (state g.S.Store c.execute.new.self) c.execute.ensures.survives clean)) c.execute.result (c.execute.ensures.runs clean)
-
-pub returns-clause-kept : goal.returns-clause-kept
-returns-clause-kept g c clean = version_kept (state g.S.Store c.args.conn.now) (state g.S.Store c.execute.new.self) (c.requires (early (state g.S.Store c.args.conn.now) (state g.S.Store c.execute.new.self) c.execute.ensures.survives clean)) c.execute.result (c.execute.ensures.runs clean)
-
-pub returns-clause-crash : goal.returns-clause-crash
-returns-clause-crash g c = version_survives (state g.S.Store c.args.conn.now) (state g.S.Store c.execute.new.self) c.requires c.execute.ensures.survives
+returns-clause-others g c = same_others set_version_text (Update 0 set_version) set_version_means sets_version (state g.S.Store c.args.conn.now) (state g.S.Store c.execute.new.self) c.execute.result c.requires c.execute.ensures.runs c.execute.ensures.survives

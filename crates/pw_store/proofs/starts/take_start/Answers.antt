@@ -1,6 +1,7 @@
+use Rattle.std.proofs.Common.{false}
 use Rattle.sqlite.specs.Held.{state}
 use Rattle.pw_store.proofs.KeptTexts.{delete_start_text, delete_start_query, delete_start_is}
-use Rattle.pw_store.proofs.Taking.{deletes_if}
+use Rattle.pw_store.proofs.Taking.{edits_if}
 use Rattle.pw_store.proofs.StartRows.{takes_if, taken_if}
 use Rattle.pw_schema.proofs.Outcomes.{early}
 use Rattle.pw_store.proofs.starts.take_start.Goals as goal
@@ -18,4 +19,4 @@ returns-clause-taken g c clean =
     (rw (c.integer.ensures, c.integer-2.ensures, c.from.ensures, c.seconds.ensures.value) at (c.execute.ensures.runs clean))
 
 pub returns-clause-writes : goal.returns-clause-writes
-returns-clause-writes g c = deletes_if delete_start_text 5 delete_start_query delete_start_is (state g.S.Store c.args.conn.now) (state g.S.Store c.execute.new.self) _ c.execute.result (λ clean. (c.requires.store clean).ours) c.requires.inside c.execute.ensures.runs c.execute.ensures.survives
+returns-clause-writes g c = edits_if false delete_start_text 5 delete_start_query delete_start_is (state g.S.Store c.args.conn.now) (state g.S.Store c.execute.new.self) _ c.execute.result (λ clean. (c.requires.store clean).ours) c.requires.inside c.execute.ensures.runs c.execute.ensures.survives

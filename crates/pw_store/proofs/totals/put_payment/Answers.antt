@@ -8,7 +8,7 @@ use Rattle.pw_store.proofs.totals.put_payment.Goals as goal
 pub returns-clause-done : goal.returns-clause-done
 returns-clause-done g c clean =
     let before = early (state g.S.Store c.args.conn.now) (state g.S.Store c.execute.new.self) c.execute.ensures.survives clean in
-    puts_if (state g.S.Store c.args.conn.now) (state g.S.Store c.execute.new.self) c.args.account c.args.cents c.execute.result c.requires.fits.0 (c.requires.store before) (c.requires.inside before) (c.requires.free before)
+    puts_if (state g.S.Store c.args.conn.now) (state g.S.Store c.execute.new.self) c.args.account c.args.cents c.requires.fits.0 c.execute.result (c.requires.store before) (c.requires.inside before) (c.requires.free before)
     (rw (c.integer.ensures, c.from.ensures, c.wide.ensures) at (c.execute.ensures.runs clean))
 
 pub returns-clause-writes : goal.returns-clause-writes

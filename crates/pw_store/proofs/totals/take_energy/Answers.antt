@@ -1,7 +1,8 @@
+use Rattle.std.proofs.Common.{false}
 use Rattle.sqlite.specs.Held.{state}
 use Rattle.pw_store.proofs.KeptTexts.{delete_total_text, delete_total_query, delete_total_is}
-use Rattle.pw_store.proofs.Taking.{deletes_if}
-use Rattle.pw_store.proofs.EnergyRows.{takes_if, taken_if}
+use Rattle.pw_store.proofs.Taking.{edits_if}
+use Rattle.pw_store.proofs.EnergyRows.{takes_if}
 use Rattle.pw_schema.proofs.Outcomes.{early}
 use Rattle.pw_store.proofs.totals.take_energy.Goals as goal
 
@@ -11,11 +12,5 @@ returns-clause-done g c clean =
     takes_if (state g.S.Store c.args.conn.now) (state g.S.Store c.execute.new.self) c.args.owner c.args.period c.args.band c.args.direction c.execute.result (c.requires.store before) (c.requires.inside before)
     (rw (c.integer.ensures, c.integer-2.ensures, c.integer-3.ensures, c.integer-4.ensures, c.owner_place.ensures, c.from.ensures, c.from-2.ensures, c.direction_place.ensures) at (c.execute.ensures.runs clean))
 
-pub returns-clause-taken : goal.returns-clause-taken
-returns-clause-taken g c clean =
-    let before = early (state g.S.Store c.args.conn.now) (state g.S.Store c.execute.new.self) c.execute.ensures.survives clean in
-    taken_if (state g.S.Store c.args.conn.now) (state g.S.Store c.execute.new.self) c.args.owner c.args.period c.args.band c.args.direction c.execute.result (c.requires.store before) (c.requires.inside before)
-    (rw (c.integer.ensures, c.integer-2.ensures, c.integer-3.ensures, c.integer-4.ensures, c.owner_place.ensures, c.from.ensures, c.from-2.ensures, c.direction_place.ensures) at (c.execute.ensures.runs clean))
-
 pub returns-clause-writes : goal.returns-clause-writes
-returns-clause-writes g c = deletes_if delete_total_text 11 delete_total_query delete_total_is (state g.S.Store c.args.conn.now) (state g.S.Store c.execute.new.self) _ c.execute.result (λ clean. (c.requires.store clean).ours) c.requires.inside c.execute.ensures.runs c.execute.ensures.survives
+returns-clause-writes g c = edits_if false delete_total_text 11 delete_total_query delete_total_is (state g.S.Store c.args.conn.now) (state g.S.Store c.execute.new.self) _ c.execute.result (λ clean. (c.requires.store clean).ours) c.requires.inside c.execute.ensures.runs c.execute.ensures.survives

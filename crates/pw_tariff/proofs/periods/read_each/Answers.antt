@@ -5,16 +5,14 @@ use Rattle.pw_tariff.specs.Office.{PeriodText}
 use Rattle.pw_tariff.specs.Held.{bands_of, period_of}
 use Rattle.pw_tariff.specs.inner.Held.{table_in}
 use Rattle.pw_tariff.specs.Text.{period_of_table, periods_in_turn}
-use Rattle.pw_tariff.proofs.Listed.{one-table, table-read}
+use Rattle.pw_tariff.proofs.EachTable.{no-other}
+use Rattle.pw_tariff.proofs.Listed.{table-read}
 use Rattle.pw_tariff.proofs.Order.{all-taken, held-more}
 use Rattle.pw_tariff.proofs.Turns.{refused, passed, ended}
 use Rattle.pw_tariff.proofs.periods.read_each.Goals as goal
 
 pub returns-in_default : goal.returns-in_default
-returns-in_default c =
-    let items = rw c.deref-value-items.ensures.value at c.value-item.is in
-    let within = rw c.deref-value-items.ensures.value at c.loop-value-test.true in
-    absurd (one-table c.args.array.now.items c.loop-value.value-index c.value-item.result _ within items c.requires c.in_default.ensures)
+returns-in_default c = absurd (no-other c.args.array.now.items c.deref-value-items.result.now c.loop-value.value-index c.value-item.result c.deref-value-items.ensures.value c.requires c.loop-value-test.true c.value-item.is c.in_default.ensures)
 
 pub returns-in-Err : goal.returns-in-Err
 returns-in-Err c =

@@ -1,6 +1,5 @@
 use Rattle.std.proofs.Common.{◌≡◌}
-use Rattle.pw_shelf.specs.Memory.{state_of}
 use Rattle.pw_trials.proofs.uploads.change.Given as goal
 
 abbrev pub invariant-loop-number : goal.invariant-loop-number
-invariant-loop-number l = (state_of l.shelf).begun ≡ (state_of l.initial.shelf).begun
+invariant-loop-number g l = (g.S.Shelf.state l.shelf).begun ≡ (g.S.Shelf.state l.initial.shelf).begun

@@ -10,8 +10,8 @@ overflow_mul-paid g c =
     let t = topped-fits (g.T.Terms.office c.args.terms.now) c.args.entries.now c.args.account.0 c.requires.office c.requires.entries c.requires.few in
     omega (arith, t, c.topped_up-paid.ensures)
 
-pub difference-requires : goal.difference-requires
-difference-requires g c =
+pub left_over-requires : goal.left_over-requires
+left_over-requires g c =
     let t = topped-fits (g.T.Terms.office c.args.terms.now) c.args.entries.now c.args.account.0 c.requires.office c.requires.entries c.requires.few in
     record {
       paid = omega (arith, t, c.topped_up-paid.ensures);
@@ -22,7 +22,7 @@ difference-requires g c =
 pub returns : goal.returns
 returns g c =
     let office = g.T.Terms.office c.args.terms.now in
-    let e : c.difference.result ≡ balance office c.args.entries.now c.args.account.0 =
-    c.difference.ensures ∙ (λ i. (pos (10_000_000 * c.topped_up-paid.ensures i) -ℤ pos (c.in_ok-imported.ensures.cost i)) +ℤ pos (c.in_ok-exported.ensures.cost i)) in
+    let e : c.left_over.result ≡ balance office c.args.entries.now c.args.account.0 =
+    c.left_over.ensures ∙ (λ i. (pos (10_000_000 * c.topped_up-paid.ensures i) -ℤ pos (c.in_ok-imported.ensures.cost i)) +ℤ pos (c.in_ok-exported.ensures.cost i)) in
     let f : FitsSigned w128 (balance office c.args.entries.now c.args.account.0) = balance-fits office c.args.entries.now c.args.account.0 c.requires.office c.requires.entries c.requires.few in
     ap (λ (z : ℤ). to_z w128 (of_z w128 z)) e ∙ to_z-of_z w128 (balance office c.args.entries.now c.args.account.0) f

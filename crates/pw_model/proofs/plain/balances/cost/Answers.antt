@@ -3,7 +3,7 @@ use Rattle.pw_flow.specs.Time.{sum_over}
 use Rattle.pw_model.specs.Counting.{contents_at}
 use Rattle.pw_model.specs.Energy.{cost}
 use Rattle.pw_model.specs.inner.Tariff.{period_cost}
-use Rattle.pw_model.proofs.PlainEnergy.{sum-next}
+use Rattle.pw_model.proofs.PlainEnergy.{sum-more}
 use Rattle.pw_model.proofs.plain.balances.cost.Goals as goal
 
 pub loop-period-init : goal.loop-period-init
@@ -14,10 +14,8 @@ pub loop-period-preserved : goal.loop-period-preserved
 loop-period-preserved g c =
     let office = g.T.Terms.office c.args.terms.now in
     let f : ℕ → ℕ = λ p. period_cost office (contents_at c.args.entries.now) (Some c.args.account) p c.args.direction in
-    let a = sum-next f c.loop-period.period in
-    let here : c.in_ok-part.part ≡ f c.loop-period.period = c.in_ok-part.ensures.cost in
-    let most = c.in_ok-part.ensures.bound in
-    record { sum = omega (arith, a, here, c.loop-period.invariant.sum); bound = omega (arith, most, c.loop-period.invariant.bound) }
+    let more = sum-more f c.loop-period.period c.loop-period.nano c.in_ok-part.part c.loop-period.invariant.sum c.in_ok-part.ensures.cost in
+    record { sum = omega (arith, more); bound = omega (arith, c.in_ok-part.ensures.bound, c.loop-period.invariant.bound) }
 
 pub returns-clause-cost : goal.returns-clause-cost
 unfolding cost

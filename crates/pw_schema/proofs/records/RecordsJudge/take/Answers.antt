@@ -1,27 +1,22 @@
-use Rattle.std.proofs.Common.{◌≡◌, [], ◌∷◌, ◌++◌, IfNone, IfSome, Equal, sym, subst, subst₂, rules}
+use Rattle.std.proofs.Common.{◌≡◌, [], ◌∷◌, ◌++◌, IfNone, IfSome, Equal, sym, subst, rules}
 use Rattle.std.specs.declared.cmp.Ordering.TheVariants.{Less}
 use Rattle.sqlite.specs.Order.{Row}
 use Rattle.pw_tariff.specs.Office.{office_of}
 use Rattle.pw_model.specs.Same.{entry_order}
-use Rattle.pw_schema.specs.Judging.{AreRecords, IsRecord}
+use Rattle.pw_schema.specs.Judging.{IsRecord}
 use Rattle.pw_schema.specs.Rows.{ReadsRows}
 use Rattle.pw_schema.proofs.InTurn.{read_push}
 use Rattle.pw_schema.proofs.Pushed.{all_push}
-use Rattle.pw_schema.proofs.OneByOne.{all_mid, read_twice}
+use Rattle.pw_schema.proofs.Foreign.{no_record, same_record}
 use Rattle.pw_schema.proofs.records.RecordsJudge.take.Goals as goal
 
 pub returns-in_default-clause-foreign : goal.returns-in_default-clause-foreign
-returns-in_default-clause-foreign c first rows tail held e records =
-    let row : Row = c.args.row.now in
-    let mine = subst₂ (λ o k. AreRecords (office_of o) k (rows ++ row ∷ tail)) (sym held.same_office) (sym held.same_kind) records in
-    c.in_default.ensures.none (all_mid (IsRecord (office_of c.args.self.now.office.now) c.args.self.now.kind) row rows tail mine.each)
+returns-in_default-clause-foreign c first rows tail held e records = no_record first c.args.self.now rows tail c.args.row.now held records c.in_default.ensures.none
 
 pub returns-in_err-see_behind-clause-foreign : goal.returns-in_err-see_behind-clause-foreign
 returns-in_err-see_behind-clause-foreign c first rows tail held e records =
-    let row : Row = c.args.row.now in
-    let mine = subst₂ (λ o k. AreRecords (office_of o) k (rows ++ row ∷ tail)) (sym held.same_office) (sym held.same_kind) records in
     let tie : c.place_of.result ≡ Equal = c.see_behind.ensures.twice (let gives = c.from_residual.ensures.1 in let was = c.in_err-see_behind.was in search rules) in
-    read_twice (office_of c.args.self.now.office.now) c.args.self.now.kind rows tail row c.args.self.now.found.items c.args.self.now.last c.in-Some.entry held.read held.behind c.in-Some.ensures.some.0 (subst (λ o. IfSome c.args.self.now.last (λ l. entry_order l c.in-Some.entry ≡ o)) tie c.place_of.ensures.some) (subst (λ o. IfNone c.args.self.now.last (o ≡ Less)) tie c.place_of.ensures.none) mine
+    same_record first c.args.self.now rows tail c.args.row.now held records c.in-Some.entry c.in-Some.ensures.some.0 (subst (λ o. IfSome c.args.self.now.last (λ l. entry_order l c.in-Some.entry ≡ o)) tie c.place_of.ensures.some) (subst (λ o. IfNone c.args.self.now.last (o ≡ Less)) tie c.place_of.ensures.none)
 
 pub returns-clause-took : goal.returns-clause-took
 returns-clause-took c first rows held =

@@ -20,7 +20,7 @@ invariant_of-self-in-Err-clause-keeps g c =
 pub returns-in-Ok-clause-content : goal.returns-in-Ok-clause-content
 returns-in-Ok-clause-content g c clean =
     let self = c.args.self.now in
-    held_made (state g.S.Store self.conn) (state g.S.Store c.make.new.conn) (state g.S.Store self.base.value) (changed c.args.change) (c.in-Ok.ensures.done clean)
+    held_made (state g.S.Store self.conn) (state g.S.Store c.make.new.conn) (state g.S.Store self.base.value) (changed c.args.change c.in-Ok.rows) (c.in-Ok.ensures.done clean)
 
 pub invariant_of-self-in-Err-clause-awake : goal.invariant_of-self-in-Err-clause-awake
 invariant_of-self-in-Err-clause-awake g c = search rules
@@ -31,7 +31,7 @@ make-requires-clause-inside g c = search rules
 pub invariant_of-self-in-Ok-clause-now_counted : goal.invariant_of-self-in-Ok-clause-now_counted
 invariant_of-self-in-Ok-clause-now_counted g c =
     let self = c.args.self.now in
-    counted_changed (state g.S.Store self.conn) (state g.S.Store c.make.new.conn) self.within c.args.change self.now_counted (mode_is _ _ c.if-is_autocommit.false c.is_autocommit.ensures.value) c.in-Ok.ensures.writes.crash c.in-Ok.ensures.done
+    counted_changed (state g.S.Store self.conn) (state g.S.Store c.make.new.conn) self.within c.args.change c.in-Ok.rows self.now_counted (mode_is _ _ c.if-is_autocommit.false c.is_autocommit.ensures.value) c.in-Ok.ensures.writes.crash c.in-Ok.ensures.done
 
 pub invariant_of-self-in-Err-clause-now_counted : goal.invariant_of-self-in-Err-clause-now_counted
 invariant_of-self-in-Err-clause-now_counted g c =

@@ -1,22 +1,18 @@
 use Rattle.std.proofs.Common.{string_bytes, sym, ◌∙◌}
 use Rattle.std.proofs.lemmas.Option.{slice_get-map}
-use Rattle.pw_tariff.proofs.Named.{named-here, unnamed-more, unnamed}
+use Rattle.pw_tariff.proofs.Named.{found-here, unnamed-more, unnamed}
 use Rattle.pw_tariff.proofs.office.Office.account.Goals as goal
 
 pub returns-then-eq-clause-some : goal.returns-then-eq-clause-some
 returns-then-eq-clause-some c =
     let test = rw c.as_bytes.ensures.value at (sym c.eq.ensures ∙ c.if-eq.true) in
-    let item = rw c.deref-own-items.ensures.value at c.own-item.is in
-    let within = rw c.deref-own-items.ensures.value at c.loop-i-test.true in
-    let here = named-here string_bytes c.self.inside.accounts.items c.loop-i.i c.own-item.result c.args.name.now within item test in
+    let here = found-here string_bytes c.self.inside.accounts.items c.deref-own-items.result.now c.loop-i.i c.own-item.result c.args.name.now c.deref-own-items.ensures.value c.loop-i-test.true c.own-item.is test in
     rw (← c.self.view_is) (slice_get-map string_bytes c.self.inside.accounts.items c.loop-i.i ∙ here)
 
 pub returns-then-eq-clause-only : goal.returns-then-eq-clause-only
 returns-then-eq-clause-only c =
     let test = rw c.as_bytes.ensures.value at (sym c.eq.ensures ∙ c.if-eq.true) in
-    let item = rw c.deref-own-items.ensures.value at c.own-item.is in
-    let within = rw c.deref-own-items.ensures.value at c.loop-i-test.true in
-    let here = named-here string_bytes c.self.inside.accounts.items c.loop-i.i c.own-item.result c.args.name.now within item test in
+    let here = found-here string_bytes c.self.inside.accounts.items c.deref-own-items.result.now c.loop-i.i c.own-item.result c.args.name.now c.deref-own-items.ensures.value c.loop-i-test.true c.own-item.is test in
     let found = slice_get-map string_bytes c.self.inside.accounts.items c.loop-i.i ∙ here in
     rw (← c.self.view_is) (λ i h. c.self.invariant.named.accounts i c.loop-i.i c.args.name.now h found)
 

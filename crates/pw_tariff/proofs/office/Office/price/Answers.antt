@@ -1,7 +1,7 @@
 use Rattle.std.proofs.Common.{◌-◌, sym, arith}
 use Rattle.pw_tariff.specs.Held.{file_of, band_of, bands_of, period_of}
 use Rattle.pw_tariff.proofs.Named.{band-read, band-bound}
-use Rattle.pw_tariff.proofs.Later.{first-price, first-bound, later-price, later-bound, later-within, period-is, period-read}
+use Rattle.pw_tariff.proofs.Later.{first-price, first-bound, later-price, later-bound, later-within, period-is, period-read, prices-there}
 use Rattle.pw_tariff.proofs.office.Office.price.Goals as goal
 
 pub returns-then-period-eq0-clause-price : goal.returns-then-period-eq0-clause-price
@@ -19,19 +19,13 @@ pub price-requires-2-clause-import_prices : goal.price-requires-2-clause-import_
 price-requires-2-clause-import_prices c =
     let n = rw (← c.self.view_is) at c.requires.period in
     let b = rw (← c.self.view_is) at c.requires.band in
-    let l = later-within c.self.inside.later.items c.args.period.0 (omega arith) n in
-    let p = period-is (bands_of c.self.inside.bands.items) c.self.inside.later.items (c.args.period.0 - 1) c.index-2.result.now l c.index-2.ensures c.self.invariant.later in
-    let m = p.import_prices.0 in
-    omega (arith, m, b)
+    (prices-there (bands_of c.self.inside.bands.items) c.self.inside.later.items c.args.period.0 c.args.band.0 c.index-2.result.now (omega arith) n c.index-2.ensures c.self.invariant.later b).0
 
 pub price-requires-2-clause-export_prices : goal.price-requires-2-clause-export_prices
 price-requires-2-clause-export_prices c =
     let n = rw (← c.self.view_is) at c.requires.period in
     let b = rw (← c.self.view_is) at c.requires.band in
-    let l = later-within c.self.inside.later.items c.args.period.0 (omega arith) n in
-    let p = period-is (bands_of c.self.inside.bands.items) c.self.inside.later.items (c.args.period.0 - 1) c.index-2.result.now l c.index-2.ensures c.self.invariant.later in
-    let m = p.export_prices.0 in
-    omega (arith, m, b)
+    (prices-there (bands_of c.self.inside.bands.items) c.self.inside.later.items c.args.period.0 c.args.band.0 c.index-2.result.now (omega arith) n c.index-2.ensures c.self.invariant.later b).1
 
 pub returns-clause-price : goal.returns-clause-price
 returns-clause-price c =

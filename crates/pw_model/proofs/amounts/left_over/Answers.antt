@@ -1,0 +1,5 @@
+use Rattle.std.proofs.Common.{rules}
+use Rattle.pw_model.proofs.amounts.left_over.Goals as goal
+
+pub returns : goal.returns
+returns c = search rules

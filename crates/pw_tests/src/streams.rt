@@ -1,0 +1,58 @@
+//! Readers and writers that fail.
+
+use std::io::{self, ErrorKind, Read, Write};
+
+/// Gives one byte a call, and so many calls; then it fails. It counts its calls.
+#[derive(Drop)]
+pub struct ByteByByte<'a> {
+    pub bytes: &'a [u8],
+    pub left: usize,
+    pub calls: u32,
+}
+
+impl<'a> Read for ByteByByte<'a> {
+    fn read(&mut self, buf: &mut [u8]) -> io::Result<usize> {
+        self.calls = self.calls.saturating_add(1);
+        if self.left == 0 {
+            return Err(io::Error::from(ErrorKind::BrokenPipe));
+        }
+        self.left -= 1;
+        let most = buf.len().min(1);
+        self.bytes.read(&mut buf[..most])
+    }
+}
+
+/// A reader that gives one byte a call, and fails behind so many.
+pub fn byte_by_byte(bytes: &[u8], left: usize) -> ByteByByte<'_> {
+    ByteByByte {
+        bytes,
+        left,
+        calls: 0,
+    }
+}
+
+/// Keeps what it takes: at most so many bytes a call, as long as it has room. Then it fails, or takes none without a
+/// fault.
+#[derive(Drop)]
+pub struct Narrow {
+    pub text: Vec<u8>,
+    pub room: usize,
+    pub most: usize,
+    pub fails: bool,
+}
+
+impl Write for Narrow {
+    fn write(&mut self, bytes: &[u8]) -> io::Result<usize> {
+        let count = bytes.len().min(self.room).min(self.most);
+        if count == 0 && self.fails && !bytes.is_empty() {
+            return Err(io::Error::from(ErrorKind::StorageFull));
+        }
+        self.text.extend_from_slice(&bytes[..count])?;
+        self.room -= count;
+        Ok(count)
+    }
+
+    fn flush(&mut self) -> io::Result<()> {
+        Ok(())
+    }
+}

@@ -1,3 +1,0 @@
-//! Office files, and their bands.
-
-mod files;
