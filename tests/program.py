@@ -65,10 +65,10 @@ def written(path, data):
     return path
 
 
-def run(*words, given=b"", by=(PROGRAM,), **options):
+def run(*words, given=b"", by=(PROGRAM,), patience=PATIENCE, **options):
     """Runs the program on words and an input, bytes or a file: its exit status, and what it wrote to both streams."""
     source = {"input": given} if isinstance(given, bytes) else {"stdin": given}
-    ran = subprocess.run([*by, *words], **source, capture_output=True, timeout=PATIENCE, check=False, **options)
+    ran = subprocess.run([*by, *words], **source, capture_output=True, timeout=patience, check=False, **options)
     return ran.returncode, ran.stdout, ran.stderr
 
 
