@@ -1,0 +1,26 @@
+use Rattle.std.proofs.Common.{arith, inl, inr, ◌≡◌, ◌⊎◌}
+use Rattle.pw_serve.specs.declared.turn.Next.TheVariants.{Goes, Replied}
+use Rattle.pw_serve.proofs.Turns.{leads-goes, leads-then, stays-then}
+use Rattle.pw_serve.proofs.turn.turn.Goals.{in-Goes, in-Replied}
+use Rattle.pw_serve.proofs.turn.turn.Goals as goal
+
+pub returns-in-Waits-clause-leads : goal.returns-in-Waits-clause-leads
+returns-in-Waits-clause-leads g c = leads-then g.S.Service.answers _ _ _ _ _ _ _ _ _ c.loop.invariant.leads c.in-Waits.ensures.leads
+
+pub returns-in-Held-clause-leads : goal.returns-in-Held-clause-leads
+returns-in-Held-clause-leads g c = leads-then g.S.Service.answers _ _ _ _ _ _ _ _ _ c.loop.invariant.leads c.in-Held.ensures.leads
+
+pub returns-in-Ends-clause-leads : goal.returns-in-Ends-clause-leads
+returns-in-Ends-clause-leads g c = leads-then g.S.Service.answers _ _ _ _ _ _ _ _ _ c.loop.invariant.leads c.in-Ends.ensures.leads
+
+pub loop-preserved : goal.loop-preserved
+loop-preserved g c =
+    let e : (c.step.result ≡ Goes) ⊎ (c.step.result ≡ Replied) = elim c.match-step.branch [
+      | in-Goes w ↦ inl w.in-Goes.is
+      | in-Replied w ↦ inr w.in-Replied.is
+    ] in
+    record {
+      leads = leads-then g.S.Service.answers _ _ _ _ _ _ _ _ _ c.loop.invariant.leads (leads-goes g.S.Service.answers _ _ _ _ _ _ _ _ e c.step.ensures.leads);
+      bounded = omega arith;
+      others = λ j d. stays-then _ _ _ (c.loop.invariant.others j d) (c.step.ensures.others j d);
+    }

@@ -1,0 +1,71 @@
+-- How all connections stand in the loop. It serves `src/peers.rt` and `src/serve.rt`.
+use Rattle.std.specs.Prelude.{◌≡◌, ◌≢◌, ◌≤◌, ◌⊎◌, ℕ, List, [], Option, Some, None}
+use Rattle.std.specs.Io.KnownBytes.{Keeps}
+use Rattle.pw_serve.specs.declared.peer.Peer.{Peer}
+use Rattle.pw_serve.specs.declared.turn.Next.{Next}
+use Rattle.pw_serve.specs.declared.turn.Next.TheVariants.{Waits}
+use Rattle.pw_serve.specs.Connections.{AllStay, Connection, OthersStay}
+use Rattle.pw_serve.specs.Exchanges.{Asked, Chain, Exchange, exchanges_of}
+use Rattle.pw_serve.specs.Served.{IsEndOf, Talk}
+use Rattle.pw_serve.specs.inner.Peers.{IsPeer}
+use Rattle.pw_serve.specs.inner.Turns.{IsAfter, Leads}
+
+-- the peers by their numbers
+abbrev pub Peers : Type 0
+Peers = ℕ → Option Peer
+
+-- one that is in the loop no more, or not yet
+pub record IsAway (first now : Connection) (own : List Exchange) : Type 0 where
+  pub rest : List ℕ
+  pub wait : List ℕ
+  pub talk : Talk first now own rest wait
+  pub end : IsEndOf first now own rest wait
+
+abbrev pub IsAt : Option Peer → Connection → Connection → List Exchange → Type 0
+IsAt (Some c) first now own = IsPeer first now own c
+IsAt None first now own = IsAway first now own
+
+-- a number that wasn't used yet
+pub record IsUnused (spot : Option Peer) (first now : Connection) (own : List Exchange) : Type 0 where
+  pub away : spot ≡ None
+  pub none : own ≡ []
+  pub unread : Keeps first.unread now.unread
+  pub told : Keeps first.told now.told
+  pub ended : now.ended ≡ first.ended
+
+-- another peer, or none, is at k
+pub record IsSet (k : ℕ) (spot : Option Peer) (old new : Peers) : Type 0 where
+  pub one : new k ≡ spot
+  pub others : (j : ℕ) → j ≢ k → new j ≡ old j
+
+abbrev pub AreSame : Peers → Peers → Type 0
+AreSame old new = (j : ℕ) → new j ≡ old j
+
+module _ {S : Type 0} (answers : S → Asked → List ℕ → S → Type 0) where
+  -- up to a moment: the exchanges so far, and where each connection stands
+  pub record Now (old : S) (first now : ℕ → Connection) (new : S) (peers : Peers) (next : ℕ) : Type 0 where
+    pub order : List Exchange
+    pub chain : Chain answers old order new
+    pub each : (j : ℕ) → IsAt (peers j) (first j) (now j) (exchanges_of j order)
+    pub unused : (j : ℕ) → next ≤ j → IsUnused (peers j) (first j) (now j) (exchanges_of j order)
+
+  -- a step keeps all that, whatever was before it
+  abbrev pub Onward : S → (ℕ → Connection) → Peers → ℕ → S → (ℕ → Connection) → Peers → ℕ → Type 0
+  Onward b now peers next c after others behind = (a : S) (first : ℕ → Connection) → Now a first now b peers next → Now a first after c others behind
+
+  -- the turn of the peer at k, if there is one
+  pub record IsTurn (k : ℕ) (c d : Peer) (old : S) (now : ℕ → Connection) (peers : Peers) (new : S) (after : ℕ → Connection) (others : Peers) (next : Next) : Type 0 where
+    pub was : peers k ≡ Some c
+    pub set : IsSet k (Some d) peers others
+    pub leads : Leads answers k old (now k) c new (IsAfter next (after k) d)
+    pub stay : OthersStay k now after
+
+  pub record IsNoTurn (old : S) (now : ℕ → Connection) (peers : Peers) (new : S) (after : ℕ → Connection) (others : Peers) (next : Next) : Type 0 where
+    pub same : new ≡ old
+    pub peers_same : AreSame peers others
+    pub stay : AllStay now after
+    pub next_is : next ≡ Waits
+
+  abbrev pub IsVisit : ℕ → S → (ℕ → Connection) → Peers → S → (ℕ → Connection) → Peers → Next → Type 0
+  IsVisit k old now peers new after others next =
+      ((c : Peer) × (d : Peer) × IsTurn k c d old now peers new after others next) ⊎ IsNoTurn old now peers new after others next
