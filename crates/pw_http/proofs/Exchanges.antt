@@ -1,14 +1,9 @@
 -- A conversation as a chain of exchanges, and one whose steps do more than was asked.
-use Rattle.std.proofs.Common.{◌≡◌, ℕ, List, [], ◌∷◌, ◌++◌, Option, Some, None, refl}
+use Rattle.std.proofs.Common.{ℕ, List, [], ◌∷◌, ◌++◌, Option, Some, None, refl}
 use Rattle.pw_http.specs.declared.audience.Audience.{Audience}
 use Rattle.pw_http.specs.Replies.{Reply}
 use Rattle.pw_http.specs.Requests.{Request, Asked, Whole, Faulty}
-use Rattle.pw_http.specs.Runs.{Asking, Conversation, Cut, EndsWith, Interrupted, Run, Step, Told, asking_of, cut_exchanges, exchanges, last_pair, pairs, told_exchanges}
-
--- exchanges one behind another, each of which does so much
-abbrev pub Chain : {S : Type 0} → (S → Asked → Reply → S → Type 0) → S → List (Asked × Reply) → S → Type 0
-Chain does old [] new = new ≡ old
-Chain {S} does old (e ∷ es) new = (mid : S) × does old e.0 e.1 mid × Chain does mid es new
+use Rattle.pw_http.specs.Runs.{Asking, Chain, Conversation, Cut, EndsWith, Interrupted, Run, Step, Told, asking_of, cut_exchanges, exchanges, last_pair, pairs, told_exchanges}
 
 module _ (audience : Audience) {S : Type 0} (serves : S → Asking → Reply → S → Type 0) where
   run-chain : (a b c : S) (rs : List Request) (us : List Reply) (es : List (Asked × Reply)) → Run serves a rs us b → Chain (Step serves) b es c → Chain (Step serves) a (pairs rs us ++ es) c

@@ -1,4 +1,4 @@
--- What a conversation with a book comes to.
+-- What conversations with a book come to.
 use Rattle.std.proofs.Common.{◌≡◌, ◌≤◌, ◌∙◌, ℕ, List, [], ◌∷◌, ◌++◌, Option, Result, Ok, Err, refl, sym, subst, append_assoc, arith, false, inl, inr}
 use Rattle.std.proofs.lemmas.List.{append-nil}
 use Rattle.pw_tariff.specs.Office.{OfficeFile, office_of}
@@ -14,12 +14,14 @@ use Rattle.pw_http.specs.declared.audience.Audience.{Audience}
 use Rattle.pw_http.specs.declared.fault.WireFault.{WireFault}
 use Rattle.pw_http.specs.declared.fault.WireFault.TheVariants.{Read, Write, TooManyTurns, Memory}
 use Rattle.pw_http.specs.declared.served.Served.{Served}
-use Rattle.pw_http.specs.Headline.{AnswersAreFair, AnswersFairly, ComesTo, EndTheSame, HasHeadline, Headline, IsHeadlineSoFar, IsKnown, accepted, if_fine, sent_by}
+use Rattle.pw_http.specs.Headline.{AnswersAreFair, AnswersFairly, ComesTo, EndTheSame, HasHeadline, Headline, IsHeadlineSoFar, IsKnown, ManyEndTheSame, ManyHaveHeadlines, accepted, if_fine, sent_by}
+use Rattle.pw_http.specs.Many.{said}
 use Rattle.pw_http.specs.Replies.{Reply}
 use Rattle.pw_http.specs.Requests.{Asked}
-use Rattle.pw_http.specs.Runs.{Asking, Conversation, Cut, Interrupted, IsTalk, Step, cut_exchanges, exchanges, told_exchanges}
+use Rattle.pw_http.specs.Runs.{Asking, Chain, Conversation, Cut, Interrupted, IsTalk, Step, cut_exchanges, exchanges, told_exchanges}
 use Rattle.pw_http.specs.Steps.{Answers, held, upload_of}
-use Rattle.pw_http.proofs.Exchanges.{Chain, chain-cut, chain-of, chain-told, cut-also, interrupted-also, talk-also}
+use Rattle.pw_http.proofs.Exchanges.{chain-cut, chain-of, chain-told, cut-also, interrupted-also, talk-also}
+use Rattle.pw_http.proofs.ManyTalks.{chain-through}
 use Rattle.pw_http.proofs.Judged.{Comes, asked-comes, step-comes}
 
 behind-nothing : (file : OfficeFile) (s : List Entry) → After file s [] s
@@ -130,3 +132,22 @@ module _ {S : Type 0} (shelf : Ghosts S) where
   talk-headline audience unread left known after a c turns (Err TooManyTurns) x = headline-so-far audience unread left known after a c x.0
   talk-headline audience unread left known after a c turns (Err Write) x = let y = headline-cut audience x.0 x.1 a c x.4 in (x.0, x.1, x.2, x.3, y.0, y.1)
   talk-headline audience unread left known after a c turns (Err Memory) x = x
+
+  -- ---- many connections
+  fair-chain : (a c : Book S shelf) (es : List (Asked × Reply)) → Chain (Step (Answers shelf)) a es c → Chain Does a es c
+  fair-chain a c es x = chain-through (λ (b : Book S shelf). b) (Answers shelf) (AnswersFairly shelf) fairly a c es x
+
+  pub many-headline : ManyHaveHeadlines shelf
+  many-headline audience a c first last x =
+      let chain : Chain Does a (said x.order) c = fair-chain a c (said x.order) x.chain in
+      record {
+        talks = record { order = x.order; chain = chain; talks = x.talks; ends = x.ends };
+        comes = comes-to a c (said x.order) chain;
+      }
+
+  pub many-same-end : ManyEndTheSame shelf
+  many-same-end audience others a b c d first last opened closed one two same k l =
+      same-end a b c d (said one.order) (said two.order)
+      (comes-to a b (said one.order) (fair-chain a b (said one.order) one.chain))
+      (comes-to c d (said two.order) (fair-chain c d (said two.order) two.chain))
+      same k l

@@ -1,9 +1,11 @@
 pub mod Asks
 pub mod Exchanges
+pub mod FirstAnswers
 pub mod HeadLemmas
 pub mod Headlines
 pub mod Judged
 pub mod KnownLemmas
+pub mod ManyTalks
 pub mod Numbers
 pub mod Paths
 pub mod Readings

@@ -1,4 +1,4 @@
--- What a conversation with a book comes to, in words of uploads, records and figures.
+-- What conversations with a book come to, in words of uploads, records and figures.
 -- (Definitions of this project.)
 use Rattle.std.specs.Prelude.{◌≡◌, ◌≢◌, ◌⊎◌, false, ℕ, Option, Some, None, List, [], ◌∷◌, ◌++◌, Result, Ok, Err}
 use Rattle.std.specs.Io.KnownBytes.{Appends}
@@ -12,12 +12,14 @@ use Rattle.pw_record.specs.Uploads.{Upload, RefusesContent}
 use Rattle.pw_shelf.specs.declared.shelf.Shelf.{Ghosts}
 use Rattle.pw_book.specs.After.{After, Refused}
 use Rattle.pw_book.specs.declared.book.Book.{Book}
+use Rattle.pw_serve.specs.Connections.{Connection}
 use Rattle.pw_http.specs.declared.audience.Audience.{Audience}
 use Rattle.pw_http.specs.declared.fault.WireFault.{WireFault}
 use Rattle.pw_http.specs.declared.fault.WireFault.TheVariants.{Read, Write, TooManyTurns, Memory}
 use Rattle.pw_http.specs.declared.replies.Status.{Status}
 use Rattle.pw_http.specs.declared.replies.Status.TheVariants.{Fine, BadRequest, Forbidden, NotFound, MethodNotAllowed, PayloadTooLarge, NotImplemented, Unavailable, InsufficientStorage}
 use Rattle.pw_http.specs.declared.served.Served.{Served}
+use Rattle.pw_http.specs.Many.{IsManyTalks, said}
 use Rattle.pw_http.specs.Replies.{Reply}
 use Rattle.pw_http.specs.Requests.{Asked, Whole, Faulty}
 use Rattle.pw_http.specs.Runs.{Asking, Conversation, Cut, Interrupted, Tells, asking_of, cut_exchanges, exchanges, told_exchanges}
@@ -126,4 +128,22 @@ module _ {S : Type 0} (shelf : Ghosts S) where
   -- then they end with the same records, and with the same answers to every question
   abbrev pub EndTheSame : Type 0
   EndTheSame = (a b c d : Book S shelf) (es fs : List (Asked × Reply)) → ComesTo a es b → ComesTo c fs d → AcceptTheSame a es c fs → IsKnown b → IsKnown d →
+      SameMembers (held shelf b).records (held shelf d).records × HaveSameAnswers (office_of a.office) (held shelf b).records (held shelf d).records
+
+  -- ---- many connections
+  -- their exchanges in one order, each of whose steps is fair, and what they come to
+  pub record ManyHeadline (audience : Audience) (old : Book S shelf) (first last : ℕ → Connection) (new : Book S shelf) : Type 0 where
+    pub talks : IsManyTalks audience AnswersFairly old first last new
+    pub comes : ComesTo old (said talks.order) new
+
+  -- whatever order their requests come in
+  abbrev pub ManyHaveHeadlines : Type 0
+  ManyHaveHeadlines = (audience : Audience) (old new : Book S shelf) (first last : ℕ → Connection) →
+      IsManyTalks audience (Answers shelf) old first last new → ManyHeadline audience old first last new
+
+  -- two servers, whose exchanges are each in some order, end with the same records, and with the same answers
+  abbrev pub ManyEndTheSame : Type 0
+  ManyEndTheSame = (audience others : Audience) (a b c d : Book S shelf) (first last opened closed : ℕ → Connection) →
+      (one : IsManyTalks audience (Answers shelf) a first last b) (two : IsManyTalks others (Answers shelf) c opened closed d) →
+      AcceptTheSame a (said one.order) c (said two.order) → IsKnown b → IsKnown d →
       SameMembers (held shelf b).records (held shelf d).records × HaveSameAnswers (office_of a.office) (held shelf b).records (held shelf d).records

@@ -6,7 +6,8 @@
 -- Runs: what a service answers, and what a conversation is
 -- Routes: where a request goes
 -- Steps: what a book answers
--- Headline: what a conversation with a book comes to
+-- Many: what serving many connections comes to
+-- Headline: what conversations with a book come to
 -- Laws: a stream has one list of requests
 pub mod Heads
 pub mod Audience
@@ -15,6 +16,7 @@ pub mod Replies
 pub mod Runs
 pub mod Routes
 pub mod Steps
+pub mod Many
 pub mod Headline
 pub mod Laws
 -- and these where a file above names them:

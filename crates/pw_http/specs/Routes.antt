@@ -1,6 +1,6 @@
 -- The routes: what stands where, and by which method. A word in braces stands for one byte or more without `/`.
 -- (Definitions of this project, over the routes of `matchit`.)
-use Rattle.std.specs.Prelude.{ℕ, ◌-◌, Option, Some, None, List, [], length, take, drop, codes, bytes_eq, option_map, Result, Ok, Err, if◌then◌else◌}
+use Rattle.std.specs.Prelude.{true, false, ℕ, Bool, ◌-◌, Option, Some, None, List, [], length, take, drop, codes, bytes_eq, option_map, Result, Ok, Err, if◌then◌else◌}
 use Rattle.std.specs.Str.{is_utf8}
 use Rattle.matchit.specs.Rows.{RowsOf}
 use Rattle.matchit.specs.Order.{placed}
@@ -72,6 +72,25 @@ by_method method (Some route) = if bytes_eq method (method_name route) then At r
 -- a target without a route, or that isn't UTF-8; a route that has another method; or a route
 abbrev pub place_of : List ℕ → List ℕ → Place
 place_of method target = if is_utf8 target then by_method method (route_at target) else NoPage
+
+-- ---- the length of a page
+-- a page that grows with the records, or with the meters
+abbrev pub may_be_large : Route → Bool
+may_be_large Telegrams = false
+may_be_large Readouts = false
+may_be_large Assignments = false
+may_be_large TopUps = false
+may_be_large Withdrawals = false
+may_be_large Account = false
+may_be_large MeterReadings = true
+may_be_large (Table table.Accounts) = false
+may_be_large (Table table.Falls) = true
+may_be_large (Table table.Disputes) = true
+may_be_large (Table table.Readings) = true
+may_be_large (Table table.Energies) = true
+may_be_large (Table table.Assignments) = true
+may_be_large (Table table.TopUps) = true
+may_be_large (Table table.Withdrawals) = true
 
 -- ---- the word in braces
 -- what stands in a target behind `/accounts/`

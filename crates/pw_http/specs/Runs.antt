@@ -63,6 +63,11 @@ module _ {S : Type 0} (serves : S → Asking → Reply → S → Type 0) where
   abbrev pub Serving : {T E : Type 0} → S → Asking → Bool → Option (List ℕ) → Option (List ℕ) → S → Result T E → Type 0
   Serving old asking closing known after new r = (reply : Reply) × serves old asking reply new × Writes known after (reply_bytes closing reply) r
 
+-- requests with their replies, one behind another, each of which does so much
+abbrev pub Chain : {S : Type 0} → (S → Asked → Reply → S → Type 0) → S → List (Asked × Reply) → S → Type 0
+Chain does old [] new = new ≡ old
+Chain {S} does old (e ∷ es) new = (mid : S) × does old e.0 e.1 mid × Chain does mid es new
+
 module _ (audience : Audience) {S : Type 0} (serves : S → Asking → Reply → S → Type 0) where
   -- ---- what was said
   -- up to a place: the requests that were wholly received and answered, and what came after them

@@ -2,3 +2,5 @@ pub mod Received
 pub mod Fields
 pub mod Turns
 pub mod Answered
+pub mod Large
+pub mod Answering

@@ -1,18 +1,19 @@
 //! A conversation with any service.
 
-ghost use Rattle.std.specs.Prelude.{◌≡◌, ◌≤◌, ◌+◌, length, IfOk};
+ghost use Rattle.std.specs.Prelude.{◌≡◌, ◌≤◌, ◌+◌, length, IfErr, IfOk};
+ghost use Rattle.httparse.specs.Spans.{IsWithin};
 ghost use Rattle.pw_http.specs.Heads.{most_fields};
-ghost use Rattle.pw_http.specs.Runs.{IsTalk};
-ghost use Rattle.pw_http.specs.inner.Turns.{IsBatch, IsTurn};
+ghost use Rattle.pw_http.specs.Runs.{IsTalk, Serving};
+ghost use Rattle.pw_http.specs.declared.fault.WireFault.TheVariants.{Write as WriteFault};
+ghost use Rattle.pw_http.specs.inner.Turns.{IsBatch, IsTurn, asking_at};
 
 use crate::audience::Audience;
 use crate::fault::WireFault;
 use crate::heads::MOST_FIELDS;
 use crate::inbox::Inbox;
-use crate::replies::{ContentType, line_of, status_of};
-use crate::requests::{Next, ROOM, ask_next};
+use crate::requests::{Next, Places, ROOM, ask_next};
 use crate::routes::Routes;
-use crate::send::send_reply;
+use crate::send::refuse;
 use crate::served::Served;
 use crate::service::Service;
 use httparse::spans::{EMPTY_HEADER_SPAN, HeaderSpan};
@@ -41,6 +42,28 @@ pub(crate) struct Batch {
     pub(crate) is_over: bool,
 }
 
+/// Answers a whole request, whose parts stand at these places.
+pub(crate) fn answer_whole<S: Service, W: Write>(
+    alloc: Global,
+    service: &mut S,
+    routes: &Routes,
+    bytes: &[u8],
+    whole: Places,
+    writer: &mut W,
+) -> Result<(), WireFault>
+    requires method { IsWithin (length bytes.now) whole.method }
+    requires target { IsWithin (length bytes.now) whole.target }
+    requires body { whole.start ≤ whole.len }
+    requires within { whole.len ≤ length bytes.now }
+    ensures serving { Serving S.serves service.old (asking_at bytes.now whole) whole.closes (W.contents writer.old) (W.contents writer.new) service.new result }
+    ensures fault { IfErr result (λ e. e ≡ WriteFault) }
+{
+    let method = whole.method.of(bytes);
+    let target = whole.target.of(bytes);
+    let body = &bytes[whole.start..whole.len];
+    service.serve(alloc, routes, method, target, body, whole.closes, writer)
+}
+
 /// Answers the next request, where it was wholly received.
 fn take_turn<S: Service, W: Write>(
     alloc: Global,
@@ -60,8 +83,7 @@ fn take_turn<S: Service, W: Write>(
         Next::Nothing => return Ok(Turn::Over),
         Next::More => return Ok(Turn::Waits),
         Next::Refused(why) => {
-            let line = line_of(why).as_bytes();
-            return match send_reply(writer, status_of(why), ContentType::Plain, true, line) {
+            return match refuse(writer, why) {
                 Ok(()) => Ok(Turn::Last),
                 Err(_) => Err(WireFault::Write),
             };
@@ -69,10 +91,7 @@ fn take_turn<S: Service, W: Write>(
         Next::Ready(whole) => whole,
     };
     let bytes = inbox.unread();
-    let method = whole.method.of(bytes);
-    let target = whole.target.of(bytes);
-    let body = &bytes[whole.start..whole.len];
-    match service.serve(alloc, routes, method, target, body, whole.closes, writer) {
+    match answer_whole(alloc, service, routes, bytes, whole, writer) {
         Err(_) => Err(WireFault::Write),
         Ok(()) => {
             inbox.consume(whole.len);

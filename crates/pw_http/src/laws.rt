@@ -2,7 +2,7 @@
 //!
 //! Each function changes nothing. What counts is its contract, a law of the definitions in `specs/`.
 
-ghost use Rattle.pw_http.specs.Headline.{AnswersAreFair, EndTheSame};
+ghost use Rattle.pw_http.specs.Headline.{AnswersAreFair, EndTheSame, ManyEndTheSame, ManyHaveHeadlines};
 ghost use Rattle.pw_http.specs.Laws.{HasOneReading, PathsReachRoutes, StreamsHaveOneReading};
 
 use crate::audience::Audience;
@@ -53,6 +53,24 @@ pub fn answers_are_fair<S: Shelf>(book: &Book<S>)
 /// written.)
 pub fn order_counts_nothing<S: Shelf>(book: &Book<S>)
     ensures { EndTheSame S.Shelf }
+{
+    let _ = book.office();
+}
+
+/// What the exchanges of a book with many connections come to, whatever order their requests come in: each is fair, and of a
+/// book that isn't shut and over a store that returned what was written each figure behind the last one is the
+/// definition's, for the records held before with those of the uploads that were answered 200.
+pub fn many_connections_come_to<S: Shelf>(book: &Book<S>)
+    ensures { ManyHaveHeadlines S.Shelf }
+{
+    let _ = book.office();
+}
+
+/// Two books that begin with the same records, and accept the same uploads of many connections, in whatever order and
+/// however often, end with the same records and the same answers to every question. (Each book isn't shut at the end, and
+/// its store returned what was written.)
+pub fn many_connections_end_the_same<S: Shelf>(book: &Book<S>)
+    ensures { ManyEndTheSame S.Shelf }
 {
     let _ = book.office();
 }

@@ -2,6 +2,7 @@
 //! replied.
 #![tactic(auto)]
 
+mod answering;
 mod answers;
 mod audience;
 mod books;
@@ -18,6 +19,7 @@ mod served;
 mod service;
 mod trail;
 
+pub use answering::serve_connections;
 pub use audience::{Audience, Origin, Scheme};
 pub use books::{converse, converse_with, converse_within};
 pub use conversation::{MOST_TURNS, serve_to, serve_within};

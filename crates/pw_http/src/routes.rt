@@ -1,7 +1,8 @@
 //! The routes.
 
 ghost use Rattle.std.specs.Prelude.{◌≡◌, IfOk, drop};
-ghost use Rattle.pw_http.specs.Routes.{account_in as account_of, by_method, exported_meter_in as exported_meter_of, meter_in as meter_of, method_name, place_of, route_at, route_table};
+ghost use Rattle.pw_http.specs.Routes.{account_in as account_of, by_method, exported_meter_in as exported_meter_of, may_be_large as is_large, meter_in as meter_of, method_name, place_of, route_at, route_table};
+ghost use Rattle.pw_http.specs.inner.Large.{is_large_at as is_place_large};
 
 use matchit::{InsertError, Router};
 use pw_report::Table;
@@ -27,6 +28,24 @@ pub enum Route {
     MeterReadings,
     /// A table of the book.
     Table(Table),
+}
+
+impl Route {
+    /// Whether its page grows with the records, or with the meters. Replies that may be large are made one at a time.
+    pub fn may_be_large(self) -> bool
+        ensures { result ≡ is_large self }
+    {
+        match self {
+            Route::Telegrams
+            | Route::Readouts
+            | Route::Assignments
+            | Route::TopUps
+            | Route::Withdrawals
+            | Route::Account
+            | Route::Table(Table::Accounts) => false,
+            Route::MeterReadings | Route::Table(_) => true,
+        }
+    }
 }
 
 /// Where a request goes.
@@ -123,6 +142,16 @@ fn method_of(route: Route) -> &'static [u8]
         | Route::TopUps
         | Route::Withdrawals => b"POST",
         Route::Account | Route::MeterReadings | Route::Table(_) => b"GET",
+    }
+}
+
+/// Whether the reply to a request that goes there may be a large one.
+pub(crate) fn is_large_at(place: Place) -> bool
+    ensures { result ≡ is_place_large place }
+{
+    match place {
+        Place::NoPage | Place::NoMethod => false,
+        Place::At(route) => route.may_be_large(),
     }
 }
 

@@ -1,12 +1,13 @@
 //! Replies are written whole, or cut at an error.
 
-ghost use Rattle.std.specs.Prelude.{◌≡◌, IfErr};
-ghost use Rattle.pw_http.specs.Replies.{reply_bytes};
+ghost use Rattle.std.specs.Prelude.{◌≡◌, true, IfErr};
+ghost use Rattle.pw_http.specs.Replies.{refusal_reply, reply_bytes};
 ghost use Rattle.pw_http.specs.Writing.{Writes};
 ghost use Rattle.pw_http.specs.declared.fault.WireFault.TheVariants.{Write as WriteFault};
 
 use crate::fault::WireFault;
-use crate::replies::{ContentType, Status, head};
+use crate::replies::{ContentType, Status, head, line_of, status_of};
+use crate::requests::Refusal;
 use std::io::Write;
 
 /// Writes the bytes, by as many calls as it takes.
@@ -41,4 +42,13 @@ pub fn send_reply<W: Write>(
         Ok(()) => send(writer, body),
         Err(_) => Err(WireFault::Write),
     }
+}
+
+/// Writes the reply to what is no whole request. It takes no memory.
+pub(crate) fn refuse<W: Write>(writer: &mut W, why: Refusal) -> Result<(), WireFault>
+    ensures written { Writes (W.contents writer.old) (W.contents writer.new) (reply_bytes true (refusal_reply why)) result }
+    ensures fault { IfErr result (λ e. e ≡ WriteFault) }
+{
+    let line = line_of(why).as_bytes();
+    send_reply(writer, status_of(why), ContentType::Plain, true, line)
 }
