@@ -1,8 +1,6 @@
--- Limits: how long a client is waited for
-pub mod Limits
--- Accepting: why no connection is accepted
-pub mod Accepting
 -- Piping: what the conversation of `pipe` comes to
 pub mod Piping
+-- Busy: what a client is told for whom no place is free
+pub mod Busy
 -- Listed: why a list of uploads isn't read
 pub mod Listed

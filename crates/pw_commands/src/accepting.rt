@@ -1,37 +1,12 @@
 //! Connections are accepted, one after the other.
 
 ghost use Rattle.std.specs.Prelude.{◌≡◌, IfErr};
-ghost use Rattle.pw_commands.specs.inner.Accepting.{Hinders};
 
 use crate::fault::Fault;
+use pw_sockets::{Hindrance, PAUSE, hindrance_of};
 use std::net::{TcpListener, TcpStream};
 use std::thread;
 use std::time::{Clock, Duration};
-
-/// How long nothing is accepted while there is no descriptor or no memory for a connection, in milliseconds.
-const PAUSE: u64 = 100;
-
-/// Why no connection is accepted.
-#[derive(Clone, Copy, Debug, PartialEq, Eq)]
-pub(crate) enum Hindrance {
-    /// The connection is gone, and the next one is there to be taken.
-    Gone,
-    /// No descriptor, or no memory, is free.
-    Short,
-    /// The listener is of no use any more.
-    Broken,
-}
-
-// What an error of `accept` means, by Linux's number.
-fn hindrance_of(number: u32) -> Hindrance
-    ensures { Hinders number result }
-{
-    match number {
-        103 => Hindrance::Gone,
-        12 | 23 | 24 | 105 => Hindrance::Short,
-        _ => Hindrance::Broken,
-    }
-}
 
 /// The next connection. One that is gone before it is accepted isn't waited for; where no descriptor or memory is free,
 /// there is another try behind a tenth of a second, as often as it takes (up to 2^64 times); else `Device`.

@@ -1,16 +1,10 @@
 //! A client's connection, whose reads and writes end in time.
 
-use crate::limits::{Course, left_of};
+use pw_sockets::{Course, LAST_READS, PARTING, left_of};
 use std::cell::Cell;
 use std::io::{self, ErrorKind, Read, Write};
 use std::net::{Shutdown, TcpStream};
 use std::time::{Clock, Duration, Instant};
-
-/// How long what a client still sends behind the last reply is read, in seconds.
-const PARTING: u64 = 2;
-
-/// How many reads there are of it at most.
-const LAST_READS: u32 = 1_024;
 
 /// A connection that was accepted: reads and writes of `&Client` fail with `TimedOut` once a limit of time has passed.
 #[derive(Drop)]

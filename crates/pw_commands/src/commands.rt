@@ -17,6 +17,7 @@ use crate::loading::{Target, load};
 use crate::offices::office_text;
 use crate::pipe::pipe_run;
 use crate::progress::{Follow, Progress};
+use crate::server::Term;
 use crate::serving::serve;
 use crate::store::{FileBook, close_book, open_book};
 use crate::telling::{finish, tell};
@@ -157,6 +158,7 @@ fn obey<I: Read, O: Write, E: Write, W: Follow>(
             office,
             store,
             count,
+            until_input_ends,
             port,
             limit,
             origins,
@@ -167,8 +169,12 @@ fn obey<I: Read, O: Write, E: Write, W: Follow>(
                 Err(fault) => return not_asked(rt.alloc(), fault, out, err),
             };
             let audience = Audience::Here(origins.as_slice());
+            let term = Term {
+                count,
+                until_input_ends,
+            };
             match book_at(rt, office, store, Purpose::Take, limit, watch) {
-                Ok(book) => serve(rt, book, audience, count, port, tells, out, err),
+                Ok(book) => serve(rt, book, audience, term, port, tells, out, err),
                 Err(fault) => tell(rt.alloc(), fault, err),
             }
         }

@@ -179,6 +179,10 @@ fn are_in_time(stop: &impl Abort, rt: &HostRuntime, rows: [Timed; 2]) {
 }
 
 // bears on: pw_commands serving.rt serve_on times
+// bears on: pw_sockets limits.rt left_of ensures
+// bears on: pw_sockets limits.rt Course::to_read ensures
+// bears on: pw_sockets limits.rt Course::came first
+// bears on: pw_sockets limits.rt Course::came later
 #[test]
 fn a_request_takes_a_minute_at_most(rt: HostRuntime) {
     let bad_head: Timed = (59, HALF_A_HEAD, Reply::BadHead, NOTHING);
@@ -187,6 +191,11 @@ fn a_request_takes_a_minute_at_most(rt: HostRuntime) {
 }
 
 // bears on: pw_commands serving.rt serve_on times
+// bears on: pw_sockets limits.rt Course::to_write ensures
+// bears on: pw_sockets limits.rt Course::goes_on goes_on
+// bears on: pw_sockets limits.rt Course::goes_on begins
+// bears on: pw_sockets limits.rt Course::took taken
+// bears on: pw_sockets limits.rt Course::took ahead
 #[test]
 fn a_short_reply_takes_a_minute_at_most(rt: HostRuntime) {
     let whole: Timed = (59, REQUESTS, Reply::Both, NOTHING);

@@ -46,7 +46,8 @@ fn is_server_asked_for(alloc: Global, words: &[&str], count: u32, port: u16, tel
     let server = Command::Serve {
         office: "o",
         store: "s",
-        count,
+        count: Some(count),
+        until_input_ends: false,
         port,
         limit: LIMIT,
         origins: Vec::new(alloc),

@@ -58,7 +58,7 @@ IsSound (command.Pipe office limit) = IsLimit limit
 IsSound (command.Load office store files limit) = IsLimit limit × NamesFiles files
 IsSound (command.Statement office store account) = ⊤
 IsSound (command.Export office store what) = ⊤
-IsSound (command.Serve office store count port limit origins tells) = IsLimit limit × (1 ≤ port)
+IsSound (command.Serve office store count until_input_ends port limit origins tells) = IsLimit limit × (1 ≤ port)
 
 -- why words give no command, where they ask for no help
 abbrev pub IsRefusal : WordsFault → Type 0

@@ -63,12 +63,14 @@ pub enum Command<'a> {
         store: &'a str,
         what: Exported<'a>,
     },
-    /// `count` connections to a port of this machine are served; pages of these origins, as their words stand, may ask
-    /// too; and each upload that was answered is told, where `tells` says so.
+    /// Connections to a port of this machine are served: `count` of them, where that is stated, and where
+    /// `until_input_ends` says so until standard input ends. Pages of these origins, as their words stand, may ask too; and
+    /// each upload that was answered is told, where `tells` says so.
     Serve {
         office: &'a str,
         store: &'a str,
-        count: u32,
+        count: Option<u32>,
+        until_input_ends: bool,
         port: u16,
         limit: u32,
         origins: Vec<&'a str>,

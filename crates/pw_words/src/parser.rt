@@ -45,6 +45,7 @@ enum Word {
     Clock,
     Verbose,
     Count,
+    UntilInputEnds,
     Port,
     Origin,
     Tell,
@@ -107,11 +108,12 @@ static COMMANDS: [Asked; 7] = [
     Asked {
         name: "serve",
         about: "Serves a store to HTTP clients of this machine",
-        end: "Exit status: 0; 1 refused; 2 wrong words; 3 a file, socket, store or memory failed.\nExample: powerbook serve office.toml book.db --count 100",
+        end: "Exit status: 0; 1 refused; 2 wrong words; 3 a file, socket, store or memory failed.\nExamples:\n  powerbook serve office.toml book.db\n  powerbook serve office.toml book.db --count 100",
         words: &[
             Word::Office,
             Word::Store,
             Word::Count,
+            Word::UntilInputEnds,
             Word::Port,
             Word::Limit,
             Word::Origin,
@@ -195,9 +197,17 @@ fn count<'a>(alloc: Global) -> Arg<'a> {
     Arg::new(alloc, "count")
         .long("count")
         .value_name("N")
-        .required(true)
         .value_parser(value_parser!(u32))
-        .help("How many connections are served, one after the other")
+        .help("How many connections are served; without it, any number")
+}
+
+fn until_input_ends<'a>(alloc: Global) -> Arg<'a> {
+    Arg::new(alloc, "until-input-ends")
+        .long("until-input-ends")
+        .action(ArgAction::SetTrue)
+        .help(
+            "Ends at the end of standard input: what is whole is answered, and the store is closed",
+        )
 }
 
 fn port<'a>(alloc: Global) -> Arg<'a> {
@@ -259,6 +269,7 @@ fn argument<'a>(alloc: Global, word: Word) -> Result<Arg<'a>, AllocError> {
         Word::Clock => Ok(clock(alloc)),
         Word::Verbose => Ok(verbose(alloc)),
         Word::Count => Ok(count(alloc)),
+        Word::UntilInputEnds => Ok(until_input_ends(alloc)),
         Word::Port => Ok(port(alloc)),
         Word::Origin => Ok(origin(alloc)),
         Word::Tell => Ok(told(alloc)),
@@ -279,7 +290,7 @@ fn command<'a>(alloc: Global, asked: &Asked) -> Result<Command<'a>, AllocError> 
 // The parser without its commands.
 fn empty_parser<'a>(alloc: Global) -> Result<Command<'a>, AllocError> {
     Command::new(alloc, "powerbook")
-        .version("1.6.0")
+        .version("1.7.0")
         .about("Meter readings and prepaid accounts of an electricity cooperative")
         .after_help(
             "Without a command it acts as pipe. Each command tells more: powerbook load --help.",

@@ -240,7 +240,8 @@ fn serve_of<'a>(words: &ArgMatches<'a>, origins: Vec<&'a str>) -> Option<Command
     Some(Command::Serve {
         office: words.get_str("OFFICE")?,
         store: words.get_str("STORE")?,
-        count: words.get_one::<u32>("count")?,
+        count: words.get_one::<u32>("count"),
+        until_input_ends: words.get_flag("until-input-ends"),
         port,
         limit: limit_of(words)?,
         origins,

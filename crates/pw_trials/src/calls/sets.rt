@@ -61,14 +61,16 @@ fn meaning_of(code: &Code) -> &'static str {
 fn tell_sets<O: Write>(block: &[u8], out: &mut O) {
     let mut sets = Sets::new(block);
     for _ in 0..block.len() {
-        match sets.next_set() {
-            Some(Ok(set)) => tell_set(&set, out),
-            Some(Err(fault)) => {
+        let Some(found) = sets.next_set() else {
+            break;
+        };
+        match found {
+            Ok(set) => tell_set(&set, out),
+            Err(fault) => {
                 let (number, name, at) = (fault.number(), fault.name(), fault.at);
                 let _ = writeln!(out, "{number} {name} at {at}");
                 break;
             }
-            None => break,
         }
     }
     let is_over = sets.next_set().is_none() && sets.next_set().is_none();

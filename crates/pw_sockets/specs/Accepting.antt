@@ -1,8 +1,8 @@
 -- Why no connection is accepted, by Linux's number of the error.
 -- (accept(2); what it leads to is a choice of this project.)
 use Rattle.std.specs.Prelude.{◌≡◌, ◌⊎◌, ℕ}
-use Rattle.pw_commands.specs.declared.accepting.Hindrance.{Hindrance}
-use Rattle.pw_commands.specs.declared.accepting.Hindrance.TheVariants.{Gone, Short, Broken}
+use Rattle.pw_sockets.specs.declared.accepting.Hindrance.{Hindrance}
+use Rattle.pw_sockets.specs.declared.accepting.Hindrance.TheVariants.{Gone, Short, Broken}
 
 -- ECONNABORTED
 abbrev pub IsGone : ℕ → Type 0

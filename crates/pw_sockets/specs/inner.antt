@@ -1,0 +1,2 @@
+-- Doors: whether clients are accepted
+pub mod Doors
