@@ -279,14 +279,15 @@ class NotServing(AssertionError):
 
 
 class Server:
-    """The program serving a store at a free port of 127.0.0.1, from its first line on."""
+    """The program serving a store at a free port of 127.0.0.1, from its first line on; where a count is stated, so many
+    connections."""
 
-    def __init__(self, store, count=1_000_000, office=OFFICE, words=(), port=None, tries=5, **options):
+    def __init__(self, store, count=None, office=OFFICE, words=(), port=None, tries=5, by=(PROGRAM,), **options):
         options = {"stdin": subprocess.DEVNULL, "stdout": subprocess.PIPE, "stderr": subprocess.PIPE, **options}
+        words = [*words, *([] if count is None else ["--count", str(count)])]
         for _ in range(tries):
             self.port = port or free_port()
-            asked = [PROGRAM, "serve", office, store, "--count", str(count), "--port", str(self.port), *words]
-            self.process = subprocess.Popen(asked, **options)
+            self.process = subprocess.Popen([*by, "serve", office, store, "--port", str(self.port), *words], **options)
             self.line = self.process.stdout.readline()
             if self.line:
                 break
@@ -301,10 +302,25 @@ class Server:
         made.setsockopt(socket.IPPROTO_TCP, socket.TCP_NODELAY, 1)
         return made
 
+    def descriptors(self):
+        """How many files and sockets it has open."""
+        return len(os.listdir(f"/proc/{self.process.pid}/fd"))
+
+    def memory(self):
+        """The memory that it has resident, and the most that it had, in kB."""
+        lines = content(f"/proc/{self.process.pid}/status").decode().splitlines()
+        shown = dict(it.split(":", 1) for it in lines if ":" in it)
+        return tuple(int(shown[it].split()[0]) for it in ("VmRSS", "VmHWM"))
+
     def ended(self):
         """Waits until the server ends by itself: its exit status and what stands behind its first line."""
         out, err = self.process.communicate(timeout=PATIENCE)
         return self.process.returncode, out, err
+
+    def end_input(self):
+        """Ends the pipe that is its standard input."""
+        self.process.stdin.close()
+        self.process.stdin = None
 
     def kill(self):
         self.process.kill()
@@ -454,9 +470,46 @@ def need(script, *tools):
         sys.exit(1)
 
 
-def run_tests(script, tests, longest=LONGEST):
+class Beside:
+    """A test in a process of its own, beside the others."""
+
+    def __init__(self, *asked):
+        self.told, telling = os.pipe()
+        self.child = os.fork()
+        if self.child == 0:
+            passed, took = run_test(*asked)
+            os.write(telling, f"{passed:d} {took}".encode())
+            os._exit(0)
+        os.close(telling)
+
+    def ended(self):
+        """Whether it passed, and the seconds that it took."""
+        told = os.read(self.told, 100).split() or [b"0", b"0"]
+        os.waitpid(self.child, 0)
+        return int(told[0]) == 1, float(told[1])
+
+
+def run_test(script, name, test, longest):
+    """Runs a test in a new folder that it is given: whether it passed, and the seconds that it took."""
+    room, begun, passed = tempfile.mkdtemp(), time.monotonic(), False
+    signal.alarm(longest)
+    try:
+        test(room)
+        passed = True
+    except Exception as fault:  # Whatever goes wrong, the other tests are still run.
+        print(f"{script}: {name}: FAILED: {type(fault).__name__}: {fault}", flush=True)
+    finally:
+        signal.alarm(0)
+        shutil.rmtree(room, ignore_errors=True)
+    took = time.monotonic() - begun
+    if os.environ.get("TIMES"):
+        print(f"{script}: {name}: {took:.1f} s", flush=True)
+    return passed, took
+
+
+def run_tests(script, tests, longest=LONGEST, beside=()):
     """Runs tests by name, each in a new folder that it is given, and tells 'N passed, M failed' last. A name that no
-    test has fails too."""
+    test has fails too. Those that are named as `beside`, which mostly wait, run beside the others."""
 
     def too_late(*_):
         raise Late(f"longer than {longest} seconds")
@@ -465,26 +518,14 @@ def run_tests(script, tests, longest=LONGEST):
     asked = sys.argv[1:]
     unknown = [it for it in asked if it not in tests]
     print("".join(f"{script}: {it}: FAILED: there is no such test\n" for it in unknown), end="", flush=True)
-    passed, failed, took = 0, len(unknown), {}
-    for name, test in tests.items():
-        if asked and name not in asked:
-            continue
-        room, begun = tempfile.mkdtemp(), time.monotonic()
-        signal.alarm(longest)
-        try:
-            test(room)
-            passed += 1
-        except Exception as fault:  # Whatever goes wrong, the other tests are still run.
-            failed += 1
-            print(f"{script}: {name}: FAILED: {type(fault).__name__}: {fault}", flush=True)
-        finally:
-            signal.alarm(0)
-            shutil.rmtree(room, ignore_errors=True)
-        took[name] = time.monotonic() - begun
-        if os.environ.get("TIMES"):
-            print(f"{script}: {name}: {took[name]:.1f} s", flush=True)
-    slowest = max(took, key=took.get, default=None)
+    chosen = {name: test for name, test in tests.items() if not asked or name in asked}
+    waiting = {name: Beside(script, name, chosen[name], longest) for name in beside if name in chosen}
+    ended = {name: run_test(script, name, test, longest) for name, test in chosen.items() if name not in waiting}
+    ended.update({name: it.ended() for name, it in waiting.items()})
+    passed = sum(it for it, _ in ended.values())
+    failed = len(unknown) + len(ended) - passed
+    slowest = max(ended, key=lambda it: ended[it][1], default=None)
     if slowest:
-        print(f"{script}: the longest took {took[slowest]:.0f} s ({slowest})")
+        print(f"{script}: the longest took {ended[slowest][1]:.0f} s ({slowest})")
     print(f"{passed} passed, {failed} failed")
     sys.exit(1 if failed or not passed else 0)
