@@ -2,6 +2,8 @@ pub mod Starts
 pub mod Adding
 pub mod Named
 pub mod Runs
+pub mod Gathered
+pub mod OneCut
 pub mod Listed
 pub mod Order
 pub mod EachTable

@@ -3,11 +3,14 @@ use Rattle.std.specs.Prelude.{◌≡◌, ◌<◌, ◌≤◌, ◌/◌, ℕ, Optio
 use Rattle.pw_time.specs.Instants.{IsInstant}
 use Rattle.pw_tariff.specs.declared.ids.AccountId.{AccountId}
 use Rattle.pw_tariff.specs.declared.cells.Cell.{Cell}
+use Rattle.pw_tariff.specs.declared.spread.Piece.{Piece}
 use Rattle.pw_tariff.specs.declared.spread.Span.{Span}
 use Rattle.pw_tariff.specs.declared.fault.OfficeFault.{OfficeFault}
 use Rattle.pw_tariff.specs.declared.fault.OfficeFault.TheVariants.{Memory}
 use Rattle.pw_tariff.specs.Office.{OfficeFile, IsSound, period_at, period_starts, band_at, office_of}
-use Rattle.pw_tariff.specs.Shares.{AreShares}
+use Rattle.pw_tariff.specs.Cells.{energy_in}
+use Rattle.pw_tariff.specs.Shares.{AreShares, share}
+use Rattle.pw_tariff.specs.Pieces.{ListsPieces, given_to}
 use Rattle.pw_tariff.specs.Text.{IsOfficeOf, IsRefused}
 
 -- period and band are the same throughout an hour of UTC
@@ -59,3 +62,26 @@ abbrev pub SharesAreUnique : Type 0
 SharesAreUnique =
     (file : OfficeFile) (owners : List (ℕ × Option AccountId)) (span : Span) (a b : List Cell)
     → AreShares file owners span a → AreShares file owners span b → a ≡ b
+
+-- what the pieces of a difference give to an owner in a period and a band is its share, and so the
+-- energy of its cell
+pub record GiveTheShares (office : OfficeFile) (owners : List (ℕ × Option AccountId)) (span : Span)
+    (ps : List Piece) : Type 0 where
+  pub shares : (owner : Option AccountId) (period band : ℕ) →
+      given_to owner period band ps ≡ share office owners span owner period band
+  pub cells : (cells : List Cell) → AreShares office owners span cells →
+      (owner : Option AccountId) (period band : ℕ) →
+      energy_in cells owner period band ≡ given_to owner period band ps
+
+abbrev pub PiecesAreShares : Type 0
+PiecesAreShares =
+    (office : OfficeFile) (owners : List (ℕ × Option AccountId)) (span : Span) (ps : List Piece)
+    → span.from < span.to → span.low ≤ span.high → ListsPieces office owners span span.from ps
+    → GiveTheShares office owners span ps
+
+-- a difference isn't cut into pieces in two ways
+abbrev pub PiecesAreUnique : Type 0
+PiecesAreUnique =
+    (office : OfficeFile) (owners : List (ℕ × Option AccountId)) (span : Span) (ps qs : List Piece)
+    → ListsPieces office owners span span.from ps → ListsPieces office owners span span.from qs
+    → ps ≡ qs

@@ -6,6 +6,7 @@
 -- Owners: the owner at a second
 -- Cells: shares by owner, period and band
 -- Shares: how a difference is shared out
+-- Pieces: the pieces that shares are sums of
 -- Laws: what follows
 pub mod Office
 pub mod Words
@@ -14,6 +15,7 @@ pub mod Text
 pub mod Owners
 pub mod Cells
 pub mod Shares
+pub mod Pieces
 pub mod Laws
 -- and these where a file above names them:
 -- Ids: ids in the file's order, and names of directions

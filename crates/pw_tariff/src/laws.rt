@@ -2,7 +2,7 @@
 //!
 //! Each function does nothing. What counts is its contract, a law of the definitions in `specs/`.
 
-ghost use Rattle.pw_tariff.specs.Laws.{BandIsConstantWithinAnHour, BandsAreOfTheOffice, OfficeOfTextIsSound, PeriodIsTheLatest, SharesAreUnique, TextHasOneAnswer};
+ghost use Rattle.pw_tariff.specs.Laws.{BandIsConstantWithinAnHour, BandsAreOfTheOffice, OfficeOfTextIsSound, PeriodIsTheLatest, PiecesAreShares, PiecesAreUnique, SharesAreUnique, TextHasOneAnswer};
 
 pub use pw_flow::laws::{
     classes_add_up, flow_is_level_rise, flows_of_a_piece_add_up, piece_of_one_kind,
@@ -36,4 +36,15 @@ pub fn office_of_text_is_sound()
 /// There are no two ways to share out a difference.
 pub fn shares_are_unique()
     ensures { SharesAreUnique }
+{}
+
+/// What the pieces of a difference give an owner in a period and a band is its share of it, and so
+/// what its cell has.
+pub fn pieces_are_shares()
+    ensures { PiecesAreShares }
+{}
+
+/// There are no two ways to cut a difference into pieces.
+pub fn pieces_are_unique()
+    ensures { PiecesAreUnique }
 {}

@@ -29,5 +29,5 @@ pub use limits::{
 };
 pub use office::Office;
 pub use owners::Owners;
-pub use spread::{Span, apportion};
+pub use spread::{Piece, Span, apportion, pieces_of};
 pub use walks::{AccountIds, BandIds, MeterIds};

@@ -1,7 +1,7 @@
 //! An office: its accounts, meters, bands and periods, its prices, and its weeks.
 
 ghost use Rattle.std.specs.Prelude.{◌≡◌, ◌≢◌, ◌<◌, ◌≤◌, ℕ, Some, length, map, slice_get, option_map, string_bytes, IfSome, IfNone};
-ghost use Rattle.pw_tariff.specs.Office.{IsSound, IsWeek, band_at, band_named, counts_at, has_register, period_at, period_starts, periods_in, price_at, price_in, price_of, week_of_period};
+ghost use Rattle.pw_tariff.specs.Office.{IsSound, IsWeek, band_at, band_named, counts_at, has_register, letter, period_at, period_starts, periods_in, price_at, price_in, price_of, week_of_period};
 ghost use Rattle.pw_tariff.specs.Held.{band_of, bands_of, period_of};
 ghost use Rattle.pw_tariff.specs.Ids.{ids_below};
 
@@ -9,7 +9,7 @@ use crate::limits::MOST_PRICE;
 use crate::walks::{AccountIds, BandIds, MeterIds};
 use crate::{AccountId, BandId, Direction, MeterId, PeriodId};
 use pw_obis::Register;
-use pw_time::{Clock, FIRST_SECOND, Instant, Zone, week_hour};
+use pw_time::{Clock, FIRST_SECOND, Instant, WeekHour, Zone, week_hour};
 use std::marker::Model;
 
 // A tariff band: its letter, and its prices in nano-euro per Wh.
@@ -224,9 +224,20 @@ impl Office {
         ensures band { result.0 ≡ band_at self.now instant }
         ensures within { result.0 < length self.now.bands }
     {
-        let local = week_hour(instant, zone);
-        let week = self.week_of(self.period(instant));
-        let letter = week[local.day as usize].as_bytes()[local.hour as usize];
+        self.band_of_hour(self.period(instant), week_hour(instant, zone))
+    }
+
+    /// The tariff band of an hour of the week, in the week of a period.
+    pub fn band_of_hour(&self, period: PeriodId, hour: WeekHour) -> BandId
+        requires period { period.0 < periods_in self.now }
+        requires day { hour.day < 7 }
+        requires hour { hour.hour < 24 }
+        ensures band { result.0
+            ≡ band_named self.now.bands (letter (week_of_period self.now period.0) hour.day hour.hour) }
+        ensures within { result.0 < length self.now.bands }
+    {
+        let week = self.week_of(period);
+        let letter = week[hour.day as usize].as_bytes()[hour.hour as usize];
         BandId(named(&self.bands, letter) as u8)
     }
 

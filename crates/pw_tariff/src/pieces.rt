@@ -1,9 +1,9 @@
-//! Pieces of a span, one behind another, each of one owner, one period and one band.
+//! Runs of seconds of a span, one behind another, each of one owner, one period and one band.
 
 ghost use Rattle.std.specs.Prelude.{◌<◌};
 ghost use Rattle.pw_time.specs.Instants.{IsInstant};
 ghost use Rattle.pw_tariff.specs.Office.{IsSound};
-ghost use Rattle.pw_tariff.specs.inner.Pieces.{IsClassAt, IsPiece, IsRun};
+ghost use Rattle.pw_tariff.specs.inner.Pieces.{IsClassAt, IsPart, IsRun};
 
 use crate::limits::HOUR;
 use crate::{BandId, Office, Owner, Owners, PeriodId};
@@ -40,17 +40,17 @@ pub(crate) fn class_at(office: &Office, zone: &Zone, owners: &Owners, second: u3
     }
 }
 
-// Where the piece from a second on ends: at the next hour of UTC, at the next start of an owner, or at the end.
-fn piece_end(owners: &Owners, second: u32, end: u32) -> u32
+// Where the part of a run from a second on ends: at the next hour of UTC, at the next start of an owner, or at the end.
+fn part_end(owners: &Owners, second: u32, end: u32) -> u32
     requires { second < end }
-    ensures { IsPiece owners.now second end result }
+    ensures { IsPart owners.now second end result }
 {
     let left_of_hour = HOUR - second % HOUR;
     let hour = second + left_of_hour.min(end - second);
     owners.next_start(second, hour)
 }
 
-// The run of the seconds of one class that begins at a second: pieces of that class, joined.
+// The run of the seconds of one class that begins at a second: parts of that class, joined.
 pub(crate) fn run_at(office: &Office, zone: &Zone, owners: &Owners, second: u32, end: u32) -> Run
     requires begun { IsInstant second }
     requires ended { IsInstant end }
@@ -58,13 +58,13 @@ pub(crate) fn run_at(office: &Office, zone: &Zone, owners: &Owners, second: u32,
     ensures { IsRun office.now owners.now second end result }
 {
     let class = class_at(office, zone, owners, second);
-    let mut until = piece_end(owners, second, end);
+    let mut until = part_end(owners, second, end);
     while until < end {
         let next = class_at(office, zone, owners, until);
         if next != class {
             return Run { class, until };
         }
-        until = piece_end(owners, until, end);
+        until = part_end(owners, until, end);
     }
     Run { class, until }
 }

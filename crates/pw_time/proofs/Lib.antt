@@ -1,4 +1,5 @@
 pub mod CalendarFacts
+pub mod DayFacts
 pub mod OutcomeFacts
 pub mod SummerFacts
 pub mod TableFacts

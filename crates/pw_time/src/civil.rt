@@ -95,7 +95,7 @@ impl CivilTime {
     }
 
     /// The second that a clock shows in the years 2000 to 2099.
-    fn second_of_century(&self) -> Result<u32, StampFault>
+    pub(crate) fn second_of_century(&self) -> Result<u32, StampFault>
         requires digits { HasDigits self.now }
         requires year { IsShortYear self.now.year }
         ensures there { OnOk result (Exists self.now) }

@@ -2,6 +2,7 @@
 
 ghost use Rattle.std.specs.Prelude.{◌≡◌, ◌+◌, Ok, codes};
 ghost use Rattle.pw_time.specs.declared.instant.TheConstants.{END_SECOND, FIRST_SECOND, LAST_SECOND};
+ghost use Rattle.pw_time.specs.DayLaws.{AreFirstAndLast, DayBeginsAtMidnight, DayBeginsOnce, DayHas23To25Hours};
 ghost use Rattle.pw_time.specs.Outcomes.{IsReadoutOutcome, IsStampOutcome, IsUtcOutcome};
 ghost use Rattle.pw_time.specs.Laws.{ExactlyOne, InstantHasOneText, IsTextOf, LastSundayIsLast, LocalHourIsConstantWithinAnHour, ReadoutHasOneOutcome, StampHasOneOutcome, SummerIsOfSomeYear, UtcHasOneOutcome};
 
@@ -67,4 +68,24 @@ pub fn summer_is_of_some_year()
 /// at a whole hour.
 pub fn local_hour_is_constant_within_an_hour()
     ensures { LocalHourIsConstantWithinAnHour }
+{}
+
+/// No local day begins at two seconds.
+pub fn local_day_begins_once()
+    ensures { DayBeginsOnce }
+{}
+
+/// The first local day begins with the first instant, and the day behind the last one behind the last instant.
+pub fn local_days_are_of_the_century()
+    ensures { AreFirstAndLast }
+{}
+
+/// Each other local day begins where local clocks show midnight.
+pub fn local_day_begins_at_midnight()
+    ensures { DayBeginsAtMidnight }
+{}
+
+/// So it lasts 24 hours, or 23 or 25 where clocks change in it.
+pub fn local_day_has_23_to_25_hours()
+    ensures { DayHas23To25Hours }
 {}

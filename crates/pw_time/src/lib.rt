@@ -3,6 +3,7 @@
 
 mod changes;
 mod civil;
+mod days;
 mod digits;
 mod fault;
 mod instant;
@@ -12,6 +13,7 @@ mod texts;
 mod writing;
 mod zone;
 
+pub use days::{day_begin, month_span};
 pub use fault::StampFault;
 pub use instant::{END_SECOND, FIRST_SECOND, Instant, LAST_SECOND};
 pub use reading::{readout_instant, stamp, utc};

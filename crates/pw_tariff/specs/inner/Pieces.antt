@@ -1,4 +1,4 @@
--- Pieces of a span. It serves `src/pieces.rt` and `src/spread.rt`.
+-- Runs of seconds of one owner, one period and one band. It serves `src/pieces.rt` and `src/spread.rt`.
 use Rattle.std.specs.Prelude.{◌≡◌, ℕ, ◌/◌, ◌%◌, ◌<◌, ◌≤◌, ◌⊎◌, Option, List, IsSome}
 use Rattle.pw_tariff.specs.declared.ids.AccountId.{AccountId}
 use Rattle.pw_tariff.specs.declared.pieces.Class.{Class}
@@ -7,7 +7,7 @@ use Rattle.pw_tariff.specs.Owners.{start_at, owner_by_starts}
 use Rattle.pw_tariff.specs.Office.{OfficeFile, period_at, band_at}
 
 -- from a second on up to the next hour of UTC, the next start, or the end, whichever comes first: the owner stays
-pub record IsPiece (starts : List (ℕ × Option AccountId)) (from end until : ℕ) : Type 0 where
+pub record IsPart (starts : List (ℕ × Option AccountId)) (from end until : ℕ) : Type 0 where
   pub begun : from < until
   pub within : until ≤ end
   pub hour : (t : ℕ) → from ≤ t → t < until → t / 3600 ≡ from / 3600

@@ -1,15 +1,13 @@
-use Rattle.std.proofs.Common.{◌≡◌, ◌≤◌, ◌-◌}
-use Rattle.pw_flow.specs.Flow.{level}
-use Rattle.pw_tariff.proofs.Runs.{SoFar}
+use Rattle.std.proofs.Common.{◌≤◌, ◌-◌}
+use Rattle.pw_tariff.proofs.Gathered.{SoFar}
 use Rattle.pw_tariff.proofs.spread.apportion.Given as goal
 
-abbrev pub invariant-loop-at : goal.invariant-loop-at
-invariant-loop-at l = record {
-  begun : l.from.at ≤ l.at;
-  within : l.at ≤ l.to.at;
-  level : l.level ≡ level l.from.at l.from.watt_hours l.to.at l.to.watt_hours l.at;
-  so_far : SoFar l.office l.owners l.from.at l.from.watt_hours l.to.at l.to.watt_hours l.at l.cells.items;
+abbrev pub invariant-loop-span : goal.invariant-loop-span
+invariant-loop-span l = record {
+  begun : l.span.from ≤ l.at;
+  within : l.at ≤ l.span.to;
+  so_far : SoFar l.office l.owners l.span l.at l.cells.items;
 }
 
-abbrev pub decreases-loop-at : goal.decreases-loop-at
-decreases-loop-at l = l.to.at - l.at
+abbrev pub decreases-loop-span : goal.decreases-loop-span
+decreases-loop-span l = l.span.to - l.at

@@ -1,7 +1,0 @@
-use Rattle.std.proofs.Common.{◌+◌, arith}
-use Rattle.pw_tariff.proofs.Runs.{piece-is}
-use Rattle.pw_tariff.proofs.pieces.piece_end.Goals as goal
-
-pub returns : goal.returns
-returns c =
-    piece-is c.args.owners.now c.args.second c.args.end (c.args.second + c.min.result) c.next_start.result (omega arith) (omega (arith, c.min.ensures)) c.next_start.ensures
