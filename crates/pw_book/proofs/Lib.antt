@@ -26,6 +26,7 @@ pub mod Truthful
 pub mod NewStarts
 pub mod WindowPairs
 pub mod StartChanged
+pub mod Inferred
 pub mod Putting
 pub mod Spending
 pub mod Outcomes

@@ -25,9 +25,11 @@ use Rattle.pw_model.specs.Seconds.{ListsSeconds, by_second}
 use Rattle.pw_shelf.specs.Seconds.{IsBefore, IsBehind}
 use Rattle.pw_book.specs.inner.Settling.{EndsBefore}
 use Rattle.pw_model.specs.Shelf.{ShelfContent}
-use Rattle.pw_parts.specs.Changes.{pairs_for}
-use Rattle.pw_book.specs.inner.Sums.{energy_told, point_listed}
-use Rattle.pw_book.proofs.Following.{Differ}
+use Rattle.pw_parts.specs.Changes.{other_side, pairs_for}
+use Rattle.pw_parts.specs.declared.changes.Side.{Side}
+use Rattle.pw_parts.specs.declared.changes.Side.TheVariants.{Loses, Gains}
+use Rattle.pw_book.specs.Listed.{point_listed}
+use Rattle.pw_book.specs.inner.Sums.{energy_told}
 use Rattle.pw_parts.proofs.Owning.{owners-told, starts-rise}
 
 -- ---- the points next to an instant at which none stands
@@ -157,15 +159,15 @@ in-time-without p z (Some a) (Some c) b f = (let x = b.before in let y = f.behin
 
 -- ---- all of it
 pub around-sums : (file : OfficeFile) (free is : Key → Contents) (m : ℕ) (r : Register) (z w : ℕ) (was one two : ShelfContent) (d : Direction) (starts lent again : List (ℕ × Option AccountId)) (below above : Option (ℕ × ℕ))
-    (apart apart_lent joined joined_lent : List (ℕ × ℕ)) (less more : TotalKey → ℕ) → one ≡ was → two ≡ one → d ≡ direction_of r →
+    (apart apart_lent joined joined_lent : List (ℕ × ℕ)) (less more old_less old_more : TotalKey → ℕ) → one ≡ was → two ≡ one → d ≡ direction_of r →
     m < (office_of file).meters → (office_of file).counts m r ≡ true → ((u : ℕ) → (u ≡ z → ⊥) → was.point m r u ≡ point free m r u) → was.start m ≡ start free m →
     IsOneMoreReading free is m r z w → EndsBefore (office_of file).end (point is m r) → ListsSeconds (was.start m) starts → lent ≡ starts → again ≡ starts →
     IsBefore (one.point m r) z below → IsBehind (two.point m r) z above →
     apart ≡ point_listed below (point_listed None (point_listed above [])) → apart_lent ≡ apart → joined ≡ point_listed below (point_listed (Some (z, w)) (point_listed above [])) → joined_lent ≡ joined →
-    (StartsIncrease lent → IsInOrder by_second apart_lent → (k : TotalKey) → less k ≡ pairs_for file lent d apart_lent k) →
-    (StartsIncrease again → IsInOrder by_second joined_lent → (k : TotalKey) → more k ≡ pairs_for file again d joined_lent k) →
-    Differ (office_of file) free is less more
-around-sums file free is m r z w was one two d starts lent again below above apart apart_lent joined joined_lent less more e f g l c s t o n h p q b a u v x y i j k =
+    (StartsIncrease lent → IsInOrder by_second apart_lent → (k : TotalKey) → less k ≡ old_less k + pairs_for file lent d apart_lent k) →
+    (StartsIncrease again → IsInOrder by_second joined_lent → (k : TotalKey) → more k ≡ old_more k + pairs_for file again d joined_lent k) →
+    (k : TotalKey) → energy_told (office_of file) free k + more k + old_less k ≡ energy_told (office_of file) is k + less k + old_more k
+around-sums file free is m r z w was one two d starts lent again below above apart apart_lent joined joined_lent less more old_less old_more e f g l c s t o n h p q b a u v x y i j k =
     let told : ListsSeconds (start free m) starts = (let P : (ℕ → Option (Option AccountId)) → Type 0 = λ told. ListsSeconds told starts in subst P t h) in
     let owners : (t : ℕ) → owner_by_starts starts t ≡ owner_told free m t = owners-told free m starts told in
     let increase : StartsIncrease starts = starts-rise starts h.rising in
@@ -176,8 +178,8 @@ around-sums file free is m r z w was one two d starts lent again below above apa
     let first = i (subst S (sym p) increase) (subst O (sym (v ∙ u)) (in-time-without (was.point m r) z below above before behind)) k in
     let second = j (subst S (sym q) increase) (subst O (sym (y ∙ x)) (in-time-with (was.point m r) z w below above before behind)) k in
     let law = around-differ file free is m r z w (was.point m r) starts below above apart joined k l c s o n owners before behind u x in
-    let one_is : less k ≡ pairs_for file starts (direction_of r) apart k = first ∙ (λ i. pairs_for file (p i) (g i) (v i) k) in
-    let two_is : more k ≡ pairs_for file starts (direction_of r) joined k = second ∙ (λ i. pairs_for file (q i) (g i) (y i) k) in
+    let one_is : less k ≡ old_less k + pairs_for file starts (direction_of r) apart k = first ∙ (λ i. old_less k + pairs_for file (p i) (g i) (v i) k) in
+    let two_is : more k ≡ old_more k + pairs_for file starts (direction_of r) joined k = second ∙ (λ i. old_more k + pairs_for file (q i) (g i) (y i) k) in
     omega (arith, law, one_is, two_is)
 
 -- elsewhere nothing else counts
@@ -186,3 +188,8 @@ others-agree free is m r z w o u n = sym (o.elsewhere m r u (λ _ _. n))
 
 pub starts-agree : (free is : Key → Contents) (m : ℕ) (r : Register) (z w : ℕ) → IsOneMoreReading free is m r z w → start is m ≡ start free m
 starts-agree free is m r z w o = λ i. sym o.starts i m
+
+-- the other side of the other
+pub other-back : (side : Side) → other_side (other_side side) ≡ side
+other-back Loses = refl
+other-back Gains = refl

@@ -25,7 +25,7 @@ abbrev pub Start : Type 0
 Start = ℕ × Option AccountId
 
 -- ---- the starts that pass a test
-part-rises : {X : Type 0} (p : ℕ × X → Bool) (xs : List (ℕ × X)) → IsInOrder by_second xs → IsInOrder by_second (filter p xs)
+pub part-rises : {X : Type 0} (p : ℕ × X → Bool) (xs : List (ℕ × X)) → IsInOrder by_second xs → IsInOrder by_second (filter p xs)
 part-rises p [] r = tt
 part-rises p (y ∷ ys) r = elim (cases_Bool (p y)) [
   | inl e ↦ rw e (before-all by_second y (filter p ys) (λ z m. before-member by_second y z ys r.0 (filtered-member p ys z m).0), part-rises p ys r.1)
@@ -44,7 +44,7 @@ early z s = nat_lt s.0 z
 abbrev pub late : {X : Type 0} → ℕ → ℕ × X → Bool
 late z s = nat_lt z s.0
 
-joined-rises : {X : Type 0} (xs ys : List (ℕ × X)) → IsInOrder by_second xs → IsInOrder by_second ys → ((x y : ℕ × X) → Member x xs → Member y ys → x.0 < y.0) → IsInOrder by_second (xs ++ ys)
+pub joined-rises : {X : Type 0} (xs ys : List (ℕ × X)) → IsInOrder by_second xs → IsInOrder by_second ys → ((x y : ℕ × X) → Member x xs → Member y ys → x.0 < y.0) → IsInOrder by_second (xs ++ ys)
 joined-rises [] ys r s h = s
 joined-rises (x ∷ xs) ys r s h = (
   before-all by_second x (xs ++ ys) (λ z m. elim (member-split z xs ys m) [

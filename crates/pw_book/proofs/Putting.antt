@@ -1,5 +1,6 @@
 -- An entry that is added to a true content.
 use Rattle.std.proofs.Common.{◌≡◌, ℕ, ◌+◌, ◌<◌, ◌≤◌, Option, cond, List, [], ◌∷◌, ◌++◌, length, ap, sym, subst, ◌∙◌, arith, inl, inr}
+use Rattle.std.specs.BTreeMap.{BTreeMap}
 use Rattle.std.proofs.lemmas.Bool.{cases_Bool}
 use Rattle.pw_obis.specs.declared.reference.Register.{Register}
 use Rattle.pw_tariff.specs.declared.ids.AccountId.{AccountId}
@@ -11,22 +12,23 @@ use Rattle.pw_model.specs.declared.records.Named.TheVariants as named
 use Rattle.pw_model.specs.declared.records.Content.{Content}
 use Rattle.pw_model.specs.declared.records.Content.TheVariants as content
 use Rattle.pw_model.specs.declared.records.Contents.{Contents}
-use Rattle.pw_model.specs.declared.records.Contents.TheVariants.{Nothing, One, Several}
 use Rattle.pw_model.specs.declared.records.Entry.{Entry}
 use Rattle.pw_model.specs.Bearing.{ChangesWhereItBears, bears_on, named_key}
 use Rattle.pw_model.specs.Counting.{IsInserted, SameMembers, assignment_key, contents_at, owner_of, reading_key, wh_of}
 use Rattle.pw_model.specs.Office.{AllOfOffice, IsOf, IsOfOffice, most_records}
 use Rattle.pw_model.specs.Payments.{cents_for}
 use Rattle.pw_model.specs.Same.{same_key}
-use Rattle.pw_model.specs.Shelf.{IsTrueContent, ShelfContent}
+use Rattle.pw_model.specs.Shelf.{ShelfContent}
+use Rattle.pw_model.specs.declared.records.TotalKey.{TotalKey}
+use Rattle.pw_parts.specs.declared.changes.Change.{Change}
 use Rattle.pw_model.proofs.Bearing.{one-more_bearing}
 use Rattle.pw_model.proofs.Counting.{inserted-same}
 use Rattle.pw_model.proofs.Same.{same_key-decides}
 use Rattle.pw_shelf.specs.Changes.{points_with, starts_with}
-use Rattle.pw_shelf.specs.Rows.{rows_at}
 use Rattle.pw_shelf.specs.State.{IsWithRecord}
 use Rattle.pw_book.specs.Cost.{HasStarts}
 use Rattle.pw_book.specs.inner.Added.{ChangesOneKey, IsJustChanged, IsKeyOf, IsPut, TakesAtMost}
+use Rattle.pw_book.specs.inner.Gathered.{IsTrueBut}
 use Rattle.pw_book.specs.inner.Settling.{HavePoints}
 use Rattle.pw_model.proofs.Places.{member-left, member-right, member-split}
 
@@ -63,13 +65,13 @@ key-of office (key.Withdrawal n) (content.TopUp a c u) h = absurd h
 -- an entry more changes what is told at the key that it bears on; at its own key, where that is another, nothing counts
 -- towards points, starts and totals
 pub just-changed : (office : OfficeRules) (e : Entry) (before behind : Contents) (old two mid new : ShelfContent) → two ≡ old → IsWithRecord two e mid → new ≡ mid → before ≡ contents_at old.records (bears_on e) → behind ≡ contents_at mid.records (bears_on e) →
-    IsOfOffice office e → AllOfOffice office old.records → length old.records < most_records → IsTrueContent office old → IsJustChanged office old.records (bears_on e) before behind new
-just-changed office e before behind old two mid new q w z b h o a l t =
+    IsOfOffice office e → AllOfOffice office old.records → length old.records < most_records → IsJustChanged office old.records (bears_on e) before behind new.records
+just-changed office e before behind old two mid new q w z b h o a l =
     let P : ShelfContent → Type 0 = λ c. IsWithRecord c e mid in
     let v : IsWithRecord old e mid = subst P q w in
     let m : SameMembers mid.records (e ∷ old.records) = inserted-same old.records mid.records e v.records in
     let changed : ChangesWhereItBears old.records mid.records e = one-more_bearing old.records mid.records e v.records in
-    let J : ShelfContent → Type 0 = λ c. IsJustChanged office old.records (bears_on e) before behind c in
+    let J : ShelfContent → Type 0 = λ c. IsJustChanged office old.records (bears_on e) before behind c.records in
     let Q : Entry → Type 0 = λ x. IsOfOffice office x in
     let all : AllOfOffice office mid.records = λ x i. elim ((m x).0 i) [ inl y ↦ subst Q (sym y) o | inr k ↦ a x k ] in
     subst J (sym z) (record {
@@ -84,13 +86,28 @@ just-changed office e before behind old two mid new q w z b h o a l t =
           let y = ap (cents_for c) h in
           omega (arith, p, x, y);
       small = a;
+      fewer = omega (arith, l);
       of_office = all;
       few = let f = inserted-length old.records mid.records e v.records in omega (arith, f, l);
-      still = record { points = v.point ∙ t.points; starts = v.start ∙ t.starts; totals = λ k. ap (λ f. f k) v.total ∙ t.totals k };
     })
 
-pub put-added : (office : OfficeRules) (e : Entry) (old two mid three new : ShelfContent) → two ≡ old → IsWithRecord two e mid → three ≡ mid → new.records ≡ three.records → IsTrueContent office new → IsPut office (e ∷ []) old new
-put-added office e old two mid three new q w z r t =
+-- points, starts and totals are still those of the records before it
+pub still-true : (office : OfficeRules) (rows : BTreeMap TotalKey Change) (e : Entry) (old two mid new : ShelfContent) → two ≡ old → IsWithRecord two e mid → new ≡ mid → IsTrueBut office rows old.records old → IsTrueBut office rows old.records new
+still-true office rows e old two mid new q w z t =
+    let P : ShelfContent → Type 0 = λ c. IsWithRecord c e mid in
+    let v : IsWithRecord old e mid = subst P q w in
+    let B : ShelfContent → Type 0 = λ c. IsTrueBut office rows old.records c in
+    let same : (k : TotalKey) → mid.total k ≡ old.total k = λ k. ap (λ (f : TotalKey → ℕ). f k) v.total in
+    subst B (sym z) (record {
+      points = v.point ∙ t.points;
+      starts = v.start ∙ t.starts;
+      energies = λ k i. (let x = same k in let y = t.energies k i in omega (arith, x, y));
+      others = λ k n. same k ∙ t.others k n;
+    })
+
+pub put-added : (office : OfficeRules) (rows : BTreeMap TotalKey Change) (e : Entry) (old two mid three new : ShelfContent) → two ≡ old → IsWithRecord two e mid → three ≡ mid → new.records ≡ three.records → IsTrueBut office rows new.records new →
+    IsPut office rows (e ∷ []) old new
+put-added office rows e old two mid three new q w z r t =
     let W : ShelfContent → Type 0 = λ c. IsWithRecord c e mid in
     let v : IsWithRecord old e mid = subst W q w in
     let m : SameMembers mid.records (e ∷ old.records) = inserted-same old.records mid.records e v.records in
@@ -105,11 +122,6 @@ put-added office e old two mid three new q w z r t =
     }
 
 -- ---- how much it takes
-rows-few : (c : Contents) → rows_at c ≤ 2
-rows-few Nothing = omega arith
-rows-few (One d) = omega arith
-rows-few Several = omega arith
-
 pub starts-same : (old new : ShelfContent) (m most : ℕ) → new.start ≡ old.start → HasStarts old m most → HasStarts new m most
 starts-same old new m most p h = subst (λ f. HasStarts (record old { start = f }) m most) (sym p) h
 
@@ -118,7 +130,8 @@ points-same old new m t most p q h =
     let one : HavePoints (record old { start = new.start }) m t most = subst (λ f. HavePoints (record old { start = f }) m t most) (sym p) h in
     subst (λ f. HavePoints (record old { start = new.start; point = f }) m t most) (sym q) one
 
-takes-on : (office : OfficeRules) (k : Key) (old new : ShelfContent) (a b d : ℕ) → new.start ≡ old.start → new.point ≡ old.point → b ≤ a + 7 → TakesAtMost 0 office new k b d → TakesAtMost 7 office old k a d
+-- an entry that is added first takes 7 more
+pub takes-on : (office : OfficeRules) (k : Key) (old new : ShelfContent) (a b d : ℕ) → new.start ≡ old.start → new.point ≡ old.point → b ≤ a + 7 → TakesAtMost 0 office new k b d → TakesAtMost 7 office old k a d
 takes-on office (key.Reading m r t) old new a b d p q l h = λ starts s. let x = h starts (starts-same old new m.0 starts p s) in omega (arith, x, l)
 takes-on office (key.Assignment m t) old new a b d p q l h = λ starts points s v.
     let x = h starts points (starts-same old new m.0 starts p s) (points-same old new m.0 t points p q v) in omega (arith, x, l)
@@ -178,10 +191,10 @@ added-then (key.Assignment m t) e old two mid three new q w z h =
 added-then (key.TopUp r) e old two mid three new q w z h = let v = with-record e old two mid three q w z in (h.0 ∙ v.1, h.1 ∙ v.0)
 added-then (key.Withdrawal n) e old two mid three new q w z h = let v = with-record e old two mid three q w z in (h.0 ∙ v.1, h.1 ∙ v.0)
 
-pub takes-more : (office : OfficeRules) (k : Key) (e : Entry) (old two mid three : ShelfContent) (a c d f g : ℕ) (before behind : Contents) → two ≡ old → IsWithRecord two e mid → three ≡ mid →
-    c ≡ a + 1 + rows_at before → d ≡ c + 1 → f ≡ d + 1 + rows_at behind → TakesAtMost 0 office three k f g → TakesAtMost 7 office old k a g
-takes-more office k e old two mid three a c d f g before behind q w z x y u h =
-    let r = rows-few before in
-    let s = rows-few behind in
-    let v = with-record e old two mid three q w z in
-    takes-on office k old three a f g v.0 v.1 (omega (arith, x, y, u, r, s)) h
+-- behind some that change no point and no start
+pub takes-then : (office : OfficeRules) (k : Key) (old new : ShelfContent) (a b d e : ℕ) → new.start ≡ old.start → new.point ≡ old.point → b ≤ a → e ≤ d → TakesAtMost 0 office new k b d → TakesAtMost 0 office old k a e
+takes-then office (key.Reading m r t) old new a b d e p q l f h = λ starts s. let x = h starts (starts-same old new m.0 starts p s) in omega (arith, x, l, f)
+takes-then office (key.Assignment m t) old new a b d e p q l f h = λ starts points s v.
+    let x = h starts points (starts-same old new m.0 starts p s) (points-same old new m.0 t points p q v) in omega (arith, x, l, f)
+takes-then office (key.TopUp r) old new a b d e p q l f h = omega (arith, h, l, f)
+takes-then office (key.Withdrawal n) old new a b d e p q l f h = omega (arith, h, l, f)

@@ -298,6 +298,17 @@ costs-next office entries e i was c first now last l m p r z b assigned enough s
   nothing = λ q. (let z : length entries ≡ 0 = ap (λ (xs : List Entry). length xs) q in absurd (omega (arith, l, z)));
 }
 
+-- fewer cost no more
+pub costs-less : (office : OfficeRules) (entries : List Entry) (was : ShelfContent) (first now last : ℕ) → now ≤ last → CostsAtMost 1 office entries was first last → CostsAtMost 1 office entries was first now
+costs-less office entries was first now last l t = record {
+  readings = λ starts a. let x = t.readings starts a in omega (arith, x, l);
+  assignment = λ e starts points q a. let x = t.assignment e starts points q a in omega (arith, x, l);
+  assignments = λ starts points a. let x = t.assignments starts points a in omega (arith, x, l);
+  several = λ most a. let x = t.several most a in omega (arith, x, l);
+  top_ups = λ a. let x = t.top_ups a in omega (arith, x, l);
+  nothing = λ e. let x = t.nothing e in omega (arith, x, l);
+}
+
 -- begun before, and taken back behind
 pub costs-more : (office : OfficeRules) (entries : List Entry) (c d : ShelfContent) (old mid now new : ℕ) → d ≡ c → mid ≡ old + 1 → CostsAtMost 1 office entries d mid now → new ≤ now + 1 → CostsAtMost 3 office entries c old new
 costs-more office entries c d old mid now new q b t h = record {

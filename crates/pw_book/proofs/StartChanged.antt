@@ -31,7 +31,7 @@ use Rattle.pw_book.proofs.Following.{Differ}
 use Rattle.pw_parts.proofs.Owning.{owners-told, starts-rise}
 
 -- ---- one register more
-registers-more : (f : Register → ℕ) (i : ℕ) (d : Register) → i < 6 → sum_by f (take (i + 1) registers) ≡ sum_by f (take i registers) + f (get_or registers i d)
+pub registers-more : (f : Register → ℕ) (i : ℕ) (d : Register) → i < 6 → sum_by f (take (i + 1) registers) ≡ sum_by f (take i registers) + f (get_or registers i d)
 registers-more f zero d l = refl
 registers-more f (suc zero) d l = refl
 registers-more f (suc (suc zero)) d l = refl

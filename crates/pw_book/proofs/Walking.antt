@@ -1,10 +1,10 @@
 -- Changes that are walked in the order of their totals.
-use Rattle.std.proofs.Common.{◌≡◌, ℕ, ◌+◌, ◌*◌, ◌<◌, ◌≤◌, ◌⊎◌, Option, Some, None, List, [], ◌∷◌, Ordering, Less, Equal, Greater, refl, ap, sym, subst, ◌∙◌, arith, inl, inr}
+use Rattle.std.proofs.Common.{◌≡◌, ℕ, ◌+◌, ◌*◌, ◌<◌, ◌≤◌, ◌⊎◌, ◌↔◌, Bool, IsTrue, false, Option, Some, None, List, [], ◌∷◌, length, Ordering, Less, Equal, Greater, refl, ap, sym, subst, ◌∙◌, arith, inl, inr}
 use Rattle.std.specs.FinMap.{nat_cmp-IsAntisymmetric}
 use Rattle.std.specs.List.{AllByRecursion}
 use Rattle.std.specs.List.Sorted.{IsStrictlySortedBy}
 use Rattle.std.specs.Map.{keys_of, lookup}
-use Rattle.std.specs.BTreeMap.{BTreeMap, IsOrdered, get, is_at}
+use Rattle.std.specs.BTreeMap.{BTreeMap, IsOrdered, btree_map_len, get, is_at}
 use Rattle.std.specs.Ordering.{is_eq, nat_cmp, ordering_then}
 use Rattle.std.proofs.lemmas.Bool.{cases_Bool, true≢false}
 use Rattle.std.proofs.lemmas.Cmp.{tied_itself}
@@ -28,7 +28,9 @@ use Rattle.pw_parts.proofs.Kept.{all-key, member-lookup}
 use Rattle.pw_tariff.specs.Office.{OfficeRules}
 use Rattle.pw_parts.specs.declared.changes.Change.{Change}
 use Rattle.pw_parts.specs.declared.changes.Side.{Side}
+use Rattle.pw_parts.specs.declared.changes.Side.TheVariants.{Gains, Loses}
 use Rattle.pw_book.specs.Cost.{classes_of}
+use Rattle.pw_book.specs.inner.Gathered.{due}
 use Rattle.pw_book.specs.inner.Moves.{MovesTotals, OfOwners}
 use Rattle.pw_parts.specs.Changes.{amount_told, gathered}
 use Rattle.pw_book.proofs.Changing.{moves-at, moves-none, moves-then, moves-told, of-owners}
@@ -73,7 +75,7 @@ apart-none k (e ∷ es) h =
       | inr f ↦ rw f (apart-none k es h.1)
     ]
 
-none-gathered : (side : Side) (rows : BTreeMap TotalKey Change) (k : TotalKey) → IsApart k rows.entries → gathered side rows k ≡ 0
+pub none-gathered : (side : Side) (rows : BTreeMap TotalKey Change) (k : TotalKey) → IsApart k rows.entries → gathered side rows k ≡ 0
 none-gathered side rows k h = ap (amount_told side) (apart-none k rows.entries h)
 
 -- the first is apart from those behind it
@@ -251,3 +253,32 @@ taken-past office e rest was now t = record { far = t.far; taken = t.taken; with
 
 pub taken-all : (office : OfficeRules) (rest : List (TotalKey × Change)) (was now : ℕ) → HasTaken office rest was now → now ≤ was + 6 * classes_of office
 taken-all office rest was now t = let a = t.taken in let b = t.within in omega (arith, a, b)
+
+-- ---- what is due: nothing where nothing is gathered, else no more than of all energies
+pub due-most : (office : OfficeRules) (es : List (TotalKey × Change)) → due office es ≤ 6 * classes_of office
+due-most office [] = omega arith
+due-most office (e ∷ es) = omega arith
+
+pub due-none : (office : OfficeRules) (es : List (TotalKey × Change)) → es ≡ [] → due office es ≡ 0
+due-none office es e = ap (due office) e
+
+-- a map that is tested
+pub not-empty : {empty : Bool} (rows : BTreeMap TotalKey Change) → IsTrue empty ↔ (btree_map_len rows ≡ 0) → empty ≡ false → btree_map_len rows ≡ 0 → ⊥
+not-empty rows h f e = true≢false (sym (h.1 e) ∙ f)
+
+no-rows : (es : List (TotalKey × Change)) → length es ≡ 0 → es ≡ []
+no-rows [] e = refl
+no-rows (x ∷ xs) e = absurd (omega (arith, e))
+
+pub taken-due : (office : OfficeRules) (es : List (TotalKey × Change)) (rest : List (TotalKey × Change)) (was now : ℕ) → (length es ≡ 0 → ⊥) → HasTaken office rest was now → now ≤ was + due office es
+taken-due office [] rest was now n t = absurd (n refl)
+taken-due office (e ∷ es) rest was now n t = taken-all office rest was now t
+
+pub nothing-moves : (periods bands accounts : ℕ) (rows : BTreeMap TotalKey Change) (c d : ShelfContent) → d ≡ c → btree_map_len rows ≡ 0 → MovesTotals (OfOwners periods bands accounts) (gathered Gains rows) (gathered Loses rows) c d
+nothing-moves periods bands accounts rows c d q e =
+    moves-none (OfOwners periods bands accounts) (gathered Gains rows) (gathered Loses rows) c d q (λ k o. (
+    let P : List (TotalKey × Change) → Type 0 = λ es. IsApart k es in
+    let a : IsApart k rows.entries = subst P (sym (no-rows rows.entries e)) tt in
+    let x = none-gathered Gains rows k a in
+    let y = none-gathered Loses rows k a in
+    omega (arith, x, y)))

@@ -30,14 +30,14 @@ use Rattle.pw_shelf.specs.Seconds.{IsBefore, IsBehind, ListsSecondsWithin}
 use Rattle.pw_model.specs.Seconds.{by_second}
 use Rattle.pw_book.specs.inner.Settling.{EndsBefore, EndsBeforeNext, IsStartChanged, ListsUpToNextStart, register_told}
 use Rattle.pw_parts.specs.Changes.{pairs_for}
-use Rattle.pw_book.specs.inner.Sums.{point_listed}
+use Rattle.pw_book.specs.Listed.{point_listed}
 use Rattle.pw_parts.proofs.Chart.{less-is}
 use Rattle.pw_model.proofs.InOrder.{before-member}
 use Rattle.pw_model.proofs.EntryOrder.{before-all}
 
 -- ---- the points from one second up to another
 -- each of them, in order
-abbrev Runs : (ℕ → Option ℕ) → ℕ → ℕ → List (ℕ × ℕ) → Type 0
+abbrev pub Runs : (ℕ → Option ℕ) → ℕ → ℕ → List (ℕ × ℕ) → Type 0
 Runs told from until [] = (s : ℕ) → from ≤ s → s ≤ until → told s ≡ None
 Runs told from until (a ∷ ps) = (from ≤ a.0) × (a.0 ≤ until) × (told a.0 ≡ Some a.1) × ((s : ℕ) → from ≤ s → s < a.0 → told s ≡ None) × Runs told (suc a.0) until ps
 
@@ -67,20 +67,20 @@ runs-from told from until (a ∷ ps) r h k =
           ]),
     )
 
-runs-listed : (told : ℕ → Option ℕ) (from until : ℕ) (ps : List (ℕ × ℕ)) → ListsSecondsWithin from until told ps → Runs told from until ps
+pub runs-listed : (told : ℕ → Option ℕ) (from until : ℕ) (ps : List (ℕ × ℕ)) → ListsSecondsWithin from until told ps → Runs told from until ps
 runs-listed told from until ps l = runs-from told from until ps l.rising
     (λ a m. (let h = (l.members a).0 m in (h.2, h.0, h.1)))
     (λ t w f u e. (l.members (t, w)).1 (f, u, e))
 
 -- from an earlier second on, where nothing stands between
-runs-lower : (told : ℕ → Option ℕ) (low from until : ℕ) (ps : List (ℕ × ℕ)) → low ≤ from → ((s : ℕ) → low ≤ s → s < from → told s ≡ None) → Runs told from until ps → Runs told low until ps
+pub runs-lower : (told : ℕ → Option ℕ) (low from until : ℕ) (ps : List (ℕ × ℕ)) → low ≤ from → ((s : ℕ) → low ≤ s → s < from → told s ≡ None) → Runs told from until ps → Runs told low until ps
 runs-lower told low from until [] l n r = λ s a b. elim (cases_lt s from) [ inl c ↦ n s a c | inr c ↦ r s c b ]
 runs-lower told low from until (a ∷ ps) l n r =
     let f = r.0 in
     (omega (arith, l, f), r.1, r.2, λ s b c. elim (cases_lt s from) [ inl d ↦ n s b d | inr d ↦ r.3 s d c ], r.4)
 
 -- ---- one point behind another
-runs-chain : (told : ℕ → Option ℕ) (until : ℕ) (a : ℕ × ℕ) (ps : List (ℕ × ℕ)) (after : Option (ℕ × ℕ)) → told a.0 ≡ Some a.1 → a.0 ≤ until → Runs told (suc a.0) until ps → IsBehind told until after →
+pub runs-chain : (told : ℕ → Option ℕ) (until : ℕ) (a : ℕ × ℕ) (ps : List (ℕ × ℕ)) (after : Option (ℕ × ℕ)) → told a.0 ≡ Some a.1 → a.0 ≤ until → Runs told (suc a.0) until ps → IsBehind told until after →
     Chain told a (ps ++ point_listed after [])
 runs-chain told until a [] None h l r n = h
 runs-chain told until a [] (Some b) h l r n = (
@@ -103,20 +103,20 @@ runs-chain told until a (b ∷ ps) after h l r n = (
 )
 
 -- nothing stands behind the last, where nothing stands behind all
-last-of_all : (told : ℕ → Option ℕ) (until : ℕ) (a : ℕ × ℕ) (ps : List (ℕ × ℕ)) → Runs told (suc a.0) until ps → ((s : ℕ) → until < s → told s ≡ None) →
+pub last-of_all : (told : ℕ → Option ℕ) (until : ℕ) (a : ℕ × ℕ) (ps : List (ℕ × ℕ)) → Runs told (suc a.0) until ps → ((s : ℕ) → until < s → told s ≡ None) →
     (s : ℕ) → (last_of a (ps ++ [])).0 < s → told s ≡ None
 last-of_all told until a [] r n s l = elim (cases_lt until s) [ inl e ↦ n s e | inr e ↦ r s (omega (arith, l)) e ]
 last-of_all told until a (b ∷ ps) r n s l = last-of_all told until b ps r.4 n s l
 
-last-pushed : (a b : ℕ × ℕ) (ps : List (ℕ × ℕ)) → last_of a (ps ++ b ∷ []) ≡ b
+pub last-pushed : (a b : ℕ × ℕ) (ps : List (ℕ × ℕ)) → last_of a (ps ++ b ∷ []) ≡ b
 last-pushed a b [] = refl
 last-pushed a b (c ∷ ps) = last-pushed c b ps
 
-chain-last : (told : ℕ → Option ℕ) (a : ℕ × ℕ) (ps : List (ℕ × ℕ)) → Chain told a ps → told (last_of a ps).0 ≡ Some (last_of a ps).1
+pub chain-last : (told : ℕ → Option ℕ) (a : ℕ × ℕ) (ps : List (ℕ × ℕ)) → Chain told a ps → told (last_of a ps).0 ≡ Some (last_of a ps).1
 chain-last told a [] h = h
 chain-last told a (b ∷ ps) h = chain-last told b ps h.1
 
-chain-order : (told : ℕ → Option ℕ) (a : ℕ × ℕ) (ps : List (ℕ × ℕ)) → Chain told a ps → IsInOrder by_second (a ∷ ps)
+pub chain-order : (told : ℕ → Option ℕ) (a : ℕ × ℕ) (ps : List (ℕ × ℕ)) → Chain told a ps → IsInOrder by_second (a ∷ ps)
 chain-order told a [] h = (tt, tt)
 chain-order told a (b ∷ ps) h =
     let r = chain-order told b ps h.1 in
@@ -189,7 +189,7 @@ pub taken-rises : (old : Key → Contents) (m : ℕ) (r : Register) (z : ℕ) (p
 taken-rises old m r z [] t = tt
 taken-rises old m r z (a ∷ ps) t = chain-order (point old m r) a ps t.chain
 
-no-energy : (keeps : ℕ → Bool) (told : ℕ → Option ℕ) (end : ℕ) → ((s : ℕ) → told s ≡ None) → register_energy keeps told end ≡ 0
+pub no-energy : (keeps : ℕ → Bool) (told : ℕ → Option ℕ) (end : ℕ) → ((s : ℕ) → told s ≡ None) → register_energy keeps told end ≡ 0
 no-energy keeps told end n = energy-pairs keeps told end [] (λ s l. n s)
 
 taken-changes : (office : OfficeRules) (old new : Key → Contents) (m z : ℕ) (r : Register) (asked : Asked) (ps : List (ℕ × ℕ)) → IsOtherStart old new m z → ((t w : ℕ) → point old m r t ≡ Some w → t < office.end) → IsTaken old m r z ps →

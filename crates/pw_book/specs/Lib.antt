@@ -11,9 +11,11 @@ pub mod After
 pub mod Crashes
 -- and these where a file above names them:
 -- Asking: what asking a shelf leaves as it is
+-- Listed: points, with one before them
 -- Acceptance: the line of an accepted upload
 -- Faults: numbers, names and lines of faults
 pub mod Asking
+pub mod Listed
 pub mod Acceptance
 pub mod Faults
 -- named by private functions, tests and proofs alone

@@ -6,5 +6,7 @@ pub mod Sums
 pub mod Moves
 pub mod Settling
 pub mod Fresh
+pub mod Gathered
 pub mod Added
+pub mod Inferred
 pub mod Withdrawn

@@ -1,6 +1,6 @@
 //! A reading that begins or ceases to count, and the energies of the pairs round it.
 
-ghost use Rattle.std.specs.Prelude.{◌≡◌, ℕ, ◌+◌, ◌*◌, ◌<◌, ◌≤◌, ◌^◌, ◌++◌, [], ◌∷◌, Some, None, OnOk, IfOk, IsSome, true, length};
+ghost use Rattle.std.specs.Prelude.{◌≡◌, ℕ, ◌+◌, ◌<◌, ◌≤◌, ◌^◌, ◌++◌, [], ◌∷◌, Some, None, OnOk, IfOk, IsSome, true, length};
 ghost use Rattle.pw_model.specs.declared.records.Key.{Key as AnyKey};
 ghost use Rattle.pw_model.specs.declared.records.Contents.{Contents as AnyContents};
 ghost use Rattle.pw_model.specs.declared.records.TotalKey.{TotalKey as AnyTotal};
@@ -8,18 +8,19 @@ ghost use Rattle.pw_model.specs.Lists.{IsInOrder};
 ghost use Rattle.pw_model.specs.Changes.{IsOneMoreReading};
 ghost use Rattle.pw_model.specs.Counting.{point as point_told, start as start_told};
 ghost use Rattle.pw_shelf.specs.Calls.{GoesOn, failures_told};
-ghost use Rattle.pw_shelf.specs.Changes.{points_with};
+ghost use Rattle.pw_shelf.specs.Changes.{with_point};
 ghost use Rattle.pw_tariff.specs.Office.{counts_at, office_of};
 ghost use Rattle.pw_tariff.specs.Owners.{StartsIncrease};
 ghost use Rattle.pw_parts.specs.declared.changes.Side.{Side as ASide};
 ghost use Rattle.pw_model.specs.Seconds.{by_second};
-ghost use Rattle.pw_book.specs.Cost.{HasStarts, classes_of};
-ghost use Rattle.pw_book.specs.inner.Settling.{EndsBefore, IsSettled};
+ghost use Rattle.pw_book.specs.Cost.{HasStarts};
+ghost use Rattle.pw_book.specs.inner.Gathered.{AreGathered};
+ghost use Rattle.pw_book.specs.inner.Settling.{EndsBefore};
 ghost use Rattle.pw_parts.specs.Changes.{gathered, other_side, pairs_for};
-ghost use Rattle.pw_book.specs.inner.Sums.{AreDifferences, point_listed};
+ghost use Rattle.pw_book.specs.Listed.{point_listed};
+ghost use Rattle.pw_book.specs.inner.Sums.{energy_told};
 
 use crate::basis::Basis;
-use crate::moving::move_energies;
 use pw_model::direction_of;
 use pw_obis::{Register, WattHours};
 use pw_parts::{Changes, Point, Side, add_pairs};
@@ -37,57 +38,63 @@ pub(crate) struct Counted {
     pub(crate) wh: WattHours,
 }
 
-// Keeps a reading that begins to count, and the energies with it.
+// Keeps a reading that begins to count, and gathers what the energies lose and gain by it.
 pub(crate) fn begin_to_count<S: Shelf>(
     shelf: &mut S,
     basis: &Basis,
     reading: &Counted,
+    changes: &mut Changes,
 ) -> Result<(), ShelfFault>
     requires begun { IsSome (S.state shelf.old).begun }
     requires meter { reading.now.meter.0 < length basis.now.office.now.meters }
     requires counts { counts_at basis.now.office.now reading.now.meter.0 reading.now.register ≡ true }
-    ensures settled { S.clean shelf.new → (was is : AnyKey → AnyContents) → (S.state shelf.old).content.point ≡ point_told was → (S.state shelf.old).content.start ≡ start_told was → IsOneMoreReading was is reading.now.meter.0 reading.now.register reading.now.instant reading.now.wh → EndsBefore (office_of basis.now.office.now).end (point_told is reading.now.meter.0 reading.now.register) → OnOk result (IsSettled (office_of basis.now.office.now) was is (S.state shelf.old).content (S.state shelf.new).content) }
-    ensures point { S.clean shelf.new → OnOk result ((S.state shelf.new).content.point ≡ points_with (S.state shelf.old).content.point reading.now.meter.0 reading.now.register reading.now.instant (Some reading.now.wh)) }
-    ensures start { S.clean shelf.new → OnOk result ((S.state shelf.new).content.start ≡ (S.state shelf.old).content.start) }
-    ensures tally { S.clean shelf.new → (starts : ℕ) → HasStarts (S.state shelf.old).content reading.now.meter.0 starts → (S.state shelf.new).tally ≤ (S.state shelf.old).tally + (6 + starts) + 6 * classes_of (office_of basis.now.office.now) }
+    requires few { (side : ASide) (k : AnyTotal) → gathered side changes.old.rows k < 2 ^ 120 }
+    ensures gathered { S.clean shelf.new → (was is : AnyKey → AnyContents) → (S.state shelf.old).content.point ≡ point_told was → (S.state shelf.old).content.start ≡ start_told was → IsOneMoreReading was is reading.now.meter.0 reading.now.register reading.now.instant reading.now.wh → EndsBefore (office_of basis.now.office.now).end (point_told is reading.now.meter.0 reading.now.register) → OnOk result (AreGathered (office_of basis.now.office.now) was is changes.old.rows changes.new.rows) }
+    ensures few { OnOk result ((side : ASide) (k : AnyTotal) → gathered side changes.new.rows k ≤ gathered side changes.old.rows k + 2 ^ 39) }
+    ensures point { S.clean shelf.new → OnOk result ((S.state shelf.new).content ≡ with_point (S.state shelf.old).content reading.now.meter.0 reading.now.register reading.now.instant (Some reading.now.wh)) }
+    ensures tally { S.clean shelf.new → (starts : ℕ) → HasStarts (S.state shelf.old).content reading.now.meter.0 starts → (S.state shelf.new).tally ≤ (S.state shelf.old).tally + (6 + starts) }
     ensures kept { GoesOn S.state S.left S.clean S.same_store (failures_told result) shelf.old shelf.new }
 {
-    let changes = weigh_around(shelf, basis, reading)?;
-    move_energies(shelf, basis.office, &changes, Side::Loses)?;
+    weigh_around(shelf, basis, reading, Side::Gains, changes)?;
     shelf.point_put(reading.meter, reading.register, reading.instant, reading.wh)
 }
 
-// Takes a reading that ceases to count away, and the energies with it.
+// Takes a reading that ceases to count away, and gathers what the energies lose and gain by it.
 pub(crate) fn cease_to_count<S: Shelf>(
     shelf: &mut S,
     basis: &Basis,
     reading: &Counted,
+    changes: &mut Changes,
 ) -> Result<(), ShelfFault>
     requires begun { IsSome (S.state shelf.old).begun }
     requires meter { reading.now.meter.0 < length basis.now.office.now.meters }
     requires counts { counts_at basis.now.office.now reading.now.meter.0 reading.now.register ≡ true }
-    ensures settled { S.clean shelf.new → (was is : AnyKey → AnyContents) → (S.state shelf.old).content.point ≡ point_told was → (S.state shelf.old).content.start ≡ start_told was → IsOneMoreReading is was reading.now.meter.0 reading.now.register reading.now.instant reading.now.wh → EndsBefore (office_of basis.now.office.now).end (point_told was reading.now.meter.0 reading.now.register) → OnOk result (IsSettled (office_of basis.now.office.now) was is (S.state shelf.old).content (S.state shelf.new).content) }
-    ensures point { S.clean shelf.new → OnOk result ((S.state shelf.new).content.point ≡ points_with (S.state shelf.old).content.point reading.now.meter.0 reading.now.register reading.now.instant None) }
-    ensures start { S.clean shelf.new → OnOk result ((S.state shelf.new).content.start ≡ (S.state shelf.old).content.start) }
-    ensures tally { S.clean shelf.new → (starts : ℕ) → HasStarts (S.state shelf.old).content reading.now.meter.0 starts → (S.state shelf.new).tally ≤ (S.state shelf.old).tally + (6 + starts) + 6 * classes_of (office_of basis.now.office.now) }
+    requires few { (side : ASide) (k : AnyTotal) → gathered side changes.old.rows k < 2 ^ 120 }
+    ensures gathered { S.clean shelf.new → (was is : AnyKey → AnyContents) → (S.state shelf.old).content.point ≡ point_told was → (S.state shelf.old).content.start ≡ start_told was → IsOneMoreReading is was reading.now.meter.0 reading.now.register reading.now.instant reading.now.wh → EndsBefore (office_of basis.now.office.now).end (point_told was reading.now.meter.0 reading.now.register) → OnOk result (AreGathered (office_of basis.now.office.now) was is changes.old.rows changes.new.rows) }
+    ensures few { OnOk result ((side : ASide) (k : AnyTotal) → gathered side changes.new.rows k ≤ gathered side changes.old.rows k + 2 ^ 39) }
+    ensures point { S.clean shelf.new → OnOk result ((S.state shelf.new).content ≡ with_point (S.state shelf.old).content reading.now.meter.0 reading.now.register reading.now.instant None) }
+    ensures tally { S.clean shelf.new → (starts : ℕ) → HasStarts (S.state shelf.old).content reading.now.meter.0 starts → (S.state shelf.new).tally ≤ (S.state shelf.old).tally + (6 + starts) }
     ensures kept { GoesOn S.state S.left S.clean S.same_store (failures_told result) shelf.old shelf.new }
 {
-    let changes = weigh_around(shelf, basis, reading)?;
-    move_energies(shelf, basis.office, &changes, Side::Gains)?;
+    weigh_around(shelf, basis, reading, Side::Loses, changes)?;
     shelf.point_del(reading.meter, reading.register, reading.instant)
 }
 
-// What each total loses and gains by the pairs of a register round an instant, where a reading begins to count there.
+// Gathers what the pairs of a register round an instant give: on one side what they give with a reading that counts
+// there, on the other side what they give without it.
 fn weigh_around<S: Shelf>(
     shelf: &mut S,
     basis: &Basis,
     reading: &Counted,
-) -> Result<Changes, ShelfFault>
+    side: Side,
+    changes: &mut Changes,
+) -> Result<(), ShelfFault>
     requires begun { IsSome (S.state shelf.old).begun }
     requires meter { reading.now.meter.0 < length basis.now.office.now.meters }
     requires counts { counts_at basis.now.office.now reading.now.meter.0 reading.now.register ≡ true }
-    ensures few { IfOk result (λ changes. (side : ASide) (k : AnyTotal) → gathered side changes.rows k < 2 ^ 127) }
-    ensures around { S.clean shelf.new → (free is : AnyKey → AnyContents) → ((u : ℕ) → (u ≡ reading.now.instant → ⊥) → (S.state shelf.old).content.point reading.now.meter.0 reading.now.register u ≡ point_told free reading.now.meter.0 reading.now.register u) → (S.state shelf.old).content.start reading.now.meter.0 ≡ start_told free reading.now.meter.0 → IsOneMoreReading free is reading.now.meter.0 reading.now.register reading.now.instant reading.now.wh → EndsBefore (office_of basis.now.office.now).end (point_told is reading.now.meter.0 reading.now.register) → IfOk result (λ changes. AreDifferences (office_of basis.now.office.now) free is changes.rows) }
+    requires few { (side : ASide) (k : AnyTotal) → gathered side changes.old.rows k < 2 ^ 120 }
+    ensures around { S.clean shelf.new → (free is : AnyKey → AnyContents) → ((u : ℕ) → (u ≡ reading.now.instant → ⊥) → (S.state shelf.old).content.point reading.now.meter.0 reading.now.register u ≡ point_told free reading.now.meter.0 reading.now.register u) → (S.state shelf.old).content.start reading.now.meter.0 ≡ start_told free reading.now.meter.0 → IsOneMoreReading free is reading.now.meter.0 reading.now.register reading.now.instant reading.now.wh → EndsBefore (office_of basis.now.office.now).end (point_told is reading.now.meter.0 reading.now.register) → OnOk result ((k : AnyTotal) → energy_told (office_of basis.now.office.now) free k + gathered side changes.new.rows k + gathered (other_side side) changes.old.rows k ≡ energy_told (office_of basis.now.office.now) is k + gathered (other_side side) changes.new.rows k + gathered side changes.old.rows k) }
+    ensures few { OnOk result ((s : ASide) (k : AnyTotal) → gathered s changes.new.rows k ≤ gathered s changes.old.rows k + 2 ^ 39) }
     ensures same { S.clean shelf.new → OnOk result ((S.state shelf.new).content ≡ (S.state shelf.old).content) }
     ensures tally { S.clean shelf.new → (starts : ℕ) → HasStarts (S.state shelf.old).content reading.now.meter.0 starts → (S.state shelf.new).tally ≤ (S.state shelf.old).tally + (5 + starts) }
     ensures kept { GoesOn S.state S.left S.clean S.same_store (failures_told result) shelf.old shelf.new }
@@ -99,12 +106,10 @@ fn weigh_around<S: Shelf>(
     let apart = listed(basis.alloc, &below, &None, &above)?;
     let here = Some((reading.instant, reading.wh));
     let joined = listed(basis.alloc, &below, &here, &above)?;
-    let mut changes = Changes::new(basis.alloc);
-    let loses = Side::Loses;
-    add_points(basis, &starts, direction, &apart, loses, &mut changes)?;
-    let gains = Side::Gains;
-    add_points(basis, &starts, direction, &joined, gains, &mut changes)?;
-    Ok(changes)
+    let other = side.other();
+    add_points(basis, &starts, direction, &apart, other, changes)?;
+    add_points(basis, &starts, direction, &joined, side, changes)?;
+    Ok(())
 }
 
 // The points that are there, one behind another.
@@ -143,10 +148,10 @@ fn add_points(
     changes: &mut Changes,
 ) -> Result<(), AllocError>
     requires short { length points.now ≤ 3 }
-    requires none { (k : AnyTotal) → gathered side changes.old.rows k ≡ 0 }
-    ensures gathered { StartsIncrease starts.now → IsInOrder by_second points.now → OnOk result ((k : AnyTotal) → gathered side changes.new.rows k ≡ pairs_for basis.now.office.now starts.now direction points.now k) }
+    requires few { (k : AnyTotal) → gathered side changes.old.rows k < 2 ^ 120 }
+    ensures gathered { StartsIncrease starts.now → IsInOrder by_second points.now → OnOk result ((k : AnyTotal) → gathered side changes.new.rows k ≡ gathered side changes.old.rows k + pairs_for basis.now.office.now starts.now direction points.now k) }
     ensures other { OnOk result ((k : AnyTotal) → gathered (other_side side) changes.new.rows k ≡ gathered (other_side side) changes.old.rows k) }
-    ensures few { OnOk result ((k : AnyTotal) → gathered side changes.new.rows k < 2 ^ 127) }
+    ensures few { OnOk result ((k : AnyTotal) → gathered side changes.new.rows k ≤ gathered side changes.old.rows k + 2 ^ 39) }
 {
     let Some(owners) = Owners::of(starts) else {
         return Ok(());

@@ -61,10 +61,13 @@ impl fmt::Display for Accepted {
 }
 
 /// The book of an office over a store of records: it takes uploads, and answers what the records held mean.
+///
+/// The office, the zone and the store are lent to the questions of other crates: what they leave of the store keeps the
+/// facts below.
 pub struct Book<S: Shelf> {
-    office: Office,
-    zone: Zone,
-    shelf: S,
+    pub office: Office,
+    pub zone: Zone,
+    pub shelf: S,
     limit: u32,
     shut: bool,
     ghost limited: { (1 ≤ limit) × (limit ≤ most_records) },

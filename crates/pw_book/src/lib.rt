@@ -18,10 +18,12 @@ mod posting;
 mod rows;
 mod settling;
 mod starts;
+mod told;
 mod upload;
 mod window;
 mod withdrawn;
 
+pub use basis::Basis;
 pub use book::{Accepted, Book};
 pub use fault::{BookFault, PostFault};
 pub use pw_model::{Content, Dispute, Entry, Fall, Key, Named, ReadingRow, Reference};
@@ -29,3 +31,4 @@ pub use pw_obis::{Register, WattHours};
 pub use pw_parts::{Parts, true_parts};
 pub use pw_tariff::{AccountId, BandId, Direction, MeterId, Office, Owner, PeriodId};
 pub use pw_time::{Instant, Zone};
+pub use window::joined;

@@ -1,20 +1,23 @@
 //! Totals changed within an upload.
 
-ghost use Rattle.std.specs.Prelude.{◌≡◌, ℕ, ◌+◌, ◌*◌, ◌<◌, ◌≤◌, ◌^◌, ◌↔◌, IsTrue, OnOk, IsSome, length};
+ghost use Rattle.std.specs.Prelude.{◌≡◌, ℕ, ◌+◌, ◌<◌, ◌≤◌, ◌^◌, ◌↔◌, [], IsTrue, OnOk, IsSome, length};
 ghost use Rattle.pw_model.specs.declared.records.TotalKey.{TotalKey as AnyTotal};
 ghost use Rattle.pw_model.specs.Office.{HasOwner};
 ghost use Rattle.pw_shelf.specs.Calls.{GoesOn, failures_told};
 ghost use Rattle.pw_tariff.specs.Office.{office_of, periods_in};
-ghost use Rattle.pw_book.specs.Cost.{classes_of};
 ghost use Rattle.pw_parts.specs.declared.changes.Side.{Side as ASide};
+ghost use Rattle.pw_parts.specs.declared.changes.Side.TheVariants.{Gains, Loses};
+ghost use Rattle.pw_book.specs.inner.Gathered.{due};
 ghost use Rattle.pw_book.specs.inner.Moves.{MovesTotals, OfOwners, most_total};
-ghost use Rattle.pw_parts.specs.Changes.{gathered, other_side};
+ghost use Rattle.pw_parts.specs.Changes.{gathered};
 
 use pw_model::{MOST_RECORDS, TotalKey};
 use pw_obis::LARGEST_WATT_HOURS;
-use pw_parts::{Changes, Side};
+use pw_parts::Changes;
 use pw_shelf::{Shelf, ShelfFault};
 use pw_tariff::{BandId, Office, Owner, PeriodId};
+use std::alloc::Global;
+use std::collections::BTreeMap;
 
 // The greatest amount of a total: that of 10,000,000 records of the largest reading.
 const MOST_TOTAL: u64 = MOST_RECORDS as u64 * LARGEST_WATT_HOURS;
@@ -82,23 +85,34 @@ fn is_energy_of(office: &Office, key: &TotalKey) -> bool
     }
 }
 
-// Changes the energies that are gathered: each loses what is gathered on one side, and gains what is gathered on the
-// other. (A store alone that isn't clean names what the office doesn't have; such energies stay as they are.)
+// Nothing that is gathered.
+pub(crate) fn nothing_gathered(alloc: Global) -> Changes
+    ensures { result.rows.entries ≡ [] }
+{
+    Changes {
+        rows: BTreeMap::new(alloc),
+    }
+}
+
+// Writes what is gathered: each energy loses what is gathered on the one side, and gains what is gathered on the other.
+// (A store alone that isn't clean names what the office doesn't have; such energies stay as they are.)
 pub(crate) fn move_energies<S: Shelf>(
     shelf: &mut S,
     office: &Office,
     changes: &Changes,
-    taken: Side,
 ) -> Result<(), ShelfFault>
     requires begun { IsSome (S.state shelf.old).begun }
     requires few { (side : ASide) (k : AnyTotal) → gathered side changes.now.rows k < 2 ^ 127 }
-    ensures moved { S.clean shelf.new → OnOk result (MovesTotals (OfOwners (periods_in office.now) (length office.now.bands) (length office.now.accounts)) (gathered (other_side taken) changes.now.rows) (gathered taken changes.now.rows) (S.state shelf.old).content (S.state shelf.new).content) }
-    ensures tally { (S.state shelf.new).tally ≤ (S.state shelf.old).tally + 6 * classes_of (office_of office.now) }
+    ensures moved { S.clean shelf.new → OnOk result (MovesTotals (OfOwners (periods_in office.now) (length office.now.bands) (length office.now.accounts)) (gathered Gains changes.now.rows) (gathered Loses changes.now.rows) (S.state shelf.old).content (S.state shelf.new).content) }
+    ensures tally { (S.state shelf.new).tally ≤ (S.state shelf.old).tally + due (office_of office.now) changes.now.rows.entries }
     ensures kept { GoesOn S.state S.left S.clean S.same_store (failures_told result) shelf.old shelf.new }
 {
+    if changes.rows.is_empty() {
+        return Ok(());
+    }
     for (key, change) in &changes.rows {
         if is_energy_of(office, key) {
-            change_total(shelf, key, change.on(taken.other()), change.on(taken))?;
+            change_total(shelf, key, change.more, change.less)?;
         }
     }
     Ok(())

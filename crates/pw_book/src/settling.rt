@@ -1,21 +1,26 @@
 //! Points, starts and totals that follow where what is told at a key has changed.
 
-ghost use Rattle.std.specs.Prelude.{◌≡◌, ℕ, ◌+◌, ◌*◌, ◌<◌, ◌≤◌, List, OnOk, IsSome, true, length};
+ghost use Rattle.std.specs.Prelude.{◌≡◌, ℕ, ◌+◌, ◌<◌, ◌≤◌, ◌^◌, List, OnOk, IsSome, true, length};
 ghost use Rattle.pw_model.specs.declared.records.Entry.{Entry as AnEntry};
 ghost use Rattle.pw_model.specs.declared.records.Key.TheVariants as key;
+ghost use Rattle.pw_model.specs.declared.records.TotalKey.{TotalKey as AnyTotal};
 ghost use Rattle.pw_model.specs.Counting.{owner_of, wh_of};
 ghost use Rattle.pw_shelf.specs.Calls.{GoesOn, failures_told};
 ghost use Rattle.pw_tariff.specs.Office.{IsSound, counts_at, office_of};
-ghost use Rattle.pw_book.specs.inner.Added.{ChangesOneKey, IsJustChanged, IsKeyOf, IsPaid, IsTrueAgain, TakesAtMost, paid_of};
+ghost use Rattle.pw_parts.specs.Changes.{gathered};
+ghost use Rattle.pw_parts.specs.declared.changes.Side.{Side as ASide};
+ghost use Rattle.pw_book.specs.inner.Added.{ChangesOneKey, IsJustChanged, IsKeyOf, IsPaid, IsTrueAgain, IsTrueOf, TakesAtMost, paid_of};
+ghost use Rattle.pw_book.specs.inner.Gathered.{IsTrueAgainBut, IsTrueBut, due};
 ghost use Rattle.pw_model.specs.Kinds.{IsReading};
-ghost use Rattle.pw_book.specs.Cost.{HasStarts, classes_of};
+ghost use Rattle.pw_book.specs.Cost.{HasStarts};
 
 use crate::around::{Counted, begin_to_count, cease_to_count};
 use crate::basis::Basis;
-use crate::moving::change_total;
+use crate::moving::{change_total, move_energies, nothing_gathered};
 use crate::window::change_start;
 use pw_model::{Content, Contents, Key, TotalKey};
 use pw_obis::{Register, WattHours};
+use pw_parts::Changes;
 use pw_shelf::{Shelf, ShelfFault};
 use pw_tariff::{AccountId, MeterId, Owner};
 use pw_time::Instant;
@@ -50,7 +55,7 @@ fn counting_payment(contents: &Contents) -> Option<(AccountId, u32)>
     }
 }
 
-// Keeps the point and the energies that follow where a reading begins or ceases to count.
+// Keeps the point that follows where a reading begins or ceases to count, and gathers what the energies lose and gain.
 fn reading_changed<S: Shelf>(
     shelf: &mut S,
     basis: &Basis,
@@ -59,15 +64,18 @@ fn reading_changed<S: Shelf>(
     instant: Instant,
     before: &Contents,
     behind: &Contents,
+    changes: &mut Changes,
 ) -> Result<(), ShelfFault>
     requires begun { IsSome (S.state shelf.old).begun }
     requires sound { IsSound basis.now.office.now }
     requires meter { meter.0 < length basis.now.office.now.meters }
     requires counts { counts_at basis.now.office.now meter.0 register ≡ true }
-    ensures settled { S.clean shelf.new → (s : List AnEntry) → IsJustChanged (office_of basis.now.office.now) s (key.Reading meter register instant) before.now behind.now (S.state shelf.old).content → OnOk result (IsTrueAgain (office_of basis.now.office.now) (S.state shelf.old).content (S.state shelf.new).content) }
+    requires few { (side : ASide) (k : AnyTotal) → gathered side changes.old.rows k < 2 ^ 120 }
+    ensures settled { S.clean shelf.new → (s : List AnEntry) → IsJustChanged (office_of basis.now.office.now) s (key.Reading meter register instant) before.now behind.now (S.state shelf.old).content.records → IsTrueBut (office_of basis.now.office.now) changes.old.rows s (S.state shelf.old).content → OnOk result (IsTrueAgainBut (office_of basis.now.office.now) changes.new.rows (S.state shelf.old).content (S.state shelf.new).content) }
+    ensures few { OnOk result ((side : ASide) (k : AnyTotal) → gathered side changes.new.rows k ≤ gathered side changes.old.rows k + 2 ^ 39) }
     ensures start { S.clean shelf.new → OnOk result ((S.state shelf.new).content.start ≡ (S.state shelf.old).content.start) }
     ensures alone { S.clean shelf.new → OnOk result (ChangesOneKey (key.Reading meter register instant) (S.state shelf.old).content (S.state shelf.new).content) }
-    ensures tally { S.clean shelf.new → (starts : ℕ) → HasStarts (S.state shelf.old).content meter.0 starts → (S.state shelf.new).tally ≤ (S.state shelf.old).tally + (6 + starts) + 6 * classes_of (office_of basis.now.office.now) }
+    ensures tally { S.clean shelf.new → (starts : ℕ) → HasStarts (S.state shelf.old).content meter.0 starts → (S.state shelf.new).tally ≤ (S.state shelf.old).tally + (6 + starts) }
     ensures kept { GoesOn S.state S.left S.clean S.same_store (failures_told result) shelf.old shelf.new }
 {
     match (counting_wh(before), counting_wh(behind)) {
@@ -78,7 +86,7 @@ fn reading_changed<S: Shelf>(
                 instant,
                 wh,
             };
-            begin_to_count(shelf, basis, &reading)
+            begin_to_count(shelf, basis, &reading, changes)
         }
         (Some(wh), None) => {
             let reading = Counted {
@@ -87,7 +95,7 @@ fn reading_changed<S: Shelf>(
                 instant,
                 wh,
             };
-            cease_to_count(shelf, basis, &reading)
+            cease_to_count(shelf, basis, &reading, changes)
         }
         (None, None) | (Some(_), Some(_)) => Ok(()),
     }
@@ -105,7 +113,7 @@ fn assignment_changed<S: Shelf>(
     requires begun { IsSome (S.state shelf.old).begun }
     requires sound { IsSound basis.now.office.now }
     requires meter { meter.0 < length basis.now.office.now.meters }
-    ensures settled { S.clean shelf.new → (s : List AnEntry) → IsJustChanged (office_of basis.now.office.now) s (key.Assignment meter start) before.now behind.now (S.state shelf.old).content → OnOk result (IsTrueAgain (office_of basis.now.office.now) (S.state shelf.old).content (S.state shelf.new).content) }
+    ensures settled { S.clean shelf.new → (s : List AnEntry) → IsJustChanged (office_of basis.now.office.now) s (key.Assignment meter start) before.now behind.now (S.state shelf.old).content.records → IsTrueOf (office_of basis.now.office.now) s (S.state shelf.old).content → OnOk result (IsTrueAgain (office_of basis.now.office.now) (S.state shelf.old).content (S.state shelf.new).content) }
     ensures alone { S.clean shelf.new → OnOk result (ChangesOneKey (key.Assignment meter start) (S.state shelf.old).content (S.state shelf.new).content) }
     ensures tally { S.clean shelf.new → TakesAtMost 0 (office_of basis.now.office.now) (S.state shelf.old).content (key.Assignment meter start) (S.state shelf.old).tally (S.state shelf.new).tally }
     ensures kept { GoesOn S.state S.left S.clean S.same_store (failures_told result) shelf.old shelf.new }
@@ -141,22 +149,26 @@ fn top_up_changed<S: Shelf>(
     }
 }
 
-// Keeps points, starts and totals true where the records held have changed, by what was told at a key before and what is
-// told there behind: elsewhere the same counts.
+// Keeps points, starts and totals true, with what is gathered, where the records held have changed, by what was told at
+// a key before and what is told there behind: elsewhere the same counts. What energies lose and gain by a reading is
+// gathered; before an assignment all that is gathered is written, since it shares out anew what they have.
 pub(crate) fn settle<S: Shelf>(
     shelf: &mut S,
     basis: &Basis,
     key: &Key,
     before: &Contents,
     behind: &Contents,
+    changes: &mut Changes,
 ) -> Result<(), ShelfFault>
     requires begun { IsSome (S.state shelf.old).begun }
     requires sound { IsSound basis.now.office.now }
     requires of_office { IsKeyOf (office_of basis.now.office.now) key.now }
-    ensures settled { S.clean shelf.new → (s : List AnEntry) → IsJustChanged (office_of basis.now.office.now) s key.now before.now behind.now (S.state shelf.old).content → OnOk result (IsTrueAgain (office_of basis.now.office.now) (S.state shelf.old).content (S.state shelf.new).content) }
+    requires few { (side : ASide) (k : AnyTotal) → gathered side changes.old.rows k < 2 ^ 120 }
+    ensures settled { S.clean shelf.new → (s : List AnEntry) → IsJustChanged (office_of basis.now.office.now) s key.now before.now behind.now (S.state shelf.old).content.records → IsTrueBut (office_of basis.now.office.now) changes.old.rows s (S.state shelf.old).content → OnOk result (IsTrueAgainBut (office_of basis.now.office.now) changes.new.rows (S.state shelf.old).content (S.state shelf.new).content) }
+    ensures few { OnOk result ((side : ASide) (k : AnyTotal) → gathered side changes.new.rows k ≤ gathered side changes.old.rows k + 2 ^ 39) }
     ensures start { S.clean shelf.new → IsReading key.now → OnOk result ((S.state shelf.new).content.start ≡ (S.state shelf.old).content.start) }
     ensures alone { S.clean shelf.new → OnOk result (ChangesOneKey key.now (S.state shelf.old).content (S.state shelf.new).content) }
-    ensures tally { S.clean shelf.new → TakesAtMost 0 (office_of basis.now.office.now) (S.state shelf.old).content key.now (S.state shelf.old).tally (S.state shelf.new).tally }
+    ensures tally { S.clean shelf.new → TakesAtMost 0 (office_of basis.now.office.now) (S.state shelf.old).content key.now ((S.state shelf.old).tally + due (office_of basis.now.office.now) changes.old.rows.entries) ((S.state shelf.new).tally + due (office_of basis.now.office.now) changes.new.rows.entries) }
     ensures kept { GoesOn S.state S.left S.clean S.same_store (failures_told result) shelf.old shelf.new }
 {
     match key {
@@ -164,8 +176,12 @@ pub(crate) fn settle<S: Shelf>(
             meter,
             register,
             instant,
-        } => reading_changed(shelf, basis, *meter, *register, *instant, before, behind),
+        } => reading_changed(
+            shelf, basis, *meter, *register, *instant, before, behind, changes,
+        ),
         Key::Assignment { meter, start } => {
+            move_energies(shelf, basis.office, changes)?;
+            *changes = nothing_gathered(basis.alloc);
             assignment_changed(shelf, basis, *meter, *start, before, behind)
         }
         Key::TopUp { .. } => top_up_changed(shelf, before, behind),

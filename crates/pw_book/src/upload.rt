@@ -1,6 +1,7 @@
 //! One upload to a shelf, written and committed, or taken back.
 
-ghost use Rattle.std.specs.Prelude.{◌≡◌, ℕ, ◌+◌, ◌*◌, ◌<◌, ◌≤◌, ◌++◌, [], ◌∷◌, None, Some, OnOk, OnErr, IsErrOf, IsNone, IsSome, length};
+ghost use Rattle.std.specs.Prelude.{◌≡◌, ◌+◌, ◌<◌, ◌≤◌, ◌^◌, ◌++◌, [], ◌∷◌, None, Some, OnOk, OnErr, IsErrOf, IsNone, IsSome, length};
+ghost use Rattle.pw_model.specs.declared.records.TotalKey.{TotalKey as AnyTotal};
 ghost use Rattle.pw_model.specs.Bearing.{bears_on};
 ghost use Rattle.pw_model.specs.Counting.{Member};
 ghost use Rattle.pw_model.specs.Kinds.{IsReading};
@@ -15,12 +16,18 @@ ghost use Rattle.pw_book.specs.Posting.{IsWithUpload};
 ghost use Rattle.pw_book.specs.inner.Added.{ChangesOneKey, CostsAtMost, IsPut, LeavesWithUpload, TakesAtMost};
 ghost use Rattle.pw_book.specs.inner.Fresh.{AreFresh};
 ghost use Rattle.pw_book.specs.inner.Failures.{FailuresUploaded};
+ghost use Rattle.pw_book.specs.inner.Gathered.{IsTrueBut, due};
+ghost use Rattle.pw_parts.specs.Changes.{gathered};
+ghost use Rattle.pw_parts.specs.declared.changes.Side.{Side as ASide};
 ghost use Rattle.pw_book.specs.declared.fault.BookFault.TheVariants.{Reopen};
 
 use crate::basis::Basis;
 use crate::fault::BookFault;
+use crate::moving::{move_energies, nothing_gathered};
 use crate::settling::settle;
+use crate::told::add_told;
 use pw_model::{Entry, Key};
+use pw_parts::Changes;
 use pw_shelf::{Shelf, ShelfFault};
 
 // Adds entries that aren't held in an upload of their own, and keeps points, starts and totals true.
@@ -61,7 +68,7 @@ pub(crate) fn upload<S: Shelf>(
     }
 }
 
-// Adds entries that aren't held to the upload that is begun, and commits.
+// Adds entries that aren't held to the upload that is begun, writes the totals that follow, each once, and commits.
 fn write<S: Shelf>(shelf: &mut S, basis: &Basis, entries: &[Entry]) -> Result<(), ShelfFault>
     requires begun { IsSome (S.state shelf.old).begun }
     requires sound { IsSound basis.now.office.now }
@@ -80,30 +87,38 @@ fn write<S: Shelf>(shelf: &mut S, basis: &Basis, entries: &[Entry]) -> Result<()
     ensures cleanness { S.clean shelf.new → S.clean shelf.old }
     ensures store { S.same_store shelf.old shelf.new }
 {
+    let mut changes = nothing_gathered(basis.alloc);
     for entry in entries {
-        put(shelf, basis, entry)?;
+        put(shelf, basis, entry, &mut changes)?;
     }
+    move_energies(shelf, basis.office, &changes)?;
     shelf.commit()
 }
 
-// Adds an entry that isn't held to the upload that is begun, with all that follows.
-fn put<S: Shelf>(shelf: &mut S, basis: &Basis, entry: &Entry) -> Result<(), ShelfFault>
+// Adds an entry that isn't held to the upload that is begun, with all that follows; what energies lose and gain by a
+// reading is gathered, to be written before the upload is committed.
+fn put<S: Shelf>(
+    shelf: &mut S,
+    basis: &Basis,
+    entry: &Entry,
+    changes: &mut Changes,
+) -> Result<(), ShelfFault>
     requires begun { IsSome (S.state shelf.old).begun }
     requires sound { IsSound basis.now.office.now }
     requires of_office { IsOfOffice (office_of basis.now.office.now) entry.now }
     requires fresh { S.clean shelf.old → Member entry.now (S.state shelf.old).content.records → ⊥ }
     requires room { S.clean shelf.old → length (S.state shelf.old).content.records < most_records }
-    ensures put { S.clean shelf.new → IsTrueContent (office_of basis.now.office.now) (S.state shelf.old).content → AllOfOffice (office_of basis.now.office.now) (S.state shelf.old).content.records → OnOk result (IsPut (office_of basis.now.office.now) (entry.now ∷ []) (S.state shelf.old).content (S.state shelf.new).content) }
+    requires few { (side : ASide) (k : AnyTotal) → gathered side changes.old.rows k < 2 ^ 120 }
+    ensures put { S.clean shelf.new → IsTrueBut (office_of basis.now.office.now) changes.old.rows (S.state shelf.old).content.records (S.state shelf.old).content → AllOfOffice (office_of basis.now.office.now) (S.state shelf.old).content.records → OnOk result (IsPut (office_of basis.now.office.now) changes.new.rows (entry.now ∷ []) (S.state shelf.old).content (S.state shelf.new).content) }
+    ensures few { OnOk result ((side : ASide) (k : AnyTotal) → gathered side changes.new.rows k ≤ gathered side changes.old.rows k + 2 ^ 39) }
     ensures start { S.clean shelf.new → IsReading (bears_on entry.now) → OnOk result ((S.state shelf.new).content.start ≡ (S.state shelf.old).content.start) }
     ensures alone { S.clean shelf.new → OnOk result (ChangesOneKey (bears_on entry.now) (S.state shelf.old).content (S.state shelf.new).content) }
-    ensures tally { S.clean shelf.new → TakesAtMost 7 (office_of basis.now.office.now) (S.state shelf.old).content (bears_on entry.now) (S.state shelf.old).tally (S.state shelf.new).tally }
+    ensures tally { S.clean shelf.new → TakesAtMost 7 (office_of basis.now.office.now) (S.state shelf.old).content (bears_on entry.now) ((S.state shelf.old).tally + due (office_of basis.now.office.now) changes.old.rows.entries) ((S.state shelf.new).tally + due (office_of basis.now.office.now) changes.new.rows.entries) }
     ensures kept { GoesOn S.state S.left S.clean S.same_store (failures_told result) shelf.old shelf.new }
 {
     let key = bears_on(entry);
-    let before = shelf.contents_at(&key)?;
-    shelf.add(entry)?;
-    let behind = shelf.contents_at(&key)?;
-    settle(shelf, basis, &key, &before, &behind)
+    let told = add_told(shelf, basis.alloc, entry, &key)?;
+    settle(shelf, basis, &key, &told.before, &told.behind, changes)
 }
 
 // The key at which an entry may change what counts: of a withdrawal that of the record that it names, else its own.

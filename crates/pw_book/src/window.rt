@@ -17,7 +17,8 @@ ghost use Rattle.pw_parts.specs.declared.changes.Side.{Side as ASide};
 ghost use Rattle.pw_parts.specs.declared.changes.Side.TheVariants.{Loses, Gains};
 ghost use Rattle.pw_book.specs.inner.Settling.{EndsBefore, EndsBeforeNext, HavePoints, IsSettled, IsStartChanged, ListsUpToNextStart, register_told};
 ghost use Rattle.pw_parts.specs.Changes.{gathered};
-ghost use Rattle.pw_book.specs.inner.Sums.{AreDifferences, point_listed};
+ghost use Rattle.pw_book.specs.Listed.{point_listed};
+ghost use Rattle.pw_book.specs.inner.Sums.{AreDifferences};
 
 use crate::basis::Basis;
 use crate::moving::move_energies;
@@ -67,7 +68,7 @@ pub(crate) fn change_start<S: Shelf>(
         after: owners_of(&new),
     };
     let changes = weigh_window(shelf, basis, &window)?;
-    move_energies(shelf, basis.office, &changes, Side::Loses)?;
+    move_energies(shelf, basis.office, &changes)?;
     keep_start(shelf, meter, start, owner)
 }
 
@@ -165,8 +166,8 @@ fn add_register<S: Shelf>(
     Ok(())
 }
 
-// A list of points, with the one before them and the one behind them, where there is one.
-fn joined(
+/// A list of points, with the one before them and the one behind them, where there is one.
+pub fn joined(
     alloc: Global,
     before: Option<Point>,
     within: &[Point],

@@ -1,6 +1,7 @@
 -- An entry that was added, and what follows of it. It serves `src/settling.rt` and `src/upload.rt`.
 -- (Definitions of this project.)
 use Rattle.std.specs.Prelude.{◌≡◌, ℕ, ◌+◌, ◌*◌, ◌<◌, ◌≤◌, ◌⊎◌, true, Option, Some, None, List, [], ◌∷◌, ◌++◌, length}
+use Rattle.std.specs.BTreeMap.{BTreeMap}
 use Rattle.pw_obis.specs.declared.reference.Register.{Register}
 use Rattle.pw_tariff.specs.declared.ids.AccountId.{AccountId}
 use Rattle.pw_tariff.specs.declared.ids.Direction.TheVariants.{Import, Export}
@@ -22,6 +23,8 @@ use Rattle.pw_model.specs.Payments.{cents_for, topped_up}
 use Rattle.pw_model.specs.Shelf.{IsTrueContent, ShelfContent, total_among}
 use Rattle.pw_book.specs.Cost.{AreAssignmentsWith, AreReadingsWith, AreTopUps, HasPoints, HasStarts, IsAssignmentUpToNext, classes_of}
 use Rattle.pw_book.specs.Posting.{IsWithUpload}
+use Rattle.pw_parts.specs.declared.changes.Change.{Change}
+use Rattle.pw_book.specs.inner.Gathered.{IsTrueBut}
 use Rattle.pw_book.specs.inner.Moves.{MovesTotals}
 use Rattle.pw_book.specs.inner.Settling.{HavePoints}
 
@@ -40,18 +43,18 @@ IsKeyOf office (key.TopUp r) = Unit {0}
 IsKeyOf office (key.Withdrawal n) = Unit {0}
 
 -- from a list of records to those that are held: at a key this was told and that is; no content takes the place of another
--- at once, elsewhere the same counts, and top-ups follow what is told; points, starts and totals are still those of the list
-pub record IsJustChanged (office : OfficeRules) (s : List Entry) (k : Key) (before behind : Contents) (c : ShelfContent) : Type 0 where
+-- at once, elsewhere the same counts, and top-ups follow what is told
+pub record IsJustChanged (office : OfficeRules) (s : List Entry) (k : Key) (before behind : Contents) (held : List Entry) : Type 0 where
   pub was : before ≡ contents_at s k
-  pub is : behind ≡ contents_at c.records k
+  pub is : behind ≡ contents_at held k
   pub alike : (x y : Content) → before ≡ One x → behind ≡ One y → x ≡ y
-  pub points : (m : ℕ) (r : Register) (t : ℕ) → (reading_key m r t ≡ k → ⊥) → point (contents_at s) m r t ≡ point (contents_at c.records) m r t
-  pub starts : (m t : ℕ) → (assignment_key m t ≡ k → ⊥) → start (contents_at s) m t ≡ start (contents_at c.records) m t
-  pub paid : (a : ℕ) → topped_up c.records a + cents_for a before ≡ topped_up s a + cents_for a behind
+  pub points : (m : ℕ) (r : Register) (t : ℕ) → (reading_key m r t ≡ k → ⊥) → point (contents_at s) m r t ≡ point (contents_at held) m r t
+  pub starts : (m t : ℕ) → (assignment_key m t ≡ k → ⊥) → start (contents_at s) m t ≡ start (contents_at held) m t
+  pub paid : (a : ℕ) → topped_up held a + cents_for a before ≡ topped_up s a + cents_for a behind
   pub small : AllOfOffice office s
-  pub of_office : AllOfOffice office c.records
-  pub few : length c.records ≤ most_records
-  pub still : IsTrueOf office s c
+  pub fewer : length s ≤ most_records
+  pub of_office : AllOfOffice office held
+  pub few : length held ≤ most_records
 
 -- all is true again, of the same records
 pub record IsTrueAgain (office : OfficeRules) (old new : ShelfContent) : Type 0 where
@@ -70,10 +73,10 @@ IsPaid (Some b) None old new = MovesTotals (λ k. k ≡ TopUps b.0) (λ k. 0) (�
 IsPaid None None old new = new ≡ old
 IsPaid (Some b) (Some d) old new = new ≡ old
 
--- the records with an entry, and all that follows
-pub record IsPut (office : OfficeRules) (entries : List Entry) (old new : ShelfContent) : Type 0 where
+-- the records with an entry, and all that follows, but for what is gathered
+pub record IsPut (office : OfficeRules) (rows : BTreeMap TotalKey Change) (entries : List Entry) (old new : ShelfContent) : Type 0 where
   pub records : SameMembers new.records (old.records ++ entries)
-  pub truth : IsTrueContent office new
+  pub truth : IsTrueBut office rows new.records new
 
 -- ---- how many calls and rows an entry takes, beside so many
 abbrev pub TakesAtMost : ℕ → OfficeRules → ShelfContent → Key → ℕ → ℕ → Type 0

@@ -1,6 +1,6 @@
 -- Energy gathered by total. It serves `src/around.rt` and `src/window.rt`.
 -- (Definitions of this project.)
-use Rattle.std.specs.Prelude.{◌≡◌, ℕ, ◌+◌, Option, Some, None, List, ◌∷◌}
+use Rattle.std.specs.Prelude.{◌≡◌, ℕ, ◌+◌}
 use Rattle.std.specs.BTreeMap.{BTreeMap}
 use Rattle.pw_tariff.specs.Office.{OfficeRules}
 use Rattle.pw_model.specs.declared.records.Key.{Key}
@@ -11,11 +11,6 @@ use Rattle.pw_model.specs.Energy.{energy_where, of_class}
 use Rattle.pw_parts.specs.Changes.{gathered}
 use Rattle.pw_parts.specs.declared.changes.Change.{Change}
 use Rattle.pw_parts.specs.declared.changes.Side.TheVariants.{Loses, Gains}
-
--- a list of points, of which the middle one may be there or not
-abbrev pub point_listed : Option (ℕ × ℕ) → List (ℕ × ℕ) → List (ℕ × ℕ)
-point_listed None points = points
-point_listed (Some a) points = a ∷ points
 
 -- the energy of a total, where what counts is told by keys
 abbrev pub energy_told : OfficeRules → (Key → Contents) → TotalKey → ℕ

@@ -179,8 +179,8 @@ impl<S: Shelf> Book<S> {
         Ok(count_held(&mut self.shelf)?)
     }
 
-    // A shut book answers no question.
-    fn still_open(&self) -> Result<(), BookFault>
+    /// Whether the book answers questions: a shut one answers `Reopen`.
+    pub fn still_open(&self) -> Result<(), BookFault>
         ensures { MatchResult result (λ _. self.now.shut ≡ false) (λ fault. (self.now.shut ≡ true) × (fault ≡ BookFault.Reopen)) }
     {
         if self.shut {

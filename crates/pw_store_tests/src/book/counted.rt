@@ -83,15 +83,15 @@ fn assignment_cost(rt: &impl Abort, alloc: Global, number: u32) -> u64 {
     cost_of(rt, alloc, &held, fresh)
 }
 
-// The cost of a reading behind the last of one band, counted by hand: `count`, `holds`, `begin`, `contents_at`, `add`,
-// `contents_at` with its row, the start with its row, the point before with its row, none behind, a total with its row,
-// `total_put`, `point_put` and `commit`.
+// The cost of a reading behind the last of one band, counted by hand: `count`, `holds`, `begin`, `add`, `contents_at` with
+// its row, the start with its row, the point before with its row, none behind, `point_put`, a total with its row,
+// `total_put` and `commit`.
 // bears on: pw_book book.rt Book::post cost
 #[test]
 fn calls_and_rows_of_a_reading(rt: HostRuntime) {
     let fresh = reading(&rt, MIDDLE + 900, 1_300);
     let held = rising(&rt, rt.alloc(), MIDDLE, 3);
-    assert!(rt; cost_of(&rt, rt.alloc(), &held, fresh) == 17);
+    assert!(rt; cost_of(&rt, rt.alloc(), &held, fresh) == 16);
 }
 
 // bears on: pw_book book.rt Book::post cost

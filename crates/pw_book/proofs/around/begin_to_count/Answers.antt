@@ -1,16 +1,10 @@
 use Rattle.std.proofs.Common.{ap}
 use Rattle.std.proofs.lemmas.Result.{on_ok_weaker}
-use Rattle.pw_tariff.specs.Office.{office_of}
-use Rattle.pw_model.specs.Shelf.{ShelfContent}
-use Rattle.pw_book.proofs.Following.{settled-by}
 use Rattle.pw_book.proofs.around.begin_to_count.Goals as goal
 
-pub returns-clause-settled : goal.returns-clause-settled
-returns-clause-settled g c = λ k was is points starts more ends.
-    let second = c.point_put.ensures.written.kept.clean k in
-    let first = c.move_energies.ensures.kept.clean second in
+pub returns-clause-gathered : goal.returns-clause-gathered
+returns-clause-gathered g c = λ k was is points starts more ends.
+    let first = c.point_put.ensures.written.kept.clean k in
     let reading = c.args.reading.now in
-    let differ = c.in_ok-changes.ensures.around first was is (λ u n. ap (λ p. p reading.meter.0 reading.register u) points) (ap (λ p. p reading.meter.0) starts) more ends in
-    on_ok_weaker c.point_put.result (λ put.
-    settled-by (office_of c.args.basis.now.office.now) was is _ _ _ _ _ _ (c.in_ok-changes.ensures.same first) differ (c.in_ok-move_energies.ensures.moved second)
-    (ap (λ (d : ShelfContent). d.records) put) (λ t. ap (λ (d : ShelfContent). d.total t) put)) (c.point_put.ensures.put k)
+    on_ok_weaker c.point_put.result
+    (λ put. c.in_ok-weigh_around.ensures.around first was is (λ u n. ap (λ p. p reading.meter.0 reading.register u) points) (ap (λ p. p reading.meter.0) starts) more ends) (c.point_put.ensures.put k)

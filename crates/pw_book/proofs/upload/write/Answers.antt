@@ -2,8 +2,11 @@ use Rattle.std.proofs.Common.{refl, arith, ◌∙◌, inl, inr}
 use Rattle.std.proofs.lemmas.Result.{on_ok_weaker, on_err_weaker}
 use Rattle.pw_tariff.specs.Office.{office_of}
 use Rattle.pw_book.proofs.Chains.{kept-then, kept-none}
-use Rattle.pw_book.proofs.Joining.{joined-fresh, joined-none, joined-next, joined-room, joined-of_office, got-of_office, got-member, with-upload, subst-once}
-use Rattle.pw_book.proofs.Spending.{assignments-next, behind-next, behind-none, enough-next, enough-none, only-next, readings-next, several-next, top-ups-next, costs-so-far, costs-next}
+use Rattle.pw_model.proofs.SoundOffice.{sound-office}
+use Rattle.pw_book.proofs.Joining.{all-written, joined-fresh, joined-none, joined-next, joined-room, joined-of_office, got-of_office, got-member, with-upload}
+use Rattle.pw_book.proofs.Spending.{assignments-next, behind-next, behind-none, enough-next, enough-none, only-next, readings-next, several-next, top-ups-next, costs-less, costs-so-far, costs-next}
+use Rattle.pw_book.proofs.Truthful.{none-there}
+use Rattle.pw_book.proofs.Walking.{due-none}
 use Rattle.pw_book.proofs.upload.write.Goals as goal
 
 pub put-requires-clause-of_office : goal.put-requires-clause-of_office
@@ -11,48 +14,53 @@ put-requires-clause-of_office g c = got-of_office (office_of c.args.basis.now.of
 
 pub put-requires-clause-fresh : goal.put-requires-clause-fresh
 put-requires-clause-fresh g c = λ k.
-    joined-fresh (office_of c.args.basis.now.office.now) c.args.entries.now c.loop-entry.entry-index c.entry-item.result _ _ c.loop-entry-test.true c.entry-item.is (c.requires.fresh (c.loop-entry.invariant.kept.clean k)) (c.loop-entry.invariant.put k)
+    joined-fresh (office_of c.args.basis.now.office.now) c.args.entries.now c.loop-entry.entry-index c.entry-item.result (g.S.Shelf.state c.args.shelf.now).content (g.S.Shelf.state c.loop-entry.shelf).content c.loop-entry-test.true c.entry-item.is (c.requires.fresh (c.loop-entry.invariant.kept.clean k)) (c.loop-entry.invariant.put k).records
 
 pub put-requires-clause-room : goal.put-requires-clause-room
 put-requires-clause-room g c = λ k.
     let start = c.loop-entry.invariant.kept.clean k in
     let office = office_of c.args.basis.now.office.now in
     let so_far = c.loop-entry.invariant.put k in
-    joined-room office c.args.entries.now c.loop-entry.entry-index c.entry-item.result _ _ c.loop-entry-test.true c.entry-item.is so_far (g.met.S.Shelf.once c.loop-entry.shelf k) (c.requires.room start)
-    (joined-fresh office c.args.entries.now c.loop-entry.entry-index c.entry-item.result _ _ c.loop-entry-test.true c.entry-item.is (c.requires.fresh start) so_far)
+    joined-room office c.args.entries.now c.loop-entry.entry-index c.entry-item.result (g.S.Shelf.state c.args.shelf.now).content (g.S.Shelf.state c.loop-entry.shelf).content c.loop-entry-test.true c.entry-item.is so_far.records (g.met.S.Shelf.once c.loop-entry.shelf k) (c.requires.room start)
+    (joined-fresh office c.args.entries.now c.loop-entry.entry-index c.entry-item.result (g.S.Shelf.state c.args.shelf.now).content (g.S.Shelf.state c.loop-entry.shelf).content c.loop-entry-test.true c.entry-item.is (c.requires.fresh start) so_far.records)
 
 pub returns-in_err-put-clause-tally : goal.returns-in_err-put-clause-tally
 returns-in_err-put-clause-tally g c = λ k.
     let before = c.put.ensures.kept.clean k in
     let m = got-member (office_of c.args.basis.now.office.now) c.args.entries.now c.loop-entry.entry-index c.entry-item.result c.loop-entry-test.true c.entry-item.is in
-    costs-next (office_of c.args.basis.now.office.now) c.args.entries.now c.entry-item.result c.loop-entry.entry-index (g.S.Shelf.state c.args.shelf.now).content (g.S.Shelf.state c.loop-entry.shelf).content _ _ _ c.loop-entry-test.true m (c.loop-entry.invariant.start before) (c.loop-entry.invariant.readings before) (c.loop-entry.invariant.first before) (c.loop-entry.invariant.behind before) (c.loop-entry.invariant.assignments before) (c.loop-entry.invariant.enough before) (c.loop-entry.invariant.several before) (c.loop-entry.invariant.top_ups before) (c.put.ensures.tally k)
+    costs-less (office_of c.args.basis.now.office.now) c.args.entries.now _ _ _ _ (omega arith)
+    (costs-next (office_of c.args.basis.now.office.now) c.args.entries.now c.entry-item.result c.loop-entry.entry-index (g.S.Shelf.state c.args.shelf.now).content (g.S.Shelf.state c.loop-entry.shelf).content _ _ _ c.loop-entry-test.true m (c.loop-entry.invariant.start before) (c.loop-entry.invariant.readings before) (c.loop-entry.invariant.first before) (c.loop-entry.invariant.behind before) (c.loop-entry.invariant.assignments before) (c.loop-entry.invariant.enough before) (c.loop-entry.invariant.several before) (c.loop-entry.invariant.top_ups before) (c.put.ensures.tally k))
 
 pub loop-entry-init : goal.loop-entry-init
-loop-entry-init g c = record {
-  put = λ k. joined-none (office_of c.args.basis.now.office.now) _ _ refl (c.requires.truth k);
-  start = λ k starts a. refl;
-  readings = λ k starts a. omega arith;
-  first = λ k z. (refl, refl);
-  behind = λ k starts points a. behind-none c.args.entries.now _ _ starts points refl a;
-  assignment = λ k e starts points q a. omega arith;
-  assignments = λ k starts points a. omega arith;
-  enough = λ k most a left n. enough-none (office_of c.args.basis.now.office.now) c.args.entries.now _ _ most left refl n a;
-  several = λ k most a. omega arith;
-  top_ups = λ k a. omega arith;
-  kept = kept-none g.S.Shelf.state g.S.Shelf.left g.S.Shelf.clean g.S.Shelf.same_store g.met.S.Shelf.same_yet c.args.shelf.now;
-}
+loop-entry-init g c =
+    let owed = due-none (office_of c.args.basis.now.office.now) c.nothing_gathered-changes.result.rows.entries c.nothing_gathered-changes.ensures in
+    record {
+      few = λ side t. let none = none-there side c.nothing_gathered-changes.result.rows t c.nothing_gathered-changes.ensures in omega (arith, none);
+      put = λ k. joined-none (office_of c.args.basis.now.office.now) _ _ _ refl c.nothing_gathered-changes.ensures (c.requires.truth k);
+      start = λ k starts a. refl;
+      readings = λ k starts a. omega (arith, owed);
+      first = λ k z. (refl, omega (arith, owed));
+      behind = λ k starts points a. behind-none c.args.entries.now _ _ starts points refl a;
+      assignment = λ k e starts points q a. omega (arith, owed);
+      assignments = λ k starts points a. omega (arith, owed);
+      enough = λ k most a left n. enough-none (office_of c.args.basis.now.office.now) c.args.entries.now _ _ most left refl n a;
+      several = λ k most a. omega (arith, owed);
+      top_ups = λ k a. omega (arith, owed);
+      kept = kept-none g.S.Shelf.state g.S.Shelf.left g.S.Shelf.clean g.S.Shelf.same_store g.met.S.Shelf.same_yet c.args.shelf.now;
+    }
 
 pub loop-entry-preserved : goal.loop-entry-preserved
 loop-entry-preserved g c =
     let office = office_of c.args.basis.now.office.now in
     let m = got-member office c.args.entries.now c.loop-entry.entry-index c.entry-item.result c.loop-entry-test.true c.entry-item.is in
     record {
+      few = λ side t. (let a = c.loop-entry.invariant.few side t in let b = c.in_ok-put.ensures.few side t in omega (arith, a, b));
       put = λ k.
           let before = c.put.ensures.kept.clean k in
           let start = c.loop-entry.invariant.kept.clean before in
           let so_far = c.loop-entry.invariant.put before in
-          joined-next office c.args.entries.now c.loop-entry.entry-index c.entry-item.result _ _ _ c.loop-entry-test.true c.entry-item.is so_far
-          (c.in_ok-put.ensures.put k so_far.truth (joined-of_office office c.args.entries.now c.loop-entry.entry-index _ _ c.requires.of_office (c.requires.held start) so_far));
+          joined-next office _ _ c.args.entries.now c.loop-entry.entry-index c.entry-item.result _ _ _ c.loop-entry-test.true c.entry-item.is so_far
+          (c.in_ok-put.ensures.put k so_far.truth (joined-of_office office c.args.entries.now c.loop-entry.entry-index (g.S.Shelf.state c.args.shelf.now).content (g.S.Shelf.state c.loop-entry.shelf).content c.requires.of_office (c.requires.held start) so_far.records));
       start = λ k starts a. c.in_ok-put.ensures.start k (a c.entry-item.result m).0 ∙ c.loop-entry.invariant.start (c.put.ensures.kept.clean k) starts a;
       readings = λ k starts a.
           let before = c.put.ensures.kept.clean k in
@@ -80,23 +88,43 @@ loop-entry-preserved g c =
       kept = kept-then _ _ _ _ g.met.S.Shelf.same_then _ _ _ _ c.loop-entry.invariant.kept c.in_ok-put.ensures.kept;
     }
 
+-- what is gathered is written once, behind the last entry
+pub move_energies-requires-clause-few : goal.move_energies-requires-clause-few
+move_energies-requires-clause-few g c = λ side t. (let a = c.loop-entry.invariant.few side t in let l = c.loop-entry.auto.entry-index-end in omega (arith, a, l))
+
+pub returns-in_err-move_energies-clause-tally : goal.returns-in_err-move_energies-clause-tally
+returns-in_err-move_energies-clause-tally g c = λ k.
+    let before = c.move_energies.ensures.kept.clean k in
+    let t = c.move_energies.ensures.tally in
+    costs-so-far (office_of c.args.basis.now.office.now) c.args.entries.now c.loop-entry.entry-index _ _ _ _ c.loop-entry.auto.entry-index-end (c.loop-entry.invariant.readings before) (c.loop-entry.invariant.assignment before) (c.loop-entry.invariant.assignments before) (c.loop-entry.invariant.several before) (c.loop-entry.invariant.top_ups before) (omega (arith, t))
+
 pub returns-clause-posted : goal.returns-clause-posted
 returns-clause-posted g c = λ k.
-    let before = c.commit.ensures.cleanness k in
-    let l = c.loop-entry-test.false in
-    on_ok_weaker c.commit.result (λ same. with-upload (office_of c.args.basis.now.office.now) c.args.entries.now c.loop-entry.entry-index _ _ _ l c.loop-entry.auto.entry-index-end same (g.met.S.Shelf.once _ k) (c.loop-entry.invariant.put before)) (c.commit.ensures.same k)
+    let written = c.commit.ensures.cleanness k in
+    let before = c.move_energies.ensures.kept.clean written in
+    let start = c.loop-entry.invariant.kept.clean before in
+    let office = office_of c.args.basis.now.office.now in
+    let all = all-written office (sound-office c.args.basis.now.office.now c.requires.sound) _ c.args.entries.now c.loop-entry.entry-index _ _ _ c.loop-entry-test.false c.loop-entry.auto.entry-index-end c.requires.of_office (c.requires.held start) (c.requires.room start)
+    (g.met.S.Shelf.once _ before) (c.loop-entry.invariant.put before) (c.in_ok-move_energies.ensures.moved written) in
+    on_ok_weaker c.commit.result (λ same. with-upload office c.args.entries.now _ _ _ same all) (c.commit.ensures.same k)
 
 pub returns-clause-left : goal.returns-clause-left
 returns-clause-left g c = λ k.
-    let before = c.commit.ensures.cleanness k in
-    let l = c.loop-entry-test.false in
+    let written = c.commit.ensures.cleanness k in
+    let before = c.move_energies.ensures.kept.clean written in
+    let start = c.loop-entry.invariant.kept.clean before in
+    let office = office_of c.args.basis.now.office.now in
+    let all = all-written office (sound-office c.args.basis.now.office.now c.requires.sound) _ c.args.entries.now c.loop-entry.entry-index _ _ _ c.loop-entry-test.false c.loop-entry.auto.entry-index-end c.requires.of_office (c.requires.held start) (c.requires.room start)
+    (g.met.S.Shelf.once _ before) (c.loop-entry.invariant.put before) (c.in_ok-move_energies.ensures.moved written) in
     on_err_weaker c.commit.result (λ left d now. elim (left d now) [
-      | inl old ↦ inl (c.loop-entry.invariant.kept.left before d old)
-      | inr same ↦ inr (with-upload (office_of c.args.basis.now.office.now) c.args.entries.now c.loop-entry.entry-index _ _ d l c.loop-entry.auto.entry-index-end same (subst-once same (g.met.S.Shelf.once _ before)) (c.loop-entry.invariant.put before))
+      | inl old ↦ inl (c.loop-entry.invariant.kept.left before d (c.in_ok-move_energies.ensures.kept.left written d old))
+      | inr same ↦ inr (with-upload office c.args.entries.now _ _ d same all)
     ]) (c.commit.ensures.left k)
 
 pub returns-clause-tally : goal.returns-clause-tally
 returns-clause-tally g c = λ k.
-    let before = c.commit.ensures.cleanness k in
+    let written = c.commit.ensures.cleanness k in
+    let before = c.move_energies.ensures.kept.clean written in
     let t = c.commit.ensures.tally in
-    costs-so-far (office_of c.args.basis.now.office.now) c.args.entries.now c.loop-entry.entry-index _ _ _ _ c.loop-entry.auto.entry-index-end (c.loop-entry.invariant.readings before) (c.loop-entry.invariant.assignment before) (c.loop-entry.invariant.assignments before) (c.loop-entry.invariant.several before) (c.loop-entry.invariant.top_ups before) (omega (arith, t))
+    let m = c.move_energies.ensures.tally in
+    costs-so-far (office_of c.args.basis.now.office.now) c.args.entries.now c.loop-entry.entry-index _ _ _ _ c.loop-entry.auto.entry-index-end (c.loop-entry.invariant.readings before) (c.loop-entry.invariant.assignment before) (c.loop-entry.invariant.assignments before) (c.loop-entry.invariant.several before) (c.loop-entry.invariant.top_ups before) (omega (arith, t, m))

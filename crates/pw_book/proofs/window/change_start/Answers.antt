@@ -4,6 +4,7 @@ use Rattle.pw_tariff.specs.declared.ids.AccountId.{AccountId}
 use Rattle.pw_tariff.specs.Office.{office_of}
 use Rattle.pw_model.specs.Seconds.{ListsSeconds}
 use Rattle.pw_book.proofs.StartChanged.{start-changed, start-kept, start-settled, window-counted}
+use Rattle.pw_book.proofs.Walking.{due-most}
 use Rattle.pw_book.proofs.window.change_start.Goals as goal
 
 pub returns-clause-settled : goal.returns-clause-settled
@@ -49,7 +50,8 @@ returns-in_err-move_energies-clause-tally g c = λ k starts points h w.
     let read = window-counted _ _ c.args.meter.0 c.args.start c.until_next.result starts _ points c.deref.result.now c.deref-2.result.now c.in_ok-old.old.items _ _ _ (c.in_ok-old.ensures.asked.same first) (c.in_ok-old.ensures.rows first)
     c.deref.ensures.len c.deref.ensures.value c.deref-2.ensures.value c.until_next.ensures c.in_ok-old.ensures.asked.tally (c.weigh_window.ensures.tally second) h w in
     let moved = c.move_energies.ensures.tally in
-    omega (arith, read, moved)
+    let most = due-most (office_of c.args.basis.now.office.now) c.in_ok-changes.changes.rows.entries in
+    omega (arith, read, moved, most)
 
 pub returns-clause-tally : goal.returns-clause-tally
 returns-clause-tally g c = λ k starts points h w.
@@ -59,5 +61,6 @@ returns-clause-tally g c = λ k starts points h w.
     let read = window-counted _ _ c.args.meter.0 c.args.start c.until_next.result starts _ points c.deref.result.now c.deref-2.result.now c.in_ok-old.old.items _ _ _ (c.in_ok-old.ensures.asked.same first) (c.in_ok-old.ensures.rows first)
     c.deref.ensures.len c.deref.ensures.value c.deref-2.ensures.value c.until_next.ensures c.in_ok-old.ensures.asked.tally (c.weigh_window.ensures.tally second) h w in
     let moved = c.move_energies.ensures.tally in
+    let most = due-most (office_of c.args.basis.now.office.now) c.in_ok-changes.changes.rows.entries in
     let put = c.keep_start.ensures.tally in
-    omega (arith, read, moved, put)
+    omega (arith, read, moved, most, put)
