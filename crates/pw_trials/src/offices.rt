@@ -3,7 +3,7 @@
 use pw_model::Reference;
 use pw_obis::Register;
 use pw_tariff::{AccountId, BandId, Direction, MeterId, Office, Owners, PeriodId};
-use pw_time::{Clock, FIRST_SECOND, Instant, Zone};
+use pw_time::{Clock, FIRST_SECOND, Instant, WeekHour, Zone};
 
 // 2024-01-02T05:00:00Z, which is six o'clock on a Tuesday, and the hour behind it.
 const FIVE: u32 = 1_704_171_600;
@@ -55,7 +55,9 @@ fn is_priced(office: &Office) -> bool {
     if office.bands() != 2 || office.periods() != 2 {
         return false;
     }
+    let seven_on_tuesday = WeekHour { day: 1, hour: 7 };
     office.band(six, &Zone::central()) == BandId(1)
+        && office.band_of_hour(PeriodId(0), seven_on_tuesday) == BandId(1)
         && office.period(six) == PeriodId(1)
         && office.period_start(PeriodId(0)) == FIRST_SECOND
         && office.period_start(PeriodId(1)) == SIX

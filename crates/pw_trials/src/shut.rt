@@ -2,10 +2,12 @@
 
 use crate::posts::post;
 use crate::shelves::{book_over, payment};
+use pw_bills::{bill, days, energy_between, top_ups_between, why};
 use pw_book::{Book, BookFault, PostFault};
 use pw_report::{Page, Table, page_text};
 use pw_shelf::{CountShelf, MemoryShelf, Shelf};
-use pw_tariff::{AccountId, MeterId, Office};
+use pw_tariff::{AccountId, BandId, Direction, MeterId, Office, PeriodId};
+use pw_time::{END_SECOND, FIRST_SECOND, Instant};
 use std::alloc::Global;
 
 // The call of the store that fails: an upload of one record is begun by the third.
@@ -45,7 +47,10 @@ pub(crate) fn is_still_shut<S: Shelf>(alloc: Global, book: &mut Book<S>) -> bool
             return false;
         }
     }
-    book.count() == Err(BookFault::Reopen) && is_refused(alloc, book)
+    book.count() == Err(BookFault::Reopen)
+        && is_refused(alloc, book)
+        && are_bills_refused(alloc, book)
+        && are_energies_refused(alloc, book)
 }
 
 // Why there is no page of the office, if there is none.
@@ -59,4 +64,35 @@ fn fault_of<S: Shelf>(alloc: Global, book: &mut Book<S>, page: Page) -> Option<B
         return None;
     }
     page_text(book, alloc, page).err()
+}
+
+// So it answers the questions on an interval of time: those of bills, and those of energies.
+fn are_bills_refused<S: Shelf>(alloc: Global, book: &mut Book<S>) -> bool {
+    let (account, until) = (AccountId(0), END_SECOND);
+    match Instant::of(FIRST_SECOND) {
+        Some(from) if account.0 < book.office().accounts() => {
+            is_reopen(bill(book, alloc, account, from, until))
+                && is_reopen(why(book, alloc, account, from, until))
+                && is_reopen(top_ups_between(book, alloc, account, from, until))
+        }
+        _ => false,
+    }
+}
+
+fn are_energies_refused<S: Shelf>(alloc: Global, book: &mut Book<S>) -> bool {
+    let (account, until) = (AccountId(0), END_SECOND);
+    let (period, band, direction) = (PeriodId(0), BandId(0), Direction::Import);
+    match Instant::of(FIRST_SECOND) {
+        Some(from) => {
+            is_reopen(days(book, alloc, account, &[from], until))
+                && is_reopen(energy_between(
+                    book, alloc, account, period, band, direction, from, until,
+                ))
+        }
+        None => false,
+    }
+}
+
+fn is_reopen<T: Drop>(answer: Result<T, BookFault>) -> bool {
+    answer.err() == Some(BookFault::Reopen)
 }

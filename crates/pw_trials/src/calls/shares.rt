@@ -1,10 +1,11 @@
-//! The calls on owners over time, and on differences shared out. A start is written `INSTANT=OWNER`.
+//! The calls on owners over time, and on differences cut into pieces and shared out. A start is written
+//! `INSTANT=OWNER`.
 
 use crate::calls::asked::Asked;
 use crate::calls::names::{band_name, owner, owner_name};
 use crate::calls::words::{instant, wh};
-use pw_tariff::{Cell, Office, Owner, Owners, Span, apportion};
-use pw_time::Instant;
+use pw_tariff::{Cell, Office, Owner, Owners, Piece, Span, apportion, pieces_of};
+use pw_time::{Instant, write_utc};
 use std::alloc::Global;
 use std::io::Write;
 
@@ -20,6 +21,11 @@ pub(crate) fn answer<O: Write>(asked: &Asked<'_>, words: &[&str], out: &mut O) -
             let span = span_of([from, low, to, high])?;
             let starts = starts_of(asked.alloc, asked.office, rest)?;
             tell_shares(asked, &Owners::of(&starts)?, span, out)
+        }
+        ["pieces", from, low, to, high, rest @ ..] => {
+            let span = span_of([from, low, to, high])?;
+            let starts = starts_of(asked.alloc, asked.office, rest)?;
+            tell_pieces(asked, &Owners::of(&starts)?, span, out)
         }
         _ => None,
     }
@@ -74,4 +80,35 @@ pub(crate) fn tell_cell<O: Write>(office: &Office, cell: &Cell, out: &mut O) {
     } else {
         writeln!(out, "{owner} {band} {wh}")
     };
+}
+
+fn tell_pieces<O: Write>(
+    asked: &Asked<'_>,
+    owners: &Owners<'_>,
+    span: Span,
+    out: &mut O,
+) -> Option<()> {
+    if span.from.seconds() >= span.to.seconds() || span.low.get() > span.high.get() {
+        return None;
+    }
+    let pieces = pieces_of(asked.alloc, asked.office, asked.zone, owners, span).ok()?;
+    for piece in &pieces {
+        tell_piece(asked.office, piece, out);
+    }
+    Some(())
+}
+
+// Where a piece begins and ends, and what its owner gets of it.
+fn tell_piece<O: Write>(office: &Office, piece: &Piece, out: &mut O) {
+    for end in [piece.begin, piece.until] {
+        let _ = out.write_all(&write_utc(end));
+        let _ = out.write_all(b" ");
+    }
+    let cell = Cell {
+        owner: piece.owner,
+        period: piece.period,
+        band: piece.band,
+        wh: piece.wh,
+    };
+    tell_cell(office, &cell, out);
 }

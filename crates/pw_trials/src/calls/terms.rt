@@ -5,6 +5,7 @@ use crate::calls::names::{band_name, direction, meter_name, owner_name};
 use crate::calls::words::{instant, register};
 use pw_model::plain::{OfficeTerms, Terms};
 use pw_tariff::{BandId, MeterId, Office, PeriodId};
+use pw_time::WeekHour;
 use std::io::Write;
 
 pub(crate) fn answer<O: Write>(asked: &Asked<'_>, words: &[&str], out: &mut O) -> Option<()> {
@@ -28,6 +29,7 @@ pub(crate) fn answer<O: Write>(asked: &Asked<'_>, words: &[&str], out: &mut O) -
             let band = band_name(asked.office, terms.band(instant(at)?));
             let _ = writeln!(out, "{band}");
         }
+        ["band_of_hour", rest @ ..] => tell_band_of_hour(asked.office, rest, out)?,
         ["period", at] => {
             let period = terms.period(instant(at)?).0;
             let _ = writeln!(out, "{period}");
@@ -40,6 +42,22 @@ pub(crate) fn answer<O: Write>(asked: &Asked<'_>, words: &[&str], out: &mut O) -
         }
         _ => return None,
     }
+    Some(())
+}
+
+// The band of an hour of the week, told by a period, a weekday (0 is Monday) and an hour.
+fn tell_band_of_hour<O: Write>(office: &Office, words: &[&str], out: &mut O) -> Option<()> {
+    let [period, day, hour] = words else {
+        return None;
+    };
+    let period = PeriodId(period.parse::<u8>().ok()?);
+    let (day, hour) = (day.parse::<u8>().ok()?, hour.parse::<u8>().ok()?);
+    if period.0 >= office.periods() || day >= 7 || hour >= 24 {
+        return None;
+    }
+    let band = office.band_of_hour(period, WeekHour { day, hour });
+    let letter = band_name(office, band);
+    let _ = writeln!(out, "{letter}");
     Some(())
 }
 

@@ -3,12 +3,20 @@
 ghost use Rattle.std.specs.Prelude.{◌<◌};
 
 use pw_obis::{Register, WattHours};
-use pw_time::{Instant, utc};
+use pw_time::{END_SECOND, Instant, utc};
 use std::alloc::{AllocError, Global};
 
 /// An instant, as a text in UTC.
 pub(crate) fn instant(word: &str) -> Option<Instant> {
     utc(word.as_bytes()).ok()
+}
+
+/// The second at which an interval ends: an instant's, or by `end` the one behind all instants.
+pub(crate) fn end(word: &str) -> Option<u32> {
+    if word == "end" {
+        return Some(END_SECOND);
+    }
+    Some(instant(word)?.seconds())
 }
 
 pub(crate) fn wh(word: &str) -> Option<WattHours> {

@@ -1,0 +1,58 @@
+-- What registers, meters and an office give to stretches of time. It serves `src/points.rt` and `src/flows.rt`.
+-- (Definitions of this project.)
+use Rattle.std.specs.Prelude.{◌≡◌, ℕ, ◌+◌, ◌<◌, cond, Option, Some, None, List, [], ◌∷◌, length, slice_index}
+use Rattle.pw_obis.specs.declared.reference.Register.{Register}
+use Rattle.pw_tariff.specs.declared.ids.AccountId.{AccountId}
+use Rattle.pw_tariff.specs.Office.{OfficeFile, OfficeRules, counts_at}
+use Rattle.pw_model.specs.declared.records.Key.{Key}
+use Rattle.pw_model.specs.declared.records.Contents.{Contents}
+use Rattle.pw_model.specs.declared.records.TotalKey.{TotalKey}
+use Rattle.pw_model.specs.declared.records.TotalKey.TheVariants.{Energy, TopUps}
+use Rattle.pw_model.specs.Changes.{in_direction}
+use Rattle.pw_model.specs.Energy.{Asked, energy_where, meter_share, share_of}
+use Rattle.pw_months.specs.Between.{class_between}
+use Rattle.pw_months.specs.Window.{Spans}
+use Rattle.pw_bills.specs.Stretches.{end_of}
+
+-- ---- points
+-- no point at all, or a chain of points that covers the interval
+abbrev pub Covers : (ℕ → Option ℕ) → ℕ → ℕ → List (ℕ × ℕ) → Type 0
+Covers told x y [] = (s : ℕ) → told s ≡ None
+Covers told x y (a ∷ ps) = Spans told x y a ps
+
+-- ---- totals under the numbers of stretches
+-- the energy of a stretch
+abbrev pub IsOfStretch : List ℕ → TotalKey → Type 0
+IsOfStretch begins (Energy (Some i) p b d) = i.0 < length begins
+IsOfStretch begins (Energy None p b d) = ⊥
+IsOfStretch begins (TopUps a) = ⊥
+
+-- the seconds of a stretch with this account, period and band
+abbrev pub of_stretch : OfficeRules → AccountId → List ℕ → ℕ → ℕ → ℕ → ℕ → Asked
+of_stretch office a begins end i p b = class_between office (slice_index begins i) (end_of begins end i) (Some a) p b
+
+-- what a register gives
+abbrev pub register_between : OfficeRules → (Key → Contents) → AccountId → List ℕ → ℕ → ℕ → TotalKey → Register → ℕ
+register_between office at a begins end m (Energy (Some i) p b d) r =
+    in_direction d r (share_of office at (of_stretch office a begins end i.0 p.0 b.0) m r)
+register_between office at a begins end m (Energy None p b d) r = 0
+register_between office at a begins end m (TopUps o) r = 0
+
+-- what a meter gives
+abbrev pub meter_between : OfficeRules → (Key → Contents) → AccountId → List ℕ → ℕ → TotalKey → ℕ → ℕ
+meter_between office at a begins end (Energy (Some i) p b d) m =
+    meter_share office at d (of_stretch office a begins end i.0 p.0 b.0) m
+meter_between office at a begins end (Energy None p b d) m = 0
+meter_between office at a begins end (TopUps o) m = 0
+
+-- what all meters give
+abbrev pub all_between : OfficeRules → (Key → Contents) → AccountId → List ℕ → ℕ → TotalKey → ℕ
+all_between office at a begins end (Energy (Some i) p b d) =
+    energy_where office at d (of_stretch office a begins end i.0 p.0 b.0)
+all_between office at a begins end (Energy None p b d) = 0
+all_between office at a begins end (TopUps o) = 0
+
+-- ---- how much is read
+-- for a register that counts: three calls, a neighbour at both sides, and the points between
+abbrev pub register_reads : OfficeFile → ℕ → (Register → ℕ) → Register → ℕ
+register_reads file m each r = cond (counts_at file m r) 5 0 + each r

@@ -1,0 +1,149 @@
+//! The energies of an account in stretches of time.
+
+ghost use Rattle.std.specs.Prelude.{◌≡◌, ℕ, ◌+◌, ◌-◌, ◌<◌, ◌≤◌, ◌^◌, min, Some, IfOk, IsNone, length};
+ghost use Rattle.pw_time.specs.declared.instant.TheConstants.{FIRST_SECOND, END_SECOND};
+ghost use Rattle.pw_tariff.specs.Office.{office_of};
+ghost use Rattle.pw_model.specs.Office.{AllOfOffice, most_records};
+ghost use Rattle.pw_model.specs.Shelf.{IsTrueContent};
+ghost use Rattle.pw_shelf.specs.Calls.{failures_told};
+ghost use Rattle.pw_book.specs.Asking.{IsOnlyAsked};
+ghost use Rattle.pw_book.specs.Cost.{RisesAtMost};
+ghost use Rattle.pw_book.specs.Questions.{IsQuestion};
+ghost use Rattle.pw_months.specs.Between.{energy_between as energy_of};
+ghost use Rattle.pw_bills.specs.Energies.{TellsEnergies, energy_told};
+ghost use Rattle.pw_bills.specs.Reads.{AreEnoughFor, all_meters};
+ghost use Rattle.pw_bills.specs.Stretches.{AreStretches, first_of};
+
+use crate::flows::flows;
+use crate::stretches::Stretches;
+use pw_book::{Basis, Book, BookFault};
+use pw_model::TotalKey;
+use pw_parts::{Change, Changes};
+use pw_shelf::{Shelf, ShelfFault};
+use pw_tariff::{AccountId, BandId, Direction, PeriodId};
+use pw_time::Instant;
+use std::alloc::Global;
+
+/// The energies of an account in stretches of time, in each period, band and direction.
+#[derive(Drop)]
+pub struct Energies {
+    // what flows, with the number of a stretch in the place of an account's
+    changes: Changes,
+}
+
+impl Energies {
+    /// The energy in a stretch, by its number from 0, in Wh.
+    pub fn wh(&self, stretch: u16, period: PeriodId, band: BandId, direction: Direction) -> u64
+        ensures { result ≡ energy_told self.now stretch period band direction }
+    {
+        let key = TotalKey::Energy {
+            owner: Some(AccountId(stretch)),
+            period,
+            band,
+            direction,
+        };
+        match self.changes.rows.get(&key) {
+            Some(change) => capped(change),
+            None => 0,
+        }
+    }
+}
+
+// What a total gains, where a word holds it. (Only over a store that isn't clean it can be more.)
+fn capped(change: &Change) -> u64
+    ensures { result ≡ min change.now.more (2 ^ 64 - 1) }
+{
+    change.more.min(u128::from(u64::MAX)) as u64
+}
+
+/// The energy of an account in a band within a period, in Wh, of the direction, from an instant on
+/// and up to and without a later second, by the records held.
+///
+/// A difference between two readings is shared out whole, by the seconds between them, also where
+/// it reaches over the begin or the end. As with each question to a book, `Device`, `Memory` and
+/// `Reopen` (of a shut book) leave the records as they are. It asks for an end that isn't behind
+/// that of all instants.
+pub fn energy_between<S: Shelf>(
+    book: &mut Book<S>,
+    alloc: Global,
+    account: AccountId,
+    period: PeriodId,
+    band: BandId,
+    direction: Direction,
+    from: Instant,
+    until: u32,
+) -> Result<u64, BookFault>
+    requires later { from < until }
+    requires ended { until ≤ END_SECOND }
+    ensures energy { S.clean book.new.shelf → IfOk result (λ wh. wh ≡ energy_of (office_of book.old.office) (S.state book.old.shelf).content.records (Some account) period.0 band.0 direction from until) }
+    ensures cost { S.clean book.new.shelf → (most : ℕ → ℕ) → AreEnoughFor (office_of book.old.office) (S.state book.old.shelf).content account.0 from until most → RisesAtMost (all_meters (office_of book.old.office) most) (S.state book.old.shelf).tally (S.state book.new.shelf).tally }
+    ensures question { IsQuestion S.Shelf result book.old book.new }
+{
+    let begins = [from];
+    let energies = days(book, alloc, account, &begins, until)?;
+    Ok(energies.wh(0, period, band, direction))
+}
+
+/// The energies of an account on days, or in other stretches of time one behind another, by the
+/// records held: each from its begin on, up to and without that of the next; the last one up to and
+/// without an end.
+///
+/// It asks for one stretch to 65,536, of a second or more each, and for an end that isn't behind
+/// that of all instants. It takes no more calls of the store than one stretch of the whole time
+/// would.
+pub fn days<S: Shelf>(
+    book: &mut Book<S>,
+    alloc: Global,
+    account: AccountId,
+    begins: &[Instant],
+    end: u32,
+) -> Result<Energies, BookFault>
+    requires { AreStretches begins.now end }
+    ensures energies { S.clean book.new.shelf → IfOk result (λ energies. TellsEnergies (office_of book.old.office) (S.state book.old.shelf).content.records account begins.now end energies) }
+    ensures cost { S.clean book.new.shelf → (most : ℕ → ℕ) → AreEnoughFor (office_of book.old.office) (S.state book.old.shelf).content account.0 (first_of begins.now end) end most → RisesAtMost (all_meters (office_of book.old.office) most) (S.state book.old.shelf).tally (S.state book.new.shelf).tally }
+    ensures question { IsQuestion S.Shelf result book.old book.new }
+{
+    book.still_open()?;
+    let basis = Basis {
+        alloc,
+        office: &book.office,
+        zone: &book.zone,
+    };
+    let last = last_before(begins[0], end);
+    let stretches = Stretches {
+        account,
+        begins,
+        last,
+    };
+    let energies = energies_held(&mut book.shelf, &basis, &stretches)?;
+    Ok(energies)
+}
+
+// The last instant before a second that is behind an instant.
+pub(crate) fn last_before(from: Instant, until: u32) -> Instant
+    requires later { from < until }
+    requires ended { until ≤ END_SECOND }
+    ensures { result + 1 ≡ until }
+{
+    let _begun = from.seconds();
+    Instant::of(until - 1).unwrap()
+}
+
+// The energies of an account in stretches of time.
+fn energies_held<S: Shelf>(
+    shelf: &mut S,
+    basis: &Basis,
+    stretches: &Stretches,
+) -> Result<Energies, ShelfFault>
+    requires idle { IsNone (S.state shelf.old).begun }
+    requires stretches { AreStretches stretches.now.begins.now (stretches.now.last + 1) }
+    requires few { S.clean shelf.old → length (S.state shelf.old).content.records ≤ most_records }
+    requires of_office { S.clean shelf.old → AllOfOffice (office_of basis.now.office.now) (S.state shelf.old).content.records }
+    requires truth { S.clean shelf.old → IsTrueContent (office_of basis.now.office.now) (S.state shelf.old).content }
+    ensures energies { S.clean shelf.new → IfOk result (λ energies. TellsEnergies (office_of basis.now.office.now) (S.state shelf.old).content.records stretches.now.account stretches.now.begins.now (stretches.now.last + 1) energies) }
+    ensures tally { S.clean shelf.new → (most : ℕ → ℕ) → AreEnoughFor (office_of basis.now.office.now) (S.state shelf.old).content stretches.now.account.0 (first_of stretches.now.begins.now (stretches.now.last + 1)) (stretches.now.last + 1) most → (S.state shelf.new).tally ≤ (S.state shelf.old).tally + all_meters (office_of basis.now.office.now) most }
+    ensures asked { IsOnlyAsked S.Shelf (failures_told result) shelf.old shelf.new }
+{
+    let changes = flows(shelf, basis, stretches)?;
+    Ok(Energies { changes })
+}

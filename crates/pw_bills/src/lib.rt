@@ -1,0 +1,26 @@
+//! Questions to a book on the time between two instants: what an account uses, pays and is topped
+//! up in it.
+#![tactic(auto)]
+
+mod asked;
+mod billed;
+mod billing;
+mod energies;
+mod flows;
+mod payments;
+mod pieces;
+mod points;
+mod readings;
+mod reasons;
+mod stretches;
+mod within;
+
+pub use billed::Bill;
+pub use billing::bill;
+pub use energies::{Energies, days, energy_between};
+pub use payments::{TopUpRow, top_ups_between};
+pub use pw_book::{Book, BookFault, Reference};
+pub use pw_tariff::{AccountId, BandId, Direction, PeriodId};
+pub use pw_time::Instant;
+pub use readings::{LastReading, read_up_to};
+pub use reasons::{WhyPiece, why};

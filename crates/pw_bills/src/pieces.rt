@@ -1,0 +1,96 @@
+//! The rows of why that neighbouring readings give.
+
+ghost use Rattle.std.specs.Prelude.{◌≡◌, ◌<◌, ◌≤◌, ◌++◌, IfOk, OnOk, map};
+ghost use Rattle.std.specs.List.{filter};
+ghost use Rattle.pw_model.specs.Lists.{IsInOrder};
+ghost use Rattle.pw_model.specs.Seconds.{by_second};
+ghost use Rattle.pw_bills.specs.inner.Rows.{Adds, GivenBetween, GivenByPoints, gives, why_of};
+
+use crate::reasons::WhyPiece;
+use crate::within::is_account;
+use pw_book::Basis;
+use pw_obis::Register;
+use pw_parts::Point;
+use pw_tariff::{AccountId, MeterId, Owners, Piece, Span, pieces_of};
+use std::alloc::AllocError;
+
+// Adds the rows of a register: what the neighbouring pairs of its points give the account, under
+// these owners.
+pub(crate) fn add_points(
+    basis: &Basis,
+    owners: &Owners,
+    account: AccountId,
+    meter: MeterId,
+    register: Register,
+    points: &[Point],
+    rows: &mut Vec<WhyPiece>,
+) -> Result<(), AllocError>
+    ensures { IsInOrder by_second points.now → OnOk result (Adds (GivenByPoints basis.now.office.now owners.now account meter register points.now) rows.old.items rows.new.items) }
+{
+    for pair in points.windows(2) {
+        add_pair(
+            basis, owners, account, meter, register, pair[0], pair[1], rows,
+        )?;
+    }
+    Ok(())
+}
+
+// Adds the rows of a pair of points: none where the later shows less.
+fn add_pair(
+    basis: &Basis,
+    owners: &Owners,
+    account: AccountId,
+    meter: MeterId,
+    register: Register,
+    from: Point,
+    to: Point,
+    rows: &mut Vec<WhyPiece>,
+) -> Result<(), AllocError>
+    ensures { from.0 < to.0 → OnOk result (Adds (GivenBetween basis.now.office.now owners.now account meter register from to) rows.old.items rows.new.items) }
+{
+    if to.0 <= from.0 {
+        return Ok(());
+    }
+    if to.1.get() < from.1.get() {
+        return Ok(());
+    }
+    let span = Span {
+        from: from.0,
+        to: to.0,
+        low: from.1,
+        high: to.1,
+    };
+    let pieces = pieces_of(basis.alloc, basis.office, basis.zone, owners, span)?;
+    add_pieces(account, meter, register, &span, &pieces, rows)
+}
+
+// Adds a row for each piece that gives the account something.
+fn add_pieces(
+    account: AccountId,
+    meter: MeterId,
+    register: Register,
+    span: &Span,
+    pieces: &[Piece],
+    rows: &mut Vec<WhyPiece>,
+) -> Result<(), AllocError>
+    ensures { OnOk result (rows.new.items ≡ rows.old.items ++ map (why_of meter register span.now) (filter (gives account) pieces.now)) }
+{
+    for piece in pieces {
+        if gives_account(piece, account) {
+            rows.push(WhyPiece {
+                meter,
+                register,
+                span: *span,
+                piece: *piece,
+            })?;
+        }
+    }
+    Ok(())
+}
+
+// Whether a piece gives the account something.
+fn gives_account(piece: &Piece, account: AccountId) -> bool
+    ensures { result ≡ gives account piece.now }
+{
+    is_account(piece.owner, account) && piece.wh > 0
+}

@@ -1,0 +1,12 @@
+pub mod Shared
+pub mod Cents
+pub mod BillSums
+pub mod InTime
+pub mod WorkedBill
+pub mod CutOffice
+pub mod RowSums
+pub mod Windows
+pub mod WorkedRows
+pub mod ListedTopUps
+pub mod Told
+pub mod PieceRows

@@ -1,0 +1,186 @@
+//! What a book answers on the time between two instants.
+
+use crate::calls::asked::Asked;
+use crate::calls::names::{band_name, meter_name};
+use crate::calls::stretches::{Interval, Stretches};
+use pw_bills::{TopUpRow, WhyPiece, bill, days, energy_between, top_ups_between, why};
+use pw_book::{Book, BookFault};
+use pw_shelf::Shelf;
+use pw_tariff::{BandId, Direction, Office, PeriodId};
+use std::alloc::{AllocError, Global};
+use std::io::Write;
+use std::str::from_utf8;
+
+/// Of which energies: of a period, a band and a direction.
+#[derive(Clone, Copy)]
+pub(crate) struct Class {
+    pub(crate) period: PeriodId,
+    pub(crate) band: BandId,
+    pub(crate) direction: Direction,
+}
+
+/// Tells the balances and what was topped up between them, and the energies above 0.
+pub(crate) fn tell_bill<O: Write, S: Shelf>(
+    asked: &Asked<'_>,
+    book: &mut Book<S>,
+    interval: &Interval,
+    out: &mut O,
+) -> Result<(), BookFault> {
+    if interval.account.0 >= book.office().accounts() {
+        return Ok(());
+    }
+    let classes = classes_of(asked.alloc, asked.office)?;
+    let bill = bill(
+        book,
+        asked.alloc,
+        interval.account,
+        interval.from,
+        interval.until,
+    )?;
+    let (begin, topped_up, end) = (bill.begin, bill.topped_up, bill.end);
+    let _ = writeln!(out, "begin {begin} topped {topped_up} end {end}");
+    for class in &classes {
+        let wh = bill.wh(class.period, class.band, class.direction);
+        tell_class(asked.office, *class, wh, out);
+    }
+    Ok(())
+}
+
+/// Tells the energies above 0 of each stretch of time, behind its number.
+pub(crate) fn tell_days<O: Write, S: Shelf>(
+    asked: &Asked<'_>,
+    book: &mut Book<S>,
+    stretches: &Stretches,
+    out: &mut O,
+) -> Result<(), BookFault> {
+    let classes = classes_of(asked.alloc, asked.office)?;
+    let energies = days(
+        book,
+        asked.alloc,
+        stretches.account,
+        &stretches.begins,
+        stretches.end,
+    )?;
+    for number in 0..stretches.begins.len() {
+        for class in &classes {
+            let wh = energies.wh(number as u16, class.period, class.band, class.direction);
+            tell_class_of(asked.office, number, *class, wh, out);
+        }
+    }
+    Ok(())
+}
+
+/// Tells one energy.
+pub(crate) fn tell_energy<O: Write, S: Shelf>(
+    asked: &Asked<'_>,
+    book: &mut Book<S>,
+    interval: &Interval,
+    class: Class,
+    out: &mut O,
+) -> Result<(), BookFault> {
+    let wh = energy_between(
+        book,
+        asked.alloc,
+        interval.account,
+        class.period,
+        class.band,
+        class.direction,
+        interval.from,
+        interval.until,
+    )?;
+    let _ = writeln!(out, "{wh}");
+    Ok(())
+}
+
+/// Tells the pieces that gave something.
+pub(crate) fn tell_why<O: Write, S: Shelf>(
+    asked: &Asked<'_>,
+    book: &mut Book<S>,
+    interval: &Interval,
+    out: &mut O,
+) -> Result<(), BookFault> {
+    let pieces = why(
+        book,
+        asked.alloc,
+        interval.account,
+        interval.from,
+        interval.until,
+    )?;
+    for piece in &pieces {
+        tell_piece(asked.office, piece, out);
+    }
+    Ok(())
+}
+
+/// Tells the top-ups that count.
+pub(crate) fn tell_top_ups<O: Write, S: Shelf>(
+    asked: &Asked<'_>,
+    book: &mut Book<S>,
+    interval: &Interval,
+    out: &mut O,
+) -> Result<(), BookFault> {
+    let rows = top_ups_between(
+        book,
+        asked.alloc,
+        interval.account,
+        interval.from,
+        interval.until,
+    )?;
+    for row in &rows {
+        tell_row(row, out);
+    }
+    Ok(())
+}
+
+// All periods, bands and directions of an office.
+fn classes_of(alloc: Global, office: &Office) -> Result<Vec<Class>, AllocError> {
+    let mut classes = Vec::new(alloc);
+    for period in 0..office.periods() {
+        for band in office.band_ids() {
+            for direction in [Direction::Import, Direction::Export] {
+                classes.push(Class {
+                    period: PeriodId(period),
+                    band,
+                    direction,
+                })?;
+            }
+        }
+    }
+    Ok(classes)
+}
+
+fn tell_class_of<O: Write>(office: &Office, number: usize, class: Class, wh: u64, out: &mut O) {
+    if wh > 0 {
+        let _ = write!(out, "{number} ");
+        tell_class(office, class, wh, out);
+    }
+}
+
+fn tell_class<O: Write>(office: &Office, class: Class, wh: u64, out: &mut O) {
+    if wh > 0 {
+        let (period, band) = (class.period.0, band_name(office, class.band));
+        let direction = class.direction.name();
+        let _ = writeln!(out, "{period} {band} {direction} {wh}");
+    }
+}
+
+// A meter and a register, the two readings, where the piece begins and ends, and what it gives.
+fn tell_piece<O: Write>(office: &Office, why: &WhyPiece, out: &mut O) {
+    let (meter, register) = (meter_name(office, why.meter), why.register.name());
+    let (from, low, to, high) = (
+        why.span.from,
+        why.span.low.get(),
+        why.span.to,
+        why.span.high.get(),
+    );
+    let _ = write!(out, "{meter} {register} {from} {low} {to} {high} ");
+    let (begin, until, wh) = (why.piece.begin, why.piece.until, why.piece.wh);
+    let (period, band) = (why.piece.period.0, band_name(office, why.piece.band));
+    let _ = writeln!(out, "{begin} {until} {period} {band} {wh}");
+}
+
+fn tell_row<O: Write>(row: &TopUpRow, out: &mut O) {
+    let reference = from_utf8(row.reference.bytes()).unwrap_or("-");
+    let (cents, instant) = (row.cents, row.instant);
+    let _ = writeln!(out, "{reference} {cents} {instant}");
+}
