@@ -4,6 +4,7 @@ use Rattle.pw_tariff.specs.Office.{office_of}
 use Rattle.pw_book.proofs.Chains.{kept-then, kept-none}
 use Rattle.pw_model.proofs.SoundOffice.{sound-office}
 use Rattle.pw_book.proofs.Joining.{all-written, joined-fresh, joined-none, joined-next, joined-room, joined-of_office, got-of_office, got-member, with-upload}
+use Rattle.pw_book.proofs.Known.{none-known}
 use Rattle.pw_book.proofs.Spending.{assignments-next, behind-next, behind-none, enough-next, enough-none, only-next, readings-next, several-next, top-ups-next, costs-less, costs-so-far, costs-next}
 use Rattle.pw_book.proofs.Truthful.{none-there}
 use Rattle.pw_book.proofs.Walking.{due-none}
@@ -33,10 +34,11 @@ returns-in_err-put-clause-tally g c = λ k.
 
 pub loop-entry-init : goal.loop-entry-init
 loop-entry-init g c =
-    let owed = due-none (office_of c.args.basis.now.office.now) c.nothing_gathered-changes.result.rows.entries c.nothing_gathered-changes.ensures in
+    let owed = due-none (office_of c.args.basis.now.office.now) c.nothing_gathered-so_far.result.changes.rows.entries c.nothing_gathered-so_far.ensures.changes in
     record {
-      few = λ side t. let none = none-there side c.nothing_gathered-changes.result.rows t c.nothing_gathered-changes.ensures in omega (arith, none);
-      put = λ k. joined-none (office_of c.args.basis.now.office.now) _ _ _ refl c.nothing_gathered-changes.ensures (c.requires.truth k);
+      few = λ side t. let none = none-there side c.nothing_gathered-so_far.result.changes.rows t c.nothing_gathered-so_far.ensures.changes in omega (arith, none);
+      put = λ k. joined-none (office_of c.args.basis.now.office.now) _ _ _ refl c.nothing_gathered-so_far.ensures.changes (c.requires.truth k);
+      known = λ k. none-known _ c.nothing_gathered-so_far.result.known c.nothing_gathered-so_far.ensures.known;
       start = λ k starts a. refl;
       readings = λ k starts a. omega (arith, owed);
       first = λ k z. (refl, omega (arith, owed));
@@ -61,6 +63,7 @@ loop-entry-preserved g c =
           let so_far = c.loop-entry.invariant.put before in
           joined-next office _ _ c.args.entries.now c.loop-entry.entry-index c.entry-item.result _ _ _ c.loop-entry-test.true c.entry-item.is so_far
           (c.in_ok-put.ensures.put k so_far.truth (joined-of_office office c.args.entries.now c.loop-entry.entry-index (g.S.Shelf.state c.args.shelf.now).content (g.S.Shelf.state c.loop-entry.shelf).content c.requires.of_office (c.requires.held start) so_far.records));
+      known = λ k. c.in_ok-put.ensures.known k;
       start = λ k starts a. c.in_ok-put.ensures.start k (a c.entry-item.result m).0 ∙ c.loop-entry.invariant.start (c.put.ensures.kept.clean k) starts a;
       readings = λ k starts a.
           let before = c.put.ensures.kept.clean k in
