@@ -1,6 +1,6 @@
 //! What an upload has gathered so far: what energies lose and gain, not yet written, and the starts that it knows.
 
-ghost use Rattle.std.specs.Prelude.{◌≡◌, ℕ, ◌+◌, ◌≤◌, [], None, OnOk, IsSome};
+ghost use Rattle.std.specs.Prelude.{◌≡◌, ℕ, ◌+◌, ◌≤◌, [], None, OnOk};
 ghost use Rattle.pw_model.specs.Seconds.{ListsSeconds};
 ghost use Rattle.pw_shelf.specs.Calls.{GoesOn, failures_told};
 ghost use Rattle.pw_book.specs.Cost.{HasStarts};
@@ -50,8 +50,7 @@ pub(crate) fn know_starts<S: Shelf>(
     meter: MeterId,
     known: &mut KnownStarts,
 ) -> Result<(), ShelfFault>
-    requires begun { IsSome (S.state shelf.old).begun }
-    requires known { S.clean shelf.old → AreKnown (S.state shelf.old).content.start known.old }
+    requires { S.clean shelf.old → AreKnown (S.state shelf.old).content.start known.old }
     ensures starts { S.clean shelf.new → OnOk result (ListsSeconds ((S.state shelf.old).content.start meter.0) known.new.starts.items) }
     ensures known { S.clean shelf.new → OnOk result (AreKnown (S.state shelf.new).content.start known.new) }
     ensures same { S.clean shelf.new → OnOk result ((S.state shelf.new).content ≡ (S.state shelf.old).content) }

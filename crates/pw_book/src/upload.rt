@@ -1,20 +1,17 @@
 //! One upload to a shelf, written and committed, or taken back.
 
-ghost use Rattle.std.specs.Prelude.{◌≡◌, ◌+◌, ◌<◌, ◌≤◌, ◌^◌, ◌++◌, [], ◌∷◌, None, Some, OnOk, OnErr, IsErrOf, IsNone, IsSome, length};
+ghost use Rattle.std.specs.Prelude.{◌≡◌, ◌+◌, ◌<◌, ◌≤◌, ◌^◌, [], ◌∷◌, None, Some, OnOk, OnErr, IsErrOf, IsNone, IsSome, length};
 ghost use Rattle.pw_model.specs.declared.records.TotalKey.{TotalKey as AnyTotal};
 ghost use Rattle.pw_model.specs.Bearing.{bears_on};
 ghost use Rattle.pw_model.specs.Counting.{Member};
 ghost use Rattle.pw_model.specs.Kinds.{IsReading};
-ghost use Rattle.pw_model.specs.Lists.{record_count};
 ghost use Rattle.pw_model.specs.Office.{AllOfOffice, IsOfOffice, most_records};
-ghost use Rattle.pw_model.specs.Shelf.{IsTrueContent};
 ghost use Rattle.pw_shelf.specs.Left.{LeavesOnly};
 ghost use Rattle.pw_shelf.specs.Calls.{GoesOn, failures_told};
 ghost use Rattle.pw_shelf.specs.State.{CountsFailures};
 ghost use Rattle.pw_tariff.specs.Office.{IsSound, office_of};
 ghost use Rattle.pw_book.specs.Posting.{IsWithUpload};
-ghost use Rattle.pw_book.specs.inner.Added.{ChangesOneKey, CostsAtMost, IsPut, LeavesWithUpload, TakesAtMost};
-ghost use Rattle.pw_book.specs.inner.Fresh.{AreFresh};
+ghost use Rattle.pw_book.specs.inner.Added.{ChangesOneKey, CostsAtMost, IsPut, LeavesWithUpload, MayBeAdded, TakesAtMost};
 ghost use Rattle.pw_book.specs.inner.Failures.{FailuresUploaded};
 ghost use Rattle.pw_book.specs.inner.Gathered.{AreKnown, IsTrueBut, due};
 ghost use Rattle.pw_parts.specs.Changes.{gathered};
@@ -39,10 +36,7 @@ pub(crate) fn upload<S: Shelf>(
     requires idle { IsNone (S.state shelf.old).begun }
     requires sound { IsSound basis.now.office.now }
     requires of_office { AllOfOffice (office_of basis.now.office.now) entries.now }
-    requires fresh { S.clean shelf.old → AreFresh (S.state shelf.old).content.records entries.now }
-    requires room { S.clean shelf.old → record_count ((S.state shelf.old).content.records ++ entries.now) ≤ most_records }
-    requires truth { S.clean shelf.old → IsTrueContent (office_of basis.now.office.now) (S.state shelf.old).content }
-    requires held { S.clean shelf.old → AllOfOffice (office_of basis.now.office.now) (S.state shelf.old).content.records }
+    requires ready { S.clean shelf.old → MayBeAdded (office_of basis.now.office.now) entries.now (S.state shelf.old).content }
     ensures posted { S.clean shelf.new → OnOk result (IsWithUpload (office_of basis.now.office.now) entries.now (S.state shelf.old).content (S.state shelf.new).content) }
     ensures back { S.clean shelf.new → OnErr result ((IsErrOf result Reopen → ⊥) → (S.state shelf.new).content ≡ (S.state shelf.old).content) }
     ensures idle { (IsErrOf result Reopen → ⊥) → IsNone (S.state shelf.new).begun }
@@ -73,10 +67,7 @@ fn write<S: Shelf>(shelf: &mut S, basis: &Basis, entries: &[Entry]) -> Result<()
     requires begun { IsSome (S.state shelf.old).begun }
     requires sound { IsSound basis.now.office.now }
     requires of_office { AllOfOffice (office_of basis.now.office.now) entries.now }
-    requires fresh { S.clean shelf.old → AreFresh (S.state shelf.old).content.records entries.now }
-    requires room { S.clean shelf.old → record_count ((S.state shelf.old).content.records ++ entries.now) ≤ most_records }
-    requires truth { S.clean shelf.old → IsTrueContent (office_of basis.now.office.now) (S.state shelf.old).content }
-    requires held { S.clean shelf.old → AllOfOffice (office_of basis.now.office.now) (S.state shelf.old).content.records }
+    requires ready { S.clean shelf.old → MayBeAdded (office_of basis.now.office.now) entries.now (S.state shelf.old).content }
     ensures posted { S.clean shelf.new → OnOk result (IsWithUpload (office_of basis.now.office.now) entries.now (S.state shelf.old).content (S.state shelf.new).content) }
     ensures ended { OnOk result ((S.state shelf.new).begun ≡ None) }
     ensures begun { OnErr result ((S.state shelf.new).begun ≡ (S.state shelf.old).begun) }
