@@ -1,5 +1,5 @@
 -- The disputes of all keys, those of one kind behind those of another.
-use Rattle.std.proofs.Common.{◌≡◌, ℕ, ◌+◌, ◌*◌, ◌<◌, ◌≤◌, ◌^◌, List, [], ◌∷◌, ◌++◌, ◌↔◌, length, refl, ap, sym, ◌∙◌, subst, inl, inr, arith, Less}
+use Rattle.std.proofs.Common.{◌≡◌, ℕ, ◌+◌, ◌*◌, ◌<◌, ◌≤◌, ◌^◌, List, [], ◌∷◌, ◌↔◌, length, refl, ap, sym, ◌∙◌, subst, inl, inr, arith, Less}
 use Rattle.pw_obis.specs.declared.reference.Register.{Register}
 use Rattle.pw_tariff.specs.declared.ids.MeterId.{MeterId}
 use Rattle.pw_tariff.specs.Office.{OfficeRules, register_place}
@@ -11,15 +11,15 @@ use Rattle.pw_model.specs.declared.records.Content.TheVariants as content
 use Rattle.pw_model.specs.declared.records.Entry.{Entry}
 use Rattle.pw_model.specs.declared.records.Dispute.{Dispute}
 use Rattle.pw_model.specs.Counting.{standing, standing_among}
-use Rattle.pw_model.specs.Lists.{Lists, IsDispute, dispute_order, AreDisputes, records_at}
+use Rattle.pw_model.specs.Lists.{IsInOrder, IsDispute, dispute_order, AreDisputes, records_at}
 use Rattle.pw_model.specs.Office.{AllOfOffice, IsOf, IsOfOffice, most_records}
-use Rattle.pw_model.specs.Same.{key_order, key_numbers, named_numbers}
+use Rattle.pw_model.specs.Same.{entry_order, key_order, key_numbers, named_numbers}
 use Rattle.pw_model.specs.Shelf.{ShelfContent}
 use Rattle.pw_model.proofs.Counting.{standing-part}
 use Rattle.pw_model.proofs.Same.{register-one}
 use Rattle.pw_model.specs.Kinds.{ListsHeld, IsReadingOf, IsAssignmentOf, IsTopUp}
 use Rattle.pw_book.specs.inner.Places.{DisputesBefore, key_place, IsWithin, AreWithin}
-use Rattle.pw_book.specs.inner.Groups.{IsDisputeAmong, records_with}
+use Rattle.pw_book.specs.inner.Groups.{AreBehind, records_with}
 use Rattle.pw_book.proofs.Disputed.{held-few, held-stand, standing-count, standing-disputes, count-one, count-some}
 use Rattle.pw_book.proofs.Segments.{segment-more, segment-all, segment-none, first-less, then-less, place-few, places-split, places-same}
 
@@ -129,15 +129,21 @@ key-last office s (key.TopUp x) h w l = omega arith
 key-last office s (key.Withdrawal n) h w l = absurd (let f = never-disputed office s n h in omega (arith, f, l))
 
 -- ---- the disputes of a kind behind those of the kinds before it
-pub disputes-more : (Of : Key → Type 0) (meters n : ℕ) (s held : List Entry) (old more : List Dispute) → AreWithin meters s → ListsHeld Of s held → ((k : Key) → IsWithin meters k → Of k ↔ (key_place meters k ≡ n)) →
-    (((k : Key) → records_with k held < 2 ^ 32) → Lists dispute_order (IsDisputeAmong (standing_among s held)) more) → DisputesBefore meters s n old → DisputesBefore meters s (n + 1) (old ++ more)
-disputes-more Of meters n s held old more w h q d a =
+pub disputes-more : (Of : Key → Type 0) (meters n : ℕ) (was now : ShelfContent) (held lent : List Entry) (old new : List Dispute) → now ≡ was → lent ≡ held → AreWithin meters was.records → ListsHeld Of was.records held →
+    ((k : Key) → IsWithin meters k → Of k ↔ (key_place meters k ≡ n)) →
+    (IsInOrder entry_order lent → ((k : Key) → records_with k lent < 2 ^ 32) → AreBehind (standing_among now.records lent) old new) → DisputesBefore meters was.records n old → DisputesBefore meters was.records (n + 1) new
+disputes-more Of meters n was now held lent old new e f w h q d a =
+    let s = was.records in
     let few = w.few in
+    let D : ShelfContent → List Entry → Type 0 = λ c xs. IsInOrder entry_order xs → ((k : Key) → records_with k xs < 2 ^ 32) → AreBehind (standing_among c.records xs) old new in
+    let all = subst (λ c. D c held) e (subst (D now) f d) h.rising (held-few Of s held h (omega (arith, few))) in
     let stand = held-stand Of s held h in
-    segment-more dispute_order (IsDispute s) (λ x. Of x.key) (λ x. key_place meters x.key) n old more a
-    (standing-disputes Of s (standing_among s held) more stand (d (held-few Of s held h (omega (arith, few)))))
+    let F : List Dispute → Type 0 = λ xs. DisputesBefore meters s (n + 1) xs in
+    subst F (sym all.2)
+    (segment-more dispute_order (IsDispute s) (λ x. Of x.key) (λ x. key_place meters x.key) n old all.0 a
+    (standing-disputes Of s (standing_among s held) all.0 stand all.1)
     (λ x i. q x.key (dispute-within meters s x w i))
-    (λ x y i j l. key-before meters x.key y.key (dispute-within meters s x w i) (dispute-within meters s y w j) l)
+    (λ x y i j l. key-before meters x.key y.key (dispute-within meters s x w i) (dispute-within meters s y w j) l))
 
 pub disputes-all : (office : OfficeRules) (s : List Entry) (disputes : List Dispute) → AllOfOffice office s → AreWithin office.meters s → DisputesBefore office.meters s (7 * office.meters + 1) disputes → AreDisputes s disputes
 disputes-all office s disputes o w a = segment-all dispute_order (IsDispute s) (λ d. key_place office.meters d.key) (7 * office.meters + 1) disputes a (λ d h.

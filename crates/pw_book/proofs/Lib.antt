@@ -22,6 +22,7 @@ pub mod Changing
 pub mod Walking
 pub mod Neighbouring
 pub mod Following
+pub mod Known
 pub mod Truthful
 pub mod NewStarts
 pub mod WindowPairs

@@ -28,7 +28,7 @@ use Rattle.pw_model.proofs.Windows.{other-window}
 use Rattle.pw_shelf.specs.Rows.{rows_found}
 use Rattle.pw_shelf.specs.Seconds.{IsBefore, IsBehind, ListsSecondsWithin}
 use Rattle.pw_model.specs.Seconds.{by_second}
-use Rattle.pw_book.specs.inner.Settling.{EndsBefore, EndsBeforeNext, IsStartChanged, ListsUpToNextStart, register_told}
+use Rattle.pw_book.specs.inner.Settling.{EndsBefore, EndsBeforeNext, IsOver, IsStartChanged, ListsUpToNextStart, register_told}
 use Rattle.pw_parts.specs.Changes.{pairs_for}
 use Rattle.pw_book.specs.Listed.{point_listed}
 use Rattle.pw_parts.proofs.Chart.{less-is}
@@ -223,23 +223,18 @@ register-moved file c was is m z until owners others r ps y h t (Energy o p b e)
 ]
 
 -- the same, with the energies that it is gathered to
-pub register-gathered : (file : OfficeFile) (c d e : ShelfContent) (was is : Key → Contents) (m z until : ℕ) (owners others : List (ℕ × Option AccountId)) (r : Register) (way : Direction)
+pub register-gathered : (file : OfficeFile) (c : ShelfContent) (was is : Key → Contents) (m z until : ℕ) (owners others : List (ℕ × Option AccountId)) (r : Register) (way : Direction)
     (before : Option (ℕ × ℕ)) (within lent : List (ℕ × ℕ)) (after : Option (ℕ × ℕ)) (points first second : List (ℕ × ℕ)) (was_less mid_less now_less was_more mid_more now_more : TotalKey → ℕ) → counts_at file m r ≡ true →
-    d ≡ c → e ≡ d → IsStartChanged c was is m z until owners others →
-    IsBefore (c.point m r) z before → IsBehind (d.point m r) until after → ListsSecondsWithin z until (e.point m r) within → lent ≡ within →
+    IsStartChanged c was is m z until owners others → IsOver z until (c.point m r) before within after → lent ≡ within →
     points ≡ point_listed before (lent ++ point_listed after []) → first ≡ points → second ≡ points → way ≡ direction_of r →
     (IsInOrder by_second first → (k : TotalKey) → mid_less k ≡ was_less k + pairs_for file owners way first k) → ((k : TotalKey) → mid_more k ≡ was_more k) →
     (IsInOrder by_second second → (k : TotalKey) → now_more k ≡ mid_more k + pairs_for file others way second k) → ((k : TotalKey) → now_less k ≡ mid_less k) → (k : TotalKey) →
     now_more k + was_less k + register_told (office_of file) was m k r ≡ now_less k + was_more k + register_told (office_of file) is m k r
-register-gathered file c d e was is m z until owners others r way before within lent after points first second was_less mid_less now_less was_more mid_more now_more y p q h b a l x v f s w t u g j k =
-    let told = point was m r in
-    let P : (ℕ → Option ℕ) → Type 0 = λ u. IsBefore u z before in
-    let Q : (ℕ → Option ℕ) → Type 0 = λ u. IsBehind u until after in
-    let R : (ℕ → Option ℕ) → Type 0 = λ u. ListsSecondsWithin z until u within in
-    let dp : d.point m r ≡ told = ap (λ (o : ShelfContent). o.point m r) p ∙ h.points r in
-    let ep : e.point m r ≡ told = ap (λ (o : ShelfContent). o.point m r) q ∙ dp in
+register-gathered file c was is m z until owners others r way before within lent after points first second was_less mid_less now_less was_more mid_more now_more y h o x v f s w t u g j k =
+    let P : (ℕ → Option ℕ) → Type 0 = λ told. IsOver z until told before within after in
+    let over = subst P (h.points r) o in
     let full : List (ℕ × ℕ) = point_listed before (within ++ point_listed after []) in
-    let all = taken was m r z until before within after h.window (h.ended r) (subst P (h.points r) b) (subst R ep l) (subst Q dp a) in
+    let all = taken was m r z until before within after h.window (h.ended r) over.before_is over.within_is over.after_is in
     let rises = taken-rises was m r z full all in
     let whole : points ≡ full = v ∙ ap (λ (xs : List (ℕ × ℕ)). point_listed before (xs ++ point_listed after [])) x in
     let O : List (ℕ × ℕ) → Type 0 = λ xs. IsInOrder by_second xs in
@@ -267,22 +262,23 @@ up-to starts told z until after x w a f n t = elim (cases_lt until x.0) [
   | inr b ↦ b
 ]
 
-pub within-counted : (c d e : ShelfContent) (m : ℕ) (r : Register) (z until most : ℕ) (within : List (ℕ × ℕ)) (after : Option (ℕ × ℕ)) → d ≡ c → e ≡ d → EndsBeforeNext (c.start m) z until →
-    IsBehind (d.point m r) until after → ((b : ℕ × ℕ) → after ≡ Some b → b.0 ≤ LAST_SECOND) → ListsSecondsWithin z until (e.point m r) within →
-    ((points : List (ℕ × ℕ)) → ListsUpToNextStart c m r z points → length points ≤ most) → length within ≤ most
-within-counted c d e m r z until most within after p q w a f l h =
-    let told = c.point m r in
-    let Q : (ℕ → Option ℕ) → Type 0 = λ u. IsBehind u until after in
-    let R : (ℕ → Option ℕ) → Type 0 = λ u. ListsSecondsWithin z until u within in
-    let dp : d.point m r ≡ told = ap (λ (o : ShelfContent). o.point m r) p in
-    let ep : e.point m r ≡ told = ap (λ (o : ShelfContent). o.point m r) q ∙ dp in
-    let behind = subst Q dp a in
-    let listed = subst R ep l in
+-- three calls that leave the content as it is
+pub points-over : (c d e : ShelfContent) (m : ℕ) (r : Register) (z until : ℕ) (before : Option (ℕ × ℕ)) (within : List (ℕ × ℕ)) (after : Option (ℕ × ℕ)) → d ≡ c → e ≡ d →
+    IsBefore (c.point m r) z before → IsBehind (d.point m r) until after → ListsSecondsWithin z until (e.point m r) within → IsOver z until (c.point m r) before within after
+points-over c d e m r z until before within after p q b a l =
+    let Q : ShelfContent → Type 0 = λ x. IsBehind (x.point m r) until after in
+    let R : ShelfContent → Type 0 = λ x. ListsSecondsWithin z until (x.point m r) within in
+    record { before_is = b; within_is = subst R (q ∙ p) l; after_is = subst Q p a }
+
+pub within-counted : (c : ShelfContent) (m : ℕ) (r : Register) (z until most : ℕ) (before : Option (ℕ × ℕ)) (within : List (ℕ × ℕ)) (after : Option (ℕ × ℕ)) → IsOver z until (c.point m r) before within after →
+    EndsBeforeNext (c.start m) z until → ((b : ℕ × ℕ) → after ≡ Some b → b.0 ≤ LAST_SECOND) → ((points : List (ℕ × ℕ)) → ListsUpToNextStart c m r z points → length points ≤ most) → length within ≤ most
+within-counted c m r z until most before within after o w f h =
+    let listed = o.within_is in
     h within (record {
       rising = listed.rising;
       members = λ x. (
         λ k. (let n = (listed.members x).0 k in (n.0, λ s b g. w.none s b (let u = n.1 in omega (arith, g, u)), n.2)),
-        λ k. (listed.members x).1 (k.0, up-to (c.start m) told z until after x w behind f k.1 k.2, k.2),
+        λ k. (listed.members x).1 (k.0, up-to (c.start m) (c.point m r) z until after x w o.after_is f k.1 k.2, k.2),
       );
     })
 

@@ -14,13 +14,14 @@ ghost use Rattle.pw_tariff.specs.Owners.{StartsIncrease};
 ghost use Rattle.pw_parts.specs.declared.changes.Side.{Side as ASide};
 ghost use Rattle.pw_model.specs.Seconds.{by_second};
 ghost use Rattle.pw_book.specs.Cost.{HasStarts};
-ghost use Rattle.pw_book.specs.inner.Gathered.{AreGathered};
+ghost use Rattle.pw_book.specs.inner.Gathered.{AreGathered, AreKnown};
 ghost use Rattle.pw_book.specs.inner.Settling.{EndsBefore};
 ghost use Rattle.pw_parts.specs.Changes.{gathered, other_side, pairs_for};
 ghost use Rattle.pw_book.specs.Listed.{point_listed};
 ghost use Rattle.pw_book.specs.inner.Sums.{energy_told};
 
 use crate::basis::Basis;
+use crate::gathered::{Gathered, know_starts};
 use pw_model::direction_of;
 use pw_obis::{Register, WattHours};
 use pw_parts::{Changes, Point, Side, add_pairs};
@@ -43,19 +44,21 @@ pub(crate) fn begin_to_count<S: Shelf>(
     shelf: &mut S,
     basis: &Basis,
     reading: &Counted,
-    changes: &mut Changes,
+    so_far: &mut Gathered,
 ) -> Result<(), ShelfFault>
     requires begun { IsSome (S.state shelf.old).begun }
     requires meter { reading.now.meter.0 < length basis.now.office.now.meters }
     requires counts { counts_at basis.now.office.now reading.now.meter.0 reading.now.register ≡ true }
-    requires few { (side : ASide) (k : AnyTotal) → gathered side changes.old.rows k < 2 ^ 120 }
-    ensures gathered { S.clean shelf.new → (was is : AnyKey → AnyContents) → (S.state shelf.old).content.point ≡ point_told was → (S.state shelf.old).content.start ≡ start_told was → IsOneMoreReading was is reading.now.meter.0 reading.now.register reading.now.instant reading.now.wh → EndsBefore (office_of basis.now.office.now).end (point_told is reading.now.meter.0 reading.now.register) → OnOk result (AreGathered (office_of basis.now.office.now) was is changes.old.rows changes.new.rows) }
-    ensures few { OnOk result ((side : ASide) (k : AnyTotal) → gathered side changes.new.rows k ≤ gathered side changes.old.rows k + 2 ^ 39) }
+    requires few { (side : ASide) (k : AnyTotal) → gathered side so_far.old.changes.rows k < 2 ^ 120 }
+    requires known { S.clean shelf.old → AreKnown (S.state shelf.old).content.start so_far.old.known }
+    ensures gathered { S.clean shelf.new → (was is : AnyKey → AnyContents) → (S.state shelf.old).content.point ≡ point_told was → (S.state shelf.old).content.start ≡ start_told was → IsOneMoreReading was is reading.now.meter.0 reading.now.register reading.now.instant reading.now.wh → EndsBefore (office_of basis.now.office.now).end (point_told is reading.now.meter.0 reading.now.register) → OnOk result (AreGathered (office_of basis.now.office.now) was is so_far.old.changes.rows so_far.new.changes.rows) }
+    ensures few { OnOk result ((side : ASide) (k : AnyTotal) → gathered side so_far.new.changes.rows k ≤ gathered side so_far.old.changes.rows k + 2 ^ 39) }
     ensures point { S.clean shelf.new → OnOk result ((S.state shelf.new).content ≡ with_point (S.state shelf.old).content reading.now.meter.0 reading.now.register reading.now.instant (Some reading.now.wh)) }
     ensures tally { S.clean shelf.new → (starts : ℕ) → HasStarts (S.state shelf.old).content reading.now.meter.0 starts → (S.state shelf.new).tally ≤ (S.state shelf.old).tally + (6 + starts) }
+    ensures known { S.clean shelf.new → OnOk result (AreKnown (S.state shelf.new).content.start so_far.new.known) }
     ensures kept { GoesOn S.state S.left S.clean S.same_store (failures_told result) shelf.old shelf.new }
 {
-    weigh_around(shelf, basis, reading, Side::Gains, changes)?;
+    weigh_around(shelf, basis, reading, Side::Gains, so_far)?;
     shelf.point_put(reading.meter, reading.register, reading.instant, reading.wh)
 }
 
@@ -64,19 +67,21 @@ pub(crate) fn cease_to_count<S: Shelf>(
     shelf: &mut S,
     basis: &Basis,
     reading: &Counted,
-    changes: &mut Changes,
+    so_far: &mut Gathered,
 ) -> Result<(), ShelfFault>
     requires begun { IsSome (S.state shelf.old).begun }
     requires meter { reading.now.meter.0 < length basis.now.office.now.meters }
     requires counts { counts_at basis.now.office.now reading.now.meter.0 reading.now.register ≡ true }
-    requires few { (side : ASide) (k : AnyTotal) → gathered side changes.old.rows k < 2 ^ 120 }
-    ensures gathered { S.clean shelf.new → (was is : AnyKey → AnyContents) → (S.state shelf.old).content.point ≡ point_told was → (S.state shelf.old).content.start ≡ start_told was → IsOneMoreReading is was reading.now.meter.0 reading.now.register reading.now.instant reading.now.wh → EndsBefore (office_of basis.now.office.now).end (point_told was reading.now.meter.0 reading.now.register) → OnOk result (AreGathered (office_of basis.now.office.now) was is changes.old.rows changes.new.rows) }
-    ensures few { OnOk result ((side : ASide) (k : AnyTotal) → gathered side changes.new.rows k ≤ gathered side changes.old.rows k + 2 ^ 39) }
+    requires few { (side : ASide) (k : AnyTotal) → gathered side so_far.old.changes.rows k < 2 ^ 120 }
+    requires known { S.clean shelf.old → AreKnown (S.state shelf.old).content.start so_far.old.known }
+    ensures gathered { S.clean shelf.new → (was is : AnyKey → AnyContents) → (S.state shelf.old).content.point ≡ point_told was → (S.state shelf.old).content.start ≡ start_told was → IsOneMoreReading is was reading.now.meter.0 reading.now.register reading.now.instant reading.now.wh → EndsBefore (office_of basis.now.office.now).end (point_told was reading.now.meter.0 reading.now.register) → OnOk result (AreGathered (office_of basis.now.office.now) was is so_far.old.changes.rows so_far.new.changes.rows) }
+    ensures few { OnOk result ((side : ASide) (k : AnyTotal) → gathered side so_far.new.changes.rows k ≤ gathered side so_far.old.changes.rows k + 2 ^ 39) }
     ensures point { S.clean shelf.new → OnOk result ((S.state shelf.new).content ≡ with_point (S.state shelf.old).content reading.now.meter.0 reading.now.register reading.now.instant None) }
     ensures tally { S.clean shelf.new → (starts : ℕ) → HasStarts (S.state shelf.old).content reading.now.meter.0 starts → (S.state shelf.new).tally ≤ (S.state shelf.old).tally + (6 + starts) }
+    ensures known { S.clean shelf.new → OnOk result (AreKnown (S.state shelf.new).content.start so_far.new.known) }
     ensures kept { GoesOn S.state S.left S.clean S.same_store (failures_told result) shelf.old shelf.new }
 {
-    weigh_around(shelf, basis, reading, Side::Loses, changes)?;
+    weigh_around(shelf, basis, reading, Side::Loses, so_far)?;
     shelf.point_del(reading.meter, reading.register, reading.instant)
 }
 
@@ -87,19 +92,21 @@ fn weigh_around<S: Shelf>(
     basis: &Basis,
     reading: &Counted,
     side: Side,
-    changes: &mut Changes,
+    so_far: &mut Gathered,
 ) -> Result<(), ShelfFault>
     requires begun { IsSome (S.state shelf.old).begun }
     requires meter { reading.now.meter.0 < length basis.now.office.now.meters }
     requires counts { counts_at basis.now.office.now reading.now.meter.0 reading.now.register ≡ true }
-    requires few { (side : ASide) (k : AnyTotal) → gathered side changes.old.rows k < 2 ^ 120 }
-    ensures around { S.clean shelf.new → (free is : AnyKey → AnyContents) → ((u : ℕ) → (u ≡ reading.now.instant → ⊥) → (S.state shelf.old).content.point reading.now.meter.0 reading.now.register u ≡ point_told free reading.now.meter.0 reading.now.register u) → (S.state shelf.old).content.start reading.now.meter.0 ≡ start_told free reading.now.meter.0 → IsOneMoreReading free is reading.now.meter.0 reading.now.register reading.now.instant reading.now.wh → EndsBefore (office_of basis.now.office.now).end (point_told is reading.now.meter.0 reading.now.register) → OnOk result ((k : AnyTotal) → energy_told (office_of basis.now.office.now) free k + gathered side changes.new.rows k + gathered (other_side side) changes.old.rows k ≡ energy_told (office_of basis.now.office.now) is k + gathered (other_side side) changes.new.rows k + gathered side changes.old.rows k) }
-    ensures few { OnOk result ((s : ASide) (k : AnyTotal) → gathered s changes.new.rows k ≤ gathered s changes.old.rows k + 2 ^ 39) }
+    requires few { (side : ASide) (k : AnyTotal) → gathered side so_far.old.changes.rows k < 2 ^ 120 }
+    requires known { S.clean shelf.old → AreKnown (S.state shelf.old).content.start so_far.old.known }
+    ensures around { S.clean shelf.new → (free is : AnyKey → AnyContents) → ((u : ℕ) → (u ≡ reading.now.instant → ⊥) → (S.state shelf.old).content.point reading.now.meter.0 reading.now.register u ≡ point_told free reading.now.meter.0 reading.now.register u) → (S.state shelf.old).content.start reading.now.meter.0 ≡ start_told free reading.now.meter.0 → IsOneMoreReading free is reading.now.meter.0 reading.now.register reading.now.instant reading.now.wh → EndsBefore (office_of basis.now.office.now).end (point_told is reading.now.meter.0 reading.now.register) → OnOk result ((k : AnyTotal) → energy_told (office_of basis.now.office.now) free k + gathered side so_far.new.changes.rows k + gathered (other_side side) so_far.old.changes.rows k ≡ energy_told (office_of basis.now.office.now) is k + gathered (other_side side) so_far.new.changes.rows k + gathered side so_far.old.changes.rows k) }
+    ensures few { OnOk result ((s : ASide) (k : AnyTotal) → gathered s so_far.new.changes.rows k ≤ gathered s so_far.old.changes.rows k + 2 ^ 39) }
     ensures same { S.clean shelf.new → OnOk result ((S.state shelf.new).content ≡ (S.state shelf.old).content) }
     ensures tally { S.clean shelf.new → (starts : ℕ) → HasStarts (S.state shelf.old).content reading.now.meter.0 starts → (S.state shelf.new).tally ≤ (S.state shelf.old).tally + (5 + starts) }
+    ensures known { S.clean shelf.new → OnOk result (AreKnown (S.state shelf.new).content.start so_far.new.known) }
     ensures kept { GoesOn S.state S.left S.clean S.same_store (failures_told result) shelf.old shelf.new }
 {
-    let starts = shelf.starts_of(basis.alloc, reading.meter)?;
+    know_starts(shelf, basis.alloc, reading.meter, &mut so_far.known)?;
     let below = shelf.point_before(reading.meter, reading.register, reading.instant)?;
     let above = shelf.point_after(reading.meter, reading.register, reading.instant)?;
     let direction = direction_of(reading.register);
@@ -107,8 +114,9 @@ fn weigh_around<S: Shelf>(
     let here = Some((reading.instant, reading.wh));
     let joined = listed(basis.alloc, &below, &here, &above)?;
     let other = side.other();
-    add_points(basis, &starts, direction, &apart, other, changes)?;
-    add_points(basis, &starts, direction, &joined, side, changes)?;
+    let Gathered { changes, known } = so_far;
+    add_points(basis, &known.starts, direction, &apart, other, changes)?;
+    add_points(basis, &known.starts, direction, &joined, side, changes)?;
     Ok(())
 }
 

@@ -10,7 +10,7 @@ ghost use Rattle.pw_shelf.specs.Calls.{failures_told};
 ghost use Rattle.pw_tariff.specs.Office.{office_of, register_place};
 ghost use Rattle.pw_book.specs.Asking.{IsOnlyAsked};
 ghost use Rattle.pw_book.specs.inner.Places.{AreWithin, DisputesBefore};
-ghost use Rattle.pw_book.specs.inner.Groups.{AreOfSharedKeys, IsDisputeAmong, IsDisputeOf, records_with};
+ghost use Rattle.pw_book.specs.inner.Groups.{AreBehind, AreOfSharedKeys, IsDisputeAmong, IsDisputeOf, records_with};
 
 use crate::asked::{assignments_held, readings_held, topups_held};
 use crate::withdrawn::standing_among;
@@ -104,8 +104,7 @@ fn add_readings_of<S: Shelf>(
     ensures asked { IsOnlyAsked S.Shelf (failures_told result) shelf.old shelf.new }
 {
     let readings = readings_held(shelf, alloc, meter, register)?;
-    let more = disputes_among(shelf, alloc, &readings)?;
-    disputes.extend_from_slice(&more)?;
+    add_disputes_among(shelf, alloc, &readings, disputes)?;
     Ok(())
 }
 
@@ -121,8 +120,7 @@ fn add_assignments_of<S: Shelf>(
     ensures asked { IsOnlyAsked S.Shelf (failures_told result) shelf.old shelf.new }
 {
     let assignments = assignments_held(shelf, alloc, meter)?;
-    let more = disputes_among(shelf, alloc, &assignments)?;
-    disputes.extend_from_slice(&more)?;
+    add_disputes_among(shelf, alloc, &assignments, disputes)?;
     Ok(())
 }
 
@@ -137,25 +135,26 @@ fn add_topups<S: Shelf>(
     ensures asked { IsOnlyAsked S.Shelf (failures_told result) shelf.old shelf.new }
 {
     let topups = topups_held(shelf, alloc)?;
-    let more = disputes_among(shelf, alloc, &topups)?;
-    disputes.extend_from_slice(&more)?;
+    add_disputes_among(shelf, alloc, &topups, disputes)?;
     Ok(())
 }
 
-// The disputes among those of some records held that stand.
-fn disputes_among<S: Shelf>(
+// Adds the disputes among those of some records held that stand.
+fn add_disputes_among<S: Shelf>(
     shelf: &mut S,
     alloc: Global,
     held: &[Entry],
-) -> Result<Vec<Dispute>, ShelfFault>
+    disputes: &mut Vec<Dispute>,
+) -> Result<(), ShelfFault>
     requires { IsNone (S.state shelf.old).begun }
-    ensures disputes { S.clean shelf.new → IsInOrder entry_order held.now → ((k : AKey) → records_with k held.now < 2 ^ 32) → IfOk result (λ disputes. Lists dispute_order (IsDisputeAmong (standing_of (S.state shelf.old).content.records held.now)) disputes.items) }
+    ensures disputes { S.clean shelf.new → IsInOrder entry_order held.now → ((k : AKey) → records_with k held.now < 2 ^ 32) → OnOk result (AreBehind (standing_of (S.state shelf.old).content.records held.now) disputes.old.items disputes.new.items) }
     ensures asked { IsOnlyAsked S.Shelf (failures_told result) shelf.old shelf.new }
 {
     let shared = of_shared_keys(alloc, held)?;
     let standing = standing_among(shelf, alloc, &shared)?;
-    let disputes = disputes_of(alloc, &standing)?;
-    Ok(disputes)
+    let more = disputes_of(alloc, &standing)?;
+    disputes.extend_from_slice(&more)?;
+    Ok(())
 }
 
 // Those of some records whose key another has: only of these is it asked whether they stand.

@@ -12,6 +12,7 @@ mod distinct;
 mod energies;
 mod falls;
 mod fault;
+mod gathered;
 pub mod laws;
 mod moving;
 mod posting;

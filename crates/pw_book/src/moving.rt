@@ -1,6 +1,6 @@
 //! Totals changed within an upload.
 
-ghost use Rattle.std.specs.Prelude.{◌≡◌, ℕ, ◌+◌, ◌<◌, ◌≤◌, ◌^◌, ◌↔◌, [], IsTrue, OnOk, IsSome, length};
+ghost use Rattle.std.specs.Prelude.{◌≡◌, ℕ, ◌+◌, ◌<◌, ◌≤◌, ◌^◌, ◌↔◌, IsTrue, OnOk, IsSome, length};
 ghost use Rattle.pw_model.specs.declared.records.TotalKey.{TotalKey as AnyTotal};
 ghost use Rattle.pw_model.specs.Office.{HasOwner};
 ghost use Rattle.pw_shelf.specs.Calls.{GoesOn, failures_told};
@@ -16,8 +16,6 @@ use pw_obis::LARGEST_WATT_HOURS;
 use pw_parts::Changes;
 use pw_shelf::{Shelf, ShelfFault};
 use pw_tariff::{BandId, Office, Owner, PeriodId};
-use std::alloc::Global;
-use std::collections::BTreeMap;
 
 // The greatest amount of a total: that of 10,000,000 records of the largest reading.
 const MOST_TOTAL: u64 = MOST_RECORDS as u64 * LARGEST_WATT_HOURS;
@@ -82,15 +80,6 @@ fn is_energy_of(office: &Office, key: &TotalKey) -> bool
             ..
         } => has_class(office, *owner, *period, *band),
         TotalKey::TopUps { .. } => false,
-    }
-}
-
-// Nothing that is gathered.
-pub(crate) fn nothing_gathered(alloc: Global) -> Changes
-    ensures { result.rows.entries ≡ [] }
-{
-    Changes {
-        rows: BTreeMap::new(alloc),
     }
 }
 

@@ -10,17 +10,17 @@ ghost use Rattle.pw_tariff.specs.Office.{IsSound, counts_at, office_of};
 ghost use Rattle.pw_parts.specs.Changes.{gathered};
 ghost use Rattle.pw_parts.specs.declared.changes.Side.{Side as ASide};
 ghost use Rattle.pw_book.specs.inner.Added.{ChangesOneKey, IsJustChanged, IsKeyOf, IsPaid, IsTrueAgain, IsTrueOf, TakesAtMost, paid_of};
-ghost use Rattle.pw_book.specs.inner.Gathered.{IsTrueAgainBut, IsTrueBut, due};
+ghost use Rattle.pw_book.specs.inner.Gathered.{AreKnown, IsTrueAgainBut, IsTrueBut, due};
 ghost use Rattle.pw_model.specs.Kinds.{IsReading};
 ghost use Rattle.pw_book.specs.Cost.{HasStarts};
 
 use crate::around::{Counted, begin_to_count, cease_to_count};
 use crate::basis::Basis;
-use crate::moving::{change_total, move_energies, nothing_gathered};
+use crate::gathered::{Gathered, nothing_gathered};
+use crate::moving::{change_total, move_energies};
 use crate::window::change_start;
 use pw_model::{Content, Contents, Key, TotalKey};
 use pw_obis::{Register, WattHours};
-use pw_parts::Changes;
 use pw_shelf::{Shelf, ShelfFault};
 use pw_tariff::{AccountId, MeterId, Owner};
 use pw_time::Instant;
@@ -64,18 +64,20 @@ fn reading_changed<S: Shelf>(
     instant: Instant,
     before: &Contents,
     behind: &Contents,
-    changes: &mut Changes,
+    so_far: &mut Gathered,
 ) -> Result<(), ShelfFault>
     requires begun { IsSome (S.state shelf.old).begun }
     requires sound { IsSound basis.now.office.now }
     requires meter { meter.0 < length basis.now.office.now.meters }
     requires counts { counts_at basis.now.office.now meter.0 register ≡ true }
-    requires few { (side : ASide) (k : AnyTotal) → gathered side changes.old.rows k < 2 ^ 120 }
-    ensures settled { S.clean shelf.new → (s : List AnEntry) → IsJustChanged (office_of basis.now.office.now) s (key.Reading meter register instant) before.now behind.now (S.state shelf.old).content.records → IsTrueBut (office_of basis.now.office.now) changes.old.rows s (S.state shelf.old).content → OnOk result (IsTrueAgainBut (office_of basis.now.office.now) changes.new.rows (S.state shelf.old).content (S.state shelf.new).content) }
-    ensures few { OnOk result ((side : ASide) (k : AnyTotal) → gathered side changes.new.rows k ≤ gathered side changes.old.rows k + 2 ^ 39) }
+    requires few { (side : ASide) (k : AnyTotal) → gathered side so_far.old.changes.rows k < 2 ^ 120 }
+    requires known { S.clean shelf.old → AreKnown (S.state shelf.old).content.start so_far.old.known }
+    ensures settled { S.clean shelf.new → (s : List AnEntry) → IsJustChanged (office_of basis.now.office.now) s (key.Reading meter register instant) before.now behind.now (S.state shelf.old).content.records → IsTrueBut (office_of basis.now.office.now) so_far.old.changes.rows s (S.state shelf.old).content → OnOk result (IsTrueAgainBut (office_of basis.now.office.now) so_far.new.changes.rows (S.state shelf.old).content (S.state shelf.new).content) }
+    ensures few { OnOk result ((side : ASide) (k : AnyTotal) → gathered side so_far.new.changes.rows k ≤ gathered side so_far.old.changes.rows k + 2 ^ 39) }
     ensures start { S.clean shelf.new → OnOk result ((S.state shelf.new).content.start ≡ (S.state shelf.old).content.start) }
     ensures alone { S.clean shelf.new → OnOk result (ChangesOneKey (key.Reading meter register instant) (S.state shelf.old).content (S.state shelf.new).content) }
     ensures tally { S.clean shelf.new → (starts : ℕ) → HasStarts (S.state shelf.old).content meter.0 starts → (S.state shelf.new).tally ≤ (S.state shelf.old).tally + (6 + starts) }
+    ensures known { S.clean shelf.new → OnOk result (AreKnown (S.state shelf.new).content.start so_far.new.known) }
     ensures kept { GoesOn S.state S.left S.clean S.same_store (failures_told result) shelf.old shelf.new }
 {
     match (counting_wh(before), counting_wh(behind)) {
@@ -86,7 +88,7 @@ fn reading_changed<S: Shelf>(
                 instant,
                 wh,
             };
-            begin_to_count(shelf, basis, &reading, changes)
+            begin_to_count(shelf, basis, &reading, so_far)
         }
         (Some(wh), None) => {
             let reading = Counted {
@@ -95,7 +97,7 @@ fn reading_changed<S: Shelf>(
                 instant,
                 wh,
             };
-            cease_to_count(shelf, basis, &reading, changes)
+            cease_to_count(shelf, basis, &reading, so_far)
         }
         (None, None) | (Some(_), Some(_)) => Ok(()),
     }
@@ -158,17 +160,19 @@ pub(crate) fn settle<S: Shelf>(
     key: &Key,
     before: &Contents,
     behind: &Contents,
-    changes: &mut Changes,
+    so_far: &mut Gathered,
 ) -> Result<(), ShelfFault>
     requires begun { IsSome (S.state shelf.old).begun }
     requires sound { IsSound basis.now.office.now }
     requires of_office { IsKeyOf (office_of basis.now.office.now) key.now }
-    requires few { (side : ASide) (k : AnyTotal) → gathered side changes.old.rows k < 2 ^ 120 }
-    ensures settled { S.clean shelf.new → (s : List AnEntry) → IsJustChanged (office_of basis.now.office.now) s key.now before.now behind.now (S.state shelf.old).content.records → IsTrueBut (office_of basis.now.office.now) changes.old.rows s (S.state shelf.old).content → OnOk result (IsTrueAgainBut (office_of basis.now.office.now) changes.new.rows (S.state shelf.old).content (S.state shelf.new).content) }
-    ensures few { OnOk result ((side : ASide) (k : AnyTotal) → gathered side changes.new.rows k ≤ gathered side changes.old.rows k + 2 ^ 39) }
+    requires few { (side : ASide) (k : AnyTotal) → gathered side so_far.old.changes.rows k < 2 ^ 120 }
+    requires known { S.clean shelf.old → AreKnown (S.state shelf.old).content.start so_far.old.known }
+    ensures settled { S.clean shelf.new → (s : List AnEntry) → IsJustChanged (office_of basis.now.office.now) s key.now before.now behind.now (S.state shelf.old).content.records → IsTrueBut (office_of basis.now.office.now) so_far.old.changes.rows s (S.state shelf.old).content → OnOk result (IsTrueAgainBut (office_of basis.now.office.now) so_far.new.changes.rows (S.state shelf.old).content (S.state shelf.new).content) }
+    ensures few { OnOk result ((side : ASide) (k : AnyTotal) → gathered side so_far.new.changes.rows k ≤ gathered side so_far.old.changes.rows k + 2 ^ 39) }
     ensures start { S.clean shelf.new → IsReading key.now → OnOk result ((S.state shelf.new).content.start ≡ (S.state shelf.old).content.start) }
     ensures alone { S.clean shelf.new → OnOk result (ChangesOneKey key.now (S.state shelf.old).content (S.state shelf.new).content) }
-    ensures tally { S.clean shelf.new → TakesAtMost 0 (office_of basis.now.office.now) (S.state shelf.old).content key.now ((S.state shelf.old).tally + due (office_of basis.now.office.now) changes.old.rows.entries) ((S.state shelf.new).tally + due (office_of basis.now.office.now) changes.new.rows.entries) }
+    ensures tally { S.clean shelf.new → TakesAtMost 0 (office_of basis.now.office.now) (S.state shelf.old).content key.now ((S.state shelf.old).tally + due (office_of basis.now.office.now) so_far.old.changes.rows.entries) ((S.state shelf.new).tally + due (office_of basis.now.office.now) so_far.new.changes.rows.entries) }
+    ensures known { S.clean shelf.new → OnOk result (AreKnown (S.state shelf.new).content.start so_far.new.known) }
     ensures kept { GoesOn S.state S.left S.clean S.same_store (failures_told result) shelf.old shelf.new }
 {
     match key {
@@ -177,11 +181,11 @@ pub(crate) fn settle<S: Shelf>(
             register,
             instant,
         } => reading_changed(
-            shelf, basis, *meter, *register, *instant, before, behind, changes,
+            shelf, basis, *meter, *register, *instant, before, behind, so_far,
         ),
         Key::Assignment { meter, start } => {
-            move_energies(shelf, basis.office, changes)?;
-            *changes = nothing_gathered(basis.alloc);
+            move_energies(shelf, basis.office, &so_far.changes)?;
+            *so_far = nothing_gathered(basis.alloc);
             assignment_changed(shelf, basis, *meter, *start, before, behind)
         }
         Key::TopUp { .. } => top_up_changed(shelf, before, behind),

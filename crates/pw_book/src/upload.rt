@@ -1,33 +1,30 @@
 //! One upload to a shelf, written and committed, or taken back.
 
-ghost use Rattle.std.specs.Prelude.{◌≡◌, ◌+◌, ◌<◌, ◌≤◌, ◌^◌, ◌++◌, [], ◌∷◌, None, Some, OnOk, OnErr, IsErrOf, IsNone, IsSome, length};
+ghost use Rattle.std.specs.Prelude.{◌≡◌, ◌+◌, ◌<◌, ◌≤◌, ◌^◌, [], ◌∷◌, None, Some, OnOk, OnErr, IsErrOf, IsNone, IsSome, length};
 ghost use Rattle.pw_model.specs.declared.records.TotalKey.{TotalKey as AnyTotal};
 ghost use Rattle.pw_model.specs.Bearing.{bears_on};
 ghost use Rattle.pw_model.specs.Counting.{Member};
 ghost use Rattle.pw_model.specs.Kinds.{IsReading};
-ghost use Rattle.pw_model.specs.Lists.{record_count};
 ghost use Rattle.pw_model.specs.Office.{AllOfOffice, IsOfOffice, most_records};
-ghost use Rattle.pw_model.specs.Shelf.{IsTrueContent};
 ghost use Rattle.pw_shelf.specs.Left.{LeavesOnly};
 ghost use Rattle.pw_shelf.specs.Calls.{GoesOn, failures_told};
 ghost use Rattle.pw_shelf.specs.State.{CountsFailures};
 ghost use Rattle.pw_tariff.specs.Office.{IsSound, office_of};
 ghost use Rattle.pw_book.specs.Posting.{IsWithUpload};
-ghost use Rattle.pw_book.specs.inner.Added.{ChangesOneKey, CostsAtMost, IsPut, LeavesWithUpload, TakesAtMost};
-ghost use Rattle.pw_book.specs.inner.Fresh.{AreFresh};
+ghost use Rattle.pw_book.specs.inner.Added.{ChangesOneKey, CostsAtMost, IsPut, LeavesWithUpload, MayBeAdded, TakesAtMost};
 ghost use Rattle.pw_book.specs.inner.Failures.{FailuresUploaded};
-ghost use Rattle.pw_book.specs.inner.Gathered.{IsTrueBut, due};
+ghost use Rattle.pw_book.specs.inner.Gathered.{AreKnown, IsTrueBut, due};
 ghost use Rattle.pw_parts.specs.Changes.{gathered};
 ghost use Rattle.pw_parts.specs.declared.changes.Side.{Side as ASide};
 ghost use Rattle.pw_book.specs.declared.fault.BookFault.TheVariants.{Reopen};
 
 use crate::basis::Basis;
 use crate::fault::BookFault;
-use crate::moving::{move_energies, nothing_gathered};
+use crate::gathered::{Gathered, nothing_gathered};
+use crate::moving::move_energies;
 use crate::settling::settle;
 use crate::told::add_told;
 use pw_model::{Entry, Key};
-use pw_parts::Changes;
 use pw_shelf::{Shelf, ShelfFault};
 
 // Adds entries that aren't held in an upload of their own, and keeps points, starts and totals true.
@@ -39,10 +36,7 @@ pub(crate) fn upload<S: Shelf>(
     requires idle { IsNone (S.state shelf.old).begun }
     requires sound { IsSound basis.now.office.now }
     requires of_office { AllOfOffice (office_of basis.now.office.now) entries.now }
-    requires fresh { S.clean shelf.old → AreFresh (S.state shelf.old).content.records entries.now }
-    requires room { S.clean shelf.old → record_count ((S.state shelf.old).content.records ++ entries.now) ≤ most_records }
-    requires truth { S.clean shelf.old → IsTrueContent (office_of basis.now.office.now) (S.state shelf.old).content }
-    requires held { S.clean shelf.old → AllOfOffice (office_of basis.now.office.now) (S.state shelf.old).content.records }
+    requires ready { S.clean shelf.old → MayBeAdded (office_of basis.now.office.now) entries.now (S.state shelf.old).content }
     ensures posted { S.clean shelf.new → OnOk result (IsWithUpload (office_of basis.now.office.now) entries.now (S.state shelf.old).content (S.state shelf.new).content) }
     ensures back { S.clean shelf.new → OnErr result ((IsErrOf result Reopen → ⊥) → (S.state shelf.new).content ≡ (S.state shelf.old).content) }
     ensures idle { (IsErrOf result Reopen → ⊥) → IsNone (S.state shelf.new).begun }
@@ -73,10 +67,7 @@ fn write<S: Shelf>(shelf: &mut S, basis: &Basis, entries: &[Entry]) -> Result<()
     requires begun { IsSome (S.state shelf.old).begun }
     requires sound { IsSound basis.now.office.now }
     requires of_office { AllOfOffice (office_of basis.now.office.now) entries.now }
-    requires fresh { S.clean shelf.old → AreFresh (S.state shelf.old).content.records entries.now }
-    requires room { S.clean shelf.old → record_count ((S.state shelf.old).content.records ++ entries.now) ≤ most_records }
-    requires truth { S.clean shelf.old → IsTrueContent (office_of basis.now.office.now) (S.state shelf.old).content }
-    requires held { S.clean shelf.old → AllOfOffice (office_of basis.now.office.now) (S.state shelf.old).content.records }
+    requires ready { S.clean shelf.old → MayBeAdded (office_of basis.now.office.now) entries.now (S.state shelf.old).content }
     ensures posted { S.clean shelf.new → OnOk result (IsWithUpload (office_of basis.now.office.now) entries.now (S.state shelf.old).content (S.state shelf.new).content) }
     ensures ended { OnOk result ((S.state shelf.new).begun ≡ None) }
     ensures begun { OnErr result ((S.state shelf.new).begun ≡ (S.state shelf.old).begun) }
@@ -87,11 +78,11 @@ fn write<S: Shelf>(shelf: &mut S, basis: &Basis, entries: &[Entry]) -> Result<()
     ensures cleanness { S.clean shelf.new → S.clean shelf.old }
     ensures store { S.same_store shelf.old shelf.new }
 {
-    let mut changes = nothing_gathered(basis.alloc);
+    let mut so_far = nothing_gathered(basis.alloc);
     for entry in entries {
-        put(shelf, basis, entry, &mut changes)?;
+        put(shelf, basis, entry, &mut so_far)?;
     }
-    move_energies(shelf, basis.office, &changes)?;
+    move_energies(shelf, basis.office, &so_far.changes)?;
     shelf.commit()
 }
 
@@ -101,24 +92,26 @@ fn put<S: Shelf>(
     shelf: &mut S,
     basis: &Basis,
     entry: &Entry,
-    changes: &mut Changes,
+    so_far: &mut Gathered,
 ) -> Result<(), ShelfFault>
     requires begun { IsSome (S.state shelf.old).begun }
     requires sound { IsSound basis.now.office.now }
     requires of_office { IsOfOffice (office_of basis.now.office.now) entry.now }
     requires fresh { S.clean shelf.old → Member entry.now (S.state shelf.old).content.records → ⊥ }
     requires room { S.clean shelf.old → length (S.state shelf.old).content.records < most_records }
-    requires few { (side : ASide) (k : AnyTotal) → gathered side changes.old.rows k < 2 ^ 120 }
-    ensures put { S.clean shelf.new → IsTrueBut (office_of basis.now.office.now) changes.old.rows (S.state shelf.old).content.records (S.state shelf.old).content → AllOfOffice (office_of basis.now.office.now) (S.state shelf.old).content.records → OnOk result (IsPut (office_of basis.now.office.now) changes.new.rows (entry.now ∷ []) (S.state shelf.old).content (S.state shelf.new).content) }
-    ensures few { OnOk result ((side : ASide) (k : AnyTotal) → gathered side changes.new.rows k ≤ gathered side changes.old.rows k + 2 ^ 39) }
+    requires few { (side : ASide) (k : AnyTotal) → gathered side so_far.old.changes.rows k < 2 ^ 120 }
+    requires known { S.clean shelf.old → AreKnown (S.state shelf.old).content.start so_far.old.known }
+    ensures put { S.clean shelf.new → IsTrueBut (office_of basis.now.office.now) so_far.old.changes.rows (S.state shelf.old).content.records (S.state shelf.old).content → AllOfOffice (office_of basis.now.office.now) (S.state shelf.old).content.records → OnOk result (IsPut (office_of basis.now.office.now) so_far.new.changes.rows (entry.now ∷ []) (S.state shelf.old).content (S.state shelf.new).content) }
+    ensures few { OnOk result ((side : ASide) (k : AnyTotal) → gathered side so_far.new.changes.rows k ≤ gathered side so_far.old.changes.rows k + 2 ^ 39) }
     ensures start { S.clean shelf.new → IsReading (bears_on entry.now) → OnOk result ((S.state shelf.new).content.start ≡ (S.state shelf.old).content.start) }
     ensures alone { S.clean shelf.new → OnOk result (ChangesOneKey (bears_on entry.now) (S.state shelf.old).content (S.state shelf.new).content) }
-    ensures tally { S.clean shelf.new → TakesAtMost 7 (office_of basis.now.office.now) (S.state shelf.old).content (bears_on entry.now) ((S.state shelf.old).tally + due (office_of basis.now.office.now) changes.old.rows.entries) ((S.state shelf.new).tally + due (office_of basis.now.office.now) changes.new.rows.entries) }
+    ensures tally { S.clean shelf.new → TakesAtMost 7 (office_of basis.now.office.now) (S.state shelf.old).content (bears_on entry.now) ((S.state shelf.old).tally + due (office_of basis.now.office.now) so_far.old.changes.rows.entries) ((S.state shelf.new).tally + due (office_of basis.now.office.now) so_far.new.changes.rows.entries) }
+    ensures known { S.clean shelf.new → OnOk result (AreKnown (S.state shelf.new).content.start so_far.new.known) }
     ensures kept { GoesOn S.state S.left S.clean S.same_store (failures_told result) shelf.old shelf.new }
 {
     let key = bears_on(entry);
     let told = add_told(shelf, basis.alloc, entry, &key)?;
-    settle(shelf, basis, &key, &told.before, &told.behind, changes)
+    settle(shelf, basis, &key, &told.before, &told.behind, so_far)
 }
 
 // The key at which an entry may change what counts: of a withdrawal that of the record that it names, else its own.

@@ -15,7 +15,7 @@ ghost use Rattle.pw_shelf.specs.Changes.{starts_with, with_start as with_start_o
 ghost use Rattle.pw_book.specs.Cost.{HasStarts, classes_of};
 ghost use Rattle.pw_parts.specs.declared.changes.Side.{Side as ASide};
 ghost use Rattle.pw_parts.specs.declared.changes.Side.TheVariants.{Loses, Gains};
-ghost use Rattle.pw_book.specs.inner.Settling.{EndsBefore, EndsBeforeNext, HavePoints, IsSettled, IsStartChanged, ListsUpToNextStart, register_told};
+ghost use Rattle.pw_book.specs.inner.Settling.{EndsBefore, EndsBeforeNext, HavePoints, IsOver, IsSettled, IsStartChanged, ListsUpToNextStart, register_told};
 ghost use Rattle.pw_parts.specs.Changes.{gathered};
 ghost use Rattle.pw_book.specs.Listed.{point_listed};
 ghost use Rattle.pw_book.specs.inner.Sums.{AreDifferences};
@@ -40,6 +40,14 @@ struct Window<'a> {
     until: Instant,
     before: Owners<'a>,
     after: Owners<'a>,
+}
+
+// The points of a register within a window, and the ones next to it.
+#[derive(Drop)]
+struct Over {
+    before: Option<Point>,
+    within: Vec<Point>,
+    after: Option<Point>,
 }
 
 // Keeps the start of a meter at an instant as this owner's, or takes it away, and changes the energies of the pairs that
@@ -132,16 +140,8 @@ fn add_register<S: Shelf>(
     if !basis.office.counts(window.meter, register) {
         return Ok(());
     }
-    let before = shelf.point_before(window.meter, register, window.from)?;
-    let after = shelf.point_after(window.meter, register, window.until)?;
-    let within = shelf.points_between(
-        basis.alloc,
-        window.meter,
-        register,
-        window.from,
-        window.until,
-    )?;
-    let points = joined(basis.alloc, before, &within, after)?;
+    let over = points_over(shelf, basis.alloc, window, register)?;
+    let points = joined(basis.alloc, over.before, &over.within, over.after)?;
     let direction = direction_of(register);
     add_pairs(
         basis.alloc,
@@ -164,6 +164,29 @@ fn add_register<S: Shelf>(
         changes,
     )?;
     Ok(())
+}
+
+// The points of a register within a window, and the one before it and the one behind it, where there is one.
+fn points_over<S: Shelf>(
+    shelf: &mut S,
+    alloc: Global,
+    window: &Window,
+    register: Register,
+) -> Result<Over, ShelfFault>
+    requires { IsSome (S.state shelf.old).begun }
+    ensures points { S.clean shelf.new → IfOk result (λ over. IsOver window.now.from window.now.until ((S.state shelf.old).content.point window.now.meter.0 register) over.before over.within.items over.after) }
+    ensures same { S.clean shelf.new → OnOk result ((S.state shelf.new).content ≡ (S.state shelf.old).content) }
+    ensures tally { S.clean shelf.new → (most : ℕ) → EndsBeforeNext ((S.state shelf.old).content.start window.now.meter.0) window.now.from window.now.until → ((points : List (ℕ × ℕ)) → ListsUpToNextStart (S.state shelf.old).content window.now.meter.0 register window.now.from points → length points ≤ most) → (S.state shelf.new).tally ≤ (S.state shelf.old).tally + 5 + most }
+    ensures kept { GoesOn S.state S.left S.clean S.same_store (failures_told result) shelf.old shelf.new }
+{
+    let before = shelf.point_before(window.meter, register, window.from)?;
+    let after = shelf.point_after(window.meter, register, window.until)?;
+    let within = shelf.points_between(alloc, window.meter, register, window.from, window.until)?;
+    Ok(Over {
+        before,
+        within,
+        after,
+    })
 }
 
 /// A list of points, with the one before them and the one behind them, where there is one.

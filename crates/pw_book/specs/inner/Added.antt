@@ -18,12 +18,14 @@ use Rattle.pw_model.specs.declared.records.TotalKey.TheVariants.{TopUps}
 use Rattle.pw_model.specs.Bearing.{bears_on}
 use Rattle.pw_model.specs.Counting.{Member, SameMembers, assignment_key, contents_at, point, reading_key, start}
 use Rattle.pw_model.specs.Energy.{over_registers}
+use Rattle.pw_model.specs.Lists.{record_count}
 use Rattle.pw_model.specs.Office.{AllOfOffice, most_records}
 use Rattle.pw_model.specs.Payments.{cents_for, topped_up}
 use Rattle.pw_model.specs.Shelf.{IsTrueContent, ShelfContent, total_among}
 use Rattle.pw_book.specs.Cost.{AreAssignmentsWith, AreReadingsWith, AreTopUps, HasPoints, HasStarts, IsAssignmentUpToNext, classes_of}
 use Rattle.pw_book.specs.Posting.{IsWithUpload}
 use Rattle.pw_parts.specs.declared.changes.Change.{Change}
+use Rattle.pw_book.specs.inner.Fresh.{AreFresh}
 use Rattle.pw_book.specs.inner.Gathered.{IsTrueBut}
 use Rattle.pw_book.specs.inner.Moves.{MovesTotals}
 use Rattle.pw_book.specs.inner.Settling.{HavePoints}
@@ -95,6 +97,13 @@ ChangesOneKey (key.TopUp r) old new = (new.point ≡ old.point) × (new.start �
 ChangesOneKey (key.Withdrawal n) old new = (new.point ≡ old.point) × (new.start ≡ old.start)
 
 -- ---- an upload within a call
+-- entries that are fresh, and for which there is room beside the records of a true content, all of the office
+pub record MayBeAdded (office : OfficeRules) (entries : List Entry) (c : ShelfContent) : Type 0 where
+  pub fresh : AreFresh c.records entries
+  pub room : record_count (c.records ++ entries) ≤ most_records
+  pub truth : IsTrueContent office c
+  pub held : AllOfOffice office c.records
+
 -- what could be left before, or the content with the whole upload
 abbrev pub LeavesWithUpload : OfficeRules → List Entry → ShelfContent → (ShelfContent → Type 0) → (ShelfContent → Type 0) → Type 0
 LeavesWithUpload office entries content old new = (c : ShelfContent) → new c → old c ⊎ IsWithUpload office entries content c

@@ -1,19 +1,23 @@
--- What an upload has gathered, and not yet written. It serves `src/moving.rt`, `src/around.rt`, `src/settling.rt` and
--- `src/upload.rt`.
+-- What an upload has gathered, and not yet written, and the starts that it knows. It serves `src/gathered.rt`,
+-- `src/moving.rt`, `src/around.rt`, `src/settling.rt` and `src/upload.rt`.
 -- (Definitions of this project.)
-use Rattle.std.specs.Prelude.{◌≡◌, ℕ, ◌+◌, ◌*◌, List, [], ◌∷◌}
+use Rattle.std.specs.Prelude.{◌≡◌, ℕ, ◌+◌, ◌*◌, Option, Some, List, [], ◌∷◌}
 use Rattle.std.specs.BTreeMap.{BTreeMap}
+use Rattle.pw_tariff.specs.declared.ids.AccountId.{AccountId}
+use Rattle.pw_tariff.specs.declared.ids.MeterId.{MeterId}
 use Rattle.pw_tariff.specs.Office.{OfficeRules}
 use Rattle.pw_model.specs.declared.records.Key.{Key}
 use Rattle.pw_model.specs.declared.records.Contents.{Contents}
 use Rattle.pw_model.specs.declared.records.Entry.{Entry}
 use Rattle.pw_model.specs.declared.records.TotalKey.{TotalKey}
 use Rattle.pw_model.specs.Counting.{contents_at, point, start}
+use Rattle.pw_model.specs.Seconds.{ListsSeconds}
 use Rattle.pw_model.specs.Shelf.{ShelfContent, total_among}
 use Rattle.pw_parts.specs.Changes.{gathered}
 use Rattle.pw_parts.specs.declared.changes.Change.{Change}
 use Rattle.pw_parts.specs.declared.changes.Side.TheVariants.{Loses, Gains}
 use Rattle.pw_book.specs.Cost.{classes_of}
+use Rattle.pw_book.specs.declared.gathered.KnownStarts.{KnownStarts}
 use Rattle.pw_book.specs.inner.Moves.{OfOwners}
 use Rattle.pw_book.specs.inner.Sums.{energy_told}
 
@@ -41,3 +45,7 @@ AreGathered office was is old new = (k : TotalKey) →
 abbrev pub due : OfficeRules → List (TotalKey × Change) → ℕ
 due office [] = 0
 due office (e ∷ es) = 6 * classes_of office
+
+-- the starts that are known of a meter, if of one, are those that are kept of it
+abbrev pub AreKnown : (ℕ → ℕ → Option (Option AccountId)) → KnownStarts → Type 0
+AreKnown start known = (m : MeterId) → known.meter ≡ Some m → ListsSeconds (start m.0) known.starts.items

@@ -1,12 +1,12 @@
 -- Records in order, those of one key together. It serves `src/disputes.rt`.
 -- (Definitions of this project.)
-use Rattle.std.specs.Prelude.{◌≡◌, ℕ, ◌+◌, ◌^◌, ◌<◌, ◌≤◌, cond, List}
+use Rattle.std.specs.Prelude.{◌≡◌, ℕ, ◌+◌, ◌^◌, ◌<◌, ◌≤◌, cond, List, ◌++◌}
 use Rattle.pw_model.specs.declared.records.Key.{Key}
 use Rattle.pw_model.specs.declared.records.Dispute.{Dispute}
 use Rattle.pw_model.specs.declared.records.Entry.{Entry}
 use Rattle.pw_model.specs.Payments.{sum_once}
 use Rattle.pw_model.specs.Counting.{Member}
-use Rattle.pw_model.specs.Lists.{Lists}
+use Rattle.pw_model.specs.Lists.{Lists, dispute_order}
 use Rattle.pw_model.specs.Same.{same_key, same_entry, entry_order}
 
 -- what a record and so many behind it dispute, where their number isn't too large
@@ -31,3 +31,7 @@ AreOfSharedKeys some = Lists entry_order (λ e. Member e some × 2 ≤ records_w
 pub record IsDisputeAmong (some : List Entry) (d : Dispute) : Type 0 where
   pub several : 2 ≤ d.contents
   pub number : d.contents ≡ records_with d.key some
+
+-- behind some disputes those among them
+abbrev pub AreBehind : List Entry → List Dispute → List Dispute → Type 0
+AreBehind some old new = (more : List Dispute) × Lists dispute_order (IsDisputeAmong some) more × (new ≡ old ++ more)

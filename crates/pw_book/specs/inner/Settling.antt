@@ -17,6 +17,7 @@ use Rattle.pw_model.specs.Energy.{of_class, owner_at, share_of}
 use Rattle.pw_model.specs.Lists.{Lists}
 use Rattle.pw_model.specs.Shelf.{ShelfContent}
 use Rattle.pw_model.specs.Seconds.{by_second}
+use Rattle.pw_shelf.specs.Seconds.{IsBefore, IsBehind, ListsSecondsWithin}
 use Rattle.pw_book.specs.Cost.{IsBeforeNextStart}
 use Rattle.pw_book.specs.inner.Moves.{OfOwners, most_total}
 use Rattle.pw_book.specs.inner.Sums.{energy_told}
@@ -40,6 +41,12 @@ ListsUpToNextStart c m r from = Lists by_second (λ a. (from ≤ a.0) × IsBefor
 -- each register of a meter has so many points at most from a second up to the meter's next start
 abbrev pub HavePoints : ShelfContent → ℕ → ℕ → (Register → ℕ) → Type 0
 HavePoints c m from most = (r : Register) (points : List (ℕ × ℕ)) → ListsUpToNextStart c m r from points → length points ≤ most r
+
+-- the points from one second up to another, and the one before them and the one behind them, where there is one
+pub record IsOver (from until : ℕ) (told : ℕ → Option ℕ) (before : Option (ℕ × ℕ)) (within : List (ℕ × ℕ)) (after : Option (ℕ × ℕ)) : Type 0 where
+  pub before_is : IsBefore told from before
+  pub within_is : ListsSecondsWithin from until told within
+  pub after_is : IsBehind told until after
 
 -- ---- the time that a start decides on
 -- the last second before the next start behind a second: the last instant where none stands behind it

@@ -1,26 +1,11 @@
-use Rattle.std.proofs.Common.{◌+◌, ◌*◌, List, ◌++◌, sym, ◌∙◌, ap, subst}
+use Rattle.std.proofs.Common.{◌+◌, ◌*◌}
 use Rattle.pw_tariff.specs.Office.{register_place}
-use Rattle.pw_model.specs.declared.records.Dispute.{Dispute}
-use Rattle.pw_model.specs.declared.records.Entry.{Entry}
-use Rattle.pw_model.specs.Counting.{standing_among}
-use Rattle.pw_model.specs.Lists.{Lists, dispute_order}
-use Rattle.pw_model.specs.Shelf.{ShelfContent}
-use Rattle.pw_model.specs.Kinds.{ListsHeld, IsReadingOf}
-use Rattle.pw_book.specs.inner.Groups.{IsDisputeAmong}
-use Rattle.pw_book.specs.inner.Places.{DisputesBefore}
+use Rattle.pw_model.specs.Kinds.{IsReadingOf}
 use Rattle.pw_book.proofs.Contested.{disputes-more, reading-place}
 use Rattle.pw_book.proofs.disputes.add_readings_of.Goals as goal
 
 pub returns-clause-disputes : goal.returns-clause-disputes
 returns-clause-disputes g c = λ k meters w l before.
-    let held = c.deref.result.now in
-    let middle = c.disputes_among.ensures.asked.kept.clean k in
-    let same = c.readings_held.ensures.asked.content middle in
-    let records = (g.S.Shelf.state c.args.shelf.now).content.records in
-    let R : List Entry → Type 0 = λ found. ListsHeld (IsReadingOf c.args.meter c.args.register) records found in
-    let rows : ListsHeld (IsReadingOf c.args.meter c.args.register) records held = subst R (sym c.deref.ensures.value) (c.in_ok-readings.ensures.rows middle) in
-    let D : ShelfContent → Type 0 = λ d. Lists dispute_order (IsDisputeAmong (standing_among d.records held)) c.in_ok-more.more.items in
-    let all = disputes-more (IsReadingOf c.args.meter c.args.register) meters (6 * c.args.meter.0 + register_place c.args.register) records held c.args.disputes.now.items c.in_ok-more.more.items w rows (reading-place meters c.args.meter c.args.register l) (λ few. subst D same (c.in_ok-more.ensures.disputes k rows.rising few)) before in
-    let lent = c.in_ok-extend_from_slice.ensures.items ∙ ap (λ (xs : List Dispute). c.args.disputes.now.items ++ xs) c.deref-2.ensures.value in
-    let F : List Dispute → Type 0 = λ items. DisputesBefore meters records (6 * c.args.meter.0 + register_place c.args.register + 1) items in
-    subst F (sym lent) all
+    let middle = c.add_disputes_among.ensures.asked.kept.clean k in
+    disputes-more (IsReadingOf c.args.meter c.args.register) meters (6 * c.args.meter.0 + register_place c.args.register) (g.S.Shelf.state c.args.shelf.now).content _ c.in_ok-readings.readings.items c.deref.result.now c.args.disputes.now.items c.add_disputes_among.new.disputes.items
+    (c.readings_held.ensures.asked.content middle) c.deref.ensures.value w (c.in_ok-readings.ensures.rows middle) (reading-place meters c.args.meter c.args.register l) (c.in_ok-add_disputes_among.ensures.disputes k) before

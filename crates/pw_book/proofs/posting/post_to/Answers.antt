@@ -3,6 +3,8 @@ use Rattle.std.proofs.lemmas.Result.{err_from_is_err_and}
 use Rattle.pw_tariff.specs.Office.{office_of}
 use Rattle.pw_model.specs.declared.records.Entry.{Entry}
 use Rattle.pw_model.specs.Counting.{Member}
+use Rattle.pw_model.specs.Office.{AllOfOffice}
+use Rattle.pw_model.specs.Shelf.{IsTrueContent, ShelfContent}
 use Rattle.pw_book.proofs.Answering.{accepted-is, fits, full-is, leaves-posted, leaves-same, posted-full, rest-lent, room-is, upload-same, weighed-lent, whole, written}
 use Rattle.pw_book.proofs.Spending.{cheap-so-far, cheap-whole, fresh-lent, lent-tally}
 use Rattle.pw_book.proofs.posting.post_to.Goals as goal
@@ -31,19 +33,21 @@ upload-requires-clause-of_office g c = λ e m.
     let P : List Entry → Type 0 = λ l. Member e l in
     c.requires.of_office e ((c.in_ok-distinct.ensures.members e).0 (subst P c.deref.ensures.value (c.in_ok-held.ensures.part e (subst P c.deref-2.ensures.value m))))
 
-pub upload-requires-clause-fresh : goal.upload-requires-clause-fresh
-upload-requires-clause-fresh g c = λ k.
+pub upload-requires-clause-ready : goal.upload-requires-clause-ready
+upload-requires-clause-ready g c = λ k.
+    let office = office_of c.args.basis.now.office.now in
     let before = c.weigh.ensures.asked.kept.clean k in
     let old = (g.S.Shelf.state c.args.shelf.now).content in
+    let same = c.weigh.ensures.asked.content k in
     let w = weighed-lent old.records c.args.entries.now c.in_ok-distinct.distinct.items c.deref.result.now c.in_ok-held.fresh.items c.deref-2.result.now c.in_ok-held.held (g.met.S.Shelf.once c.args.shelf.now before) c.in_ok-distinct.ensures.once c.in_ok-distinct.ensures.members (c.in_ok-held.ensures.held k) c.deref.ensures.value (c.in_ok-held.ensures.fresh k) c.deref-2.ensures.value in
-    written (office_of c.args.basis.now.office.now) c.args.entries.now c.in_ok-distinct.distinct.items c.deref-2.result.now old c.in_ok-held.held c.args.limit w _ (c.weigh.ensures.asked.content k)
-
-pub upload-requires-clause-room : goal.upload-requires-clause-room
-upload-requires-clause-room g c = λ k.
-    let before = c.weigh.ensures.asked.kept.clean k in
-    let old = (g.S.Shelf.state c.args.shelf.now).content in
-    let w = weighed-lent old.records c.args.entries.now c.in_ok-distinct.distinct.items c.deref.result.now c.in_ok-held.fresh.items c.deref-2.result.now c.in_ok-held.held (g.met.S.Shelf.once c.args.shelf.now before) c.in_ok-distinct.ensures.once c.in_ok-distinct.ensures.members (c.in_ok-held.ensures.held k) c.deref.ensures.value (c.in_ok-held.ensures.fresh k) c.deref-2.ensures.value in
-    fits (office_of c.args.basis.now.office.now) c.args.entries.now c.in_ok-distinct.distinct.items c.deref-2.result.now old c.in_ok-held.held c.args.limit w _ _ (c.len-3.ensures ∙ sym c.deref-2.ensures.len) c.in_ok-accepted.ensures.0 c.requires.most (c.weigh.ensures.asked.content k)
+    let T : ShelfContent → Type 0 = λ d. IsTrueContent office d in
+    let H : ShelfContent → Type 0 = λ d. AllOfOffice office d.records in
+    record {
+      fresh = written office c.args.entries.now c.in_ok-distinct.distinct.items c.deref-2.result.now old c.in_ok-held.held c.args.limit w _ same;
+      room = fits office c.args.entries.now c.in_ok-distinct.distinct.items c.deref-2.result.now old c.in_ok-held.held c.args.limit w _ _ (c.len-3.ensures ∙ sym c.deref-2.ensures.len) c.in_ok-accepted.ensures.0 c.requires.most same;
+      truth = subst T (sym same) (c.requires.truth before);
+      held = subst H (sym same) (c.requires.held before);
+    }
 
 pub returns-in_err-upload-clause-left : goal.returns-in_err-upload-clause-left
 returns-in_err-upload-clause-left g c = λ k.

@@ -6,6 +6,7 @@ use Rattle.pw_model.specs.Bearing.{bears_on}
 use Rattle.pw_model.specs.Kinds.{IsReading}
 use Rattle.pw_book.specs.inner.Added.{ChangesOneKey, IsJustChanged, IsKeyOf, TakesAtMost}
 use Rattle.pw_book.specs.inner.Gathered.{due}
+use Rattle.pw_book.proofs.Known.{still-known}
 use Rattle.pw_book.proofs.Putting.{added-then, just-changed, key-of, put-added, still-true, takes-on}
 use Rattle.pw_book.proofs.upload.put.Goals as goal
 
@@ -27,7 +28,7 @@ returns-clause-put g c = λ k t h.
     let added = c.in_ok-told.ensures.added second in
     let J : Key → Type 0 = λ l. IsJustChanged office old.records l told.before told.behind mid.records in
     let j = just-changed office e told.before told.behind old old mid mid refl added refl (c.in_ok-told.ensures.before second office h t.points) (c.in_ok-told.ensures.behind second) c.requires.of_office h (c.requires.room start) in
-    let still = still-true office c.args.changes.now.rows e old old mid mid refl added refl t in
+    let still = still-true office c.args.so_far.now.changes.rows e old old mid mid refl added refl t in
     on_ok_weaker c.settle.result (λ q. put-added office _ e old old mid mid _ refl added refl q.records q.truth) (c.settle.ensures.settled k old.records (subst J (sym c.bears_on-key.ensures) j) still)
 
 pub returns-clause-start : goal.returns-clause-start
@@ -51,10 +52,14 @@ returns-clause-tally g c = λ k.
     let old = (g.S.Shelf.state c.args.shelf.now).content in
     let mid = (g.S.Shelf.state c.add_told.new.shelf).content in
     let added = c.in_ok-told.ensures.added second in
-    let owed = due office c.args.changes.now.rows.entries in
+    let owed = due office c.args.so_far.now.changes.rows.entries in
     let was = (g.S.Shelf.state c.args.shelf.now).tally + owed in
     let then = (g.S.Shelf.state c.add_told.new.shelf).tally + owed in
-    let now = (g.S.Shelf.state c.settle.new.shelf).tally + due office c.settle.new.changes.rows.entries in
+    let now = (g.S.Shelf.state c.settle.new.shelf).tally + due office c.settle.new.so_far.changes.rows.entries in
     let P : Key → Type 0 = λ l. TakesAtMost 0 office mid l then now in
     let t = c.add_told.ensures.tally second in
     takes-on office (bears_on c.args.entry.now) old mid was then now added.start added.point (omega (arith, t)) (subst P c.bears_on-key.ensures (c.settle.ensures.tally k))
+
+pub settle-requires-clause-known : goal.settle-requires-clause-known
+settle-requires-clause-known g c = λ k.
+    still-known _ _ c.args.so_far.now.known (c.in_ok-told.ensures.added k).start (c.requires.known (c.add_told.ensures.kept.clean k))

@@ -4,6 +4,7 @@ use Rattle.pw_tariff.specs.Office.{office_of}
 use Rattle.pw_book.proofs.Chains.{kept-then, kept-none}
 use Rattle.pw_model.proofs.SoundOffice.{sound-office}
 use Rattle.pw_book.proofs.Joining.{all-written, joined-fresh, joined-none, joined-next, joined-room, joined-of_office, got-of_office, got-member, with-upload}
+use Rattle.pw_book.proofs.Known.{none-known}
 use Rattle.pw_book.proofs.Spending.{assignments-next, behind-next, behind-none, enough-next, enough-none, only-next, readings-next, several-next, top-ups-next, costs-less, costs-so-far, costs-next}
 use Rattle.pw_book.proofs.Truthful.{none-there}
 use Rattle.pw_book.proofs.Walking.{due-none}
@@ -14,15 +15,15 @@ put-requires-clause-of_office g c = got-of_office (office_of c.args.basis.now.of
 
 pub put-requires-clause-fresh : goal.put-requires-clause-fresh
 put-requires-clause-fresh g c = λ k.
-    joined-fresh (office_of c.args.basis.now.office.now) c.args.entries.now c.loop-entry.entry-index c.entry-item.result (g.S.Shelf.state c.args.shelf.now).content (g.S.Shelf.state c.loop-entry.shelf).content c.loop-entry-test.true c.entry-item.is (c.requires.fresh (c.loop-entry.invariant.kept.clean k)) (c.loop-entry.invariant.put k).records
+    joined-fresh (office_of c.args.basis.now.office.now) c.args.entries.now c.loop-entry.entry-index c.entry-item.result (g.S.Shelf.state c.args.shelf.now).content (g.S.Shelf.state c.loop-entry.shelf).content c.loop-entry-test.true c.entry-item.is (c.requires.ready (c.loop-entry.invariant.kept.clean k)).fresh (c.loop-entry.invariant.put k).records
 
 pub put-requires-clause-room : goal.put-requires-clause-room
 put-requires-clause-room g c = λ k.
     let start = c.loop-entry.invariant.kept.clean k in
     let office = office_of c.args.basis.now.office.now in
     let so_far = c.loop-entry.invariant.put k in
-    joined-room office c.args.entries.now c.loop-entry.entry-index c.entry-item.result (g.S.Shelf.state c.args.shelf.now).content (g.S.Shelf.state c.loop-entry.shelf).content c.loop-entry-test.true c.entry-item.is so_far.records (g.met.S.Shelf.once c.loop-entry.shelf k) (c.requires.room start)
-    (joined-fresh office c.args.entries.now c.loop-entry.entry-index c.entry-item.result (g.S.Shelf.state c.args.shelf.now).content (g.S.Shelf.state c.loop-entry.shelf).content c.loop-entry-test.true c.entry-item.is (c.requires.fresh start) so_far.records)
+    joined-room office c.args.entries.now c.loop-entry.entry-index c.entry-item.result (g.S.Shelf.state c.args.shelf.now).content (g.S.Shelf.state c.loop-entry.shelf).content c.loop-entry-test.true c.entry-item.is so_far.records (g.met.S.Shelf.once c.loop-entry.shelf k) (c.requires.ready start).room
+    (joined-fresh office c.args.entries.now c.loop-entry.entry-index c.entry-item.result (g.S.Shelf.state c.args.shelf.now).content (g.S.Shelf.state c.loop-entry.shelf).content c.loop-entry-test.true c.entry-item.is (c.requires.ready start).fresh so_far.records)
 
 pub returns-in_err-put-clause-tally : goal.returns-in_err-put-clause-tally
 returns-in_err-put-clause-tally g c = λ k.
@@ -33,10 +34,11 @@ returns-in_err-put-clause-tally g c = λ k.
 
 pub loop-entry-init : goal.loop-entry-init
 loop-entry-init g c =
-    let owed = due-none (office_of c.args.basis.now.office.now) c.nothing_gathered-changes.result.rows.entries c.nothing_gathered-changes.ensures in
+    let owed = due-none (office_of c.args.basis.now.office.now) c.nothing_gathered-so_far.result.changes.rows.entries c.nothing_gathered-so_far.ensures.changes in
     record {
-      few = λ side t. let none = none-there side c.nothing_gathered-changes.result.rows t c.nothing_gathered-changes.ensures in omega (arith, none);
-      put = λ k. joined-none (office_of c.args.basis.now.office.now) _ _ _ refl c.nothing_gathered-changes.ensures (c.requires.truth k);
+      few = λ side t. let none = none-there side c.nothing_gathered-so_far.result.changes.rows t c.nothing_gathered-so_far.ensures.changes in omega (arith, none);
+      put = λ k. joined-none (office_of c.args.basis.now.office.now) _ _ _ refl c.nothing_gathered-so_far.ensures.changes (c.requires.ready k).truth;
+      known = λ k. none-known _ c.nothing_gathered-so_far.result.known c.nothing_gathered-so_far.ensures.known;
       start = λ k starts a. refl;
       readings = λ k starts a. omega (arith, owed);
       first = λ k z. (refl, omega (arith, owed));
@@ -60,7 +62,8 @@ loop-entry-preserved g c =
           let start = c.loop-entry.invariant.kept.clean before in
           let so_far = c.loop-entry.invariant.put before in
           joined-next office _ _ c.args.entries.now c.loop-entry.entry-index c.entry-item.result _ _ _ c.loop-entry-test.true c.entry-item.is so_far
-          (c.in_ok-put.ensures.put k so_far.truth (joined-of_office office c.args.entries.now c.loop-entry.entry-index (g.S.Shelf.state c.args.shelf.now).content (g.S.Shelf.state c.loop-entry.shelf).content c.requires.of_office (c.requires.held start) so_far.records));
+          (c.in_ok-put.ensures.put k so_far.truth (joined-of_office office c.args.entries.now c.loop-entry.entry-index (g.S.Shelf.state c.args.shelf.now).content (g.S.Shelf.state c.loop-entry.shelf).content c.requires.of_office (c.requires.ready start).held so_far.records));
+      known = λ k. c.in_ok-put.ensures.known k;
       start = λ k starts a. c.in_ok-put.ensures.start k (a c.entry-item.result m).0 ∙ c.loop-entry.invariant.start (c.put.ensures.kept.clean k) starts a;
       readings = λ k starts a.
           let before = c.put.ensures.kept.clean k in
@@ -104,7 +107,7 @@ returns-clause-posted g c = λ k.
     let before = c.move_energies.ensures.kept.clean written in
     let start = c.loop-entry.invariant.kept.clean before in
     let office = office_of c.args.basis.now.office.now in
-    let all = all-written office (sound-office c.args.basis.now.office.now c.requires.sound) _ c.args.entries.now c.loop-entry.entry-index _ _ _ c.loop-entry-test.false c.loop-entry.auto.entry-index-end c.requires.of_office (c.requires.held start) (c.requires.room start)
+    let all = all-written office (sound-office c.args.basis.now.office.now c.requires.sound) _ c.args.entries.now c.loop-entry.entry-index _ _ _ c.loop-entry-test.false c.loop-entry.auto.entry-index-end c.requires.of_office (c.requires.ready start).held (c.requires.ready start).room
     (g.met.S.Shelf.once _ before) (c.loop-entry.invariant.put before) (c.in_ok-move_energies.ensures.moved written) in
     on_ok_weaker c.commit.result (λ same. with-upload office c.args.entries.now _ _ _ same all) (c.commit.ensures.same k)
 
@@ -114,7 +117,7 @@ returns-clause-left g c = λ k.
     let before = c.move_energies.ensures.kept.clean written in
     let start = c.loop-entry.invariant.kept.clean before in
     let office = office_of c.args.basis.now.office.now in
-    let all = all-written office (sound-office c.args.basis.now.office.now c.requires.sound) _ c.args.entries.now c.loop-entry.entry-index _ _ _ c.loop-entry-test.false c.loop-entry.auto.entry-index-end c.requires.of_office (c.requires.held start) (c.requires.room start)
+    let all = all-written office (sound-office c.args.basis.now.office.now c.requires.sound) _ c.args.entries.now c.loop-entry.entry-index _ _ _ c.loop-entry-test.false c.loop-entry.auto.entry-index-end c.requires.of_office (c.requires.ready start).held (c.requires.ready start).room
     (g.met.S.Shelf.once _ before) (c.loop-entry.invariant.put before) (c.in_ok-move_energies.ensures.moved written) in
     on_err_weaker c.commit.result (λ left d now. elim (left d now) [
       | inl old ↦ inl (c.loop-entry.invariant.kept.left before d (c.in_ok-move_energies.ensures.kept.left written d old))
