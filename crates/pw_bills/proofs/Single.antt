@@ -9,14 +9,18 @@ use Rattle.pw_model.specs.declared.records.TotalKey.TheVariants.{Energy}
 use Rattle.pw_model.specs.Counting.{contents_at}
 use Rattle.pw_model.specs.Energy.{account}
 use Rattle.pw_model.specs.Office.{AllOfOffice, most_records}
+use Rattle.pw_model.specs.Shelf.{ShelfContent}
 use Rattle.pw_model.proofs.PlainEnergy.{energy-fits}
 use Rattle.pw_model.proofs.SoundOffice.{sound-office}
 use Rattle.pw_parts.specs.Changes.{gathered}
 use Rattle.pw_parts.specs.declared.changes.Side.TheVariants.{Gains}
 use Rattle.pw_bills.specs.Energies.{TellsEnergies}
-use Rattle.pw_bills.specs.Stretches.{AreStretches, end_of}
+use Rattle.pw_bills.specs.Stretches.{AreStretches, end_of, first_of}
 use Rattle.pw_bills.specs.declared.energies.Energies.{Energies}
-use Rattle.pw_bills.specs.inner.Flows.{IsOfStretch, all_between, of_stretch}
+use Rattle.pw_bills.specs.inner.Flows.{AddsEnergy, IsOfStretch, all_between, of_stretch}
+use Rattle.pw_bills.specs.inner.Gathering.{IsGathered}
+use Rattle.pw_bills.proofs.Given.{all-given}
+use Rattle.pw_bills.proofs.Named.{rises}
 
 one-rises : (x end i : ℕ) → x < end → i < 1 → get_or (x ∷ []) i 0 < end_of (x ∷ []) end i
 one-rises x end zero h l = h
@@ -29,9 +33,14 @@ min-is : (n most : ℕ) → n ≤ most → min n most ≡ n
 min-is n most h = omega arith
 
 -- what is gathered fits, so it is told as it is
-pub energies-told : (file : OfficeFile) (s : List Entry) (a : AccountId) (begins : List ℕ) (end : ℕ) (e : Energies) → IsSound file → AllOfOffice (office_of file) s → length s ≤ most_records →
+energies-told : (file : OfficeFile) (s : List Entry) (a : AccountId) (begins : List ℕ) (end : ℕ) (e : Energies) → IsSound file → AllOfOffice (office_of file) s → length s ≤ most_records →
     ((k : TotalKey) → IsOfStretch begins k → gathered Gains e.changes.rows k ≡ all_between (office_of file) (contents_at s) a begins end k) → TellsEnergies (office_of file) s a begins end e
 energies-told file s a begins end e sound o few h = λ i l p b d.
     let g = h (Energy (Some (account i)) p b d) l in
     let f = energy-fits (office_of file) s d (of_stretch (office_of file) a begins end i p.0 b.0) (sound-office file sound) o few in
     min-is (gathered Gains e.changes.rows (Energy (Some (account i)) p b d)) (2 ^ 64 - 1) (omega (arith, g, f)) ∙ g
+
+pub energies-gathered : (file : OfficeFile) (c : ShelfContent) (a : AccountId) (begins : List ℕ) (end : ℕ) (old new : Energies) → AreStretches begins end → ((k : TotalKey) → gathered Gains old.changes.rows k ≡ 0) →
+    IsGathered (AddsEnergy file c a begins end) file c a (first_of begins end) end old new → TellsEnergies (office_of file) c.records a begins end new
+energies-gathered file c a begins end old new w z h =
+    energies-told file c.records a begins end new h.office h.content.of_office h.content.few (all-given file c a begins end old new (rises begins end w.rising) z h)

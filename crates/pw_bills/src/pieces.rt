@@ -4,10 +4,9 @@ ghost use Rattle.std.specs.Prelude.{◌≡◌, ◌<◌, ◌≤◌, ◌++◌, IfO
 ghost use Rattle.std.specs.List.{filter};
 ghost use Rattle.pw_model.specs.Lists.{IsInOrder};
 ghost use Rattle.pw_model.specs.Seconds.{by_second};
-ghost use Rattle.pw_bills.specs.inner.Rows.{Adds, GivenBetween, GivenByPoints, gives, why_of};
+ghost use Rattle.pw_bills.specs.inner.Rows.{Adds, GivenBetween, GivenByPoints, gives_something, piece_of, why_of};
 
 use crate::reasons::WhyPiece;
-use crate::within::is_account;
 use pw_book::Basis;
 use pw_obis::Register;
 use pw_parts::Point;
@@ -15,7 +14,7 @@ use pw_tariff::{AccountId, MeterId, Owners, Piece, Span, pieces_of};
 use std::alloc::AllocError;
 
 // Adds the rows of a register: what the neighbouring pairs of its points give the account, under
-// these owners.
+// owners that name the one stretch that is asked for.
 pub(crate) fn add_points(
     basis: &Basis,
     owners: &Owners,
@@ -73,24 +72,37 @@ fn add_pieces(
     pieces: &[Piece],
     rows: &mut Vec<WhyPiece>,
 ) -> Result<(), AllocError>
-    ensures { OnOk result (rows.new.items ≡ rows.old.items ++ map (why_of meter register span.now) (filter (gives account) pieces.now)) }
+    ensures { OnOk result (rows.new.items ≡ rows.old.items ++ map (why_of account meter register span.now) (filter gives_something pieces.now)) }
 {
     for piece in pieces {
-        if gives_account(piece, account) {
+        if gives(piece) {
             rows.push(WhyPiece {
                 meter,
                 register,
                 span: *span,
-                piece: *piece,
+                piece: told_as(piece, account),
             })?;
         }
     }
     Ok(())
 }
 
-// Whether a piece gives the account something.
-fn gives_account(piece: &Piece, account: AccountId) -> bool
-    ensures { result ≡ gives account piece.now }
+// Whether a piece gives the account something, under the number of the one stretch.
+fn gives(piece: &Piece) -> bool
+    ensures { result ≡ gives_something piece.now }
 {
-    is_account(piece.owner, account) && piece.wh > 0
+    match piece.owner {
+        Some(stretch) => stretch.0 == 0 && piece.wh > 0,
+        None => false,
+    }
+}
+
+// The piece, told as the account's.
+fn told_as(piece: &Piece, account: AccountId) -> Piece
+    ensures { result ≡ piece_of account piece.now }
+{
+    Piece {
+        owner: Some(account),
+        ..*piece
+    }
 }
