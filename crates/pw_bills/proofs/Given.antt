@@ -25,7 +25,6 @@ use Rattle.pw_model.specs.declared.records.TotalKey.TheVariants.{Energy, TopUps}
 use Rattle.pw_model.specs.Counting.{contents_at, point}
 use Rattle.pw_model.specs.Energy.{Asked, account, asked_seconds, energy_where, of_class, over_registers, owner_at, share_of}
 use Rattle.pw_model.specs.Same.{direction_of, same_direction}
-use Rattle.pw_model.specs.Shelf.{ShelfContent}
 use Rattle.pw_model.proofs.PlainEnergy.{sum-next}
 use Rattle.pw_parts.specs.Changes.{gathered, pairs_for}
 use Rattle.pw_parts.specs.declared.changes.Side.TheVariants.{Gains}
@@ -36,12 +35,12 @@ use Rattle.pw_bills.specs.declared.energies.Energies.{Energies}
 use Rattle.pw_bills.specs.ReadUpTo.{IsAccountsIn}
 use Rattle.pw_bills.specs.Stretches.{end_of, first_of}
 use Rattle.pw_bills.specs.inner.Flows.{AddsEnergy, Covers, IsOfStretch, all_between, meter_between, of_stretch, register_between}
-use Rattle.pw_bills.specs.inner.Gathering.{IsGathered}
+use Rattle.pw_bills.specs.inner.Gathering.{Pass, IsGathered, IsOfAccount}
 use Rattle.pw_bills.specs.inner.Naming.{NamesStretches, OwnerStart}
 use Rattle.pw_bills.proofs.Covered.{covered-energy, pairs-alike}
 use Rattle.pw_bills.proofs.Named.{Rises, begin-least, ends-most}
 use Rattle.pw_bills.proofs.NamedStarts.{account-is}
-use Rattle.pw_bills.proofs.StepByStep.{meters-keep}
+use Rattle.pw_bills.proofs.StepByStep.{gathered-keep}
 
 and-assoc : (l s c : Bool) → ((l && s) && c) ≡ (l && (s && c))
 and-assoc true s c = refl
@@ -150,48 +149,46 @@ unfolding sum_over
 sum-none f = refl
 
 -- what is gathered of an office
-module _ (file : OfficeFile) (c : ShelfContent) (a : AccountId) (begins : List ℕ) (end : ℕ) where
+module _ (q : Pass) where
   abbrev UpTo : ℕ → ℕ → Energies → Type 0
-  UpTo m i e = (k : TotalKey) → IsOfStretch begins k →
+  UpTo m i e = (k : TotalKey) → IsOfStretch q.begins k →
       gathered Gains e.changes.rows k
-      ≡ sum_over (meter_between (office_of file) (contents_at c.records) a begins end k) 0 m
-      + sum_by (register_between (office_of file) (contents_at c.records) a begins end m k) (take i registers)
+      ≡ sum_over (meter_between (office_of q.file) (contents_at q.content.records) q.account q.begins q.end k) 0 m
+      + sum_by (register_between (office_of q.file) (contents_at q.content.records) q.account q.begins q.end m k) (take i registers)
 
-  register-up_to : (m : ℕ) (r : Register) (mid next : Energies) → AddsEnergy file c a begins end m r mid next → UpTo m (register_place r) mid → UpTo m (register_place r + 1) next
+  register-up_to : (m : ℕ) (r : Register) (mid next : Energies) → AddsEnergy q m r mid next → UpTo m (register_place r) mid → UpTo m (register_place r + 1) next
   register-up_to m r mid next f h = λ k s.
       let x = f k s in
       let y = h k s in
-      let z = sum-at (register_between (office_of file) (contents_at c.records) a begins end m k) r in
+      let z = sum-at (register_between (office_of q.file) (contents_at q.content.records) q.account q.begins q.end m k) r in
       omega (arith, x, y, z)
 
-  uncounted-up_to : (m : ℕ) (r : Register) (mid : Energies) → counts_at file m r ≡ false → UpTo m (register_place r) mid → UpTo m (register_place r + 1) mid
+  uncounted-up_to : (m : ℕ) (r : Register) (mid : Energies) → counts_at q.file m r ≡ false → UpTo m (register_place r) mid → UpTo m (register_place r + 1) mid
   uncounted-up_to m r mid n h = λ k s.
-      let x = register-uncounted file (contents_at c.records) m r a begins end n k in
+      let x = register-uncounted q.file (contents_at q.content.records) m r q.account q.begins q.end n k in
       let y = h k s in
-      let z = sum-at (register_between (office_of file) (contents_at c.records) a begins end m k) r in
+      let z = sum-at (register_between (office_of q.file) (contents_at q.content.records) q.account q.begins q.end m k) r in
       omega (arith, x, y, z)
 
   meter-up_to : (m : ℕ) (mid : Energies) → UpTo m 6 mid → UpTo (m + 1) 0 mid
   meter-up_to m mid h = λ k s.
       let x = h k s in
-      let y = registers-between (office_of file) (contents_at c.records) m a begins end k in
-      let z = sum-next (meter_between (office_of file) (contents_at c.records) a begins end k) m in
+      let y = registers-between (office_of q.file) (contents_at q.content.records) m q.account q.begins q.end k in
+      let z = sum-next (meter_between (office_of q.file) (contents_at q.content.records) q.account q.begins q.end k) m in
       omega (arith, x, y, z)
 
-  others-up_to : (m : ℕ) (mid : Energies) → Rises begins end → ¬ (IsAccountsIn (contents_at c.records) a (first_of begins end) end m) → UpTo m 0 mid → UpTo (m + 1) 0 mid
+  others-up_to : (m : ℕ) (mid : Energies) → Rises q.begins q.end → ¬ (IsOfAccount q m) → UpTo m 0 mid → UpTo (m + 1) 0 mid
   others-up_to m mid w n h = λ k s.
       let x = h k s in
-      let y = nothing-given file (contents_at c.records) m a begins end w n k s in
-      let z = sum-next (meter_between (office_of file) (contents_at c.records) a begins end k) m in
+      let y = nothing-given q.file (contents_at q.content.records) m q.account q.begins q.end w n k s in
+      let z = sum-next (meter_between (office_of q.file) (contents_at q.content.records) q.account q.begins q.end k) m in
       omega (arith, x, y, z)
 
-  pub all-given : (old new : Energies) → Rises begins end → ((k : TotalKey) → gathered Gains old.changes.rows k ≡ 0) →
-      IsGathered (AddsEnergy file c a begins end) file c a (first_of begins end) end old new → (k : TotalKey) → IsOfStretch begins k →
-      gathered Gains new.changes.rows k ≡ all_between (office_of file) (contents_at c.records) a begins end k
+  pub all-given : (old new : Energies) → Rises q.begins q.end → ((k : TotalKey) → gathered Gains old.changes.rows k ≡ 0) → IsGathered AddsEnergy q old new → (k : TotalKey) → IsOfStretch q.begins k →
+      gathered Gains new.changes.rows k ≡ all_between (office_of q.file) (contents_at q.content.records) q.account q.begins q.end k
   all-given old new w z h = λ k s.
-      let first : UpTo 0 0 old = λ q t. (let x = z q in let y = sum-none (meter_between (office_of file) (contents_at c.records) a begins end q) in omega (arith, x, y)) in
-      let all : UpTo (length file.meters) 0 new
-      = meters-keep (IsAccountsIn (contents_at c.records) a (first_of begins end) end) (counts_at file) (AddsEnergy file c a begins end) UpTo (length file.meters)
-      (λ m r mid next l o y f u. register-up_to m r mid next f u) uncounted-up_to meter-up_to (λ m mid l n u. others-up_to m mid w n u) old new first h.steps in
+      let first : UpTo 0 0 old = λ t l. (let x = z t in let y = sum-none (meter_between (office_of q.file) (contents_at q.content.records) q.account q.begins q.end t) in omega (arith, x, y)) in
+      let all : UpTo (length q.file.meters) 0 new
+      = gathered-keep AddsEnergy q UpTo (λ m r mid next l o y f u. register-up_to m r mid next f u) uncounted-up_to meter-up_to (λ m mid n u. others-up_to m mid w n u) old new first h in
       let e = all k s in
-      meters-all (office_of file) (contents_at c.records) a begins end (gathered Gains new.changes.rows k) k s (omega (arith, e))
+      meters-all (office_of q.file) (contents_at q.content.records) q.account q.begins q.end (gathered Gains new.changes.rows k) k s (omega (arith, e))

@@ -9,7 +9,7 @@ use Rattle.pw_flow.specs.Time.{last}
 use Rattle.pw_flow.proofs.Points.{last-is, last-none}
 use Rattle.pw_tariff.specs.declared.ids.AccountId.{AccountId}
 use Rattle.pw_tariff.specs.declared.ids.MeterId.{MeterId}
-use Rattle.pw_tariff.specs.Office.{OfficeFile, OfficeRules, counts_at, office_of, register_place}
+use Rattle.pw_tariff.specs.Office.{OfficeRules, office_of, register_place}
 use Rattle.pw_model.specs.Counting.{contents_at, point}
 use Rattle.pw_model.specs.Lists.{Lists}
 use Rattle.pw_model.specs.Shelf.{ShelfContent}
@@ -22,9 +22,9 @@ use Rattle.pw_book.proofs.Segments.{place-few}
 use Rattle.pw_bills.specs.declared.readings.LastReading.{LastReading}
 use Rattle.pw_bills.specs.declared.readings.LastReadings.{LastReadings}
 use Rattle.pw_bills.specs.ReadUpTo.{AreLastReadings, IsAccountsIn, IsLastReading, reading_order, register_number}
-use Rattle.pw_bills.specs.inner.Gathering.{IsGathered}
+use Rattle.pw_bills.specs.inner.Gathering.{Pass, IsGathered, IsOfAccount, first_second}
 use Rattle.pw_bills.specs.inner.LastReadings.{AddsLatest, AreReadBefore, latest_reading}
-use Rattle.pw_bills.proofs.StepByStep.{meters-keep}
+use Rattle.pw_bills.proofs.StepByStep.{gathered-keep}
 
 -- ---- the latest point of a register
 here-told : (told : ℕ → Option ℕ) (t : ℕ) (a : ℕ × ℕ) → t ≤ a.0 → a.0 ≤ t → told a.0 ≡ Some a.1 → last told t ≡ Some a
@@ -171,25 +171,25 @@ module _ (office : OfficeRules) (c : ShelfContent) (a : AccountId) (from end : �
   }
 
 -- all that is gathered of an office
-pub readings-told : (file : OfficeFile) (c : ShelfContent) (a : AccountId) (x end : ℕ) (old new : LastReadings) → old.rows.items ≡ [] →
-    IsGathered (AddsLatest file c a (x ∷ []) end) file c a x end old new → AreLastReadings (office_of file) c.records a x end new.rows.items
-readings-told file c a x end old new e h =
-    let office : OfficeRules = office_of file in
-    let UpTo : ℕ → ℕ → LastReadings → Type 0 = λ m i g. AreReadBefore office c a x end (6 * m + i) g.rows.items in
-    let Z : List LastReading → Type 0 = λ rows. AreReadBefore office c a x end 0 rows in
+pub readings-told : (q : Pass) (old new : LastReadings) → old.rows.items ≡ [] → IsGathered AddsLatest q old new → AreLastReadings (office_of q.file) q.content.records q.account (first_second q) q.end new.rows.items
+readings-told q old new e h =
+    let office : OfficeRules = office_of q.file in
+    let y : ℕ = first_second q in
+    let Read : ℕ → List LastReading → Type 0 = λ n rows. AreReadBefore office q.content q.account y q.end n rows in
+    let UpTo : ℕ → ℕ → LastReadings → Type 0 = λ m i g. Read (6 * m + i) g.rows.items in
     let over : (m : ℕ) (g : LastReadings) → UpTo m 6 g → UpTo (m + 1) 0 g = λ m g b. (
-    let q : 6 * m + 6 ≡ 6 * (m + 1) + 0 = omega arith in
-    let P : ℕ → Type 0 = λ n. AreReadBefore office c a x end n g.rows.items in
-    subst P q b) in
-    let left : (m : ℕ) (g : LastReadings) → m < length file.meters → ¬ (IsAccountsIn (contents_at c.records) a x end m) → UpTo m 0 g → UpTo (m + 1) 0 g = λ m g l n b. (
-    let q : 6 * m + 0 ≡ 6 * m = omega arith in
-    let r : 6 * (m + 1) ≡ 6 * (m + 1) + 0 = omega arith in
-    let P : ℕ → Type 0 = λ k. AreReadBefore office c a x end k g.rows.items in
-    subst P r (meter-left office c a x end m g.rows.items n (subst P q b))) in
-    let all : UpTo (length file.meters) 0 new
-    = meters-keep (IsAccountsIn (contents_at c.records) a x end) (counts_at file) (AddsLatest file c a (x ∷ []) end) UpTo (length file.meters)
-    (λ m r mid next l o y f b. register-read_up office c a x end m r mid.rows.items next.rows.items l y h.content.truth.points o f b)
-    (λ m r mid n b. register-left office c a x end m r mid.rows.items n b) over left old new (subst Z (sym e) (read-none office c a x end)) h.steps in
-    let q : 6 * length file.meters + 0 ≡ 6 * length file.meters = omega arith in
-    let P : ℕ → Type 0 = λ k. AreReadBefore office c a x end k new.rows.items in
-    all-read office c a x end (length file.meters) new.rows.items refl (subst P q all)
+    let k : 6 * m + 6 ≡ 6 * (m + 1) + 0 = omega arith in
+    let P : ℕ → Type 0 = λ n. Read n g.rows.items in
+    subst P k b) in
+    let left : (m : ℕ) (g : LastReadings) → ¬ (IsOfAccount q m) → UpTo m 0 g → UpTo (m + 1) 0 g = λ m g n b. (
+    let k : 6 * m + 0 ≡ 6 * m = omega arith in
+    let l : 6 * (m + 1) ≡ 6 * (m + 1) + 0 = omega arith in
+    let P : ℕ → Type 0 = λ n. Read n g.rows.items in
+    subst P l (meter-left office q.content q.account y q.end m g.rows.items n (subst P k b))) in
+    let all : UpTo (length q.file.meters) 0 new
+    = gathered-keep AddsLatest q UpTo
+    (λ m r mid next l o c f b. register-read_up office q.content q.account y q.end m r mid.rows.items next.rows.items l c h.content.truth.points o f b)
+    (λ m r mid n b. register-left office q.content q.account y q.end m r mid.rows.items n b) over left old new (subst (Read 0) (sym e) (read-none office q.content q.account y q.end)) h in
+    let k : 6 * length q.file.meters + 0 ≡ 6 * length q.file.meters = omega arith in
+    let P : ℕ → Type 0 = λ n. Read n new.rows.items in
+    all-read office q.content q.account y q.end (length q.file.meters) new.rows.items refl (subst P k all)

@@ -26,7 +26,7 @@ use Rattle.pw_bills.specs.Reads.{IsBetween, IsEnoughFor, IsOwned}
 use Rattle.pw_bills.specs.Stretches.{AreStretches, first_of}
 use Rattle.pw_bills.specs.ReadUpTo.{IsEnoughToRead}
 use Rattle.pw_bills.specs.inner.Flows.{Covers}
-use Rattle.pw_bills.specs.inner.Gathering.{IsEnoughToGather, PointsAreRead, counted_reads}
+use Rattle.pw_bills.specs.inner.Gathering.{Pass, IsEnoughToGather, PointsAreRead, counted_reads, first_second, meter_reads}
 use Rattle.pw_bills.specs.inner.LastReadings.{ThreeAreRead}
 use Rattle.pw_bills.proofs.Covered.{covers}
 use Rattle.pw_bills.proofs.Named.{end-most, rises}
@@ -79,9 +79,9 @@ points-read c d e m r x from until most before within after was first second thi
     tally-five was first second third before after listed (length within) most a b g v few
 
 -- as many as are enough for its points
-pub points-counted : (begins : List ℕ) (end : ℕ) (told : ℕ → Option ℕ) (most was now : ℕ) → PointsAreRead begins end told most →
-    ((n : ℕ) → HasPointsAt (IsBetween (first_of begins end) end) told n → now ≤ was + 5 + n) → now ≤ was + most
-points-counted begins end told most was now h f = let x = f h.0 h.1 in let g = h.2 in omega (arith, x, g)
+pub points-counted : (q : Pass) (m : ℕ) (r : Register) (most was now : ℕ) → PointsAreRead q m r most →
+    ((n : ℕ) → HasPointsAt (IsBetween (first_second q) q.end) (q.content.point m r) n → now ≤ was + 5 + n) → now ≤ was + most
+points-counted q m r most was now h f = let x = f h.0 h.1 in let g = h.2 in omega (arith, x, g)
 
 -- ---- the registers of a meter
 three-few : (a b c : Bool) → (a && (b || c)) ≡ false → cond a 5 0 + cond b 5 0 + cond c 5 0 ≤ 10
@@ -181,20 +181,20 @@ register-failed f i r was mid new l a b =
     omega (arith, x, y)
 
 -- ---- a meter
-module _ (reads : (ℕ → Option ℕ) → ℕ → Type 0) (file : OfficeFile) (c : ShelfContent) (a x y m most : ℕ) (h : IsEnoughToGather reads file c a x y m most) where
+module _ (reads : Pass → ℕ → Register → ℕ → Type 0) (q : Pass) (m most : ℕ) (h : IsEnoughToGather reads q m most) where
   pub meter-failed : (was now : ℕ) → now ≤ was + 1 → now ≤ was + most
   meter-failed was now e = let g = h.asked in omega (arith, e, g)
 
   -- one call, and its starts
-  pub meter-asked : (was now listed : ℕ) (starts : List (ℕ × Option AccountId)) → ListsSeconds (c.start m) starts → listed ≡ length starts → now ≤ was + 1 + listed → now ≤ was + most
+  pub meter-asked : (was now listed : ℕ) (starts : List (ℕ × Option AccountId)) → ListsSeconds (q.content.start m) starts → listed ≡ length starts → now ≤ was + 1 + listed → now ≤ was + most
   meter-asked was now listed starts l v e =
       let f = h.few starts l in
       let g = h.asked in
       omega (arith, e, v, f, g)
 
   -- and its registers, where it is the account's
-  pub meter-owned : (was mid now listed : ℕ) (starts : List (ℕ × Option AccountId)) → IsOwned c a x y m → ListsSeconds (c.start m) starts → listed ≡ length starts → mid ≡ was + 1 + listed →
-      ((each : Register → ℕ) → ((r : Register) → reads (c.point m r) (each r)) → now ≤ mid + sum_by (counted_reads file m each) registers) → now ≤ was + most
+  pub meter-owned : (was mid now listed : ℕ) (starts : List (ℕ × Option AccountId)) → IsOwned q.content q.account.0 (first_second q) q.end m → ListsSeconds (q.content.start m) starts → listed ≡ length starts → mid ≡ was + 1 + listed →
+      ((each : Register → ℕ) → ((r : Register) → reads q m r (each r)) → now ≤ mid + meter_reads q.file m each) → now ≤ was + most
   meter-owned was mid now listed starts o l v e f =
       let w = h.owned o in
       let r = f w.0 w.1 in
@@ -203,28 +203,26 @@ module _ (reads : (ℕ → Option ℕ) → ℕ → Type 0) (file : OfficeFile) (
       omega (arith, e, v, k, g, r)
 
 -- so much is enough where the points of the time are read, or three calls and rows for each register that counts
-pub points-enough : (file : OfficeFile) (c : ShelfContent) (a : ℕ) (begins : List ℕ) (end m most : ℕ) → IsSound file → IsEnoughFor c a (first_of begins end) end m most →
-    IsEnoughToGather (PointsAreRead begins end) file c a (first_of begins end) end m most
-points-enough file c a begins end m most s h = record {
+pub points-enough : (q : Pass) (m most : ℕ) → IsSound q.file → IsEnoughFor q.content q.account.0 (first_second q) q.end m most → IsEnoughToGather PointsAreRead q m most
+points-enough q m most s h = record {
   starts = h.starts;
   few = h.few;
   asked = h.asked;
   owned = λ o.
       let w = h.owned o in
-      let points : HasPoints (IsBetween (first_of begins end) end) c m w.0 = w.1 in
+      let points : HasPoints (IsBetween (first_second q) q.end) q.content m w.0 = w.1 in
       let all = points.all in
-      let five = registers-five file m points.each s in
+      let five = registers-five q.file m points.each s in
       let g = w.2 in
       (λ r. 5 + points.each r, λ r. (points.each r, points.few r, omega arith), omega (arith, all, five, g));
 }
 
-pub three-enough : (file : OfficeFile) (c : ShelfContent) (a : ℕ) (begins : List ℕ) (end m most : ℕ) → IsSound file → IsEnoughToRead c a (first_of begins end) end m most →
-    IsEnoughToGather (ThreeAreRead begins end) file c a (first_of begins end) end m most
-three-enough file c a begins end m most s h = record {
+pub three-enough : (q : Pass) (m most : ℕ) → IsSound q.file → IsEnoughToRead q.content q.account.0 (first_second q) q.end m most → IsEnoughToGather ThreeAreRead q m most
+three-enough q m most s h = record {
   starts = h.starts;
   few = h.few;
   asked = h.asked;
-  owned = λ o. (let g = h.owned o in let three = registers-three file m s in (λ r. 3, λ r. omega arith, omega (arith, three, g)));
+  owned = λ o. (let g = h.owned o in let three = registers-three q.file m s in (λ r. 3, λ r. omega arith, omega (arith, three, g)));
 }
 
 -- ---- all meters

@@ -20,15 +20,16 @@ use Rattle.pw_months.specs.Why.{IsWhyRow, WhyRow}
 use Rattle.pw_bills.specs.declared.reasons.Reasons.{Reasons}
 use Rattle.pw_bills.specs.declared.reasons.WhyPiece.{WhyPiece}
 use Rattle.pw_bills.specs.ReadUpTo.{IsAccountsIn}
+use Rattle.pw_bills.specs.Stretches.{first_of}
 use Rattle.pw_bills.specs.Why.{TellsWhy, row_told}
 use Rattle.pw_bills.specs.inner.Flows.{Covers}
-use Rattle.pw_bills.specs.inner.Gathering.{IsGathered}
+use Rattle.pw_bills.specs.inner.Gathering.{Pass, IsGathered, first_second}
 use Rattle.pw_bills.specs.inner.Naming.{NamesStretches, OwnerStart}
 use Rattle.pw_bills.specs.inner.Rows.{Adds, AddsRows, AreRowsUpTo, GivenByPoints, IsAsked}
 use Rattle.pw_bills.proofs.Apart.{all-registers, apart-in_order, apart-once, split-meter, split-register}
 use Rattle.pw_bills.proofs.Covered.{covered-order}
 use Rattle.pw_bills.proofs.PairRows.{asked-same, mapped-member, member-mapped, none-more, register-told}
-use Rattle.pw_bills.proofs.StepByStep.{meters-keep}
+use Rattle.pw_bills.proofs.StepByStep.{gathered-keep}
 
 -- ---- a register
 module _ (file : OfficeFile) (a : AccountId) (x y : ℕ) (m : MeterId) (r : Register) (owners : List OwnerStart) (old new : List WhyPiece) where
@@ -108,13 +109,15 @@ all-told office s a x y m ws e h = record {
   own = λ w i. (h.each w i).own;
 }
 
--- all that is gathered of an office
-pub rows-told : (file : OfficeFile) (c : ShelfContent) (a : AccountId) (x y : ℕ) (old new : Reasons) → old.rows.items ≡ [] → IsGathered (AddsRows file c a (x ∷ []) y) file c a x y old new → TellsWhy (office_of file) c.records a x y new.rows.items
-rows-told file c a x y old new e h =
-    let at : Key → Contents = contents_at c.records in
-    let Z : List WhyPiece → Type 0 = λ ws. AreRowsUpTo (office_of file) at a x y 0 0 0 ws in
-    let all : AreRowsUpTo (office_of file) at a x y (length file.meters) 0 0 new.rows.items
-    = meters-keep (IsAccountsIn at a x y) (counts_at file) (AddsRows file c a (x ∷ []) y) (λ m i g. AreRowsUpTo (office_of file) at a x y m i 0 g.rows.items) (length file.meters)
-    (λ m r mid next l o n f b. f x refl b) (λ m r mid n b. register-left file at a x y m r mid.rows.items n b) (λ m mid b. registers-told file at a x y m mid.rows.items b)
-    (λ m mid l n b. meter-left file at a x y m mid.rows.items n b) old new (subst Z (sym e) (none-yet (office_of file) at a x y)) h.steps in
-    all-told (office_of file) c.records a x y (length file.meters) new.rows.items refl all
+-- all that is gathered of an office, in one stretch
+pub rows-told : (q : Pass) (x : ℕ) (old new : Reasons) → q.begins ≡ x ∷ [] → old.rows.items ≡ [] → IsGathered AddsRows q old new → TellsWhy (office_of q.file) q.content.records q.account (first_second q) q.end new.rows.items
+rows-told q x old new one e h =
+    let at : Key → Contents = contents_at q.content.records in
+    let y : ℕ = first_second q in
+    let same : q.begins ≡ y ∷ [] = one ∙ ap (λ (begins : List ℕ). first_of begins q.end ∷ []) (sym one) in
+    let Z : List WhyPiece → Type 0 = λ ws. AreRowsUpTo (office_of q.file) at q.account y q.end 0 0 0 ws in
+    let all : AreRowsUpTo (office_of q.file) at q.account y q.end (length q.file.meters) 0 0 new.rows.items
+    = gathered-keep AddsRows q (λ m i g. AreRowsUpTo (office_of q.file) at q.account y q.end m i 0 g.rows.items)
+    (λ m r mid next l o n f b. f y same b) (λ m r mid n b. register-left q.file at q.account y q.end m r mid.rows.items n b) (λ m mid b. registers-told q.file at q.account y q.end m mid.rows.items b)
+    (λ m mid n b. meter-left q.file at q.account y q.end m mid.rows.items n b) old new (subst Z (sym e) (none-yet (office_of q.file) at q.account y q.end)) h in
+    all-told (office_of q.file) q.content.records q.account y q.end (length q.file.meters) new.rows.items refl all

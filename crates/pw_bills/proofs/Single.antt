@@ -9,16 +9,15 @@ use Rattle.pw_model.specs.declared.records.TotalKey.TheVariants.{Energy}
 use Rattle.pw_model.specs.Counting.{contents_at}
 use Rattle.pw_model.specs.Energy.{account}
 use Rattle.pw_model.specs.Office.{AllOfOffice, most_records}
-use Rattle.pw_model.specs.Shelf.{ShelfContent}
 use Rattle.pw_model.proofs.PlainEnergy.{energy-fits}
 use Rattle.pw_model.proofs.SoundOffice.{sound-office}
 use Rattle.pw_parts.specs.Changes.{gathered}
 use Rattle.pw_parts.specs.declared.changes.Side.TheVariants.{Gains}
 use Rattle.pw_bills.specs.Energies.{TellsEnergies}
-use Rattle.pw_bills.specs.Stretches.{AreStretches, end_of, first_of}
+use Rattle.pw_bills.specs.Stretches.{AreStretches, end_of}
 use Rattle.pw_bills.specs.declared.energies.Energies.{Energies}
 use Rattle.pw_bills.specs.inner.Flows.{AddsEnergy, IsOfStretch, all_between, of_stretch}
-use Rattle.pw_bills.specs.inner.Gathering.{IsGathered}
+use Rattle.pw_bills.specs.inner.Gathering.{Pass, IsGathered}
 use Rattle.pw_bills.proofs.Given.{all-given}
 use Rattle.pw_bills.proofs.Named.{rises}
 
@@ -40,7 +39,7 @@ energies-told file s a begins end e sound o few h = λ i l p b d.
     let f = energy-fits (office_of file) s d (of_stretch (office_of file) a begins end i p.0 b.0) (sound-office file sound) o few in
     min-is (gathered Gains e.changes.rows (Energy (Some (account i)) p b d)) (2 ^ 64 - 1) (omega (arith, g, f)) ∙ g
 
-pub energies-gathered : (file : OfficeFile) (c : ShelfContent) (a : AccountId) (begins : List ℕ) (end : ℕ) (old new : Energies) → AreStretches begins end → ((k : TotalKey) → gathered Gains old.changes.rows k ≡ 0) →
-    IsGathered (AddsEnergy file c a begins end) file c a (first_of begins end) end old new → TellsEnergies (office_of file) c.records a begins end new
-energies-gathered file c a begins end old new w z h =
-    energies-told file c.records a begins end new h.office h.content.of_office h.content.few (all-given file c a begins end old new (rises begins end w.rising) z h)
+pub energies-gathered : (q : Pass) (old new : Energies) → AreStretches q.begins q.end → ((k : TotalKey) → gathered Gains old.changes.rows k ≡ 0) → IsGathered AddsEnergy q old new →
+    TellsEnergies (office_of q.file) q.content.records q.account q.begins q.end new
+energies-gathered q old new w z h =
+    energies-told q.file q.content.records q.account q.begins q.end new h.office h.content.of_office h.content.few (all-given q old new (rises q.begins q.end w.rising) z h)

@@ -1,5 +1,5 @@
 -- What is given and read in a content that is the same.
-use Rattle.std.proofs.Common.{◌≡◌, ℕ, ◌+◌, ◌≤◌, true, false, Option, List, ap, sym, subst, ◌∙◌, arith}
+use Rattle.std.proofs.Common.{IsNone, ◌≡◌, ℕ, ◌+◌, ◌≤◌, true, false, Option, List, ap, sym, subst, ◌∙◌, arith}
 use Rattle.std.specs.List.{list_any}
 use Rattle.pw_obis.specs.declared.reference.Register.{Register}
 use Rattle.pw_time.specs.declared.instant.TheConstants.{END_SECOND}
@@ -17,13 +17,15 @@ use Rattle.pw_model.specs.Seconds.{ListsSeconds, by_second}
 use Rattle.pw_model.specs.Shelf.{ShelfContent}
 use Rattle.pw_parts.specs.Changes.{pairs_for}
 use Rattle.pw_parts.proofs.Sharing.{points-end}
+use Rattle.pw_shelf.specs.declared.shelf.Shelf.{Ghosts}
+use Rattle.pw_book.specs.Asking.{IsOnlyAsked}
 use Rattle.pw_book.specs.Posting.{IsSoundContent}
 use Rattle.pw_book.specs.inner.Settling.{EndsBefore}
 use Rattle.pw_bills.specs.ReadUpTo.{IsAccountsIn}
 use Rattle.pw_bills.specs.Reads.{IsOwned}
 use Rattle.pw_bills.specs.Stretches.{AreStretches, first_of}
 use Rattle.pw_bills.specs.inner.Flows.{Covers, IsOfStretch, register_between}
-use Rattle.pw_bills.specs.inner.Gathering.{IsEnoughToGather, counted_reads}
+use Rattle.pw_bills.specs.inner.Gathering.{CanAsk, Pass, RegisterAdds, counted_reads, pass_of}
 use Rattle.pw_bills.specs.inner.Naming.{NamesStretches, OwnerStart, named_from, names_somebody}
 use Rattle.pw_bills.proofs.Covered.{covered-order}
 use Rattle.pw_bills.proofs.Given.{register-given}
@@ -80,18 +82,26 @@ module _ (office : OfficeRules) (c : ShelfContent) (m : ℕ) (a : AccountId) (be
   pub never-held : list_any names_somebody named ≡ false → ¬ (IsAccountsIn (contents_at c.records) a (first_of begins end) end m)
   never-held h = nobody-owns (contents_at c.records) m a begins end named w.ended names-held h
 
--- ---- what is so of a content is so of the same
-pub sound-there : (office : OfficeRules) (P : ShelfContent → Type 0) (c d : ShelfContent) → d ≡ c → (IsSoundContent office d → P d) → IsSoundContent office c → P c
-sound-there office P c d q f = let G : ShelfContent → Type 0 = λ z. IsSoundContent office z → P z in subst G q f
+-- ---- what is asked of a content is asked of the same
+module _ (q : Pass) (d : ShelfContent) (same : d ≡ q.content) where
+  pub asked-there : (P : Pass → Type 0) → P (pass_of q.file d q.account q.begins q.end) → P q
+  asked-there P h = let Q : ShelfContent → Type 0 = λ z. P (pass_of q.file z q.account q.begins q.end) in subst Q same h
 
-pub enough-there : (reads : (ℕ → Option ℕ) → ℕ → Type 0) (file : OfficeFile) (c d : ShelfContent) (a x y m most was now : ℕ) → d ≡ c → (IsSoundContent (office_of file) d → (n : ℕ) → IsEnoughToGather reads file d a x y m n → now ≤ was + n) →
-    IsSoundContent (office_of file) c → IsEnoughToGather reads file c a x y m most → now ≤ was + most
-enough-there reads file c d a x y m most was now q f s h =
-    let P : ShelfContent → Type 0 = λ z. (n : ℕ) → IsEnoughToGather reads file z a x y m n → now ≤ was + n in
-    sound-there (office_of file) P c d q f s most h
+-- ---- what can be asked
+pub asked-able : {S : Type 0} (shelf : Ghosts S) (file : OfficeFile) (begins : List ℕ) (end m : ℕ) (a b : S) → IsOnlyAsked shelf 0 a b → CanAsk shelf file begins end m a → CanAsk shelf file begins end m b
+asked-able shelf file begins end m a b h c =
+    let P : Option ShelfContent → Type 0 = λ o. IsNone o in
+    record { idle = subst P (sym h.kept.upload) c.idle; stretches = c.stretches; meter = c.meter }
 
-pub register-read_there : (reads : (ℕ → Option ℕ) → ℕ → Type 0) (file : OfficeFile) (c d : ShelfContent) (m : ℕ) (r : Register) (each : Register → ℕ) (was now : ℕ) → d ≡ c →
-    ((most : Register → ℕ) → reads (d.point m r) (most r) → now ≤ was + counted_reads file m most r) → reads (c.point m r) (each r) → now ≤ was + counted_reads file m each r
-register-read_there reads file c d m r each was now q f h =
-    let P : ShelfContent → Type 0 = λ z. reads (z.point m r) (each r) in
-    f each (subst P (sym q) h)
+pub register-read_there : (reads : Pass → ℕ → Register → ℕ → Type 0) (q : Pass) (d : ShelfContent) (m : ℕ) (r : Register) (each : Register → ℕ) (was now : ℕ) → d ≡ q.content →
+    ((most : Register → ℕ) → reads (pass_of q.file d q.account q.begins q.end) m r (most r) → now ≤ was + counted_reads q.file m most r) → reads q m r (each r) → now ≤ was + counted_reads q.file m each r
+register-read_there reads q d m r each was now e f =
+    let P : Pass → Type 0 = λ z. reads z m r (each r) → now ≤ was + counted_reads q.file m each r in
+    asked-there q d e P (f each)
+
+pub register-adds_there : {T : Type 0} (adds : Pass → ℕ → Register → T → T → Type 0) (q : Pass) (d : ShelfContent) (m : ℕ) (owners : List OwnerStart) (i place : ℕ) (old new : T) → d ≡ q.content → place ≡ i →
+    RegisterAdds adds (pass_of q.file d q.account q.begins q.end) m owners place old new → RegisterAdds adds q m owners i old new
+register-adds_there adds q d m owners i place old new e p f =
+    let P : Pass → Type 0 = λ z. RegisterAdds adds z m owners place old new in
+    let R : ℕ → Type 0 = λ k. RegisterAdds adds q m owners k old new in
+    subst R p (asked-there q d e P f)

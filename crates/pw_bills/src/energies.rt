@@ -10,15 +10,13 @@ ghost use Rattle.pw_bills.specs.Energies.{TellsEnergies, energy_told};
 ghost use Rattle.pw_bills.specs.Reads.{AreEnoughFor, all_meters};
 ghost use Rattle.pw_bills.specs.Stretches.{AreStretches, first_of};
 
-use crate::gathering::{Gathers, gather};
+use crate::gathering::{Gathers, Place, gather};
 use crate::points::points_over;
-use crate::stretches::Stretches;
-use pw_book::{Basis, Book, BookFault};
+use pw_book::{Book, BookFault};
 use pw_model::{TotalKey, direction_of};
-use pw_obis::Register;
 use pw_parts::{Change, Changes, Side, add_pairs};
 use pw_shelf::{Shelf, ShelfFault};
-use pw_tariff::{AccountId, BandId, Direction, MeterId, Owners, PeriodId};
+use pw_tariff::{AccountId, BandId, Direction, PeriodId};
 use pw_time::Instant;
 use std::alloc::Global;
 
@@ -51,30 +49,20 @@ impl Energies {
 // whole pair is shared out once.
 impl Gathers for Energies {
     ghost use Rattle.pw_bills.specs.inner.Flows.{AddsEnergy, IsOfRegisters};
-    ghost use Rattle.pw_bills.specs.inner.Gathering.{PointsAreRead};
 
     ghost adds = { AddsEnergy };
 
     ghost fits = { IsOfRegisters };
 
-    ghost reads = { PointsAreRead };
-
-    fn add_register<S: Shelf>(
-        &mut self,
-        shelf: &mut S,
-        basis: &Basis,
-        stretches: &Stretches,
-        meter: MeterId,
-        owners: &Owners,
-        register: Register,
-    ) -> Result<(), ShelfFault> {
-        let points = points_over(shelf, basis.alloc, stretches, meter, register)?;
-        let direction = direction_of(register);
+    fn add_register<S: Shelf>(&mut self, shelf: &mut S, place: &Place) -> Result<(), ShelfFault> {
+        let points = points_over(shelf, place)?;
+        let direction = direction_of(place.register);
+        let basis = place.basis;
         add_pairs(
             basis.alloc,
             basis.office,
             basis.zone,
-            owners,
+            place.owners,
             direction,
             &points,
             Side::Gains,

@@ -1,24 +1,18 @@
 //! One pass over the registers of an account's meters, for questions on stretches of time.
 
-ghost use Rattle.std.specs.Prelude.{◌≡◌, ℕ, ◌+◌, ◌*◌, ◌<◌, ◌≤◌, ◌^◌, true, Option, OnOk, IsNone, List, length};
-ghost use Rattle.std.specs.List.{sum_by};
+ghost use Rattle.std.specs.Prelude.{◌≡◌, ℕ, ◌+◌, ◌*◌, ◌<◌, ◌≤◌, ◌^◌, true, OnOk, IsNone, length};
 ghost use Rattle.pw_time.specs.declared.instant.TheConstants.{END_SECOND};
-ghost use Rattle.pw_obis.specs.Registers.{registers};
 ghost use Rattle.pw_obis.specs.declared.reference.Register.{Register as AnyRegister};
-ghost use Rattle.pw_tariff.specs.declared.ids.AccountId.{AccountId as AnAccount};
-ghost use Rattle.pw_tariff.specs.Office.{OfficeFile, counts_at, office_of, register_place};
-ghost use Rattle.pw_model.specs.Counting.{contents_at as held_at};
-ghost use Rattle.pw_model.specs.Shelf.{ShelfContent};
+ghost use Rattle.pw_tariff.specs.Office.{counts_at, office_of, register_place};
+ghost use Rattle.pw_model.specs.Office.{AllOfOffice, most_records};
+ghost use Rattle.pw_model.specs.Shelf.{IsTrueContent};
 ghost use Rattle.pw_shelf.specs.Calls.{failures_told};
 ghost use Rattle.pw_book.specs.Asking.{IsOnlyAsked};
 ghost use Rattle.pw_book.specs.Cost.{RisesAtMost};
-ghost use Rattle.pw_book.specs.Posting.{IsSoundContent};
 ghost use Rattle.pw_book.specs.Questions.{IsQuestion};
-ghost use Rattle.pw_bills.specs.ReadUpTo.{IsAccountsIn};
 ghost use Rattle.pw_bills.specs.Reads.{all_meters};
 ghost use Rattle.pw_bills.specs.Stretches.{AreStretches, first_of};
-ghost use Rattle.pw_bills.specs.inner.Gathering.{AreEnoughToGather, IsEnoughToGather, IsGathered, MeterStep, RegisterStep, RegistersStep, counted_reads};
-ghost use Rattle.pw_bills.specs.inner.Naming.{NamesStretches};
+ghost use Rattle.pw_bills.specs.inner.Gathering.{AddsHere, AreEnoughToGather, CanAsk, FitsMore, IsEnoughToGather, IsGathered, IsSoundPass, MeterAdds, Pass, PointsAreRead, RegisterAdds, RegistersAdd, counted_reads, meter_reads, pass_of};
 
 use crate::asked::starts_held;
 use crate::stretches::{Stretches, name_somebody, named};
@@ -29,35 +23,35 @@ use pw_tariff::{AccountId, MeterId, Owners};
 use pw_time::{END_SECOND, Instant};
 use std::alloc::Global;
 
+// A register that a pass comes to, of a meter with owners under the numbers of stretches.
+#[derive(Drop)]
+pub(crate) struct Place<'a> {
+    pub(crate) basis: &'a Basis<'a>,
+    pub(crate) stretches: &'a Stretches<'a>,
+    pub(crate) meter: MeterId,
+    pub(crate) owners: &'a Owners<'a>,
+    pub(crate) register: Register,
+}
+
 // What is gathered from the registers of an account's meters, one register after another.
 pub(crate) trait Gathers {
-    // What a register that counts adds, of a meter of an account in stretches of time.
-    ghost adds: { OfficeFile → ShelfContent → AnAccount → List ℕ → ℕ → ℕ → AnyRegister → Self → Self → Type 0 };
+    // What a register that counts adds.
+    ghost adds: { Pass → ℕ → AnyRegister → Self → Self → Type 0 };
 
     // It is no more than so many registers can give, whatever a store tells of them.
-    ghost fits: { ℕ → Self → Type 0 };
+    ghost fits: { ℕ → Self → Type 0 } = { λ _ _. Unit {0} };
 
-    // So many calls and rows are enough for a register with these points.
-    ghost reads: { List ℕ → ℕ → (ℕ → Option ℕ) → ℕ → Type 0 };
+    // So many calls and rows are enough for a register.
+    ghost reads: { Pass → ℕ → AnyRegister → ℕ → Type 0 } = { PointsAreRead };
 
-    // Adds what a register gives, under owners that name the stretches.
-    fn add_register<S: Shelf>(
-        &mut self,
-        shelf: &mut S,
-        basis: &Basis,
-        stretches: &Stretches,
-        meter: MeterId,
-        owners: &Owners,
-        register: Register,
-    ) -> Result<(), ShelfFault>
-        requires idle { IsNone (S.state shelf.old).begun }
-        requires stretches { AreStretches stretches.now.begins.now (stretches.now.last + 1) }
-        requires meter { meter.0 < length basis.now.office.now.meters }
-        requires counts { counts_at basis.now.office.now meter.0 register ≡ true }
+    // Adds what a register gives.
+    fn add_register<S: Shelf>(&mut self, shelf: &mut S, place: &Place) -> Result<(), ShelfFault>
+        requires able { CanAsk S.Shelf place.now.basis.now.office.now place.now.stretches.now.begins.now (place.now.stretches.now.last + 1) place.now.meter.0 shelf.old }
+        requires counts { counts_at place.now.basis.now.office.now place.now.meter.0 place.now.register ≡ true }
         requires few { (n : ℕ) × (n < 6 * 2 ^ 16) × fits n self.old }
         ensures few { (n : ℕ) → fits n self.old → OnOk result (fits (n + 1) self.new) }
-        ensures added { S.clean shelf.new → IsSoundContent (office_of basis.now.office.now) (S.state shelf.old).content → NamesStretches (held_at (S.state shelf.old).content.records) meter.0 stretches.now.account stretches.now.begins.now (stretches.now.last + 1) owners.now → OnOk result (adds basis.now.office.now (S.state shelf.old).content stretches.now.account stretches.now.begins.now (stretches.now.last + 1) meter.0 register self.old self.new) }
-        ensures tally { S.clean shelf.new → (most : ℕ) → reads stretches.now.begins.now (stretches.now.last + 1) ((S.state shelf.old).content.point meter.0 register) most → (S.state shelf.new).tally ≤ (S.state shelf.old).tally + most }
+        ensures added { S.clean shelf.new → OnOk result (AddsHere adds (pass_of place.now.basis.now.office.now (S.state shelf.old).content place.now.stretches.now.account place.now.stretches.now.begins.now (place.now.stretches.now.last + 1)) place.now.meter.0 place.now.owners.now place.now.register self.old self.new) }
+        ensures tally { S.clean shelf.new → (most : ℕ) → reads (pass_of place.now.basis.now.office.now (S.state shelf.old).content place.now.stretches.now.account place.now.stretches.now.begins.now (place.now.stretches.now.last + 1)) place.now.meter.0 place.now.register most → RisesAtMost most (S.state shelf.old).tally (S.state shelf.new).tally }
         ensures asked { IsOnlyAsked S.Shelf (failures_told result) shelf.old shelf.new };
 }
 
@@ -76,8 +70,8 @@ pub(crate) fn gather<S: Shelf, G: Gathers>(
 ) -> Result<(), BookFault>
     requires stretches { AreStretches begins.now end }
     requires few { G.fits 0 gathered.old }
-    ensures gathered { S.clean book.new.shelf → OnOk result (IsGathered (G.adds book.old.office (S.state book.old.shelf).content account begins.now end) book.old.office (S.state book.old.shelf).content account (first_of begins.now end) end gathered.old gathered.new) }
-    ensures cost { S.clean book.new.shelf → (most : ℕ → ℕ) → AreEnoughToGather (G.reads begins.now end) book.old.office (S.state book.old.shelf).content account.0 (first_of begins.now end) end most → RisesAtMost (all_meters (office_of book.old.office) most) (S.state book.old.shelf).tally (S.state book.new.shelf).tally }
+    ensures gathered { S.clean book.new.shelf → OnOk result (IsGathered G.adds (pass_of book.old.office (S.state book.old.shelf).content account begins.now end) gathered.old gathered.new) }
+    ensures cost { S.clean book.new.shelf → (most : ℕ → ℕ) → AreEnoughToGather G.reads (pass_of book.old.office (S.state book.old.shelf).content account begins.now end) most → RisesAtMost (all_meters (office_of book.old.office) most) (S.state book.old.shelf).tally (S.state book.new.shelf).tally }
     ensures question { IsQuestion S.Shelf result book.old book.new }
 {
     book.still_open()?;
@@ -115,10 +109,12 @@ fn gather_held<S: Shelf, G: Gathers>(
 ) -> Result<(), ShelfFault>
     requires idle { IsNone (S.state shelf.old).begun }
     requires stretches { AreStretches stretches.now.begins.now (stretches.now.last + 1) }
-    requires sound { S.clean shelf.old → IsSoundContent (office_of basis.now.office.now) (S.state shelf.old).content }
+    requires held { S.clean shelf.old → length (S.state shelf.old).content.records ≤ most_records }
+    requires of_office { S.clean shelf.old → AllOfOffice (office_of basis.now.office.now) (S.state shelf.old).content.records }
+    requires truth { S.clean shelf.old → IsTrueContent (office_of basis.now.office.now) (S.state shelf.old).content }
     requires few { G.fits 0 gathered.old }
-    ensures gathered { S.clean shelf.new → OnOk result (IsGathered (G.adds basis.now.office.now (S.state shelf.old).content stretches.now.account stretches.now.begins.now (stretches.now.last + 1)) basis.now.office.now (S.state shelf.old).content stretches.now.account (first_of stretches.now.begins.now (stretches.now.last + 1)) (stretches.now.last + 1) gathered.old gathered.new) }
-    ensures tally { S.clean shelf.new → (most : ℕ → ℕ) → AreEnoughToGather (G.reads stretches.now.begins.now (stretches.now.last + 1)) basis.now.office.now (S.state shelf.old).content stretches.now.account.0 (first_of stretches.now.begins.now (stretches.now.last + 1)) (stretches.now.last + 1) most → (S.state shelf.new).tally ≤ (S.state shelf.old).tally + all_meters (office_of basis.now.office.now) most }
+    ensures gathered { S.clean shelf.new → OnOk result (IsGathered G.adds (pass_of basis.now.office.now (S.state shelf.old).content stretches.now.account stretches.now.begins.now (stretches.now.last + 1)) gathered.old gathered.new) }
+    ensures tally { S.clean shelf.new → (most : ℕ → ℕ) → AreEnoughToGather G.reads (pass_of basis.now.office.now (S.state shelf.old).content stretches.now.account stretches.now.begins.now (stretches.now.last + 1)) most → RisesAtMost (all_meters (office_of basis.now.office.now) most) (S.state shelf.old).tally (S.state shelf.new).tally }
     ensures asked { IsOnlyAsked S.Shelf (failures_told result) shelf.old shelf.new }
 {
     for meter in 0..basis.office.meters() {
@@ -135,13 +131,11 @@ fn gather_meter<S: Shelf, G: Gathers>(
     meter: MeterId,
     gathered: &mut G,
 ) -> Result<(), ShelfFault>
-    requires idle { IsNone (S.state shelf.old).begun }
-    requires stretches { AreStretches stretches.now.begins.now (stretches.now.last + 1) }
-    requires meter { meter.0 < length basis.now.office.now.meters }
+    requires able { CanAsk S.Shelf basis.now.office.now stretches.now.begins.now (stretches.now.last + 1) meter.0 shelf.old }
     requires few { (n : ℕ) × (n + 6 ≤ 6 * 2 ^ 16) × G.fits n gathered.old }
-    ensures few { (n : ℕ) → G.fits n gathered.old → OnOk result ((k : ℕ) × (k ≤ n + 6) × G.fits k gathered.new) }
-    ensures step { S.clean shelf.new → IsSoundContent (office_of basis.now.office.now) (S.state shelf.old).content → OnOk result (MeterStep (IsAccountsIn (held_at (S.state shelf.old).content.records) stretches.now.account (first_of stretches.now.begins.now (stretches.now.last + 1)) (stretches.now.last + 1)) (counts_at basis.now.office.now) (G.adds basis.now.office.now (S.state shelf.old).content stretches.now.account stretches.now.begins.now (stretches.now.last + 1)) meter.0 gathered.old gathered.new) }
-    ensures tally { S.clean shelf.new → IsSoundContent (office_of basis.now.office.now) (S.state shelf.old).content → (most : ℕ) → IsEnoughToGather (G.reads stretches.now.begins.now (stretches.now.last + 1)) basis.now.office.now (S.state shelf.old).content stretches.now.account.0 (first_of stretches.now.begins.now (stretches.now.last + 1)) (stretches.now.last + 1) meter.0 most → (S.state shelf.new).tally ≤ (S.state shelf.old).tally + most }
+    ensures few { (n : ℕ) → G.fits n gathered.old → OnOk result (FitsMore G.fits (n + 6) gathered.new) }
+    ensures step { S.clean shelf.new → OnOk result (MeterAdds G.adds (pass_of basis.now.office.now (S.state shelf.old).content stretches.now.account stretches.now.begins.now (stretches.now.last + 1)) meter.0 gathered.old gathered.new) }
+    ensures tally { S.clean shelf.new → IsSoundPass (pass_of basis.now.office.now (S.state shelf.old).content stretches.now.account stretches.now.begins.now (stretches.now.last + 1)) → (most : ℕ) → IsEnoughToGather G.reads (pass_of basis.now.office.now (S.state shelf.old).content stretches.now.account stretches.now.begins.now (stretches.now.last + 1)) meter.0 most → RisesAtMost most (S.state shelf.old).tally (S.state shelf.new).tally }
     ensures asked { IsOnlyAsked S.Shelf (failures_told result) shelf.old shelf.new }
 {
     let starts = starts_held(shelf, basis.alloc, meter)?;
@@ -157,25 +151,30 @@ fn gather_meter<S: Shelf, G: Gathers>(
 }
 
 // Gathers what the registers of a meter give, under owners that name the stretches.
-fn gather_registers<S: Shelf, G: Gathers>(
+fn gather_registers<'a, S: Shelf, G: Gathers>(
     shelf: &mut S,
-    basis: &Basis,
-    stretches: &Stretches,
+    basis: &'a Basis<'a>,
+    stretches: &'a Stretches<'a>,
     meter: MeterId,
-    owners: &Owners,
+    owners: &'a Owners<'a>,
     gathered: &mut G,
 ) -> Result<(), ShelfFault>
-    requires idle { IsNone (S.state shelf.old).begun }
-    requires stretches { AreStretches stretches.now.begins.now (stretches.now.last + 1) }
-    requires meter { meter.0 < length basis.now.office.now.meters }
+    requires able { CanAsk S.Shelf basis.now.office.now stretches.now.begins.now (stretches.now.last + 1) meter.0 shelf.old }
     requires few { (n : ℕ) × (n + 6 ≤ 6 * 2 ^ 16) × G.fits n gathered.old }
-    ensures few { (n : ℕ) → G.fits n gathered.old → OnOk result ((k : ℕ) × (k ≤ n + 6) × G.fits k gathered.new) }
-    ensures steps { S.clean shelf.new → IsSoundContent (office_of basis.now.office.now) (S.state shelf.old).content → NamesStretches (held_at (S.state shelf.old).content.records) meter.0 stretches.now.account stretches.now.begins.now (stretches.now.last + 1) owners.now → OnOk result (RegistersStep (counts_at basis.now.office.now meter.0) (G.adds basis.now.office.now (S.state shelf.old).content stretches.now.account stretches.now.begins.now (stretches.now.last + 1) meter.0) gathered.old gathered.new) }
-    ensures tally { S.clean shelf.new → (each : AnyRegister → ℕ) → ((r : AnyRegister) → G.reads stretches.now.begins.now (stretches.now.last + 1) ((S.state shelf.old).content.point meter.0 r) (each r)) → (S.state shelf.new).tally ≤ (S.state shelf.old).tally + sum_by (counted_reads basis.now.office.now meter.0 each) registers }
+    ensures few { (n : ℕ) → G.fits n gathered.old → OnOk result (FitsMore G.fits (n + 6) gathered.new) }
+    ensures steps { S.clean shelf.new → OnOk result (RegistersAdd G.adds (pass_of basis.now.office.now (S.state shelf.old).content stretches.now.account stretches.now.begins.now (stretches.now.last + 1)) meter.0 owners.now gathered.old gathered.new) }
+    ensures tally { S.clean shelf.new → (each : AnyRegister → ℕ) → ((r : AnyRegister) → G.reads (pass_of basis.now.office.now (S.state shelf.old).content stretches.now.account stretches.now.begins.now (stretches.now.last + 1)) meter.0 r (each r)) → RisesAtMost (meter_reads basis.now.office.now meter.0 each) (S.state shelf.old).tally (S.state shelf.new).tally }
     ensures asked { IsOnlyAsked S.Shelf (failures_told result) shelf.old shelf.new }
 {
     for register in &Register::ALL {
-        gather_register(shelf, basis, stretches, meter, owners, *register, gathered)?;
+        let place = Place {
+            basis,
+            stretches,
+            meter,
+            owners,
+            register: *register,
+        };
+        gather_register(shelf, &place, gathered)?;
     }
     Ok(())
 }
@@ -183,24 +182,18 @@ fn gather_registers<S: Shelf, G: Gathers>(
 // Gathers what a register gives: nothing where it doesn't count.
 fn gather_register<S: Shelf, G: Gathers>(
     shelf: &mut S,
-    basis: &Basis,
-    stretches: &Stretches,
-    meter: MeterId,
-    owners: &Owners,
-    register: Register,
+    place: &Place,
     gathered: &mut G,
 ) -> Result<(), ShelfFault>
-    requires idle { IsNone (S.state shelf.old).begun }
-    requires stretches { AreStretches stretches.now.begins.now (stretches.now.last + 1) }
-    requires meter { meter.0 < length basis.now.office.now.meters }
+    requires able { CanAsk S.Shelf place.now.basis.now.office.now place.now.stretches.now.begins.now (place.now.stretches.now.last + 1) place.now.meter.0 shelf.old }
     requires few { (n : ℕ) × (n < 6 * 2 ^ 16) × G.fits n gathered.old }
-    ensures few { (n : ℕ) → G.fits n gathered.old → OnOk result ((k : ℕ) × (k ≤ n + 1) × G.fits k gathered.new) }
-    ensures step { S.clean shelf.new → IsSoundContent (office_of basis.now.office.now) (S.state shelf.old).content → NamesStretches (held_at (S.state shelf.old).content.records) meter.0 stretches.now.account stretches.now.begins.now (stretches.now.last + 1) owners.now → OnOk result (RegisterStep (counts_at basis.now.office.now meter.0) (G.adds basis.now.office.now (S.state shelf.old).content stretches.now.account stretches.now.begins.now (stretches.now.last + 1) meter.0) (register_place register) gathered.old gathered.new) }
-    ensures tally { S.clean shelf.new → (each : AnyRegister → ℕ) → G.reads stretches.now.begins.now (stretches.now.last + 1) ((S.state shelf.old).content.point meter.0 register) (each register) → (S.state shelf.new).tally ≤ (S.state shelf.old).tally + counted_reads basis.now.office.now meter.0 each register }
+    ensures few { (n : ℕ) → G.fits n gathered.old → OnOk result (FitsMore G.fits (n + 1) gathered.new) }
+    ensures step { S.clean shelf.new → OnOk result (RegisterAdds G.adds (pass_of place.now.basis.now.office.now (S.state shelf.old).content place.now.stretches.now.account place.now.stretches.now.begins.now (place.now.stretches.now.last + 1)) place.now.meter.0 place.now.owners.now (register_place place.now.register) gathered.old gathered.new) }
+    ensures tally { S.clean shelf.new → (each : AnyRegister → ℕ) → G.reads (pass_of place.now.basis.now.office.now (S.state shelf.old).content place.now.stretches.now.account place.now.stretches.now.begins.now (place.now.stretches.now.last + 1)) place.now.meter.0 place.now.register (each place.now.register) → RisesAtMost (counted_reads place.now.basis.now.office.now place.now.meter.0 each place.now.register) (S.state shelf.old).tally (S.state shelf.new).tally }
     ensures asked { IsOnlyAsked S.Shelf (failures_told result) shelf.old shelf.new }
 {
-    if basis.office.counts(meter, register) {
-        gathered.add_register(shelf, basis, stretches, meter, owners, register)
+    if place.basis.office.counts(place.meter, place.register) {
+        gathered.add_register(shelf, place)
     } else {
         Ok(())
     }

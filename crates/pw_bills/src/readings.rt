@@ -1,24 +1,19 @@
 //! Up to when the meters of an account are read.
 
-ghost use Rattle.std.specs.Prelude.{◌≡◌, ℕ, ◌+◌, ◌<◌, ◌≤◌, IfOk, IsNone, slice_get};
+ghost use Rattle.std.specs.Prelude.{ℕ, ◌<◌, ◌≤◌, IfOk};
 ghost use Rattle.pw_time.specs.declared.instant.TheConstants.{END_SECOND};
-ghost use Rattle.pw_flow.specs.Time.{last as latest_of};
 ghost use Rattle.pw_tariff.specs.Office.{office_of};
-ghost use Rattle.pw_shelf.specs.Calls.{failures_told};
-ghost use Rattle.pw_book.specs.Asking.{IsOnlyAsked};
 ghost use Rattle.pw_book.specs.Cost.{RisesAtMost};
 ghost use Rattle.pw_book.specs.Questions.{IsQuestion};
 ghost use Rattle.pw_bills.specs.ReadUpTo.{AreEnoughToRead, AreLastReadings};
 ghost use Rattle.pw_bills.specs.Reads.{all_meters};
 
-use crate::asked::{point_before_held, points_held};
-use crate::gathering::{Gathers, gather};
-use crate::stretches::Stretches;
-use pw_book::{Basis, Book, BookFault};
+use crate::gathering::{Gathers, Place, gather};
+use crate::points::latest_held;
+use pw_book::{Book, BookFault};
 use pw_obis::{Register, WattHours};
-use pw_parts::Point;
 use pw_shelf::{Shelf, ShelfFault};
-use pw_tariff::{AccountId, MeterId, Owners};
+use pw_tariff::{AccountId, MeterId};
 use pw_time::Instant;
 use std::alloc::Global;
 
@@ -68,56 +63,19 @@ pub fn read_up_to<S: Shelf>(
 
 // A register adds its latest reading up to the last second.
 impl Gathers for LastReadings {
-    ghost use Rattle.pw_bills.specs.inner.LastReadings.{AddsLatest, IsAnyNumber, ThreeAreRead};
+    ghost use Rattle.pw_bills.specs.inner.LastReadings.{AddsLatest, ThreeAreRead};
 
     ghost adds = { AddsLatest };
 
-    ghost fits = { IsAnyNumber };
-
     ghost reads = { ThreeAreRead };
 
-    fn add_register<S: Shelf>(
-        &mut self,
-        shelf: &mut S,
-        basis: &Basis,
-        stretches: &Stretches,
-        meter: MeterId,
-        _owners: &Owners,
-        register: Register,
-    ) -> Result<(), ShelfFault> {
-        let last = latest_held(shelf, basis.alloc, meter, register, stretches.last)?;
+    fn add_register<S: Shelf>(&mut self, shelf: &mut S, place: &Place) -> Result<(), ShelfFault> {
+        let last = latest_held(shelf, place)?;
         self.rows.push(LastReading {
-            meter,
-            register,
+            meter: place.meter,
+            register: place.register,
             last,
         })?;
         Ok(())
     }
-}
-
-// The latest point of a register at an instant or before it.
-fn latest_held<S: Shelf>(
-    shelf: &mut S,
-    alloc: Global,
-    meter: MeterId,
-    register: Register,
-    last: Instant,
-) -> Result<Option<Point>, ShelfFault>
-    requires idle { IsNone (S.state shelf.old).begun }
-    ensures point { S.clean shelf.new → IfOk result (λ latest. latest ≡ latest_of ((S.state shelf.old).content.point meter.0 register) last) }
-    ensures tally { S.clean shelf.new → (S.state shelf.new).tally ≤ (S.state shelf.old).tally + 3 }
-    ensures asked { IsOnlyAsked S.Shelf (failures_told result) shelf.old shelf.new }
-{
-    let here = points_held(shelf, alloc, meter, register, last, last)?;
-    match first_of(&here) {
-        Some(point) => Ok(Some(point)),
-        None => point_before_held(shelf, meter, register, last),
-    }
-}
-
-// The first of some points, if there is one.
-fn first_of(points: &[Point]) -> Option<Point>
-    ensures { result ≡ slice_get points.now 0 }
-{
-    points.first().copied()
 }

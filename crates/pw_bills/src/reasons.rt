@@ -8,14 +8,13 @@ ghost use Rattle.pw_book.specs.Questions.{IsQuestion};
 ghost use Rattle.pw_bills.specs.Reads.{AreEnoughFor, all_meters};
 ghost use Rattle.pw_bills.specs.Why.{TellsWhy};
 
-use crate::gathering::{Gathers, gather};
+use crate::gathering::{Gathers, Place, gather};
 use crate::pieces::add_points;
 use crate::points::points_over;
-use crate::stretches::Stretches;
-use pw_book::{Basis, Book, BookFault};
+use pw_book::{Book, BookFault};
 use pw_obis::Register;
 use pw_shelf::{Shelf, ShelfFault};
-use pw_tariff::{AccountId, MeterId, Owners, Piece, Span};
+use pw_tariff::{AccountId, MeterId, Piece, Span};
 use pw_time::Instant;
 use std::alloc::Global;
 
@@ -68,35 +67,13 @@ pub fn why<S: Shelf>(
 
 // A register adds the pieces of its neighbouring pairs that give the account something.
 impl Gathers for Reasons {
-    ghost use Rattle.pw_bills.specs.inner.Gathering.{PointsAreRead};
-    ghost use Rattle.pw_bills.specs.inner.Rows.{AddsRows, AreAnyNumber};
+    ghost use Rattle.pw_bills.specs.inner.Rows.{AddsRows};
 
     ghost adds = { AddsRows };
 
-    ghost fits = { AreAnyNumber };
-
-    ghost reads = { PointsAreRead };
-
-    fn add_register<S: Shelf>(
-        &mut self,
-        shelf: &mut S,
-        basis: &Basis,
-        stretches: &Stretches,
-        meter: MeterId,
-        owners: &Owners,
-        register: Register,
-    ) -> Result<(), ShelfFault> {
-        let points = points_over(shelf, basis.alloc, stretches, meter, register)?;
-        let account = stretches.account;
-        add_points(
-            basis,
-            owners,
-            account,
-            meter,
-            register,
-            &points,
-            &mut self.rows,
-        )?;
+    fn add_register<S: Shelf>(&mut self, shelf: &mut S, place: &Place) -> Result<(), ShelfFault> {
+        let points = points_over(shelf, place)?;
+        add_points(place, &points, &mut self.rows)?;
         Ok(())
     }
 }

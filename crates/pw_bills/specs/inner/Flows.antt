@@ -3,7 +3,7 @@
 use Rattle.std.specs.Prelude.{◌≡◌, ℕ, ◌+◌, ◌*◌, ◌^◌, ◌<◌, ◌≤◌, Option, Some, None, List, [], ◌∷◌, length, slice_index}
 use Rattle.pw_obis.specs.declared.reference.Register.{Register}
 use Rattle.pw_tariff.specs.declared.ids.AccountId.{AccountId}
-use Rattle.pw_tariff.specs.Office.{OfficeFile, OfficeRules, office_of}
+use Rattle.pw_tariff.specs.Office.{OfficeRules, office_of}
 use Rattle.pw_model.specs.declared.records.Key.{Key}
 use Rattle.pw_model.specs.declared.records.Contents.{Contents}
 use Rattle.pw_model.specs.declared.records.TotalKey.{TotalKey}
@@ -11,13 +11,13 @@ use Rattle.pw_model.specs.declared.records.TotalKey.TheVariants.{Energy, TopUps}
 use Rattle.pw_model.specs.Changes.{in_direction}
 use Rattle.pw_model.specs.Counting.{contents_at}
 use Rattle.pw_model.specs.Energy.{Asked, energy_where, meter_share, share_of}
-use Rattle.pw_model.specs.Shelf.{ShelfContent}
 use Rattle.pw_parts.specs.Changes.{gathered}
 use Rattle.pw_parts.specs.declared.changes.Side.TheVariants.{Gains}
 use Rattle.pw_months.specs.Between.{class_between}
 use Rattle.pw_months.specs.Window.{Spans}
 use Rattle.pw_bills.specs.declared.energies.Energies.{Energies}
 use Rattle.pw_bills.specs.Stretches.{end_of}
+use Rattle.pw_bills.specs.inner.Gathering.{Pass}
 
 -- ---- points
 -- no point at all, or a chain of points that covers the interval
@@ -59,10 +59,11 @@ all_between office at a begins end (TopUps o) = 0
 
 -- ---- what is gathered
 -- a register adds what it gives to each stretch
-abbrev pub AddsEnergy : OfficeFile → ShelfContent → AccountId → List ℕ → ℕ → ℕ → Register → Energies → Energies → Type 0
-AddsEnergy file c a begins end m r old new = (k : TotalKey) → IsOfStretch begins k →
+abbrev pub AddsEnergy : Pass → ℕ → Register → Energies → Energies → Type 0
+AddsEnergy q m r old new = (k : TotalKey) → IsOfStretch q.begins k →
     gathered Gains new.changes.rows k
-    ≡ gathered Gains old.changes.rows k + register_between (office_of file) (contents_at c.records) a begins end m k r
+    ≡ gathered Gains old.changes.rows k
+    + register_between (office_of q.file) (contents_at q.content.records) q.account q.begins q.end m k r
 
 -- no total is more than what so many registers can give
 abbrev pub IsOfRegisters : ℕ → Energies → Type 0

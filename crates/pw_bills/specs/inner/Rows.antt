@@ -16,11 +16,11 @@ use Rattle.pw_model.specs.declared.records.Key.{Key}
 use Rattle.pw_model.specs.declared.records.Contents.{Contents}
 use Rattle.pw_model.specs.Counting.{Member, contents_at, point}
 use Rattle.pw_model.specs.Energy.{account, owner_at}
-use Rattle.pw_model.specs.Shelf.{ShelfContent}
 use Rattle.pw_months.specs.Why.{IsWhyRow, covers}
 use Rattle.pw_bills.specs.declared.reasons.Reasons.{Reasons}
 use Rattle.pw_bills.specs.declared.reasons.WhyPiece.{WhyPiece}
 use Rattle.pw_bills.specs.Why.{row_told}
+use Rattle.pw_bills.specs.inner.Gathering.{Pass}
 use Rattle.pw_bills.specs.inner.Naming.{OwnerStart}
 
 -- ---- what pairs of points give, under owners that name one stretch
@@ -108,11 +108,7 @@ pub record AreRowsUpTo (office : OfficeRules) (at : Key → Contents) (a : Accou
 
 -- ---- what is gathered
 -- in one stretch a register adds its rows to those up to it
-abbrev pub AddsRows : OfficeFile → ShelfContent → AccountId → List ℕ → ℕ → ℕ → Register → Reasons → Reasons → Type 0
-AddsRows file c a begins end m r old new = (x : ℕ) → begins ≡ x ∷ [] →
-    AreRowsUpTo (office_of file) (contents_at c.records) a x end m (register_place r) 0 old.rows.items →
-    AreRowsUpTo (office_of file) (contents_at c.records) a x end m (register_place r + 1) 0 new.rows.items
-
--- of any number of registers
-abbrev pub AreAnyNumber : ℕ → Reasons → Type 0
-AreAnyNumber n rows = Unit {0}
+abbrev pub AddsRows : Pass → ℕ → Register → Reasons → Reasons → Type 0
+AddsRows q m r old new = (x : ℕ) → q.begins ≡ x ∷ [] →
+    AreRowsUpTo (office_of q.file) (contents_at q.content.records) q.account x q.end m (register_place r) 0 old.rows.items →
+    AreRowsUpTo (office_of q.file) (contents_at q.content.records) q.account x q.end m (register_place r + 1) 0 new.rows.items

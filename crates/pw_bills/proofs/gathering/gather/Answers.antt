@@ -1,6 +1,6 @@
 use Rattle.std.proofs.Common.{ℕ, sym, subst, arith}
-use Rattle.pw_bills.specs.Stretches.{AreStretches, first_of}
-use Rattle.pw_bills.specs.inner.Gathering.{AreEnoughToGather, IsGathered}
+use Rattle.pw_bills.specs.Stretches.{AreStretches}
+use Rattle.pw_bills.specs.inner.Gathering.{AreEnoughToGather, IsGathered, pass_of}
 use Rattle.pw_bills.proofs.Reading.{first-read, stretches-within}
 use Rattle.pw_bills.proofs.gathering.gather.Goals as goal
 
@@ -17,16 +17,15 @@ gather_held-requires-clause-stretches g c =
 
 pub returns-in_err-gather_held-clause-cost : goal.returns-in_err-gather_held-clause-cost
 returns-in_err-gather_held-clause-cost g c = λ k most h.
-    let P : ℕ → Type 0 = λ e. AreEnoughToGather (g.G.Gathers.reads c.args.begins.now e) c.args.book.now.office (g.S.Shelf.state c.args.book.now.shelf).content c.args.account.0 (first_of c.args.begins.now e) e most in
+    let P : ℕ → Type 0 = λ e. AreEnoughToGather g.G.Gathers.reads (pass_of c.args.book.now.office (g.S.Shelf.state c.args.book.now.shelf).content c.args.account c.args.begins.now e) most in
     c.gather_held.ensures.tally k most (subst P (sym c.last_before-last.ensures) h)
 
 pub returns-clause-gathered : goal.returns-clause-gathered
 returns-clause-gathered g c = λ k.
-    let P : ℕ → Type 0 = λ e. IsGathered (g.G.Gathers.adds c.args.book.now.office (g.S.Shelf.state c.args.book.now.shelf).content c.args.account c.args.begins.now e) c.args.book.now.office (g.S.Shelf.state c.args.book.now.shelf).content c.args.account
-    (first_of c.args.begins.now e) e c.args.gathered.now c.gather_held.new.gathered in
+    let P : ℕ → Type 0 = λ e. IsGathered g.G.Gathers.adds (pass_of c.args.book.now.office (g.S.Shelf.state c.args.book.now.shelf).content c.args.account c.args.begins.now e) c.args.gathered.now c.gather_held.new.gathered in
     subst P c.last_before-last.ensures (c.in_ok-gather_held.ensures.gathered k)
 
 pub returns-clause-cost : goal.returns-clause-cost
 returns-clause-cost g c = λ k most h.
-    let P : ℕ → Type 0 = λ e. AreEnoughToGather (g.G.Gathers.reads c.args.begins.now e) c.args.book.now.office (g.S.Shelf.state c.args.book.now.shelf).content c.args.account.0 (first_of c.args.begins.now e) e most in
+    let P : ℕ → Type 0 = λ e. AreEnoughToGather g.G.Gathers.reads (pass_of c.args.book.now.office (g.S.Shelf.state c.args.book.now.shelf).content c.args.account c.args.begins.now e) most in
     c.gather_held.ensures.tally k most (subst P (sym c.last_before-last.ensures) h)

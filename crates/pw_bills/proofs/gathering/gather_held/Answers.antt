@@ -1,15 +1,11 @@
-use Rattle.std.proofs.Common.{◌≡◌, ℕ, ◌+◌, length, subst, arith}
+use Rattle.std.proofs.Common.{◌≡◌, ℕ, ◌+◌, ◌≤◌, length, subst, arith}
 use Rattle.pw_flow.specs.Time.{sum_over}
-use Rattle.pw_tariff.specs.Office.{counts_at, office_of}
-use Rattle.pw_model.specs.Counting.{contents_at}
-use Rattle.pw_model.specs.Shelf.{ShelfContent}
+use Rattle.pw_tariff.specs.Office.{office_of}
 use Rattle.pw_book.proofs.Chains.{asked-none, asked-then}
-use Rattle.pw_bills.specs.ReadUpTo.{IsAccountsIn}
-use Rattle.pw_bills.specs.Stretches.{first_of}
-use Rattle.pw_bills.specs.inner.Gathering.{MeterStep, Steps}
+use Rattle.pw_bills.specs.inner.Gathering.{Pass, IsEnoughToGather, IsSoundPass, MeterAdds, MeterStep, Steps, pass_of}
 use Rattle.pw_bills.proofs.Reading.{meter-read, meters-read}
 use Rattle.pw_bills.proofs.StepByStep.{steps-more, steps-none}
-use Rattle.pw_bills.proofs.There.{enough-there, sound-there}
+use Rattle.pw_bills.proofs.There.{asked-able, asked-there}
 use Rattle.pw_bills.proofs.gathering.gather_held.Goals as goal
 
 pub loop-meter-init : goal.loop-meter-init
@@ -20,6 +16,12 @@ loop-meter-init g c = record {
   tally = λ k most h. omega arith;
   asked = asked-none _ g.met.S.Shelf.same_yet _;
 }
+
+pub gather_meter-requires-clause-able : goal.gather_meter-requires-clause-able
+gather_meter-requires-clause-able g c =
+    let l = c.loop-meter-test.true in
+    let n = c.meters-meter-end.ensures.count in
+    asked-able g.S.Shelf _ _ _ _ _ _ c.loop-meter.invariant.asked (record { idle = c.requires.idle; stretches = c.requires.stretches; meter = omega (arith, l, n) })
 
 pub gather_meter-requires-clause-few : goal.gather_meter-requires-clause-few
 gather_meter-requires-clause-few g c =
@@ -32,11 +34,7 @@ gather_meter-requires-clause-few g c =
 
 pub loop-meter-preserved : goal.loop-meter-preserved
 loop-meter-preserved g c =
-    let file = c.args.basis.now.office.now in
-    let a = c.args.stretches.now.account in
-    let begins = c.args.stretches.now.begins.now in
-    let end : ℕ = c.args.stretches.now.last + 1 in
-    let content = (g.S.Shelf.state c.args.shelf.now).content in
+    let q : Pass = pass_of c.args.basis.now.office.now (g.S.Shelf.state c.args.shelf.now).content c.args.stretches.now.account c.args.stretches.now.begins.now (c.args.stretches.now.last + 1) in
     let was = c.loop-meter.invariant in
     record {
       few =
@@ -47,49 +45,46 @@ loop-meter-preserved g c =
       steps = λ k.
           let before = c.gather_meter.ensures.asked.kept.clean k in
           let start = was.asked.kept.clean before in
-          let P : ShelfContent → Type 0 = λ z. MeterStep (IsAccountsIn (contents_at z.records) a (first_of begins end) end) (counts_at file) (g.G.Gathers.adds file z a begins end) c.loop-meter.meter c.loop-meter.gathered c.gather_meter.new.gathered in
-          steps-more (MeterStep (IsAccountsIn (contents_at content.records) a (first_of begins end) end) (counts_at file) (g.G.Gathers.adds file content a begins end)) c.loop-meter.meter c.args.gathered.now c.loop-meter.gathered c.gather_meter.new.gathered
-          (was.steps before) (sound-there (office_of file) P content _ (was.asked.content before) (c.in_ok-gather_meter.ensures.step k) (c.requires.sound start));
+          let P : Pass → Type 0 = λ z. MeterAdds g.G.Gathers.adds z c.loop-meter.meter c.loop-meter.gathered c.gather_meter.new.gathered in
+          steps-more (MeterStep g.G.Gathers.adds q) c.loop-meter.meter c.args.gathered.now c.loop-meter.gathered c.gather_meter.new.gathered
+          (was.steps before) (asked-there q _ (was.asked.content before) P (c.in_ok-gather_meter.ensures.step k) (record { truth = c.requires.truth start; of_office = c.requires.of_office start; few = c.requires.held start }));
       tally = λ k most h.
           let before = c.gather_meter.ensures.asked.kept.clean k in
           let start = was.asked.kept.clean before in
           let l = c.loop-meter-test.true in
           let n = c.meters-meter-end.ensures.count in
-          let here = enough-there (g.G.Gathers.reads begins end) file content _ a.0 (first_of begins end) end c.loop-meter.meter (most c.loop-meter.meter) _ _ (was.asked.content before) (c.gather_meter.ensures.tally k)
-          (c.requires.sound start) (h c.loop-meter.meter (omega (arith, l, n))) in
+          let E : Pass → Type 0 = λ z. IsSoundPass z → (few : ℕ) → IsEnoughToGather g.G.Gathers.reads z c.loop-meter.meter few → (g.S.Shelf.state c.gather_meter.new.shelf).tally ≤ (g.S.Shelf.state c.loop-meter.shelf).tally + few in
+          let here = asked-there q _ (was.asked.content before) E (c.gather_meter.ensures.tally k) (record { truth = c.requires.truth start; of_office = c.requires.of_office start; few = c.requires.held start })
+          (most c.loop-meter.meter) (h c.loop-meter.meter (omega (arith, l, n))) in
           meter-read most c.loop-meter.meter _ _ _ (was.tally before most h) here;
       asked = asked-then _ g.met.S.Shelf.same_then _ _ _ _ was.asked c.in_ok-gather_meter.ensures.asked;
     }
 
 pub returns-in_err-gather_meter-clause-tally : goal.returns-in_err-gather_meter-clause-tally
 returns-in_err-gather_meter-clause-tally g c = λ k most h.
-    let file = c.args.basis.now.office.now in
-    let begins = c.args.stretches.now.begins.now in
-    let end : ℕ = c.args.stretches.now.last + 1 in
+    let q : Pass = pass_of c.args.basis.now.office.now (g.S.Shelf.state c.args.shelf.now).content c.args.stretches.now.account c.args.stretches.now.begins.now (c.args.stretches.now.last + 1) in
     let was = c.loop-meter.invariant in
     let before = c.gather_meter.ensures.asked.kept.clean k in
     let start = was.asked.kept.clean before in
     let l = c.loop-meter-test.true in
     let n = c.meters-meter-end.ensures.count in
-    let here = enough-there (g.G.Gathers.reads begins end) file (g.S.Shelf.state c.args.shelf.now).content _ c.args.stretches.now.account.0 (first_of begins end) end c.loop-meter.meter (most c.loop-meter.meter) _ _
-    (was.asked.content before) (c.gather_meter.ensures.tally k) (c.requires.sound start) (h c.loop-meter.meter (omega (arith, l, n))) in
-    meters-read most (c.loop-meter.meter + 1) (office_of file).meters _ _ (omega (arith, l, n)) (meter-read most c.loop-meter.meter _ _ _ (was.tally before most h) here)
+    let E : Pass → Type 0 = λ z. IsSoundPass z → (few : ℕ) → IsEnoughToGather g.G.Gathers.reads z c.loop-meter.meter few → (g.S.Shelf.state c.gather_meter.new.shelf).tally ≤ (g.S.Shelf.state c.loop-meter.shelf).tally + few in
+    let here = asked-there q _ (was.asked.content before) E (c.gather_meter.ensures.tally k) (record { truth = c.requires.truth start; of_office = c.requires.of_office start; few = c.requires.held start })
+    (most c.loop-meter.meter) (h c.loop-meter.meter (omega (arith, l, n))) in
+    meters-read most (c.loop-meter.meter + 1) (office_of q.file).meters _ _ (omega (arith, l, n)) (meter-read most c.loop-meter.meter _ _ _ (was.tally before most h) here)
 
 pub returns-clause-gathered : goal.returns-clause-gathered
 returns-clause-gathered g c = λ k.
-    let file = c.args.basis.now.office.now in
-    let a = c.args.stretches.now.account in
-    let begins = c.args.stretches.now.begins.now in
-    let end : ℕ = c.args.stretches.now.last + 1 in
-    let content = (g.S.Shelf.state c.args.shelf.now).content in
+    let q : Pass = pass_of c.args.basis.now.office.now (g.S.Shelf.state c.args.shelf.now).content c.args.stretches.now.account c.args.stretches.now.begins.now (c.args.stretches.now.last + 1) in
+    let start = c.loop-meter.invariant.asked.kept.clean k in
     let n = c.meters-meter-end.ensures.count in
     let e = c.loop-meter.auto.meter-end in
     let l = c.loop-meter-test.false in
-    let all : c.loop-meter.meter ≡ length file.meters = omega (arith, n, e, l) in
-    let P : ℕ → Type 0 = λ m. Steps (MeterStep (IsAccountsIn (contents_at content.records) a (first_of begins end) end) (counts_at file) (g.G.Gathers.adds file content a begins end)) m c.args.gathered.now c.loop-meter.gathered in
+    let all : c.loop-meter.meter ≡ length q.file.meters = omega (arith, n, e, l) in
+    let P : ℕ → Type 0 = λ m. Steps (MeterStep g.G.Gathers.adds q) m c.args.gathered.now c.loop-meter.gathered in
     record {
       office = c.meters-meter-end.ensures.sound;
-      content = c.requires.sound (c.loop-meter.invariant.asked.kept.clean k);
+      content = record { truth = c.requires.truth start; of_office = c.requires.of_office start; few = c.requires.held start };
       steps = subst P all (c.loop-meter.invariant.steps k);
     }
 

@@ -10,11 +10,12 @@ pub returns-else-counts-clause-few : goal.returns-else-counts-clause-few
 returns-else-counts-clause-few g c = λ n f. (n, omega arith, f)
 
 pub returns-then-counts-clause-step : goal.returns-then-counts-clause-step
-returns-then-counts-clause-step g c = λ k s n. on_ok_weaker c.add_register.result (λ h. (c.args.register, refl, inl (sym c.counts.ensures ∙ c.if-counts.true, h))) (c.add_register.ensures.added k s n)
+returns-then-counts-clause-step g c = λ k. on_ok_weaker c.add_register.result (λ h s n. (c.args.place.now.register, refl, inl (sym c.counts.ensures ∙ c.if-counts.true, h s n))) (c.add_register.ensures.added k)
 
 pub returns-else-counts-clause-step : goal.returns-else-counts-clause-step
-returns-else-counts-clause-step g c = λ k s n. (c.args.register, refl, inr (sym c.counts.ensures ∙ c.if-counts.false, refl))
+returns-else-counts-clause-step g c = λ k s n. (c.args.place.now.register, refl, inr (sym c.counts.ensures ∙ c.if-counts.false, refl))
 
 pub returns-then-counts-clause-tally : goal.returns-then-counts-clause-tally
 returns-then-counts-clause-tally g c = λ k each h.
-    register-counted c.args.basis.now.office.now c.args.meter.0 each c.args.register _ _ (sym c.counts.ensures ∙ c.if-counts.true) (c.add_register.ensures.tally k (each c.args.register) h)
+    let place = c.args.place.now in
+    register-counted place.basis.now.office.now place.meter.0 each place.register _ _ (sym c.counts.ensures ∙ c.if-counts.true) (c.add_register.ensures.tally k (each place.register) h)

@@ -1,14 +1,10 @@
 use Rattle.std.proofs.Common.{◌≡◌, ℕ, ◌+◌, subst, arith}
-use Rattle.pw_tariff.specs.Office.{counts_at, office_of}
-use Rattle.pw_model.specs.Counting.{contents_at}
-use Rattle.pw_model.specs.Shelf.{ShelfContent}
 use Rattle.pw_book.proofs.Chains.{asked-none, asked-then}
 use Rattle.pw_book.proofs.Segments.{place-at}
-use Rattle.pw_bills.specs.inner.Gathering.{RegisterStep, Steps, counted_reads}
-use Rattle.pw_bills.specs.inner.Naming.{NamesStretches}
+use Rattle.pw_bills.specs.inner.Gathering.{Pass, RegisterStep, Steps, counted_reads, pass_of}
 use Rattle.pw_bills.proofs.Reading.{register-failed, register-read, registers-read}
 use Rattle.pw_bills.proofs.StepByStep.{steps-more, steps-none}
-use Rattle.pw_bills.proofs.There.{register-read_there, sound-there}
+use Rattle.pw_bills.proofs.There.{asked-able, register-adds_there, register-read_there}
 use Rattle.pw_bills.proofs.gathering.gather_registers.Goals as goal
 
 pub loop-register-init : goal.loop-register-init
@@ -18,6 +14,9 @@ loop-register-init g c = record {
   tally = λ k each h. omega arith;
   asked = asked-none _ g.met.S.Shelf.same_yet _;
 }
+
+pub gather_register-requires-clause-able : goal.gather_register-requires-clause-able
+gather_register-requires-clause-able g c = asked-able g.S.Shelf _ _ _ _ _ _ c.loop-register.invariant.asked c.requires.able
 
 pub gather_register-requires-clause-few : goal.gather_register-requires-clause-few
 gather_register-requires-clause-few g c =
@@ -29,11 +28,7 @@ gather_register-requires-clause-few g c =
 
 pub loop-register-preserved : goal.loop-register-preserved
 loop-register-preserved g c =
-    let file = c.args.basis.now.office.now in
-    let a = c.args.stretches.now.account in
-    let begins = c.args.stretches.now.begins.now in
-    let end : ℕ = c.args.stretches.now.last + 1 in
-    let content = (g.S.Shelf.state c.args.shelf.now).content in
+    let q : Pass = pass_of c.args.basis.now.office.now (g.S.Shelf.state c.args.shelf.now).content c.args.stretches.now.account c.args.stretches.now.begins.now (c.args.stretches.now.last + 1) in
     let was = c.loop-register.invariant in
     record {
       few = λ n f.
@@ -44,26 +39,22 @@ loop-register-preserved g c =
           (k.0, omega (arith, b, d), k.2);
       steps = λ k s n.
           let before = c.gather_register.ensures.asked.kept.clean k in
-          let place = place-at c.loop-register.register-index _ c.loop-register-test.true in
-          let P : ℕ → ShelfContent → Type 0 = λ i z. NamesStretches (contents_at z.records) c.args.meter.0 a begins end c.args.owners.now →
-          RegisterStep (counts_at file c.args.meter.0) (g.G.Gathers.adds file z a begins end c.args.meter.0) i c.loop-register.gathered c.gather_register.new.gathered in
-          let here : P c.loop-register.register-index content
-          = subst (λ (i : ℕ). P i content) place (sound-there (office_of file) (P _) content _ (was.asked.content before) (c.in_ok-gather_register.ensures.step k) s) in
-          steps-more (RegisterStep (counts_at file c.args.meter.0) (g.G.Gathers.adds file content a begins end c.args.meter.0)) c.loop-register.register-index c.args.gathered.now c.loop-register.gathered c.gather_register.new.gathered
-          (was.steps before s n) (here n);
+          let here = register-adds_there g.G.Gathers.adds q _ c.args.meter.0 c.args.owners.now c.loop-register.register-index _ c.loop-register.gathered c.gather_register.new.gathered
+          (was.asked.content before) (place-at c.loop-register.register-index _ c.loop-register-test.true) (c.in_ok-gather_register.ensures.step k) s n in
+          steps-more (RegisterStep g.G.Gathers.adds q c.args.meter.0) c.loop-register.register-index c.args.gathered.now c.loop-register.gathered c.gather_register.new.gathered (was.steps before s n) here;
       tally = λ k each h.
           let before = c.gather_register.ensures.asked.kept.clean k in
-          let here = register-read_there (g.G.Gathers.reads begins end) file content _ c.args.meter.0 _ each _ _ (was.asked.content before) (c.gather_register.ensures.tally k) (h _) in
-          register-read (counted_reads file c.args.meter.0 each) c.loop-register.register-index _ _ _ _ c.loop-register-test.true (was.tally before each h) here;
+          let here = register-read_there g.G.Gathers.reads q _ c.args.meter.0 _ each _ _ (was.asked.content before) (c.gather_register.ensures.tally k) (h _) in
+          register-read (counted_reads c.args.basis.now.office.now c.args.meter.0 each) c.loop-register.register-index _ _ _ _ c.loop-register-test.true (was.tally before each h) here;
       asked = asked-then _ g.met.S.Shelf.same_then _ _ _ _ was.asked c.in_ok-gather_register.ensures.asked;
     }
 
 pub returns-in_err-gather_register-clause-tally : goal.returns-in_err-gather_register-clause-tally
 returns-in_err-gather_register-clause-tally g c = λ k each h.
+    let q : Pass = pass_of c.args.basis.now.office.now (g.S.Shelf.state c.args.shelf.now).content c.args.stretches.now.account c.args.stretches.now.begins.now (c.args.stretches.now.last + 1) in
     let before = c.gather_register.ensures.asked.kept.clean k in
     let was = c.loop-register.invariant in
-    let here = register-read_there (g.G.Gathers.reads c.args.stretches.now.begins.now (c.args.stretches.now.last + 1)) c.args.basis.now.office.now (g.S.Shelf.state c.args.shelf.now).content _ c.args.meter.0 _ each _ _
-    (was.asked.content before) (c.gather_register.ensures.tally k) (h _) in
+    let here = register-read_there g.G.Gathers.reads q _ c.args.meter.0 _ each _ _ (was.asked.content before) (c.gather_register.ensures.tally k) (h _) in
     register-failed (counted_reads c.args.basis.now.office.now c.args.meter.0 each) c.loop-register.register-index _ _ _ _ c.loop-register-test.true (was.tally before each h) here
 
 pub returns-clause-few : goal.returns-clause-few
@@ -75,11 +66,11 @@ returns-clause-few g c = λ n f.
 
 pub returns-clause-steps : goal.returns-clause-steps
 returns-clause-steps g c = λ k s n.
+    let q : Pass = pass_of c.args.basis.now.office.now (g.S.Shelf.state c.args.shelf.now).content c.args.stretches.now.account c.args.stretches.now.begins.now (c.args.stretches.now.last + 1) in
     let l = c.loop-register-test.false in
     let e = c.loop-register.auto.register-index-end in
     let all : c.loop-register.register-index ≡ 6 = omega (arith, l, e) in
-    let P : ℕ → Type 0 = λ i. Steps (RegisterStep (counts_at c.args.basis.now.office.now c.args.meter.0) (g.G.Gathers.adds c.args.basis.now.office.now (g.S.Shelf.state c.args.shelf.now).content c.args.stretches.now.account c.args.stretches.now.begins.now (c.args.stretches.now.last + 1) c.args.meter.0))
-    i c.args.gathered.now c.loop-register.gathered in
+    let P : ℕ → Type 0 = λ i. Steps (RegisterStep g.G.Gathers.adds q c.args.meter.0) i c.args.gathered.now c.loop-register.gathered in
     subst P all (c.loop-register.invariant.steps k s n)
 
 pub returns-clause-tally : goal.returns-clause-tally

@@ -5,4 +5,4 @@ use Rattle.pw_bills.proofs.pieces.add_pieces.Given as goal
 
 abbrev pub invariant-loop-piece : goal.invariant-loop-piece
 invariant-loop-piece l =
-    l.rows.items ≡ l.initial.rows.items ++ map (why_of l.account l.meter l.register l.span) (filter gives_something (take l.piece-index l.pieces))
+    l.rows.items ≡ l.initial.rows.items ++ map (why_of l.place.stretches.now.account l.place.meter l.place.register l.span) (filter gives_something (take l.piece-index l.pieces))
