@@ -25,7 +25,7 @@ use Rattle.pw_bills.specs.ReadUpTo.{IsAccountsIn}
 use Rattle.pw_bills.specs.Reads.{IsOwned}
 use Rattle.pw_bills.specs.Stretches.{AreStretches, first_of}
 use Rattle.pw_bills.specs.inner.Flows.{Covers, IsOfStretch, register_between}
-use Rattle.pw_bills.specs.inner.Gathering.{CanAsk, Pass, RegisterAdds, counted_reads, pass_of}
+use Rattle.pw_bills.specs.inner.Gathering.{CanAsk, IsEnoughToGather, IsSoundPass, Pass, RegisterAdds, counted_reads, pass_of}
 use Rattle.pw_bills.specs.inner.Naming.{NamesStretches, OwnerStart, named_from, names_somebody}
 use Rattle.pw_bills.proofs.Covered.{covered-order}
 use Rattle.pw_bills.proofs.Given.{register-given}
@@ -105,3 +105,9 @@ register-adds_there adds q d m owners i place old new e p f =
     let P : Pass → Type 0 = λ z. RegisterAdds adds z m owners place old new in
     let R : ℕ → Type 0 = λ k. RegisterAdds adds q m owners k old new in
     subst R p (asked-there q d e P f)
+
+pub meter-read_there : (reads : Pass → ℕ → Register → ℕ → Type 0) (q : Pass) (d : ShelfContent) (m most was now : ℕ) → d ≡ q.content →
+    (IsSoundPass (pass_of q.file d q.account q.begins q.end) → (few : ℕ) → IsEnoughToGather reads (pass_of q.file d q.account q.begins q.end) m few → now ≤ was + few) → IsSoundPass q → IsEnoughToGather reads q m most → now ≤ was + most
+meter-read_there reads q d m most was now e f s h =
+    let P : Pass → Type 0 = λ z. IsSoundPass z → (few : ℕ) → IsEnoughToGather reads z m few → now ≤ was + few in
+    asked-there q d e P f s most h

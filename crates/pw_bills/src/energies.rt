@@ -9,6 +9,7 @@ ghost use Rattle.pw_months.specs.Between.{energy_between as energy_of};
 ghost use Rattle.pw_bills.specs.Energies.{TellsEnergies, energy_told};
 ghost use Rattle.pw_bills.specs.Reads.{AreEnoughFor, all_meters};
 ghost use Rattle.pw_bills.specs.Stretches.{AreStretches, first_of};
+ghost use Rattle.pw_bills.specs.inner.Flows.{AddsEnergy, IsOfRegisters};
 
 use crate::gathering::{Gathers, Place, gather};
 use crate::points::points_over;
@@ -48,8 +49,6 @@ impl Energies {
 // A register gives each stretch what its neighbouring pairs share out to the stretch's number: each
 // whole pair is shared out once.
 impl Gathers for Energies {
-    ghost use Rattle.pw_bills.specs.inner.Flows.{AddsEnergy, IsOfRegisters};
-
     ghost adds = { AddsEnergy };
 
     ghost fits = { IsOfRegisters };

@@ -3,16 +3,12 @@
 ghost use Rattle.std.specs.Prelude.{◌≡◌, ℕ, ◌+◌, ◌*◌, ◌<◌, ◌≤◌, ◌^◌, true, OnOk, IsNone, length};
 ghost use Rattle.pw_time.specs.declared.instant.TheConstants.{END_SECOND};
 ghost use Rattle.pw_obis.specs.declared.reference.Register.{Register as AnyRegister};
-ghost use Rattle.pw_tariff.specs.Office.{counts_at, office_of, register_place};
-ghost use Rattle.pw_model.specs.Office.{AllOfOffice, most_records};
-ghost use Rattle.pw_model.specs.Shelf.{IsTrueContent};
+ghost use Rattle.pw_tariff.specs.Office.{counts_at, register_place};
 ghost use Rattle.pw_shelf.specs.Calls.{failures_told};
 ghost use Rattle.pw_book.specs.Asking.{IsOnlyAsked};
-ghost use Rattle.pw_book.specs.Cost.{RisesAtMost};
 ghost use Rattle.pw_book.specs.Questions.{IsQuestion};
-ghost use Rattle.pw_bills.specs.Reads.{all_meters};
-ghost use Rattle.pw_bills.specs.Stretches.{AreStretches, first_of};
-ghost use Rattle.pw_bills.specs.inner.Gathering.{AddsHere, AreEnoughToGather, CanAsk, FitsMore, IsEnoughToGather, IsGathered, IsSoundPass, MeterAdds, Pass, PointsAreRead, RegisterAdds, RegistersAdd, counted_reads, meter_reads, pass_of};
+ghost use Rattle.pw_bills.specs.Stretches.{AreStretches};
+ghost use Rattle.pw_bills.specs.inner.Gathering.{AddsHere, AreEnoughToGather, CanAsk, FitsMore, IsEnoughToGather, IsGathered, IsSoundPass, MeterAdds, Pass, PointsAreRead, RegisterAdds, RegistersAdd, counted_reads, meter_reads, office_reads, pass_of};
 
 use crate::asked::starts_held;
 use crate::stretches::{Stretches, name_somebody, named};
@@ -51,7 +47,7 @@ pub(crate) trait Gathers {
         requires few { (n : ℕ) × (n < 6 * 2 ^ 16) × fits n self.old }
         ensures few { (n : ℕ) → fits n self.old → OnOk result (fits (n + 1) self.new) }
         ensures added { S.clean shelf.new → OnOk result (AddsHere adds (pass_of place.now.basis.now.office.now (S.state shelf.old).content place.now.stretches.now.account place.now.stretches.now.begins.now (place.now.stretches.now.last + 1)) place.now.meter.0 place.now.owners.now place.now.register self.old self.new) }
-        ensures tally { S.clean shelf.new → (most : ℕ) → reads (pass_of place.now.basis.now.office.now (S.state shelf.old).content place.now.stretches.now.account place.now.stretches.now.begins.now (place.now.stretches.now.last + 1)) place.now.meter.0 place.now.register most → RisesAtMost most (S.state shelf.old).tally (S.state shelf.new).tally }
+        ensures tally { S.clean shelf.new → (most : ℕ) → reads (pass_of place.now.basis.now.office.now (S.state shelf.old).content place.now.stretches.now.account place.now.stretches.now.begins.now (place.now.stretches.now.last + 1)) place.now.meter.0 place.now.register most → (S.state shelf.new).tally ≤ (S.state shelf.old).tally + most }
         ensures asked { IsOnlyAsked S.Shelf (failures_told result) shelf.old shelf.new };
 }
 
@@ -71,7 +67,7 @@ pub(crate) fn gather<S: Shelf, G: Gathers>(
     requires stretches { AreStretches begins.now end }
     requires few { G.fits 0 gathered.old }
     ensures gathered { S.clean book.new.shelf → OnOk result (IsGathered G.adds (pass_of book.old.office (S.state book.old.shelf).content account begins.now end) gathered.old gathered.new) }
-    ensures cost { S.clean book.new.shelf → (most : ℕ → ℕ) → AreEnoughToGather G.reads (pass_of book.old.office (S.state book.old.shelf).content account begins.now end) most → RisesAtMost (all_meters (office_of book.old.office) most) (S.state book.old.shelf).tally (S.state book.new.shelf).tally }
+    ensures cost { S.clean book.new.shelf → (most : ℕ → ℕ) → AreEnoughToGather G.reads (pass_of book.old.office (S.state book.old.shelf).content account begins.now end) most → (S.state book.new.shelf).tally ≤ (S.state book.old.shelf).tally + office_reads book.old.office most }
     ensures question { IsQuestion S.Shelf result book.old book.new }
 {
     book.still_open()?;
@@ -109,12 +105,10 @@ fn gather_held<S: Shelf, G: Gathers>(
 ) -> Result<(), ShelfFault>
     requires idle { IsNone (S.state shelf.old).begun }
     requires stretches { AreStretches stretches.now.begins.now (stretches.now.last + 1) }
-    requires held { S.clean shelf.old → length (S.state shelf.old).content.records ≤ most_records }
-    requires of_office { S.clean shelf.old → AllOfOffice (office_of basis.now.office.now) (S.state shelf.old).content.records }
-    requires truth { S.clean shelf.old → IsTrueContent (office_of basis.now.office.now) (S.state shelf.old).content }
+    requires sound { S.clean shelf.old → IsSoundPass (pass_of basis.now.office.now (S.state shelf.old).content stretches.now.account stretches.now.begins.now (stretches.now.last + 1)) }
     requires few { G.fits 0 gathered.old }
     ensures gathered { S.clean shelf.new → OnOk result (IsGathered G.adds (pass_of basis.now.office.now (S.state shelf.old).content stretches.now.account stretches.now.begins.now (stretches.now.last + 1)) gathered.old gathered.new) }
-    ensures tally { S.clean shelf.new → (most : ℕ → ℕ) → AreEnoughToGather G.reads (pass_of basis.now.office.now (S.state shelf.old).content stretches.now.account stretches.now.begins.now (stretches.now.last + 1)) most → RisesAtMost (all_meters (office_of basis.now.office.now) most) (S.state shelf.old).tally (S.state shelf.new).tally }
+    ensures tally { S.clean shelf.new → (most : ℕ → ℕ) → AreEnoughToGather G.reads (pass_of basis.now.office.now (S.state shelf.old).content stretches.now.account stretches.now.begins.now (stretches.now.last + 1)) most → (S.state shelf.new).tally ≤ (S.state shelf.old).tally + office_reads basis.now.office.now most }
     ensures asked { IsOnlyAsked S.Shelf (failures_told result) shelf.old shelf.new }
 {
     for meter in 0..basis.office.meters() {
@@ -135,7 +129,7 @@ fn gather_meter<S: Shelf, G: Gathers>(
     requires few { (n : ℕ) × (n + 6 ≤ 6 * 2 ^ 16) × G.fits n gathered.old }
     ensures few { (n : ℕ) → G.fits n gathered.old → OnOk result (FitsMore G.fits (n + 6) gathered.new) }
     ensures step { S.clean shelf.new → OnOk result (MeterAdds G.adds (pass_of basis.now.office.now (S.state shelf.old).content stretches.now.account stretches.now.begins.now (stretches.now.last + 1)) meter.0 gathered.old gathered.new) }
-    ensures tally { S.clean shelf.new → IsSoundPass (pass_of basis.now.office.now (S.state shelf.old).content stretches.now.account stretches.now.begins.now (stretches.now.last + 1)) → (most : ℕ) → IsEnoughToGather G.reads (pass_of basis.now.office.now (S.state shelf.old).content stretches.now.account stretches.now.begins.now (stretches.now.last + 1)) meter.0 most → RisesAtMost most (S.state shelf.old).tally (S.state shelf.new).tally }
+    ensures tally { S.clean shelf.new → IsSoundPass (pass_of basis.now.office.now (S.state shelf.old).content stretches.now.account stretches.now.begins.now (stretches.now.last + 1)) → (most : ℕ) → IsEnoughToGather G.reads (pass_of basis.now.office.now (S.state shelf.old).content stretches.now.account stretches.now.begins.now (stretches.now.last + 1)) meter.0 most → (S.state shelf.new).tally ≤ (S.state shelf.old).tally + most }
     ensures asked { IsOnlyAsked S.Shelf (failures_told result) shelf.old shelf.new }
 {
     let starts = starts_held(shelf, basis.alloc, meter)?;
@@ -163,7 +157,7 @@ fn gather_registers<'a, S: Shelf, G: Gathers>(
     requires few { (n : ℕ) × (n + 6 ≤ 6 * 2 ^ 16) × G.fits n gathered.old }
     ensures few { (n : ℕ) → G.fits n gathered.old → OnOk result (FitsMore G.fits (n + 6) gathered.new) }
     ensures steps { S.clean shelf.new → OnOk result (RegistersAdd G.adds (pass_of basis.now.office.now (S.state shelf.old).content stretches.now.account stretches.now.begins.now (stretches.now.last + 1)) meter.0 owners.now gathered.old gathered.new) }
-    ensures tally { S.clean shelf.new → (each : AnyRegister → ℕ) → ((r : AnyRegister) → G.reads (pass_of basis.now.office.now (S.state shelf.old).content stretches.now.account stretches.now.begins.now (stretches.now.last + 1)) meter.0 r (each r)) → RisesAtMost (meter_reads basis.now.office.now meter.0 each) (S.state shelf.old).tally (S.state shelf.new).tally }
+    ensures tally { S.clean shelf.new → (each : AnyRegister → ℕ) → ((r : AnyRegister) → G.reads (pass_of basis.now.office.now (S.state shelf.old).content stretches.now.account stretches.now.begins.now (stretches.now.last + 1)) meter.0 r (each r)) → (S.state shelf.new).tally ≤ (S.state shelf.old).tally + meter_reads basis.now.office.now meter.0 each }
     ensures asked { IsOnlyAsked S.Shelf (failures_told result) shelf.old shelf.new }
 {
     for register in &Register::ALL {
@@ -189,7 +183,7 @@ fn gather_register<S: Shelf, G: Gathers>(
     requires few { (n : ℕ) × (n < 6 * 2 ^ 16) × G.fits n gathered.old }
     ensures few { (n : ℕ) → G.fits n gathered.old → OnOk result (FitsMore G.fits (n + 1) gathered.new) }
     ensures step { S.clean shelf.new → OnOk result (RegisterAdds G.adds (pass_of place.now.basis.now.office.now (S.state shelf.old).content place.now.stretches.now.account place.now.stretches.now.begins.now (place.now.stretches.now.last + 1)) place.now.meter.0 place.now.owners.now (register_place place.now.register) gathered.old gathered.new) }
-    ensures tally { S.clean shelf.new → (each : AnyRegister → ℕ) → G.reads (pass_of place.now.basis.now.office.now (S.state shelf.old).content place.now.stretches.now.account place.now.stretches.now.begins.now (place.now.stretches.now.last + 1)) place.now.meter.0 place.now.register (each place.now.register) → RisesAtMost (counted_reads place.now.basis.now.office.now place.now.meter.0 each place.now.register) (S.state shelf.old).tally (S.state shelf.new).tally }
+    ensures tally { S.clean shelf.new → (each : AnyRegister → ℕ) → G.reads (pass_of place.now.basis.now.office.now (S.state shelf.old).content place.now.stretches.now.account place.now.stretches.now.begins.now (place.now.stretches.now.last + 1)) place.now.meter.0 place.now.register (each place.now.register) → (S.state shelf.new).tally ≤ (S.state shelf.old).tally + counted_reads place.now.basis.now.office.now place.now.meter.0 each place.now.register }
     ensures asked { IsOnlyAsked S.Shelf (failures_told result) shelf.old shelf.new }
 {
     if place.basis.office.counts(place.meter, place.register) {

@@ -4,10 +4,8 @@ ghost use Rattle.std.specs.Prelude.{◌≡◌, ℕ, ◌+◌, ◌≤◌, IfOk, Is
 ghost use Rattle.pw_flow.specs.Time.{last as latest_of};
 ghost use Rattle.pw_shelf.specs.Calls.{failures_told};
 ghost use Rattle.pw_book.specs.Asking.{IsOnlyAsked};
-ghost use Rattle.pw_book.specs.Cost.{HasPointsAt};
-ghost use Rattle.pw_bills.specs.Reads.{IsBetween};
-ghost use Rattle.pw_bills.specs.Stretches.{AreStretches, first_of};
-ghost use Rattle.pw_bills.specs.inner.Flows.{Covers};
+ghost use Rattle.pw_bills.specs.Stretches.{AreStretches};
+ghost use Rattle.pw_bills.specs.inner.Flows.{CoversTime, HasPointsIn};
 
 use crate::asked::{point_after_held, point_before_held, points_held};
 use crate::gathering::Place;
@@ -21,8 +19,8 @@ use pw_shelf::{Shelf, ShelfFault};
 pub(crate) fn points_over<S: Shelf>(shelf: &mut S, place: &Place) -> Result<Vec<Point>, ShelfFault>
     requires idle { IsNone (S.state shelf.old).begun }
     requires stretches { AreStretches place.now.stretches.now.begins.now (place.now.stretches.now.last + 1) }
-    ensures points { S.clean shelf.new → IfOk result (λ points. Covers ((S.state shelf.old).content.point place.now.meter.0 place.now.register) (first_of place.now.stretches.now.begins.now (place.now.stretches.now.last + 1)) (place.now.stretches.now.last + 1) points.items) }
-    ensures tally { S.clean shelf.new → (most : ℕ) → HasPointsAt (IsBetween (first_of place.now.stretches.now.begins.now (place.now.stretches.now.last + 1)) (place.now.stretches.now.last + 1)) ((S.state shelf.old).content.point place.now.meter.0 place.now.register) most → (S.state shelf.new).tally ≤ (S.state shelf.old).tally + 5 + most }
+    ensures points { S.clean shelf.new → IfOk result (λ points. CoversTime ((S.state shelf.old).content.point place.now.meter.0 place.now.register) place.now.stretches.now.begins.now (place.now.stretches.now.last + 1) points.items) }
+    ensures tally { S.clean shelf.new → (most : ℕ) → HasPointsIn place.now.stretches.now.begins.now (place.now.stretches.now.last + 1) ((S.state shelf.old).content.point place.now.meter.0 place.now.register) most → (S.state shelf.new).tally ≤ (S.state shelf.old).tally + 5 + most }
     ensures asked { IsOnlyAsked S.Shelf (failures_told result) shelf.old shelf.new }
 {
     let from = place.stretches.begins[0];

@@ -7,6 +7,7 @@ ghost use Rattle.pw_book.specs.Cost.{RisesAtMost};
 ghost use Rattle.pw_book.specs.Questions.{IsQuestion};
 ghost use Rattle.pw_bills.specs.ReadUpTo.{AreEnoughToRead, AreLastReadings};
 ghost use Rattle.pw_bills.specs.Reads.{all_meters};
+ghost use Rattle.pw_bills.specs.inner.LastReadings.{AddsLatest, ThreeAreRead};
 
 use crate::gathering::{Gathers, Place, gather};
 use crate::points::latest_held;
@@ -63,8 +64,6 @@ pub fn read_up_to<S: Shelf>(
 
 // A register adds its latest reading up to the last second.
 impl Gathers for LastReadings {
-    ghost use Rattle.pw_bills.specs.inner.LastReadings.{AddsLatest, ThreeAreRead};
-
     ghost adds = { AddsLatest };
 
     ghost reads = { ThreeAreRead };

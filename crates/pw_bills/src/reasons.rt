@@ -7,6 +7,7 @@ ghost use Rattle.pw_book.specs.Cost.{RisesAtMost};
 ghost use Rattle.pw_book.specs.Questions.{IsQuestion};
 ghost use Rattle.pw_bills.specs.Reads.{AreEnoughFor, all_meters};
 ghost use Rattle.pw_bills.specs.Why.{TellsWhy};
+ghost use Rattle.pw_bills.specs.inner.Rows.{AddsRows};
 
 use crate::gathering::{Gathers, Place, gather};
 use crate::pieces::add_points;
@@ -67,8 +68,6 @@ pub fn why<S: Shelf>(
 
 // A register adds the pieces of its neighbouring pairs that give the account something.
 impl Gathers for Reasons {
-    ghost use Rattle.pw_bills.specs.inner.Rows.{AddsRows};
-
     ghost adds = { AddsRows };
 
     fn add_register<S: Shelf>(&mut self, shelf: &mut S, place: &Place) -> Result<(), ShelfFault> {

@@ -13,10 +13,12 @@ use Rattle.pw_model.specs.Counting.{contents_at}
 use Rattle.pw_model.specs.Energy.{Asked, energy_where, meter_share, share_of}
 use Rattle.pw_parts.specs.Changes.{gathered}
 use Rattle.pw_parts.specs.declared.changes.Side.TheVariants.{Gains}
+use Rattle.pw_book.specs.Cost.{HasPointsAt}
 use Rattle.pw_months.specs.Between.{class_between}
 use Rattle.pw_months.specs.Window.{Spans}
 use Rattle.pw_bills.specs.declared.energies.Energies.{Energies}
-use Rattle.pw_bills.specs.Stretches.{end_of}
+use Rattle.pw_bills.specs.Reads.{IsBetween}
+use Rattle.pw_bills.specs.Stretches.{end_of, first_of}
 use Rattle.pw_bills.specs.inner.Gathering.{Pass}
 
 -- ---- points
@@ -24,6 +26,13 @@ use Rattle.pw_bills.specs.inner.Gathering.{Pass}
 abbrev pub Covers : (ℕ → Option ℕ) → ℕ → ℕ → List (ℕ × ℕ) → Type 0
 Covers told x y [] = (s : ℕ) → told s ≡ None
 Covers told x y (a ∷ ps) = Spans told x y a ps
+
+-- the points of stretches of time
+abbrev pub CoversTime : (ℕ → Option ℕ) → List ℕ → ℕ → List (ℕ × ℕ) → Type 0
+CoversTime told begins end ps = Covers told (first_of begins end) end ps
+
+abbrev pub HasPointsIn : List ℕ → ℕ → (ℕ → Option ℕ) → ℕ → Type 0
+HasPointsIn begins end told most = HasPointsAt (IsBetween (first_of begins end) end) told most
 
 -- ---- totals under the numbers of stretches
 -- the energy of a stretch

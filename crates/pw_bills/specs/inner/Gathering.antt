@@ -12,7 +12,7 @@ use Rattle.pw_shelf.specs.declared.shelf.Shelf.{Ghosts}
 use Rattle.pw_book.specs.Cost.{HasPointsAt, HasStarts}
 use Rattle.pw_book.specs.Posting.{IsSoundContent}
 use Rattle.pw_bills.specs.ReadUpTo.{IsAccountsIn}
-use Rattle.pw_bills.specs.Reads.{IsBetween, IsOwned}
+use Rattle.pw_bills.specs.Reads.{IsBetween, IsOwned, all_meters}
 use Rattle.pw_bills.specs.Stretches.{AreStretches, first_of}
 use Rattle.pw_bills.specs.inner.Naming.{NamesStretches, OwnerStart}
 
@@ -112,6 +112,10 @@ pub record IsEnoughToGather (reads : Pass → ℕ → Register → ℕ → Type 
   pub asked : 1 + starts ≤ most
   pub owned : IsOwned q.content q.account.0 (first_second q) q.end m →
       (each : Register → ℕ) × ((r : Register) → reads q m r (each r)) × (1 + starts + meter_reads q.file m each ≤ most)
+
+-- those of all meters of an office
+abbrev pub office_reads : OfficeFile → (ℕ → ℕ) → ℕ
+office_reads file most = all_meters (office_of file) most
 
 -- so many are, meter by meter
 abbrev pub AreEnoughToGather : (Pass → ℕ → Register → ℕ → Type 0) → Pass → (ℕ → ℕ) → Type 0

@@ -15,6 +15,12 @@ gather_held-requires-clause-stretches g c =
     let P : ℕ → Type 0 = λ e. AreStretches c.args.begins.now e in
     subst P (sym c.last_before-last.ensures) c.requires.stretches
 
+pub gather_held-requires-clause-sound : goal.gather_held-requires-clause-sound
+gather_held-requires-clause-sound g c = λ k.
+    let book = c.args.book.now in
+    let opened = c.in_ok-still_open.ensures in
+    record { truth = book.truth opened k; of_office = book.of_office opened k; few = book.few opened k }
+
 pub returns-in_err-gather_held-clause-cost : goal.returns-in_err-gather_held-clause-cost
 returns-in_err-gather_held-clause-cost g c = λ k most h.
     let P : ℕ → Type 0 = λ e. AreEnoughToGather g.G.Gathers.reads (pass_of c.args.book.now.office (g.S.Shelf.state c.args.book.now.shelf).content c.args.account c.args.begins.now e) most in

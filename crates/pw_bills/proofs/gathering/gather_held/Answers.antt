@@ -1,11 +1,11 @@
-use Rattle.std.proofs.Common.{◌≡◌, ℕ, ◌+◌, ◌≤◌, length, subst, arith}
+use Rattle.std.proofs.Common.{◌≡◌, ℕ, ◌+◌, length, subst, arith}
 use Rattle.pw_flow.specs.Time.{sum_over}
 use Rattle.pw_tariff.specs.Office.{office_of}
 use Rattle.pw_book.proofs.Chains.{asked-none, asked-then}
-use Rattle.pw_bills.specs.inner.Gathering.{Pass, IsEnoughToGather, IsSoundPass, MeterAdds, MeterStep, Steps, pass_of}
+use Rattle.pw_bills.specs.inner.Gathering.{Pass, MeterAdds, MeterStep, Steps, pass_of}
 use Rattle.pw_bills.proofs.Reading.{meter-read, meters-read}
 use Rattle.pw_bills.proofs.StepByStep.{steps-more, steps-none}
-use Rattle.pw_bills.proofs.There.{asked-able, asked-there}
+use Rattle.pw_bills.proofs.There.{asked-able, asked-there, meter-read_there}
 use Rattle.pw_bills.proofs.gathering.gather_held.Goals as goal
 
 pub loop-meter-init : goal.loop-meter-init
@@ -47,15 +47,13 @@ loop-meter-preserved g c =
           let start = was.asked.kept.clean before in
           let P : Pass → Type 0 = λ z. MeterAdds g.G.Gathers.adds z c.loop-meter.meter c.loop-meter.gathered c.gather_meter.new.gathered in
           steps-more (MeterStep g.G.Gathers.adds q) c.loop-meter.meter c.args.gathered.now c.loop-meter.gathered c.gather_meter.new.gathered
-          (was.steps before) (asked-there q _ (was.asked.content before) P (c.in_ok-gather_meter.ensures.step k) (record { truth = c.requires.truth start; of_office = c.requires.of_office start; few = c.requires.held start }));
+          (was.steps before) (asked-there q _ (was.asked.content before) P (c.in_ok-gather_meter.ensures.step k) (c.requires.sound start));
       tally = λ k most h.
           let before = c.gather_meter.ensures.asked.kept.clean k in
           let start = was.asked.kept.clean before in
           let l = c.loop-meter-test.true in
           let n = c.meters-meter-end.ensures.count in
-          let E : Pass → Type 0 = λ z. IsSoundPass z → (few : ℕ) → IsEnoughToGather g.G.Gathers.reads z c.loop-meter.meter few → (g.S.Shelf.state c.gather_meter.new.shelf).tally ≤ (g.S.Shelf.state c.loop-meter.shelf).tally + few in
-          let here = asked-there q _ (was.asked.content before) E (c.gather_meter.ensures.tally k) (record { truth = c.requires.truth start; of_office = c.requires.of_office start; few = c.requires.held start })
-          (most c.loop-meter.meter) (h c.loop-meter.meter (omega (arith, l, n))) in
+          let here = meter-read_there g.G.Gathers.reads q _ c.loop-meter.meter (most c.loop-meter.meter) _ _ (was.asked.content before) (c.gather_meter.ensures.tally k) (c.requires.sound start) (h c.loop-meter.meter (omega (arith, l, n))) in
           meter-read most c.loop-meter.meter _ _ _ (was.tally before most h) here;
       asked = asked-then _ g.met.S.Shelf.same_then _ _ _ _ was.asked c.in_ok-gather_meter.ensures.asked;
     }
@@ -65,12 +63,10 @@ returns-in_err-gather_meter-clause-tally g c = λ k most h.
     let q : Pass = pass_of c.args.basis.now.office.now (g.S.Shelf.state c.args.shelf.now).content c.args.stretches.now.account c.args.stretches.now.begins.now (c.args.stretches.now.last + 1) in
     let was = c.loop-meter.invariant in
     let before = c.gather_meter.ensures.asked.kept.clean k in
-    let start = was.asked.kept.clean before in
     let l = c.loop-meter-test.true in
     let n = c.meters-meter-end.ensures.count in
-    let E : Pass → Type 0 = λ z. IsSoundPass z → (few : ℕ) → IsEnoughToGather g.G.Gathers.reads z c.loop-meter.meter few → (g.S.Shelf.state c.gather_meter.new.shelf).tally ≤ (g.S.Shelf.state c.loop-meter.shelf).tally + few in
-    let here = asked-there q _ (was.asked.content before) E (c.gather_meter.ensures.tally k) (record { truth = c.requires.truth start; of_office = c.requires.of_office start; few = c.requires.held start })
-    (most c.loop-meter.meter) (h c.loop-meter.meter (omega (arith, l, n))) in
+    let here = meter-read_there g.G.Gathers.reads q _ c.loop-meter.meter (most c.loop-meter.meter) _ _ (was.asked.content before) (c.gather_meter.ensures.tally k)
+    (c.requires.sound (was.asked.kept.clean before)) (h c.loop-meter.meter (omega (arith, l, n))) in
     meters-read most (c.loop-meter.meter + 1) (office_of q.file).meters _ _ (omega (arith, l, n)) (meter-read most c.loop-meter.meter _ _ _ (was.tally before most h) here)
 
 pub returns-clause-gathered : goal.returns-clause-gathered
@@ -84,7 +80,7 @@ returns-clause-gathered g c = λ k.
     let P : ℕ → Type 0 = λ m. Steps (MeterStep g.G.Gathers.adds q) m c.args.gathered.now c.loop-meter.gathered in
     record {
       office = c.meters-meter-end.ensures.sound;
-      content = record { truth = c.requires.truth start; of_office = c.requires.of_office start; few = c.requires.held start };
+      content = c.requires.sound start;
       steps = subst P all (c.loop-meter.invariant.steps k);
     }
 
