@@ -1,6 +1,7 @@
 -- What registers, meters and an office give to stretches of time.
-use Rattle.std.proofs.Common.{◌≡◌, ◌==◌, ◌&&◌, ℕ, ◌+◌, ◌<◌, ◌≤◌, Bool, true, false, cond, Option, Some, None, List, length, take, get_or, refl, ap, sym, ◌∙◌, arith}
-use Rattle.std.specs.List.{list_any, sum_by}
+use Rattle.std.proofs.Common.{◌≡◌, ◌==◌, ◌&&◌, ℕ, ◌+◌, ◌<◌, nat_le, nat_lt, Bool, true, false, cond, Option, Some, None, List, length, take, get_or, refl, ap, sym, ◌∙◌, inl, inr, arith}
+use Rattle.std.specs.List.{sum_by}
+use Rattle.std.proofs.lemmas.Bool.{and_parts, cases_Bool, leb-true, ltb-true}
 use Rattle.pw_obis.specs.Registers.{registers}
 use Rattle.pw_obis.specs.declared.reference.Register.{Register}
 use Rattle.pw_obis.specs.declared.reference.Register.TheVariants.{I0, I1, I2, E0, E1, E2}
@@ -14,28 +15,32 @@ use Rattle.pw_flow.proofs.Sums.{kept-nothing}
 use Rattle.pw_tariff.specs.declared.ids.AccountId.{AccountId}
 use Rattle.pw_tariff.specs.declared.ids.Direction.{Direction}
 use Rattle.pw_tariff.specs.declared.ids.Direction.TheVariants.{Import, Export}
-use Rattle.pw_tariff.specs.Office.{OfficeFile, OfficeRules, band_at, counts_at, office_of, period_at}
+use Rattle.pw_tariff.specs.Office.{OfficeFile, OfficeRules, band_at, counts_at, office_of, period_at, register_place}
 use Rattle.pw_tariff.specs.Owners.{same_owner}
 use Rattle.pw_tariff.specs.Shares.{class_seconds}
 use Rattle.pw_model.specs.declared.records.Key.{Key}
 use Rattle.pw_model.specs.declared.records.Contents.{Contents}
 use Rattle.pw_model.specs.declared.records.TotalKey.{TotalKey}
 use Rattle.pw_model.specs.declared.records.TotalKey.TheVariants.{Energy, TopUps}
-use Rattle.pw_model.specs.Counting.{point}
-use Rattle.pw_model.specs.Energy.{Asked, account, asked_seconds, energy_where, meter_share, of_class, over_registers, owner_at, share_of}
+use Rattle.pw_model.specs.Counting.{contents_at, point}
+use Rattle.pw_model.specs.Energy.{Asked, account, asked_seconds, energy_where, of_class, over_registers, owner_at, share_of}
 use Rattle.pw_model.specs.Same.{direction_of, same_direction}
-use Rattle.pw_model.proofs.PlainEnergy.{sum-more}
-use Rattle.pw_parts.specs.Changes.{pairs_for}
+use Rattle.pw_model.proofs.PlainEnergy.{sum-next}
+use Rattle.pw_parts.specs.Changes.{gathered, pairs_for}
+use Rattle.pw_parts.specs.declared.changes.Side.TheVariants.{Gains}
 use Rattle.pw_book.specs.inner.Settling.{EndsBefore}
-use Rattle.pw_book.proofs.StartChanged.{registers-more}
 use Rattle.pw_months.specs.Between.{lies_in}
 use Rattle.pw_months.specs.Window.{kept_in}
+use Rattle.pw_bills.specs.declared.energies.Energies.{Energies}
+use Rattle.pw_bills.specs.ReadUpTo.{IsAccountsIn}
 use Rattle.pw_bills.specs.Stretches.{end_of, first_of}
-use Rattle.pw_bills.specs.inner.Flows.{Covers, IsOfStretch, all_between, meter_between, of_stretch, register_between}
-use Rattle.pw_bills.specs.inner.Naming.{NamesStretches, OwnerStart, names_somebody}
+use Rattle.pw_bills.specs.inner.Flows.{AddsEnergy, Covers, IsOfStretch, all_between, meter_between, of_stretch, register_between}
+use Rattle.pw_bills.specs.inner.Gathering.{Pass, IsGathered, IsOfAccount}
+use Rattle.pw_bills.specs.inner.Naming.{NamesStretches, OwnerStart}
 use Rattle.pw_bills.proofs.Covered.{covered-energy, pairs-alike}
 use Rattle.pw_bills.proofs.Named.{Rises, begin-least, ends-most}
-use Rattle.pw_bills.proofs.NamedStarts.{nobody-named}
+use Rattle.pw_bills.proofs.NamedStarts.{account-is}
+use Rattle.pw_bills.proofs.StepByStep.{gathered-keep}
 
 and-assoc : (l s c : Bool) → ((l && s) && c) ≡ (l && (s && c))
 and-assoc true s c = refl
@@ -70,7 +75,7 @@ module _ (file : OfficeFile) (at : Key → Contents) (m : ℕ) (r : Register) (a
       let whole : pairs_sum (class_seconds file named (Some i) p.0 b.0) ps ≡ share_of (office_of file) at (of_stretch (office_of file) a begins end i.0 p.0 b.0) m r = x ∙ sym y ∙ sym z in
       λ j. cond (same_direction (w j) d) (whole j) 0
 
-  pub register-uncounted : counts_at file m r ≡ false → (k : TotalKey) → register_between (office_of file) at a begins end m k r ≡ 0
+  register-uncounted : counts_at file m r ≡ false → (k : TotalKey) → register_between (office_of file) at a begins end m k r ≡ 0
   register-uncounted c (Energy None p b d) = refl
   register-uncounted c (TopUps o) = refl
   register-uncounted c (Energy (Some i) p b d) =
@@ -86,18 +91,6 @@ module _ (office : OfficeRules) (at : Key → Contents) (m : ℕ) (a : AccountId
   registers-between (Energy (Some i) p b Import) = omega arith
   registers-between (Energy (Some i) p b Export) = omega arith
 
-  pub register-next : (k : TotalKey) (i : ℕ) (r : Register) (old mid new : ℕ) → i < 6 → mid ≡ old + sum_by (register_between office at a begins end m k) (take i registers) →
-      new ≡ mid + register_between office at a begins end m k (get_or registers i r) → new ≡ old + sum_by (register_between office at a begins end m k) (take (i + 1) registers)
-  register-next k i r old mid new l e f =
-      let x = registers-more (register_between office at a begins end m k) i r l in
-      omega (arith, e, f, x)
-
-  pub registers-all : (k : TotalKey) (i old new : ℕ) → 6 ≤ i → i ≤ 6 → new ≡ old + sum_by (register_between office at a begins end m k) (take i registers) → new ≡ old + meter_between office at a begins end k m
-  registers-all k i old new l g e =
-      let q : i ≡ 6 = omega (arith, l, g) in
-      let x = ap (λ (n : ℕ). sum_by (register_between office at a begins end m k) (take n registers)) q ∙ registers-between k in
-      omega (arith, e, x)
-
 energy-none : (keeps : ℕ → Bool) (told : ℕ → Option ℕ) (end : ℕ) → ((t : ℕ) → t < end → keeps t ≡ false) → register_energy keeps told end ≡ 0
 unfolding register_energy
 energy-none keeps told end h = kept-none keeps (flow told end) 0 end (λ t x y. h t (omega (arith, y)))
@@ -107,28 +100,95 @@ over-none Import f h = let a = h I0 in let b = h I1 in let c = h I2 in omega (ar
 over-none Export f h = let a = h E0 in let b = h E1 in let c = h E2 in omega (arith, a, b, c)
 
 -- a meter that is never the account's gives nothing
-pub nothing-given : (file : OfficeFile) (at : Key → Contents) (m : ℕ) (a : AccountId) (begins : List ℕ) (end : ℕ) (named : List OwnerStart) → NamesStretches at m a begins end named →
-    list_any names_somebody named ≡ false → (k : TotalKey) → IsOfStretch begins k → meter_between (office_of file) at a begins end k m ≡ 0
-nothing-given file at m a begins end named h z (Energy None p b d) s = refl
-nothing-given file at m a begins end named h z (TopUps o) s = refl
-nothing-given file at m a begins end named h z (Energy (Some i) p b d) s =
-    let asked : Asked = of_stretch (office_of file) a begins end i.0 p.0 b.0 in
-    let none : (t : ℕ) → t < END_SECOND → asked_seconds at asked m t ≡ false = λ t l. (
-    let tariff : Bool = (period_at file t == p.0) && (band_at file t == b.0) in
-    sym (and-assoc (lies_in (get_or begins i.0 0) (end_of begins end i.0) t) (same_owner (owner_at at m t) (Some a)) tariff)
-    ∙ ap (λ (c : Bool). c && tariff) (sym (h i.0 s t l) ∙ nobody-named named t (account i.0) z)) in
-    over-none d (share_of (office_of file) at asked m) (λ r. (
-    let e : register_energy (asked_seconds at asked m) (point at m r) END_SECOND ≡ 0 = energy-none (asked_seconds at asked m) (point at m r) END_SECOND none in
-    kept-nothing (counts_at file m r) (register_energy (asked_seconds at asked m) (point at m r) END_SECOND) e))
+module _ (file : OfficeFile) (at : Key → Contents) (m : ℕ) (a : AccountId) (begins : List ℕ) (end : ℕ) (rising : Rises begins end) (never : ¬ (IsAccountsIn at a (first_of begins end) end m)) where
+  -- no second of a stretch is the account's
+  second-none : (i t : ℕ) → i < length begins → (lies_in (get_or begins i 0) (end_of begins end i) t && same_owner (owner_at at m t) (Some a)) ≡ false
+  second-none i t l = elim (cases_Bool (lies_in (get_or begins i 0) (end_of begins end i) t && same_owner (owner_at at m t) (Some a))) [
+    | inr n ↦ n
+    | inl y ↦ (
+        let both = and_parts (lies_in (get_or begins i 0) (end_of begins end i) t) (same_owner (owner_at at m t) (Some a)) y in
+        let here = and_parts (nat_le (get_or begins i 0) t) (nat_lt t (end_of begins end i)) both.0 in
+        let b = leb-true (get_or begins i 0) t here.0 in
+        let e = ltb-true t (end_of begins end i) here.1 in
+        let f = begin-least begins end i rising l in
+        let g = ends-most begins end i rising l in
+        absurd (never (t, (omega (arith, b, f), omega (arith, e, g)), account-is (owner_at at m t) a both.1)))
+  ]
+
+  nothing-given : (k : TotalKey) → IsOfStretch begins k → meter_between (office_of file) at a begins end k m ≡ 0
+  nothing-given (Energy None p b d) s = refl
+  nothing-given (TopUps o) s = refl
+  nothing-given (Energy (Some i) p b d) s =
+      let asked : Asked = of_stretch (office_of file) a begins end i.0 p.0 b.0 in
+      let none : (t : ℕ) → t < END_SECOND → asked_seconds at asked m t ≡ false = λ t l. (
+      let tariff : Bool = (period_at file t == p.0) && (band_at file t == b.0) in
+      sym (and-assoc (lies_in (get_or begins i.0 0) (end_of begins end i.0) t) (same_owner (owner_at at m t) (Some a)) tariff)
+      ∙ ap (λ (c : Bool). c && tariff) (second-none i.0 t s)) in
+      over-none d (share_of (office_of file) at asked m) (λ r. (
+      let e : register_energy (asked_seconds at asked m) (point at m r) END_SECOND ≡ 0 = energy-none (asked_seconds at asked m) (point at m r) END_SECOND none in
+      kept-nothing (counts_at file m r) (register_energy (asked_seconds at asked m) (point at m r) END_SECOND) e))
 
 -- ---- all meters
-pub meter-next : (f : ℕ → ℕ) (n mid new : ℕ) → mid ≡ sum_over f 0 n → new ≡ mid + f n → new ≡ sum_over f 0 (n + 1)
-meter-next f n mid new e h = h ∙ sum-more f n mid (f n) e refl
-
-pub meters-all : (office : OfficeRules) (at : Key → Contents) (a : AccountId) (begins : List ℕ) (end n new : ℕ) (k : TotalKey) → n ≡ office.meters → IsOfStretch begins k →
-    new ≡ sum_over (meter_between office at a begins end k) 0 n → new ≡ all_between office at a begins end k
+meters-all : (office : OfficeRules) (at : Key → Contents) (a : AccountId) (begins : List ℕ) (end new : ℕ) (k : TotalKey) → IsOfStretch begins k →
+    new ≡ sum_over (meter_between office at a begins end k) 0 office.meters → new ≡ all_between office at a begins end k
 unfolding energy_where
-meters-all office at a begins end n new (Energy None p b d) q s e = absurd s
-meters-all office at a begins end n new (TopUps o) q s e = absurd s
-meters-all office at a begins end n new (Energy (Some i) p b d) q s e =
-    e ∙ ap (λ (x : ℕ). sum_over (meter_share office at d (of_stretch office a begins end i.0 p.0 b.0)) 0 x) q
+meters-all office at a begins end new (Energy None p b d) s e = absurd s
+meters-all office at a begins end new (TopUps o) s e = absurd s
+meters-all office at a begins end new (Energy (Some i) p b d) s e = e
+
+sum-at : (f : Register → ℕ) (r : Register) → sum_by f (take (register_place r + 1) registers) ≡ sum_by f (take (register_place r) registers) + f r
+sum-at f I0 = refl
+sum-at f I1 = refl
+sum-at f I2 = refl
+sum-at f E0 = refl
+sum-at f E1 = refl
+sum-at f E2 = refl
+
+sum-none : (f : ℕ → ℕ) → sum_over f 0 0 ≡ 0
+unfolding sum_over
+sum-none f = refl
+
+-- what is gathered of an office
+module _ (q : Pass) where
+  abbrev UpTo : ℕ → ℕ → Energies → Type 0
+  UpTo m i e = (k : TotalKey) → IsOfStretch q.begins k →
+      gathered Gains e.changes.rows k
+      ≡ sum_over (meter_between (office_of q.file) (contents_at q.content.records) q.account q.begins q.end k) 0 m
+      + sum_by (register_between (office_of q.file) (contents_at q.content.records) q.account q.begins q.end m k) (take i registers)
+
+  register-up_to : (m : ℕ) (r : Register) (mid next : Energies) → AddsEnergy q m r mid next → UpTo m (register_place r) mid → UpTo m (register_place r + 1) next
+  register-up_to m r mid next f h = λ k s.
+      let x = f k s in
+      let y = h k s in
+      let z = sum-at (register_between (office_of q.file) (contents_at q.content.records) q.account q.begins q.end m k) r in
+      omega (arith, x, y, z)
+
+  uncounted-up_to : (m : ℕ) (r : Register) (mid : Energies) → counts_at q.file m r ≡ false → UpTo m (register_place r) mid → UpTo m (register_place r + 1) mid
+  uncounted-up_to m r mid n h = λ k s.
+      let x = register-uncounted q.file (contents_at q.content.records) m r q.account q.begins q.end n k in
+      let y = h k s in
+      let z = sum-at (register_between (office_of q.file) (contents_at q.content.records) q.account q.begins q.end m k) r in
+      omega (arith, x, y, z)
+
+  meter-up_to : (m : ℕ) (mid : Energies) → UpTo m 6 mid → UpTo (m + 1) 0 mid
+  meter-up_to m mid h = λ k s.
+      let x = h k s in
+      let y = registers-between (office_of q.file) (contents_at q.content.records) m q.account q.begins q.end k in
+      let z = sum-next (meter_between (office_of q.file) (contents_at q.content.records) q.account q.begins q.end k) m in
+      omega (arith, x, y, z)
+
+  others-up_to : (m : ℕ) (mid : Energies) → Rises q.begins q.end → ¬ (IsOfAccount q m) → UpTo m 0 mid → UpTo (m + 1) 0 mid
+  others-up_to m mid w n h = λ k s.
+      let x = h k s in
+      let y = nothing-given q.file (contents_at q.content.records) m q.account q.begins q.end w n k s in
+      let z = sum-next (meter_between (office_of q.file) (contents_at q.content.records) q.account q.begins q.end k) m in
+      omega (arith, x, y, z)
+
+  pub all-given : (old new : Energies) → Rises q.begins q.end → ((k : TotalKey) → gathered Gains old.changes.rows k ≡ 0) → IsGathered AddsEnergy q old new → (k : TotalKey) → IsOfStretch q.begins k →
+      gathered Gains new.changes.rows k ≡ all_between (office_of q.file) (contents_at q.content.records) q.account q.begins q.end k
+  all-given old new w z h = λ k s.
+      let first : UpTo 0 0 old = λ t l. (let x = z t in let y = sum-none (meter_between (office_of q.file) (contents_at q.content.records) q.account q.begins q.end t) in omega (arith, x, y)) in
+      let all : UpTo (length q.file.meters) 0 new
+      = gathered-keep AddsEnergy q UpTo (λ m r mid next l o y f u. register-up_to m r mid next f u) uncounted-up_to meter-up_to (λ m mid n u. others-up_to m mid w n u) old new first h in
+      let e = all k s in
+      meters-all (office_of q.file) (contents_at q.content.records) q.account q.begins q.end (gathered Gains new.changes.rows k) k s (omega (arith, e))

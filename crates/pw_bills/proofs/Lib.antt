@@ -2,12 +2,12 @@ pub mod Begins
 pub mod Named
 pub mod NamedStarts
 pub mod Covered
+pub mod StepByStep
 pub mod Given
 pub mod Reading
 pub mod There
 pub mod Single
 pub mod Apart
-pub mod CutStarts
 pub mod PairRows
 pub mod Pairing
 pub mod RowsThere

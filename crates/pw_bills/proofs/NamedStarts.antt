@@ -1,8 +1,8 @@
 -- The starts of stretches rise, and name somebody only where the account owns the meter.
-use Rattle.std.proofs.Common.{◌≡◌, ◌&&◌, ℕ, ◌+◌, ◌<◌, ◌≤◌, nat_lt, Bool, true, false, Option, Some, None, List, [], ◌∷◌, get_or, map, Less, refl, ap, sym, subst, ◌∙◌, inl, inr, arith}
+use Rattle.std.proofs.Common.{◌≡◌, ◌&&◌, ℕ, suc, ◌+◌, ◌<◌, ◌≤◌, nat_lt, Bool, true, false, Option, Some, None, List, [], ◌∷◌, length, get_or, map, Less, refl, ap, sym, subst, ◌∙◌, inl, inr, arith}
 use Rattle.std.specs.Cmp.{nat_cmp_is}
 use Rattle.std.specs.List.{filter, list_any}
-use Rattle.std.proofs.lemmas.Bool.{cases_Bool, cases_eq, cases_lt, lt-ltb, le-ltb, ltb-true, eqb-true, and_parts, or_parts, true≢false, false≢true}
+use Rattle.std.proofs.lemmas.Bool.{cases_Bool, cases_eq, cases_lt, eq-eqb, le-leb, lt-ltb, le-ltb, ltb-true, eqb-true, and_parts, or_parts, true≢false, false≢true}
 use Rattle.std.proofs.lemmas.Option.{none-some, same_Some}
 use Rattle.pw_time.specs.declared.instant.TheConstants.{END_SECOND}
 use Rattle.pw_tariff.specs.declared.ids.AccountId.{AccountId}
@@ -15,7 +15,6 @@ use Rattle.pw_model.specs.Counting.{Member, start}
 use Rattle.pw_model.specs.Energy.{account, owner_at}
 use Rattle.pw_model.specs.Lists.{IsBeforeAll, IsInOrder}
 use Rattle.pw_model.specs.Seconds.{ListsSeconds, by_second}
-use Rattle.pw_model.specs.Shelf.{ShelfContent}
 use Rattle.pw_model.proofs.EntryOrder.{before-all}
 use Rattle.pw_model.proofs.Filtered.{filtered-member}
 use Rattle.pw_model.proofs.Places.{member-split}
@@ -23,7 +22,8 @@ use Rattle.pw_parts.proofs.Owning.{owners-told, starts-rise}
 use Rattle.pw_book.proofs.NewStarts.{joined-rises, part-rises}
 use Rattle.pw_months.specs.Between.{lies_in}
 use Rattle.pw_bills.specs.Stretches.{end_of, first_of}
-use Rattle.pw_bills.specs.Reads.{IsBetween, IsOwned}
+use Rattle.pw_bills.specs.ReadUpTo.{IsAccountsIn}
+use Rattle.pw_bills.specs.Reads.{IsBetween}
 use Rattle.pw_bills.specs.inner.Naming.{NamesStretches, OwnerStart, ended, is_behind, name_in, named_from, names_somebody, owner_begun, renamed, stretch}
 use Rattle.pw_bills.proofs.Begins.{begins-here, begins-nowhere, begins-other, begun-owner}
 use Rattle.pw_bills.proofs.Named.{Rises, end-most, names-told}
@@ -86,13 +86,13 @@ stretch-rises starts a n from until r = (
 )
 
 -- ---- stretches one behind another
-pub ended-member : (end : ℕ) (x : OwnerStart) → Member x (ended end) → x ≡ (end, None)
+ended-member : (end : ℕ) (x : OwnerStart) → Member x (ended end) → x ≡ (end, None)
 ended-member end x m = elim (cases_lt end END_SECOND) [
   | inl e ↦ (let k : Member x ((end, None) ∷ []) = rw (lt-ltb end END_SECOND e) at m in elim k [ inl i ↦ i | inr f ↦ absurd f ])
   | inr e ↦ (let k : Member x [] = rw (le-ltb end END_SECOND e) at m in absurd k)
 ]
 
-pub ended-rises : (end : ℕ) → IsInOrder by_second (ended end)
+ended-rises : (end : ℕ) → IsInOrder by_second (ended end)
 ended-rises end = elim (cases_lt end END_SECOND) [
   | inl e ↦ rw (lt-ltb end END_SECOND e) (tt, tt)
   | inr e ↦ rw (le-ltb end END_SECOND e) tt
@@ -130,7 +130,7 @@ somebody-own a n t o h = elim (cases_Bool (same_owner o (Some a))) [
 ]
 
 module _ (at : Key → Contents) (m : ℕ) (starts : List OwnerStart) (listed : ListsSeconds (start at m) starts) (a : AccountId) where
-  pub start-owner : (x : OwnerStart) → Member x starts → owner_at at m x.0 ≡ x.1
+  start-owner : (x : OwnerStart) → Member x starts → owner_at at m x.0 ≡ x.1
   unfolding owner_at
   start-owner x k =
       let h : start at m x.0 ≡ Some x.1 = (listed.members x).0 k in
@@ -168,7 +168,7 @@ module _ (at : Key → Contents) (m : ℕ) (starts : List OwnerStart) (listed : 
             (r.0, (omega (arith, u, q), r.1.1), r.2))
       ]
 
-pub any-found : (p : OwnerStart → Bool) (xs : List OwnerStart) → list_any p xs ≡ true → (x : OwnerStart) × Member x xs × (p x ≡ true)
+any-found : (p : OwnerStart → Bool) (xs : List OwnerStart) → list_any p xs ≡ true → (x : OwnerStart) × Member x xs × (p x ≡ true)
 any-found p [] e = absurd (false≢true e)
 any-found p (x ∷ xs) e = elim (cases_Bool (p x)) [
   | inl y ↦ (x, inl refl, y)
@@ -178,25 +178,20 @@ any-found p (x ∷ xs) e = elim (cases_Bool (p x)) [
       (r.0, inr r.1, r.2))
 ]
 
-pub owned-now : (at : Key → Contents) (m t : ℕ) (a : AccountId) (told : ℕ → Option (Option AccountId)) → told ≡ start at m → owner_at at m t ≡ Some a → owner_from (last told t) ≡ Some a
-unfolding owner_at
-owned-now at m t a told s e = ap (λ (f : ℕ → Option (Option AccountId)). owner_from (last f t)) s ∙ e
-
 -- where stretches name somebody, the account owns the meter there
-pub owned-there : (c : ShelfContent) (at : Key → Contents) (m : ℕ) (starts : List OwnerStart) (a : AccountId) (begins : List ℕ) (end : ℕ) → c.start m ≡ start at m → ListsSeconds (start at m) starts → Rises begins end →
-    list_any names_somebody (named_from starts a 0 begins end) ≡ true → IsOwned c a.0 (first_of begins end) end m
-owned-there c at m starts a begins end s l w h =
+pub owned-there : (at : Key → Contents) (m : ℕ) (starts : List OwnerStart) (a : AccountId) (begins : List ℕ) (end : ℕ) → ListsSeconds (start at m) starts → Rises begins end →
+    list_any names_somebody (named_from starts a 0 begins end) ≡ true → IsAccountsIn at a (first_of begins end) end m
+owned-there at m starts a begins end l w h =
     let x = any-found names_somebody (named_from starts a 0 begins end) h in
-    let r = named-owned at m starts l a 0 begins end x.0 w x.1 x.2 in
-    (r.0, r.1, owned-now at m r.0 a (c.start m) s r.2)
+    named-owned at m starts l a 0 begins end x.0 w x.1 x.2
 
 -- ---- where they name nobody
-pub none-any : (p : OwnerStart → Bool) (xs : List OwnerStart) (x : OwnerStart) → list_any p xs ≡ false → Member x xs → p x ≡ false
+none-any : (p : OwnerStart → Bool) (xs : List OwnerStart) (x : OwnerStart) → list_any p xs ≡ false → Member x xs → p x ≡ false
 none-any p [] x e m = absurd m
 none-any p (y ∷ ys) x e (inl i) = ap p i ∙ (or_parts (p y) (list_any p ys) e).0
 none-any p (y ∷ ys) x e (inr m) = none-any p ys x (or_parts (p y) (list_any p ys) e).1 m
 
-pub begun-member : (xs : List OwnerStart) (s : ℕ) (o : Option AccountId) → start_at xs s ≡ Some o → Member (s, o) xs
+begun-member : (xs : List OwnerStart) (s : ℕ) (o : Option AccountId) → start_at xs s ≡ Some o → Member (s, o) xs
 begun-member [] s o e = absurd (none-some o (sym (begins-nowhere s) ∙ e))
 begun-member (x ∷ xs) s o e = elim (cases_eq x.0 s) [
   | inl i ↦ (
@@ -209,7 +204,7 @@ nobody : (t : ℕ) (o : Option AccountId) (b : AccountId) → names_somebody (t,
 nobody t None b e = refl
 nobody t (Some c) b e = absurd (true≢false e)
 
-pub nobody-named : (named : List OwnerStart) (t : ℕ) (b : AccountId) → list_any names_somebody named ≡ false → same_owner (owner_by_starts named t) (Some b) ≡ false
+nobody-named : (named : List OwnerStart) (t : ℕ) (b : AccountId) → list_any names_somebody named ≡ false → same_owner (owner_by_starts named t) (Some b) ≡ false
 unfolding owner_by_starts
 nobody-named named t b h = elim (last-cases (start_at named) t) [
   | inl n ↦ ap (λ (s : Option OwnerStart). same_owner (owner_from s) (Some b)) (last-none (start_at named) t n)
@@ -226,3 +221,31 @@ names-stretches at m a begins end starts named q l w = λ i j t e.
     let N : List OwnerStart → Type 0 = λ xs. same_owner (owner_by_starts xs t) (Some (account i)) ≡ (lies_in (get_or begins i 0) (end_of begins end i) t && same_owner (owner_at at m t) (Some a)) in
     subst N (sym q) (names-told starts a begins end i t l.rising w j e
     ∙ ap (λ (o : Option AccountId). lies_in (get_or begins i 0) (end_of begins end i) t && same_owner o (Some a)) (owners-told at m starts l t))
+
+-- each second of the time lies in one of them
+lies-somewhere : (begins : List ℕ) (end t : ℕ) → first_of begins end ≤ t → t < end → (i : ℕ) × (i < length begins) × (get_or begins i 0 ≤ t) × (t < end_of begins end i)
+lies-somewhere [] end t l m = absurd (omega (arith, l, m))
+lies-somewhere (b ∷ begins) end t l m = elim (cases_lt t (first_of begins end)) [
+  | inl k ↦ (0, omega arith, l, k)
+  | inr k ↦ (
+      let r = lies-somewhere begins end t k m in
+      let i : ℕ = r.0 in
+      let e : suc i + 1 ≡ suc (i + 1) = omega arith in
+      let j = r.1 in
+      let P : ℕ → Type 0 = λ n. t < get_or (b ∷ begins) n end in
+      (suc i, omega (arith, j), r.2, subst P (sym e) r.3))
+]
+
+-- where they name nobody, the account never does
+pub nobody-owns : (at : Key → Contents) (m : ℕ) (a : AccountId) (begins : List ℕ) (end : ℕ) (named : List OwnerStart) → end ≤ END_SECOND → NamesStretches at m a begins end named →
+    list_any names_somebody named ≡ false → ¬ (IsAccountsIn at a (first_of begins end) end m)
+nobody-owns at m a begins end named ended h n = λ o.
+    let t : ℕ = o.0 in
+    let e = o.1.1 in
+    let r = lies-somewhere begins end t o.1.0 o.1.1 in
+    let i : ℕ = r.0 in
+    let told = h i r.1 t (omega (arith, e, ended)) in
+    let within : lies_in (get_or begins i 0) (end_of begins end i) t ≡ true = λ j. le-leb (get_or begins i 0) t r.2 j && lt-ltb t (end_of begins end i) r.3 j in
+    let own : same_owner (owner_at at m t) (Some a) ≡ true = ap (λ (x : Option AccountId). same_owner x (Some a)) o.2 ∙ eq-eqb a.0 a.0 refl in
+    let both : (lies_in (get_or begins i 0) (end_of begins end i) t && same_owner (owner_at at m t) (Some a)) ≡ true = λ j. within j && own j in
+    true≢false (sym both ∙ sym told ∙ nobody-named named t (account i) n)

@@ -1,6 +1,6 @@
 -- The rows that the points of a register add: of a pair, of a chain of pairs, and of all that spans an interval.
-use Rattle.std.proofs.Common.{◌≡◌, ◌⊎◌, ℕ, ◌+◌, ◌<◌, ◌≤◌, nat_lt, true, Option, Some, List, [], ◌∷◌, ◌++◌, map, filter, refl, ap, sym, subst, ◌∙◌, inl, inr, arith}
-use Rattle.std.proofs.lemmas.Bool.{and_parts, cases_Bool, eq-eqb, lt-ltb, ltb-true}
+use Rattle.std.proofs.Common.{◌≡◌, ◌&&◌, ◌⊎◌, ℕ, ◌+◌, ◌<◌, ◌≤◌, nat_le, nat_lt, true, Option, Some, List, [], ◌∷◌, ◌++◌, map, filter, refl, ap, sym, subst, ◌∙◌, inl, inr, arith}
+use Rattle.std.proofs.lemmas.Bool.{and_parts, cases_Bool, eq-eqb, le-leb, leb-true, lt-ltb, ltb-true}
 use Rattle.std.proofs.lemmas.List.{append_assoc, append-nil}
 use Rattle.std.proofs.lemmas.Option.{none-some}
 use Rattle.pw_obis.specs.declared.reference.Register.{Register}
@@ -14,22 +14,22 @@ use Rattle.pw_tariff.specs.declared.spread.Piece.{Piece}
 use Rattle.pw_tariff.specs.declared.spread.Span.{Span}
 use Rattle.pw_tariff.specs.Office.{OfficeFile, OfficeRules, counts_at, office_of, register_place}
 use Rattle.pw_tariff.specs.Owners.{owner_by_starts, same_owner}
-use Rattle.pw_tariff.specs.Pieces.{IsPieceOf, ListsPieces}
+use Rattle.pw_tariff.specs.Pieces.{ListsPieces}
 use Rattle.pw_model.specs.declared.records.Key.{Key}
 use Rattle.pw_model.specs.declared.records.Contents.{Contents}
 use Rattle.pw_model.specs.Counting.{Member, point}
-use Rattle.pw_model.specs.Energy.{owner_at}
+use Rattle.pw_model.specs.Energy.{account, owner_at}
 use Rattle.pw_model.proofs.Filtered.{filtered-member, member-filtered}
 use Rattle.pw_model.proofs.Places.{member-left, member-right, member-split}
 use Rattle.pw_model.proofs.Same.{register-one}
 use Rattle.pw_book.specs.inner.Settling.{EndsBefore}
-use Rattle.pw_months.specs.Pieces.{GiveRows, IsCountingPair}
-use Rattle.pw_months.specs.Window.{AreCut}
-use Rattle.pw_months.proofs.PieceRows.{pieces-are_rows}
+use Rattle.pw_months.specs.Between.{lies_in}
+use Rattle.pw_months.specs.Pieces.{IsCountingPair}
+use Rattle.pw_months.proofs.PieceRows.{NamesIn, all-found, rows-from}
 use Rattle.pw_bills.specs.declared.reasons.WhyPiece.{WhyPiece}
 use Rattle.pw_bills.specs.inner.Flows.{Covers}
-use Rattle.pw_bills.specs.inner.Naming.{OwnerStart}
-use Rattle.pw_bills.specs.inner.Rows.{AreApart, AreRowsUpTo, GivenBetween, GivenBy, GivenByPoints, IsAsked, IsRowUpTo, IsTold, IsUpTo, gives, span_of, why_of}
+use Rattle.pw_bills.specs.inner.Naming.{NamesStretches, OwnerStart}
+use Rattle.pw_bills.specs.inner.Rows.{AreApart, AreRowsUpTo, GivenBetween, GivenBy, GivenByPoints, IsAsked, IsRowUpTo, IsTold, IsUpTo, gives_something, span_of, why_of}
 use Rattle.pw_bills.proofs.Apart.{apart-joined, split-register, split-second, up-then}
 use Rattle.pw_bills.proofs.NamedStarts.{account-is}
 
@@ -117,52 +117,48 @@ module _ (file : OfficeFile) (owners : List OwnerStart) (span : Span) where
       let c = h.0 in
       omega (arith, k, b, c)
 
-  given-apart : (a : AccountId) (m : MeterId) (r : Register) (at : ℕ) (ps : List Piece) → ListsPieces file owners span at ps → AreApart (map (why_of m r span) (filter (gives a) ps))
+  given-apart : (a : AccountId) (m : MeterId) (r : Register) (at : ℕ) (ps : List Piece) → ListsPieces file owners span at ps → AreApart (map (why_of a m r span) (filter gives_something ps))
   given-apart a m r at [] h = tt
-  given-apart a m r at (q ∷ ps) h = elim (cases_Bool (gives a q)) [
+  given-apart a m r at (q ∷ ps) h = elim (cases_Bool (gives_something q)) [
     | inr n ↦ rw n (given-apart a m r q.until ps h.2)
     | inl y ↦ rw y (
       λ w l.
-          let k = mapped-member (why_of m r span) (filter (gives a) ps) w l in
-          let b = begin-later q.until ps h.2 k.0 (filtered-member (gives a) ps k.0 k.1).0 in
+          let k = mapped-member (why_of a m r span) (filter gives_something ps) w l in
+          let b = begin-later q.until ps h.2 k.0 (filtered-member gives_something ps k.0 k.1).0 in
           let P : WhyPiece → Type 0 = λ v. IsUpTo m.0 (register_place r) q.until v.meter.0 (register_place v.register) v.piece.begin in
           subst P (sym k.2) (inr (refl, inr (refl, b))),
       given-apart a m r q.until ps h.2,
     )
   ]
 
-  -- under owners who are the same up to its end
-  piece-alike : (others : List OwnerStart) → ((t : ℕ) → t < span.to → owner_by_starts owners t ≡ owner_by_starts others t) → (p : Piece) → IsPieceOf file owners span p → IsPieceOf file others span p
-  piece-alike others h p i =
-      let w = i.within in
-      record {
-        begun = i.begun;
-        within = i.within;
-        same = λ t b c. (let s = i.same t b c in (sym (h t (omega (arith, c, w))) ∙ s.0, s.1, s.2));
-        over = λ b k. i.over b (h p.until b ∙ k.0, k.1, k.2);
-        given = i.given;
-      }
+gives-own : (p : Piece) → gives_something p ≡ true → (p.owner ≡ Some (account 0)) × (0 < p.wh)
+gives-own p h =
+    let k = and_parts (same_owner p.owner (Some (account 0))) (nat_lt 0 p.wh) h in
+    (account-is p.owner (account 0) k.0, ltb-true 0 p.wh k.1)
 
-  pub pieces-alike : (others : List OwnerStart) → ((t : ℕ) → t < span.to → owner_by_starts owners t ≡ owner_by_starts others t) → (at : ℕ) (ps : List Piece) →
-      ListsPieces file owners span at ps → ListsPieces file others span at ps
-  pieces-alike others h at [] l = l
-  pieces-alike others h at (p ∷ ps) l = (l.0, piece-alike others h p l.1, pieces-alike others h p.until ps l.2)
-
-gives-own : (a : AccountId) (p : Piece) → gives a p ≡ true → (p.owner ≡ Some a) × (0 < p.wh)
-gives-own a p h =
-    let k = and_parts (same_owner p.owner (Some a)) (nat_lt 0 p.wh) h in
-    (account-is p.owner a k.0, ltb-true 0 p.wh k.1)
-
-own-gives : (a : AccountId) (p : Piece) → p.owner ≡ Some a → 0 < p.wh → gives a p ≡ true
-own-gives a p o w =
-    let s : same_owner p.owner (Some a) ≡ true = ap (λ (q : Option AccountId). same_owner q (Some a)) o ∙ eq-eqb a.0 a.0 refl in
+own-gives : (p : Piece) → p.owner ≡ Some (account 0) → 0 < p.wh → gives_something p ≡ true
+own-gives p o w =
+    let s : same_owner p.owner (Some (account 0)) ≡ true = ap (λ (q : Option AccountId). same_owner q (Some (account 0))) o in
     rw (s, lt-ltb 0 p.wh w) refl
 
+-- the stretch's number is the account's name in it
+names-in : (at : Key → Contents) (m : ℕ) (a : AccountId) (x y : ℕ) (owners : List OwnerStart) (end : ℕ) → end ≤ END_SECOND → NamesStretches at m a (x ∷ []) y owners → NamesIn at m a.0 x y (account 0) owners end
+names-in at m a x y owners end l h = λ t k.
+    let told : same_owner (owner_by_starts owners t) (Some (account 0)) ≡ (lies_in x y t && same_owner (owner_at at m t) (Some a)) = h 0 (omega arith) t (omega (arith, k, l)) in (
+      λ e.
+          let one : same_owner (owner_by_starts owners t) (Some (account 0)) ≡ true = ap (λ (o : Option AccountId). same_owner o (Some (account 0))) e in
+          let both = and_parts (lies_in x y t) (same_owner (owner_at at m t) (Some a)) (sym told ∙ one) in
+          let here = and_parts (nat_le x t) (nat_lt t y) both.0 in
+          (leb-true x t here.0, ltb-true t y here.1, account-is (owner_at at m t) a both.1),
+      λ p.
+          let within : lies_in x y t ≡ true = λ i. le-leb x t p.0 i && lt-ltb t y p.1 i in
+          let own : same_owner (owner_at at m t) (Some a) ≡ true = ap (λ (o : Option AccountId). same_owner o (Some a)) p.2 ∙ eq-eqb a.0 a.0 refl in
+          account-is (owner_by_starts owners t) (account 0) (told ∙ (λ i. within i && own i)),
+    )
+
 -- ---- a register
-module _ (file : OfficeFile) (at : Key → Contents) (a : AccountId) (x y : ℕ) (m : MeterId) (r : Register) (owners starts within : List OwnerStart)
-    (here : m.0 < (office_of file).meters) (counts : counts_at file m.0 r ≡ true) (ended : EndsBefore END_SECOND (point at m.0 r))
-    (own : (t : ℕ) → owner_by_starts starts t ≡ owner_at at m.0 t) (cut : AreCut x y starts within)
-    (alike : (t : ℕ) → t < END_SECOND → owner_by_starts owners t ≡ owner_by_starts within t) where
+module _ (file : OfficeFile) (at : Key → Contents) (a : AccountId) (x y : ℕ) (m : MeterId) (r : Register) (owners : List OwnerStart)
+    (here : m.0 < (office_of file).meters) (counts : counts_at file m.0 r ≡ true) (ended : EndsBefore END_SECOND (point at m.0 r)) (names : NamesStretches at m.0 a (x ∷ []) y owners) where
   abbrev UpTo : ℕ → ℕ → List WhyPiece → Type 0
   UpTo i t ws = AreRowsUpTo (office_of file) at a x y m.0 i t ws
 
@@ -178,25 +174,24 @@ module _ (file : OfficeFile) (at : Key → Contents) (a : AccountId) (x y : ℕ)
       let e = ended q.0 q.1 n.second in
       let ps : List Piece = g.0 in
       let pair : IsCountingPair (office_of file) at m.0 r span = record { meter = here; counts = counts; neighbours = n; rising = l; seen = omega (arith, e) } in
-      let lists = pieces-alike file owners span within (λ t b. alike t (omega (arith, b, e))) span.from ps g.1 in
-      let rows : GiveRows (office_of file) at m.0 r a.0 x y span ps = pieces-are_rows file at m.0 r a.0 x y starts within span ps pair own cut lists in
+      let named : NamesIn at m.0 a.0 x y (account 0) owners span.to = names-in at m.0 a x y owners span.to (omega (arith, e)) names in
       let f = n.earlier in
       let first : IsUpTo m.0 (register_place r) p.0 m.0 (register_place r) q.0 = inr (refl, inr (refl, omega (arith, f))) in
       let S : List WhyPiece → Type 0 = λ ws. UpTo (register_place r) q.0 ws in
       let M : List WhyPiece → Type 0 = λ vs. UpTo (register_place r) q.0 (ws ++ vs) in
-      let made : List WhyPiece = map (why_of m r span) (filter (gives a) ps) in
+      let made : List WhyPiece = map (why_of a m r span) (filter gives_something ps) in
       let each : (w : WhyPiece) → Member w made → IsRowUpTo (office_of file) at a x y m.0 (register_place r) q.0 w × IsUpTo m.0 (register_place r) p.0 w.meter.0 (register_place w.register) w.piece.begin
       = λ w i. (
-      let k = mapped-member (why_of m r span) (filter (gives a) ps) w i in
-      let b = filtered-member (gives a) ps k.0 k.1 in
-      let o = gives-own a k.0 b.1 in
-      let row = rows.each k.0 b.0 o.0 o.1 in
+      let k = mapped-member (why_of a m r span) (filter gives_something ps) w i in
+      let b = filtered-member gives_something ps k.0 k.1 in
+      let o = gives-own k.0 b.1 in
+      let row = rows-from file at m.0 r a.0 x y (account 0) owners span pair named span.from ps g.1 (inl refl) (omega arith) k.0 b.0 o.0 o.1 in
       let P : WhyPiece → Type 0 = λ v. IsRowUpTo (office_of file) at a x y m.0 (register_place r) q.0 v × IsUpTo m.0 (register_place r) p.0 v.meter.0 (register_place v.register) v.piece.begin in
-      subst P (sym k.2) (record { row = row; own = o.0; ended = inr (refl, inr (refl, row.piece.2)) }, inr (refl, inr (refl, row.piece.0)))) in
+      subst P (sym k.2) (record { row = row; own = refl; ended = inr (refl, inr (refl, row.piece.2)) }, inr (refl, inr (refl, row.piece.0)))) in
       let told : (s : ℕ) → p.0 ≤ s → s < q.0 → IsAsked (office_of file) at a x y m.0 r s → IsTold (office_of file) at made m.0 r s
-      = λ s b c k. elim (rows.all s b c k.begun k.within k.own) [
+      = λ s b c k. elim (all-found file at m.0 r a.0 x y (account 0) owners span pair named ps g.1 s b c k.begun k.within k.own) [
         | inl z ↦ inl (flow-spanned (point at m.0 r) END_SECOND s p.0 p.1 q.0 q.1 (spanned p q s n b c) ∙ z)
-        | inr w ↦ inr (why_of m r span w.0, member-mapped (why_of m r span) (filter (gives a) ps) w.0 (member-filtered (gives a) ps w.0 w.1 (own-gives a w.0 w.2 w.3)), w.4)
+        | inr w ↦ inr (why_of a m r span w.0, member-mapped (why_of a m r span) (filter gives_something ps) w.0 (member-filtered gives_something ps w.0 w.1 (own-gives w.0 w.2 w.3)), w.4)
       ] in
       subst M (sym g.2) (some-more (office_of file) at a x y m.0 (register_place r) p.0 m.0 (register_place r) q.0 ws made first (given-apart file owners span a m r span.from ps g.1) each
       (λ k o s b. elim (split-second k (register_place o) s m.0 (register_place r) p.0 q.0 b) [

@@ -1,5 +1,5 @@
 -- How much is read, and what one call behind another leaves.
-use Rattle.std.proofs.Common.{◌≡◌, ◌&&◌, ◌||◌, ℕ, zero, suc, ◌+◌, ◌<◌, ◌≤◌, Bool, true, false, cond, Option, Some, None, List, [], ◌∷◌, ◌++◌, length, take, get_or, All, refl, ap, sym, subst, ◌∙◌, arith}
+use Rattle.std.proofs.Common.{◌≡◌, ◌&&◌, ◌||◌, ℕ, zero, suc, ◌+◌, ◌*◌, ◌<◌, ◌≤◌, Bool, true, false, cond, Option, Some, None, List, [], ◌∷◌, ◌++◌, length, take, get_or, All, refl, ap, sym, subst, ◌∙◌, arith}
 use Rattle.std.specs.List.{slice_get, sum_by}
 use Rattle.std.proofs.lemmas.Bool.{or_parts, true≢false}
 use Rattle.std.proofs.lemmas.Option.{none-some, same_Some}
@@ -11,7 +11,7 @@ use Rattle.pw_obis.specs.declared.reference.Register.TheVariants.{I0, I1, I2, E0
 use Rattle.pw_flow.specs.Time.{sum_over}
 use Rattle.pw_tariff.specs.declared.ids.AccountId.{AccountId}
 use Rattle.pw_tariff.specs.declared.ids.Direction.TheVariants.{Import, Export}
-use Rattle.pw_tariff.specs.Office.{IsSound, MeterText, OfficeFile, counts_for, has_register, overlap}
+use Rattle.pw_tariff.specs.Office.{IsSound, MeterText, OfficeFile, counts_at, counts_for, has_register, overlap}
 use Rattle.pw_model.specs.Energy.{over_registers}
 use Rattle.pw_model.specs.Seconds.{ListsSeconds}
 use Rattle.pw_model.specs.Shelf.{ShelfContent}
@@ -24,7 +24,10 @@ use Rattle.pw_book.proofs.StartChanged.{registers-more}
 use Rattle.pw_book.proofs.WindowPairs.{tally-five}
 use Rattle.pw_bills.specs.Reads.{IsBetween, IsEnoughFor, IsOwned}
 use Rattle.pw_bills.specs.Stretches.{AreStretches, first_of}
-use Rattle.pw_bills.specs.inner.Flows.{Covers, register_reads}
+use Rattle.pw_bills.specs.ReadUpTo.{IsEnoughToRead}
+use Rattle.pw_bills.specs.inner.Flows.{Covers}
+use Rattle.pw_bills.specs.inner.Gathering.{Pass, IsEnoughToGather, PointsAreRead, counted_reads, first_second, meter_reads}
+use Rattle.pw_bills.specs.inner.LastReadings.{ThreeAreRead}
 use Rattle.pw_bills.proofs.Covered.{covers}
 use Rattle.pw_bills.proofs.Named.{end-most, rises}
 
@@ -75,6 +78,11 @@ points-read c d e m r x from until most before within after was first second thi
     let few = points-few told x until most within (subst M f (subst L ep l)) h in
     tally-five was first second third before after listed (length within) most a b g v few
 
+-- as many as are enough for its points
+pub points-counted : (q : Pass) (m : ℕ) (r : Register) (most was now : ℕ) → PointsAreRead q m r most →
+    ((n : ℕ) → HasPointsAt (IsBetween (first_second q) q.end) (q.content.point m r) n → now ≤ was + 5 + n) → now ≤ was + most
+points-counted q m r most was now h f = let x = f h.0 h.1 in let g = h.2 in omega (arith, x, g)
+
 -- ---- the registers of a meter
 three-few : (a b c : Bool) → (a && (b || c)) ≡ false → cond a 5 0 + cond b 5 0 + cond c 5 0 ≤ 10
 three-few true true c e = absurd (true≢false e)
@@ -105,16 +113,49 @@ four-for : (o : Option MeterText) → ((x : MeterText) → o ≡ Some x → over
 four-for None h = omega arith
 four-for (Some x) h = four-count x.registers (h x refl)
 
-pub registers-few : (file : OfficeFile) (m : ℕ) (each : Register → ℕ) → IsSound file → sum_by (register_reads file m each) registers ≤ 20 + (over_registers Import each + over_registers Export each)
-registers-few file m each s =
-    let h = four-for (slice_get file.meters m) (λ x e. all-got (λ t. overlap t.registers ≡ false) file.meters m x s.totals e) in
-    omega (arith, h)
+-- four registers of a meter count at most
+four-counted : (file : OfficeFile) (m : ℕ) → IsSound file →
+    cond (counts_at file m I0) 5 0 + cond (counts_at file m I1) 5 0 + cond (counts_at file m I2) 5 0 + cond (counts_at file m E0) 5 0 + cond (counts_at file m E1) 5 0 + cond (counts_at file m E2) 5 0 ≤ 20
+four-counted file m s = four-for (slice_get file.meters m) (λ x e. all-got (λ t. overlap t.registers ≡ false) file.meters m x s.totals e)
 
-pub register-read : (file : OfficeFile) (m : ℕ) (each : Register → ℕ) (i : ℕ) (r : Register) (was mid new : ℕ) → i < 6 → mid ≤ was + sum_by (register_reads file m each) (take i registers) →
-    new ≤ mid + register_reads file m each (get_or registers i r) → new ≤ was + sum_by (register_reads file m each) (take (i + 1) registers)
-register-read file m each i r was mid new l a b =
-    let x = registers-more (register_reads file m each) i r l in
-    omega (arith, a, b, x)
+five-more : (b : Bool) (n : ℕ) → cond b (5 + n) 0 ≤ cond b 5 0 + n
+five-more true n = omega arith
+five-more false n = omega arith
+
+pub registers-five : (file : OfficeFile) (m : ℕ) (each : Register → ℕ) → IsSound file → sum_by (counted_reads file m (λ r. 5 + each r)) registers ≤ 20 + (over_registers Import each + over_registers Export each)
+registers-five file m each s =
+    let h = four-counted file m s in
+    let a = five-more (counts_at file m I0) (each I0) in
+    let b = five-more (counts_at file m I1) (each I1) in
+    let c = five-more (counts_at file m I2) (each I2) in
+    let d = five-more (counts_at file m E0) (each E0) in
+    let e = five-more (counts_at file m E1) (each E1) in
+    let f = five-more (counts_at file m E2) (each E2) in
+    omega (arith, h, a, b, c, d, e, f)
+
+three-for : (b : Bool) → 5 * cond b 3 0 ≡ 3 * cond b 5 0
+three-for true = refl
+three-for false = refl
+
+pub registers-three : (file : OfficeFile) (m : ℕ) → IsSound file → sum_by (counted_reads file m (λ r. 3)) registers ≤ 12
+registers-three file m s =
+    let h = four-counted file m s in
+    let a = three-for (counts_at file m I0) in
+    let b = three-for (counts_at file m I1) in
+    let c = three-for (counts_at file m I2) in
+    let d = three-for (counts_at file m E0) in
+    let e = three-for (counts_at file m E1) in
+    let f = three-for (counts_at file m E2) in
+    omega (arith, h, a, b, c, d, e, f)
+
+pub register-counted : (file : OfficeFile) (m : ℕ) (each : Register → ℕ) (r : Register) (was now : ℕ) → counts_at file m r ≡ true → now ≤ was + each r → now ≤ was + counted_reads file m each r
+register-counted file m each r was now y h =
+    let reads : Bool → ℕ = λ b. cond b (each r) 0 in
+    let q : reads (counts_at file m r) ≡ reads true = ap reads y in
+    omega (arith, q, h)
+
+pub register-read : (f : Register → ℕ) (i : ℕ) (r : Register) (was mid new : ℕ) → i < 6 → mid ≤ was + sum_by f (take i registers) → new ≤ mid + f (get_or registers i r) → new ≤ was + sum_by f (take (i + 1) registers)
+register-read f i r was mid new l a b = let x = registers-more f i r l in omega (arith, a, b, x)
 
 pub registers-read : (f : Register → ℕ) (i was now : ℕ) → 6 ≤ i → i ≤ 6 → now ≤ was + sum_by f (take i registers) → now ≤ was + sum_by f registers
 registers-read f i was now l g h =
@@ -122,7 +163,7 @@ registers-read f i was now l g h =
     let x : sum_by f (take i registers) ≡ sum_by f registers = ap (λ (n : ℕ). sum_by f (take n registers)) q in
     omega (arith, h, x)
 
-pub registers-less : (f : Register → ℕ) (i : ℕ) → i ≤ 6 → sum_by f (take i registers) ≤ sum_by f registers
+registers-less : (f : Register → ℕ) (i : ℕ) → i ≤ 6 → sum_by f (take i registers) ≤ sum_by f registers
 registers-less f zero l = omega arith
 registers-less f (suc zero) l = omega arith
 registers-less f (suc (suc zero)) l = omega arith
@@ -133,38 +174,56 @@ registers-less f (suc (suc (suc (suc (suc (suc zero)))))) l = omega arith
 registers-less f (suc (suc (suc (suc (suc (suc (suc i))))))) l = absurd (omega (arith, l))
 
 -- a fault on the way
-pub register-failed : (file : OfficeFile) (m : ℕ) (each : Register → ℕ) (i : ℕ) (r : Register) (was mid new : ℕ) → i < 6 → mid ≤ was + sum_by (register_reads file m each) (take i registers) →
-    new ≤ mid + register_reads file m each (get_or registers i r) → new ≤ was + sum_by (register_reads file m each) registers
-register-failed file m each i r was mid new l a b =
-    let x = register-read file m each i r was mid new l a b in
-    let y = registers-less (register_reads file m each) (i + 1) (omega (arith, l)) in
+pub register-failed : (f : Register → ℕ) (i : ℕ) (r : Register) (was mid new : ℕ) → i < 6 → mid ≤ was + sum_by f (take i registers) → new ≤ mid + f (get_or registers i r) → new ≤ was + sum_by f registers
+register-failed f i r was mid new l a b =
+    let x = register-read f i r was mid new l a b in
+    let y = registers-less f (i + 1) (omega (arith, l)) in
     omega (arith, x, y)
 
 -- ---- a meter
-pub meter-failed : (c : ShelfContent) (a x y m most was now : ℕ) → IsEnoughFor c a x y m most → now ≤ was + 1 → now ≤ was + most
-meter-failed c a x y m most was now h e = let g = h.asked in omega (arith, e, g)
+module _ (reads : Pass → ℕ → Register → ℕ → Type 0) (q : Pass) (m most : ℕ) (h : IsEnoughToGather reads q m most) where
+  pub meter-failed : (was now : ℕ) → now ≤ was + 1 → now ≤ was + most
+  meter-failed was now e = let g = h.asked in omega (arith, e, g)
 
--- one call, and its starts
-pub meter-asked : (c : ShelfContent) (a x y m most was now listed : ℕ) (starts : List (ℕ × Option AccountId)) → IsEnoughFor c a x y m most → ListsSeconds (c.start m) starts → listed ≡ length starts → now ≤ was + 1 + listed →
-    now ≤ was + most
-meter-asked c a x y m most was now listed starts h l v e =
-    let f = h.few starts l in
-    let g = h.asked in
-    omega (arith, e, v, f, g)
+  -- one call, and its starts
+  pub meter-asked : (was now listed : ℕ) (starts : List (ℕ × Option AccountId)) → ListsSeconds (q.content.start m) starts → listed ≡ length starts → now ≤ was + 1 + listed → now ≤ was + most
+  meter-asked was now listed starts l v e =
+      let f = h.few starts l in
+      let g = h.asked in
+      omega (arith, e, v, f, g)
 
--- and its registers, where it is the account's
-pub meter-owned : (file : OfficeFile) (c : ShelfContent) (a x y m most was mid now listed : ℕ) (starts : List (ℕ × Option AccountId)) → IsSound file → IsEnoughFor c a x y m most → IsOwned c a x y m →
-    ListsSeconds (c.start m) starts → listed ≡ length starts → mid ≡ was + 1 + listed →
-    ((each : Register → ℕ) → ((r : Register) → HasPointsAt (IsBetween x y) (c.point m r) (each r)) → now ≤ mid + sum_by (register_reads file m each) registers) → now ≤ was + most
-meter-owned file c a x y m most was mid now listed starts s h o l v e reads =
-    let w = h.owned o in
-    let points : HasPoints (IsBetween x y) c m w.0 = w.1 in
-    let all = points.all in
-    let r = reads points.each points.few in
-    let four = registers-few file m points.each s in
-    let f = h.few starts l in
-    let g = w.2 in
-    omega (arith, e, v, f, g, r, four, all)
+  -- and its registers, where it is the account's
+  pub meter-owned : (was mid now listed : ℕ) (starts : List (ℕ × Option AccountId)) → IsOwned q.content q.account.0 (first_second q) q.end m → ListsSeconds (q.content.start m) starts → listed ≡ length starts → mid ≡ was + 1 + listed →
+      ((each : Register → ℕ) → ((r : Register) → reads q m r (each r)) → now ≤ mid + meter_reads q.file m each) → now ≤ was + most
+  meter-owned was mid now listed starts o l v e f =
+      let w = h.owned o in
+      let r = f w.0 w.1 in
+      let k = h.few starts l in
+      let g = w.2 in
+      omega (arith, e, v, k, g, r)
+
+-- so much is enough where the points of the time are read, or three calls and rows for each register that counts
+pub points-enough : (q : Pass) (m most : ℕ) → IsSound q.file → IsEnoughFor q.content q.account.0 (first_second q) q.end m most → IsEnoughToGather PointsAreRead q m most
+points-enough q m most s h = record {
+  starts = h.starts;
+  few = h.few;
+  asked = h.asked;
+  owned = λ o.
+      let w = h.owned o in
+      let points : HasPoints (IsBetween (first_second q) q.end) q.content m w.0 = w.1 in
+      let all = points.all in
+      let five = registers-five q.file m points.each s in
+      let g = w.2 in
+      (λ r. 5 + points.each r, λ r. (points.each r, points.few r, omega arith), omega (arith, all, five, g));
+}
+
+pub three-enough : (q : Pass) (m most : ℕ) → IsSound q.file → IsEnoughToRead q.content q.account.0 (first_second q) q.end m most → IsEnoughToGather ThreeAreRead q m most
+three-enough q m most s h = record {
+  starts = h.starts;
+  few = h.few;
+  asked = h.asked;
+  owned = λ o. (let g = h.owned o in let three = registers-three q.file m s in (λ r. 3, λ r. omega arith, omega (arith, three, g)));
+}
 
 -- ---- all meters
 pub meter-read : (most : ℕ → ℕ) (m was mid new : ℕ) → mid ≤ was + sum_over most 0 m → new ≤ mid + most m → new ≤ was + sum_over most 0 (m + 1)

@@ -1,32 +1,36 @@
 -- What is given and read in a content that is the same.
-use Rattle.std.proofs.Common.{◌≡◌, ℕ, ◌+◌, ◌≤◌, Bool, true, cond, Option, List, Result, OnOk, ap, sym, subst, ◌∙◌, arith}
-use Rattle.std.specs.List.{list_any, sum_by}
-use Rattle.pw_obis.specs.Registers.{registers}
+use Rattle.std.proofs.Common.{IsNone, ◌≡◌, ℕ, ◌+◌, ◌≤◌, true, false, Option, List, ap, sym, subst, ◌∙◌, arith}
+use Rattle.std.specs.List.{list_any}
 use Rattle.pw_obis.specs.declared.reference.Register.{Register}
 use Rattle.pw_time.specs.declared.instant.TheConstants.{END_SECOND}
+use Rattle.pw_flow.specs.Time.{last}
 use Rattle.pw_tariff.specs.declared.ids.AccountId.{AccountId}
 use Rattle.pw_tariff.specs.declared.ids.Direction.{Direction}
-use Rattle.pw_tariff.specs.Office.{IsSound, OfficeFile, OfficeRules, counts_at, office_of}
-use Rattle.pw_tariff.specs.Owners.{StartsIncrease}
+use Rattle.pw_tariff.specs.Office.{OfficeFile, OfficeRules, counts_at, office_of}
+use Rattle.pw_tariff.specs.Owners.{StartsIncrease, owner_from}
 use Rattle.pw_model.specs.declared.records.TotalKey.{TotalKey}
 use Rattle.pw_model.specs.Counting.{contents_at, point, start}
+use Rattle.pw_model.specs.Energy.{owner_at}
 use Rattle.pw_model.specs.Lists.{IsInOrder}
 use Rattle.pw_model.specs.Same.{direction_of}
 use Rattle.pw_model.specs.Seconds.{ListsSeconds, by_second}
 use Rattle.pw_model.specs.Shelf.{ShelfContent}
 use Rattle.pw_parts.specs.Changes.{pairs_for}
 use Rattle.pw_parts.proofs.Sharing.{points-end}
-use Rattle.pw_book.specs.Cost.{HasPointsAt}
+use Rattle.pw_shelf.specs.declared.shelf.Shelf.{Ghosts}
+use Rattle.pw_book.specs.Asking.{IsOnlyAsked}
 use Rattle.pw_book.specs.Posting.{IsSoundContent}
 use Rattle.pw_book.specs.inner.Settling.{EndsBefore}
-use Rattle.pw_bills.specs.Reads.{IsBetween, IsEnoughFor, IsOwned}
+use Rattle.pw_bills.specs.ReadUpTo.{IsAccountsIn}
+use Rattle.pw_bills.specs.Reads.{IsOwned}
 use Rattle.pw_bills.specs.Stretches.{AreStretches, first_of}
-use Rattle.pw_bills.specs.inner.Flows.{Covers, IsOfStretch, meter_between, register_between, register_reads}
+use Rattle.pw_bills.specs.inner.Flows.{Covers, IsOfStretch, register_between}
+use Rattle.pw_bills.specs.inner.Gathering.{CanAsk, IsEnoughToGather, IsSoundPass, Pass, RegisterAdds, counted_reads, pass_of}
 use Rattle.pw_bills.specs.inner.Naming.{NamesStretches, OwnerStart, named_from, names_somebody}
 use Rattle.pw_bills.proofs.Covered.{covered-order}
 use Rattle.pw_bills.proofs.Given.{register-given}
 use Rattle.pw_bills.proofs.Named.{rises}
-use Rattle.pw_bills.proofs.NamedStarts.{named-increase, names-stretches, owned-there}
+use Rattle.pw_bills.proofs.NamedStarts.{named-increase, names-stretches, nobody-owns, owned-there}
 
 -- ---- a register
 module _ (file : OfficeFile) (m : ℕ) (r : Register) (a : AccountId) (begins : List ℕ) (end : ℕ) (named : List OwnerStart) (old new : TotalKey → ℕ) where
@@ -47,29 +51,6 @@ module _ (file : OfficeFile) (m : ℕ) (r : Register) (a : AccountId) (begins : 
       let x = register-given file (contents_at c.records) m r a begins end named points way y d ended (rises begins end w.rising) all n k o in
       omega (arith, shared, same, x)
 
-  pub register-there : (c d : ShelfContent) → d ≡ c →
-      (IsSoundContent (office_of file) d → NamesStretches (contents_at d.records) m a begins end named → (k : TotalKey) → IsOfStretch begins k →
-      new k ≡ old k + register_between (office_of file) (contents_at d.records) a begins end m k r) →
-      IsSoundContent (office_of file) c → NamesStretches (contents_at c.records) m a begins end named → (k : TotalKey) → IsOfStretch begins k →
-      new k ≡ old k + register_between (office_of file) (contents_at c.records) a begins end m k r
-  register-there c d q f =
-      let G : ShelfContent → Type 0 = λ x. IsSoundContent (office_of file) x → NamesStretches (contents_at x.records) m a begins end named → (k : TotalKey) → IsOfStretch begins k →
-      new k ≡ old k + register_between (office_of file) (contents_at x.records) a begins end m k r in
-      subst G q f
-
-pub read-counted : (file : OfficeFile) (m : ℕ) (each : Register → ℕ) (r : Register) (was now : ℕ) → counts_at file m r ≡ true → now ≤ was + 5 + each r → now ≤ was + register_reads file m each r
-read-counted file m each r was now y h =
-    let reads : Bool → ℕ = λ b. cond b 5 0 in
-    let q : reads (counts_at file m r) ≡ reads true = ap reads y in
-    omega (arith, q, h)
-
-pub read-there : (c d : ShelfContent) (file : OfficeFile) (m : ℕ) (r : Register) (x y was now : ℕ) (each : Register → ℕ) → d ≡ c →
-    ((most : Register → ℕ) → HasPointsAt (IsBetween x y) (d.point m r) (most r) → now ≤ was + register_reads file m most r) → HasPointsAt (IsBetween x y) (c.point m r) (each r) →
-    now ≤ was + register_reads file m each r
-read-there c d file m r x y was now each q f h =
-    let P : ShelfContent → Type 0 = λ z. HasPointsAt (IsBetween x y) (z.point m r) (each r) in
-    f each (subst P (sym q) h)
-
 -- ---- the owners of a meter, under the numbers of stretches
 module _ (office : OfficeRules) (c : ShelfContent) (m : ℕ) (a : AccountId) (begins : List ℕ) (end : ℕ) (starts lent named : List OwnerStart) (w : AreStretches begins end) (s : IsSoundContent office c)
     (l : ListsSeconds (c.start m) starts) (v : lent ≡ starts) (q : named ≡ named_from lent a 0 begins end) where
@@ -88,38 +69,45 @@ module _ (office : OfficeRules) (c : ShelfContent) (m : ℕ) (a : AccountId) (be
   pub increase-held : StartsIncrease named
   increase-held = let I : List OwnerStart → Type 0 = λ xs. StartsIncrease xs in subst I (sym named-is) (named-increase starts a begins end l.rising (rises begins end w.rising))
 
+  somebody-told : list_any names_somebody named ≡ true → list_any names_somebody (named_from starts a 0 begins end) ≡ true
+  somebody-told h = ap (λ (xs : List OwnerStart). list_any names_somebody xs) (sym named-is) ∙ h
+
+  pub accounts-held : list_any names_somebody named ≡ true → IsAccountsIn (contents_at c.records) a (first_of begins end) end m
+  accounts-held h = owned-there (contents_at c.records) m starts a begins end list-told (rises begins end w.rising) (somebody-told h)
+
   pub owned-held : list_any names_somebody named ≡ true → IsOwned c a.0 (first_of begins end) end m
-  owned-held h = owned-there c (contents_at c.records) m starts a begins end start-told list-told (rises begins end w.rising) (ap (λ (xs : List OwnerStart). list_any names_somebody xs) (sym named-is) ∙ h)
+  unfolding owner_at
+  owned-held h = let r = accounts-held h in (r.0, r.1, ap (λ (f : ℕ → Option (Option AccountId)). owner_from (last f r.0)) start-told ∙ r.2)
 
--- ---- a meter
-pub meter-shared : {T E : Type 0} (answer : Result T E) (file : OfficeFile) (m : ℕ) (a : AccountId) (begins : List ℕ) (end : ℕ) (named : List OwnerStart) (old new : TotalKey → ℕ) (c d : ShelfContent) → d ≡ c →
-    (IsSoundContent (office_of file) d → NamesStretches (contents_at d.records) m a begins end named →
-    OnOk answer ((k : TotalKey) → IsOfStretch begins k → new k ≡ old k + meter_between (office_of file) (contents_at d.records) a begins end k m)) →
-    IsSoundContent (office_of file) c → NamesStretches (contents_at c.records) m a begins end named →
-    OnOk answer ((k : TotalKey) → IsOfStretch begins k → new k ≡ old k + meter_between (office_of file) (contents_at c.records) a begins end k m)
-meter-shared answer file m a begins end named old new c d q f =
-    let G : ShelfContent → Type 0 = λ x. IsSoundContent (office_of file) x → NamesStretches (contents_at x.records) m a begins end named →
-    OnOk answer ((k : TotalKey) → IsOfStretch begins k → new k ≡ old k + meter_between (office_of file) (contents_at x.records) a begins end k m) in
-    subst G q f
+  pub never-held : list_any names_somebody named ≡ false → ¬ (IsAccountsIn (contents_at c.records) a (first_of begins end) end m)
+  never-held h = nobody-owns (contents_at c.records) m a begins end named w.ended names-held h
 
-pub registers-there : (c d : ShelfContent) (file : OfficeFile) (m x y was now : ℕ) → d ≡ c →
-    ((each : Register → ℕ) → ((r : Register) → HasPointsAt (IsBetween x y) (d.point m r) (each r)) → now ≤ was + sum_by (register_reads file m each) registers) →
-    (each : Register → ℕ) → ((r : Register) → HasPointsAt (IsBetween x y) (c.point m r) (each r)) → now ≤ was + sum_by (register_reads file m each) registers
-registers-there c d file m x y was now q f each h =
-    let P : ShelfContent → Type 0 = λ z. (r : Register) → HasPointsAt (IsBetween x y) (z.point m r) (each r) in
-    f each (subst P (sym q) h)
+-- ---- what is asked of a content is asked of the same
+module _ (q : Pass) (d : ShelfContent) (same : d ≡ q.content) where
+  pub asked-there : (P : Pass → Type 0) → P (pass_of q.file d q.account q.begins q.end) → P q
+  asked-there P h = let Q : ShelfContent → Type 0 = λ z. P (pass_of q.file z q.account q.begins q.end) in subst Q same h
 
--- behind other meters
-pub meter-there : (file : OfficeFile) (m : ℕ) (a : AccountId) (begins : List ℕ) (end : ℕ) (old new : TotalKey → ℕ) (c d : ShelfContent) → d ≡ c →
-    (IsSoundContent (office_of file) d → (k : TotalKey) → IsOfStretch begins k → new k ≡ old k + meter_between (office_of file) (contents_at d.records) a begins end k m) →
-    IsSoundContent (office_of file) c → (k : TotalKey) → IsOfStretch begins k → new k ≡ old k + meter_between (office_of file) (contents_at c.records) a begins end k m
-meter-there file m a begins end old new c d q f =
-    let G : ShelfContent → Type 0 = λ x. IsSoundContent (office_of file) x → (k : TotalKey) → IsOfStretch begins k → new k ≡ old k + meter_between (office_of file) (contents_at x.records) a begins end k m in
-    subst G q f
+-- ---- what can be asked
+pub asked-able : {S : Type 0} (shelf : Ghosts S) (file : OfficeFile) (begins : List ℕ) (end m : ℕ) (a b : S) → IsOnlyAsked shelf 0 a b → CanAsk shelf file begins end m a → CanAsk shelf file begins end m b
+asked-able shelf file begins end m a b h c =
+    let P : Option ShelfContent → Type 0 = λ o. IsNone o in
+    record { idle = subst P (sym h.kept.upload) c.idle; stretches = c.stretches; meter = c.meter }
 
-pub meter-read_there : (file : OfficeFile) (c d : ShelfContent) (a x y m most was now : ℕ) → d ≡ c → (IsSound file → IsSoundContent (office_of file) d → (n : ℕ) → IsEnoughFor d a x y m n → now ≤ was + n) →
-    IsSound file → IsSoundContent (office_of file) c → IsEnoughFor c a x y m most → now ≤ was + most
-meter-read_there file c d a x y m most was now q f s i h =
-    let P : ShelfContent → Type 0 = λ z. IsEnoughFor z a x y m most in
-    let I : ShelfContent → Type 0 = λ z. IsSoundContent (office_of file) z in
-    f s (subst I (sym q) i) most (subst P (sym q) h)
+pub register-read_there : (reads : Pass → ℕ → Register → ℕ → Type 0) (q : Pass) (d : ShelfContent) (m : ℕ) (r : Register) (each : Register → ℕ) (was now : ℕ) → d ≡ q.content →
+    ((most : Register → ℕ) → reads (pass_of q.file d q.account q.begins q.end) m r (most r) → now ≤ was + counted_reads q.file m most r) → reads q m r (each r) → now ≤ was + counted_reads q.file m each r
+register-read_there reads q d m r each was now e f =
+    let P : Pass → Type 0 = λ z. reads z m r (each r) → now ≤ was + counted_reads q.file m each r in
+    asked-there q d e P (f each)
+
+pub register-adds_there : {T : Type 0} (adds : Pass → ℕ → Register → T → T → Type 0) (q : Pass) (d : ShelfContent) (m : ℕ) (owners : List OwnerStart) (i place : ℕ) (old new : T) → d ≡ q.content → place ≡ i →
+    RegisterAdds adds (pass_of q.file d q.account q.begins q.end) m owners place old new → RegisterAdds adds q m owners i old new
+register-adds_there adds q d m owners i place old new e p f =
+    let P : Pass → Type 0 = λ z. RegisterAdds adds z m owners place old new in
+    let R : ℕ → Type 0 = λ k. RegisterAdds adds q m owners k old new in
+    subst R p (asked-there q d e P f)
+
+pub meter-read_there : (reads : Pass → ℕ → Register → ℕ → Type 0) (q : Pass) (d : ShelfContent) (m most was now : ℕ) → d ≡ q.content →
+    (IsSoundPass (pass_of q.file d q.account q.begins q.end) → (few : ℕ) → IsEnoughToGather reads (pass_of q.file d q.account q.begins q.end) m few → now ≤ was + few) → IsSoundPass q → IsEnoughToGather reads q m most → now ≤ was + most
+meter-read_there reads q d m most was now e f s h =
+    let P : Pass → Type 0 = λ z. IsSoundPass z → (few : ℕ) → IsEnoughToGather reads z m few → now ≤ was + few in
+    asked-there q d e P f s most h

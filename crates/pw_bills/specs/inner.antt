@@ -1,6 +1,6 @@
 pub mod Naming
 pub mod Flows
-pub mod Within
+pub mod Gathering
 pub mod Rows
 pub mod TopUpRows
 pub mod Settling

@@ -7,8 +7,8 @@ ghost use Rattle.pw_shelf.specs.Rows.{rows_found, rows_given, rows_listed};
 ghost use Rattle.pw_shelf.specs.Seconds.{IsBefore, IsBehind, ListsSecondsWithin};
 ghost use Rattle.pw_book.specs.Asking.{IsOnlyAsked};
 
+use crate::gathering::Place;
 use crate::stretches::Start;
-use pw_obis::Register;
 use pw_parts::Point;
 use pw_shelf::{Shelf, ShelfFault};
 use pw_tariff::MeterId;
@@ -32,46 +32,42 @@ pub(crate) fn starts_held<S: Shelf>(
 // The point of a register before an instant.
 pub(crate) fn point_before_held<S: Shelf>(
     shelf: &mut S,
-    meter: MeterId,
-    register: Register,
+    place: &Place,
     instant: Instant,
 ) -> Result<Option<Point>, ShelfFault>
     requires { IsNone (S.state shelf.old).begun }
-    ensures row { S.clean shelf.new → IfOk result (λ found. IsBefore ((S.state shelf.old).content.point meter.0 register) instant found) }
+    ensures row { S.clean shelf.new → IfOk result (λ found. IsBefore ((S.state shelf.old).content.point place.now.meter.0 place.now.register) instant found) }
     ensures tally { (S.state shelf.new).tally ≡ (S.state shelf.old).tally + 1 + rows_given rows_found result }
     ensures asked { IsOnlyAsked S.Shelf (failures_told result) shelf.old shelf.new }
 {
-    shelf.point_before(meter, register, instant)
+    shelf.point_before(place.meter, place.register, instant)
 }
 
 // The point of a register behind an instant.
 pub(crate) fn point_after_held<S: Shelf>(
     shelf: &mut S,
-    meter: MeterId,
-    register: Register,
+    place: &Place,
     instant: Instant,
 ) -> Result<Option<Point>, ShelfFault>
     requires { IsNone (S.state shelf.old).begun }
-    ensures row { S.clean shelf.new → IfOk result (λ found. IsBehind ((S.state shelf.old).content.point meter.0 register) instant found) }
+    ensures row { S.clean shelf.new → IfOk result (λ found. IsBehind ((S.state shelf.old).content.point place.now.meter.0 place.now.register) instant found) }
     ensures tally { (S.state shelf.new).tally ≡ (S.state shelf.old).tally + 1 + rows_given rows_found result }
     ensures asked { IsOnlyAsked S.Shelf (failures_told result) shelf.old shelf.new }
 {
-    shelf.point_after(meter, register, instant)
+    shelf.point_after(place.meter, place.register, instant)
 }
 
 // The points of a register from one instant to another.
 pub(crate) fn points_held<S: Shelf>(
     shelf: &mut S,
-    alloc: Global,
-    meter: MeterId,
-    register: Register,
+    place: &Place,
     from: Instant,
     to: Instant,
 ) -> Result<Vec<Point>, ShelfFault>
     requires { IsNone (S.state shelf.old).begun }
-    ensures rows { S.clean shelf.new → IfOk result (λ points. ListsSecondsWithin from to ((S.state shelf.old).content.point meter.0 register) points.items) }
+    ensures rows { S.clean shelf.new → IfOk result (λ points. ListsSecondsWithin from to ((S.state shelf.old).content.point place.now.meter.0 place.now.register) points.items) }
     ensures tally { (S.state shelf.new).tally ≡ (S.state shelf.old).tally + 1 + rows_given rows_listed result }
     ensures asked { IsOnlyAsked S.Shelf (failures_told result) shelf.old shelf.new }
 {
-    shelf.points_between(alloc, meter, register, from, to)
+    shelf.points_between(place.basis.alloc, place.meter, place.register, from, to)
 }

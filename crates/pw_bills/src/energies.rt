@@ -1,24 +1,21 @@
 //! The energies of an account in stretches of time.
 
-ghost use Rattle.std.specs.Prelude.{◌≡◌, ℕ, ◌+◌, ◌-◌, ◌<◌, ◌≤◌, ◌^◌, min, Some, IfOk, IsNone, length};
-ghost use Rattle.pw_time.specs.declared.instant.TheConstants.{FIRST_SECOND, END_SECOND};
+ghost use Rattle.std.specs.Prelude.{◌≡◌, ℕ, ◌-◌, ◌<◌, ◌≤◌, ◌^◌, min, Some, IfOk};
+ghost use Rattle.pw_time.specs.declared.instant.TheConstants.{END_SECOND};
 ghost use Rattle.pw_tariff.specs.Office.{office_of};
-ghost use Rattle.pw_model.specs.Office.{AllOfOffice, most_records};
-ghost use Rattle.pw_model.specs.Shelf.{IsTrueContent};
-ghost use Rattle.pw_shelf.specs.Calls.{failures_told};
-ghost use Rattle.pw_book.specs.Asking.{IsOnlyAsked};
 ghost use Rattle.pw_book.specs.Cost.{RisesAtMost};
 ghost use Rattle.pw_book.specs.Questions.{IsQuestion};
 ghost use Rattle.pw_months.specs.Between.{energy_between as energy_of};
 ghost use Rattle.pw_bills.specs.Energies.{TellsEnergies, energy_told};
 ghost use Rattle.pw_bills.specs.Reads.{AreEnoughFor, all_meters};
 ghost use Rattle.pw_bills.specs.Stretches.{AreStretches, first_of};
+ghost use Rattle.pw_bills.specs.inner.Flows.{AddsEnergy, IsOfRegisters};
 
-use crate::flows::flows;
-use crate::stretches::Stretches;
-use pw_book::{Basis, Book, BookFault};
-use pw_model::TotalKey;
-use pw_parts::{Change, Changes};
+use crate::gathering::{Gathers, Place, gather};
+use crate::points::points_over;
+use pw_book::{Book, BookFault};
+use pw_model::{TotalKey, direction_of};
+use pw_parts::{Change, Changes, Side, add_pairs};
 use pw_shelf::{Shelf, ShelfFault};
 use pw_tariff::{AccountId, BandId, Direction, PeriodId};
 use pw_time::Instant;
@@ -46,6 +43,31 @@ impl Energies {
             Some(change) => capped(change),
             None => 0,
         }
+    }
+}
+
+// A register gives each stretch what its neighbouring pairs share out to the stretch's number: each
+// whole pair is shared out once.
+impl Gathers for Energies {
+    ghost adds = { AddsEnergy };
+
+    ghost fits = { IsOfRegisters };
+
+    fn add_register<S: Shelf>(&mut self, shelf: &mut S, place: &Place) -> Result<(), ShelfFault> {
+        let points = points_over(shelf, place)?;
+        let direction = direction_of(place.register);
+        let basis = place.basis;
+        add_pairs(
+            basis.alloc,
+            basis.office,
+            basis.zone,
+            place.owners,
+            direction,
+            &points,
+            Side::Gains,
+            &mut self.changes,
+        )?;
+        Ok(())
     }
 }
 
@@ -103,47 +125,8 @@ pub fn days<S: Shelf>(
     ensures cost { S.clean book.new.shelf → (most : ℕ → ℕ) → AreEnoughFor (office_of book.old.office) (S.state book.old.shelf).content account.0 (first_of begins.now end) end most → RisesAtMost (all_meters (office_of book.old.office) most) (S.state book.old.shelf).tally (S.state book.new.shelf).tally }
     ensures question { IsQuestion S.Shelf result book.old book.new }
 {
-    book.still_open()?;
-    let basis = Basis {
-        alloc,
-        office: &book.office,
-        zone: &book.zone,
-    };
-    let last = last_before(begins[0], end);
-    let stretches = Stretches {
-        account,
-        begins,
-        last,
-    };
-    let energies = energies_held(&mut book.shelf, &basis, &stretches)?;
+    let changes = Changes::new(alloc);
+    let mut energies = Energies { changes };
+    gather(book, alloc, account, begins, end, &mut energies)?;
     Ok(energies)
-}
-
-// The last instant before a second that is behind an instant.
-pub(crate) fn last_before(from: Instant, until: u32) -> Instant
-    requires later { from < until }
-    requires ended { until ≤ END_SECOND }
-    ensures { result + 1 ≡ until }
-{
-    let _begun = from.seconds();
-    Instant::of(until - 1).unwrap()
-}
-
-// The energies of an account in stretches of time.
-fn energies_held<S: Shelf>(
-    shelf: &mut S,
-    basis: &Basis,
-    stretches: &Stretches,
-) -> Result<Energies, ShelfFault>
-    requires idle { IsNone (S.state shelf.old).begun }
-    requires stretches { AreStretches stretches.now.begins.now (stretches.now.last + 1) }
-    requires few { S.clean shelf.old → length (S.state shelf.old).content.records ≤ most_records }
-    requires of_office { S.clean shelf.old → AllOfOffice (office_of basis.now.office.now) (S.state shelf.old).content.records }
-    requires truth { S.clean shelf.old → IsTrueContent (office_of basis.now.office.now) (S.state shelf.old).content }
-    ensures energies { S.clean shelf.new → IfOk result (λ energies. TellsEnergies (office_of basis.now.office.now) (S.state shelf.old).content.records stretches.now.account stretches.now.begins.now (stretches.now.last + 1) energies) }
-    ensures tally { S.clean shelf.new → (most : ℕ → ℕ) → AreEnoughFor (office_of basis.now.office.now) (S.state shelf.old).content stretches.now.account.0 (first_of stretches.now.begins.now (stretches.now.last + 1)) (stretches.now.last + 1) most → (S.state shelf.new).tally ≤ (S.state shelf.old).tally + all_meters (office_of basis.now.office.now) most }
-    ensures asked { IsOnlyAsked S.Shelf (failures_told result) shelf.old shelf.new }
-{
-    let changes = flows(shelf, basis, stretches)?;
-    Ok(Energies { changes })
 }

@@ -6,14 +6,13 @@ mod asked;
 mod billed;
 mod billing;
 mod energies;
-mod flows;
+mod gathering;
 mod payments;
 mod pieces;
 mod points;
 mod readings;
 mod reasons;
 mod stretches;
-mod within;
 
 pub use billed::Bill;
 pub use billing::bill;

@@ -1,24 +1,38 @@
--- What registers, meters and an office give to stretches of time. It serves `src/points.rt` and `src/flows.rt`.
+-- What registers, meters and an office give to stretches of time. It serves `src/points.rt` and `src/energies.rt`.
 -- (Definitions of this project.)
-use Rattle.std.specs.Prelude.{◌≡◌, ℕ, ◌+◌, ◌<◌, cond, Option, Some, None, List, [], ◌∷◌, length, slice_index}
+use Rattle.std.specs.Prelude.{◌≡◌, ℕ, ◌+◌, ◌*◌, ◌^◌, ◌<◌, ◌≤◌, Option, Some, None, List, [], ◌∷◌, length, slice_index}
 use Rattle.pw_obis.specs.declared.reference.Register.{Register}
 use Rattle.pw_tariff.specs.declared.ids.AccountId.{AccountId}
-use Rattle.pw_tariff.specs.Office.{OfficeFile, OfficeRules, counts_at}
+use Rattle.pw_tariff.specs.Office.{OfficeRules, office_of}
 use Rattle.pw_model.specs.declared.records.Key.{Key}
 use Rattle.pw_model.specs.declared.records.Contents.{Contents}
 use Rattle.pw_model.specs.declared.records.TotalKey.{TotalKey}
 use Rattle.pw_model.specs.declared.records.TotalKey.TheVariants.{Energy, TopUps}
 use Rattle.pw_model.specs.Changes.{in_direction}
+use Rattle.pw_model.specs.Counting.{contents_at}
 use Rattle.pw_model.specs.Energy.{Asked, energy_where, meter_share, share_of}
+use Rattle.pw_parts.specs.Changes.{gathered}
+use Rattle.pw_parts.specs.declared.changes.Side.TheVariants.{Gains}
+use Rattle.pw_book.specs.Cost.{HasPointsAt}
 use Rattle.pw_months.specs.Between.{class_between}
 use Rattle.pw_months.specs.Window.{Spans}
-use Rattle.pw_bills.specs.Stretches.{end_of}
+use Rattle.pw_bills.specs.declared.energies.Energies.{Energies}
+use Rattle.pw_bills.specs.Reads.{IsBetween}
+use Rattle.pw_bills.specs.Stretches.{end_of, first_of}
+use Rattle.pw_bills.specs.inner.Gathering.{Pass}
 
 -- ---- points
 -- no point at all, or a chain of points that covers the interval
 abbrev pub Covers : (ℕ → Option ℕ) → ℕ → ℕ → List (ℕ × ℕ) → Type 0
 Covers told x y [] = (s : ℕ) → told s ≡ None
 Covers told x y (a ∷ ps) = Spans told x y a ps
+
+-- the points of stretches of time
+abbrev pub CoversTime : (ℕ → Option ℕ) → List ℕ → ℕ → List (ℕ × ℕ) → Type 0
+CoversTime told begins end ps = Covers told (first_of begins end) end ps
+
+abbrev pub HasPointsIn : List ℕ → ℕ → (ℕ → Option ℕ) → ℕ → Type 0
+HasPointsIn begins end told most = HasPointsAt (IsBetween (first_of begins end) end) told most
 
 -- ---- totals under the numbers of stretches
 -- the energy of a stretch
@@ -52,7 +66,14 @@ all_between office at a begins end (Energy (Some i) p b d) =
 all_between office at a begins end (Energy None p b d) = 0
 all_between office at a begins end (TopUps o) = 0
 
--- ---- how much is read
--- for a register that counts: three calls, a neighbour at both sides, and the points between
-abbrev pub register_reads : OfficeFile → ℕ → (Register → ℕ) → Register → ℕ
-register_reads file m each r = cond (counts_at file m r) 5 0 + each r
+-- ---- what is gathered
+-- a register adds what it gives to each stretch
+abbrev pub AddsEnergy : Pass → ℕ → Register → Energies → Energies → Type 0
+AddsEnergy q m r old new = (k : TotalKey) → IsOfStretch q.begins k →
+    gathered Gains new.changes.rows k
+    ≡ gathered Gains old.changes.rows k
+    + register_between (office_of q.file) (contents_at q.content.records) q.account q.begins q.end m k r
+
+-- no total is more than what so many registers can give
+abbrev pub IsOfRegisters : ℕ → Energies → Type 0
+IsOfRegisters n e = (k : TotalKey) → gathered Gains e.changes.rows k ≤ n * 2 ^ 101

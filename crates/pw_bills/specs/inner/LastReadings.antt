@@ -1,21 +1,31 @@
 -- Readings that are told one register after another. It serves `src/readings.rt`.
 -- (Definitions of this project.)
-use Rattle.std.specs.Prelude.{ℕ, ◌+◌, ◌<◌, cond, List}
+use Rattle.std.specs.Prelude.{◌≡◌, ℕ, ◌-◌, ◌<◌, ◌≤◌, List, [], ◌∷◌, ◌++◌}
+use Rattle.pw_flow.specs.Time.{last}
 use Rattle.pw_obis.specs.declared.reference.Register.{Register}
 use Rattle.pw_tariff.specs.declared.ids.AccountId.{AccountId}
-use Rattle.pw_tariff.specs.Office.{OfficeFile, OfficeRules, counts_at}
+use Rattle.pw_tariff.specs.Office.{OfficeRules}
 use Rattle.pw_model.specs.Counting.{contents_at}
 use Rattle.pw_model.specs.Lists.{Lists}
 use Rattle.pw_model.specs.Shelf.{ShelfContent}
 use Rattle.pw_bills.specs.declared.readings.LastReading.{LastReading}
+use Rattle.pw_bills.specs.declared.readings.LastReadings.{LastReadings}
 use Rattle.pw_bills.specs.ReadUpTo.{IsLastReading, reading_order, register_number}
+use Rattle.pw_bills.specs.inner.Gathering.{Pass}
 
--- those of the registers before one, of an interval with this first and this last second
+-- those of the registers before one
 abbrev pub AreReadBefore : OfficeRules → ShelfContent → AccountId → ℕ → ℕ → ℕ → List LastReading → Type 0
-AreReadBefore office c a from until n =
-    Lists reading_order (λ row.
-    IsLastReading office (contents_at c.records) a from (until + 1) row × (register_number row < n))
+AreReadBefore office c a from end n =
+    Lists reading_order (λ row. IsLastReading office (contents_at c.records) a from end row × (register_number row < n))
 
--- for a register that counts: two calls at most, and one row at most
-abbrev pub last_reads : OfficeFile → ℕ → Register → ℕ
-last_reads file m r = cond (counts_at file m r) 3 0
+-- ---- what is gathered
+abbrev pub latest_reading : ShelfContent → ℕ → ℕ → Register → LastReading
+latest_reading c end m r = record { meter = record { 0 = m }; register = r; last = last (c.point m r) (end - 1) }
+
+-- a register adds its latest reading before the end
+abbrev pub AddsLatest : Pass → ℕ → Register → LastReadings → LastReadings → Type 0
+AddsLatest q m r old new = new.rows.items ≡ old.rows.items ++ latest_reading q.content q.end m r ∷ []
+
+-- for a register: two calls at most, and one row at most
+abbrev pub ThreeAreRead : Pass → ℕ → Register → ℕ → Type 0
+ThreeAreRead q m r most = 3 ≤ most

@@ -1,4 +1,4 @@
--- The owners of a meter, under the numbers of stretches of time. It serves `src/stretches.rt` and `src/flows.rt`.
+-- The owners of a meter, under the numbers of stretches of time. It serves `src/stretches.rt` and `src/gathering.rt`.
 -- (Definitions of this project.)
 use Rattle.std.specs.Prelude.{◌≡◌, ◌&&◌, ℕ, ◌+◌, ◌<◌, nat_le, nat_lt, Bool, cond, Option, Some, None, List, [], ◌∷◌, ◌++◌, length, map, slice_index}
 use Rattle.std.specs.List.{filter}

@@ -9,30 +9,37 @@ use Rattle.pw_tariff.specs.declared.ids.AccountId.{AccountId}
 use Rattle.pw_tariff.specs.declared.ids.MeterId.{MeterId}
 use Rattle.pw_tariff.specs.declared.spread.Piece.{Piece}
 use Rattle.pw_tariff.specs.declared.spread.Span.{Span}
-use Rattle.pw_tariff.specs.Office.{OfficeFile, OfficeRules, register_place}
+use Rattle.pw_tariff.specs.Office.{OfficeFile, OfficeRules, office_of, register_place}
 use Rattle.pw_tariff.specs.Owners.{same_owner}
 use Rattle.pw_tariff.specs.Pieces.{ListsPieces}
 use Rattle.pw_model.specs.declared.records.Key.{Key}
 use Rattle.pw_model.specs.declared.records.Contents.{Contents}
-use Rattle.pw_model.specs.Counting.{Member, point}
-use Rattle.pw_model.specs.Energy.{owner_at}
+use Rattle.pw_model.specs.Counting.{Member, contents_at, point}
+use Rattle.pw_model.specs.Energy.{account, owner_at}
 use Rattle.pw_months.specs.Why.{IsWhyRow, covers}
+use Rattle.pw_bills.specs.declared.reasons.Reasons.{Reasons}
 use Rattle.pw_bills.specs.declared.reasons.WhyPiece.{WhyPiece}
 use Rattle.pw_bills.specs.Why.{row_told}
+use Rattle.pw_bills.specs.inner.Gathering.{Pass}
 use Rattle.pw_bills.specs.inner.Naming.{OwnerStart}
 
--- ---- what pairs of points give
--- the account's, and it gives something
-abbrev pub gives : AccountId → Piece → Bool
-gives a p = same_owner p.owner (Some a) && nat_lt 0 p.wh
+-- ---- what pairs of points give, under owners that name one stretch
+-- it is of the stretch, and gives something
+abbrev pub gives_something : Piece → Bool
+gives_something p = same_owner p.owner (Some (account 0)) && nat_lt 0 p.wh
 
-abbrev pub why_of : MeterId → Register → Span → Piece → WhyPiece
-why_of m r span p = record { meter = m; register = r; span = span; piece = p }
+-- a piece, as the account's
+abbrev pub piece_of : AccountId → Piece → Piece
+piece_of a p =
+    record { begin = p.begin; until = p.until; owner = Some a; period = p.period; band = p.band; wh = p.wh }
+
+abbrev pub why_of : AccountId → MeterId → Register → Span → Piece → WhyPiece
+why_of a m r span p = record { meter = m; register = r; span = span; piece = piece_of a p }
 
 -- of the pieces of a pair those that give the account something
 abbrev pub GivenBy : OfficeFile → List OwnerStart → AccountId → MeterId → Register → Span → List WhyPiece → Type 0
 GivenBy file owners a m r span given =
-    (ps : List Piece) × ListsPieces file owners span span.from ps × (given ≡ map (why_of m r span) (filter (gives a) ps))
+    (ps : List Piece) × ListsPieces file owners span span.from ps × (given ≡ map (why_of a m r span) (filter gives_something ps))
 
 abbrev pub span_of : ℕ × ℕ → ℕ × ℕ → Span
 span_of p q = record { from = p.0; to = q.0; low = p.1; high = q.1 }
@@ -98,3 +105,10 @@ pub record AreRowsUpTo (office : OfficeRules) (at : Key → Contents) (a : Accou
   pub apart : AreApart ws
   pub all : (n : ℕ) (r : Register) (s : ℕ) → IsUpTo n (register_place r) (s + 1) m i t →
       IsAsked office at a x y n r s → IsTold office at ws n r s
+
+-- ---- what is gathered
+-- in one stretch a register adds its rows to those up to it
+abbrev pub AddsRows : Pass → ℕ → Register → Reasons → Reasons → Type 0
+AddsRows q m r old new = (x : ℕ) → q.begins ≡ x ∷ [] →
+    AreRowsUpTo (office_of q.file) (contents_at q.content.records) q.account x q.end m (register_place r) 0 old.rows.items →
+    AreRowsUpTo (office_of q.file) (contents_at q.content.records) q.account x q.end m (register_place r + 1) 0 new.rows.items

@@ -15,7 +15,7 @@ loop-pair-preserved c =
       is_finite = tt;
       of_two = size ∙ two;
       rising = λ r. rest-rises (windows_rest c.loop-pair.pair-iterator) _ step.1.2 (was.rising r);
-      told = λ r. pair-more c.args.basis.now.office.now c.args.owners.now c.args.account c.args.meter c.args.register c.args.points.now
+      told = λ r. pair-more c.args.place.now.basis.now.office.now c.args.place.now.owners.now c.args.place.now.stretches.now.account c.args.place.now.meter c.args.place.now.register c.args.points.now
           (windows_rest c.loop-pair.pair-iterator) _ c.in-Some.pair.now c.index-pair-0.result c.index-pair-1.result _ _ _
           (omega (arith, some, two)) (step.1.1 ∙ ap (λ (n : ℕ). take n (windows_rest c.loop-pair.pair-iterator)) two) step.1.2
           c.index-pair-0.is c.index-pair-1.is (was.rising r) c.in_ok-add_pair.ensures (was.told r);
@@ -25,5 +25,5 @@ pub returns : goal.returns
 returns c = λ r.
     let two = c.loop-pair.invariant.of_two in
     let few = c.in-None.ensures.steps.1.0 in
-    pairs-over c.args.basis.now.office.now c.args.owners.now c.args.account c.args.meter c.args.register c.args.points.now (windows_rest c.loop-pair.pair-iterator) _ _
+    pairs-over c.args.place.now.basis.now.office.now c.args.place.now.owners.now c.args.place.now.stretches.now.account c.args.place.now.meter c.args.place.now.register c.args.points.now (windows_rest c.loop-pair.pair-iterator) _ _
     (omega (arith, few, two)) (c.loop-pair.invariant.told r)

@@ -15,5 +15,5 @@ invariant-loop-pair l = record {
   -- what the pairs so far gave, before all that those still to come give
   told : IsInOrder by_second l.points →
       (given : List WhyPiece) × (l.rows.items ≡ l.initial.rows.items ++ given)
-      × ((more : List WhyPiece) → GivenByPoints l.basis.office.now l.owners l.account l.meter l.register (windows_rest l.pair-iterator) more → GivenByPoints l.basis.office.now l.owners l.account l.meter l.register l.points (given ++ more));
+      × ((more : List WhyPiece) → GivenByPoints l.place.basis.now.office.now l.place.owners.now l.place.stretches.now.account l.place.meter l.place.register (windows_rest l.pair-iterator) more → GivenByPoints l.place.basis.now.office.now l.place.owners.now l.place.stretches.now.account l.place.meter l.place.register l.points (given ++ more));
 }
