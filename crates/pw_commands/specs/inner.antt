@@ -4,3 +4,5 @@ pub mod Piping
 pub mod Busy
 -- Listed: why a list of uploads isn't read
 pub mod Listed
+-- Months: which page of a month words name
+pub mod Months

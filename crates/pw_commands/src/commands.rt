@@ -7,6 +7,7 @@ ghost use Rattle.pw_model.specs.Office.{AllOfOffice};
 ghost use Rattle.pw_read.specs.Run.{IsRun};
 ghost use Rattle.pw_report.specs.Pages.{IsPageOf};
 ghost use Rattle.pw_commands.specs.Loads.{Gives, Refused};
+ghost use Rattle.pw_commands.specs.inner.Months.{IsMonthOf, IsNoMonth};
 ghost use Rattle.pw_time.specs.declared.zone.Clock.{Clock};
 ghost use Rattle.pw_words.specs.Words.{IsLimit, IsRefusal, IsSound};
 ghost use Rattle.pw_words.specs.declared.commands.Command.TheVariants.{Read};
@@ -27,7 +28,7 @@ use pw_http::{Audience, Origin};
 use pw_model::{Entry, MOST_RECORDS};
 use pw_read::read_run;
 use pw_record::{UploadBytes, UploadFault, UploadKind, upload_records};
-use pw_report::{Page, page_text};
+use pw_report::{MonthPage, Page, month_of, page_text};
 use pw_store::{SqlShelf, Watch};
 use pw_tariff::Office;
 use pw_time::Zone;
@@ -149,6 +150,25 @@ fn obey<I: Read, O: Write, E: Write, W: Follow>(
                 err,
             )
         }
+        Command::Month {
+            what,
+            office,
+            store,
+            account,
+            month,
+        } => {
+            let asked = MonthAsked {
+                what,
+                account,
+                month,
+            };
+            finish(
+                rt.alloc(),
+                month_page_of(rt, office, store, asked, watch),
+                out,
+                err,
+            )
+        }
         Command::Export {
             office,
             store,
@@ -254,6 +274,42 @@ fn statement_of<W: Watch>(
         return Err(Fault::NoSuchAccount);
     };
     page_from(rt, store, office, &text, Page::Statement(account), watch)
+}
+
+// A page of an account for a month, by the words that name them.
+#[derive(Clone, Copy)]
+struct MonthAsked<'a> {
+    what: MonthPage,
+    account: &'a str,
+    month: &'a str,
+}
+
+fn month_page_of<W: Watch>(
+    rt: &HostRuntime,
+    office: &str,
+    store: &str,
+    asked: MonthAsked<'_>,
+    watch: &mut W,
+) -> Result<Vec<u8>, Fault> {
+    let text = read_file(rt, office, LONGEST_OFFICE)?;
+    let office = Office::read(rt.alloc(), text.as_slice())?;
+    let page = month_page(&office, asked)?;
+    page_from(rt, store, office, &text, page, watch)
+}
+
+// The page of an account for a month. The account is looked at first.
+fn month_page(office: &Office, asked: MonthAsked<'_>) -> Result<Page, Fault>
+    ensures page { IfOk result (IsPageOf office.now) }
+    ensures known { IfOk result (IsMonthOf office.now asked.entry.what asked.entry.account.now asked.entry.month.now) }
+    ensures refused { IfErr result (IsNoMonth office.now asked.entry.account.now asked.entry.month.now) }
+{
+    let Some(account) = office.account(asked.account.as_bytes()) else {
+        return Err(Fault::NoSuchAccount);
+    };
+    let Some(month) = month_of(asked.month.as_bytes()) else {
+        return Err(Fault::NoSuchMonth);
+    };
+    Ok(Page::Month(asked.what, account, month))
 }
 
 fn export<W: Watch>(

@@ -25,6 +25,8 @@ pub enum Fault {
     List { line: u32 },
     /// The office has no account with the name.
     NoSuchAccount,
+    /// No month has the text.
+    NoSuchMonth,
     /// The office has no meter with the id.
     NoSuchMeter,
     /// No store is at the path, and the command makes none.
@@ -61,6 +63,7 @@ impl Fault {
             | Fault::TooLarge
             | Fault::List { .. }
             | Fault::NoSuchAccount
+            | Fault::NoSuchMonth
             | Fault::NoSuchMeter
             | Fault::NoSuchStore => 1,
             Fault::Store(_)
@@ -88,6 +91,7 @@ impl fmt::Display for Fault {
             Fault::Upload(fault) => write!(f, "{fault}"),
             Fault::List { line } => write!(f, "line {line} of the list names no upload"),
             Fault::NoSuchAccount => write!(f, "no such account"),
+            Fault::NoSuchMonth => write!(f, "no such month"),
             Fault::NoSuchMeter => write!(f, "no such meter"),
             Fault::NoSuchStore => write!(f, "no such store"),
             Fault::Store(fault) => write!(f, "{fault}"),

@@ -29,6 +29,7 @@ pub fn name_unreadable<E: Write>(rt: &HostRuntime, words: &[&str], err: &mut E) 
             name_store(rt, store, err);
         }
         Command::Statement { office, store, .. }
+        | Command::Month { office, store, .. }
         | Command::Export { office, store, .. }
         | Command::Serve { office, store, .. } => {
             name_file(rt, office, err);

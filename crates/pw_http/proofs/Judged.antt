@@ -19,6 +19,8 @@ use Rattle.pw_book.specs.declared.fault.PostFault.{PostFault}
 use Rattle.pw_book.specs.declared.fault.PostFault.TheVariants as post
 use Rattle.pw_book.proofs.Order.{AreOne, leaves-after}
 use Rattle.pw_record.proofs.OneOutcome.{one-outcome}
+use Rattle.pw_tariff.specs.declared.ids.AccountId.{AccountId}
+use Rattle.pw_report.specs.declared.page.MonthPage.{MonthPage}
 use Rattle.pw_report.specs.declared.page.Page.{Page}
 use Rattle.pw_report.specs.declared.page.Page.TheVariants as page
 use Rattle.pw_http.specs.declared.replies.Status.{Status}
@@ -29,9 +31,9 @@ use Rattle.pw_http.specs.declared.routes.Route.TheVariants as route
 use Rattle.pw_http.specs.Headline.{AnswersFairly, IsJudged, if_fine, sent_by}
 use Rattle.pw_http.specs.Replies.{Reply}
 use Rattle.pw_http.specs.Requests.{Asked, Whole, Faulty}
-use Rattle.pw_http.specs.Routes.{account_in, exported_meter_in, meter_in, place_of}
+use Rattle.pw_http.specs.Routes.{account_in, exported_meter_in, meter_in, month_in, place_of}
 use Rattle.pw_http.specs.Runs.{Asking, Step, asking_of}
-use Rattle.pw_http.specs.Steps.{Answers, AnswersAt, ArePosted, IsTaken, Shows, ShowsAccount, ShowsMeter, Takes, held, posted_reply, refused_status, upload_at, upload_of, upload_reply}
+use Rattle.pw_http.specs.Steps.{Answers, AnswersAt, ArePosted, IsTaken, Shows, ShowsAccount, ShowsMeter, ShowsMonth, ShowsMonthOf, Takes, held, posted_reply, refused_status, upload_at, upload_of, upload_reply}
 
 -- ---- want of memory
 memory-or-not : (c : Cause) → (c ≡ cause.Memory) ⊎ (refused_status c ≡ BadRequest)
@@ -265,6 +267,14 @@ module _ {S : Type 0} (shelf : Ghosts S) where
   account-comes name a reply b (inl x) = nothing-comes a reply b x.1.1
   account-comes name a reply b (inr x) = shows-comes (page.Statement x.0) a reply b x.2
 
+  month-of-comes : (what : MonthPage) (account : AccountId) (text : List ℕ) (a : Book S shelf) (reply : Reply) (b : Book S shelf) → ShowsMonthOf shelf what account text a reply b → Comes a None reply b
+  month-of-comes what account text a reply b (inl x) = nothing-comes a reply b x.1.1
+  month-of-comes what account text a reply b (inr x) = shows-comes (page.Month what account x.0) a reply b x.2
+
+  month-comes : (what : MonthPage) (name text : List ℕ) (a : Book S shelf) (reply : Reply) (b : Book S shelf) → ShowsMonth shelf what name text a reply b → Comes a None reply b
+  month-comes what name text a reply b (inl x) = nothing-comes a reply b x.1.1
+  month-comes what name text a reply b (inr x) = month-of-comes what x.0 text a reply b x.2
+
   meter-comes : (id : List ℕ) (a : Book S shelf) (reply : Reply) (b : Book S shelf) → ShowsMeter shelf id a reply b → Comes a None reply b
   meter-comes id a reply b (inl x) = nothing-comes a reply b x.1.1
   meter-comes id a reply b (inr x) = shows-comes (page.MeterReadings x.0) a reply b x.2
@@ -279,6 +289,7 @@ module _ {S : Type 0} (shelf : Ghosts S) where
   answer-comes (At route.TopUps) target body a reply b x = takes-comes (TopUps body) a reply b x
   answer-comes (At route.Withdrawals) target body a reply b x = takes-comes (Withdrawals body) a reply b x
   answer-comes (At route.Account) target body a reply b x = account-comes (account_in target) a reply b x
+  answer-comes (At (route.Month what)) target body a reply b x = month-comes what (account_in target) (month_in target) a reply b x
   answer-comes (At route.MeterReadings) target body a reply b x = meter-comes (exported_meter_in target) a reply b x
   answer-comes (At (route.Table table)) target body a reply b x = shows-comes (page.Table table) a reply b x
 

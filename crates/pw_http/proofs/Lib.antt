@@ -3,6 +3,7 @@ pub mod Exchanges
 pub mod FirstAnswers
 pub mod HeadLemmas
 pub mod Headlines
+pub mod Inserts
 pub mod Judged
 pub mod KnownLemmas
 pub mod ManyTalks
@@ -10,6 +11,7 @@ pub mod Numbers
 pub mod Paths
 pub mod Readings
 pub mod Shown
+pub mod Slashes
 pub mod Streaming
 pub mod Talks
 pub mod Turns

@@ -1,15 +1,16 @@
 -- The routes: what stands where, and by which method. A word in braces stands for one byte or more without `/`.
 -- (Definitions of this project, over the routes of `matchit`.)
-use Rattle.std.specs.Prelude.{true, false, ℕ, Bool, ◌-◌, Option, Some, None, List, [], length, take, drop, codes, bytes_eq, option_map, Result, Ok, Err, if◌then◌else◌}
+use Rattle.std.specs.Prelude.{true, false, ℕ, Bool, ◌-◌, ◌==◌, cond, Option, Some, None, List, [], ◌∷◌, length, take, drop, codes, bytes_eq, option_map, Result, Ok, Err, if◌then◌else◌}
 use Rattle.std.specs.Str.{is_utf8}
 use Rattle.matchit.specs.Rows.{RowsOf}
 use Rattle.matchit.specs.Order.{placed}
-use Rattle.matchit.specs.Seek.{first}
+use Rattle.matchit.specs.Seek.{first, slash}
 use Rattle.matchit.specs.Route.{Scan, parse_route}
 use Rattle.matchit.specs.Router.{RouteOf, route_from}
 use Rattle.matchit.specs.declared.error.InsertError.{InsertError}
 use Rattle.pw_http.specs.declared.routes.Route.{Route}
-use Rattle.pw_http.specs.declared.routes.Route.TheVariants.{Telegrams, Readouts, Assignments, TopUps, Withdrawals, Account, MeterReadings, Table}
+use Rattle.pw_http.specs.declared.routes.Route.TheVariants.{Telegrams, Readouts, Assignments, TopUps, Withdrawals, Account, Month, MeterReadings, Table}
+use Rattle.pw_report.specs.declared.page.MonthPage.TheVariants as month
 use Rattle.pw_report.specs.declared.page.Table.TheVariants as table
 use Rattle.pw_http.specs.declared.routes.Place.{Place}
 use Rattle.pw_http.specs.declared.routes.Place.TheVariants.{NoPage, NoMethod, At}
@@ -22,6 +23,7 @@ method_name Assignments = codes "POST"
 method_name TopUps = codes "POST"
 method_name Withdrawals = codes "POST"
 method_name Account = codes "GET"
+method_name (Month page) = codes "GET"
 method_name MeterReadings = codes "GET"
 method_name (Table table) = codes "GET"
 
@@ -41,6 +43,9 @@ route_text (Table table.Assignments) = codes "/export/assignments"
 route_text (Table table.TopUps) = codes "/export/topups"
 route_text (Table table.Withdrawals) = codes "/export/withdrawals"
 route_text MeterReadings = codes "/export/readings/{meter}"
+route_text (Month month.Bill) = codes "/accounts/{account}/{month}"
+route_text (Month month.Days) = codes "/accounts/{account}/{month}/days"
+route_text (Month month.Why) = codes "/accounts/{account}/{month}/why"
 
 -- ---- as `matchit` keeps it
 -- the rows with one more route, where its text reads as a route
@@ -53,9 +58,10 @@ added rows route = added_read (parse_route (route_text route)) route rows
 
 unfoldable pub route_table : RowsOf (RouteOf Route)
 route_table =
-    added (added (added (added (added (added (added (added (added (added (added (added (added (added (added [] Telegrams) Readouts) Assignments)
-    TopUps) Withdrawals) (Table table.Accounts)) (Table table.Falls)) (Table table.Disputes)) Account) (Table table.Readings)) (Table
-    table.Energies)) (Table table.Assignments)) (Table table.TopUps)) (Table table.Withdrawals)) MeterReadings
+    added (added (added (added (added (added (added (added (added (added (added (added (added (added (added (added (added (added [] Telegrams)
+    Readouts) Assignments) TopUps) Withdrawals) (Table table.Accounts)) (Table table.Falls)) (Table table.Disputes)) Account) (Table
+    table.Readings)) (Table table.Energies)) (Table table.Assignments)) (Table table.TopUps)) (Table table.Withdrawals)) MeterReadings)
+    (Month month.Bill)) (Month month.Days)) (Month month.Why)
 
 abbrev pub row_value : RouteOf Route → Route
 row_value r = r.value
@@ -74,7 +80,7 @@ abbrev pub place_of : List ℕ → List ℕ → Place
 place_of method target = if is_utf8 target then by_method method (route_at target) else NoPage
 
 -- ---- the length of a page
--- a page that grows with the records, or with the meters
+-- a page that grows with the records, or with the meters of the office
 abbrev pub may_be_large : Route → Bool
 may_be_large Telegrams = false
 may_be_large Readouts = false
@@ -82,6 +88,9 @@ may_be_large Assignments = false
 may_be_large TopUps = false
 may_be_large Withdrawals = false
 may_be_large Account = false
+may_be_large (Month month.Bill) = false
+may_be_large (Month month.Days) = false
+may_be_large (Month month.Why) = true
 may_be_large MeterReadings = true
 may_be_large (Table table.Accounts) = false
 may_be_large (Table table.Falls) = true
@@ -92,10 +101,24 @@ may_be_large (Table table.Assignments) = true
 may_be_large (Table table.TopUps) = true
 may_be_large (Table table.Withdrawals) = true
 
--- ---- the word in braces
--- what stands in a target behind `/accounts/`
+-- ---- the words in braces
+-- up to and without the first slash, or all
+abbrev pub up_to_slash : List ℕ → List ℕ
+up_to_slash [] = []
+up_to_slash (b ∷ rest) = cond (b == slash) [] (b ∷ up_to_slash rest)
+
+-- behind the first slash, or nothing
+abbrev pub behind_slash : List ℕ → List ℕ
+behind_slash [] = []
+behind_slash (b ∷ rest) = cond (b == slash) rest (behind_slash rest)
+
+-- what stands in a target behind `/accounts/`, up to the next slash
 abbrev pub account_in : List ℕ → List ℕ
-account_in target = drop (length (codes "/accounts/")) target
+account_in target = up_to_slash (drop (length (codes "/accounts/")) target)
+
+-- what stands behind that slash, up to the next one
+abbrev pub month_in : List ℕ → List ℕ
+month_in target = up_to_slash (behind_slash (drop (length (codes "/accounts/")) target))
 
 -- what stands in a target behind `/export/readings/`
 abbrev pub exported_meter_in : List ℕ → List ℕ

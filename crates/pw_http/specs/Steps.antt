@@ -20,9 +20,13 @@ use Rattle.pw_book.specs.declared.book.Book.{Book}
 use Rattle.pw_book.specs.declared.fault.BookFault.{BookFault}
 use Rattle.pw_book.specs.declared.fault.PostFault.{PostFault}
 use Rattle.pw_book.specs.declared.fault.PostFault.TheVariants as post
+use Rattle.pw_report.specs.declared.months.Month.{Month}
+use Rattle.pw_report.specs.declared.page.MonthPage.{MonthPage}
+use Rattle.pw_report.specs.declared.page.MonthPage.TheVariants as month
 use Rattle.pw_report.specs.declared.page.Page.{Page}
 use Rattle.pw_report.specs.declared.page.Page.TheVariants as page
 use Rattle.pw_report.specs.declared.page.Table.TheVariants as table
+use Rattle.pw_report.specs.Months.{IsMonthText}
 use Rattle.pw_report.specs.Pages.{IsAnswer}
 use Rattle.pw_report.specs.Reports.{IsReport}
 use Rattle.pw_http.specs.declared.replies.ContentType.{ContentType}
@@ -33,7 +37,7 @@ use Rattle.pw_http.specs.declared.routes.Route.TheVariants as route
 use Rattle.pw_http.specs.declared.routes.Place.{Place}
 use Rattle.pw_http.specs.declared.routes.Place.TheVariants.{NoPage, NoMethod, At}
 use Rattle.pw_http.specs.Replies.{Reply}
-use Rattle.pw_http.specs.Routes.{account_in, exported_meter_in, meter_in, place_of}
+use Rattle.pw_http.specs.Routes.{account_in, exported_meter_in, meter_in, month_in, place_of}
 use Rattle.pw_http.specs.Runs.{Asking}
 
 -- ---- replies
@@ -59,9 +63,12 @@ abbrev pub upload_reply : Outcome → Reply
 upload_reply (Refused fault) = line_reply (refused_status fault.cause) (fault_line fault)
 upload_reply (Posted answer) = posted_reply answer
 
--- exports are CSV
+-- exports are CSV, and so are the days of a month, and why
 abbrev pub page_content : Page → ContentType
 page_content (page.Statement account) = Plain
+page_content (page.Month month.Bill account of_month) = Plain
+page_content (page.Month month.Days account of_month) = Csv
+page_content (page.Month month.Why account of_month) = Csv
 page_content (page.MeterReadings meter) = Csv
 page_content (page.Table table.Accounts) = Plain
 page_content (page.Table table.Falls) = Plain
@@ -142,6 +149,18 @@ module _ {S : Type 0} (shelf : Ghosts S) where
       (((a : ℕ) → slice_get old.office.accounts a ≢ Some name) × Says NotFound (codes "no such account") old reply new)
       ⊎ ((a : AccountId) × (slice_get old.office.accounts a.0 ≡ Some name) × Shows (page.Statement a) old reply new)
 
+  -- a page of an account for the month of a text, if it is one
+  abbrev pub ShowsMonthOf : MonthPage → AccountId → List ℕ → Book S shelf → Reply → Book S shelf → Type 0
+  ShowsMonthOf what a text old reply new =
+      (((m : Month) → IsMonthText text m → ⊥) × Says NotFound (codes "no such month") old reply new)
+      ⊎ ((m : Month) × IsMonthText text m × Shows (page.Month what a m) old reply new)
+
+  -- of the account of a name, if the office has one: the account is looked at first
+  abbrev pub ShowsMonth : MonthPage → List ℕ → List ℕ → Book S shelf → Reply → Book S shelf → Type 0
+  ShowsMonth what name text old reply new =
+      (((a : ℕ) → slice_get old.office.accounts a ≢ Some name) × Says NotFound (codes "no such account") old reply new)
+      ⊎ ((a : AccountId) × (slice_get old.office.accounts a.0 ≡ Some name) × ShowsMonthOf what a text old reply new)
+
   -- the readings of the meter of an id, if the office has one
   abbrev pub ShowsMeter : List ℕ → Book S shelf → Reply → Book S shelf → Type 0
   ShowsMeter id old reply new =
@@ -158,6 +177,7 @@ module _ {S : Type 0} (shelf : Ghosts S) where
   AnswersAt (At route.TopUps) target body = Takes (TopUps body)
   AnswersAt (At route.Withdrawals) target body = Takes (Withdrawals body)
   AnswersAt (At route.Account) target body = ShowsAccount (account_in target)
+  AnswersAt (At (route.Month what)) target body = ShowsMonth what (account_in target) (month_in target)
   AnswersAt (At route.MeterReadings) target body = ShowsMeter (exported_meter_in target)
   AnswersAt (At (route.Table table)) target body = Shows (page.Table table)
 

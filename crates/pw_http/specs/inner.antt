@@ -1,3 +1,4 @@
+pub mod Added
 pub mod Received
 pub mod Fields
 pub mod Turns

@@ -5,17 +5,18 @@ ghost use Rattle.std.specs.Prelude.{◌≡◌, ◌<◌, ◌≤◌, length};
 ghost use Rattle.pw_book.specs.After.{Refused};
 ghost use Rattle.pw_record.specs.Laws.{upload_with};
 ghost use Rattle.pw_report.specs.Pages.{IsPageOf};
-ghost use Rattle.pw_http.specs.Steps.{AnswersAt, Shows, ShowsAccount, ShowsMeter, Takes, line_reply, page_content, posted_reply, posted_status as status_posted, refused_status as status_refused, upload_reply};
+ghost use Rattle.pw_http.specs.Steps.{AnswersAt, Shows, ShowsAccount, ShowsMeter, ShowsMonth, ShowsMonthOf, Takes, line_reply, page_content, posted_reply, posted_status as status_posted, refused_status as status_refused, upload_reply};
 ghost use Rattle.pw_http.specs.declared.routes.Place.TheVariants.{At};
 ghost use Rattle.pw_http.specs.inner.Answered.{body_text, reply_of};
 
 use crate::replies::{ContentType, Status};
-use crate::routes::{Route, account_in, exported_meter_in, meter_in};
+use crate::routes::{Route, account_in, exported_meter_in, meter_in, month_in};
 use pw_book::{Accepted, Book, PostFault};
 use pw_line::{Line, ROOM, ended, line_of};
 use pw_record::{Cause, UploadBytes, UploadFault, UploadKind, upload_records};
-use pw_report::{Page, Table, page_text};
+use pw_report::{MonthPage, Page, Table, month_of, page_text};
 use pw_shelf::Shelf;
+use pw_tariff::AccountId;
 use std::alloc::Global;
 
 /// The body of an answer. Only a page takes memory.
@@ -115,7 +116,9 @@ fn content_of(page: Page) -> ContentType
     ensures { result ≡ page_content page }
 {
     match page {
-        Page::MeterReadings(_) => ContentType::Csv,
+        Page::Month(MonthPage::Days | MonthPage::Why, _, _) | Page::MeterReadings(_) => {
+            ContentType::Csv
+        }
         Page::Table(
             Table::Readings
             | Table::Energies
@@ -123,7 +126,9 @@ fn content_of(page: Page) -> ContentType
             | Table::TopUps
             | Table::Withdrawals,
         ) => ContentType::Csv,
-        Page::Statement(_) | Page::Table(_) => ContentType::Plain,
+        Page::Statement(_) | Page::Month(MonthPage::Bill, _, _) | Page::Table(_) => {
+            ContentType::Plain
+        }
     }
 }
 
@@ -149,6 +154,39 @@ fn show_account<S: Shelf>(book: &mut Book<S>, alloc: Global, name: &[u8]) -> Ans
     match book.office().account(name) {
         Some(account) => show(book, alloc, Page::Statement(account)),
         None => said(Status::NotFound, "no such account"),
+    }
+}
+
+/// Asks for a page of the account of a name for the month of a text. The account is looked at first.
+fn show_month<S: Shelf>(
+    book: &mut Book<S>,
+    alloc: Global,
+    what: MonthPage,
+    name: &[u8],
+    text: &[u8],
+) -> Answer
+    ensures { ShowsMonth S.Shelf what name.now text.now book.old (reply_of result) book.new }
+{
+    let Some(account) = book.office().account(name) else {
+        return said(Status::NotFound, "no such account");
+    };
+    show_month_of(book, alloc, what, account, text)
+}
+
+/// Asks for a page of an account for the month of a text.
+fn show_month_of<S: Shelf>(
+    book: &mut Book<S>,
+    alloc: Global,
+    what: MonthPage,
+    account: AccountId,
+    text: &[u8],
+) -> Answer
+    requires { account.0 < length book.old.office.accounts }
+    ensures { ShowsMonthOf S.Shelf what account text.now book.old (reply_of result) book.new }
+{
+    match month_of(text) {
+        Some(month) => show(book, alloc, Page::Month(what, account, month)),
+        None => said(Status::NotFound, "no such month"),
     }
 }
 
@@ -179,6 +217,10 @@ pub(crate) fn answer_at<S: Shelf>(
         Route::TopUps => take(book, alloc, UploadKind::TopUps, body),
         Route::Withdrawals => take(book, alloc, UploadKind::Withdrawals, body),
         Route::Account => show_account(book, alloc, account_in(target)),
+        Route::Month(what) => {
+            let (name, text) = (account_in(target), month_in(target));
+            show_month(book, alloc, what, name, text)
+        }
         Route::MeterReadings => show_meter(book, alloc, exported_meter_in(target)),
         Route::Table(table) => show(book, alloc, Page::Table(table)),
     }

@@ -1,11 +1,13 @@
 //! The routes.
 
-ghost use Rattle.std.specs.Prelude.{◌≡◌, IfOk, drop};
-ghost use Rattle.pw_http.specs.Routes.{account_in as account_of, by_method, exported_meter_in as exported_meter_of, may_be_large as is_large, meter_in as meter_of, method_name, place_of, route_at, route_table};
+ghost use Rattle.std.specs.Prelude.{◌≡◌, ◌==◌, ◌≤◌, IfOk, drop, length};
+ghost use Rattle.std.specs.List.{position_or_len};
+ghost use Rattle.pw_http.specs.Routes.{account_in as account_of, behind_slash as behind_first, by_method, exported_meter_in as exported_meter_of, may_be_large as is_large, meter_in as meter_of, method_name, month_in as month_of, place_of, route_at, route_table, up_to_slash as up_to_first};
+ghost use Rattle.pw_http.specs.inner.Added.{all_added, exports, months, pages, uploads};
 ghost use Rattle.pw_http.specs.inner.Large.{is_large_at as is_place_large};
 
 use matchit::{InsertError, Router};
-use pw_report::Table;
+use pw_report::{MonthPage, Table};
 use std::alloc::Global;
 use std::str::from_utf8;
 
@@ -24,6 +26,8 @@ pub enum Route {
     Withdrawals,
     /// An account's statement.
     Account,
+    /// A page of an account for a month.
+    Month(MonthPage),
     /// The readings of a meter.
     MeterReadings,
     /// A table of the book.
@@ -31,7 +35,8 @@ pub enum Route {
 }
 
 impl Route {
-    /// Whether its page grows with the records, or with the meters. Replies that may be large are made one at a time.
+    /// Whether its page grows with the records, or with the meters of the office. (A bill grows with those of its account
+    /// alone.) Replies that may be large are made one at a time.
     pub fn may_be_large(self) -> bool
         ensures { result ≡ is_large self }
     {
@@ -42,8 +47,9 @@ impl Route {
             | Route::TopUps
             | Route::Withdrawals
             | Route::Account
+            | Route::Month(MonthPage::Bill | MonthPage::Days)
             | Route::Table(Table::Accounts) => false,
-            Route::MeterReadings | Route::Table(_) => true,
+            Route::Month(MonthPage::Why) | Route::MeterReadings | Route::Table(_) => true,
         }
     }
 }
@@ -66,9 +72,9 @@ pub struct Routes {
 }
 
 impl Routes {
-    /// The fifteen routes. It takes all the memory that they need.
+    /// The eighteen routes. It takes all the memory that they need.
     pub fn new(alloc: Global) -> Result<Routes, InsertError> {
-        let router = fifteen_routes(alloc)?;
+        let router = eighteen_routes(alloc)?;
         Ok(Routes { router })
     }
 
@@ -83,27 +89,62 @@ impl Routes {
     }
 }
 
-/// The router of the fifteen routes.
-fn fifteen_routes(alloc: Global) -> Result<Router<Route>, InsertError>
+/// The router of the eighteen routes.
+fn eighteen_routes(alloc: Global) -> Result<Router<Route>, InsertError>
     ensures { IfOk result (λ router. router ≡ route_table) }
 {
     let mut router = Router::new(alloc);
+    add_uploads(&mut router)?;
+    add_pages(&mut router)?;
+    add_exports(&mut router)?;
+    add_months(&mut router)?;
+    Ok(router)
+}
+
+// Where uploads are sent.
+fn add_uploads(router: &mut Router<Route>) -> Result<(), InsertError>
+    ensures { IfOk result (λ done. router.new ≡ all_added router.old uploads) }
+{
     router.insert("/telegrams", Route::Telegrams)?;
     router.insert("/meters/{meter}/readouts", Route::Readouts)?;
     router.insert("/assignments", Route::Assignments)?;
     router.insert("/topups", Route::TopUps)?;
     router.insert("/withdrawals", Route::Withdrawals)?;
+    Ok(())
+}
+
+// The lists, and an account's statement.
+fn add_pages(router: &mut Router<Route>) -> Result<(), InsertError>
+    ensures { IfOk result (λ done. router.new ≡ all_added router.old pages) }
+{
     router.insert("/accounts", Route::Table(Table::Accounts))?;
     router.insert("/falls", Route::Table(Table::Falls))?;
     router.insert("/disputes", Route::Table(Table::Disputes))?;
     router.insert("/accounts/{account}", Route::Account)?;
+    Ok(())
+}
+
+// The exports.
+fn add_exports(router: &mut Router<Route>) -> Result<(), InsertError>
+    ensures { IfOk result (λ done. router.new ≡ all_added router.old exports) }
+{
     router.insert("/export/readings", Route::Table(Table::Readings))?;
     router.insert("/export/energy", Route::Table(Table::Energies))?;
     router.insert("/export/assignments", Route::Table(Table::Assignments))?;
     router.insert("/export/topups", Route::Table(Table::TopUps))?;
     router.insert("/export/withdrawals", Route::Table(Table::Withdrawals))?;
     router.insert("/export/readings/{meter}", Route::MeterReadings)?;
-    Ok(router)
+    Ok(())
+}
+
+// The pages of an account's month.
+fn add_months(router: &mut Router<Route>) -> Result<(), InsertError>
+    ensures { IfOk result (λ done. router.new ≡ all_added router.old months) }
+{
+    router.insert("/accounts/{account}/{month}", Route::Month(MonthPage::Bill))?;
+    router.insert("/accounts/{account}/{month}/days", Route::Month(MonthPage::Days))?;
+    router.insert("/accounts/{account}/{month}/why", Route::Month(MonthPage::Why))?;
+    Ok(())
 }
 
 fn route_of(router: &Router<Route>, path: &str) -> Option<Route>
@@ -141,7 +182,7 @@ fn method_of(route: Route) -> &'static [u8]
         | Route::Assignments
         | Route::TopUps
         | Route::Withdrawals => b"POST",
-        Route::Account | Route::MeterReadings | Route::Table(_) => b"GET",
+        Route::Account | Route::Month(_) | Route::MeterReadings | Route::Table(_) => b"GET",
     }
 }
 
@@ -155,11 +196,18 @@ pub(crate) fn is_large_at(place: Place) -> bool
     }
 }
 
-/// What a target of an account names.
+/// The account that a target of it, or of a month of it, names.
 pub(crate) fn account_in(target: &[u8]) -> &[u8]
     ensures { result.now ≡ account_of target.now }
 {
-    behind(target, b"/accounts/".len())
+    up_to_slash(behind(target, b"/accounts/".len()))
+}
+
+/// What a target of an account's month names behind the account.
+pub(crate) fn month_in(target: &[u8]) -> &[u8]
+    ensures { result.now ≡ month_of target.now }
+{
+    up_to_slash(behind_slash(behind(target, b"/accounts/".len())))
 }
 
 /// What a target of a meter's readouts names.
@@ -182,4 +230,31 @@ fn behind(text: &[u8], n: usize) -> &[u8]
     ensures { result.now ≡ drop n text.now }
 {
     if n < text.len() { &text[n..] } else { b"" }
+}
+
+// What stands before the first slash, or all.
+fn up_to_slash(text: &[u8]) -> &[u8]
+    ensures { result.now ≡ up_to_first text.now }
+{
+    &text[..before_slash(text)]
+}
+
+// What stands behind the first slash, or nothing.
+fn behind_slash(text: &[u8]) -> &[u8]
+    ensures { result.now ≡ behind_first text.now }
+{
+    behind(text, before_slash(text) + 1)
+}
+
+// How many bytes stand before the first slash.
+fn before_slash(text: &[u8]) -> usize
+    ensures place { result ≡ position_or_len (λ b. b == 47) text.now }
+    ensures within { result ≤ length text.now }
+{
+    for (place, byte) in text.iter().enumerate() {
+        if *byte == b'/' {
+            return place;
+        }
+    }
+    text.len()
 }

@@ -77,7 +77,7 @@ fn takes_uploads(place: Place) -> bool {
             | Route::Assignments
             | Route::TopUps
             | Route::Withdrawals => true,
-            Route::Account | Route::MeterReadings | Route::Table(_) => false,
+            Route::Account | Route::Month(_) | Route::MeterReadings | Route::Table(_) => false,
         },
     }
 }

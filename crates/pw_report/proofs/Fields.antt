@@ -45,6 +45,11 @@ pub four-more : (fields : List (List ℕ)) (a b c d : List ℕ) → (((fields ++
 four-more [] a b c d = refl
 four-more (field ∷ fields) a b c d = ap (λ (xs : List (List ℕ)). field ∷ xs) (four-more fields a b c d)
 
+pub six-more : (fields : List (List ℕ)) (a b c d e f : List ℕ) →
+    (((((fields ++ (a ∷ [])) ++ (b ∷ [])) ++ (c ∷ [])) ++ (d ∷ [])) ++ (e ∷ [])) ++ (f ∷ []) ≡ fields ++ (a ∷ b ∷ c ∷ d ∷ e ∷ f ∷ [])
+six-more [] a b c d e f = refl
+six-more (field ∷ fields) a b c d e f = ap (λ (xs : List (List ℕ)). field ∷ xs) (six-more fields a b c d e f)
+
 -- ---- texts of the members of a list, one more
 pub each-next : {X : Type 0} (f : X → List ℕ) (before : List ℕ) (xs : List X) (i : ℕ) (x : X) → i < length xs → x ≡ get_or xs i x →
     (before ++ flat_map f (take i xs)) ++ f x ≡ before ++ flat_map f (take (i + 1) xs)

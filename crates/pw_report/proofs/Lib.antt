@@ -5,6 +5,12 @@ pub mod Lines
 pub mod Meters
 pub mod Listed
 pub mod Parts
+pub mod Periods
+pub mod MonthNames
+pub mod MonthDays
+pub mod MonthTexts
+pub mod BillCents
+pub mod BillParts
 pub mod Sums
 pub mod Held
 pub mod Uploading

@@ -14,11 +14,11 @@ use Rattle.pw_model.proofs.Answers.{lists-are_at_most_one, order_counts_nothing}
 use Rattle.pw_model.proofs.Existence.{lists-exist}
 use Rattle.pw_record.specs.declared.row.RowKind.TheVariants as row
 use Rattle.pw_report.specs.declared.page.Page.{Page}
-use Rattle.pw_report.specs.declared.page.Page.TheVariants.{Statement, MeterReadings, Table}
+use Rattle.pw_report.specs.declared.page.Page.TheVariants.{Statement, Month, MeterReadings, Table}
 use Rattle.pw_report.specs.declared.page.Table.TheVariants.{Accounts, Falls, Disputes, Readings, Energies, Assignments, TopUps, Withdrawals}
 use Rattle.pw_report.specs.Amounts.{balance_text, euro_text}
 use Rattle.pw_report.specs.Exports.{EnergyRow, csv_line, energies_header, energies_text, energy_cost, energy_row_line, energy_rows, one_meter_text, owner_rows, readings_text, records_text}
-use Rattle.pw_report.specs.Laws.{EachPageHasOneText}
+use Rattle.pw_report.specs.Laws.{EachPageHasOneText, IsOfNoMonth}
 use Rattle.pw_report.specs.Layout.{listed_below}
 use Rattle.pw_report.specs.Names.{account_name, band_name}
 use Rattle.pw_report.specs.Pages.{IsAnswer}
@@ -26,30 +26,32 @@ use Rattle.pw_report.proofs.Held.{assignment-known, held-one, held-there_is, top
 use Rattle.pw_report.specs.Tables.{account_line, accounts_text, band_line, disputes_text, falls_text, statement_text}
 
 -- ---- one
-exists : (page : Page) (file : OfficeFile) (s : List Entry) → (text : List ℕ) × IsAnswer page file s text
-exists (Statement a) file s = (statement_text file s a.0, refl)
-exists (MeterReadings m) file s = let l = (lists-exist s).readings m.0 in (one_meter_text file m.0 (λ r. (l r).0), ((λ r. (l r).0), (λ r. (l r).1), refl))
-exists (Table Accounts) file s = (accounts_text file s, refl)
-exists (Table Falls) file s = let l = (lists-exist s).falls in (falls_text file l.0, (l.0, l.1, refl))
-exists (Table Disputes) file s = let l = (lists-exist s).disputes in (disputes_text file l.0, (l.0, l.1, refl))
-exists (Table Readings) file s = (readings_text file (λ m r. ((lists-exist s).readings m r).0), ((λ m r. ((lists-exist s).readings m r).0), (λ m r. ((lists-exist s).readings m r).1), refl))
-exists (Table Energies) file s = (energies_text file s, refl)
-exists (Table Assignments) file s = let l = held-there_is IsAssignment assignment-known s in (records_text file row.Assignment l.0, (l.0, l.1, refl))
-exists (Table TopUps) file s = let l = held-there_is IsTopUp topup-known s in (records_text file row.TopUp l.0, (l.0, l.1, refl))
-exists (Table Withdrawals) file s = let l = held-there_is IsWithdrawal withdrawal-known s in (records_text file row.Withdrawal l.0, (l.0, l.1, refl))
+exists : (page : Page) (file : OfficeFile) (s : List Entry) → IsOfNoMonth page → (text : List ℕ) × IsAnswer page file s text
+exists (Statement a) file s k = (statement_text file s a.0, refl)
+exists (Month w x n) file s k = absurd k
+exists (MeterReadings m) file s k = let l = (lists-exist s).readings m.0 in (one_meter_text file m.0 (λ r. (l r).0), ((λ r. (l r).0), (λ r. (l r).1), refl))
+exists (Table Accounts) file s k = (accounts_text file s, refl)
+exists (Table Falls) file s k = let l = (lists-exist s).falls in (falls_text file l.0, (l.0, l.1, refl))
+exists (Table Disputes) file s k = let l = (lists-exist s).disputes in (disputes_text file l.0, (l.0, l.1, refl))
+exists (Table Readings) file s k = (readings_text file (λ m r. ((lists-exist s).readings m r).0), ((λ m r. ((lists-exist s).readings m r).0), (λ m r. ((lists-exist s).readings m r).1), refl))
+exists (Table Energies) file s k = (energies_text file s, refl)
+exists (Table Assignments) file s k = let l = held-there_is IsAssignment assignment-known s in (records_text file row.Assignment l.0, (l.0, l.1, refl))
+exists (Table TopUps) file s k = let l = held-there_is IsTopUp topup-known s in (records_text file row.TopUp l.0, (l.0, l.1, refl))
+exists (Table Withdrawals) file s k = let l = held-there_is IsWithdrawal withdrawal-known s in (records_text file row.Withdrawal l.0, (l.0, l.1, refl))
 
 -- ---- and no other
-only : (page : Page) (file : OfficeFile) (s : List Entry) (a b : List ℕ) → IsAnswer page file s a → IsAnswer page file s b → a ≡ b
-only (Statement x) file s a b p q = p ∙ sym q
-only (MeterReadings m) file s a b p q = p.2 ∙ (λ i. one_meter_text file m.0 (λ r. (lists-are_at_most_one s).readings m.0 r _ _ (p.1 r) (q.1 r) i)) ∙ sym q.2
-only (Table Accounts) file s a b p q = p ∙ sym q
-only (Table Falls) file s a b p q = p.2 ∙ ap (falls_text file) ((lists-are_at_most_one s).falls _ _ p.1 q.1) ∙ sym q.2
-only (Table Disputes) file s a b p q = p.2 ∙ ap (disputes_text file) ((lists-are_at_most_one s).disputes _ _ p.1 q.1) ∙ sym q.2
-only (Table Readings) file s a b p q = p.2 ∙ (λ i. readings_text file (λ m r. (lists-are_at_most_one s).readings m r _ _ (p.1 m r) (q.1 m r) i)) ∙ sym q.2
-only (Table Energies) file s a b p q = p ∙ sym q
-only (Table Assignments) file s a b p q = p.2 ∙ ap (records_text file row.Assignment) (held-one IsAssignment s _ _ p.1 q.1) ∙ sym q.2
-only (Table TopUps) file s a b p q = p.2 ∙ ap (records_text file row.TopUp) (held-one IsTopUp s _ _ p.1 q.1) ∙ sym q.2
-only (Table Withdrawals) file s a b p q = p.2 ∙ ap (records_text file row.Withdrawal) (held-one IsWithdrawal s _ _ p.1 q.1) ∙ sym q.2
+only : (page : Page) (file : OfficeFile) (s : List Entry) (a b : List ℕ) → IsOfNoMonth page → IsAnswer page file s a → IsAnswer page file s b → a ≡ b
+only (Statement x) file s a b k p q = p ∙ sym q
+only (Month w x n) file s a b k p q = absurd k
+only (MeterReadings m) file s a b k p q = p.2 ∙ (λ i. one_meter_text file m.0 (λ r. (lists-are_at_most_one s).readings m.0 r _ _ (p.1 r) (q.1 r) i)) ∙ sym q.2
+only (Table Accounts) file s a b k p q = p ∙ sym q
+only (Table Falls) file s a b k p q = p.2 ∙ ap (falls_text file) ((lists-are_at_most_one s).falls _ _ p.1 q.1) ∙ sym q.2
+only (Table Disputes) file s a b k p q = p.2 ∙ ap (disputes_text file) ((lists-are_at_most_one s).disputes _ _ p.1 q.1) ∙ sym q.2
+only (Table Readings) file s a b k p q = p.2 ∙ (λ i. readings_text file (λ m r. (lists-are_at_most_one s).readings m r _ _ (p.1 m r) (q.1 m r) i)) ∙ sym q.2
+only (Table Energies) file s a b k p q = p ∙ sym q
+only (Table Assignments) file s a b k p q = p.2 ∙ ap (records_text file row.Assignment) (held-one IsAssignment s _ _ p.1 q.1) ∙ sym q.2
+only (Table TopUps) file s a b k p q = p.2 ∙ ap (records_text file row.TopUp) (held-one IsTopUp s _ _ p.1 q.1) ∙ sym q.2
+only (Table Withdrawals) file s a b k p q = p.2 ∙ ap (records_text file row.Withdrawal) (held-one IsWithdrawal s _ _ p.1 q.1) ∙ sym q.2
 
 -- ---- whatever the order of the records
 module _ (file : OfficeFile) (s t : List Entry) (h : HaveSameAnswers (office_of file) s t) where
@@ -73,35 +75,37 @@ module _ (file : OfficeFile) (s t : List Entry) (h : HaveSameAnswers (office_of 
       let rows = λ (o : Option AccountId). listed_below (length file.bands) (λ b. row o b Import ∷ row o b Export ∷ []) in
       csv_line energies_header ++ flat_map (energy_row_line file) (rows None ++ listed_below (length file.accounts) (λ a. rows (Some (account a))))
 
-there : (page : Page) (file : OfficeFile) (s t : List Entry) (text : List ℕ) → HaveSameAnswers (office_of file) s t → IsAnswer page file s text → IsAnswer page file t text
-there (Statement a) file s t text h p = p ∙ statement-same file s t h a.0
-there (MeterReadings n) file s t text h p = (p.0, (λ r. (h.readings n.0 r (p.0 r)).0 (p.1 r)), p.2)
-there (Table Accounts) file s t text h p = p ∙ accounts-same file s t h
-there (Table Falls) file s t text h p = (p.0, (h.falls p.0).0 p.1, p.2)
-there (Table Disputes) file s t text h p = (p.0, (h.disputes p.0).0 p.1, p.2)
-there (Table Readings) file s t text h p = (p.0, (λ n r. (h.readings n r (p.0 n r)).0 (p.1 n r)), p.2)
-there (Table Energies) file s t text h p = p ∙ energies-same file s t h
-there (Table Assignments) file s t text h p = (p.0, (h.assignments p.0).0 p.1, p.2)
-there (Table TopUps) file s t text h p = (p.0, (h.topups p.0).0 p.1, p.2)
-there (Table Withdrawals) file s t text h p = (p.0, (h.withdrawals p.0).0 p.1, p.2)
+there : (page : Page) (file : OfficeFile) (s t : List Entry) (text : List ℕ) → IsOfNoMonth page → HaveSameAnswers (office_of file) s t → IsAnswer page file s text → IsAnswer page file t text
+there (Statement a) file s t text k h p = p ∙ statement-same file s t h a.0
+there (Month w x n) file s t text k h p = absurd k
+there (MeterReadings n) file s t text k h p = (p.0, (λ r. (h.readings n.0 r (p.0 r)).0 (p.1 r)), p.2)
+there (Table Accounts) file s t text k h p = p ∙ accounts-same file s t h
+there (Table Falls) file s t text k h p = (p.0, (h.falls p.0).0 p.1, p.2)
+there (Table Disputes) file s t text k h p = (p.0, (h.disputes p.0).0 p.1, p.2)
+there (Table Readings) file s t text k h p = (p.0, (λ n r. (h.readings n r (p.0 n r)).0 (p.1 n r)), p.2)
+there (Table Energies) file s t text k h p = p ∙ energies-same file s t h
+there (Table Assignments) file s t text k h p = (p.0, (h.assignments p.0).0 p.1, p.2)
+there (Table TopUps) file s t text k h p = (p.0, (h.topups p.0).0 p.1, p.2)
+there (Table Withdrawals) file s t text k h p = (p.0, (h.withdrawals p.0).0 p.1, p.2)
 
-back : (page : Page) (file : OfficeFile) (s t : List Entry) (text : List ℕ) → HaveSameAnswers (office_of file) s t → IsAnswer page file t text → IsAnswer page file s text
-back (Statement a) file s t text h p = p ∙ sym (statement-same file s t h a.0)
-back (MeterReadings n) file s t text h p = (p.0, (λ r. (h.readings n.0 r (p.0 r)).1 (p.1 r)), p.2)
-back (Table Accounts) file s t text h p = p ∙ sym (accounts-same file s t h)
-back (Table Falls) file s t text h p = (p.0, (h.falls p.0).1 p.1, p.2)
-back (Table Disputes) file s t text h p = (p.0, (h.disputes p.0).1 p.1, p.2)
-back (Table Readings) file s t text h p = (p.0, (λ n r. (h.readings n r (p.0 n r)).1 (p.1 n r)), p.2)
-back (Table Energies) file s t text h p = p ∙ sym (energies-same file s t h)
-back (Table Assignments) file s t text h p = (p.0, (h.assignments p.0).1 p.1, p.2)
-back (Table TopUps) file s t text h p = (p.0, (h.topups p.0).1 p.1, p.2)
-back (Table Withdrawals) file s t text h p = (p.0, (h.withdrawals p.0).1 p.1, p.2)
+back : (page : Page) (file : OfficeFile) (s t : List Entry) (text : List ℕ) → IsOfNoMonth page → HaveSameAnswers (office_of file) s t → IsAnswer page file t text → IsAnswer page file s text
+back (Statement a) file s t text k h p = p ∙ sym (statement-same file s t h a.0)
+back (Month w x n) file s t text k h p = absurd k
+back (MeterReadings n) file s t text k h p = (p.0, (λ r. (h.readings n.0 r (p.0 r)).1 (p.1 r)), p.2)
+back (Table Accounts) file s t text k h p = p ∙ sym (accounts-same file s t h)
+back (Table Falls) file s t text k h p = (p.0, (h.falls p.0).1 p.1, p.2)
+back (Table Disputes) file s t text k h p = (p.0, (h.disputes p.0).1 p.1, p.2)
+back (Table Readings) file s t text k h p = (p.0, (λ n r. (h.readings n r (p.0 n r)).1 (p.1 n r)), p.2)
+back (Table Energies) file s t text k h p = p ∙ sym (energies-same file s t h)
+back (Table Assignments) file s t text k h p = (p.0, (h.assignments p.0).1 p.1, p.2)
+back (Table TopUps) file s t text k h p = (p.0, (h.topups p.0).1 p.1, p.2)
+back (Table Withdrawals) file s t text k h p = (p.0, (h.withdrawals p.0).1 p.1, p.2)
 
 pub each-page-has-one-text : EachPageHasOneText
-each-page-has-one-text page file s = record {
-  exists = exists page file s;
-  only = λ a b p q. only page file s a b p q;
+each-page-has-one-text page file s k = record {
+  exists = exists page file s k;
+  only = λ a b p q. only page file s a b k p q;
   same = λ t text m.
       let h = order_counts_nothing (office_of file) s t m in
-      (there page file s t text h, back page file s t text h);
+      (there page file s t text k h, back page file s t text k h);
 }

@@ -1,7 +1,9 @@
--- The names that an office gives to its accounts, meters and bands: nothing where it has no such.
+-- The names that an office gives to its accounts, meters and bands, and the starts of its periods: nothing where it has no
+-- such.
 use Rattle.std.specs.Prelude.{ℕ, Option, Some, None, List, [], ◌∷◌, codes, slice_get, option_map, unwrap_or}
 use Rattle.pw_tariff.specs.declared.ids.AccountId.{AccountId}
-use Rattle.pw_tariff.specs.Office.{OfficeFile}
+use Rattle.pw_tariff.specs.Office.{OfficeFile, period_starts}
+use Rattle.pw_report.specs.Layout.{instant_text}
 
 abbrev pub account_name : OfficeFile → ℕ → List ℕ
 account_name file a = unwrap_or (slice_get file.accounts a) []
@@ -17,3 +19,7 @@ band_name file b = unwrap_or (option_map (λ t. t.name ∷ []) (slice_get file.b
 abbrev pub owner_name : OfficeFile → Option AccountId → List ℕ
 owner_name file None = codes "-"
 owner_name file (Some a) = account_name file a.0
+
+-- a period is named by its start
+abbrev pub period_name : OfficeFile → ℕ → List ℕ
+period_name file p = unwrap_or (option_map instant_text (slice_get (period_starts file) p)) []

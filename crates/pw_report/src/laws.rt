@@ -10,7 +10,7 @@ pub fn cents_are_greatest()
     ensures { CentsAreGreatest }
 {}
 
-/// A set of records has one text of each page, whatever the order in which its records are listed.
+/// A set of records has one text of each page but those of months, whatever the order in which its records are listed.
 pub fn each_page_has_one_text()
     ensures { EachPageHasOneText }
 {}

@@ -5,13 +5,17 @@ ghost use Rattle.pw_report.specs.Pages.{IsAnswer, IsPageOf};
 ghost use Rattle.pw_report.specs.Reports.{IsReport};
 
 use crate::accounts::accounts_table;
+use crate::bills::bill_page;
+use crate::days::days_page;
 use crate::disputes::disputes_table;
 use crate::energies::export_energy;
 use crate::falls::falls_table;
+use crate::months::Month;
 use crate::one_meter::export_meter;
 use crate::readings::export_readings;
 use crate::records::{export_assignments, export_topups, export_withdrawals};
 use crate::statements::statement;
+use crate::why::why_page;
 use pw_book::{Book, BookFault};
 use pw_shelf::Shelf;
 use pw_tariff::{AccountId, MeterId};
@@ -38,18 +42,31 @@ pub enum Table {
     Withdrawals,
 }
 
+/// A page of an account for a month.
+#[derive(Clone, Copy, Debug, PartialEq, Eq)]
+pub enum MonthPage {
+    /// The bill.
+    Bill,
+    /// The days of the month, as CSV.
+    Days,
+    /// Why the bill is what it is, as CSV.
+    Why,
+}
+
 /// A page of a book.
 #[derive(Clone, Copy, Debug, PartialEq, Eq)]
 pub enum Page {
     /// The statement of an account.
     Statement(AccountId),
+    /// A page of an account for a month of local calendars.
+    Month(MonthPage, AccountId, Month),
     /// The export of the readings of a meter, as CSV.
     MeterReadings(MeterId),
     Table(Table),
 }
 
-/// The text of a page, by the records held. It asks for a page of the office: a statement of one of its accounts,
-/// readings of one of its meters.
+/// The text of a page, by the records held. It asks for a page of the office: a statement or a month of one of its
+/// accounts, readings of one of its meters; and for a month from 2000-01 to 2099-12.
 ///
 /// `Device`, `Memory` and `Reopen` (of a shut book) leave the records as they are.
 pub fn page_text<S: Shelf>(
@@ -63,6 +80,9 @@ pub fn page_text<S: Shelf>(
 {
     match page {
         Page::Statement(account) => statement(book, alloc, account),
+        Page::Month(MonthPage::Bill, account, month) => bill_page(book, alloc, account, month),
+        Page::Month(MonthPage::Days, account, month) => days_page(book, alloc, account, month),
+        Page::Month(MonthPage::Why, account, month) => why_page(book, alloc, account, month),
         Page::MeterReadings(meter) => export_meter(book, alloc, meter),
         Page::Table(Table::Accounts) => accounts_table(book, alloc),
         Page::Table(Table::Falls) => falls_table(book, alloc),

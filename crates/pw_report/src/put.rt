@@ -2,7 +2,7 @@
 
 ghost use Rattle.std.specs.Prelude.{◌≡◌, ◌++◌, OnOk, IfOk, decimal, replicate};
 ghost use Rattle.pw_model.specs.Payments.{nano_in_cent};
-ghost use Rattle.pw_report.specs.Amounts.{balance_text as text_of_balance, cents_below, euro_text};
+ghost use Rattle.pw_report.specs.Amounts.{balance_text as text_of_balance, cents_below, euro_text, signed_euro_text};
 ghost use Rattle.pw_report.specs.Layout.{instant_text as text_of_instant, left, right};
 
 use itoa::Buffer;
@@ -61,6 +61,16 @@ pub(crate) fn put_euro(text: &mut Vec<u8>, cents: u128) -> Result<(), AllocError
     text.push(b'0' + rest / 10)?;
     text.push(b'0' + rest % 10)?;
     Ok(())
+}
+
+/// Cents, which may be below 0, as euro.
+pub(crate) fn put_cents(text: &mut Vec<u8>, cents: i128) -> Result<(), AllocError>
+    ensures { OnOk result (text.new.items ≡ text.old.items ++ signed_euro_text cents) }
+{
+    if cents < 0 {
+        text.push(b'-')?;
+    }
+    put_euro(text, cents.unsigned_abs())
 }
 
 /// An amount of nano-euro as the greatest whole cents that aren't above it.

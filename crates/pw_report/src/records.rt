@@ -219,7 +219,8 @@ fn put_assignment(
     rows.put(given_name(office, owner))
 }
 
-fn put_topup(
+/// Writes the fields of a top-up.
+pub(crate) fn put_topup(
     rows: &mut Rows,
     reference: &Reference,
     account: &[u8],

@@ -1,7 +1,8 @@
 //! The pages of a book where memory is refused, or a device fails. (Pages of rows worked out by hand stand in `cases/`.)
 
-ghost use Rattle.std.specs.Prelude.{IfOk};
+ghost use Rattle.std.specs.Prelude.{IfOk, IsTrue};
 ghost use Rattle.pw_model.specs.Office.{AllOfOffice};
+ghost use Rattle.pw_report.specs.Months.{IsThere};
 ghost use Rattle.pw_tariff.specs.Office.{office_of};
 
 mod failing;
@@ -13,12 +14,19 @@ use pw_record::{
     UploadFault, assignment_records, telegram_records, topup_records, withdrawal_records,
 };
 use pw_report::{
-    Page, accounts_table, disputes_table, export_energy, export_readings, falls_table, page_text,
+    Month, Page, accounts_table, disputes_table, export_energy, export_readings, falls_table,
+    page_text,
 };
 use pw_shelf::Shelf;
 use pw_tariff::Office;
 use pw_time::Zone;
 use std::alloc::Global;
+
+// 2024-01.
+const JANUARY: Month = Month {
+    year: 2024,
+    month: 1,
+};
 
 // An upload of one kind.
 #[derive(Clone, Copy)]
@@ -63,10 +71,18 @@ fn are_posted<S: Shelf>(alloc: Global, book: &mut Book<S>, uploads: &[Upload]) -
     true
 }
 
+// Whether a month is one of 2000-01 to 2099-12.
+fn is_there(month: Month) -> bool
+    ensures { IsTrue result → IsThere month }
+{
+    2000 <= month.year && month.year < 2100 && 1 <= month.month && month.month <= 12
+}
+
 // A page of a book. One that isn't of its office is told as a page of a book that is shut.
 fn page_of<S: Shelf>(alloc: Global, book: &mut Book<S>, page: Page) -> Result<Vec<u8>, BookFault> {
     let is_of_office = match page {
         Page::Statement(account) => account.0 < book.office().accounts(),
+        Page::Month(_, account, month) => account.0 < book.office().accounts() && is_there(month),
         Page::MeterReadings(meter) => meter.0 < book.office().meters(),
         Page::Table(_) => true,
     };

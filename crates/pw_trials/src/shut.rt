@@ -1,10 +1,13 @@
 //! A book that has to be opened again.
 
+ghost use Rattle.std.specs.Prelude.{IsTrue};
+ghost use Rattle.pw_report.specs.Months.{IsThere};
+
 use crate::posts::post;
 use crate::shelves::{book_over, payment};
 use pw_bills::{bill, days, energy_between, top_ups_between, why};
 use pw_book::{Book, BookFault, PostFault};
-use pw_report::{Page, Table, page_text};
+use pw_report::{Month, MonthPage, Page, Table, page_text};
 use pw_shelf::{CountShelf, MemoryShelf, Shelf};
 use pw_tariff::{AccountId, BandId, Direction, MeterId, Office, PeriodId};
 use pw_time::{END_SECOND, FIRST_SECOND, Instant};
@@ -13,8 +16,17 @@ use std::alloc::Global;
 // The call of the store that fails: an upload of one record is begun by the third.
 const FAILING: u32 = 4;
 
-const PAGES: [Page; 10] = [
+// 2024-01.
+const JANUARY: Month = Month {
+    year: 2024,
+    month: 1,
+};
+
+const PAGES: [Page; 13] = [
     Page::Statement(AccountId(0)),
+    Page::Month(MonthPage::Bill, AccountId(0), JANUARY),
+    Page::Month(MonthPage::Days, AccountId(0), JANUARY),
+    Page::Month(MonthPage::Why, AccountId(0), JANUARY),
     Page::MeterReadings(MeterId(0)),
     Page::Table(Table::Accounts),
     Page::Table(Table::Falls),
@@ -53,10 +65,18 @@ pub(crate) fn is_still_shut<S: Shelf>(alloc: Global, book: &mut Book<S>) -> bool
         && are_energies_refused(alloc, book)
 }
 
+// Whether a month is one of 2000-01 to 2099-12.
+fn is_there(month: Month) -> bool
+    ensures { IsTrue result → IsThere month }
+{
+    2000 <= month.year && month.year < 2100 && 1 <= month.month && month.month <= 12
+}
+
 // Why there is no page of the office, if there is none.
 fn fault_of<S: Shelf>(alloc: Global, book: &mut Book<S>, page: Page) -> Option<BookFault> {
     let is_of_office = match page {
         Page::Statement(account) => account.0 < book.office().accounts(),
+        Page::Month(_, account, month) => account.0 < book.office().accounts() && is_there(month),
         Page::MeterReadings(meter) => meter.0 < book.office().meters(),
         Page::Table(_) => true,
     };

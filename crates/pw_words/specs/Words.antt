@@ -57,6 +57,7 @@ IsSound (command.Check office verbose) = ⊤
 IsSound (command.Pipe office limit) = IsLimit limit
 IsSound (command.Load office store files limit) = IsLimit limit × NamesFiles files
 IsSound (command.Statement office store account) = ⊤
+IsSound (command.Month what office store account month) = ⊤
 IsSound (command.Export office store what) = ⊤
 IsSound (command.Serve office store count until_input_ends port limit origins tells) = IsLimit limit × (1 ≤ port)
 

@@ -1,7 +1,7 @@
 //! The commands of the program.
 
 use pw_record::UploadKind;
-use pw_report::Table;
+use pw_report::{MonthPage, Table};
 use pw_time::Clock;
 
 /// Where the uploads of a load stand.
@@ -56,6 +56,14 @@ pub enum Command<'a> {
         office: &'a str,
         store: &'a str,
         account: &'a str,
+    },
+    /// A page of the account with this name is printed for the month of this text.
+    Month {
+        what: MonthPage,
+        office: &'a str,
+        store: &'a str,
+        account: &'a str,
+        month: &'a str,
     },
     /// A table is printed, or the readings of a meter.
     Export {

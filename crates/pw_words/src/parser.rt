@@ -38,6 +38,7 @@ enum Word {
     File,
     List,
     Account,
+    Month,
     Table,
     Meter,
     OneMeter,
@@ -60,7 +61,7 @@ struct Asked {
     words: &'static [Word],
 }
 
-static COMMANDS: [Asked; 7] = [
+static COMMANDS: [Asked; 10] = [
     Asked {
         name: "read",
         about: "Prints the frames of a body on standard input: meters, stamps, registers in watt-hours",
@@ -98,6 +99,24 @@ static COMMANDS: [Asked; 7] = [
         about: "Prints an account's energies, top-ups and balance",
         end: "Exit status: 0; 1 refused; 2 wrong words; 3 a file, stream, store or memory failed.\nExample: powerbook statement office.toml book.db A1",
         words: &[Word::Office, Word::Store, Word::Account],
+    },
+    Asked {
+        name: "bill",
+        about: "Prints an account's bill of a month: what was used and topped up in it, and the balances at both ends",
+        end: "Exit status: 0; 1 refused; 2 wrong words; 3 a file, stream, store or memory failed.\nExample: powerbook bill office.toml book.db A1 2024-01",
+        words: &[Word::Office, Word::Store, Word::Account, Word::Month],
+    },
+    Asked {
+        name: "days",
+        about: "Prints the days of an account's month as CSV: watt-hours and what they cost",
+        end: "Exit status: 0; 1 refused; 2 wrong words; 3 a file, stream, store or memory failed.\nExample: powerbook days office.toml book.db A1 2024-01",
+        words: &[Word::Office, Word::Store, Word::Account, Word::Month],
+    },
+    Asked {
+        name: "why",
+        about: "Prints why an account's bill of a month is what it is, as CSV: two readings for each row, and top-ups",
+        end: "Exit status: 0; 1 refused; 2 wrong words; 3 a file, stream, store or memory failed.\nExample: powerbook why office.toml book.db A1 2024-01",
+        words: &[Word::Office, Word::Store, Word::Account, Word::Month],
     },
     Asked {
         name: "export",
@@ -262,6 +281,7 @@ fn argument<'a>(alloc: Global, word: Word) -> Result<Arg<'a>, AllocError> {
         Word::File => files(alloc),
         Word::List => list(alloc),
         Word::Account => Ok(required(alloc, "ACCOUNT", "The account's name")),
+        Word::Month => Ok(required(alloc, "MONTH", "The month, as 2024-01")),
         Word::Table => Ok(table(alloc)),
         Word::Meter => meter(alloc),
         Word::OneMeter => Ok(one_meter(alloc)),
@@ -290,7 +310,7 @@ fn command<'a>(alloc: Global, asked: &Asked) -> Result<Command<'a>, AllocError> 
 // The parser without its commands.
 fn empty_parser<'a>(alloc: Global) -> Result<Command<'a>, AllocError> {
     Command::new(alloc, "powerbook")
-        .version("1.7.0")
+        .version("1.8.0")
         .about("Meter readings and prepaid accounts of an electricity cooperative")
         .after_help(
             "Without a command it acts as pipe. Each command tells more: powerbook load --help.",

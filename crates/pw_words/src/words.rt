@@ -5,7 +5,7 @@ ghost use Rattle.pw_time.specs.declared.zone.Clock.{Clock};
 ghost use Rattle.clap.specs.Values.{kind_of};
 ghost use Rattle.pw_words.specs.Words.{AsksToPipe, IsClockWord, IsKindWord, IsLimit, IsRefusal, IsSound, NamesFiles, StatesClock};
 ghost use Rattle.pw_words.specs.declared.commands.Command.TheVariants as asks;
-ghost use Rattle.pw_words.specs.inner.Told.{IsTableWord};
+ghost use Rattle.pw_words.specs.inner.Told.{IsMonthWord, IsTableWord};
 
 use crate::commands::{Command, Exported, Source};
 use crate::fault::{WordsFault, fault_of};
@@ -14,7 +14,7 @@ use clap::error::ErrorKind;
 use clap::{ArgMatches, Error};
 use pw_model::MOST_RECORDS;
 use pw_record::UploadKind;
-use pw_report::Table;
+use pw_report::{MonthPage, Table};
 use pw_time::Clock;
 use std::alloc::{AllocError, Global};
 
@@ -173,7 +173,7 @@ fn command_of<'a>(
         Some(("statement", words)) => statement_of(words),
         Some(("export", words)) => export_of(words),
         Some(("serve", words)) => serve_of(words, origins),
-        Some(_) => None,
+        Some((name, words)) => month_of(month_page_named(name)?, words),
     }
 }
 
@@ -208,6 +208,18 @@ fn statement_of<'a>(words: &ArgMatches<'a>) -> Option<Command<'a>>
         office: words.get_str("OFFICE")?,
         store: words.get_str("STORE")?,
         account: words.get_str("ACCOUNT")?,
+    })
+}
+
+fn month_of<'a>(what: MonthPage, words: &ArgMatches<'a>) -> Option<Command<'a>>
+    ensures { IfSome result IsSound }
+{
+    Some(Command::Month {
+        what,
+        office: words.get_str("OFFICE")?,
+        store: words.get_str("STORE")?,
+        account: words.get_str("ACCOUNT")?,
+        month: words.get_str("MONTH")?,
     })
 }
 
@@ -299,6 +311,17 @@ fn table_named(name: &str) -> Option<Table>
         "accounts" => Some(Table::Accounts),
         "falls" => Some(Table::Falls),
         "disputes" => Some(Table::Disputes),
+        _ => None,
+    }
+}
+
+fn month_page_named(name: &str) -> Option<MonthPage>
+    ensures { IfSome result (λ what. IsMonthWord what name.now) }
+{
+    match name {
+        "bill" => Some(MonthPage::Bill),
+        "days" => Some(MonthPage::Days),
+        "why" => Some(MonthPage::Why),
         _ => None,
     }
 }

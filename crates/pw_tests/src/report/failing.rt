@@ -1,16 +1,19 @@
 //! Pages of a book whose device fails at one call.
 
-use super::page_of;
+use super::{JANUARY, page_of};
 use crate::new_books::holds_of_failing;
 use crate::sample::{FIRST, METER};
 use pw_book::{Book, BookFault};
-use pw_report::{Page, Table};
+use pw_report::{MonthPage, Page, Table};
 use pw_shelf::Shelf;
 use std::alloc::Global;
 
 // Pages that take more than two calls of an empty store.
-const OF_MANY_CALLS: [Page; 7] = [
+const OF_MANY_CALLS: [Page; 10] = [
     Page::Statement(FIRST),
+    Page::Month(MonthPage::Bill, FIRST, JANUARY),
+    Page::Month(MonthPage::Days, FIRST, JANUARY),
+    Page::Month(MonthPage::Why, FIRST, JANUARY),
     Page::MeterReadings(METER),
     Page::Table(Table::Accounts),
     Page::Table(Table::Falls),
@@ -59,6 +62,9 @@ fn calls_of(alloc: Global, page: Page) -> u32 {
 }
 
 // bears on: pw_report statements.rt statement report
+// bears on: pw_report bills.rt bill_page report
+// bears on: pw_report days.rt days_page report
+// bears on: pw_report why.rt why_page report
 #[test]
 fn failing_device(rt: HostRuntime) {
     for page in OF_MANY_CALLS {

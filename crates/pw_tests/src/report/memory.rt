@@ -1,12 +1,12 @@
 //! The pages with an allocation refused: the page, or want of memory, and the next call gives the page.
 //! (To be run with the first allocation refused, with the second, and so on.)
 
-use super::{Upload, are_posted, page_of};
+use super::{JANUARY, Upload, are_posted, page_of};
 use crate::new_books::holds_in_memory;
 use crate::sample::{FIRST, METER};
 use crate::uploads::{ASSIGNMENT, BESIDE, BETWEEN, TOPUP, TWO_READINGS, TWO_WITHDRAWALS};
 use pw_book::{Book, BookFault};
-use pw_report::{Page, Table};
+use pw_report::{MonthPage, Page, Table};
 use pw_shelf::Shelf;
 use std::alloc::Global;
 
@@ -36,6 +36,9 @@ fn has_length<S: Shelf>(alloc: Global, book: &mut Book<S>, page: Page, length: u
 
 const PAGES: &[(Page, usize)] = &[
     (Page::Statement(FIRST), 160),
+    (Page::Month(MonthPage::Bill, FIRST, JANUARY), 493),
+    (Page::Month(MonthPage::Days, FIRST, JANUARY), 3025),
+    (Page::Month(MonthPage::Why, FIRST, JANUARY), 411),
     (Page::MeterReadings(METER), 190),
     (Page::Table(Table::Accounts), 147),
     (Page::Table(Table::Falls), 29),

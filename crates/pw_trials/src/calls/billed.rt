@@ -3,7 +3,9 @@
 use crate::calls::asked::Asked;
 use crate::calls::names::{band_name, meter_name};
 use crate::calls::stretches::{Interval, Stretches};
-use pw_bills::{TopUpRow, WhyPiece, bill, days, energy_between, top_ups_between, why};
+use pw_bills::{
+    LastReading, TopUpRow, WhyPiece, bill, days, energy_between, read_up_to, top_ups_between, why,
+};
 use pw_book::{Book, BookFault};
 use pw_shelf::Shelf;
 use pw_tariff::{BandId, Direction, Office, PeriodId};
@@ -132,6 +134,26 @@ pub(crate) fn tell_top_ups<O: Write, S: Shelf>(
     Ok(())
 }
 
+/// Tells up to when the meters are read.
+pub(crate) fn tell_latest<O: Write, S: Shelf>(
+    asked: &Asked<'_>,
+    book: &mut Book<S>,
+    interval: &Interval,
+    out: &mut O,
+) -> Result<(), BookFault> {
+    let rows = read_up_to(
+        book,
+        asked.alloc,
+        interval.account,
+        interval.from,
+        interval.until,
+    )?;
+    for row in &rows {
+        tell_last(asked.office, row, out);
+    }
+    Ok(())
+}
+
 // All periods, bands and directions of an office.
 fn classes_of(alloc: Global, office: &Office) -> Result<Vec<Class>, AllocError> {
     let mut classes = Vec::new(alloc);
@@ -177,6 +199,15 @@ fn tell_piece<O: Write>(office: &Office, why: &WhyPiece, out: &mut O) {
     let (begin, until, wh) = (why.piece.begin, why.piece.until, why.piece.wh);
     let (period, band) = (why.piece.period.0, band_name(office, why.piece.band));
     let _ = writeln!(out, "{begin} {until} {period} {band} {wh}");
+}
+
+// A meter and a register, and its latest reading, `-` where there is none.
+fn tell_last<O: Write>(office: &Office, row: &LastReading, out: &mut O) {
+    let (meter, register) = (meter_name(office, row.meter), row.register.name());
+    let _ = match row.last {
+        Some((instant, shown)) => writeln!(out, "{meter} {register} {instant} {}", shown.get()),
+        None => writeln!(out, "{meter} {register} -"),
+    };
 }
 
 fn tell_row<O: Write>(row: &TopUpRow, out: &mut O) {

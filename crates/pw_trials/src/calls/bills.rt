@@ -1,4 +1,4 @@
-//! The questions to a book on the time between two instants: `bill ACCOUNT FROM UNTIL`, and so `why` and `topups`;
+//! The questions to a book on the time between two instants: `bill ACCOUNT FROM UNTIL`, and so `why`, `topups` and `latest`;
 //! `energy ACCOUNT PERIOD BAND DIRECTION FROM UNTIL`, with the period and the band by their numbers, from 0; and
 //! `days ACCOUNT BEGIN.. END`. The last word may be `end`, the second behind all instants.
 //!
@@ -6,7 +6,9 @@
 //! how many calls of the store and rows the question took.
 
 use crate::calls::asked::Asked;
-use crate::calls::billed::{Class, tell_bill, tell_days, tell_energy, tell_top_ups, tell_why};
+use crate::calls::billed::{
+    Class, tell_bill, tell_days, tell_energy, tell_latest, tell_top_ups, tell_why,
+};
 use crate::calls::names::{account, direction};
 use crate::calls::stretches::{Interval, Stretches};
 use crate::calls::words::{end, instant};
@@ -28,6 +30,7 @@ enum Question {
     Bill(Interval),
     Why(Interval),
     TopUps(Interval),
+    Latest(Interval),
     Energy(Interval, Class),
     Days(Stretches),
 }
@@ -67,6 +70,7 @@ fn interval_question(office: &Office, words: &[&str]) -> Option<Question> {
         ["bill", rest @ ..] => Some(Question::Bill(interval(office, rest)?)),
         ["why", rest @ ..] => Some(Question::Why(interval(office, rest)?)),
         ["topups", rest @ ..] => Some(Question::TopUps(interval(office, rest)?)),
+        ["latest", rest @ ..] => Some(Question::Latest(interval(office, rest)?)),
         ["energy", name, period, band, word, from, until] => {
             let class = Class {
                 period: PeriodId(period.parse::<u8>().ok()?),
@@ -134,6 +138,7 @@ fn tell_answer<O: Write, S: Shelf>(
         Question::Bill(interval) => tell_bill(asked, book, interval, out),
         Question::Why(interval) => tell_why(asked, book, interval, out),
         Question::TopUps(interval) => tell_top_ups(asked, book, interval, out),
+        Question::Latest(interval) => tell_latest(asked, book, interval, out),
         Question::Energy(interval, class) => tell_energy(asked, book, interval, *class, out),
         Question::Days(stretches) => tell_days(asked, book, stretches, out),
     };

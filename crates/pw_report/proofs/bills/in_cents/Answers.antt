@@ -1,0 +1,5 @@
+use Rattle.std.proofs.Common.{rules}
+use Rattle.pw_report.proofs.bills.in_cents.Goals as goal
+
+pub returns-clause-cents : goal.returns-clause-cents
+returns-clause-cents c = search rules

@@ -1,0 +1,11 @@
+use Rattle.std.proofs.Common.{◌≡◌, ◌*◌, ◌^◌, ◌≤◌}
+use Rattle.pw_flow.specs.Time.{sum_over}
+use Rattle.pw_tariff.specs.Office.{price_at}
+use Rattle.pw_report.specs.inner.Told.{day_energies}
+use Rattle.pw_report.proofs.days.day_nano.Given as goal
+
+abbrev pub invariant-loop-period : goal.invariant-loop-period
+invariant-loop-period l = record {
+  sum : l.nano ≡ sum_over (λ p. price_at l.told.office.now p l.band.0 l.direction * day_energies l.told.energies.now l.day p l.band.0 l.direction) 0 l.period;
+  few : l.nano ≤ l.period * 2 ^ 96;
+}
