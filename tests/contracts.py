@@ -57,6 +57,13 @@ def exported(crate):
     return set(), set()
 
 
+@functools.lru_cache(maxsize=None)
+def own_traits(crate):
+    """The traits that a crate keeps to itself."""
+    texts = map(content, files(crate, "src", ".rt"))
+    return {name for text in texts for name in re.findall(r"^(?:pub\(crate\) )?trait (\w+)", text, re.M)}
+
+
 def braced(text, at):
     """What begins at a word's brace: up to the brace that closes it."""
     begin = text.find("{", at)
@@ -73,8 +80,8 @@ def braced(text, at):
 class Block:
     """The item of a source that is being read: whose it is, and whether others than its crate can name it."""
 
-    def __init__(self, given):
-        self.given, self.type, self.is_of_trait = given, None, False
+    def __init__(self, given, own):
+        self.given, self.own, self.type, self.is_of_trait = given, own, None, False
         self.owner, self.kind, self.block, self.is_public = None, None, None, False
 
     def enter(self, line, is_indented):
@@ -83,7 +90,8 @@ class Block:
         is_pub = line.startswith("pub ")
         if kind == "impl":
             self.is_of_trait = " for " in line
-            self.type = self.type_of(line)
+            trait = re.search(r"(\w+)(?:<[^>]*>)? for ", line)
+            self.type = None if trait and trait.group(1) in self.own else self.type_of(line)
             self.owner, self.is_public = self.type, self.type is not None
         elif kind == "fn" and is_indented:
             self.owner = f"{self.type}::{name.group(1)}"
@@ -122,7 +130,7 @@ def items_of(crate, path, names, modules):
     for part in re.findall(r"ghost (use [^;]+);", text):
         found.update(imports(part))
     text = re.sub(r"ghost use [^;]+;|//.*", "", text)
-    block = Block(lambda it: is_open or it in names)
+    block = Block(lambda it: is_open or it in names, own_traits(crate))
     for it in ITEM.finditer(text):
         if it.group("item"):
             begin = text.rfind("\n", 0, it.start()) + 1
