@@ -142,8 +142,14 @@ fn add_months(router: &mut Router<Route>) -> Result<(), InsertError>
     ensures { IfOk result (λ done. router.new ≡ all_added router.old months) }
 {
     router.insert("/accounts/{account}/{month}", Route::Month(MonthPage::Bill))?;
-    router.insert("/accounts/{account}/{month}/days", Route::Month(MonthPage::Days))?;
-    router.insert("/accounts/{account}/{month}/why", Route::Month(MonthPage::Why))?;
+    router.insert(
+        "/accounts/{account}/{month}/days",
+        Route::Month(MonthPage::Days),
+    )?;
+    router.insert(
+        "/accounts/{account}/{month}/why",
+        Route::Month(MonthPage::Why),
+    )?;
     Ok(())
 }
 
