@@ -13,6 +13,10 @@ pub mod BillCents
 pub mod BillParts
 pub mod Sums
 pub mod Held
+pub mod Gathering
+pub mod Runs
+pub mod MonthsThere
+pub mod MonthAnswers
 pub mod Uploading
 pub mod Texts
 pub mod Moving

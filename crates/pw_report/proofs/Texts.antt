@@ -7,6 +7,7 @@ use Rattle.pw_tariff.specs.declared.ids.Direction.{Direction}
 use Rattle.pw_tariff.specs.declared.ids.Direction.TheVariants.{Import, Export}
 use Rattle.pw_tariff.specs.Office.{OfficeFile, office_of, price_at}
 use Rattle.pw_model.specs.declared.records.Entry.{Entry}
+use Rattle.pw_model.specs.Counting.{SameMembers}
 use Rattle.pw_model.specs.Energy.{account, over_periods}
 use Rattle.pw_model.specs.Kinds.{IsAssignment, IsTopUp, IsWithdrawal}
 use Rattle.pw_model.specs.Laws.{HaveSameAnswers}
@@ -18,17 +19,18 @@ use Rattle.pw_report.specs.declared.page.Page.TheVariants.{Statement, Month, Met
 use Rattle.pw_report.specs.declared.page.Table.TheVariants.{Accounts, Falls, Disputes, Readings, Energies, Assignments, TopUps, Withdrawals}
 use Rattle.pw_report.specs.Amounts.{balance_text, euro_text}
 use Rattle.pw_report.specs.Exports.{EnergyRow, csv_line, energies_header, energies_text, energy_cost, energy_row_line, energy_rows, one_meter_text, owner_rows, readings_text, records_text}
-use Rattle.pw_report.specs.Laws.{EachPageHasOneText, IsOfNoMonth}
+use Rattle.pw_report.specs.Laws.{EachPageHasOneText, HasMonth}
 use Rattle.pw_report.specs.Layout.{listed_below}
 use Rattle.pw_report.specs.Names.{account_name, band_name}
 use Rattle.pw_report.specs.Pages.{IsAnswer}
+use Rattle.pw_report.proofs.MonthAnswers.{month-back, month-exists, month-only, month-there}
 use Rattle.pw_report.proofs.Held.{assignment-known, held-one, held-there_is, topup-known, withdrawal-known}
 use Rattle.pw_report.specs.Tables.{account_line, accounts_text, band_line, disputes_text, falls_text, statement_text}
 
 -- ---- one
-exists : (page : Page) (file : OfficeFile) (s : List Entry) → IsOfNoMonth page → (text : List ℕ) × IsAnswer page file s text
+exists : (page : Page) (file : OfficeFile) (s : List Entry) → HasMonth page → (text : List ℕ) × IsAnswer page file s text
 exists (Statement a) file s k = (statement_text file s a.0, refl)
-exists (Month w x n) file s k = absurd k
+exists (Month w x n) file s k = month-exists w file s x n k
 exists (MeterReadings m) file s k = let l = (lists-exist s).readings m.0 in (one_meter_text file m.0 (λ r. (l r).0), ((λ r. (l r).0), (λ r. (l r).1), refl))
 exists (Table Accounts) file s k = (accounts_text file s, refl)
 exists (Table Falls) file s k = let l = (lists-exist s).falls in (falls_text file l.0, (l.0, l.1, refl))
@@ -40,9 +42,9 @@ exists (Table TopUps) file s k = let l = held-there_is IsTopUp topup-known s in 
 exists (Table Withdrawals) file s k = let l = held-there_is IsWithdrawal withdrawal-known s in (records_text file row.Withdrawal l.0, (l.0, l.1, refl))
 
 -- ---- and no other
-only : (page : Page) (file : OfficeFile) (s : List Entry) (a b : List ℕ) → IsOfNoMonth page → IsAnswer page file s a → IsAnswer page file s b → a ≡ b
+only : (page : Page) (file : OfficeFile) (s : List Entry) (a b : List ℕ) → HasMonth page → IsAnswer page file s a → IsAnswer page file s b → a ≡ b
 only (Statement x) file s a b k p q = p ∙ sym q
-only (Month w x n) file s a b k p q = absurd k
+only (Month w x n) file s a b k p q = month-only w file s x n a b p q
 only (MeterReadings m) file s a b k p q = p.2 ∙ (λ i. one_meter_text file m.0 (λ r. (lists-are_at_most_one s).readings m.0 r _ _ (p.1 r) (q.1 r) i)) ∙ sym q.2
 only (Table Accounts) file s a b k p q = p ∙ sym q
 only (Table Falls) file s a b k p q = p.2 ∙ ap (falls_text file) ((lists-are_at_most_one s).falls _ _ p.1 q.1) ∙ sym q.2
@@ -75,9 +77,9 @@ module _ (file : OfficeFile) (s t : List Entry) (h : HaveSameAnswers (office_of 
       let rows = λ (o : Option AccountId). listed_below (length file.bands) (λ b. row o b Import ∷ row o b Export ∷ []) in
       csv_line energies_header ++ flat_map (energy_row_line file) (rows None ++ listed_below (length file.accounts) (λ a. rows (Some (account a))))
 
-there : (page : Page) (file : OfficeFile) (s t : List Entry) (text : List ℕ) → IsOfNoMonth page → HaveSameAnswers (office_of file) s t → IsAnswer page file s text → IsAnswer page file t text
+there : (page : Page) (file : OfficeFile) (s t : List Entry) (text : List ℕ) → SameMembers s t → HaveSameAnswers (office_of file) s t → IsAnswer page file s text → IsAnswer page file t text
 there (Statement a) file s t text k h p = p ∙ statement-same file s t h a.0
-there (Month w x n) file s t text k h p = absurd k
+there (Month w x n) file s t text k h p = month-there w file s t x n text k p
 there (MeterReadings n) file s t text k h p = (p.0, (λ r. (h.readings n.0 r (p.0 r)).0 (p.1 r)), p.2)
 there (Table Accounts) file s t text k h p = p ∙ accounts-same file s t h
 there (Table Falls) file s t text k h p = (p.0, (h.falls p.0).0 p.1, p.2)
@@ -88,9 +90,9 @@ there (Table Assignments) file s t text k h p = (p.0, (h.assignments p.0).0 p.1,
 there (Table TopUps) file s t text k h p = (p.0, (h.topups p.0).0 p.1, p.2)
 there (Table Withdrawals) file s t text k h p = (p.0, (h.withdrawals p.0).0 p.1, p.2)
 
-back : (page : Page) (file : OfficeFile) (s t : List Entry) (text : List ℕ) → IsOfNoMonth page → HaveSameAnswers (office_of file) s t → IsAnswer page file t text → IsAnswer page file s text
+back : (page : Page) (file : OfficeFile) (s t : List Entry) (text : List ℕ) → SameMembers s t → HaveSameAnswers (office_of file) s t → IsAnswer page file t text → IsAnswer page file s text
 back (Statement a) file s t text k h p = p ∙ sym (statement-same file s t h a.0)
-back (Month w x n) file s t text k h p = absurd k
+back (Month w x n) file s t text k h p = month-back w file s t x n text k p
 back (MeterReadings n) file s t text k h p = (p.0, (λ r. (h.readings n.0 r (p.0 r)).1 (p.1 r)), p.2)
 back (Table Accounts) file s t text k h p = p ∙ sym (accounts-same file s t h)
 back (Table Falls) file s t text k h p = (p.0, (h.falls p.0).1 p.1, p.2)
@@ -107,5 +109,5 @@ each-page-has-one-text page file s k = record {
   only = λ a b p q. only page file s a b k p q;
   same = λ t text m.
       let h = order_counts_nothing (office_of file) s t m in
-      (there page file s t text k h, back page file s t text k h);
+      (there page file s t text m h, back page file s t text m h);
 }

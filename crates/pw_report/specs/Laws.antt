@@ -20,6 +20,7 @@ use Rattle.pw_report.specs.declared.page.Page.{Page}
 use Rattle.pw_report.specs.declared.page.Page.TheVariants.{Month}
 use Rattle.pw_report.specs.Amounts.{cents_below}
 use Rattle.pw_report.specs.Exports.{energy_rows, records_text}
+use Rattle.pw_report.specs.Months.{IsThere}
 use Rattle.pw_report.specs.Pages.{IsAnswer, IsOfRow}
 
 -- ---- amounts
@@ -32,10 +33,10 @@ abbrev pub CentsAreGreatest : Type 0
 CentsAreGreatest = (nano : ℤ) → AreGreatestCents nano (cents_below nano)
 
 -- ---- pages
--- any page but those of a month
-abbrev pub IsOfNoMonth : Page → Type 0
-IsOfNoMonth (Month what a m) = ⊥
-IsOfNoMonth _ = Unit {0}
+-- a page of no month, or of one that there is
+abbrev pub HasMonth : Page → Type 0
+HasMonth (Month what a m) = IsThere m
+HasMonth _ = Unit {0}
 
 -- a set of records has one text of a page, and no other; it is that of each list of the same records
 pub record HasOneText (page : Page) (file : OfficeFile) (s : List Entry) : Type 0 where
@@ -44,7 +45,7 @@ pub record HasOneText (page : Page) (file : OfficeFile) (s : List Entry) : Type 
   pub same : (t : List Entry) (text : List ℕ) → SameMembers s t → IsAnswer page file s text ↔ IsAnswer page file t text
 
 abbrev pub EachPageHasOneText : Type 0
-EachPageHasOneText = (page : Page) (file : OfficeFile) (s : List Entry) → IsOfNoMonth page → HasOneText page file s
+EachPageHasOneText = (page : Page) (file : OfficeFile) (s : List Entry) → HasMonth page → HasOneText page file s
 
 -- ---- what was exported as an upload
 -- at most 1,000 records of an office, shown as rows below their header, are an upload that gives just these

@@ -10,7 +10,8 @@ pub fn cents_are_greatest()
     ensures { CentsAreGreatest }
 {}
 
-/// A set of records has one text of each page but those of months, whatever the order in which its records are listed.
+/// A set of records has one text of each page, of a month one from 2000-01 to 2099-12, whatever the order in which its
+/// records are listed.
 pub fn each_page_has_one_text()
     ensures { EachPageHasOneText }
 {}
