@@ -34,7 +34,7 @@ fn send_rest<W: Write>(writer: &mut W, content: ContentType, body: &[u8]) -> Res
 {
     match send(writer, behind_head(content).as_bytes()) {
         Ok(()) => send(writer, body),
-        Err(_) => Err(WireFault::Write),
+        Err(fault) => Err(fault),
     }
 }
 
