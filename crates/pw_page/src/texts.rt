@@ -1081,8 +1081,8 @@ begin();
 "#;
 
 /// How the page looks.
-pub const STYLE: &str =
-    r#"/* The page of powerbook. Contrast of text is 4.5 and more, of bars and borders 3. */
+pub const STYLE: &str = r#"/* The page of powerbook.
+   Contrast of text is 4.5 and more, of bars and borders 3. */
 :root {
   --ink: #1a1a1a; --paper: #fff; --soft: #595959; --line: #767676; --pale: #f2f2f2;
   --link: #0b4f9e; --good: #1b5e20; --bad: #a31515;
