@@ -36,8 +36,8 @@ pub record Reply : Type 0 where
 abbrev pub close_line : Bool → List ℕ
 close_line closing = if closing then codes "Connection: close\r\n" else []
 
--- of a file of the page alone: a browser takes nothing for it from elsewhere, puts it into no other page, and sends its forms
--- nowhere else; takes it for nothing but what it is told to be; and asks for it anew
+-- Of a file of the page alone. A browser takes for it what is of this server, shows it within no other page, and sends
+-- its forms here; takes it for what it is told to be; and asks before it shows a copy that it kept.
 -- (W3C, Content Security Policy Level 3; WHATWG, Fetch; RFC 9111, section 5.2.2.4)
 abbrev pub file_headers : ContentType → List ℕ
 file_headers (File file) =

@@ -127,7 +127,8 @@ pub(crate) fn behind_head(content: ContentType) -> &'static str
     match content {
         ContentType::Plain | ContentType::Csv => "",
         ContentType::File(_) => {
-            "Content-Security-Policy: default-src 'self'; frame-ancestors 'none'; base-uri 'none'; form-action 'self'\r\n\
+            "Content-Security-Policy: default-src 'self'; frame-ancestors 'none'; \
+             base-uri 'none'; form-action 'self'\r\n\
              X-Content-Type-Options: nosniff\r\n\
              Cache-Control: no-cache\r\n\r\n"
         }
