@@ -292,6 +292,7 @@ module _ {S : Type 0} (shelf : Ghosts S) where
   answer-comes (At (route.Month what)) target body a reply b x = month-comes what (account_in target) (month_in target) a reply b x
   answer-comes (At route.MeterReadings) target body a reply b x = meter-comes (exported_meter_in target) a reply b x
   answer-comes (At (route.Table table)) target body a reply b x = shows-comes (page.Table table) a reply b x
+  answer-comes (At (route.File file)) target body a reply b x = nothing-comes a reply b x.1
 
   pub asked-comes : (a : Book S shelf) (asking : Asking) (reply : Reply) (b : Book S shelf) → Answers shelf a asking reply b → Comes a (upload_of asking) reply b
   asked-comes a asking reply b x = answer-comes (place_of asking.method asking.target) asking.target asking.body a reply b x

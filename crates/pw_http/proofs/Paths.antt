@@ -13,7 +13,8 @@ use Rattle.pw_http.specs.Routes.{account_in, meter_in, route_table, route_at, ro
 use Rattle.pw_http.specs.Laws.{PathsReachRoutes, ReachesMonth}
 use Rattle.pw_http.proofs.Slashes.{first-word, rest-behind, whole-word}
 use Rattle.pw_http.specs.declared.routes.Route.{Route}
-use Rattle.pw_http.specs.declared.routes.Route.TheVariants.{Telegrams, Readouts, Assignments, TopUps, Withdrawals, Account, Month, MeterReadings, Table}
+use Rattle.pw_http.specs.declared.routes.Route.TheVariants.{Telegrams, Readouts, Assignments, TopUps, Withdrawals, Account, Month, MeterReadings, Table, File}
+use Rattle.pw_page.specs.declared.File.TheVariants as file
 use Rattle.pw_report.specs.declared.page.MonthPage.{MonthPage}
 use Rattle.pw_report.specs.declared.page.MonthPage.TheVariants as month
 use Rattle.pw_report.specs.declared.page.Table.TheVariants as table
@@ -390,6 +391,18 @@ at_all_withdrawals : route_at (codes "/export/withdrawals") ≡ Some (Table tabl
 unfolding route_table matchit_on_literals
 at_all_withdrawals = refl
 
+at_page : route_at (codes "/") ≡ Some (File file.Page)
+unfolding route_table matchit_on_literals
+at_page = refl
+
+at_script : route_at (codes "/page.js") ≡ Some (File file.Script)
+unfolding route_table matchit_on_literals
+at_script = refl
+
+at_style : route_at (codes "/page.css") ≡ Some (File file.Style)
+unfolding route_table matchit_on_literals
+at_style = refl
+
 -- `++` and `∷` as the law writes them
 three-parts : (b : ℕ) (rest q : List ℕ) → codes "/accounts/" ++ b ∷ rest ++ codes "/" ++ q ≡ codes "/accounts/" ++ (b ∷ rest ++ 47 ∷ q)
 three-parts b rest q = ap (λ (t : List ℕ). codes "/accounts/" ++ t) (append_assoc (b ∷ rest) (47 ∷ []) q)
@@ -436,4 +449,7 @@ paths-reach = record {
   all_assignments = at_all_assignments;
   all_top_ups = at_all_top_ups;
   all_withdrawals = at_all_withdrawals;
+  page = at_page;
+  script = at_script;
+  style = at_style;
 }

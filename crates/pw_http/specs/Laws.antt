@@ -1,7 +1,8 @@
 -- The laws of these definitions. Each is the contract of a function of the module `laws`.
 use Rattle.std.specs.Prelude.{◌≡◌, ◌<◌, ℕ, false, List, ◌∷◌, ◌++◌, Option, Some, codes}
 use Rattle.matchit.specs.Seek.{has_slash}
-use Rattle.pw_http.specs.declared.routes.Route.TheVariants.{Telegrams, Readouts, Assignments, TopUps, Withdrawals, Account, Month, MeterReadings, Table}
+use Rattle.pw_http.specs.declared.routes.Route.TheVariants.{Telegrams, Readouts, Assignments, TopUps, Withdrawals, Account, Month, MeterReadings, Table, File}
+use Rattle.pw_page.specs.declared.File.TheVariants as file
 use Rattle.pw_report.specs.declared.page.MonthPage.{MonthPage}
 use Rattle.pw_report.specs.declared.page.MonthPage.TheVariants as month
 use Rattle.pw_report.specs.declared.page.Table.TheVariants as table
@@ -54,3 +55,6 @@ pub record PathsReachRoutes : Type 0 where
   pub all_assignments : route_at (codes "/export/assignments") ≡ Some (Table table.Assignments)
   pub all_top_ups : route_at (codes "/export/topups") ≡ Some (Table table.TopUps)
   pub all_withdrawals : route_at (codes "/export/withdrawals") ≡ Some (Table table.Withdrawals)
+  pub page : route_at (codes "/") ≡ Some (File file.Page)
+  pub script : route_at (codes "/page.js") ≡ Some (File file.Script)
+  pub style : route_at (codes "/page.css") ≡ Some (File file.Style)

@@ -8,8 +8,9 @@ use Rattle.matchit.specs.Seek.{first, slash}
 use Rattle.matchit.specs.Route.{Scan, parse_route}
 use Rattle.matchit.specs.Router.{RouteOf, route_from}
 use Rattle.matchit.specs.declared.error.InsertError.{InsertError}
+use Rattle.pw_page.specs.declared.File.TheVariants as file
 use Rattle.pw_http.specs.declared.routes.Route.{Route}
-use Rattle.pw_http.specs.declared.routes.Route.TheVariants.{Telegrams, Readouts, Assignments, TopUps, Withdrawals, Account, Month, MeterReadings, Table}
+use Rattle.pw_http.specs.declared.routes.Route.TheVariants.{Telegrams, Readouts, Assignments, TopUps, Withdrawals, Account, Month, MeterReadings, Table, File}
 use Rattle.pw_report.specs.declared.page.MonthPage.TheVariants as month
 use Rattle.pw_report.specs.declared.page.Table.TheVariants as table
 use Rattle.pw_http.specs.declared.routes.Place.{Place}
@@ -26,6 +27,7 @@ method_name Account = codes "GET"
 method_name (Month page) = codes "GET"
 method_name MeterReadings = codes "GET"
 method_name (Table table) = codes "GET"
+method_name (File file) = codes "GET"
 
 abbrev pub route_text : Route → List ℕ
 route_text Telegrams = codes "/telegrams"
@@ -46,6 +48,9 @@ route_text MeterReadings = codes "/export/readings/{meter}"
 route_text (Month month.Bill) = codes "/accounts/{account}/{month}"
 route_text (Month month.Days) = codes "/accounts/{account}/{month}/days"
 route_text (Month month.Why) = codes "/accounts/{account}/{month}/why"
+route_text (File file.Page) = codes "/"
+route_text (File file.Script) = codes "/page.js"
+route_text (File file.Style) = codes "/page.css"
 
 -- ---- as `matchit` keeps it
 -- the rows with one more route, where its text reads as a route
@@ -58,10 +63,10 @@ added rows route = added_read (parse_route (route_text route)) route rows
 
 unfoldable pub route_table : RowsOf (RouteOf Route)
 route_table =
-    added (added (added (added (added (added (added (added (added (added (added (added (added (added (added (added (added (added [] Telegrams)
+    added (added (added (added (added (added (added (added (added (added (added (added (added (added (added (added (added (added (added (added (added [] Telegrams)
     Readouts) Assignments) TopUps) Withdrawals) (Table table.Accounts)) (Table table.Falls)) (Table table.Disputes)) Account) (Table
     table.Readings)) (Table table.Energies)) (Table table.Assignments)) (Table table.TopUps)) (Table table.Withdrawals)) MeterReadings)
-    (Month month.Bill)) (Month month.Days)) (Month month.Why)
+    (Month month.Bill)) (Month month.Days)) (Month month.Why)) (File file.Page)) (File file.Script)) (File file.Style)
 
 abbrev pub row_value : RouteOf Route → Route
 row_value r = r.value
@@ -100,6 +105,7 @@ may_be_large (Table table.Energies) = true
 may_be_large (Table table.Assignments) = true
 may_be_large (Table table.TopUps) = true
 may_be_large (Table table.Withdrawals) = true
+may_be_large (File file) = false
 
 -- ---- the words in braces
 -- up to and without the first slash, or all

@@ -20,6 +20,8 @@ use Rattle.pw_book.specs.declared.book.Book.{Book}
 use Rattle.pw_book.specs.declared.fault.BookFault.{BookFault}
 use Rattle.pw_book.specs.declared.fault.PostFault.{PostFault}
 use Rattle.pw_book.specs.declared.fault.PostFault.TheVariants as post
+use Rattle.pw_page.specs.declared.File.{File}
+use Rattle.pw_page.specs.Files.{text_of}
 use Rattle.pw_report.specs.declared.months.Month.{Month}
 use Rattle.pw_report.specs.declared.page.MonthPage.{MonthPage}
 use Rattle.pw_report.specs.declared.page.MonthPage.TheVariants as month
@@ -31,6 +33,7 @@ use Rattle.pw_report.specs.Pages.{IsAnswer}
 use Rattle.pw_report.specs.Reports.{IsReport}
 use Rattle.pw_http.specs.declared.replies.ContentType.{ContentType}
 use Rattle.pw_http.specs.declared.replies.ContentType.TheVariants.{Plain, Csv}
+use Rattle.pw_http.specs.declared.replies.ContentType.TheVariants as content
 use Rattle.pw_http.specs.declared.replies.Status.{Status}
 use Rattle.pw_http.specs.declared.replies.Status.TheVariants.{Fine, BadRequest, NotFound, MethodNotAllowed, Unavailable, InsufficientStorage}
 use Rattle.pw_http.specs.declared.routes.Route.TheVariants as route
@@ -83,6 +86,10 @@ page_content (page.Table table.Withdrawals) = Csv
 abbrev pub page_reply : Page → Result (List ℕ) BookFault → Reply
 page_reply shown (Ok text) = record { status = Fine; content = page_content shown; body = text }
 page_reply shown (Err fault) = line_reply Unavailable (book_line fault)
+
+-- to a question for a file of the page
+abbrev pub file_reply : File → Reply
+file_reply file = record { status = Fine; content = content.File file; body = text_of file }
 
 -- ---- steps
 -- what a request sends, by where it goes
@@ -143,6 +150,10 @@ module _ {S : Type 0} (shelf : Ghosts S) where
   abbrev pub Says : Status → List ℕ → Book S shelf → Reply → Book S shelf → Type 0
   Says status line old reply new = (reply ≡ line_reply status line) × (new ≡ old)
 
+  -- nothing is asked of the book, and a file of the page is answered: so it is where the book is shut
+  abbrev pub GivesFile : File → Book S shelf → Reply → Book S shelf → Type 0
+  GivesFile file old reply new = (reply ≡ file_reply file) × (new ≡ old)
+
   -- the statement of the account of a name, if the office has one
   abbrev pub ShowsAccount : List ℕ → Book S shelf → Reply → Book S shelf → Type 0
   ShowsAccount name old reply new =
@@ -180,6 +191,7 @@ module _ {S : Type 0} (shelf : Ghosts S) where
   AnswersAt (At (route.Month what)) target body = ShowsMonth what (account_in target) (month_in target)
   AnswersAt (At route.MeterReadings) target body = ShowsMeter (exported_meter_in target)
   AnswersAt (At (route.Table table)) target body = Shows (page.Table table)
+  AnswersAt (At (route.File file)) target body = GivesFile file
 
   -- one step: what a book answers to a request, and what it is behind it
   abbrev pub Answers : Book S shelf → Asking → Reply → Book S shelf → Type 0

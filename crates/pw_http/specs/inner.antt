@@ -5,3 +5,4 @@ pub mod Turns
 pub mod Answered
 pub mod Large
 pub mod Answering
+pub mod Fronts

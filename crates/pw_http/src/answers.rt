@@ -1,11 +1,11 @@
-//! What a book answers: to an upload, and to a question for a page.
+//! What a book answers: to an upload, to a question for a page, and where a file of the page is asked for.
 
 ghost use Rattle.arrayvec.specs.ArrayString.{array_string_len};
 ghost use Rattle.std.specs.Prelude.{◌≡◌, ◌<◌, ◌≤◌, length};
 ghost use Rattle.pw_book.specs.After.{Refused};
 ghost use Rattle.pw_record.specs.Laws.{upload_with};
 ghost use Rattle.pw_report.specs.Pages.{IsPageOf};
-ghost use Rattle.pw_http.specs.Steps.{AnswersAt, Shows, ShowsAccount, ShowsMeter, ShowsMonth, ShowsMonthOf, Takes, line_reply, page_content, posted_reply, posted_status as status_posted, refused_status as status_refused, upload_reply};
+ghost use Rattle.pw_http.specs.Steps.{AnswersAt, Shows, ShowsAccount, ShowsMeter, ShowsMonth, ShowsMonthOf, Takes, file_reply, line_reply, page_content, posted_reply, posted_status as status_posted, refused_status as status_refused, upload_reply};
 ghost use Rattle.pw_http.specs.declared.routes.Place.TheVariants.{At};
 ghost use Rattle.pw_http.specs.inner.Answered.{body_text, reply_of};
 
@@ -13,6 +13,7 @@ use crate::replies::{ContentType, Status};
 use crate::routes::{Route, account_in, exported_meter_in, meter_in, month_in};
 use pw_book::{Accepted, Book, PostFault};
 use pw_line::{Line, ROOM, ended, line_of};
+use pw_page::File;
 use pw_record::{Cause, UploadBytes, UploadFault, UploadKind, upload_records};
 use pw_report::{MonthPage, Page, Table, month_of, page_text};
 use pw_shelf::Shelf;
@@ -24,6 +25,7 @@ use std::alloc::Global;
 pub(crate) enum Body {
     Line(Line),
     Page(Vec<u8>),
+    File(&'static str),
 }
 
 /// An answer that wasn't written yet.
@@ -54,6 +56,7 @@ impl Answer {
         match &self.body {
             Body::Line(line) => line.as_str().as_bytes(),
             Body::Page(text) => text,
+            Body::File(text) => text.as_bytes(),
         }
     }
 }
@@ -64,6 +67,17 @@ pub(crate) fn said(status: Status, text: &str) -> Answer
     ensures { reply_of result ≡ line_reply status text.now }
 {
     Answer::of_line(status, line_of(text))
+}
+
+/// A file of the page.
+fn given(file: File) -> Answer
+    ensures { reply_of result ≡ file_reply file }
+{
+    Answer {
+        status: Status::Fine,
+        content: ContentType::File(file),
+        body: Body::File(file.text()),
+    }
 }
 
 fn refused_status(cause: Cause) -> Status
@@ -223,5 +237,6 @@ pub(crate) fn answer_at<S: Shelf>(
         }
         Route::MeterReadings => show_meter(book, alloc, exported_meter_in(target)),
         Route::Table(table) => show(book, alloc, Page::Table(table)),
+        Route::File(file) => given(file),
     }
 }

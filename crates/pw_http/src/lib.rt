@@ -26,6 +26,7 @@ pub use conversation::{MOST_TURNS, serve_to, serve_within};
 pub use fault::WireFault;
 pub use heads::{LONGEST_HEAD, MOST_FIELDS};
 pub use pw_frame::LONGEST_BODY;
+pub use pw_page::File;
 pub use replies::{ContentType, Status};
 pub use requests::{ROOM, Refusal};
 pub use routes::{Place, Route, Routes};

@@ -1,11 +1,13 @@
 //! The text of a reply. It takes no memory.
 
-ghost use Rattle.std.specs.Prelude.{◌≡◌, ◌≤◌, length};
-ghost use Rattle.pw_http.specs.Replies.{close_line, content_name, refusal_line, refusal_status, reply_head, status_told};
+ghost use Rattle.std.specs.Prelude.{◌≡◌, ◌≤◌, ◌++◌, codes, length};
+ghost use Rattle.pw_http.specs.Replies.{close_line, content_name, file_headers, refusal_line, refusal_status, reply_head, status_told};
+ghost use Rattle.pw_http.specs.inner.Fronts.{rest_of_head};
 
 use crate::requests::Refusal;
 use http::StatusCode;
 use pw_line::{Line, push_number};
+use pw_page::File;
 
 /// The status of a reply.
 #[derive(Clone, Copy, Debug, PartialEq, Eq)]
@@ -26,6 +28,8 @@ pub enum Status {
 pub enum ContentType {
     Plain,
     Csv,
+    /// A file of the page.
+    File(File),
 }
 
 impl Status {
@@ -69,11 +73,14 @@ impl Status {
 
 fn content_text(content: ContentType) -> &'static str
     ensures text { result.now ≡ content_name content }
-    ensures short { length result.now ≤ 10 }
+    ensures short { length result.now ≤ 30 }
 {
     match content {
         ContentType::Plain => "text/plain",
         ContentType::Csv => "text/csv",
+        ContentType::File(File::Page) => "text/html; charset=utf-8",
+        ContentType::File(File::Script) => "text/javascript; charset=utf-8",
+        ContentType::File(File::Style) => "text/css; charset=utf-8",
     }
 }
 
@@ -84,9 +91,20 @@ fn closing_line(closing: bool) -> &'static str
     if closing { "Connection: close\r\n" } else { "" }
 }
 
-/// The head of a reply with a body of this size.
+// What ends the first part of a head.
+fn first_end(content: ContentType) -> &'static str
+    ensures text { result.now ++ rest_of_head content ≡ file_headers content ++ codes "\r\n" }
+    ensures short { length result.now ≤ 2 }
+{
+    match content {
+        ContentType::Plain | ContentType::Csv => "\r\n",
+        ContentType::File(_) => "",
+    }
+}
+
+/// The first part of the head of a reply with a body of this size.
 pub(crate) fn head(status: Status, content: ContentType, size: usize, closing: bool) -> Line
-    ensures { result.bytes ≡ reply_head status content size closing }
+    ensures { result.bytes ++ rest_of_head content ≡ reply_head status content size closing }
 {
     let mut line = pw_line::line_of("HTTP/1.1 ");
     push_number(&mut line, status.number() as u64);
@@ -98,8 +116,23 @@ pub(crate) fn head(status: Status, content: ContentType, size: usize, closing: b
     push_number(&mut line, size as u64);
     line.push_str("\r\n");
     line.push_str(closing_line(closing));
-    line.push_str("\r\n");
+    line.push_str(first_end(content));
     line
+}
+
+/// What the first part of a head leaves: the headers of a file of the page, which are longer than a line may be.
+pub(crate) fn behind_head(content: ContentType) -> &'static str
+    ensures { result.now ≡ rest_of_head content }
+{
+    match content {
+        ContentType::Plain | ContentType::Csv => "",
+        ContentType::File(_) => {
+            "Content-Security-Policy: default-src 'self'; frame-ancestors 'none'; \
+             base-uri 'none'; form-action 'self'\r\n\
+             X-Content-Type-Options: nosniff\r\n\
+             Cache-Control: no-cache\r\n\r\n"
+        }
+    }
 }
 
 /// The status of the reply to what is no whole request.

@@ -3,10 +3,11 @@
 ghost use Rattle.std.specs.Prelude.{◌≡◌, ◌==◌, ◌≤◌, IfOk, drop, length};
 ghost use Rattle.std.specs.List.{position_or_len};
 ghost use Rattle.pw_http.specs.Routes.{account_in as account_of, behind_slash as behind_first, by_method, exported_meter_in as exported_meter_of, may_be_large as is_large, meter_in as meter_of, method_name, month_in as month_of, place_of, route_at, route_table, up_to_slash as up_to_first};
-ghost use Rattle.pw_http.specs.inner.Added.{all_added, exports, months, pages, uploads};
+ghost use Rattle.pw_http.specs.inner.Added.{all_added, exports, files, months, pages, uploads};
 ghost use Rattle.pw_http.specs.inner.Large.{is_large_at as is_place_large};
 
 use matchit::{InsertError, Router};
+use pw_page::File;
 use pw_report::{MonthPage, Table};
 use std::alloc::Global;
 use std::str::from_utf8;
@@ -32,6 +33,8 @@ pub enum Route {
     MeterReadings,
     /// A table of the book.
     Table(Table),
+    /// A file of the page, of which nothing is asked of the book.
+    File(File),
 }
 
 impl Route {
@@ -48,7 +51,8 @@ impl Route {
             | Route::Withdrawals
             | Route::Account
             | Route::Month(MonthPage::Bill | MonthPage::Days)
-            | Route::Table(Table::Accounts) => false,
+            | Route::Table(Table::Accounts)
+            | Route::File(_) => false,
             Route::Month(MonthPage::Why) | Route::MeterReadings | Route::Table(_) => true,
         }
     }
@@ -72,9 +76,9 @@ pub struct Routes {
 }
 
 impl Routes {
-    /// The eighteen routes. It takes all the memory that they need.
+    /// The twenty-one routes. It takes all the memory that they need.
     pub fn new(alloc: Global) -> Result<Routes, InsertError> {
-        let router = eighteen_routes(alloc)?;
+        let router = all_routes(alloc)?;
         Ok(Routes { router })
     }
 
@@ -89,8 +93,8 @@ impl Routes {
     }
 }
 
-/// The router of the eighteen routes.
-fn eighteen_routes(alloc: Global) -> Result<Router<Route>, InsertError>
+/// The router of the twenty-one routes.
+fn all_routes(alloc: Global) -> Result<Router<Route>, InsertError>
     ensures { IfOk result (λ router. router ≡ route_table) }
 {
     let mut router = Router::new(alloc);
@@ -98,6 +102,7 @@ fn eighteen_routes(alloc: Global) -> Result<Router<Route>, InsertError>
     add_pages(&mut router)?;
     add_exports(&mut router)?;
     add_months(&mut router)?;
+    add_files(&mut router)?;
     Ok(router)
 }
 
@@ -153,6 +158,16 @@ fn add_months(router: &mut Router<Route>) -> Result<(), InsertError>
     Ok(())
 }
 
+// The files of the page.
+fn add_files(router: &mut Router<Route>) -> Result<(), InsertError>
+    ensures { IfOk result (λ done. router.new ≡ all_added router.old files) }
+{
+    router.insert("/", Route::File(File::Page))?;
+    router.insert("/page.js", Route::File(File::Script))?;
+    router.insert("/page.css", Route::File(File::Style))?;
+    Ok(())
+}
+
 fn route_of(router: &Router<Route>, path: &str) -> Option<Route>
     requires { router.now ≡ route_table }
     ensures { result ≡ route_at path.now }
@@ -188,7 +203,11 @@ fn method_of(route: Route) -> &'static [u8]
         | Route::Assignments
         | Route::TopUps
         | Route::Withdrawals => b"POST",
-        Route::Account | Route::Month(_) | Route::MeterReadings | Route::Table(_) => b"GET",
+        Route::Account
+        | Route::Month(_)
+        | Route::MeterReadings
+        | Route::Table(_)
+        | Route::File(_) => b"GET",
     }
 }
 

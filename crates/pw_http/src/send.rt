@@ -1,12 +1,13 @@
 //! Replies are written whole, or cut at an error.
 
-ghost use Rattle.std.specs.Prelude.{◌≡◌, true, IfErr};
+ghost use Rattle.std.specs.Prelude.{◌≡◌, ◌++◌, true, IfErr};
 ghost use Rattle.pw_http.specs.Replies.{refusal_reply, reply_bytes};
 ghost use Rattle.pw_http.specs.Writing.{Writes};
+ghost use Rattle.pw_http.specs.inner.Fronts.{rest_of_head};
 ghost use Rattle.pw_http.specs.declared.fault.WireFault.TheVariants.{Write as WriteFault};
 
 use crate::fault::WireFault;
-use crate::replies::{ContentType, Status, head, line_of, status_of};
+use crate::replies::{ContentType, Status, behind_head, head, line_of, status_of};
 use crate::requests::Refusal;
 use std::io::Write;
 
@@ -26,6 +27,17 @@ pub(crate) fn send<W: Write>(writer: &mut W, bytes: &[u8]) -> Result<(), WireFau
     Ok(())
 }
 
+// Writes what stands behind the first part of a head: the rest of it, and the body.
+fn send_rest<W: Write>(writer: &mut W, content: ContentType, body: &[u8]) -> Result<(), WireFault>
+    ensures written { Writes (W.contents writer.old) (W.contents writer.new) (rest_of_head content ++ body.now) result }
+    ensures fault { IfErr result (λ e. e ≡ WriteFault) }
+{
+    match send(writer, behind_head(content).as_bytes()) {
+        Ok(()) => send(writer, body),
+        Err(fault) => Err(fault),
+    }
+}
+
 /// Writes a reply. It takes no memory.
 pub fn send_reply<W: Write>(
     writer: &mut W,
@@ -39,7 +51,7 @@ pub fn send_reply<W: Write>(
 {
     let text = head(status, content, body.len(), closing);
     match send(writer, text.as_str().as_bytes()) {
-        Ok(()) => send(writer, body),
+        Ok(()) => send_rest(writer, content, body),
         Err(_) => Err(WireFault::Write),
     }
 }

@@ -77,7 +77,11 @@ fn takes_uploads(place: Place) -> bool {
             | Route::Assignments
             | Route::TopUps
             | Route::Withdrawals => true,
-            Route::Account | Route::Month(_) | Route::MeterReadings | Route::Table(_) => false,
+            Route::Account
+            | Route::Month(_)
+            | Route::MeterReadings
+            | Route::Table(_)
+            | Route::File(_) => false,
         },
     }
 }

@@ -3,7 +3,8 @@ use Rattle.std.specs.Prelude.{List, [], ◌∷◌}
 use Rattle.matchit.specs.Rows.{RowsOf}
 use Rattle.matchit.specs.Router.{RouteOf}
 use Rattle.pw_http.specs.declared.routes.Route.{Route}
-use Rattle.pw_http.specs.declared.routes.Route.TheVariants.{Telegrams, Readouts, Assignments, TopUps, Withdrawals, Account, Month, MeterReadings, Table}
+use Rattle.pw_http.specs.declared.routes.Route.TheVariants.{Telegrams, Readouts, Assignments, TopUps, Withdrawals, Account, Month, MeterReadings, Table, File}
+use Rattle.pw_page.specs.declared.File.TheVariants as file
 use Rattle.pw_report.specs.declared.page.MonthPage.TheVariants as month
 use Rattle.pw_report.specs.declared.page.Table.TheVariants as table
 use Rattle.pw_http.specs.Routes.{added}
@@ -24,3 +25,6 @@ exports = Table table.Readings ∷ Table table.Energies ∷ Table table.Assignme
 
 abbrev pub months : List Route
 months = Month month.Bill ∷ Month month.Days ∷ Month month.Why ∷ []
+
+abbrev pub files : List Route
+files = File file.Page ∷ File file.Script ∷ File file.Style ∷ []

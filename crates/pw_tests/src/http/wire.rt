@@ -51,7 +51,7 @@ impl<'a> Read for Endless<'a> {
     fn read(&mut self, buf: &mut [u8]) -> io::Result<usize> {
         self.calls = self.calls.saturating_add(1);
         if self.rest.is_empty() {
-            self.rest = b"GET / HTTP/1.1\r\n\r\n";
+            self.rest = b"GET /x HTTP/1.1\r\n\r\n";
         }
         let most = buf.len().min(1);
         self.rest.read(&mut buf[..most])

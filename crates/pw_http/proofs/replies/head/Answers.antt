@@ -1,6 +1,7 @@
-use Rattle.std.proofs.Common.{◌≡◌, ◌∙◌, List, ℕ, ◌++◌, ap, codes}
+use Rattle.std.proofs.Common.{◌≡◌, ◌∙◌, List, ℕ, ◌++◌, ap, sym, append_assoc, codes}
 use Rattle.std.specs.Prelude.{decimal}
-use Rattle.pw_http.specs.Replies.{reply_head, status_told}
+use Rattle.pw_http.specs.Replies.{close_line, content_name, file_headers, reply_head, status_told}
+use Rattle.pw_http.specs.inner.Fronts.{rest_of_head}
 use Rattle.pw_http.proofs.replies.head.Goals as goal
 
 -- eleven texts, one behind another
@@ -25,5 +26,13 @@ returns c =
     let phrase = c.phrase.ensures.text in
     let content = c.content_text.ensures.text in
     let close = c.closing_line.ensures.text in
+    let front : List ℕ =
+    codes "HTTP/1.1 " ++ decimal (status_told c.args.status).0 ++ codes " " ++ (status_told c.args.status).1 ++ codes "\r\nContent-Type: " ++ content_name c.args.content
+    ++ codes "\r\nContent-Length: " ++ decimal c.args.size ++ codes "\r\n" ++ close_line c.args.closing in
+    let line : _ ≡ front ++ c.first_end.result.now =
     joined _ _ _ _ _ _ _ _ _ _ _ _ _ _ _ _ _ _ _ _ _ c.line_of-line.ensures.text c.push_number.ensures.text c.push_str.ensures.bytes c.push_str-2.ensures.bytes c.push_str-3.ensures.bytes c.push_str-4.ensures.bytes c.push_str-5.ensures.bytes c.push_number-2.ensures.text c.push_str-6.ensures.bytes c.push_str-7.ensures.bytes c.push_str-8.ensures.bytes
-    ∙ (λ i. codes "HTTP/1.1 " ++ number i ++ codes " " ++ phrase i ++ codes "\r\nContent-Type: " ++ content i ++ codes "\r\nContent-Length: " ++ decimal c.args.size ++ codes "\r\n" ++ close i ++ codes "\r\n")
+    ∙ (λ i. codes "HTTP/1.1 " ++ number i ++ codes " " ++ phrase i ++ codes "\r\nContent-Type: " ++ content i ++ codes "\r\nContent-Length: " ++ decimal c.args.size ++ codes "\r\n" ++ close i ++ c.first_end.result.now) in
+    ap (λ (t : List ℕ). t ++ rest_of_head c.args.content) line
+    ∙ append_assoc front c.first_end.result.now (rest_of_head c.args.content)
+    ∙ ap (λ (t : List ℕ). front ++ t) c.first_end.ensures.text
+    ∙ sym (append_assoc front (file_headers c.args.content) (codes "\r\n"))
