@@ -1,5 +1,5 @@
 -- A bill of what was asked of a book, one question behind another.
-use Rattle.std.proofs.Common.{◌≡◌, ℕ, ◌+◌, ◌≤◌, List, length, ℤ, sym, subst, arith}
+use Rattle.std.proofs.Common.{◌≡◌, ℕ, ◌+◌, ◌*◌, ◌≤◌, List, length, ℤ, Ok, sym, subst, ◌∙◌, arith}
 use Rattle.pw_time.specs.declared.instant.TheConstants.{END_SECOND}
 use Rattle.pw_tariff.specs.declared.ids.AccountId.{AccountId}
 use Rattle.pw_tariff.specs.Office.{OfficeFile, office_of}
@@ -7,10 +7,13 @@ use Rattle.pw_model.specs.declared.records.Entry.{Entry}
 use Rattle.pw_model.specs.Office.{AllOfOffice, most_records}
 use Rattle.pw_model.specs.Payments.{balance}
 use Rattle.pw_model.specs.Shelf.{ShelfContent}
+use Rattle.pw_shelf.specs.declared.shelf.Shelf.{Ghosts}
+use Rattle.pw_book.specs.Questions.{IsQuestion}
+use Rattle.pw_book.specs.declared.book.Book.{Book}
 use Rattle.pw_bills.specs.declared.billed.Bill.{Bill}
 use Rattle.pw_bills.specs.declared.energies.Energies.{Energies}
 use Rattle.pw_bills.specs.declared.payments.TopUpRow.{TopUpRow}
-use Rattle.pw_bills.specs.Billed.{TellsBill}
+use Rattle.pw_bills.specs.Billed.{AreEnoughForBill, TellsBill}
 use Rattle.pw_bills.specs.Payments.{AreEnoughForTopUps, AreTopUpRows}
 use Rattle.pw_bills.specs.Reads.{AreEnoughFor, all_meters}
 use Rattle.pw_bills.specs.inner.Settling.{TellsFlows}
@@ -32,7 +35,7 @@ bill-there file second third c d e a from to nano rows lent energies told p q i 
 pub top-ups_there : (c d : ShelfContent) (a : AccountId) (from to most : ℕ) → d ≡ c → AreEnoughForTopUps c.records a from to most → AreEnoughForTopUps d.records a from to most
 top-ups_there c d a from to most q h = let P : ShelfContent → Type 0 = λ x. AreEnoughForTopUps x.records a from to most in subst P (sym q) h
 
-pub flows-there : (file second : OfficeFile) (c d : ShelfContent) (a from was now : ℕ) (each : ℕ → ℕ) → second ≡ file → d ≡ c →
+flows-there : (file second : OfficeFile) (c d : ShelfContent) (a from was now : ℕ) (each : ℕ → ℕ) → second ≡ file → d ≡ c →
     ((most : ℕ → ℕ) → AreEnoughFor (office_of second) d a from END_SECOND most → now ≤ was + all_meters (office_of second) most) → AreEnoughFor (office_of file) c a from END_SECOND each →
     now ≤ was + all_meters (office_of file) each
 flows-there file second c d a from was now each p q f h =
@@ -43,5 +46,16 @@ flows-there file second c d a from was now each p q f h =
 pub two-read : (first x y most was mid now : ℕ) → first + x + y ≤ most → mid ≤ was + first → now ≤ mid + x → now ≤ was + most
 two-read first x y most was mid now e a b = omega (arith, e, a, b)
 
-pub three-read : (first x y most was mid late now : ℕ) → first + x + y ≤ most → mid ≤ was + first → late ≤ mid + x → now ≤ late + y → now ≤ was + most
-three-read first x y most was mid late now e a b c = omega (arith, e, a, b, c)
+-- those of the balance, of the top-ups, and of what flows
+pub bill-read : {S T U : Type 0} (shelf : Ghosts S) (x : T) (y : U) (b second third : Book S shelf) (a : AccountId) (from most now : ℕ) → AreEnoughForBill (office_of b.office) (shelf.state b.shelf).content a from most →
+    shelf.clean third.shelf → IsQuestion shelf {T = T} (Ok x) b second → IsQuestion shelf {T = U} (Ok y) second third →
+    (shelf.state second.shelf).tally ≤ (shelf.state b.shelf).tally + 2 * (2 * ((office_of b.office).periods * (office_of b.office).bands) + 1) →
+    (shelf.clean third.shelf → (n : ℕ) → AreEnoughForTopUps (shelf.state second.shelf).content.records a from END_SECOND n → (shelf.state third.shelf).tally ≤ (shelf.state second.shelf).tally + n) →
+    ((each : ℕ → ℕ) → AreEnoughFor (office_of third.office) (shelf.state third.shelf).content a.0 from END_SECOND each → now ≤ (shelf.state third.shelf).tally + all_meters (office_of third.office) each) →
+    now ≤ (shelf.state b.shelf).tally + most
+bill-read shelf x y b second third a from most now h k f g balanced topped flowed =
+    let same = f.asked.content (g.asked.kept.clean k) in
+    let top_ups = topped k h.top_ups (top-ups_there (shelf.state b.shelf).content (shelf.state second.shelf).content a from END_SECOND h.top_ups same h.few) in
+    let flows = flows-there b.office third.office (shelf.state b.shelf).content (shelf.state third.shelf).content a.0 from (shelf.state third.shelf).tally now h.each (g.office ∙ f.office) (g.asked.content k ∙ same) flowed h.few_each in
+    let enough = h.enough in
+    omega (arith, enough, balanced, top_ups, flows)

@@ -31,7 +31,7 @@ use Rattle.pw_parts.specs.declared.changes.Side.TheVariants.{Gains}
 use Rattle.pw_book.specs.inner.Settling.{EndsBefore}
 use Rattle.pw_months.specs.Between.{lies_in}
 use Rattle.pw_months.specs.Window.{kept_in}
-use Rattle.pw_bills.specs.declared.energies.Energies.{Energies}
+use Rattle.pw_bills.specs.declared.energies.SharedOut.{SharedOut}
 use Rattle.pw_bills.specs.ReadUpTo.{IsAccountsIn}
 use Rattle.pw_bills.specs.Stretches.{end_of, first_of}
 use Rattle.pw_bills.specs.inner.Flows.{AddsEnergy, Covers, IsOfStretch, all_between, meter_between, of_stretch, register_between}
@@ -150,41 +150,41 @@ sum-none f = refl
 
 -- what is gathered of an office
 module _ (q : Pass) where
-  abbrev UpTo : ℕ → ℕ → Energies → Type 0
+  abbrev UpTo : ℕ → ℕ → SharedOut → Type 0
   UpTo m i e = (k : TotalKey) → IsOfStretch q.begins k →
       gathered Gains e.changes.rows k
       ≡ sum_over (meter_between (office_of q.file) (contents_at q.content.records) q.account q.begins q.end k) 0 m
       + sum_by (register_between (office_of q.file) (contents_at q.content.records) q.account q.begins q.end m k) (take i registers)
 
-  register-up_to : (m : ℕ) (r : Register) (mid next : Energies) → AddsEnergy q m r mid next → UpTo m (register_place r) mid → UpTo m (register_place r + 1) next
+  register-up_to : (m : ℕ) (r : Register) (mid next : SharedOut) → AddsEnergy q m r mid next → UpTo m (register_place r) mid → UpTo m (register_place r + 1) next
   register-up_to m r mid next f h = λ k s.
       let x = f k s in
       let y = h k s in
       let z = sum-at (register_between (office_of q.file) (contents_at q.content.records) q.account q.begins q.end m k) r in
       omega (arith, x, y, z)
 
-  uncounted-up_to : (m : ℕ) (r : Register) (mid : Energies) → counts_at q.file m r ≡ false → UpTo m (register_place r) mid → UpTo m (register_place r + 1) mid
+  uncounted-up_to : (m : ℕ) (r : Register) (mid : SharedOut) → counts_at q.file m r ≡ false → UpTo m (register_place r) mid → UpTo m (register_place r + 1) mid
   uncounted-up_to m r mid n h = λ k s.
       let x = register-uncounted q.file (contents_at q.content.records) m r q.account q.begins q.end n k in
       let y = h k s in
       let z = sum-at (register_between (office_of q.file) (contents_at q.content.records) q.account q.begins q.end m k) r in
       omega (arith, x, y, z)
 
-  meter-up_to : (m : ℕ) (mid : Energies) → UpTo m 6 mid → UpTo (m + 1) 0 mid
+  meter-up_to : (m : ℕ) (mid : SharedOut) → UpTo m 6 mid → UpTo (m + 1) 0 mid
   meter-up_to m mid h = λ k s.
       let x = h k s in
       let y = registers-between (office_of q.file) (contents_at q.content.records) m q.account q.begins q.end k in
       let z = sum-next (meter_between (office_of q.file) (contents_at q.content.records) q.account q.begins q.end k) m in
       omega (arith, x, y, z)
 
-  others-up_to : (m : ℕ) (mid : Energies) → Rises q.begins q.end → ¬ (IsOfAccount q m) → UpTo m 0 mid → UpTo (m + 1) 0 mid
+  others-up_to : (m : ℕ) (mid : SharedOut) → Rises q.begins q.end → ¬ (IsOfAccount q m) → UpTo m 0 mid → UpTo (m + 1) 0 mid
   others-up_to m mid w n h = λ k s.
       let x = h k s in
       let y = nothing-given q.file (contents_at q.content.records) m q.account q.begins q.end w n k s in
       let z = sum-next (meter_between (office_of q.file) (contents_at q.content.records) q.account q.begins q.end k) m in
       omega (arith, x, y, z)
 
-  pub all-given : (old new : Energies) → Rises q.begins q.end → ((k : TotalKey) → gathered Gains old.changes.rows k ≡ 0) → IsGathered AddsEnergy q old new → (k : TotalKey) → IsOfStretch q.begins k →
+  pub all-given : (old new : SharedOut) → Rises q.begins q.end → ((k : TotalKey) → gathered Gains old.changes.rows k ≡ 0) → IsGathered AddsEnergy q old new → (k : TotalKey) → IsOfStretch q.begins k →
       gathered Gains new.changes.rows k ≡ all_between (office_of q.file) (contents_at q.content.records) q.account q.begins q.end k
   all-given old new w z h = λ k s.
       let first : UpTo 0 0 old = λ t l. (let x = z t in let y = sum-none (meter_between (office_of q.file) (contents_at q.content.records) q.account q.begins q.end t) in omega (arith, x, y)) in

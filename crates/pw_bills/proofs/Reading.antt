@@ -16,8 +16,10 @@ use Rattle.pw_model.specs.Energy.{over_registers}
 use Rattle.pw_model.specs.Seconds.{ListsSeconds}
 use Rattle.pw_model.specs.Shelf.{ShelfContent}
 use Rattle.pw_model.proofs.PlainEnergy.{sum-next, sum-to}
+use Rattle.pw_shelf.specs.declared.shelf.Shelf.{Ghosts}
 use Rattle.pw_shelf.specs.Rows.{rows_found}
 use Rattle.pw_shelf.specs.Seconds.{IsBefore, IsBehind, ListsSecondsWithin}
+use Rattle.pw_book.specs.Asking.{IsOnlyAsked}
 use Rattle.pw_book.specs.Cost.{HasPoints, HasPointsAt}
 use Rattle.pw_book.specs.Listed.{point_listed}
 use Rattle.pw_book.proofs.StartChanged.{registers-more}
@@ -67,16 +69,19 @@ points-told c d e m r x from until before within lent after points p q f u b a l
     let whole : points ≡ point_listed before (within ++ point_listed after []) = w ∙ ap (λ (xs : List (ℕ × ℕ)). point_listed before (xs ++ point_listed after [])) v in
     subst P (sym whole) (covers told x until u before within after (subst B f b) (subst M f (subst L ep l)) (subst A dp a))
 
-pub points-read : (c d e : ShelfContent) (m : ℕ) (r : Register) (x from until most : ℕ) (before : Option (ℕ × ℕ)) (within : List (ℕ × ℕ)) (after : Option (ℕ × ℕ)) (was first second third listed : ℕ) → d ≡ c → e ≡ d → from ≡ x →
-    ListsSecondsWithin from until (e.point m r) within → HasPointsAt (IsBetween x (until + 1)) (c.point m r) most → listed ≡ length within →
-    first ≡ was + 1 + rows_found before → second ≡ first + 1 + rows_found after → third ≡ second + 1 + listed → third ≤ was + 5 + most
-points-read c d e m r x from until most before within after was first second third listed p q f l h v a b g =
-    let told : ℕ → Option ℕ = c.point m r in
-    let L : (ℕ → Option ℕ) → Type 0 = λ t. ListsSecondsWithin from until t within in
+pub points-read : {S : Type 0} (shelf : Ghosts S) (o p u v : S) (x from m : ℕ) (r : Register) (until most : ℕ) (before : Option (ℕ × ℕ)) (within : List (ℕ × ℕ)) (after : Option (ℕ × ℕ)) (listed : ℕ) → from ≡ x →
+    IsOnlyAsked shelf 0 o p → IsOnlyAsked shelf 0 p u → IsOnlyAsked shelf 0 u v → shelf.clean v → (shelf.clean v → ListsSecondsWithin from until ((shelf.state u).content.point m r) within) →
+    HasPointsAt (IsBetween x (until + 1)) ((shelf.state o).content.point m r) most → listed ≡ length within →
+    (shelf.state p).tally ≡ (shelf.state o).tally + 1 + rows_found before → (shelf.state u).tally ≡ (shelf.state p).tally + 1 + rows_found after → (shelf.state v).tally ≡ (shelf.state u).tally + 1 + listed →
+    (shelf.state v).tally ≤ (shelf.state o).tally + 5 + most
+points-read shelf o p u v x from m r until most before within after listed f first second third k l h e a b g =
+    let told : ℕ → Option ℕ = (shelf.state o).content.point m r in
+    let late = third.kept.clean k in
+    let same : (shelf.state u).content ≡ (shelf.state o).content = second.content late ∙ first.content (second.kept.clean late) in
+    let L : ShelfContent → Type 0 = λ c. ListsSecondsWithin from until (c.point m r) within in
     let M : ℕ → Type 0 = λ s. ListsSecondsWithin s until told within in
-    let ep : e.point m r ≡ told = ap (λ (o : ShelfContent). o.point m r) (q ∙ p) in
-    let few = points-few told x until most within (subst M f (subst L ep l)) h in
-    tally-five was first second third before after listed (length within) most a b g v few
+    let few = points-few told x until most within (subst M f (subst L same (l k))) h in
+    tally-five (shelf.state o).tally (shelf.state p).tally (shelf.state u).tally (shelf.state v).tally before after listed (length within) most a b g e few
 
 -- as many as are enough for its points
 pub points-counted : (q : Pass) (m : ℕ) (r : Register) (most was now : ℕ) → PointsAreRead q m r most →

@@ -16,6 +16,7 @@ use Rattle.pw_parts.specs.declared.changes.Side.TheVariants.{Gains}
 use Rattle.pw_bills.specs.Energies.{TellsEnergies}
 use Rattle.pw_bills.specs.Stretches.{AreStretches, end_of}
 use Rattle.pw_bills.specs.declared.energies.Energies.{Energies}
+use Rattle.pw_bills.specs.declared.energies.SharedOut.{SharedOut}
 use Rattle.pw_bills.specs.inner.Flows.{AddsEnergy, IsOfStretch, all_between, of_stretch}
 use Rattle.pw_bills.specs.inner.Gathering.{Pass, IsGathered}
 use Rattle.pw_bills.proofs.Given.{all-given}
@@ -39,7 +40,7 @@ energies-told file s a begins end e sound o few h = λ i l p b d.
     let f = energy-fits (office_of file) s d (of_stretch (office_of file) a begins end i p.0 b.0) (sound-office file sound) o few in
     min-is (gathered Gains e.changes.rows (Energy (Some (account i)) p b d)) (2 ^ 64 - 1) (omega (arith, g, f)) ∙ g
 
-pub energies-gathered : (q : Pass) (old new : Energies) → AreStretches q.begins q.end → ((k : TotalKey) → gathered Gains old.changes.rows k ≡ 0) → IsGathered AddsEnergy q old new →
-    TellsEnergies (office_of q.file) q.content.records q.account q.begins q.end new
+pub energies-gathered : (q : Pass) (old new : SharedOut) → AreStretches q.begins q.end → ((k : TotalKey) → gathered Gains old.changes.rows k ≡ 0) → IsGathered AddsEnergy q old new →
+    TellsEnergies (office_of q.file) q.content.records q.account q.begins q.end (record { changes = new.changes })
 energies-gathered q old new w z h =
-    energies-told q.file q.content.records q.account q.begins q.end new h.office h.content.of_office h.content.few (all-given q old new (rises q.begins q.end w.rising) z h)
+    energies-told q.file q.content.records q.account q.begins q.end (record { changes = new.changes }) h.office h.content.of_office h.content.few (all-given q old new (rises q.begins q.end w.rising) z h)

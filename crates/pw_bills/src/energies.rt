@@ -46,9 +46,15 @@ impl Energies {
     }
 }
 
+// What the registers so far share out to the stretches.
+#[derive(Drop)]
+struct SharedOut {
+    changes: Changes,
+}
+
 // A register gives each stretch what its neighbouring pairs share out to the stretch's number: each
 // whole pair is shared out once.
-impl Gathers for Energies {
+impl Gathers for SharedOut {
     ghost adds = { AddsEnergy };
 
     ghost fits = { IsOfRegisters };
@@ -126,7 +132,9 @@ pub fn days<S: Shelf>(
     ensures question { IsQuestion S.Shelf result book.old book.new }
 {
     let changes = Changes::new(alloc);
-    let mut energies = Energies { changes };
-    gather(book, alloc, account, begins, end, &mut energies)?;
-    Ok(energies)
+    let mut shared = SharedOut { changes };
+    gather(book, alloc, account, begins, end, &mut shared)?;
+    Ok(Energies {
+        changes: shared.changes,
+    })
 }

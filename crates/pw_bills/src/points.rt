@@ -6,6 +6,7 @@ ghost use Rattle.pw_shelf.specs.Calls.{failures_told};
 ghost use Rattle.pw_book.specs.Asking.{IsOnlyAsked};
 ghost use Rattle.pw_bills.specs.Stretches.{AreStretches};
 ghost use Rattle.pw_bills.specs.inner.Flows.{CoversTime, HasPointsIn};
+ghost use Rattle.pw_bills.specs.inner.Gathering.{CanAsk, PointsAreRead, pass_of};
 
 use crate::asked::{point_after_held, point_before_held, points_held};
 use crate::gathering::Place;
@@ -13,10 +14,20 @@ use pw_book::joined;
 use pw_parts::Point;
 use pw_shelf::{Shelf, ShelfFault};
 
-// The points of a register from the first second of stretches to the last, with the one before them
-// and the one behind them, where there is one. What flows between two points goes by both: so none
-// of them is left out or moved.
+// The points of a register that a pass comes to, as the one before and the one behind tell what flows
+// at its ends: so none of them is left out or moved.
 pub(crate) fn points_over<S: Shelf>(shelf: &mut S, place: &Place) -> Result<Vec<Point>, ShelfFault>
+    requires able { CanAsk S.Shelf place.now.basis.now.office.now place.now.stretches.now.begins.now (place.now.stretches.now.last + 1) place.now.meter.0 shelf.old }
+    ensures points { S.clean shelf.new → IfOk result (λ points. CoversTime ((S.state shelf.old).content.point place.now.meter.0 place.now.register) place.now.stretches.now.begins.now (place.now.stretches.now.last + 1) points.items) }
+    ensures tally { S.clean shelf.new → (most : ℕ) → PointsAreRead (pass_of place.now.basis.now.office.now (S.state shelf.old).content place.now.stretches.now.account place.now.stretches.now.begins.now (place.now.stretches.now.last + 1)) place.now.meter.0 place.now.register most → (S.state shelf.new).tally ≤ (S.state shelf.old).tally + most }
+    ensures asked { IsOnlyAsked S.Shelf (failures_told result) shelf.old shelf.new }
+{
+    points_around(shelf, place)
+}
+
+// The points of a register from the first second of stretches to the last, with the one before them
+// and the one behind them, where there is one.
+fn points_around<S: Shelf>(shelf: &mut S, place: &Place) -> Result<Vec<Point>, ShelfFault>
     requires idle { IsNone (S.state shelf.old).begun }
     requires stretches { AreStretches place.now.stretches.now.begins.now (place.now.stretches.now.last + 1) }
     ensures points { S.clean shelf.new → IfOk result (λ points. CoversTime ((S.state shelf.old).content.point place.now.meter.0 place.now.register) place.now.stretches.now.begins.now (place.now.stretches.now.last + 1) points.items) }

@@ -16,7 +16,7 @@ use Rattle.pw_parts.specs.declared.changes.Side.TheVariants.{Gains}
 use Rattle.pw_book.specs.Cost.{HasPointsAt}
 use Rattle.pw_months.specs.Between.{class_between}
 use Rattle.pw_months.specs.Window.{Spans}
-use Rattle.pw_bills.specs.declared.energies.Energies.{Energies}
+use Rattle.pw_bills.specs.declared.energies.SharedOut.{SharedOut}
 use Rattle.pw_bills.specs.Reads.{IsBetween}
 use Rattle.pw_bills.specs.Stretches.{end_of, first_of}
 use Rattle.pw_bills.specs.inner.Gathering.{Pass}
@@ -68,12 +68,12 @@ all_between office at a begins end (TopUps o) = 0
 
 -- ---- what is gathered
 -- a register adds what it gives to each stretch
-abbrev pub AddsEnergy : Pass → ℕ → Register → Energies → Energies → Type 0
+abbrev pub AddsEnergy : Pass → ℕ → Register → SharedOut → SharedOut → Type 0
 AddsEnergy q m r old new = (k : TotalKey) → IsOfStretch q.begins k →
     gathered Gains new.changes.rows k
     ≡ gathered Gains old.changes.rows k
     + register_between (office_of q.file) (contents_at q.content.records) q.account q.begins q.end m k r
 
 -- no total is more than what so many registers can give
-abbrev pub IsOfRegisters : ℕ → Energies → Type 0
+abbrev pub IsOfRegisters : ℕ → SharedOut → Type 0
 IsOfRegisters n e = (k : TotalKey) → gathered Gains e.changes.rows k ≤ n * 2 ^ 101

@@ -4,7 +4,7 @@ use Rattle.std.proofs.lemmas.Int.{to_z-of_z}
 use Rattle.pw_tariff.specs.Office.{office_of}
 use Rattle.pw_model.proofs.PlainEnergy.{balance-fits}
 use Rattle.pw_model.proofs.SoundOffice.{sound-office}
-use Rattle.pw_bills.proofs.BillAsked.{bill-there, flows-there, three-read, top-ups_there, two-read}
+use Rattle.pw_bills.proofs.BillAsked.{bill-read, bill-there, top-ups_there, two-read}
 use Rattle.pw_bills.proofs.Questions.{answered-open, question-then, question-told}
 use Rattle.pw_bills.proofs.billing.bill.Goals as goal
 
@@ -16,23 +16,13 @@ returns-in_err-rows-clause-cost g c = λ k most h.
 
 pub returns-in_err-energies-clause-cost : goal.returns-in_err-energies-clause-cost
 returns-in_err-energies-clause-cost g c = λ k most h.
-    let second = c.flowed.ensures.question.asked.kept.clean k in
-    let first = c.top_ups_between.ensures.question.asked.kept.clean second in
-    let same = c.balance.ensures.question.asked.content first in
-    let later = c.top_ups_between.ensures.question.asked.content second ∙ same in
-    let office = c.top_ups_between.ensures.question.office ∙ c.balance.ensures.question.office in
-    three-read _ h.top_ups _ most _ _ _ _ h.enough c.balance.ensures.cost (c.top_ups_between.ensures.cost second h.top_ups (top-ups_there _ _ c.args.account c.args.from _ h.top_ups same h.few))
-    (flows-there c.args.book.now.office c.top_ups_between.new.book.office _ _ c.args.account.0 c.args.from _ _ h.each office later (c.flowed.ensures.cost k) h.few_each)
+    bill-read g.S.Shelf _ _ c.args.book.now _ _ c.args.account c.args.from most _ h (c.flowed.ensures.question.asked.kept.clean k) c.in_ok-balance.ensures.question c.in_ok-rows.ensures.question
+    c.balance.ensures.cost c.top_ups_between.ensures.cost (c.flowed.ensures.cost k)
 
 pub returns-clause-cost : goal.returns-clause-cost
 returns-clause-cost g c = λ k most h.
-    let second = c.flowed.ensures.question.asked.kept.clean k in
-    let first = c.top_ups_between.ensures.question.asked.kept.clean second in
-    let same = c.balance.ensures.question.asked.content first in
-    let later = c.top_ups_between.ensures.question.asked.content second ∙ same in
-    let office = c.top_ups_between.ensures.question.office ∙ c.balance.ensures.question.office in
-    three-read _ h.top_ups _ most _ _ _ _ h.enough c.balance.ensures.cost (c.top_ups_between.ensures.cost second h.top_ups (top-ups_there _ _ c.args.account c.args.from _ h.top_ups same h.few))
-    (flows-there c.args.book.now.office c.top_ups_between.new.book.office _ _ c.args.account.0 c.args.from _ _ h.each office later (c.flowed.ensures.cost k) h.few_each)
+    bill-read g.S.Shelf _ _ c.args.book.now _ _ c.args.account c.args.from most _ h (c.flowed.ensures.question.asked.kept.clean k) c.in_ok-balance.ensures.question c.in_ok-rows.ensures.question
+    c.balance.ensures.cost c.top_ups_between.ensures.cost (c.flowed.ensures.cost k)
 
 pub returns-clause-bill : goal.returns-clause-bill
 returns-clause-bill g c = λ k.
