@@ -30,20 +30,20 @@ use pw_tariff::{Direction, MeterId, Owner, Owners};
 use pw_time::Instant;
 use std::alloc::{AllocError, Global};
 
-// A reading of a register that begins or ceases to count.
+// Of which register a reading is, and of when.
 #[derive(Clone, Copy)]
-pub(crate) struct Counted {
+pub(crate) struct ReadingAt {
     pub(crate) meter: MeterId,
     pub(crate) register: Register,
     pub(crate) instant: Instant,
-    pub(crate) wh: WattHours,
 }
 
 // Keeps a reading that begins to count, and gathers what the energies lose and gain by it.
 pub(crate) fn begin_to_count<S: Shelf>(
     shelf: &mut S,
     basis: &Basis,
-    reading: &Counted,
+    reading: &ReadingAt,
+    wh: WattHours,
     so_far: &mut Gathered,
 ) -> Result<(), ShelfFault>
     requires begun { IsSome (S.state shelf.old).begun }
@@ -51,22 +51,23 @@ pub(crate) fn begin_to_count<S: Shelf>(
     requires counts { counts_at basis.now.office.now reading.now.meter.0 reading.now.register ≡ true }
     requires few { (side : ASide) (k : AnyTotal) → gathered side so_far.old.changes.rows k < 2 ^ 120 }
     requires known { S.clean shelf.old → AreKnown (S.state shelf.old).content.start so_far.old.known }
-    ensures gathered { S.clean shelf.new → (was is : AnyKey → AnyContents) → (S.state shelf.old).content.point ≡ point_told was → (S.state shelf.old).content.start ≡ start_told was → IsOneMoreReading was is reading.now.meter.0 reading.now.register reading.now.instant reading.now.wh → EndsBefore (office_of basis.now.office.now).end (point_told is reading.now.meter.0 reading.now.register) → OnOk result (AreGathered (office_of basis.now.office.now) was is so_far.old.changes.rows so_far.new.changes.rows) }
+    ensures gathered { S.clean shelf.new → (was is : AnyKey → AnyContents) → (S.state shelf.old).content.point ≡ point_told was → (S.state shelf.old).content.start ≡ start_told was → IsOneMoreReading was is reading.now.meter.0 reading.now.register reading.now.instant wh → EndsBefore (office_of basis.now.office.now).end (point_told is reading.now.meter.0 reading.now.register) → OnOk result (AreGathered (office_of basis.now.office.now) was is so_far.old.changes.rows so_far.new.changes.rows) }
     ensures few { OnOk result ((side : ASide) (k : AnyTotal) → gathered side so_far.new.changes.rows k ≤ gathered side so_far.old.changes.rows k + 2 ^ 39) }
-    ensures point { S.clean shelf.new → OnOk result ((S.state shelf.new).content ≡ with_point (S.state shelf.old).content reading.now.meter.0 reading.now.register reading.now.instant (Some reading.now.wh)) }
+    ensures point { S.clean shelf.new → OnOk result ((S.state shelf.new).content ≡ with_point (S.state shelf.old).content reading.now.meter.0 reading.now.register reading.now.instant (Some wh)) }
     ensures tally { S.clean shelf.new → (starts : ℕ) → HasStarts (S.state shelf.old).content reading.now.meter.0 starts → (S.state shelf.new).tally ≤ (S.state shelf.old).tally + (6 + starts) }
     ensures known { S.clean shelf.new → OnOk result (AreKnown (S.state shelf.new).content.start so_far.new.known) }
     ensures kept { GoesOn S.state S.left S.clean S.same_store (failures_told result) shelf.old shelf.new }
 {
-    weigh_around(shelf, basis, reading, Side::Gains, so_far)?;
-    shelf.point_put(reading.meter, reading.register, reading.instant, reading.wh)
+    weigh_around(shelf, basis, reading, wh, Side::Gains, so_far)?;
+    shelf.point_put(reading.meter, reading.register, reading.instant, wh)
 }
 
 // Takes a reading that ceases to count away, and gathers what the energies lose and gain by it.
 pub(crate) fn cease_to_count<S: Shelf>(
     shelf: &mut S,
     basis: &Basis,
-    reading: &Counted,
+    reading: &ReadingAt,
+    wh: WattHours,
     so_far: &mut Gathered,
 ) -> Result<(), ShelfFault>
     requires begun { IsSome (S.state shelf.old).begun }
@@ -74,14 +75,14 @@ pub(crate) fn cease_to_count<S: Shelf>(
     requires counts { counts_at basis.now.office.now reading.now.meter.0 reading.now.register ≡ true }
     requires few { (side : ASide) (k : AnyTotal) → gathered side so_far.old.changes.rows k < 2 ^ 120 }
     requires known { S.clean shelf.old → AreKnown (S.state shelf.old).content.start so_far.old.known }
-    ensures gathered { S.clean shelf.new → (was is : AnyKey → AnyContents) → (S.state shelf.old).content.point ≡ point_told was → (S.state shelf.old).content.start ≡ start_told was → IsOneMoreReading is was reading.now.meter.0 reading.now.register reading.now.instant reading.now.wh → EndsBefore (office_of basis.now.office.now).end (point_told was reading.now.meter.0 reading.now.register) → OnOk result (AreGathered (office_of basis.now.office.now) was is so_far.old.changes.rows so_far.new.changes.rows) }
+    ensures gathered { S.clean shelf.new → (was is : AnyKey → AnyContents) → (S.state shelf.old).content.point ≡ point_told was → (S.state shelf.old).content.start ≡ start_told was → IsOneMoreReading is was reading.now.meter.0 reading.now.register reading.now.instant wh → EndsBefore (office_of basis.now.office.now).end (point_told was reading.now.meter.0 reading.now.register) → OnOk result (AreGathered (office_of basis.now.office.now) was is so_far.old.changes.rows so_far.new.changes.rows) }
     ensures few { OnOk result ((side : ASide) (k : AnyTotal) → gathered side so_far.new.changes.rows k ≤ gathered side so_far.old.changes.rows k + 2 ^ 39) }
     ensures point { S.clean shelf.new → OnOk result ((S.state shelf.new).content ≡ with_point (S.state shelf.old).content reading.now.meter.0 reading.now.register reading.now.instant None) }
     ensures tally { S.clean shelf.new → (starts : ℕ) → HasStarts (S.state shelf.old).content reading.now.meter.0 starts → (S.state shelf.new).tally ≤ (S.state shelf.old).tally + (6 + starts) }
     ensures known { S.clean shelf.new → OnOk result (AreKnown (S.state shelf.new).content.start so_far.new.known) }
     ensures kept { GoesOn S.state S.left S.clean S.same_store (failures_told result) shelf.old shelf.new }
 {
-    weigh_around(shelf, basis, reading, Side::Loses, so_far)?;
+    weigh_around(shelf, basis, reading, wh, Side::Loses, so_far)?;
     shelf.point_del(reading.meter, reading.register, reading.instant)
 }
 
@@ -90,7 +91,8 @@ pub(crate) fn cease_to_count<S: Shelf>(
 fn weigh_around<S: Shelf>(
     shelf: &mut S,
     basis: &Basis,
-    reading: &Counted,
+    reading: &ReadingAt,
+    wh: WattHours,
     side: Side,
     so_far: &mut Gathered,
 ) -> Result<(), ShelfFault>
@@ -99,7 +101,7 @@ fn weigh_around<S: Shelf>(
     requires counts { counts_at basis.now.office.now reading.now.meter.0 reading.now.register ≡ true }
     requires few { (side : ASide) (k : AnyTotal) → gathered side so_far.old.changes.rows k < 2 ^ 120 }
     requires known { S.clean shelf.old → AreKnown (S.state shelf.old).content.start so_far.old.known }
-    ensures around { S.clean shelf.new → (free is : AnyKey → AnyContents) → ((u : ℕ) → (u ≡ reading.now.instant → ⊥) → (S.state shelf.old).content.point reading.now.meter.0 reading.now.register u ≡ point_told free reading.now.meter.0 reading.now.register u) → (S.state shelf.old).content.start reading.now.meter.0 ≡ start_told free reading.now.meter.0 → IsOneMoreReading free is reading.now.meter.0 reading.now.register reading.now.instant reading.now.wh → EndsBefore (office_of basis.now.office.now).end (point_told is reading.now.meter.0 reading.now.register) → OnOk result ((k : AnyTotal) → energy_told (office_of basis.now.office.now) free k + gathered side so_far.new.changes.rows k + gathered (other_side side) so_far.old.changes.rows k ≡ energy_told (office_of basis.now.office.now) is k + gathered (other_side side) so_far.new.changes.rows k + gathered side so_far.old.changes.rows k) }
+    ensures around { S.clean shelf.new → (free is : AnyKey → AnyContents) → ((u : ℕ) → (u ≡ reading.now.instant → ⊥) → (S.state shelf.old).content.point reading.now.meter.0 reading.now.register u ≡ point_told free reading.now.meter.0 reading.now.register u) → (S.state shelf.old).content.start reading.now.meter.0 ≡ start_told free reading.now.meter.0 → IsOneMoreReading free is reading.now.meter.0 reading.now.register reading.now.instant wh → EndsBefore (office_of basis.now.office.now).end (point_told is reading.now.meter.0 reading.now.register) → OnOk result ((k : AnyTotal) → energy_told (office_of basis.now.office.now) free k + gathered side so_far.new.changes.rows k + gathered (other_side side) so_far.old.changes.rows k ≡ energy_told (office_of basis.now.office.now) is k + gathered (other_side side) so_far.new.changes.rows k + gathered side so_far.old.changes.rows k) }
     ensures few { OnOk result ((s : ASide) (k : AnyTotal) → gathered s so_far.new.changes.rows k ≤ gathered s so_far.old.changes.rows k + 2 ^ 39) }
     ensures same { S.clean shelf.new → OnOk result ((S.state shelf.new).content ≡ (S.state shelf.old).content) }
     ensures tally { S.clean shelf.new → (starts : ℕ) → HasStarts (S.state shelf.old).content reading.now.meter.0 starts → (S.state shelf.new).tally ≤ (S.state shelf.old).tally + (5 + starts) }
@@ -111,7 +113,7 @@ fn weigh_around<S: Shelf>(
     let above = shelf.point_after(reading.meter, reading.register, reading.instant)?;
     let direction = direction_of(reading.register);
     let apart = listed(basis.alloc, &below, &None, &above)?;
-    let here = Some((reading.instant, reading.wh));
+    let here = Some((reading.instant, wh));
     let joined = listed(basis.alloc, &below, &here, &above)?;
     let other = side.other();
     let Gathered { changes, known } = so_far;

@@ -14,13 +14,13 @@ ghost use Rattle.pw_book.specs.inner.Gathered.{AreKnown, IsTrueAgainBut, IsTrueB
 ghost use Rattle.pw_model.specs.Kinds.{IsReading};
 ghost use Rattle.pw_book.specs.Cost.{HasStarts};
 
-use crate::around::{Counted, begin_to_count, cease_to_count};
+use crate::around::{ReadingAt, begin_to_count, cease_to_count};
 use crate::basis::Basis;
 use crate::gathered::{Gathered, nothing_gathered};
 use crate::moving::{change_total, move_energies};
 use crate::window::change_start;
 use pw_model::{Content, Contents, Key, TotalKey};
-use pw_obis::{Register, WattHours};
+use pw_obis::WattHours;
 use pw_shelf::{Shelf, ShelfFault};
 use pw_tariff::{AccountId, MeterId, Owner};
 use pw_time::Instant;
@@ -59,46 +59,28 @@ fn counting_payment(contents: &Contents) -> Option<(AccountId, u32)>
 fn reading_changed<S: Shelf>(
     shelf: &mut S,
     basis: &Basis,
-    meter: MeterId,
-    register: Register,
-    instant: Instant,
+    reading: &ReadingAt,
     before: &Contents,
     behind: &Contents,
     so_far: &mut Gathered,
 ) -> Result<(), ShelfFault>
     requires begun { IsSome (S.state shelf.old).begun }
     requires sound { IsSound basis.now.office.now }
-    requires meter { meter.0 < length basis.now.office.now.meters }
-    requires counts { counts_at basis.now.office.now meter.0 register ≡ true }
+    requires meter { reading.now.meter.0 < length basis.now.office.now.meters }
+    requires counts { counts_at basis.now.office.now reading.now.meter.0 reading.now.register ≡ true }
     requires few { (side : ASide) (k : AnyTotal) → gathered side so_far.old.changes.rows k < 2 ^ 120 }
     requires known { S.clean shelf.old → AreKnown (S.state shelf.old).content.start so_far.old.known }
-    ensures settled { S.clean shelf.new → (s : List AnEntry) → IsJustChanged (office_of basis.now.office.now) s (key.Reading meter register instant) before.now behind.now (S.state shelf.old).content.records → IsTrueBut (office_of basis.now.office.now) so_far.old.changes.rows s (S.state shelf.old).content → OnOk result (IsTrueAgainBut (office_of basis.now.office.now) so_far.new.changes.rows (S.state shelf.old).content (S.state shelf.new).content) }
+    ensures settled { S.clean shelf.new → (s : List AnEntry) → IsJustChanged (office_of basis.now.office.now) s (key.Reading reading.now.meter reading.now.register reading.now.instant) before.now behind.now (S.state shelf.old).content.records → IsTrueBut (office_of basis.now.office.now) so_far.old.changes.rows s (S.state shelf.old).content → OnOk result (IsTrueAgainBut (office_of basis.now.office.now) so_far.new.changes.rows (S.state shelf.old).content (S.state shelf.new).content) }
     ensures few { OnOk result ((side : ASide) (k : AnyTotal) → gathered side so_far.new.changes.rows k ≤ gathered side so_far.old.changes.rows k + 2 ^ 39) }
     ensures start { S.clean shelf.new → OnOk result ((S.state shelf.new).content.start ≡ (S.state shelf.old).content.start) }
-    ensures alone { S.clean shelf.new → OnOk result (ChangesOneKey (key.Reading meter register instant) (S.state shelf.old).content (S.state shelf.new).content) }
-    ensures tally { S.clean shelf.new → (starts : ℕ) → HasStarts (S.state shelf.old).content meter.0 starts → (S.state shelf.new).tally ≤ (S.state shelf.old).tally + (6 + starts) }
+    ensures alone { S.clean shelf.new → OnOk result (ChangesOneKey (key.Reading reading.now.meter reading.now.register reading.now.instant) (S.state shelf.old).content (S.state shelf.new).content) }
+    ensures tally { S.clean shelf.new → (starts : ℕ) → HasStarts (S.state shelf.old).content reading.now.meter.0 starts → (S.state shelf.new).tally ≤ (S.state shelf.old).tally + (6 + starts) }
     ensures known { S.clean shelf.new → OnOk result (AreKnown (S.state shelf.new).content.start so_far.new.known) }
     ensures kept { GoesOn S.state S.left S.clean S.same_store (failures_told result) shelf.old shelf.new }
 {
     match (counting_wh(before), counting_wh(behind)) {
-        (None, Some(wh)) => {
-            let reading = Counted {
-                meter,
-                register,
-                instant,
-                wh,
-            };
-            begin_to_count(shelf, basis, &reading, so_far)
-        }
-        (Some(wh), None) => {
-            let reading = Counted {
-                meter,
-                register,
-                instant,
-                wh,
-            };
-            cease_to_count(shelf, basis, &reading, so_far)
-        }
+        (None, Some(wh)) => begin_to_count(shelf, basis, reading, wh, so_far),
+        (Some(wh), None) => cease_to_count(shelf, basis, reading, wh, so_far),
         (None, None) | (Some(_), Some(_)) => Ok(()),
     }
 }
@@ -180,9 +162,14 @@ pub(crate) fn settle<S: Shelf>(
             meter,
             register,
             instant,
-        } => reading_changed(
-            shelf, basis, *meter, *register, *instant, before, behind, so_far,
-        ),
+        } => {
+            let reading = ReadingAt {
+                meter: *meter,
+                register: *register,
+                instant: *instant,
+            };
+            reading_changed(shelf, basis, &reading, before, behind, so_far)
+        }
         Key::Assignment { meter, start } => {
             move_energies(shelf, basis.office, &so_far.changes)?;
             *so_far = nothing_gathered(basis.alloc);

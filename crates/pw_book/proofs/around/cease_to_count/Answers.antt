@@ -10,8 +10,8 @@ returns-clause-gathered g c = λ k was is points starts more ends.
     let first = c.point_del.ensures.written.kept.clean k in
     let reading = c.args.reading.now in
     on_ok_weaker c.point_del.result (λ deleted t.
-    sym (c.in_ok-weigh_around.ensures.around first is was (λ u n. ap (λ p. p reading.meter.0 reading.register u) points ∙ others-agree is was reading.meter.0 reading.register reading.instant reading.wh more u n)
-    (ap (λ p. p reading.meter.0) starts ∙ starts-agree is was reading.meter.0 reading.register reading.instant reading.wh more) more ends t)) (c.point_del.ensures.deleted k)
+    sym (c.in_ok-weigh_around.ensures.around first is was (λ u n. ap (λ p. p reading.meter.0 reading.register u) points ∙ others-agree is was reading.meter.0 reading.register reading.instant c.args.wh more u n)
+    (ap (λ p. p reading.meter.0) starts ∙ starts-agree is was reading.meter.0 reading.register reading.instant c.args.wh more) more ends t)) (c.point_del.ensures.deleted k)
 
 pub returns-clause-known : goal.returns-clause-known
 returns-clause-known g c = λ k.

@@ -10,7 +10,7 @@ pub returns-clause-around : goal.returns-clause-around
 returns-clause-around g c = λ k free is same start_is more ends.
     let second = c.point_after.ensures.asked.kept.clean k in
     let first = c.point_before.ensures.asked.kept.clean second in
-    around-sums c.args.basis.now.office.now free is c.args.reading.now.meter.0 c.args.reading.now.register c.args.reading.now.instant c.args.reading.now.wh
+    around-sums c.args.basis.now.office.now free is c.args.reading.now.meter.0 c.args.reading.now.register c.args.reading.now.instant c.args.wh
     (g.S.Shelf.state c.args.shelf.now).content _ _ c.direction_of-direction.result c.know_starts.new.known.starts.items _ _ c.in_ok-below.below c.in_ok-above.above _ _ _ _ _ _ _ _
     (c.in_ok-know_starts.ensures.same first) (c.in_ok-below.ensures.asked.same second) c.direction_of-direction.ensures
     c.requires.meter c.requires.counts same start_is more ends (c.in_ok-know_starts.ensures.starts first) c.deref.ensures.value c.deref-3.ensures.value
