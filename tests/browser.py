@@ -209,9 +209,12 @@ class Tab:
         """The addresses of all requests."""
         return [it["request"]["url"] for it in self.told("Network.requestWillBeSent")]
 
-    def picture(self, path):
+    def picture(self, path, width, height, scale):
+        """Keeps a picture of what is shown from the top on, made smaller."""
+        clip = {"x": 0, "y": 0, "width": width, "height": height, "scale": scale}
+        told = self.call("Page.captureScreenshot", format="png", clip=clip, captureBeyondViewport=True)
         with open(path, "wb") as file:
-            file.write(base64.b64decode(self.call("Page.captureScreenshot", format="png")["data"]))
+            file.write(base64.b64decode(told["data"]))
 
     def printed(self):
         """The PDF that it prints, by the page's own size."""

@@ -50,9 +50,13 @@ const WORDS = {
     progress: '{0} of {1} files', answers: 'Answers', whole: '{0}: {1}',
     part: '{0}: part {1} of {2}, {3} {4} to {5}: {6}', unsent: '{0}: not sent. {1}',
     frames: 'frames', rows: 'rows', place: ' (number {0} of the file)',
-    noneHeld: 'Nothing of it is held by this sending. To send the file again does no harm.',
-    firstHeld: 'Part 1 is held, the others are not. To send the file again does no harm.',
-    someHeld: 'Parts 1 to {0} are held, the others are not. To send the file again does no harm.',
+    again: '{0} To send the file again does no harm.',
+    noneHeld: 'Nothing of it is held by this sending.',
+    firstHeld: 'Part 1 is held, the others are not.',
+    someHeld: 'Parts 1 to {0} are held, the others are not.',
+    noneSure: 'Whether what was sent of it is held is not known.',
+    firstSure: 'Part 1 is held, of part 2 that is not known, the others are not.',
+    someSure: 'Parts 1 to {0} are held, of part {1} that is not known, the others are not.',
     why: {
       kind: 'It is none of the five kinds: it begins neither with a frame nor with a header.',
       meter: 'It has readouts: state their meter first.',
@@ -72,7 +76,7 @@ const WORDS = {
     monthOf: 'Account {0}, {1} {2}', earlier: 'Earlier month', later: 'Later month',
     print: 'Print', bill: 'Bill', what: 'What', toppedUp: 'Topped up',
     begins: 'Balance at the begin', ends: 'Balance at the end', rounding: 'Rounding',
-    period: 'Prices since (local time)',
+    period: 'Prices since {0} local time (UTC: {1})',
     band: 'Band', direction: 'Direction', import: 'import', export: 'export',
     importKwh: 'Import kWh', importEur: 'Import EUR', exportKwh: 'Export kWh',
     exportEur: 'Export EUR', bandImport: 'Import {0} kWh', bandExport: 'Export {0} kWh',
@@ -93,9 +97,10 @@ const WORDS = {
     theDays: 'the days', thePieces: 'the pieces', record: 'Record', together: 'Together',
   },
 };
-const said = WORDS.en;
+const language = 'en';
+const said = WORDS[language];
 
-const MOST_BYTES = 262144, MOST_FRAMES = 64, MOST_ROWS = 1000, STEP = 200;
+const MOST_BYTES = 262144, MOST_FRAMES = 64, MOST_ROWS = 1000, STEP = 200, TRIES = 5;
 const HEADERS = {
   assignments: 'meter,start,account',
   topups: 'reference,account,cents,instant',
@@ -362,6 +367,14 @@ function placed(line, first) {
   return line + fill(said.place, first - 1 + Number(number[1]));
 }
 
+// What is held of a file where so many parts were taken, and the next one was refused for sure, or
+// no answer came to it.
+function heldOf(parts, sure) {
+  const [none, first, some] = sure ? [said.noneHeld, said.firstHeld, said.someHeld]
+    : [said.noneSure, said.firstSure, said.someSure];
+  return parts > 1 ? fill(some, parts, parts + 1) : [none, first][parts];
+}
+
 // Sends a file in parts, one behind the other, to the first that isn't taken.
 async function sendFile(file, meter, tell) {
   const unsent = (why) => tell('refused', fill(said.unsent, file.name, said.why[why]));
@@ -390,9 +403,7 @@ async function sendFile(file, meter, tell) {
     const line = placed(told.text, first);
     tell(taken, parts.length === 1 ? fill(said.whole, file.name, line)
       : fill(said.part, file.name, at + 1, parts.length, unit, first, first + count - 1, line));
-    if (taken === 'refused') {
-      return tell('note', at > 1 ? fill(said.someHeld, at) : [said.noneHeld, said.firstHeld][at]);
-    }
+    if (taken === 'refused') return tell('note', fill(said.again, heldOf(at, told.status !== 0)));
   }
   return undefined;
 }
@@ -452,12 +463,15 @@ function times(instant) {
     made('span', { class: 'utc' }, instant)];
 }
 
-// A table: its heads are texts, those of numbers with a # in front.
+// A table: its heads are texts, those of numbers with a # in front. A row of one cell is as wide as
+// the table.
 function table(caption, heads, rows) {
   const plain = heads.map((it) => it.replace(/^#/, ''));
   const side = heads.map((it) => (it.startsWith('#') ? { class: 'number' } : {}));
-  const cell = (it, at) => made(at ? 'td' : 'th', { ...side[at], ...(at ? {} : { scope: 'row' }) },
-    ...[it].flat());
+  const cell = (it, at, row) => made(at ? 'td' : 'th', {
+    ...side[at], ...(at ? {} : { scope: 'row' }),
+    ...(row.length === 1 ? { colspan: heads.length } : {}),
+  }, ...[it].flat());
   return made('div', { class: 'scroll', role: 'region', tabindex: '0', 'aria-label': caption },
     made('table', {}, made('caption', {}, caption),
       made('thead', {}, made('tr', {}, plain.map((it, at) => made('th',
@@ -525,6 +539,13 @@ function withdrawLink(...fields) {
   return link(['withdraw', fields.join(',')], said.withdraw, ...fields);
 }
 
+// From a pair of readings to those of its meter, from the first of the two to the second.
+function pairLink({ meter, register, from, to }) {
+  let same = 0;
+  while (same < from.length && from[same] === to[same]) same += 1;
+  return link(['meter', meter, `${register} ${from.slice(0, same)}`], meter);
+}
+
 const TABLES = {
   disputes: async () => searched(said.disputes,
     [said.record, said.instant, said.utc, said.records, said.way],
@@ -535,7 +556,7 @@ const TABLES = {
   falls: async () => searched(said.falls, [said.meter, said.register, said.before, said.utc,
     `#${said.fell}`, said.behind, said.utc, `#${said.to}`], fallsOf(await ask('/falls')), {
     words: (it) => `${it.meter} ${it.register}`,
-    row: (it) => [link(['meter', it.meter, it.register], it.meter), it.register,
+    row: (it) => [pairLink(it), it.register,
       ...times(it.from), kwh(it.high), ...times(it.to), kwh(it.low)],
   }),
   withdrawals: async () => searched(said.withdrawals,
@@ -624,6 +645,7 @@ function uploadArea(refresh) {
   let queue = Promise.resolve();
   const send = async (chosen) => {
     bar.hidden = false;
+    bar.value = 0;
     bar.max = chosen.length;
     for (const [at, file] of chosen.entries()) {
       await sendFile(file, meter.value.trim(), tell);
@@ -743,7 +765,7 @@ function withdrawalForm(begin, refresh) {
   const place = made('div', {});
   const show = (values) => put(place, [rowForm('withdrawals', said.withdrawOne,
     FIELDS[kind.value](values), [kind.value], refresh)]);
-  if (said.kinds[first]) kind.value = first;
+  if (Object.hasOwn(said.kinds, first)) kind.value = first;
   kind.addEventListener('change', () => show([]));
   show(given);
   return [labelled(said.kind, kind), place];
@@ -812,8 +834,9 @@ function bandsOf(bill) {
 // What doesn't agree: sums of rows with the bill's energies, and the printed way to the balance.
 function disagreements(bill, rows, name) {
   const lines = bill.periods.flatMap((it) => it.bands);
+  const bands = [...new Set([...bandsOf(bill), ...rows.map((it) => it.band)])];
   const told = [];
-  for (const band of bandsOf(bill)) {
+  for (const band of bands) {
     for (const direction of ['import', 'export']) {
       const stated = lines.filter((it) => it.band === band)
         .reduce((all, it) => all + BigInt(it[`${direction}Wh`]), 0n);
@@ -824,7 +847,7 @@ function disagreements(bill, rows, name) {
     }
   }
   for (const direction of ['import', 'export']) {
-    const added = bandsOf(bill).reduce((all, it) => all + sum(rows, 'nano', it, direction), 0n);
+    const added = bands.reduce((all, it) => all + sum(rows, 'nano', it, direction), 0n);
     if (euroOfNano(added) !== bill[direction]) {
       told.push(fill(said.wrongCost, said[direction], bill[direction], name, euroOfNano(added)));
     }
@@ -845,7 +868,7 @@ function billTable(bill) {
   const energy = (field) => kwh(bill.periods.flatMap((it) => it.bands)
     .reduce((all, it) => all + BigInt(it[field]), 0n));
   const bands = bill.periods.flatMap((period) => [
-    ...(several ? [line(`${said.period}: ${localOf(period.start)}`, '')] : []),
+    ...(several ? [[fill(said.period, localOf(period.start), period.start)]] : []),
     ...period.bands.map((it) => [`${said.band} ${it.band}`, kwh(it.importWh), it.importEur,
       kwh(it.exportWh), it.exportEur, '']),
   ]);
@@ -940,9 +963,24 @@ function daysTable(days, names, bands) {
   }));
 }
 
-// Each row that led to the bill, held against the days.
-async function whyTables(path, bill, days) {
-  const { pieces, topups } = whyOf(await ask(`${path}/why`));
+// The bill of a month and its days, of the same records: the bill counts them. Where the two don't
+// agree, and more records are held by now, some came between them, and both are asked for again.
+async function billAndDays(path) {
+  for (let tries = 0; ; tries += 1) {
+    const bill = billOf(await ask(path));
+    const rows = daysOf(await ask(`${path}/days`));
+    const told = disagreements(bill, rows, said.theDays);
+    if (!told.length || tries === TRIES || !await changed(path, bill)) return { bill, rows, told };
+  }
+}
+
+// Whether other records are held by now than those of a bill.
+async function changed(path, bill) {
+  return billOf(await ask(path)).records !== bill.records;
+}
+
+// What of the pieces and top-ups doesn't agree with the bill and its days.
+function whyDisagreements(bill, days, { pieces, topups }) {
   const told = disagreements(bill, pieces, said.thePieces);
   for (const band of bandsOf(bill)) {
     for (const direction of ['import', 'export']) {
@@ -952,17 +990,42 @@ async function whyTables(path, bill, days) {
   }
   const topped = euro(topups.reduce((all, it) => all + it.cents, 0n));
   if (topped !== bill['topped up']) told.push(fill(said.wrongTopups, bill['topped up'], topped));
+  return told;
+}
+
+// Each row that led to the bill, held against the days. Where records came since the bill was
+// shown, the month is shown again.
+async function whyTables(path, { bill, rows }, again) {
+  const why = whyOf(await ask(`${path}/why`));
+  const { pieces, topups } = why;
+  const told = whyDisagreements(bill, rows, why);
+  if (told.length && await changed(path, bill)) return again();
   return [alarm(told), made('p', { class: 'hint' }, said.whyHint),
     searched(said.whyTitle, [said.meter, said.register, said.from, said.utc, `#${said.low}`,
       said.until, said.utc, `#${said.high}`, said.begin, said.utc, said.end, said.utc, said.band,
       `#${said.kwh}`, `#${said.cost}`], pieces, {
       words: (it) => Object.values(it).join(' '),
-      row: (it) => [link(['meter', it.meter, `${it.register} ${it.from}`], it.meter), it.register,
+      row: (it) => [pairLink(it), it.register,
         ...times(it.from), kwh(it.low), ...times(it.to), kwh(it.high), ...times(it.begin),
         ...times(it.end), it.band, kwh(it.wh), euroOfNano(it.nano)],
     }),
     topups.length ? table(said.topups, [said.reference, `#${said.amount}`, said.instant, said.utc],
       topups.map((it) => [it.reference, euro(it.cents), ...times(it.instant)])) : null];
+}
+
+// How wide a table is printed, in letters' heights: by the longest cell of each column.
+function widthOf({ tHead, tBodies }) {
+  const rows = [...tBodies[0].rows].filter((it) => it.cells.length > 1);
+  return [...tHead.rows[0].cells].reduce((all, _, at) => all + 0.6
+    + 0.64 * Math.max(0, ...rows.map((it) => it.cells[at].textContent.length)), 0);
+}
+
+// The height of letters, in points, at which a view is printed on one page of A4. Its heading and
+// chart leave 570 points for lines; a line takes 1.3 letters and its border.
+function printSize(main) {
+  const lines = main.querySelectorAll('tr, caption, figcaption, p').length + 2;
+  const width = Math.max(...[...main.querySelectorAll('table')].map(widthOf));
+  return Math.max(4.5, Math.min(8, (570 / lines - 0.75) / 1.3, 527 / width));
 }
 
 // Days in their order, each with its rows.
@@ -981,27 +1044,36 @@ function monthTurns(account, month) {
     turn(1, said.later), button(said.print, () => window.print()));
 }
 
-async function monthView(account, month) {
+async function monthView(account, month, open) {
   if (!month) return newestMonth(account);
   const path = `/accounts/${account}/${month}`;
-  const bill = billOf(await ask(path));
-  const rows = daysOf(await ask(`${path}/days`));
+  const shown = await billAndDays(path);
+  const { bill, rows, told } = shown;
   const days = byDay(rows), names = [...days.keys()], bands = bandsOf(bill);
   const [from, to] = [month, monthBeside(month, 1)].map(monthBegin);
   const why = made('div', {});
-  const folder = folded(said.whyTitle, false, why);
+  const folder = folded(said.whyTitle, open === 'why', why);
   folder.id = 'why';
   folder.addEventListener('toggle', () => {
-    if (folder.open) put(why, [later(() => whyTables(path, bill, rows))]);
+    if (folder.open) put(why, [later(() => whyTables(path, shown, () => showWhy(account, month)))]);
   });
   return {
     title: fill(said.monthOf, account, monthName(month), month.slice(0, 4)),
+    onePage: true,
     content: [monthTurns(account, month),
       made('p', { class: 'hint' }, fill(said.span, localOf(from), localOf(to), from, to)),
-      alarm(disagreements(bill, rows, said.theDays)), billTable(bill),
+      alarm(told), billTable(bill),
       ...readLines(bill), made('p', { class: 'hint' }, fill(said.held, bill.records)),
       chart(days, names, bands), daysTable(days, names, bands), folder],
   };
+}
+
+// Shows a month anew, with why folded open.
+function showWhy(account, month) {
+  const address = `#/account/${account}/${month}/why`;
+  if (window.location.hash === address) show();
+  else window.location.replace(address);
+  return null;
 }
 
 // The month of the latest instant of some, or one where there are none.
@@ -1052,9 +1124,11 @@ async function show() {
   const main = document.getElementById('main');
   const heading = made('h1', { tabindex: '-1' }, said.loading);
   put(main, [heading]);
+  main.style.removeProperty('--print');
   let view;
   try {
-    view = await (VIEWS[name] || VIEWS[''])(...words.map(decodeURIComponent));
+    const known = Object.hasOwn(VIEWS, name) ? name : '';
+    view = await VIEWS[known](...words.map(decodeURIComponent));
   } catch (fault) {
     view = { title: said.title, content: [wrong(fault.message)] };
   }
@@ -1062,10 +1136,12 @@ async function show() {
   put(heading, [view.title]);
   document.title = `${view.title} - ${said.title}`;
   put(main, [heading, ...view.content]);
+  if (view.onePage) main.style.setProperty('--print', `${printSize(main)}pt`);
   (view.focus || heading).focus();
 }
 
 function begin() {
+  document.documentElement.lang = language;
   const skip = button(said.skip, () => document.querySelector('h1').focus());
   skip.className = 'skip';
   put(document.getElementById('top'), [skip, made('nav', { 'aria-label': said.title },
@@ -1158,15 +1234,20 @@ svg rect { stroke: var(--paper); stroke-width: .5; }
   input, select { width: 100%; }
 }
 @page { size: A4; margin: 12mm; }
+/* The page says at which size of letters a month is on one page. */
 @media print {
-  body { max-width: none; padding: 0; font-size: 8pt; line-height: 1.2; }
+  body { max-width: none; padding: 0; line-height: 1.2; }
+  main { font-size: var(--print, 8pt); }
   header, nav, nav.line, button, details { display: none; }
-  h1 { font-size: 14pt; margin: 0 0 2mm; }
-  p, .hint, .scroll, figure { margin: 1mm 0; }
+  h1 { font-size: 14pt; line-height: 1.2; margin: 0 0 2mm; }
+  p, .hint { margin: 0; }
+  .scroll, figure { margin: 1mm 0; }
   .scroll { overflow: visible; }
   table { width: 100%; }
-  th, td { padding: .2mm 2mm .2mm 0; white-space: normal; }
-  td { white-space: nowrap; }
+  caption { padding: 0; }
+  th, td { padding: .05em .6em .05em 0; }
+  thead th { white-space: normal; }
+  tbody th { white-space: nowrap; }
   svg { max-height: 55mm; print-color-adjust: exact; }
 }
 "#;
