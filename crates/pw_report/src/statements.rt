@@ -1,6 +1,6 @@
 //! The statement of an account.
 
-ghost use Rattle.std.specs.Prelude.{◌≡◌, ◌++◌, ◌<◌, ◌≤◌, IfOk, OnOk, List, ℕ, Some, codes, decimal, false, length};
+ghost use Rattle.std.specs.Prelude.{◌≡◌, ◌++◌, ◌<◌, IfOk, OnOk, Some, codes, decimal, false, length};
 ghost use Rattle.pw_report.specs.Amounts.{euro_text};
 ghost use Rattle.pw_report.specs.Layout.{listed_below};
 ghost use Rattle.pw_report.specs.Reports.{IsReport};

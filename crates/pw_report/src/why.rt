@@ -1,10 +1,9 @@
 //! Why the bill of an account for a month is what it is, as CSV.
 
 ghost use Rattle.std.specs.Prelude.{◌≡◌, ◌*◌, ◌∷◌, ◌++◌, ℕ, List, [], IfErr, IfOk, OnOk, decimal, map};
-ghost use Rattle.std.specs.List.{flat_map};
 ghost use Rattle.pw_book.specs.declared.fault.BookFault.TheVariants.{Memory};
 ghost use Rattle.pw_bills.specs.Why.{row_told};
-ghost use Rattle.pw_report.specs.DaysAndWhy.{payment_line, why_text as text_of_why};
+ghost use Rattle.pw_report.specs.DaysAndWhy.{why_text as text_of_why};
 ghost use Rattle.pw_report.specs.Layout.{instant_text as text_of_instant};
 ghost use Rattle.pw_report.specs.Months.{IsThere};
 ghost use Rattle.pw_report.specs.Names.{band_name, period_name};
