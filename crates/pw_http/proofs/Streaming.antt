@@ -2,11 +2,11 @@
 use Rattle.std.proofs.Common.{◌≡◌, ◌<◌, ℕ, ◌+◌, List, [], ◌++◌, Option, Some, None, Bool, true, false, refl, sym, ap, ◌∙◌, append_assoc, arith}
 use Rattle.std.specs.Prelude.{◌==◌}
 use Rattle.std.specs.Io.KnownBytes.{Appends, Consumes, Keeps, IsAtEnd}
+use Rattle.pw_serve.proofs.Known.{Appends-then, Consumes-then}
 use Rattle.pw_http.specs.declared.audience.Audience.{Audience}
 use Rattle.pw_http.specs.inner.Received.{IsFilled}
 use Rattle.pw_http.specs.Replies.{Reply}
 use Rattle.pw_http.specs.Runs.{Asking, Conversation, Cut, Tells, Told}
-use Rattle.pw_http.proofs.KnownLemmas.{Appends-then, Consumes-then}
 use Rattle.pw_http.proofs.Talks.{Told-ends, Told-cut}
 
 abbrev pub left_of : Option (List ℕ) → List ℕ

@@ -1,8 +1,9 @@
 -- Rows of CSV by their fields, and rows behind rows.
 use Rattle.std.proofs.Common.{◌≡◌, ◌∙◌, ◌<◌, ◌+◌, ℕ, List, [], ◌∷◌, ◌++◌, Result, Ok, Err, OnOk, IfOk, Vec, Global, length, get_or, take, ap, append_assoc, refl, subst, sym}
+use Rattle.std.specs.Prelude.{map}
 use Rattle.std.specs.List.{flat_map}
 use Rattle.std.proofs.lemmas.Grind.{flat_map-append}
-use Rattle.std.proofs.lemmas.List.{append-nil, flat_map_more, get_or_default, take_more}
+use Rattle.std.proofs.lemmas.List.{append-nil, flat_map_more, get_or_default, map-append, take_more}
 use Rattle.pw_obis.specs.declared.reference.Register.{Register}
 use Rattle.pw_obis.specs.Registers.{registers}
 use Rattle.pw_tariff.specs.Office.{OfficeFile}
@@ -55,6 +56,10 @@ pub each-next : {X : Type 0} (f : X → List ℕ) (before : List ℕ) (xs : List
     (before ++ flat_map f (take i xs)) ++ f x ≡ before ++ flat_map f (take (i + 1) xs)
 each-next f before xs i x within is =
     flat_map_more f before (take i xs) x ∙ ap (λ y. before ++ flat_map f (take i xs ++ y ∷ [])) is ∙ ap (λ ys. before ++ flat_map f ys) (sym (take_more xs i x within))
+
+-- the members of a list under a function, one more
+pub mapped-next : {X Y : Type 0} (f : X → Y) (xs : List X) (i : ℕ) (d : X) → i < length xs → map f (take i xs) ++ (f (get_or xs i d) ∷ []) ≡ map f (take (i + 1) xs)
+mapped-next f xs i d within = sym (map-append f (take i xs) (get_or xs i d ∷ [])) ∙ ap (λ ys. map f ys) (sym (take_more xs i d within))
 
 -- two more, of the next number
 pub two-next : {X : Type 0} (f : X → List ℕ) (before : List ℕ) (g : ℕ → List X) (n : ℕ) (x y : X) → (x ∷ y ∷ []) ≡ g n →

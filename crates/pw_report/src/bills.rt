@@ -177,6 +177,7 @@ fn in_cents(nano: i128) -> i128
 }
 
 // What all energy of a direction costs, in nano-euro.
+#[tactic(auto, unfolding(pw_flow::specs::Time::sum_over))]
 fn whole_cost(sheet: &Sheet, direction: Direction) -> u128
     ensures cost { result ≡ (bill_of_sheet sheet.now).whole_cost direction }
     ensures bound { result < 2 ^ 112 }
@@ -189,6 +190,7 @@ fn whole_cost(sheet: &Sheet, direction: Direction) -> u128
 }
 
 // What the energy of a period and a direction costs, in nano-euro.
+#[tactic(auto, unfolding(pw_flow::specs::Time::sum_over))]
 fn cost_in(sheet: &Sheet, period: PeriodId, direction: Direction) -> u128
     requires { period.0 < periods_in sheet.now.office.now }
     ensures cost { result ≡ over_bands (office_of sheet.now.office.now) (λ b. (bill_of_sheet sheet.now).cost period.0 b direction) }

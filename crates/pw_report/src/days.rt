@@ -2,8 +2,7 @@
 
 ghost use Rattle.std.specs.Prelude.{◌≡◌, ◌++◌, ◌<◌, ◌≤◌, ℕ, List, [], IfErr, IfOk, OnOk, length};
 ghost use Rattle.pw_book.specs.declared.fault.BookFault.TheVariants.{Memory};
-ghost use Rattle.pw_report.specs.DaysAndWhy.{day_line, day_lines, day_nano as nano_of_day, day_wh as wh_of_day, days_header, days_text as text_of_days};
-ghost use Rattle.pw_report.specs.Exports.{csv_line};
+ghost use Rattle.pw_report.specs.DaysAndWhy.{day_line, day_lines, day_nano as nano_of_day, day_wh as wh_of_day, days_text as text_of_days};
 ghost use Rattle.pw_report.specs.Months.{IsThere};
 ghost use Rattle.pw_report.specs.Pages.{IsDaysText};
 ghost use Rattle.pw_report.specs.Reports.{IsReport};
@@ -64,23 +63,11 @@ fn days_text(alloc: Global, told: &MonthDays, count: u8) -> Result<Vec<u8>, Book
     ensures fault { IfErr result (λ fault. fault ≡ Memory) }
 {
     let mut rows = Rows::new(alloc);
-    put_header(&mut rows)?;
+    rows.put_header(&[b"day", b"band", b"direction", b"wh", b"nano"])?;
     for day in 0..count {
         put_day(&mut rows, told, day)?;
     }
     rows.finish()
-}
-
-fn put_header(rows: &mut Rows) -> Result<(), BookFault>
-    ensures text { (before : List ℕ) → HasText rows.old before [] → OnOk result (HasText rows.new (before ++ csv_line days_header) []) }
-    ensures fault { IfErr result (λ fault. fault ≡ Memory) }
-{
-    rows.put(b"day")?;
-    rows.put(b"band")?;
-    rows.put(b"direction")?;
-    rows.put(b"wh")?;
-    rows.put(b"nano")?;
-    rows.end()
 }
 
 // A day, band by band.
@@ -123,6 +110,7 @@ fn put_direction(
 }
 
 // The energy of a day in a band and a direction, of all periods together, in Wh.
+#[tactic(auto, unfolding(pw_flow::specs::Time::sum_over))]
 fn day_wh(told: &MonthDays, day: u8, band: BandId, direction: Direction) -> u128
     ensures { result ≡ wh_of_day told.now.office.now (day_energies told.now.energies.now) day band.0 direction }
 {
@@ -134,6 +122,7 @@ fn day_wh(told: &MonthDays, day: u8, band: BandId, direction: Direction) -> u128
 }
 
 // What that costs, in nano-euro: in each period at its price.
+#[tactic(auto, unfolding(pw_flow::specs::Time::sum_over))]
 fn day_nano(told: &MonthDays, day: u8, band: BandId, direction: Direction) -> u128
     requires { band.0 < length told.now.office.now.bands }
     ensures { result ≡ nano_of_day told.now.office.now (day_energies told.now.energies.now) day band.0 direction }

@@ -4,7 +4,7 @@ ghost use Rattle.std.specs.Prelude.{◌≡◌, ◌++◌, ◌<◌, ℕ, List, [],
 ghost use Rattle.std.specs.List.{flat_map};
 ghost use Rattle.pw_book.specs.declared.fault.BookFault.TheVariants.{Memory};
 ghost use Rattle.pw_model.specs.Office.{HasOwner};
-ghost use Rattle.pw_report.specs.Exports.{csv_line, energies_header, energies_text, energy_cost, energy_row, energy_row_line, owner_rows};
+ghost use Rattle.pw_report.specs.Exports.{energies_text, energy_cost, energy_row, energy_row_line, owner_rows};
 ghost use Rattle.pw_report.specs.Names.{owner_name as name_of_owner};
 ghost use Rattle.pw_report.specs.Reports.{IsReport};
 ghost use Rattle.pw_report.specs.inner.Rows.{HasText};
@@ -30,24 +30,12 @@ pub fn export_energy<S: Shelf>(book: &mut Book<S>, alloc: Global) -> Result<Vec<
 {
     still_open(book)?;
     let mut rows = Rows::new(alloc);
-    put_header(&mut rows)?;
+    rows.put_header(&[b"owner", b"band", b"direction", b"wh", b"nano"])?;
     put_owner(book, alloc, None, &mut rows)?;
     for account in 0..book.office().accounts() {
         put_owner(book, alloc, Some(AccountId(account)), &mut rows)?;
     }
     rows.finish()
-}
-
-fn put_header(rows: &mut Rows) -> Result<(), BookFault>
-    ensures text { (before : List ℕ) → HasText rows.old before [] → OnOk result (HasText rows.new (before ++ csv_line energies_header) []) }
-    ensures fault { IfErr result (λ fault. fault ≡ Memory) }
-{
-    rows.put(b"owner")?;
-    rows.put(b"band")?;
-    rows.put(b"direction")?;
-    rows.put(b"wh")?;
-    rows.put(b"nano")?;
-    rows.end()
 }
 
 // The energies of an owner, band by band.

@@ -11,11 +11,12 @@ ghost use Rattle.pw_report.specs.Names.{meter_name as name_of_meter};
 ghost use Rattle.pw_report.specs.Pages.{IsReadingsText};
 ghost use Rattle.pw_report.specs.Reports.{IsReport};
 ghost use Rattle.pw_report.specs.inner.Rows.{HasText};
+ghost use Rattle.pw_report.specs.inner.Told.{shown_line};
 
 use crate::asked::still_open;
 use crate::names::meter_name;
 use crate::put::instant_text;
-use crate::rows::Rows;
+use crate::rows::{Rows, Tells, tell_each};
 use itoa::Buffer;
 use pw_book::{Book, BookFault};
 use pw_model::ReadingRow;
@@ -23,6 +24,13 @@ use pw_obis::Register;
 use pw_shelf::Shelf;
 use pw_tariff::MeterId;
 use std::alloc::Global;
+
+// The register whose readings are told, with the name of its meter.
+#[derive(Drop)]
+struct Shown<'a> {
+    meter: &'a [u8],
+    register: Register,
+}
 
 /// All readings held, as CSV, each with whether it counts, doesn't, or is withdrawn. By meter, register, instant and Wh.
 ///
@@ -45,12 +53,7 @@ pub(crate) fn put_header(rows: &mut Rows) -> Result<(), BookFault>
     ensures text { (before : List ℕ) → HasText rows.old before [] → OnOk result (HasText rows.new (before ++ csv_line readings_header) []) }
     ensures fault { IfErr result (λ fault. fault ≡ Memory) }
 {
-    rows.put(b"meter")?;
-    rows.put(b"register")?;
-    rows.put(b"instant")?;
-    rows.put(b"wh")?;
-    rows.put(b"counted")?;
-    rows.end()
+    rows.put_header(&[b"meter", b"register", b"instant", b"wh", b"counted"])
 }
 
 /// Writes the readings of a meter, register by register.
@@ -85,39 +88,24 @@ fn put_register<S: Shelf>(
     ensures report { IsReport S.Shelf result book.old book.new }
 {
     let readings = book.readings(alloc, meter, register)?;
-    put_readings(rows, meter_name(book.office(), meter), register, &readings)
+    let shown = Shown {
+        meter: meter_name(book.office(), meter),
+        register,
+    };
+    tell_each(rows, &shown, &readings)
 }
 
-fn put_readings(
-    rows: &mut Rows,
-    meter: &[u8],
-    register: Register,
-    readings: &[ReadingRow],
-) -> Result<(), BookFault>
-    ensures text { (before : List ℕ) → HasText rows.old before [] → OnOk result (HasText rows.new (before ++ flat_map (reading_line meter.now register) readings.now) []) }
-    ensures fault { IfErr result (λ fault. fault ≡ Memory) }
-{
-    for reading in readings {
-        put_reading(rows, meter, register, reading)?;
+impl Tells<ReadingRow> for Shown<'_> {
+    ghost line = { shown_line };
+
+    fn tell(&self, rows: &mut Rows, reading: &ReadingRow) -> Result<(), BookFault> {
+        rows.put(self.meter)?;
+        rows.put(self.register.name().as_bytes())?;
+        rows.put(&instant_text(reading.instant))?;
+        rows.put(Buffer::new().format(reading.wh.get()).as_bytes())?;
+        rows.put(mark_of(reading))?;
+        rows.end()
     }
-    Ok(())
-}
-
-fn put_reading(
-    rows: &mut Rows,
-    meter: &[u8],
-    register: Register,
-    reading: &ReadingRow,
-) -> Result<(), BookFault>
-    ensures text { (before : List ℕ) → HasText rows.old before [] → OnOk result (HasText rows.new (before ++ reading_line meter.now register reading.now) []) }
-    ensures fault { IfErr result (λ fault. fault ≡ Memory) }
-{
-    rows.put(meter)?;
-    rows.put(register.name().as_bytes())?;
-    rows.put(&instant_text(reading.instant))?;
-    rows.put(Buffer::new().format(reading.wh.get()).as_bytes())?;
-    rows.put(mark_of(reading))?;
-    rows.end()
 }
 
 fn mark_of(reading: &ReadingRow) -> &'static [u8]

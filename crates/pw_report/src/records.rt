@@ -1,9 +1,8 @@
 //! The exports of assignments, of top-ups and of withdrawals, in the form of their uploads.
 
-ghost use Rattle.std.specs.Prelude.{◌≡◌, ◌∷◌, ◌++◌, ℕ, List, [], IfErr, IfOk, OnOk, decimal};
+ghost use Rattle.std.specs.Prelude.{◌≡◌, ◌∷◌, ◌++◌, ℕ, List, [], IfErr, IfOk, OnOk, decimal, map};
 ghost use Rattle.std.specs.List.{flat_map};
 ghost use Rattle.pw_book.specs.declared.fault.BookFault.TheVariants.{Memory};
-ghost use Rattle.pw_record.specs.Row.{header_of};
 ghost use Rattle.pw_record.specs.declared.row.RowKind.TheVariants.{Assignment, TopUp, Withdrawal};
 ghost use Rattle.pw_obis.specs.Registers.{register_name};
 ghost use Rattle.pw_report.specs.Exports.{assignment_fields, csv_line, given_name, record_fields, record_line, withdrawal_fields};
@@ -14,7 +13,7 @@ ghost use Rattle.pw_report.specs.inner.Rows.{HasText};
 
 use crate::names::{account_name, meter_name};
 use crate::put::instant_text;
-use crate::rows::Rows;
+use crate::rows::{Rows, Tells, tell_each};
 use itoa::Buffer;
 use pw_book::{Book, BookFault};
 use pw_model::{Content, Entry, Key, Named, Reference};
@@ -33,10 +32,12 @@ pub fn export_assignments<S: Shelf>(book: &mut Book<S>, alloc: Global) -> Result
     ensures report { IsReport S.Shelf result book.old book.new }
 {
     let assignments = book.assignments(alloc)?;
-    let mut rows = Rows::new(alloc);
-    put_assignments_header(&mut rows)?;
-    put_records(&mut rows, book.office(), &assignments)?;
-    rows.finish()
+    records_text(
+        alloc,
+        book.office(),
+        &[b"meter", b"start", b"account"],
+        &assignments,
+    )
 }
 
 /// All top-ups held, as CSV under the header of their upload and in its form, so that they can be uploaded to another book.
@@ -48,10 +49,12 @@ pub fn export_topups<S: Shelf>(book: &mut Book<S>, alloc: Global) -> Result<Vec<
     ensures report { IsReport S.Shelf result book.old book.new }
 {
     let topups = book.topups(alloc)?;
-    let mut rows = Rows::new(alloc);
-    put_topups_header(&mut rows)?;
-    put_records(&mut rows, book.office(), &topups)?;
-    rows.finish()
+    records_text(
+        alloc,
+        book.office(),
+        &[b"reference", b"account", b"cents", b"instant"],
+        &topups,
+    )
 }
 
 /// All withdrawals held, as CSV under the header of their upload and in its form, so that they can be uploaded to another
@@ -64,61 +67,37 @@ pub fn export_withdrawals<S: Shelf>(book: &mut Book<S>, alloc: Global) -> Result
     ensures report { IsReport S.Shelf result book.old book.new }
 {
     let withdrawals = book.withdrawals(alloc)?;
+    records_text(
+        alloc,
+        book.office(),
+        &[b"kind", b"first", b"second", b"third", b"fourth"],
+        &withdrawals,
+    )
+}
+
+// Records below a header.
+fn records_text(
+    alloc: Global,
+    office: &Office,
+    header: &[&[u8]],
+    records: &[Entry],
+) -> Result<Vec<u8>, BookFault>
+    ensures text { IfOk result (λ text. text.items ≡ csv_line (map (λ name. name.now) header.now) ++ flat_map (record_line office.now) records.now) }
+    ensures fault { IfErr result (λ fault. fault ≡ Memory) }
+{
     let mut rows = Rows::new(alloc);
-    put_withdrawals_header(&mut rows)?;
-    put_records(&mut rows, book.office(), &withdrawals)?;
+    rows.put_header(header)?;
+    tell_each(&mut rows, office, records)?;
     rows.finish()
 }
 
-fn put_assignments_header(rows: &mut Rows) -> Result<(), BookFault>
-    ensures text { (before : List ℕ) → HasText rows.old before [] → OnOk result (HasText rows.new (before ++ csv_line (header_of Assignment)) []) }
-    ensures fault { IfErr result (λ fault. fault ≡ Memory) }
-{
-    rows.put(b"meter")?;
-    rows.put(b"start")?;
-    rows.put(b"account")?;
-    rows.end()
-}
+impl Tells<Entry> for Office {
+    ghost line = { record_line };
 
-fn put_topups_header(rows: &mut Rows) -> Result<(), BookFault>
-    ensures text { (before : List ℕ) → HasText rows.old before [] → OnOk result (HasText rows.new (before ++ csv_line (header_of TopUp)) []) }
-    ensures fault { IfErr result (λ fault. fault ≡ Memory) }
-{
-    rows.put(b"reference")?;
-    rows.put(b"account")?;
-    rows.put(b"cents")?;
-    rows.put(b"instant")?;
-    rows.end()
-}
-
-fn put_withdrawals_header(rows: &mut Rows) -> Result<(), BookFault>
-    ensures text { (before : List ℕ) → HasText rows.old before [] → OnOk result (HasText rows.new (before ++ csv_line (header_of Withdrawal)) []) }
-    ensures fault { IfErr result (λ fault. fault ≡ Memory) }
-{
-    rows.put(b"kind")?;
-    rows.put(b"first")?;
-    rows.put(b"second")?;
-    rows.put(b"third")?;
-    rows.put(b"fourth")?;
-    rows.end()
-}
-
-fn put_records(rows: &mut Rows, office: &Office, records: &[Entry]) -> Result<(), BookFault>
-    ensures text { (before : List ℕ) → HasText rows.old before [] → OnOk result (HasText rows.new (before ++ flat_map (record_line office.now) records.now) []) }
-    ensures fault { IfErr result (λ fault. fault ≡ Memory) }
-{
-    for record in records {
-        put_record(rows, office, record)?;
+    fn tell(&self, rows: &mut Rows, entry: &Entry) -> Result<(), BookFault> {
+        put_fields(rows, self, entry)?;
+        rows.end()
     }
-    Ok(())
-}
-
-fn put_record(rows: &mut Rows, office: &Office, entry: &Entry) -> Result<(), BookFault>
-    ensures text { (before : List ℕ) → HasText rows.old before [] → OnOk result (HasText rows.new (before ++ record_line office.now entry.now) []) }
-    ensures fault { IfErr result (λ fault. fault ≡ Memory) }
-{
-    put_fields(rows, office, entry)?;
-    rows.end()
 }
 
 fn put_fields(rows: &mut Rows, office: &Office, entry: &Entry) -> Result<(), BookFault>

@@ -1,6 +1,7 @@
 //! Rows of CSV, written by `csv` to memory.
 
-ghost use Rattle.std.specs.Prelude.{◌≡◌, ◌∷◌, ◌++◌, ℕ, List, [], IfErr, IfOk, OnOk};
+ghost use Rattle.std.specs.Prelude.{◌≡◌, ◌∷◌, ◌++◌, ℕ, List, [], IfErr, IfOk, OnOk, map};
+ghost use Rattle.std.specs.List.{flat_map};
 ghost use Rattle.pw_book.specs.declared.fault.BookFault.TheVariants.{Memory};
 ghost use Rattle.pw_report.specs.Exports.{csv_line};
 ghost use Rattle.pw_report.specs.inner.Rows.{HasText};
@@ -38,6 +39,17 @@ impl Rows {
         Ok(())
     }
 
+    /// A header: a row of these names.
+    pub(crate) fn put_header(&mut self, names: &[&[u8]]) -> Result<(), BookFault>
+        ensures text { (text : List ℕ) → HasText self.old text [] → OnOk result (HasText self.new (text ++ csv_line (map (λ name. name.now) names.now)) []) }
+        ensures fault { IfErr result (λ fault. fault ≡ Memory) }
+    {
+        for name in names {
+            self.put(name)?;
+        }
+        self.end()
+    }
+
     /// Ends the row, and begins the next one. It may have another number of fields than the first. (So `csv` refuses nothing
     /// but for want of memory.)
     pub(crate) fn end(&mut self) -> Result<(), BookFault>
@@ -61,4 +73,30 @@ impl Rows {
             Err(_) => Err(BookFault::Memory),
         }
     }
+}
+
+/// What tells values of a type, each in a row.
+pub(crate) trait Tells<T> {
+    /// The line of a value.
+    ghost line: { Self → T → List ℕ };
+
+    /// Writes the row of a value.
+    fn tell(&self, rows: &mut Rows, value: &T) -> Result<(), BookFault>
+        ensures text { (before : List ℕ) → HasText rows.old before [] → OnOk result (HasText rows.new (before ++ line self.now value.now) []) }
+        ensures fault { IfErr result (λ fault. fault ≡ Memory) };
+}
+
+/// Writes the row of each value.
+pub(crate) fn tell_each<T, W: Tells<T>>(
+    rows: &mut Rows,
+    teller: &W,
+    values: &[T],
+) -> Result<(), BookFault>
+    ensures text { (before : List ℕ) → HasText rows.old before [] → OnOk result (HasText rows.new (before ++ flat_map (W.Tells.line teller.now) values.now) []) }
+    ensures fault { IfErr result (λ fault. fault ≡ Memory) }
+{
+    for value in values {
+        teller.tell(rows, value)?;
+    }
+    Ok(())
 }

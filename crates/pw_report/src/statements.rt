@@ -1,6 +1,7 @@
 //! The statement of an account.
 
-ghost use Rattle.std.specs.Prelude.{◌≡◌, ◌++◌, ◌<◌, ◌≤◌, IfOk, OnOk, List, ℕ, Some, decimal, false, length};
+ghost use Rattle.std.specs.Prelude.{◌≡◌, ◌++◌, ◌<◌, IfOk, OnOk, Some, codes, decimal, false, length};
+ghost use Rattle.pw_report.specs.Amounts.{euro_text};
 ghost use Rattle.pw_report.specs.Layout.{listed_below};
 ghost use Rattle.pw_report.specs.Reports.{IsReport};
 ghost use Rattle.pw_report.specs.Tables.{band_line, energy_line, statement_text};
@@ -30,18 +31,32 @@ pub fn statement<S: Shelf>(
     let nano = book.balance(account)?;
     let balance = balance_text(alloc, nano)?;
     let mut text = Vec::new(alloc);
-    text.extend_from_slice(b"account ")?;
-    text.extend_from_slice(account_name(book.office(), account))?;
-    text.extend_from_slice(b"\n")?;
-    put_band(&mut text, b"band", b"import Wh", b"export Wh")?;
+    put_head(&mut text, account_name(book.office(), account))?;
     put_energies(book, alloc, account, &mut text)?;
+    put_amounts(&mut text, u128::from(cents), &balance)?;
+    Ok(text)
+}
+
+// Whose statement it is, and the head of its energies.
+fn put_head(text: &mut Vec<u8>, name: &[u8]) -> Result<(), AllocError>
+    ensures { OnOk result (text.new.items ≡ text.old.items ++ codes "account " ++ name.now ++ codes "\n" ++ band_line (codes "band") (codes "import Wh") (codes "export Wh")) }
+{
+    text.extend_from_slice(b"account ")?;
+    text.extend_from_slice(name)?;
+    text.extend_from_slice(b"\n")?;
+    put_band(text, b"band", b"import Wh", b"export Wh")
+}
+
+// What was topped up, in cents, and the balance.
+fn put_amounts(text: &mut Vec<u8>, cents: u128, balance: &[u8]) -> Result<(), AllocError>
+    ensures { OnOk result (text.new.items ≡ text.old.items ++ codes "topped up EUR " ++ euro_text cents ++ codes "\n" ++ codes "balance EUR " ++ balance.now ++ codes "\n") }
+{
     text.extend_from_slice(b"topped up EUR ")?;
-    put_euro(&mut text, u128::from(cents))?;
+    put_euro(text, cents)?;
     text.extend_from_slice(b"\n")?;
     text.extend_from_slice(b"balance EUR ")?;
-    text.extend_from_slice(&balance)?;
-    text.extend_from_slice(b"\n")?;
-    Ok(text)
+    text.extend_from_slice(balance)?;
+    text.extend_from_slice(b"\n")
 }
 
 // The lines of an account's energies, band by band.

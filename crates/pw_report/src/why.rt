@@ -1,25 +1,23 @@
 //! Why the bill of an account for a month is what it is, as CSV.
 
 ghost use Rattle.std.specs.Prelude.{◌≡◌, ◌*◌, ◌∷◌, ◌++◌, ℕ, List, [], IfErr, IfOk, OnOk, decimal, map};
-ghost use Rattle.std.specs.List.{flat_map};
 ghost use Rattle.pw_book.specs.declared.fault.BookFault.TheVariants.{Memory};
 ghost use Rattle.pw_bills.specs.Why.{row_told};
-ghost use Rattle.pw_report.specs.DaysAndWhy.{payment_line, why_header, why_text as text_of_why};
-ghost use Rattle.pw_report.specs.Exports.{csv_line};
+ghost use Rattle.pw_report.specs.DaysAndWhy.{why_text as text_of_why};
 ghost use Rattle.pw_report.specs.Layout.{instant_text as text_of_instant};
 ghost use Rattle.pw_report.specs.Months.{IsThere};
 ghost use Rattle.pw_report.specs.Names.{band_name, period_name};
 ghost use Rattle.pw_report.specs.Pages.{IsWhyText};
 ghost use Rattle.pw_report.specs.Reports.{IsReport};
 ghost use Rattle.pw_report.specs.inner.Rows.{HasText};
-ghost use Rattle.pw_report.specs.inner.Told.{piece_line};
+ghost use Rattle.pw_report.specs.inner.Told.{payer_line, piece_line};
 ghost use Rattle.pw_tariff.specs.Office.{office_of, price_at};
 
 use crate::months::{Month, span_of};
 use crate::names::{account_name, band_letter, meter_name, start_of};
 use crate::put::instant_text;
 use crate::records::put_topup;
-use crate::rows::Rows;
+use crate::rows::{Rows, Tells, tell_each};
 use itoa::Buffer;
 use pw_bills::{TopUpRow, WhyPiece, top_ups_between, why};
 use pw_book::{Book, BookFault};
@@ -27,6 +25,13 @@ use pw_model::{direction_of, price_of};
 use pw_shelf::Shelf;
 use pw_tariff::{AccountId, BandId, Direction, Office, PeriodId, Piece, Span};
 use std::alloc::Global;
+
+// Who paid what is told.
+#[derive(Drop)]
+struct Payer<'a> {
+    office: &'a Office,
+    account: AccountId,
+}
 
 /// Why the bill of an account for a month is what it is, by the records held, as CSV: each piece of two readings that gave
 /// it energy, in Wh and in nano-euro, by meter, register and time; then each top-up of the month, by its reference. It asks
@@ -60,54 +65,39 @@ fn why_text(
     ensures fault { IfErr result (λ fault. fault ≡ Memory) }
 {
     let mut rows = Rows::new(alloc);
-    put_header(&mut rows)?;
-    put_pieces(&mut rows, office, pieces)?;
-    put_payments(&mut rows, office, account, payments)?;
+    rows.put_header(&[
+        b"kind",
+        b"meter",
+        b"register",
+        b"from",
+        b"low",
+        b"to",
+        b"high",
+        b"begin",
+        b"end",
+        b"period",
+        b"band",
+        b"wh",
+        b"nano",
+    ])?;
+    tell_each(&mut rows, office, pieces)?;
+    tell_each(&mut rows, &Payer { office, account }, payments)?;
     rows.finish()
 }
 
-fn put_header(rows: &mut Rows) -> Result<(), BookFault>
-    ensures text { (before : List ℕ) → HasText rows.old before [] → OnOk result (HasText rows.new (before ++ csv_line why_header) []) }
-    ensures fault { IfErr result (λ fault. fault ≡ Memory) }
-{
-    rows.put(b"kind")?;
-    rows.put(b"meter")?;
-    rows.put(b"register")?;
-    rows.put(b"from")?;
-    rows.put(b"low")?;
-    rows.put(b"to")?;
-    rows.put(b"high")?;
-    rows.put(b"begin")?;
-    rows.put(b"end")?;
-    rows.put(b"period")?;
-    rows.put(b"band")?;
-    rows.put(b"wh")?;
-    rows.put(b"nano")?;
-    rows.end()
-}
-
-fn put_pieces(rows: &mut Rows, office: &Office, pieces: &[WhyPiece]) -> Result<(), BookFault>
-    ensures text { (before : List ℕ) → HasText rows.old before [] → OnOk result (HasText rows.new (before ++ flat_map (piece_line office.now) pieces.now) []) }
-    ensures fault { IfErr result (λ fault. fault ≡ Memory) }
-{
-    for piece in pieces {
-        put_piece(rows, office, piece)?;
-    }
-    Ok(())
-}
-
 // A row: whose register it is, its two readings, and the piece of them.
-fn put_piece(rows: &mut Rows, office: &Office, piece: &WhyPiece) -> Result<(), BookFault>
-    ensures text { (before : List ℕ) → HasText rows.old before [] → OnOk result (HasText rows.new (before ++ piece_line office.now piece.now) []) }
-    ensures fault { IfErr result (λ fault. fault ≡ Memory) }
-{
-    let direction = direction_of(piece.register);
-    rows.put(direction.name().as_bytes())?;
-    rows.put(meter_name(office, piece.meter))?;
-    rows.put(piece.register.name().as_bytes())?;
-    put_span(rows, &piece.span)?;
-    put_given(rows, office, direction, &piece.piece)?;
-    rows.end()
+impl Tells<WhyPiece> for Office {
+    ghost line = { piece_line };
+
+    fn tell(&self, rows: &mut Rows, piece: &WhyPiece) -> Result<(), BookFault> {
+        let direction = direction_of(piece.register);
+        rows.put(direction.name().as_bytes())?;
+        rows.put(meter_name(self, piece.meter))?;
+        rows.put(piece.register.name().as_bytes())?;
+        put_span(rows, &piece.span)?;
+        put_given(rows, self, direction, &piece.piece)?;
+        rows.end()
+    }
 }
 
 // Two readings.
@@ -175,38 +165,19 @@ fn price_in(office: &Office, period: PeriodId, band: BandId, direction: Directio
     }
 }
 
-fn put_payments(
-    rows: &mut Rows,
-    office: &Office,
-    account: AccountId,
-    payments: &[TopUpRow],
-) -> Result<(), BookFault>
-    ensures text { (before : List ℕ) → HasText rows.old before [] → OnOk result (HasText rows.new (before ++ flat_map (payment_line office.now account) payments.now) []) }
-    ensures fault { IfErr result (λ fault. fault ≡ Memory) }
-{
-    for payment in payments {
-        put_payment(rows, office, account, payment)?;
-    }
-    Ok(())
-}
-
 // A row: a top-up of the account, as a row of withdrawals names it.
-fn put_payment(
-    rows: &mut Rows,
-    office: &Office,
-    account: AccountId,
-    payment: &TopUpRow,
-) -> Result<(), BookFault>
-    ensures text { (before : List ℕ) → HasText rows.old before [] → OnOk result (HasText rows.new (before ++ payment_line office.now account payment.now) []) }
-    ensures fault { IfErr result (λ fault. fault ≡ Memory) }
-{
-    rows.put(b"topup")?;
-    put_topup(
-        rows,
-        &payment.reference,
-        account_name(office, account),
-        payment.cents,
-        payment.instant,
-    )?;
-    rows.end()
+impl Tells<TopUpRow> for Payer<'_> {
+    ghost line = { payer_line };
+
+    fn tell(&self, rows: &mut Rows, payment: &TopUpRow) -> Result<(), BookFault> {
+        rows.put(b"topup")?;
+        put_topup(
+            rows,
+            &payment.reference,
+            account_name(self.office, self.account),
+            payment.cents,
+            payment.instant,
+        )?;
+        rows.end()
+    }
 }

@@ -1,5 +1,5 @@
 -- What a book tells of a month, as functions of numbers, and its amounts in whole cents. It serves `src/bills.rt`,
--- `src/days.rt` and `src/why.rt`.
+-- `src/days.rt`, `src/readings.rt` and `src/why.rt`.
 -- (Definitions of this project.)
 use Rattle.std.specs.Prelude.{◌≡◌, ℕ, ◌*◌, List, pos}
 use Rattle.pw_tariff.specs.declared.ids.BandId.{BandId}
@@ -14,11 +14,16 @@ use Rattle.pw_bills.specs.declared.reasons.WhyPiece.{WhyPiece}
 use Rattle.pw_bills.specs.Billed.{energy_billed}
 use Rattle.pw_bills.specs.Energies.{energy_told}
 use Rattle.pw_bills.specs.Why.{row_told}
+use Rattle.pw_bills.specs.declared.payments.TopUpRow.{TopUpRow}
+use Rattle.pw_model.specs.declared.records.ReadingRow.{ReadingRow}
 use Rattle.pw_report.specs.declared.bills.Amounts.{Amounts}
 use Rattle.pw_report.specs.declared.bills.Sheet.{Sheet}
+use Rattle.pw_report.specs.declared.readings.Shown.{Shown}
+use Rattle.pw_report.specs.declared.why.Payer.{Payer}
 use Rattle.pw_report.specs.Amounts.{cents_below}
 use Rattle.pw_report.specs.Bills.{rounding, whole_cents}
-use Rattle.pw_report.specs.DaysAndWhy.{DayEnergies, why_line}
+use Rattle.pw_report.specs.Exports.{reading_line}
+use Rattle.pw_report.specs.DaysAndWhy.{DayEnergies, payment_line, why_line}
 
 abbrev pub period : ℕ → PeriodId
 period p = record { 0 = p }
@@ -56,3 +61,10 @@ day_energies e i p b d = energy_told e i (period p) (band b) d
 -- ---- why
 abbrev pub piece_line : OfficeFile → WhyPiece → List ℕ
 piece_line file w = why_line file (row_told (office_of file) w)
+
+abbrev pub payer_line : Payer → TopUpRow → List ℕ
+payer_line payer row = payment_line payer.office.now payer.account row
+
+-- ---- readings
+abbrev pub shown_line : Shown → ReadingRow → List ℕ
+shown_line shown row = reading_line shown.meter.now shown.register row

@@ -1,7 +1,8 @@
 use Rattle.std.proofs.Common.{◌++◌, [], take, true, false, refl, arith}
+use Rattle.pw_serve.proofs.Known.{Appends-then}
 use Rattle.pw_http.specs.Replies.{reply_bytes}
 use Rattle.pw_http.specs.Requests.{is_last}
-use Rattle.pw_http.proofs.KnownLemmas.{Appends-then, Appends-nothing}
+use Rattle.pw_http.proofs.KnownLemmas.{Appends-nothing}
 use Rattle.pw_http.proofs.Talks.{Told-nothing, Told-on, Told-last, Told-cut_short}
 use Rattle.pw_http.proofs.conversation.answer_all.Goals as goal
 

@@ -1,6 +1,7 @@
 use Rattle.std.proofs.Common.{◌≡◌, ◌<◌, ◌++◌, [], ◌+◌, length, refl, ◌∙◌, ap, arith, length-append, rules}
+use Rattle.pw_serve.proofs.Known.{Appends-then, Consumes-then}
 use Rattle.pw_http.proofs.Asks.{none_in_nothing}
-use Rattle.pw_http.proofs.KnownLemmas.{Appends-then, Appends-nothing, Consumes-then, Consumes-nothing}
+use Rattle.pw_http.proofs.KnownLemmas.{Appends-nothing, Consumes-nothing}
 use Rattle.pw_http.proofs.Talks.{Told-nothing, Told-then}
 use Rattle.pw_http.proofs.Streaming.{ends_here, cut_here, positive_if}
 use Rattle.pw_http.proofs.conversation.serve_within.Goals as goal

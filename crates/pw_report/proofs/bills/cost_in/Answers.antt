@@ -1,12 +1,8 @@
-use Rattle.std.proofs.Common.{◌≡◌, ◌∙◌, ℕ, ap, arith, length, refl}
+use Rattle.std.proofs.Common.{◌≡◌, ◌∙◌, ℕ, ap, arith, length}
 use Rattle.pw_flow.specs.Time.{sum_over}
 use Rattle.pw_model.proofs.PlainEnergy.{sum-more}
 use Rattle.pw_report.specs.inner.Told.{bill_of_sheet}
 use Rattle.pw_report.proofs.bills.cost_in.Goals as goal
-
-pub loop-band-init : goal.loop-band-init
-unfolding sum_over
-loop-band-init c = record { sum = refl; few = omega arith }
 
 pub loop-band-preserved : goal.loop-band-preserved
 loop-band-preserved c =

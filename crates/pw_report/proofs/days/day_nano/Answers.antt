@@ -1,13 +1,9 @@
-use Rattle.std.proofs.Common.{◌≡◌, ◌∙◌, ◌*◌, ℕ, ap, arith, refl}
+use Rattle.std.proofs.Common.{◌≡◌, ◌∙◌, ◌*◌, ℕ, ap, arith}
 use Rattle.pw_flow.specs.Time.{sum_over}
 use Rattle.pw_tariff.specs.Office.{periods_in, price_at}
 use Rattle.pw_model.proofs.PlainEnergy.{sum-more}
 use Rattle.pw_report.specs.inner.Told.{day_energies}
 use Rattle.pw_report.proofs.days.day_nano.Goals as goal
-
-pub loop-period-init : goal.loop-period-init
-unfolding sum_over
-loop-period-init c = record { sum = refl; few = omega arith }
 
 pub loop-period-preserved : goal.loop-period-preserved
 loop-period-preserved c =

@@ -13,4 +13,4 @@ returns-clause-text g c = λ k readings are before h.
     c.meter_name.ensures ∙ ap (λ o. meter_name o c.args.meter.0) (c.office.ensures ∙ c.in_ok-readings.ensures.question.office) in
     let same : c.deref.result.now ≡ readings =
     c.deref.ensures.value ∙ (lists-are_at_most_one records).readings c.args.meter.0 c.args.register _ _ (c.in_ok-readings.ensures.readings k) are in
-    written-is _ _ _ _ (λ i. before ++ flat_map (reading_line (name i) c.args.register) (same i)) (c.put_readings.ensures.text before h)
+    written-is _ _ _ _ (λ i. before ++ flat_map (reading_line (name i) c.args.register) (same i)) (c.tell_each.ensures.text before h)

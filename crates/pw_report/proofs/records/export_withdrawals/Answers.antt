@@ -1,4 +1,4 @@
-use Rattle.std.proofs.Common.{◌∙◌, []}
+use Rattle.std.proofs.Common.{◌∙◌}
 use Rattle.pw_record.specs.declared.row.RowKind.TheVariants.{Withdrawal}
 use Rattle.pw_report.proofs.Fields.{records-told}
 use Rattle.pw_report.proofs.records.export_withdrawals.Goals as goal
@@ -6,4 +6,4 @@ use Rattle.pw_report.proofs.records.export_withdrawals.Goals as goal
 pub returns-clause-text : goal.returns-clause-text
 returns-clause-text g c = λ k.
     records-told _ Withdrawal c.args.book.now.office _ _ _ _ (c.office.ensures ∙ c.in_ok-withdrawals.ensures.question.office) c.deref.ensures.value (c.in_ok-withdrawals.ensures.withdrawals k)
-    (c.finish.ensures.text _ [] (c.in_ok-put_records.ensures.text _ (c.in_ok-put_withdrawals_header.ensures.text [] c.new-rows.ensures)))
+    c.records_text.ensures.text

@@ -28,18 +28,17 @@ returns-clause-text g c = λ k.
     c.in_ok-nano.ensures.balance third ∙ (λ i. balance (office_of (one.office i)) (one.content second i).records a) in
     let amount : c.deref.result.now ≡ balance_text (balance (office_of file) content.records a) =
     c.deref.ensures.value ∙ c.in_ok-balance.ensures ∙ ap balance_text (to_z-of_z w128 c.in_ok-nano.nano fits ∙ nano) in
-    statement-is file content.records a _ _ _ _ _ _ _ _ _ _ _ _ _ _ _ _
+    statement-is file content.records a _ _ _ _ _ _ _ _
     (record {
       name_is = name;
       lines_are = λ i. listed_below (length (both.office i).bands) (energy_line (both.office i) (both.content third i).records a);
       cents_are = c.from.ensures ∙ c.in_ok-cents.ensures.topped_up second;
       amount_is = amount;
     })
-    c.new-text.ensures.items c.in_ok-extend_from_slice.ensures.items c.in_ok-extend_from_slice-2.ensures.items c.in_ok-extend_from_slice-3.ensures.items c.in_ok-put_band.ensures (c.in_ok-put_energies.ensures.text k)
-    c.in_ok-extend_from_slice-4.ensures.items c.in_ok-put_euro.ensures c.in_ok-extend_from_slice-5.ensures.items c.in_ok-extend_from_slice-6.ensures.items c.in_ok-extend_from_slice-7.ensures.items c.in_ok-extend_from_slice-8.ensures.items
+    c.new-text.ensures.items c.in_ok-put_head.ensures (c.in_ok-put_energies.ensures.text k) c.in_ok-put_amounts.ensures
 
-pub returns-in_err-put_band-clause-report : goal.returns-in_err-put_band-clause-report
-returns-in_err-put_band-clause-report g c =
+pub returns-in_err-put_head-clause-report : goal.returns-in_err-put_head-clause-report
+returns-in_err-put_head-clause-report g c =
     let store = g.met.S.Shelf.same_then _ _ _ c.topped_up.ensures.question.asked.kept.store c.balance.ensures.question.asked.kept.store in
     search rules
 
@@ -49,38 +48,8 @@ returns-in_err-put_energies-clause-report g c =
     let store = g.met.S.Shelf.same_then _ _ _ two c.put_energies.ensures.report.asked.kept.store in
     search rules
 
-pub returns-in_err-extend_from_slice-4-clause-report : goal.returns-in_err-extend_from_slice-4-clause-report
-returns-in_err-extend_from_slice-4-clause-report g c =
-    let two = g.met.S.Shelf.same_then _ _ _ c.topped_up.ensures.question.asked.kept.store c.balance.ensures.question.asked.kept.store in
-    let store = g.met.S.Shelf.same_then _ _ _ two c.put_energies.ensures.report.asked.kept.store in
-    search rules
-
-pub returns-in_err-put_euro-clause-report : goal.returns-in_err-put_euro-clause-report
-returns-in_err-put_euro-clause-report g c =
-    let two = g.met.S.Shelf.same_then _ _ _ c.topped_up.ensures.question.asked.kept.store c.balance.ensures.question.asked.kept.store in
-    let store = g.met.S.Shelf.same_then _ _ _ two c.put_energies.ensures.report.asked.kept.store in
-    search rules
-
-pub returns-in_err-extend_from_slice-5-clause-report : goal.returns-in_err-extend_from_slice-5-clause-report
-returns-in_err-extend_from_slice-5-clause-report g c =
-    let two = g.met.S.Shelf.same_then _ _ _ c.topped_up.ensures.question.asked.kept.store c.balance.ensures.question.asked.kept.store in
-    let store = g.met.S.Shelf.same_then _ _ _ two c.put_energies.ensures.report.asked.kept.store in
-    search rules
-
-pub returns-in_err-extend_from_slice-6-clause-report : goal.returns-in_err-extend_from_slice-6-clause-report
-returns-in_err-extend_from_slice-6-clause-report g c =
-    let two = g.met.S.Shelf.same_then _ _ _ c.topped_up.ensures.question.asked.kept.store c.balance.ensures.question.asked.kept.store in
-    let store = g.met.S.Shelf.same_then _ _ _ two c.put_energies.ensures.report.asked.kept.store in
-    search rules
-
-pub returns-in_err-extend_from_slice-7-clause-report : goal.returns-in_err-extend_from_slice-7-clause-report
-returns-in_err-extend_from_slice-7-clause-report g c =
-    let two = g.met.S.Shelf.same_then _ _ _ c.topped_up.ensures.question.asked.kept.store c.balance.ensures.question.asked.kept.store in
-    let store = g.met.S.Shelf.same_then _ _ _ two c.put_energies.ensures.report.asked.kept.store in
-    search rules
-
-pub returns-in_err-extend_from_slice-8-clause-report : goal.returns-in_err-extend_from_slice-8-clause-report
-returns-in_err-extend_from_slice-8-clause-report g c =
+pub returns-in_err-put_amounts-clause-report : goal.returns-in_err-put_amounts-clause-report
+returns-in_err-put_amounts-clause-report g c =
     let two = g.met.S.Shelf.same_then _ _ _ c.topped_up.ensures.question.asked.kept.store c.balance.ensures.question.asked.kept.store in
     let store = g.met.S.Shelf.same_then _ _ _ two c.put_energies.ensures.report.asked.kept.store in
     search rules

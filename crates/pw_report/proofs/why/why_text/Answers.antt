@@ -16,4 +16,4 @@ returns-clause-text c =
     let same = flat-mapped (why_line file) (row_told (office_of file)) c.args.pieces.now in
     c.finish.ensures.text _ []
     (text-is _ _ _ (ap (λ (t : List ℕ). (csv_line why_header ++ t) ++ flat_map line c.args.payments.now) same)
-    (c.in_ok-put_payments.ensures.text _ (c.in_ok-put_pieces.ensures.text _ (c.in_ok-put_header.ensures.text [] c.new-rows.ensures))))
+    (c.in_ok-tell_each-2.ensures.text _ (c.in_ok-tell_each.ensures.text _ (c.in_ok-put_header.ensures.text [] c.new-rows.ensures))))

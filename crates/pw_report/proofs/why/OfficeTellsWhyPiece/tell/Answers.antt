@@ -8,11 +8,11 @@ use Rattle.pw_report.specs.DaysAndWhy.{why_fields}
 use Rattle.pw_report.specs.Names.{meter_name}
 use Rattle.pw_report.proofs.Fields.{row-of}
 use Rattle.pw_report.proofs.MonthTexts.{piece-fields}
-use Rattle.pw_report.proofs.why.put_piece.Goals as goal
+use Rattle.pw_report.proofs.why.OfficeTellsWhyPiece.tell.Goals as goal
 
 pub returns-clause-text : goal.returns-clause-text
 returns-clause-text c = λ before h.
-    let file = c.args.office.now in
+    let file = c.args.self.now in
     let w = c.args.piece.now in
     let all = c.end.ensures.text before _ (c.in_ok-put_given.ensures.text before _ (c.in_ok-put_span.ensures.text before _ (c.in_ok-put-3.ensures.text before _ (c.in_ok-put-2.ensures.text before _ (c.in_ok-put.ensures.text before [] h))))) in
     let way : c.direction_of-direction.result ≡ direction_of w.register = c.direction_of-direction.ensures in

@@ -1,6 +1,0 @@
-use Rattle.std.proofs.Common.{[]}
-use Rattle.pw_report.proofs.records.put_withdrawals_header.Goals as goal
-
-pub returns-clause-text : goal.returns-clause-text
-returns-clause-text c = λ before h.
-    c.end.ensures.text before _ (c.in_ok-put-5.ensures.text before _ (c.in_ok-put-4.ensures.text before _ (c.in_ok-put-3.ensures.text before _ (c.in_ok-put-2.ensures.text before _ (c.in_ok-put.ensures.text before [] h)))))
