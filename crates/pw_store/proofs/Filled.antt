@@ -1,6 +1,6 @@
 -- Totals of energy that are put by period where a store is brought to version 3: what is known of them once they were read
 -- again, and of what the statements that put them leave.
-use Rattle.std.proofs.Common.{◌≡◌, ◌≤◌, ◌<◌, ◌+◌, ◌⊎◌, inl, inr, ℕ, List, [], ◌∷◌, ◌++◌, map, filter, length, take, get_or, Option, Some, None, unwrap_or, Ok, Err, Result, OnErr, OnOk, refl, sym, ap, subst, subst₂, ◌∙◌, append_assoc, append-nil, arith}
+use Rattle.std.proofs.Common.{◌≡◌, ◌≤◌, ◌<◌, ◌+◌, ◌⊎◌, inl, inr, ℕ, List, [], ◌∷◌, ◌++◌, true, false, IsTrue, map, filter, length, take, get_or, Option, Some, None, unwrap_or, Ok, Err, Result, OnErr, OnOk, refl, sym, ap, subst, subst₂, ◌∙◌, append_assoc, append-nil, arith}
 use Rattle.std.proofs.lemmas.Bool.{cases_lt, lt-ltb}
 use Rattle.std.specs.List.{AllByRecursion}
 use Rattle.std.specs.List.Sorted.{IsPermutation}
@@ -42,7 +42,7 @@ use Rattle.pw_store.specs.declared.fault.OpenFault.TheVariants.{Store, Memory, O
 use Rattle.pw_store.specs.Content.{IsRowOf, content_of, content_of_version, energy_told, energy_tree, entry_in, point_in, point_tree, records_of, start_in, start_tree, total_in, total_of_version, total_tree, tree_of}
 use Rattle.pw_store.specs.Left.{IsFilled}
 use Rattle.pw_store.specs.Opening.{HoldsRecords, HoldsTotals, IsSpoilt}
-use Rattle.pw_store.specs.inner.Changing.{PutsEnergy, energy_row}
+use Rattle.pw_store.specs.inner.Changing.{PutsEnergy, total_row}
 use Rattle.pw_store.specs.inner.Filling.{AreTheEnergies, IsOfEngine, IsOfTopUps, LeavesTopUps, TellsMore, energies_among, energies_in, is_of_energy}
 use Rattle.pw_store.specs.inner.Opened.{AreJudged, RowsRefuse}
 use Rattle.pw_store.specs.inner.Sums.{TellsTotals}
@@ -144,10 +144,10 @@ one_more x old new i =
     subst₂ (λ xs ys. IsPermutation (xs ++ x ∷ []) ys) (sym i.2) (sym i.3)
     (IsPermutation-trans ((i.0 ++ i.1) ++ x ∷ []) (x ∷ (i.0 ++ i.1)) (i.0 ++ x ∷ i.1) (IsPermutation-append_comm (i.0 ++ i.1) (x ∷ [])) (IsPermutation-sym (i.0 ++ x ∷ i.1) (x ∷ (i.0 ++ i.1)) (IsPermutation-middle i.0 x i.1)))
 
-pub put_told : (o : Option AccountId) (p : PeriodId) (b : BandId) (d : Direction) (v : ℕ) (old new : State) (r : Result ℕ Error) → OnOk r (PutsEnergy (energy_row o p b d v) old new)
-    → OnOk r (TellsMore ((total.Energy o p b d, v) ∷ []) old.now.trees new.now.trees)
-put_told o p b d v old new (Err e) it = tt
-put_told o p b d v old new (Ok n) it = one_more (total.Energy o p b d, v) (energies_in old.now.trees) (energies_in new.now.trees) (told_more old new o p b d v it)
+pub put_told : (k : TotalKey) (v : ℕ) (old new : State) (r : Result ℕ Error) → IsTrue (is_of_energy k) → OnOk r (PutsEnergy (total_row k (Some v)) old new) → OnOk r (TellsMore ((k, v) ∷ []) old.now.trees new.now.trees)
+put_told k v old new (Err e) of it = tt
+put_told (total.Energy o p b d) v old new (Ok n) of it = one_more (total.Energy o p b d, v) (energies_in old.now.trees) (energies_in new.now.trees) (told_more old new o p b d v it)
+put_told (total.TopUps a) v old new (Ok n) of it = absurd (let bad : false ≡ true = of in cc)
 
 pub told_itself : (db : Trees) → TellsMore [] db db
 told_itself db = subst (λ xs. IsPermutation xs (energies_in db)) (sym (append-nil (energies_in db))) (IsPermutation-refl (energies_in db))

@@ -13,9 +13,6 @@ use Rattle.sqlite.specs.Order.{Row, column}
 use Rattle.sqlite.specs.Term.{holds}
 use Rattle.sqlite.specs.Query.{Query, Output, output, page}
 use Rattle.sqlite.specs.State.{State, Shown}
-use Rattle.sqlite.specs.Schema.{Schema}
-use Rattle.sqlite.specs.Listing.{understood}
-use Rattle.sqlite.proofs.Callers.{IsPlain}
 use Rattle.pw_obis.specs.declared.reference.Register.{Register}
 use Rattle.pw_obis.specs.declared.reference.Register.TheVariants.{I0}
 use Rattle.pw_tariff.specs.declared.ids.AccountId.{AccountId}
@@ -32,17 +29,15 @@ use Rattle.pw_model.specs.declared.records.Named.TheVariants as named
 use Rattle.pw_model.specs.Counting.{Member, named_entry}
 use Rattle.pw_model.proofs.EntryOrder.{numbers-tie}
 use Rattle.pw_schema.specs.Rows.{text, number, register_at, owner_at, withdrawal}
-use Rattle.pw_schema.specs.Tables.{IsOurs}
-use Rattle.pw_store.specs.inner.Records.{topup_row, topup_entry, reading_row, reading_entry, assignment_row, assignment_entry, entry_as}
+use Rattle.pw_store.specs.inner.Records.{topup_row, topup_entry, reading_row, reading_entry, assignment_row, assignment_entry, entry_as, named_row}
 use Rattle.pw_store.specs.declared.forms.Form.{Form}
-use Rattle.pw_store.specs.inner.Forms.{find_reading, find_assignment, find_topup}
+use Rattle.pw_store.specs.inner.Forms.{find}
 use Rattle.pw_store.specs.declared.forms.Form.TheVariants.{Record, Withdrawal}
 use Rattle.pw_store.specs.Content.{topup_in, reading_in, assignment_in, entry_in, records_of, tree_of, IsTopupRow, IsReadingRow, IsAssignmentRow, IsRowOf}
 use Rattle.pw_store.specs.Kept.{IsStore}
 use Rattle.pw_schema.specs.declared.kind.RecordKind.{RecordKind}
 use Rattle.pw_schema.specs.declared.kind.RecordKind.TheVariants.{Readings, Assignments, TopUps, WithdrawnReadings, WithdrawnAssignments, WithdrawnTopUps}
-use Rattle.pw_store.proofs.Texts.{IsQuery, has_withdrawn_topup_text, has_withdrawn_topup_query, has_withdrawn_topup_is, has_withdrawn_reading_text, has_withdrawn_reading_query, has_withdrawn_reading_is, has_withdrawn_assignment_text, has_withdrawn_assignment_query, has_withdrawn_assignment_is, has_topup_text, has_topup_query, has_topup_is, has_reading_text, has_reading_query, has_reading_is, has_assignment_text, has_assignment_query, has_assignment_is}
-use Rattle.pw_store.proofs.Querying.{ours_plain}
+use Rattle.pw_store.proofs.Texts.{IsQuery, eq, find_is, find_query, find_tests, four_tests, kind_as}
 use Rattle.pw_store.proofs.Scans.{equal_ints, equal_texts, tied, scan_of, outputs, passing}
 use Rattle.pw_store.proofs.Lists.{seen}
 use Rattle.pw_store.specs.inner.Lists.{kind_at}
@@ -127,7 +122,7 @@ owner_in _ = None
 -- ---- top-ups
 module _ (t : List ℕ) (a c i : ℕ) where
   abbrev passes : Row → Bool
-  passes r = list_all (holds (topup_row t a c i ∷ r ∷ [])) has_topup_query.filter
+  passes r = list_all (holds (topup_row t a c i ∷ r ∷ [])) four_tests
 
   tests : (r : Row) → IsTopupRow r → passes r ≡ (is_eq (slice_cmp nat_cmp (text (column r 1)) t) && (is_eq (nat_cmp (number (column r 2)) a) && (is_eq (nat_cmp (number (column r 3)) c) && (is_eq (nat_cmp (number (column r 4)) i) && true))))
   tests r it = rw (it.0, it.1.0, it.1.1.0, it.1.1.1) (rw (equal_texts (text (column r 1)) t, equal_ints (number (column r 2)) a, equal_ints (number (column r 3)) c, equal_ints (number (column r 4)) i) refl)
@@ -172,21 +167,10 @@ finds_kind k text q it params e whole is each old new rows store h =
       λ m. (let lt = member_some (entry_in k) p (IsRowOf k) e each table (store.rows k) (in_table old.now.trees e k is m) in omega (arith, lt, many)),
     )
 
-pub finds_if : {Z : Type 0} (text : List ℕ) (params : Row) (e : Entry) (old new : State)
-    → ((rows : List Row) → IsStore old.now → Shown text params old new rows → (0 < length rows → Member e (records_of old.now.trees)) × (Member e (records_of old.now.trees) → 0 < length rows))
-    → (r : Result (Vec Row Z) Error) → IsStore old.now → IfOk r (λ rows. Shown text params old new rows.items)
-    → IfOk r (λ rows. (0 < length rows.items → Member e (records_of old.now.trees)) × (Member e (records_of old.now.trees) → 0 < length rows.items))
-finds_if text params e old new finds (Ok rows) store h = finds rows.items store h
-finds_if text params e old new finds (Err f) store h = tt
-
-pub finds_topup : (old new : State) (t : List ℕ) (a c i : ℕ) (rows : List Row) → IsStore old.now → Shown has_topup_text (topup_row t a c i) old new rows
-    → (0 < length rows → Member (topup_entry t (record { 0 = a }) c i) (records_of old.now.trees)) × (Member (topup_entry t (record { 0 = a }) c i) (records_of old.now.trees) → 0 < length rows)
-finds_topup old new t a c i rows store h = finds_kind TopUps has_topup_text has_topup_query has_topup_is (topup_row t a c i) (topup_entry t (record { 0 = a }) c i) (λ xs. refl) refl (each_topup t a c i) old new rows store h
-
 -- ---- readings
 module _ (m : MeterId) (g : Register) (i v : ℕ) where
   abbrev passes_reading : Row → Bool
-  passes_reading r = list_all (holds (reading_row m.0 (register_place g) i v ∷ r ∷ [])) has_reading_query.filter
+  passes_reading r = list_all (holds (reading_row m.0 (register_place g) i v ∷ r ∷ [])) four_tests
 
   tests_reading : (r : Row) → IsReadingRow r → passes_reading r ≡ (is_eq (nat_cmp (number (column r 1)) m.0) && (is_eq (nat_cmp (number (column r 2)) (register_place g)) && (is_eq (nat_cmp (number (column r 3)) i) && (is_eq (nat_cmp (number (column r 4)) v) && true))))
   tests_reading r it = rw (it.0, it.1.0, it.1.1.0, it.1.1.1) (rw (equal_ints (number (column r 1)) m.0, equal_ints (register_place (register_at (number (column r 2)))) (register_place g), equal_ints (number (column r 3)) i, equal_ints (number (column r 4)) v) refl)
@@ -211,10 +195,6 @@ module _ (m : MeterId) (g : Register) (i v : ℕ) where
         tests_reading r it ∙ rw (em, eg, ei, ev) (rw (same_number m.0, same_number (register_place g), same_number i, same_number v) refl),
   )
 
-pub finds_reading : (old new : State) (m : MeterId) (g : Register) (i v : ℕ) (rows : List Row) → IsStore old.now → Shown has_reading_text (reading_row m.0 (register_place g) i v) old new rows
-    → (0 < length rows → Member (reading_entry m g i v) (records_of old.now.trees)) × (Member (reading_entry m g i v) (records_of old.now.trees) → 0 < length rows)
-finds_reading old new m g i v rows store h = finds_kind Readings has_reading_text has_reading_query has_reading_is (reading_row m.0 (register_place g) i v) (reading_entry m g i v) (λ xs. refl) refl (each_reading m g i v) old new rows store h
-
 -- ---- assignments
 pub owner_one : (n : ℕ) (o : Option AccountId) → n ≡ owner_place o → owner_at n ≡ o
 owner_one n o e = ap owner_at e ∙ owner_back o
@@ -225,7 +205,7 @@ place_one (suc n) o e = sym (add-one n) ∙ ap owner_place e
 
 module _ (m : MeterId) (i : ℕ) (o : Option AccountId) where
   abbrev passes_assignment : Row → Bool
-  passes_assignment r = list_all (holds (assignment_row m.0 i (owner_place o) ∷ r ∷ [])) has_assignment_query.filter
+  passes_assignment r = list_all (holds (assignment_row m.0 i (owner_place o) ∷ r ∷ [])) (eq 1 0 ∷ eq 2 1 ∷ eq 3 2 ∷ [])
 
   tests_assignment : (r : Row) → IsAssignmentRow r → passes_assignment r ≡ (is_eq (nat_cmp (number (column r 1)) m.0) && (is_eq (nat_cmp (number (column r 2)) i) && (is_eq (nat_cmp (number (column r 3)) (owner_place o)) && true)))
   tests_assignment r it = rw (it.0, it.1.0, it.1.1) (rw (equal_ints (number (column r 1)) m.0, equal_ints (number (column r 2)) i, equal_ints (number (column r 3)) (owner_place o)) refl)
@@ -246,10 +226,6 @@ module _ (m : MeterId) (i : ℕ) (o : Option AccountId) where
         let eo : number (column r 3) ≡ owner_place o = place_one (number (column r 3)) o (ap (λ (x : Entry). owner_in x.content) same) in
         tests_assignment r it ∙ rw (em, ei, eo) (rw (same_number m.0, same_number i, same_number (owner_place o)) refl),
   )
-
-pub finds_assignment : (old new : State) (m : MeterId) (i : ℕ) (o : Option AccountId) (rows : List Row) → IsStore old.now → Shown has_assignment_text (assignment_row m.0 i (owner_place o)) old new rows
-    → (0 < length rows → Member (assignment_entry m i o) (records_of old.now.trees)) × (Member (assignment_entry m i o) (records_of old.now.trees) → 0 < length rows)
-finds_assignment old new m i o rows store h = finds_kind Assignments has_assignment_text has_assignment_query has_assignment_is (assignment_row m.0 i (owner_place o)) (assignment_entry m i o) (λ xs. refl) refl (each_assignment m i o) old new rows store h
 
 -- ---- withdrawals: a row tells one where it would tell the record that is named
 -- of a record its withdrawal, and of a withdrawal its record
@@ -277,52 +253,19 @@ each_named k j IsRow p e named by back each r it = (
   λ same. (each r it).1 (sym (by r) ∙ ap named_by same ∙ back),
 )
 
-pub finds_withdrawn_reading : (old new : State) (m : MeterId) (g : Register) (i v : ℕ) (rows : List Row) → IsStore old.now → Shown has_withdrawn_reading_text (reading_row m.0 (register_place g) i v) old new rows
-    → (0 < length rows → Member (withdrawal (named.Reading m g i v)) (records_of old.now.trees)) × (Member (withdrawal (named.Reading m g i v)) (records_of old.now.trees) → 0 < length rows)
-finds_withdrawn_reading old new m g i v rows store h =
-    finds_kind WithdrawnReadings has_withdrawn_reading_text has_withdrawn_reading_query has_withdrawn_reading_is (reading_row m.0 (register_place g) i v) (withdrawal (named.Reading m g i v)) (λ xs. refl) refl
-    (each_named Readings WithdrawnReadings IsReadingRow _ (reading_entry m g i v) (λ r. refl) (λ r. refl) refl (each_reading m g i v)) old new rows store h
+-- ---- what is named, by the form in which it is kept
+abbrev finds : Form → Named → Row → Type 0
+finds form n r = (list_all (holds (named_row n ∷ r ∷ [])) (find_tests n) ≡ true → entry_in (kind_as form n) r ≡ entry_as form n) × (entry_in (kind_as form n) r ≡ entry_as form n → list_all (holds (named_row n ∷ r ∷ [])) (find_tests n) ≡ true)
 
-pub finds_withdrawn_assignment : (old new : State) (m : MeterId) (i : ℕ) (o : Option AccountId) (rows : List Row) → IsStore old.now → Shown has_withdrawn_assignment_text (assignment_row m.0 i (owner_place o)) old new rows
-    → (0 < length rows → Member (withdrawal (named.Assignment m i o)) (records_of old.now.trees)) × (Member (withdrawal (named.Assignment m i o)) (records_of old.now.trees) → 0 < length rows)
-finds_withdrawn_assignment old new m i o rows store h =
-    finds_kind WithdrawnAssignments has_withdrawn_assignment_text has_withdrawn_assignment_query has_withdrawn_assignment_is (assignment_row m.0 i (owner_place o)) (withdrawal (named.Assignment m i o)) (λ xs. refl) refl
-    (each_named Assignments WithdrawnAssignments IsAssignmentRow _ (assignment_entry m i o) (λ r. refl) (λ r. refl) refl (each_assignment m i o)) old new rows store h
+each : (form : Form) (n : Named) (r : Row) → IsRowOf (kind_as form n) r → finds form n r
+each Record (named.Reading m g i v) = each_reading m g i v
+each Record (named.Assignment m i o) = each_assignment m i o
+each Record (named.TopUp t a c i) = each_topup t a.0 c i
+each Withdrawal (named.Reading m g i v) = each_named Readings WithdrawnReadings IsReadingRow _ (reading_entry m g i v) (λ r. refl) (λ r. refl) refl (each_reading m g i v)
+each Withdrawal (named.Assignment m i o) = each_named Assignments WithdrawnAssignments IsAssignmentRow _ (assignment_entry m i o) (λ r. refl) (λ r. refl) refl (each_assignment m i o)
+each Withdrawal (named.TopUp t a c i) = each_named TopUps WithdrawnTopUps IsTopupRow _ (topup_entry t a c i) (λ r. refl) (λ r. refl) refl (each_topup t a.0 c i)
 
-pub finds_withdrawn_topup : (old new : State) (t : List ℕ) (a : AccountId) (c i : ℕ) (rows : List Row) → IsStore old.now → Shown has_withdrawn_topup_text (topup_row t a.0 c i) old new rows
-    → (0 < length rows → Member (withdrawal (named.TopUp t a c i)) (records_of old.now.trees)) × (Member (withdrawal (named.TopUp t a c i)) (records_of old.now.trees) → 0 < length rows)
-finds_withdrawn_topup old new t a c i rows store h =
-    finds_kind WithdrawnTopUps has_withdrawn_topup_text has_withdrawn_topup_query has_withdrawn_topup_is (topup_row t a.0 c i) (withdrawal (named.TopUp t a c i)) (λ xs. refl) refl
-    (each_named TopUps WithdrawnTopUps IsTopupRow _ (topup_entry t a c i) (λ r. refl) (λ r. refl) refl (each_topup t a.0 c i)) old new rows store h
-
--- ---- by the form in which what is named is kept
-abbrev IsFoundBy : List Row → Entry → State → Type 0
-IsFoundBy rows e old = (0 < length rows → Member e (records_of old.now.trees)) × (Member e (records_of old.now.trees) → 0 < length rows)
-
-pub finds_reading_in : {Z : Type 0} (m : MeterId) (g : Register) (i v : ℕ) (form : Form) (old new : State) (r : Result (Vec Row Z) Error) → IsStore old.now → IfOk r (λ rows. Shown (find_reading form) (reading_row m.0 (register_place g) i v) old new rows.items) → IfOk r (λ rows. IsFoundBy rows.items (entry_as form (named.Reading m g i v)) old)
-finds_reading_in m g i v Record old new = finds_if has_reading_text (reading_row m.0 (register_place g) i v) (reading_entry m g i v) old new (finds_reading old new m g i v)
-finds_reading_in m g i v Withdrawal old new = finds_if has_withdrawn_reading_text (reading_row m.0 (register_place g) i v) (withdrawal (named.Reading m g i v)) old new (finds_withdrawn_reading old new m g i v)
-
-pub finds_assignment_in : {Z : Type 0} (m : MeterId) (i : ℕ) (o : Option AccountId) (form : Form) (old new : State) (r : Result (Vec Row Z) Error) → IsStore old.now → IfOk r (λ rows. Shown (find_assignment form) (assignment_row m.0 i (owner_place o)) old new rows.items) → IfOk r (λ rows. IsFoundBy rows.items (entry_as form (named.Assignment m i o)) old)
-finds_assignment_in m i o Record old new = finds_if has_assignment_text (assignment_row m.0 i (owner_place o)) (assignment_entry m i o) old new (finds_assignment old new m i o)
-finds_assignment_in m i o Withdrawal old new = finds_if has_withdrawn_assignment_text (assignment_row m.0 i (owner_place o)) (withdrawal (named.Assignment m i o)) old new (finds_withdrawn_assignment old new m i o)
-
-pub finds_topup_in : {Z : Type 0} (t : List ℕ) (a : AccountId) (c i : ℕ) (form : Form) (old new : State) (r : Result (Vec Row Z) Error) → IsStore old.now → IfOk r (λ rows. Shown (find_topup form) (topup_row t a.0 c i) old new rows.items) → IfOk r (λ rows. IsFoundBy rows.items (entry_as form (named.TopUp t a c i)) old)
-finds_topup_in t a c i Record old new = finds_if has_topup_text (topup_row t a.0 c i) (topup_entry t a c i) old new (finds_topup old new t a.0 c i)
-finds_topup_in t a c i Withdrawal old new = finds_if has_withdrawn_topup_text (topup_row t a.0 c i) (withdrawal (named.TopUp t a c i)) old new (finds_withdrawn_topup old new t a c i)
-
--- each is a query over our tables
-abbrev AreQueries : (Form → List ℕ) → Type 0
-AreQueries sql = (form : Form) (s : Schema) → IsOurs s → IsPlain (understood s (sql form))
-
-pub plain_reading : AreQueries find_reading
-plain_reading Record = ours_plain has_reading_is
-plain_reading Withdrawal = ours_plain has_withdrawn_reading_is
-
-pub plain_assignment : AreQueries find_assignment
-plain_assignment Record = ours_plain has_assignment_is
-plain_assignment Withdrawal = ours_plain has_withdrawn_assignment_is
-
-pub plain_topup : AreQueries find_topup
-plain_topup Record = ours_plain has_topup_is
-plain_topup Withdrawal = ours_plain has_withdrawn_topup_is
+pub finds_named : {Z : Type 0} (form : Form) (n : Named) (old new : State) (r : Result (Vec Row Z) Error) → IsStore old.now → IfOk r (λ rows. Shown (find form n) (named_row n) old new rows.items)
+    → IfOk r (λ rows. (0 < length rows.items → Member (entry_as form n) (records_of old.now.trees)) × (Member (entry_as form n) (records_of old.now.trees) → 0 < length rows.items))
+finds_named form n old new (Ok rows) store h = finds_kind (kind_as form n) (find form n) (find_query form n) (find_is form n) (named_row n) (entry_as form n) (λ xs. refl) refl (each form n) old new rows.items store h
+finds_named form n old new (Err f) store h = tt

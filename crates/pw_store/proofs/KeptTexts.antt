@@ -13,6 +13,8 @@ use Rattle.sqlite_tied.specs.Compute.{everything}
 use Rattle.sqlite.specs.Listing.{understood}
 use Rattle.sqlite.proofs.Callers.{IsPlain, command_of}
 use Rattle.pw_schema.specs.Tables.{ours_with}
+use Rattle.pw_store.specs.declared.points.Side.TheVariants.{Before, Behind}
+use Rattle.pw_store.specs.inner.Seconds.{nearest_text}
 use Rattle.pw_store.proofs.Texts.{IsInsert, IsQuery, eq, four_terms, plain_query, three_terms, up}
 
 -- the command that makes rows of the table at this place anew, or deletes them: those that the query finds
@@ -53,7 +55,7 @@ unfolding understood everything
 insert_point_is = record { is = λ checks. refl; plain = λ checks. (refl, refl) }
 
 abbrev pub before_text : List ℕ
-before_text = codes "SELECT instant, wh FROM point WHERE meter = ?1 AND register = ?2 AND instant < ?3 ORDER BY instant DESC LIMIT 1"
+before_text = nearest_text (Before 0)
 
 abbrev pub before_query : Query
 before_query = record (plain_query 7 (eq 1 0 ∷ eq 2 1 ∷ op2 (Compare Lt Binary) (col 1 3) (col 0 2) ∷ []) (col 1 3 ∷ col 1 4 ∷ [])) { order = (col 1 3, down) ∷ []; limit = lit (Int (pos 1)) }
@@ -63,7 +65,7 @@ unfolding understood everything
 before_is = record { names = codes "instant" ∷ codes "wh" ∷ []; is = λ checks. refl; unlisted = λ checks. refl; plain = λ checks. (refl, refl) }
 
 abbrev pub after_text : List ℕ
-after_text = codes "SELECT instant, wh FROM point WHERE meter = ?1 AND register = ?2 AND instant > ?3 ORDER BY instant LIMIT 1"
+after_text = nearest_text (Behind 0)
 
 abbrev pub after_query : Query
 after_query = record (plain_query 7 (eq 1 0 ∷ eq 2 1 ∷ op2 (Compare Gt Binary) (col 1 3) (col 0 2) ∷ []) (col 1 3 ∷ col 1 4 ∷ [])) { order = (col 1 3, up) ∷ []; limit = lit (Int (pos 1)) }

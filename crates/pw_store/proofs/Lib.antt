@@ -32,6 +32,7 @@ pub mod OfMeter
 pub mod OfParts
 pub mod Once
 pub mod OneTable
+pub mod OneTotal
 pub mod OneKind
 pub mod OfficeFirst
 pub mod OneOffice

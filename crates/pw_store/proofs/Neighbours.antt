@@ -27,11 +27,17 @@ use Rattle.pw_model.specs.Counting.{EachOnce, Member, SameMembers, reading_key, 
 use Rattle.pw_model.specs.Same.{same_key}
 use Rattle.pw_model.proofs.Same.{same_key-decides}
 use Rattle.pw_shelf.specs.Seconds.{IsBefore, IsBehind}
-use Rattle.pw_schema.specs.Tables.{ours_with, only_one}
+use Rattle.pw_schema.specs.Tables.{ours_with, only_one, IsOurs}
 use Rattle.pw_schema.specs.Rows.{number, register_at, owner_at}
 use Rattle.pw_store.specs.Content.{IsReadingRow, IsAssignmentRow, point_in, start_in}
 use Rattle.pw_store.specs.Kept.{IsStore, key_in_point, key_in_start}
-use Rattle.pw_store.specs.inner.Seconds.{point_told, start_told, first_point}
+use Rattle.sqlite.specs.Schema.{Schema}
+use Rattle.sqlite.specs.Listing.{understood}
+use Rattle.sqlite.proofs.Callers.{IsPlain}
+use Rattle.pw_store.proofs.Querying.{ours_plain}
+use Rattle.pw_store.specs.declared.points.Side.{Side}
+use Rattle.pw_store.specs.declared.points.Side.TheVariants.{Before, Behind}
+use Rattle.pw_store.specs.inner.Seconds.{point_told, start_told, first_point, instant_of, nearest_text, IsNearest}
 use Rattle.pw_store.proofs.KeptTexts.{before_text, before_query, before_is, after_text, after_query, after_is, between_text, between_query, between_is, starts_text, starts_query, starts_is}
 use Rattle.pw_store.proofs.Once.{permuted}
 use Rattle.pw_store.proofs.Scans.{equal_ints, as_ints, tied, scan_of, outputs, answer_of, IsScan}
@@ -411,7 +417,7 @@ module _ (m : ℕ) (g : Register) (t : ℕ) (table : List Row) (rows_are : AllBy
               none u high less None e = refl
               none u high less (Some w) e = absurd (let end = high_of (inst o) u w (o ∷ os) (ends (inst o) o os (omega arith) all sorted) ((members (u, w)).0 (high, e)) in omega (arith, end, less))
 
-pub before_if : {Z : Type 0} (old new : State) (m : ℕ) (g : Register) (t : ℕ) (out : Result (Vec Row Z) Error) → IsStore old.now → IfOk out (λ rows. Shown before_text (params m g t) old new rows.items)
+before_if : {Z : Type 0} (old new : State) (m : ℕ) (g : Register) (t : ℕ) (out : Result (Vec Row Z) Error) → IsStore old.now → IfOk out (λ rows. Shown before_text (params m g t) old new rows.items)
     → IfOk out (λ rows. IsBefore (point_in (old.now.trees 7) m g) t (first_point rows.items))
 before_if old new m g t (Err e) store h = tt
 before_if old new m g t (Ok rows) store h =
@@ -419,13 +425,23 @@ before_if old new m g t (Ok rows) store h =
     before_is_last m g t (old.now.trees 7) store.points.each store.points.once rows.items
     (answer_of (ours_with own) before_text (params m g t) old new before_is.names 7 before_query rows.items store.ours (before_is.is own) (before_is.plain own) (before_is.unlisted own) h)
 
-pub after_if : {Z : Type 0} (old new : State) (m : ℕ) (g : Register) (t : ℕ) (out : Result (Vec Row Z) Error) → IsStore old.now → IfOk out (λ rows. Shown after_text (params m g t) old new rows.items)
+after_if : {Z : Type 0} (old new : State) (m : ℕ) (g : Register) (t : ℕ) (out : Result (Vec Row Z) Error) → IsStore old.now → IfOk out (λ rows. Shown after_text (params m g t) old new rows.items)
     → IfOk out (λ rows. IsBehind (point_in (old.now.trees 7) m g) t (first_point rows.items))
 after_if old new m g t (Err e) store h = tt
 after_if old new m g t (Ok rows) store h =
     let own = only_one in
     after_is_first m g t (old.now.trees 7) store.points.each store.points.once rows.items
     (answer_of (ours_with own) after_text (params m g t) old new after_is.names 7 after_query rows.items store.ours (after_is.is own) (after_is.plain own) (after_is.unlisted own) h)
+
+-- on a side
+pub nearest_if : {Z : Type 0} (side : Side) (old new : State) (m : ℕ) (g : Register) (out : Result (Vec Row Z) Error) → IsStore old.now → IfOk out (λ rows. Shown (nearest_text side) (params m g (instant_of side)) old new rows.items)
+    → IfOk out (λ rows. IsNearest side (point_in (old.now.trees 7) m g) (first_point rows.items))
+nearest_if (Before t) old new m g = before_if old new m g t
+nearest_if (Behind t) old new m g = after_if old new m g t
+
+pub nearest_plain : (side : Side) (s : Schema) → IsOurs s → IsPlain (understood s (nearest_text side))
+nearest_plain (Before t) = ours_plain before_is
+nearest_plain (Behind t) = ours_plain after_is
 
 -- ---- points between two seconds
 module _ (m : ℕ) (g : Register) (from to : ℕ) where

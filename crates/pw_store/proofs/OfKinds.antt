@@ -53,14 +53,18 @@ once_both (x ∷ xs) ys a b apart = (
   once_both xs ys a.1 b (λ y m n. apart y (inr m) n),
 )
 
--- ---- which kind the key of a record is of
+-- ---- what there is for each kind
+abbrev pub by_kind : (P : RecordKind → Type 0) → P Readings → P Assignments → P TopUps → P WithdrawnReadings → P WithdrawnAssignments → P WithdrawnTopUps → (k : RecordKind) → P k
+by_kind P a b c d e f Readings = a
+by_kind P a b c d e f Assignments = b
+by_kind P a b c d e f TopUps = c
+by_kind P a b c d e f WithdrawnReadings = d
+by_kind P a b c d e f WithdrawnAssignments = e
+by_kind P a b c d e f WithdrawnTopUps = f
+
+-- which kind the key of a record is of
 kind_in : (k : RecordKind) (r : Row) → kind_at (entry_in k r).key ≡ k
-kind_in Readings r = refl
-kind_in Assignments r = refl
-kind_in TopUps r = refl
-kind_in WithdrawnReadings r = refl
-kind_in WithdrawnAssignments r = refl
-kind_in WithdrawnTopUps r = refl
+kind_in = by_kind (λ k. (r : Row) → kind_at (entry_in k r).key ≡ k) (λ r. refl) (λ r. refl) (λ r. refl) (λ r. refl) (λ r. refl) (λ r. refl)
 
 pub of_kind : (k : RecordKind) (rows : List Row) (x : Entry) → Member x (map (entry_in k) rows) → kind_at x.key ≡ k
 of_kind k [] x m = absurd m
@@ -69,12 +73,7 @@ of_kind k (r ∷ rows) x (inr m) = of_kind k rows x m
 
 -- ---- the kinds in their order
 abbrev pub place : RecordKind → ℕ
-place Readings = 0
-place Assignments = 1
-place TopUps = 2
-place WithdrawnReadings = 3
-place WithdrawnAssignments = 4
-place WithdrawnTopUps = 5
+place = by_kind (λ k. ℕ) 0 1 2 3 4 5
 
 low : (n : Named) → place TopUps < place (kind_of_named n)
 low (named.Reading m r t w) = omega arith
@@ -145,12 +144,7 @@ kinds_once Second = all_once
 kinds_once Third = all_once
 
 pub each_kind : (k : RecordKind) → Member k (kinds_of Third)
-each_kind Readings = inl refl
-each_kind Assignments = inr (inl refl)
-each_kind TopUps = inr (inr (inl refl))
-each_kind WithdrawnReadings = inr (inr (inr (inl refl)))
-each_kind WithdrawnAssignments = inr (inr (inr (inr (inl refl))))
-each_kind WithdrawnTopUps = inr (inr (inr (inr (inr (inl refl)))))
+each_kind = by_kind (λ k. Member k (kinds_of Third)) (inl refl) (inr (inl refl)) (inr (inr (inl refl))) (inr (inr (inr (inl refl)))) (inr (inr (inr (inr (inl refl))))) (inr (inr (inr (inr (inr (inl refl))))))
 
 -- ---- the records of some kinds
 pub some_kind : (kinds : List RecordKind) (db : Trees) (x : Entry) → Member x (records_among kinds db) → (k : RecordKind) × (Member k kinds × Member x (entries_of k db))

@@ -33,7 +33,7 @@ use Rattle.pw_store.proofs.InTurn.{trees_same}
 use Rattle.pw_store.proofs.Scanning.{refuses_more}
 use Rattle.pw_store.proofs.Once.{once-permuted, permuted}
 use Rattle.pw_store.proofs.Lists.{told_permuted}
-use Rattle.pw_store.proofs.OfKinds.{each_kind, kinds_once, member_in, office_among, once_among, place}
+use Rattle.pw_store.proofs.OfKinds.{by_kind, each_kind, kinds_once, member_in, office_among, once_among, place}
 
 pub of_shown : (k : RecordKind) (rows : List Row) → AllByRecursion (Tells k) (map (shown k) rows) → AllByRecursion (IsRowOf k) rows
 of_shown k [] all = tt
@@ -106,12 +106,7 @@ abbrev pub HoldsFirst : ℕ → OfficeRules → Trees → Type 0
 HoldsFirst n office db = (k : RecordKind) → place k < n → HoldsRecords office k db
 
 place_low : (k : RecordKind) → place k < 6
-place_low Readings = omega arith
-place_low Assignments = omega arith
-place_low TopUps = omega arith
-place_low WithdrawnReadings = omega arith
-place_low WithdrawnAssignments = omega arith
-place_low WithdrawnTopUps = omega arith
+place_low = by_kind (λ k. place k < 6) (omega arith) (omega arith) (omega arith) (omega arith) (omega arith) (omega arith)
 
 abbrev kind_of_place : ℕ → RecordKind
 kind_of_place zero = Readings
@@ -122,12 +117,7 @@ kind_of_place (suc (suc (suc (suc zero)))) = WithdrawnAssignments
 kind_of_place _ = WithdrawnTopUps
 
 placed : (k : RecordKind) → kind_of_place (place k) ≡ k
-placed Readings = refl
-placed Assignments = refl
-placed TopUps = refl
-placed WithdrawnReadings = refl
-placed WithdrawnAssignments = refl
-placed WithdrawnTopUps = refl
+placed = by_kind (λ k. kind_of_place (place k) ≡ k) refl refl refl refl refl refl
 
 same_kind : (j k : RecordKind) → place j ≡ place k → j ≡ k
 same_kind j k e = sym (placed j) ∙ ap kind_of_place e ∙ placed k
@@ -144,12 +134,7 @@ next_records k db = records_next (take (place k) (kinds_of Third)) k db ∙ ap (
     records_next (l ∷ kinds) j d = append_assoc (entries_of l d) (records_among kinds d) (entries_of j d) ∙ ap (λ xs. entries_of l d ++ xs) (records_next kinds j d)
 
     taken : (j : RecordKind) → take (place j) (kinds_of Third) ++ j ∷ [] ≡ take (place j + 1) (kinds_of Third)
-    taken Readings = refl
-    taken Assignments = refl
-    taken TopUps = refl
-    taken WithdrawnReadings = refl
-    taken WithdrawnAssignments = refl
-    taken WithdrawnTopUps = refl
+    taken = by_kind (λ j. take (place j) (kinds_of Third) ++ j ∷ [] ≡ take (place j + 1) (kinds_of Third)) refl refl refl refl refl refl
 
 -- all of them at last
 pub all_hold : (office : OfficeRules) (db : Trees) → HoldsFirst 6 office db → HoldsAllRecords Third office db

@@ -1,5 +1,5 @@
 -- What the statements mean, whatever the check of `office` says.
-use Rattle.std.proofs.Common.{◌≡◌, ℕ, pos, negsuc, List, [], ◌∷◌, codes, false, None, refl}
+use Rattle.std.proofs.Common.{◌≡◌, ◌+◌, ◌/◌, ℕ, pos, negsuc, List, [], ◌∷◌, codes, false, None, refl}
 use Rattle.sqlite.specs.declared.types.Value.TheVariants.{Null, Int}
 use Rattle.sqlite.specs.Term.{Term, lit, col, op1, op2}
 use Rattle.sqlite_value.specs.declared.keys.Key.{Key}
@@ -14,7 +14,14 @@ use Rattle.sqlite_tied.specs.Compute.{everything}
 use Rattle.sqlite.specs.Listing.{understood, reads_listing}
 use Rattle.sqlite.proofs.Callers.{IsPlain, command_of}
 use Rattle.pw_schema.specs.Tables.{ours_with}
-use Rattle.pw_store.specs.inner.Forms.{insert_reading, insert_assignment, insert_topup, find_reading, find_assignment, find_topup}
+use Rattle.pw_schema.specs.declared.kind.RecordKind.{RecordKind}
+use Rattle.pw_model.specs.declared.records.Named.{Named}
+use Rattle.pw_model.specs.declared.records.Named.TheVariants as named
+use Rattle.pw_store.specs.Content.{tree_of}
+use Rattle.pw_store.specs.inner.Forms.{insert, find}
+use Rattle.pw_store.specs.inner.Lists.{kind_at}
+use Rattle.pw_store.specs.inner.Records.{entry_as}
+use Rattle.pw_store.specs.declared.forms.Form.{Form}
 use Rattle.pw_store.specs.declared.forms.Form.TheVariants.{Record, Withdrawal}
 
 -- a text that is this query over our tables
@@ -48,70 +55,69 @@ plain_query tree filter project = record {
   offset = lit (Int (pos 0));
 }
 
--- ---- INSERT
-abbrev pub add_topup_text : List ℕ
-add_topup_text = insert_topup Record
-
 abbrev pub four_terms : List Term
 four_terms = lit Null ∷ col 0 0 ∷ col 0 1 ∷ col 0 2 ∷ col 0 3 ∷ []
-
-pub add_topup_is : IsInsert add_topup_text 3 5 four_terms
-unfolding understood everything
-add_topup_is = record { is = λ checks. refl; plain = λ checks. (refl, refl) }
-
-abbrev pub add_reading_text : List ℕ
-add_reading_text = insert_reading Record
-
-pub add_reading_is : IsInsert add_reading_text 1 5 four_terms
-unfolding understood everything
-add_reading_is = record { is = λ checks. refl; plain = λ checks. (refl, refl) }
-
-abbrev pub add_assignment_text : List ℕ
-add_assignment_text = insert_assignment Record
 
 abbrev pub three_terms : List Term
 three_terms = lit Null ∷ col 0 0 ∷ col 0 1 ∷ col 0 2 ∷ []
 
-pub add_assignment_is : IsInsert add_assignment_text 2 4 three_terms
+abbrev pub four_tests : List Term
+four_tests = eq 1 0 ∷ eq 2 1 ∷ eq 3 2 ∷ eq 4 3 ∷ []
+
+-- ---- what is named, in a form
+-- the kind of its table
+abbrev pub kind_as : Form → Named → RecordKind
+kind_as form n = kind_at (entry_as form n).key
+
+-- the place of a kind's table in the list of tables: of those before it two have one tree, each other two
+abbrev pub place_of : RecordKind → ℕ
+place_of k = tree_of k / 2 + 1
+
+abbrev pub width_of : Named → ℕ
+width_of (named.Assignment m t o) = 4
+width_of _ = 5
+
+abbrev pub terms_of : Named → List Term
+terms_of (named.Assignment m t o) = three_terms
+terms_of _ = four_terms
+
+pub insert_is : (form : Form) (n : Named) → IsInsert (insert form n) (place_of (kind_as form n)) (width_of n) (terms_of n)
 unfolding understood everything
-add_assignment_is = record { is = λ checks. refl; plain = λ checks. (refl, refl) }
+insert_is Record (named.Reading m r t w) = record { is = λ checks. refl; plain = λ checks. (refl, refl) }
+insert_is Record (named.Assignment m t o) = record { is = λ checks. refl; plain = λ checks. (refl, refl) }
+insert_is Record (named.TopUp r a c t) = record { is = λ checks. refl; plain = λ checks. (refl, refl) }
+insert_is Withdrawal (named.Reading m r t w) = record { is = λ checks. refl; plain = λ checks. (refl, refl) }
+insert_is Withdrawal (named.Assignment m t o) = record { is = λ checks. refl; plain = λ checks. (refl, refl) }
+insert_is Withdrawal (named.TopUp r a c t) = record { is = λ checks. refl; plain = λ checks. (refl, refl) }
 
--- ---- whether a record is held
-abbrev pub has_topup_text : List ℕ
-has_topup_text = find_topup Record
+abbrev pub find_tests : Named → List Term
+find_tests (named.Assignment m t o) = eq 1 0 ∷ eq 2 1 ∷ eq 3 2 ∷ []
+find_tests _ = four_tests
 
-abbrev pub has_topup_query : Query
-has_topup_query = plain_query 5 (eq 1 0 ∷ eq 2 1 ∷ eq 3 2 ∷ eq 4 3 ∷ []) (col 1 2 ∷ [])
+-- the column that is shown
+abbrev pub shown_at : Named → ℕ
+shown_at (named.Reading m r t w) = 4
+shown_at (named.Assignment m t o) = 3
+shown_at (named.TopUp r a c t) = 2
 
-pub has_topup_is : IsQuery has_topup_text has_topup_query
+abbrev pub find_query : Form → Named → Query
+find_query form n = plain_query (tree_of (kind_as form n)) (find_tests n) (col 1 (shown_at n) ∷ [])
+
+pub find_is : (form : Form) (n : Named) → IsQuery (find form n) (find_query form n)
 unfolding understood everything
-has_topup_is = record { names = codes "account" ∷ []; is = λ checks. refl; unlisted = λ checks. refl; plain = λ checks. (refl, refl) }
+find_is Record (named.Reading m r t w) = record { names = codes "wh" ∷ []; is = λ checks. refl; unlisted = λ checks. refl; plain = λ checks. (refl, refl) }
+find_is Record (named.Assignment m t o) = record { names = codes "owner" ∷ []; is = λ checks. refl; unlisted = λ checks. refl; plain = λ checks. (refl, refl) }
+find_is Record (named.TopUp r a c t) = record { names = codes "account" ∷ []; is = λ checks. refl; unlisted = λ checks. refl; plain = λ checks. (refl, refl) }
+find_is Withdrawal (named.Reading m r t w) = record { names = codes "wh" ∷ []; is = λ checks. refl; unlisted = λ checks. refl; plain = λ checks. (refl, refl) }
+find_is Withdrawal (named.Assignment m t o) = record { names = codes "owner" ∷ []; is = λ checks. refl; unlisted = λ checks. refl; plain = λ checks. (refl, refl) }
+find_is Withdrawal (named.TopUp r a c t) = record { names = codes "account" ∷ []; is = λ checks. refl; unlisted = λ checks. refl; plain = λ checks. (refl, refl) }
 
+-- ---- the row of the office
 abbrev pub office_text : List ℕ
 office_text = codes "SELECT version, body FROM office WHERE id = 1"
 
 abbrev pub office_query : Query
 office_query = plain_query 0 (op2 (Compare Eq Binary) (col 1 0) (lit (Int (pos 1))) ∷ []) (col 1 2 ∷ col 1 3 ∷ [])
-
-abbrev pub has_reading_text : List ℕ
-has_reading_text = find_reading Record
-
-abbrev pub has_reading_query : Query
-has_reading_query = plain_query 1 (eq 1 0 ∷ eq 2 1 ∷ eq 3 2 ∷ eq 4 3 ∷ []) (col 1 4 ∷ [])
-
-pub has_reading_is : IsQuery has_reading_text has_reading_query
-unfolding understood everything
-has_reading_is = record { names = codes "wh" ∷ []; is = λ checks. refl; unlisted = λ checks. refl; plain = λ checks. (refl, refl) }
-
-abbrev pub has_assignment_text : List ℕ
-has_assignment_text = find_assignment Record
-
-abbrev pub has_assignment_query : Query
-has_assignment_query = plain_query 3 (eq 1 0 ∷ eq 2 1 ∷ eq 3 2 ∷ []) (col 1 3 ∷ [])
-
-pub has_assignment_is : IsQuery has_assignment_text has_assignment_query
-unfolding understood everything
-has_assignment_is = record { names = codes "owner" ∷ []; is = λ checks. refl; unlisted = λ checks. refl; plain = λ checks. (refl, refl) }
 
 -- ---- lists, in order
 abbrev pub list_readings_text : List ℕ
@@ -133,58 +139,6 @@ list_assignments_query = record (plain_query 3 (eq 1 0 ∷ []) (col 1 1 ∷ col 
 pub list_assignments_is : IsQuery list_assignments_text list_assignments_query
 unfolding understood everything
 list_assignments_is = record { names = codes "meter" ∷ codes "start" ∷ codes "owner" ∷ []; is = λ checks. refl; unlisted = λ checks. refl; plain = λ checks. (refl, refl) }
-
--- ---- withdrawals
-abbrev pub add_withdrawn_reading_text : List ℕ
-add_withdrawn_reading_text = insert_reading Withdrawal
-
-pub add_withdrawn_reading_is : IsInsert add_withdrawn_reading_text 8 5 four_terms
-unfolding understood everything
-add_withdrawn_reading_is = record { is = λ checks. refl; plain = λ checks. (refl, refl) }
-
-abbrev pub add_withdrawn_assignment_text : List ℕ
-add_withdrawn_assignment_text = insert_assignment Withdrawal
-
-pub add_withdrawn_assignment_is : IsInsert add_withdrawn_assignment_text 9 4 three_terms
-unfolding understood everything
-add_withdrawn_assignment_is = record { is = λ checks. refl; plain = λ checks. (refl, refl) }
-
-abbrev pub add_withdrawn_topup_text : List ℕ
-add_withdrawn_topup_text = insert_topup Withdrawal
-
-pub add_withdrawn_topup_is : IsInsert add_withdrawn_topup_text 10 5 four_terms
-unfolding understood everything
-add_withdrawn_topup_is = record { is = λ checks. refl; plain = λ checks. (refl, refl) }
-
-abbrev pub has_withdrawn_reading_text : List ℕ
-has_withdrawn_reading_text = find_reading Withdrawal
-
-abbrev pub has_withdrawn_reading_query : Query
-has_withdrawn_reading_query = plain_query 14 (eq 1 0 ∷ eq 2 1 ∷ eq 3 2 ∷ eq 4 3 ∷ []) (col 1 4 ∷ [])
-
-pub has_withdrawn_reading_is : IsQuery has_withdrawn_reading_text has_withdrawn_reading_query
-unfolding understood everything
-has_withdrawn_reading_is = record { names = codes "wh" ∷ []; is = λ checks. refl; unlisted = λ checks. refl; plain = λ checks. (refl, refl) }
-
-abbrev pub has_withdrawn_assignment_text : List ℕ
-has_withdrawn_assignment_text = find_assignment Withdrawal
-
-abbrev pub has_withdrawn_assignment_query : Query
-has_withdrawn_assignment_query = plain_query 16 (eq 1 0 ∷ eq 2 1 ∷ eq 3 2 ∷ []) (col 1 3 ∷ [])
-
-pub has_withdrawn_assignment_is : IsQuery has_withdrawn_assignment_text has_withdrawn_assignment_query
-unfolding understood everything
-has_withdrawn_assignment_is = record { names = codes "owner" ∷ []; is = λ checks. refl; unlisted = λ checks. refl; plain = λ checks. (refl, refl) }
-
-abbrev pub has_withdrawn_topup_text : List ℕ
-has_withdrawn_topup_text = find_topup Withdrawal
-
-abbrev pub has_withdrawn_topup_query : Query
-has_withdrawn_topup_query = plain_query 18 (eq 1 0 ∷ eq 2 1 ∷ eq 3 2 ∷ eq 4 3 ∷ []) (col 1 2 ∷ [])
-
-pub has_withdrawn_topup_is : IsQuery has_withdrawn_topup_text has_withdrawn_topup_query
-unfolding understood everything
-has_withdrawn_topup_is = record { names = codes "account" ∷ []; is = λ checks. refl; unlisted = λ checks. refl; plain = λ checks. (refl, refl) }
 
 -- ---- what is told of a key: of the records that no row of another table names
 -- a column of the other table against the same of the record

@@ -1,4 +1,5 @@
 pub mod Forms
+pub mod Given
 pub mod Records
 pub mod Lists
 pub mod Opened
@@ -9,3 +10,4 @@ pub mod Listings
 pub mod Truth
 pub mod Filling
 pub mod Scanning
+pub mod Asking

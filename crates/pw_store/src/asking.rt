@@ -4,13 +4,13 @@ ghost use Rattle.std.specs.Prelude.{◌≡◌, ◌↔◌, ◌++◌, IfOk, IsTrue
 ghost use Rattle.sqlite.specs.Held.{state};
 ghost use Rattle.sqlite.specs.State.{HasCleanDisk};
 ghost use Rattle.pw_model.specs.Counting.{Member, contents_at};
-ghost use Rattle.pw_shelf.specs.Rows.{ListsAssignments, ListsHeld, ListsReadings, ListsTopUps, ListsWithdrawals};
+ghost use Rattle.pw_shelf.specs.Rows.{ListsAssignments, ListsHeld, ListsReadings, ListsWithdrawals};
 ghost use Rattle.pw_schema.specs.inner.Calls.{Asks};
 ghost use Rattle.pw_schema.specs.Rows.{ReadsRows};
 ghost use Rattle.pw_schema.specs.Tables.{IsOurs};
-ghost use Rattle.pw_store.specs.inner.Lists.{IsKeptAs};
+ghost use Rattle.pw_store.specs.inner.Lists.{IsKeptAs, ListsThese};
 ghost use Rattle.pw_store.specs.Content.{records_of};
-ghost use Rattle.pw_store.specs.Kept.{IsAwake, NowIsStore};
+ghost use Rattle.pw_store.specs.Kept.{IsAwake, IsStore, NowIsStore};
 
 use crate::fault::AskFault;
 use crate::keys::{
@@ -22,7 +22,7 @@ use crate::records::{form_of, has_named};
 use crate::waking::wake;
 use pw_model::{Contents, Entry, Key};
 use pw_obis::Register;
-use pw_schema::{ReadFault, RecordKind, read_rows};
+use pw_schema::{RecordKind, read_rows};
 use pw_tariff::MeterId;
 use sqlite::{Alter, Connection, Error, Row};
 use std::alloc::Global;
@@ -56,10 +56,7 @@ pub(crate) fn holds<S: Alter>(
     ensures found { HasCleanDisk (state S.Store conn.new) → IfOk result (λ held. IsTrue held ↔ Member entry.now (records_of (state S.Store conn.old).now.trees)) }
     ensures asks { Asks result (state S.Store conn.old) (state S.Store conn.new) }
 {
-    match has_entry(conn, doubtful, entry) {
-        Ok(held) => Ok(held),
-        Err(error) => Err(AskFault::Statement(error)),
-    }
+    Ok(has_entry(conn, doubtful, entry)?)
 }
 
 /// What the records held say of a key.
@@ -73,9 +70,7 @@ pub(crate) fn contents<S: Alter>(
     ensures told { HasCleanDisk (state S.Store conn.new) → IfOk result (λ found. found ≡ contents_at (records_of (state S.Store conn.old).now.trees) key.now) }
     ensures asks { Asks result (state S.Store conn.old) (state S.Store conn.new) }
 {
-    if let Err(error) = wake(conn, doubtful) {
-        return Err(AskFault::Statement(error));
-    }
+    wake(conn, doubtful)?;
     let asked = match key {
         Key::Reading {
             meter,
@@ -97,88 +92,66 @@ pub(crate) fn contents<S: Alter>(
 fn read(alloc: Global, kind: RecordKind, rows: &[Row]) -> Result<Vec<Entry>, AskFault>
     ensures { IfOk result (λ found. ReadsRows kind rows.now found.items) }
 {
-    match read_rows(alloc, kind, rows) {
-        Ok(found) => Ok(found),
-        Err(ReadFault::Memory) => Err(AskFault::Memory),
-        Err(ReadFault::Wrong) => Err(AskFault::Unreadable),
+    Ok(read_rows(alloc, kind, rows)?)
+}
+
+/// Which records are listed.
+#[derive(Clone, Copy)]
+pub(crate) enum Listed {
+    Readings(MeterId, Register),
+    Assignments(MeterId),
+    TopUps,
+    Withdrawals,
+}
+
+/// All of these that are held, sorted.
+pub(crate) fn list_records<S: Alter>(
+    conn: &mut Connection<S>,
+    doubtful: bool,
+    alloc: Global,
+    which: Listed,
+) -> Result<Vec<Entry>, AskFault>
+    requires awake { IsAwake (state S.Store conn.old) doubtful }
+    requires store { NowIsStore (state S.Store conn.old) }
+    ensures rows { HasCleanDisk (state S.Store conn.new) → IfOk result (λ found. ListsThese which (records_of (state S.Store conn.old).now.trees) found.items) }
+    ensures asks { Asks result (state S.Store conn.old) (state S.Store conn.new) }
+{
+    wake(conn, doubtful)?;
+    match which {
+        Listed::Readings(meter, register) => readings_kept(conn, alloc, meter, register),
+        Listed::Assignments(meter) => assignments_kept(conn, alloc, meter),
+        Listed::TopUps => records_kept(conn, alloc, RecordKind::TopUps),
+        Listed::Withdrawals => withdrawals_kept(conn, alloc),
     }
 }
 
-/// All readings held of a register, sorted.
-pub(crate) fn readings<S: Alter>(
+// The readings of a register, sorted.
+fn readings_kept<S: Alter>(
     conn: &mut Connection<S>,
-    doubtful: bool,
     alloc: Global,
     meter: MeterId,
     register: Register,
 ) -> Result<Vec<Entry>, AskFault>
-    requires awake { IsAwake (state S.Store conn.old) doubtful }
-    requires store { NowIsStore (state S.Store conn.old) }
+    requires store { HasCleanDisk (state S.Store conn.old) → IsStore (state S.Store conn.old).now }
     ensures rows { HasCleanDisk (state S.Store conn.new) → IfOk result (λ found. ListsReadings (records_of (state S.Store conn.old).now.trees) meter register found.items) }
     ensures asks { Asks result (state S.Store conn.old) (state S.Store conn.new) }
 {
-    if let Err(error) = wake(conn, doubtful) {
-        return Err(AskFault::Statement(error));
-    }
-    match reading_rows(conn, meter, register) {
-        Ok(rows) => read(alloc, RecordKind::Readings, rows.as_slice()),
-        Err(error) => Err(AskFault::Statement(error)),
-    }
+    let rows = reading_rows(conn, meter, register)?;
+    read(alloc, RecordKind::Readings, rows.as_slice())
 }
 
-/// All assignments held of a meter, sorted.
-pub(crate) fn assignments<S: Alter>(
+// The assignments of a meter, sorted.
+fn assignments_kept<S: Alter>(
     conn: &mut Connection<S>,
-    doubtful: bool,
     alloc: Global,
     meter: MeterId,
 ) -> Result<Vec<Entry>, AskFault>
-    requires awake { IsAwake (state S.Store conn.old) doubtful }
-    requires store { NowIsStore (state S.Store conn.old) }
+    requires store { HasCleanDisk (state S.Store conn.old) → IsStore (state S.Store conn.old).now }
     ensures rows { HasCleanDisk (state S.Store conn.new) → IfOk result (λ found. ListsAssignments (records_of (state S.Store conn.old).now.trees) meter found.items) }
     ensures asks { Asks result (state S.Store conn.old) (state S.Store conn.new) }
 {
-    if let Err(error) = wake(conn, doubtful) {
-        return Err(AskFault::Statement(error));
-    }
-    match assignment_rows(conn, meter) {
-        Ok(rows) => read(alloc, RecordKind::Assignments, rows.as_slice()),
-        Err(error) => Err(AskFault::Statement(error)),
-    }
-}
-
-/// All top-ups held, sorted.
-pub(crate) fn topups<S: Alter>(
-    conn: &mut Connection<S>,
-    doubtful: bool,
-    alloc: Global,
-) -> Result<Vec<Entry>, AskFault>
-    requires awake { IsAwake (state S.Store conn.old) doubtful }
-    requires store { NowIsStore (state S.Store conn.old) }
-    ensures rows { HasCleanDisk (state S.Store conn.new) → IfOk result (λ found. ListsTopUps (records_of (state S.Store conn.old).now.trees) found.items) }
-    ensures asks { Asks result (state S.Store conn.old) (state S.Store conn.new) }
-{
-    if let Err(error) = wake(conn, doubtful) {
-        return Err(AskFault::Statement(error));
-    }
-    records_kept(conn, alloc, RecordKind::TopUps)
-}
-
-/// All withdrawals held, sorted.
-pub(crate) fn withdrawals<S: Alter>(
-    conn: &mut Connection<S>,
-    doubtful: bool,
-    alloc: Global,
-) -> Result<Vec<Entry>, AskFault>
-    requires awake { IsAwake (state S.Store conn.old) doubtful }
-    requires store { NowIsStore (state S.Store conn.old) }
-    ensures rows { HasCleanDisk (state S.Store conn.new) → IfOk result (λ found. ListsWithdrawals (records_of (state S.Store conn.old).now.trees) found.items) }
-    ensures asks { Asks result (state S.Store conn.old) (state S.Store conn.new) }
-{
-    if let Err(error) = wake(conn, doubtful) {
-        return Err(AskFault::Statement(error));
-    }
-    withdrawals_kept(conn, alloc)
+    let rows = assignment_rows(conn, meter)?;
+    read(alloc, RecordKind::Assignments, rows.as_slice())
 }
 
 // The records that are kept as a kind, sorted.
@@ -191,10 +164,8 @@ fn records_kept<S: Alter>(
     ensures rows { HasCleanDisk (state S.Store conn.new) → IfOk result (λ found. ListsHeld (IsKeptAs kind) (records_of (state S.Store conn.old).now.trees) found.items) }
     ensures asks { Asks result (state S.Store conn.old) (state S.Store conn.new) }
 {
-    match record_rows(conn, kind) {
-        Ok(rows) => read(alloc, kind, rows.as_slice()),
-        Err(error) => Err(AskFault::Statement(error)),
-    }
+    let rows = record_rows(conn, kind)?;
+    read(alloc, kind, rows.as_slice())
 }
 
 // The withdrawals of readings, then those of assignments, then those of top-ups: so their keys are in order.

@@ -7,11 +7,12 @@ ghost use Rattle.sqlite.specs.State.{HasCleanDisk};
 ghost use Rattle.pw_shelf.specs.Rows.{rows_at, rows_found, rows_total};
 ghost use Rattle.pw_store.specs.Kept.{left_of, once_held, state_of, survives_left};
 
-use crate::asking::{assignments, contents, holds, readings, topups, withdrawals};
+use crate::asking::{Listed, contents, holds, list_records};
 use crate::changes::Change;
 use crate::entries::add_entry;
 use crate::fault::{device_fault, fault_of, fault_of_ask};
-use crate::questions::{point_after, point_before, points_between, starts_of, total};
+use crate::points::Side;
+use crate::questions::{nearest, points_between, starts_of, total};
 use crate::shelf::SqlShelf;
 use pw_model::{Contents, Entry, Key, TotalKey};
 use pw_obis::{Register, WattHours};
@@ -112,23 +113,25 @@ impl<S: Alter> Shelf for SqlShelf<S> {
         meter: MeterId,
         register: Register,
     ) -> Result<Vec<Entry>, ShelfFault> {
-        let asked = readings(&mut self.conn, self.doubtful, alloc, meter, register);
-        answered!(self, asked, found, found.len() as u64)
+        let which = Listed::Readings(meter, register);
+        let readings = list_records(&mut self.conn, self.doubtful, alloc, which);
+        answered!(self, readings, found, found.len() as u64)
     }
 
     fn assignments_of(&mut self, alloc: Global, meter: MeterId) -> Result<Vec<Entry>, ShelfFault> {
-        let asked = assignments(&mut self.conn, self.doubtful, alloc, meter);
-        answered!(self, asked, found, found.len() as u64)
+        let which = Listed::Assignments(meter);
+        let assignments = list_records(&mut self.conn, self.doubtful, alloc, which);
+        answered!(self, assignments, found, found.len() as u64)
     }
 
     fn topups(&mut self, alloc: Global) -> Result<Vec<Entry>, ShelfFault> {
-        let asked = topups(&mut self.conn, self.doubtful, alloc);
-        answered!(self, asked, found, found.len() as u64)
+        let topups = list_records(&mut self.conn, self.doubtful, alloc, Listed::TopUps);
+        answered!(self, topups, found, found.len() as u64)
     }
 
     fn withdrawals(&mut self, alloc: Global) -> Result<Vec<Entry>, ShelfFault> {
-        let asked = withdrawals(&mut self.conn, self.doubtful, alloc);
-        answered!(self, asked, found, found.len() as u64)
+        let withdrawals = list_records(&mut self.conn, self.doubtful, alloc, Listed::Withdrawals);
+        answered!(self, withdrawals, found, found.len() as u64)
     }
 
     fn count(&mut self) -> Result<u32, ShelfFault> {
@@ -167,8 +170,9 @@ impl<S: Alter> Shelf for SqlShelf<S> {
         register: Register,
         instant: Instant,
     ) -> Result<Option<(Instant, WattHours)>, ShelfFault> {
-        let asked = point_before(&mut self.conn, self.doubtful, meter, register, instant);
-        answered!(self, asked, found, rows_found(&found))
+        let side = Side::Before(instant);
+        let before = nearest(&mut self.conn, self.doubtful, meter, register, side);
+        answered!(self, before, found, rows_found(&found))
     }
 
     fn point_after(
@@ -177,8 +181,9 @@ impl<S: Alter> Shelf for SqlShelf<S> {
         register: Register,
         instant: Instant,
     ) -> Result<Option<(Instant, WattHours)>, ShelfFault> {
-        let asked = point_after(&mut self.conn, self.doubtful, meter, register, instant);
-        answered!(self, asked, found, rows_found(&found))
+        let side = Side::Behind(instant);
+        let behind = nearest(&mut self.conn, self.doubtful, meter, register, side);
+        answered!(self, behind, found, rows_found(&found))
     }
 
     fn points_between(

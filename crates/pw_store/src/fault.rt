@@ -6,7 +6,7 @@ ghost use Rattle.pw_shelf.specs.declared.fault.ShelfFault.TheVariants.{Device};
 ghost use Rattle.pw_store.specs.inner.Changing.{refuses_key};
 
 use pw_line::refused;
-use pw_schema::JudgeFault;
+use pw_schema::{JudgeFault, ReadFault};
 use pw_shelf::{ShelfFault, Tally};
 use sqlite::{Constraint, Error, ErrorCode};
 use std::fmt;
@@ -19,6 +19,31 @@ pub(crate) enum AskFault {
     Memory,
     /// The rows shown aren't those of a store.
     Unreadable,
+}
+
+impl From<Error> for AskFault {
+    ghost use Rattle.std.specs.Prelude.{◌≡◌};
+    ghost use Rattle.pw_store.specs.declared.fault.AskFault.TheVariants.{Statement};
+
+    ghost from_gives = { λ error fault. fault ≡ Statement error };
+
+    fn from(error: Error) -> Self {
+        AskFault::Statement(error)
+    }
+}
+
+impl From<ReadFault> for AskFault {
+    ghost use Rattle.std.specs.Prelude.{◌≡◌};
+    ghost use Rattle.pw_store.specs.inner.Asking.{ask_fault};
+
+    ghost from_gives = { λ read fault. fault ≡ ask_fault read };
+
+    fn from(fault: ReadFault) -> Self {
+        match fault {
+            ReadFault::Memory => AskFault::Memory,
+            ReadFault::Wrong => AskFault::Unreadable,
+        }
+    }
 }
 
 /// Want of memory, or a failure of the device, which is counted.

@@ -9,6 +9,7 @@ mod entries;
 mod fault;
 mod filling;
 mod forms;
+mod given;
 mod held;
 mod keys;
 pub mod laws;

@@ -4,13 +4,12 @@ ghost use Rattle.std.specs.Prelude.{◌≡◌, ◌↔◌, ◌≤◌, ℕ, Some, 
 ghost use Rattle.sqlite.specs.Held.{state};
 ghost use Rattle.sqlite.specs.State.{HasCleanDisk};
 ghost use Rattle.pw_model.specs.Counting.{Member};
-ghost use Rattle.pw_shelf.specs.Seconds.{IsBefore, IsBehind};
 ghost use Rattle.pw_schema.specs.Calls.{Writes};
 ghost use Rattle.pw_schema.specs.inner.Calls.{Asks};
 ghost use Rattle.pw_store.specs.Content.{point_in, point_tree};
 ghost use Rattle.pw_store.specs.Kept.{IsStore};
 ghost use Rattle.pw_store.specs.inner.Changing.{Makes, changed, refuses_key};
-ghost use Rattle.pw_store.specs.inner.Seconds.{first_point, point_told};
+ghost use Rattle.pw_store.specs.inner.Seconds.{IsNearest, first_point, instant_of, nearest_text, point_told};
 
 use crate::changes::Change;
 use crate::fault::is_key_taken;
@@ -77,40 +76,53 @@ pub(crate) fn put_point<S: Alter>(
     }
 }
 
-/// The latest point strictly before an instant: one row at most.
-pub(crate) fn before_rows<S: Alter>(
-    conn: &mut Connection<S>,
-    meter: MeterId,
-    register: Register,
-    instant: Instant,
-) -> Result<Vec<Row>, Error>
-    requires store { HasCleanDisk (state S.Store conn.old) → IsStore (state S.Store conn.old).now }
-    ensures row { HasCleanDisk (state S.Store conn.new) → IfOk result (λ rows. IsBefore (point_in ((state S.Store conn.old).now.trees point_tree) meter.0 register) instant (first_point rows.items)) }
-    ensures asks { Asks result (state S.Store conn.old) (state S.Store conn.new) }
-{
-    conn.query_all(
-        "SELECT instant, wh FROM point WHERE meter = ?1 AND register = ?2 AND instant < ?3 ORDER BY instant DESC LIMIT 1",
-        &[
-            integer(u32::from(meter.0)),
-            integer(register_place(register)),
-            integer(instant.seconds()),
-        ],
-    )
+/// A side of an instant.
+#[derive(Clone, Copy)]
+pub(crate) enum Side {
+    Before(Instant),
+    Behind(Instant),
 }
 
-/// The earliest point strictly behind an instant: one row at most.
-pub(crate) fn after_rows<S: Alter>(
+impl Side {
+    /// The text that asks for the nearest point strictly on it.
+    fn text(&self) -> &'static str
+        ensures { result.now ≡ nearest_text self.now }
+    {
+        match self {
+            Side::Before(_) => {
+                "SELECT instant, wh FROM point WHERE meter = ?1 AND register = ?2 AND instant < ?3 ORDER BY instant DESC LIMIT 1"
+            }
+            Side::Behind(_) => {
+                "SELECT instant, wh FROM point WHERE meter = ?1 AND register = ?2 AND instant > ?3 ORDER BY instant LIMIT 1"
+            }
+        }
+    }
+
+    /// The instant.
+    fn instant(&self) -> Instant
+        ensures { result ≡ instant_of self.now }
+    {
+        match self {
+            Side::Before(instant) => *instant,
+            Side::Behind(instant) => *instant,
+        }
+    }
+}
+
+/// The nearest point strictly on a side: one row at most.
+pub(crate) fn nearest_rows<S: Alter>(
     conn: &mut Connection<S>,
     meter: MeterId,
     register: Register,
-    instant: Instant,
+    side: Side,
 ) -> Result<Vec<Row>, Error>
     requires store { HasCleanDisk (state S.Store conn.old) → IsStore (state S.Store conn.old).now }
-    ensures row { HasCleanDisk (state S.Store conn.new) → IfOk result (λ rows. IsBehind (point_in ((state S.Store conn.old).now.trees point_tree) meter.0 register) instant (first_point rows.items)) }
+    ensures row { HasCleanDisk (state S.Store conn.new) → IfOk result (λ rows. IsNearest side (point_in ((state S.Store conn.old).now.trees point_tree) meter.0 register) (first_point rows.items)) }
     ensures asks { Asks result (state S.Store conn.old) (state S.Store conn.new) }
 {
+    let instant = side.instant();
     conn.query_all(
-        "SELECT instant, wh FROM point WHERE meter = ?1 AND register = ?2 AND instant > ?3 ORDER BY instant LIMIT 1",
+        side.text(),
         &[
             integer(u32::from(meter.0)),
             integer(register_place(register)),

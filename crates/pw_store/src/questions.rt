@@ -4,21 +4,20 @@ ghost use Rattle.std.specs.Prelude.{◌≡◌, ◌≤◌, IfOk, length, map};
 ghost use Rattle.sqlite.specs.Held.{state};
 ghost use Rattle.sqlite.specs.State.{HasCleanDisk};
 ghost use Rattle.pw_model.specs.Lists.{IsInOrder};
-ghost use Rattle.pw_shelf.specs.Seconds.{IsBefore, IsBehind, ListsSeconds, ListsSecondsWithin, by_second};
+ghost use Rattle.pw_shelf.specs.Seconds.{ListsSeconds, ListsSecondsWithin, by_second};
 ghost use Rattle.pw_schema.specs.inner.Calls.{Asks};
 ghost use Rattle.pw_store.specs.Content.{point_in, point_tree, start_in, start_tree, total_in};
 ghost use Rattle.pw_store.specs.Kept.{IsAwake, NowIsStore};
-ghost use Rattle.pw_store.specs.inner.Seconds.{first_amount, first_point, point_told, start_told};
+ghost use Rattle.pw_store.specs.inner.Seconds.{IsNearest, first_amount, first_point, point_told, start_told};
 
 use crate::fault::AskFault;
-use crate::points::{after_rows, before_rows, between_rows};
+use crate::points::{Side, between_rows, nearest_rows};
 use crate::starts::start_rows;
 use crate::told::{all_points, all_starts, one_amount, one_point};
 use crate::totals::total_rows;
 use crate::waking::wake;
 use pw_model::TotalKey;
 use pw_obis::{Register, WattHours};
-use pw_schema::ReadFault;
 use pw_tariff::{MeterId, Owner};
 use pw_time::Instant;
 use sqlite::{Alter, Connection, Row};
@@ -37,22 +36,14 @@ fn read_points(alloc: Global, rows: &[Row]) -> Result<Vec<(Instant, WattHours)>,
     ensures told { IfOk result (λ found. found.items ≡ map point_told rows.now) }
     ensures rising { IfOk result (λ found. IsInOrder by_second found.items) }
 {
-    match all_points(alloc, rows) {
-        Ok(found) => Ok(found),
-        Err(ReadFault::Memory) => Err(AskFault::Memory),
-        Err(ReadFault::Wrong) => Err(AskFault::Unreadable),
-    }
+    Ok(all_points(alloc, rows)?)
 }
 
 fn read_starts(alloc: Global, rows: &[Row]) -> Result<Vec<(Instant, Owner)>, AskFault>
     ensures told { IfOk result (λ found. found.items ≡ map start_told rows.now) }
     ensures rising { IfOk result (λ found. IsInOrder by_second found.items) }
 {
-    match all_starts(alloc, rows) {
-        Ok(found) => Ok(found),
-        Err(ReadFault::Memory) => Err(AskFault::Memory),
-        Err(ReadFault::Wrong) => Err(AskFault::Unreadable),
-    }
+    Ok(all_starts(alloc, rows)?)
 }
 
 fn read_amount(rows: &[Row]) -> Result<u64, AskFault>
@@ -65,48 +56,22 @@ fn read_amount(rows: &[Row]) -> Result<u64, AskFault>
     }
 }
 
-/// The latest point strictly before an instant, if there is one.
-pub(crate) fn point_before<S: Alter>(
+/// The nearest point strictly on a side, if there is one.
+pub(crate) fn nearest<S: Alter>(
     conn: &mut Connection<S>,
     doubtful: bool,
     meter: MeterId,
     register: Register,
-    instant: Instant,
+    side: Side,
 ) -> Result<Option<(Instant, WattHours)>, AskFault>
     requires awake { IsAwake (state S.Store conn.old) doubtful }
     requires store { NowIsStore (state S.Store conn.old) }
-    ensures row { HasCleanDisk (state S.Store conn.new) → IfOk result (λ found. IsBefore (point_in ((state S.Store conn.old).now.trees point_tree) meter.0 register) instant found) }
+    ensures row { HasCleanDisk (state S.Store conn.new) → IfOk result (λ found. IsNearest side (point_in ((state S.Store conn.old).now.trees point_tree) meter.0 register) found) }
     ensures asks { Asks result (state S.Store conn.old) (state S.Store conn.new) }
 {
-    if let Err(error) = wake(conn, doubtful) {
-        return Err(AskFault::Statement(error));
-    }
-    match before_rows(conn, meter, register, instant) {
-        Ok(rows) => read_point(rows.as_slice()),
-        Err(error) => Err(AskFault::Statement(error)),
-    }
-}
-
-/// The earliest point strictly behind an instant, if there is one.
-pub(crate) fn point_after<S: Alter>(
-    conn: &mut Connection<S>,
-    doubtful: bool,
-    meter: MeterId,
-    register: Register,
-    instant: Instant,
-) -> Result<Option<(Instant, WattHours)>, AskFault>
-    requires awake { IsAwake (state S.Store conn.old) doubtful }
-    requires store { NowIsStore (state S.Store conn.old) }
-    ensures row { HasCleanDisk (state S.Store conn.new) → IfOk result (λ found. IsBehind (point_in ((state S.Store conn.old).now.trees point_tree) meter.0 register) instant found) }
-    ensures asks { Asks result (state S.Store conn.old) (state S.Store conn.new) }
-{
-    if let Err(error) = wake(conn, doubtful) {
-        return Err(AskFault::Statement(error));
-    }
-    match after_rows(conn, meter, register, instant) {
-        Ok(rows) => read_point(rows.as_slice()),
-        Err(error) => Err(AskFault::Statement(error)),
-    }
+    wake(conn, doubtful)?;
+    let rows = nearest_rows(conn, meter, register, side)?;
+    read_point(rows.as_slice())
 }
 
 /// The points from one instant to another, both included, in order.
@@ -124,13 +89,9 @@ pub(crate) fn points_between<S: Alter>(
     ensures rows { HasCleanDisk (state S.Store conn.new) → IfOk result (λ found. ListsSecondsWithin from to (point_in ((state S.Store conn.old).now.trees point_tree) meter.0 register) found.items) }
     ensures asks { Asks result (state S.Store conn.old) (state S.Store conn.new) }
 {
-    if let Err(error) = wake(conn, doubtful) {
-        return Err(AskFault::Statement(error));
-    }
-    match between_rows(conn, meter, register, from, to) {
-        Ok(rows) => read_points(alloc, rows.as_slice()),
-        Err(error) => Err(AskFault::Statement(error)),
-    }
+    wake(conn, doubtful)?;
+    let rows = between_rows(conn, meter, register, from, to)?;
+    read_points(alloc, rows.as_slice())
 }
 
 /// All starts of a meter, in order.
@@ -145,13 +106,9 @@ pub(crate) fn starts_of<S: Alter>(
     ensures rows { HasCleanDisk (state S.Store conn.new) → IfOk result (λ found. ListsSeconds (start_in ((state S.Store conn.old).now.trees start_tree) meter.0) found.items) }
     ensures asks { Asks result (state S.Store conn.old) (state S.Store conn.new) }
 {
-    if let Err(error) = wake(conn, doubtful) {
-        return Err(AskFault::Statement(error));
-    }
-    match start_rows(conn, meter) {
-        Ok(rows) => read_starts(alloc, rows.as_slice()),
-        Err(error) => Err(AskFault::Statement(error)),
-    }
+    wake(conn, doubtful)?;
+    let rows = start_rows(conn, meter)?;
+    read_starts(alloc, rows.as_slice())
 }
 
 /// The total kept at a key; 0 where none is.
@@ -165,11 +122,7 @@ pub(crate) fn total<S: Alter>(
     ensures amount { HasCleanDisk (state S.Store conn.new) → IfOk result (λ found. found ≡ total_in (state S.Store conn.old).now.trees key.now) }
     ensures asks { Asks result (state S.Store conn.old) (state S.Store conn.new) }
 {
-    if let Err(error) = wake(conn, doubtful) {
-        return Err(AskFault::Statement(error));
-    }
-    match total_rows(conn, key) {
-        Ok(rows) => read_amount(rows.as_slice()),
-        Err(error) => Err(AskFault::Statement(error)),
-    }
+    wake(conn, doubtful)?;
+    let rows = total_rows(conn, key)?;
+    read_amount(rows.as_slice())
 }

@@ -1,24 +1,24 @@
 //! Records and withdrawals, each added and looked for by its own text: what a withdrawal names is kept as a record of its
 //! kind is, in a table beside.
 
-ghost use Rattle.std.specs.Prelude.{◌≡◌, ◌<◌, ◌↔◌, OnOk, IfOk, IfSome, IfNone, IsTrue, length};
+ghost use Rattle.std.specs.Prelude.{◌≡◌, ◌<◌, ◌≤◌, ◌↔◌, OnOk, IfOk, IfSome, IfNone, IsTrue, length};
 ghost use Rattle.sqlite.specs.Held.{state};
 ghost use Rattle.sqlite.specs.State.{HasCleanDisk};
+ghost use Rattle.sqlite.specs.Values.{bound};
 ghost use Rattle.pw_model.specs.Counting.{Member};
-ghost use Rattle.pw_model.specs.declared.records.Named.TheVariants as named;
 ghost use Rattle.pw_schema.specs.Calls.{Writes};
 ghost use Rattle.pw_schema.specs.inner.Calls.{Asks};
 ghost use Rattle.pw_store.specs.Content.{records_of};
 ghost use Rattle.pw_store.specs.Kept.{IsStore};
 ghost use Rattle.pw_store.specs.inner.Changing.{Adds};
-ghost use Rattle.pw_store.specs.inner.Records.{IsForeign, entry_as};
+ghost use Rattle.pw_store.specs.inner.Given.{values_of};
+ghost use Rattle.pw_store.specs.inner.Records.{IsForeign, entry_as, named_row};
 
 use crate::forms::Form;
-use pw_model::{Content, Entry, Key, Named, Reference};
-use pw_obis::{Register, WattHours};
+use crate::given::Given;
+use pw_model::{Content, Entry, Key, Named};
 use pw_schema::{integer, owner_place, register_place, wide, words};
-use pw_tariff::{AccountId, MeterId, Owner};
-use pw_time::Instant;
+use sqlite::types::ValueRef;
 use sqlite::{Alter, Connection, Error, Row};
 
 /// As what an entry is kept, and what it names; none where its content isn't of its key's kind.
@@ -35,80 +35,57 @@ pub(crate) fn form_of(entry: &Entry) -> Option<(Form, Named)>
     }
 }
 
-// Adds a reading, which isn't held.
-fn add_reading<S: Alter>(
-    conn: &mut Connection<S>,
-    form: Form,
-    meter: MeterId,
-    register: Register,
-    instant: Instant,
-    wh: WattHours,
-) -> Result<usize, Error>
-    requires inside { HasCleanDisk (state S.Store conn.old) → IsTrue (state S.Store conn.old).in_transaction }
-    requires store { HasCleanDisk (state S.Store conn.old) → IsStore (state S.Store conn.old).now }
-    requires fresh { HasCleanDisk (state S.Store conn.old) → Member (entry_as form (named.Reading meter register instant wh)) (records_of (state S.Store conn.old).now.trees) → ⊥ }
-    ensures done { HasCleanDisk (state S.Store conn.new) → OnOk result (Adds (entry_as form (named.Reading meter register instant wh)) (state S.Store conn.old) (state S.Store conn.new)) }
-    ensures writes { Writes result (state S.Store conn.old) (state S.Store conn.new) }
+// What a statement on something named is given: the values of its columns.
+fn columns_of<'a>(named: &'a Named) -> Given<'a>
+    ensures values { bound (values_of result) ≡ named_row named.now }
+    ensures few { result.count ≤ 5 }
 {
-    conn.execute(
-        form.insert_reading(),
-        &[
-            integer(u32::from(meter.0)),
-            integer(register_place(register)),
-            integer(instant.seconds()),
-            wide(wh.get()),
-        ],
-    )
-}
-
-// Adds an assignment, which isn't held.
-fn add_assignment<S: Alter>(
-    conn: &mut Connection<S>,
-    form: Form,
-    meter: MeterId,
-    start: Instant,
-    owner: Owner,
-) -> Result<usize, Error>
-    requires inside { HasCleanDisk (state S.Store conn.old) → IsTrue (state S.Store conn.old).in_transaction }
-    requires store { HasCleanDisk (state S.Store conn.old) → IsStore (state S.Store conn.old).now }
-    requires fresh { HasCleanDisk (state S.Store conn.old) → Member (entry_as form (named.Assignment meter start owner)) (records_of (state S.Store conn.old).now.trees) → ⊥ }
-    ensures done { HasCleanDisk (state S.Store conn.new) → OnOk result (Adds (entry_as form (named.Assignment meter start owner)) (state S.Store conn.old) (state S.Store conn.new)) }
-    ensures writes { Writes result (state S.Store conn.old) (state S.Store conn.new) }
-{
-    conn.execute(
-        form.insert_assignment(),
-        &[
-            integer(u32::from(meter.0)),
-            integer(start.seconds()),
-            integer(owner_place(owner)),
-        ],
-    )
-}
-
-// Adds a top-up, which isn't held.
-fn add_topup<S: Alter>(
-    conn: &mut Connection<S>,
-    form: Form,
-    reference: &Reference,
-    account: AccountId,
-    cents: u32,
-    instant: Instant,
-) -> Result<usize, Error>
-    requires inside { HasCleanDisk (state S.Store conn.old) → IsTrue (state S.Store conn.old).in_transaction }
-    requires store { HasCleanDisk (state S.Store conn.old) → IsStore (state S.Store conn.old).now }
-    requires fresh { HasCleanDisk (state S.Store conn.old) → Member (entry_as form (named.TopUp reference.now account cents instant)) (records_of (state S.Store conn.old).now.trees) → ⊥ }
-    ensures done { HasCleanDisk (state S.Store conn.new) → OnOk result (Adds (entry_as form (named.TopUp reference.now account cents instant)) (state S.Store conn.old) (state S.Store conn.new)) }
-    ensures writes { Writes result (state S.Store conn.old) (state S.Store conn.new) }
-{
-    conn.execute(
-        form.insert_topup(),
-        &[
-            words(reference),
-            integer(u32::from(account.0)),
-            integer(cents),
-            integer(instant.seconds()),
-        ],
-    )
+    match named {
+        Named::Reading {
+            meter,
+            register,
+            instant,
+            wh,
+        } => Given {
+            values: [
+                integer(u32::from(meter.0)),
+                integer(register_place(*register)),
+                integer(instant.seconds()),
+                wide(wh.get()),
+                ValueRef::Null,
+            ],
+            count: 4,
+        },
+        Named::Assignment {
+            meter,
+            start,
+            owner,
+        } => Given {
+            values: [
+                integer(u32::from(meter.0)),
+                integer(start.seconds()),
+                integer(owner_place(*owner)),
+                ValueRef::Null,
+                ValueRef::Null,
+            ],
+            count: 3,
+        },
+        Named::TopUp {
+            reference,
+            account,
+            cents,
+            instant,
+        } => Given {
+            values: [
+                words(reference),
+                integer(u32::from(account.0)),
+                integer(*cents),
+                integer(instant.seconds()),
+                ValueRef::Null,
+            ],
+            count: 4,
+        },
+    }
 }
 
 /// Adds what is named, in a form in which it isn't held.
@@ -123,95 +100,8 @@ pub(crate) fn add_named<S: Alter>(
     ensures done { HasCleanDisk (state S.Store conn.new) → OnOk result (Adds (entry_as form named.now) (state S.Store conn.old) (state S.Store conn.new)) }
     ensures writes { Writes result (state S.Store conn.old) (state S.Store conn.new) }
 {
-    match named {
-        Named::Reading {
-            meter,
-            register,
-            instant,
-            wh,
-        } => add_reading(conn, form, *meter, *register, *instant, *wh),
-        Named::Assignment {
-            meter,
-            start,
-            owner,
-        } => add_assignment(conn, form, *meter, *start, *owner),
-        Named::TopUp {
-            reference,
-            account,
-            cents,
-            instant,
-        } => add_topup(conn, form, reference, *account, *cents, *instant),
-    }
-}
-
-// Rows for a reading, if it is held.
-fn rows_of_reading<S: Alter>(
-    conn: &mut Connection<S>,
-    form: Form,
-    meter: MeterId,
-    register: Register,
-    instant: Instant,
-    wh: WattHours,
-) -> Result<Vec<Row>, Error>
-    requires store { HasCleanDisk (state S.Store conn.old) → IsStore (state S.Store conn.old).now }
-    ensures found { HasCleanDisk (state S.Store conn.new) → IfOk result (λ rows. 0 < length rows.items ↔ Member (entry_as form (named.Reading meter register instant wh)) (records_of (state S.Store conn.old).now.trees)) }
-    ensures asks { Asks result (state S.Store conn.old) (state S.Store conn.new) }
-{
-    conn.query_all(
-        form.find_reading(),
-        &[
-            integer(u32::from(meter.0)),
-            integer(register_place(register)),
-            integer(instant.seconds()),
-            wide(wh.get()),
-        ],
-    )
-}
-
-// Rows for an assignment, if it is held.
-fn rows_of_assignment<S: Alter>(
-    conn: &mut Connection<S>,
-    form: Form,
-    meter: MeterId,
-    start: Instant,
-    owner: Owner,
-) -> Result<Vec<Row>, Error>
-    requires store { HasCleanDisk (state S.Store conn.old) → IsStore (state S.Store conn.old).now }
-    ensures found { HasCleanDisk (state S.Store conn.new) → IfOk result (λ rows. 0 < length rows.items ↔ Member (entry_as form (named.Assignment meter start owner)) (records_of (state S.Store conn.old).now.trees)) }
-    ensures asks { Asks result (state S.Store conn.old) (state S.Store conn.new) }
-{
-    conn.query_all(
-        form.find_assignment(),
-        &[
-            integer(u32::from(meter.0)),
-            integer(start.seconds()),
-            integer(owner_place(owner)),
-        ],
-    )
-}
-
-// Rows for a top-up, if it is held.
-fn rows_of_topup<S: Alter>(
-    conn: &mut Connection<S>,
-    form: Form,
-    reference: &Reference,
-    account: AccountId,
-    cents: u32,
-    instant: Instant,
-) -> Result<Vec<Row>, Error>
-    requires store { HasCleanDisk (state S.Store conn.old) → IsStore (state S.Store conn.old).now }
-    ensures found { HasCleanDisk (state S.Store conn.new) → IfOk result (λ rows. 0 < length rows.items ↔ Member (entry_as form (named.TopUp reference.now account cents instant)) (records_of (state S.Store conn.old).now.trees)) }
-    ensures asks { Asks result (state S.Store conn.old) (state S.Store conn.new) }
-{
-    conn.query_all(
-        form.find_topup(),
-        &[
-            words(reference),
-            integer(u32::from(account.0)),
-            integer(cents),
-            integer(instant.seconds()),
-        ],
-    )
+    let columns = columns_of(named);
+    conn.execute(form.insert(named), columns.values())
 }
 
 // Rows for what is named, if it is held in a form.
@@ -224,25 +114,8 @@ fn rows_of_named<S: Alter>(
     ensures found { HasCleanDisk (state S.Store conn.new) → IfOk result (λ rows. 0 < length rows.items ↔ Member (entry_as form named.now) (records_of (state S.Store conn.old).now.trees)) }
     ensures asks { Asks result (state S.Store conn.old) (state S.Store conn.new) }
 {
-    match named {
-        Named::Reading {
-            meter,
-            register,
-            instant,
-            wh,
-        } => rows_of_reading(conn, form, *meter, *register, *instant, *wh),
-        Named::Assignment {
-            meter,
-            start,
-            owner,
-        } => rows_of_assignment(conn, form, *meter, *start, *owner),
-        Named::TopUp {
-            reference,
-            account,
-            cents,
-            instant,
-        } => rows_of_topup(conn, form, reference, *account, *cents, *instant),
-    }
+    let columns = columns_of(named);
+    conn.query_all(form.find(named), columns.values())
 }
 
 /// Whether what is named is held in a form.

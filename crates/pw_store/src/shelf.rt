@@ -42,18 +42,7 @@ pub struct SqlShelf<S: Alter> {
 // It is written out, so that a caller doesn't prove again how each part is dropped.
 impl<S: Alter + Drop> Drop for SqlShelf<S> {
     fn drop(self) {
-        let SqlShelf {
-            conn: _,
-            base: _,
-            opened: _,
-            begun: _,
-            doubtful: _,
-            held: _,
-            within: _,
-            failures: _,
-            failed_abandons: _,
-            tally: _,
-        } = self;
+        let _ = self.into_connection();
     }
 }
 

@@ -1,9 +1,9 @@
 //! Totals, each statement run by its own text.
 
-ghost use Rattle.std.specs.Prelude.{◌≡◌, ◌<◌, ◌≤◌, ◌^◌, [], ◌∷◌, IfOk, IsTrue, OnOk, length};
+ghost use Rattle.std.specs.Prelude.{◌≡◌, ◌<◌, ◌≤◌, ◌^◌, [], ◌∷◌, Some, IfOk, IfSome, IsTrue, OnOk, length};
 ghost use Rattle.sqlite.specs.Held.{state};
 ghost use Rattle.sqlite.specs.State.{HasCleanDisk, KeepsCommit, Survives};
-ghost use Rattle.pw_model.specs.declared.records.TotalKey.TheVariants as total;
+ghost use Rattle.sqlite.specs.Values.{bound};
 ghost use Rattle.pw_schema.specs.Calls.{Writes};
 ghost use Rattle.pw_schema.specs.Fresh.{IsWithin};
 ghost use Rattle.pw_schema.specs.Raised.{HasSame, lasting_trees};
@@ -12,14 +12,16 @@ ghost use Rattle.pw_schema.specs.declared.kind.StoreVersion.TheVariants.{Third};
 ghost use Rattle.pw_schema.specs.inner.Calls.{Asks};
 ghost use Rattle.pw_store.specs.Content.{total_in};
 ghost use Rattle.pw_store.specs.Kept.{IsStore};
-ghost use Rattle.pw_store.specs.inner.Changing.{Fits, IsFree, IsTaken, Makes, PutsEnergy, changed, energy_row};
-ghost use Rattle.pw_store.specs.inner.Filling.{TellsMore};
+ghost use Rattle.pw_store.specs.inner.Changing.{Fits, IsFree, IsTaken, Makes, PutsEnergy, changed, total_row};
+ghost use Rattle.pw_store.specs.inner.Filling.{TellsMore, is_of_energy};
+ghost use Rattle.pw_store.specs.inner.Given.{values_of};
 ghost use Rattle.pw_store.specs.inner.Seconds.{first_amount};
 
 use crate::changes::Change;
+use crate::given::Given;
 use pw_model::TotalKey;
 use pw_schema::{direction_place, integer, owner_place, wide};
-use pw_tariff::{AccountId, BandId, Direction, Owner, PeriodId};
+use sqlite::types::ValueRef;
 use sqlite::{Alter, Connection, Error, ErrorCode, Row};
 
 // No column takes it, nor more.
@@ -32,14 +34,16 @@ pub(crate) fn take_total<S: Alter>(conn: &mut Connection<S>, key: TotalKey) -> R
     ensures done { HasCleanDisk (state S.Store conn.new) → IfOk result (λ rows. Makes (changed (Change.TakeTotal key) rows) (state S.Store conn.old) (state S.Store conn.new)) }
     ensures writes { Writes result (state S.Store conn.old) (state S.Store conn.new) }
 {
+    let given = columns_of(&key, None);
     match key {
-        TotalKey::Energy {
-            owner,
-            period,
-            band,
-            direction,
-        } => take_energy(conn, owner, period, band, direction),
-        TotalKey::TopUps { account } => take_payment(conn, account),
+        TotalKey::Energy { .. } => conn.execute(
+            "DELETE FROM period_total WHERE owner = ?1 AND period = ?2 AND band = ?3 AND direction = ?4",
+            given.values(),
+        ),
+        TotalKey::TopUps { .. } => conn.execute(
+            "DELETE FROM total_topup WHERE account = ?1",
+            given.values(),
+        ),
     }
 }
 
@@ -56,14 +60,16 @@ pub(crate) fn set_total<S: Alter>(
     ensures taken { HasCleanDisk (state S.Store conn.new) → IfOk result (λ rows. IsTaken (Change.SetTotal key amount) rows (state S.Store conn.new).now.trees) }
     ensures writes { Writes result (state S.Store conn.old) (state S.Store conn.new) }
 {
+    let given = columns_of(&key, Some(amount));
     match key {
-        TotalKey::Energy {
-            owner,
-            period,
-            band,
-            direction,
-        } => set_energy(conn, owner, period, band, direction, amount),
-        TotalKey::TopUps { account } => set_payment(conn, account, amount),
+        TotalKey::Energy { .. } => conn.execute(
+            "UPDATE period_total SET wh = ?5 WHERE owner = ?1 AND period = ?2 AND band = ?3 AND direction = ?4",
+            given.values(),
+        ),
+        TotalKey::TopUps { .. } => conn.execute(
+            "UPDATE total_topup SET cents = ?2 WHERE account = ?1",
+            given.values(),
+        ),
     }
 }
 
@@ -81,13 +87,11 @@ pub(crate) fn put_total<S: Alter>(
     ensures writes { Writes result (state S.Store conn.old) (state S.Store conn.new) }
 {
     match key {
-        TotalKey::Energy {
-            owner,
-            period,
-            band,
-            direction,
-        } => put_energy(conn, owner, period, band, direction, amount),
-        TotalKey::TopUps { account } => put_payment(conn, account, amount),
+        TotalKey::Energy { .. } => put_energy(conn, &key, amount),
+        TotalKey::TopUps { .. } => conn.execute(
+            "INSERT INTO total_topup (account, cents) VALUES (?1, ?2)",
+            columns_of(&key, Some(amount)).values(),
+        ),
     }
 }
 
@@ -100,179 +104,70 @@ pub(crate) fn total_rows<S: Alter>(
     ensures amount { HasCleanDisk (state S.Store conn.new) → IfOk result (λ rows. length rows.items ≤ 1 → first_amount rows.items ≡ total_in (state S.Store conn.old).now.trees key.now) }
     ensures asks { Asks result (state S.Store conn.old) (state S.Store conn.new) }
 {
+    let given = columns_of(key, None);
+    match key {
+        TotalKey::Energy { .. } => conn.query_all(
+            "SELECT wh FROM period_total WHERE owner = ?1 AND period = ?2 AND band = ?3 AND direction = ?4",
+            given.values(),
+        ),
+        TotalKey::TopUps { .. } => conn.query_all(
+            "SELECT cents FROM total_topup WHERE account = ?1",
+            given.values(),
+        ),
+    }
+}
+
+// What a statement on a total is given: the values of its key's columns, and an amount if there is one.
+fn columns_of(key: &TotalKey, amount: Option<u64>) -> Given<'static>
+    requires { IfSome amount (λ v. v < 2 ^ 63) }
+    ensures values { bound (values_of result) ≡ total_row key.now amount }
+    ensures few { result.count ≤ 5 }
+{
+    let (last, more) = match amount {
+        Some(amount) => (wide(amount), 1),
+        None => (ValueRef::Null, 0),
+    };
     match key {
         TotalKey::Energy {
             owner,
             period,
             band,
             direction,
-        } => energy_rows(conn, *owner, *period, *band, *direction),
-        TotalKey::TopUps { account } => payment_rows(conn, *account),
+        } => Given {
+            values: [
+                integer(owner_place(*owner)),
+                integer(u32::from(period.0)),
+                integer(u32::from(band.0)),
+                integer(direction_place(*direction)),
+                last,
+            ],
+            count: 4 + more,
+        },
+        TotalKey::TopUps { account } => Given {
+            values: [
+                integer(u32::from(account.0)),
+                last,
+                ValueRef::Null,
+                ValueRef::Null,
+                ValueRef::Null,
+            ],
+            count: 1 + more,
+        },
     }
 }
 
-// Takes the row of a total of energy away, if there is one.
-fn take_energy<S: Alter>(
-    conn: &mut Connection<S>,
-    owner: Owner,
-    period: PeriodId,
-    band: BandId,
-    direction: Direction,
-) -> Result<usize, Error>
-    requires inside { HasCleanDisk (state S.Store conn.old) → IsTrue (state S.Store conn.old).in_transaction }
-    requires store { HasCleanDisk (state S.Store conn.old) → IsStore (state S.Store conn.old).now }
-    ensures done { HasCleanDisk (state S.Store conn.new) → IfOk result (λ rows. Makes (changed (Change.TakeTotal (total.Energy owner period band direction)) rows) (state S.Store conn.old) (state S.Store conn.new)) }
-    ensures writes { Writes result (state S.Store conn.old) (state S.Store conn.new) }
-{
-    conn.execute(
-        "DELETE FROM period_total WHERE owner = ?1 AND period = ?2 AND band = ?3 AND direction = ?4",
-        &[
-            integer(owner_place(owner)),
-            integer(u32::from(period.0)),
-            integer(u32::from(band.0)),
-            integer(direction_place(direction)),
-        ],
-    )
-}
-
-// Sets a total of energy in its row, if there is one.
-fn set_energy<S: Alter>(
-    conn: &mut Connection<S>,
-    owner: Owner,
-    period: PeriodId,
-    band: BandId,
-    direction: Direction,
-    wh: u64,
-) -> Result<usize, Error>
-    requires inside { HasCleanDisk (state S.Store conn.old) → IsTrue (state S.Store conn.old).in_transaction }
-    requires store { HasCleanDisk (state S.Store conn.old) → IsStore (state S.Store conn.old).now }
-    requires fits { Fits (Change.SetTotal (total.Energy owner period band direction) wh) }
-    ensures done { HasCleanDisk (state S.Store conn.new) → IfOk result (λ rows. Makes (changed (Change.SetTotal (total.Energy owner period band direction) wh) rows) (state S.Store conn.old) (state S.Store conn.new)) }
-    ensures taken { HasCleanDisk (state S.Store conn.new) → IfOk result (λ rows. IsTaken (Change.SetTotal (total.Energy owner period band direction) wh) rows (state S.Store conn.new).now.trees) }
-    ensures writes { Writes result (state S.Store conn.old) (state S.Store conn.new) }
-{
-    conn.execute(
-        "UPDATE period_total SET wh = ?5 WHERE owner = ?1 AND period = ?2 AND band = ?3 AND direction = ?4",
-        &[
-            integer(owner_place(owner)),
-            integer(u32::from(period.0)),
-            integer(u32::from(band.0)),
-            integer(direction_place(direction)),
-            wide(wh),
-        ],
-    )
-}
-
 // Puts a row of a total of energy, whatever rows there are.
-fn put_energy<S: Alter>(
-    conn: &mut Connection<S>,
-    owner: Owner,
-    period: PeriodId,
-    band: BandId,
-    direction: Direction,
-    wh: u64,
-) -> Result<usize, Error>
+fn put_energy<S: Alter>(conn: &mut Connection<S>, key: &TotalKey, wh: u64) -> Result<usize, Error>
     requires inside { HasCleanDisk (state S.Store conn.old) → IsTrue (state S.Store conn.old).in_transaction }
     requires ours { HasCleanDisk (state S.Store conn.old) → IsOurs (state S.Store conn.old).now.schema }
+    requires energy { IsTrue (is_of_energy key.now) }
     requires fits { wh < 2 ^ 63 }
-    ensures put { HasCleanDisk (state S.Store conn.new) → OnOk result (PutsEnergy (energy_row owner period band direction wh) (state S.Store conn.old) (state S.Store conn.new)) }
+    ensures put { HasCleanDisk (state S.Store conn.new) → OnOk result (PutsEnergy (total_row key.now (Some wh)) (state S.Store conn.old) (state S.Store conn.new)) }
     ensures writes { Writes result (state S.Store conn.old) (state S.Store conn.new) }
 {
     conn.execute(
         "INSERT INTO period_total (owner, period, band, direction, wh) VALUES (?1, ?2, ?3, ?4, ?5)",
-        &[
-            integer(owner_place(owner)),
-            integer(u32::from(period.0)),
-            integer(u32::from(band.0)),
-            integer(direction_place(direction)),
-            wide(wh),
-        ],
-    )
-}
-
-// The total of energy at a key.
-fn energy_rows<S: Alter>(
-    conn: &mut Connection<S>,
-    owner: Owner,
-    period: PeriodId,
-    band: BandId,
-    direction: Direction,
-) -> Result<Vec<Row>, Error>
-    requires store { HasCleanDisk (state S.Store conn.old) → IsStore (state S.Store conn.old).now }
-    ensures amount { HasCleanDisk (state S.Store conn.new) → IfOk result (λ rows. length rows.items ≤ 1 → first_amount rows.items ≡ total_in (state S.Store conn.old).now.trees (total.Energy owner period band direction)) }
-    ensures asks { Asks result (state S.Store conn.old) (state S.Store conn.new) }
-{
-    conn.query_all(
-        "SELECT wh FROM period_total WHERE owner = ?1 AND period = ?2 AND band = ?3 AND direction = ?4",
-        &[
-            integer(owner_place(owner)),
-            integer(u32::from(period.0)),
-            integer(u32::from(band.0)),
-            integer(direction_place(direction)),
-        ],
-    )
-}
-
-// Takes the row of a total of top-ups away, if there is one.
-fn take_payment<S: Alter>(conn: &mut Connection<S>, account: AccountId) -> Result<usize, Error>
-    requires inside { HasCleanDisk (state S.Store conn.old) → IsTrue (state S.Store conn.old).in_transaction }
-    requires store { HasCleanDisk (state S.Store conn.old) → IsStore (state S.Store conn.old).now }
-    ensures done { HasCleanDisk (state S.Store conn.new) → IfOk result (λ rows. Makes (changed (Change.TakeTotal (total.TopUps account)) rows) (state S.Store conn.old) (state S.Store conn.new)) }
-    ensures writes { Writes result (state S.Store conn.old) (state S.Store conn.new) }
-{
-    conn.execute(
-        "DELETE FROM total_topup WHERE account = ?1",
-        &[integer(u32::from(account.0))],
-    )
-}
-
-// Sets a total of top-ups in its row, if there is one.
-fn set_payment<S: Alter>(
-    conn: &mut Connection<S>,
-    account: AccountId,
-    cents: u64,
-) -> Result<usize, Error>
-    requires inside { HasCleanDisk (state S.Store conn.old) → IsTrue (state S.Store conn.old).in_transaction }
-    requires store { HasCleanDisk (state S.Store conn.old) → IsStore (state S.Store conn.old).now }
-    requires fits { Fits (Change.SetTotal (total.TopUps account) cents) }
-    ensures done { HasCleanDisk (state S.Store conn.new) → IfOk result (λ rows. Makes (changed (Change.SetTotal (total.TopUps account) cents) rows) (state S.Store conn.old) (state S.Store conn.new)) }
-    ensures taken { HasCleanDisk (state S.Store conn.new) → IfOk result (λ rows. IsTaken (Change.SetTotal (total.TopUps account) cents) rows (state S.Store conn.new).now.trees) }
-    ensures writes { Writes result (state S.Store conn.old) (state S.Store conn.new) }
-{
-    conn.execute(
-        "UPDATE total_topup SET cents = ?2 WHERE account = ?1",
-        &[integer(u32::from(account.0)), wide(cents)],
-    )
-}
-
-// Puts the row of a total of top-ups where none has its key.
-fn put_payment<S: Alter>(
-    conn: &mut Connection<S>,
-    account: AccountId,
-    cents: u64,
-) -> Result<usize, Error>
-    requires inside { HasCleanDisk (state S.Store conn.old) → IsTrue (state S.Store conn.old).in_transaction }
-    requires store { HasCleanDisk (state S.Store conn.old) → IsStore (state S.Store conn.old).now }
-    requires free { HasCleanDisk (state S.Store conn.old) → IsFree (Change.PutTotal (total.TopUps account) cents) (state S.Store conn.old).now.trees }
-    requires fits { Fits (Change.PutTotal (total.TopUps account) cents) }
-    ensures done { HasCleanDisk (state S.Store conn.new) → IfOk result (λ rows. Makes (changed (Change.PutTotal (total.TopUps account) cents) rows) (state S.Store conn.old) (state S.Store conn.new)) }
-    ensures writes { Writes result (state S.Store conn.old) (state S.Store conn.new) }
-{
-    conn.execute(
-        "INSERT INTO total_topup (account, cents) VALUES (?1, ?2)",
-        &[integer(u32::from(account.0)), wide(cents)],
-    )
-}
-
-// The total of top-ups of an account.
-fn payment_rows<S: Alter>(conn: &mut Connection<S>, account: AccountId) -> Result<Vec<Row>, Error>
-    requires store { HasCleanDisk (state S.Store conn.old) → IsStore (state S.Store conn.old).now }
-    ensures amount { HasCleanDisk (state S.Store conn.new) → IfOk result (λ rows. length rows.items ≤ 1 → first_amount rows.items ≡ total_in (state S.Store conn.old).now.trees (total.TopUps account)) }
-    ensures asks { Asks result (state S.Store conn.old) (state S.Store conn.new) }
-{
-    conn.query_all(
-        "SELECT cents FROM total_topup WHERE account = ?1",
-        &[integer(u32::from(account.0))],
+        columns_of(key, Some(wh)).values(),
     )
 }
 
@@ -293,12 +188,7 @@ pub(crate) fn fill_total<S: Alter>(
         return Err(Error::SqliteFailure(ErrorCode::TooBig));
     }
     match key {
-        TotalKey::Energy {
-            owner,
-            period,
-            band,
-            direction,
-        } => put_energy(conn, *owner, *period, *band, *direction, amount),
+        TotalKey::Energy { .. } => put_energy(conn, key, amount),
         TotalKey::TopUps { .. } => Ok(0),
     }
 }

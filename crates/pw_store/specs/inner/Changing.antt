@@ -93,10 +93,22 @@ abbrev pub refuses_key : Error → Bool
 refuses_key (SqliteFailure (ConstraintViolation Unique)) = true
 refuses_key _ = false
 
--- ---- a row of a total of energy that is put, whatever rows there are
--- as it is given to INSERT
+-- ---- what a statement on a total is given
+-- its key, and then something more
+abbrev pub total_with : TotalKey → Row → Row
+total_with (total.Energy o p b d) more = Int (pos (owner_place o)) ∷ Int (pos p.0) ∷ Int (pos b.0) ∷ Int (pos (direction_place d)) ∷ more
+total_with (total.TopUps a) more = Int (pos a.0) ∷ more
+
+-- its key, and an amount if there is one
+abbrev pub total_row : TotalKey → Option ℕ → Row
+total_row k None = total_with k []
+total_row k (Some v) = total_with k (Int (pos v) ∷ [])
+
+-- one of energy, as it is given to INSERT
 abbrev pub energy_row : Option AccountId → PeriodId → BandId → Direction → ℕ → Row
-energy_row o p b d v = Int (pos (owner_place o)) ∷ Int (pos p.0) ∷ Int (pos b.0) ∷ Int (pos (direction_place d)) ∷ Int (pos v) ∷ []
+energy_row o p b d v = total_row (total.Energy o p b d) (Some v)
+
+-- ---- a row of a total of energy that is put, whatever rows there are
 
 -- it was put into their table, with a rowid of its own, and no row of another table is changed; and the upload goes on
 pub record PutsEnergy (given : Row) (old new : State) : Type 0 where

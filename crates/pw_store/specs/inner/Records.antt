@@ -6,10 +6,13 @@ use Rattle.sqlite.specs.Order.{Row}
 use Rattle.pw_obis.specs.declared.reference.Register.{Register}
 use Rattle.pw_tariff.specs.declared.ids.AccountId.{AccountId}
 use Rattle.pw_tariff.specs.declared.ids.MeterId.{MeterId}
+use Rattle.pw_tariff.specs.Cells.{owner_place}
+use Rattle.pw_tariff.specs.Office.{register_place}
 use Rattle.pw_model.specs.declared.records.Key.TheVariants as key
 use Rattle.pw_model.specs.declared.records.Content.TheVariants as content
 use Rattle.pw_model.specs.declared.records.Entry.{Entry}
 use Rattle.pw_model.specs.declared.records.Named.{Named}
+use Rattle.pw_model.specs.declared.records.Named.TheVariants as named
 use Rattle.pw_model.specs.Counting.{named_entry}
 use Rattle.pw_schema.specs.Rows.{withdrawal}
 use Rattle.pw_store.specs.declared.forms.Form.{Form}
@@ -24,6 +27,12 @@ assignment_row meter start owner = Int (pos meter) ∷ Int (pos start) ∷ Int (
 
 abbrev pub topup_row : List ℕ → ℕ → ℕ → ℕ → Row
 topup_row reference account cents instant = Text reference ∷ Int (pos account) ∷ Int (pos cents) ∷ Int (pos instant) ∷ []
+
+-- of what is named
+abbrev pub named_row : Named → Row
+named_row (named.Reading m r t w) = reading_row m.0 (register_place r) t w
+named_row (named.Assignment m t o) = assignment_row m.0 t (owner_place o)
+named_row (named.TopUp r a c t) = topup_row r a.0 c t
 
 -- the records of the three kinds
 abbrev pub reading_entry : MeterId → Register → ℕ → ℕ → Entry

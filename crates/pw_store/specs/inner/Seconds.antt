@@ -1,10 +1,13 @@
 -- What rows tell by the second, as a query shows them: a second, and what is told at it. It serves `src/points.rt`,
 -- `src/starts.rt` and `src/told.rt`.
 -- (Definitions of this project.)
-use Rattle.std.specs.Prelude.{ℕ, Option, Some, None, List, [], ◌∷◌}
+use Rattle.std.specs.Prelude.{ℕ, Option, Some, None, List, [], ◌∷◌, codes}
 use Rattle.sqlite.specs.Order.{Row, column}
 use Rattle.pw_tariff.specs.declared.ids.AccountId.{AccountId}
+use Rattle.pw_shelf.specs.Seconds.{IsBefore, IsBehind}
 use Rattle.pw_schema.specs.Rows.{number, owner_at}
+use Rattle.pw_store.specs.declared.points.Side.{Side}
+use Rattle.pw_store.specs.declared.points.Side.TheVariants.{Before, Behind}
 
 -- a second and watt-hours
 abbrev pub point_told : Row → ℕ × ℕ
@@ -23,3 +26,18 @@ first_point (r ∷ rows) = Some (point_told r)
 abbrev pub first_amount : List Row → ℕ
 first_amount [] = 0
 first_amount (r ∷ rows) = number (column r 0)
+
+-- ---- on a side of an instant
+abbrev pub instant_of : Side → ℕ
+instant_of (Before t) = t
+instant_of (Behind t) = t
+
+-- the text that asks for the nearest point
+abbrev pub nearest_text : Side → List ℕ
+nearest_text (Before t) = codes "SELECT instant, wh FROM point WHERE meter = ?1 AND register = ?2 AND instant < ?3 ORDER BY instant DESC LIMIT 1"
+nearest_text (Behind t) = codes "SELECT instant, wh FROM point WHERE meter = ?1 AND register = ?2 AND instant > ?3 ORDER BY instant LIMIT 1"
+
+-- strictly on it, and the nearest; nothing where none is there
+abbrev pub IsNearest : Side → (ℕ → Option ℕ) → Option (ℕ × ℕ) → Type 0
+IsNearest (Before t) told found = IsBefore told t found
+IsNearest (Behind t) told found = IsBehind told t found

@@ -4,8 +4,8 @@ use Rattle.pw_store.specs.Content.{total_in}
 use Rattle.pw_store.proofs.InTurn.{trees_same, amount_if}
 use Rattle.pw_store.proofs.questions.total.Goals as goal
 
-pub returns-in-Ok-clause-amount : goal.returns-in-Ok-clause-amount
-returns-in-Ok-clause-amount g c clean =
-    let before = early (state g.S.Store c.wake.new.conn) (state g.S.Store c.total_rows.new.conn) c.in-Ok.ensures.asks.crash clean in
-    let same = trees_same (state g.S.Store c.args.conn.now) (state g.S.Store c.wake.new.conn) (c.in_default.ensures.asks.same before) in
-    amount_if c.read_amount.result (λ db. total_in db c.args.key.now) _ _ c.as_slice.result.now c.in-Ok.rows.items c.as_slice.ensures.value same (c.in-Ok.ensures.amount clean) c.read_amount.ensures.few c.read_amount.ensures.told
+pub returns-clause-amount : goal.returns-clause-amount
+returns-clause-amount g c clean =
+    let before = early (state g.S.Store c.wake.new.conn) (state g.S.Store c.total_rows.new.conn) c.in_ok-rows.ensures.asks.crash clean in
+    let same = trees_same (state g.S.Store c.args.conn.now) (state g.S.Store c.wake.new.conn) (c.in_ok-wake.ensures.asks.same before) in
+    amount_if c.read_amount.result (λ db. total_in db c.args.key.now) _ _ c.as_slice.result.now c.in_ok-rows.rows.items c.as_slice.ensures.value same (c.in_ok-rows.ensures.amount clean) c.read_amount.ensures.few c.read_amount.ensures.told

@@ -10,7 +10,7 @@ pub returns-in-Err-clause-asked : goal.returns-in-Err-clause-asked
 returns-in-Err-clause-asked g c =
     let self = c.args.self.now in
     let old = state g.S.Store self.conn in
-    let new = state g.S.Store c.point_after-asked.new.conn in
+    let new = state g.S.Store c.nearest-behind.new.conn in
     record {
       same = λ clean. tt;
       failed = λ clean none. failed_same old new (state g.S.Store self.base.value) self.begun 0 0 0 (g.met.S.Store.shut_if_dirty self.conn.store) self.since self.idle (c.in-Err.ensures.asks.failed clean) none;
@@ -27,19 +27,19 @@ returns-in-Err-clause-asked g c =
 pub invariant_of-self-clause-keeps : goal.invariant_of-self-clause-keeps
 invariant_of-self-clause-keeps g c =
     let self = c.args.self.now in
-    keeps_same (state g.S.Store self.conn) (state g.S.Store c.point_after-asked.new.conn) (state g.S.Store self.opened.value) self.keeps c.in-Ok.ensures.asks.crash c.in-Ok.ensures.asks.same
+    keeps_same (state g.S.Store self.conn) (state g.S.Store c.nearest-behind.new.conn) (state g.S.Store self.opened.value) self.keeps c.in-Ok.ensures.asks.crash c.in-Ok.ensures.asks.same
 
 pub invariant_of-self-in-Err-clause-keeps : goal.invariant_of-self-in-Err-clause-keeps
 invariant_of-self-in-Err-clause-keeps g c =
     let self = c.args.self.now in
-    keeps_failed (state g.S.Store self.conn) (state g.S.Store c.point_after-asked.new.conn) (state g.S.Store self.opened.value) self.keeps c.in-Err.ensures.asks.crash c.in-Err.ensures.asks.failed
+    keeps_failed (state g.S.Store self.conn) (state g.S.Store c.nearest-behind.new.conn) (state g.S.Store self.opened.value) self.keeps c.in-Err.ensures.asks.crash c.in-Err.ensures.asks.failed
 
 pub invariant_of-self-in-Err-clause-now_counted : goal.invariant_of-self-in-Err-clause-now_counted
 invariant_of-self-in-Err-clause-now_counted g c =
     let self = c.args.self.now in
-    counted_failed (state g.S.Store self.conn) (state g.S.Store c.point_after-asked.new.conn) self.within self.now_counted c.in-Err.ensures.asks.crash c.in-Err.ensures.asks.failed
+    counted_failed (state g.S.Store self.conn) (state g.S.Store c.nearest-behind.new.conn) self.within self.now_counted c.in-Err.ensures.asks.crash c.in-Err.ensures.asks.failed
 
 pub invariant_of-self-clause-now_counted : goal.invariant_of-self-clause-now_counted
 invariant_of-self-clause-now_counted g c =
     let self = c.args.self.now in
-    counted_same (state g.S.Store self.conn) (state g.S.Store c.point_after-asked.new.conn) self.within self.now_counted c.in-Ok.ensures.asks.crash c.in-Ok.ensures.asks.same
+    counted_same (state g.S.Store self.conn) (state g.S.Store c.nearest-behind.new.conn) self.within self.now_counted c.in-Ok.ensures.asks.crash c.in-Ok.ensures.asks.same
