@@ -53,6 +53,21 @@ fn office_rows(rt: &impl Abort, conn: &mut Connection<MemStore>) -> Vec<Row> {
     conn.query_all(asked, &[]).expect(rt, "rows")
 }
 
+// Whether a connection has nothing.
+fn has_nothing(conn: &Connection<MemStore>) -> bool {
+    is_nothing(conn.schema()) && !is_of(conn.schema(), StoreVersion::Third)
+}
+
+// Whether a new store has our tables and the text of its office, and with another table begins as ours.
+fn is_made(rt: &impl Abort, conn: &mut Connection<MemStore>) -> bool {
+    is_of(conn.schema(), StoreVersion::Third)
+        && !is_nothing(conn.schema())
+        && !is_of(conn.schema(), StoreVersion::Second)
+        && is_text_kept(rt, conn)
+        && !are_ours_behind(rt, conn, "CREATE TABLE other (id INTEGER) STRICT")
+        && begins_as_ours(conn.schema())
+}
+
 // Whether the text of the office is kept, and no other.
 fn is_text_kept(rt: &impl Abort, conn: &mut Connection<MemStore>) -> bool {
     let kept = office_rows(rt, conn);
@@ -72,15 +87,8 @@ fn is_text_kept(rt: &impl Abort, conn: &mut Connection<MemStore>) -> bool {
 // bears on: pw_schema shape.rt is_of ensures
 #[test]
 fn tables_that_are_made_are_ours(rt: HostRuntime) {
-    let conn = memory(&rt, rt.alloc());
-    assert!(rt; is_nothing(conn.schema()) && !is_of(conn.schema(), StoreVersion::Third));
-    let mut conn = new_store(&rt, rt.alloc());
-    assert!(rt; is_of(conn.schema(), StoreVersion::Third) && !is_nothing(conn.schema()));
-    assert!(rt; !is_of(conn.schema(), StoreVersion::Second));
-    assert!(rt; is_text_kept(&rt, &mut conn));
-    let other = "CREATE TABLE other (id INTEGER) STRICT";
-    assert!(rt; !are_ours_behind(&rt, &mut conn, other));
-    assert!(rt; begins_as_ours(conn.schema()));
+    assert!(rt; has_nothing(&memory(&rt, rt.alloc())));
+    assert!(rt; is_made(&rt, &mut new_store(&rt, rt.alloc())));
 }
 
 // How many rows there are behind an upload of one, which is committed or rolled back.

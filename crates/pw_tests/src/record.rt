@@ -1,9 +1,8 @@
 //! The entries of bodies: their order, and want of memory. (What bodies give and for what they are refused stands in
 //! `cases/`.)
 
-use crate::entries::{given, paid, reading, shown};
-use crate::new_books::holds_in_memory;
-use crate::sample::{FIRST, FIVE, NEW_YEAR};
+use crate::entries::{Sent, entries_of, entry_of};
+use crate::sample::{FIRST, FIVE, METER, NEW_YEAR, sample_office};
 use crate::uploads::{FIRST_TELEGRAM, READOUT, SECOND_THEN_FIRST};
 use pw_obis::Register;
 use pw_record::{
@@ -51,16 +50,21 @@ fn gives(
     Ok(entries.as_slice() == wanted)
 }
 
+const IN_ORDER: [Sent; 2] = [
+    Sent::Shown(METER, Register::I1, FIVE, 1_000_000),
+    Sent::Shown(METER, Register::I1, FIVE, 1_000_001),
+];
+
 // Whether the entries of a body of telegrams stand in their order, whatever the order of its frames.
 fn are_in_order(rt: &impl Abort, alloc: Global, office: &Office) -> bool {
-    let both = [reading(rt, FIVE, 1_000_000), reading(rt, FIVE, 1_000_001)];
+    let both = entries_of(rt, alloc, &IN_ORDER);
     gives(alloc, office, Path::Telegrams, SECOND_THEN_FIRST, &both) == Ok(true)
 }
 
 #[test]
 fn entries_in_order(rt: HostRuntime) {
-    let alloc = rt.alloc();
-    assert!(rt; holds_in_memory(alloc, |book| are_in_order(&rt, alloc, book.office())));
+    let office = sample_office(rt.alloc()).expect(&rt, "an office");
+    assert!(rt; are_in_order(&rt, rt.alloc(), &office));
 }
 
 const NOBODY: &[u8] = b"meter,start,account\nZ7,2024-01-01T00:00:00Z,\n";
@@ -80,26 +84,42 @@ fn is_wrong(alloc: Global, office: &Office, path: Path, body: &[u8], wanted: Ent
     }
 }
 
-// Whether one of four bodies does so.
+const OTHER: MeterId = MeterId(1);
+
+// Bodies, and the entry that each gives.
+const BODIES: [(Path, &[u8], Sent); 4] = [
+    (
+        Path::Telegrams,
+        FIRST_TELEGRAM,
+        Sent::Shown(METER, Register::I1, FIVE, 1_000_000),
+    ),
+    (
+        Path::Readouts(b"Z7"),
+        READOUT,
+        Sent::Shown(OTHER, Register::I0, FIVE, 1_000_000),
+    ),
+    (
+        Path::Assignments,
+        NOBODY,
+        Sent::Given(OTHER, NEW_YEAR, None),
+    ),
+    (Path::TopUps, PAYMENT, Sent::Paid(b"P1", FIRST, 5)),
+];
+
+// Whether one of them does so.
 fn is_one_wrong(rt: &impl Abort, alloc: Global, office: &Office) -> bool {
-    let first = shown(rt, MeterId(0), Register::I1, FIVE, 1_000_000);
-    let winter = shown(rt, MeterId(1), Register::I0, FIVE, 1_000_000);
-    let nobody = given(rt, MeterId(1), NEW_YEAR, None);
-    is_wrong(alloc, office, Path::Telegrams, FIRST_TELEGRAM, first)
-        || is_wrong(alloc, office, Path::Readouts(b"Z7"), READOUT, winter)
-        || is_wrong(alloc, office, Path::Assignments, NOBODY, nobody)
-        || is_wrong(
-            alloc,
-            office,
-            Path::TopUps,
-            PAYMENT,
-            paid(rt, b"P1", FIRST, 5),
-        )
+    for (path, body, sent) in BODIES {
+        if is_wrong(alloc, office, path, body, entry_of(rt, sent)) {
+            return true;
+        }
+    }
+    false
 }
 
 // (To be run with the first allocation refused, with the second, and so on.)
 #[test]
 fn memory_refused(rt: HostRuntime) {
-    let alloc = rt.alloc();
-    assert!(rt; !holds_in_memory(alloc, |book| is_one_wrong(&rt, alloc, book.office())));
+    if let Ok(office) = sample_office(rt.alloc()) {
+        assert!(rt; !is_one_wrong(&rt, rt.alloc(), &office));
+    }
 }

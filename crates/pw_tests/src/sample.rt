@@ -6,7 +6,7 @@ ghost use Rattle.pw_tariff.specs.Office.{office_of};
 
 use crate::offices::SAMPLE;
 use pw_model::plain::{self, OfficeTerms};
-use pw_model::{Content, Entry, Key, Reference};
+use pw_model::{Content, Entry, Key, Named, Reference};
 use pw_obis::{Register, WattHours};
 use pw_tariff::{AccountId, BandId, Direction, MeterId, Office, OfficeFault, Owner, PeriodId};
 use pw_time::{Instant, Zone};
@@ -64,34 +64,90 @@ pub fn are_of_office(office: &Office, zone: &Zone, entries: &[Entry]) -> bool
     plain::are_of_office(&terms, entries)
 }
 
+/// What is told of meters and accounts.
+#[derive(Clone, Copy)]
+pub enum Sent {
+    /// the owner of a meter from a second on
+    Given(MeterId, u32, Owner),
+    /// what a register of a meter shows at a second
+    Shown(MeterId, Register, u32, u64),
+    /// cents of an account under a reference, paid at the new year
+    Paid(&'static [u8], AccountId, u32),
+    /// the withdrawal of such an owner
+    OwnerWithdrawn(MeterId, u32, Owner),
+    /// the withdrawal of what a register of a meter shows at a second
+    ReadingWithdrawn(MeterId, Register, u32, u64),
+    /// the withdrawal of such cents
+    PaymentWithdrawn(&'static [u8], AccountId, u32),
+}
+
+/// The entry of what is told, if there is such a one.
+pub fn entry_of(sent: Sent) -> Option<Entry> {
+    match sent {
+        Sent::Given(meter, second, owner) => given(meter, second, owner),
+        Sent::Shown(meter, register, second, watt_hours) => {
+            shown(meter, register, second, watt_hours)
+        }
+        Sent::Paid(reference, account, cents) => paid(reference, account, cents),
+        Sent::OwnerWithdrawn(meter, second, owner) => withdrawn(given(meter, second, owner)),
+        Sent::ReadingWithdrawn(meter, register, second, watt_hours) => {
+            withdrawn(shown(meter, register, second, watt_hours))
+        }
+        Sent::PaymentWithdrawn(reference, account, cents) => {
+            withdrawn(paid(reference, account, cents))
+        }
+    }
+}
+
 /// A reading.
-pub fn shown(meter: MeterId, register: Register, instant: Instant, wh: WattHours) -> Entry {
-    Entry {
+pub fn shown(meter: MeterId, register: Register, second: u32, watt_hours: u64) -> Option<Entry> {
+    let instant = Instant::of(second)?;
+    let wh = WattHours::of(watt_hours)?;
+    Some(Entry {
         key: Key::Reading {
             meter,
             register,
             instant,
         },
         content: Content::Reading { wh },
-    }
+    })
 }
 
 /// An assignment.
-pub fn given(meter: MeterId, start: Instant, owner: Owner) -> Entry {
-    Entry {
+pub fn given(meter: MeterId, second: u32, owner: Owner) -> Option<Entry> {
+    let start = Instant::of(second)?;
+    Some(Entry {
         key: Key::Assignment { meter, start },
         content: Content::Assignment { owner },
-    }
+    })
 }
 
 /// A top-up.
-pub fn paid(reference: Reference, account: AccountId, cents: u32, instant: Instant) -> Entry {
-    Entry {
+pub fn paid(reference: &[u8], account: AccountId, cents: u32) -> Option<Entry> {
+    let reference = Reference::of(reference)?;
+    let instant = Instant::of(NEW_YEAR)?;
+    Some(Entry {
         key: Key::TopUp { reference },
         content: Content::TopUp {
             account,
             cents,
             instant,
         },
+    })
+}
+
+/// The withdrawal of a record, if there is one, and it can be named.
+pub fn withdrawn(record: Option<Entry>) -> Option<Entry> {
+    match record {
+        Some(record) => withdrawal_of(&record),
+        None => None,
     }
+}
+
+fn withdrawal_of(record: &Entry) -> Option<Entry> {
+    let named = Named::of(record)?;
+    Some(Entry {
+        key: Key::Withdrawal { named },
+        content: Content::Withdrawal,
+    })
 }

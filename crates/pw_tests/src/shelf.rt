@@ -1,13 +1,14 @@
-//! Each call over the trait's bound with ample memory, and what stays where memory is refused.
+//! Each call over the trait's bound with ample memory, and what stays where memory is refused. What a store is told and
+//! asked stands in tables.
 
 ghost use Rattle.std.specs.Prelude.{◌≡◌, ◌<◌, None, IsErrOf, IsSome, IsTrue, OnErr, OnOk, length};
 ghost use Rattle.pw_shelf.specs.declared.fault.ShelfFault.TheVariants.{Device};
 
-use crate::entries::{assigned, at, exported, paid, reading, shown, wh, withdrawn};
+use crate::entries::{Sent, at, entries_of, entry_of, wh};
 use crate::new_books::holds_of_failing;
 use crate::sample::{FIRST, FIVE, METER, SECOND, SEVEN, SIX, are_of_office};
 use pw_book::{Book, PostFault};
-use pw_model::{Entry, Key};
+use pw_model::Entry;
 use pw_obis::{Register, WattHours};
 use pw_shelf::laws::memory_abandons;
 use pw_shelf::{Contents, CountShelf, MemoryShelf, Shelf, ShelfFault, TotalKey};
@@ -16,9 +17,73 @@ use pw_time::Instant;
 use std::alloc::Global;
 use std::process::Abort;
 
+const OTHER: MeterId = MeterId(1);
+
 const TOPUPS: TotalKey = TotalKey::TopUps {
     account: AccountId(0),
 };
+
+// A list of records: of a register of the first meter, of a meter, of all payments, or of all withdrawals.
+#[derive(Clone, Copy)]
+enum List {
+    Readings(Register),
+    Assignments(MeterId),
+    TopUps,
+    Withdrawals,
+}
+
+// A second and watt-hours.
+type Point = (u32, u64);
+
+// What is told of the first meter's points, of starts, and of the total: the latest point before a second, the earliest
+// behind one, those from one second to another, a meter's starts, and cents.
+#[derive(Clone, Copy)]
+enum Part {
+    Before(u32, Option<Point>),
+    Behind(u32, Option<Point>),
+    Between(u32, u32, &'static [Point]),
+    Starts(MeterId, &'static [(u32, Owner)]),
+    Total(u64),
+}
+
+// What is told of records: whether one is held, whether none has its key, it alone or several, how many there are, and
+// lists of them; and of the parts.
+#[derive(Clone, Copy)]
+enum Answer {
+    Held(Sent, bool),
+    Nothing(Sent),
+    Alone(Sent),
+    Several(Sent),
+    Count(u32),
+    Listed(List, &'static [Sent]),
+    Of(Part),
+}
+
+// A change of the first meter's points or starts, or of the total.
+#[derive(Clone, Copy)]
+enum Change {
+    Point(Register, u32, u64),
+    NoPoint(u32),
+    Start(u32, Owner),
+    NoStart(u32),
+    Total(u32),
+}
+
+// What stands in an upload: a record that is new, a change, or questions.
+#[derive(Clone, Copy)]
+enum Call {
+    Added(Sent),
+    Changed(Change),
+    Told(&'static [Answer]),
+}
+
+// An upload that is kept, one that is given up, or questions between uploads.
+#[derive(Clone, Copy)]
+enum Stage {
+    Uploaded(&'static [Call]),
+    GivenUp(&'static [Call]),
+    Told(&'static [Answer]),
+}
 
 // Whether an upload is begun. (What is told of calls here is what the next one asks: proofs of chains cost less so.)
 fn begins<S: Shelf>(shelf: &mut S) -> bool
@@ -44,13 +109,6 @@ fn abandons<S: Shelf>(shelf: &mut S) -> bool
     shelf.abandon().is_ok()
 }
 
-// Whether so many records are held.
-fn counts<S: Shelf>(shelf: &mut S, wanted: u32) -> bool
-    ensures { (S.state shelf.new).begun ≡ (S.state shelf.old).begun }
-{
-    shelf.count() == Ok(wanted)
-}
-
 // Adds a record to the upload, and answers whether it was new and there was room.
 fn put<S: Shelf>(shelf: &mut S, entry: &Entry) -> bool
     requires { IsSome (S.state shelf.old).begun }
@@ -65,29 +123,19 @@ fn put<S: Shelf>(shelf: &mut S, entry: &Entry) -> bool
     }
 }
 
-// Whether two records are new in an upload of their own.
-fn uploaded<S: Shelf>(shelf: &mut S, first: &Entry, second: &Entry) -> bool
-    requires { (S.state shelf.old).begun ≡ None }
-    ensures { IsTrue result → (S.state shelf.new).begun ≡ None }
-{
-    begins(shelf) && put(shelf, first) && put(shelf, second) && commits(shelf)
-}
-
-// Whether a second content at a key is seen within an upload. It is gone behind it.
-fn disputed<S: Shelf>(shelf: &mut S, other: &Entry) -> bool
-    requires { (S.state shelf.old).begun ≡ None }
-    ensures { IsTrue result → (S.state shelf.new).begun ≡ None }
-{
-    begins(shelf)
-        && put(shelf, other)
-        && contents_are(shelf, &other.key, Contents::Several)
-        && abandons(shelf)
-}
-
-fn contents_are<S: Shelf>(shelf: &mut S, key: &Key, wanted: Contents) -> bool
+fn apply<S: Shelf>(rt: &impl Abort, shelf: &mut S, change: Change) -> Result<(), ShelfFault>
+    requires { IsSome (S.state shelf.old).begun }
     ensures { (S.state shelf.new).begun ≡ (S.state shelf.old).begun }
 {
-    shelf.contents_at(key) == Ok(wanted)
+    match change {
+        Change::Point(register, second, watt_hours) => {
+            shelf.point_put(METER, register, at(rt, second), wh(rt, watt_hours))
+        }
+        Change::NoPoint(second) => shelf.point_del(METER, Register::I1, at(rt, second)),
+        Change::Start(second, owner) => shelf.start_put(METER, at(rt, second), owner),
+        Change::NoStart(second) => shelf.start_del(METER, at(rt, second)),
+        Change::Total(cents) => shelf.total_put(&TOPUPS, u64::from(cents)),
+    }
 }
 
 // Whether the call listed just these.
@@ -98,65 +146,226 @@ fn lists<T: PartialEq + Drop>(found: Result<Vec<T>, ShelfFault>, wanted: &[T]) -
     }
 }
 
-fn is_held<S: Shelf>(shelf: &mut S, entry: &Entry) -> bool
-    ensures { (S.state shelf.new).begun ≡ (S.state shelf.old).begun }
-{
-    shelf.holds(entry) == Ok(true)
+fn point_of(rt: &impl Abort, (second, watt_hours): Point) -> (Instant, WattHours) {
+    (at(rt, second), wh(rt, watt_hours))
 }
 
-fn found_at<S: Shelf>(shelf: &mut S, entry: &Entry) -> bool {
-    is_held(shelf, entry) && contents_are(shelf, &entry.key, Contents::One(entry.content))
-}
-
-fn never_at<S: Shelf>(shelf: &mut S, entry: &Entry) -> bool
-    ensures { (S.state shelf.new).begun ≡ (S.state shelf.old).begun }
-{
-    shelf.holds(entry) == Ok(false) && contents_are(shelf, &entry.key, Contents::Nothing)
-}
-
-// All readings of the register, the assignment of the meter and all top-ups, sorted.
-fn listed<S: Shelf>(
-    alloc: Global,
-    shelf: &mut S,
-    readings: &[Entry],
-    owner: &Entry,
-    topups: &[Entry],
+// Whether a call found this point, or none.
+fn finds(
+    rt: &impl Abort,
+    found: Result<Option<(Instant, WattHours)>, ShelfFault>,
+    wanted: Option<Point>,
 ) -> bool {
-    lists(shelf.readings_of(alloc, METER, Register::I1), readings)
-        && lists(shelf.assignments_of(alloc, METER), &[*owner])
-        && lists(shelf.topups(alloc), topups)
+    match wanted {
+        Some(point) => found == Ok(Some(point_of(rt, point))),
+        None => found == Ok(None),
+    }
 }
 
-fn unlisted<S: Shelf>(alloc: Global, shelf: &mut S) -> bool {
-    lists(shelf.readings_of(alloc, METER, Register::E0), &[])
-        && lists(shelf.assignments_of(alloc, MeterId(1)), &[])
+fn points_of(rt: &impl Abort, alloc: Global, points: &[Point]) -> Vec<(Instant, WattHours)> {
+    let mut list = Vec::new(alloc);
+    for point in points {
+        list.push(point_of(rt, *point)).expect(rt, "memory");
+    }
+    list
 }
 
-// Two readings of the first register.
-fn two_readings(rt: &impl Abort) -> [Entry; 2] {
-    [reading(rt, FIVE, 1_000_000), reading(rt, SIX, 1_001_000)]
+fn starts_of(rt: &impl Abort, alloc: Global, starts: &[(u32, Owner)]) -> Vec<(Instant, Owner)> {
+    let mut list = Vec::new(alloc);
+    for (second, owner) in starts {
+        list.push((at(rt, *second), *owner)).expect(rt, "memory");
+    }
+    list
 }
 
-fn two_topups(rt: &impl Abort) -> [Entry; 2] {
-    [
-        paid(rt, b"P1", FIRST, 2_000),
-        paid(rt, b"P10", FIRST, 5_000),
-    ]
+fn listed<S: Shelf>(alloc: Global, shelf: &mut S, list: List) -> Result<Vec<Entry>, ShelfFault>
+    ensures { (S.state shelf.new).begun ≡ (S.state shelf.old).begun }
+{
+    match list {
+        List::Readings(register) => shelf.readings_of(alloc, METER, register),
+        List::Assignments(meter) => shelf.assignments_of(alloc, meter),
+        List::TopUps => shelf.topups(alloc),
+        List::Withdrawals => shelf.withdrawals(alloc),
+    }
 }
 
-// Six records in three uploads.
-fn three_uploads<S: Shelf>(rt: &impl Abort, shelf: &mut S) -> bool
+// Whether this is told of a part.
+fn is_part<S: Shelf>(rt: &impl Abort, alloc: Global, shelf: &mut S, part: Part) -> bool
+    ensures { (S.state shelf.new).begun ≡ (S.state shelf.old).begun }
+{
+    match part {
+        Part::Before(second, wanted) => {
+            finds(
+                rt,
+                shelf.point_before(METER, Register::I1, at(rt, second)),
+                wanted,
+            )
+        }
+        Part::Behind(second, wanted) => {
+            finds(
+                rt,
+                shelf.point_after(METER, Register::I1, at(rt, second)),
+                wanted,
+            )
+        }
+        Part::Between(from, to, wanted) => {
+            let found = shelf.points_between(alloc, METER, Register::I1, at(rt, from), at(rt, to));
+            lists(found, &points_of(rt, alloc, wanted))
+        }
+        Part::Starts(meter, wanted) => {
+            lists(shelf.starts_of(alloc, meter), &starts_of(rt, alloc, wanted))
+        }
+        Part::Total(cents) => shelf.total(&TOPUPS) == Ok(cents),
+    }
+}
+
+fn is_count<S: Shelf>(shelf: &mut S, wanted: u32) -> bool
+    ensures { (S.state shelf.new).begun ≡ (S.state shelf.old).begun }
+{
+    shelf.count() == Ok(wanted)
+}
+
+// Whether the key of a record has these contents.
+fn contents_are<S: Shelf>(shelf: &mut S, entry: &Entry, wanted: Contents) -> bool
+    ensures { (S.state shelf.new).begun ≡ (S.state shelf.old).begun }
+{
+    shelf.contents_at(&entry.key) == Ok(wanted)
+}
+
+// Whether a question is answered so.
+fn is_told<S: Shelf>(rt: &impl Abort, alloc: Global, shelf: &mut S, answer: Answer) -> bool
+    ensures { (S.state shelf.new).begun ≡ (S.state shelf.old).begun }
+{
+    match answer {
+        Answer::Held(sent, is_held) => shelf.holds(&entry_of(rt, sent)) == Ok(is_held),
+        Answer::Nothing(sent) => contents_are(shelf, &entry_of(rt, sent), Contents::Nothing),
+        Answer::Alone(sent) => {
+            let entry = entry_of(rt, sent);
+            contents_are(shelf, &entry, Contents::One(entry.content))
+        }
+        Answer::Several(sent) => contents_are(shelf, &entry_of(rt, sent), Contents::Several),
+        Answer::Count(wanted) => is_count(shelf, wanted),
+        Answer::Listed(list, wanted) => {
+            lists(listed(alloc, shelf, list), &entries_of(rt, alloc, wanted))
+        }
+        Answer::Of(part) => is_part(rt, alloc, shelf, part),
+    }
+}
+
+fn are_told<S: Shelf>(rt: &impl Abort, alloc: Global, shelf: &mut S, answers: &[Answer]) -> bool
+    ensures { (S.state shelf.new).begun ≡ (S.state shelf.old).begun }
+{
+    for answer in answers {
+        if !is_told(rt, alloc, shelf, *answer) {
+            return false;
+        }
+    }
+    true
+}
+
+// Whether a call in the upload that is begun does what it should.
+fn is_done<S: Shelf>(rt: &impl Abort, alloc: Global, shelf: &mut S, call: Call) -> bool
+    requires { IsSome (S.state shelf.old).begun }
+    ensures { (S.state shelf.new).begun ≡ (S.state shelf.old).begun }
+{
+    match call {
+        Call::Added(sent) => put(shelf, &entry_of(rt, sent)),
+        Call::Changed(change) => apply(rt, shelf, change).is_ok(),
+        Call::Told(answers) => are_told(rt, alloc, shelf, answers),
+    }
+}
+
+fn are_done<S: Shelf>(rt: &impl Abort, alloc: Global, shelf: &mut S, calls: &[Call]) -> bool
+    requires { IsSome (S.state shelf.old).begun }
+    ensures { (S.state shelf.new).begun ≡ (S.state shelf.old).begun }
+{
+    for call in calls {
+        if !is_done(rt, alloc, shelf, *call) {
+            return false;
+        }
+    }
+    true
+}
+
+fn is_passed<S: Shelf>(rt: &impl Abort, alloc: Global, shelf: &mut S, stage: Stage) -> bool
     requires { (S.state shelf.old).begun ≡ None }
     ensures { IsTrue result → (S.state shelf.new).begun ≡ None }
 {
-    let [early, late] = two_readings(rt);
-    let [first, second] = two_topups(rt);
-    let owner = assigned(rt, FIVE, Some(SECOND));
-    let other = shown(rt, METER, Register::I2, FIVE, 7);
-    uploaded(shelf, &second, &late)
-        && uploaded(shelf, &owner, &early)
-        && uploaded(shelf, &first, &other)
+    match stage {
+        Stage::Uploaded(calls) => {
+            begins(shelf) && are_done(rt, alloc, shelf, calls) && commits(shelf)
+        }
+        Stage::GivenUp(calls) => {
+            begins(shelf) && are_done(rt, alloc, shelf, calls) && abandons(shelf)
+        }
+        Stage::Told(answers) => are_told(rt, alloc, shelf, answers),
+    }
 }
+
+// Whether a store passes all stages.
+fn passes<S: Shelf>(rt: &impl Abort, alloc: Global, shelf: &mut S, stages: &[Stage]) -> bool
+    requires { (S.state shelf.old).begun ≡ None }
+    ensures { IsTrue result → (S.state shelf.new).begun ≡ None }
+{
+    for stage in stages {
+        if !is_passed(rt, alloc, shelf, *stage) {
+            return false;
+        }
+    }
+    true
+}
+
+// Whether a new store in memory passes them.
+fn passes_in_memory(rt: &impl Abort, alloc: Global, stages: &[Stage]) -> bool {
+    passes(rt, alloc, &mut MemoryShelf::new(alloc), stages)
+}
+
+// Two readings of the first register, an owner and two payments.
+const EARLY: Sent = Sent::Shown(METER, Register::I1, FIVE, 1_000_000);
+
+const LATE: Sent = Sent::Shown(METER, Register::I1, SIX, 1_001_000);
+
+const OWNER: Sent = Sent::Given(METER, FIVE, Some(SECOND));
+
+const PAYMENT: Sent = Sent::Paid(b"P1", FIRST, 2_000);
+
+const PAYMENT_BEHIND: Sent = Sent::Paid(b"P10", FIRST, 5_000);
+
+// Another content at the key of the first.
+const BESIDE: Sent = Sent::Shown(METER, Register::I1, FIVE, 1_000_500);
+
+const OTHER_REGISTER: Sent = Sent::Shown(METER, Register::I2, FIVE, 7);
+
+const EXPORTED: Sent = Sent::Shown(METER, Register::E1, FIVE, 1);
+
+const NEVER: Sent = Sent::Given(METER, SIX, Some(FIRST));
+
+// Six records in three uploads, and a second content of a key, which is seen within an upload, and gone behind it.
+const RECORDS: [Stage; 4] = [
+    Stage::Uploaded(&[Call::Added(PAYMENT_BEHIND), Call::Added(LATE)]),
+    Stage::Uploaded(&[Call::Added(OWNER), Call::Added(EARLY)]),
+    Stage::Uploaded(&[Call::Added(PAYMENT), Call::Added(OTHER_REGISTER)]),
+    Stage::GivenUp(&[Call::Added(BESIDE), Call::Told(&[Answer::Several(BESIDE)])]),
+];
+
+// A record that is new in an upload of its own, and isn't in the next, which adds nothing; and each question, answered
+// by the six records and this one.
+const SEVENTH: [Stage; 3] = [
+    Stage::Uploaded(&[Call::Added(EXPORTED)]),
+    Stage::Uploaded(&[Call::Told(&[Answer::Held(EXPORTED, true)])]),
+    Stage::Told(&[
+        Answer::Held(EARLY, true),
+        Answer::Alone(EARLY),
+        Answer::Held(NEVER, false),
+        Answer::Nothing(NEVER),
+        Answer::Listed(List::Readings(Register::I1), &[EARLY, LATE]),
+        Answer::Listed(List::Assignments(METER), &[OWNER]),
+        Answer::Listed(List::TopUps, &[PAYMENT, PAYMENT_BEHIND]),
+        Answer::Listed(List::Readings(Register::E0), &[]),
+        Answer::Listed(List::Assignments(OTHER), &[]),
+        Answer::Count(7),
+    ]),
+];
 
 // An upload of nothing, which is given up.
 fn begun_and_given_up(shelf: &mut MemoryShelf) -> Result<(), ShelfFault>
@@ -167,44 +376,12 @@ fn begun_and_given_up(shelf: &mut MemoryShelf) -> Result<(), ShelfFault>
     memory_abandons(shelf)
 }
 
-// Whether a record is new in an upload of its own, and isn't in the next, which adds nothing.
-fn added_once<S: Shelf>(shelf: &mut S, entry: &Entry) -> bool
-    requires { (S.state shelf.old).begun ≡ None }
-{
-    begins(shelf)
-        && put(shelf, entry)
-        && commits(shelf)
-        && begins(shelf)
-        && is_held(shelf, entry)
-        && commits(shelf)
-}
-
-// Whether each question is answered by the six records, and one of another register.
-fn seven_told<S: Shelf>(rt: &impl Abort, alloc: Global, shelf: &mut S) -> bool {
-    let readings = two_readings(rt);
-    let owner = assigned(rt, FIVE, Some(SECOND));
-    found_at(shelf, &reading(rt, FIVE, 1_000_000))
-        && never_at(shelf, &assigned(rt, SIX, Some(FIRST)))
-        && listed(alloc, shelf, &readings, &owner, &two_topups(rt))
-        && unlisted(alloc, shelf)
-        && counts(shelf, 7)
-}
-
-// Whether records are held behind three uploads, and the second content of a key isn't behind a fourth.
-fn records_kept<S: Shelf>(rt: &impl Abort, shelf: &mut S) -> bool
-    requires { (S.state shelf.old).begun ≡ None }
-    ensures { IsTrue result → (S.state shelf.new).begun ≡ None }
-{
-    three_uploads(rt, shelf) && disputed(shelf, &reading(rt, FIVE, 1_000_500))
-}
-
 fn calls_answered(rt: &impl Abort, alloc: Global, mut shelf: MemoryShelf) -> bool
     requires { (⟦<MemoryShelf as Shelf>⟧.state shelf).begun ≡ None }
 {
-    records_kept(rt, &mut shelf)
+    passes(rt, alloc, &mut shelf, &RECORDS)
         && begun_and_given_up(&mut shelf).is_ok()
-        && added_once(&mut shelf, &exported(rt, FIVE, 1))
-        && seven_told(rt, alloc, &mut shelf)
+        && passes(rt, alloc, &mut shelf, &SEVENTH)
 }
 
 // bears on: pw_shelf laws.rt memory_abandons ended
@@ -243,38 +420,38 @@ fn each_call(rt: HostRuntime) {
 }
 
 // The withdrawals of a reading, of an assignment and of a payment, none of which is held, in their order.
-fn three_withdrawals(rt: &impl Abort) -> [Entry; 3] {
-    [
-        withdrawn(rt, &reading(rt, SIX, 1_000_000)),
-        withdrawn(rt, &assigned(rt, FIVE, None)),
-        withdrawn(rt, &paid(rt, b"P1", FIRST, 2_000)),
-    ]
-}
+const NO_READING: Sent = Sent::ReadingWithdrawn(METER, Register::I1, SIX, 1_000_000);
 
-// Whether withdrawals are listed in their order, which isn't the one in which they come; and a payment isn't among them.
-fn withdrawals_kept<S: Shelf + Drop>(rt: &impl Abort, alloc: Global, mut shelf: S) -> bool
-    requires { (S.state shelf).begun ≡ None }
-{
-    let [first, second, third] = three_withdrawals(rt);
-    let payment = paid(rt, b"P2", FIRST, 5_000);
-    uploaded(&mut shelf, &third, &payment)
-        && uploaded(&mut shelf, &second, &first)
-        && lists(shelf.withdrawals(alloc), &[first, second, third])
-        && lists(shelf.topups(alloc), &[payment])
-}
+const NO_OWNER: Sent = Sent::OwnerWithdrawn(METER, FIVE, None);
+
+const NO_PAYMENT: Sent = Sent::PaymentWithdrawn(b"P1", FIRST, 2_000);
+
+const OTHER_PAYMENT: Sent = Sent::Paid(b"P2", FIRST, 5_000);
+
+// Withdrawals are listed in their order, which isn't the one in which they come; and a payment isn't among them.
+const WITHDRAWALS: [Stage; 3] = [
+    Stage::Uploaded(&[Call::Added(NO_PAYMENT), Call::Added(OTHER_PAYMENT)]),
+    Stage::Uploaded(&[Call::Added(NO_OWNER), Call::Added(NO_READING)]),
+    Stage::Told(&[
+        Answer::Listed(List::Withdrawals, &[NO_READING, NO_OWNER, NO_PAYMENT]),
+        Answer::Listed(List::TopUps, &[OTHER_PAYMENT]),
+    ]),
+];
 
 // bears on: pw_shelf shelf.rt Shelf::withdrawals memory
 // bears on: pw_shelf shelf.rt Shelf::withdrawals rows
 #[test]
 fn withdrawals_in_their_order(rt: HostRuntime) {
-    assert!(rt; withdrawals_kept(&rt, rt.alloc(), MemoryShelf::new(rt.alloc())));
+    assert!(rt; passes_in_memory(&rt, rt.alloc(), &WITHDRAWALS));
 }
 
 // Whether so many records are held, and not this one.
 fn is_as_before<S: Shelf>(shelf: &mut S, entry: &Entry, before: u32) -> bool
     ensures { (S.state shelf.new).begun ≡ (S.state shelf.old).begun }
 {
-    counts(shelf, before) && never_at(shelf, entry)
+    is_count(shelf, before)
+        && shelf.holds(entry) == Ok(false)
+        && contents_are(shelf, entry, Contents::Nothing)
 }
 
 // Whether a new record is added, or the content is as before where memory was refused.
@@ -295,7 +472,7 @@ fn added_to<S: Shelf>(shelf: &mut S, entry: &Entry, before: u32) -> bool
     ensures { IsTrue result → (S.state shelf.new).begun ≡ None }
 {
     match add_alone(shelf, entry) {
-        Ok(()) => counts(shelf, before + 1),
+        Ok(()) => is_count(shelf, before + 1),
         Err(ShelfFault::Memory) => is_as_before(shelf, entry, before),
         Err(ShelfFault::Device) => false,
     }
@@ -340,21 +517,30 @@ fn is_one_or_refused(found: Result<Vec<Entry>, ShelfFault>) -> bool {
 // Whether each list has at most one record, and as many records are held behind them.
 fn lists_change_nothing<S: Shelf>(alloc: Global, shelf: &mut S) -> bool {
     let before = shelf.count();
-    is_one_or_refused(shelf.topups(alloc))
-        && is_one_or_refused(shelf.withdrawals(alloc))
-        && is_one_or_refused(shelf.readings_of(alloc, METER, Register::I1))
-        && is_one_or_refused(shelf.assignments_of(alloc, METER))
-        && before.is_ok()
-        && shelf.count() == before
+    let lists = [
+        List::TopUps,
+        List::Withdrawals,
+        List::Readings(Register::I1),
+        List::Assignments(METER),
+    ];
+    for list in lists {
+        if !is_one_or_refused(listed(alloc, shelf, list)) {
+            return false;
+        }
+    }
+    before.is_ok() && shelf.count() == before
 }
 
 fn nothing_changed<S: Shelf + Drop>(rt: &impl Abort, alloc: Global, mut shelf: S) -> bool
     requires { (S.state shelf).begun ≡ None }
 {
-    added_or_refused(&mut shelf, &reading(rt, FIVE, 1_000_000))
-        && added_or_refused(&mut shelf, &assigned(rt, FIVE, Some(SECOND)))
-        && added_or_refused(&mut shelf, &paid(rt, b"P1", FIRST, 2_000))
-        && added_or_refused(&mut shelf, &withdrawn(rt, &paid(rt, b"P2", FIRST, 2_000)))
+    added_or_refused(&mut shelf, &entry_of(rt, EARLY))
+        && added_or_refused(&mut shelf, &entry_of(rt, OWNER))
+        && added_or_refused(&mut shelf, &entry_of(rt, PAYMENT))
+        && added_or_refused(
+            &mut shelf,
+            &entry_of(rt, Sent::PaymentWithdrawn(b"P2", FIRST, 2_000)),
+        )
         && lists_change_nothing(alloc, &mut shelf)
 }
 
@@ -364,162 +550,50 @@ fn refused_memory_changes_nothing(rt: HostRuntime) {
     assert!(rt; nothing_changed(&rt, rt.alloc(), MemoryShelf::new(rt.alloc())));
 }
 
-// A change of the first meter's points or starts, or of the total.
-#[derive(Clone, Copy)]
-enum Change {
-    Point(Register, u32, u64),
-    NoPoint(u32),
-    Start(u32, Owner),
-    NoStart(u32),
-    Total(u32),
-}
-
 // Two points of a register, two starts of a meter and a total.
-const KEPT: [Change; 7] = [
-    Change::Point(Register::I1, FIVE, 7),
-    Change::Point(Register::I1, SIX, 9),
-    Change::Point(Register::I1, FIVE, 8),
-    Change::Point(Register::I2, FIVE, 1),
-    Change::Start(FIVE, Some(SECOND)),
-    Change::Start(SIX, None),
-    Change::Total(2_000),
+const KEPT: Stage = Stage::Uploaded(&[
+    Call::Changed(Change::Point(Register::I1, FIVE, 7)),
+    Call::Changed(Change::Point(Register::I1, SIX, 9)),
+    Call::Changed(Change::Point(Register::I1, FIVE, 8)),
+    Call::Changed(Change::Point(Register::I2, FIVE, 1)),
+    Call::Changed(Change::Start(FIVE, Some(SECOND))),
+    Call::Changed(Change::Start(SIX, None)),
+    Call::Changed(Change::Total(2_000)),
+]);
+
+const BOTH_POINTS: &[Answer] = &[
+    Answer::Of(Part::Before(FIVE, None)),
+    Answer::Of(Part::Behind(FIVE, Some((SIX, 9)))),
+    Answer::Of(Part::Before(SIX, Some((FIVE, 8)))),
+    Answer::Of(Part::Behind(SIX, None)),
+    Answer::Of(Part::Between(FIVE, SIX, &[(FIVE, 8), (SIX, 9)])),
+    Answer::Of(Part::Between(SIX, FIVE, &[])),
 ];
 
-// Some of each part.
-const GIVEN_UP: [Change; 4] = [
-    Change::NoPoint(FIVE),
-    Change::NoPoint(FIVE),
-    Change::NoStart(SIX),
-    Change::Total(0),
+// Both starts, and the total.
+const BOTH_STARTS: &[Answer] = &[
+    Answer::Of(Part::Starts(METER, &[(FIVE, Some(SECOND)), (SIX, None)])),
+    Answer::Of(Part::Starts(OTHER, &[])),
+    Answer::Of(Part::Total(2_000)),
 ];
 
-// Takes the first point and the first start away, each behind another change of it, and a point that is new.
-const TAKEN_AWAY: [Change; 8] = [
-    Change::NoPoint(FIVE),
-    Change::Point(Register::I1, FIVE, 7),
-    Change::NoPoint(FIVE),
-    Change::Point(Register::I1, SEVEN, 10),
-    Change::NoPoint(SEVEN),
-    Change::Start(FIVE, None),
-    Change::NoStart(FIVE),
-    Change::Total(0),
+// Some of each part is taken away in an upload that is given up, and seen as taken away there.
+const GIVEN_BACK: [Stage; 4] = [
+    KEPT,
+    Stage::GivenUp(&[
+        Call::Changed(Change::NoPoint(FIVE)),
+        Call::Changed(Change::NoPoint(FIVE)),
+        Call::Changed(Change::NoStart(SIX)),
+        Call::Changed(Change::Total(0)),
+        Call::Told(&[
+            Answer::Of(Part::Before(SIX, None)),
+            Answer::Of(Part::Behind(SIX, None)),
+            Answer::Of(Part::Total(0)),
+        ]),
+    ]),
+    Stage::Told(BOTH_POINTS),
+    Stage::Told(BOTH_STARTS),
 ];
-
-fn apply<S: Shelf>(rt: &impl Abort, shelf: &mut S, change: Change) -> Result<(), ShelfFault>
-    requires { IsSome (S.state shelf.old).begun }
-    ensures { (S.state shelf.new).begun ≡ (S.state shelf.old).begun }
-{
-    match change {
-        Change::Point(register, second, watt_hours) => {
-            shelf.point_put(METER, register, at(rt, second), wh(rt, watt_hours))
-        }
-        Change::NoPoint(second) => shelf.point_del(METER, Register::I1, at(rt, second)),
-        Change::Start(second, owner) => shelf.start_put(METER, at(rt, second), owner),
-        Change::NoStart(second) => shelf.start_del(METER, at(rt, second)),
-        Change::Total(cents) => shelf.total_put(&TOPUPS, u64::from(cents)),
-    }
-}
-
-// The changes, in the upload that is begun.
-fn changed<S: Shelf>(rt: &impl Abort, shelf: &mut S, changes: &[Change]) -> Result<(), ShelfFault>
-    requires { IsSome (S.state shelf.old).begun }
-    ensures { (S.state shelf.new).begun ≡ (S.state shelf.old).begun }
-{
-    for change in changes {
-        apply(rt, shelf, *change)?;
-    }
-    Ok(())
-}
-
-// The changes, in an upload of their own.
-fn kept<S: Shelf>(rt: &impl Abort, shelf: &mut S, changes: &[Change]) -> Result<(), ShelfFault>
-    requires { (S.state shelf.old).begun ≡ None }
-    ensures { OnOk result ((S.state shelf.new).begun ≡ None) }
-{
-    shelf.begin()?;
-    changed(rt, shelf, changes)?;
-    shelf.commit()
-}
-
-// Whether some of each part is seen as taken away in an upload, which is given up.
-fn given_up<S: Shelf>(rt: &impl Abort, shelf: &mut S) -> bool
-    requires { (S.state shelf.old).begun ≡ None }
-    ensures { IsTrue result → (S.state shelf.new).begun ≡ None }
-{
-    begins(shelf)
-        && changed(rt, shelf, &GIVEN_UP).is_ok()
-        && are_beside(rt, shelf, SIX, None, None)
-        && is_total(shelf, 0)
-        && abandons(shelf)
-}
-
-fn point(rt: &impl Abort, second: u32, watt_hours: u64) -> (Instant, WattHours) {
-    (at(rt, second), wh(rt, watt_hours))
-}
-
-// Whether these points are the latest before the second and the earliest behind it.
-fn are_beside<S: Shelf>(
-    rt: &impl Abort,
-    shelf: &mut S,
-    second: u32,
-    before: Option<(Instant, WattHours)>,
-    behind: Option<(Instant, WattHours)>,
-) -> bool
-    ensures { (S.state shelf.new).begun ≡ (S.state shelf.old).begun }
-{
-    let instant = at(rt, second);
-    shelf.point_before(METER, Register::I1, instant) == Ok(before)
-        && shelf.point_after(METER, Register::I1, instant) == Ok(behind)
-}
-
-// Whether just these points are from one second to another.
-fn are_between<S: Shelf>(
-    rt: &impl Abort,
-    alloc: Global,
-    shelf: &mut S,
-    from: u32,
-    to: u32,
-    wanted: &[(Instant, WattHours)],
-) -> bool
-    ensures { (S.state shelf.new).begun ≡ (S.state shelf.old).begun }
-{
-    let found = shelf.points_between(alloc, METER, Register::I1, at(rt, from), at(rt, to));
-    lists(found, wanted)
-}
-
-fn is_total<S: Shelf>(shelf: &mut S, wanted: u64) -> bool
-    ensures { (S.state shelf.new).begun ≡ (S.state shelf.old).begun }
-{
-    shelf.total(&TOPUPS) == Ok(wanted)
-}
-
-fn points_there<S: Shelf>(rt: &impl Abort, alloc: Global, shelf: &mut S) -> bool
-    ensures { (S.state shelf.new).begun ≡ (S.state shelf.old).begun }
-{
-    let both = [point(rt, FIVE, 8), point(rt, SIX, 9)];
-    are_beside(rt, shelf, FIVE, None, Some(both[1]))
-        && are_beside(rt, shelf, SIX, Some(both[0]), None)
-        && are_between(rt, alloc, shelf, FIVE, SIX, &both)
-        && are_between(rt, alloc, shelf, SIX, FIVE, &[])
-}
-
-fn starts_there<S: Shelf>(rt: &impl Abort, alloc: Global, shelf: &mut S) -> bool
-    ensures { (S.state shelf.new).begun ≡ (S.state shelf.old).begun }
-{
-    let starts = [(at(rt, FIVE), Some(SECOND)), (at(rt, SIX), None)];
-    lists(shelf.starts_of(alloc, METER), &starts)
-        && lists(shelf.starts_of(alloc, MeterId(1)), &[])
-        && is_total(shelf, 2_000)
-}
-
-fn parts_given_back<S: Shelf + Drop>(rt: &impl Abort, alloc: Global, mut shelf: S) -> bool
-    requires { (S.state shelf).begun ≡ None }
-{
-    kept(rt, &mut shelf, &KEPT).is_ok()
-        && given_up(rt, &mut shelf)
-        && points_there(rt, alloc, &mut shelf)
-        && starts_there(rt, alloc, &mut shelf)
-}
 
 // bears on: pw_shelf memory.rt MemoryShelf settled
 // bears on: pw_shelf shelf.rt Shelf::abandon left
@@ -533,50 +607,45 @@ fn parts_given_back<S: Shelf + Drop>(rt: &impl Abort, alloc: Global, mut shelf: 
 // bears on: pw_shelf shelf.rt Shelf::total memory
 #[test]
 fn each_part_kept_and_given_back(rt: HostRuntime) {
-    assert!(rt; parts_given_back(&rt, rt.alloc(), MemoryShelf::new(rt.alloc())));
+    assert!(rt; passes_in_memory(&rt, rt.alloc(), &GIVEN_BACK));
 }
+
+// The first point and the first start are taken away, each behind another change of it, and a point that is new.
+const TAKEN_AWAY: &[Call] = &[
+    Call::Changed(Change::NoPoint(FIVE)),
+    Call::Changed(Change::Point(Register::I1, FIVE, 7)),
+    Call::Changed(Change::NoPoint(FIVE)),
+    Call::Changed(Change::Point(Register::I1, SEVEN, 10)),
+    Call::Changed(Change::NoPoint(SEVEN)),
+    Call::Changed(Change::Start(FIVE, None)),
+    Call::Changed(Change::NoStart(FIVE)),
+    Call::Changed(Change::Total(0)),
+    Call::Told(LATER),
+];
 
 // The second point and the second start alone.
-fn later_there<S: Shelf>(rt: &impl Abort, alloc: Global, shelf: &mut S) -> bool
-    ensures { (S.state shelf.new).begun ≡ (S.state shelf.old).begun }
-{
-    let late = [point(rt, SIX, 9)];
-    are_beside(rt, shelf, FIVE, None, Some(late[0]))
-        && are_beside(rt, shelf, SIX, None, None)
-        && are_between(rt, alloc, shelf, FIVE, SEVEN, &late)
-        && lists(shelf.starts_of(alloc, METER), &[(at(rt, SIX), None)])
-        && is_total(shelf, 0)
-}
+const LATER: &[Answer] = &[
+    Answer::Of(Part::Before(FIVE, None)),
+    Answer::Of(Part::Behind(FIVE, Some((SIX, 9)))),
+    Answer::Of(Part::Before(SIX, None)),
+    Answer::Of(Part::Behind(SIX, None)),
+    Answer::Of(Part::Between(FIVE, SEVEN, &[(SIX, 9)])),
+    Answer::Of(Part::Starts(METER, &[(SIX, None)])),
+    Answer::Of(Part::Total(0)),
+];
 
-// Whether an upload that takes away is seen within it, and gone behind it.
-fn taken_away_and_given_up<S: Shelf>(rt: &impl Abort, alloc: Global, shelf: &mut S) -> bool
-    requires { (S.state shelf.old).begun ≡ None }
-    ensures { IsTrue result → (S.state shelf.new).begun ≡ None }
-{
-    begins(shelf)
-        && changed(rt, shelf, &TAKEN_AWAY).is_ok()
-        && later_there(rt, alloc, shelf)
-        && abandons(shelf)
-        && points_there(rt, alloc, shelf)
-        && starts_there(rt, alloc, shelf)
-}
-
-// Whether an upload of nothing that is given up leaves all as it is.
-fn begun_for_nothing<S: Shelf>(rt: &impl Abort, alloc: Global, shelf: &mut S) -> bool
-    requires { (S.state shelf.old).begun ≡ None }
-{
-    begins(shelf) && abandons(shelf) && later_there(rt, alloc, shelf)
-}
-
-fn removals_hold<S: Shelf + Drop>(rt: &impl Abort, alloc: Global, mut shelf: S) -> bool
-    requires { (S.state shelf).begun ≡ None }
-{
-    kept(rt, &mut shelf, &KEPT).is_ok()
-        && taken_away_and_given_up(rt, alloc, &mut shelf)
-        && kept(rt, &mut shelf, &TAKEN_AWAY).is_ok()
-        && later_there(rt, alloc, &mut shelf)
-        && begun_for_nothing(rt, alloc, &mut shelf)
-}
+// An upload that takes away is seen within it, and gone behind it where it is given up; and one of nothing leaves all
+// as it is.
+const REMOVALS: [Stage; 8] = [
+    KEPT,
+    Stage::GivenUp(TAKEN_AWAY),
+    Stage::Told(BOTH_POINTS),
+    Stage::Told(BOTH_STARTS),
+    Stage::Uploaded(TAKEN_AWAY),
+    Stage::Told(LATER),
+    Stage::GivenUp(&[]),
+    Stage::Told(LATER),
+];
 
 // bears on: pw_shelf shelf.rt Shelf::abandon back
 // bears on: pw_shelf shelf.rt Shelf::commit same
@@ -588,31 +657,35 @@ fn removals_hold<S: Shelf + Drop>(rt: &impl Abort, alloc: Global, mut shelf: S) 
 // bears on: pw_shelf shelf.rt Shelf::start_del memory
 #[test]
 fn removals_hold_where_they_are_committed(rt: HostRuntime) {
-    assert!(rt; removals_hold(&rt, rt.alloc(), MemoryShelf::new(rt.alloc())));
+    assert!(rt; passes_in_memory(&rt, rt.alloc(), &REMOVALS));
 }
 
-// Behind nine calls, two calls that find a row, two that don't, a list of two and an empty one.
-fn rows_of_points_counted<S: Shelf>(
-    rt: &impl Abort,
-    alloc: Global,
-    shelf: &mut CountShelf<S>,
-) -> bool
-    requires { (⟦<CountShelf<S> as Shelf>⟧.state shelf.old).begun ≡ None }
-{
-    kept(rt, shelf, &KEPT).is_ok()
-        && shelf.seen() == 9
-        && points_there(rt, alloc, shelf)
-        && shelf.seen() == 9 + 2 * 2 + 2 + 3 + 1
+// Stages that a store passes, how many calls and rows it has seen behind them, and what the shelf inside it tells.
+type Counted = (&'static [Stage], u64, &'static [Answer]);
+
+fn is_counted(rt: &impl Abort, alloc: Global, (stages, seen, told): Counted) -> bool {
+    let mut shelf = CountShelf::new(MemoryShelf::new(alloc));
+    passes(rt, alloc, &mut shelf, stages)
+        && shelf.seen() == seen
+        && are_told(rt, alloc, &mut shelf.into_inner(), told)
 }
 
-// Whether the calls are counted, and the shelf inside holds what was kept.
-fn counted_and_kept<S: Shelf + Drop>(rt: &impl Abort, alloc: Global, inner: S) -> bool
-    requires { (S.state inner).begun ≡ None }
-{
-    let mut shelf = CountShelf::new(inner);
-    assert!(rt; rows_of_points_counted(rt, alloc, &mut shelf));
-    starts_there(rt, alloc, &mut shelf.into_inner())
+fn are_counted(rt: &impl Abort, alloc: Global, rows: &[Counted]) {
+    for row in rows {
+        assert!(rt; is_counted(rt, alloc, *row));
+    }
 }
+
+// Behind nine calls, two calls that find a row, two that don't, a list of two and an empty one. The shelf inside holds
+// what was kept.
+const POINTS_COUNTED: [Counted; 2] = [
+    (&[KEPT], 9, BOTH_STARTS),
+    (
+        &[KEPT, Stage::Told(BOTH_POINTS)],
+        9 + 2 * 2 + 2 + 3 + 1,
+        BOTH_STARTS,
+    ),
+];
 
 // bears on: pw_shelf count.rt CountShelf::new plan
 // bears on: pw_shelf count.rt CountShelf::seen ensures
@@ -631,7 +704,7 @@ fn counted_and_kept<S: Shelf + Drop>(rt: &impl Abort, alloc: Global, inner: S) -
 // bears on: pw_shelf shelf.rt Shelf::total_put memory
 #[test]
 fn calls_and_rows_counted(rt: HostRuntime) {
-    assert!(rt; counted_and_kept(&rt, rt.alloc(), MemoryShelf::new(rt.alloc())));
+    are_counted(&rt, rt.alloc(), &POINTS_COUNTED);
 }
 
 // Whether the second call fails, and the third where it is to.
@@ -656,81 +729,82 @@ fn fails_where_it_is_told_to(rt: HostRuntime) {
     }
 }
 
-// A record told by each question.
-fn is_told<S: Shelf>(alloc: Global, shelf: &mut S, payment: &Entry) -> bool
-    ensures { (S.state shelf.new).begun ≡ (S.state shelf.old).begun }
-{
-    lists(shelf.topups(alloc), &[*payment])
-        && lists(shelf.withdrawals(alloc), &[])
-        && counts(shelf, 1)
-        && is_held(shelf, payment)
-}
-
-// Whether a record added is told by each question within an upload, and isn't there behind it.
-fn told_within<S: Shelf + Drop>(alloc: Global, mut shelf: S, payment: &Entry) -> bool
-    requires { (S.state shelf).begun ≡ None }
-{
-    begins(&mut shelf)
-        && put(&mut shelf, payment)
-        && is_told(alloc, &mut shelf, payment)
-        && abandons(&mut shelf)
-        && is_as_before(&mut shelf, payment, 0)
-}
+// A record added is told by each question within an upload, and isn't there behind it.
+const TOLD_WITHIN: [Stage; 2] = [
+    Stage::GivenUp(&[
+        Call::Added(PAYMENT),
+        Call::Told(&[
+            Answer::Listed(List::TopUps, &[PAYMENT]),
+            Answer::Listed(List::Withdrawals, &[]),
+            Answer::Count(1),
+            Answer::Held(PAYMENT, true),
+        ]),
+    ]),
+    Stage::Told(&[
+        Answer::Count(0),
+        Answer::Held(PAYMENT, false),
+        Answer::Nothing(PAYMENT),
+    ]),
+];
 
 // bears on: pw_shelf shelf.rt Shelf::count asked
 // bears on: pw_shelf shelf.rt Shelf::topups asked
 // bears on: pw_shelf shelf.rt Shelf::withdrawals asked
 #[test]
 fn questions_within_an_upload(rt: HostRuntime) {
-    let payment = paid(&rt, b"P1", FIRST, 2_000);
-    assert!(rt; told_within(rt.alloc(), MemoryShelf::new(rt.alloc()), &payment));
+    assert!(rt; passes_in_memory(&rt, rt.alloc(), &TOLD_WITHIN));
 }
 
-// Behind eight calls, a call and two rows.
-fn several_counted<S: Shelf>(rt: &impl Abort, shelf: &mut CountShelf<S>) -> bool
-    requires { (⟦<CountShelf<S> as Shelf>⟧.state shelf.old).begun ≡ None }
-{
-    let (one, other) = (reading(rt, FIVE, 1), reading(rt, FIVE, 2));
-    uploaded(shelf, &one, &other)
-        && shelf.seen() == 8
-        && contents_are(shelf, &one.key, Contents::Several)
-        && shelf.seen() == 8 + 3
-}
+const TWO_CONTENTS: Stage = Stage::Uploaded(&[Call::Added(EARLY), Call::Added(BESIDE)]);
 
-// Behind them two calls without a row.
-fn rows_at_keys_counted<S: Shelf + Drop>(rt: &impl Abort, inner: S) -> bool
-    requires { (S.state inner).begun ≡ None }
-{
-    let mut shelf = CountShelf::new(inner);
-    several_counted(rt, &mut shelf)
-        && contents_are(&mut shelf, &reading(rt, SIX, 1).key, Contents::Nothing)
-        && is_total(&mut shelf, 0)
-        && shelf.seen() == 8 + 3 + 2
-}
+// Behind eight calls, a call and two rows, and behind them two calls without a row.
+const KEYS_COUNTED: [Counted; 3] = [
+    (&[TWO_CONTENTS], 8, &[]),
+    (
+        &[TWO_CONTENTS, Stage::Told(&[Answer::Several(EARLY)])],
+        8 + 3,
+        &[],
+    ),
+    (
+        &[
+            TWO_CONTENTS,
+            Stage::Told(&[
+                Answer::Several(EARLY),
+                Answer::Nothing(LATE),
+                Answer::Of(Part::Total(0)),
+            ]),
+        ],
+        8 + 3 + 2,
+        &[],
+    ),
+];
 
 // bears on: pw_shelf shelf.rt Shelf::contents_at asked
 // bears on: pw_shelf shelf.rt Shelf::total asked
 #[test]
 fn rows_at_keys_and_of_totals_counted(rt: HostRuntime) {
-    assert!(rt; rows_at_keys_counted(&rt, MemoryShelf::new(rt.alloc())));
+    are_counted(&rt, rt.alloc(), &KEYS_COUNTED);
 }
 
+const TWO_WITHDRAWALS: Stage = Stage::Uploaded(&[Call::Added(NO_OWNER), Call::Added(NO_READING)]);
+
 // Behind eight calls, a call and a row for each withdrawal.
-fn list_counted<S: Shelf + Drop>(rt: &impl Abort, alloc: Global, inner: S) -> bool
-    requires { (S.state inner).begun ≡ None }
-{
-    let mut shelf = CountShelf::new(inner);
-    let [first, second, _] = three_withdrawals(rt);
-    uploaded(&mut shelf, &second, &first)
-        && shelf.seen() == 8
-        && lists(shelf.withdrawals(alloc), &[first, second])
-        && shelf.seen() == 8 + 3
-}
+const LIST_COUNTED: [Counted; 2] = [
+    (&[TWO_WITHDRAWALS], 8, &[]),
+    (
+        &[
+            TWO_WITHDRAWALS,
+            Stage::Told(&[Answer::Listed(List::Withdrawals, &[NO_READING, NO_OWNER])]),
+        ],
+        8 + 3,
+        &[],
+    ),
+];
 
 // bears on: pw_shelf shelf.rt Shelf::withdrawals asked
 #[test]
 fn rows_of_a_list_counted(rt: HostRuntime) {
-    assert!(rt; list_counted(&rt, rt.alloc(), MemoryShelf::new(rt.alloc())));
+    are_counted(&rt, rt.alloc(), &LIST_COUNTED);
 }
 
 // Whether the first call fails, and the second lists nothing.
@@ -739,15 +813,16 @@ fn fails_once<S: Shelf>(alloc: Global, shelf: &mut S) -> bool {
     refused == Some(ShelfFault::Device) && lists(shelf.readings_of(alloc, METER, Register::I1), &[])
 }
 
+// Whether a store that counts the calls of another does so, where the other fails.
 fn fails_inside<S: Shelf + Drop>(alloc: Global, inner: S) -> bool {
-    let mut shelf = CountShelf::new(CountShelf::failing(inner, 1, false));
-    fails_once(alloc, &mut shelf)
+    fails_once(alloc, &mut CountShelf::new(inner))
 }
 
 // bears on: pw_shelf shelf.rt Shelf::readings_of asked
 #[test]
 fn failure_of_the_store_inside(rt: HostRuntime) {
-    assert!(rt; fails_inside(rt.alloc(), MemoryShelf::new(rt.alloc())));
+    let failing = CountShelf::failing(MemoryShelf::new(rt.alloc()), 1, false);
+    assert!(rt; fails_inside(rt.alloc(), failing));
 }
 
 // Why a book doesn't take an upload of one entry of its office.
@@ -786,7 +861,7 @@ const FAILING: [(u32, bool, Option<PostFault>); 5] = [
 #[test]
 fn posting_with_a_call_that_fails(rt: HostRuntime) {
     let alloc = rt.alloc();
-    let payment = paid(&rt, b"P1", FIRST, 2_000);
+    let payment = entry_of(&rt, PAYMENT);
     for (fail_at, abandon_fails, fault) in FAILING {
         assert!(rt;
             holds_of_failing(

@@ -4,11 +4,12 @@ use super::agreeing::all_agree;
 use super::questions::none_is_answered;
 use super::{Books, InMemory, asking, imported, lengths, money, post, takes};
 use crate::ends::done;
-use crate::entries::{add, assigned, paid, reading, withdrawn};
+use crate::entries::{Sent, add, assigned, entry_of, paid, reading};
 use pw_book::{Book, PostFault};
 use pw_model::Entry;
+use pw_obis::Register;
 use pw_shelf::{CountShelf, Shelf};
-use pw_tests::sample::{FIRST, FIVE, NEW_YEAR, SECOND, SEVEN};
+use pw_tests::sample::{FIRST, FIVE, METER, NEW_YEAR, SECOND, SEVEN};
 use std::alloc::Global;
 use std::process::Abort;
 
@@ -165,7 +166,10 @@ fn assignment_among_1000_disputed(rt: HostRuntime) {
 #[test]
 fn withdrawal_of_a_reading(rt: HostRuntime) {
     let held = rising(&rt, rt.alloc(), MIDDLE, 10);
-    let fresh = withdrawn(&rt, &reading(&rt, MIDDLE, 1_000));
+    let fresh = entry_of(
+        &rt,
+        Sent::ReadingWithdrawn(METER, Register::I1, MIDDLE, 1_000),
+    );
     let cost = cost_of(&rt, rt.alloc(), &held, fresh);
     assert!(rt; 0 < cost && cost <= 68);
 }

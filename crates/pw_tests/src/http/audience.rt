@@ -1,9 +1,9 @@
 //! Who is let in.
 
-use super::books::is_served;
+use super::books::{is_replied, is_served};
 use crate::new_books::holds_in_memory;
 use pw_book::Book;
-use pw_http::{Audience, Origin, Served, converse_with};
+use pw_http::{Audience, Origin};
 use pw_shelf::Shelf;
 use std::alloc::Global;
 
@@ -79,20 +79,6 @@ const NO_PAGE: &[u8] =
 
 const NOT_FOR_THIS_SERVER: &[u8] =
     b"HTTP/1.1 403 Forbidden\r\nContent-Type: text/plain\r\nContent-Length: 20\r\nConnection: close\r\n\r\nnot for this server\n";
-
-// Whether a book serves one request of a stream to an audience, and replies this.
-fn is_replied<S: Shelf>(
-    alloc: Global,
-    book: &mut Book<S>,
-    audience: Audience,
-    stream: &[u8],
-    expected: &[u8],
-) -> bool {
-    let mut reader = stream;
-    let mut text = Vec::new(alloc);
-    let served = converse_with(alloc, book, audience, &mut reader, &mut text);
-    served == Ok(Served { requests: 1 }) && text.as_slice() == expected
-}
 
 // Whether a book replies this to each stream.
 fn are_replied<S: Shelf>(

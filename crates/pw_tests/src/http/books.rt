@@ -1,20 +1,37 @@
 //! Conversations with a book over a store in memory.
 
+use crate::books::book_of;
+use crate::offices::SAMPLE;
 use pw_book::Book;
-use pw_http::{Served, WireFault, converse};
+use pw_http::{Audience, Served, WireFault, converse, converse_with};
 use pw_shelf::Shelf;
 use std::alloc::Global;
+use std::io::{Read, Write};
 
-/// What a book replies to a stream.
-pub(super) fn replies<S: Shelf>(
+/// A conversation with a new book.
+pub(super) fn talk<R: Read, W: Write>(
+    alloc: Global,
+    reader: &mut R,
+    writer: &mut W,
+) -> Result<Served, WireFault> {
+    match book_of(alloc, SAMPLE, 100) {
+        Ok(mut book) => converse(alloc, &mut book, reader, writer),
+        Err(_) => Err(WireFault::Memory),
+    }
+}
+
+/// Whether a book serves one request of a stream to an audience, and replies this.
+pub(super) fn is_replied<S: Shelf>(
     alloc: Global,
     book: &mut Book<S>,
+    audience: Audience,
     stream: &[u8],
-) -> (Result<Served, WireFault>, Vec<u8>) {
+    expected: &[u8],
+) -> bool {
     let mut reader = stream;
     let mut text = Vec::new(alloc);
-    let served = converse(alloc, book, &mut reader, &mut text);
-    (served, text)
+    let served = converse_with(alloc, book, audience, &mut reader, &mut text);
+    served == Ok(Served { requests: 1 }) && text.as_slice() == expected
 }
 
 /// Whether a book serves so many requests of a stream, and replies this.
@@ -25,6 +42,8 @@ pub(super) fn is_served<S: Shelf>(
     requests: u64,
     expected: &[u8],
 ) -> bool {
-    let (served, text) = replies(alloc, book, stream);
+    let mut reader = stream;
+    let mut text = Vec::new(alloc);
+    let served = converse(alloc, book, &mut reader, &mut text);
     served == Ok(Served { requests }) && text.as_slice() == expected
 }

@@ -1,10 +1,10 @@
 //! Streams in pieces, and readers and writers that fail.
 
-use super::books::{is_served, replies};
+use super::books::{is_served, talk};
 use crate::new_books::holds_in_memory;
-use crate::streams::{ByteByByte, Narrow, byte_by_byte};
+use crate::streams::{Narrow, byte_by_byte};
 use pw_book::Book;
-use pw_http::{Served, WireFault, converse, converse_within};
+use pw_http::{Served, WireFault, converse_within};
 use pw_shelf::Shelf;
 use std::alloc::Global;
 use std::io::{self, Read};
@@ -58,28 +58,18 @@ impl<'a> Read for Endless<'a> {
     }
 }
 
-// Whether a reader's requests are served to their end, and replied to so.
-fn is_served_to<S: Shelf, R: Read>(
-    alloc: Global,
-    book: &mut Book<S>,
-    reader: &mut R,
-    expected: (&[u8], u64),
-) -> bool {
+// Whether a new book serves a reader's requests to their end, and replies so.
+fn is_served_to<R: Read>(alloc: Global, reader: &mut R, (replies, requests): (&[u8], u64)) -> bool {
     let mut text = Vec::new(alloc);
-    let served = converse(alloc, book, reader, &mut text);
-    let requests = expected.1;
-    served == Ok(Served { requests }) && text.as_slice() == expected.0
+    let served = talk(alloc, reader, &mut text);
+    served == Ok(Served { requests }) && text.as_slice() == replies
 }
 
 // Whether a new book replies to a stream in two pieces as to one, wherever it is cut.
 fn is_same_in_pieces(alloc: Global, stream: &[u8], expected: (&[u8], u64)) -> bool {
     for place in 0..stream.len() {
         let (first, second) = stream.split_at(place);
-        let mut reader = TwoPieces { first, second };
-        if !holds_in_memory(
-            alloc,
-            |book| is_served_to(alloc, book, &mut reader, expected),
-        ) {
+        if !is_served_to(alloc, &mut TwoPieces { first, second }, expected) {
             return false;
         }
     }
@@ -103,15 +93,8 @@ fn four_requests_cut_at_every_byte(rt: HostRuntime) {
 // bears on: pw_http conversation.rt serve_within talk
 #[test]
 fn one_byte_a_call(rt: HostRuntime) {
-    let alloc = rt.alloc();
     let mut reader = byte_by_byte(FIRST, 10_000);
-    let expected = (FIRST_REPLIES, 4);
-    assert!(rt;
-        holds_in_memory(
-            alloc,
-            |book| is_served_to(alloc, book, &mut reader, expected)
-        )
-    );
+    assert!(rt; is_served_to(rt.alloc(), &mut reader, (FIRST_REPLIES, 4)));
 }
 
 // Whether a conversation of three turns ends with the third, and leaves nothing in the book's way.
@@ -132,42 +115,32 @@ fn too_many_turns(rt: HostRuntime) {
 }
 
 // Whether a reader without an end is told of behind the most turns that a conversation has.
-fn is_end_told_of_endless<S: Shelf>(alloc: Global, book: &mut Book<S>) -> bool {
+fn is_end_told_of_endless(alloc: Global) -> bool {
     let mut reader = Endless {
         rest: b"",
         calls: 0,
     };
-    let served = converse(alloc, book, &mut reader, &mut io::sink());
+    let served = talk(alloc, &mut reader, &mut io::sink());
     served == Err(WireFault::TooManyTurns) && reader.calls == 16_777_216
 }
 
 // bears on: pw_http books.rt converse talk
 #[test]
 fn most_turns(rt: HostRuntime) {
-    let alloc = rt.alloc();
-    assert!(rt; holds_in_memory(alloc, |book| is_end_told_of_endless(alloc, book)));
+    assert!(rt; is_end_told_of_endless(rt.alloc()));
 }
 
 // Whether a reader that fails behind so many bytes is told of, behind a front of the replies.
-fn is_read_fault_told<S: Shelf>(
-    alloc: Global,
-    book: &mut Book<S>,
-    reader: &mut ByteByByte<'_>,
-    whole: &[u8],
-) -> bool {
+fn is_read_fault_told(alloc: Global, stream: &[u8], left: usize, whole: &[u8]) -> bool {
     let mut text = Vec::new(alloc);
-    let served = converse(alloc, book, reader, &mut text);
+    let served = talk(alloc, &mut byte_by_byte(stream, left), &mut text);
     served == Err(WireFault::Read) && whole.starts_with(&text)
 }
 
 // Whether it is, wherever it fails.
 fn are_read_faults_told(alloc: Global, stream: &[u8], whole: &[u8]) -> bool {
     for left in 0..stream.len() {
-        let mut reader = byte_by_byte(stream, left);
-        if !holds_in_memory(
-            alloc,
-            |book| is_read_fault_told(alloc, book, &mut reader, whole),
-        ) {
+        if !is_read_fault_told(alloc, stream, left, whole) {
             return false;
         }
     }
@@ -191,15 +164,9 @@ fn narrow(alloc: Global, room: usize, fails: bool) -> Narrow {
 }
 
 // Whether a writer that fails behind so many bytes has a front of the replies, and is told of if it isn't whole.
-fn has_front<S: Shelf>(
-    alloc: Global,
-    book: &mut Book<S>,
-    mut stream: &[u8],
-    whole: &[u8],
-    room: usize,
-) -> bool {
+fn has_front(alloc: Global, mut stream: &[u8], whole: &[u8], room: usize) -> bool {
     let mut writer = narrow(alloc, room, true);
-    let served = converse(alloc, book, &mut stream, &mut writer);
+    let served = talk(alloc, &mut stream, &mut writer);
     served.is_ok() == (room == whole.len())
         && writer.text.len() == room
         && whole.starts_with(&writer.text)
@@ -208,7 +175,7 @@ fn has_front<S: Shelf>(
 // Whether it has, wherever it fails.
 fn have_fronts(alloc: Global, stream: &[u8], whole: &[u8]) -> bool {
     for room in 0..whole.len().saturating_add(1) {
-        if !holds_in_memory(alloc, |book| has_front(alloc, book, stream, whole, room)) {
+        if !has_front(alloc, stream, whole, room) {
             return false;
         }
     }
@@ -224,20 +191,15 @@ fn writer_failing_at_each_call(rt: HostRuntime) {
 }
 
 // Whether a writer that takes no byte behind so many is told of.
-fn is_write_fault_told<S: Shelf>(
-    alloc: Global,
-    book: &mut Book<S>,
-    mut stream: &[u8],
-    room: usize,
-) -> bool {
-    let served = converse(alloc, book, &mut stream, &mut narrow(alloc, room, false));
+fn is_write_fault_told(alloc: Global, mut stream: &[u8], room: usize) -> bool {
+    let served = talk(alloc, &mut stream, &mut narrow(alloc, room, false));
     served == Err(WireFault::Write)
 }
 
 // Whether it is, with room for nothing, for one byte, and for all but one.
 fn are_write_faults_told(alloc: Global, stream: &[u8], whole: &[u8]) -> bool {
     for room in [0, 1, whole.len().saturating_sub(1)] {
-        if !holds_in_memory(alloc, |book| is_write_fault_told(alloc, book, stream, room)) {
+        if !is_write_fault_told(alloc, stream, room) {
             return false;
         }
     }
@@ -283,21 +245,16 @@ fn is_front(text: &[u8], whole: &[u8]) -> bool {
 }
 
 // Whether a stream that ends early is served, and replied to by a front of the replies and a refusal, if any.
-fn is_front_replied<S: Shelf>(
-    alloc: Global,
-    book: &mut Book<S>,
-    stream: &[u8],
-    whole: &[u8],
-) -> bool {
-    let (served, text) = replies(alloc, book, stream);
+fn is_front_replied(alloc: Global, mut stream: &[u8], whole: &[u8]) -> bool {
+    let mut text = Vec::new(alloc);
+    let served = talk(alloc, &mut stream, &mut text);
     served.is_ok() && is_front(&text, whole)
 }
 
 // Whether it is, wherever it ends.
 fn are_fronts_replied(alloc: Global, stream: &[u8], whole: &[u8]) -> bool {
     for place in 0..stream.len() {
-        let front = &stream[..place];
-        if !holds_in_memory(alloc, |book| is_front_replied(alloc, book, front, whole)) {
+        if !is_front_replied(alloc, &stream[..place], whole) {
             return false;
         }
     }
