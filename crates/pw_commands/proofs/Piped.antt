@@ -1,5 +1,6 @@
 -- A conversation whose replies were flushed.
 use Rattle.std.proofs.Common.{◌≡◌, ◌∙◌, ap, ℕ, List, Option, Result, Ok, Err, false}
+use Rattle.std.proofs.KnownBytes.{Appends-kept}
 use Rattle.std.specs.Io.KnownBytes.{Keeps}
 use Rattle.pw_model.specs.Shelf.{no_content}
 use Rattle.pw_shelf.specs.declared.memory.MemoryShelf.{MemoryShelf}
@@ -12,7 +13,6 @@ use Rattle.pw_http.specs.declared.fault.WireFault.TheVariants.{Read, Write, TooM
 use Rattle.pw_http.specs.declared.served.Served.{Served}
 use Rattle.pw_http.specs.Headline.{HasHeadline}
 use Rattle.pw_http.specs.Steps.{held}
-use Rattle.pw_http.proofs.KnownLemmas.{Appends-kept}
 use Rattle.pw_commands.specs.Pipe.{IsPiped}
 
 module _ (shelf : Ghosts MemoryShelf) (unread left known after : Option (List ℕ)) (old new : Book MemoryShelf shelf) where
