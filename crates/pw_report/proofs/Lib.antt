@@ -16,6 +16,7 @@ pub mod Held
 pub mod Gathering
 pub mod Runs
 pub mod MonthsThere
+pub mod MonthsFollow
 pub mod MonthAnswers
 pub mod Uploading
 pub mod Texts

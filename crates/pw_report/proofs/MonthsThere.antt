@@ -54,7 +54,7 @@ date-begun y m d h =
     let e = short_year_days y m d h.0 h.1 in
     day-begun (day_number y m d) (omega (arith, ints, e.0)) (omega (arith, ints, e.0, e.1))
 
-begun-bound : (x : ℕ) → IsInstant x → IsBound x
+pub begun-bound : (x : ℕ) → IsInstant x → IsBound x
 begun-bound x i = (i.0, (let l = i.1 in omega (arith, l)))
 
 month-ended : (y m : ℕ) → IsLocalMonth y m → (u : ℕ) × BeginsAt (day_behind_month y m) u × IsBound u

@@ -1,8 +1,9 @@
 -- The laws of these texts. Each is the contract of a function of the module `laws`.
-use Rattle.std.specs.Prelude.{◌≡◌, ℕ, ◌≤◌, cond, List, [], ◌++◌, length, map, ◌⊎◌, ◌↔◌, ℤ, pos, ◌*ℤ◌, ◌+ℤ◌, ◌≤ℤ◌, ◌<ℤ◌}
+use Rattle.std.specs.Prelude.{◌≡◌, ℕ, ◌+◌, ◌≤◌, cond, List, [], ◌++◌, length, map, ◌⊎◌, ◌↔◌, ℤ, pos, ◌*ℤ◌, ◌+ℤ◌, ◌≤ℤ◌, ◌<ℤ◌}
 use Rattle.std.specs.List.{sum_by}
+use Rattle.pw_time.specs.declared.instant.TheConstants.{FIRST_SECOND, END_SECOND}
 use Rattle.pw_tariff.specs.declared.ids.Direction.{Direction}
-use Rattle.pw_tariff.specs.Office.{IsSound, OfficeFile, office_of}
+use Rattle.pw_tariff.specs.Office.{IsSound, OfficeFile, OfficeRules, office_of}
 use Rattle.pw_model.specs.declared.records.Entry.{Entry}
 use Rattle.pw_model.specs.Counting.{Member, SameMembers, contents_at}
 use Rattle.pw_model.specs.Energy.{all_rises}
@@ -16,11 +17,13 @@ use Rattle.pw_record.specs.Rows.{RowsGive}
 use Rattle.pw_record.specs.Uploads.{Upload, Assignments, TopUps, Withdrawals}
 use Rattle.pw_record.specs.declared.row.RowKind.TheVariants.{Assignment, TopUp, Withdrawal}
 use Rattle.pw_book.specs.After.{After, Brings}
+use Rattle.pw_months.specs.Laws.{AreOne}
+use Rattle.pw_report.specs.declared.months.Month.{Month as CalendarMonth}
 use Rattle.pw_report.specs.declared.page.Page.{Page}
 use Rattle.pw_report.specs.declared.page.Page.TheVariants.{Month}
 use Rattle.pw_report.specs.Amounts.{cents_below}
 use Rattle.pw_report.specs.Exports.{energy_rows, records_text}
-use Rattle.pw_report.specs.Months.{IsThere}
+use Rattle.pw_report.specs.Months.{IsSpan, IsThere}
 use Rattle.pw_report.specs.Pages.{IsAnswer, IsOfRow}
 
 -- ---- amounts
@@ -46,6 +49,22 @@ pub record HasOneText (page : Page) (file : OfficeFile) (s : List Entry) : Type 
 
 abbrev pub EachPageHasOneText : Type 0
 EachPageHasOneText = (page : Page) (file : OfficeFile) (s : List Entry) → HasMonth page → HasOneText page file s
+
+-- ---- months one behind another
+-- the second month is the one behind the first
+abbrev pub IsNext : CalendarMonth → CalendarMonth → Type 0
+IsNext m n = ((n.year ≡ m.year) × (n.month ≡ m.month + 1)) ⊎ ((n.year ≡ m.year + 1) × (m.month ≡ 12) × (n.month ≡ 1))
+
+-- the bills of two such months are one bill, and the first of them ends with the balance that the second begins with
+abbrev pub MonthsFollow : Type 0
+MonthsFollow = (office : OfficeRules) (s : List Entry) (a : ℕ) (m n : CalendarMonth) (from until begin end : ℕ) → IsThere n →
+    IsNext m n → IsSpan m from until → IsSpan n begin end → (until ≡ begin) × AreOne office s a from until end
+
+-- so are those of all months: the first begins with the first instant, and the last ends behind the last instant
+pub record MonthsAreAllTime : Type 0 where
+  pub follow : MonthsFollow
+  pub first : (from until : ℕ) → IsSpan (record { year = 2000; month = 1 }) from until → from ≡ FIRST_SECOND
+  pub last : (from until : ℕ) → IsSpan (record { year = 2099; month = 12 }) from until → until ≡ END_SECOND
 
 -- ---- what was exported as an upload
 -- at most 1,000 records of an office, shown as rows below their header, are an upload that gives just these

@@ -3,7 +3,7 @@
 //! Each function does nothing. What counts is its contract, a law of the definitions in `specs/`, which is proved for
 //! all sets of records.
 
-ghost use Rattle.pw_report.specs.Laws.{CentsAreGreatest, EachPageHasOneText, ExportsAreUploads, ExportsMoveBooks, NothingIsLostInExport};
+ghost use Rattle.pw_report.specs.Laws.{CentsAreGreatest, EachPageHasOneText, ExportsAreUploads, ExportsMoveBooks, MonthsAreAllTime, NothingIsLostInExport};
 
 /// The cents of an amount are the greatest whole number of them that isn't above it.
 pub fn cents_are_greatest()
@@ -14,6 +14,12 @@ pub fn cents_are_greatest()
 /// records are listed.
 pub fn each_page_has_one_text()
     ensures { EachPageHasOneText }
+{}
+
+/// The bill of a month ends with the balance that the next month's begins with, and the bills of both are one bill. The first
+/// month begins with the first instant, and the last one ends behind the last instant.
+pub fn months_are_all_time()
+    ensures { MonthsAreAllTime }
 {}
 
 /// What was exported of assignments, of top-ups or of withdrawals can be uploaded: any part of it of at most 1,000 rows below
