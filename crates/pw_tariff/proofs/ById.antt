@@ -1,5 +1,5 @@
 -- Meters in a map by their ids.
-use Rattle.std.proofs.Common.{◌≡◌, ℕ, ◌+◌, ◌<◌, ◌≤◌, Option, Some, None, slice_get, option_map, List, [], length, get_or, string_bytes, Global, Vec, Bool, true, false, refl, sym, ap, subst, ◌∙◌, arith, inl, inr, map, IsSome, IfSome, IfNone}
+use Rattle.std.proofs.Common.{◌≡◌, ℕ, ◌+◌, ◌<◌, Option, Some, None, slice_get, option_map, List, [], length, get_or, string_bytes, Global, Vec, Bool, true, false, refl, sym, ap, subst, ◌∙◌, arith, inl, inr, map, IsSome, IfSome, IfNone}
 use Rattle.std.specs.BTreeMap.{BTreeMap, UpdatesBy, is_at}
 use Rattle.std.specs.Map.{lookup, KeepsOthers, IsKeyTest, AreApart}
 use Rattle.std.specs.Cmp.{eq_by_cmp_equiv}
