@@ -12,10 +12,9 @@ use Rattle.std.proofs.lemmas.Option.{slice_get_read, slice_get_past, slice_get-m
 use Rattle.std.proofs.lemmas.Slice.Eq.{bytes_eq-Decides}
 use Rattle.pw_tariff.specs.declared.ids.MeterId.{MeterId}
 use Rattle.pw_tariff.specs.declared.office.Meter.{Meter}
-use Rattle.pw_tariff.specs.Held.{meter_of}
+use Rattle.pw_tariff.specs.Held.{AreById, AreByIdUpTo, id_at, meter_of, place_of}
 use Rattle.pw_tariff.specs.Office.{MeterText, AreDistinct, ids}
 use Rattle.pw_tariff.proofs.Named.{id-of}
-use Rattle.pw_tariff.specs.inner.Held.{AreById, AreByIdUpTo, id_at, place_of}
 
 abbrev Places : Type 0
 Places = BTreeMap (Vec ℕ Global) MeterId

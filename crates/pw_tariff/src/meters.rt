@@ -4,9 +4,9 @@ ghost use Rattle.std.specs.Prelude.{◌≡◌, ◌&&◌, ◌||◌, ◌≤◌, If
 ghost use Rattle.toml.specs.View.{array_view, table_view};
 ghost use Rattle.pw_tariff.specs.inner.Checks.{IsRefusal};
 ghost use Rattle.pw_tariff.specs.inner.Checks.{Passes};
-ghost use Rattle.pw_tariff.specs.Held.{meter_of};
+ghost use Rattle.pw_tariff.specs.Held.{AreById, meter_of};
 ghost use Rattle.pw_tariff.specs.inner.Held.{table_in};
-ghost use Rattle.pw_tariff.specs.inner.Held.{AreById, ids_of};
+ghost use Rattle.pw_tariff.specs.inner.Held.{ids_of};
 ghost use Rattle.pw_tariff.specs.Office.{has_register, overlap};
 ghost use Rattle.pw_tariff.specs.Text.{id_of, meter_checks, meter_of_table, meters_checks, meters_of_table, register_checks, register_of, registers_checks, registers_in_turn, registers_of, tables_of};
 ghost use Rattle.pw_tariff.specs.inner.Checks.{meters_in_turn};

@@ -66,8 +66,7 @@ impl Drop for Office {
 
 impl Model for Office {
     ghost use Rattle.pw_tariff.specs.Office.{OfficeFile, IsSound};
-    ghost use Rattle.pw_tariff.specs.Held.{file_of};
-    ghost use Rattle.pw_tariff.specs.inner.Held.{AreById};
+    ghost use Rattle.pw_tariff.specs.Held.{AreById, file_of};
 
     ghost Value = { OfficeFile };
 

@@ -1,4 +1,4 @@
-use Rattle.pw_tariff.specs.inner.Held.{AreByIdUpTo}
+use Rattle.pw_tariff.specs.Held.{AreByIdUpTo}
 use Rattle.pw_tariff.proofs.meters.by_id.Given as goal
 
 abbrev pub invariant-loop-i : goal.invariant-loop-i
