@@ -1,5 +1,8 @@
 -- Two texts are the same where they are as long and each pair is.
-use Rattle.std.proofs.Common.{◌≡◌, ℕ, zero, suc, ◌<◌, List, [], ◌∷◌, length, get_or, refl, sym, ap, ◌∙◌, arith}
+use Rattle.std.proofs.Common.{◌≡◌, ℕ, zero, suc, ◌+◌, ◌<◌, ◌≤◌, List, [], ◌∷◌, length, get_or, take, refl, sym, ap, ◌∙◌, arith, inl, inr}
+use Rattle.std.proofs.Math.ListN.{set}
+use Rattle.std.proofs.lemmas.Bool.{cases_eq}
+use Rattle.std.proofs.lemmas.List.{get_or-set_same, get_or-set_other, get_or-take, length-take}
 use Rattle.pw_record.specs.Told.{capital, capitals}
 
 pub capitals-length : (xs : List ℕ) → length (capitals xs) ≡ length xs
@@ -42,3 +45,17 @@ pub alike-at : (xs ys : List ℕ) (i : ℕ) → i < length xs → capitals xs �
 alike-at xs ys i l e =
     let n : length xs ≡ length ys = alike-length xs ys e in
     same-at xs (capitals ys) i l e ∙ capitals-at ys i (omega (arith, l, n))
+
+-- a text in capitals, one byte after another in a room
+pub capital-more : (text room : List ℕ) (i byte : ℕ) → i < length room → byte ≡ capital (get_or text i 0) → ((k : ℕ) → k < i → capital (get_or text k 0) ≡ get_or room k 0)
+    → (k : ℕ) → k < i + 1 → capital (get_or text k 0) ≡ get_or (set room i byte) k 0
+capital-more text room i byte l e h k m =
+    elim (cases_eq k i) [
+      | inl same ↦ rw same (sym e ∙ sym (get_or-set_same room i byte 0 l))
+      | inr apart ↦ h k (omega (arith, m, apart)) ∙ sym (get_or-set_other room i k byte 0 apart)
+    ]
+
+pub capitals-in : (text room : List ℕ) → length text ≤ length room → ((k : ℕ) → k < length text → capital (get_or text k 0) ≡ get_or room k 0) → capitals text ≡ take (length text) room
+capitals-in text room l h =
+    let n : length text ≡ length (take (length text) room) = omega (arith, l, length-take (length text) room) in
+    are-capitals text (take (length text) room) n (λ i m. h i m ∙ sym (get_or-take (length text) room i 0 m))

@@ -5,12 +5,14 @@ ghost use Rattle.pw_obis.specs.Block.{HasSets};
 ghost use Rattle.pw_obis.specs.Line.{SetText};
 ghost use Rattle.pw_record.specs.Names.{HasId, IsUnknownId};
 ghost use Rattle.pw_record.specs.Origin.{HasDateAndTime, HasMeter, HasOrigin, HasStamp, RefusesDateAndTime, RefusesMeter, RefusesOrigin, RefusesStamp, kind_of};
+ghost use Rattle.pw_record.specs.declared.told.Meaning.TheVariants.{Identifier, Stamp};
 ghost use Rattle.pw_record.specs.Told.{capitals};
+ghost use Rattle.pw_record.specs.inner.Told.{AreTelling};
 
 use crate::fault::Cause;
-use crate::told::{Meaning, Told, all_told, is_in_capitals};
+use crate::told::{Meaning, Told, both_told, capital};
 use pw_frame::Kind;
-use pw_tariff::{MeterId, Office};
+use pw_tariff::{LONGEST_METER_ID, MeterId, Office};
 use pw_time::{Clock, Instant, Zone, readout_instant, stamp};
 
 /// Where the frames of a body come from.
@@ -64,22 +66,23 @@ fn telegram_origin(office: &Office, block: &[u8]) -> Result<Origin, Cause>
     ensures ok { IfOk result (λ origin. (sets : List SetText) → HasSets block.now sets None → HasOrigin office.now Source.Telegrams sets origin.meter.0 origin.instant) }
     ensures err { IfErr result (λ cause. (sets : List SetText) → HasSets block.now sets None → RefusesOrigin office.now Source.Telegrams sets cause) }
 {
-    let meter = match telegram_meter(office, block) {
+    let (identifier, stamp) = both_told(block, Meaning::Identifier, Meaning::Stamp);
+    let meter = match telegram_meter(office, identifier) {
         Ok(meter) => meter,
         Err(cause) => return Err(cause),
     };
-    match telegram_instant(block) {
+    match telegram_instant(stamp) {
         Ok(instant) => Ok(Origin { meter, instant }),
         Err(cause) => Err(cause),
     }
 }
 
 /// The meter that the identifiers of a telegram name. Its clock marks its times.
-fn telegram_meter(office: &Office, block: &[u8]) -> Result<MeterId, Cause>
-    ensures ok { IfOk result (λ meter. (sets : List SetText) → HasSets block.now sets None → HasMeter office.now sets meter.0) }
-    ensures err { IfErr result (λ cause. (sets : List SetText) → HasSets block.now sets None → RefusesMeter office.now sets cause) }
+fn telegram_meter(office: &Office, told: Told) -> Result<MeterId, Cause>
+    ensures ok { IfOk result (λ meter. (sets : List SetText) → AreTelling Identifier sets told.entry → HasMeter office.now sets meter.0) }
+    ensures err { IfErr result (λ cause. (sets : List SetText) → AreTelling Identifier sets told.entry → RefusesMeter office.now sets cause) }
 {
-    let identifier = match all_told(block, Meaning::Identifier) {
+    let identifier = match told {
         Told::Nothing => return Err(Cause::NoMeter),
         Told::Unlike => return Err(Cause::TwiceGiven),
         Told::One(identifier) => identifier,
@@ -98,21 +101,24 @@ fn meter_in_capitals(office: &Office, identifier: &[u8]) -> Option<MeterId>
     ensures some { IfSome result (λ meter. HasId office.now (capitals identifier.now) meter.0) }
     ensures none { IfNone result (IsUnknownId office.now (capitals identifier.now)) }
 {
-    for place in 0..office.meters() {
-        let meter = MeterId(place);
-        if is_in_capitals(identifier, office.meter_name(meter).as_bytes()) {
-            return Some(meter);
-        }
+    // No id of an office is longer.
+    let _ = office.meters();
+    if identifier.len() > LONGEST_METER_ID {
+        return None;
     }
-    None
+    let mut id = [0; LONGEST_METER_ID];
+    for (i, byte) in identifier.iter().enumerate() {
+        id[i] = capital(*byte);
+    }
+    office.meter(&id[..identifier.len()])
 }
 
 /// The instant that the stamps of a telegram tell.
-fn telegram_instant(block: &[u8]) -> Result<Instant, Cause>
-    ensures ok { IfOk result (λ instant. (sets : List SetText) → HasSets block.now sets None → HasStamp sets instant) }
-    ensures err { IfErr result (λ cause. (sets : List SetText) → HasSets block.now sets None → RefusesStamp sets cause) }
+fn telegram_instant(told: Told) -> Result<Instant, Cause>
+    ensures ok { IfOk result (λ instant. (sets : List SetText) → AreTelling Stamp sets told.entry → HasStamp sets instant) }
+    ensures err { IfErr result (λ cause. (sets : List SetText) → AreTelling Stamp sets told.entry → RefusesStamp sets cause) }
 {
-    let text = match all_told(block, Meaning::Stamp) {
+    let text = match told {
         Told::Nothing => return Err(Cause::NoInstant),
         Told::Unlike => return Err(Cause::TwiceGiven),
         Told::One(text) => text,
@@ -128,8 +134,8 @@ fn date_and_time(block: &[u8], clock: Clock, zone: &Zone) -> Result<Instant, Cau
     ensures ok { IfOk result (λ instant. (sets : List SetText) → HasSets block.now sets None → HasDateAndTime clock sets instant) }
     ensures err { IfErr result (λ cause. (sets : List SetText) → HasSets block.now sets None → RefusesDateAndTime clock sets cause) }
 {
-    let time = all_told(block, Meaning::Time);
-    match all_told(block, Meaning::Date) {
+    let (time, date) = both_told(block, Meaning::Time, Meaning::Date);
+    match date {
         Told::Nothing => Err(Cause::NoInstant),
         Told::One(date) => match time {
             Told::Nothing => Err(Cause::NoInstant),

@@ -43,19 +43,22 @@ impl Meaning {
     }
 }
 
-/// What all sets of a block tell.
-pub fn all_told<'a>(block: &'a [u8], meaning: Meaning) -> Told<'a>
-    ensures { (sets : List SetText) → HasSets block.now sets None → AreTelling meaning sets result }
+/// What all sets of a block tell of two things, in one walk over them.
+pub fn both_told<'a>(block: &'a [u8], one: Meaning, other: Meaning) -> (Told<'a>, Told<'a>)
+    ensures one { (sets : List SetText) → HasSets block.now sets None → AreTelling one sets result.0 }
+    ensures other { (sets : List SetText) → HasSets block.now sets None → AreTelling other sets result.1 }
 {
-    let mut told = Told::Nothing;
+    let mut first = Told::Nothing;
+    let mut second = Told::Nothing;
     let mut sets = Sets::new(block);
     'sets: while let Some(next) = sets.next_set() {
         let Ok(set) = next else {
-            return told;
+            return (first, second);
         };
-        told = joined(told, meaning, &set);
+        first = joined(first, one, &set);
+        second = joined(second, other, &set);
     }
-    told
+    (first, second)
 }
 
 /// What sets tell with one set more.
@@ -107,23 +110,8 @@ fn are_alike_in_capitals(one: &[u8], other: &[u8]) -> bool
     true
 }
 
-/// Whether a text is these capitals, its letters a to f read as capitals.
-pub fn is_in_capitals(text: &[u8], wanted: &[u8]) -> bool
-    ensures { IsTrue result ↔ (capitals text.now ≡ wanted.now) }
-{
-    if text.len() != wanted.len() {
-        return false;
-    }
-    for (i, byte) in text.iter().enumerate() {
-        if capital(*byte) != wanted[i] {
-            return false;
-        }
-    }
-    true
-}
-
 /// A letter from a to f as its capital, any other byte as it is.
-fn capital(byte: u8) -> u8
+pub fn capital(byte: u8) -> u8
     ensures { result ≡ capital_of byte }
 {
     if b'a' <= byte && byte <= b'f' {

@@ -9,6 +9,7 @@ pub mod Order
 pub mod EachTable
 pub mod Parts
 pub mod Behind
+pub mod ById
 pub mod Distinct
 pub mod Hours
 pub mod InTime

@@ -1,17 +1,19 @@
 -- What holds of an office whose file passes all checks.
-use Rattle.std.proofs.Common.{◌≡◌, ℕ, zero, suc, ◌≤◌, Option, Some, is_some, unwrap_or, slice_get, List, [], ◌∷◌, ◌++◌, length, map, All, nat_le, not, codes, Bool, true, false, refl, arith}
+use Rattle.std.proofs.Common.{◌≡◌, ℕ, zero, suc, ◌≤◌, Option, Some, is_some, unwrap_or, slice_get, List, [], ◌∷◌, ◌++◌, length, map, All, nat_le, not, codes, Bool, true, false, refl, sym, ap, ◌∙◌, arith}
 use Rattle.std.proofs.lemmas.List.{length-map, map-id}
 use Rattle.std.proofs.lemmas.Option.{none-some, same_Some}
 use Rattle.std.proofs.lemmas.Simd.{map-map}
 use Rattle.std.proofs.lemmas.Bool.{leb-true}
 use Rattle.toml.specs.Data.{Members}
 use Rattle.pw_tariff.specs.declared.limits.TheConstants.{MOST_PRICE, MOST_ACCOUNTS, MOST_BANDS, MOST_METERS, LONGEST_ACCOUNT_NAME, LONGEST_METER_ID}
+use Rattle.pw_tariff.specs.declared.office.Meter.{Meter}
+use Rattle.pw_tariff.specs.Held.{meter_of}
 use Rattle.pw_tariff.specs.Office.{IsSound, AreDistinct, BandText, MeterText, overlap}
 use Rattle.pw_tariff.specs.Words.{is_price, is_name, is_capital, is_band_name, is_new, clock_named}
 use Rattle.pw_tariff.specs.declared.fault.OfficeFault.TheVariants.{MissingField, BadName, TwiceNamed, Week, Price, RegistersOverlap, Empty, TooMany}
 use Rattle.pw_tariff.specs.Checks.{Check, check, each_in_turn, length_checks, list_checks}
 use Rattle.pw_tariff.specs.inner.Checks.{Passes}
-use Rattle.pw_tariff.specs.Text.{has_band_keys, has_meter_keys, clock_of, texts_at, tables_at, accounts_checks, account_checks, bands_checks, meters_checks, week_checks, periods_checks, file_of_table, band_of_table, meter_of_table, whole_number_of, band_name_of, id_of, register_texts, register_of, registers_of, registers_in_turn, registers_checks, letter_of, is_week, week_of, bands_of_table, band_checks, meter_checks}
+use Rattle.pw_tariff.specs.Text.{has_band_keys, has_meter_keys, clock_of, texts_at, tables_at, accounts_checks, account_checks, bands_checks, meters_checks, week_checks, periods_checks, file_of_table, band_of_table, meter_of_table, meters_of_table, whole_number_of, band_name_of, id_of, register_texts, register_of, registers_of, registers_in_turn, registers_checks, letter_of, is_week, week_of, bands_of_table, band_checks, meter_checks}
 use Rattle.pw_tariff.proofs.Behind.{left, right, first-of}
 use Rattle.pw_tariff.proofs.Distinct.{distinct}
 use Rattle.pw_tariff.proofs.Weeks.{price-bound, week-of}
@@ -127,6 +129,14 @@ meter-registers earlier m p =
     let behind = registers_in_turn (register_texts m) ++ check RegistersOverlap (not (overlap (registers_of (register_texts m)))) ∷ [] in
     let k = behind-four (check MissingField (has_meter_keys m)) (check BadName (is_name LONGEST_METER_ID (id_of m))) (check TwiceNamed (is_new (id_of m) earlier)) (check BadName (is_some (clock_named (clock_of m)))) (empty ∷ behind) p in
     rw (length-map (register_texts m) register_of) (leb-true 1 (length (register_texts m)) (first-of empty behind k).0)
+
+-- the meters that were read are no more than an office may have
+pub few-meters : (t : Members) (held : List Meter) → Passes (meters_checks t) → map meter_of held ≡ meters_of_table t → length held ≤ MOST_METERS
+few-meters t held m e =
+    let meters = unwrap_or (tables_at (codes "meter") t) [] in
+    let n = listed MOST_METERS id_of meter_checks (tables_at (codes "meter") t) m in
+    let l : length held ≡ length meters = sym (length-map held meter_of) ∙ ap (λ (ms : List MeterText). length ms) e ∙ length-map meters meter_of_table in
+    rw l n.few
 
 pub sound : (t : Members) → Passes (accounts_checks t) → Passes (bands_checks t) → Passes (meters_checks t) → Passes (week_checks t) → Passes (periods_checks t) → IsSound (file_of_table t)
 sound t p q m w r =

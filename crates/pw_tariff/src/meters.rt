@@ -1,10 +1,10 @@
 //! The meters of an office file.
 
-ghost use Rattle.std.specs.Prelude.{◌≡◌, ◌&&◌, ◌||◌, MatchResult, Some, map, string_bytes};
+ghost use Rattle.std.specs.Prelude.{◌≡◌, ◌&&◌, ◌||◌, ◌≤◌, IfOk, MatchResult, Some, length, map, string_bytes};
 ghost use Rattle.toml.specs.View.{array_view, table_view};
 ghost use Rattle.pw_tariff.specs.inner.Checks.{IsRefusal};
 ghost use Rattle.pw_tariff.specs.inner.Checks.{Passes};
-ghost use Rattle.pw_tariff.specs.Held.{meter_of};
+ghost use Rattle.pw_tariff.specs.Held.{AreById, meter_of};
 ghost use Rattle.pw_tariff.specs.inner.Held.{table_in};
 ghost use Rattle.pw_tariff.specs.inner.Held.{ids_of};
 ghost use Rattle.pw_tariff.specs.Office.{has_register, overlap};
@@ -12,13 +12,14 @@ ghost use Rattle.pw_tariff.specs.Text.{id_of, meter_checks, meter_of_table, mete
 ghost use Rattle.pw_tariff.specs.inner.Checks.{meters_in_turn};
 ghost use Rattle.pw_tariff.specs.Words.{is_new};
 
-use crate::OfficeFault;
 use crate::limits::{LONGEST_METER_ID, MOST_METERS};
 use crate::office::{Meter, holds};
 use crate::table::{are_tables, check_length, list_at, text_at, texts_at};
 use crate::words::{clock_named, is_name, is_new, register_named};
+use crate::{MeterId, OfficeFault};
 use pw_obis::Register;
-use std::alloc::Global;
+use std::alloc::{AllocError, Global};
+use std::collections::BTreeMap;
 use toml::Table;
 use toml::value::Array;
 
@@ -101,6 +102,22 @@ fn read_meter(alloc: Global, table: &Table, earlier: &[Meter]) -> Result<Meter, 
         clock,
         registers,
     })
+}
+
+// The meters by their ids.
+pub(crate) fn by_id(
+    alloc: Global,
+    meters: &[Meter],
+) -> Result<BTreeMap<Vec<u8>, MeterId>, AllocError>
+    requires { length meters.now ≤ MOST_METERS }
+    ensures { IfOk result (λ places. AreById meters.now places) }
+{
+    let mut places = BTreeMap::new(alloc);
+    for (i, meter) in meters.iter().enumerate() {
+        let id = Vec::from_slice(alloc, meter.id.as_bytes())?;
+        places.insert(id, MeterId(i as u16))?;
+    }
+    Ok(places)
 }
 
 // None of the earlier meters' ids.

@@ -10,6 +10,7 @@ use crate::walks::{AccountIds, BandIds, MeterIds};
 use crate::{AccountId, BandId, Direction, MeterId, PeriodId};
 use pw_obis::Register;
 use pw_time::{Clock, FIRST_SECOND, Instant, WeekHour, Zone, week_hour};
+use std::collections::BTreeMap;
 use std::marker::Model;
 
 // A tariff band: its letter, and its prices in nano-euro per Wh.
@@ -43,6 +44,8 @@ pub struct Office {
     pub(crate) accounts: Vec<String>,
     pub(crate) bands: Vec<Band>,
     pub(crate) meters: Vec<Meter>,
+    // The meters by their ids, so that none is looked for one by one.
+    pub(crate) by_id: BTreeMap<Vec<u8>, MeterId>,
     pub(crate) week: Vec<String>,
     pub(crate) later: Vec<Period>,
 }
@@ -54,6 +57,7 @@ impl Drop for Office {
             accounts: _,
             bands: _,
             meters: _,
+            by_id: _,
             week: _,
             later: _,
         } = self;
@@ -62,13 +66,13 @@ impl Drop for Office {
 
 impl Model for Office {
     ghost use Rattle.pw_tariff.specs.Office.{OfficeFile, IsSound};
-    ghost use Rattle.pw_tariff.specs.Held.{file_of};
+    ghost use Rattle.pw_tariff.specs.Held.{AreById, file_of};
 
     ghost Value = { OfficeFile };
 
     ghost view = { file_of };
 
-    ghost invariant = { λ o. IsSound (file_of o) };
+    ghost invariant = { λ o. IsSound (file_of o) × AreById o.meters.items o.by_id };
 }
 
 impl Office {
@@ -169,12 +173,7 @@ impl Office {
         ensures only { IfSome result (λ m. (i : ℕ) → option_map (λ t. t.id) (slice_get self.now.meters i) ≡ Some id.now → i ≡ m.0) }
         ensures none { IfNone result ((i : ℕ) → option_map (λ t. t.id) (slice_get self.now.meters i) ≢ Some id.now) }
     {
-        for (i, own) in self.meters.iter().enumerate() {
-            if own.id.as_bytes() == id {
-                return Some(MeterId(i as u16));
-            }
-        }
-        None
+        self.by_id.get(id).copied()
     }
 
     /// What a meter's clock tells.

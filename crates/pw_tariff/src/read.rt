@@ -9,7 +9,7 @@ ghost use Rattle.pw_tariff.specs.inner.Checks.{IsNoTable};
 
 use crate::accounts::read_accounts;
 use crate::bands::read_bands;
-use crate::meters::read_meters;
+use crate::meters::{by_id, read_meters};
 use crate::periods::read_periods;
 use crate::week::read_week;
 use crate::{Office, OfficeFault};
@@ -64,6 +64,9 @@ fn office_of(alloc: Global, table: &Table) -> Result<Office, OfficeFault>
         Ok(meters) => meters,
         Err(fault) => return Err(fault),
     };
+    let Ok(by_id) = by_id(alloc, &meters) else {
+        return Err(OfficeFault::Memory);
+    };
     let week = match read_week(alloc, table, &bands) {
         Ok(week) => week,
         Err(fault) => return Err(fault),
@@ -76,6 +79,7 @@ fn office_of(alloc: Global, table: &Table) -> Result<Office, OfficeFault>
         accounts,
         bands,
         meters,
+        by_id,
         week,
         later,
     })

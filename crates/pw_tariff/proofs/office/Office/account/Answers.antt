@@ -14,7 +14,7 @@ returns-then-eq-clause-only c =
     let test = rw c.as_bytes.ensures.value at (sym c.eq.ensures ∙ c.if-eq.true) in
     let here = found-here string_bytes c.self.inside.accounts.items c.deref-own-items.result.now c.loop-i.i c.own-item.result c.args.name.now c.deref-own-items.ensures.value c.loop-i-test.true c.own-item.is test in
     let found = slice_get-map string_bytes c.self.inside.accounts.items c.loop-i.i ∙ here in
-    rw (← c.self.view_is) (λ i h. c.self.invariant.named.accounts i c.loop-i.i c.args.name.now h found)
+    rw (← c.self.view_is) (λ i h. c.self.invariant.0.named.accounts i c.loop-i.i c.args.name.now h found)
 
 pub loop-i-preserved : goal.loop-i-preserved
 loop-i-preserved c =

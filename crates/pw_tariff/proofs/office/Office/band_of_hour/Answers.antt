@@ -17,7 +17,7 @@ overflow_cast-result c =
     let d = day-is (bands_of c.self.inside.bands.items) c.week_of-week.result.now c.args.hour.day c.index-week-hour.result l c.index-week-hour.is w.1 in
     let e = rw (c.deref.ensures.value, c.as_bytes.ensures.value) at c.named.ensures in
     let b = letter-named _ _ c.args.hour.hour d c.requires.hour in
-    let m = c.self.invariant.bands.1 in
+    let m = c.self.invariant.0.bands.1 in
     search (rules, e, b, m)
 
 pub returns-clause-within : goal.returns-clause-within

@@ -13,19 +13,19 @@ returns-then-period-eq0-clause-price c =
 pub returns-then-period-eq0-clause-bound : goal.returns-then-period-eq0-clause-bound
 returns-then-period-eq0-clause-bound c =
     let l = rw (← c.self.view_is) at c.requires.band in
-    rw c.price.ensures (first-bound (band_of c.index.result.now) c.args.direction (band-bound c.self.inside.bands.items c.args.band.0 c.index.result.now l c.index.ensures c.self.invariant.prices))
+    rw c.price.ensures (first-bound (band_of c.index.result.now) c.args.direction (band-bound c.self.inside.bands.items c.args.band.0 c.index.result.now l c.index.ensures c.self.invariant.0.prices))
 
 pub price-requires-2-clause-import_prices : goal.price-requires-2-clause-import_prices
 price-requires-2-clause-import_prices c =
     let n = rw (← c.self.view_is) at c.requires.period in
     let b = rw (← c.self.view_is) at c.requires.band in
-    (prices-there (bands_of c.self.inside.bands.items) c.self.inside.later.items c.args.period.0 c.args.band.0 c.index-2.result.now (omega arith) n c.index-2.ensures c.self.invariant.later b).0
+    (prices-there (bands_of c.self.inside.bands.items) c.self.inside.later.items c.args.period.0 c.args.band.0 c.index-2.result.now (omega arith) n c.index-2.ensures c.self.invariant.0.later b).0
 
 pub price-requires-2-clause-export_prices : goal.price-requires-2-clause-export_prices
 price-requires-2-clause-export_prices c =
     let n = rw (← c.self.view_is) at c.requires.period in
     let b = rw (← c.self.view_is) at c.requires.band in
-    (prices-there (bands_of c.self.inside.bands.items) c.self.inside.later.items c.args.period.0 c.args.band.0 c.index-2.result.now (omega arith) n c.index-2.ensures c.self.invariant.later b).1
+    (prices-there (bands_of c.self.inside.bands.items) c.self.inside.later.items c.args.period.0 c.args.band.0 c.index-2.result.now (omega arith) n c.index-2.ensures c.self.invariant.0.later b).1
 
 pub returns-clause-price : goal.returns-clause-price
 returns-clause-price c =
@@ -39,5 +39,5 @@ returns-clause-bound c =
     let n = rw (← c.self.view_is) at c.requires.period in
     let b = rw (← c.self.view_is) at c.requires.band in
     let l = later-within c.self.inside.later.items c.args.period.0 (omega arith) n in
-    let p = period-is (bands_of c.self.inside.bands.items) c.self.inside.later.items (c.args.period.0 - 1) c.index-2.result.now l c.index-2.ensures c.self.invariant.later in
+    let p = period-is (bands_of c.self.inside.bands.items) c.self.inside.later.items (c.args.period.0 - 1) c.index-2.result.now l c.index-2.ensures c.self.invariant.0.later in
     rw c.price-2.ensures (later-bound (bands_of c.self.inside.bands.items) (period_of c.index-2.result.now) c.args.band.0 c.args.direction p b)

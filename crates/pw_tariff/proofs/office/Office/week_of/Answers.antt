@@ -14,5 +14,5 @@ pub returns-clause-sound : goal.returns-clause-sound
 returns-clause-sound c =
     let n = rw (← c.self.view_is) at c.requires in
     let l = later-within c.self.inside.later.items c.args.period.0 (omega arith) n in
-    let p = period-is (bands_of c.self.inside.bands.items) c.self.inside.later.items (c.args.period.0 - 1) c.index.result.now l c.index.ensures c.self.invariant.later in
+    let p = period-is (bands_of c.self.inside.bands.items) c.self.inside.later.items (c.args.period.0 - 1) c.index.result.now l c.index.ensures c.self.invariant.0.later in
     rw (← c.self.view_is, c.deref-2.ensures.value) p.week
