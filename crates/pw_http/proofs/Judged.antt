@@ -111,27 +111,22 @@ judged-other : (file : OfficeFile) (reply : Reply) (upload : Upload) → None �
 judged-other file reply upload e = absurd (none-some upload e)
 
 -- ---- one step
+fine-or-nothing : (s : Status) → (s ≡ Fine) ⊎ ((sent : Option Upload) → if_fine s sent ≡ [])
+fine-or-nothing Fine = inl refl
+fine-or-nothing BadRequest = inr (λ sent. refl)
+fine-or-nothing Forbidden = inr (λ sent. refl)
+fine-or-nothing NotFound = inr (λ sent. refl)
+fine-or-nothing MethodNotAllowed = inr (λ sent. refl)
+fine-or-nothing PayloadTooLarge = inr (λ sent. refl)
+fine-or-nothing NotImplemented = inr (λ sent. refl)
+fine-or-nothing Unavailable = inr (λ sent. refl)
+fine-or-nothing InsufficientStorage = inr (λ sent. refl)
+
 if-not-fine : (s : Status) (sent : Option Upload) → (s ≡ Fine → ⊥) → if_fine s sent ≡ []
-if-not-fine Fine sent n = absurd (n refl)
-if-not-fine BadRequest sent n = refl
-if-not-fine Forbidden sent n = refl
-if-not-fine NotFound sent n = refl
-if-not-fine MethodNotAllowed sent n = refl
-if-not-fine PayloadTooLarge sent n = refl
-if-not-fine NotImplemented sent n = refl
-if-not-fine Unavailable sent n = refl
-if-not-fine InsufficientStorage sent n = refl
+if-not-fine s sent n = elim (fine-or-nothing s) [ inl e ↦ absurd (n e) | inr none ↦ none sent ]
 
 if-nothing : (s : Status) → if_fine s None ≡ []
-if-nothing Fine = refl
-if-nothing BadRequest = refl
-if-nothing Forbidden = refl
-if-nothing NotFound = refl
-if-nothing MethodNotAllowed = refl
-if-nothing PayloadTooLarge = refl
-if-nothing NotImplemented = refl
-if-nothing Unavailable = refl
-if-nothing InsufficientStorage = refl
+if-nothing s = elim (fine-or-nothing s) [ inl e ↦ ap (λ (k : Status). if_fine k None) e | inr none ↦ none None ]
 
 after-none : (file : OfficeFile) (before t : List Entry) (us more : List Upload) → more ≡ [] → After file before us t → After file before (us ++ more) t
 after-none file before t us more e a = let P : List Upload → Type 0 = λ vs. After file before vs t in subst P (sym (append-nil us) ∙ ap (λ (vs : List Upload). us ++ vs) (sym e)) a

@@ -58,19 +58,18 @@ abbrev pub reply_bytes : Bool → Reply → List ℕ
 reply_bytes closing r = reply_head r.status r.content (length r.body) closing ++ r.body
 
 -- ---- the reply to what is no whole request
+abbrev pub refusal_told : Refusal → Status × List ℕ
+refusal_told BadHead = (BadRequest, codes "bad head\n")
+refusal_told NotForThisServer = (Forbidden, codes "not for this server\n")
+refusal_told NotSupported = (NotImplemented, codes "not supported\n")
+refusal_told BodyTooLarge = (PayloadTooLarge, codes "body too large\n")
+refusal_told BadBody = (BadRequest, codes "bad body\n")
+
 abbrev pub refusal_status : Refusal → Status
-refusal_status BadHead = BadRequest
-refusal_status NotForThisServer = Forbidden
-refusal_status NotSupported = NotImplemented
-refusal_status BodyTooLarge = PayloadTooLarge
-refusal_status BadBody = BadRequest
+refusal_status why = (refusal_told why).0
 
 abbrev pub refusal_line : Refusal → List ℕ
-refusal_line BadHead = codes "bad head\n"
-refusal_line NotForThisServer = codes "not for this server\n"
-refusal_line NotSupported = codes "not supported\n"
-refusal_line BodyTooLarge = codes "body too large\n"
-refusal_line BadBody = codes "bad body\n"
+refusal_line why = (refusal_told why).1
 
 abbrev pub refusal_reply : Refusal → Reply
 refusal_reply why = record { status = refusal_status why; content = Plain; body = refusal_line why }

@@ -87,25 +87,11 @@ place_of method target = if is_utf8 target then by_method method (route_at targe
 -- ---- the length of a page
 -- a page that grows with the records, or with the meters of the office
 abbrev pub may_be_large : Route → Bool
-may_be_large Telegrams = false
-may_be_large Readouts = false
-may_be_large Assignments = false
-may_be_large TopUps = false
-may_be_large Withdrawals = false
-may_be_large Account = false
-may_be_large (Month month.Bill) = false
-may_be_large (Month month.Days) = false
 may_be_large (Month month.Why) = true
 may_be_large MeterReadings = true
 may_be_large (Table table.Accounts) = false
-may_be_large (Table table.Falls) = true
-may_be_large (Table table.Disputes) = true
-may_be_large (Table table.Readings) = true
-may_be_large (Table table.Energies) = true
-may_be_large (Table table.Assignments) = true
-may_be_large (Table table.TopUps) = true
-may_be_large (Table table.Withdrawals) = true
-may_be_large (File file) = false
+may_be_large (Table table) = true
+may_be_large _ = false
 
 -- ---- the words in braces
 -- up to and without the first slash, or all
