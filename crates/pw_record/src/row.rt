@@ -280,16 +280,7 @@ fn three(row: &ByteRecord, first: usize) -> Option<(&[u8], &[u8], &[u8])>
     if row.len() != first + 3 {
         return None;
     }
-    let Some(one) = row.get(first) else {
-        return None;
-    };
-    let Some(two) = row.get(first + 1) else {
-        return None;
-    };
-    let Some(three) = row.get(first + 2) else {
-        return None;
-    };
-    Some((one, two, three))
+    Some((row.get(first)?, row.get(first + 1)?, row.get(first + 2)?))
 }
 
 /// A row's fields from the one at `first` on, where they are four.
@@ -301,17 +292,10 @@ fn four(row: &ByteRecord, first: usize) -> Option<(&[u8], &[u8], &[u8], &[u8])>
     if row.len() != first + 4 {
         return None;
     }
-    let Some(one) = row.get(first) else {
-        return None;
-    };
-    let Some(two) = row.get(first + 1) else {
-        return None;
-    };
-    let Some(three) = row.get(first + 2) else {
-        return None;
-    };
-    let Some(four) = row.get(first + 3) else {
-        return None;
-    };
-    Some((one, two, three, four))
+    Some((
+        row.get(first)?,
+        row.get(first + 1)?,
+        row.get(first + 2)?,
+        row.get(first + 3)?,
+    ))
 }
