@@ -45,15 +45,7 @@ pub fn is_header(kind: RowKind, row: &ByteRecord) -> bool
                 && start == b"start".as_slice()
                 && account == b"account".as_slice()
         }
-        RowKind::TopUp => {
-            let Some((reference, account, cents, instant)) = four(row, 0) else {
-                return false;
-            };
-            reference == b"reference".as_slice()
-                && account == b"account".as_slice()
-                && cents == b"cents".as_slice()
-                && instant == b"instant".as_slice()
-        }
+        RowKind::TopUp => is_four(row, 0, b"reference", b"account", b"cents", b"instant"),
         RowKind::Withdrawal => is_withdrawals_header(row),
     }
 }
@@ -64,13 +56,25 @@ fn is_withdrawals_header(row: &ByteRecord) -> bool
     if !begins_with(row, b"kind".as_slice()) {
         return false;
     }
-    let Some((first, second, third, fourth)) = four(row, 1) else {
+    is_four(row, 1, b"first", b"second", b"third", b"fourth")
+}
+
+// Whether a row's fields from the one at `at` on are these four.
+fn is_four(
+    row: &ByteRecord,
+    at: usize,
+    first: &[u8],
+    second: &[u8],
+    third: &[u8],
+    fourth: &[u8],
+) -> bool
+    requires { at ≤ 1 }
+    ensures { IsTrue result ↔ (drop at (fields_of row.now) ≡ first.now ∷ second.now ∷ third.now ∷ fourth.now ∷ []) }
+{
+    let Some(fields) = four(row, at) else {
         return false;
     };
-    first == b"first".as_slice()
-        && second == b"second".as_slice()
-        && third == b"third".as_slice()
-        && fourth == b"fourth".as_slice()
+    fields.0 == first && fields.1 == second && fields.2 == third && fields.3 == fourth
 }
 
 /// The entry of a row.
