@@ -1,3 +1,4 @@
+use Rattle.std.proofs.Common.{rules}
 use Rattle.sqlite.specs.Held.{state}
 use Rattle.pw_schema.proofs.Outcomes.{early}
 use Rattle.pw_schema.proofs.Raising.{raised_behind}
@@ -12,3 +13,6 @@ returns-clause-raised g c clean =
     let first = early made emptied c.in_ok-empty_total.ensures.tables.crash before in
     raised_behind c.args.version (state g.S.Store c.args.conn.now).now.trees made.now.trees emptied.now.trees last.now.trees
     (c.in_ok-make_missing.ensures.raised first) (c.in_ok-empty_total.ensures.others before) (c.in_ok-set_version.ensures.others clean)
+
+pub returns-clause-kept : goal.returns-clause-kept
+returns-clause-kept g c = search rules depth 0 fits 100

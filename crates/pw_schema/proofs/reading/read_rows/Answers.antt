@@ -24,4 +24,4 @@ returns-then-not-is_behind-clause-wrong c e office is records =
     cc
 
 pub returns-clause-wrong : goal.returns-clause-wrong
-returns-clause-wrong c = search rules
+returns-clause-wrong c = search rules depth 0 fits 100

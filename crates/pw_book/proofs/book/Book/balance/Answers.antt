@@ -1,5 +1,4 @@
-use Rattle.std.proofs.Common.{rules}
 use Rattle.pw_book.proofs.book.Book.balance.Goals as goal
 
 pub returns-in_err-nano-clause-cost : goal.returns-in_err-nano-clause-cost
-returns-in_err-nano-clause-cost g c = search rules
+returns-in_err-nano-clause-cost g c = assumption

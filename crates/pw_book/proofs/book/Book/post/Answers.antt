@@ -1,4 +1,4 @@
-use Rattle.std.proofs.Common.{sym, ◌∙◌, rules}
+use Rattle.std.proofs.Common.{sym, ◌∙◌}
 use Rattle.std.proofs.lemmas.Bool.{true≢false}
 use Rattle.pw_tariff.specs.Office.{office_of}
 use Rattle.pw_book.proofs.Keeping.{posted-few, posted-of_office, posted-sound, posted-true}
@@ -25,7 +25,7 @@ returns-clause-sound g c = λ k.
     (c.post_to-answer.ensures.posted k) (c.post_to-answer.ensures.left k)
 
 pub returns-then-self-clause-untouched : goal.returns-then-self-clause-untouched
-returns-then-self-clause-untouched g c = search rules
+returns-then-self-clause-untouched g c = assumption
 
 pub returns-clause-shut : goal.returns-clause-shut
-returns-clause-shut g c = search rules
+returns-clause-shut g c = assumption

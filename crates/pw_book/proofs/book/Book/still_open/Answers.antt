@@ -1,8 +1,7 @@
-use Rattle.std.proofs.Common.{rules}
 use Rattle.pw_book.proofs.book.Book.still_open.Goals as goal
 
 pub returns-else-self : goal.returns-else-self
-returns-else-self g c = search rules
+returns-else-self g c = assumption
 
 pub returns-then-self : goal.returns-then-self
-returns-then-self g c = search rules
+returns-then-self g c = assumption

@@ -1,5 +1,4 @@
-use Rattle.std.proofs.Common.{rules}
 use Rattle.pw_shelf.proofs.calls.MemoryShelfShelf.holds.Goals as goal
 
 pub returns-clause-held : goal.returns-clause-held
-returns-clause-held c = search rules
+returns-clause-held c = assumption

@@ -1,5 +1,4 @@
-use Rattle.std.proofs.Common.{rules}
 use Rattle.pw_shelf.proofs.calls.MemoryShelfShelf.readings_of.Goals as goal
 
 pub returns-clause-rows : goal.returns-clause-rows
-returns-clause-rows c = search rules
+returns-clause-rows c = assumption

@@ -1,5 +1,4 @@
-use Rattle.std.proofs.Common.{rules}
 use Rattle.pw_shelf.proofs.count.CountShelf.into_inner.Goals as goal
 
 pub returns : goal.returns
-returns g c = search rules
+returns g c = assumption

@@ -2,4 +2,4 @@ use Rattle.std.proofs.Common.{rules}
 use Rattle.pw_shelf.proofs.counted_calls.CountShelfShelf.readings_of.Goals as goal
 
 pub returns-clause-asked : goal.returns-clause-asked
-returns-clause-asked g c = search rules
+returns-clause-asked g c = search rules depth 0 fits 100

@@ -1,5 +1,4 @@
-use Rattle.std.proofs.Common.{rules}
 use Rattle.pw_shelf.proofs.tally.Tally.new.Goals as goal
 
 pub returns : goal.returns
-returns c = search rules
+returns c = assumption

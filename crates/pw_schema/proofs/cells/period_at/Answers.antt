@@ -1,0 +1,5 @@
+use Rattle.std.proofs.Common.{rules}
+use Rattle.pw_schema.proofs.cells.period_at.Goals as goal
+
+pub returns-clause-some : goal.returns-clause-some
+returns-clause-some c = search rules depth 0 fits 100
