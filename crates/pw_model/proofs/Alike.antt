@@ -26,7 +26,7 @@ use Rattle.pw_tariff.specs.Office.{register_place}
 use Rattle.pw_tariff.specs.declared.ids.AccountId.{AccountId}
 use Rattle.pw_tariff.specs.Cells.{owner_place}
 use Rattle.pw_model.specs.Same.{same_key, same_content, same_entry, named_numbers, key_numbers, content_numbers}
-use Rattle.pw_model.proofs.Same.{prefix-same, rest-same, lengths-same}
+use Rattle.pw_model.proofs.Same.{by_content, prefix-same, rest-same, lengths-same}
 
 and-true : (b : Bool) → (b && true) ≡ b
 and-true true = refl
@@ -148,33 +148,16 @@ keys-alike (key.Withdrawal a) (key.Reading n s u) = refl
 keys-alike (key.Withdrawal a) (key.Assignment n u) = refl
 keys-alike (key.Withdrawal a) (key.TopUp s) = refl
 
+abbrev AreAlike : Content → Content → Type 0
+AreAlike a b = derived_content.ghosts.eq a b ≡ same_content a b
+
 pub contents-alike : (a b : Content) → derived_content.ghosts.eq a b ≡ same_content a b
 unfolding content_numbers
-contents-alike (content.Reading w) (content.Reading v) = sym (and-true (w == v))
-contents-alike (content.Assignment None) (content.Assignment None) = refl
-contents-alike (content.Assignment (Some a)) (content.Assignment (Some b)) = sym (and-true (a.0 == b.0))
-contents-alike (content.Assignment None) (content.Assignment (Some b)) = refl
-contents-alike (content.Assignment (Some a)) (content.Assignment None) = refl
-contents-alike (content.TopUp a c t) (content.TopUp b d u) = ap (λ x. (a.0 == b.0) && ((c == d) && x)) (sym (and-true (t == u)))
-contents-alike (content.Reading w) (content.Assignment None) = refl
-contents-alike (content.Reading w) (content.Assignment (Some b)) = refl
-contents-alike (content.Reading w) (content.TopUp b d u) = refl
-contents-alike (content.Assignment None) (content.Reading v) = refl
-contents-alike (content.Assignment None) (content.TopUp b d u) = refl
-contents-alike (content.Assignment (Some a)) (content.Reading v) = refl
-contents-alike (content.Assignment (Some a)) (content.TopUp b d u) = refl
-contents-alike (content.TopUp a c t) (content.Reading v) = refl
-contents-alike (content.TopUp a c t) (content.Assignment None) = refl
-contents-alike (content.TopUp a c t) (content.Assignment (Some b)) = refl
-contents-alike content.Withdrawal content.Withdrawal = refl
-contents-alike content.Withdrawal (content.Reading v) = refl
-contents-alike content.Withdrawal (content.Assignment None) = refl
-contents-alike content.Withdrawal (content.Assignment (Some b)) = refl
-contents-alike content.Withdrawal (content.TopUp b d u) = refl
-contents-alike (content.Reading w) content.Withdrawal = refl
-contents-alike (content.Assignment None) content.Withdrawal = refl
-contents-alike (content.Assignment (Some a)) content.Withdrawal = refl
-contents-alike (content.TopUp a c t) content.Withdrawal = refl
+contents-alike (content.Reading w) = by_content (AreAlike (content.Reading w)) (λ v. sym (and-true (w == v))) refl (λ b. refl) (λ b d u. refl) refl
+contents-alike (content.Assignment None) = by_content (AreAlike (content.Assignment None)) (λ v. refl) refl (λ b. refl) (λ b d u. refl) refl
+contents-alike (content.Assignment (Some a)) = by_content (AreAlike (content.Assignment (Some a))) (λ v. refl) refl (λ b. sym (and-true (a.0 == b.0))) (λ b d u. refl) refl
+contents-alike (content.TopUp a c t) = by_content (AreAlike (content.TopUp a c t)) (λ v. refl) refl (λ b. refl) (λ b d u. ap (λ x. (a.0 == b.0) && ((c == d) && x)) (sym (and-true (t == u)))) refl
+contents-alike content.Withdrawal = by_content (AreAlike content.Withdrawal) (λ v. refl) refl (λ b. refl) (λ b d u. refl) refl
 
 pub entries-alike : (a b : Entry) → derived_entry.ghosts.eq a b ≡ same_entry a b
 entries-alike a b = ap (λ (x : Bool). x && derived_content.ghosts.eq a.content b.content) (keys-alike a.key b.key) ∙ ap (λ (x : Bool). same_key a.key b.key && x) (contents-alike a.content b.content)

@@ -20,21 +20,20 @@ use Rattle.pw_model.proofs.Counting.{entry, inserted-same, among-same, among-her
 use Rattle.pw_model.proofs.Places.{at-member, taken-to, taken-whole, taken-inserted}
 use Rattle.pw_flow.proofs.Points.{LastIs, option-cases, last-told}
 
+by_contents : (P : Contents → Type 0) → P Nothing → P Several → ((w : ℕ) → P (One (content.Reading w))) → ((o : Option AccountId) → P (One (content.Assignment o)))
+    → ((a : AccountId) (c i : ℕ) → P (One (content.TopUp a c i))) → P (One content.Withdrawal) → (c : Contents) → P c
+by_contents P nothing several reading assignment topup withdrawal Nothing = nothing
+by_contents P nothing several reading assignment topup withdrawal Several = several
+by_contents P nothing several reading assignment topup withdrawal (One (content.Reading w)) = reading w
+by_contents P nothing several reading assignment topup withdrawal (One (content.Assignment o)) = assignment o
+by_contents P nothing several reading assignment topup withdrawal (One (content.TopUp a c i)) = topup a c i
+by_contents P nothing several reading assignment topup withdrawal (One content.Withdrawal) = withdrawal
+
 owner-back : (c : Contents) (o : Option AccountId) → owner_of c ≡ Some o → c ≡ One (content.Assignment o)
-owner-back Nothing o e = cc
-owner-back Several o e = cc
-owner-back (One (content.Reading w)) o e = cc
-owner-back (One (content.TopUp a c i)) o e = cc
-owner-back (One (content.Assignment p)) o e = cc
-owner-back (One content.Withdrawal) o e = cc
+owner-back c o = by_contents (λ c. owner_of c ≡ Some o → c ≡ One (content.Assignment o)) (λ e. cc) (λ e. cc) (λ w e. cc) (λ p e. cc) (λ a d i e. cc) (λ e. cc) c
 
 pub wh-back : (c : Contents) (w : ℕ) → wh_of c ≡ Some w → c ≡ One (content.Reading w)
-wh-back Nothing w e = cc
-wh-back Several w e = cc
-wh-back (One (content.Reading v)) w e = cc
-wh-back (One (content.TopUp a c i)) w e = cc
-wh-back (One (content.Assignment p)) w e = cc
-wh-back (One content.Withdrawal) w e = cc
+wh-back c w = by_contents (λ c. wh_of c ≡ Some w → c ≡ One (content.Reading w)) (λ e. cc) (λ e. cc) (λ v e. cc) (λ p e. cc) (λ a d i e. cc) (λ e. cc) c
 
 -- a counting start or reading is a member
 start-member : (s : List Entry) (m t : ℕ) (o : Option AccountId) → start (contents_at s) m t ≡ Some o → Member (entry (assignment_key m t) (content.Assignment o)) s

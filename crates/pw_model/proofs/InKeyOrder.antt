@@ -35,6 +35,7 @@ use Rattle.pw_model.specs.References.{IsReference, is_reference_byte}
 use Rattle.pw_tariff.specs.Office.{register_place}
 use Rattle.pw_model.specs.Same.{total_order, total_numbers, direction_place, key_order, named_numbers, key_numbers, content_numbers, entry_order}
 use Rattle.pw_model.specs.inner.Keys.{HasReference}
+use Rattle.pw_model.proofs.Same.{by_content}
 
 then-equal : (o : Ordering) → ordering_then o Equal ≡ o
 then-equal Less = refl
@@ -196,33 +197,17 @@ keys-ordered (key.Withdrawal a) (key.Reading n s u) h i = refl
 keys-ordered (key.Withdrawal a) (key.Assignment n u) h i = refl
 keys-ordered (key.Withdrawal a) (key.TopUp s) h i = refl
 
+abbrev AreOrdered : Content → Content → Type 0
+AreOrdered a b = derived_content.ghosts.cmp a b ≡ slice_cmp nat_cmp (content_numbers a) (content_numbers b)
+
 contents-ordered : (a b : Content) → derived_content.ghosts.cmp a b ≡ slice_cmp nat_cmp (content_numbers a) (content_numbers b)
 unfolding content_numbers
-contents-ordered (content.Reading w) (content.Reading v) = sym (then-equal (nat_cmp w v))
-contents-ordered (content.Assignment None) (content.Assignment None) = refl
-contents-ordered (content.Assignment (Some a)) (content.Assignment (Some b)) = sym (then-equal (nat_cmp a.0 b.0))
-contents-ordered (content.Assignment None) (content.Assignment (Some b)) = refl
-contents-ordered (content.Assignment (Some a)) (content.Assignment None) = refl
-contents-ordered (content.TopUp a c t) (content.TopUp b d u) = ap (λ o. ordering_then (nat_cmp a.0 b.0) (ordering_then (nat_cmp c d) o)) (sym (then-equal (nat_cmp t u)))
-contents-ordered (content.Reading w) (content.Assignment None) = refl
-contents-ordered (content.Reading w) (content.Assignment (Some b)) = refl
-contents-ordered (content.Reading w) (content.TopUp b d u) = refl
-contents-ordered (content.Assignment None) (content.Reading v) = refl
-contents-ordered (content.Assignment None) (content.TopUp b d u) = refl
-contents-ordered (content.Assignment (Some a)) (content.Reading v) = refl
-contents-ordered (content.Assignment (Some a)) (content.TopUp b d u) = refl
-contents-ordered (content.TopUp a c t) (content.Reading v) = refl
-contents-ordered (content.TopUp a c t) (content.Assignment None) = refl
-contents-ordered (content.TopUp a c t) (content.Assignment (Some b)) = refl
-contents-ordered content.Withdrawal content.Withdrawal = refl
-contents-ordered content.Withdrawal (content.Reading v) = refl
-contents-ordered content.Withdrawal (content.Assignment None) = refl
-contents-ordered content.Withdrawal (content.Assignment (Some b)) = refl
-contents-ordered content.Withdrawal (content.TopUp b d u) = refl
-contents-ordered (content.Reading w) content.Withdrawal = refl
-contents-ordered (content.Assignment None) content.Withdrawal = refl
-contents-ordered (content.Assignment (Some a)) content.Withdrawal = refl
-contents-ordered (content.TopUp a c t) content.Withdrawal = refl
+contents-ordered (content.Reading w) = by_content (AreOrdered (content.Reading w)) (λ v. sym (then-equal (nat_cmp w v))) refl (λ b. refl) (λ b d u. refl) refl
+contents-ordered (content.Assignment None) = by_content (AreOrdered (content.Assignment None)) (λ v. refl) refl (λ b. refl) (λ b d u. refl) refl
+contents-ordered (content.Assignment (Some a)) = by_content (AreOrdered (content.Assignment (Some a))) (λ v. refl) refl (λ b. sym (then-equal (nat_cmp a.0 b.0))) (λ b d u. refl) refl
+contents-ordered (content.TopUp a c t) =
+    by_content (AreOrdered (content.TopUp a c t)) (λ v. refl) refl (λ b. refl) (λ b d u. ap (λ o. ordering_then (nat_cmp a.0 b.0) (ordering_then (nat_cmp c d) o)) (sym (then-equal (nat_cmp t u)))) refl
+contents-ordered content.Withdrawal = by_content (AreOrdered content.Withdrawal) (λ v. refl) refl (λ b. refl) (λ b d u. refl) refl
 
 pub entries-ordered : (a b : Entry) → HasReference a.key → HasReference b.key → derived_entry.ghosts.cmp a b ≡ entry_order a b
 entries-ordered a b h i =

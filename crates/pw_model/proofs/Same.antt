@@ -1,7 +1,8 @@
 -- The tests on keys and contents decide whether two are equal.
-use Rattle.std.proofs.Common.{◌≡◌, ℕ, zero, suc, Some, None, refl, ap, sym, ◌∙◌, Decides, List, [], ◌∷◌, ◌++◌, Option, length, arith}
+use Rattle.std.proofs.Common.{◌≡◌, ℕ, Some, None, refl, ap, sym, ◌∙◌, Decides, List, [], ◌∷◌, ◌++◌, Option, get_or, length, arith}
 use Rattle.std.specs.Cmp.Lexicographic.{bytes_decides}
 use Rattle.std.proofs.lemmas.Bool.Decides.{Decides-like, Decides-and}
+use Rattle.pw_obis.specs.Registers.{registers}
 use Rattle.pw_obis.specs.declared.reference.Register.{Register}
 use Rattle.pw_obis.specs.declared.reference.Register.TheVariants.{I0, I1, I2, E0, E1, E2}
 use Rattle.pw_tariff.specs.declared.ids.AccountId.{AccountId}
@@ -19,21 +20,14 @@ use Rattle.std.proofs.lemmas.List.{length-append}
 use Rattle.pw_model.specs.Same.{named_numbers, key_numbers, content_numbers, same_key, same_content, same_entry}
 
 register_at : ℕ → Register
-register_at zero = I0
-register_at (suc zero) = I1
-register_at (suc (suc zero)) = I2
-register_at (suc (suc (suc zero))) = E0
-register_at (suc (suc (suc (suc zero)))) = E1
-register_at _ = E2
+register_at n = get_or registers n E2
+
+by_register : (P : Register → Type 0) → P I0 → P I1 → P I2 → P E0 → P E1 → P E2 → (r : Register) → P r
+by_register P i0 i1 i2 e0 e1 e2 r = elim r as (λ (s : Register). P s) [ I0 ↦ i0 | I1 ↦ i1 | I2 ↦ i2 | E0 ↦ e0 | E1 ↦ e1 | E2 ↦ e2 ]
 
 register-back : (r : Register) → register_at (register_place r) ≡ r
 unfolding register_at
-register-back I0 = refl
-register-back I1 = refl
-register-back I2 = refl
-register-back E0 = refl
-register-back E1 = refl
-register-back E2 = refl
+register-back = by_register (λ r. register_at (register_place r) ≡ r) refl refl refl refl refl refl
 
 pub register-one : (r s : Register) → register_place r ≡ register_place s → r ≡ s
 register-one r s h = sym (register-back r) ∙ ap register_at h ∙ register-back s
@@ -43,6 +37,15 @@ meter n = record { 0 = n }
 
 abbrev account : ℕ → AccountId
 account n = record { 0 = n }
+
+-- ---- the contents, an assignment's by whether it names an account
+pub by_content : (P : Content → Type 0) → ((w : ℕ) → P (content.Reading w)) → P (content.Assignment None) → ((a : AccountId) → P (content.Assignment (Some a)))
+    → ((a : AccountId) (c t : ℕ) → P (content.TopUp a c t)) → P content.Withdrawal → (c : Content) → P c
+by_content P reading nobody owner topup withdrawal (content.Reading w) = reading w
+by_content P reading nobody owner topup withdrawal (content.Assignment None) = nobody
+by_content P reading nobody owner topup withdrawal (content.Assignment (Some a)) = owner a
+by_content P reading nobody owner topup withdrawal (content.TopUp a c t) = topup a c t
+by_content P reading nobody owner topup withdrawal content.Withdrawal = withdrawal
 
 -- ---- named records
 append-same : (xs ys zs ws : List ℕ) → length xs ≡ length ys → xs ++ zs ≡ ys ++ ws → (xs ≡ ys) × (zs ≡ ws)

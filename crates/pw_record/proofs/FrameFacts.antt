@@ -1,5 +1,5 @@
 -- One frame more of a body.
-use Rattle.std.proofs.Common.{◌≡◌, ℕ, ◌<◌, ◌≤◌, List, [], ◌∷◌, ◌++◌, Option, Some, None, Result, Ok, Err, MatchResult, Bool, false, length, refl, sym, ap, subst, ◌∙◌, append_assoc, inl, inr, ◌⊎◌, ⊎_elim, arith, true}
+use Rattle.std.proofs.Common.{◌≡◌, ℕ, ◌+◌, ◌<◌, ◌≤◌, List, [], ◌∷◌, ◌++◌, Option, Some, None, Result, Ok, Err, MatchResult, Bool, false, length, refl, sym, ap, subst, ◌∙◌, append_assoc, inl, inr, ◌⊎◌, ⊎_elim, arith, true}
 use Rattle.std.proofs.lemmas.List.{append-nil}
 use Rattle.std.specs.List.{flat_map}
 use Rattle.pw_frame.specs.declared.frame.Frame.{Frame}
@@ -8,6 +8,7 @@ use Rattle.pw_frame.specs.Frame.{FrameText, frame_text}
 use Rattle.pw_frame.specs.Body.{Front, BodyReading, BodyFault}
 use Rattle.pw_frame.proofs.Fronts.{front_more_rises}
 use Rattle.pw_obis.specs.declared.reference.Register.{Register}
+use Rattle.pw_obis.specs.Block.{HasSets}
 use Rattle.pw_obis.specs.Line.{SetText}
 use Rattle.pw_tariff.specs.Office.{OfficeFile, MeterText, office_of}
 use Rattle.pw_time.specs.Instants.{IsInstant}
@@ -16,13 +17,15 @@ use Rattle.pw_model.specs.declared.records.Entry.{Entry}
 use Rattle.pw_model.specs.Counting.{Member}
 use Rattle.pw_model.specs.Lists.{reading_entry}
 use Rattle.pw_model.specs.Office.{AllOfOffice}
+use Rattle.pw_record.specs.declared.fault.Cause.{Cause}
+use Rattle.pw_record.specs.declared.fault.Cause.TheVariants.{NoRegister}
 use Rattle.pw_record.specs.declared.origin.Source.{Source}
 use Rattle.pw_record.specs.declared.origin.Source.TheVariants.{Telegrams, Readouts}
-use Rattle.pw_record.specs.Origin.{HasOrigin}
+use Rattle.pw_record.specs.Origin.{HasOrigin, kind_of}
 use Rattle.pw_record.specs.inner.Steps.{IsSourceOf}
-use Rattle.pw_record.specs.Shown.{ShowOne, IsShown, reading_of}
+use Rattle.pw_record.specs.Shown.{AreShown, HasWrongSet, ShowOne, IsShown, reading_of}
 use Rattle.pw_obis.specs.Registers.{registers}
-use Rattle.pw_record.specs.Frames.{FrameGives, FramesGive}
+use Rattle.pw_record.specs.Frames.{BodyStops, FrameGives, FramesGive, RefusesBehind, RefusesFrame}
 use Rattle.pw_record.proofs.OfOffice.{within, given-by}
 
 pub frames-more : (file : OfficeFile) (source : Source) (frames : List FrameText) (frame : FrameText) (given more : List Entry) → FramesGive file source frames given
@@ -88,6 +91,17 @@ pub more-behind : (body : List ℕ) (frames : List FrameText) (place : ℕ) (end
     → place ≤ length body → BodyReading body frames → ⊥
 more-behind body frames place ended (Ok frame) h l r = no-reading body frames (frame_text frame) place h.0 l r
 more-behind body frames place ended (Err fault) h l r = h.0.no_reading r
+
+-- ---- why a body or a frame is refused
+pub stops-because : {file : OfficeFile} {source : Source} {body : List ℕ} {part : ℕ} {cause : Cause} (before : List FrameText) (given : List Entry) → FramesGive file source before given
+    → part ≡ length before + 1 → RefusesBehind file source body before cause → BodyStops file source body part cause
+stops-because before given good part_is refused = record { before = before; given = given; good = good; part_is = part_is; refused = refused }
+
+pub refused-for-readings : {file : OfficeFile} {source : Source} {frame : FrameText} {cause : Cause} (sets : List SetText) (meter instant : ℕ) → frame.kind ≡ kind_of source
+    → HasSets frame.block sets None → HasOrigin file source sets meter instant → HasWrongSet file meter sets cause ⊎ (AreShown file meter sets (λ register. None) × (cause ≡ NoRegister))
+    → RefusesFrame file source frame cause
+refused-for-readings sets meter instant kind_is has origin wrong =
+    inr (inr (inr (record { sets = sets; meter = meter; instant = instant; kind_is = kind_is; has = has; origin = origin; wrong = wrong })))
 
 -- six lists put behind one another
 pub six-put : (old a b c d e f n1 n2 n3 n4 n5 n6 : List Entry) → n1 ≡ old ++ a → n2 ≡ n1 ++ b → n3 ≡ n2 ++ c → n4 ≡ n3 ++ d → n5 ≡ n4 ++ e → n6 ≡ n5 ++ f

@@ -165,6 +165,9 @@ Four = List ℕ × List ℕ × List ℕ × List ℕ
 abbrev four : Four → Row
 four f = f.0 ∷ f.1 ∷ f.2 ∷ f.3 ∷ []
 
+abbrev FourTold : (Four → Outcome → Type 0) → Row → Outcome → Type 0
+FourTold told row = Step (For (length row ≡ 4 → ⊥) CsvForm) (λ (f : Four). row ≡ four f) told
+
 abbrev top_up : List ℕ → ℕ → ℕ → ℕ → Entry
 top_up reference account cents instant = record { key = key.TopUp reference; content = content.TopUp (record { 0 = account }) cents instant }
 
@@ -182,7 +185,7 @@ ReferenceTold file reference name amount when =
     Step (For (IsReference reference → ⊥) Reference) (λ (u : Unit {0}). IsReference reference) (λ u. NameTold file reference name amount when)
 
 abbrev TopUpTold : OfficeFile → Row → Outcome → Type 0
-TopUpTold file row = Step (For (length row ≡ 4 → ⊥) CsvForm) (λ (f : Four). row ≡ four f) (λ f. ReferenceTold file f.0 f.1 f.2 f.3)
+TopUpTold file row = FourTold (λ f. ReferenceTold file f.0 f.1 f.2 f.3) row
 
 one_when_told : (reference when : List ℕ) (account cents : ℕ) (r s : Outcome) → WhenTold reference when account cents r → WhenTold reference when account cents s → r ≡ s
 one_when_told reference when account cents = one_step (WrongStamp when) (λ (t : ℕ). IsUtcOutcome when (Ok t)) (λ t r. r ≡ Ok (top_up reference account cents t))
@@ -223,12 +226,16 @@ same_four f g e =
     let d : f.3 ≡ g.3 = cc in
     λ i. (a i, b i, c i, d i)
 
-one_top_up : (file : OfficeFile) → AreNamed file → (row : Row) (r s : Outcome) → TopUpTold file row r → TopUpTold file row s → r ≡ s
-one_top_up file named row = one_step (For (length row ≡ 4 → ⊥) CsvForm) (λ (f : Four). row ≡ four f) (λ f. ReferenceTold file f.0 f.1 f.2 f.3)
+one_of_four : (told : Four → Outcome → Type 0) → ((f : Four) (r s : Outcome) → told f r → told f s → r ≡ s) → (row : Row) (r s : Outcome)
+    → FourTold told row r → FourTold told row s → r ≡ s
+one_of_four told one row = one_step (For (length row ≡ 4 → ⊥) CsvForm) (λ (f : Four). row ≡ four f) told
     (one_for (length row ≡ 4 → ⊥) CsvForm)
     (λ r f a b. a.0 (ap length b))
     (λ f g a b. same_four f g (sym a ∙ b))
-    (λ f x. one_reference_told file named f.0 f.1 f.2 f.3)
+    (λ f x. one f)
+
+one_top_up : (file : OfficeFile) → AreNamed file → (row : Row) (r s : Outcome) → TopUpTold file row r → TopUpTold file row s → r ≡ s
+one_top_up file named = one_of_four (λ f. ReferenceTold file f.0 f.1 f.2 f.3) (λ f. one_reference_told file named f.0 f.1 f.2 f.3)
 
 top_up_given : (file : OfficeFile) (row : Row) (e : Entry) → GivesTopUp file row e → TopUpTold file row (Ok e)
 top_up_given file row e x = inr (
@@ -262,7 +269,7 @@ abbrev ReadMeterTold : OfficeFile → List ℕ → List ℕ → List ℕ → Lis
 ReadMeterTold file id name when amount = Step (For (IsUnknownId file id) UnknownMeter) (HasId file id) (λ meter. RegisterTold file name when amount meter)
 
 abbrev ReadingTold : OfficeFile → Row → Outcome → Type 0
-ReadingTold file row = Step (For (length row ≡ 4 → ⊥) CsvForm) (λ (f : Four). row ≡ four f) (λ f. ReadMeterTold file f.0 f.1 f.2 f.3)
+ReadingTold file row = FourTold (λ f. ReadMeterTold file f.0 f.1 f.2 f.3) row
 
 one_energy_told : (amount : List ℕ) (meter : ℕ) (register : Register) (instant : ℕ) (r s : Outcome)
     → EnergyTold amount meter register instant r → EnergyTold amount meter register instant s → r ≡ s
@@ -298,11 +305,7 @@ one_read_meter_told file named id name when amount = one_step (For (IsUnknownId 
     (λ meter x. one_register_told file name when amount meter)
 
 one_reading : (file : OfficeFile) → AreNamed file → (row : Row) (r s : Outcome) → ReadingTold file row r → ReadingTold file row s → r ≡ s
-one_reading file named row = one_step (For (length row ≡ 4 → ⊥) CsvForm) (λ (f : Four). row ≡ four f) (λ f. ReadMeterTold file f.0 f.1 f.2 f.3)
-    (one_for (length row ≡ 4 → ⊥) CsvForm)
-    (λ r f a b. a.0 (ap length b))
-    (λ f g a b. same_four f g (sym a ∙ b))
-    (λ f x. one_read_meter_told file named f.0 f.1 f.2 f.3)
+one_reading file named = one_of_four (λ f. ReadMeterTold file f.0 f.1 f.2 f.3) (λ f. one_read_meter_told file named f.0 f.1 f.2 f.3)
 
 reading_given : (file : OfficeFile) (row : Row) (e : Entry) → GivesReading file row e → ReadingTold file row (Ok e)
 reading_given file row e x = inr (

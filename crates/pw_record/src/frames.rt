@@ -1,15 +1,15 @@
 //! Bodies of telegrams and of readouts.
 
 ghost use Rattle.std.specs.Prelude.{◌≡◌, ◌<◌, ◌++◌, List, Option, Some, None, IfOk, IfErr, OnOk, Err, length};
-ghost use Rattle.pw_frame.specs.Frame.{frame_text};
 ghost use Rattle.pw_obis.specs.Block.{HasSets};
 ghost use Rattle.pw_obis.specs.Line.{SetText};
+ghost use Rattle.pw_frame.specs.Frame.{frame_text};
 ghost use Rattle.pw_tariff.specs.Office.{office_of};
 ghost use Rattle.pw_model.specs.Office.{AllOfOffice};
-ghost use Rattle.pw_record.specs.inner.Steps.{IsSourceOf};
-ghost use Rattle.pw_record.specs.inner.Shown.{shown_in};
-ghost use Rattle.pw_record.specs.Shown.{readings_of};
 ghost use Rattle.pw_record.specs.Frames.{BodyGives, BodyRefused, FrameGives, ReadoutsGive, ReadoutsRefused, RefusesFrame, TelegramsGive, TelegramsRefused};
+ghost use Rattle.pw_record.specs.Shown.{readings_of};
+ghost use Rattle.pw_record.specs.inner.Shown.{shown_in};
+ghost use Rattle.pw_record.specs.inner.Steps.{IsSourceOf};
 
 use crate::fault::{Cause, Halt, MEMORY_FAULT, UploadFault};
 use crate::order::in_order;

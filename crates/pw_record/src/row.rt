@@ -45,15 +45,7 @@ pub fn is_header(kind: RowKind, row: &ByteRecord) -> bool
                 && start == b"start".as_slice()
                 && account == b"account".as_slice()
         }
-        RowKind::TopUp => {
-            let Some((reference, account, cents, instant)) = four(row, 0) else {
-                return false;
-            };
-            reference == b"reference".as_slice()
-                && account == b"account".as_slice()
-                && cents == b"cents".as_slice()
-                && instant == b"instant".as_slice()
-        }
+        RowKind::TopUp => is_four(row, 0, b"reference", b"account", b"cents", b"instant"),
         RowKind::Withdrawal => is_withdrawals_header(row),
     }
 }
@@ -64,13 +56,25 @@ fn is_withdrawals_header(row: &ByteRecord) -> bool
     if !begins_with(row, b"kind".as_slice()) {
         return false;
     }
-    let Some((first, second, third, fourth)) = four(row, 1) else {
+    is_four(row, 1, b"first", b"second", b"third", b"fourth")
+}
+
+// Whether a row's fields from the one at `at` on are these four.
+fn is_four(
+    row: &ByteRecord,
+    at: usize,
+    first: &[u8],
+    second: &[u8],
+    third: &[u8],
+    fourth: &[u8],
+) -> bool
+    requires { at ≤ 1 }
+    ensures { IsTrue result ↔ (drop at (fields_of row.now) ≡ first.now ∷ second.now ∷ third.now ∷ fourth.now ∷ []) }
+{
+    let Some(fields) = four(row, at) else {
         return false;
     };
-    first == b"first".as_slice()
-        && second == b"second".as_slice()
-        && third == b"third".as_slice()
-        && fourth == b"fourth".as_slice()
+    fields.0 == first && fields.1 == second && fields.2 == third && fields.3 == fourth
 }
 
 /// The entry of a row.
@@ -280,16 +284,7 @@ fn three(row: &ByteRecord, first: usize) -> Option<(&[u8], &[u8], &[u8])>
     if row.len() != first + 3 {
         return None;
     }
-    let Some(one) = row.get(first) else {
-        return None;
-    };
-    let Some(two) = row.get(first + 1) else {
-        return None;
-    };
-    let Some(three) = row.get(first + 2) else {
-        return None;
-    };
-    Some((one, two, three))
+    Some((row.get(first)?, row.get(first + 1)?, row.get(first + 2)?))
 }
 
 /// A row's fields from the one at `first` on, where they are four.
@@ -301,17 +296,10 @@ fn four(row: &ByteRecord, first: usize) -> Option<(&[u8], &[u8], &[u8], &[u8])>
     if row.len() != first + 4 {
         return None;
     }
-    let Some(one) = row.get(first) else {
-        return None;
-    };
-    let Some(two) = row.get(first + 1) else {
-        return None;
-    };
-    let Some(three) = row.get(first + 2) else {
-        return None;
-    };
-    let Some(four) = row.get(first + 3) else {
-        return None;
-    };
-    Some((one, two, three, four))
+    Some((
+        row.get(first)?,
+        row.get(first + 1)?,
+        row.get(first + 2)?,
+        row.get(first + 3)?,
+    ))
 }

@@ -3,21 +3,15 @@
 ghost use Rattle.std.specs.Prelude.{ℕ, IfSome, IfNone};
 ghost use Rattle.pw_record.specs.WattHours.{IsWattHours};
 
-use crate::digits::with_digits;
+use crate::digits::number_of;
 use pw_obis::{LARGEST_WATT_HOURS, WattHours};
-
-/// The most digits in which watt-hours are written.
-pub const MOST_DIGITS: usize = 11;
 
 /// The watt-hours of a text of 1 to 11 digits.
 pub fn watt_hours(text: &[u8]) -> Option<WattHours>
     ensures some { IfSome result (λ wh. IsWattHours text.now wh) }
     ensures none { IfNone result ((wh : ℕ) → IsWattHours text.now wh → ⊥) }
 {
-    if text.is_empty() || text.len() > MOST_DIGITS {
-        return None;
-    }
-    let Some(number) = with_digits(0, text, LARGEST_WATT_HOURS) else {
+    let Some(number) = number_of(text, 11, LARGEST_WATT_HOURS) else {
         return None;
     };
     WattHours::of(number)

@@ -66,18 +66,6 @@ instant-read : (t : ℕ) → IsInstant t → IsUtcOutcome (instant_text t) (Ok t
 unfolding instant_text
 instant-read t h = written_text t h
 
-cents-read : (c : ℕ) → 1 ≤ c → c ≤ most_cents → IsCents (decimal c) c
-cents-read c l m =
-    let wide : c < 2 ^ 64 = omega (arith, m) in
-    record {
-      some = decimal_nonempty c wide;
-      few = length-decimal-le 9 c (omega arith) (omega (arith, m)) wide;
-      digits = (decimal_is_IsNumeral c wide).0.1;
-      value = sym (decimal_is_IsNumeral c wide).1;
-      least = l;
-      most = m;
-    }
-
 watt_hours-read : (w : ℕ) → w ≤ LARGEST_WATT_HOURS → IsWattHours (decimal w) w
 watt_hours-read w m =
     let wide : w < 2 ^ 64 = omega (arith, m) in
@@ -87,6 +75,11 @@ watt_hours-read w m =
       digits = (decimal_is_IsNumeral w wide).0.1;
       value = sym (decimal_is_IsNumeral w wide).1;
     }
+
+cents-read : (c : ℕ) → 1 ≤ c → c ≤ most_cents → IsCents (decimal c) c
+cents-read c l m =
+    let read = watt_hours-read c (omega (arith, m)) in
+    record { some = read.some; few = length-decimal-le 9 c (omega arith) (omega (arith, m)) (omega (arith, m)); digits = read.digits; value = read.value; least = l; most = m }
 
 -- an account's name isn't empty
 not-empty : (file : OfficeFile) → IsSound file → (a : ℕ) → a < length file.accounts → account_name file a ≡ [] → ⊥

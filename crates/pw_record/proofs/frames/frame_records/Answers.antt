@@ -3,7 +3,7 @@ use Rattle.std.proofs.lemmas.List.{length-append}
 use Rattle.pw_frame.specs.Frame.{frame_text}
 use Rattle.pw_frame.specs.Body.{Front, BodyFault, BodyReading}
 use Rattle.pw_record.specs.Frames.{FramesGive}
-use Rattle.pw_record.proofs.FrameFacts.{frames-more, frames-of-office, more-behind}
+use Rattle.pw_record.proofs.FrameFacts.{frames-more, frames-of-office, more-behind, stops-because}
 use Rattle.pw_record.proofs.OfOffice.{have-references, listed-of-office}
 use Rattle.pw_record.proofs.frames.frame_records.Goals as goal
 
@@ -11,37 +11,25 @@ pub returns-in-Err-clause-refused : goal.returns-in-Err-clause-refused
 returns-in-Err-clause-refused c =
     let i = c.frames.invariant in
     let h = rw c.in-Err.is at (c.in-Some.ensures.next i.2 i.0 i.1) in
-    inr (record {
-      before = i.0;
-      given = c.frames.given.items;
-      good = i.4;
-      part_is = i.5;
-      refused = inr (inl (record {
-        fault = c.in-Err.fault;
-        few = omega (arith, i.5, c.if-part-gt-MOST_FRAMES.false);
-        stops = subst (λ (b : List ℕ). BodyFault b i.0 c.in-Err.fault) i.3 h.0;
-        cause_is = refl;
-      }));
-    })
+    inr (stops-because i.0 c.frames.given.items i.4 i.5 (inr (inl (record {
+      fault = c.in-Err.fault;
+      few = omega (arith, i.5, c.if-part-gt-MOST_FRAMES.false);
+      stops = subst (λ (b : List ℕ). BodyFault b i.0 c.in-Err.fault) i.3 h.0;
+      cause_is = refl;
+    }))))
 
 pub returns-in-Err-Refused-clause-refused : goal.returns-in-Err-Refused-clause-refused
 returns-in-Err-Refused-clause-refused c =
     let i = c.frames.invariant in
     let h = rw c.in-Ok.is at (c.in-Some.ensures.next i.2 i.0 i.1) in
     let front = subst (λ (b : List ℕ). Front b (i.0 ++ frame_text c.in-Ok.frame ∷ []) c.next_frame.new.self.place) i.3 h.0 in
-    rw c.in-Err-Refused.field-0-is (inr (record {
-      before = i.0;
-      given = c.frames.given.items;
-      good = i.4;
-      part_is = i.5;
-      refused = inr (inr (record {
-        frame = frame_text c.in-Ok.frame;
-        place = c.next_frame.new.self.place;
-        few = omega (arith, i.5, c.if-part-gt-MOST_FRAMES.false);
-        front = front;
-        refused = c.in-Err-Refused.ensures.err c.in-Err-Refused.cause (ap Err c.in-Err-Refused.field-0-is);
-      }));
-    }))
+    rw c.in-Err-Refused.field-0-is (inr (stops-because i.0 c.frames.given.items i.4 i.5 (inr (inr (record {
+      frame = frame_text c.in-Ok.frame;
+      place = c.next_frame.new.self.place;
+      few = omega (arith, i.5, c.if-part-gt-MOST_FRAMES.false);
+      front = front;
+      refused = c.in-Err-Refused.ensures.err c.in-Err-Refused.cause (ap Err c.in-Err-Refused.field-0-is);
+    })))))
 
 pub frames-preserved : goal.frames-preserved
 frames-preserved c =
@@ -89,16 +77,10 @@ returns-then-part-gt-MOST_FRAMES-clause-refused c =
     let low : c.next_frame.new.self.place ≤ length c.frames.frames.body = omega (arith, c.in-Some.ensures.within, ap length body) in
     let more : BodyReading c.frames.frames.body i.0 → ⊥ =
     more-behind c.frames.frames.body i.0 c.next_frame.new.self.place c.next_frame.new.self.ended c.in-Some.next (c.in-Some.ensures.next i.2 i.0 i.1) low in
-    inr (record {
-      before = i.0;
-      given = c.frames.given.items;
-      good = i.4;
-      part_is = i.5;
-      refused = inl (record {
-        place = c.frames.frames.place;
-        many = omega (arith, i.5, i.6, c.if-part-gt-MOST_FRAMES.true);
-        front = subst (λ (b : List ℕ). Front b i.0 c.frames.frames.place) i.3 i.1;
-        more = subst (λ (b : List ℕ). BodyReading b i.0 → ⊥) i.3 more;
-        cause_is = refl;
-      });
-    })
+    inr (stops-because i.0 c.frames.given.items i.4 i.5 (inl (record {
+      place = c.frames.frames.place;
+      many = omega (arith, i.5, i.6, c.if-part-gt-MOST_FRAMES.true);
+      front = subst (λ (b : List ℕ). Front b i.0 c.frames.frames.place) i.3 i.1;
+      more = subst (λ (b : List ℕ). BodyReading b i.0 → ⊥) i.3 more;
+      cause_is = refl;
+    })))

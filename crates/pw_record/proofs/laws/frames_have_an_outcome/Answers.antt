@@ -5,7 +5,7 @@ use Rattle.pw_frame.specs.Body.{Front, BodyFault, BodyReading}
 use Rattle.pw_record.specs.declared.fault.Cause.TheVariants.{Frame, TooManyParts}
 use Rattle.pw_record.specs.Shown.{readings_of}
 use Rattle.pw_record.specs.inner.Shown.{shown_in}
-use Rattle.pw_record.proofs.FrameFacts.{frames-more, more-behind}
+use Rattle.pw_record.proofs.FrameFacts.{frames-more, more-behind, stops-because}
 use Rattle.pw_record.proofs.EachListed.{listed-there_is}
 use Rattle.pw_record.proofs.EachOutcome.{not-memory}
 use Rattle.pw_record.proofs.laws.frames_have_an_outcome.Goals as goal
@@ -20,19 +20,13 @@ returns-then-part-gt-MOST_FRAMES c =
     inr (
       c.frames.part,
       TooManyParts,
-      record {
-        before = i.0;
-        given = i.1;
-        good = i.5;
-        part_is = i.6;
-        refused = inl (record {
-          place = c.frames.frames.place;
-          many = omega (arith, i.6, i.7, c.if-part-gt-MOST_FRAMES.true);
-          front = subst (λ (b : List ℕ). Front b i.0 c.frames.frames.place) i.4 i.2;
-          more = subst (λ (b : List ℕ). BodyReading b i.0 → ⊥) i.4 more;
-          cause_is = refl;
-        });
-      },
+      stops-because i.0 i.1 i.5 i.6 (inl (record {
+        place = c.frames.frames.place;
+        many = omega (arith, i.6, i.7, c.if-part-gt-MOST_FRAMES.true);
+        front = subst (λ (b : List ℕ). Front b i.0 c.frames.frames.place) i.4 i.2;
+        more = subst (λ (b : List ℕ). BodyReading b i.0 → ⊥) i.4 more;
+        cause_is = refl;
+      })),
       λ e. cc,
     )
 
@@ -43,18 +37,12 @@ returns-in-Err c =
     inr (
       c.frames.part,
       Frame c.in-Err.field-0,
-      record {
-        before = i.0;
-        given = i.1;
-        good = i.5;
-        part_is = i.6;
-        refused = inr (inl (record {
-          fault = c.in-Err.field-0;
-          few = omega (arith, i.6, c.if-part-gt-MOST_FRAMES.false);
-          stops = subst (λ (b : List ℕ). BodyFault b i.0 c.in-Err.field-0) i.4 h.0;
-          cause_is = refl;
-        }));
-      },
+      stops-because i.0 i.1 i.5 i.6 (inr (inl (record {
+        fault = c.in-Err.field-0;
+        few = omega (arith, i.6, c.if-part-gt-MOST_FRAMES.false);
+        stops = subst (λ (b : List ℕ). BodyFault b i.0 c.in-Err.field-0) i.4 h.0;
+        cause_is = refl;
+      }))),
       λ e. cc,
     )
 
@@ -66,19 +54,13 @@ returns-in-Err-read_frame c =
     inr (
       c.frames.part,
       c.in-Err-read_frame.field-0,
-      record {
-        before = i.0;
-        given = i.1;
-        good = i.5;
-        part_is = i.6;
-        refused = inr (inr (record {
-          frame = frame_text c.in-Ok.frame;
-          place = c.next_frame.new.self.place;
-          few = omega (arith, i.6, c.if-part-gt-MOST_FRAMES.false);
-          front = front;
-          refused = c.in-Err-read_frame.ensures.err;
-        }));
-      },
+      stops-because i.0 i.1 i.5 i.6 (inr (inr (record {
+        frame = frame_text c.in-Ok.frame;
+        place = c.next_frame.new.self.place;
+        few = omega (arith, i.6, c.if-part-gt-MOST_FRAMES.false);
+        front = front;
+        refused = c.in-Err-read_frame.ensures.err;
+      }))),
       not-memory c.args.office.now c.args.source (frame_text c.in-Ok.frame) c.in-Err-read_frame.field-0 c.in-Err-read_frame.ensures.err,
     )
 

@@ -1,11 +1,18 @@
-use Rattle.std.proofs.Common.{◌++◌, ◌∷◌, [], List, subst, sym, ap, ◌∙◌, Ok}
+use Rattle.std.proofs.Common.{◌≡◌, ℕ, Option, ◌++◌, ◌∷◌, [], List, subst, sym, ap, ◌∙◌, Ok}
+use Rattle.pw_obis.specs.declared.reference.Register.{Register}
 use Rattle.pw_obis.specs.Line.{SetText}
+use Rattle.pw_tariff.specs.Office.{OfficeFile}
+use Rattle.pw_record.specs.declared.fault.Cause.{Cause}
 use Rattle.pw_record.specs.inner.Told.{told_text}
-use Rattle.pw_record.specs.Shown.{AreShown, Measures}
+use Rattle.pw_record.specs.Shown.{AreShown, HasWrongSet, IsWrongSet, Measures}
 use Rattle.pw_record.specs.inner.Shown.{shown_in}
 use Rattle.pw_record.proofs.Members.{given_behind, given_here, all_done, all_sets}
 use Rattle.pw_record.proofs.Measuring.{still-shown, now-shown}
 use Rattle.pw_record.proofs.shown.all_shown.Goals as goal
+
+has-wrong : {file : OfficeFile} {meter : ℕ} {sets : List SetText} {cause : Cause} (before : List SetText) (set : SetText) (behind : List SetText) (shown : Register → Option ℕ)
+    → sets ≡ before ++ set ∷ behind → AreShown file meter before shown → IsWrongSet file meter shown set cause → HasWrongSet file meter sets cause
+has-wrong before set behind shown sets_are right wrong = record { before = before; set = set; behind = behind; shown = shown; sets_are = sets_are; right = right; wrong = wrong }
 
 pub returns-in_default-next-clause-ok : goal.returns-in_default-next-clause-ok
 returns-in_default-next-clause-ok c = λ sets x.
@@ -28,16 +35,10 @@ pub returns-in-Err-clause-err : goal.returns-in-Err-clause-err
 returns-in-Err-clause-err c = λ sets x.
     let i = c.sets.invariant in
     let h = rw c.in-Ok.is at c.in-Some.ensures in
-    record {
-      before = i.0;
-      set = told_text c.in-Ok.set;
-      behind = c.next_set.new.self.sets;
-      shown = shown_in c.sets.shown;
-      sets_are = all_sets c.args.block.now c.new-sets.result.sets c.new-sets.result.refusal c.new-sets.ensures sets x
-          ∙ given_here c.new-sets.result.sets i.0 c.sets.sets.sets c.next_set.new.self.sets h.0 c.in-Ok.set h.1 i.1 h.2;
-      right = i.3;
-      wrong = c.in-Err.ensures.err;
-    }
+    has-wrong i.0 (told_text c.in-Ok.set) c.next_set.new.self.sets (shown_in c.sets.shown)
+    (all_sets c.args.block.now c.new-sets.result.sets c.new-sets.result.refusal c.new-sets.ensures sets x
+    ∙ given_here c.new-sets.result.sets i.0 c.sets.sets.sets c.next_set.new.self.sets h.0 c.in-Ok.set h.1 i.1 h.2)
+    i.3 c.in-Err.ensures.err
 
 pub returns-then-not-note-clause-err : goal.returns-then-not-note-clause-err
 returns-then-not-note-clause-err c = λ sets x.
@@ -45,16 +46,10 @@ returns-then-not-note-clause-err c = λ sets x.
     let h = rw c.in-Ok.is at c.in-Some.ensures in
     let measures : Measures c.args.office.now c.args.meter.0 (told_text c.in-Ok.set) c.in-Ok-Some.reading.register (Ok c.in-Ok-Some.reading.wh) = rw c.in-Ok-Some.field-0-is at c.in-Ok-Some.ensures.ok in
     let unlike = c.if-not-note.ensures.unlike in
-    record {
-      before = i.0;
-      set = told_text c.in-Ok.set;
-      behind = c.next_set.new.self.sets;
-      shown = shown_in c.sets.shown;
-      sets_are = all_sets c.args.block.now c.new-sets.result.sets c.new-sets.result.refusal c.new-sets.ensures sets x
-          ∙ given_here c.new-sets.result.sets i.0 c.sets.sets.sets c.next_set.new.self.sets h.0 c.in-Ok.set h.1 i.1 h.2;
-      right = i.3;
-      wrong = (c.in-Ok-Some.reading.register, c.in-Ok-Some.reading.wh, unlike.0, measures, unlike.1, unlike.2);
-    }
+    has-wrong i.0 (told_text c.in-Ok.set) c.next_set.new.self.sets (shown_in c.sets.shown)
+    (all_sets c.args.block.now c.new-sets.result.sets c.new-sets.result.refusal c.new-sets.ensures sets x
+    ∙ given_here c.new-sets.result.sets i.0 c.sets.sets.sets c.next_set.new.self.sets h.0 c.in-Ok.set h.1 i.1 h.2)
+    i.3 (c.in-Ok-Some.reading.register, c.in-Ok-Some.reading.wh, unlike.0, measures, unlike.1, unlike.2)
 
 pub sets-preserved : goal.sets-preserved
 sets-preserved c =
