@@ -2,11 +2,11 @@
 
 ghost use Rattle.std.specs.Prelude.{◌≡◌, Option, List};
 ghost use Rattle.pw_obis.specs.Address.{IsCodeOf};
+ghost use Rattle.pw_obis.specs.FirstValue.{IsFirstValue};
+ghost use Rattle.pw_obis.specs.Laws.{ExactlyOne, IsOutcome};
 ghost use Rattle.pw_obis.specs.References.{IsRegisterOf};
 ghost use Rattle.pw_obis.specs.Registers.{registers};
-ghost use Rattle.pw_obis.specs.FirstValue.{IsFirstValue};
 ghost use Rattle.pw_obis.specs.Value.{IsEnergy};
-ghost use Rattle.pw_obis.specs.Laws.{ExactlyOne, IsOutcome};
 
 use crate::address::code;
 use crate::data_set::{Set, first_value};

@@ -1,15 +1,15 @@
 //! Whether the texts of a file's objects say what becomes of a row that breaks a rule.
 
-ghost use Rattle.std.specs.Prelude.{◌≡◌, ◌↔◌, IfOk, IsTrue, codes, false};
 ghost use Rattle.std.specs.List.{AllByRecursion};
+ghost use Rattle.std.specs.Prelude.{◌≡◌, ◌↔◌, IfOk, IsTrue, codes, false};
 ghost use Rattle.sqlite.specs.Held.{state};
 ghost use Rattle.sqlite.specs.State.{HasCleanDisk};
 ghost use Rattle.sqlite_catalog.specs.Listing.{mentions};
 ghost use Rattle.pw_schema.specs.Calls.{Looks};
 ghost use Rattle.pw_schema.specs.Conflicts.{AreWithoutConflict, IsWithoutConflict};
+ghost use Rattle.pw_schema.specs.Tables.{IsKnown};
 ghost use Rattle.pw_schema.specs.inner.Calls.{Asks};
 ghost use Rattle.pw_schema.specs.inner.Listed.{ShowsTexts};
-ghost use Rattle.pw_schema.specs.Tables.{IsKnown};
 
 use sqlite::types::ValueRef;
 use sqlite::{Alter, Connection, Error, Row};

@@ -30,7 +30,8 @@ use Rattle.pw_store.proofs.Scans.{equal_ints, tied}
 use Rattle.pw_store.proofs.Finding.{first, second, same_number, meter_of, second_of, place_one, some_member, member_some, owner_in, each_named}
 use Rattle.pw_store.proofs.OfKinds.{from_table, in_table}
 use Rattle.pw_store.proofs.Telling.{told_at}
-use Rattle.pw_store.proofs.Texts.{assignment_at_text, assignment_at_query, assignment_at_is, three_ties}
+use Rattle.pw_store.specs.inner.Keys.{assignment_at_text}
+use Rattle.pw_store.proofs.Texts.{assignment_at_query, assignment_at_is, three_ties}
 use Rattle.pw_store.proofs.Lacking.{env_of, found, found_is, is_none, none_counted, passes, seen, tied_to, whole}
 use Rattle.pw_store.proofs.Standing.{all_filtered, both_stand, filter_both, none_tied, once_stand}
 

@@ -33,7 +33,8 @@ use Rattle.pw_store.proofs.Finding.{first, second, same_number, meter_of, regist
 use Rattle.pw_store.proofs.OfKinds.{from_table, in_table}
 use Rattle.pw_store.proofs.Adding.{register_back}
 use Rattle.pw_store.proofs.Telling.{told_at}
-use Rattle.pw_store.proofs.Texts.{reading_at_text, reading_at_query, reading_at_is, four_ties}
+use Rattle.pw_store.specs.inner.Keys.{reading_at_text}
+use Rattle.pw_store.proofs.Texts.{reading_at_query, reading_at_is, four_ties}
 use Rattle.pw_store.proofs.Lacking.{env_of, found, found_is, is_none, none_counted, passes, seen, tied_to, whole}
 use Rattle.pw_store.proofs.Standing.{all_filtered, both_stand, filter_both, none_tied, once_stand}
 

@@ -3,6 +3,7 @@ pub mod Again
 pub mod Amounts
 pub mod AtReading
 pub mod AtAssignment
+pub mod AtKey
 pub mod AtTopup
 pub mod Checked
 pub mod Clashing

@@ -3,32 +3,51 @@ use Rattle.std.proofs.Common.{◌≡◌, ◌<◌, ◌≤◌, ℕ, List, length, 
 use Rattle.sqlite.specs.declared.error.Error.{Error}
 use Rattle.sqlite.specs.Order.{Row}
 use Rattle.sqlite.specs.State.{State, HasCleanDisk, Executes, Shown, Survives, CommitsBy}
+use Rattle.sqlite.specs.Schema.{Schema}
+use Rattle.sqlite.specs.Listing.{understood}
+use Rattle.sqlite.proofs.Callers.{IsPlain}
 use Rattle.pw_model.specs.declared.records.TotalKey.{TotalKey}
 use Rattle.pw_model.specs.declared.records.TotalKey.TheVariants as total
+use Rattle.pw_schema.specs.Calls.{Writes}
 use Rattle.pw_schema.specs.Tables.{IsOurs}
 use Rattle.pw_schema.proofs.Outcomes.{early}
 use Rattle.pw_store.specs.Content.{total_in}
 use Rattle.pw_store.specs.Kept.{IsStore}
 use Rattle.pw_store.specs.declared.changes.Change.TheVariants.{TakeTotal, SetTotal, PutTotal}
-use Rattle.pw_store.specs.inner.Changing.{IsFree, IsTaken, Makes, PutsEnergy, changed, total_row}
+use Rattle.pw_store.specs.inner.Changing.{IsFree, IsTaken, Makes, PutsEnergy, changed, text_by, total_row}
 use Rattle.pw_store.specs.inner.Filling.{is_of_energy}
 use Rattle.pw_store.specs.inner.Seconds.{first_amount}
 use Rattle.pw_store.proofs.Amounts.{energy_if, payment_if}
 use Rattle.pw_store.proofs.EnergyRows as energy
-use Rattle.pw_store.proofs.KeptTexts.{delete_payment_text, delete_total_text, insert_payment_text, insert_total_text, payment_text, set_payment_text, set_total_text, total_text}
+use Rattle.pw_store.proofs.KeptTexts.{delete_payment_is, delete_payment_query, delete_payment_text, delete_total_is, delete_total_query, delete_total_text, insert_payment_text, insert_total_text, payment_is, payment_text, set_payment_is, set_payment_query, set_payment_text, set_total_is, set_total_query, set_total_text, total_is, total_text}
 use Rattle.pw_store.proofs.PaymentRows as payment
+use Rattle.pw_store.proofs.Querying.{ours_plain}
+use Rattle.pw_store.proofs.Taking.{edits_if}
 
 abbrev pub take_text : TotalKey → List ℕ
-take_text (total.Energy o p b d) = delete_total_text
-take_text (total.TopUps a) = delete_payment_text
+take_text k = text_by k delete_total_text delete_payment_text
 
 abbrev pub set_text : TotalKey → List ℕ
-set_text (total.Energy o p b d) = set_total_text
-set_text (total.TopUps a) = set_payment_text
+set_text k = text_by k set_total_text set_payment_text
 
 abbrev pub ask_text : TotalKey → List ℕ
-ask_text (total.Energy o p b d) = total_text
-ask_text (total.TopUps a) = payment_text
+ask_text k = text_by k total_text payment_text
+
+-- ---- what they leave of the connection
+abbrev Edits : List ℕ → Type 1
+Edits text = (old new : State) (params : Row) (r : Result ℕ Error) → (HasCleanDisk old → IsOurs old.now.schema) → (HasCleanDisk old → IsTrue old.in_transaction) → (HasCleanDisk new → Executes text params old new r) → Survives old new (CommitsBy text params old) → Writes r old new
+
+pub take_edits : (k : TotalKey) → Edits (take_text k)
+take_edits (total.Energy o p b d) = edits_if false delete_total_text 11 delete_total_query delete_total_is
+take_edits (total.TopUps a) = edits_if false delete_payment_text 7 delete_payment_query delete_payment_is
+
+pub set_edits : (k : TotalKey) → Edits (set_text k)
+set_edits (total.Energy o p b d) = edits_if true set_total_text 11 set_total_query set_total_is
+set_edits (total.TopUps a) = edits_if true set_payment_text 7 set_payment_query set_payment_is
+
+pub ask_plain : (k : TotalKey) (s : Schema) → IsOurs s → IsPlain (understood s (ask_text k))
+ask_plain (total.Energy o p b d) = ours_plain total_is
+ask_plain (total.TopUps a) = ours_plain payment_is
 
 -- ---- by a text and values that are those of the key
 module _ (key : TotalKey) (old new : State) (text : List ℕ) (params : Row) (store : HasCleanDisk old → IsStore old.now) where

@@ -1,5 +1,5 @@
 -- From rows that were read in order to the records of the tables, each once.
-use Rattle.std.proofs.Common.{◌≡◌, ◌<◌, inl, inr, ℕ, zero, suc, ◌+◌, take, List, [], ◌∷◌, ◌++◌, map, append_assoc, refl, sym, ap, subst, subst₂, ◌∙◌, arith}
+use Rattle.std.proofs.Common.{◌≡◌, ◌<◌, inl, inr, ℕ, ◌+◌, take, get_or, List, [], ◌∷◌, ◌++◌, map, append_assoc, refl, sym, ap, subst, subst₂, ◌∙◌, arith}
 use Rattle.std.proofs.lemmas.Bool.{cases_lt}
 use Rattle.std.specs.List.{AllByRecursion}
 use Rattle.std.specs.List.Sorted.{IsPermutation}
@@ -109,12 +109,7 @@ place_low : (k : RecordKind) → place k < 6
 place_low = by_kind (λ k. place k < 6) (omega arith) (omega arith) (omega arith) (omega arith) (omega arith) (omega arith)
 
 abbrev kind_of_place : ℕ → RecordKind
-kind_of_place zero = Readings
-kind_of_place (suc zero) = Assignments
-kind_of_place (suc (suc zero)) = TopUps
-kind_of_place (suc (suc (suc zero))) = WithdrawnReadings
-kind_of_place (suc (suc (suc (suc zero)))) = WithdrawnAssignments
-kind_of_place _ = WithdrawnTopUps
+kind_of_place n = get_or (kinds_of Third) n WithdrawnTopUps
 
 placed : (k : RecordKind) → kind_of_place (place k) ≡ k
 placed = by_kind (λ k. kind_of_place (place k) ≡ k) refl refl refl refl refl refl

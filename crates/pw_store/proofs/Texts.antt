@@ -19,6 +19,7 @@ use Rattle.pw_model.specs.declared.records.Named.{Named}
 use Rattle.pw_model.specs.declared.records.Named.TheVariants as named
 use Rattle.pw_store.specs.Content.{tree_of}
 use Rattle.pw_store.specs.inner.Forms.{insert, find}
+use Rattle.pw_store.specs.inner.Keys.{assignment_at_text, reading_at_text, topup_at_text}
 use Rattle.pw_store.specs.inner.Lists.{kind_at}
 use Rattle.pw_store.specs.inner.Records.{entry_as}
 use Rattle.pw_store.specs.declared.forms.Form.{Form}
@@ -159,9 +160,6 @@ four_ties = tie 1 ∷ tie 2 ∷ tie 3 ∷ tie 4 ∷ []
 abbrev pub three_ties : List Term
 three_ties = tie 1 ∷ tie 2 ∷ tie 3 ∷ []
 
-abbrev pub reading_at_text : List ℕ
-reading_at_text = codes "SELECT wh FROM record_reading WHERE meter = ?1 AND register = ?2 AND instant = ?3 AND NOT EXISTS (SELECT 1 FROM withdrawn_reading WHERE withdrawn_reading.meter = record_reading.meter AND withdrawn_reading.register = record_reading.register AND withdrawn_reading.instant = record_reading.instant AND withdrawn_reading.wh = record_reading.wh) LIMIT 2"
-
 abbrev pub reading_at_query : Query
 reading_at_query = record (plain_query 1 (eq 1 0 ∷ eq 2 1 ∷ eq 3 2 ∷ none ∷ []) (col 1 4 ∷ [])) { limit = lit (Int (pos 2)) }
 
@@ -169,18 +167,12 @@ pub reading_at_is : IsQuery reading_at_text (lacking 1 14 four_ties reading_at_q
 unfolding understood everything
 reading_at_is = record { names = codes "wh" ∷ []; is = λ checks. refl; unlisted = λ checks. refl; plain = λ checks. (refl, refl) }
 
-abbrev pub assignment_at_text : List ℕ
-assignment_at_text = codes "SELECT owner FROM record_assignment WHERE meter = ?1 AND start = ?2 AND NOT EXISTS (SELECT 1 FROM withdrawn_assignment WHERE withdrawn_assignment.meter = record_assignment.meter AND withdrawn_assignment.start = record_assignment.start AND withdrawn_assignment.owner = record_assignment.owner) LIMIT 2"
-
 abbrev pub assignment_at_query : Query
 assignment_at_query = record (plain_query 3 (eq 1 0 ∷ eq 2 1 ∷ none ∷ []) (col 1 3 ∷ [])) { limit = lit (Int (pos 2)) }
 
 pub assignment_at_is : IsQuery assignment_at_text (lacking 3 16 three_ties assignment_at_query)
 unfolding understood everything
 assignment_at_is = record { names = codes "owner" ∷ []; is = λ checks. refl; unlisted = λ checks. refl; plain = λ checks. (refl, refl) }
-
-abbrev pub topup_at_text : List ℕ
-topup_at_text = codes "SELECT account, cents, instant FROM record_topup WHERE reference = ?1 AND NOT EXISTS (SELECT 1 FROM withdrawn_topup WHERE withdrawn_topup.reference = record_topup.reference AND withdrawn_topup.account = record_topup.account AND withdrawn_topup.cents = record_topup.cents AND withdrawn_topup.instant = record_topup.instant) LIMIT 2"
 
 abbrev pub topup_at_query : Query
 topup_at_query = record (plain_query 5 (eq 1 0 ∷ none ∷ []) (col 1 2 ∷ col 1 3 ∷ col 1 4 ∷ [])) { limit = lit (Int (pos 2)) }

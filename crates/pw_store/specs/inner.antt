@@ -11,3 +11,4 @@ pub mod Truth
 pub mod Filling
 pub mod Scanning
 pub mod Asking
+pub mod Keys

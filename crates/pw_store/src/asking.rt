@@ -13,9 +13,7 @@ ghost use Rattle.pw_store.specs.Content.{records_of};
 ghost use Rattle.pw_store.specs.Kept.{IsAwake, IsStore, NowIsStore};
 
 use crate::fault::AskFault;
-use crate::keys::{
-    contents_of_assignment, contents_of_reading, contents_of_topup, contents_of_withdrawal,
-};
+use crate::keys::{RecordKey, contents_of_record, contents_of_withdrawal};
 use crate::listings::record_rows;
 use crate::meters::{assignment_rows, reading_rows};
 use crate::records::{form_of, has_named};
@@ -76,9 +74,11 @@ pub(crate) fn contents<S: Alter>(
             meter,
             register,
             instant,
-        } => contents_of_reading(conn, *meter, *register, *instant),
-        Key::Assignment { meter, start } => contents_of_assignment(conn, *meter, *start),
-        Key::TopUp { reference } => contents_of_topup(conn, reference),
+        } => contents_of_record(conn, &RecordKey::Reading(*meter, *register, *instant)),
+        Key::Assignment { meter, start } => {
+            contents_of_record(conn, &RecordKey::Assignment(*meter, *start))
+        }
+        Key::TopUp { reference } => contents_of_record(conn, &RecordKey::TopUp(*reference)),
         Key::Withdrawal { named } => contents_of_withdrawal(conn, named),
     };
     match asked {

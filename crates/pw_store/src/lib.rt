@@ -25,7 +25,6 @@ mod shelf;
 mod starts;
 mod sums;
 mod told;
-mod topups;
 mod totals;
 mod transaction;
 mod truth;

@@ -12,7 +12,7 @@ ghost use Rattle.pw_schema.specs.declared.kind.StoreVersion.TheVariants.{Third};
 ghost use Rattle.pw_schema.specs.inner.Calls.{Asks};
 ghost use Rattle.pw_store.specs.Content.{total_in};
 ghost use Rattle.pw_store.specs.Kept.{IsStore};
-ghost use Rattle.pw_store.specs.inner.Changing.{Fits, IsFree, IsTaken, Makes, PutsEnergy, changed, total_row};
+ghost use Rattle.pw_store.specs.inner.Changing.{Fits, IsFree, IsTaken, Makes, PutsEnergy, changed, text_by, total_row};
 ghost use Rattle.pw_store.specs.inner.Filling.{TellsMore, is_of_energy};
 ghost use Rattle.pw_store.specs.inner.Given.{values_of};
 ghost use Rattle.pw_store.specs.inner.Seconds.{first_amount};
@@ -34,17 +34,12 @@ pub(crate) fn take_total<S: Alter>(conn: &mut Connection<S>, key: TotalKey) -> R
     ensures done { HasCleanDisk (state S.Store conn.new) → IfOk result (λ rows. Makes (changed (Change.TakeTotal key) rows) (state S.Store conn.old) (state S.Store conn.new)) }
     ensures writes { Writes result (state S.Store conn.old) (state S.Store conn.new) }
 {
-    let given = columns_of(&key, None);
-    match key {
-        TotalKey::Energy { .. } => conn.execute(
-            "DELETE FROM period_total WHERE owner = ?1 AND period = ?2 AND band = ?3 AND direction = ?4",
-            given.values(),
-        ),
-        TotalKey::TopUps { .. } => conn.execute(
-            "DELETE FROM total_topup WHERE account = ?1",
-            given.values(),
-        ),
-    }
+    let text = text_of(
+        &key,
+        "DELETE FROM period_total WHERE owner = ?1 AND period = ?2 AND band = ?3 AND direction = ?4",
+        "DELETE FROM total_topup WHERE account = ?1",
+    );
+    conn.execute(text, columns_of(&key, None).values())
 }
 
 /// Sets a total in its row, if there is one, and tells how many rows there were.
@@ -60,17 +55,12 @@ pub(crate) fn set_total<S: Alter>(
     ensures taken { HasCleanDisk (state S.Store conn.new) → IfOk result (λ rows. IsTaken (Change.SetTotal key amount) rows (state S.Store conn.new).now.trees) }
     ensures writes { Writes result (state S.Store conn.old) (state S.Store conn.new) }
 {
-    let given = columns_of(&key, Some(amount));
-    match key {
-        TotalKey::Energy { .. } => conn.execute(
-            "UPDATE period_total SET wh = ?5 WHERE owner = ?1 AND period = ?2 AND band = ?3 AND direction = ?4",
-            given.values(),
-        ),
-        TotalKey::TopUps { .. } => conn.execute(
-            "UPDATE total_topup SET cents = ?2 WHERE account = ?1",
-            given.values(),
-        ),
-    }
+    let text = text_of(
+        &key,
+        "UPDATE period_total SET wh = ?5 WHERE owner = ?1 AND period = ?2 AND band = ?3 AND direction = ?4",
+        "UPDATE total_topup SET cents = ?2 WHERE account = ?1",
+    );
+    conn.execute(text, columns_of(&key, Some(amount)).values())
 }
 
 /// Puts the row of a total where none has its key.
@@ -104,16 +94,21 @@ pub(crate) fn total_rows<S: Alter>(
     ensures amount { HasCleanDisk (state S.Store conn.new) → IfOk result (λ rows. length rows.items ≤ 1 → first_amount rows.items ≡ total_in (state S.Store conn.old).now.trees key.now) }
     ensures asks { Asks result (state S.Store conn.old) (state S.Store conn.new) }
 {
-    let given = columns_of(key, None);
+    let text = text_of(
+        key,
+        "SELECT wh FROM period_total WHERE owner = ?1 AND period = ?2 AND band = ?3 AND direction = ?4",
+        "SELECT cents FROM total_topup WHERE account = ?1",
+    );
+    conn.query_all(text, columns_of(key, None).values())
+}
+
+// The text for a total of energy, or the one for a total of top-ups, by the key.
+fn text_of(key: &TotalKey, energy: &'static str, topups: &'static str) -> &'static str
+    ensures { result.now ≡ text_by key.now energy.now topups.now }
+{
     match key {
-        TotalKey::Energy { .. } => conn.query_all(
-            "SELECT wh FROM period_total WHERE owner = ?1 AND period = ?2 AND band = ?3 AND direction = ?4",
-            given.values(),
-        ),
-        TotalKey::TopUps { .. } => conn.query_all(
-            "SELECT cents FROM total_topup WHERE account = ?1",
-            given.values(),
-        ),
+        TotalKey::Energy { .. } => energy,
+        TotalKey::TopUps { .. } => topups,
     }
 }
 

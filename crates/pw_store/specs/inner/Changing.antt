@@ -1,7 +1,7 @@
 -- What a statement within an upload makes of a store. It serves `src/points.rt`, `src/starts.rt`, `src/totals.rt`,
 -- `src/fault.rt`, `src/changes.rt`, `src/upload.rt`, `src/records.rt` and `src/entries.rt`.
 -- (Definitions of this project.)
-use Rattle.std.specs.Prelude.{◌≡◌, ◌<◌, ◌^◌, ℕ, zero, suc, pos, Bool, Option, Some, None, [], ◌∷◌, true, false}
+use Rattle.std.specs.Prelude.{◌≡◌, ◌<◌, ◌^◌, ℕ, zero, suc, pos, Bool, Option, Some, None, List, [], ◌∷◌, true, false}
 use Rattle.sqlite.specs.declared.types.Value.TheVariants.{Null, Int}
 use Rattle.sqlite.specs.Order.{Row}
 use Rattle.sqlite.specs.Tree.{Trees}
@@ -93,7 +93,12 @@ abbrev pub refuses_key : Error → Bool
 refuses_key (SqliteFailure (ConstraintViolation Unique)) = true
 refuses_key _ = false
 
--- ---- what a statement on a total is given
+-- ---- what a statement on a total is: its text, by whether the total is of energy or of top-ups
+abbrev pub text_by : TotalKey → List ℕ → List ℕ → List ℕ
+text_by (total.Energy o p b d) energy topups = energy
+text_by (total.TopUps a) energy topups = topups
+
+-- ---- what it is given
 -- its key, and then something more
 abbrev pub total_with : TotalKey → Row → Row
 total_with (total.Energy o p b d) more = Int (pos (owner_place o)) ∷ Int (pos p.0) ∷ Int (pos b.0) ∷ Int (pos (direction_place d)) ∷ more

@@ -4,9 +4,7 @@ use Rattle.pw_store.proofs.Again.{set_any, set_none}
 use Rattle.pw_store.proofs.shelf.SqlShelf.put_total.Goals as goal
 
 pub returns-then-branch-gt0-clause-content : goal.returns-then-branch-gt0-clause-content
-returns-then-branch-gt0-clause-content g c clean =
-    let some = c.if-branch-gt0.true in
-    set_any c.in_ok-change.field-0 _ _ _ (omega (arith, some)) (c.in_ok-change.ensures.content clean)
+returns-then-branch-gt0-clause-content g c clean = set_any c.in_ok-change.field-0 _ _ _ (let some = c.if-branch-gt0.true in omega (arith, some)) (c.in_ok-change.ensures.content clean)
 
 pub returns-in_err-change-2-clause-left : goal.returns-in_err-change-2-clause-left
 returns-in_err-change-2-clause-left g c clean d l = c.in_ok-change.ensures.left (c.change-2.ensures.clean clean) d (c.change-2.ensures.left clean d l)
