@@ -1,4 +1,4 @@
-use Rattle.std.proofs.Common.{ℕ, sym, subst, arith}
+use Rattle.std.proofs.Common.{ℕ, sym, subst, arith, rules}
 use Rattle.pw_bills.specs.Stretches.{AreStretches}
 use Rattle.pw_bills.specs.inner.Gathering.{AreEnoughToGather, IsGathered, pass_of}
 use Rattle.pw_bills.proofs.Reading.{first-read, stretches-within}
@@ -35,3 +35,6 @@ pub returns-clause-cost : goal.returns-clause-cost
 returns-clause-cost g c = λ k most h.
     let P : ℕ → Type 0 = λ e. AreEnoughToGather g.G.Gathers.reads (pass_of c.args.book.now.office (g.S.Shelf.state c.args.book.now.shelf).content c.args.account c.args.begins.now e) most in
     c.gather_held.ensures.tally k most (subst P (sym c.last_before-last.ensures) h)
+
+pub gather_held-requires-clause-idle : goal.gather_held-requires-clause-idle
+gather_held-requires-clause-idle g c = search rules depth 0 fits 100

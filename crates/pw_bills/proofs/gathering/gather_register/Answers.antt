@@ -1,4 +1,4 @@
-use Rattle.std.proofs.Common.{◌+◌, refl, sym, ◌∙◌, inl, inr, arith}
+use Rattle.std.proofs.Common.{◌+◌, refl, sym, ◌∙◌, inl, inr, arith, rules}
 use Rattle.std.proofs.lemmas.Result.{on_ok_weaker}
 use Rattle.pw_bills.proofs.Reading.{register-counted}
 use Rattle.pw_bills.proofs.gathering.gather_register.Goals as goal
@@ -19,3 +19,6 @@ pub returns-then-counts-clause-tally : goal.returns-then-counts-clause-tally
 returns-then-counts-clause-tally g c = λ k each h.
     let place = c.args.place.now in
     register-counted place.basis.now.office.now place.meter.0 each place.register _ _ (sym c.counts.ensures ∙ c.if-counts.true) (c.add_register.ensures.tally k (each place.register) h)
+
+pub add_register-requires-clause-counts : goal.add_register-requires-clause-counts
+add_register-requires-clause-counts g c = search rules depth 0 fits 100

@@ -1,4 +1,4 @@
-use Rattle.std.proofs.Common.{sym, subst}
+use Rattle.std.proofs.Common.{sym, subst, rules}
 use Rattle.sqlite.specs.Held.{state}
 use Rattle.sqlite.specs.Tree.{Trees}
 use Rattle.pw_tariff.specs.Office.{office_of}
@@ -47,3 +47,6 @@ returns-in-Ok-clause-filled g c clean =
     let mid = state g.S.Store c.put_all.new.conn in
     let new = state g.S.Store c.see_filled.new.conn in
     filled_on (office_of c.args.office.now) mid new (c.in-Ok.ensures.looks.same clean) (c.in-Ok.ensures.filled clean)
+
+pub returns-in-Err-see_filled-clause-filled : goal.returns-in-Err-see_filled-clause-filled
+returns-in-Err-see_filled-clause-filled g c = search rules depth 0 fits 100

@@ -1,4 +1,4 @@
-use Rattle.std.proofs.Common.{subst}
+use Rattle.std.proofs.Common.{subst, rules}
 use Rattle.sqlite.specs.Held.{state}
 use Rattle.pw_tariff.specs.Office.{office_of}
 use Rattle.pw_schema.specs.Judging.{KeepsVersion}
@@ -39,3 +39,9 @@ returns-in-Ok-Third-clause-opened g c clean =
     on_ok c.check_rows.result (IsUnchanged s1 s2) (IsSound office s2.now) (IsOpened office c.args.text.now s0.now s2)
     (λ same sound. third_opened office c.args.text.now s0 s1 s2 (c.requires.idle first) (c.in-Ok-Third.ensures.looks.same before) same ours text sound)
     (c.check_rows.ensures.looks.same clean) (c.check_rows.ensures.sound clean)
+
+pub returns-in-Ok-Third-clause-counted : goal.returns-in-Ok-Third-clause-counted
+returns-in-Ok-Third-clause-counted g c = search rules depth 0 fits 100
+
+pub check_rows-requires-clause-ours : goal.check_rows-requires-clause-ours
+check_rows-requires-clause-ours g c = search rules depth 0 fits 100

@@ -1,4 +1,4 @@
-use Rattle.std.proofs.Common.{List, sym, subst}
+use Rattle.std.proofs.Common.{List, sym, subst, rules}
 use Rattle.sqlite.specs.Held.{state}
 use Rattle.sqlite.specs.Order.{Row}
 use Rattle.pw_schema.specs.Judging.{KeepsVersion}
@@ -15,3 +15,6 @@ returns-then-not-keeps_office-clause-cause g c clean =
     let rows : List Row = c.in-Ok.read.0.items in
     text_differs c.args.text.now old mid c.in-Ok.read.1 rows (c.in-Ok.ensures.looks.same before) (c.in-Ok-holds_tables.ensures.is clean c.if-not-alone.false) (c.in-Ok.ensures.rows before) c.in-Ok.ensures.version
     (λ keeps. (let bad = c.keeps_office.ensures.all (subst (KeepsVersion c.in-Ok.read.1 c.args.text.now) (sym c.as_slice.ensures.value) keeps) in let was = c.if-not-keeps_office.true in cc))
+
+pub returns-clause-kept_text : goal.returns-clause-kept_text
+returns-clause-kept_text g c = search rules depth 0 fits 100

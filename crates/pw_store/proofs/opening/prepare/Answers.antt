@@ -17,3 +17,6 @@ returns-clause-cause g c clean =
 pub returns-clause-crash : goal.returns-clause-crash
 returns-clause-crash g c =
     settled_survives c.make_or_check.result (office_of c.args.office.now) c.args.text.now (state g.S.Store c.args.conn.now) (state g.S.Store c.settle.new.conn) (state g.S.Store c.make_or_check.new.conn) (λ clean. (c.in_default.ensures.settled clean).committed) c.in_default.ensures.crash c.make_or_check.ensures.crash
+
+pub returns-in-Err-clause-was_open : goal.returns-in-Err-clause-was_open
+returns-in-Err-clause-was_open g c = search rules depth 0 fits 100

@@ -1,4 +1,4 @@
-use Rattle.std.proofs.Common.{Err, sym}
+use Rattle.std.proofs.Common.{Err, sym, rules}
 use Rattle.sqlite.specs.Held.{state}
 use Rattle.pw_store.proofs.Texts.{four_terms}
 use Rattle.pw_store.proofs.KeptTexts.{insert_point_text, insert_point_is}
@@ -36,3 +36,6 @@ returns-then-is_key_taken-clause-writes g c = record {
 pub returns-else-is_key_taken-clause-writes : goal.returns-else-is_key_taken-clause-writes
 returns-else-is_key_taken-clause-writes g c =
     inserts_if insert_point_text 4 5 four_terms insert_point_is (state g.S.Store c.args.conn.now) (state g.S.Store c.execute-put.new.self) _ (Err c.in-Err.error) (λ clean. (c.requires.store clean).ours) c.requires.inside c.in-Err.ensures.runs c.execute-put.ensures.survives
+
+pub returns-then-is_key_taken-clause-refused : goal.returns-then-is_key_taken-clause-refused
+returns-then-is_key_taken-clause-refused g c = search rules depth 0 fits 100

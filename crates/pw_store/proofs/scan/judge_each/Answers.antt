@@ -81,4 +81,4 @@ pub loop-count-preserved : goal.loop-count-preserved
 loop-count-preserved g c = search rules
 
 pub returns-clause-took : goal.returns-clause-took
-returns-clause-took g c = search rules
+returns-clause-took g c = search rules depth 0 fits 100

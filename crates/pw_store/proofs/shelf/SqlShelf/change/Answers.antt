@@ -23,10 +23,10 @@ returns-in-Ok-clause-content g c clean =
     held_made (state g.S.Store self.conn) (state g.S.Store c.make.new.conn) (state g.S.Store self.base.value) (changed c.args.change c.in-Ok.rows) (c.in-Ok.ensures.done clean)
 
 pub invariant_of-self-in-Err-clause-awake : goal.invariant_of-self-in-Err-clause-awake
-invariant_of-self-in-Err-clause-awake g c = search rules
+invariant_of-self-in-Err-clause-awake g c = search rules depth 0 fits 100
 
 pub make-requires-clause-inside : goal.make-requires-clause-inside
-make-requires-clause-inside g c = search rules
+make-requires-clause-inside g c = search rules depth 0 fits 100
 
 pub invariant_of-self-in-Ok-clause-now_counted : goal.invariant_of-self-in-Ok-clause-now_counted
 invariant_of-self-in-Ok-clause-now_counted g c =

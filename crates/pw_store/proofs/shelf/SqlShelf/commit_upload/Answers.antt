@@ -29,7 +29,7 @@ returns-in-Ok-clause-stays g c clean =
     left_stays (state g.S.Store self.conn) (state g.S.Store c.commit.new.conn) (state g.S.Store self.base.value) (c.in-Ok.ensures.done clean).was_open (c.in-Ok.ensures.stays clean)
 
 pub returns-in-Ok-clause-store : goal.returns-in-Ok-clause-store
-returns-in-Ok-clause-store g c = search rules
+returns-in-Ok-clause-store g c = search rules depth 0 fits 100
 
 pub invariant_of-self-in-Ok-clause-base_counted : goal.invariant_of-self-in-Ok-clause-base_counted
 invariant_of-self-in-Ok-clause-base_counted g c clean =
@@ -41,3 +41,9 @@ pub invariant_of-self-in-Err-clause-now_counted : goal.invariant_of-self-in-Err-
 invariant_of-self-in-Err-clause-now_counted g c =
     let self = c.args.self.now in
     counted_failed (state g.S.Store self.conn) (state g.S.Store c.commit.new.conn) self.within self.now_counted c.in-Err.ensures.crash c.in-Err.ensures.failed
+
+pub invariant_of-self-in-Ok-clause-since : goal.invariant_of-self-in-Ok-clause-since
+invariant_of-self-in-Ok-clause-since g c = search rules depth 0 fits 100
+
+pub invariant_of-self-in-Err-clause-base_counted : goal.invariant_of-self-in-Err-clause-base_counted
+invariant_of-self-in-Err-clause-base_counted g c = search rules depth 0 fits 100

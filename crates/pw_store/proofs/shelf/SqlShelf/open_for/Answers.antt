@@ -31,7 +31,7 @@ returns-in-Ok-clause-opened g c clean =
     opening_text (state g.S.Store c.prepare.new.conn) (state g.S.Store c.of-opened.result.value) (office_of c.args.office.now) c.args.office_text.now (state g.S.Store c.args.connection).committed (ap (state g.S.Store) c.of-opened.ensures) (c.in-Ok.ensures.opened clean)
 
 pub returns-in-Ok-clause-idle : goal.returns-in-Ok-clause-idle
-returns-in-Ok-clause-idle g c = search rules
+returns-in-Ok-clause-idle g c = search rules depth 0 fits 100
 
 pub invariant_of-result-clause-base_counted : goal.invariant_of-result-clause-base_counted
 invariant_of-result-clause-base_counted g c =

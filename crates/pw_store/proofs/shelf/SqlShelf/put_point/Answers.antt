@@ -1,4 +1,4 @@
-use Rattle.std.proofs.Common.{ap, ◌∙◌, Some, None, arith}
+use Rattle.std.proofs.Common.{ap, ◌∙◌, Some, None, arith, rules}
 use Rattle.pw_model.specs.Shelf.{ShelfContent}
 use Rattle.pw_shelf.specs.Changes.{with_point}
 use Rattle.pw_store.proofs.Again.{point_again, set_any, set_none}
@@ -37,3 +37,6 @@ pub returns-else-branch-gt0-2-clause-left : goal.returns-else-branch-gt0-2-claus
 returns-else-branch-gt0-2-clause-left g c clean d l =
     let taken = c.change-3.ensures.clean clean in
     c.in_ok-change.ensures.left (c.change-2.ensures.clean taken) d (c.change-2.ensures.left taken d (c.change-3.ensures.left clean d l))
+
+pub returns-then-branch-gt0-2-clause-failures : goal.returns-then-branch-gt0-2-clause-failures
+returns-then-branch-gt0-2-clause-failures g c = search rules depth 0 fits 100

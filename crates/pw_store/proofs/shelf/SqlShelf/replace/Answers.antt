@@ -1,4 +1,4 @@
-use Rattle.std.proofs.Common.{ap, ◌∙◌}
+use Rattle.std.proofs.Common.{ap, ◌∙◌, rules}
 use Rattle.pw_store.specs.inner.Changing.{changed}
 use Rattle.pw_store.proofs.shelf.SqlShelf.replace.Goals as goal
 
@@ -12,3 +12,6 @@ returns-clause-left g c clean d l = c.in_ok-change.ensures.left (c.change-2.ensu
 
 pub returns-in_err-change-2-clause-left : goal.returns-in_err-change-2-clause-left
 returns-in_err-change-2-clause-left g c clean d l = c.in_ok-change.ensures.left (c.change-2.ensures.clean clean) d (c.change-2.ensures.left clean d l)
+
+pub change-requires-clause-free : goal.change-requires-clause-free
+change-requires-clause-free g c = search rules depth 0 fits 100
