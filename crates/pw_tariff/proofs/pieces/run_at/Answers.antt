@@ -19,3 +19,6 @@ loop-until-preserved c =
       within = c.part_end-until-in-loop-until.ensures.within;
       same = joined _ _ _ _ _ _ c.loop-until.invariant.same (part-of_class _ _ _ _ _ _ c.class_at-class.ensures.sound here c.part_end-until-in-loop-until.ensures);
     }
+
+pub returns-then-ne : goal.returns-then-ne
+returns-then-ne c = search rules depth 3 fits 300

@@ -2,4 +2,4 @@ use Rattle.std.proofs.Common.{rules}
 use Rattle.pw_tariff.proofs.fault.OfficeFaultDisplay.fmt.Goals as goal
 
 pub returns-clause-writes : goal.returns-clause-writes
-returns-clause-writes g c = search rules
+returns-clause-writes g c = search rules depth 0 fits 100
