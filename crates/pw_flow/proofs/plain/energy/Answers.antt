@@ -12,4 +12,4 @@ returns g c = λ asked end answers within.
     omega (arith, so_far, whole)
 
 pub loop-pair-preserved : goal.loop-pair-preserved
-loop-pair-preserved g c = search rules
+loop-pair-preserved g c = search rules depth 3 fits 300
