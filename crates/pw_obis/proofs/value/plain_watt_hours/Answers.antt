@@ -2,4 +2,4 @@ use Rattle.std.proofs.Common.{rules}
 use Rattle.pw_obis.proofs.value.plain_watt_hours.Goals as goal
 
 pub returns-in_default : goal.returns-in_default
-returns-in_default c = search rules
+returns-in_default c = search rules depth 0 fits 100
