@@ -23,10 +23,10 @@ returns-in-Err-clause-next c = rw (← c.self.view_is) (λ o fs x. (
 ))
 
 pub returns-in-Err-clause-body : goal.returns-in-Err-clause-body
-returns-in-Err-clause-body c = search rules
+returns-in-Err-clause-body c = search rules depth 0 fits 100
 
 pub returns-then-self-clause-ended : goal.returns-then-self-clause-ended
-returns-then-self-clause-ended c = search rules
+returns-then-self-clause-ended c = search rules depth 0 fits 100
 
 pub returns-in-Ok-clause-ended : goal.returns-in-Ok-clause-ended
-returns-in-Ok-clause-ended c = search rules
+returns-in-Ok-clause-ended c = search rules depth 0 fits 100
