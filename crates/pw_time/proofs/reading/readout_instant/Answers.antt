@@ -16,4 +16,4 @@ returns-in-Local c =
     readout_outcome c.args.date.now c.args.time.now c.args.clock c.in-Some.civil central c.in_zone.result c.in-Some.ensures (subst P (sym c.in-Local.is) refl) c.in_zone.ensures
 
 pub returns-in-Marked : goal.returns-in-Marked
-returns-in-Marked c = search rules
+returns-in-Marked c = search rules depth 0 fits 100

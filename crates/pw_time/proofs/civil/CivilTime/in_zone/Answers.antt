@@ -9,4 +9,4 @@ returns-in-true-false c =
     (shown.there, fold_outcome c.args.self.now c.in_ok-shown.shown shown.value low (sym c.in-true-false.ensures) (sym c.in-true-false.ensures'))
 
 pub returns-in-false-true : goal.returns-in-false-true
-returns-in-false-true c = search rules
+returns-in-false-true c = search rules depth 0 fits 100

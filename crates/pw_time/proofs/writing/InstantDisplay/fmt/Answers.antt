@@ -7,4 +7,4 @@ unreachable-requires g c =
     c.in-Err.ensures.cases.0 (written_is_utf8 c.args.self.now c.write_utc.result c.write_utc.ensures.read_back)
 
 pub returns-clause-writes : goal.returns-clause-writes
-returns-clause-writes g c = search rules
+returns-clause-writes g c = search rules depth 0 fits 100
