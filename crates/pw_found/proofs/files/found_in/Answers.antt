@@ -32,3 +32,9 @@ returns-clause-nothing g c clean is =
       empty = short_has_no_commit _ short;
       whole = λ one letter. whole (one, letter);
     }
+
+pub returns-then-branch-clause-nothing : goal.returns-then-branch-clause-nothing
+returns-then-branch-clause-nothing g c = search rules depth 0 fits 100
+
+pub returns-then-branch-clause-alone : goal.returns-then-branch-clause-alone
+returns-then-branch-clause-alone g c = search rules depth 0 fits 100
