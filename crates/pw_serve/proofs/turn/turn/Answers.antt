@@ -1,4 +1,4 @@
-use Rattle.std.proofs.Common.{arith, inl, inr, ◌≡◌, ◌⊎◌}
+use Rattle.std.proofs.Common.{arith, inl, inr, ◌≡◌, ◌⊎◌, rules}
 use Rattle.pw_serve.specs.declared.turn.Next.TheVariants.{Goes, Replied}
 use Rattle.pw_serve.proofs.Turns.{leads-goes, leads-then, stays-then}
 use Rattle.pw_serve.proofs.turn.turn.Goals.{in-Goes, in-Replied}
@@ -24,3 +24,6 @@ loop-preserved g c =
       bounded = omega arith;
       others = λ j d. stays-then _ _ _ (c.loop.invariant.others j d) (c.step.ensures.others j d);
     }
+
+pub returns-clause-bounded : goal.returns-clause-bounded
+returns-clause-bounded g c = search rules depth 0 fits 100
