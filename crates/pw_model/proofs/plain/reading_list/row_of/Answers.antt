@@ -2,4 +2,4 @@ use Rattle.std.proofs.Common.{rules}
 use Rattle.pw_model.proofs.plain.reading_list.row_of.Goals as goal
 
 pub returns-clause-some : goal.returns-clause-some
-returns-clause-some c = search rules
+returns-clause-some c = search rules depth 0 fits 100

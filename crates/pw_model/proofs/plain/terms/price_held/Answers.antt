@@ -1,4 +1,4 @@
-use Rattle.std.proofs.Common.{arith}
+use Rattle.std.proofs.Common.{arith, rules}
 use Rattle.pw_model.proofs.SoundOffice.{no-period_price, no-band_price}
 use Rattle.pw_model.proofs.plain.terms.price_held.Goals as goal
 
@@ -15,3 +15,6 @@ returns-then-band-bands c =
     let m = c.if-band-bands.true in
     let k = c.bands.ensures.count in
     no-band_price c.args.office.now c.periods.ensures.sound c.args.period.0 c.args.band.0 c.args.direction (omega (arith, l, n)) (omega (arith, m, k))
+
+pub returns : goal.returns
+returns c = search rules depth 0 fits 100
