@@ -10,4 +10,4 @@ returns-clause-gathered c = λ r k.
     omega (arith, so_far, ended)
 
 pub add_cells-requires-clause-in_order : goal.add_cells-requires-clause-in_order
-add_cells-requires-clause-in_order c = search rules
+add_cells-requires-clause-in_order c = search rules depth 0 fits 100

@@ -16,4 +16,4 @@ pub returns-then-get-clause-bound : goal.returns-then-get-clause-bound
 returns-then-get-clause-bound c = none-in-all c.new-then-get.result.items c.new-then-get.ensures.items
 
 pub returns-clause-cells : goal.returns-clause-cells
-returns-clause-cells c = search rules
+returns-clause-cells c = search rules depth 0 fits 100

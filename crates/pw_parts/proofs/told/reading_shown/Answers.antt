@@ -2,4 +2,4 @@ use Rattle.std.proofs.Common.{rules}
 use Rattle.pw_parts.proofs.told.reading_shown.Goals as goal
 
 pub returns : goal.returns
-returns c = search rules
+returns c = search rules depth 0 fits 100
