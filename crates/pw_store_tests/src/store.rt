@@ -6,6 +6,7 @@ ghost use Rattle.pw_tariff.specs.Text.{IsOfficeOf};
 
 mod no_memory;
 
+use crate::ends::done;
 use crate::entries::{at, wh};
 use crate::sql_stores::{execute, memory};
 use pw_model::TotalKey;
@@ -94,6 +95,7 @@ fn a_point_put_again_is_the_last(rt: HostRuntime) {
     let mut shelf = empty_shelf(&rt, rt.alloc());
     let last = (at(&rt, 1_704_067_200), wh(&rt, 6));
     assert!(rt; point_put_twice(&rt, &mut shelf) == Ok(Some(last)));
+    done(shelf);
 }
 
 // Whether a store keeps such a total.
@@ -119,6 +121,7 @@ fn abandoned_total<S: Shelf>(shelf: &mut S) -> Result<u64, ShelfFault>
 fn an_abandoned_total_is_gone(rt: HostRuntime) {
     let mut shelf = empty_shelf(&rt, rt.alloc());
     assert!(rt; abandoned_total(&mut shelf) == Ok(0));
+    done(shelf);
 }
 
 // Puts a start, and commits it.
@@ -153,6 +156,7 @@ fn a_start_is_there_when_opened_again(rt: HostRuntime) {
     execute(&rt, &mut connection, assignment);
     let mut again = shelf_of(&rt, alloc, connection);
     assert!(rt; starts_held(alloc, &mut again) == Ok(1));
+    done(again);
 }
 
 // Whether what is left of a store opens.
@@ -164,7 +168,10 @@ fn is_opened_behind(
 ) -> bool {
     let text = SAMPLE.as_bytes();
     see_office(rt, alloc, text);
-    left_is_opened_again(alloc, shelf, left, text).is_ok()
+    let again = left_is_opened_again(alloc, shelf, left, text);
+    let is_opened = again.is_ok();
+    done(again);
+    is_opened
 }
 
 // The store, closed and opened again.
@@ -193,6 +200,7 @@ fn an_upload_still_begun_is_gone_when_opened_again(rt: HostRuntime) {
     assert!(rt; begun_total(&mut shelf).is_ok());
     let mut again = reopened(&rt, rt.alloc(), shelf);
     assert!(rt; has_total(&mut again, &PAYMENTS, 0));
+    done(again);
 }
 
 // bears on: pw_store laws.rt left_is_opened_again memory
@@ -202,6 +210,7 @@ fn what_a_crash_leaves_is_opened_again(rt: HostRuntime) {
     let shelf = empty_shelf(&rt, alloc);
     let left = empty_shelf(&rt, alloc).close();
     assert!(rt; is_opened_behind(&rt, alloc, &shelf, left));
+    done(shelf);
 }
 
 // bears on: pw_store fault.rt OpenFault::name ensures
@@ -357,6 +366,7 @@ fn what_is_kept_beside_records_must_be_true(rt: HostRuntime) {
     }
     let mut shelf = shelf_of(&rt, rt.alloc(), connection);
     assert!(rt; has_total(&mut shelf, &ENERGY, 100));
+    done(shelf);
 }
 
 const NOBODY: TotalKey = TotalKey::TopUps {
@@ -381,4 +391,5 @@ fn a_total_of_0_at_any_key_opens_again(rt: HostRuntime) {
     assert!(rt; committed_total_of_0(&mut shelf).is_ok());
     let mut again = shelf_of(&rt, rt.alloc(), shelf.close());
     assert!(rt; has_total(&mut again, &NOBODY, 0));
+    done(again);
 }
