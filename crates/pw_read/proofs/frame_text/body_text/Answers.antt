@@ -47,7 +47,7 @@ returns-clause-text c =
     record { frames = i.0; reading = subst (λ (b : List ℕ). BodyReading b i.0) i.3 (c.in_default.ensures.next i.2 i.0 i.1).0; shown = i.4 }
 
 pub frames-init : goal.frames-init
-frames-init c = search rules
+frames-init c = search rules depth 0 fits 100
 
 pub returns-in-Err-clause-text : goal.returns-in-Err-clause-text
-returns-in-Err-clause-text c = search rules
+returns-in-Err-clause-text c = search rules depth 0 fits 100
