@@ -1,4 +1,4 @@
-use Rattle.std.proofs.Common.{Err, ◌≡◌, ℕ, List, ◌≤◌, ◌++◌, ◌∷◌, [], length, arith, refl, subst, ap, sym, ◌∙◌, inl, inr}
+use Rattle.std.proofs.Common.{Err, ◌≡◌, ℕ, List, ◌≤◌, ◌++◌, ◌∷◌, [], length, arith, refl, subst, ap, sym, ◌∙◌, inl, inr, rules}
 use Rattle.std.proofs.lemmas.List.{length-append}
 use Rattle.pw_frame.specs.Frame.{frame_text}
 use Rattle.pw_frame.specs.Body.{Front, BodyFault, BodyReading}
@@ -84,3 +84,6 @@ returns-then-part-gt-MOST_FRAMES-clause-refused c =
       more = subst (λ (b : List ℕ). BodyReading b i.0 → ⊥) i.3 more;
       cause_is = refl;
     })))
+
+pub frames-init : goal.frames-init
+frames-init c = search rules depth 0 fits 100

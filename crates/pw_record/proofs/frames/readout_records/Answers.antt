@@ -2,7 +2,7 @@ use Rattle.std.proofs.Common.{rules}
 use Rattle.pw_record.proofs.frames.readout_records.Goals as goal
 
 pub returns-clause-entries : goal.returns-clause-entries
-returns-clause-entries c = search rules
+returns-clause-entries c = search rules depth 0 fits 100
 
 pub returns-then-eq-clause-refused : goal.returns-then-eq-clause-refused
-returns-then-eq-clause-refused c = search rules
+returns-then-eq-clause-refused c = search rules depth 0 fits 100

@@ -1,4 +1,4 @@
-use Rattle.std.proofs.Common.{◌≡◌, ℕ, List, ◌≤◌, ◌++◌, ◌∷◌, [], length, arith, refl, subst, ap, ◌∙◌, inl, inr}
+use Rattle.std.proofs.Common.{◌≡◌, ℕ, List, ◌≤◌, ◌++◌, ◌∷◌, [], length, arith, refl, subst, ap, ◌∙◌, inl, inr, rules}
 use Rattle.std.proofs.lemmas.List.{length-append}
 use Rattle.pw_frame.specs.Frame.{frame_text}
 use Rattle.pw_frame.specs.Body.{Front, BodyFault, BodyReading}
@@ -96,3 +96,6 @@ returns c =
         listed = l.1;
       },
     )
+
+pub frames-init : goal.frames-init
+frames-init c = search rules depth 0 fits 100

@@ -83,4 +83,4 @@ returns-clause-of_office c =
     listed-of-office c.args.office.now c.loop-row.given.items c.in_order.result.items c.in_order.ensures (good-of-office c.args.office.now c.args.kind inv.6 c.loop-row.given.items inv.8)
 
 pub returns-in-Err-Memory-clause-refused : goal.returns-in-Err-Memory-clause-refused
-returns-in-Err-Memory-clause-refused c = search rules
+returns-in-Err-Memory-clause-refused c = search rules depth 0 fits 100

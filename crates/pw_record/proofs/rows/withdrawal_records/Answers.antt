@@ -2,4 +2,4 @@ use Rattle.std.proofs.Common.{rules}
 use Rattle.pw_record.proofs.rows.withdrawal_records.Goals as goal
 
 pub returns-clause-entries : goal.returns-clause-entries
-returns-clause-entries c = search rules
+returns-clause-entries c = search rules depth 0 fits 100
