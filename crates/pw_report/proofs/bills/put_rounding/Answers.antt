@@ -5,4 +5,4 @@ pub returns-then-cents-eq0 : goal.returns-then-cents-eq0
 returns-then-cents-eq0 c = search rules
 
 pub returns : goal.returns
-returns c = search rules
+returns c = search rules depth 0 fits 100
