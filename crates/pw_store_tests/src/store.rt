@@ -6,7 +6,6 @@ ghost use Rattle.pw_tariff.specs.Text.{IsOfficeOf};
 
 mod no_memory;
 
-use crate::ends::done;
 use crate::entries::{at, wh};
 use crate::sql_stores::{execute, memory};
 use pw_model::TotalKey;
@@ -95,7 +94,6 @@ fn a_point_put_again_is_the_last(rt: HostRuntime) {
     let mut shelf = empty_shelf(&rt, rt.alloc());
     let last = (at(&rt, 1_704_067_200), wh(&rt, 6));
     assert!(rt; point_put_twice(&rt, &mut shelf) == Ok(Some(last)));
-    done(shelf);
 }
 
 // Whether a store keeps such a total.
@@ -121,7 +119,6 @@ fn abandoned_total<S: Shelf>(shelf: &mut S) -> Result<u64, ShelfFault>
 fn an_abandoned_total_is_gone(rt: HostRuntime) {
     let mut shelf = empty_shelf(&rt, rt.alloc());
     assert!(rt; abandoned_total(&mut shelf) == Ok(0));
-    done(shelf);
 }
 
 // Puts a start, and commits it.
@@ -156,7 +153,6 @@ fn a_start_is_there_when_opened_again(rt: HostRuntime) {
     execute(&rt, &mut connection, assignment);
     let mut again = shelf_of(&rt, alloc, connection);
     assert!(rt; starts_held(alloc, &mut again) == Ok(1));
-    done(again);
 }
 
 // Whether what is left of a store opens.
@@ -168,10 +164,7 @@ fn is_opened_behind(
 ) -> bool {
     let text = SAMPLE.as_bytes();
     see_office(rt, alloc, text);
-    let again = left_is_opened_again(alloc, shelf, left, text);
-    let is_opened = again.is_ok();
-    done(again);
-    is_opened
+    left_is_opened_again(alloc, shelf, left, text).is_ok()
 }
 
 // The store, closed and opened again.
@@ -200,7 +193,6 @@ fn an_upload_still_begun_is_gone_when_opened_again(rt: HostRuntime) {
     assert!(rt; begun_total(&mut shelf).is_ok());
     let mut again = reopened(&rt, rt.alloc(), shelf);
     assert!(rt; has_total(&mut again, &PAYMENTS, 0));
-    done(again);
 }
 
 // bears on: pw_store laws.rt left_is_opened_again memory
@@ -210,7 +202,6 @@ fn what_a_crash_leaves_is_opened_again(rt: HostRuntime) {
     let shelf = empty_shelf(&rt, alloc);
     let left = empty_shelf(&rt, alloc).close();
     assert!(rt; is_opened_behind(&rt, alloc, &shelf, left));
-    done(shelf);
 }
 
 // bears on: pw_store fault.rt OpenFault::name ensures
@@ -366,7 +357,6 @@ fn what_is_kept_beside_records_must_be_true(rt: HostRuntime) {
     }
     let mut shelf = shelf_of(&rt, rt.alloc(), connection);
     assert!(rt; has_total(&mut shelf, &ENERGY, 100));
-    done(shelf);
 }
 
 const NOBODY: TotalKey = TotalKey::TopUps {
@@ -391,5 +381,4 @@ fn a_total_of_0_at_any_key_opens_again(rt: HostRuntime) {
     assert!(rt; committed_total_of_0(&mut shelf).is_ok());
     let mut again = shelf_of(&rt, rt.alloc(), shelf.close());
     assert!(rt; has_total(&mut again, &NOBODY, 0));
-    done(again);
 }

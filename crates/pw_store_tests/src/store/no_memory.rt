@@ -8,7 +8,6 @@
 ghost use Rattle.std.specs.Prelude.{◌≡◌, IsSome, None, OnOk};
 
 use super::{begun_total, empty_shelf, see_office, shelf_of};
-use crate::ends::done;
 use crate::sql_stores::memory;
 use pw_obis::{Register, WattHours};
 use pw_shelf::{Shelf, ShelfFault};
@@ -30,9 +29,7 @@ fn tell<O: Write>(out: &mut O, text: &[u8]) {
 // Whether a store is closed, inside the upload that is begun.
 fn is_closed(store: SqlShelf<MemStore>) -> bool {
     let connection = store.close();
-    let is_begun = !connection.is_autocommit();
-    done(connection);
-    is_begun
+    !connection.is_autocommit()
 }
 
 fn is_empty<S: Shelf>(store: &mut S) -> bool {
@@ -40,10 +37,7 @@ fn is_empty<S: Shelf>(store: &mut S) -> bool {
 }
 
 fn is_new(rt: &impl Abort, alloc: Global, connection: Connection<MemStore>) -> bool {
-    let mut store = shelf_of(rt, alloc, connection);
-    let is_new = is_empty(&mut store);
-    done(store);
-    is_new
+    is_empty(&mut shelf_of(rt, alloc, connection))
 }
 
 // Whether a new store is opened: at once, or, where it is refused for want of memory, at the next try.
@@ -55,11 +49,7 @@ fn is_opened<O: Write>(rt: &impl Abort, alloc: Global, out: &mut O) -> bool {
     let opened = SqlShelf::open(alloc, connection, text);
     tell(out, b"all is given\n");
     match opened {
-        Ok(mut store) => {
-            let is_new = is_empty(&mut store);
-            done(store);
-            is_new
-        }
+        Ok(mut store) => is_empty(&mut store),
         Err((fault, refused)) => is_new(rt, alloc, refused) && fault == OpenFault::Memory,
     }
 }
@@ -113,7 +103,6 @@ fn with_one_refused<O: Write>(rt: &impl Abort, alloc: Global, out: &mut O) {
     tell(out, b"store opened\n");
     let mut store = empty_shelf(rt, alloc);
     assert!(rt; is_left_alone(out, &mut store) == Ok(true));
-    done(store);
     tell(out, b"upload undone\n");
 }
 
