@@ -1,0 +1,13 @@
+pub mod Sums
+pub mod Points
+pub mod Agreed
+pub mod Placed
+pub mod Adopted
+pub mod Carried
+pub mod Figures
+pub mod Gone
+pub mod Ordered
+pub mod Rising
+pub mod Tabled
+pub mod Weekly
+pub mod Lines
