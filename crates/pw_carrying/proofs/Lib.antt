@@ -1,0 +1,7 @@
+pub mod Asking
+pub mod Latest
+pub mod Listing
+pub mod Missing
+pub mod Sent
+pub mod Uploads
+pub mod NotSent

@@ -1,0 +1,11 @@
+use Rattle.std.proofs.Common.{◌+◌, ◌*◌}
+use Rattle.pw_tariff.specs.Office.{office_of}
+use Rattle.pw_book.specs.Asking.{IsOnlyAsked}
+use Rattle.pw_carrying.specs.inner.Unsent.{AddsUnsent}
+use Rattle.pw_carrying.proofs.held.add_meter.Given as goal
+
+abbrev pub invariant-loop-register : goal.invariant-loop-register
+invariant-loop-register g l = record {
+  adds : g.S.Shelf.clean l.shelf → AddsUnsent (office_of l.fn.basis.office.now) (g.S.Shelf.state l.fn.shelf).content.records l.fn.sent (6 * l.meter.0) (6 * l.meter.0 + l.register-index) l.fn.found.items l.found.items;
+  asked : IsOnlyAsked g.S.Shelf 0 l.fn.shelf l.shelf;
+}

@@ -1,0 +1,162 @@
+//! The records of a book, carried into the book of another office.
+
+ghost use Rattle.std.specs.Prelude.{◌≡◌, ◌+◌, ◌*◌, ◌<◌, IfOk, IsErrOf, IsNone, OnOk};
+ghost use Rattle.pw_tariff.specs.Office.{office_of};
+ghost use Rattle.pw_shelf.specs.Left.{LeavesOnly};
+ghost use Rattle.pw_book.specs.Asking.{IsOnlyAsked};
+ghost use Rattle.pw_book.specs.Questions.{IsQuestion, failures_asked};
+ghost use Rattle.pw_book.specs.declared.fault.BookFault.TheVariants.{Reopen};
+ghost use Rattle.pw_carrying.specs.Carrying.{HasUploads, IsCarried, asked_of, posted_of};
+ghost use Rattle.pw_carrying.specs.inner.Stages.{CarriesOn, IsListOf, list_place};
+
+use crate::fault::CarryFault;
+use crate::lists::{HeldList, records_in};
+use crate::told::Carrying;
+use crate::waiting::{Waiting, give_all, post_waiting};
+use pw_book::{Basis, Book, PostFault};
+use pw_obis::Register;
+use pw_shelf::Shelf;
+use pw_tariff::MeterId;
+use std::alloc::Global;
+
+/// Carries all records of a book into the book of another office, each under the names of that office, and answers how many
+/// they are: readings first, then assignments, then top-ups, then withdrawals, those too that name what isn't held. What the
+/// other book holds already stays.
+///
+/// They are posted in uploads of at most 10,000. `Record` tells the first record that the other office can't hold. After each
+/// fault but `Post(Reopen)` the other book holds what it held before and some of the records, carried: those of the uploads
+/// that it took. The book that is read stays as it is. After Ok a crash leaves just what the other book holds then.
+pub fn carry_into<S: Shelf, T: Shelf, W: Carrying>(
+    alloc: Global,
+    from: &mut Book<S>,
+    into: &mut Book<T>,
+    watch: &mut W,
+) -> Result<u32, CarryFault>
+    ensures carried { S.clean from.new.shelf → T.clean into.new.shelf → IsCarried (record { old = from.old.office; new = into.old.office }) (S.state from.old.shelf).content.records (T.state into.old.shelf).content.records (T.state into.new.shelf).content.records result }
+    ensures left { T.clean into.new.shelf → OnOk result (LeavesOnly (T.state into.new.shelf).content (T.left into.new.shelf)) }
+    ensures asked { IsQuestion S.Shelf (asked_of result) from.old from.new }
+    ensures uploads { HasUploads T.Shelf (posted_of result) into.old into.new }
+{
+    let held = from.count()?;
+    if let Err(fault) = into.still_open() {
+        return Err(CarryFault::Post(PostFault::from(fault)));
+    }
+    let basis = Basis {
+        alloc,
+        office: &from.office,
+        zone: &from.zone,
+    };
+    let mut waiting = Waiting::new(alloc);
+    carry_held(&mut from.shelf, &basis, into, &mut waiting, watch)?;
+    post_waiting(&basis, into, &mut waiting, watch)?;
+    Ok(held)
+}
+
+// Carries all records, but for the last, which wait.
+fn carry_held<S: Shelf, T: Shelf, W: Carrying>(
+    shelf: &mut S,
+    basis: &Basis,
+    into: &mut Book<T>,
+    waiting: &mut Waiting,
+    watch: &mut W,
+) -> Result<(), CarryFault>
+    requires idle { IsNone (S.state shelf.old).begun }
+    ensures carried { S.clean shelf.new → T.clean into.new.shelf → CarriesOn basis.now.office.now into.old.office (S.state shelf.old).content.records 0 (7 * (office_of basis.now.office.now).meters + 2) (T.state into.old.shelf).content.records waiting.old.entries.items (T.state into.new.shelf).content.records waiting.new.entries.items result }
+    ensures open_yet { IsErrOf (asked_of result) Reopen → ⊥ }
+    ensures asked { IsOnlyAsked S.Shelf (failures_asked (asked_of result)) shelf.old shelf.new }
+    ensures uploads { HasUploads T.Shelf (posted_of result) into.old into.new }
+{
+    carry_readings(shelf, basis, into, waiting, watch)?;
+    carry_assignments(shelf, basis, into, waiting, watch)?;
+    carry_list(shelf, basis, HeldList::TopUps, into, waiting, watch)?;
+    carry_list(shelf, basis, HeldList::Withdrawals, into, waiting, watch)
+}
+
+// Carries the readings of all meters.
+fn carry_readings<S: Shelf, T: Shelf, W: Carrying>(
+    shelf: &mut S,
+    basis: &Basis,
+    into: &mut Book<T>,
+    waiting: &mut Waiting,
+    watch: &mut W,
+) -> Result<(), CarryFault>
+    requires idle { IsNone (S.state shelf.old).begun }
+    ensures carried { S.clean shelf.new → T.clean into.new.shelf → CarriesOn basis.now.office.now into.old.office (S.state shelf.old).content.records 0 (6 * (office_of basis.now.office.now).meters) (T.state into.old.shelf).content.records waiting.old.entries.items (T.state into.new.shelf).content.records waiting.new.entries.items result }
+    ensures open_yet { IsErrOf (asked_of result) Reopen → ⊥ }
+    ensures asked { IsOnlyAsked S.Shelf (failures_asked (asked_of result)) shelf.old shelf.new }
+    ensures uploads { HasUploads T.Shelf (posted_of result) into.old into.new }
+{
+    for meter in 0..basis.office.meters() {
+        carry_meter(shelf, basis, MeterId(meter), into, waiting, watch)?;
+    }
+    Ok(())
+}
+
+// Carries the readings of a meter.
+fn carry_meter<S: Shelf, T: Shelf, W: Carrying>(
+    shelf: &mut S,
+    basis: &Basis,
+    meter: MeterId,
+    into: &mut Book<T>,
+    waiting: &mut Waiting,
+    watch: &mut W,
+) -> Result<(), CarryFault>
+    requires idle { IsNone (S.state shelf.old).begun }
+    requires meter { meter.0 < (office_of basis.now.office.now).meters }
+    ensures carried { S.clean shelf.new → T.clean into.new.shelf → CarriesOn basis.now.office.now into.old.office (S.state shelf.old).content.records (6 * meter.0) (6 * meter.0 + 6) (T.state into.old.shelf).content.records waiting.old.entries.items (T.state into.new.shelf).content.records waiting.new.entries.items result }
+    ensures open_yet { IsErrOf (asked_of result) Reopen → ⊥ }
+    ensures asked { IsOnlyAsked S.Shelf (failures_asked (asked_of result)) shelf.old shelf.new }
+    ensures uploads { HasUploads T.Shelf (posted_of result) into.old into.new }
+{
+    for register in &Register::ALL {
+        let list = HeldList::Readings {
+            meter,
+            register: *register,
+        };
+        carry_list(shelf, basis, list, into, waiting, watch)?;
+    }
+    Ok(())
+}
+
+// Carries the assignments of all meters.
+fn carry_assignments<S: Shelf, T: Shelf, W: Carrying>(
+    shelf: &mut S,
+    basis: &Basis,
+    into: &mut Book<T>,
+    waiting: &mut Waiting,
+    watch: &mut W,
+) -> Result<(), CarryFault>
+    requires idle { IsNone (S.state shelf.old).begun }
+    ensures carried { S.clean shelf.new → T.clean into.new.shelf → CarriesOn basis.now.office.now into.old.office (S.state shelf.old).content.records (6 * (office_of basis.now.office.now).meters) (7 * (office_of basis.now.office.now).meters) (T.state into.old.shelf).content.records waiting.old.entries.items (T.state into.new.shelf).content.records waiting.new.entries.items result }
+    ensures open_yet { IsErrOf (asked_of result) Reopen → ⊥ }
+    ensures asked { IsOnlyAsked S.Shelf (failures_asked (asked_of result)) shelf.old shelf.new }
+    ensures uploads { HasUploads T.Shelf (posted_of result) into.old into.new }
+{
+    for meter in 0..basis.office.meters() {
+        let list = HeldList::Assignments {
+            meter: MeterId(meter),
+        };
+        carry_list(shelf, basis, list, into, waiting, watch)?;
+    }
+    Ok(())
+}
+
+// Carries the records of a list.
+fn carry_list<S: Shelf, T: Shelf, W: Carrying>(
+    shelf: &mut S,
+    basis: &Basis,
+    list: HeldList,
+    into: &mut Book<T>,
+    waiting: &mut Waiting,
+    watch: &mut W,
+) -> Result<(), CarryFault>
+    requires idle { IsNone (S.state shelf.old).begun }
+    requires list { IsListOf (office_of basis.now.office.now).meters list }
+    ensures carried { S.clean shelf.new → T.clean into.new.shelf → CarriesOn basis.now.office.now into.old.office (S.state shelf.old).content.records (list_place (office_of basis.now.office.now).meters list) (list_place (office_of basis.now.office.now).meters list + 1) (T.state into.old.shelf).content.records waiting.old.entries.items (T.state into.new.shelf).content.records waiting.new.entries.items result }
+    ensures open_yet { IsErrOf (asked_of result) Reopen → ⊥ }
+    ensures asked { IsOnlyAsked S.Shelf (failures_asked (asked_of result)) shelf.old shelf.new }
+    ensures uploads { HasUploads T.Shelf (posted_of result) into.old into.new }
+{
+    let records = records_in(shelf, basis, list)?;
+    give_all(basis, &records, into, waiting, watch)
+}
