@@ -11,7 +11,11 @@ use Rattle.pw_schema.specs.declared.kind.StoreVersion.TheVariants.{First, Second
 abbrev pub lasting_trees : List ℕ
 lasting_trees = 1 ∷ 3 ∷ 5 ∷ 7 ∷ 9 ∷ 13 ∷ 14 ∷ 16 ∷ 18 ∷ []
 
--- of these, those that a version has
+-- all but that of `office`
+abbrev pub all_but_office : List ℕ
+all_but_office = 1 ∷ 3 ∷ 5 ∷ 7 ∷ 9 ∷ 11 ∷ 13 ∷ 14 ∷ 16 ∷ 18 ∷ 20 ∷ []
+
+-- of those that stay, those that a version has
 abbrev pub kept_trees : StoreVersion → List ℕ
 kept_trees First = 1 ∷ 3 ∷ 5 ∷ 7 ∷ 9 ∷ 13 ∷ []
 kept_trees Second = lasting_trees

@@ -11,13 +11,12 @@ use Rattle.pw_shelf.specs.State.{IsWithRecord}
 use Rattle.pw_shelf.proofs.InOrder.{inserted-length}
 use Rattle.pw_schema.proofs.Outcomes.{early}
 use Rattle.pw_schema.specs.Fresh.{IsNew}
-use Rattle.pw_tariff.specs.Office.{OfficeRules}
 use Rattle.pw_store.specs.declared.changes.Change.{Change}
 use Rattle.pw_store.specs.declared.changes.Change.TheVariants.{TakePoint, PutPoint, TakeStart, PutStart, TakeTotal, SetTotal, PutTotal}
 use Rattle.pw_store.specs.Content.{content_of, records_of}
 use Rattle.pw_store.specs.Kept.{BaseIsCounted, IsIdle, IsInside, IsSinceBase, NowIsCounted, held_of}
 use Rattle.pw_store.specs.inner.Changing.{Makes, changed}
-use Rattle.pw_store.specs.inner.Opened.{IsOpened}
+use Rattle.pw_store.specs.inner.Opened.{IsStanding}
 use Rattle.pw_store.proofs.Fresh.{fresh_records}
 use Rattle.pw_store.proofs.Inside.{held_live}
 use Rattle.pw_store.proofs.InTurn.{trees_same}
@@ -96,5 +95,5 @@ pub counted_fresh : (body : List ℕ) (s : State) → IsNew body s.now → recor
 counted_fresh body s new = ap length (fresh_records body s.now new)
 
 -- an open connection on which nothing waits
-pub counted_opened : (s at : State) (held : ℕ) (office : OfficeRules) (body : List ℕ) (before : Database) → at ≡ s → (HasCleanDisk s → IsOpened office body before s) → (HasCleanDisk s → records_in s.now.trees ≡ held) → BaseIsCounted s held at
-counted_opened s at held office body before is opened counted = counted_snapshot s at held is (λ clean. ap (λ (d : Database). records_in d.trees) (sym (opened clean).settled) ∙ counted clean)
+pub counted_standing : (s at : State) (held : ℕ) → at ≡ s → (HasCleanDisk s → IsStanding s) → (HasCleanDisk s → records_in s.now.trees ≡ held) → BaseIsCounted s held at
+counted_standing s at held is opened counted = counted_snapshot s at held is (λ clean. ap (λ (d : Database). records_in d.trees) (sym (opened clean).settled) ∙ counted clean)

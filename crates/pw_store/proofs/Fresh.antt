@@ -5,7 +5,7 @@ use Rattle.std.specs.List.Sorted.{IsPermutation}
 use Rattle.std.proofs.lemmas.List.Sorted.{IsPermutation-refl}
 use Rattle.sqlite.specs.Tree.{Trees}
 use Rattle.sqlite.specs.Effect.{Database}
-use Rattle.sqlite.specs.State.{State}
+use Rattle.sqlite.specs.State.{HasCleanDisk, State}
 use Rattle.pw_tariff.specs.Office.{OfficeRules}
 use Rattle.pw_model.specs.Office.{most_records}
 use Rattle.pw_model.specs.Counting.{EachOnce, Member}
@@ -26,7 +26,7 @@ use Rattle.pw_store.specs.Kept.{IsStore, key_in_point, key_in_start, held_of, le
 use Rattle.pw_store.specs.Keyed.{AreKeyed, IsEnergyRow, IsPaymentRow}
 use Rattle.pw_store.specs.Content.{content_of}
 use Rattle.pw_store.specs.Opening.{IsFound, KeepsText, offices, shown_office}
-use Rattle.pw_store.specs.inner.Opened.{MayOpen, IsOpened}
+use Rattle.pw_store.specs.inner.Opened.{IsOpened, IsStanding, MayOpen}
 use Rattle.pw_schema.specs.Fresh.{IsIdleAt}
 use Rattle.pw_store.proofs.Scans.{equal_ints}
 
@@ -99,9 +99,17 @@ fresh_opened office body old new idle none fresh now = record {
   opens = inl (ap (λ (d : Database). d.schema) (sym idle.settled) ∙ none);
 }
 
+-- a shelf may be made of what is opened
+pub stands : (s : State) (office : OfficeRules) (body : List ℕ) (before : Database) → IsOpened office body before s → IsStanding s
+stands s office body before it = record { is_open = it.is_open; outside = it.outside; settled = it.settled; store = it.may_open.store }
+
+-- it is opened, whatever name it has
+pub opened_at : (s at : State) (office : OfficeRules) (body : List ℕ) (before : Database) → at ≡ s → (HasCleanDisk s → IsOpened office body before s) → HasCleanDisk at → IsOpened office body before at
+opened_at s at office body before is = subst (λ (x : State). HasCleanDisk x → IsOpened office body before x) (sym is)
+
 -- of an open connection on which nothing waits, a crash leaves what it holds
-pub left_alone : (s base : State) (office : OfficeRules) (body : List ℕ) (before : Database) → IsOpened office body before s → ((db : Trees) → IsTrue s.is_open → s.may_leave db → db ≡ s.committed.trees) → LeavesOnly (held_of s base) (left_of s)
-left_alone s base office body before it law c l =
+pub left_alone : (s base : State) → IsStanding s → ((db : Trees) → IsTrue s.is_open → s.may_leave db → db ≡ s.committed.trees) → LeavesOnly (held_of s base) (left_of s)
+left_alone s base it law c l =
     sym l.2 ∙ ap content_of (law l.0 it.is_open l.1 ∙ sym (ap (λ (d : Database). d.trees) it.settled)) ∙ sym (ap (λ b. content_of (cond b s.now.trees base.committed.trees)) it.is_open)
 
 pub open_content : (s base : State) (office : OfficeRules) (body : List ℕ) (before : Database) → IsOpened office body before s → IsFound office before (held_of s base)

@@ -18,7 +18,7 @@ use Rattle.pw_store.specs.Kept.{IsStore}
 use Rattle.pw_store.specs.Left.{IsLeftOf, IsOfText, IsOldEnergy, IsOldPayment, Keeps, KeepsOpened}
 use Rattle.pw_store.specs.inner.Changing.{StillKeeps}
 use Rattle.pw_store.specs.Opening.{HasRows}
-use Rattle.pw_store.specs.inner.Opened.{IsOpened}
+use Rattle.pw_store.specs.inner.Opened.{IsOpened, IsStanding}
 use Rattle.pw_tariff.specs.Office.{OfficeRules}
 use Rattle.pw_store.proofs.KeyedRows.{row_told}
 use Rattle.pw_store.proofs.Others.{same_total-decides}
@@ -67,9 +67,9 @@ opened_keeps s live open_now settled store law clean =
           (subst (HasRows Third) is (rows_of s.now store), subst (Keeps s.now.trees) is mine));
     }
 
--- where it may be opened
-pub opening_keeps : (s at : State) (office : OfficeRules) (body : List ℕ) (before : Database) → at ≡ s → IsLive s → IsOpened office body before s → ((db : Trees) → IsTrue s.is_open → s.may_leave db → db ≡ s.committed.trees) → KeepsOpened s at
-opening_keeps s at office body before is live it law = subst (KeepsOpened s) (sym is) (opened_keeps s live it.is_open it.settled it.may_open.store law)
+-- where a shelf is made of it
+pub standing_keeps : (s at : State) → at ≡ s → IsLive s → (HasCleanDisk s → IsStanding s) → ((db : Trees) → IsTrue s.is_open → s.may_leave db → db ≡ s.committed.trees) → KeepsOpened s at
+standing_keeps s at is live stands law = subst (KeepsOpened s) (sym is) (λ clean. let it = stands clean in opened_keeps s live it.is_open it.settled it.store law clean)
 
 pub opening_text : (s at : State) (office : OfficeRules) (body : List ℕ) (before : Database) → at ≡ s → IsOpened office body before s → IsOfText office body at.now.trees
 opening_text s at office body before is it = subst (λ (o : State). IsOfText office body o.now.trees) (sym is) (it.may_open.kept, (it.may_open.named, it.may_open.plain))

@@ -57,3 +57,4 @@ pub mod Texts
 pub mod Scanning
 pub mod Compared
 pub mod Upgraded
+pub mod Adopted

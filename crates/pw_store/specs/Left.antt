@@ -20,14 +20,14 @@ use Rattle.pw_schema.specs.Conflicts.{AreWithoutConflict}
 use Rattle.pw_schema.specs.Judging.{KeepsOffice, KeepsVersion}
 use Rattle.pw_schema.specs.Rows.{number}
 use Rattle.pw_schema.specs.Fresh.{AreNew}
-use Rattle.pw_schema.specs.Raised.{IsRaised}
+use Rattle.pw_schema.specs.Raised.{HasSame, IsRaised, all_but_office}
 use Rattle.pw_schema.specs.Tables.{IsEarlier, IsOurs, no_schema}
 use Rattle.pw_schema.specs.declared.kind.StoreVersion.{StoreVersion}
 use Rattle.pw_schema.specs.declared.kind.StoreVersion.TheVariants.{Third}
 use Rattle.pw_schema.specs.declared.kind.TotalKind.TheVariants.{Energies}
 use Rattle.pw_store.specs.Content.{content_of, content_of_version, energy_in, energy_told, energy_tree, payment_in, payment_told, payment_tree, records_of, total_in, total_tree}
 use Rattle.pw_store.specs.declared.fault.OpenFault.{OpenFault}
-use Rattle.pw_store.specs.declared.fault.OpenFault.TheVariants.{Store, Memory}
+use Rattle.pw_store.specs.declared.fault.OpenFault.TheVariants.{Store, Memory, OfficeDiffers, Version, Unclean}
 use Rattle.pw_store.specs.Opening.{HasRows, HoldsTables, HoldsTotals, IsFound, IsOpenable, KeepsText, NamesOffice, Refuses}
 
 -- ---- what is kept of earlier trees
@@ -128,3 +128,37 @@ UpgradedOpens =
 -- what it holds then is what the store of before held
 abbrev pub UpgradedHolds : Type 0
 UpgradedHolds = (v : StoreVersion) (office : OfficeRules) (body : List ℕ) (before found : Database) (c : ShelfContent) → IsUpgraded v office body before found → IsFound office found c → IsFound office before c
+
+-- ---- another office file in the place of a store's own
+-- what a store holds is such as an office has: the content is true, of at most 10,000,000 entries of the office, and each
+-- total that is kept, a total of 0 too, names what the office has
+pub record SuitsOffice (office : OfficeRules) (c : ShelfContent) (db : Trees) : Type 0 where
+  pub sound : IsSoundOf office c
+  pub named : NamesOffice Third office db
+
+-- why another office file is refused: what is held isn't such as that office has
+abbrev pub AdoptionRefuses : OfficeRules → ShelfContent → Trees → OpenFault → Type 0
+AdoptionRefuses office c db Store = Unit {0}
+AdoptionRefuses office c db Memory = Unit {0}
+AdoptionRefuses office c db OfficeDiffers = ⊥
+AdoptionRefuses office c db Version = ⊥
+AdoptionRefuses office c db Unclean = SuitsOffice office c db → ⊥
+
+-- a store with another text in the place of its own: each row but that of `office` is that of before, and it is such as
+-- opens with this text
+pub record IsAdopted (office : OfficeRules) (body : List ℕ) (before found : Database) : Type 0 where
+  pub listed : IsDatabase found
+  pub same : HasSame all_but_office before.trees found.trees
+  pub openable : IsOpenable Third office body found
+
+abbrev pub MayBeAdopted : OfficeRules → List ℕ → Database → Trees → Type 0
+MayBeAdopted office body before db = (found : Database) × (IsAdopted office body before found × (db ≡ found.trees))
+
+-- it is refused only for the engine's sake, or for memory
+abbrev pub AdoptedOpens : Type 0
+AdoptedOpens =
+    (office : OfficeRules) (body : List ℕ) (before found : Database) (fault : OpenFault) → IsAdopted office body before found → Refuses office body found fault → (fault ≡ Store) ⊎ (fault ≡ Memory)
+
+-- what it holds is what the store of before held
+abbrev pub AdoptedHolds : Type 0
+AdoptedHolds = (office : OfficeRules) (body : List ℕ) (before found : Database) (c : ShelfContent) → IsAdopted office body before found → IsFound office found c → c ≡ content_of before.trees

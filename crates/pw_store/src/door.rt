@@ -10,11 +10,12 @@ ghost use Rattle.pw_model.specs.Office.{AllOfOffice, most_records};
 ghost use Rattle.pw_shelf.specs.State.{committed};
 ghost use Rattle.pw_shelf.specs.Left.{LeavesOnly};
 ghost use Rattle.pw_schema.specs.Tables.{IsOurs};
-ghost use Rattle.pw_store.specs.Content.{content_of};
+ghost use Rattle.pw_store.specs.Content.{content_of, records_of};
 ghost use Rattle.pw_store.specs.Kept.{held_of, left_of, state_of};
 ghost use Rattle.pw_store.specs.Left.{IsOfText, MayBeMade};
 ghost use Rattle.pw_store.specs.Opening.{IsFound, KeepsText, Opens, Refuses};
 ghost use Rattle.pw_schema.specs.Judging.{KeepsOffice};
+ghost use Rattle.pw_store.specs.inner.Opened.{IsStanding};
 
 use crate::fault::OpenFault;
 use crate::opening::prepare;
@@ -109,25 +110,36 @@ impl<S: Alter> SqlShelf<S> {
         ensures crash { IfErr result (λ e. Survives (state S.Store connection) (state S.Store e.1) (MayBeMade (office_of office.now) office_text.now (state S.Store connection))) }
     {
         match prepare(alloc, &mut connection, office, office_text, watch) {
-            Ok(held) => {
-                // it says that the file lists these tables
-                let _ = connection.schema();
-                let base = Snapshot::of(&connection);
-                let opened = Snapshot::of(&connection);
-                Ok(SqlShelf {
-                    conn: connection,
-                    base,
-                    opened,
-                    begun: false,
-                    doubtful: false,
-                    held,
-                    within: held,
-                    failures: zero(),
-                    failed_abandons: zero(),
-                    tally: zero(),
-                })
-            }
+            Ok(held) => Ok(SqlShelf::over(connection, held)),
             Err(fault) => Err((fault, connection)),
+        }
+    }
+
+    /// The store over a connection that is ready to be one, with so many records.
+    pub(crate) fn over(connection: Connection<S>, held: u32) -> SqlShelf<S>
+        requires standing { HasCleanDisk (state S.Store connection) → IsStanding (state S.Store connection) }
+        requires counted { HasCleanDisk (state S.Store connection) → length (records_of (state S.Store connection).now.trees) ≡ held }
+        ensures conn { result.conn ≡ connection }
+        ensures base { result.base.value ≡ connection }
+        ensures opened { result.opened.value ≡ connection }
+        ensures idle { result.begun ≡ false }
+        ensures counts { (result.failures.count ≡ 0) × (result.failed_abandons.count ≡ 0) × (result.tally.count ≡ 0) }
+    {
+        // it says that the file lists these tables
+        let _ = connection.schema();
+        let base = Snapshot::of(&connection);
+        let opened = Snapshot::of(&connection);
+        SqlShelf {
+            conn: connection,
+            base,
+            opened,
+            begun: false,
+            doubtful: false,
+            held,
+            within: held,
+            failures: zero(),
+            failed_abandons: zero(),
+            tally: zero(),
         }
     }
 

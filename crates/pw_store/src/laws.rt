@@ -11,7 +11,7 @@ ghost use Rattle.pw_tariff.specs.Text.{IsOfficeOf};
 ghost use Rattle.pw_model.specs.Shelf.{ShelfContent};
 ghost use Rattle.pw_shelf.specs.State.{committed};
 ghost use Rattle.pw_store.specs.Content.{content_of};
-ghost use Rattle.pw_store.specs.Left.{IsLeftBehind, LeftOpens, UpgradedHolds, UpgradedOpens};
+ghost use Rattle.pw_store.specs.Left.{AdoptedHolds, AdoptedOpens, IsLeftBehind, LeftOpens, UpgradedHolds, UpgradedOpens};
 ghost use Rattle.pw_store.specs.Opening.{OpenableOpens};
 
 use crate::fault::OpenFault;
@@ -51,6 +51,17 @@ pub fn upgraded_stores_open()
 /// And it holds then what the store of before held.
 pub fn upgraded_stores_hold_the_same()
     ensures { UpgradedHolds }
+{}
+
+/// A store that a crash has left with another office file in the place of its own, as `adopt` may leave it, opens with that
+/// one: `open` refuses it with `Store` or `Memory` alone.
+pub fn adopted_stores_open()
+    ensures { AdoptedOpens }
+{}
+
+/// And it holds then what the store of before held.
+pub fn adopted_stores_hold_the_same()
+    ensures { AdoptedHolds }
 {}
 
 /// What a crash may leave of a store that was opened with a text, where its content is true, of at most 10,000,000 entries

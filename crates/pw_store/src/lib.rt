@@ -1,6 +1,7 @@
 //! The store of records over SQL.
 #![tactic(auto)]
 
+mod adopting;
 mod asking;
 mod calls;
 mod changes;

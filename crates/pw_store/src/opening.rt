@@ -46,8 +46,8 @@ fn fault_of_office(fault: OfficeFault) -> OpenFault
     }
 }
 
-// Rolls back what the connection is inside of, and sees that it is open.
-fn settle<S: Alter>(conn: &mut Connection<S>) -> Result<(), Error>
+/// Rolls back what the connection is inside of, and sees that it is open.
+pub(crate) fn settle<S: Alter>(conn: &mut Connection<S>) -> Result<(), Error>
     ensures settled { HasCleanDisk (state S.Store conn.new) → OnOk result (IsSettled (state S.Store conn.old) (state S.Store conn.new)) }
     ensures kept { HasCleanDisk (state S.Store conn.new) → KeepsCommit (state S.Store conn.old) (state S.Store conn.new) }
     ensures crash { Survives (state S.Store conn.old) (state S.Store conn.new) (λ _. ⊥) }
@@ -220,8 +220,8 @@ fn check_sums<S: Alter, W: Watch>(
     }
 }
 
-// The rows of our tables, judged: how many records there are.
-fn check_rows<S: Alter, W: Watch>(
+/// The rows of our tables, judged: how many records there are.
+pub(crate) fn check_rows<S: Alter, W: Watch>(
     alloc: Global,
     conn: &mut Connection<S>,
     office: &Office,
@@ -244,8 +244,8 @@ fn check_rows<S: Alter, W: Watch>(
     }
 }
 
-// Sees that the row of `office` and the texts which the engine has kept are such as an opening takes.
-fn see_raised<S: Alter>(conn: &mut Connection<S>, text: &[u8]) -> Result<(), Error>
+/// Sees that the row of `office` and the texts which the engine has kept are such as an opening with this text takes.
+pub(crate) fn see_office<S: Alter>(conn: &mut Connection<S>, text: &[u8]) -> Result<(), Error>
     requires { HasCleanDisk (state S.Store conn.old) → IsOurs (state S.Store conn.old).now.schema }
     ensures kept_text { HasCleanDisk (state S.Store conn.new) → OnOk result (KeepsText (KeepsOffice text.now) (state S.Store conn.old).now.trees) }
     ensures plain { HasCleanDisk (state S.Store conn.new) → OnOk result (AreWithoutConflict (state S.Store conn.old).now.trees) }
@@ -333,7 +333,7 @@ fn raise_and_check<S: Alter, W: Watch>(
         Ok(held) => held,
         Err(fault) => return Err(fault),
     };
-    if let Err(error) = see_raised(conn, text) {
+    if let Err(error) = see_office(conn, text) {
         return Err(fault_in(error));
     }
     // it says that the file lists these tables
@@ -341,8 +341,8 @@ fn raise_and_check<S: Alter, W: Watch>(
     Ok(held)
 }
 
-// Undoes the transaction, if it still stands.
-fn undo<S: Alter>(conn: &mut Connection<S>)
+/// Undoes the transaction, if it still stands.
+pub(crate) fn undo<S: Alter>(conn: &mut Connection<S>)
     ensures kept { HasCleanDisk (state S.Store conn.new) → KeepsCommit (state S.Store conn.old) (state S.Store conn.new) }
     ensures crash { Survives (state S.Store conn.old) (state S.Store conn.new) (λ _. ⊥) }
 {

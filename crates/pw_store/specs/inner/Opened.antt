@@ -1,4 +1,5 @@
--- What private functions of an opening find. It serves `src/opening.rt`, `src/filling.rt` and `src/sums.rt`.
+-- What private functions of an opening find. It serves `src/opening.rt`, `src/adopting.rt`, `src/door.rt`,
+-- `src/filling.rt` and `src/sums.rt`.
 -- (Definitions of this project.)
 use Rattle.std.specs.Prelude.{◌≡◌, ◌⊎◌, ◌≤◌, ℕ, false, List, [], length, IsTrue}
 use Rattle.std.specs.List.Sorted.{IsPermutation}
@@ -25,7 +26,7 @@ use Rattle.pw_store.specs.declared.fault.OpenFault.TheVariants.{Store, Memory, O
 use Rattle.pw_model.specs.Shelf.{IsTrueContent}
 use Rattle.pw_store.specs.Content.{content_of, records_of, energy_tree, total_tree}
 use Rattle.pw_store.specs.Kept.{IsStore}
-use Rattle.pw_store.specs.Left.{IsUpgraded}
+use Rattle.pw_store.specs.Left.{IsAdopted, IsUpgraded}
 use Rattle.pw_store.specs.Opening.{KeepsText, NamesOffice, HasNoRow, HoldsAllRecords, HoldsTables, HoldsTotals, HoldsTooMany, IsFound, IsSpoilt, Opens}
 
 -- a connection that was open and is, and inside of no transaction
@@ -78,6 +79,24 @@ pub record IsReady (v : StoreVersion) (office : OfficeRules) (body : List ℕ) (
   pub within : IsWithin (schema_of Third) s
   pub upgraded : IsUpgraded v office body before s.now
   pub sound : IsSound office s.now
+
+-- an open connection over a store, on which nothing waits
+pub record IsStanding (s : State) : Type 0 where
+  pub is_open : IsTrue s.is_open
+  pub outside : s.in_transaction ≡ false
+  pub settled : s.now ≡ s.committed
+  pub store : IsStore s.now
+
+-- a store that stands within a transaction with another office file, which may be committed
+pub record IsReplaced (office : OfficeRules) (body : List ℕ) (before : Database) (s : State) : Type 0 where
+  pub within : IsWithin (schema_of Third) s
+  pub adopted : IsAdopted office body before s.now
+  pub store : IsStore s.now
+
+-- and once it is committed
+pub record HasAdopted (office : OfficeRules) (body : List ℕ) (before : Database) (s : State) : Type 0 where
+  pub standing : IsStanding s
+  pub adopted : IsAdopted office body before s.now
 
 -- what is known of the version in the row of `office` where it refuses an opening
 abbrev pub VersionRefuses : Trees → OpenFault → Type 0

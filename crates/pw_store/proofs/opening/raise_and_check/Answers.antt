@@ -19,8 +19,8 @@ returns-in-Err-fill_and_check-clause-cause g c clean =
 pub returns-clause-counted : goal.returns-clause-counted
 returns-clause-counted g c clean =
     let new = state g.S.Store c.fill_and_check.new.conn in
-    let last = state g.S.Store c.see_raised.new.conn in
-    let seen = c.in_default-see_raised.ensures in
+    let last = state g.S.Store c.see_office.new.conn in
+    let seen = c.in_default-see_office.ensures in
     ap (λ (db : Trees). length (records_of db)) (trees_same new last (seen.looks.same clean)) ∙ c.in-Ok.ensures.counted (early new last seen.looks.crash clean)
 
 pub returns-clause-ready : goal.returns-clause-ready
@@ -28,8 +28,8 @@ returns-clause-ready g c clean =
     let old = state g.S.Store c.args.conn.now in
     let mid = state g.S.Store c.raise.new.conn in
     let new = state g.S.Store c.fill_and_check.new.conn in
-    let last = state g.S.Store c.see_raised.new.conn in
-    let seen = c.in_default-see_raised.ensures in
+    let last = state g.S.Store c.see_office.new.conn in
+    let seen = c.in_default-see_office.ensures in
     let clean2 = early new last seen.looks.crash clean in
     let clean1 = early mid new c.in-Ok.ensures.crash clean2 in
     let before = early old mid c.in_default.ensures.crash clean1 in

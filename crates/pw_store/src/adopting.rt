@@ -1,0 +1,213 @@
+//! Giving a store another office file in the place of its own.
+
+ghost use Rattle.std.specs.Prelude.{◌≡◌, IfErr, IfOk, IsTrue, OnErr, OnOk, false, length, ◌≤◌};
+ghost use Rattle.sqlite.specs.Held.{state};
+ghost use Rattle.sqlite.specs.State.{HasCleanDisk, KeepsCommit, Survives};
+ghost use Rattle.pw_tariff.specs.Office.{OfficeFile, office_of};
+ghost use Rattle.pw_tariff.specs.Text.{IsOfficeOf};
+ghost use Rattle.pw_model.specs.Office.{AllOfOffice, most_records};
+ghost use Rattle.pw_model.specs.Shelf.{IsTrueContent};
+ghost use Rattle.pw_shelf.specs.Left.{LeavesOnly};
+ghost use Rattle.pw_schema.specs.Fresh.{IsWithin};
+ghost use Rattle.pw_schema.specs.Judging.{KeepsOffice};
+ghost use Rattle.pw_schema.specs.Raised.{HasSame, all_but_office};
+ghost use Rattle.pw_schema.specs.Tables.{IsOurs, schema_of};
+ghost use Rattle.pw_store.specs.Content.{content_of, records_of};
+ghost use Rattle.pw_store.specs.Kept.{IsStore, held_of, left_of};
+ghost use Rattle.pw_store.specs.Left.{AdoptionRefuses, IsOfText, MayBeAdopted};
+ghost use Rattle.pw_store.specs.Opening.{KeepsText};
+ghost use Rattle.pw_store.specs.inner.Opened.{HasAdopted, IsReplaced, RowsRefuse};
+
+use crate::fault::{OpenFault, fault_in};
+use crate::opening::{check_rows, see_office, settle, undo};
+use crate::shelf::SqlShelf;
+use crate::watch::Watch;
+use pw_schema::{StoreVersion, begin, commit, set_office};
+use pw_tariff::Office;
+use sqlite::{Alter, Connection, Error};
+use std::alloc::Global;
+
+impl<S: Alter> SqlShelf<S> {
+    /// Gives a store another office file in the place of its own, where all that it holds is such as that office has: each
+    /// record one of it, and points, starts and totals those that the records have there. Not one row of the store changes
+    /// but that of its office file. A refused store's connection is given back, with what was committed, its own office file
+    /// too; a crash behind a refusal leaves that, or the store with the other office file, whole.
+    pub fn adopt<W: Watch>(
+        self,
+        alloc: Global,
+        office_text: &[u8],
+        watch: &mut W,
+    ) -> Result<SqlShelf<S>, (OpenFault, Connection<S>)>
+        requires text { (office : OfficeFile) × IsOfficeOf office_text.now office }
+        requires idle { self.begun ≡ false }
+        ensures same { IfOk result (λ s. HasCleanDisk (state S.Store s.conn) → held_of (state S.Store s.conn) (state S.Store s.base.value) ≡ held_of (state S.Store self.conn) (state S.Store self.base.value)) }
+        ensures rows { IfOk result (λ s. HasCleanDisk (state S.Store s.conn) → HasSame all_but_office (state S.Store self.conn).committed.trees (state S.Store s.conn).now.trees) }
+        ensures of_office { IfOk result (λ s. HasCleanDisk (state S.Store s.conn) → (office : OfficeFile) × IsOfficeOf office_text.now office × AllOfOffice (office_of office) (held_of (state S.Store s.conn) (state S.Store s.base.value)).records) }
+        ensures truth { IfOk result (λ s. HasCleanDisk (state S.Store s.conn) → (office : OfficeFile) × IsOfficeOf office_text.now office × IsTrueContent (office_of office) (held_of (state S.Store s.conn) (state S.Store s.base.value))) }
+        ensures few { IfOk result (λ s. HasCleanDisk (state S.Store s.conn) → length (held_of (state S.Store s.conn) (state S.Store s.base.value)).records ≤ most_records) }
+        ensures kept_text { IfOk result (λ s. HasCleanDisk (state S.Store s.conn) → IsOurs (state S.Store s.conn).now.schema × KeepsText (KeepsOffice office_text.now) (state S.Store s.conn).now.trees) }
+        ensures opened { IfOk result (λ s. HasCleanDisk (state S.Store s.conn) → (office : OfficeFile) × IsOfficeOf office_text.now office × IsOfText (office_of office) office_text.now (state S.Store s.opened.value).now.trees) }
+        ensures was_clean { IfOk result (λ s. HasCleanDisk (state S.Store s.conn) → HasCleanDisk (state S.Store self.conn) × IsTrue (state S.Store self.conn).is_open) }
+        ensures idle { IfOk result (λ s. s.begun ≡ false) }
+        ensures counts { IfOk result (λ s. (s.failures.count ≡ 0) × (s.failed_abandons.count ≡ 0) × (s.tally.count ≡ 0)) }
+        ensures left { IfOk result (λ s. HasCleanDisk (state S.Store s.conn) → LeavesOnly (held_of (state S.Store s.conn) (state S.Store s.base.value)) (left_of (state S.Store s.conn))) }
+        ensures cause { IfErr result (λ e. HasCleanDisk (state S.Store e.1) → (office : OfficeFile) × IsOfficeOf office_text.now office × AdoptionRefuses (office_of office) (held_of (state S.Store self.conn) (state S.Store self.base.value)) (state S.Store self.conn).committed.trees e.0) }
+        ensures refused { IfErr result (λ e. HasCleanDisk (state S.Store e.1) → KeepsCommit (state S.Store self.conn) (state S.Store e.1)) }
+        ensures crash { IfErr result (λ e. (office : OfficeFile) × IsOfficeOf office_text.now office × Survives (state S.Store self.conn) (state S.Store e.1) (MayBeAdopted (office_of office) office_text.now (state S.Store self.conn).committed)) }
+    {
+        match Office::read(alloc, office_text) {
+            Ok(office) => self.adopt_for(alloc, &office, office_text, watch),
+            Err(_) => Err((OpenFault::Memory, self.into_connection())),
+        }
+    }
+
+    // Gives a store the text of an office that was read.
+    fn adopt_for<W: Watch>(
+        self,
+        alloc: Global,
+        office: &Office,
+        office_text: &[u8],
+        watch: &mut W,
+    ) -> Result<SqlShelf<S>, (OpenFault, Connection<S>)>
+        requires { self.begun ≡ false }
+        ensures same { IfOk result (λ s. HasCleanDisk (state S.Store s.conn) → held_of (state S.Store s.conn) (state S.Store s.base.value) ≡ held_of (state S.Store self.conn) (state S.Store self.base.value)) }
+        ensures rows { IfOk result (λ s. HasCleanDisk (state S.Store s.conn) → HasSame all_but_office (state S.Store self.conn).committed.trees (state S.Store s.conn).now.trees) }
+        ensures of_office { IfOk result (λ s. HasCleanDisk (state S.Store s.conn) → AllOfOffice (office_of office.now) (held_of (state S.Store s.conn) (state S.Store s.base.value)).records) }
+        ensures truth { IfOk result (λ s. HasCleanDisk (state S.Store s.conn) → IsTrueContent (office_of office.now) (held_of (state S.Store s.conn) (state S.Store s.base.value))) }
+        ensures few { IfOk result (λ s. HasCleanDisk (state S.Store s.conn) → length (held_of (state S.Store s.conn) (state S.Store s.base.value)).records ≤ most_records) }
+        ensures kept_text { IfOk result (λ s. HasCleanDisk (state S.Store s.conn) → IsOurs (state S.Store s.conn).now.schema × KeepsText (KeepsOffice office_text.now) (state S.Store s.conn).now.trees) }
+        ensures opened { IfOk result (λ s. HasCleanDisk (state S.Store s.conn) → IsOfText (office_of office.now) office_text.now (state S.Store s.opened.value).now.trees) }
+        ensures was_clean { IfOk result (λ s. HasCleanDisk (state S.Store s.conn) → HasCleanDisk (state S.Store self.conn) × IsTrue (state S.Store self.conn).is_open) }
+        ensures idle { IfOk result (λ s. s.begun ≡ false) }
+        ensures counts { IfOk result (λ s. (s.failures.count ≡ 0) × (s.failed_abandons.count ≡ 0) × (s.tally.count ≡ 0)) }
+        ensures left { IfOk result (λ s. HasCleanDisk (state S.Store s.conn) → LeavesOnly (held_of (state S.Store s.conn) (state S.Store s.base.value)) (left_of (state S.Store s.conn))) }
+        ensures cause { IfErr result (λ e. HasCleanDisk (state S.Store e.1) → AdoptionRefuses (office_of office.now) (held_of (state S.Store self.conn) (state S.Store self.base.value)) (state S.Store self.conn).committed.trees e.0) }
+        ensures refused { IfErr result (λ e. HasCleanDisk (state S.Store e.1) → KeepsCommit (state S.Store self.conn) (state S.Store e.1)) }
+        ensures crash { IfErr result (λ e. Survives (state S.Store self.conn) (state S.Store e.1) (MayBeAdopted (office_of office.now) office_text.now (state S.Store self.conn).committed)) }
+    {
+        let mut connection = self.into_connection();
+        match exchange(alloc, &mut connection, office, office_text, watch) {
+            Ok(held) => Ok(SqlShelf::over(connection, held)),
+            Err(fault) => Err((fault, connection)),
+        }
+    }
+}
+
+// Sets another office file within a transaction, whatever rows the store has.
+fn replace<S: Alter>(conn: &mut Connection<S>, text: &[u8]) -> Result<(), Error>
+    requires { HasCleanDisk (state S.Store conn.old) → IsOurs (state S.Store conn.old).now.schema }
+    ensures within { HasCleanDisk (state S.Store conn.new) → OnOk result (IsWithin (schema_of StoreVersion.Third) (state S.Store conn.new)) }
+    ensures others { HasCleanDisk (state S.Store conn.new) → OnOk result (HasSame all_but_office (state S.Store conn.old).now.trees (state S.Store conn.new).now.trees) }
+    ensures kept { HasCleanDisk (state S.Store conn.new) → KeepsCommit (state S.Store conn.old) (state S.Store conn.new) }
+    ensures crash { Survives (state S.Store conn.old) (state S.Store conn.new) (λ _. ⊥) }
+{
+    begin(conn)?;
+    set_office(conn, text)?;
+    Ok(())
+}
+
+// Sets another office file within a transaction, if the rows of the store are such as that office has: how many records
+// there are.
+fn replace_and_check<S: Alter, W: Watch>(
+    alloc: Global,
+    conn: &mut Connection<S>,
+    office: &Office,
+    text: &[u8],
+    watch: &mut W,
+) -> Result<u32, OpenFault>
+    requires { HasCleanDisk (state S.Store conn.old) → IsOurs (state S.Store conn.old).now.schema }
+    ensures counted { HasCleanDisk (state S.Store conn.new) → IfOk result (λ held. length (records_of (state S.Store conn.new).now.trees) ≡ held) }
+    ensures replaced { HasCleanDisk (state S.Store conn.new) → OnOk result (IsReplaced (office_of office.now) text.now (state S.Store conn.old).now (state S.Store conn.new)) }
+    ensures cause { HasCleanDisk (state S.Store conn.new) → IfErr result (RowsRefuse StoreVersion.Third (office_of office.now) (state S.Store conn.old).now.trees) }
+    ensures kept { HasCleanDisk (state S.Store conn.new) → KeepsCommit (state S.Store conn.old) (state S.Store conn.new) }
+    ensures crash { Survives (state S.Store conn.old) (state S.Store conn.new) (λ _. ⊥) }
+{
+    if let Err(error) = replace(conn, text) {
+        return Err(fault_in(error));
+    }
+    let held = match check_rows(alloc, conn, office, watch) {
+        Ok(held) => held,
+        Err(fault) => return Err(fault),
+    };
+    if let Err(error) = see_office(conn, text) {
+        return Err(fault_in(error));
+    }
+    // it says that the file lists these tables
+    let _ = conn.schema();
+    Ok(held)
+}
+
+// Gives a store another office file, if its rows are such as that office has: how many records there are. With a fault the
+// transaction may still stand.
+fn replace_and_commit<S: Alter, W: Watch>(
+    alloc: Global,
+    conn: &mut Connection<S>,
+    office: &Office,
+    text: &[u8],
+    watch: &mut W,
+) -> Result<u32, OpenFault>
+    requires { HasCleanDisk (state S.Store conn.old) → IsOurs (state S.Store conn.old).now.schema }
+    ensures counted { HasCleanDisk (state S.Store conn.new) → IfOk result (λ held. length (records_of (state S.Store conn.new).now.trees) ≡ held) }
+    ensures adopted { HasCleanDisk (state S.Store conn.new) → OnOk result (HasAdopted (office_of office.now) text.now (state S.Store conn.old).now (state S.Store conn.new)) }
+    ensures cause { HasCleanDisk (state S.Store conn.new) → IfErr result (RowsRefuse StoreVersion.Third (office_of office.now) (state S.Store conn.old).now.trees) }
+    ensures kept { HasCleanDisk (state S.Store conn.new) → OnErr result (KeepsCommit (state S.Store conn.old) (state S.Store conn.new)) }
+    ensures crash { Survives (state S.Store conn.old) (state S.Store conn.new) (MayBeAdopted (office_of office.now) text.now (state S.Store conn.old).now) }
+{
+    let held = match replace_and_check(alloc, conn, office, text, watch) {
+        Ok(held) => held,
+        Err(fault) => return Err(fault),
+    };
+    match commit(conn) {
+        Ok(()) => Ok(held),
+        Err(error) => Err(fault_in(error)),
+    }
+}
+
+// Gives a store another office file, if its rows are such as that office has, and else undoes what it did: how many records
+// there are.
+fn replace_or_undo<S: Alter, W: Watch>(
+    alloc: Global,
+    conn: &mut Connection<S>,
+    office: &Office,
+    text: &[u8],
+    watch: &mut W,
+) -> Result<u32, OpenFault>
+    requires { HasCleanDisk (state S.Store conn.old) → IsOurs (state S.Store conn.old).now.schema }
+    ensures counted { HasCleanDisk (state S.Store conn.new) → IfOk result (λ held. length (records_of (state S.Store conn.new).now.trees) ≡ held) }
+    ensures adopted { HasCleanDisk (state S.Store conn.new) → OnOk result (HasAdopted (office_of office.now) text.now (state S.Store conn.old).now (state S.Store conn.new)) }
+    ensures cause { HasCleanDisk (state S.Store conn.new) → IfErr result (RowsRefuse StoreVersion.Third (office_of office.now) (state S.Store conn.old).now.trees) }
+    ensures kept { HasCleanDisk (state S.Store conn.new) → OnErr result (KeepsCommit (state S.Store conn.old) (state S.Store conn.new)) }
+    ensures crash { Survives (state S.Store conn.old) (state S.Store conn.new) (MayBeAdopted (office_of office.now) text.now (state S.Store conn.old).now) }
+{
+    match replace_and_commit(alloc, conn, office, text, watch) {
+        Ok(held) => Ok(held),
+        Err(fault) => {
+            undo(conn);
+            Err(fault)
+        }
+    }
+}
+
+// Gives a store another office file, if the connection is still open and the rows are such as that office has: how many
+// records there are.
+fn exchange<S: Alter, W: Watch>(
+    alloc: Global,
+    conn: &mut Connection<S>,
+    office: &Office,
+    text: &[u8],
+    watch: &mut W,
+) -> Result<u32, OpenFault>
+    requires { HasCleanDisk (state S.Store conn.old) → IsTrue (state S.Store conn.old).is_open → IsStore (state S.Store conn.old).committed }
+    ensures counted { HasCleanDisk (state S.Store conn.new) → IfOk result (λ held. length (records_of (state S.Store conn.new).now.trees) ≡ held) }
+    ensures adopted { HasCleanDisk (state S.Store conn.new) → OnOk result (HasAdopted (office_of office.now) text.now (state S.Store conn.old).committed (state S.Store conn.new)) }
+    ensures was_open { HasCleanDisk (state S.Store conn.new) → OnOk result (HasCleanDisk (state S.Store conn.old) × IsTrue (state S.Store conn.old).is_open) }
+    ensures cause { HasCleanDisk (state S.Store conn.new) → IfErr result (λ fault. AdoptionRefuses (office_of office.now) (content_of (state S.Store conn.old).committed.trees) (state S.Store conn.old).committed.trees fault) }
+    ensures judged { HasCleanDisk (state S.Store conn.new) → IfErr result (λ fault. fault ≡ OpenFault.Unclean → HasCleanDisk (state S.Store conn.old) × IsTrue (state S.Store conn.old).is_open) }
+    ensures kept { HasCleanDisk (state S.Store conn.new) → OnErr result (KeepsCommit (state S.Store conn.old) (state S.Store conn.new)) }
+    ensures crash { OnErr result (Survives (state S.Store conn.old) (state S.Store conn.new) (MayBeAdopted (office_of office.now) text.now (state S.Store conn.old).committed)) }
+{
+    if let Err(error) = settle(conn) {
+        return Err(fault_in(error));
+    }
+    replace_or_undo(alloc, conn, office, text, watch)
+}
