@@ -79,21 +79,14 @@ owner-from_as : (to : Places) (o : Option (ℕ × Option AccountId)) → owner_f
 owner-from_as to None = refl
 owner-from_as to (Some a) = refl
 
-wh-as : (to : Places) (r : Contents) → wh_of (contents_as to r) ≡ wh_of r
-wh-as to Nothing = refl
-wh-as to Several = refl
-wh-as to (One (content.Reading w)) = refl
-wh-as to (One (content.Assignment o)) = refl
-wh-as to (One (content.TopUp a c t)) = refl
-wh-as to (One content.Withdrawal) = refl
-
-owner-of_as : (to : Places) (r : Contents) → owner_of (contents_as to r) ≡ option_map (owner_as to) (owner_of r)
-owner-of_as to Nothing = refl
-owner-of_as to Several = refl
-owner-of_as to (One (content.Reading w)) = refl
-owner-of_as to (One (content.Assignment o)) = refl
-owner-of_as to (One (content.TopUp a c t)) = refl
-owner-of_as to (One content.Withdrawal) = refl
+-- what contents tell, by the other places
+tells-as : (to : Places) (r : Contents) → (wh_of (contents_as to r) ≡ wh_of r) × (owner_of (contents_as to r) ≡ option_map (owner_as to) (owner_of r))
+tells-as to Nothing = (refl, refl)
+tells-as to Several = (refl, refl)
+tells-as to (One (content.Reading w)) = (refl, refl)
+tells-as to (One (content.Assignment o)) = (refl, refl)
+tells-as to (One (content.TopUp a c t)) = (refl, refl)
+tells-as to (One content.Withdrawal) = (refl, refl)
 
 -- the meter that a reading is of, by the other places
 abbrev meter_in : Key → ℕ
@@ -140,10 +133,10 @@ module _ (o : Offices) (s : List Entry) (sound : IsSound o.old) (tariff : HaveSa
 
   -- ---- points and owners
   points-same : (m : ℕ) (r : Register) (t : ℕ) → M m → point (contents_at there) (to.meter m) r t ≡ point (contents_at s) m r t
-  points-same m r t h = ap wh_of (told (reading_key m r t) h) ∙ wh-as to (contents_at s (reading_key m r t))
+  points-same m r t h = ap wh_of (told (reading_key m r t) h) ∙ (tells-as to (contents_at s (reading_key m r t))).0
 
   starts-same : (m t : ℕ) → M m → start (contents_at there) (to.meter m) t ≡ option_map (owner_as to) (start (contents_at s) m t)
-  starts-same m t h = ap owner_of (told (assignment_key m t) h) ∙ owner-of_as to (contents_at s (assignment_key m t))
+  starts-same m t h = ap owner_of (told (assignment_key m t) h) ∙ (tells-as to (contents_at s (assignment_key m t))).1
 
   owner-same : (m t : ℕ) → M m → owner_at (contents_at there) (to.meter m) t ≡ owner_as to (owner_at (contents_at s) m t)
   unfolding owner_at

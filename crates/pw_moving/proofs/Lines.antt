@@ -1,11 +1,13 @@
 -- The changes of one line: of its name, of what a meter is beside it, and of a period.
-use Rattle.std.proofs.Common.{◌≡◌, ◌↔◌, ◌⊎◌, Bool, IsTrue, true, false, not, ℕ, zero, suc, ◌+◌, ◌<◌, ◌≤◌, Option, Some, None, option_map, List, [], ◌∷◌, ◌++◌, length, map, get_or, slice_get, refl, ap, sym, subst, ◌∙◌, inl, inr, arith}
+use Rattle.std.proofs.Common.{◌≡◌, ◌↔◌, ◌⊎◌, Bool, IsTrue, true, false, not, ℕ, ◌+◌, ◌<◌, ◌≤◌, Option, Some, None, option_map, List, [], ◌∷◌, ◌++◌, drop, length, map, get_or, slice_get, refl, ap, sym, subst, ◌∙◌, inl, inr, arith}
 use Rattle.std.specs.Cmp.Lexicographic.{slice_cmp}
 use Rattle.std.specs.Ordering.{nat_cmp, ordering_then}
 use Rattle.std.specs.declared.cmp.Ordering.{Ordering}
 use Rattle.std.specs.declared.cmp.Ordering.TheVariants.{Less, Equal}
 use Rattle.std.proofs.Math.Bool.{beq}
 use Rattle.std.proofs.lemmas.Bool.{cases_eq, cases_lt, true≢false}
+use Rattle.std.proofs.lemmas.List.{get_or-map}
+use Rattle.std.proofs.lemmas.List.FromFn.{get_or-range_with_len}
 use Rattle.std.proofs.lemmas.Option.{none-some, same_Some, slice_get-get_or, slice_get-map, slice_get_past}
 use Rattle.pw_obis.specs.declared.reference.Register.{Register}
 use Rattle.pw_obis.specs.declared.reference.Register.TheVariants.{I0, I1, I2, E0, E1, E2}
@@ -27,7 +29,7 @@ use Rattle.pw_moving.specs.declared.change.Change.TheVariants as change
 use Rattle.pw_moving.specs.Names.{names_in}
 use Rattle.pw_moving.specs.Renaming.{Offices}
 use Rattle.pw_moving.specs.Changes.{AreUnlike, Differs, change_order, kind_numbers, line_of, list_of, list_place}
-use Rattle.pw_moving.specs.inner.Comparing.{AreOfBands, AreOfLine, AreOfMeter, AreOfName, AreOfPrice, AreOfRegisters, IsOfBand, IsOfName, IsOfRegister, Puts}
+use Rattle.pw_moving.specs.inner.Comparing.{AreOfBands, AreOfLine, AreOfMeter, AreOfName, AreOfPlace, AreOfPrice, AreOfRegisters, IsOfBand, IsOfName, IsOfPlace, IsOfRegister, Puts}
 use Rattle.pw_moving.proofs.Ordered.{lists-both, lists-none, lists-one, puts-both, puts-none}
 use Rattle.pw_moving.proofs.Rising.{earlier-kind, line-within, no-list, one-list}
 
@@ -55,30 +57,10 @@ puts-same P Q a b p same = (
 
 -- ---- the order of what is told of one line
 abbrev pub rank : Change → ℕ
-rank (change.Added list place) = 0
-rank (change.Gone list place) = 1
-rank (change.Renamed list place) = 2
-rank (change.Moved list from to) = 3
-rank (change.Clock m) = 4
-rank (change.Register m r) = 5
-rank (change.Start p) = 0
-rank (change.NewPeriod p) = 1
-rank (change.PeriodGone p) = 2
-rank (change.Week p) = 3
-rank (change.Price p b d) = 4
+rank c = get_or (kind_numbers c) 0 0
 
 abbrev rest : Change → List ℕ
-rest (change.Added list place) = []
-rest (change.Gone list place) = []
-rest (change.Renamed list place) = []
-rest (change.Moved list from to) = to ∷ []
-rest (change.Clock m) = []
-rest (change.Register m r) = register_place r ∷ []
-rest (change.Start p) = []
-rest (change.NewPeriod p) = []
-rest (change.PeriodGone p) = []
-rest (change.Week p) = []
-rest (change.Price p b d) = b.0 ∷ direction_place d ∷ []
+rest c = drop 1 (kind_numbers c)
 
 ranked : (c : Change) → kind_numbers c ≡ rank c ∷ rest c
 ranked (change.Added list place) = refl
@@ -104,9 +86,6 @@ meter n = record { 0 = n }
 
 abbrev period : ℕ → PeriodId
 period n = record { 0 = n }
-
-abbrev band : ℕ → BandId
-band n = record { 0 = n }
 
 -- ---- what was asked
 pub refuted : {P : Type 0} (b : Bool) → b ≡ false → IsTrue b ↔ P → P → ⊥
@@ -136,21 +115,10 @@ pub counts-same : (o : Offices) (m : MeterId) (r : Register) (a b : Bool) → a 
 counts-same o m r a b old new e h = h.1 (sym old ∙ e ∙ new)
 
 place-few : (r : Register) → register_place r < 6
-place-few I0 = omega arith
-place-few I1 = omega arith
-place-few I2 = omega arith
-place-few E0 = omega arith
-place-few E1 = omega arith
-place-few E2 = omega arith
+place-few r = elim r as (λ (q : Register). register_place q < 6) [ I0 ↦ omega arith | I1 ↦ omega arith | I2 ↦ omega arith | E0 ↦ omega arith | E1 ↦ omega arith | E2 ↦ omega arith ]
 
 pub place-at : (i : ℕ) (d : Register) → i < 6 → register_place (get_or registers i d) ≡ i
-place-at zero d l = refl
-place-at (suc zero) d l = refl
-place-at (suc (suc zero)) d l = refl
-place-at (suc (suc (suc zero))) d l = refl
-place-at (suc (suc (suc (suc zero)))) d l = refl
-place-at (suc (suc (suc (suc (suc zero))))) d l = refl
-place-at (suc (suc (suc (suc (suc (suc i)))))) d l = absurd (omega (arith, l))
+place-at i d l = sym (get_or-map register_place registers i d 0 l) ∙ get_or-range_with_len 0 6 i 0 l ∙ omega arith
 
 only-register : (n : ℕ) (x : Change) → IsOfRegister n x → (m : MeterId) × (r : Register) × (x ≡ change.Register m r) × (register_place r < n)
 only-register n (change.Added list place) h = absurd h
@@ -290,7 +258,7 @@ module _ (o : Offices) (p : PeriodId) (b : BandId) where
       let line : k.0.0 ≡ p.0 = sym (ap line_of k.3) ∙ l in
       elim (cases_eq k.1.0 b.0) [
         | inl e ↦ (
-            let same : x ≡ change.Price p b k.2 = k.3 ∙ ap (λ (n : ℕ). change.Price (period n) k.1 k.2) line ∙ ap (λ (n : ℕ). change.Price p (band n) k.2) e in
+            let same : x ≡ change.Price p b k.2 = k.3 ∙ ap (λ (n : ℕ). change.Price (period n) k.1 k.2) line ∙ ap (λ (n : ℕ). change.Price p (record { 0 = n }) k.2) e in
             elim (either-way x k.2 h same) [ inl j ↦ inl (inr j) | inr j ↦ inr j ])
         | inr u ↦ inl (inl (h, l, price-here b.0 k.0 k.1 k.2 x k.3 (omega (arith, few, u))))
       ]
@@ -517,9 +485,6 @@ name-parts o list n within (change.PeriodGone p) d s l h = absurd h
 name-parts o list n within (change.Week p) d s l h = absurd h
 name-parts o list n within (change.Price p b q) d s l h = absurd h
 
-abbrev pub IsOfPlace : Offices → Listed → ℕ → Change → Type 0
-IsOfPlace o list n x = Differs o x × ((x ≡ change.Gone list n) ⊎ (x ≡ change.Renamed list n))
-
 abbrev pub IsOfMove : Offices → Listed → ℕ → Change → Type 0
 IsOfMove o list n x = Differs o x × ((to : ℕ) × (x ≡ change.Moved list n to))
 
@@ -538,7 +503,7 @@ place-name : (o : Offices) (list : Listed) (n : ℕ) (x : Change) → Differs o 
 place-name o list n x d (inl e) = (d, ap list_of e, ap line_of e, subst (λ (y : Change). IsOfName y) (sym e) tt)
 place-name o list n x d (inr e) = (d, ap list_of e, ap line_of e, subst (λ (y : Change). IsOfName y) (sym e) tt)
 
-pub name-next : (o : Offices) (list : Listed) (n : ℕ) (a b c : List Change) → n < length (names_in list o.old) → Puts (Lists change_order (IsOfPlace o list n)) a b → Puts (Lists change_order (IsOfMove o list n)) b c →
+pub name-next : (o : Offices) (list : Listed) (n : ℕ) (a b c : List Change) → n < length (names_in list o.old) → Puts (AreOfPlace o list n) a b → Puts (Lists change_order (IsOfMove o list n)) b c →
     Puts (AreOfName o (list_place list) n) a c
 name-next o list n a b c within p q =
     puts-join (IsOfPlace o list n) (IsOfMove o list n) (λ x. Differs o x × (list_of x ≡ list_place list) × (line_of x ≡ n) × IsOfName x) a b c p q
@@ -563,7 +528,7 @@ not-gone o list n j y e h =
 
 -- it is gone
 pub name-gone : (o : Offices) (list : Listed) (n : ℕ) (a b : List Change) → n < length (names_in list o.old) → length (names_in list o.new) ≤ n → b ≡ a ++ change.Gone list n ∷ [] →
-    Puts (Lists change_order (IsOfPlace o list n)) a b
+    Puts (AreOfPlace o list n) a b
 name-gone o list n a b within past e = puts-one (IsOfPlace o list n) (change.Gone list n) a b e ((past, within), inl refl) (λ y h. elim h.1 [
   | inl i ↦ i
   | inr i ↦ absurd (
@@ -574,7 +539,7 @@ name-gone o list n a b within past e = puts-one (IsOfPlace o list n) (change.Gon
 
 -- it is another one, or the same
 pub name-other : (o : Offices) (list : Listed) (n : ℕ) (a b : List Change) → n < length (names_in list o.old) → n < length (names_in list o.new) → b ≡ a ++ change.Renamed list n ∷ [] →
-    (slice_get (names_in list o.old) n ≡ slice_get (names_in list o.new) n → ⊥) → Puts (Lists change_order (IsOfPlace o list n)) a b
+    (slice_get (names_in list o.old) n ≡ slice_get (names_in list o.new) n → ⊥) → Puts (AreOfPlace o list n) a b
 name-other o list n a b i j e d =
     let old = slice_get-get_or (names_in list o.old) n [] i in
     let new = slice_get-get_or (names_in list o.new) n [] j in
@@ -586,7 +551,7 @@ name-other o list n a b i j e d =
     ])
 
 pub name-same : (o : Offices) (list : Listed) (n : ℕ) (a b : List Change) → n < length (names_in list o.old) → n < length (names_in list o.new) → b ≡ a →
-    slice_get (names_in list o.old) n ≡ slice_get (names_in list o.new) n → Puts (Lists change_order (IsOfPlace o list n)) a b
+    slice_get (names_in list o.old) n ≡ slice_get (names_in list o.new) n → Puts (AreOfPlace o list n) a b
 name-same o list n a b i j e same = puts-nothing (IsOfPlace o list n) a b e (λ y h. elim h.1 [
   | inl k ↦ not-gone o list n j y k h.0
   | inr k ↦ (

@@ -140,7 +140,7 @@ line-within o list n (change.Week p) l k h e = absurd (no-list list e)
 line-within o list n (change.Price p b d) l k h e = absurd (no-list list e)
 
 -- of periods
-pub period-within : (o : Offices) (n : ℕ) (c : Change) → periods_in o.old ≤ n → periods_in o.new ≤ n → Differs o c → list_of c ≡ 3 → line_of c < n
+period-within : (o : Offices) (n : ℕ) (c : Change) → periods_in o.old ≤ n → periods_in o.new ≤ n → Differs o c → list_of c ≡ 3 → line_of c < n
 period-within o n (change.Start p) l k h e =
     let i : length (period_starts o.old) ≡ periods_in o.old = starts-many o.old in
     let j : length (period_starts o.new) ≡ periods_in o.new = starts-many o.new in
@@ -166,8 +166,14 @@ lines-whole o list n xs h p = record {
   );
 }
 
-pub lines-all : (o : Offices) (list n : ℕ) (a b : List Change) → ((c : Change) → Differs o c → list_of c ≡ list → line_of c < n) → Puts (AreOfLines o list n) a b → Puts (AreOfList o list) a b
+lines-all : (o : Offices) (list n : ℕ) (a b : List Change) → ((c : Change) → Differs o c → list_of c ≡ list → line_of c < n) → Puts (AreOfLines o list n) a b → Puts (AreOfList o list) a b
 lines-all o list n a b h p = (p.0, p.1, lines-whole o list n p.0 h p.2)
+
+pub list-all : (o : Offices) (list : Listed) (n : ℕ) (a b : List Change) → length (names_in list o.old) ≤ n → length (names_in list o.new) ≤ n → Puts (AreOfLines o (list_place list) n) a b → Puts (AreOfList o (list_place list)) a b
+list-all o list n a b i j p = lines-all o (list_place list) n a b (λ c h e. line-within o list n c i j h e) p
+
+pub periods-all : (o : Offices) (n : ℕ) (a b : List Change) → periods_in o.old ≤ n → periods_in o.new ≤ n → Puts (AreOfLines o 3 n) a b → Puts (AreOfList o 3) a b
+periods-all o n a b i j p = lines-all o 3 n a b (λ c h e. period-within o n c i j h e) p
 
 -- ---- list by list
 -- those of the lists before one

@@ -89,13 +89,7 @@ fn is_spelt(words: &[Respelling<'_>], old: &Office, new: &Office, list: Listed, 
 fn are_spelt(words: &[Respelling<'_>], old: &[u8], new: &[u8]) -> bool
     ensures { result ≡ list_any (spells old.now new.now) words.now }
 {
-    let mut found = false;
-    for word in words {
-        if spells(old, new, word) {
-            found = true;
-        }
-    }
-    found
+    words.iter().any(|word| spells(old, new, word))
 }
 
 fn spells(old: &[u8], new: &[u8], word: &Respelling<'_>) -> bool

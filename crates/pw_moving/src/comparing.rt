@@ -6,7 +6,7 @@ ghost use Rattle.pw_moving.specs.declared.change.Change.TheVariants as change;
 ghost use Rattle.pw_moving.specs.declared.change.Listed.TheVariants.{Bands};
 ghost use Rattle.pw_moving.specs.Changes.{AreChanges, Differs, HaveSameWeek, IsOfBoth, list_place};
 ghost use Rattle.pw_moving.specs.Names.{names_in};
-ghost use Rattle.pw_moving.specs.inner.Comparing.{AreOfLine, AreOfList, AreOfMeter, AreOfName, AreOfRegisters, AreOfBands, AreOfPrice, Puts};
+ghost use Rattle.pw_moving.specs.inner.Comparing.{AreOfLine, AreOfList, AreOfMeter, AreOfName, AreOfRegisters, AreOfBands, AreOfPlace, AreOfPrice, Puts};
 
 use crate::change::{Change, Listed};
 use pw_obis::Register;
@@ -132,17 +132,32 @@ fn put_name(
         }
         return Ok(());
     }
-    if news <= place {
-        changes.push(Change::Gone { list, place })?;
-    } else if !is_same_name(old, new, list, place, place) {
-        changes.push(Change::Renamed { list, place })?;
-    }
+    put_at_place(changes, old, new, list, place)?;
     if let Some(to) = moved_to(old, new, list, place) {
         changes.push(Change::Moved {
             list,
             from: place,
             to,
         })?;
+    }
+    Ok(())
+}
+
+// Puts that a line of the old list is gone, or that another name stands at its place.
+fn put_at_place(
+    changes: &mut Vec<Change>,
+    old: &Office,
+    new: &Office,
+    list: Listed,
+    place: u16,
+) -> Result<(), AllocError>
+    requires { place < length (names_in list old.now) }
+    ensures { OnOk result (Puts (AreOfPlace (record { old = old.now; new = new.now }) list place) changes.old.items changes.new.items) }
+{
+    if count(new, list) <= place {
+        changes.push(Change::Gone { list, place })?;
+    } else if !is_same_name(old, new, list, place, place) {
+        changes.push(Change::Renamed { list, place })?;
     }
     Ok(())
 }

@@ -103,52 +103,25 @@ impl<'a> Renaming<'a> {
         ensures some { IfSome result (λ n. (n ≡ named_as (by_names self.now) named.now) × IsNamedOf (office_of self.now.new) n) }
         ensures none { IfNone result (IsNamedOf (office_of self.now.new) (named_as (by_names self.now) named.now) → ⊥) }
     {
-        match *named {
+        let mut there = *named;
+        match &mut there {
             Named::Reading {
                 meter,
                 register,
-                instant,
-                wh,
+                ..
             } => {
-                let meter = self.meter(meter)?;
-                if !self.new.counts(meter, register) {
+                *meter = self.meter(*meter)?;
+                if !self.new.counts(*meter, *register) {
                     return None;
                 }
-                Some(Named::Reading {
-                    meter,
-                    register,
-                    instant,
-                    wh,
-                })
             }
-            Named::Assignment {
-                meter,
-                start,
-                owner,
-            } => {
-                let meter = self.meter(meter)?;
-                let owner = self.owner(owner)?;
-                Some(Named::Assignment {
-                    meter,
-                    start,
-                    owner,
-                })
+            Named::Assignment { meter, owner, .. } => {
+                *meter = self.meter(*meter)?;
+                *owner = self.owner(*owner)?;
             }
-            Named::TopUp {
-                reference,
-                account,
-                cents,
-                instant,
-            } => {
-                let account = self.account(account)?;
-                Some(Named::TopUp {
-                    reference,
-                    account,
-                    cents,
-                    instant,
-                })
-            }
+            Named::TopUp { account, .. } => *account = self.account(*account)?,
         }
+        Some(there)
     }
 
     // An account in the new office.

@@ -1,5 +1,5 @@
 -- The changes up to a place. They serve `src/comparing.rt` and `src/adopting.rt`.
-use Rattle.std.specs.Prelude.{◌≡◌, ℕ, ◌<◌, Option, List, ◌++◌}
+use Rattle.std.specs.Prelude.{◌≡◌, ◌⊎◌, ℕ, ◌<◌, Option, List, ◌++◌}
 use Rattle.pw_tariff.specs.declared.ids.BandId.{BandId}
 use Rattle.pw_tariff.specs.declared.ids.Direction.{Direction}
 use Rattle.pw_tariff.specs.declared.ids.PeriodId.{PeriodId}
@@ -41,6 +41,13 @@ IsOfName _ = ⊥
 -- those of a line's name
 abbrev pub AreOfName : Offices → ℕ → ℕ → List Change → Type 0
 AreOfName o list line = Lists change_order (λ c. Differs o c × (list_of c ≡ list) × (line_of c ≡ line) × IsOfName c)
+
+-- that a line of the old list is gone, or that another name stands at its place
+abbrev pub IsOfPlace : Offices → Listed → ℕ → Change → Type 0
+IsOfPlace o list n x = Differs o x × ((x ≡ change.Gone list n) ⊎ (x ≡ change.Renamed list n))
+
+abbrev pub AreOfPlace : Offices → Listed → ℕ → List Change → Type 0
+AreOfPlace o list n = Lists change_order (IsOfPlace o list n)
 
 -- those of what a meter is beside its name
 abbrev pub AreOfMeter : Offices → ℕ → List Change → Type 0

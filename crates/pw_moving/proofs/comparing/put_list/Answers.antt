@@ -1,6 +1,6 @@
 use Rattle.std.proofs.Common.{arith}
 use Rattle.pw_moving.specs.Changes.{list_place}
-use Rattle.pw_moving.proofs.Rising.{line-within, lines-all, lines-next, lines-none}
+use Rattle.pw_moving.proofs.Rising.{lines-next, lines-none, list-all}
 use Rattle.pw_moving.proofs.comparing.put_list.Goals as goal
 
 pub loop-place-init : goal.loop-place-init
@@ -13,10 +13,6 @@ loop-place-preserved c =
 
 pub returns : goal.returns
 returns c =
-    let end = c.max-place-end.ensures in
-    let olds = c.count.ensures.count in
-    let news = c.count-2.ensures.count in
-    let past = c.loop-place-test.false in
-    lines-all (record { old = c.args.old.now; new = c.args.new.now }) (list_place c.args.list) c.loop-place.place c.args.changes.now.items c.loop-place.changes.items
-    (λ it h e. line-within (record { old = c.args.old.now; new = c.args.new.now }) c.args.list c.loop-place.place it (omega (arith, end, olds, news, past)) (omega (arith, end, olds, news, past)) h e)
-    c.loop-place.invariant
+    list-all (record { old = c.args.old.now; new = c.args.new.now }) c.args.list c.loop-place.place c.args.changes.now.items c.loop-place.changes.items
+    (omega (arith, c.max-place-end.ensures, c.count.ensures.count, c.count-2.ensures.count, c.loop-place-test.false))
+    (omega (arith, c.max-place-end.ensures, c.count.ensures.count, c.count-2.ensures.count, c.loop-place-test.false)) c.loop-place.invariant
