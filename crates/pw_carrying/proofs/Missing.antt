@@ -1,7 +1,7 @@
 -- Entries that aren't held.
-use Rattle.std.proofs.Common.{◌≡◌, ℕ, ◌+◌, ◌<◌, Bool, true, false, cond, not, List, [], ◌∷◌, ◌++◌, length, take, get_or, refl, ap, sym, subst, ◌∙◌, inl, inr}
+use Rattle.std.proofs.Common.{◌≡◌, Bool, true, false, cond, not, List, [], ◌∷◌, ◌++◌, ap, sym, subst, ◌∙◌, inl, inr}
 use Rattle.std.proofs.lemmas.Bool.{cases_Bool, true≢false}
-use Rattle.std.proofs.lemmas.List.Elements.{filter_more}
+use Rattle.std.proofs.lemmas.List.{append-nil}
 use Rattle.pw_model.specs.declared.records.Entry.{Entry}
 use Rattle.pw_model.specs.Counting.{Member}
 use Rattle.pw_model.specs.Payments.{stands_in}
@@ -35,15 +35,11 @@ module _ (records : List Entry) where
     );
   }
 
-  turned : (b : Bool) (e : Entry) → let none : List Entry = [] in cond b none (e ∷ []) ≡ cond (not b) (e ∷ []) none
-  turned true e = refl
-  turned false e = refl
+-- ---- one entry more is looked at
+-- it is among them
+pub passed : (was now : List Entry) (e : Entry) (b : Bool) → b ≡ true → now ≡ was → now ≡ was ++ cond b [] (e ∷ [])
+passed was now e b h n = n ∙ sym (append-nil was) ∙ ap (λ (x : Bool). was ++ cond x [] (e ∷ [])) (sym h)
 
-  -- one entry more is looked up
-  pub lacking-more : (xs : List Entry) (i : ℕ) (e : Entry) (was now : List Entry) (b : Bool) → i < length xs → e ≡ get_or xs i e → b ≡ stands_in same_entry e records →
-      was ≡ lacking_in records (take i xs) → now ≡ was ++ cond b [] (e ∷ []) → now ≡ lacking_in records (take (i + 1) xs)
-  lacking-more xs i e was now b l g s w n =
-      n ∙ ap (λ (l : List Entry). l ++ cond b [] (e ∷ [])) w
-      ∙ ap (λ (l : List Entry). lacking_in records (take i xs) ++ l) (turned b e ∙ ap (λ (c : Bool). cond (not c) (e ∷ []) []) s)
-      ∙ ap (λ (x : Entry). lacking_in records (take i xs) ++ cond (is_missing x) (x ∷ []) []) g
-      ∙ sym (filter_more is_missing xs i e l)
+-- it isn't
+pub put : (was now : List Entry) (e : Entry) (b : Bool) → b ≡ false → now ≡ was ++ e ∷ [] → now ≡ was ++ cond b [] (e ∷ [])
+put was now e b h n = n ∙ ap (λ (x : Bool). was ++ cond x [] (e ∷ [])) (sym h)

@@ -1,7 +1,8 @@
 -- Records that weren't sent.
-use Rattle.std.proofs.Common.{◌≡◌, ℕ, ◌+◌, ◌*◌, ◌<◌, Bool, true, not, List, [], ◌∷◌, ◌++◌, Err, Equal, filter, length, get_or, ap, sym, subst, ◌∙◌, inl, inr, arith}
+use Rattle.std.proofs.Common.{◌≡◌, ℕ, ◌+◌, ◌*◌, ◌<◌, Bool, true, cond, not, List, [], ◌∷◌, ◌++◌, Err, Equal, filter, length, take, get_or, refl, ap, sym, subst, ◌∙◌, inl, inr, arith}
 use Rattle.std.proofs.lemmas.Bool.{cases_Bool, cases_lt, true≢false}
 use Rattle.std.proofs.lemmas.Cmp.{tied_itself}
+use Rattle.std.proofs.lemmas.List.{append_assoc}
 use Rattle.std.proofs.lemmas.List.Sorted.{searchable_from_sorted}
 use Rattle.std.specs.List.Sorted.{IsBinarySearchResult, IsSorted}
 use Rattle.pw_tariff.specs.Office.{OfficeRules}
@@ -14,7 +15,7 @@ use Rattle.pw_model.specs.Same.{entry_order, same_entry}
 use Rattle.pw_model.specs.Payments.{stands_in}
 use Rattle.pw_model.specs.Shelf.{ShelfContent}
 use Rattle.pw_model.proofs.EntryOrder.{before-all}
-use Rattle.pw_model.proofs.Filtered.{filtered-member, member-filtered}
+use Rattle.pw_model.proofs.Filtered.{filtered-member}
 use Rattle.pw_model.proofs.InOrder.{before-member}
 use Rattle.pw_model.proofs.Once.{stands-decides}
 use Rattle.pw_model.proofs.Places.{at-member, member-at}
@@ -22,6 +23,7 @@ use Rattle.pw_model.proofs.Same.{same_entry-decides}
 use Rattle.pw_shelf.specs.Orders.{record_order}
 use Rattle.pw_shelf.proofs.InOrder.{order_exact, order_total}
 use Rattle.pw_book.specs.inner.Places.{key_place}
+use Rattle.pw_book.proofs.NotHeld.{fresh-more}
 use Rattle.pw_book.proofs.Segments.{segment-all, segment-more, segment-none}
 use Rattle.pw_carrying.specs.Lacking.{lacking_in}
 use Rattle.pw_carrying.specs.Unsent.{AreUnsent}
@@ -29,6 +31,7 @@ use Rattle.pw_carrying.specs.declared.lists.HeldList.{HeldList}
 use Rattle.pw_carrying.specs.inner.Stages.{IsListOf, IsOfList, list_place}
 use Rattle.pw_carrying.specs.inner.Unsent.{AddsUnsent, UnsentBefore}
 use Rattle.pw_carrying.proofs.Listing.{entry-before, key-before, list-place, placed, within}
+use Rattle.pw_carrying.proofs.Missing.{are-lacking}
 
 -- ---- what a search tells
 pub found-member : (sent : List Entry) (e : Entry) (i : ℕ) → i < length sent → record_order (get_or sent i e) e ≡ Equal → Member e sent
@@ -57,6 +60,15 @@ sent-told sent e b h =
     ]
 
 -- ---- what is left of a list
+-- one record more is looked at
+pub lacking-next : (sent xs : List Entry) (i : ℕ) (e : Entry) (old was now : List Entry) (b : Bool) → i < length xs → e ≡ get_or xs i e → b ≡ stands_in same_entry e sent → was ≡ old ++ lacking_in sent (take i xs) → now ≡ was ++ cond b [] (e ∷ []) →
+    now ≡ old ++ lacking_in sent (take (i + 1) xs)
+lacking-next sent xs i e old was now b l g s w n =
+    let before = lacking_in sent (take i xs) in
+    n ∙ ap (λ (ys : List Entry). ys ++ cond b [] (e ∷ [])) w
+    ∙ append_assoc old before (cond b [] (e ∷ []))
+    ∙ ap (λ (ys : List Entry). old ++ ys) (fresh-more sent xs i e before (before ++ cond b [] (e ∷ [])) b l g s refl refl)
+
 module _ (p : Entry → Bool) where
   before-filtered : (e : Entry) (xs : List Entry) → IsBeforeAll entry_order e xs → IsBeforeAll entry_order e (filter p xs)
   before-filtered e xs h = before-all entry_order e (filter p xs) (λ x m. before-member entry_order e x xs h (filtered-member p xs x m).0)
@@ -69,23 +81,19 @@ module _ (p : Entry → Bool) where
   ]
 
 module _ (office : OfficeRules) (sent : List Entry) where
-  stands : (e : Entry) → (stands_in same_entry e sent ≡ true → Member e sent) × (Member e sent → stands_in same_entry e sent ≡ true)
-  stands e = stands-decides same_entry same_entry-decides (λ x. 0) e sent
-
   left-of : (Of : HeldList) (records held : List Entry) → ListsHeld (IsOfList Of) records held → Lists entry_order (λ e. (Member e records × (Member e sent → ⊥)) × IsOfList Of e.key) (lacking_in sent held)
-  left-of Of records held h = record {
-    rising = rising-filtered (λ e. not (stands_in same_entry e sent)) held h.rising;
-    members = λ e. (
-      λ m. (
-          let k = filtered-member (λ x. not (stands_in same_entry x sent)) held e m in
-          let i = (h.members e).0 k.0 in
-          ((i.0, λ n. true≢false (sym k.1 ∙ ap not ((stands e).1 n))), i.1)),
-      λ q. elim (cases_Bool (stands_in same_entry e sent)) [
-        | inl t ↦ absurd (q.0.1 ((stands e).0 t))
-        | inr f ↦ member-filtered (λ x. not (stands_in same_entry x sent)) held e ((h.members e).1 (q.0.0, q.1)) (ap not f)
-      ],
-    );
-  }
+  left-of Of records held h =
+      let left = are-lacking sent held (lacking_in sent held) refl in
+      record {
+        rising = rising-filtered (λ e. not (stands_in same_entry e sent)) held h.rising;
+        members = λ e. (
+          λ m. (
+              let k = (left.members e).0 m in
+              let i = (h.members e).0 k.0 in
+              ((i.0, k.1), i.1)),
+          λ q. (left.members e).1 ((h.members e).1 (q.0.0, q.1), q.0.1),
+        );
+      }
 
   -- the list at the next place
   pub unsent-more : (l : HeldList) (records held more old new : List Entry) → IsListOf office.meters l → (AllOfOffice office records → ListsHeld (IsOfList l) records held) → more ≡ lacking_in sent held → new ≡ old ++ more →

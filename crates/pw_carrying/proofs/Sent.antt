@@ -1,5 +1,5 @@
 -- Records that are carried, some behind others.
-use Rattle.std.proofs.Common.{◌≡◌, ℕ, ◌+◌, ◌≤◌, List, [], ◌∷◌, ◌++◌, map, take, drop, length, Result, Ok, Err, refl, ap, sym, subst, ◌∙◌, inl, inr}
+use Rattle.std.proofs.Common.{◌≡◌, ℕ, ◌+◌, ◌≤◌, List, [], ◌∷◌, ◌++◌, take, drop, length, Result, Ok, Err, refl, ap, sym, subst, ◌∙◌, inl, inr}
 use Rattle.std.proofs.lemmas.List.{append-nil, append_assoc, map-append, take-append-drop, take_all}
 use Rattle.pw_tariff.specs.Office.{OfficeFile, office_of}
 use Rattle.pw_model.specs.declared.records.Entry.{Entry}
@@ -8,33 +8,23 @@ use Rattle.pw_model.specs.Office.{AllOfOffice, IsOfOffice}
 use Rattle.pw_model.specs.inner.Search.{IsAt}
 use Rattle.pw_model.proofs.Places.{at-member, drop-at, member-left, member-right, member-split, push-to, take-at}
 use Rattle.pw_book.specs.declared.fault.PostFault.TheVariants as post
-use Rattle.pw_moving.specs.Renaming.{Offices, CanBeCarried, AllCanBeCarried, all_carried, carried}
+use Rattle.pw_moving.specs.Renaming.{Offices, CanBeCarried, AllCanBeCarried, all_carried, by_names, carried}
+use Rattle.pw_moving.proofs.Carried.{member-as, member-from}
 use Rattle.pw_carrying.specs.Carrying.{HasCarriedSome}
 use Rattle.pw_carrying.specs.declared.fault.CarryFault.{CarryFault}
 use Rattle.pw_carrying.specs.declared.fault.CarryFault.TheVariants as carry
 use Rattle.pw_carrying.specs.inner.Stages.{AreSent, Gives, HasSent, IsOwnFault, Leads, Sends, StopsAt}
 
--- ---- members
-mapped-back : {X Y : Type 0} (f : X → Y) (y : Y) (xs : List X) → Member y (map f xs) → (x : X) × Member x xs × (y ≡ f x)
-mapped-back f y [] m = absurd m
-mapped-back f y (x ∷ xs) (inl e) = (x, inl refl, e)
-mapped-back f y (x ∷ xs) (inr m) = let r = mapped-back f y xs m in (r.0, inr r.1, r.2)
-
-mapped-to : {X Y : Type 0} (f : X → Y) (x : X) (xs : List X) → Member x xs → Member (f x) (map f xs)
-mapped-to f x [] m = absurd m
-mapped-to f x (y ∷ xs) (inl e) = inl (λ i. f (e i))
-mapped-to f x (y ∷ xs) (inr m) = inr (mapped-to f x xs m)
-
--- carried lists of the same records
+-- ---- carried lists of the same records
 pub same-carried : (o : Offices) (before xs ys : List Entry) → SameMembers xs ys → SameMembers (before ++ all_carried o xs) (before ++ all_carried o ys)
 same-carried o before xs ys h e =
     let over : (us vs : List Entry) → ((x : Entry) → Member x us → Member x vs) → Member e (before ++ all_carried o us) → Member e (before ++ all_carried o vs) = λ us vs h m.
     elim (member-split e before (all_carried o us) m) [
       | inl k ↦ member-left e before (all_carried o vs) k
       | inr k ↦ (
-          let r = mapped-back (carried o) e us k in
+          let r = member-from (by_names o) us e k in
           let P : Entry → Type 0 = λ x. Member x (all_carried o vs) in
-          member-right e before (all_carried o vs) (subst P (sym r.2) (mapped-to (carried o) r.0 vs (h r.0 r.1))))
+          member-right e before (all_carried o vs) (subst P (sym r.2) (member-as (by_names o) vs r.0 (h r.0 r.1))))
     ] in
     (over xs ys (λ x. (h x).0), over ys xs (λ x. (h x).1))
 
@@ -58,7 +48,7 @@ carried-more o records i e f was now at h w n =
 
 pub carried-office : (o : Offices) (xs : List Entry) → AllCanBeCarried o xs → AllOfOffice (office_of o.new) (all_carried o xs)
 carried-office o xs a e m =
-    let r = mapped-back (carried o) e xs m in
+    let r = member-from (by_names o) xs e m in
     let P : Entry → Type 0 = λ x. IsOfOffice (office_of o.new) x in
     subst P (sym r.2) (a r.0 r.1)
 

@@ -10,13 +10,11 @@ ghost use Rattle.pw_carrying.specs.Carrying.{HasUploads, IsCarried, asked_of, po
 ghost use Rattle.pw_carrying.specs.inner.Stages.{CarriesOn, IsListOf, list_place};
 
 use crate::fault::CarryFault;
-use crate::lists::{HeldList, records_in};
+use crate::lists::{HeldList, list_at, list_count, records_in};
 use crate::told::Carrying;
 use crate::waiting::{Waiting, give_all, post_waiting};
 use pw_book::{Basis, Book, PostFault};
-use pw_obis::Register;
 use pw_shelf::Shelf;
-use pw_tariff::MeterId;
 use std::alloc::Global;
 
 /// Carries all records of a book into the book of another office, each under the names of that office, and answers how many
@@ -66,76 +64,8 @@ fn carry_held<S: Shelf, T: Shelf, W: Carrying>(
     ensures asked { IsOnlyAsked S.Shelf (failures_asked (asked_of result)) shelf.old shelf.new }
     ensures uploads { HasUploads T.Shelf (posted_of result) into.old into.new }
 {
-    carry_readings(shelf, basis, into, waiting, watch)?;
-    carry_assignments(shelf, basis, into, waiting, watch)?;
-    carry_list(shelf, basis, HeldList::TopUps, into, waiting, watch)?;
-    carry_list(shelf, basis, HeldList::Withdrawals, into, waiting, watch)
-}
-
-// Carries the readings of all meters.
-fn carry_readings<S: Shelf, T: Shelf, W: Carrying>(
-    shelf: &mut S,
-    basis: &Basis,
-    into: &mut Book<T>,
-    waiting: &mut Waiting,
-    watch: &mut W,
-) -> Result<(), CarryFault>
-    requires idle { IsNone (S.state shelf.old).begun }
-    ensures carried { S.clean shelf.new → T.clean into.new.shelf → CarriesOn basis.now.office.now into.old.office (S.state shelf.old).content.records 0 (6 * (office_of basis.now.office.now).meters) (T.state into.old.shelf).content.records waiting.old.entries.items (T.state into.new.shelf).content.records waiting.new.entries.items result }
-    ensures open_yet { IsErrOf (asked_of result) Reopen → ⊥ }
-    ensures asked { IsOnlyAsked S.Shelf (failures_asked (asked_of result)) shelf.old shelf.new }
-    ensures uploads { HasUploads T.Shelf (posted_of result) into.old into.new }
-{
-    for meter in 0..basis.office.meters() {
-        carry_meter(shelf, basis, MeterId(meter), into, waiting, watch)?;
-    }
-    Ok(())
-}
-
-// Carries the readings of a meter.
-fn carry_meter<S: Shelf, T: Shelf, W: Carrying>(
-    shelf: &mut S,
-    basis: &Basis,
-    meter: MeterId,
-    into: &mut Book<T>,
-    waiting: &mut Waiting,
-    watch: &mut W,
-) -> Result<(), CarryFault>
-    requires idle { IsNone (S.state shelf.old).begun }
-    requires meter { meter.0 < (office_of basis.now.office.now).meters }
-    ensures carried { S.clean shelf.new → T.clean into.new.shelf → CarriesOn basis.now.office.now into.old.office (S.state shelf.old).content.records (6 * meter.0) (6 * meter.0 + 6) (T.state into.old.shelf).content.records waiting.old.entries.items (T.state into.new.shelf).content.records waiting.new.entries.items result }
-    ensures open_yet { IsErrOf (asked_of result) Reopen → ⊥ }
-    ensures asked { IsOnlyAsked S.Shelf (failures_asked (asked_of result)) shelf.old shelf.new }
-    ensures uploads { HasUploads T.Shelf (posted_of result) into.old into.new }
-{
-    for register in &Register::ALL {
-        let list = HeldList::Readings {
-            meter,
-            register: *register,
-        };
-        carry_list(shelf, basis, list, into, waiting, watch)?;
-    }
-    Ok(())
-}
-
-// Carries the assignments of all meters.
-fn carry_assignments<S: Shelf, T: Shelf, W: Carrying>(
-    shelf: &mut S,
-    basis: &Basis,
-    into: &mut Book<T>,
-    waiting: &mut Waiting,
-    watch: &mut W,
-) -> Result<(), CarryFault>
-    requires idle { IsNone (S.state shelf.old).begun }
-    ensures carried { S.clean shelf.new → T.clean into.new.shelf → CarriesOn basis.now.office.now into.old.office (S.state shelf.old).content.records (6 * (office_of basis.now.office.now).meters) (7 * (office_of basis.now.office.now).meters) (T.state into.old.shelf).content.records waiting.old.entries.items (T.state into.new.shelf).content.records waiting.new.entries.items result }
-    ensures open_yet { IsErrOf (asked_of result) Reopen → ⊥ }
-    ensures asked { IsOnlyAsked S.Shelf (failures_asked (asked_of result)) shelf.old shelf.new }
-    ensures uploads { HasUploads T.Shelf (posted_of result) into.old into.new }
-{
-    for meter in 0..basis.office.meters() {
-        let list = HeldList::Assignments {
-            meter: MeterId(meter),
-        };
+    for place in 0..list_count(basis.office) {
+        let list = list_at(basis.office, place);
         carry_list(shelf, basis, list, into, waiting, watch)?;
     }
     Ok(())
@@ -157,6 +87,6 @@ fn carry_list<S: Shelf, T: Shelf, W: Carrying>(
     ensures asked { IsOnlyAsked S.Shelf (failures_asked (asked_of result)) shelf.old shelf.new }
     ensures uploads { HasUploads T.Shelf (posted_of result) into.old into.new }
 {
-    let records = records_in(shelf, basis, list)?;
+    let records = records_in(basis.alloc, shelf, basis.office, list)?;
     give_all(basis, &records, into, waiting, watch)
 }

@@ -1,5 +1,9 @@
 //! What stops a carrying.
 
+ghost use Rattle.std.specs.Prelude.{◌≡◌};
+ghost use Rattle.pw_book.specs.Faults.{book_fault};
+ghost use Rattle.pw_carrying.specs.declared.fault.CarryFault.TheVariants.{Book, Memory, Post};
+
 use pw_book::{BookFault, PostFault};
 use pw_model::Entry;
 use pw_shelf::ShelfFault;
@@ -21,9 +25,6 @@ pub enum CarryFault {
 }
 
 impl From<PostFault> for CarryFault {
-    ghost use Rattle.std.specs.Prelude.{◌≡◌};
-    ghost use Rattle.pw_carrying.specs.declared.fault.CarryFault.TheVariants.{Post};
-
     ghost from_gives = { λ fault e. e ≡ Post fault };
 
     fn from(fault: PostFault) -> Self {
@@ -32,9 +33,6 @@ impl From<PostFault> for CarryFault {
 }
 
 impl From<BookFault> for CarryFault {
-    ghost use Rattle.std.specs.Prelude.{◌≡◌};
-    ghost use Rattle.pw_carrying.specs.declared.fault.CarryFault.TheVariants.{Book};
-
     ghost from_gives = { λ fault e. e ≡ Book fault };
 
     fn from(fault: BookFault) -> Self {
@@ -43,10 +41,6 @@ impl From<BookFault> for CarryFault {
 }
 
 impl From<ShelfFault> for CarryFault {
-    ghost use Rattle.std.specs.Prelude.{◌≡◌};
-    ghost use Rattle.pw_book.specs.Faults.{book_fault};
-    ghost use Rattle.pw_carrying.specs.declared.fault.CarryFault.TheVariants.{Book};
-
     ghost from_gives = { λ fault e. e ≡ Book (book_fault fault) };
 
     fn from(fault: ShelfFault) -> Self {
@@ -55,9 +49,6 @@ impl From<ShelfFault> for CarryFault {
 }
 
 impl From<AllocError> for CarryFault {
-    ghost use Rattle.std.specs.Prelude.{◌≡◌};
-    ghost use Rattle.pw_carrying.specs.declared.fault.CarryFault.TheVariants.{Memory};
-
     ghost from_gives = { λ _ e. e ≡ Memory };
 
     fn from(_: AllocError) -> Self {
@@ -66,9 +57,6 @@ impl From<AllocError> for CarryFault {
 }
 
 impl<T: Drop> From<AllocFailed<T>> for CarryFault {
-    ghost use Rattle.std.specs.Prelude.{◌≡◌};
-    ghost use Rattle.pw_carrying.specs.declared.fault.CarryFault.TheVariants.{Memory};
-
     ghost from_gives = { λ _ e. e ≡ Memory };
 
     fn from(_: AllocFailed<T>) -> Self {

@@ -84,7 +84,7 @@ pub(crate) fn post_waiting<T: Shelf, W: Carrying>(
     ensures fault { IfErr result IsNotAsked }
     ensures uploads { HasUploads T.Shelf (posted_of result) into.old into.new }
 {
-    let carried = all_carried(basis.alloc, basis.office, &into.office, &waiting.entries)?;
+    let carried = all_carried(basis, &into.office, &waiting.entries)?;
     into.post(basis.alloc, &carried)?;
     waiting.carried = with_more(waiting.carried, carried.len());
     watch.carried(waiting.carried);
