@@ -1,7 +1,6 @@
 -- What is told of the key of an assignment where some are withdrawn.
 use Rattle.std.proofs.Common.{◌≡◌, ℕ, pos, List, [], ◌∷◌, map, Bool, true, false, not, ◌&&◌, Vec, Result, Ok, Err, IfOk, refl, sym, ap, subst, ◌∙◌, nat_cmp, arith}
 use Rattle.std.specs.List.{AllByRecursion, filter}
-use Rattle.std.specs.List.Sorted.{IsPermutation}
 use Rattle.std.specs.Ordering.{is_eq}
 use Rattle.sqlite.specs.declared.types.Value.TheVariants.{Int}
 use Rattle.sqlite.specs.declared.error.Error.{Error}
@@ -17,8 +16,6 @@ use Rattle.sqlite.specs.State.{State, Shown}
 use Rattle.pw_tariff.specs.declared.ids.MeterId.{MeterId}
 use Rattle.pw_model.specs.declared.records.Key.TheVariants as key
 use Rattle.pw_model.specs.declared.records.Entry.{Entry}
-use Rattle.pw_model.specs.declared.records.Named.{Named}
-use Rattle.pw_model.specs.declared.records.Named.TheVariants as named
 use Rattle.pw_model.specs.Counting.{contents_at, is_withdrawn}
 use Rattle.pw_model.proofs.Counting.{entry}
 use Rattle.pw_schema.specs.Rows.{number, owner_at, contents_of, told_content, withdrawal}
@@ -27,13 +24,11 @@ use Rattle.pw_store.specs.Content.{records_of, assignment_in, assignment_tree, w
 use Rattle.pw_store.specs.Kept.{IsStore}
 use Rattle.pw_store.specs.inner.Records.{assignment_entry}
 use Rattle.pw_store.proofs.Scans.{equal_ints, tied}
-use Rattle.pw_store.proofs.Finding.{first, second, same_number, meter_of, second_of, place_one, some_member, member_some, owner_in, each_named}
-use Rattle.pw_store.proofs.OfKinds.{from_table, in_table}
-use Rattle.pw_store.proofs.Telling.{told_at}
+use Rattle.pw_store.proofs.Finding.{first, second, three_hold, same_number, meter_of, second_of, place_one, owner_in}
 use Rattle.pw_store.specs.inner.Keys.{assignment_at_text}
 use Rattle.pw_store.proofs.Texts.{assignment_at_query, assignment_at_is, three_ties}
-use Rattle.pw_store.proofs.Lacking.{env_of, found, found_is, is_none, none_counted, passes, seen, tied_to, whole}
-use Rattle.pw_store.proofs.Standing.{all_filtered, both_stand, filter_both, none_tied, once_stand}
+use Rattle.pw_store.proofs.Lacking.{env_of, found, is_none, none_counted, passes, tied_to, whole}
+use Rattle.pw_store.proofs.AtStanding.{none_tied_to, told_standing}
 
 abbrev show_owner : Row → Row
 show_owner r = column r 3 ∷ []
@@ -70,14 +65,11 @@ module _ (db : Trees) (m : MeterId) (i : ℕ) where
       rw (em, ei) (rw (same_number m.0, same_number i) refl)
 
   -- the engine's test of a row
-  abbrev own : Trees
-  own = overlay db []
-
   abbrev passing : Row → Bool
-  passing r = passes own withdrawn_assignment_tree three_ties params assignment_at_query.filter r
+  passing r = passes (overlay db []) withdrawn_assignment_tree three_ties params assignment_at_query.filter r
 
   abbrev tied_with : Row → Row → Bool
-  tied_with r w = tied_to own withdrawn_assignment_tree three_ties params r w
+  tied_with r w = tied_to (overlay db []) withdrawn_assignment_tree three_ties params r w
 
   ties : (r w : Row) → IsAssignmentRow r → IsAssignmentRow w → tied_with r w ≡ (is_eq (nat_cmp (number (column w 1)) (number (column r 1))) && (is_eq (nat_cmp (number (column w 2)) (number (column r 2))) && (is_eq (nat_cmp (number (column w 3)) (number (column r 3))) && true)))
   ties r w it is =
@@ -88,13 +80,8 @@ module _ (db : Trees) (m : MeterId) (i : ℕ) where
   each : (r : Row) → IsAssignmentRow r → (w : Row) → IsAssignmentRow w → (tied_with r w ≡ true → assignment_in w ≡ assignment_in r) × (assignment_in w ≡ assignment_in r → tied_with r w ≡ true)
   each r it w is = (
     λ hit.
-        let h = sym (ties r w it is) ∙ hit in
-        let h1 = second (is_eq (nat_cmp (number (column w 1)) (number (column r 1)))) _ h in
-        let h2 = second (is_eq (nat_cmp (number (column w 2)) (number (column r 2)))) _ h1 in
-        let em = tied (number (column w 1)) (number (column r 1)) (first _ _ h) in
-        let ei = tied (number (column w 2)) (number (column r 2)) (first _ _ h1) in
-        let eo = tied (number (column w 3)) (number (column r 3)) (first _ _ h2) in
-        λ j. assignment_entry (record { 0 = em j }) (ei j) (owner_at (eo j)),
+        let h = three_hold (is_eq (nat_cmp (number (column w 1)) (number (column r 1)))) (is_eq (nat_cmp (number (column w 2)) (number (column r 2)))) (is_eq (nat_cmp (number (column w 3)) (number (column r 3)))) (sym (ties r w it is) ∙ hit) in
+        λ j. assignment_entry (record { 0 = tied (number (column w 1)) (number (column r 1)) h.0 j }) (tied (number (column w 2)) (number (column r 2)) h.1 j) (owner_at (tied (number (column w 3)) (number (column r 3)) h.2 j)),
     λ same.
         let em : number (column w 1) ≡ number (column r 1) = ap (λ (x : Entry). meter_of x.key) same in
         let ei : number (column w 2) ≡ number (column r 2) = ap (λ (x : Entry). second_of x.key) same in
@@ -102,24 +89,17 @@ module _ (db : Trees) (m : MeterId) (i : ℕ) where
         ties r w it is ∙ rw (em, ei, eo) (rw (same_number (number (column r 1)), same_number (number (column r 2)), same_number (number (column r 3))) refl),
   )
 
-  none_is_tied : (r : Row) → IsAssignmentRow r → AllByRecursion IsAssignmentRow (db withdrawn_assignment_tree) → is_none (found own withdrawn_assignment_tree three_ties params r) ≡ stands (assignment_in r)
-  none_is_tied r it all =
-      let n : Named = named.Assignment (record { 0 = number (column r 1) }) (number (column r 2)) (owner_at (number (column r 3))) in
-      let e = withdrawal n in
-      let one = each_named Assignments WithdrawnAssignments IsAssignmentRow (tied_with r) (assignment_in r) (λ w. refl) (λ w. refl) refl (each r it) in
-      let many = found_is own withdrawn_assignment_tree three_ties params r in
-      none_tied db n (found own withdrawn_assignment_tree three_ties params r)
-      (λ lt. from_table db e WithdrawnAssignments (some_member withdrawn_assignment_in (tied_with r) IsAssignmentRow e one (db withdrawn_assignment_tree) all (omega (arith, lt, many))))
-      (λ k. (let lt = member_some withdrawn_assignment_in (tied_with r) IsAssignmentRow e one (db withdrawn_assignment_tree) all (in_table db e WithdrawnAssignments refl k) in omega (arith, lt, many)))
+  none_is_tied : (r : Row) → IsAssignmentRow r → AllByRecursion IsAssignmentRow (db withdrawn_assignment_tree) → is_none (found (overlay db []) withdrawn_assignment_tree three_ties params r) ≡ stands (assignment_in r)
+  none_is_tied r it all = none_tied_to Assignments WithdrawnAssignments three_ties params db r (λ w. refl) (λ w. refl) refl refl refl (each r it) all
 
   tests : (r : Row) → IsAssignmentRow r → AllByRecursion IsAssignmentRow (db withdrawn_assignment_tree) → passing r ≡ (of_key r && stands (assignment_in r))
   tests r it all =
       behind _ _ _ (is_eq (nat_cmp (number (column r 1)) m.0)) (is_eq (nat_cmp (number (column r 2)) i)) (stands (assignment_in r))
       (ap (λ v. is_true (binary (Compare Eq Binary) v (Int (pos m.0)))) it.0 ∙ equal_ints (number (column r 1)) m.0)
       (ap (λ v. is_true (binary (Compare Eq Binary) v (Int (pos i)))) it.1.0 ∙ equal_ints (number (column r 2)) i)
-      (none_counted (found own withdrawn_assignment_tree three_ties params r) ∙ none_is_tied r it all)
+      (none_counted (found (overlay db []) withdrawn_assignment_tree three_ties params r) ∙ none_is_tied r it all)
 
-  shown_owner : (rows : List Row) → map (λ (o : Output). o.1) (map (output (whole 3 16 three_ties assignment_at_query)) (map (env_of own withdrawn_assignment_tree three_ties params) rows)) ≡ map show_owner rows
+  shown_owner : (rows : List Row) → map (λ (o : Output). o.1) (map (output (whole 3 16 three_ties assignment_at_query)) (map (env_of (overlay db []) withdrawn_assignment_tree three_ties params) rows)) ≡ map show_owner rows
   shown_owner [] = refl
   shown_owner (r ∷ rows) = ap (λ xs. show_owner r ∷ xs) (shown_owner rows)
 
@@ -127,14 +107,8 @@ pub assignment_told : (m : MeterId) (i : ℕ) (old new : State) (rows : List Row
     → contents_of (map (told_content Assignments) rows) ≡ contents_at (records_of old.now.trees) (key.Assignment m i)
 assignment_told m i old new rows store h =
     let db = old.now.trees in
-    let table = db assignment_tree in
-    let standing : Row → Bool = λ r. stands db m i (assignment_in r) in
-    let s = seen 3 16 three_ties assignment_at_query assignment_at_text assignment_at_is (params db m i) old new rows store.ours h in
-    let two = filter_both IsAssignmentRow (passing db m i) (of_key db m i) standing (λ r it. tests db m i r it (store.rows WithdrawnAssignments)) table (store.rows Assignments) in
-    told_at (key.Assignment m i) assignment_in (of_key db m i) show_owner (told_content Assignments) IsAssignmentRow (hits db m i) (misses db m i) (filter standing table) s.ordered rows
-    (records_of db) (all_filtered IsAssignmentRow standing table (store.rows Assignments)) (once_stand db Assignments (key.Assignment m i) refl store.once) (both_stand db Assignments (key.Assignment m i) refl)
-    (subst (λ xs. IsPermutation xs s.ordered) (shown_owner db m i (filter (passing db m i) table) ∙ ap (map show_owner) two) s.same)
-    s.shown
+    told_standing Assignments WithdrawnAssignments three_ties (params db m i) (key.Assignment m i) (of_key db m i) show_owner assignment_at_query assignment_at_text old new rows refl refl assignment_at_is (λ xs. refl) (hits db m i) (misses db m i)
+    (λ r it. tests db m i r it (store.rows WithdrawnAssignments)) (shown_owner db m i) store h
 
 pub assignment_told_if : {Z : Type 0} (m : MeterId) (i : ℕ) (old new : State) (r : Result (Vec Row Z) Error) → IsStore old.now → IfOk r (λ rows. Shown assignment_at_text (Int (pos m.0) ∷ Int (pos i) ∷ []) old new rows.items)
     → IfOk r (λ rows. contents_of (map (told_content Assignments) rows.items) ≡ contents_at (records_of old.now.trees) (key.Assignment m i))

@@ -1,7 +1,6 @@
 -- What is told of the key of a reading where some are withdrawn.
 use Rattle.std.proofs.Common.{◌≡◌, ℕ, pos, List, [], ◌∷◌, map, Bool, true, false, not, ◌&&◌, Vec, Result, Ok, Err, IfOk, refl, sym, ap, subst, ◌∙◌, nat_cmp, arith}
 use Rattle.std.specs.List.{AllByRecursion, filter}
-use Rattle.std.specs.List.Sorted.{IsPermutation}
 use Rattle.std.specs.Ordering.{is_eq}
 use Rattle.sqlite.specs.declared.types.Value.TheVariants.{Int}
 use Rattle.sqlite.specs.declared.error.Error.{Error}
@@ -19,8 +18,6 @@ use Rattle.pw_tariff.specs.declared.ids.MeterId.{MeterId}
 use Rattle.pw_tariff.specs.Office.{register_place}
 use Rattle.pw_model.specs.declared.records.Key.TheVariants as key
 use Rattle.pw_model.specs.declared.records.Entry.{Entry}
-use Rattle.pw_model.specs.declared.records.Named.{Named}
-use Rattle.pw_model.specs.declared.records.Named.TheVariants as named
 use Rattle.pw_model.specs.Counting.{contents_at, is_withdrawn}
 use Rattle.pw_model.proofs.Counting.{entry}
 use Rattle.pw_schema.specs.Rows.{number, register_at, contents_of, told_content, withdrawal}
@@ -29,14 +26,12 @@ use Rattle.pw_store.specs.Content.{records_of, reading_in, reading_tree, withdra
 use Rattle.pw_store.specs.Kept.{IsStore}
 use Rattle.pw_store.specs.inner.Records.{reading_entry}
 use Rattle.pw_store.proofs.Scans.{equal_ints, tied}
-use Rattle.pw_store.proofs.Finding.{first, second, same_number, meter_of, register_of, second_of, some_member, member_some, wh_in, each_named}
-use Rattle.pw_store.proofs.OfKinds.{from_table, in_table}
+use Rattle.pw_store.proofs.Finding.{first, second, four_hold, same_number, meter_of, register_of, second_of, wh_in}
 use Rattle.pw_store.proofs.Adding.{register_back}
-use Rattle.pw_store.proofs.Telling.{told_at}
 use Rattle.pw_store.specs.inner.Keys.{reading_at_text}
 use Rattle.pw_store.proofs.Texts.{reading_at_query, reading_at_is, four_ties}
-use Rattle.pw_store.proofs.Lacking.{env_of, found, found_is, is_none, none_counted, passes, seen, tied_to, whole}
-use Rattle.pw_store.proofs.Standing.{all_filtered, both_stand, filter_both, none_tied, once_stand}
+use Rattle.pw_store.proofs.Lacking.{env_of, found, is_none, none_counted, passes, tied_to, whole}
+use Rattle.pw_store.proofs.AtStanding.{none_tied_to, told_standing}
 
 abbrev show_wh : Row → Row
 show_wh r = column r 4 ∷ []
@@ -77,14 +72,11 @@ module _ (db : Trees) (m : MeterId) (g : Register) (i : ℕ) where
       rw (em, eg, ei) (rw (same_number m.0, same_number (register_place g), same_number i) refl)
 
   -- the engine's test of a row
-  abbrev own : Trees
-  own = overlay db []
-
   abbrev passing : Row → Bool
-  passing r = passes own withdrawn_reading_tree four_ties params reading_at_query.filter r
+  passing r = passes (overlay db []) withdrawn_reading_tree four_ties params reading_at_query.filter r
 
   abbrev tied_with : Row → Row → Bool
-  tied_with r w = tied_to own withdrawn_reading_tree four_ties params r w
+  tied_with r w = tied_to (overlay db []) withdrawn_reading_tree four_ties params r w
 
   ties : (r w : Row) → IsReadingRow r → IsReadingRow w → tied_with r w ≡ (is_eq (nat_cmp (number (column w 1)) (number (column r 1))) && (is_eq (nat_cmp (number (column w 2)) (number (column r 2))) && (is_eq (nat_cmp (number (column w 3)) (number (column r 3))) && (is_eq (nat_cmp (number (column w 4)) (number (column r 4))) && true))))
   ties r w it is =
@@ -95,15 +87,8 @@ module _ (db : Trees) (m : MeterId) (g : Register) (i : ℕ) where
   each : (r : Row) → IsReadingRow r → (w : Row) → IsReadingRow w → (tied_with r w ≡ true → reading_in w ≡ reading_in r) × (reading_in w ≡ reading_in r → tied_with r w ≡ true)
   each r it w is = (
     λ hit.
-        let h = sym (ties r w it is) ∙ hit in
-        let h1 = second (is_eq (nat_cmp (number (column w 1)) (number (column r 1)))) _ h in
-        let h2 = second (is_eq (nat_cmp (number (column w 2)) (number (column r 2)))) _ h1 in
-        let h3 = second (is_eq (nat_cmp (number (column w 3)) (number (column r 3)))) _ h2 in
-        let em = tied (number (column w 1)) (number (column r 1)) (first _ _ h) in
-        let eg = tied (number (column w 2)) (number (column r 2)) (first _ _ h1) in
-        let ei = tied (number (column w 3)) (number (column r 3)) (first _ _ h2) in
-        let ev = tied (number (column w 4)) (number (column r 4)) (first _ _ h3) in
-        λ j. reading_entry (record { 0 = em j }) (register_at (eg j)) (ei j) (ev j),
+        let h = four_hold (is_eq (nat_cmp (number (column w 1)) (number (column r 1)))) (is_eq (nat_cmp (number (column w 2)) (number (column r 2)))) (is_eq (nat_cmp (number (column w 3)) (number (column r 3)))) (is_eq (nat_cmp (number (column w 4)) (number (column r 4)))) (sym (ties r w it is) ∙ hit) in
+        λ j. reading_entry (record { 0 = tied (number (column w 1)) (number (column r 1)) h.0 j }) (register_at (tied (number (column w 2)) (number (column r 2)) h.1 j)) (tied (number (column w 3)) (number (column r 3)) h.2 j) (tied (number (column w 4)) (number (column r 4)) h.3 j),
     λ same.
         let em : number (column w 1) ≡ number (column r 1) = ap (λ (x : Entry). meter_of x.key) same in
         let eg : number (column w 2) ≡ number (column r 2) = ap number is.1.0 ∙ ap register_place (ap (λ (x : Entry). register_of x.key) same) ∙ sym (ap number it.1.0) in
@@ -112,26 +97,19 @@ module _ (db : Trees) (m : MeterId) (g : Register) (i : ℕ) where
         ties r w it is ∙ rw (em, eg, ei, ev) (rw (same_number (number (column r 1)), same_number (number (column r 2)), same_number (number (column r 3)), same_number (number (column r 4))) refl),
   )
 
-  none_is_tied : (r : Row) → IsReadingRow r → AllByRecursion IsReadingRow (db withdrawn_reading_tree) → is_none (found own withdrawn_reading_tree four_ties params r) ≡ stands (reading_in r)
-  none_is_tied r it all =
-      let n : Named = named.Reading (record { 0 = number (column r 1) }) (register_at (number (column r 2))) (number (column r 3)) (number (column r 4)) in
-      let e = withdrawal n in
-      let one = each_named Readings WithdrawnReadings IsReadingRow (tied_with r) (reading_in r) (λ w. refl) (λ w. refl) refl (each r it) in
-      let many = found_is own withdrawn_reading_tree four_ties params r in
-      none_tied db n (found own withdrawn_reading_tree four_ties params r)
-      (λ lt. from_table db e WithdrawnReadings (some_member withdrawn_reading_in (tied_with r) IsReadingRow e one (db withdrawn_reading_tree) all (omega (arith, lt, many))))
-      (λ k. (let lt = member_some withdrawn_reading_in (tied_with r) IsReadingRow e one (db withdrawn_reading_tree) all (in_table db e WithdrawnReadings refl k) in omega (arith, lt, many)))
+  none_is_tied : (r : Row) → IsReadingRow r → AllByRecursion IsReadingRow (db withdrawn_reading_tree) → is_none (found (overlay db []) withdrawn_reading_tree four_ties params r) ≡ stands (reading_in r)
+  none_is_tied r it all = none_tied_to Readings WithdrawnReadings four_ties params db r (λ w. refl) (λ w. refl) refl refl refl (each r it) all
 
   tests : (r : Row) → IsReadingRow r → AllByRecursion IsReadingRow (db withdrawn_reading_tree) → passing r ≡ (of_key r && stands (reading_in r))
   tests r it all =
-      let last = none_counted (found own withdrawn_reading_tree four_ties params r) ∙ none_is_tied r it all in
+      let last = none_counted (found (overlay db []) withdrawn_reading_tree four_ties params r) ∙ none_is_tied r it all in
       behind _ _ _ _ (is_eq (nat_cmp (number (column r 1)) m.0)) (is_eq (nat_cmp (number (column r 2)) (register_place g))) (is_eq (nat_cmp (number (column r 3)) i)) (stands (reading_in r))
       (ap (λ v. is_true (binary (Compare Eq Binary) v (Int (pos m.0)))) it.0 ∙ equal_ints (number (column r 1)) m.0)
       (ap (λ v. is_true (binary (Compare Eq Binary) v (Int (pos (register_place g))))) it.1.0 ∙ equal_ints (register_place (register_at (number (column r 2)))) (register_place g) ∙ ap (λ n. is_eq (nat_cmp n (register_place g))) (sym (ap number it.1.0)))
       (ap (λ v. is_true (binary (Compare Eq Binary) v (Int (pos i)))) it.1.1.0 ∙ equal_ints (number (column r 3)) i)
       last
 
-  shown_wh : (rows : List Row) → map (λ (o : Output). o.1) (map (output (whole 1 14 four_ties reading_at_query)) (map (env_of own withdrawn_reading_tree four_ties params) rows)) ≡ map show_wh rows
+  shown_wh : (rows : List Row) → map (λ (o : Output). o.1) (map (output (whole 1 14 four_ties reading_at_query)) (map (env_of (overlay db []) withdrawn_reading_tree four_ties params) rows)) ≡ map show_wh rows
   shown_wh [] = refl
   shown_wh (r ∷ rows) = ap (λ xs. show_wh r ∷ xs) (shown_wh rows)
 
@@ -139,14 +117,8 @@ pub reading_told : (m : MeterId) (g : Register) (i : ℕ) (old new : State) (row
     → contents_of (map (told_content Readings) rows) ≡ contents_at (records_of old.now.trees) (key.Reading m g i)
 reading_told m g i old new rows store h =
     let db = old.now.trees in
-    let table = db reading_tree in
-    let standing : Row → Bool = λ r. stands db m g i (reading_in r) in
-    let s = seen 1 14 four_ties reading_at_query reading_at_text reading_at_is (params db m g i) old new rows store.ours h in
-    let two = filter_both IsReadingRow (passing db m g i) (of_key db m g i) standing (λ r it. tests db m g i r it (store.rows WithdrawnReadings)) table (store.rows Readings) in
-    told_at (key.Reading m g i) reading_in (of_key db m g i) show_wh (told_content Readings) IsReadingRow (hits db m g i) (misses db m g i) (filter standing table) s.ordered rows
-    (records_of db) (all_filtered IsReadingRow standing table (store.rows Readings)) (once_stand db Readings (key.Reading m g i) refl store.once) (both_stand db Readings (key.Reading m g i) refl)
-    (subst (λ xs. IsPermutation xs s.ordered) (shown_wh db m g i (filter (passing db m g i) table) ∙ ap (map show_wh) two) s.same)
-    s.shown
+    told_standing Readings WithdrawnReadings four_ties (params db m g i) (key.Reading m g i) (of_key db m g i) show_wh reading_at_query reading_at_text old new rows refl refl reading_at_is (λ xs. refl) (hits db m g i) (misses db m g i)
+    (λ r it. tests db m g i r it (store.rows WithdrawnReadings)) (shown_wh db m g i) store h
 
 pub reading_told_if : {Z : Type 0} (m : MeterId) (g : Register) (i : ℕ) (old new : State) (r : Result (Vec Row Z) Error) → IsStore old.now → IfOk r (λ rows. Shown reading_at_text (Int (pos m.0) ∷ Int (pos (register_place g)) ∷ Int (pos i) ∷ []) old new rows.items)
     → IfOk r (λ rows. contents_of (map (told_content Readings) rows.items) ≡ contents_at (records_of old.now.trees) (key.Reading m g i))

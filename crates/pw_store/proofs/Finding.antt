@@ -53,6 +53,16 @@ pub second : (a b : Bool) → (a && b) ≡ true → b ≡ true
 second true b e = e
 second false b e = absurd (let bad : true ≡ false = sym e in cc)
 
+pub three_hold : (a b c : Bool) → (a && (b && (c && true))) ≡ true → (a ≡ true) × (b ≡ true) × (c ≡ true)
+three_hold a b c e =
+    let f = second a _ e in
+    (first a _ e, first b _ f, first c true (second b _ f))
+
+pub four_hold : (a b c d : Bool) → (a && (b && (c && (d && true)))) ≡ true → (a ≡ true) × (b ≡ true) × (c ≡ true) × (d ≡ true)
+four_hold a b c d e =
+    let f = three_hold b c d (second a _ e) in
+    (first a _ e, f.0, f.1, f.2)
+
 pub same_number : (n : ℕ) → is_eq (nat_cmp n n) ≡ true
 same_number n = ap is_eq (sym (nat_cmp_is n n Equal refl))
 

@@ -11,6 +11,7 @@ use Rattle.pw_model.specs.Counting.{Member}
 use Rattle.pw_model.specs.Lists.{IsInOrder}
 use Rattle.pw_shelf.specs.Seconds.{by_second, ListsSeconds, ListsSecondsWithin}
 use Rattle.pw_schema.proofs.Pushed.{first_push, last_push}
+use Rattle.pw_store.specs.Content.{records_of}
 use Rattle.pw_store.specs.inner.Seconds.{first_amount, first_point}
 
 -- the last second of a list, if it has one
@@ -28,17 +29,30 @@ module _ {X : Type 0} where
   in_turn : (x y z : ℕ × X) → by_second x y ≡ Less → by_second y z ≡ Less → by_second x z ≡ Less
   in_turn x y z a b = in_time x z (let near = earlier x y a in let far = earlier y z b in omega (arith, near, far))
 
-  pub second_push : (last : Option ℕ) (found : List (ℕ × X)) (e : ℕ × X) → IsInOrder by_second found → IsLastSecond last found → IfSome last (λ l. l < e.0) → IsInOrder by_second (found ++ e ∷ [])
+  second_push : (last : Option ℕ) (found : List (ℕ × X)) (e : ℕ × X) → IsInOrder by_second found → IsLastSecond last found → IfSome last (λ l. l < e.0) → IsInOrder by_second (found ++ e ∷ [])
   second_push None found e rising is low = first_push by_second in_turn found e is
   second_push (Some t) found e rising is low = last_push by_second in_turn found is.0 (t, is.1) e is.2 rising (in_time (t, is.1) e low)
 
-  pub told_push : (told : Row → ℕ × X) (rows more : List Row) (row : Row) (found new : List (ℕ × X)) (e : ℕ × X) → found ≡ map told rows → e ≡ told row → new ≡ found ++ e ∷ [] → more ≡ rows ++ row ∷ [] → new ≡ map told more
+  told_push : (told : Row → ℕ × X) (rows more : List Row) (row : Row) (found new : List (ℕ × X)) (e : ℕ × X) → found ≡ map told rows → e ≡ told row → new ≡ found ++ e ∷ [] → more ≡ rows ++ row ∷ [] → new ≡ map told more
   told_push told rows more row found new e so one is more_is =
       is ∙ ap (λ xs. xs ++ e ∷ []) so ∙ ap (λ x. map told rows ++ x ∷ []) one ∙ sym (map-append told rows (row ∷ [])) ∙ ap (map told) (sym more_is)
+
+  -- a row more, which tells a second behind the last
+  pub row_push : (told : Row → ℕ × X) (rows more : List Row) (row : Row) (last : Option ℕ) (found new : List (ℕ × X)) (e : ℕ × X) → found ≡ map told rows → IsInOrder by_second found → IsLastSecond last found → IfSome last (λ l. l < e.0) →
+      e ≡ told row → new ≡ found ++ e ∷ [] → more ≡ rows ++ row ∷ [] → (new ≡ map told more) × IsInOrder by_second new × IsLastSecond (Some e.0) new
+  row_push told rows more row last found new e so rising is low one put more_is = (
+    told_push told rows more row found new e so one put more_is,
+    subst (IsInOrder by_second) (sym put) (second_push last found e rising is low),
+    (found, e.1, put),
+  )
 
 -- ---- behind a statement that changes nothing
 pub trees_same : (old new : State) → IsUnchanged old new → new.now.trees ≡ old.now.trees
 trees_same old new u = ap (λ (d : Database). d.trees) u.0.now_is
+
+-- as many records as before
+pub counted_on : (old new : State) (n : ℕ) → IsUnchanged old new → length (records_of old.now.trees) ≡ n → length (records_of new.now.trees) ≡ n
+counted_on old new n u e = ap (λ (db : Trees). length (records_of db)) (trees_same old new u) ∙ e
 
 pub one_if : {F : Type 0} (r : Result (Option (ℕ × ℕ)) F) (P : Trees → Option (ℕ × ℕ) → Type 0) (before after : Trees) (shown rows : List Row) → shown ≡ rows → after ≡ before → P after (first_point rows)
     → IfOk r (λ found. found ≡ first_point shown) → IfOk r (λ found. P before found)

@@ -5,6 +5,7 @@ pub mod AtReading
 pub mod AtAssignment
 pub mod AtKey
 pub mod AtTopup
+pub mod AtStanding
 pub mod Checked
 pub mod Clashing
 pub mod Counted
@@ -58,3 +59,4 @@ pub mod Scanning
 pub mod Compared
 pub mod Upgraded
 pub mod Adopted
+pub mod Onward

@@ -4,6 +4,7 @@ pub mod Records
 pub mod Lists
 pub mod Opened
 pub mod Changing
+pub mod AllElse
 pub mod Seconds
 pub mod Sums
 pub mod Listings

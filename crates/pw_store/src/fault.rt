@@ -3,6 +3,8 @@
 ghost use Rattle.std.specs.Prelude.{◌≡◌, ◌+◌, ◌⊎◌};
 ghost use Rattle.pw_shelf.specs.Calls.{failures_in};
 ghost use Rattle.pw_shelf.specs.declared.fault.ShelfFault.TheVariants.{Device};
+ghost use Rattle.pw_store.specs.declared.fault.AskFault.TheVariants.{Statement};
+ghost use Rattle.pw_store.specs.inner.Asking.{ask_fault};
 ghost use Rattle.pw_store.specs.inner.Changing.{refuses_key};
 
 use pw_line::refused;
@@ -22,9 +24,6 @@ pub(crate) enum AskFault {
 }
 
 impl From<Error> for AskFault {
-    ghost use Rattle.std.specs.Prelude.{◌≡◌};
-    ghost use Rattle.pw_store.specs.declared.fault.AskFault.TheVariants.{Statement};
-
     ghost from_gives = { λ error fault. fault ≡ Statement error };
 
     fn from(error: Error) -> Self {
@@ -33,9 +32,6 @@ impl From<Error> for AskFault {
 }
 
 impl From<ReadFault> for AskFault {
-    ghost use Rattle.std.specs.Prelude.{◌≡◌};
-    ghost use Rattle.pw_store.specs.inner.Asking.{ask_fault};
-
     ghost from_gives = { λ read fault. fault ≡ ask_fault read };
 
     fn from(fault: ReadFault) -> Self {

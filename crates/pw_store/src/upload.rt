@@ -1,15 +1,14 @@
 //! A change of points, starts or totals within an upload.
 
-ghost use Rattle.std.specs.Prelude.{◌≡◌, ◌+◌, ℕ, IfOk, OnOk, Some, true};
+ghost use Rattle.std.specs.Prelude.{◌≡◌, ℕ, IfOk, OnOk, Some, true};
 ghost use Rattle.sqlite.specs.Held.{state};
 ghost use Rattle.sqlite.specs.State.{HasCleanDisk};
 ghost use Rattle.sqlite.specs.Tree.{Trees};
 ghost use Rattle.pw_model.specs.Shelf.{ShelfContent};
-ghost use Rattle.pw_shelf.specs.Calls.{failures_told};
 ghost use Rattle.pw_shelf.specs.Changes.{with_point, with_total};
-ghost use Rattle.pw_shelf.specs.Left.{LeavesNoMore};
-ghost use Rattle.pw_store.specs.Kept.{held_of, left_of};
+ghost use Rattle.pw_store.specs.Kept.{held_of};
 ghost use Rattle.pw_store.specs.inner.Changing.{Fits, IsFree, IsTaken, changed};
+ghost use Rattle.pw_store.specs.inner.AllElse.{KeepsElse};
 
 use crate::changes::{Change, make};
 use crate::fault::{device_fault, fault_of};
@@ -30,14 +29,7 @@ impl<S: Alter> SqlShelf<S> {
         requires fits { Fits change }
         ensures content { HasCleanDisk (state S.Store self.new.conn) → IfOk result (λ rows. held_of (state S.Store self.new.conn) (state S.Store self.new.base.value) ≡ changed change rows (held_of (state S.Store self.old.conn) (state S.Store self.old.base.value))) }
         ensures taken { HasCleanDisk (state S.Store self.new.conn) → IfOk result (λ rows. IsTaken change rows (state S.Store self.new.conn).now.trees) }
-        ensures begun { self.new.begun ≡ self.old.begun }
-        ensures base { self.new.base.value ≡ self.old.base.value }
-        ensures opened { self.new.opened.value ≡ self.old.opened.value }
-        ensures failures { self.new.failures.count ≡ self.old.failures.count + failures_told result }
-        ensures abandons { self.new.failed_abandons.count ≡ self.old.failed_abandons.count }
-        ensures tally { self.new.tally.count ≡ self.old.tally.count }
-        ensures left { HasCleanDisk (state S.Store self.new.conn) → LeavesNoMore (left_of (state S.Store self.old.conn)) (left_of (state S.Store self.new.conn)) }
-        ensures clean { HasCleanDisk (state S.Store self.new.conn) → HasCleanDisk (state S.Store self.old.conn) }
+        ensures keeps_else { KeepsElse S.Store result self.old self.new }
     {
         if self.conn.is_autocommit() {
             return Err(device_fault(&mut self.failures));
@@ -62,14 +54,7 @@ impl<S: Alter> SqlShelf<S> {
         requires fits { Fits take × Fits put }
         requires steady { (rows : ℕ) (c : ShelfContent) → (changed take rows c ≡ changed take 1 c) × (changed put rows c ≡ changed put 1 c) }
         ensures content { HasCleanDisk (state S.Store self.new.conn) → OnOk result (held_of (state S.Store self.new.conn) (state S.Store self.new.base.value) ≡ changed put 1 (changed take 1 (held_of (state S.Store self.old.conn) (state S.Store self.old.base.value)))) }
-        ensures begun { self.new.begun ≡ self.old.begun }
-        ensures base { self.new.base.value ≡ self.old.base.value }
-        ensures opened { self.new.opened.value ≡ self.old.opened.value }
-        ensures failures { self.new.failures.count ≡ self.old.failures.count + failures_told result }
-        ensures abandons { self.new.failed_abandons.count ≡ self.old.failed_abandons.count }
-        ensures tally { self.new.tally.count ≡ self.old.tally.count }
-        ensures left { HasCleanDisk (state S.Store self.new.conn) → LeavesNoMore (left_of (state S.Store self.old.conn)) (left_of (state S.Store self.new.conn)) }
-        ensures clean { HasCleanDisk (state S.Store self.new.conn) → HasCleanDisk (state S.Store self.old.conn) }
+        ensures keeps_else { KeepsElse S.Store result self.old self.new }
     {
         self.change(take)?;
         self.change(put)?;
@@ -86,14 +71,7 @@ impl<S: Alter> SqlShelf<S> {
     ) -> Result<(), ShelfFault>
         requires { self.old.begun ≡ true }
         ensures content { HasCleanDisk (state S.Store self.new.conn) → OnOk result (held_of (state S.Store self.new.conn) (state S.Store self.new.base.value) ≡ with_point (held_of (state S.Store self.old.conn) (state S.Store self.old.base.value)) meter.0 register instant (Some wh)) }
-        ensures begun { self.new.begun ≡ self.old.begun }
-        ensures base { self.new.base.value ≡ self.old.base.value }
-        ensures opened { self.new.opened.value ≡ self.old.opened.value }
-        ensures failures { self.new.failures.count ≡ self.old.failures.count + failures_told result }
-        ensures abandons { self.new.failed_abandons.count ≡ self.old.failed_abandons.count }
-        ensures tally { self.new.tally.count ≡ self.old.tally.count }
-        ensures left { HasCleanDisk (state S.Store self.new.conn) → LeavesNoMore (left_of (state S.Store self.old.conn)) (left_of (state S.Store self.new.conn)) }
-        ensures clean { HasCleanDisk (state S.Store self.new.conn) → HasCleanDisk (state S.Store self.old.conn) }
+        ensures keeps_else { KeepsElse S.Store result self.old self.new }
     {
         let put = Change::PutPoint {
             meter,
@@ -121,14 +99,7 @@ impl<S: Alter> SqlShelf<S> {
         requires begun { self.old.begun ≡ true }
         requires fits { Fits (Change.PutTotal key amount) }
         ensures content { HasCleanDisk (state S.Store self.new.conn) → OnOk result (held_of (state S.Store self.new.conn) (state S.Store self.new.base.value) ≡ with_total (held_of (state S.Store self.old.conn) (state S.Store self.old.base.value)) key amount) }
-        ensures begun { self.new.begun ≡ self.old.begun }
-        ensures base { self.new.base.value ≡ self.old.base.value }
-        ensures opened { self.new.opened.value ≡ self.old.opened.value }
-        ensures failures { self.new.failures.count ≡ self.old.failures.count + failures_told result }
-        ensures abandons { self.new.failed_abandons.count ≡ self.old.failed_abandons.count }
-        ensures tally { self.new.tally.count ≡ self.old.tally.count }
-        ensures left { HasCleanDisk (state S.Store self.new.conn) → LeavesNoMore (left_of (state S.Store self.old.conn)) (left_of (state S.Store self.new.conn)) }
-        ensures clean { HasCleanDisk (state S.Store self.new.conn) → HasCleanDisk (state S.Store self.old.conn) }
+        ensures keeps_else { KeepsElse S.Store result self.old self.new }
     {
         if self.change(Change::SetTotal { key, amount })? > 0 {
             return Ok(());

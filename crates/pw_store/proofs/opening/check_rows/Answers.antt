@@ -1,12 +1,11 @@
-use Rattle.std.proofs.Common.{ap, length, subst, ◌∙◌}
+use Rattle.std.proofs.Common.{subst}
 use Rattle.sqlite.specs.Held.{state}
 use Rattle.sqlite.specs.Tree.{Trees}
 use Rattle.pw_tariff.specs.Office.{office_of}
 use Rattle.pw_schema.specs.declared.kind.StoreVersion.TheVariants.{Third}
 use Rattle.pw_schema.proofs.Outcomes.{early}
-use Rattle.pw_store.specs.Content.{records_of}
 use Rattle.pw_store.specs.inner.Opened.{RowsRefuse}
-use Rattle.pw_store.proofs.InTurn.{trees_same}
+use Rattle.pw_store.proofs.InTurn.{counted_on, trees_same}
 use Rattle.pw_store.proofs.Judged.{rows_refused}
 use Rattle.pw_store.proofs.opening.check_rows.Goals as goal
 
@@ -15,9 +14,7 @@ returns-in-Err-clause-cause g c clean = rows_refused (office_of c.args.office.no
 
 pub returns-in-Ok-check_sums-clause-counted : goal.returns-in-Ok-check_sums-clause-counted
 returns-in-Ok-check_sums-clause-counted g c clean =
-    let mid = state g.S.Store c.judge_records.new.conn in
-    let new = state g.S.Store c.check_sums.new.conn in
-    ap (λ (db : Trees). length (records_of db)) (trees_same mid new (c.in-Ok-check_sums.ensures.looks.same clean)) ∙ c.in-Ok.ensures.counted (early mid new c.in-Ok-check_sums.ensures.looks.crash clean)
+    counted_on _ _ _ (c.in-Ok-check_sums.ensures.looks.same clean) (c.in-Ok.ensures.counted (early _ _ c.in-Ok-check_sums.ensures.looks.crash clean))
 
 pub returns-clause-cause : goal.returns-clause-cause
 returns-clause-cause g c clean =

@@ -1,10 +1,7 @@
-use Rattle.std.proofs.Common.{ap, length, ◌∙◌}
 use Rattle.sqlite.specs.Held.{state}
-use Rattle.sqlite.specs.Tree.{Trees}
 use Rattle.pw_tariff.specs.Office.{office_of}
 use Rattle.pw_schema.proofs.Outcomes.{early}
-use Rattle.pw_store.specs.Content.{records_of}
-use Rattle.pw_store.proofs.InTurn.{trees_same}
+use Rattle.pw_store.proofs.InTurn.{counted_on}
 use Rattle.pw_store.proofs.Raised.{is_ready, refused_before}
 use Rattle.pw_store.proofs.opening.raise_and_check.Goals as goal
 
@@ -18,10 +15,7 @@ returns-in-Err-fill_and_check-clause-cause g c clean =
 
 pub returns-clause-counted : goal.returns-clause-counted
 returns-clause-counted g c clean =
-    let new = state g.S.Store c.fill_and_check.new.conn in
-    let last = state g.S.Store c.see_office.new.conn in
-    let seen = c.in_default-see_office.ensures in
-    ap (λ (db : Trees). length (records_of db)) (trees_same new last (seen.looks.same clean)) ∙ c.in-Ok.ensures.counted (early new last seen.looks.crash clean)
+    counted_on _ _ _ (c.in_default-see_office.ensures.looks.same clean) (c.in-Ok.ensures.counted (early _ _ c.in_default-see_office.ensures.looks.crash clean))
 
 pub returns-clause-ready : goal.returns-clause-ready
 returns-clause-ready g c clean =
