@@ -31,28 +31,35 @@ use std::process::Abort;
 
 const OTHER: MeterId = MeterId(1);
 
+/// A new book, or why there is none.
+type Made<S> = Result<Book<S>, OfficeFault>;
+
+/// A new book over a store that counts its calls, or why there is none.
+type Failing<S> = Made<CountShelf<S>>;
+
+/// Which call of a store fails, and whether each `abandon` behind it does. No call fails at 0.
+#[derive(Clone, Copy)]
+struct Fails {
+    at: u32,
+    of_abandon: bool,
+}
+
+impl Fails {
+    const NEVER: Fails = Fails {
+        at: 0,
+        of_abandon: false,
+    };
+}
+
 /// Makes empty books over stores of one kind.
 trait Books {
     type Store: Shelf + Drop;
 
     /// A book of the office that a text gives, which takes so many records.
-    fn empty(
-        &self,
-        rt: &impl Abort,
-        alloc: Global,
-        office: &str,
-        limit: u32,
-    ) -> Result<Book<Self::Store>, OfficeFault>;
+    fn empty(&self, rt: &impl Abort, alloc: Global, office: &str, limit: u32) -> Made<Self::Store>;
 
-    /// One of the office with two meters, over a store that counts its calls, one of which fails, and where it is told to,
-    /// each `abandon` behind it. No call fails at 0.
-    fn failing(
-        &self,
-        rt: &impl Abort,
-        alloc: Global,
-        fail_at: u32,
-        abandon_fails: bool,
-    ) -> Result<Book<CountShelf<Self::Store>>, OfficeFault>;
+    /// One of the office with two meters, over a store that counts its calls and fails as it is told to.
+    fn failing(&self, rt: &impl Abort, alloc: Global, fails: Fails) -> Failing<Self::Store>;
 }
 
 // The office with two meters.
@@ -73,13 +80,12 @@ fn failing_over<S: Shelf>(
     rt: &impl Abort,
     office: Office,
     shelf: S,
-    fail_at: u32,
-    abandon_fails: bool,
+    fails: Fails,
 ) -> Book<CountShelf<S>>
     requires empty { (S.state shelf).content ≡ no_content }
     requires idle { (S.state shelf).begun ≡ None }
 {
-    let failing = CountShelf::failing(shelf, fail_at, abandon_fails);
+    let failing = CountShelf::failing(shelf, fails.at, fails.of_abandon);
     book_of(rt, office, failing, 2_000)
 }
 
@@ -89,27 +95,15 @@ struct InMemory;
 impl Books for InMemory {
     type Store = MemoryShelf;
 
-    fn empty(
-        &self,
-        rt: &impl Abort,
-        alloc: Global,
-        office: &str,
-        limit: u32,
-    ) -> Result<Book<MemoryShelf>, OfficeFault> {
+    fn empty(&self, rt: &impl Abort, alloc: Global, office: &str, limit: u32) -> Made<Self::Store> {
         let office = Office::read(alloc, office.as_bytes())?;
         Ok(book_of(rt, office, MemoryShelf::new(alloc), limit))
     }
 
-    fn failing(
-        &self,
-        rt: &impl Abort,
-        alloc: Global,
-        fail_at: u32,
-        abandon_fails: bool,
-    ) -> Result<Book<CountShelf<MemoryShelf>>, OfficeFault> {
+    fn failing(&self, rt: &impl Abort, alloc: Global, fails: Fails) -> Failing<Self::Store> {
         let office = two_meters(alloc)?;
         let shelf = MemoryShelf::new(alloc);
-        Ok(failing_over(rt, office, shelf, fail_at, abandon_fails))
+        Ok(failing_over(rt, office, shelf, fails))
     }
 }
 
@@ -119,27 +113,15 @@ struct Counting;
 impl Books for Counting {
     type Store = CountShelf<MemoryShelf>;
 
-    fn empty(
-        &self,
-        rt: &impl Abort,
-        alloc: Global,
-        office: &str,
-        limit: u32,
-    ) -> Result<Book<CountShelf<MemoryShelf>>, OfficeFault> {
+    fn empty(&self, rt: &impl Abort, alloc: Global, office: &str, limit: u32) -> Made<Self::Store> {
         let office = Office::read(alloc, office.as_bytes())?;
         Ok(book_of(rt, office, counting_shelf(alloc), limit))
     }
 
-    fn failing(
-        &self,
-        rt: &impl Abort,
-        alloc: Global,
-        fail_at: u32,
-        abandon_fails: bool,
-    ) -> Result<Book<CountShelf<CountShelf<MemoryShelf>>>, OfficeFault> {
+    fn failing(&self, rt: &impl Abort, alloc: Global, fails: Fails) -> Failing<Self::Store> {
         let office = two_meters(alloc)?;
         let shelf = counting_shelf(alloc);
-        Ok(failing_over(rt, office, shelf, fail_at, abandon_fails))
+        Ok(failing_over(rt, office, shelf, fails))
     }
 }
 

@@ -11,6 +11,22 @@ use pw_tariff::{AccountId, BandId, Direction, Office, Owner, PeriodId};
 use pw_time::Zone;
 use std::alloc::{AllocError, Global};
 
+// Entries of an office, and the zone.
+#[derive(Clone, Copy)]
+struct Held<'a> {
+    office: &'a Office,
+    zone: &'a Zone,
+    entries: &'a [Entry],
+}
+
+// What energies are told apart by.
+#[derive(Clone, Copy)]
+struct Class {
+    owner: Owner,
+    band: BandId,
+    direction: Direction,
+}
+
 /// What the records mean: the energies of nobody and of each account, band by band, in Wh and nano-euro; then what each
 /// account has topped up, in cents, and its balance, in nano-euro.
 pub(crate) fn figures_text(
@@ -22,28 +38,27 @@ pub(crate) fn figures_text(
     requires entries { AllOfOffice (office_of office.now) entries.now }
     requires few { length entries.now ≤ most_records }
 {
+    let held = Held {
+        office,
+        zone,
+        entries,
+    };
     let mut text = String::from_str(alloc, "owner,band,direction,wh,nano\n")?;
-    put_figures(alloc, office, zone, entries, &mut text)?;
+    put_figures(alloc, &held, &mut text)?;
     Ok(text)
 }
 
-fn put_figures(
-    alloc: Global,
-    office: &Office,
-    zone: &Zone,
-    entries: &[Entry],
-    text: &mut String,
-) -> Result<(), AllocError>
-    requires entries { AllOfOffice (office_of office.now) entries.now }
-    requires few { length entries.now ≤ most_records }
+fn put_figures(alloc: Global, held: &Held<'_>, text: &mut String) -> Result<(), AllocError>
+    requires entries { AllOfOffice (office_of held.now.office.now) held.now.entries.now }
+    requires few { length held.now.entries.now ≤ most_records }
 {
-    put_energies(alloc, office, zone, entries, None, text)?;
-    for account in 0..office.accounts() {
-        put_energies(alloc, office, zone, entries, Some(AccountId(account)), text)?;
+    put_energies(alloc, held, None, text)?;
+    for account in 0..held.office.accounts() {
+        put_energies(alloc, held, Some(AccountId(account)), text)?;
     }
     text.push_str("account,cents,nano\n")?;
-    for account in 0..office.accounts() {
-        let line = balance_line(alloc, office, zone, entries, AccountId(account))?;
+    for account in 0..held.office.accounts() {
+        let line = balance_line(alloc, held, AccountId(account))?;
         text.push_str(&line)?;
     }
     Ok(())
@@ -52,19 +67,22 @@ fn put_figures(
 // The energies of an owner, band by band.
 fn put_energies(
     alloc: Global,
-    office: &Office,
-    zone: &Zone,
-    entries: &[Entry],
+    held: &Held<'_>,
     owner: Owner,
     text: &mut String,
 ) -> Result<(), AllocError>
-    requires entries { AllOfOffice (office_of office.now) entries.now }
-    requires few { length entries.now ≤ most_records }
-    requires owner { HasOwner (office_of office.now) owner }
+    requires entries { AllOfOffice (office_of held.now.office.now) held.now.entries.now }
+    requires few { length held.now.entries.now ≤ most_records }
+    requires owner { HasOwner (office_of held.now.office.now) owner }
 {
-    for band in 0..office.bands() {
+    for band in 0..held.office.bands() {
         for direction in [Direction::Import, Direction::Export] {
-            let line = energy_line(alloc, office, zone, entries, owner, BandId(band), direction)?;
+            let class = Class {
+                owner,
+                band: BandId(band),
+                direction,
+            };
+            let line = energy_line(alloc, held, class)?;
             text.push_str(&line)?;
         }
     }
@@ -72,55 +90,47 @@ fn put_energies(
 }
 
 // The line of an owner's energy in a band and a direction.
-fn energy_line(
-    alloc: Global,
-    office: &Office,
-    zone: &Zone,
-    entries: &[Entry],
-    owner: Owner,
-    band: BandId,
-    direction: Direction,
-) -> Result<String, AllocError>
-    requires entries { AllOfOffice (office_of office.now) entries.now }
-    requires few { length entries.now ≤ most_records }
-    requires owner { HasOwner (office_of office.now) owner }
-    requires band { band.0 < length office.now.bands }
-    ensures { IfOk result (λ line. string_bytes line ≡ line_of_energy office.now entries.now owner band.0 direction) }
+fn energy_line(alloc: Global, held: &Held<'_>, class: Class) -> Result<String, AllocError>
+    requires entries { AllOfOffice (office_of held.now.office.now) held.now.entries.now }
+    requires few { length held.now.entries.now ≤ most_records }
+    requires owner { HasOwner (office_of held.now.office.now) class.owner }
+    requires band { class.band.0 < length held.now.office.now.bands }
+    ensures { IfOk result (λ line. string_bytes line ≡ line_of_energy held.now.office.now held.now.entries.now class.owner class.band.0 class.direction) }
 {
     let wh = energy(
         alloc,
-        &OfficeTerms::new(office, zone),
-        entries,
-        owner,
-        band,
-        direction,
+        &OfficeTerms::new(held.office, held.zone),
+        held.entries,
+        class.owner,
+        class.band,
+        class.direction,
     )?;
-    let nano = energy_cost(alloc, office, zone, entries, owner, band, direction)?;
-    let (name, letter) = (owner_name(office, owner), office.band_name(band));
-    energy_fields(alloc, name, letter, direction, wh, nano)
+    let nano = energy_cost(alloc, held, class)?;
+    let (name, letter) = (
+        owner_name(held.office, class.owner),
+        held.office.band_name(class.band),
+    );
+    energy_fields(alloc, name, letter, class.direction, wh, nano)
 }
 
 // What an owner's energy in a band and a direction costs: in each period at its price.
-fn energy_cost(
-    alloc: Global,
-    office: &Office,
-    zone: &Zone,
-    entries: &[Entry],
-    owner: Owner,
-    band: BandId,
-    direction: Direction,
-) -> Result<u128, AllocError>
-    requires entries { AllOfOffice (office_of office.now) entries.now }
-    requires few { length entries.now ≤ most_records }
-    requires band { band.0 < length office.now.bands }
-    ensures { IfOk result (λ nano. nano ≡ cost_of_energy office.now entries.now owner band.0 direction) }
+fn energy_cost(alloc: Global, held: &Held<'_>, class: Class) -> Result<u128, AllocError>
+    requires entries { AllOfOffice (office_of held.now.office.now) held.now.entries.now }
+    requires few { length held.now.entries.now ≤ most_records }
+    requires band { class.band.0 < length held.now.office.now.bands }
+    ensures { IfOk result (λ nano. nano ≡ cost_of_energy held.now.office.now held.now.entries.now class.owner class.band.0 class.direction) }
 {
-    let terms = OfficeTerms::new(office, zone);
+    let Class {
+        owner,
+        band,
+        direction,
+    } = class;
+    let terms = OfficeTerms::new(held.office, held.zone);
     let mut nano: u128 = 0;
-    for period in 0..office.periods() {
+    for period in 0..held.office.periods() {
         let period = PeriodId(period);
-        let wh = energy_in(alloc, &terms, entries, owner, period, band, direction)?;
-        nano += price_of(wh, office.price(period, band, direction));
+        let wh = energy_in(alloc, &terms, held.entries, owner, period, band, direction)?;
+        nano += price_of(wh, held.office.price(period, band, direction));
     }
     Ok(nano)
 }
@@ -148,21 +158,20 @@ fn energy_fields(
 }
 
 // The line of what an account has topped up, and of its balance.
-fn balance_line(
-    alloc: Global,
-    office: &Office,
-    zone: &Zone,
-    entries: &[Entry],
-    account: AccountId,
-) -> Result<String, AllocError>
-    requires entries { AllOfOffice (office_of office.now) entries.now }
-    requires few { length entries.now ≤ most_records }
-    requires account { account.0 < length office.now.accounts }
-    ensures { IfOk result (λ line. string_bytes line ≡ line_of_balance office.now entries.now account) }
+fn balance_line(alloc: Global, held: &Held<'_>, account: AccountId) -> Result<String, AllocError>
+    requires entries { AllOfOffice (office_of held.now.office.now) held.now.entries.now }
+    requires few { length held.now.entries.now ≤ most_records }
+    requires account { account.0 < length held.now.office.now.accounts }
+    ensures { IfOk result (λ line. string_bytes line ≡ line_of_balance held.now.office.now held.now.entries.now account) }
 {
-    let name = office.account_name(account);
-    let cents = topped_up(entries, account);
-    let nano = balance(alloc, &OfficeTerms::new(office, zone), entries, account)?;
+    let name = held.office.account_name(account);
+    let cents = topped_up(held.entries, account);
+    let nano = balance(
+        alloc,
+        &OfficeTerms::new(held.office, held.zone),
+        held.entries,
+        account,
+    )?;
     balance_fields(alloc, name, cents, nano)
 }
 

@@ -2,7 +2,7 @@
 
 use super::agreeing::all_agree;
 use super::questions::none_is_answered;
-use super::{Books, InMemory, asking, imported, lengths, money, post, takes};
+use super::{Books, Fails, InMemory, asking, imported, lengths, money, post, takes};
 use crate::ends::done;
 use crate::entries::{Sent, add, assigned, entry_of, paid, reading};
 use pw_book::{Book, PostFault};
@@ -54,7 +54,9 @@ fn seen_in<S: Shelf + Drop>(
 
 // The calls and rows that these uploads to a store in memory take, one behind another, each of records that aren't held.
 pub(super) fn seen_by(rt: &impl Abort, alloc: Global, uploads: &[&[Entry]]) -> u64 {
-    let book = InMemory.failing(rt, alloc, 0, false).expect(rt, "a book");
+    let book = InMemory
+        .failing(rt, alloc, Fails::NEVER)
+        .expect(rt, "a book");
     seen_in(rt, alloc, book, uploads)
 }
 
@@ -228,9 +230,11 @@ fn told_failing<B: Books>(
     fail_at: u32,
     abandon_fails: bool,
 ) -> Option<PostFault> {
-    let mut book = books
-        .failing(rt, alloc, fail_at, abandon_fails)
-        .expect(rt, "a book");
+    let fails = Fails {
+        at: fail_at,
+        of_abandon: abandon_fails,
+    };
+    let mut book = books.failing(rt, alloc, fails).expect(rt, "a book");
     let told = taken_failing(rt, alloc, &mut book);
     done(book);
     told

@@ -9,7 +9,7 @@ use pw_book::{Book, BookFault};
 use pw_obis::Register;
 use pw_shelf::Shelf;
 use pw_tariff::{Direction, PeriodId};
-use pw_tests::offices::RISING;
+use pw_tests::offices::rising_office;
 use pw_tests::sample::{FIRST, FIVE, HIGH, LOW, METER, NEW_YEAR, SEVEN};
 use std::alloc::Global;
 use std::process::Abort;
@@ -72,8 +72,9 @@ fn is_answered<S: Shelf + Drop>(rt: &impl Abort, alloc: Global, mut book: Book<S
 // bears on: pw_shelf shelf.rt Shelf::total amount
 // bears on: pw_shelf shelf.rt Shelf::total_put put
 pub(super) fn energies_by_period<B: Books>(rt: &impl Abort, alloc: Global, books: &B) {
+    let office = rising_office(alloc).expect(rt, "the office's text");
     for told in [EARLY_FIRST, LATE_FIRST] {
-        let book = books.empty(rt, alloc, RISING, 100).expect(rt, "a book");
+        let book = books.empty(rt, alloc, &office, 100).expect(rt, "a book");
         is_answered(rt, alloc, book, &told);
     }
 }

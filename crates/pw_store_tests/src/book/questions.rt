@@ -1,13 +1,13 @@
 //! Questions to a book whose device fails, to one that is shut, and what questions cost.
 
 use super::counted::upload;
-use super::{Books, Counting, asking, imported, takes};
+use super::{Books, Counting, Fails, asking, imported, takes};
 use crate::ends::done;
 use pw_book::{Book, BookFault};
 use pw_obis::Register;
 use pw_shelf::{CountShelf, Shelf};
 use pw_tariff::{Direction, PeriodId};
-use pw_tests::offices::{RISING, TWO_METERS};
+use pw_tests::offices::{TWO_METERS, rising_office};
 use pw_tests::sample::{FIRST, LOW, METER, PERIOD};
 use std::alloc::Global;
 use std::process::Abort;
@@ -104,8 +104,12 @@ fn fails_once<S: Shelf>(rt: &impl Abort, alloc: Global, book: &mut Book<S>, ques
 // bears on: pw_book book/questions.rt Book::withdrawals question
 // bears on: pw_book fault.rt BookFault from_gives
 pub(super) fn failing_device<B: Books>(rt: &impl Abort, alloc: Global, books: &B) {
+    let first = Fails {
+        at: 1,
+        of_abandon: false,
+    };
     for question in QUESTIONS {
-        let mut book = books.failing(rt, alloc, 1, false).expect(rt, "a book");
+        let mut book = books.failing(rt, alloc, first).expect(rt, "a book");
         fails_once(rt, alloc, &mut book, question);
         done(book);
     }
@@ -167,5 +171,6 @@ fn costs_of_two_periods(rt: HostRuntime) {
         (Question::ImportedLowIn(PeriodId(1)), 2),
         (Question::Balance, 18),
     ];
-    are_cheap(&rt, rt.alloc(), RISING, &rows);
+    let office = rising_office(rt.alloc()).expect(&rt, "the office's text");
+    are_cheap(&rt, rt.alloc(), &office, &rows);
 }

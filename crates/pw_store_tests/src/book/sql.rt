@@ -1,9 +1,7 @@
 //! Books over a store over SQL.
 
-use super::Books;
+use super::{Books, Failing, Fails, Made};
 use crate::sql_stores::{book_on, failing_on};
-use pw_book::Book;
-use pw_shelf::CountShelf;
 use pw_store::SqlShelf;
 use pw_tariff::OfficeFault;
 use pw_tests::offices::TWO_METERS;
@@ -25,26 +23,14 @@ fn or_memory<T, E: Drop>(made: Result<T, E>) -> Result<T, OfficeFault> {
 impl Books for OverSql {
     type Store = SqlShelf<MemStore>;
 
-    fn empty(
-        &self,
-        rt: &impl Abort,
-        alloc: Global,
-        office: &str,
-        limit: u32,
-    ) -> Result<Book<SqlShelf<MemStore>>, OfficeFault> {
+    fn empty(&self, rt: &impl Abort, alloc: Global, office: &str, limit: u32) -> Made<Self::Store> {
         assert!(rt; 1 <= limit && limit <= 2_000);
         let connection = or_memory(Connection::open_in_memory(alloc))?;
         or_memory(book_on(alloc, connection, office, limit))
     }
 
-    fn failing(
-        &self,
-        _rt: &impl Abort,
-        alloc: Global,
-        fail_at: u32,
-        abandon_fails: bool,
-    ) -> Result<Book<CountShelf<SqlShelf<MemStore>>>, OfficeFault> {
+    fn failing(&self, _rt: &impl Abort, alloc: Global, fails: Fails) -> Failing<Self::Store> {
         let connection = or_memory(Connection::open_in_memory(alloc))?;
-        or_memory(failing_on(alloc, connection, TWO_METERS, fail_at, abandon_fails))
+        or_memory(failing_on(alloc, connection, TWO_METERS, fails.at, fails.of_abandon))
     }
 }

@@ -17,15 +17,10 @@ pub(crate) fn answer<O: Write>(asked: &Asked<'_>, words: &[&str], out: &mut O) -
             let _ = writeln!(out, "{is_one}");
             Some(())
         }
-        ["apportion", from, low, to, high, rest @ ..] => {
+        [what, from, low, to, high, rest @ ..] => {
             let span = span_of([from, low, to, high])?;
             let starts = starts_of(asked.alloc, asked.office, rest)?;
-            tell_shares(asked, &Owners::of(&starts)?, span, out)
-        }
-        ["pieces", from, low, to, high, rest @ ..] => {
-            let span = span_of([from, low, to, high])?;
-            let starts = starts_of(asked.alloc, asked.office, rest)?;
-            tell_pieces(asked, &Owners::of(&starts)?, span, out)
+            tell_shares(asked, what, &Owners::of(&starts)?, span, out)
         }
         _ => None,
     }
@@ -55,8 +50,10 @@ fn start_of(office: &Office, word: &str) -> Option<(Instant, Owner)> {
     Some((instant(from)?, owner(office, name)?))
 }
 
+// Tells what each owner gets of a difference, or the pieces that it is cut into.
 fn tell_shares<O: Write>(
     asked: &Asked<'_>,
+    what: &str,
     owners: &Owners<'_>,
     span: Span,
     out: &mut O,
@@ -64,9 +61,20 @@ fn tell_shares<O: Write>(
     if span.from.seconds() >= span.to.seconds() || span.low.get() > span.high.get() {
         return None;
     }
-    let cells = apportion(asked.alloc, asked.office, asked.zone, owners, span).ok()?;
-    for cell in &cells {
-        tell_cell(asked.office, cell, out);
+    match what {
+        "apportion" => {
+            let cells = apportion(asked.alloc, asked.office, asked.zone, owners, span).ok()?;
+            for cell in &cells {
+                tell_cell(asked.office, cell, out);
+            }
+        }
+        "pieces" => {
+            let pieces = pieces_of(asked.alloc, asked.office, asked.zone, owners, span).ok()?;
+            for piece in &pieces {
+                tell_piece(asked.office, piece, out);
+            }
+        }
+        _ => return None,
     }
     Some(())
 }
@@ -80,22 +88,6 @@ pub(crate) fn tell_cell<O: Write>(office: &Office, cell: &Cell, out: &mut O) {
     } else {
         writeln!(out, "{owner} {band} {wh}")
     };
-}
-
-fn tell_pieces<O: Write>(
-    asked: &Asked<'_>,
-    owners: &Owners<'_>,
-    span: Span,
-    out: &mut O,
-) -> Option<()> {
-    if span.from.seconds() >= span.to.seconds() || span.low.get() > span.high.get() {
-        return None;
-    }
-    let pieces = pieces_of(asked.alloc, asked.office, asked.zone, owners, span).ok()?;
-    for piece in &pieces {
-        tell_piece(asked.office, piece, out);
-    }
-    Some(())
 }
 
 // Where a piece begins and ends, and what its owner gets of it.

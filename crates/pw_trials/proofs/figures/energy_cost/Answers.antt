@@ -12,11 +12,11 @@ loop-period-init c = record { sum = refl; few = omega arith }
 
 pub loop-period-preserved : goal.loop-period-preserved
 loop-period-preserved c =
-    let file = c.args.office.now in
-    let entries = c.args.entries.now in
-    let o = c.args.owner in
-    let b = c.args.band.0 in
-    let d = c.args.direction in
+    let file = c.args.held.now.office.now in
+    let entries = c.args.held.now.entries.now in
+    let o = c.args.class.owner in
+    let b = c.args.class.band.0 in
+    let d = c.args.class.direction in
     let f : ℕ → ℕ = λ p. price_at file p b d * energy_in_period (office_of file) entries o p b d in
     let period = c.loop-period.period in
     let p : c.price.result ≡ price_at file period b d = c.price.ensures.price in
@@ -32,7 +32,7 @@ loop-period-preserved c =
 pub returns : goal.returns
 unfolding energy_cost
 returns c =
-    let file = c.args.office.now in
-    let f : ℕ → ℕ = λ p. price_at file p c.args.band.0 c.args.direction * energy_in_period (office_of file) c.args.entries.now c.args.owner p c.args.band.0 c.args.direction in
+    let file = c.args.held.now.office.now in
+    let f : ℕ → ℕ = λ p. price_at file p c.args.class.band.0 c.args.class.direction * energy_in_period (office_of file) c.args.held.now.entries.now c.args.class.owner p c.args.class.band.0 c.args.class.direction in
     let all : c.loop-period.period ≡ periods_in file = omega (arith, c.periods-period-end.ensures.count, c.loop-period.auto.period-end, c.loop-period-test.false) in
     c.loop-period.invariant.sum ∙ ap (sum_over f 0) all
