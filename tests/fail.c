@@ -1,9 +1,10 @@
 /* A disk that fails, or at which a program stops, preloaded (LD_PRELOAD) into the program: while the file that FAILING
  * names is there, calls on files fail with EIO from one of them on. The file has letters (r reads, w writes, s syncs, t
- * truncates) and, behind them, how many calls of these letters still succeed, counted from when the file came. Where a
- * word stands behind the number, the program kills itself instead: `before` that call, `behind` it, `halfway`, when
- * the first half of a write is done, or `torn`: as a power cut may leave it, with other bytes than were there or written
- * in the place of that write and of each that no sync of its file has followed. */
+ * truncates, n takes a name away or gives another one) and, behind them, how many calls of these letters still succeed,
+ * counted from when the file came. Where a word stands behind the number, the program kills itself instead: `before`
+ * that call, `behind` it, `halfway`, when the first half of a write is done, or `torn`: as a power cut may leave it,
+ * with other bytes than were there or written in the place of that write and of each that no sync of its file has
+ * followed. */
 #define _GNU_SOURCE
 #include <errno.h>
 #include <fcntl.h>
@@ -75,7 +76,7 @@ static enum turn turn_of(int letter) {
     long length = syscall(SYS_read, file, words, sizeof words - 1);
     syscall(SYS_close, file);
     if (length <= 0) return SUCCEEDS;
-    sscanf(words, "%7[rwst]%ld%7s", letters, &number, way);
+    sscanf(words, "%7[rwstn]%ld%7s", letters, &number, way);
     if (!strchr(letters, letter) || met++ < number) return SUCCEEDS;
     return turn_by(way);
 }
@@ -125,4 +126,14 @@ int fsync(int file) {
 int ftruncate(int file, off_t length) {
     enum turn turn = turn_of('t');
     return turn == FAILS ? -1 : (int)done(turn, syscall(SYS_ftruncate, file, length));
+}
+
+int unlink(const char *path) {
+    enum turn turn = turn_of('n');
+    return turn == FAILS ? -1 : (int)done(turn, syscall(SYS_unlink, path));
+}
+
+int rename(const char *from, const char *to) {
+    enum turn turn = turn_of('n');
+    return turn == FAILS ? -1 : (int)done(turn, syscall(SYS_rename, from, to));
 }

@@ -1,3 +1,4 @@
+pub mod Figures
 pub mod Few
 pub mod Opened
 pub mod Piped

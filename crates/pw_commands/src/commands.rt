@@ -1,27 +1,30 @@
 //! The commands.
 
 ghost use Rattle.std.specs.Prelude.{◌≡◌, ◌⊎◌, ◌<◌, List, Some, ℕ, IfOk, IfErr};
+ghost use Rattle.pw_time.specs.declared.zone.Clock.{Clock};
 ghost use Rattle.pw_tariff.specs.Office.{office_of};
 ghost use Rattle.pw_tariff.specs.Text.{IsOfficeOf};
 ghost use Rattle.pw_model.specs.Office.{AllOfOffice};
-ghost use Rattle.pw_read.specs.Run.{IsRun};
 ghost use Rattle.pw_report.specs.Pages.{IsPageOf};
-ghost use Rattle.pw_commands.specs.Loads.{Gives, Refused};
-ghost use Rattle.pw_commands.specs.inner.Months.{IsMonthOf, IsNoMonth};
-ghost use Rattle.pw_time.specs.declared.zone.Clock.{Clock};
 ghost use Rattle.pw_words.specs.Words.{IsLimit, IsRefusal, IsSound};
 ghost use Rattle.pw_words.specs.declared.commands.Command.TheVariants.{Read};
+ghost use Rattle.pw_read.specs.Run.{IsRun};
+ghost use Rattle.pw_commands.specs.Loads.{Gives, Refused};
+ghost use Rattle.pw_commands.specs.inner.Months.{IsMonthOf, IsNoMonth};
 
+use crate::adopting::{Adoption, adopt};
+use crate::carrying::{Carriage, carry};
 use crate::fault::Fault;
 use crate::files::{LONGEST_OFFICE, read_file};
 use crate::loading::{Target, load};
-use crate::offices::office_text;
+use crate::offices::{office_text, read_office};
 use crate::pipe::pipe_run;
 use crate::progress::{Follow, Progress};
 use crate::server::Term;
 use crate::serving::serve;
 use crate::store::{FileBook, close_book, open_book};
 use crate::telling::{finish, tell};
+use crate::verifying::{Verification, verify};
 use pw_book::{Book, BookFault};
 use pw_found::Purpose;
 use pw_http::{Audience, Origin};
@@ -198,6 +201,50 @@ fn obey<I: Read, O: Write, E: Write, W: Follow>(
                 Err(fault) => tell(rt.alloc(), fault, err),
             }
         }
+        Command::Adopt {
+            office,
+            store,
+            new_office,
+            renamed,
+            dry,
+        } => {
+            let asked = Adoption {
+                office,
+                store,
+                new_office,
+                renamed: renamed.as_slice(),
+                dry,
+            };
+            adopt(rt, asked, out, err, watch)
+        }
+        Command::Carry {
+            office,
+            store,
+            new_office,
+            new_store,
+        } => {
+            let asked = Carriage {
+                office,
+                store,
+                new_office,
+                new_store,
+            };
+            carry(rt, asked, out, err, watch)
+        }
+        Command::Verify {
+            office,
+            store,
+            source,
+            all,
+        } => {
+            let asked = Verification {
+                office,
+                store,
+                source,
+                all,
+            };
+            verify(rt, asked, out, err, watch)
+        }
     }
 }
 
@@ -223,8 +270,7 @@ fn pipe<I: Read, O: Write, E: Write>(
 
 // How large the office of a file is; where it is asked for, its periods too.
 fn check(rt: &HostRuntime, office: &str, verbose: bool) -> Result<Vec<u8>, Fault> {
-    let text = read_file(rt, office, LONGEST_OFFICE)?;
-    let office = Office::read(rt.alloc(), text.as_slice())?;
+    let (office, _text) = read_office(rt, office)?;
     match office_text(rt.alloc(), &office, verbose) {
         Ok(text) => Ok(text),
         Err(_) => Err(Fault::Memory),
@@ -256,8 +302,7 @@ fn book_at<W: Watch>(
 ) -> Result<FileBook, Fault>
     requires { IsLimit limit }
 {
-    let text = read_file(rt, office, LONGEST_OFFICE)?;
-    let office = Office::read(rt.alloc(), text.as_slice())?;
+    let (office, text) = read_office(rt, office)?;
     open_book(rt, store, purpose, office, text.as_slice(), limit, watch)
 }
 
@@ -268,8 +313,7 @@ fn statement_of<W: Watch>(
     account: &str,
     watch: &mut W,
 ) -> Result<Vec<u8>, Fault> {
-    let text = read_file(rt, office, LONGEST_OFFICE)?;
-    let office = Office::read(rt.alloc(), text.as_slice())?;
+    let (office, text) = read_office(rt, office)?;
     let Some(account) = office.account(account.as_bytes()) else {
         return Err(Fault::NoSuchAccount);
     };
@@ -291,8 +335,7 @@ fn month_page_of<W: Watch>(
     asked: MonthAsked<'_>,
     watch: &mut W,
 ) -> Result<Vec<u8>, Fault> {
-    let text = read_file(rt, office, LONGEST_OFFICE)?;
-    let office = Office::read(rt.alloc(), text.as_slice())?;
+    let (office, text) = read_office(rt, office)?;
     let page = month_page(&office, asked)?;
     page_from(rt, store, office, &text, page, watch)
 }
@@ -319,8 +362,7 @@ fn export<W: Watch>(
     what: Exported<'_>,
     watch: &mut W,
 ) -> Result<Vec<u8>, Fault> {
-    let text = read_file(rt, office, LONGEST_OFFICE)?;
-    let office = Office::read(rt.alloc(), text.as_slice())?;
+    let (office, text) = read_office(rt, office)?;
     let page = page_of(&office, what)?;
     page_from(rt, store, office, &text, page, watch)
 }

@@ -31,6 +31,12 @@ pub enum Fault {
     NoSuchMeter,
     /// No store is at the path, and the command makes none.
     NoSuchStore,
+    /// The new office file says something otherwise that can't be adopted.
+    NotAdopted,
+    /// The new office file can't hold a record, which was told.
+    NotCarried,
+    /// Something is where the new store is to be made.
+    NotFree,
     /// 70 to 73, 62: the store isn't opened.
     Store(OpenFault),
     /// The store's file isn't opened: a line tells why, before `device failed`.
@@ -65,7 +71,10 @@ impl Fault {
             | Fault::NoSuchAccount
             | Fault::NoSuchMonth
             | Fault::NoSuchMeter
-            | Fault::NoSuchStore => 1,
+            | Fault::NoSuchStore
+            | Fault::NotAdopted
+            | Fault::NotCarried
+            | Fault::NotFree => 1,
             Fault::Store(_)
             | Fault::Unopened(_)
             | Fault::Post(_)
@@ -94,6 +103,12 @@ impl fmt::Display for Fault {
             Fault::NoSuchMonth => write!(f, "no such month"),
             Fault::NoSuchMeter => write!(f, "no such meter"),
             Fault::NoSuchStore => write!(f, "no such store"),
+            Fault::NotAdopted => write!(
+                f,
+                "the new office file can't be adopted; carry takes the records into a new store"
+            ),
+            Fault::NotCarried => write!(f, "the new office file can't hold this record"),
+            Fault::NotFree => write!(f, "the new store's path isn't free"),
             Fault::Store(fault) => write!(f, "{fault}"),
             Fault::Unopened(cause) => write!(f, "{cause}\ndevice failed"),
             Fault::Post(fault) => write!(f, "{fault}"),

@@ -18,7 +18,29 @@ pub fn name_unreadable<E: Write>(rt: &HostRuntime, words: &[&str], err: &mut E) 
             office: Some(office),
             ..
         } => name_file(rt, office, err),
+        Command::Adopt {
+            office,
+            store,
+            new_office,
+            ..
+        }
+        | Command::Carry {
+            office,
+            store,
+            new_office,
+            ..
+        } => {
+            name_file(rt, office, err);
+            name_store(rt, store, err);
+            name_file(rt, new_office, err);
+        }
         Command::Load {
+            office,
+            store,
+            source,
+            ..
+        }
+        | Command::Verify {
             office,
             store,
             source,

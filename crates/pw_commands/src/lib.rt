@@ -2,6 +2,9 @@
 #![tactic(auto)]
 
 mod accepting;
+mod adopting;
+mod carrying;
+mod changes;
 mod client;
 mod commands;
 mod fault;
@@ -13,12 +16,15 @@ mod loading;
 mod offices;
 mod pipe;
 mod progress;
+mod records;
 mod server;
 mod serving;
 mod store;
 mod telling;
 mod trail;
+mod verifying;
 
+pub use adopting::{Weighed, adopt_book, weigh};
 pub use commands::{entries_of, run, run_watched};
 pub use fault::Fault;
 pub use files::{LONGEST_OFFICE, read_file};

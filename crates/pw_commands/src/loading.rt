@@ -7,8 +7,9 @@ ghost use Rattle.pw_words.specs.Words.{IsLimit};
 
 use crate::commands::entries_of;
 use crate::fault::Fault;
-use crate::files::{LONGEST_OFFICE, read_file};
+use crate::files::read_file;
 use crate::listed::{LONGEST_LIST, Upload, uploads_in, uploads_of};
+use crate::offices::read_office;
 use crate::progress::{Follow, Loaded};
 use crate::store::{close_book, open_book};
 use crate::telling::{finish, tell};
@@ -74,8 +75,7 @@ fn load_file<W: Watch>(
 ) -> Result<Vec<u8>, Fault>
     requires { IsLimit target.limit }
 {
-    let text = read_file(rt, target.office, LONGEST_OFFICE)?;
-    let office = Office::read(rt.alloc(), text.as_slice())?;
+    let (office, text) = read_office(rt, target.office)?;
     let body = read_file(rt, file, LONGEST_BODY as u32)?;
     let entries = entries_of(rt, &office, kind, body.as_slice())?;
     post_into(rt, target, office, &text, &entries, watch)
@@ -137,8 +137,7 @@ fn load_files<O: Write, E: Write, F: Follow>(
 ) -> Result<u8, Fault>
     requires { IsLimit target.limit }
 {
-    let text = read_file(rt, target.office, LONGEST_OFFICE)?;
-    let office = Office::read(rt.alloc(), text.as_slice())?;
+    let (office, text) = read_office(rt, target.office)?;
     let Ok(uploads) = uploads_in(rt.alloc(), kind, files) else {
         return Err(Fault::Memory);
     };
@@ -155,8 +154,7 @@ fn load_list<O: Write, E: Write, F: Follow>(
 ) -> Result<u8, Fault>
     requires { IsLimit target.limit }
 {
-    let text = read_file(rt, target.office, LONGEST_OFFICE)?;
-    let office = Office::read(rt.alloc(), text.as_slice())?;
+    let (office, text) = read_office(rt, target.office)?;
     let lines = read_file(rt, list, LONGEST_LIST)?;
     let uploads = uploads_of(rt.alloc(), list, lines.as_slice())?;
     load_all(rt, target, office, &text, &uploads, out, err, follow)
@@ -177,27 +175,9 @@ fn load_all<O: Write, E: Write, F: Follow>(
     requires office { IsOfficeOf text.now office }
     requires limit { IsLimit target.limit }
 {
-    if are_there(rt, uploads, err) {
-        take_into(rt, target, office, text, uploads, out, err, follow)
-    } else {
-        Ok(Fault::Device.status())
+    if !are_there(rt, uploads, err) {
+        return Ok(Fault::Device.status());
     }
-}
-
-// Takes uploads into a store, and answers the exit status.
-fn take_into<O: Write, E: Write, F: Follow>(
-    rt: &HostRuntime,
-    target: Target<'_>,
-    office: Office,
-    text: &[u8],
-    uploads: &[Upload<'_>],
-    out: &mut O,
-    err: &mut E,
-    follow: &mut F,
-) -> Result<u8, Fault>
-    requires office { IsOfficeOf text.now office }
-    requires limit { IsLimit target.limit }
-{
     let (store, limit) = (target.store, target.limit);
     let mut book = open_book(rt, store, Purpose::Take, office, text, limit, follow)?;
     let status = take_to_store(rt, &mut book, uploads, out, err, follow);
@@ -205,8 +185,8 @@ fn take_into<O: Write, E: Write, F: Follow>(
     Ok(status)
 }
 
-// Whether each upload's file is there. Those that aren't are told.
-fn are_there<E: Write>(rt: &HostRuntime, uploads: &[Upload<'_>], err: &mut E) -> bool {
+/// Whether each upload's file is there. Those that aren't are told.
+pub(crate) fn are_there<E: Write>(rt: &HostRuntime, uploads: &[Upload<'_>], err: &mut E) -> bool {
     let mut all = true;
     for upload in uploads {
         let is_there = match fs::metadata(rt, upload.path.as_str()) {
@@ -292,8 +272,8 @@ fn take<S: Shelf>(
     Ok(book.post(rt.alloc(), entries.as_slice())?)
 }
 
-// Whether a fault says only that the file of an upload is wrong.
-fn is_of_file(fault: Fault) -> bool {
+/// Whether a fault says only that the file of an upload is wrong.
+pub(crate) fn is_of_file(fault: Fault) -> bool {
     match fault {
         Fault::Upload(_) | Fault::TooLarge => fault.status() == 1,
         _ => false,
@@ -305,6 +285,7 @@ fn told_of<O: Write>(upload: &Upload<'_>, accepted: Accepted, out: &mut O) -> io
     out.flush()
 }
 
-fn tell_of<E: Write>(upload: &Upload<'_>, fault: Fault, err: &mut E) {
+/// Tells why an upload is refused, behind its file's name.
+pub(crate) fn tell_of<E: Write>(upload: &Upload<'_>, fault: Fault, err: &mut E) {
     let _ = writeln!(err, "{}: {fault}", upload.path);
 }

@@ -1,11 +1,23 @@
-//! What is told of an office file.
+//! The office of a file, and what is told of it.
 
-ghost use Rattle.std.specs.Prelude.{◌<◌};
+ghost use Rattle.std.specs.Prelude.{◌<◌, IfOk};
 ghost use Rattle.pw_tariff.specs.Office.{periods_in};
+ghost use Rattle.pw_tariff.specs.Text.{IsOfficeOf};
 
+use crate::fault::Fault;
+use crate::files::{LONGEST_OFFICE, read_file};
 use pw_tariff::{BandId, Direction, Office, PeriodId};
 use pw_time::{Instant, write_utc};
 use std::alloc::{AllocError, Global};
+
+/// The office of a file, and the file's text.
+pub(crate) fn read_office(rt: &HostRuntime, path: &str) -> Result<(Office, Vec<u8>), Fault>
+    ensures { IfOk result (λ read. IsOfficeOf read.1.items read.0) }
+{
+    let text = read_file(rt, path, LONGEST_OFFICE)?;
+    let office = Office::read(rt.alloc(), text.as_slice())?;
+    Ok((office, text))
+}
 
 /// `office`, and how many accounts, meters, bands and periods it has; behind that, where it is `verbose`, a line for each
 /// period.

@@ -2,6 +2,7 @@
 //! how far a load of many files is.
 
 use pw_book::Accepted;
+use pw_carrying::Carrying;
 use pw_store::{Part, Watch};
 use std::fmt;
 use std::io::{self, Write};
@@ -60,8 +61,8 @@ impl fmt::Display for Loaded {
     }
 }
 
-/// Who is told how far an opening is, and how far a load of many files.
-pub trait Follow: Watch {
+/// Who is told how far an opening is, how far a load of many files, and how far a carrying.
+pub trait Follow: Watch + Carrying {
     /// One more file is through.
     fn loaded(&mut self, loaded: &Loaded);
 
@@ -76,7 +77,7 @@ pub struct Progress<C: Clock, E: Write> {
     clock: C,
     err: E,
     is_waited_for: bool,
-    // the records checked so far
+    // the records checked so far in an opening
     records: usize,
     // when the first file was through, and how far the load was then
     first: Option<(Instant, Loaded)>,
@@ -114,6 +115,9 @@ impl<C: Clock, E: Write> Progress<C, E> {
 impl<C: Clock, E: Write> Watch for Progress<C, E> {
     fn checked(&mut self, part: Part, rows: usize) {
         let (place, name) = told(part);
+        if place == 1 {
+            self.records = 0;
+        }
         if place <= 6 {
             self.records = self.records.saturating_add(rows);
         }
@@ -135,6 +139,16 @@ impl<C: Clock, E: Write> Watch for Progress<C, E> {
 
     fn upgraded(&mut self) {
         let _ = self.err.write_all(UPGRADED);
+    }
+}
+
+impl<C: Clock, E: Write> Carrying for Progress<C, E> {
+    fn carried(&mut self, records: u32) {
+        if self.is_waited_for {
+            self.clear();
+            let _ = write!(self.err, "powerbook: carried {records} records");
+            self.is_shown = true;
+        }
     }
 }
 

@@ -223,7 +223,14 @@ fn book_over<S: Alter, W: Watch>(
 pub fn close_book(book: FileBook) -> Result<(), Fault>
     ensures { IfErr result (λ fault. fault ≡ Fault.Device) }
 {
-    match connection_under(book).close() {
+    close_store(connection_under(book))
+}
+
+/// Closes the connection to a store's files, likewise.
+pub(crate) fn close_store(connection: Connection<FileStore<FileFrom<Wary>>>) -> Result<(), Fault>
+    ensures { IfErr result (λ fault. fault ≡ Fault.Device) }
+{
+    match connection.close() {
         Ok(()) => Ok(()),
         Err(_) => Err(Fault::Device),
     }

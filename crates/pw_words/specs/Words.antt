@@ -60,6 +60,9 @@ IsSound (command.Statement office store account) = ⊤
 IsSound (command.Month what office store account month) = ⊤
 IsSound (command.Export office store what) = ⊤
 IsSound (command.Serve office store count until_input_ends port limit origins tells) = IsLimit limit × (1 ≤ port)
+IsSound (command.Adopt office store new_office renamed dry) = ⊤
+IsSound (command.Carry office store new_office new_store) = ⊤
+IsSound (command.Verify office store files all) = NamesFiles files
 
 -- why words give no command, where they ask for no help
 abbrev pub IsRefusal : WordsFault → Type 0

@@ -18,6 +18,13 @@ pub enum Source<'a> {
     },
 }
 
+/// What an account, a meter or a band of an office file is called in another one.
+#[derive(Clone, Copy, Debug, PartialEq, Eq)]
+pub struct Renamed<'a> {
+    pub old: &'a str,
+    pub new: &'a str,
+}
+
 /// What is to be exported.
 #[derive(Clone, Copy, Debug, PartialEq, Eq)]
 pub enum Exported<'a> {
@@ -83,5 +90,28 @@ pub enum Command<'a> {
         limit: u32,
         origins: Vec<&'a str>,
         tells: bool,
+    },
+    /// A store gets another office file in the place of its own; where it is `dry`, what would change is told alone.
+    Adopt {
+        office: &'a str,
+        store: &'a str,
+        new_office: &'a str,
+        renamed: Vec<Renamed<'a>>,
+        dry: bool,
+    },
+    /// All records of a store are taken into a new store of another office file.
+    Carry {
+        office: &'a str,
+        store: &'a str,
+        new_office: &'a str,
+        new_store: &'a str,
+    },
+    /// Uploads are read again, and those of their records told that a store lacks; of `all`, those of the store too that
+    /// stand in no upload.
+    Verify {
+        office: &'a str,
+        store: &'a str,
+        source: Source<'a>,
+        all: bool,
     },
 }

@@ -7,6 +7,6 @@ mod parser;
 mod sample;
 pub mod words;
 
-pub use commands::{Command, Exported, Source};
+pub use commands::{Command, Exported, Renamed, Source};
 pub use fault::WordsFault;
 pub use sample::SAMPLE;

@@ -28,6 +28,9 @@ static TABLES: [&str; 8] = [
     "disputes",
 ];
 
+/// The names that stand behind `--rename`.
+static OLD_AND_NEW: [&str; 2] = ["OLD", "NEW"];
+
 /// A word that a command takes: by its place, or behind a flag.
 #[derive(Clone, Copy)]
 enum Word {
@@ -50,6 +53,11 @@ enum Word {
     Port,
     Origin,
     Tell,
+    NewOffice,
+    NewStore,
+    Rename,
+    DryRun,
+    All,
 }
 
 /// A command: its name, what it does, how it ends with an example, and the words that it takes.
@@ -61,7 +69,7 @@ struct Asked {
     words: &'static [Word],
 }
 
-static COMMANDS: [Asked; 10] = [
+static COMMANDS: [Asked; 13] = [
     Asked {
         name: "read",
         about: "Prints the frames of a body on standard input: meters, stamps, registers in watt-hours",
@@ -139,10 +147,58 @@ static COMMANDS: [Asked; 10] = [
             Word::Tell,
         ],
     },
+    Asked {
+        name: "adopt",
+        about: "Gives a store another office file, where nothing that was reckoned changes by it: new accounts and meters, other names, later periods",
+        end: "What the new file says otherwise is told, a line for each change. The figures of all that is held stay as they are.\nExit status: 0; 1 refused; 2 wrong words; 3 a file, stream, store or memory failed.\nExamples:\n  powerbook adopt office.toml book.db new.toml --dry-run\n  powerbook adopt office.toml book.db new.toml --rename A1 A7",
+        words: &[
+            Word::Office,
+            Word::Store,
+            Word::NewOffice,
+            Word::Rename,
+            Word::DryRun,
+        ],
+    },
+    Asked {
+        name: "carry",
+        about: "Takes all records of a store into a new store of another office file, by the names of accounts and meters",
+        end: "Each account whose balance is another one then is told, with both balances. Not one record of STORE changes.\nExit status: 0; 1 refused; 2 wrong words; 3 a file, stream, store or memory failed.\nExample: powerbook carry office.toml book.db new.toml new.db",
+        words: &[Word::Office, Word::Store, Word::NewOffice, Word::NewStore],
+    },
+    Asked {
+        name: "verify",
+        about: "Reads files of uploads again, and prints which of their records a store lacks",
+        end: "Exit status: 0 none is lacking; 1 some are, or a file is refused; 2 wrong words; 3 a file, stream, store or memory failed.\nExamples:\n  powerbook verify office.toml book.db telegrams day.txt\n  powerbook verify office.toml book.db --list loads --all",
+        words: &[
+            Word::Office,
+            Word::Store,
+            Word::Kind,
+            Word::File,
+            Word::List,
+            Word::Meter,
+            Word::All,
+        ],
+    },
 ];
 
 fn required<'a>(alloc: Global, id: &'a str, help: &'a str) -> Arg<'a> {
     Arg::new(alloc, id).required(true).help(help)
+}
+
+// A word of its own, which is there or isn't.
+fn flag<'a>(alloc: Global, name: &'a str, help: &'a str) -> Arg<'a> {
+    Arg::new(alloc, name)
+        .long(name)
+        .action(ArgAction::SetTrue)
+        .help(help)
+}
+
+// A word behind another one.
+fn option<'a>(alloc: Global, name: &'a str, value: &'a str, help: &'a str) -> Arg<'a> {
+    Arg::new(alloc, name)
+        .long(name)
+        .value_name(value)
+        .help(help)
 }
 
 fn office_or_sample<'a>(alloc: Global) -> Arg<'a> {
@@ -172,15 +228,15 @@ fn files<'a>(alloc: Global) -> Result<Arg<'a>, AllocError> {
 }
 
 fn list<'a>(alloc: Global) -> Result<Arg<'a>, AllocError> {
-    Arg::new(alloc, "list")
-        .long("list")
-        .value_name("LIST")
-        .help(
-            "A list of files, a line each: KIND FILE, or readouts FILE METER; paths from its folder",
-        )
-        .conflicts_with("KIND")?
-        .conflicts_with("FILE")?
-        .conflicts_with("meter")
+    option(
+        alloc,
+        "list",
+        "LIST",
+        "A list of files, a line each: KIND FILE, or readouts FILE METER; paths from its folder",
+    )
+    .conflicts_with("KIND")?
+    .conflicts_with("FILE")?
+    .conflicts_with("meter")
 }
 
 fn table<'a>(alloc: Global) -> Arg<'a> {
@@ -188,88 +244,85 @@ fn table<'a>(alloc: Global) -> Arg<'a> {
 }
 
 fn limit<'a>(alloc: Global) -> Arg<'a> {
-    Arg::new(alloc, "limit")
-        .long("limit")
-        .value_name("N")
+    option(alloc, "limit", "N", "The most records of the book")
         .value_parser(value_parser!(u32).range(1..=i64::from(MOST_RECORDS)))
         .default_value("1000000")
-        .help("The most records of the book")
 }
 
 fn clock<'a>(alloc: Global) -> Arg<'a> {
-    Arg::new(alloc, "clock")
-        .long("clock")
-        .value_name("CLOCK")
+    let help = "The clock that readouts tell their time by";
+    option(alloc, "clock", "CLOCK", help)
         .value_parser(CLOCKS.as_slice())
         .default_value("winter")
-        .help("The clock that readouts tell their time by")
 }
 
 fn verbose<'a>(alloc: Global) -> Arg<'a> {
-    Arg::new(alloc, "verbose")
-        .long("verbose")
-        .action(ArgAction::SetTrue)
-        .help("Tells each period too: its start, and by band the prices of import and export")
+    let help = "Tells each period too: its start, and by band the prices of import and export";
+    flag(alloc, "verbose", help)
 }
 
 fn count<'a>(alloc: Global) -> Arg<'a> {
-    Arg::new(alloc, "count")
-        .long("count")
-        .value_name("N")
-        .value_parser(value_parser!(u32))
-        .help("How many connections are served; without it, any number")
+    let help = "How many connections are served; without it, any number";
+    option(alloc, "count", "N", help).value_parser(value_parser!(u32))
 }
 
 fn until_input_ends<'a>(alloc: Global) -> Arg<'a> {
-    Arg::new(alloc, "until-input-ends")
-        .long("until-input-ends")
-        .action(ArgAction::SetTrue)
-        .help(
-            "Ends at the end of standard input: what is whole is answered, and the store is closed",
-        )
+    let help =
+        "Ends at the end of standard input: what is whole is answered, and the store is closed";
+    flag(alloc, "until-input-ends", help)
 }
 
 fn port<'a>(alloc: Global) -> Arg<'a> {
-    Arg::new(alloc, "port")
-        .long("port")
-        .value_name("P")
+    option(alloc, "port", "P", "The port on 127.0.0.1")
         .value_parser(value_parser!(u16).range(1..=65_535))
         .default_value("8460")
-        .help("The port on 127.0.0.1")
 }
 
 fn origin<'a>(alloc: Global) -> Arg<'a> {
-    Arg::new(alloc, "origin")
-        .long("origin")
-        .value_name("URL")
-        .action(ArgAction::Append)
-        .help(
-            "Whose pages may ask too: http:// or https://, a host, and its port; may stand more than once",
-        )
+    let help =
+        "Whose pages may ask too: http:// or https://, a host, and its port; may stand more than once";
+    option(alloc, "origin", "URL", help).action(ArgAction::Append)
 }
 
 fn told<'a>(alloc: Global) -> Arg<'a> {
-    Arg::new(alloc, "tell")
-        .long("tell")
-        .action(ArgAction::SetTrue)
-        .help(
-            "Tells each upload that was answered on standard error: when, where to, and the status",
-        )
+    let help =
+        "Tells each upload that was answered on standard error: when, where to, and the status";
+    flag(alloc, "tell", help)
 }
 
 fn meter<'a>(alloc: Global) -> Result<Arg<'a>, AllocError> {
-    Arg::new(alloc, "meter")
-        .long("meter")
-        .value_name("ID")
-        .help("The meter of the readouts")
-        .required_if_eq("KIND", "readouts")
+    option(alloc, "meter", "ID", "The meter of the readouts").required_if_eq("KIND", "readouts")
 }
 
 fn one_meter<'a>(alloc: Global) -> Arg<'a> {
-    Arg::new(alloc, "meter")
-        .long("meter")
-        .value_name("ID")
-        .help("Of the readings, those of this meter alone")
+    let help = "Of the readings, those of this meter alone";
+    option(alloc, "meter", "ID", help)
+}
+
+fn new_store<'a>(alloc: Global) -> Arg<'a> {
+    let help = "The new store file (SQLite); nothing may be there";
+    required(alloc, "NEW_STORE", help)
+}
+
+fn rename<'a>(alloc: Global) -> Arg<'a> {
+    Arg::new(alloc, "rename")
+        .long("rename")
+        .value_names(OLD_AND_NEW.as_slice())
+        .num_args(2)
+        .action(ArgAction::Append)
+        .help(
+            "The account, meter or band OLD is called NEW in the new file; may stand more than once",
+        )
+}
+
+fn dry_run<'a>(alloc: Global) -> Arg<'a> {
+    let help = "Tells what would be done, and changes nothing";
+    flag(alloc, "dry-run", help)
+}
+
+fn all<'a>(alloc: Global) -> Arg<'a> {
+    let help = "Prints which records of the store stand in none of the files, too";
+    flag(alloc, "all", help)
 }
 
 fn argument<'a>(alloc: Global, word: Word) -> Result<Arg<'a>, AllocError> {
@@ -293,6 +346,11 @@ fn argument<'a>(alloc: Global, word: Word) -> Result<Arg<'a>, AllocError> {
         Word::Port => Ok(port(alloc)),
         Word::Origin => Ok(origin(alloc)),
         Word::Tell => Ok(told(alloc)),
+        Word::NewOffice => Ok(required(alloc, "NEW_OFFICE", "The other office file (TOML)")),
+        Word::NewStore => Ok(new_store(alloc)),
+        Word::Rename => Ok(rename(alloc)),
+        Word::DryRun => Ok(dry_run(alloc)),
+        Word::All => Ok(all(alloc)),
     }
 }
 
@@ -310,7 +368,7 @@ fn command<'a>(alloc: Global, asked: &Asked) -> Result<Command<'a>, AllocError> 
 // The parser without its commands.
 fn empty_parser<'a>(alloc: Global) -> Result<Command<'a>, AllocError> {
     Command::new(alloc, "powerbook")
-        .version("1.9.0")
+        .version("1.10.0")
         .about("Meter readings and prepaid accounts of an electricity cooperative")
         .after_help(
             "Without a command it acts as pipe. Each command tells more: powerbook load --help.",

@@ -7,7 +7,7 @@ ghost use Rattle.pw_words.specs.Words.{AsksToPipe, IsClockWord, IsKindWord, IsLi
 ghost use Rattle.pw_words.specs.declared.commands.Command.TheVariants as asks;
 ghost use Rattle.pw_words.specs.inner.Told.{IsMonthWord, IsTableWord};
 
-use crate::commands::{Command, Exported, Source};
+use crate::commands::{Command, Exported, Renamed, Source};
 use crate::fault::{WordsFault, fault_of};
 use crate::parser::parser;
 use clap::error::ErrorKind;
@@ -59,9 +59,13 @@ fn parsed<'a>(alloc: Global, words: &'a [&'a str]) -> Result<Command<'a>, WordsF
         Ok(matches) => matches,
         Err(error) => return Err(fault_of(alloc, &error)),
     };
-    let files = words_at(alloc, &matches, "load", "FILE")?;
-    let origins = words_at(alloc, &matches, "serve", "origin")?;
-    match command_of(&matches, files, origins) {
+    let given = Given {
+        loaded: words_at(alloc, &matches, "load", "FILE")?,
+        verified: words_at(alloc, &matches, "verify", "FILE")?,
+        origins: words_at(alloc, &matches, "serve", "origin")?,
+        renamed: renamed_in(alloc, words_at(alloc, &matches, "adopt", "rename")?)?,
+    };
+    match command_of(&matches, given) {
         Some(command) => Ok(command),
         None => Err(no_command(alloc, &matches)?),
     }
@@ -146,11 +150,27 @@ fn words_at<'a>(
     Ok(found)
 }
 
-fn command_of<'a>(
-    matches: &ArgMatches<'a>,
-    files: Vec<&'a str>,
+// Words of which a command takes any number.
+#[derive(Drop)]
+struct Given<'a> {
+    loaded: Vec<&'a str>,
+    verified: Vec<&'a str>,
     origins: Vec<&'a str>,
-) -> Option<Command<'a>>
+    renamed: Vec<Renamed<'a>>,
+}
+
+// The names that stand in pairs: the old one, then the new one.
+fn renamed_in<'a>(alloc: Global, names: Vec<&'a str>) -> Result<Vec<Renamed<'a>>, AllocError> {
+    let mut renamed = Vec::new(alloc);
+    for pair in names.chunks_exact(2) {
+        if let [old, new] = pair {
+            renamed.push(Renamed { old, new })?;
+        }
+    }
+    Ok(renamed)
+}
+
+fn command_of<'a>(matches: &ArgMatches<'a>, given: Given<'a>) -> Option<Command<'a>>
     ensures { IfSome result IsSound }
 {
     match matches.subcommand() {
@@ -169,10 +189,13 @@ fn command_of<'a>(
             office: words.get_str("OFFICE"),
             limit: limit_of(words)?,
         }),
-        Some(("load", words)) => load_of(words, files),
+        Some(("load", words)) => load_of(words, given.loaded),
         Some(("statement", words)) => statement_of(words),
         Some(("export", words)) => export_of(words),
-        Some(("serve", words)) => serve_of(words, origins),
+        Some(("serve", words)) => serve_of(words, given.origins),
+        Some(("adopt", words)) => adopt_of(words, given.renamed),
+        Some(("carry", words)) => carry_of(words),
+        Some(("verify", words)) => verify_of(words, given.verified),
         Some((name, words)) => month_of(month_page_named(name)?, words),
     }
 }
@@ -258,6 +281,40 @@ fn serve_of<'a>(words: &ArgMatches<'a>, origins: Vec<&'a str>) -> Option<Command
         limit: limit_of(words)?,
         origins,
         tells: words.get_flag("tell"),
+    })
+}
+
+fn adopt_of<'a>(words: &ArgMatches<'a>, renamed: Vec<Renamed<'a>>) -> Option<Command<'a>>
+    ensures { IfSome result IsSound }
+{
+    Some(Command::Adopt {
+        office: words.get_str("OFFICE")?,
+        store: words.get_str("STORE")?,
+        new_office: words.get_str("NEW_OFFICE")?,
+        renamed,
+        dry: words.get_flag("dry-run"),
+    })
+}
+
+fn carry_of<'a>(words: &ArgMatches<'a>) -> Option<Command<'a>>
+    ensures { IfSome result IsSound }
+{
+    Some(Command::Carry {
+        office: words.get_str("OFFICE")?,
+        store: words.get_str("STORE")?,
+        new_office: words.get_str("NEW_OFFICE")?,
+        new_store: words.get_str("NEW_STORE")?,
+    })
+}
+
+fn verify_of<'a>(words: &ArgMatches<'a>, files: Vec<&'a str>) -> Option<Command<'a>>
+    ensures { IfSome result IsSound }
+{
+    Some(Command::Verify {
+        office: words.get_str("OFFICE")?,
+        store: words.get_str("STORE")?,
+        source: source_of(words, files)?,
+        all: words.get_flag("all"),
     })
 }
 

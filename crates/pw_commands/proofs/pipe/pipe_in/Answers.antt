@@ -27,8 +27,7 @@ returns-in-Ok-flush g c = λ text is. (
       (piped _ _ _ _ (g.O.Write.contents c.converse.new.writer) c.new-book.result c.converse.new.book text (Ok c.in-Ok.field-0)
       (subst (IsOfficeOf text) (sym c.new-book.ensures.office) is)
       (ap (λ (s : MemoryShelf). (state_of s).content) c.new-book.ensures.shelf ∙ c.new.ensures.content)
-      c.new-book.ensures.open_yet c.in-Ok.ensures.headline tt refl)
-      c.flush.ensures.bytes,
+      c.new-book.ensures.open_yet c.in-Ok.ensures.headline tt refl) c.flush.ensures.bytes,
 )
 
 pub returns : goal.returns
@@ -38,6 +37,5 @@ returns g c = λ text is. (
       (piped _ _ _ _ (g.O.Write.contents c.converse.new.writer) c.new-book.result c.converse.new.book text (Ok c.in-Ok.field-0)
       (subst (IsOfficeOf text) (sym c.new-book.ensures.office) is)
       (ap (λ (s : MemoryShelf). (state_of s).content) c.new-book.ensures.shelf ∙ c.new.ensures.content)
-      c.new-book.ensures.open_yet c.in-Ok.ensures.headline tt refl)
-      c.flush.ensures.bytes,
+      c.new-book.ensures.open_yet c.in-Ok.ensures.headline tt refl) c.flush.ensures.bytes,
 )

@@ -1,0 +1,315 @@
+//! Another office file in the place of a store's own.
+
+ghost use Rattle.std.specs.Prelude.{◌≡◌, IfOk, IfErr, IsTrue, false};
+ghost use Rattle.sqlite.specs.Held.{state};
+ghost use Rattle.sqlite.specs.State.{HasCleanDisk, KeepsCommit};
+ghost use Rattle.sqlite.specs.Files.{file_state};
+ghost use Rattle.pw_tariff.specs.Office.{office_of};
+ghost use Rattle.pw_tariff.specs.Text.{IsOfficeOf};
+ghost use Rattle.pw_model.specs.Laws.{HaveSameFigures};
+ghost use Rattle.pw_moving.specs.Adopting.{Adopts};
+ghost use Rattle.pw_moving.specs.Changes.{AreChanges};
+ghost use Rattle.pw_moving.specs.Laws.{IsKept};
+ghost use Rattle.pw_book.specs.Questions.{IsQuestion};
+ghost use Rattle.pw_schema.specs.Judging.{KeepsOffice};
+ghost use Rattle.pw_store.specs.Kept.{held_of};
+ghost use Rattle.pw_store.specs.Opening.{KeepsText};
+ghost use Rattle.pw_commands.specs.Adoptions.{MayTake};
+
+use crate::changes::{is_so_named, put_change};
+use crate::fault::Fault;
+use crate::offices::read_office;
+use crate::store::{FileBook, close_book, close_store, open_book};
+use crate::telling::{finish, tell, write_whole};
+use pw_book::{Book, BookFault};
+use pw_carrying::last_reading;
+use pw_found::Purpose;
+use pw_model::MOST_RECORDS;
+use pw_moving::{Change, Respelling, adopts, changes_between, may_be_adopted};
+use pw_shelf::Shelf;
+use pw_store::{OpenFault, SqlShelf, Watch};
+use pw_tariff::Office;
+use pw_time::Instant;
+use pw_words::Renamed;
+use sqlite::{Alter, Connection};
+use std::alloc::{AllocError, Global};
+use std::io::{self, Write};
+
+/// What is to be adopted: the paths of the office file, the store and the new office file, and the names that are spelt
+/// otherwise; where it is `dry`, nothing is changed.
+#[derive(Clone, Copy)]
+pub(crate) struct Adoption<'a> {
+    pub(crate) office: &'a str,
+    pub(crate) store: &'a str,
+    pub(crate) new_office: &'a str,
+    pub(crate) renamed: &'a [Renamed<'a>],
+    pub(crate) dry: bool,
+}
+
+/// What a new office file changes, a line for each change, and whether it may take the old one's place.
+#[derive(Drop)]
+pub struct Weighed {
+    pub text: Vec<u8>,
+    pub adopts: bool,
+}
+
+/// Gives a store another office file, where that adopts its records, and answers the exit status. What changes is told to
+/// `out`; where it isn't adopted to `err`, with the fault's line.
+pub(crate) fn adopt<O: Write, E: Write, W: Watch>(
+    rt: &HostRuntime,
+    asked: Adoption<'_>,
+    out: &mut O,
+    err: &mut E,
+    watch: &mut W,
+) -> u8 {
+    match adopted(rt, asked, watch) {
+        Ok(Weighed { text, adopts: true }) => finish(rt.alloc(), Ok(text), out, err),
+        Ok(Weighed { text, .. }) => match write_whole(err, text.as_slice()) {
+            Ok(()) => tell(rt.alloc(), Fault::NotAdopted, err),
+            Err(fault) => fault.status(),
+        },
+        Err(fault) => tell(rt.alloc(), fault, err),
+    }
+}
+
+fn adopted<W: Watch>(
+    rt: &HostRuntime,
+    asked: Adoption<'_>,
+    watch: &mut W,
+) -> Result<Weighed, Fault> {
+    let (office, text) = read_office(rt, asked.office)?;
+    let (new, new_text) = read_office(rt, asked.new_office)?;
+    adopt_store(rt, asked, office, &text, new, &new_text, watch)
+}
+
+// Gives the store of an office file another one, once both files are read.
+fn adopt_store<W: Watch>(
+    rt: &HostRuntime,
+    asked: Adoption<'_>,
+    office: Office,
+    text: &[u8],
+    new: Office,
+    new_text: &[u8],
+    watch: &mut W,
+) -> Result<Weighed, Fault>
+    requires old { IsOfficeOf text.now office }
+    requires new { IsOfficeOf new_text.now new }
+{
+    let Ok(words) = respellings(rt.alloc(), asked.renamed) else {
+        return Err(Fault::Memory);
+    };
+    let store = asked.store;
+    match open_book(rt, store, Purpose::Ask, office, text, MOST_RECORDS, watch) {
+        Ok(book) => adopt_in(rt, book, &new, new_text, &words, asked.dry, watch),
+        Err(fault) if fault == Fault::Store(OpenFault::OfficeDiffers) => {
+            has_new(rt, store, new, new_text, watch)
+        }
+        Err(fault) => Err(fault),
+    }
+}
+
+fn respellings<'a>(
+    alloc: Global,
+    renamed: &[Renamed<'a>],
+) -> Result<Vec<Respelling<'a>>, AllocError> {
+    let mut words = Vec::with_capacity(alloc, renamed.len())?;
+    for word in renamed {
+        words.push(Respelling {
+            old: word.old.as_bytes(),
+            new: word.new.as_bytes(),
+        })?;
+    }
+    Ok(words)
+}
+
+// Of a store that another office file refuses: whether it has the new one already.
+fn has_new<W: Watch>(
+    rt: &HostRuntime,
+    store: &str,
+    new: Office,
+    new_text: &[u8],
+    watch: &mut W,
+) -> Result<Weighed, Fault>
+    requires { IsOfficeOf new_text.now new }
+{
+    match open_book(rt, store, Purpose::Ask, new, new_text, MOST_RECORDS, watch) {
+        Ok(book) => {
+            close_book(book)?;
+            told_as_new(rt.alloc())
+        }
+        Err(fault) => Err(fault),
+    }
+}
+
+fn told_as_new(alloc: Global) -> Result<Weighed, Fault> {
+    let mut text = Vec::new(alloc);
+    match text.extend_from_slice(b"the store has this office file\n") {
+        Ok(()) => Ok(Weighed { text, adopts: true }),
+        Err(_) => Err(Fault::Memory),
+    }
+}
+
+// Weighs a new office file over a store, and puts it in the old one's place where it adopts the records.
+fn adopt_in<W: Watch>(
+    rt: &HostRuntime,
+    mut book: FileBook,
+    new: &Office,
+    new_text: &[u8],
+    words: &[Respelling<'_>],
+    dry: bool,
+    watch: &mut W,
+) -> Result<Weighed, Fault>
+    requires { IsOfficeOf new_text.now new.now }
+{
+    match weigh(rt.alloc(), &mut book, new, words) {
+        Ok(weighed) if weighed.adopts && !dry => {
+            take_place(rt.alloc(), book, new, new_text, words, watch)?;
+            Ok(weighed)
+        }
+        weighed => {
+            close_book(book)?;
+            Ok(weighed?)
+        }
+    }
+}
+
+// Puts a new office file in the place of a store's own, and closes the store.
+fn take_place<W: Watch>(
+    alloc: Global,
+    book: FileBook,
+    new: &Office,
+    new_text: &[u8],
+    words: &[Respelling<'_>],
+    watch: &mut W,
+) -> Result<(), Fault>
+    requires text { IsOfficeOf new_text.now new.now }
+    requires open_yet { book.shut ≡ false }
+    requires adopted { HasCleanDisk (file_state book.shelf.conn) → MayTake words.now (record { old = book.office; new = new.now }) (held_of (file_state book.shelf.conn) (file_state book.shelf.base.value)).records }
+{
+    match adopt_book(alloc, book, new, new_text, words, watch) {
+        Ok(shelf) => close_store(shelf.close()),
+        Err((fault, connection)) => {
+            let _ = close_store(connection);
+            Err(Fault::Store(fault))
+        }
+    }
+}
+
+/// Gives the store of a book another office file, which adopts its records. Not one of them changes, and neither does an
+/// energy, a cost or a balance.
+pub fn adopt_book<S: Alter, W: Watch>(
+    alloc: Global,
+    book: Book<SqlShelf<S>>,
+    new: &Office,
+    new_text: &[u8],
+    words: &[Respelling<'_>],
+    watch: &mut W,
+) -> Result<SqlShelf<S>, (OpenFault, Connection<S>)>
+    requires text { IsOfficeOf new_text.now new.now }
+    requires open_yet { book.shut ≡ false }
+    requires adopted { HasCleanDisk (state S.Store book.shelf.conn) → MayTake words.now (record { old = book.office; new = new.now }) (⟦<SqlShelf<S> as Shelf>⟧.state book.shelf).content.records }
+    ensures content { IfOk result (λ s. HasCleanDisk (state S.Store s.conn) → (⟦<SqlShelf<S> as Shelf>⟧.state s).content ≡ (⟦<SqlShelf<S> as Shelf>⟧.state book.shelf).content) }
+    ensures kept { IfOk result (λ s. HasCleanDisk (state S.Store s.conn) → IsKept (office_of new.now) (⟦<SqlShelf<S> as Shelf>⟧.state s).content) }
+    ensures kept_text { IfOk result (λ s. HasCleanDisk (state S.Store s.conn) → KeepsText (KeepsOffice new_text.now) (state S.Store s.conn).now.trees) }
+    ensures figures { IfOk result (λ s. HasCleanDisk (state S.Store s.conn) → HaveSameFigures (office_of book.office) (office_of new.now) (⟦<SqlShelf<S> as Shelf>⟧.state s).content.records) }
+    ensures refused { IfErr result (λ e. HasCleanDisk (state S.Store e.1) → KeepsCommit (state S.Store book.shelf.conn) (state S.Store e.1)) }
+{
+    let _ = new;
+    let _ = words;
+    book.into_shelf().adopt(alloc, new_text, watch)
+}
+
+/// Which changes a new office file has, told, and whether it adopts the records of a book.
+///
+/// It asks each register of each meter for its readings once. What it leaves of the store is as before.
+pub fn weigh<S: Shelf>(
+    alloc: Global,
+    book: &mut Book<S>,
+    new: &Office,
+    words: &[Respelling<'_>],
+) -> Result<Weighed, BookFault>
+    ensures adopts { S.clean book.new.shelf → IfOk result (λ weighed. IsTrue weighed.adopts → MayTake words.now (record { old = book.old.office; new = new.now }) (S.state book.old.shelf).content.records) }
+    ensures question { IsQuestion S.Shelf result book.old book.new }
+{
+    book.still_open()?;
+    let last = last_reading(alloc, book)?;
+    match weigh_files(alloc, book.office(), new, words, &last) {
+        Ok(weighed) => Ok(weighed),
+        Err(_) => Err(BookFault::Memory),
+    }
+}
+
+// The same of two offices, and of when the latest reading was taken.
+fn weigh_files(
+    alloc: Global,
+    old: &Office,
+    new: &Office,
+    words: &[Respelling<'_>],
+    last: &Option<Instant>,
+) -> io::Result<Weighed>
+    ensures { IfOk result (λ weighed. IsTrue weighed.adopts → Adopts words.now last.now (record { old = old.now; new = new.now })) }
+{
+    let changes = changes_between(alloc, old, new)?;
+    let mut text = Vec::new(alloc);
+    put_changes(&mut text, words, last, old, new, changes.as_slice())?;
+    let all_met = put_all_unmet(&mut text, words, old, new, changes.as_slice())?;
+    let adopts = all_met && adopts(words, *last, old, new, changes.as_slice());
+    Ok(Weighed { text, adopts })
+}
+
+// A line for each change, and one where there is none.
+fn put_changes(
+    text: &mut Vec<u8>,
+    words: &[Respelling<'_>],
+    last: &Option<Instant>,
+    old: &Office,
+    new: &Office,
+    changes: &[Change],
+) -> io::Result<()>
+    requires { AreChanges (record { old = old.now; new = new.now }) changes.now }
+{
+    if changes.is_empty() {
+        text.write_all(b"nothing is changed that a rule reads\n")?;
+    }
+    for change in changes {
+        let may_be = may_be_adopted(words, *last, old, new, *change);
+        put_change(text, old, new, last, *change, may_be)?;
+    }
+    Ok(())
+}
+
+// A line for each word that no change meets; whether there are none of these.
+fn put_all_unmet(
+    text: &mut Vec<u8>,
+    words: &[Respelling<'_>],
+    old: &Office,
+    new: &Office,
+    changes: &[Change],
+) -> io::Result<bool> {
+    let mut all_met = true;
+    for word in words {
+        if !is_met(old, new, word, changes) {
+            put_unmet(text, word)?;
+            all_met = false;
+        }
+    }
+    Ok(all_met)
+}
+
+fn is_met(old: &Office, new: &Office, word: &Respelling<'_>, changes: &[Change]) -> bool {
+    let mut found = false;
+    for change in changes {
+        if is_so_named(old, new, *change, word) {
+            found = true;
+        }
+    }
+    found
+}
+
+fn put_unmet(text: &mut Vec<u8>, word: &Respelling<'_>) -> io::Result<()> {
+    text.write_all(b"no line is spelt so: --rename ")?;
+    text.write_all(word.old)?;
+    text.write_all(b" ")?;
+    text.write_all(word.new)?;
+    text.write_all(b"\n")
+}
