@@ -148,8 +148,11 @@ class Tab:
         self.press(found)
 
     def press(self, found):
-        """Clicks into the middle of the element that an expression finds."""
-        place = self.middle(found)
+        """Clicks into the middle of the element that an expression finds, once it stands still: what comes may move it."""
+        place, before = self.middle(found), None
+        while place != before:
+            time.sleep(0.03)
+            place, before = self.middle(found), place
         for kind in ("mousePressed", "mouseReleased"):
             self.call("Input.dispatchMouseEvent", type=kind, button="left", clickCount=1, **place)
 
