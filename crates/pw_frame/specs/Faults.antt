@@ -1,6 +1,7 @@
 -- The numbers and names under which faults are reported, and what is told behind them: the place, and of a check
 -- that differs the stated and the computed one.
-use Rattle.std.specs.Prelude.{ℕ, List, ◌++◌, codes, decimal}
+use Rattle.std.specs.Prelude.{ℕ, List, [], ◌++◌, Option, Some, None, codes, decimal}
+use Rattle.pw_line.specs.Refused.{refused_line}
 use Rattle.pw_frame.specs.declared.frame.FrameFault.{FrameFault}
 use Rattle.pw_frame.specs.declared.frame.FrameFault.TheVariants.{Header, NoEnd, Crc, Trailer, BlockCheck, HighBit}
 use Rattle.pw_frame.specs.Hexadecimal.{two_digits, four_digits}
@@ -26,3 +27,13 @@ frame_fault_details (Crc at stated computed) = place_text at ++ checks_text (fou
 frame_fault_details (Trailer at) = place_text at
 frame_fault_details (BlockCheck at stated computed) = place_text at ++ checks_text (two_digits stated) (two_digits computed)
 frame_fault_details (HighBit at) = place_text at
+
+-- what stands behind the part's number: of a frame that isn't there its place, and its checks
+abbrev pub missing_details : Option FrameFault → List ℕ
+missing_details None = []
+missing_details (Some fault) = codes " " ++ frame_fault_details fault
+
+-- the line that tells why a part of a body is refused: `refused`, the number, the name, `part` with its number, and for 10
+-- to 15 what is told of the frame; single spaces stand between
+abbrev pub part_line : ℕ → List ℕ → ℕ → Option FrameFault → List ℕ
+part_line number name part missing = refused_line number name ++ (codes " part " ++ (decimal part ++ missing_details missing))

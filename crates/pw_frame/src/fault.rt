@@ -1,12 +1,12 @@
 //! How faults are reported.
 
-ghost use Rattle.std.specs.Prelude.{◌≡◌, ◌≤◌, ◌++◌};
+ghost use Rattle.std.specs.Prelude.{◌≡◌, ◌<◌, ◌≤◌, ◌++◌, length};
 ghost use Rattle.arrayvec.specs.ArrayString.{array_string_len};
-ghost use Rattle.pw_frame.specs.Faults.{checks_text, frame_fault_details, frame_fault_told, place_text};
+ghost use Rattle.pw_frame.specs.Faults.{checks_text, frame_fault_details, frame_fault_told, part_line, place_text};
 
 use crate::frame::FrameFault;
 use crate::hexadecimal::{four_digits, two_digits};
-use pw_line::{Line, push_number};
+use pw_line::{Line, ROOM, push_number, refused};
 use std::fmt;
 
 impl FrameFault {
@@ -85,6 +85,23 @@ fn place_and_checks(at: usize, stated: &Line, computed: &Line) -> Line
     line.push_str(stated.as_str());
     line.push_str(" computed ");
     line.push_str(computed.as_str());
+    line
+}
+
+/// The fault line of a part of a body, without its end: `refused`, the number, the name, and `part` with its number; where
+/// no frame stands there, then what is told of it.
+pub fn part_refused(number: u8, name: &str, part: u64, missing: Option<FrameFault>) -> Line
+    requires { length name.now ≤ 32 }
+    ensures text { result.bytes ≡ part_line number name.now part missing }
+    ensures fits { array_string_len result < ROOM }
+{
+    let mut line = refused(number, name);
+    line.push_str(" part ");
+    push_number(&mut line, part);
+    if let Some(fault) = missing {
+        line.push_str(" ");
+        line.push_str(fault.details().as_str());
+    }
     line
 }
 

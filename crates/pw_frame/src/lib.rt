@@ -17,6 +17,7 @@ mod whole;
 mod words;
 
 pub use crc::{crc_update, crc16};
+pub use fault::part_refused;
 pub use frame::{Frame, FrameFault, Kind};
 pub use frames::{Frames, LONGEST_BODY};
 pub use parity::block_check;

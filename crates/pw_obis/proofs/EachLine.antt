@@ -1,11 +1,11 @@
 -- A block's lines, one after the other.
-use Rattle.std.proofs.Common.{zero, suc, ◌≡◌, ℕ, ◌+◌, ◌<◌, ◌≤◌, Option, Some, None, List, [], ◌∷◌, ◌++◌, length, refl, sym, ap, ◌∙◌, subst, arith, get_or}
+use Rattle.std.proofs.Common.{zero, suc, ◌≡◌, ℕ, ◌+◌, Option, Some, None, List, [], ◌∷◌, ◌++◌, length, refl, sym, ap, ◌∙◌, subst, arith, get_or}
 use Rattle.std.specs.Prelude.{slice_index, slice_range}
 use Rattle.std.proofs.lemmas.List.{get_or_past}
 use Rattle.pw_obis.specs.Line.{SetText, SetsAt}
 use Rattle.pw_obis.specs.Block.{StopsAt, LinesAt, HasSets}
 use Rattle.pw_obis.specs.Laws.{ExactlyOne, IsOutcome}
-use Rattle.pw_obis.specs.lemmas.Places.{no_set, one_set, one_mid, sets_rise, values_rise}
+use Rattle.pw_obis.specs.lemmas.Places.{no_set, one_set, one_mid}
 
 -- a line has one end and one list of sets
 pub one_line : (b : List ℕ) (p e f : ℕ) (ss ts : List SetText) → SetsAt b p e ss → SetsAt b p f ts → (e ≡ f) × (ss ≡ ts)
@@ -29,12 +29,6 @@ no_line_at_end b p e (s ∷ ss) h x =
     let z : get_or b x.0 0 ≡ 0 = get_or_past b x.0 0 (omega (arith, h, x.2.address.rises)) in
     omega (arith, z, x.2.values.1.left)
 
-pub no_sets : (b : List ℕ) (p e : ℕ) (ss : List SetText) → e ≤ p → SetsAt b p e ss → ss ≡ []
-no_sets b p e [] l x = refl
-no_sets b p e (s ∷ ss) l x =
-    let v : x.0 < x.1 = omega (arith, x.2.values.1.text.rises, x.2.values.1.next, values_rise b x.2.others x.2.values.0 x.1 x.2.values.2) in
-    absurd (omega (arith, l, v, x.2.address.rises, sets_rise b x.1 e ss x.4))
-
 -- ---- a block is read in one way
 
 one_stop : (b : List ℕ) (p : ℕ) (r q : Option ℕ) → StopsAt b p r → StopsAt b p q → r ≡ q
@@ -43,7 +37,7 @@ one_stop b p None (Some at) x y = absurd (omega (arith, x, y.1))
 one_stop b p (Some at) None x y = absurd (omega (arith, y, x.1))
 one_stop b p (Some at) (Some other) x y = ap Some (x.0 ∙ sym y.0)
 
-no_stop : (b : List ℕ) (p e : ℕ) (r : Option ℕ) (ss : List SetText) → StopsAt b p r → SetsAt b p e ss → ⊥
+pub no_stop : (b : List ℕ) (p e : ℕ) (r : Option ℕ) (ss : List SetText) → StopsAt b p r → SetsAt b p e ss → ⊥
 no_stop b p e None ss x y = no_line_at_end b p e ss x y
 no_stop b p e (Some at) ss x y = x.2 e ss y
 

@@ -3,6 +3,7 @@ pub mod EachLine
 pub mod FirstDigits
 pub mod FirstMark
 pub mod FirstOfSet
+pub mod Given
 pub mod OneCode
 pub mod OnePart
 pub mod OneRegister

@@ -4,6 +4,8 @@
 -- DSMR P1 Companion Standard 5.0.2: `0-0:96.1.1` and the stamp `0-0:1.0.0`.
 -- In all of them F is absent or 255: other values of F are historical.
 use Rattle.std.specs.Prelude.{◌≡◌, ℕ, ◌≤◌, Option, Some, None}
+use Rattle.pw_obis.specs.declared.meaning.Meaning.{Meaning}
+use Rattle.pw_obis.specs.declared.meaning.Meaning.TheVariants.{Identifier, Stamp, Time, Date}
 use Rattle.pw_obis.specs.declared.reference.Code.{Code}
 use Rattle.pw_obis.specs.declared.reference.Register.{Register}
 use Rattle.pw_obis.specs.declared.reference.Register.TheVariants.{I0, I1, I2, E0, E1, E2}
@@ -70,3 +72,10 @@ IsTime code = OfReadout code 0 9 1
 
 abbrev pub IsDate : Code → Type 0
 IsDate code = OfReadout code 0 9 2
+
+-- what a code stands for, of these
+abbrev pub IsCodeOfMeaning : Meaning → Code → Type 0
+IsCodeOfMeaning Identifier code = IsIdentifier code
+IsCodeOfMeaning Stamp code = IsStamp code
+IsCodeOfMeaning Time code = IsTime code
+IsCodeOfMeaning Date code = IsDate code

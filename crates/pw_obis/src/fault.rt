@@ -3,8 +3,13 @@
 ghost use Rattle.std.specs.Prelude.{◌≡◌};
 ghost use Rattle.pw_obis.specs.Faults.{line_fault_told, value_fault_told};
 
-use crate::reader::LineFault;
 use crate::value::ValueFault;
+
+/// 20: a line isn't in the grammar. Its first byte stands at the place `at` of the block.
+#[derive(Clone, Copy, Debug, PartialEq, Eq)]
+pub struct LineFault {
+    pub at: usize,
+}
 
 impl LineFault {
     /// The number under which the fault is reported: 20.

@@ -6,22 +6,24 @@
 #![tactic(auto)]
 
 mod address;
+mod block;
 mod data_set;
 mod energy;
 mod fault;
 pub mod laws;
 mod line;
 mod meaning;
-mod next;
 mod reader;
 mod reference;
 mod texts;
 mod value;
 
 pub use address::code;
+pub use block::{Block, BlockSets};
 pub use data_set::{Set, first_value};
 pub use energy::{LARGEST_WATT_HOURS, WattHours};
-pub use meaning::{is_date, is_identifier, is_stamp, is_time, register};
-pub use reader::{LineFault, Sets};
+pub use fault::LineFault;
+pub use meaning::{Meaning, is_date, is_identifier, is_stamp, is_time, register};
+pub use reader::Sets;
 pub use reference::{Code, Register};
 pub use value::{ValueFault, watt_hours};

@@ -1,9 +1,33 @@
 //! What a code stands for.
 
 ghost use Rattle.std.specs.Prelude.{◌≡◌, ℕ, ◌≤◌, ◌↔◌, Option, Some, None, IfSome, IfNone, IsTrue};
-ghost use Rattle.pw_obis.specs.References.{AbsentOr, AbsentOrUpTo, Refers, Energy, IsRegisterOf, OfTelegram, OfReadout, IsIdentifier, IsStamp, IsTime, IsDate};
+ghost use Rattle.pw_obis.specs.References.{AbsentOr, AbsentOrUpTo, Refers, Energy, IsRegisterOf, OfTelegram, OfReadout, IsIdentifier, IsStamp, IsTime, IsDate, IsCodeOfMeaning};
 
 use crate::reference::{Code, Register};
+
+/// What a set can tell of whose a frame is and when it was taken: the identifier and the stamp of a telegram, the time and
+/// the date of a readout.
+#[derive(Clone, Copy, Debug, PartialEq, Eq)]
+pub enum Meaning {
+    Identifier,
+    Stamp,
+    Time,
+    Date,
+}
+
+impl Meaning {
+    /// Whether a code stands for it.
+    pub fn is_meant_by(self, code: &Code) -> bool
+        ensures { IsTrue result ↔ IsCodeOfMeaning self code.now }
+    {
+        match self {
+            Meaning::Identifier => is_identifier(code),
+            Meaning::Stamp => is_stamp(code),
+            Meaning::Time => is_time(code),
+            Meaning::Date => is_date(code),
+        }
+    }
+}
 
 /// Whether a group is absent or the wanted one.
 fn is_absent_or(wanted: u8, group: Option<u8>) -> bool

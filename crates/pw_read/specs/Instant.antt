@@ -6,39 +6,33 @@ use Rattle.pw_obis.specs.declared.reference.Code.{Code}
 use Rattle.pw_obis.specs.Address.{IsCodeOf}
 use Rattle.pw_obis.specs.FirstValue.{IsFirstValue}
 use Rattle.pw_obis.specs.Line.{SetText}
-use Rattle.pw_obis.specs.References.{IsStamp, IsTime, IsDate}
+use Rattle.pw_obis.specs.References.{IsCodeOfMeaning}
 use Rattle.pw_time.specs.declared.fault.StampFault.{StampFault}
 use Rattle.pw_time.specs.declared.zone.Clock.{Clock}
 use Rattle.pw_time.specs.Outcomes.{IsStampOutcome, IsReadoutOutcome}
-use Rattle.pw_read.specs.declared.moment.Moment.{Moment}
-use Rattle.pw_read.specs.declared.moment.Moment.TheVariants.{Stamp, Time, Date}
-
--- what a code stands for, of those that tell an instant
-abbrev pub IsCodeOfMoment : Moment → Code → Type 0
-IsCodeOfMoment Stamp code = IsStamp code
-IsCodeOfMoment Time code = IsTime code
-IsCodeOfMoment Date code = IsDate code
+use Rattle.pw_obis.specs.declared.meaning.Meaning.{Meaning}
+use Rattle.pw_obis.specs.declared.meaning.Meaning.TheVariants.{Stamp, Time, Date}
 
 -- the set tells no such thing
-abbrev pub TellsNo : Moment → SetText → Type 0
-TellsNo moment set = (code : Code) → IsCodeOf set.address (Some code) → IsCodeOfMoment moment code → ⊥
+abbrev pub TellsNo : Meaning → SetText → Type 0
+TellsNo meaning set = (code : Code) → IsCodeOf set.address (Some code) → IsCodeOfMeaning meaning code → ⊥
 
 -- the first set that tells it has this first value
-pub record FirstTold (moment : Moment) (sets : List SetText) (value : List ℕ) : Type 0 where
+pub record FirstTold (meaning : Meaning) (sets : List SetText) (value : List ℕ) : Type 0 where
   pub before : List SetText
   pub set : SetText
   pub behind : List SetText
   pub code : Code
   pub sets_are : sets ≡ before ++ set ∷ behind
-  pub none : All (TellsNo moment) before
+  pub none : All (TellsNo meaning) before
   pub code_is : IsCodeOf set.address (Some code)
-  pub means : IsCodeOfMoment moment code
+  pub means : IsCodeOfMeaning meaning code
   pub value_is : IsFirstValue set.values value
 
 -- the first value that tells it, or nothing where no set does
-abbrev pub IsTold : Moment → List SetText → Option (List ℕ) → Type 0
-IsTold moment sets (Some value) = FirstTold moment sets value
-IsTold moment sets None = All (TellsNo moment) sets
+abbrev pub IsTold : Meaning → List SetText → Option (List ℕ) → Type 0
+IsTold meaning sets (Some value) = FirstTold meaning sets value
+IsTold meaning sets None = All (TellsNo meaning) sets
 
 -- the instant of a frame's sets, nothing where they don't tell one, or why what they tell is none
 abbrev pub IsFrameInstant : Kind → Clock → List SetText → Result (Option ℕ) StampFault → Type 0

@@ -1,7 +1,7 @@
-ghost use Rattle.std.specs.Prelude.{◌≡◌, ℕ, ◌++◌, List, Some, None, IfOk, OnOk, IfErr};
+//! What is printed of a body: frame by frame, a line for each set that is read.
+
+ghost use Rattle.std.specs.Prelude.{◌≡◌, ℕ, ◌++◌, List, IfOk, OnOk, IfErr};
 ghost use Rattle.pw_frame.specs.Frame.{frame_text};
-ghost use Rattle.pw_obis.specs.Line.{SetText};
-ghost use Rattle.pw_obis.specs.Block.{HasSets};
 ghost use Rattle.pw_read.specs.Lines.{SetsShow};
 ghost use Rattle.pw_read.specs.Text.{kind_name as name_of, heading, InstantShows, FrameShows, BodyShows, BodyFails};
 ghost use Rattle.pw_read.specs.inner.Sets.{FrameHalts, SetsHalt};
@@ -10,7 +10,7 @@ use crate::fault::{Cause, Halt, ReadFault, Refusal};
 use crate::moment::frame_instant;
 use crate::set_line::{put_line, put_set};
 use pw_frame::{Frame, Frames, Kind};
-use pw_obis::{LineFault, Sets};
+use pw_obis::Block;
 use pw_time::{Clock, Instant, Zone, write_utc};
 use std::alloc::{AllocError, Global};
 
@@ -59,12 +59,12 @@ fn put_frame(
     ensures ok { OnOk result ((shown : List ℕ) × FrameShows clock (frame_text frame.now) shown × (text.new.items ≡ text.old.items ++ shown)) }
     ensures err { IfErr result (FrameHalts clock (frame_text frame.now)) }
 {
-    let Ok(()) = check_lines(frame.block) else {
+    let Ok(block) = Block::checked(frame.block) else {
         return Err(Halt::Refused(Cause::Line));
     };
     put_heading(text, frame)?;
-    put_sets(text, alloc, frame)?;
-    match frame_instant(frame, clock, zone) {
+    put_sets(text, alloc, frame.kind, &block)?;
+    match frame_instant(frame.kind, &block, clock, zone) {
         Ok(instant) => Ok(put_instant(text, instant)?),
         Err(fault) => Err(Halt::Refused(Cause::Instant(fault))),
     }
@@ -78,20 +78,6 @@ fn put_instant(text: &mut Vec<u8>, instant: Option<Instant>) -> Result<(), Alloc
         None => Ok(()),
         Some(instant) => put_line(text, b"instant", &write_utc(instant)),
     }
-}
-
-/// Whether all lines of a block are in the grammar, or the first that isn't.
-fn check_lines(block: &[u8]) -> Result<(), LineFault>
-    ensures ok { OnOk result ((sets : List SetText) × HasSets block.now sets None) }
-    ensures err { IfErr result (λ fault. (sets : List SetText) × HasSets block.now sets (Some fault.at)) }
-{
-    let mut sets = Sets::new(block);
-    'sets: while let Some(next) = sets.next_set() {
-        if let Err(fault) = next {
-            return Err(fault);
-        }
-    }
-    Ok(())
 }
 
 fn kind_name(kind: Kind) -> &'static [u8]
@@ -111,18 +97,13 @@ fn put_heading(text: &mut Vec<u8>, frame: &Frame) -> Result<(), AllocError>
     text.extend_from_slice(b"\n")
 }
 
-/// Writes the lines of a frame's sets behind the text.
-fn put_sets(text: &mut Vec<u8>, alloc: Global, frame: &Frame) -> Result<(), Halt>
-    requires { (sets : List SetText) × HasSets frame.now.block.now sets None }
-    ensures ok { OnOk result ((sets : List SetText) × (lines : List ℕ) × HasSets frame.now.block.now sets None × SetsShow frame.now.kind sets lines × (text.new.items ≡ text.old.items ++ lines)) }
-    ensures err { IfErr result (SetsHalt (frame_text frame.now)) }
+/// Writes the lines of a block's sets behind the text.
+fn put_sets(text: &mut Vec<u8>, alloc: Global, kind: Kind, block: &Block) -> Result<(), Halt>
+    ensures ok { OnOk result ((lines : List ℕ) × SetsShow kind block.now lines × (text.new.items ≡ text.old.items ++ lines)) }
+    ensures err { IfErr result (SetsHalt kind block.now) }
 {
-    let mut sets = Sets::new(frame.block);
-    'sets: while let Some(next) = sets.next_set() {
-        let Ok(set) = next else {
-            return Ok(());
-        };
-        put_set(text, alloc, frame.kind, &set)?;
+    'sets: for set in block.sets() {
+        put_set(text, alloc, kind, &set)?;
     }
     Ok(())
 }

@@ -1,49 +1,25 @@
-ghost use Rattle.std.specs.Prelude.{◌≡◌, ◌↔◌, List, Option, Some, None, IsTrue, MatchOption};
-ghost use Rattle.pw_obis.specs.Line.{SetText};
-ghost use Rattle.pw_obis.specs.Block.{HasSets};
-ghost use Rattle.pw_read.specs.Instant.{IsCodeOfMoment, IsTold, IsFrameInstant};
+//! The instant of a frame, by what its sets tell.
+
+ghost use Rattle.std.specs.Prelude.{Some, None, MatchOption};
+ghost use Rattle.pw_read.specs.Instant.{IsTold, IsFrameInstant};
 ghost use Rattle.pw_frame.specs.declared.frame.Kind.TheVariants.{Telegram, Readout};
 ghost use Rattle.pw_time.specs.declared.zone.Clock.{Clock};
 
-use pw_frame::{Frame, Kind};
-use pw_obis::{Code, Sets, first_value, is_date, is_stamp, is_time};
+use pw_frame::Kind;
+use pw_obis::{Block, Meaning, first_value};
 use pw_time::{Clock, Instant, StampFault, Zone, readout_instant, stamp};
 
-/// What tells the instant of a frame: the stamp of a telegram, time and date of a readout.
-#[derive(Clone, Copy, Debug, PartialEq, Eq)]
-pub enum Moment {
-    Stamp,
-    Time,
-    Date,
-}
-
-impl Moment {
-    fn is_meant_by(self, code: &Code) -> bool
-        ensures { IsTrue result ↔ IsCodeOfMoment self code.now }
-    {
-        match self {
-            Moment::Stamp => is_stamp(code),
-            Moment::Time => is_time(code),
-            Moment::Date => is_date(code),
-        }
-    }
-}
-
-/// The first value of the first set of a block that tells a moment.
-fn first_told<'a>(block: &'a [u8], moment: Moment) -> Option<&'a [u8]>
-    ensures { (sets : List SetText) → HasSets block.now sets None → MatchOption result
-        (IsTold moment sets None)
-        (λ value. IsTold moment sets (Some value.now)) }
+/// The first value of the first set of a block with a meaning.
+fn first_told<'a>(block: &Block<'a>, meaning: Meaning) -> Option<&'a [u8]>
+    ensures { MatchOption result
+        (IsTold meaning block.now None)
+        (λ value. IsTold meaning block.now (Some value.now)) }
 {
-    let mut sets = Sets::new(block);
-    'sets: while let Some(next) = sets.next_set() {
-        let Ok(set) = next else {
-            return None;
-        };
+    'sets: for set in block.sets() {
         let Some(code) = set.code else {
             continue;
         };
-        if moment.is_meant_by(&code) {
+        if meaning.is_meant_by(&code) {
             return Some(first_value(&set));
         }
     }
@@ -53,22 +29,23 @@ fn first_told<'a>(block: &'a [u8], moment: Moment) -> Option<&'a [u8]>
 /// The instant of a telegram by its first stamp, or of a readout by its first date and its first time; none where they
 /// aren't there.
 pub fn frame_instant(
-    frame: &Frame,
+    kind: Kind,
+    block: &Block,
     clock: Clock,
     zone: &Zone,
 ) -> Result<Option<Instant>, StampFault>
-    ensures { (sets : List SetText) → HasSets frame.now.block.now sets None → IsFrameInstant frame.now.kind clock sets result }
+    ensures { IsFrameInstant kind clock block.now result }
 {
-    match frame.kind {
-        Kind::Telegram => telegram_instant(frame.block),
-        Kind::Readout => instant_of_readout(frame.block, clock, zone),
+    match kind {
+        Kind::Telegram => telegram_instant(block),
+        Kind::Readout => instant_of_readout(block, clock, zone),
     }
 }
 
-fn telegram_instant(block: &[u8]) -> Result<Option<Instant>, StampFault>
-    ensures { (clock : Clock) (sets : List SetText) → HasSets block.now sets None → IsFrameInstant Telegram clock sets result }
+fn telegram_instant(block: &Block) -> Result<Option<Instant>, StampFault>
+    ensures { (clock : Clock) → IsFrameInstant Telegram clock block.now result }
 {
-    let Some(text) = first_told(block, Moment::Stamp) else {
+    let Some(text) = first_told(block, Meaning::Stamp) else {
         return Ok(None);
     };
     match stamp(text) {
@@ -78,16 +55,16 @@ fn telegram_instant(block: &[u8]) -> Result<Option<Instant>, StampFault>
 }
 
 fn instant_of_readout(
-    block: &[u8],
+    block: &Block,
     clock: Clock,
     zone: &Zone,
 ) -> Result<Option<Instant>, StampFault>
-    ensures { (sets : List SetText) → HasSets block.now sets None → IsFrameInstant Readout clock sets result }
+    ensures { IsFrameInstant Readout clock block.now result }
 {
-    let Some(date) = first_told(block, Moment::Date) else {
+    let Some(date) = first_told(block, Meaning::Date) else {
         return Ok(None);
     };
-    let Some(time) = first_told(block, Moment::Time) else {
+    let Some(time) = first_told(block, Meaning::Time) else {
         return Ok(None);
     };
     match readout_instant(date, time, clock, zone) {

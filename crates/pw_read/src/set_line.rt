@@ -1,7 +1,10 @@
+//! The line that is printed of a set.
+
 ghost use Rattle.std.specs.Prelude.{◌≡◌, ℕ, ◌++◌, List, IfSome, IfNone, IfErr, OnOk, Ok};
 ghost use Rattle.pw_obis.specs.Address.{IsCodeOf};
 ghost use Rattle.pw_read.specs.Lines.{IsTextName, line_of, SetShows};
-ghost use Rattle.pw_read.specs.inner.Sets.{SetHalts, set_text};
+ghost use Rattle.pw_obis.specs.Answers.{set_text};
+ghost use Rattle.pw_read.specs.inner.Sets.{SetHalts};
 
 use crate::fault::{Cause, Halt};
 use pw_frame::Kind;

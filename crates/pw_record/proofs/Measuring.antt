@@ -19,7 +19,7 @@ use Rattle.pw_obis.proofs.OneUnit.{one_answer}
 use Rattle.pw_tariff.specs.Office.{OfficeFile, counts_at, register_place}
 use Rattle.pw_model.specs.Counting.{Member}
 use Rattle.pw_model.proofs.Same.{register-one}
-use Rattle.pw_record.specs.inner.Told.{told_text}
+use Rattle.pw_obis.specs.Answers.{set_text}
 use Rattle.pw_record.specs.Shown.{Measures, ShowOne, IsShown, AreShown}
 use Rattle.pw_record.specs.inner.Shown.{IsNoted}
 use Rattle.pw_record.specs.inner.Shown.{shown_in}
@@ -44,20 +44,20 @@ same-or-not a b = ⊎_elim
     (cases_lt a b)
 
 -- ---- what a set measures
-pub no-code : (file : OfficeFile) (m : ℕ) (set : Set) → IsCodeOf set.address.now set.code → set.code ≡ None → MeasuresNothing file m (told_text set)
+pub no-code : (file : OfficeFile) (m : ℕ) (set : Set) → IsCodeOf set.address.now set.code → set.code ≡ None → MeasuresNothing file m (set_text set)
 no-code file m set h e r energy x = let none : IsCodeOf set.address.now None = subst (IsCodeOf set.address.now) e h in none x.code x.code_is
 
 code-is : (file : OfficeFile) (m : ℕ) (set : Set) (code : Code) (r : Register) (energy : Result ℕ ValueFault) → IsCodeOf set.address.now set.code → set.code ≡ Some code
-    → Measures file m (told_text set) r energy → IsCodeOfRegister r code
+    → Measures file m (set_text set) r energy → IsCodeOfRegister r code
 code-is file m set code r energy h e x =
     let some : IsCodeOf set.address.now (Some code) = subst (IsCodeOf set.address.now) e h in
     subst (IsCodeOfRegister r) (one_code set.address.now x.code code x.code_is some) x.register_is
 
-pub no-register : (file : OfficeFile) (m : ℕ) (set : Set) (code : Code) → IsCodeOf set.address.now set.code → set.code ≡ Some code → IsRegisterOf code None → MeasuresNothing file m (told_text set)
+pub no-register : (file : OfficeFile) (m : ℕ) (set : Set) (code : Code) → IsCodeOf set.address.now set.code → set.code ≡ Some code → IsRegisterOf code None → MeasuresNothing file m (set_text set)
 no-register file m set code h e n r energy x = n r (code-is file m set code r energy h e x)
 
 pub not-counting : (file : OfficeFile) (m : ℕ) (set : Set) (code : Code) (q : Register) → IsCodeOf set.address.now set.code → set.code ≡ Some code → IsCodeOfRegister q code
-    → counts_at file m q ≡ false → MeasuresNothing file m (told_text set)
+    → counts_at file m q ≡ false → MeasuresNothing file m (set_text set)
 not-counting file m set code q h e i n r energy x =
     let same : r ≡ q = one-register code r q (code-is file m set code r energy h e x) i in
     true≢false (sym x.counts ∙ ap (counts_at file m) same ∙ n)

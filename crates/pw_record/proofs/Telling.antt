@@ -8,12 +8,13 @@ use Rattle.pw_obis.specs.Line.{SetText}
 use Rattle.pw_obis.proofs.OneCode.{one_code}
 use Rattle.pw_obis.proofs.FirstMark.{one_first_or_none}
 use Rattle.pw_model.specs.Counting.{Member}
-use Rattle.pw_record.specs.declared.told.Meaning.{Meaning}
+use Rattle.pw_obis.specs.declared.meaning.Meaning.{Meaning}
 use Rattle.pw_record.specs.declared.told.Told.{Told}
 use Rattle.pw_record.specs.declared.told.Told.TheVariants.{Nothing, One, Unlike}
-use Rattle.pw_record.specs.Told.{IsCodeOfMeaning, read_as, Tells, IsTold, TellNothing, TellOne, TellUnlike}
+use Rattle.pw_obis.specs.References.{IsCodeOfMeaning}
+use Rattle.pw_record.specs.Told.{read_as, Tells, IsTold, TellNothing, TellOne, TellUnlike}
 use Rattle.pw_record.specs.inner.Told.{AreTelling}
-use Rattle.pw_record.specs.inner.Told.{told_text}
+use Rattle.pw_obis.specs.Answers.{set_text}
 use Rattle.pw_record.proofs.Members.{member-left, member-last, member-split}
 
 tells-one : (meaning : Meaning) (set : SetText) (a b : List ℕ) → Tells meaning set a → Tells meaning set b → a ≡ b
@@ -23,10 +24,10 @@ tells-one meaning set a b x y = x.value_is ∙ ap (read_as meaning) (one_first_o
 abbrev pub Silent : Meaning → SetText → Type 0
 Silent meaning set = (value : List ℕ) → Tells meaning set value → ⊥
 
-pub no-code : (meaning : Meaning) (set : Set) → IsCodeOf set.address.now set.code → set.code ≡ None → Silent meaning (told_text set)
+pub no-code : (meaning : Meaning) (set : Set) → IsCodeOf set.address.now set.code → set.code ≡ None → Silent meaning (set_text set)
 no-code meaning set h e value t = let none : IsCodeOf set.address.now None = subst (IsCodeOf set.address.now) e h in none t.code t.code_is
 
-pub other-code : (meaning : Meaning) (set : Set) (code : Code) → IsCodeOf set.address.now set.code → set.code ≡ Some code → (IsCodeOfMeaning meaning code → ⊥) → Silent meaning (told_text set)
+pub other-code : (meaning : Meaning) (set : Set) (code : Code) → IsCodeOf set.address.now set.code → set.code ≡ Some code → (IsCodeOfMeaning meaning code → ⊥) → Silent meaning (set_text set)
 other-code meaning set code h e n value t =
     let some : IsCodeOf set.address.now (Some code) = subst (IsCodeOf set.address.now) e h in
     n (subst (IsCodeOfMeaning meaning) (one_code set.address.now t.code code t.code_is some) t.means)
@@ -67,7 +68,7 @@ skip meaning sets set (One text) s x = one-skip meaning sets set (read_as meanin
 skip meaning sets set Unlike s x = unlike-more meaning sets set x
 
 tells-it : (meaning : Meaning) (set : Set) (code : Code) (text : List ℕ) → IsCodeOf set.address.now set.code → set.code ≡ Some code → IsCodeOfMeaning meaning code
-    → IsFirstValue set.values.now text → Tells meaning (told_text set) (read_as meaning text)
+    → IsFirstValue set.values.now text → Tells meaning (set_text set) (read_as meaning text)
 tells-it meaning set code text h e m v = record {
   code = code;
   text = text;
@@ -79,37 +80,37 @@ tells-it meaning set code text h e m v = record {
 
 -- the set tells, where none did
 pub first-told : (meaning : Meaning) (sets : List SetText) (set : Set) (code : Code) (text : List ℕ) → IsCodeOf set.address.now set.code → set.code ≡ Some code → IsCodeOfMeaning meaning code
-    → IsFirstValue set.values.now text → TellNothing meaning sets → TellOne meaning (sets ++ told_text set ∷ []) (read_as meaning text)
+    → IsFirstValue set.values.now text → TellNothing meaning sets → TellOne meaning (sets ++ set_text set ∷ []) (read_as meaning text)
 first-told meaning sets set code text h e m v n =
-    let t : Tells meaning (told_text set) (read_as meaning text) = tells-it meaning set code text h e m v in
+    let t : Tells meaning (set_text set) (read_as meaning text) = tells-it meaning set code text h e m v in
     record {
-      told = told-last meaning sets (told_text set) (read_as meaning text) t;
-      only = λ other x. ⊎_elim (λ y. absurd (n other y)) (λ y. tells-one meaning (told_text set) other (read_as meaning text) y t) (told-split meaning sets (told_text set) other x);
+      told = told-last meaning sets (set_text set) (read_as meaning text) t;
+      only = λ other x. ⊎_elim (λ y. absurd (n other y)) (λ y. tells-one meaning (set_text set) other (read_as meaning text) y t) (told-split meaning sets (set_text set) other x);
     }
 
 -- it tells what the others did
 pub told-again : (meaning : Meaning) (sets : List SetText) (set : Set) (code : Code) (text : List ℕ) (value : List ℕ) → IsCodeOf set.address.now set.code → set.code ≡ Some code → IsCodeOfMeaning meaning code
-    → IsFirstValue set.values.now text → read_as meaning text ≡ value → TellOne meaning sets value → TellOne meaning (sets ++ told_text set ∷ []) value
+    → IsFirstValue set.values.now text → read_as meaning text ≡ value → TellOne meaning sets value → TellOne meaning (sets ++ set_text set ∷ []) value
 told-again meaning sets set code text value h e m v i o =
-    let t : Tells meaning (told_text set) (read_as meaning text) = tells-it meaning set code text h e m v in
+    let t : Tells meaning (set_text set) (read_as meaning text) = tells-it meaning set code text h e m v in
     record {
-      told = told-left meaning sets (told_text set) value o.told;
-      only = λ other x. ⊎_elim (λ y. o.only other y) (λ y. tells-one meaning (told_text set) other (read_as meaning text) y t ∙ i) (told-split meaning sets (told_text set) other x);
+      told = told-left meaning sets (set_text set) value o.told;
+      only = λ other x. ⊎_elim (λ y. o.only other y) (λ y. tells-one meaning (set_text set) other (read_as meaning text) y t ∙ i) (told-split meaning sets (set_text set) other x);
     }
 
 -- it tells another thing
 pub told-unlike : (meaning : Meaning) (sets : List SetText) (set : Set) (code : Code) (text : List ℕ) (value : List ℕ) → IsCodeOf set.address.now set.code → set.code ≡ Some code → IsCodeOfMeaning meaning code
-    → IsFirstValue set.values.now text → (read_as meaning text ≡ value → ⊥) → TellOne meaning sets value → TellUnlike meaning (sets ++ told_text set ∷ [])
+    → IsFirstValue set.values.now text → (read_as meaning text ≡ value → ⊥) → TellOne meaning sets value → TellUnlike meaning (sets ++ set_text set ∷ [])
 told-unlike meaning sets set code text value h e m v n o = record {
   one = read_as meaning text;
   other = value;
-  one_told = told-last meaning sets (told_text set) (read_as meaning text) (tells-it meaning set code text h e m v);
-  other_told = told-left meaning sets (told_text set) value o.told;
+  one_told = told-last meaning sets (set_text set) (read_as meaning text) (tells-it meaning set code text h e m v);
+  other_told = told-left meaning sets (set_text set) value o.told;
   unlike = n;
 }
 
-pub still-unlike : (meaning : Meaning) (sets : List SetText) (set : Set) → TellUnlike meaning sets → TellUnlike meaning (sets ++ told_text set ∷ [])
-still-unlike meaning sets set u = unlike-more meaning sets (told_text set) u
+pub still-unlike : (meaning : Meaning) (sets : List SetText) (set : Set) → TellUnlike meaning sets → TellUnlike meaning (sets ++ set_text set ∷ [])
+still-unlike meaning sets set u = unlike-more meaning sets (set_text set) u
 
 -- what isn't nothing is told
 pub something : (meaning : Meaning) (sets : List SetText) (told : Told) → (told ≡ Nothing → ⊥) → AreTelling meaning sets told → (value : List ℕ) × IsTold meaning sets value

@@ -1,7 +1,8 @@
 -- The line that tells why an upload is refused: `refused`, the number, the name, `part` with its number; for 10 to 15 then
 -- `at` with the place; for 12 and 14 then the stated and the computed check. Single spaces stand between.
-use Rattle.std.specs.Prelude.{ℕ, List, [], ◌++◌, codes, decimal}
-use Rattle.pw_line.specs.Refused.{refused_line}
+use Rattle.std.specs.Prelude.{ℕ, List, Option, Some, None, codes}
+use Rattle.pw_frame.specs.declared.frame.FrameFault.{FrameFault}
+use Rattle.pw_frame.specs.Faults.{part_line}
 use Rattle.pw_frame.specs.Faults as frame_fault
 use Rattle.pw_obis.specs.Faults as obis_fault
 use Rattle.pw_time.specs.Faults as stamp_fault
@@ -31,15 +32,13 @@ cause_told Kind = (53, codes "Kind")
 cause_told RegisterName = (54, codes "RegisterName")
 cause_told Memory = (62, codes "Memory")
 
--- what stands behind the part's number
-abbrev pub cause_details : Cause → List ℕ
-cause_details (Frame fault) = codes " " ++ frame_fault.frame_fault_details fault
-cause_details _ = []
+-- the fault of a part where no frame stands
+abbrev pub missing_frame : Cause → Option FrameFault
+missing_frame (Frame fault) = Some fault
+missing_frame _ = None
 
 abbrev pub fault_line : UploadFault → List ℕ
-fault_line fault =
-    refused_line (cause_told fault.cause).0 (cause_told fault.cause).1
-    ++ (codes " part " ++ (decimal fault.part ++ cause_details fault.cause))
+fault_line fault = part_line (cause_told fault.cause).0 (cause_told fault.cause).1 fault.part (missing_frame fault.cause)
 
 -- want of memory: its part is always 0
 abbrev pub want_of_memory : UploadFault

@@ -4,7 +4,7 @@ use Rattle.std.specs.Prelude.{◌≡◌, ℕ, ◌+◌, ◌<◌, ◌≤◌, ◌�
 use Rattle.pw_frame.specs.declared.frame.FrameFault.{FrameFault}
 use Rattle.pw_frame.specs.Frame.{FrameText}
 use Rattle.pw_frame.specs.Body.{Front, BodyReading, BodyFault}
-use Rattle.pw_obis.specs.declared.reader.LineFault.{LineFault}
+use Rattle.pw_obis.specs.declared.fault.LineFault.{LineFault}
 use Rattle.pw_obis.specs.declared.reference.Register.{Register}
 use Rattle.pw_obis.specs.Block.{HasSets}
 use Rattle.pw_obis.specs.Line.{SetText}

@@ -10,7 +10,7 @@ use Rattle.pw_time.specs.declared.zone.Clock.TheVariants.{Marked}
 use Rattle.pw_time.specs.Outcomes.{IsStampOutcome, IsReadoutOutcome}
 use Rattle.pw_record.specs.declared.fault.Cause.{Cause}
 use Rattle.pw_record.specs.declared.fault.Cause.TheVariants.{Instant as InstantCause, NoMeter, UnknownMeter, WrongKind, NoInstant, TwiceGiven}
-use Rattle.pw_record.specs.declared.told.Meaning.TheVariants.{Identifier, Stamp, Time, Date}
+use Rattle.pw_obis.specs.declared.meaning.Meaning.TheVariants.{Identifier, Stamp, Time, Date}
 use Rattle.pw_record.specs.declared.origin.Source.{Source}
 use Rattle.pw_record.specs.declared.origin.Source.TheVariants.{Telegrams, Readouts}
 use Rattle.pw_record.specs.Names.{HasId, IsUnknownId, HasClock}

@@ -2,21 +2,14 @@
 -- (DSMR P1 Companion Standard 5.0.2: identifier and stamp of a telegram. IEC 62056-6-1: time and date of a readout. That sets
 -- which tell the same thing must agree is this project's profile.)
 use Rattle.std.specs.Prelude.{◌≡◌, ℕ, ◌-◌, ◌&&◌, nat_le, Some, List, map, if◌then◌else◌}
+use Rattle.pw_obis.specs.declared.meaning.Meaning.{Meaning}
+use Rattle.pw_obis.specs.declared.meaning.Meaning.TheVariants.{Identifier}
 use Rattle.pw_obis.specs.declared.reference.Code.{Code}
 use Rattle.pw_obis.specs.Address.{IsCodeOf}
 use Rattle.pw_obis.specs.FirstValue.{IsFirstValue}
 use Rattle.pw_obis.specs.Line.{SetText}
-use Rattle.pw_obis.specs.References.{IsIdentifier, IsStamp, IsTime, IsDate}
+use Rattle.pw_obis.specs.References.{IsCodeOfMeaning}
 use Rattle.pw_model.specs.Counting.{Member}
-use Rattle.pw_record.specs.declared.told.Meaning.{Meaning}
-use Rattle.pw_record.specs.declared.told.Meaning.TheVariants.{Identifier, Stamp, Time, Date}
-
--- what a code stands for
-abbrev pub IsCodeOfMeaning : Meaning → Code → Type 0
-IsCodeOfMeaning Identifier code = IsIdentifier code
-IsCodeOfMeaning Stamp code = IsStamp code
-IsCodeOfMeaning Time code = IsTime code
-IsCodeOfMeaning Date code = IsDate code
 
 -- the letters a to f are read as capitals
 abbrev pub capital : ℕ → ℕ

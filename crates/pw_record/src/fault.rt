@@ -1,11 +1,11 @@
 //! Why an upload is refused.
 
-ghost use Rattle.std.specs.Prelude.{◌≡◌, ◌+◌, ◌<◌, ◌≤◌, ◌++◌};
+ghost use Rattle.std.specs.Prelude.{◌≡◌, ◌<◌};
 ghost use Rattle.arrayvec.specs.ArrayString.{array_string_len};
-ghost use Rattle.pw_record.specs.Causes.{cause_details, cause_told, fault_line};
+ghost use Rattle.pw_record.specs.Causes.{cause_told, fault_line};
 
-use pw_frame::FrameFault;
-use pw_line::{Line, ROOM, push_number, refused};
+use pw_frame::{FrameFault, part_refused};
+use pw_line::{Line, ROOM};
 use pw_obis::{LineFault, ValueFault};
 use pw_time::StampFault;
 use std::fmt;
@@ -124,19 +124,6 @@ impl Cause {
     }
 }
 
-// Appends what the fault line tells behind the part's number: of a frame that isn't there the place, and the checks.
-fn push_details(line: &mut Line, cause: Cause)
-    requires { array_string_len line.old ≤ 100 }
-    ensures text { line.new.bytes ≡ line.old.bytes ++ cause_details cause }
-    ensures fits { array_string_len line.new ≤ 150 }
-{
-    let Cause::Frame(fault) = cause else {
-        return;
-    };
-    line.push_str(" ");
-    line.push_str(fault.details().as_str());
-}
-
 impl UploadFault {
     /// The fault line without its end: `refused`, the number, the name, and `part` with its number; for 10 to 15 `at`
     /// with the place, and for 12 and 14 the stated and the computed check.
@@ -144,11 +131,16 @@ impl UploadFault {
         ensures text { result.bytes ≡ fault_line self }
         ensures fits { array_string_len result < ROOM }
     {
-        let mut line = refused(self.cause.number(), self.cause.name());
-        line.push_str(" part ");
-        push_number(&mut line, self.part as u64);
-        push_details(&mut line, self.cause);
-        line
+        let missing = match self.cause {
+            Cause::Frame(fault) => Some(fault),
+            _ => None,
+        };
+        part_refused(
+            self.cause.number(),
+            self.cause.name(),
+            u64::from(self.part),
+            missing,
+        )
     }
 }
 

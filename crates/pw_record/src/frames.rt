@@ -1,8 +1,6 @@
 //! Bodies of telegrams and of readouts.
 
-ghost use Rattle.std.specs.Prelude.{◌≡◌, ◌<◌, ◌++◌, List, Option, Some, None, IfOk, IfErr, OnOk, Err, length};
-ghost use Rattle.pw_obis.specs.Block.{HasSets};
-ghost use Rattle.pw_obis.specs.Line.{SetText};
+ghost use Rattle.std.specs.Prelude.{◌≡◌, ◌<◌, ◌++◌, List, IfOk, IfErr, OnOk, Err, length};
 ghost use Rattle.pw_frame.specs.Frame.{frame_text};
 ghost use Rattle.pw_tariff.specs.Office.{office_of};
 ghost use Rattle.pw_model.specs.Office.{AllOfOffice};
@@ -17,7 +15,7 @@ use crate::origin::{Origin, Source, block_origin};
 use crate::shown::{Shown, all_shown, is_nothing_shown, put_readings};
 use pw_frame::{Frame, Frames};
 use pw_model::Entry;
-use pw_obis::{LineFault, Sets};
+use pw_obis::Block;
 use pw_tariff::Office;
 use pw_time::{Clock, Zone};
 use std::alloc::Global;
@@ -144,33 +142,14 @@ pub fn read_frame(
     if frame.kind != source.kind() {
         return Err(Cause::WrongKind);
     }
-    if let Err(fault) = check_lines(frame.block) {
-        return Err(Cause::Line(fault));
-    }
-    let origin = match block_origin(office, zone, source, frame.block) {
-        Ok(origin) => origin,
-        Err(cause) => return Err(cause),
+    let block = match Block::checked(frame.block) {
+        Ok(block) => block,
+        Err(fault) => return Err(Cause::Line(fault)),
     };
-    let shown = match all_shown(office, origin.meter, frame.block) {
-        Ok(shown) => shown,
-        Err(cause) => return Err(cause),
-    };
+    let origin = block_origin(office, zone, source, &block)?;
+    let shown = all_shown(office, origin.meter, &block)?;
     if is_nothing_shown(&shown) {
         return Err(Cause::NoRegister);
     }
     Ok((origin, shown))
-}
-
-/// Whether all lines of a block are in the grammar, or the first that isn't.
-fn check_lines(block: &[u8]) -> Result<(), LineFault>
-    ensures ok { OnOk result ((sets : List SetText) × HasSets block.now sets None) }
-    ensures err { IfErr result (λ fault. (sets : List SetText) × HasSets block.now sets (Some fault.at)) }
-{
-    let mut sets = Sets::new(block);
-    'sets: while let Some(next) = sets.next_set() {
-        if let Err(fault) = next {
-            return Err(fault);
-        }
-    }
-    Ok(())
 }

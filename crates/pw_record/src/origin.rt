@@ -1,17 +1,17 @@
 //! The meter and the instant of a frame.
 
-ghost use Rattle.std.specs.Prelude.{◌≡◌, List, None, IfOk, IfErr, IfSome, IfNone};
-ghost use Rattle.pw_obis.specs.Block.{HasSets};
+ghost use Rattle.std.specs.Prelude.{◌≡◌, List, IfOk, IfErr, IfSome, IfNone};
 ghost use Rattle.pw_obis.specs.Line.{SetText};
 ghost use Rattle.pw_record.specs.Names.{HasId, IsUnknownId};
 ghost use Rattle.pw_record.specs.Origin.{HasDateAndTime, HasMeter, HasOrigin, HasStamp, RefusesDateAndTime, RefusesMeter, RefusesOrigin, RefusesStamp, kind_of};
-ghost use Rattle.pw_record.specs.declared.told.Meaning.TheVariants.{Identifier, Stamp};
+ghost use Rattle.pw_obis.specs.declared.meaning.Meaning.TheVariants.{Identifier, Stamp};
 ghost use Rattle.pw_record.specs.Told.{capitals};
 ghost use Rattle.pw_record.specs.inner.Told.{AreTelling};
 
 use crate::fault::Cause;
-use crate::told::{Meaning, Told, both_told, capital};
+use crate::told::{Told, both_told, capital};
 use pw_frame::Kind;
+use pw_obis::{Block, Meaning};
 use pw_tariff::{LONGEST_METER_ID, MeterId, Office};
 use pw_time::{Clock, Instant, Zone, readout_instant, stamp};
 
@@ -48,33 +48,28 @@ pub fn block_origin(
     office: &Office,
     zone: &Zone,
     source: Source,
-    block: &[u8],
+    block: &Block,
 ) -> Result<Origin, Cause>
-    ensures ok { IfOk result (λ origin. (sets : List SetText) → HasSets block.now sets None → HasOrigin office.now source sets origin.meter.0 origin.instant) }
-    ensures err { IfErr result (λ cause. (sets : List SetText) → HasSets block.now sets None → RefusesOrigin office.now source sets cause) }
+    ensures ok { IfOk result (λ origin. HasOrigin office.now source block.now origin.meter.0 origin.instant) }
+    ensures err { IfErr result (RefusesOrigin office.now source block.now) }
 {
     match source {
         Source::Telegrams => telegram_origin(office, block),
-        Source::Readouts(meter, clock) => match date_and_time(block, clock, zone) {
-            Ok(instant) => Ok(Origin { meter, instant }),
-            Err(cause) => Err(cause),
-        },
+        Source::Readouts(meter, clock) => {
+            let instant = date_and_time(block, clock, zone)?;
+            Ok(Origin { meter, instant })
+        }
     }
 }
 
-fn telegram_origin(office: &Office, block: &[u8]) -> Result<Origin, Cause>
-    ensures ok { IfOk result (λ origin. (sets : List SetText) → HasSets block.now sets None → HasOrigin office.now Source.Telegrams sets origin.meter.0 origin.instant) }
-    ensures err { IfErr result (λ cause. (sets : List SetText) → HasSets block.now sets None → RefusesOrigin office.now Source.Telegrams sets cause) }
+fn telegram_origin(office: &Office, block: &Block) -> Result<Origin, Cause>
+    ensures ok { IfOk result (λ origin. HasOrigin office.now Source.Telegrams block.now origin.meter.0 origin.instant) }
+    ensures err { IfErr result (RefusesOrigin office.now Source.Telegrams block.now) }
 {
     let (identifier, stamp) = both_told(block, Meaning::Identifier, Meaning::Stamp);
-    let meter = match telegram_meter(office, identifier) {
-        Ok(meter) => meter,
-        Err(cause) => return Err(cause),
-    };
-    match telegram_instant(stamp) {
-        Ok(instant) => Ok(Origin { meter, instant }),
-        Err(cause) => Err(cause),
-    }
+    let meter = telegram_meter(office, identifier)?;
+    let instant = telegram_instant(stamp)?;
+    Ok(Origin { meter, instant })
 }
 
 /// The meter that the identifiers of a telegram name. Its clock marks its times.
@@ -130,9 +125,9 @@ fn telegram_instant(told: Told) -> Result<Instant, Cause>
 }
 
 /// The instant that the dates and the times of a readout tell.
-fn date_and_time(block: &[u8], clock: Clock, zone: &Zone) -> Result<Instant, Cause>
-    ensures ok { IfOk result (λ instant. (sets : List SetText) → HasSets block.now sets None → HasDateAndTime clock sets instant) }
-    ensures err { IfErr result (λ cause. (sets : List SetText) → HasSets block.now sets None → RefusesDateAndTime clock sets cause) }
+fn date_and_time(block: &Block, clock: Clock, zone: &Zone) -> Result<Instant, Cause>
+    ensures ok { IfOk result (HasDateAndTime clock block.now) }
+    ensures err { IfErr result (RefusesDateAndTime clock block.now) }
 {
     let (time, date) = both_told(block, Meaning::Time, Meaning::Date);
     match date {

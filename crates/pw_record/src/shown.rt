@@ -3,21 +3,19 @@
 ghost use Rattle.std.specs.Prelude.{◌≡◌, ◌≢◌, ◌<◌, ◌+◌, ◌++◌, ℕ, List, Option, Some, None, IfOk, IfErr, IfSome, OnOk, MatchOption, Ok, Err, length};
 ghost use Rattle.std.specs.Bool.{OnTrue, OnFalse};
 ghost use Rattle.pw_obis.specs.Address.{IsCodeOf};
-ghost use Rattle.pw_obis.specs.Block.{HasSets};
-ghost use Rattle.pw_obis.specs.Line.{SetText};
 ghost use Rattle.pw_tariff.specs.Office.{register_place as place_of};
 ghost use Rattle.pw_record.specs.Shown.{AreShown, HasWrongSet, Measures, reading_of, readings_of};
 ghost use Rattle.pw_record.specs.inner.Shown.{IsUnlike};
 ghost use Rattle.pw_record.specs.inner.Shown.{IsNoted};
 ghost use Rattle.pw_record.specs.inner.Shown.{shown_in};
 ghost use Rattle.pw_record.specs.inner.Shown.{MeasuresNothing};
-ghost use Rattle.pw_record.specs.inner.Told.{told_text};
+ghost use Rattle.pw_obis.specs.Answers.{set_text};
 
 use crate::fault::Cause;
 use crate::order::put;
 use crate::origin::Origin;
 use pw_model::{Content, Entry, Key};
-use pw_obis::{Register, Set, Sets, ValueFault, WattHours, first_value, register, watt_hours};
+use pw_obis::{Block, Register, Set, ValueFault, WattHours, first_value, register, watt_hours};
 use pw_tariff::{MeterId, Office};
 use std::alloc::AllocError;
 
@@ -32,18 +30,13 @@ struct Reading {
 }
 
 /// What the sets of a block show of the registers that count for a meter.
-pub fn all_shown(office: &Office, meter: MeterId, block: &[u8]) -> Result<Shown, Cause>
+pub fn all_shown(office: &Office, meter: MeterId, block: &Block) -> Result<Shown, Cause>
     requires meter { meter.0 < length office.now.meters }
-    requires sets { (sets : List SetText) × HasSets block.now sets None }
-    ensures ok { IfOk result (λ shown. (sets : List SetText) → HasSets block.now sets None → AreShown office.now meter.0 sets (shown_in shown)) }
-    ensures err { IfErr result (λ cause. (sets : List SetText) → HasSets block.now sets None → HasWrongSet office.now meter.0 sets cause) }
+    ensures ok { IfOk result (λ shown. AreShown office.now meter.0 block.now (shown_in shown)) }
+    ensures err { IfErr result (HasWrongSet office.now meter.0 block.now) }
 {
     let mut shown = [None; 6];
-    let mut sets = Sets::new(block);
-    'sets: while let Some(next) = sets.next_set() {
-        let Ok(set) = next else {
-            return Ok(shown);
-        };
+    'sets: for set in block.sets() {
         let reading = match measured(office, meter, &set) {
             Ok(Some(reading)) => reading,
             Ok(None) => continue,
@@ -61,9 +54,9 @@ fn measured(office: &Office, meter: MeterId, set: &Set) -> Result<Option<Reading
     requires meter { meter.0 < length office.now.meters }
     requires code { IsCodeOf set.now.address.now set.now.code }
     ensures ok { IfOk result (λ reading. MatchOption reading
-        (MeasuresNothing office.now meter.0 (told_text set.now))
-        (λ r. Measures office.now meter.0 (told_text set.now) r.register (Ok r.wh))) }
-    ensures err { IfErr result (λ fault. (r : Register) × Measures office.now meter.0 (told_text set.now) r (Err fault)) }
+        (MeasuresNothing office.now meter.0 (set_text set.now))
+        (λ r. Measures office.now meter.0 (set_text set.now) r.register (Ok r.wh))) }
+    ensures err { IfErr result (λ fault. (r : Register) × Measures office.now meter.0 (set_text set.now) r (Err fault)) }
 {
     let Some(code) = set.code else {
         return Ok(None);

@@ -1,23 +1,13 @@
 //! What the sets of a frame tell of its meter and its instant.
 
-ghost use Rattle.std.specs.Prelude.{◌≡◌, ◌↔◌, ◌∷◌, ◌++◌, [], List, None, IsTrue};
+ghost use Rattle.std.specs.Prelude.{◌≡◌, ◌↔◌, ◌∷◌, ◌++◌, [], List, IsTrue};
 ghost use Rattle.pw_obis.specs.Address.{IsCodeOf};
-ghost use Rattle.pw_obis.specs.Block.{HasSets};
 ghost use Rattle.pw_obis.specs.Line.{SetText};
-ghost use Rattle.pw_record.specs.Told.{IsCodeOfMeaning, capital as capital_of, capitals, read_as};
+ghost use Rattle.pw_record.specs.Told.{capital as capital_of, capitals, read_as};
 ghost use Rattle.pw_record.specs.inner.Told.{AreTelling};
-ghost use Rattle.pw_record.specs.inner.Told.{told_text};
+ghost use Rattle.pw_obis.specs.Answers.{set_text};
 
-use pw_obis::{Code, Set, Sets, first_value, is_date, is_identifier, is_stamp, is_time};
-
-/// What a set can tell: the identifier and the stamp of a telegram, the time and the date of a readout.
-#[derive(Clone, Copy, Debug, PartialEq, Eq)]
-pub enum Meaning {
-    Identifier,
-    Stamp,
-    Time,
-    Date,
-}
+use pw_obis::{Block, Meaning, Set, first_value};
 
 /// What the sets of a block tell.
 #[derive(Clone, Copy, Debug)]
@@ -30,31 +20,14 @@ pub enum Told<'a> {
     Unlike,
 }
 
-impl Meaning {
-    fn is_meant_by(self, code: &Code) -> bool
-        ensures { IsTrue result ↔ IsCodeOfMeaning self code.now }
-    {
-        match self {
-            Meaning::Identifier => is_identifier(code),
-            Meaning::Stamp => is_stamp(code),
-            Meaning::Time => is_time(code),
-            Meaning::Date => is_date(code),
-        }
-    }
-}
-
 /// What all sets of a block tell of two things, in one walk over them.
-pub fn both_told<'a>(block: &'a [u8], one: Meaning, other: Meaning) -> (Told<'a>, Told<'a>)
-    ensures one { (sets : List SetText) → HasSets block.now sets None → AreTelling one sets result.0 }
-    ensures other { (sets : List SetText) → HasSets block.now sets None → AreTelling other sets result.1 }
+pub fn both_told<'a>(block: &Block<'a>, one: Meaning, other: Meaning) -> (Told<'a>, Told<'a>)
+    ensures one { AreTelling one block.now result.0 }
+    ensures other { AreTelling other block.now result.1 }
 {
     let mut first = Told::Nothing;
     let mut second = Told::Nothing;
-    let mut sets = Sets::new(block);
-    'sets: while let Some(next) = sets.next_set() {
-        let Ok(set) = next else {
-            return (first, second);
-        };
+    'sets: for set in block.sets() {
         first = joined(first, one, &set);
         second = joined(second, other, &set);
     }
@@ -64,7 +37,7 @@ pub fn both_told<'a>(block: &'a [u8], one: Meaning, other: Meaning) -> (Told<'a>
 /// What sets tell with one set more.
 fn joined<'a>(told: Told<'a>, meaning: Meaning, set: &Set<'a>) -> Told<'a>
     requires { IsCodeOf set.now.address.now set.now.code }
-    ensures { (sets : List SetText) → AreTelling meaning sets told.entry → AreTelling meaning (sets ++ told_text set.now ∷ []) result }
+    ensures { (sets : List SetText) → AreTelling meaning sets told.entry → AreTelling meaning (sets ++ set_text set.now ∷ []) result }
 {
     let Some(code) = set.code else {
         return told;

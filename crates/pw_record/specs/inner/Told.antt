@@ -1,15 +1,10 @@
 -- What the inner steps of reading a frame's texts answer. It serves `src/told.rt`.
 use Rattle.std.specs.Prelude.{List}
-use Rattle.pw_obis.specs.declared.data_set.Set.{Set}
+use Rattle.pw_obis.specs.declared.meaning.Meaning.{Meaning}
 use Rattle.pw_obis.specs.Line.{SetText}
-use Rattle.pw_record.specs.declared.told.Meaning.{Meaning}
 use Rattle.pw_record.specs.declared.told.Told.{Told}
 use Rattle.pw_record.specs.declared.told.Told.TheVariants.{Nothing, One, Unlike}
 use Rattle.pw_record.specs.Told.{read_as, TellNothing, TellOne, TellUnlike}
-
--- a set without where it lies in memory
-abbrev pub told_text : Set → SetText
-told_text set = record { address = set.address.now; values = set.values.now }
 
 -- what the sets tell
 abbrev pub AreTelling : Meaning → List SetText → Told → Type 0

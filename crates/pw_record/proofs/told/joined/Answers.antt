@@ -1,15 +1,15 @@
 use Rattle.std.proofs.Common.{◌≡◌, true, false, refl}
 use Rattle.pw_record.specs.Told.{read_as, TellNothing, TellOne, TellUnlike}
-use Rattle.pw_record.specs.inner.Told.{told_text}
+use Rattle.pw_obis.specs.Answers.{set_text}
 use Rattle.pw_record.proofs.Telling.{skip, no-code, other-code, first-told, told-again, told-unlike, still-unlike}
 use Rattle.pw_record.proofs.told.joined.Goals as goal
 
 pub returns-in_default : goal.returns-in_default
-returns-in_default c = λ sets x. skip c.args.meaning sets (told_text c.args.set.now) c.args.told (no-code c.args.meaning c.args.set.now c.requires c.in_default.is) x
+returns-in_default c = λ sets x. skip c.args.meaning sets (set_text c.args.set.now) c.args.told (no-code c.args.meaning c.args.set.now c.requires c.in_default.is) x
 
 pub returns-then-not-is_meant_by : goal.returns-then-not-is_meant_by
 returns-then-not-is_meant_by c = λ sets x.
-    skip c.args.meaning sets (told_text c.args.set.now) c.args.told
+    skip c.args.meaning sets (set_text c.args.set.now) c.args.told
     (other-code c.args.meaning c.args.set.now c.in-Some.code c.requires c.in-Some.is (λ m. (let e : false ≡ true = c.if-not-is_meant_by.ensures.1 m in cc))) x
 
 pub returns-in-Nothing : goal.returns-in-Nothing
