@@ -1,3 +1,5 @@
+//! Bytes of a body by their places, past its end too.
+
 ghost use Rattle.std.specs.Prelude.{◌≡◌, ◌≤◌, ◌↔◌, slice_index, IsTrue};
 
 pub const CR: u8 = b'\r';

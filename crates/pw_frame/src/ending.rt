@@ -1,3 +1,5 @@
+//! What stands behind the `!` that ends a block: the check that is stated there.
+
 ghost use Rattle.std.specs.Prelude.{◌≡◌, ℕ, ◌+◌, ◌*◌, ◌<◌, ◌≤◌, length, IfSome, IfNone};
 ghost use Rattle.pw_frame.specs.Frame.{IsHexadecimalDigit, StatedCrc, StatedCheck};
 

@@ -1,3 +1,5 @@
+//! A frame of a body, its kinds, and why none stands where one should.
+
 /// What a frame is: a telegram of DSMR P1 with a CRC16, or a data readout of IEC 62056-21 with a block check.
 #[derive(Clone, Copy, Debug, PartialEq, Eq)]
 pub enum Kind {

@@ -1,3 +1,5 @@
+//! The frames of a body, one after the other, up to its end or the first fault.
+
 ghost use Rattle.std.specs.Prelude.{◌≡◌, ℕ, ◌+◌, ◌*◌, ◌^◌, ◌<◌, ◌≤◌, ◌↔◌, ◌∷◌, ◌++◌, [], List, Bool, true, false, length, slice_index, IsNone, MatchOption, MatchResult, IfSome, IfNone, IfOk, IfErr, IsTrue};
 ghost use Rattle.pw_frame.specs.Frame.{FrameText, frame_text};
 ghost use Rattle.pw_frame.specs.Body.{PairsBetween, Front, BodyReading, BodyFault, Progress};

@@ -1,3 +1,5 @@
+//! The begin of a frame: its header, and what tells a telegram from a readout.
+
 ghost use Rattle.std.specs.Prelude.{◌≡◌, ◌+◌, ◌^◌, ◌<◌, ◌≤◌, length, slice_index, IfOk, IfErr, IfSome, IfNone};
 ghost use Rattle.pw_frame.specs.Frame.{HeaderEnd, Opens, Head, block_start};
 ghost use Rattle.pw_frame.specs.FirstFault.{IsFault};

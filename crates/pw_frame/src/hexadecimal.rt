@@ -1,3 +1,5 @@
+//! Checks as they are told: in capital hexadecimal digits.
+
 ghost use Rattle.std.specs.Prelude.{◌≡◌, ◌+◌, ◌<◌, ◌≤◌, ◌++◌, ◌∷◌, []};
 ghost use Rattle.arrayvec.specs.ArrayString.{array_string_len};
 ghost use Rattle.pw_frame.specs.Hexadecimal.{digit_character, four_digits as digits_of_word, two_digits as digits_of_byte};

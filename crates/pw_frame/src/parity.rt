@@ -1,3 +1,5 @@
+//! The check of a readout.
+
 ghost use Rattle.pw_frame.specs.Check.{IsBlockCheck};
 
 /// The block check of bytes (IEC 62056-21): their exclusive or, so that each bit is a parity.

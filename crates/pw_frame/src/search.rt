@@ -1,3 +1,5 @@
+//! Where a block ends: at the first `!` with which a line begins.
+
 ghost use Rattle.std.specs.Prelude.{◌+◌, ◌^◌, ◌<◌, ◌≤◌, ◌↔◌, length, IfOk, IfErr, IsTrue};
 ghost use Rattle.pw_frame.specs.Frame.{EndsAt, BlockEnd};
 ghost use Rattle.pw_frame.specs.inner.Search.{IsBlockFault};

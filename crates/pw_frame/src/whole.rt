@@ -1,3 +1,5 @@
+//! A frame from its first byte to its last: header, block, and the check behind it.
+
 ghost use Rattle.std.specs.Prelude.{◌≡◌, ℕ, ◌+◌, ◌^◌, ◌<◌, ◌≤◌, length, IfOk, IfErr};
 ghost use Rattle.pw_frame.specs.Frame.{Framed, FrameEnding, Checks, Whole, block_start, ending_size, frame_text};
 ghost use Rattle.pw_frame.specs.FirstFault.{IsFault};

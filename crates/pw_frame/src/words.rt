@@ -1,3 +1,5 @@
+//! The table by which a CRC16 takes whole bytes.
+
 /// The CRC16 of each single byte, at the byte's place, as a law says. By one of these words a register takes a
 /// whole byte.
 pub const CRC_WORDS: [u16; 256] = [

@@ -1,3 +1,5 @@
+//! One run of `read`: from a reader to two writers and an exit status.
+
 ghost use Rattle.std.specs.Prelude.{◌≡◌, ◌⊎◌, ℕ, ◌<◌, ◌≤◌, List, Some, length, MatchResult};
 ghost use Rattle.pw_frame.specs.declared.frames.TheConstants.{LONGEST_BODY};
 ghost use Rattle.pw_read.specs.Text.{BodyShows};

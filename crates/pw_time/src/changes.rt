@@ -1,3 +1,5 @@
+//! Both changes of the clocks in each year, written out.
+
 /// The seconds at which Central European time changes, from 2000 to 2099: each year to summer time
 /// and back. That it holds the last Sundays of March and October is proved where a zone is made.
 pub(crate) const CHANGES: [u32; 200] = [

@@ -1,3 +1,5 @@
+//! Dates and times of day as clocks show them, and the instants at which they do.
+
 ghost use Rattle.std.specs.Prelude.{ℕ, ◌≡◌, ◌≢◌, ◌+◌, ◌*◌, ◌<◌, ◌↔◌, pos, IsSome, IfSome, IfOk, IfErr, OnOk, Err};
 ghost use Rattle.jiff_core.specs.Calendar.{IsEpochDay, days_from_civil};
 ghost use Rattle.jiff_core.specs.Date.{epoch_day};

@@ -1,3 +1,5 @@
+//! Local days and months as spans of instants.
+
 ghost use Rattle.std.specs.Prelude.{◌≡◌, ◌*◌, ◌≤◌, ◌<◌, ◌⊎◌, ◌↔◌, ℕ, IsTrue, IsSome, IfSome};
 ghost use Rattle.pw_time.specs.declared.instant.TheConstants.{FIRST_SECOND as first};
 ghost use Rattle.pw_time.specs.Days.{BeginsAt, IsBound, IsLocalDate, IsLocalMonth, IsMonth, day_behind_month, day_number};

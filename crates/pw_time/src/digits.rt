@@ -1,3 +1,5 @@
+//! Numbers of two digits, read and written.
+
 ghost use Rattle.std.specs.Prelude.{ℕ, ◌≡◌, ◌≢◌, ◌+◌, ◌/◌, ◌%◌, ◌<◌, MatchOption};
 ghost use Rattle.pw_time.specs.Texts.{run_together, separated, two_digits};
 ghost use Rattle.pw_time.specs.inner.Texts.{IsDecimalDigit};

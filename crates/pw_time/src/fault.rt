@@ -1,3 +1,5 @@
+//! Why a text has no instant, and how that is reported.
+
 /// Why a text has no instant.
 #[derive(Clone, Copy, Debug, PartialEq, Eq)]
 pub enum StampFault {

@@ -1,3 +1,5 @@
+//! Instants: the seconds of a hundred years.
+
 ghost use Rattle.std.specs.Prelude.{◌≡◌, ◌↔◌, IsSome, IfSome};
 ghost use Rattle.pw_time.specs.Instants.{IsInstant};
 

@@ -1,3 +1,5 @@
+//! Instants out of texts, by the kind of the text.
+
 ghost use Rattle.pw_time.specs.Outcomes.{IsReadoutOutcome, IsStampOutcome, IsUtcOutcome};
 
 use crate::{Clock, Instant, StampFault, Zone, texts};

@@ -1,3 +1,5 @@
+//! The forms of stamps, of readouts' dates and times and of texts in UTC.
+
 ghost use Rattle.std.specs.Prelude.{ℕ, ◌≡◌, ◌≢◌, ◌⊎◌, MatchOption};
 ghost use Rattle.pw_time.specs.declared.civil.CivilTime.{CivilTime};
 ghost use Rattle.pw_time.specs.Texts.{AreReadoutTexts, IsStampText, IsUtcText, run_together, separated};

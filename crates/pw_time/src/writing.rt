@@ -1,3 +1,5 @@
+//! Instants as texts in UTC.
+
 ghost use Rattle.std.specs.Prelude.{◌≡◌, Ok};
 ghost use Rattle.pw_time.specs.Outcomes.{IsUtcOutcome};
 ghost use Rattle.pw_time.specs.Written.{utc_text};

@@ -1,3 +1,5 @@
+//! Clocks of meters, and the clock that offices go by.
+
 ghost use Rattle.std.specs.Prelude.{◌≡◌, ◌↔◌, ◌<◌, ◌≤◌, ℕ, length, slice_index, IsTrue, true};
 ghost use Rattle.pw_time.specs.Summer.{central_changes, is_summer, local_hour, local_weekday};
 

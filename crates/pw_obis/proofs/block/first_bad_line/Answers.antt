@@ -11,9 +11,10 @@ returns-in_default c =
 pub loop-at-preserved : goal.loop-at-preserved
 loop-at-preserved c =
     let b = c.args.block.now in
-    let line = c.in-Some.ensures.some in
-    (line_within b c.loop-at.at c.in-Some.end line.0 line.1,
-    c.loop-at.invariant.1 ∙ ap (λ (k : Coming). k.refusal) (place_line b c.loop-at.at c.in-Some.end line.0 line.1))
+    let line = c.in-Some.ensures.some in (
+      line_within b c.loop-at.at c.in-Some.end line.0 line.1,
+      c.loop-at.invariant.1 ∙ ap (λ (k : Coming). k.refusal) (place_line b c.loop-at.at c.in-Some.end line.0 line.1),
+    )
 
 pub returns : goal.returns
 returns c =
