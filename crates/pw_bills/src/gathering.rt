@@ -10,7 +10,7 @@ ghost use Rattle.pw_book.specs.Questions.{IsQuestion};
 ghost use Rattle.pw_bills.specs.Stretches.{AreStretches};
 ghost use Rattle.pw_bills.specs.inner.Gathering.{AddsHere, AreEnoughToGather, CanAsk, FitsMore, IsEnoughToGather, IsGathered, IsSoundPass, MeterAdds, Pass, PointsAreRead, RegisterAdds, RegistersAdd, counted_reads, meter_reads, office_reads, pass_of};
 
-use crate::asked::starts_held;
+use crate::shelf_calls::starts_held;
 use crate::stretches::{Stretches, name_somebody, named};
 use pw_book::{Basis, Book, BookFault};
 use pw_obis::Register;

@@ -2,7 +2,6 @@
 //! up in it.
 #![tactic(auto)]
 
-mod asked;
 mod billed;
 mod billing;
 mod energies;
@@ -12,6 +11,7 @@ mod pieces;
 mod points;
 mod readings;
 mod reasons;
+mod shelf_calls;
 mod stretches;
 
 pub use billed::Bill;

@@ -8,8 +8,8 @@ ghost use Rattle.pw_bills.specs.Stretches.{AreStretches};
 ghost use Rattle.pw_bills.specs.inner.Flows.{CoversTime, HasPointsIn};
 ghost use Rattle.pw_bills.specs.inner.Gathering.{CanAsk, PointsAreRead, pass_of};
 
-use crate::asked::{point_after_held, point_before_held, points_held};
 use crate::gathering::Place;
+use crate::shelf_calls::{point_after_held, point_before_held, points_held};
 use pw_book::joined;
 use pw_parts::Point;
 use pw_shelf::{Shelf, ShelfFault};

@@ -7,7 +7,7 @@ ghost use Rattle.pw_shelf.specs.Calls.{failures_told};
 ghost use Rattle.pw_tariff.specs.Office.{office_of};
 ghost use Rattle.pw_book.specs.Asking.{IsOnlyAsked};
 
-use crate::asked::assignments_held;
+use crate::shelf_calls::assignments_held;
 use pw_model::Entry;
 use pw_shelf::{Shelf, ShelfFault};
 use pw_tariff::{MeterId, Office};

@@ -11,8 +11,8 @@ ghost use Rattle.pw_shelf.specs.Calls.{failures_told};
 ghost use Rattle.pw_tariff.specs.Office.{office_of, periods_in};
 ghost use Rattle.pw_book.specs.Asking.{IsOnlyAsked};
 
-use crate::asked::total_held;
 use crate::energies::energy_in_held;
+use crate::shelf_calls::total_held;
 use pw_model::{NANO_IN_CENT, TotalKey, left_over, price_of};
 use pw_shelf::{Shelf, ShelfFault};
 use pw_tariff::{AccountId, BandId, Direction, Office, PeriodId};

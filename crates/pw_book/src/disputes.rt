@@ -12,7 +12,7 @@ ghost use Rattle.pw_book.specs.Asking.{IsOnlyAsked};
 ghost use Rattle.pw_book.specs.inner.Places.{AreWithin, DisputesBefore};
 ghost use Rattle.pw_book.specs.inner.Groups.{AreBehind, AreOfSharedKeys, IsDisputeAmong, IsDisputeOf, records_with};
 
-use crate::asked::{assignments_held, readings_held, topups_held};
+use crate::shelf_calls::{assignments_held, readings_held, topups_held};
 use crate::withdrawn::standing_among;
 use pw_model::{Dispute, Entry};
 use pw_obis::Register;

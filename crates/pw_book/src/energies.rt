@@ -8,7 +8,7 @@ ghost use Rattle.pw_shelf.specs.Calls.{failures_told};
 ghost use Rattle.pw_tariff.specs.Office.{office_of, periods_in};
 ghost use Rattle.pw_book.specs.Asking.{IsOnlyAsked};
 
-use crate::asked::total_held;
+use crate::shelf_calls::total_held;
 use pw_model::TotalKey;
 use pw_shelf::{Shelf, ShelfFault};
 use pw_tariff::{BandId, Direction, Office, Owner, PeriodId};

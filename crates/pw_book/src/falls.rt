@@ -11,7 +11,7 @@ ghost use Rattle.pw_model.specs.Seconds.{ListsSeconds};
 ghost use Rattle.pw_book.specs.inner.Counted.{IsFallOf};
 ghost use Rattle.pw_book.specs.inner.Places.{FallsBefore, TellsPoints};
 
-use crate::asked::points_held;
+use crate::shelf_calls::points_held;
 use pw_model::Fall;
 use pw_obis::{Register, WattHours};
 use pw_shelf::{Shelf, ShelfFault};

@@ -1,14 +1,13 @@
 //! The book: it takes uploads' records, and answers what the records held mean.
 #![tactic(auto)]
 
-mod around;
-mod asked;
 mod assignments;
 mod balances;
 mod basis;
 mod book;
 mod disputes;
 mod distinct;
+mod effect;
 mod energies;
 mod falls;
 mod fault;
@@ -16,12 +15,13 @@ mod gathered;
 pub mod laws;
 mod moving;
 mod posting;
+mod reading_change;
 mod rows;
 mod settling;
+mod shelf_calls;
+mod start_change;
 mod starts;
-mod told;
 mod upload;
-mod window;
 mod withdrawn;
 
 pub use basis::Basis;
@@ -32,4 +32,4 @@ pub use pw_obis::{Register, WattHours};
 pub use pw_parts::{Parts, true_parts};
 pub use pw_tariff::{AccountId, BandId, Direction, MeterId, Office, Owner, PeriodId};
 pub use pw_time::{Instant, Zone};
-pub use window::joined;
+pub use start_change::joined;

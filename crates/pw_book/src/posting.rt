@@ -14,11 +14,11 @@ ghost use Rattle.pw_book.specs.Posting.{FailuresPosted, IsPosted, LeavesPosted};
 ghost use Rattle.pw_book.specs.inner.Fresh.{fresh_of};
 ghost use Rattle.pw_book.specs.declared.fault.PostFault.TheVariants.{Full, Reopen};
 
-use crate::asked::{count_held, is_held};
 use crate::basis::Basis;
 use crate::book::Accepted;
 use crate::distinct::distinct;
 use crate::fault::PostFault;
+use crate::shelf_calls::{count_held, is_held};
 use crate::upload::upload;
 use pw_model::Entry;
 use pw_shelf::{Shelf, ShelfFault};

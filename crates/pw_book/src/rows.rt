@@ -11,7 +11,7 @@ ghost use Rattle.pw_parts.specs.Shown.{shown};
 ghost use Rattle.pw_book.specs.inner.Counted.{IsRowOf, StandBefore};
 ghost use Rattle.pw_book.specs.inner.Places.{TellsPoints};
 
-use crate::asked::{points_held, readings_held};
+use crate::shelf_calls::{points_held, readings_held};
 use crate::withdrawn::is_withdrawn;
 use pw_model::{Content, Entry, Key, ReadingRow};
 use pw_obis::{Register, WattHours};

@@ -14,11 +14,11 @@ ghost use Rattle.pw_book.specs.inner.Gathered.{AreKnown, IsTrueAgainBut, IsTrueB
 ghost use Rattle.pw_model.specs.Kinds.{IsReading};
 ghost use Rattle.pw_book.specs.Cost.{HasStarts};
 
-use crate::around::{ReadingAt, begin_to_count, cease_to_count};
 use crate::basis::Basis;
 use crate::gathered::{Gathered, nothing_gathered};
 use crate::moving::{change_total, move_energies};
-use crate::window::change_start;
+use crate::reading_change::{ReadingAt, begin_to_count, cease_to_count};
+use crate::start_change::change_start;
 use pw_model::{Content, Contents, Key, TotalKey};
 use pw_obis::WattHours;
 use pw_shelf::{Shelf, ShelfFault};

@@ -19,11 +19,11 @@ ghost use Rattle.pw_parts.specs.declared.changes.Side.{Side as ASide};
 ghost use Rattle.pw_book.specs.declared.fault.BookFault.TheVariants.{Reopen};
 
 use crate::basis::Basis;
+use crate::effect::add_told;
 use crate::fault::BookFault;
 use crate::gathered::{Gathered, nothing_gathered};
 use crate::moving::move_energies;
 use crate::settling::settle;
-use crate::told::add_told;
 use pw_model::{Entry, Key};
 use pw_shelf::{Shelf, ShelfFault};
 

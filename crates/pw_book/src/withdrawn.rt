@@ -6,7 +6,7 @@ ghost use Rattle.pw_shelf.specs.Calls.{failures_told};
 ghost use Rattle.pw_book.specs.Asking.{IsOnlyAsked};
 ghost use Rattle.pw_book.specs.inner.Withdrawn.{is_something};
 
-use crate::asked::contents_held;
+use crate::shelf_calls::contents_held;
 use pw_model::{Contents, Entry, Key, Named};
 use pw_shelf::{Shelf, ShelfFault};
 use std::alloc::Global;

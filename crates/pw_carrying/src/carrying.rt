@@ -11,7 +11,7 @@ ghost use Rattle.pw_carrying.specs.inner.Stages.{CarriesOn, IsListOf, list_place
 
 use crate::fault::CarryFault;
 use crate::lists::{HeldList, list_at, list_count, records_in};
-use crate::told::Carrying;
+use crate::progress::Carrying;
 use crate::waiting::{Waiting, give_all, post_waiting};
 use pw_book::{Basis, Book, PostFault};
 use pw_shelf::Shelf;

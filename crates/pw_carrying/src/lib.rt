@@ -1,20 +1,20 @@
 //! The records of a book, carried into the book of another office, and compared with what was sent.
 #![tactic(auto)]
 
-mod asked;
 mod carrying;
 mod fault;
 mod held;
 mod lists;
+mod progress;
 mod readings;
 mod renamed;
 mod sending;
-mod told;
+mod shelf_calls;
 mod waiting;
 
 pub use carrying::carry_into;
 pub use fault::CarryFault;
 pub use held::unsent;
+pub use progress::{Carrying, Untold};
 pub use readings::last_reading;
 pub use sending::lacking;
-pub use told::{Carrying, Untold};

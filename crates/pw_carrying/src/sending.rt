@@ -6,7 +6,7 @@ ghost use Rattle.pw_book.specs.Asking.{IsOnlyAsked};
 ghost use Rattle.pw_book.specs.Questions.{IsQuestion};
 ghost use Rattle.pw_carrying.specs.Lacking.{AreLacking, lacking_in};
 
-use crate::asked::is_held;
+use crate::shelf_calls::is_held;
 use pw_book::{Book, BookFault};
 use pw_model::Entry;
 use pw_shelf::{Shelf, ShelfFault};

@@ -6,8 +6,8 @@ ghost use Rattle.pw_carrying.specs.Carrying.{HasUploads, posted_of};
 ghost use Rattle.pw_carrying.specs.inner.Stages.{Gives, IsNotAsked, Sends};
 
 use crate::fault::CarryFault;
+use crate::progress::Carrying;
 use crate::renamed::all_carried;
-use crate::told::Carrying;
 use pw_book::{Basis, Book};
 use pw_model::Entry;
 use pw_shelf::Shelf;

@@ -21,13 +21,13 @@ use crate::offices::{office_text, read_office};
 use crate::pipe::pipe_run;
 use crate::progress::{Follow, Progress};
 use crate::server::Term;
-use crate::serving::serve;
+use crate::serving::{origins_of, serve};
 use crate::store::{FileBook, close_book, open_book};
 use crate::telling::{finish, tell};
 use crate::verifying::{Verification, verify};
 use pw_book::{Book, BookFault};
 use pw_found::Purpose;
-use pw_http::{Audience, Origin};
+use pw_http::Audience;
 use pw_model::{Entry, MOST_RECORDS};
 use pw_read::read_run;
 use pw_record::{UploadBytes, UploadFault, UploadKind, upload_records};
@@ -35,7 +35,7 @@ use pw_report::{MonthPage, Page, month_of, page_text};
 use pw_store::{SqlShelf, Watch};
 use pw_tariff::Office;
 use pw_time::Zone;
-use pw_words::words::{command, no_origin};
+use pw_words::words::command;
 use pw_words::{Command, Exported, SAMPLE, WordsFault};
 use sqlite::Alter;
 use std::alloc::Global;
@@ -91,22 +91,6 @@ fn not_asked<O: Write, E: Write>(alloc: Global, fault: WordsFault, out: &mut O, 
         }
         WordsFault::Memory => tell(alloc, Fault::Memory, err),
     }
-}
-
-// The origins of these words; a word that is none is refused.
-fn origins_of<'a>(alloc: Global, urls: &[&'a str]) -> Result<Vec<Origin<'a>>, WordsFault>
-    ensures { IfErr result IsRefusal }
-{
-    let mut origins = Vec::with_capacity(alloc, urls.len())?;
-    for url in urls {
-        let Some(origin) = Origin::of(url.as_bytes()) else {
-            return Err(no_origin(alloc, url));
-        };
-        if origins.push(origin).is_err() {
-            return Err(WordsFault::Memory);
-        }
-    }
-    Ok(origins)
 }
 
 // Does what a command asks for, and answers the exit status.

@@ -1,7 +1,8 @@
 //! The server, whose book is closed behind it; and connections of a listener, one after the other.
 
-ghost use Rattle.std.specs.Prelude.{◌≡◌, ◌⊎◌, None};
+ghost use Rattle.std.specs.Prelude.{◌≡◌, ◌⊎◌, None, IfErr};
 ghost use Rattle.pw_http.specs.Runs.{IsTalk};
+ghost use Rattle.pw_words.specs.Words.{IsRefusal};
 
 use crate::accepting::next_connection;
 use crate::client::Client;
@@ -9,7 +10,9 @@ use crate::fault::Fault;
 use crate::server::{Term, serve_book, serve_told};
 use crate::store::{FileBook, close_book};
 use crate::telling::tell;
-use pw_http::{Audience, MOST_TURNS, Served, Service, WireFault, serve_to};
+use pw_http::{Audience, MOST_TURNS, Origin, Served, Service, WireFault, serve_to};
+use pw_words::WordsFault;
+use pw_words::words::no_origin;
 use std::alloc::Global;
 use std::io::Write;
 use std::net::{TcpListener, TcpStream};
@@ -106,4 +109,20 @@ fn serve_client<R: Clock, V: Service>(
     ensures { IsTalk audience.entry V.serves None None None None service.old service.new MOST_TURNS result }
 {
     serve_to(alloc, service, audience, &mut &*client, &mut &*client)
+}
+
+/// The origins of these words; a word that is none is refused.
+pub fn origins_of<'a>(alloc: Global, urls: &[&'a str]) -> Result<Vec<Origin<'a>>, WordsFault>
+    ensures { IfErr result IsRefusal }
+{
+    let mut origins = Vec::with_capacity(alloc, urls.len())?;
+    for url in urls {
+        let Some(origin) = Origin::of(url.as_bytes()) else {
+            return Err(no_origin(alloc, url));
+        };
+        if origins.push(origin).is_err() {
+            return Err(WordsFault::Memory);
+        }
+    }
+    Ok(origins)
 }

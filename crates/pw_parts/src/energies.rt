@@ -11,7 +11,7 @@ ghost use Rattle.pw_parts.specs.inner.Totals.{HasRoom, IsGiven};
 use crate::changes::{Changes, Side};
 use crate::pairs::add_pairs;
 use crate::places::{assignments_of, readings_of};
-use crate::told::{readings_shown, starts_given};
+use crate::seconds::{readings_shown, starts_given};
 use pw_model::{Entry, direction_of};
 use pw_obis::Register;
 use pw_tariff::{MeterId, Office, Owners};

@@ -10,10 +10,10 @@ mod parts;
 mod payments;
 mod place;
 mod places;
-mod told;
+mod seconds;
 
 pub use changes::{Change, Changes, Side};
 pub use counting::{counting_among, same_key_behind};
 pub use pairs::{Point, add_pairs};
 pub use parts::{Parts, true_parts};
-pub use told::readings_shown;
+pub use seconds::readings_shown;

@@ -9,8 +9,8 @@ use Rattle.pw_obis.proofs.OneCode.{one_code}
 use Rattle.pw_obis.proofs.FirstMark.{one_first_or_none}
 use Rattle.pw_model.specs.Counting.{Member}
 use Rattle.pw_obis.specs.declared.meaning.Meaning.{Meaning}
-use Rattle.pw_record.specs.declared.told.Told.{Told}
-use Rattle.pw_record.specs.declared.told.Told.TheVariants.{Nothing, One, Unlike}
+use Rattle.pw_record.specs.declared.meanings.Told.{Told}
+use Rattle.pw_record.specs.declared.meanings.Told.TheVariants.{Nothing, One, Unlike}
 use Rattle.pw_obis.specs.References.{IsCodeOfMeaning}
 use Rattle.pw_record.specs.Told.{read_as, Tells, IsTold, TellNothing, TellOne, TellUnlike}
 use Rattle.pw_record.specs.inner.Told.{AreTelling}

@@ -6,12 +6,12 @@ mod digits;
 mod fault;
 mod frames;
 pub mod laws;
+mod meanings;
 mod order;
 mod origin;
 mod row;
 mod rows;
 mod shown;
-mod told;
 mod uploads;
 mod watt_hours;
 

@@ -9,7 +9,7 @@ ghost use Rattle.pw_record.specs.Told.{capitals};
 ghost use Rattle.pw_record.specs.inner.Told.{AreTelling};
 
 use crate::fault::Cause;
-use crate::told::{Told, both_told, capital};
+use crate::meanings::{Told, both_told, capital};
 use pw_frame::Kind;
 use pw_obis::{Block, Meaning};
 use pw_tariff::{LONGEST_METER_ID, MeterId, Office};

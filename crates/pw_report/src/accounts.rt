@@ -4,9 +4,9 @@ ghost use Rattle.std.specs.Prelude.{◌≡◌, ◌++◌, IfOk, OnOk};
 ghost use Rattle.pw_report.specs.Reports.{IsReport};
 ghost use Rattle.pw_report.specs.Tables.{account_line, accounts_text};
 
-use crate::asked::still_open;
 use crate::names::account_name;
 use crate::put::{balance_text, put_left, put_right};
+use crate::readiness::still_open;
 use pw_book::{Book, BookFault};
 use pw_shelf::Shelf;
 use pw_tariff::AccountId;

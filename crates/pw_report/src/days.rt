@@ -9,9 +9,9 @@ ghost use Rattle.pw_report.specs.Reports.{IsReport};
 ghost use Rattle.pw_report.specs.inner.Rows.{HasText};
 ghost use Rattle.pw_report.specs.inner.Told.{day_energies};
 
-use crate::asked::still_open;
 use crate::months::{Month, begins_of, date_text, span_of};
 use crate::names::band_letter;
+use crate::readiness::still_open;
 use crate::rows::Rows;
 use itoa::Buffer;
 use pw_bills::{Energies, days};

@@ -10,8 +10,8 @@ ghost use Rattle.pw_report.specs.Reports.{IsReport};
 ghost use Rattle.pw_report.specs.inner.Rows.{HasText};
 ghost use Rattle.pw_tariff.specs.Office.{office_of};
 
-use crate::asked::still_open;
 use crate::names::{account_name, band_letter};
+use crate::readiness::still_open;
 use crate::rows::Rows;
 use itoa::Buffer;
 use pw_book::{Book, BookFault};

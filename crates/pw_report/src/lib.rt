@@ -2,7 +2,6 @@
 #![tactic(auto)]
 
 mod accounts;
-mod asked;
 mod bills;
 mod days;
 mod disputes;
@@ -14,6 +13,7 @@ mod names;
 mod one_meter;
 mod page;
 mod put;
+mod readiness;
 mod readings;
 mod records;
 mod rows;

@@ -4,7 +4,7 @@ ghost use Rattle.std.specs.Prelude.{◌<◌, IfOk, length};
 ghost use Rattle.pw_report.specs.Pages.{IsOneMeterText};
 ghost use Rattle.pw_report.specs.Reports.{IsReport};
 
-use crate::asked::still_open;
+use crate::readiness::still_open;
 use crate::readings::{put_header, put_meter};
 use crate::rows::Rows;
 use pw_book::{Book, BookFault};

@@ -13,9 +13,9 @@ ghost use Rattle.pw_report.specs.Reports.{IsReport};
 ghost use Rattle.pw_report.specs.inner.Rows.{HasText};
 ghost use Rattle.pw_report.specs.inner.Told.{shown_line};
 
-use crate::asked::still_open;
 use crate::names::meter_name;
 use crate::put::instant_text;
+use crate::readiness::still_open;
 use crate::rows::{Rows, Tells, tell_each};
 use itoa::Buffer;
 use pw_book::{Book, BookFault};

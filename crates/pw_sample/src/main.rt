@@ -1,7 +1,7 @@
 //! A cooperative to try powerbook on: an office file, and days of uploads.
 #![tactic(auto)]
 
-mod asked;
+mod arguments;
 mod desk;
 mod draws;
 mod fault;
@@ -14,7 +14,7 @@ mod office;
 mod rows;
 mod sample;
 
-use crate::asked::{Asked, USAGE, read_words};
+use crate::arguments::{Asked, USAGE, read_words};
 use crate::sample::make_sample;
 use std::io::{ErrorKind, Write};
 use std::process::ExitCode;

@@ -8,7 +8,7 @@ ghost use Rattle.pw_schema.specs.Rows.{told, told_amount, told_key};
 
 use crate::kind::{RecordKind, TotalKind};
 use crate::reading::entry_of;
-use crate::totals::total_of;
+use crate::total_rows::total_of;
 use pw_model::{Content, Entry, Key, MOST_CENTS, Named, TotalKey};
 use pw_tariff::{Office, Owner};
 use sqlite::Row;

@@ -22,7 +22,7 @@ mod rowids;
 mod shape;
 mod table;
 mod tables;
-mod totals;
+mod total_rows;
 mod transactions;
 mod values;
 
@@ -41,6 +41,6 @@ pub use records::Records;
 pub use replacing::set_office;
 pub use rowids::Rowids;
 pub use shape::{begins_as_ours, is_nothing, is_of};
-pub use totals::total_of;
+pub use total_rows::total_of;
 pub use transactions::{begin, commit, roll_back};
 pub use values::{direction_place, integer, owner_place, register_place, wide, words};

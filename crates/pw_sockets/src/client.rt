@@ -1,10 +1,10 @@
 //! A connection that is served.
 
 ghost use Rattle.std.specs.Prelude.{◌≡◌, ◌≢◌, ◌≤◌, false, length, IfOk};
-ghost use Rattle.pw_sockets.specs.declared.told.Broke.TheVariants.{Read, Write};
+ghost use Rattle.pw_sockets.specs.declared.observer.Broke.TheVariants.{Read, Write};
 
 use crate::limits::{Course, PARTING, left_of};
-use crate::told::Broke;
+use crate::observer::Broke;
 use mio::net::TcpStream;
 use pw_serve::Stop;
 use std::io::{self, ErrorKind, Read, Write};

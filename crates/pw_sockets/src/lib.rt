@@ -3,17 +3,17 @@
 #![tactic(auto)]
 
 mod accepting;
+mod admission;
 mod alarm;
 mod client;
-mod door;
 mod input;
 mod limits;
+mod observer;
 mod parting;
 mod queue;
 mod sockets;
-mod told;
 
 pub use accepting::{Hindrance, PAUSE, hindrance_of};
 pub use limits::{Course, LAST_READS, PARTING, PATIENCE, left_of};
+pub use observer::{Broke, Told};
 pub use sockets::Sockets;
-pub use told::{Broke, Told};

@@ -1,16 +1,20 @@
 //! The connections of a port of this machine.
 
+mod ended;
+mod lateness;
+mod waiting;
+
 ghost use Rattle.std.specs.Prelude.{◌≡◌};
 
 use crate::accepting::{Hindrance, hindrance_of};
+use crate::admission::Door;
 use crate::alarm::Alarm;
-use crate::client::{Client, HURRY, shorter};
-use crate::door::Door;
+use crate::client::{Client, HURRY};
 use crate::input::{INPUT, Input};
-use crate::limits::{PARTING, PATIENCE, left_of};
-use crate::parting::{Parting, Rest};
+use crate::limits::PATIENCE;
+use crate::observer::{Broke, Told};
+use crate::parting::Parting;
 use crate::queue::Queue;
-use crate::told::{Broke, Told};
 use mio::net::{TcpListener, TcpStream};
 use mio::{Events, Interest, Poll, Token};
 use pw_serve::{Connections, Ending, Event, Stop};
@@ -219,198 +223,9 @@ impl<'a, T: Told> Sockets<'a, T> {
         }
     }
 
-    // The connection that was waited for too long, if there is one: it isn't waited for where it has its turn soon.
-    fn late_client(&self) -> Option<u64> {
-        for (number, client) in self.clients.iter() {
-            if !client.held
-                && client.left(self.closing, self.now).is_zero()
-                && !self.queue.has(*number)
-            {
-                return Some(*number);
-            }
-        }
-        None
-    }
-
-    // An ended connection whose client was read for long enough, if there is one.
-    fn late_parting(&self) -> Option<u64> {
-        for (number, parting) in self.partings.iter() {
-            if parting.left(self.now).is_zero() {
-                return Some(*number);
-            }
-        }
-        None
-    }
-
-    // How long it is until one is waited for too long.
-    fn least_left(&self) -> Duration {
-        let mut least = Duration::from_secs(PATIENCE);
-        for client in self.clients.values() {
-            if !client.held {
-                least = shorter(least, client.left(self.closing, self.now));
-            }
-        }
-        for parting in self.partings.values() {
-            least = shorter(least, parting.left(self.now));
-        }
-        least
-    }
-
-    // A client that was waited for too long; if there is none, the clock is asked again when there may be one.
-    fn expired(&mut self) -> Option<u64> {
-        let now = self.tick();
-        if let Some(number) = self.late_client() {
-            self.judge(number, now);
-            return Some(number);
-        }
-        self.let_go();
-        self.late = false;
-        self.alarm = Alarm::after(self.least_left(), now);
-        None
-    }
-
-    // Closes the ended connections whose clients were read for long enough.
-    fn let_go(&mut self) {
-        for _ in 0..MOST_PARTINGS {
-            let Some(number) = self.late_parting() else {
-                return;
-            };
-            let _ = self.partings.remove(&number);
-        }
-    }
-
-    // Whether a client that isn't waited for any more was too long within its own limits; where the server ends, it is no
-    // fault of its own, and it still gets the last reply.
-    fn judge(&mut self, number: u64, now: Instant) {
-        if let Some(client) = self.clients.get_mut(&number) {
-            if client.own_left(now).is_zero() {
-                client.failed = true;
-                self.told.broke(client.awaits());
-            }
-        }
-    }
-
-    // The turn of a connection: that of an ended one is to be read.
-    fn turn_of(&mut self, number: u64) -> Event {
-        if self.clients.contains_key(&number) {
-            return Event::Ready(number);
-        }
-        let rest = match self.partings.get_mut(&number) {
-            Some(parting) => parting.read_off(),
-            None => return Event::Quiet,
-        };
-        match rest {
-            Rest::Over => {
-                let _ = self.partings.remove(&number);
-            }
-            Rest::More => self.queue.put(number),
-            Rest::Waits => {}
-        }
-        Event::Quiet
-    }
-
     // No connection is left, and none comes.
     fn is_over(&self) -> bool {
         self.door == Door::Shut && self.clients.is_empty() && self.partings.is_empty()
-    }
-
-    // How long events are waited for.
-    fn time_out(&self) -> Duration {
-        if !self.queue.is_empty() || self.door == Door::Open || self.input == Input::Plain {
-            return Duration::ZERO;
-        }
-        let left = self.alarm.left(self.now);
-        match self.door.pause_left(self.now) {
-            Some(pause) => shorter(left, pause),
-            None => left,
-        }
-    }
-
-    // Waits until something is ready, or may be late, and begins a round.
-    fn wait(&mut self) -> Event {
-        self.tick();
-        let time_out = self.time_out();
-        if self.poll.poll(&mut self.events, Some(time_out)).is_err() {
-            self.failed = true;
-            return Event::Closing;
-        }
-        let now = self.tick();
-        self.take_events();
-        self.read_input();
-        self.door = self.door.resumed(now);
-        if self.hurry_is_over(now) {
-            self.door = Door::Shut;
-        }
-        self.knocks = KNOCKS;
-        self.queue.begin_round();
-        self.late = self.alarm.left(now).is_zero();
-        Event::Quiet
-    }
-
-    // Whether the server began to end, and accepts no more.
-    fn hurry_is_over(&self, now: Instant) -> bool {
-        match self.closing {
-            Some(begun) => left_of(Duration::from_millis(HURRY), begun, now).is_zero(),
-            None => false,
-        }
-    }
-
-    fn take_events(&mut self) {
-        for event in &self.events {
-            let token = event.token();
-            if token == LISTENER {
-                self.door = self.door.knocked();
-            } else if token == INPUT {
-                self.input = self.input.told();
-            } else if is_awaited(&self.clients, &self.partings, token.0 as u64) {
-                self.queue.put(token.0 as u64);
-            }
-        }
-    }
-
-    // Reads what standard input has; behind its end the server ends.
-    fn read_input(&mut self) {
-        if !self.input.is_due() {
-            return;
-        }
-        self.input = self.input.read(&self.poll, &mut self.rt.stdin());
-        if self.input == Input::Unwatched {
-            self.close();
-        }
-    }
-
-    // Ends a connection so that its client still gets the last reply.
-    fn part(&mut self, number: u64, stream: TcpStream) {
-        let now = self.tick();
-        let Some(mut parting) = Parting::begin(stream, now) else {
-            return;
-        };
-        match parting.read_off() {
-            Rest::Over => return,
-            Rest::More => self.queue.put(number),
-            Rest::Waits => {}
-        }
-        if self.partings.len() >= MOST_PARTINGS {
-            self.make_room();
-        }
-        if self.partings.insert(number, parting).is_ok() {
-            self.alarm.hasten(Duration::from_secs(PARTING), now);
-        }
-    }
-
-    // Lets the connection go whose end began first.
-    fn make_room(&mut self) {
-        let mut found: Option<(u64, Duration)> = None;
-        for (number, parting) in self.partings.iter() {
-            let left = parting.left(self.now);
-            found = match found {
-                Some((first, least)) if least <= left => Some((first, least)),
-                _ => Some((*number, left)),
-            };
-        }
-        if let Some((number, _)) = found {
-            let _ = self.partings.remove(&number);
-        }
     }
 }
 
@@ -420,18 +235,6 @@ fn listener_at(rt: &HostRuntime, poll: &Poll, port: u16) -> io::Result<TcpListen
     poll.registry()
         .register(&mut listener, LISTENER, Interest::READABLE)?;
     Ok(listener)
-}
-
-// Whether an event of a connection is of use.
-fn is_awaited(
-    clients: &BTreeMap<u64, Client>,
-    partings: &BTreeMap<u64, Parting>,
-    number: u64,
-) -> bool {
-    match clients.get(&number) {
-        Some(client) => !client.held,
-        None => partings.contains_key(&number),
-    }
 }
 
 impl<T: Told> Connections for Sockets<'_, T> {

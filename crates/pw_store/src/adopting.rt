@@ -19,7 +19,8 @@ ghost use Rattle.pw_store.specs.Opening.{KeepsText};
 ghost use Rattle.pw_store.specs.inner.Opened.{HasAdopted, IsReplaced, RowsRefuse};
 
 use crate::fault::{OpenFault, fault_in};
-use crate::opening::{check_rows, see_office, settle, undo};
+use crate::judging::check_rows;
+use crate::opening::{see_office, settle, undo};
 use crate::shelf::SqlShelf;
 use crate::watch::Watch;
 use pw_schema::{StoreVersion, begin, commit, set_office};

@@ -9,7 +9,7 @@ ghost use Rattle.pw_store.specs.inner.Changing.{Fits, IsFree, IsTaken, Makes, ch
 
 use crate::points::{put_point, take_point};
 use crate::starts::{put_start, take_start};
-use crate::totals::{put_total, set_total, take_total};
+use crate::total_statements::{put_total, set_total, take_total};
 use pw_model::TotalKey;
 use pw_obis::{Register, WattHours};
 use pw_tariff::{MeterId, Owner};

@@ -16,7 +16,7 @@ ghost use Rattle.pw_store.specs.inner.Opened.{AreJudged};
 
 use crate::fault::{OpenFault, fault_in};
 use crate::sums::read_energies;
-use crate::totals::fill_total;
+use crate::total_statements::fill_total;
 use pw_model::TotalKey;
 use pw_parts::Parts;
 use pw_tariff::Office;

@@ -11,11 +11,11 @@ ghost use Rattle.pw_store.specs.Kept.{IsAwake, NowIsStore};
 ghost use Rattle.pw_store.specs.inner.Seconds.{IsNearest, first_amount, first_point, point_told, start_told};
 
 use crate::fault::AskFault;
+use crate::liveness::wake;
 use crate::points::{Side, between_rows, nearest_rows};
+use crate::row_values::{all_points, all_starts, one_amount, one_point};
 use crate::starts::start_rows;
-use crate::told::{all_points, all_starts, one_amount, one_point};
-use crate::totals::total_rows;
-use crate::waking::wake;
+use crate::total_statements::total_rows;
 use pw_model::TotalKey;
 use pw_obis::{Register, WattHours};
 use pw_tariff::{MeterId, Owner};

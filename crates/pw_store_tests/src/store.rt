@@ -139,10 +139,10 @@ fn starts_held<S: Shelf>(alloc: Global, shelf: &mut S) -> Result<usize, ShelfFau
 // bears on: pw_shelf shelf.rt Shelf::start_put memory
 // bears on: pw_shelf shelf.rt Shelf::start_put put
 // bears on: pw_shelf shelf.rt Shelf::starts_of memory
-// bears on: pw_store door.rt SqlShelf::close committed
-// bears on: pw_store door.rt SqlShelf::close same
-// bears on: pw_store door.rt SqlShelf::open memory
-// bears on: pw_store door.rt SqlShelf::open_watched memory
+// bears on: pw_store connecting.rt SqlShelf::close committed
+// bears on: pw_store connecting.rt SqlShelf::close same
+// bears on: pw_store connecting.rt SqlShelf::open memory
+// bears on: pw_store connecting.rt SqlShelf::open_watched memory
 #[test]
 fn a_start_is_there_when_opened_again(rt: HostRuntime) {
     let alloc = rt.alloc();
@@ -332,8 +332,8 @@ fn repaired(
 // bears on: pw_schema kept.rt KeptEntries::new memory
 // bears on: pw_schema kept.rt KeptTotals::new memory
 // bears on: pw_shelf shelf.rt Shelf::total amount
-// bears on: pw_store door.rt SqlShelf::open refused
-// bears on: pw_store door.rt SqlShelf::open truth
+// bears on: pw_store connecting.rt SqlShelf::open refused
+// bears on: pw_store connecting.rt SqlShelf::open truth
 // bears on: pw_schema kept.rt KeptEntries::new kind
 // bears on: pw_schema kept.rt KeptEntries::new office
 // bears on: pw_schema kept.rt KeptEntries::new rest
@@ -343,8 +343,8 @@ fn repaired(
 // bears on: pw_schema kept.rt KeptTotals::new rest
 // bears on: pw_schema kept.rt KeptTotals::new start
 // bears on: pw_schema kept.rt KeptTotals::rest ensures
-// bears on: pw_store door.rt SqlShelf::open_watched refused
-// bears on: pw_store door.rt SqlShelf::open_watched truth
+// bears on: pw_store connecting.rt SqlShelf::open_watched refused
+// bears on: pw_store connecting.rt SqlShelf::open_watched truth
 // bears on: pw_schema records.rt Records::into_entries ensures
 #[test]
 fn what_is_kept_beside_records_must_be_true(rt: HostRuntime) {
@@ -373,8 +373,8 @@ fn committed_total_of_0<S: Shelf>(shelf: &mut S) -> Result<(), ShelfFault>
 }
 
 // bears on: pw_schema judge.rt Judge::take took
-// bears on: pw_store door.rt SqlShelf::open content
-// bears on: pw_store door.rt SqlShelf::open_watched content
+// bears on: pw_store connecting.rt SqlShelf::open content
+// bears on: pw_store connecting.rt SqlShelf::open_watched content
 #[test]
 fn a_total_of_0_at_any_key_opens_again(rt: HostRuntime) {
     let mut shelf = empty_shelf(&rt, rt.alloc());

@@ -1,4 +1,4 @@
--- How many failures a call of the shelf counts on the way to an answer. It serves `src/asked.rt` and `src/upload.rt`.
+-- How many failures a call of the shelf counts on the way to an answer. It serves `src/shelf_calls.rt` and `src/upload.rt`.
 use Rattle.std.specs.Prelude.{◌≡◌, ℕ, Result, Ok, Err}
 use Rattle.pw_book.specs.Faults.{post_fault_of}
 use Rattle.pw_book.specs.declared.fault.BookFault.{BookFault}

@@ -1,5 +1,5 @@
 -- What an upload has gathered, and not yet written, and the starts that it knows. It serves `src/gathered.rt`,
--- `src/moving.rt`, `src/around.rt`, `src/settling.rt` and `src/upload.rt`.
+-- `src/moving.rt`, `src/reading_change.rt`, `src/settling.rt` and `src/upload.rt`.
 -- (Definitions of this project.)
 use Rattle.std.specs.Prelude.{◌≡◌, ℕ, ◌+◌, ◌*◌, Option, Some, List, [], ◌∷◌}
 use Rattle.std.specs.BTreeMap.{BTreeMap}

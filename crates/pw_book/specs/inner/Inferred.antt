@@ -1,4 +1,4 @@
--- What was told at the key of a reading before it was added, where several stand behind. It serves `src/told.rt`.
+-- What was told at the key of a reading before it was added, where several stand behind. It serves `src/effect.rt`.
 -- (Definitions of this project.)
 use Rattle.std.specs.Prelude.{ℕ, Option, Some, None}
 use Rattle.pw_model.specs.declared.records.Content.TheVariants as content

@@ -1,4 +1,4 @@
--- What follows in points, starts and totals where one record more is held. It serves `src/around.rt`, `src/window.rt` and
+-- What follows in points, starts and totals where one record more is held. It serves `src/reading_change.rt`, `src/start_change.rt` and
 -- `src/settling.rt`.
 -- (Definitions of this project.)
 use Rattle.std.specs.Prelude.{◌≡◌, ℕ, ◌+◌, ◌<◌, ◌≤◌, ◌⊎◌, Option, None, Some, List, length}

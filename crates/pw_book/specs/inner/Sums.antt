@@ -1,4 +1,4 @@
--- Energy gathered by total. It serves `src/around.rt` and `src/window.rt`.
+-- Energy gathered by total. It serves `src/reading_change.rt` and `src/start_change.rt`.
 -- (Definitions of this project.)
 use Rattle.std.specs.Prelude.{◌≡◌, ℕ, ◌+◌}
 use Rattle.std.specs.BTreeMap.{BTreeMap}

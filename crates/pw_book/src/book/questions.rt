@@ -11,7 +11,6 @@ ghost use Rattle.pw_book.specs.Cost.{RisesAtMost};
 ghost use Rattle.pw_book.specs.Questions.{IsQuestion};
 
 use super::Book;
-use crate::asked::{count_held, topups_held, total_held, withdrawals_held};
 use crate::assignments::all_assignments;
 use crate::balances::balance_held;
 use crate::disputes::disputes_held;
@@ -19,6 +18,7 @@ use crate::energies::{energy_held, energy_in_held};
 use crate::falls::falls_held;
 use crate::fault::BookFault;
 use crate::rows::rows_held;
+use crate::shelf_calls::{count_held, topups_held, total_held, withdrawals_held};
 use pw_model::{Dispute, Entry, Fall, ReadingRow, TotalKey};
 use pw_obis::Register;
 use pw_shelf::Shelf;

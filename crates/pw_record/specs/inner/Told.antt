@@ -1,9 +1,9 @@
--- What the inner steps of reading a frame's texts answer. It serves `src/told.rt`.
+-- What the inner steps of reading a frame's texts answer. It serves `src/meanings.rt`.
 use Rattle.std.specs.Prelude.{List}
 use Rattle.pw_obis.specs.declared.meaning.Meaning.{Meaning}
 use Rattle.pw_obis.specs.Line.{SetText}
-use Rattle.pw_record.specs.declared.told.Told.{Told}
-use Rattle.pw_record.specs.declared.told.Told.TheVariants.{Nothing, One, Unlike}
+use Rattle.pw_record.specs.declared.meanings.Told.{Told}
+use Rattle.pw_record.specs.declared.meanings.Told.TheVariants.{Nothing, One, Unlike}
 use Rattle.pw_record.specs.Told.{read_as, TellNothing, TellOne, TellUnlike}
 
 -- what the sets tell

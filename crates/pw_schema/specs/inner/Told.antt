@@ -1,4 +1,4 @@
--- What a row is read as. It serves `src/reading.rt` and `src/totals.rt`.
+-- What a row is read as. It serves `src/reading.rt` and `src/total_rows.rt`.
 use Rattle.std.specs.Prelude.{◌≡◌, ℕ, IfNone, IfSome, Option}
 use Rattle.sqlite.specs.Order.{Row}
 use Rattle.pw_tariff.specs.Office.{OfficeRules}

@@ -1,7 +1,7 @@
--- Whether clients are accepted. It serves `src/door.rt`.
+-- Whether clients are accepted. It serves `src/admission.rt`.
 use Rattle.std.specs.Prelude.{⊤, ℕ}
-use Rattle.pw_sockets.specs.declared.door.Door.{Door}
-use Rattle.pw_sockets.specs.declared.door.Door.TheVariants.{Open, Quiet, Paused, Shut}
+use Rattle.pw_sockets.specs.declared.admission.Door.{Door}
+use Rattle.pw_sockets.specs.declared.admission.Door.TheVariants.{Open, Quiet, Paused, Shut}
 
 abbrev pub IsPaused : Door → Type 0
 IsPaused (Paused since) = ⊤

@@ -1,4 +1,4 @@
--- What a statement within an upload makes of a store. It serves `src/points.rt`, `src/starts.rt`, `src/totals.rt`,
+-- What a statement within an upload makes of a store. It serves `src/points.rt`, `src/starts.rt`, `src/total_statements.rt`,
 -- `src/fault.rt`, `src/changes.rt`, `src/upload.rt`, `src/records.rt` and `src/entries.rt`.
 -- (Definitions of this project.)
 use Rattle.std.specs.Prelude.{◌≡◌, ◌<◌, ◌^◌, ℕ, zero, suc, pos, Bool, Option, Some, None, List, [], ◌∷◌, true, false}

@@ -1,4 +1,4 @@
--- Which totals are put by period where a store is brought to version 3. It serves `src/totals.rt` and
+-- Which totals are put by period where a store is brought to version 3. It serves `src/total_statements.rt` and
 -- `src/filling.rt`.
 -- (Definitions of this project.)
 use Rattle.std.specs.Prelude.{◌≡◌, ◌⊎◌, ◌++◌, ℕ, Bool, true, false, List, filter, map, Option, Some, None}

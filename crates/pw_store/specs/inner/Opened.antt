@@ -1,4 +1,4 @@
--- What private functions of an opening find. It serves `src/opening.rt`, `src/adopting.rt`, `src/door.rt`,
+-- What private functions of an opening find. It serves `src/opening.rt`, `src/judging.rt`, `src/adopting.rt`, `src/connecting.rt`,
 -- `src/filling.rt` and `src/sums.rt`.
 -- (Definitions of this project.)
 use Rattle.std.specs.Prelude.{◌≡◌, ◌⊎◌, ◌≤◌, ℕ, false, List, [], length, IsTrue}

@@ -1,5 +1,5 @@
 -- What rows tell by the second, as a query shows them: a second, and what is told at it. It serves `src/points.rt`,
--- `src/starts.rt` and `src/told.rt`.
+-- `src/starts.rt` and `src/row_values.rt`.
 -- (Definitions of this project.)
 use Rattle.std.specs.Prelude.{ℕ, Option, Some, None, List, [], ◌∷◌, codes}
 use Rattle.sqlite.specs.Order.{Row, column}

@@ -1,5 +1,0 @@
-use Rattle.std.proofs.Common.{rules}
-use Rattle.pw_book.proofs.asked.total_held.Goals as goal
-
-pub returns-clause-tally : goal.returns-clause-tally
-returns-clause-tally g c = search rules depth 0 fits 100

@@ -1,4 +1,0 @@
-use Rattle.pw_book.proofs.asked.withdrawals_held.Goals as goal
-
-pub returns-clause-rows : goal.returns-clause-rows
-returns-clause-rows g c = assumption

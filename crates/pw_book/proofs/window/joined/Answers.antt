@@ -1,5 +1,0 @@
-use Rattle.std.proofs.Common.{rules}
-use Rattle.pw_book.proofs.window.joined.Goals as goal
-
-pub returns : goal.returns
-returns c = search rules depth 1 fits 100

@@ -1,5 +1,0 @@
-use Rattle.std.proofs.Common.{rules}
-use Rattle.pw_schema.proofs.totals.total_of.Goals as goal
-
-pub returns-in-Energies-clause-told : goal.returns-in-Energies-clause-told
-returns-in-Energies-clause-told c = search rules depth 0 fits 100
