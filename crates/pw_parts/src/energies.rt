@@ -8,10 +8,10 @@ ghost use Rattle.pw_tariff.specs.Owners.{owner_by_starts};
 ghost use Rattle.pw_parts.specs.inner.Given.{AreCounted, energies_given, meter_given, register_given};
 ghost use Rattle.pw_parts.specs.inner.Totals.{HasRoom, IsGiven};
 
+use crate::by_second::{readings_shown, starts_given};
 use crate::changes::{Changes, Side};
 use crate::pairs::add_pairs;
 use crate::places::{assignments_of, readings_of};
-use crate::seconds::{readings_shown, starts_given};
 use pw_model::{Entry, direction_of};
 use pw_obis::Register;
 use pw_tariff::{MeterId, Office, Owners};

@@ -1,6 +1,7 @@
 //! The points, starts and totals of a set of records, from the records alone.
 #![tactic(auto)]
 
+mod by_second;
 mod changes;
 mod counting;
 mod energies;
@@ -10,10 +11,9 @@ mod parts;
 mod payments;
 mod place;
 mod places;
-mod seconds;
 
+pub use by_second::readings_shown;
 pub use changes::{Change, Changes, Side};
 pub use counting::{counting_among, same_key_behind};
 pub use pairs::{Point, add_pairs};
 pub use parts::{Parts, true_parts};
-pub use seconds::readings_shown;

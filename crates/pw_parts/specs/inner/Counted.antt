@@ -1,4 +1,4 @@
--- The records that count, and what they tell by the second. It serves `src/seconds.rt`.
+-- The records that count, and what they tell by the second. It serves `src/by_second.rt`.
 -- (Definitions of this project.)
 use Rattle.std.specs.Prelude.{ℕ, Option, Some, None, List}
 use Rattle.pw_tariff.specs.declared.ids.AccountId.{AccountId}

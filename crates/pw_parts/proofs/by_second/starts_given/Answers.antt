@@ -2,8 +2,8 @@ use Rattle.std.proofs.Common.{ℕ, Option, Vec, Global, sym, ◌∙◌, ap}
 use Rattle.pw_tariff.specs.declared.ids.AccountId.{AccountId}
 use Rattle.pw_parts.specs.inner.Counted.{given}
 use Rattle.pw_parts.proofs.Telling.{told-some, told-none}
-use Rattle.pw_parts.proofs.seconds.starts_given.Goals as goal
-use Rattle.pw_parts.proofs.seconds.starts_given.Goals.{in-Some+in_ok-push, in_default}
+use Rattle.pw_parts.proofs.by_second.starts_given.Goals as goal
+use Rattle.pw_parts.proofs.by_second.starts_given.Goals.{in-Some+in_ok-push, in_default}
 
 pub loop-entry-preserved : goal.loop-entry-preserved
 loop-entry-preserved c =

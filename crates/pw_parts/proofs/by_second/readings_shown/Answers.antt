@@ -1,8 +1,8 @@
 use Rattle.std.proofs.Common.{ℕ, Vec, Global, sym, ◌∙◌, ap}
 use Rattle.pw_parts.specs.Shown.{shown}
 use Rattle.pw_parts.proofs.Telling.{told-some, told-none}
-use Rattle.pw_parts.proofs.seconds.readings_shown.Goals as goal
-use Rattle.pw_parts.proofs.seconds.readings_shown.Goals.{in-Some+in_ok-push, in_default}
+use Rattle.pw_parts.proofs.by_second.readings_shown.Goals as goal
+use Rattle.pw_parts.proofs.by_second.readings_shown.Goals.{in-Some+in_ok-push, in_default}
 
 pub loop-entry-preserved : goal.loop-entry-preserved
 loop-entry-preserved c =
