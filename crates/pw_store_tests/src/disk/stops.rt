@@ -1,0 +1,130 @@
+//! A new store is opened, or records are uploaded to one that holds some, as a file stops at each of its calls.
+
+use super::answers::{Standing, Told};
+use super::{
+    AT_SIX, BEHIND_READINGS, BOTH_READINGS, Case, End, FIRST_OWNER, Image, LONG,
+    PAYMENT_AND_READINGS, SETTLED, SHORT, TOPUP, TWO_READINGS, TWO_WITHDRAWALS, Upload, image_of,
+    new_files, stops_at_each,
+};
+use crate::entries::Sent;
+use pw_tests::sample::{FIVE, METER, SECOND, SEVEN, SIX};
+use std::alloc::Global;
+use std::process::Abort;
+
+// The meter passes to the second account between the two readings.
+const MID_PAIR: Upload = &[Sent::Given(METER, FIVE + 1_800, Some(SECOND))];
+
+const PAYMENT: [Upload; 2] = [FIRST_OWNER, TOPUP];
+
+const DISPUTED_READINGS: [Upload; 4] = [FIRST_OWNER, TOPUP, TWO_READINGS, AT_SIX];
+
+const READINGS: [Upload; 1] = [TWO_READINGS];
+
+const WITHDRAWALS: [Upload; 1] = [TWO_WITHDRAWALS];
+
+const PASSING_ON: [Upload; 1] = [MID_PAIR];
+
+const NOTHING: Told = Told {
+    records: 0,
+    energies: [0; 12],
+    first: (0, 0),
+    second: (0, 0),
+    readings: &[],
+};
+
+const BEHIND_PAYMENT: Told = Told {
+    records: 2,
+    energies: [0; 12],
+    first: (5_000, 50_000_000_000),
+    second: (0, 0),
+    readings: &[],
+};
+
+const PASSED_ON: Told = Told {
+    records: 5,
+    energies: [0, 0, 0, 0, 750, 0, 0, 0, 750, 0, 1_501, 0],
+    first: (5_000, 49_850_000_000),
+    second: (0, -600_300_000),
+    readings: BOTH_READINGS,
+};
+
+// The disputed readings between the two count nothing.
+const IN_DISPUTE: Told = Told {
+    records: 7,
+    energies: [0, 0, 0, 0, 1_500, 0, 1_501, 0, 0, 0, 0, 0],
+    first: (5_000, 49_249_700_000),
+    second: (0, 0),
+    readings: &[
+        (FIVE, 1_000_000, Standing::Counts),
+        (SIX, 1_001_000, Standing::Disputed),
+        (SIX, 1_001_200, Standing::Disputed),
+        (SIX, 1_001_500, Standing::Disputed),
+        (SEVEN, 1_003_001, Standing::Counts),
+    ],
+};
+
+// Each file stops at each of its calls, as the uploads are made with a long log and with a short one.
+fn stops_with_each_log(
+    rt: &impl Abort,
+    alloc: Global,
+    store: &Image,
+    uploads: &[Upload],
+    [before, behind]: [Told; 2],
+) {
+    for (pages, db_end) in [(LONG, End::NoConnection), (SHORT, End::Refused)] {
+        let case = Case {
+            uploads,
+            before,
+            behind,
+            pages,
+        };
+        stops_at_each(rt, alloc, store, &case, true, End::Refused);
+        stops_at_each(rt, alloc, store, &case, false, db_end);
+    }
+}
+
+// What the files of a new store hold behind uploads, where nothing was copied from the log.
+fn stored(rt: &impl Abort, alloc: Global, uploads: &[Upload]) -> Image {
+    image_of(rt, alloc, &new_files(rt, alloc, uploads, false))
+}
+
+#[test]
+fn a_new_store_is_empty_wherever_its_opening_stops(rt: HostRuntime) {
+    let alloc = rt.alloc();
+    let nothing = Image {
+        log: Vec::new(alloc),
+        db: Vec::new(alloc),
+    };
+    let case = Case {
+        uploads: &[],
+        before: NOTHING,
+        behind: NOTHING,
+        pages: LONG,
+    };
+    stops_at_each(&rt, alloc, &nothing, &case, true, End::NoStore);
+    stops_at_each(&rt, alloc, &nothing, &case, false, End::NoConnection);
+}
+
+// bears on: pw_shelf shelf.rt Shelf::commit left
+#[test]
+fn both_readings_are_there_or_none(rt: HostRuntime) {
+    let alloc = rt.alloc();
+    let store = stored(&rt, alloc, &PAYMENT);
+    let told = [BEHIND_PAYMENT, BEHIND_READINGS];
+    stops_with_each_log(&rt, alloc, &store, &READINGS, told);
+}
+
+#[test]
+fn a_meter_passes_on_whole_or_not(rt: HostRuntime) {
+    let alloc = rt.alloc();
+    let store = stored(&rt, alloc, &PAYMENT_AND_READINGS);
+    let told = [BEHIND_READINGS, PASSED_ON];
+    stops_with_each_log(&rt, alloc, &store, &PASSING_ON, told);
+}
+
+#[test]
+fn two_withdrawals_are_there_or_none(rt: HostRuntime) {
+    let alloc = rt.alloc();
+    let store = stored(&rt, alloc, &DISPUTED_READINGS);
+    stops_with_each_log(&rt, alloc, &store, &WITHDRAWALS, [IN_DISPUTE, SETTLED]);
+}
