@@ -47,7 +47,7 @@ fn status_of(rt: &HostRuntime) -> u8 {
     )
 }
 
-/// The words behind the program's name. A word that is no text is an error.
+// The words behind the program's name. A word that is no text is an error.
 fn words_of<R: Env + AllocGlobal>(rt: &R) -> io::Result<Vec<String>> {
     let mut words = Vec::new(rt.alloc());
     for word in env::args(rt)?.skip(1) {

@@ -65,7 +65,7 @@ pub(crate) fn load<O: Write, E: Write, F: Follow>(
     }
 }
 
-/// The acceptance line of an upload that a store has taken.
+// The acceptance line of an upload that a store has taken.
 fn load_file<W: Watch>(
     rt: &HostRuntime,
     target: Target<'_>,

@@ -5,7 +5,7 @@ ghost use Rattle.pw_frame.specs.Frame.{IsHexadecimalDigit, StatedCrc, StatedChec
 
 use crate::bytes::{CR, ETX, LF, byte_at};
 
-/// The value of a hexadecimal digit in either letter case.
+// The value of a hexadecimal digit in either letter case.
 fn hex_digit(byte: u8) -> Option<u16>
     ensures some { IfSome result (λ digit. IsHexadecimalDigit byte digit) }
     ensures none { IfNone result ((digit : ℕ) → IsHexadecimalDigit byte digit → ⊥) }

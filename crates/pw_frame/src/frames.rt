@@ -78,7 +78,7 @@ impl<'a> Frames<'a> {
     }
 }
 
-/// The place behind all CR LF pairs that stand at `from`.
+// The place behind all CR LF pairs that stand at `from`.
 fn skip_line_ends(body: &[u8], from: usize) -> usize
     requires { from ≤ length body.now }
     ensures gap { PairsBetween body.now from result }

@@ -8,7 +8,7 @@ ghost use Rattle.pw_frame.specs.declared.frame.Kind.{Kind};
 use crate::bytes::{CR, LF, STX, byte_at, is_character};
 use crate::frame::{FrameFault, Kind};
 
-/// The first place behind `/` that holds no character.
+// The first place behind `/` that holds no character.
 fn header_end(rest: &[u8]) -> usize
     requires { slice_index rest.now 0 ≡ 47 }
     ensures end { HeaderEnd rest.now result }
@@ -21,7 +21,7 @@ fn header_end(rest: &[u8]) -> usize
     end
 }
 
-/// The kind of the frame that is opened at a place: by an empty line or by STX.
+// The kind of the frame that is opened at a place: by an empty line or by STX.
 fn kind_at(rest: &[u8], at: usize) -> Option<Kind>
     requires { at < 2 ^ 63 }
     ensures some { IfSome result (λ kind. Opens kind rest.now at × (block_start kind at ≤ length rest.now + 2)) }

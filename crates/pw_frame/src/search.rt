@@ -7,7 +7,7 @@ ghost use Rattle.pw_frame.specs.inner.Search.{IsBlockFault};
 use crate::bytes::{CR, LF};
 use crate::frame::FrameFault;
 
-/// Whether a block that begins at `start` ends before the place `i`.
+// Whether a block that begins at `start` ends before the place `i`.
 fn ends_at(rest: &[u8], start: usize, i: usize) -> bool
     requires from { start ≤ i }
     requires within { i < length rest.now }

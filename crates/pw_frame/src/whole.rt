@@ -12,7 +12,7 @@ use crate::head::{head, start_of_block};
 use crate::parity::block_check;
 use crate::search::block_end;
 
-/// The size of the telegram whose block ends at `block_end`, or what is wrong behind its block.
+// The size of the telegram whose block ends at `block_end`, or what is wrong behind its block.
 fn telegram_size(
     rest: &[u8],
     place: usize,
@@ -39,7 +39,7 @@ fn telegram_size(
     Ok(block_end + 7)
 }
 
-/// The size of the readout whose block ends at `block_end`, or what is wrong behind its block.
+// The size of the readout whose block ends at `block_end`, or what is wrong behind its block.
 fn readout_size(
     rest: &[u8],
     place: usize,
@@ -66,7 +66,7 @@ fn readout_size(
     Ok(block_end + 5)
 }
 
-/// The size of the frame whose block ends at `block_end`, or what is wrong behind its block.
+// The size of the frame whose block ends at `block_end`, or what is wrong behind its block.
 fn frame_size(
     kind: Kind,
     rest: &[u8],

@@ -17,7 +17,7 @@ use httparse::spans::EMPTY_HEADER_SPAN;
 use pw_serve::{Answer, Connections, serve_many};
 use std::alloc::Global;
 
-/// A service of requests, as it answers the bytes of connections.
+// A service of requests, as it answers the bytes of connections.
 #[derive(Drop)]
 struct Answering<'a, S> {
     service: &'a mut S,
@@ -58,7 +58,7 @@ impl<S: Service> pw_serve::Service for Answering<'_, S> {
     }
 }
 
-/// Whether the reply to the request at these places may be a large one.
+// Whether the reply to the request at these places may be a large one.
 fn has_large_reply(routes: &Routes, bytes: &[u8], whole: Places) -> bool
     requires method { IsWithin (length bytes.now) whole.method }
     requires target { IsWithin (length bytes.now) whole.target }
@@ -67,8 +67,8 @@ fn has_large_reply(routes: &Routes, bytes: &[u8], whole: Places) -> bool
     is_large_at(routes.place(whole.method.of(bytes), whole.target.of(bytes)))
 }
 
-/// Answers a whole request, whose parts stand at these places, where its reply may be made. A reply for which
-/// there is no memory is lost.
+// Answers a whole request, whose parts stand at these places, where its reply may be made. A reply for which
+// there is no memory is lost.
 fn reply_in_turn<S: Service>(
     alloc: Global,
     service: &mut S,
@@ -94,7 +94,7 @@ fn reply_in_turn<S: Service>(
     Answer::Replied(whole.len, whole.closes)
 }
 
-/// Answers the first request, if it is wholly there, or refuses it.
+// Answers the first request, if it is wholly there, or refuses it.
 fn answer_first<S: Service>(
     alloc: Global,
     service: &mut S,

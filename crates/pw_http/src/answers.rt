@@ -69,7 +69,7 @@ pub(crate) fn said(status: Status, text: &str) -> Answer
     Answer::of_line(status, line_of(text))
 }
 
-/// A file of the page.
+// A file of the page.
 fn given(file: File) -> Answer
     ensures { reply_of result ≡ file_reply file }
 {
@@ -89,7 +89,7 @@ fn refused_status(cause: Cause) -> Status
     }
 }
 
-/// What is answered to an upload that is refused in reading its body.
+// What is answered to an upload that is refused in reading its body.
 fn refused(fault: UploadFault) -> Answer
     ensures { reply_of result ≡ upload_reply (Refused fault) }
 {
@@ -105,7 +105,7 @@ fn posted_status(fault: PostFault) -> Status
     }
 }
 
-/// What is answered to an upload that was posted.
+// What is answered to an upload that was posted.
 fn posted(answer: Result<Accepted, PostFault>) -> Answer
     ensures { reply_of result ≡ posted_reply answer }
 {
@@ -115,7 +115,7 @@ fn posted(answer: Result<Accepted, PostFault>) -> Answer
     }
 }
 
-/// Takes an upload.
+// Takes an upload.
 fn take<S: Shelf>(book: &mut Book<S>, alloc: Global, kind: UploadKind, body: &[u8]) -> Answer
     ensures { Takes S.Shelf (upload_with kind.entry body.now) book.old (reply_of result) book.new }
 {
@@ -146,7 +146,7 @@ fn content_of(page: Page) -> ContentType
     }
 }
 
-/// Asks for a page.
+// Asks for a page.
 fn show<S: Shelf>(book: &mut Book<S>, alloc: Global, page: Page) -> Answer
     requires { IsPageOf book.old.office page }
     ensures { Shows S.Shelf page book.old (reply_of result) book.new }
@@ -161,7 +161,7 @@ fn show<S: Shelf>(book: &mut Book<S>, alloc: Global, page: Page) -> Answer
     }
 }
 
-/// Asks for the statement of the account of a name.
+// Asks for the statement of the account of a name.
 fn show_account<S: Shelf>(book: &mut Book<S>, alloc: Global, name: &[u8]) -> Answer
     ensures { ShowsAccount S.Shelf name.now book.old (reply_of result) book.new }
 {
@@ -171,7 +171,7 @@ fn show_account<S: Shelf>(book: &mut Book<S>, alloc: Global, name: &[u8]) -> Ans
     }
 }
 
-/// Asks for a page of the account of a name for the month of a text. The account is looked at first.
+// Asks for a page of the account of a name for the month of a text. The account is looked at first.
 fn show_month<S: Shelf>(
     book: &mut Book<S>,
     alloc: Global,
@@ -187,7 +187,7 @@ fn show_month<S: Shelf>(
     show_month_of(book, alloc, what, account, text)
 }
 
-/// Asks for a page of an account for the month of a text.
+// Asks for a page of an account for the month of a text.
 fn show_month_of<S: Shelf>(
     book: &mut Book<S>,
     alloc: Global,
@@ -204,7 +204,7 @@ fn show_month_of<S: Shelf>(
     }
 }
 
-/// Asks for the readings of the meter of an id.
+// Asks for the readings of the meter of an id.
 fn show_meter<S: Shelf>(book: &mut Book<S>, alloc: Global, id: &[u8]) -> Answer
     ensures { ShowsMeter S.Shelf id.now book.old (reply_of result) book.new }
 {

@@ -64,7 +64,7 @@ impl<'a> Origin<'a> {
     }
 }
 
-/// Whether a text begins with another, in any letter case.
+// Whether a text begins with another, in any letter case.
 fn begins_with(front: &[u8], text: &[u8]) -> bool
     ensures { result ≡ begins front.now text.now }
 {
@@ -91,7 +91,7 @@ fn is_host_byte(b: u8) -> bool
     b.is_ascii_alphanumeric() || matches!(b, b'-' | b'.' | b':' | b'[' | b']' | b'_')
 }
 
-/// Whether a text is a host, with a port or without.
+// Whether a text is a host, with a port or without.
 fn is_host(text: &[u8]) -> bool
     ensures { result ≡ is_host_text text.now }
 {
@@ -104,7 +104,7 @@ fn is_host(text: &[u8]) -> bool
     is_host
 }
 
-/// Whether a text is a port with its colon, or nothing.
+// Whether a text is a port with its colon, or nothing.
 fn is_port(text: &[u8]) -> bool
     ensures { result ≡ is_port_text text.now }
 {
@@ -123,21 +123,21 @@ fn are_digits(text: &[u8]) -> bool
     all
 }
 
-/// Whether a Host is this name, with any port.
+// Whether a Host is this name, with any port.
 fn names(name: &[u8], host: &[u8]) -> bool
     ensures { result ≡ names_host name.now host.now }
 {
     begins_with(name, host) && is_port(behind(host, name.len()))
 }
 
-/// Whether a Host names this machine.
+// Whether a Host names this machine.
 fn is_here(host: &[u8]) -> bool
     ensures { result ≡ is_host_here host.now }
 {
     names(b"127.0.0.1", host) || names(b"localhost", host) || names(b"[::1]", host)
 }
 
-/// Whether an origin's text says this scheme and this host.
+// Whether an origin's text says this scheme and this host.
 fn is_page_of(scheme: Scheme, host: &[u8], text: &[u8]) -> bool
     ensures { result ≡ says_page scheme host.now text.now }
 {
@@ -151,7 +151,7 @@ fn is_host_of(host: &[u8], origin: &Origin) -> bool
     host.eq_ignore_ascii_case(origin.host)
 }
 
-/// Whether a Host is that of one of the origins.
+// Whether a Host is that of one of the origins.
 fn has_host(origins: &[Origin], host: &[u8]) -> bool
     ensures { result ≡ list_any (says_host host.now) origins.now }
 {
@@ -164,21 +164,21 @@ fn has_host(origins: &[Origin], host: &[u8]) -> bool
     found
 }
 
-/// Whether a Host is of this machine, or of one of the origins.
+// Whether a Host is of this machine, or of one of the origins.
 fn is_known_host(origins: &[Origin], host: &[u8]) -> bool
     ensures { result ≡ knows_host origins.now host.now }
 {
     is_here(host) || has_host(origins, host)
 }
 
-/// Whether a page may ask at this Host by this origin.
+// Whether a page may ask at this Host by this origin.
 fn is_let_by(host: &[u8], page: &[u8], origin: &Origin) -> bool
     ensures { result ≡ lets_by host.now page.now origin.now }
 {
     is_page_of(origin.scheme, origin.host, page) && (is_here(host) || is_host_of(host, origin))
 }
 
-/// Whether a page may ask at this Host by one of the origins.
+// Whether a page may ask at this Host by one of the origins.
 fn is_let_by_any(origins: &[Origin], host: &[u8], page: &[u8]) -> bool
     ensures { result ≡ list_any (lets_by host.now page.now) origins.now }
 {
@@ -191,7 +191,7 @@ fn is_let_by_any(origins: &[Origin], host: &[u8], page: &[u8]) -> bool
     found
 }
 
-/// Whether a page may ask at this Host.
+// Whether a page may ask at this Host.
 fn is_known_page(origins: &[Origin], host: &[u8], page: &[u8]) -> bool
     ensures { result ≡ knows_page origins.now host.now page.now }
 {
@@ -206,7 +206,7 @@ pub(crate) fn is_name(buf: &[u8], span: HeaderSpan, name: &[u8]) -> bool
     span.name.of(buf).eq_ignore_ascii_case(name)
 }
 
-/// How many headers have this name.
+// How many headers have this name.
 fn count_of(buf: &[u8], spans: &[HeaderSpan], name: &[u8]) -> usize
     requires { All (IsHeaderWithin (length buf.now)) spans.now }
     ensures { result ≡ length (values_of name.now (map (header_bytes buf.now) spans.now)) }
@@ -220,7 +220,7 @@ fn count_of(buf: &[u8], spans: &[HeaderSpan], name: &[u8]) -> usize
     count
 }
 
-/// The value of the first header of this name, or nothing.
+// The value of the first header of this name, or nothing.
 fn value_of<'b>(buf: &'b [u8], spans: &[HeaderSpan], name: &[u8]) -> &'b [u8]
     requires { All (IsHeaderWithin (length buf.now)) spans.now }
     ensures { result.now ≡ first_value (values_of name.now (map (header_bytes buf.now) spans.now)) }

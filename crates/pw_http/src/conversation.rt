@@ -64,7 +64,7 @@ pub(crate) fn answer_whole<S: Service, W: Write>(
     service.serve(alloc, routes, method, target, body, whole.closes, writer)
 }
 
-/// Answers the next request, where it was wholly received.
+// Answers the next request, where it was wholly received.
 fn take_turn<S: Service, W: Write>(
     alloc: Global,
     service: &mut S,
@@ -104,7 +104,7 @@ fn take_turn<S: Service, W: Write>(
     }
 }
 
-/// Answers each request that was wholly received.
+// Answers each request that was wholly received.
 fn answer_all<S: Service, W: Write>(
     alloc: Global,
     service: &mut S,

@@ -9,7 +9,7 @@ use std::alloc::{AllocError, Global};
 use std::io::{self, Read};
 use std::marker::Model;
 
-/// Moves the bytes from `n` to `filled` to the front.
+// Moves the bytes from `n` to `filled` to the front.
 fn shift(bytes: &mut [u8], filled: usize, n: usize)
     requires order { n ≤ filled }
     requires within { filled ≤ length bytes.old }
@@ -19,7 +19,7 @@ fn shift(bytes: &mut [u8], filled: usize, n: usize)
     bytes[..filled].rotate_left(n);
 }
 
-/// Reads once, behind the first `filled` bytes.
+// Reads once, behind the first `filled` bytes.
 fn read_behind<R: Read>(reader: &mut R, bytes: &mut [u8], filled: usize) -> io::Result<usize>
     requires { filled < length bytes.old }
     ensures count { IfOk result (λ n. filled + n ≤ length bytes.old) }

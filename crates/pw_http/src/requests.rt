@@ -53,7 +53,7 @@ pub(crate) enum Next {
     Ready(Places),
 }
 
-/// Whether a header has this name.
+// Whether a header has this name.
 fn has_named(buf: &[u8], spans: &[HeaderSpan], name: &[u8]) -> bool
     requires { All (IsHeaderWithin (length buf.now)) spans.now }
     ensures { result ≡ list_any (is_named name.now) (map (header_bytes buf.now) spans.now) }
@@ -74,7 +74,7 @@ fn is_close(buf: &[u8], span: HeaderSpan) -> bool
     is_name(buf, span, b"connection") && span.value.of(buf).eq_ignore_ascii_case(b"close")
 }
 
-/// Whether a header asks that the conversation end.
+// Whether a header asks that the conversation end.
 fn has_close(buf: &[u8], spans: &[HeaderSpan]) -> bool
     requires { All (IsHeaderWithin (length buf.now)) spans.now }
     ensures { result ≡ list_any asks_close (map (header_bytes buf.now) spans.now) }
@@ -88,7 +88,7 @@ fn has_close(buf: &[u8], spans: &[HeaderSpan]) -> bool
     found
 }
 
-/// The number that 1 to 10 digits write.
+// The number that 1 to 10 digits write.
 fn number(text: &[u8]) -> Option<u64>
     ensures { result ≡ number_of text.now }
 {
@@ -105,7 +105,7 @@ fn number(text: &[u8]) -> Option<u64>
     Some(value)
 }
 
-/// The length of the body.
+// The length of the body.
 fn said_length(buf: &[u8], spans: &[HeaderSpan]) -> Option<u64>
     requires { All (IsHeaderWithin (length buf.now)) spans.now }
     ensures { result ≡ length_said (values_of (codes "content-length") (map (header_bytes buf.now) spans.now)) }

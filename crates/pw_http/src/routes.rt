@@ -93,7 +93,7 @@ impl Routes {
     }
 }
 
-/// The router of the twenty-one routes.
+// The router of the twenty-one routes.
 fn all_routes(alloc: Global) -> Result<Router<Route>, InsertError>
     ensures { IfOk result (λ router. router ≡ route_table) }
 {

@@ -9,7 +9,7 @@ ghost use Rattle.pw_obis.specs.inner.Groups.{FirstGroup, ReadsBefore, ReadsBehin
 use crate::reference::Code;
 use crate::texts::{behind_mark, is_numeral, with_digits};
 
-/// The value of a text that is one group: one to three digits, at most 255.
+// The value of a text that is one group: one to three digits, at most 255.
 fn group_value(text: &[u8]) -> Option<u8>
     ensures some { IfSome result (λ value. Group text.now value) }
     ensures none { IfNone result ((value : ℕ) → Group text.now value → ⊥) }
@@ -23,7 +23,7 @@ fn group_value(text: &[u8]) -> Option<u8>
     }
 }
 
-/// How many digits a text begins with.
+// How many digits a text begins with.
 fn digits_end(text: &[u8]) -> usize
     ensures within { result ≤ length text.now }
     ensures digits { AllDigits 10 (take result text.now) }
@@ -36,7 +36,7 @@ fn digits_end(text: &[u8]) -> usize
     end
 }
 
-/// The group that a text begins with, and what stands behind it.
+// The group that a text begins with, and what stands behind it.
 fn first_group(text: &[u8]) -> Option<(u8, &[u8])>
     ensures some { IfSome result (λ read. FirstGroup text.now read.0 read.1.now) }
     ensures none { IfNone result ((value : ℕ) (rest : List ℕ) → FirstGroup text.now value rest → ⊥) }
@@ -48,7 +48,7 @@ fn first_group(text: &[u8]) -> Option<(u8, &[u8])>
     }
 }
 
-/// A group with its mark behind it, where the text begins so, and what stands behind.
+// A group with its mark behind it, where the text begins so, and what stands behind.
 fn group_before(text: &[u8], mark: u8) -> (Option<u8>, &[u8])
     requires { digit_value mark < 10 → ⊥ }
     ensures { ReadsBefore mark text.now result.0 result.1.now }
@@ -62,8 +62,8 @@ fn group_before(text: &[u8], mark: u8) -> (Option<u8>, &[u8])
     }
 }
 
-/// A group with its mark in front of it, where the text begins with the mark, and what stands behind;
-/// `None` where no group stands behind the mark.
+// A group with its mark in front of it, where the text begins with the mark, and what stands behind;
+// `None` where no group stands behind the mark.
 fn group_behind(text: &[u8], mark: u8) -> Option<(Option<u8>, &[u8])>
     ensures some { IfSome result (λ read. ReadsBehind mark text.now read.0 read.1.now) }
     ensures none { IfNone result (Unreadable mark text.now) }
@@ -77,7 +77,7 @@ fn group_behind(text: &[u8], mark: u8) -> Option<(Option<u8>, &[u8])>
     }
 }
 
-/// The last group, `*F` or `&F`, of which the text may be.
+// The last group, `*F` or `&F`, of which the text may be.
 fn storage(text: &[u8]) -> Option<Option<u8>>
     ensures some { IfSome result (λ f. Storage text.now f) }
     ensures none { IfNone result ((f : Option ℕ) → Storage text.now f → ⊥) }
@@ -94,7 +94,7 @@ fn storage(text: &[u8]) -> Option<Option<u8>>
     }
 }
 
-/// The groups D, E and F that an address ends with.
+// The groups D, E and F that an address ends with.
 fn ending(text: &[u8]) -> Option<(u8, Option<u8>, Option<u8>)>
     ensures some { IfSome result (λ groups. AddressEnding text.now groups.0 groups.1 groups.2) }
     ensures none { IfNone result ((d : ℕ) (e f : Option ℕ) → AddressEnding text.now d e f → ⊥) }

@@ -124,7 +124,7 @@ pub(crate) fn first_bad_line(block: &[u8]) -> Option<usize>
     None
 }
 
-/// The place of the next set: behind the ends of lines, from `place` on; where none is left, that where the lines stop.
+// The place of the next set: behind the ends of lines, from `place` on; where none is left, that where the lines stop.
 fn next_place(block: &[u8], place: usize, stop: usize) -> usize
     requires { AreLinesUpTo block.now place stop }
     ensures { IsNextPlace block.now place stop result }
@@ -136,7 +136,7 @@ fn next_place(block: &[u8], place: usize, stop: usize) -> usize
     at
 }
 
-/// The set that stands at a place, and the place behind it.
+// The set that stands at a place, and the place behind it.
 fn take_set(block: &[u8], place: usize) -> (Set, usize)
     requires inside { place < length block.now }
     requires set { HasSet block.now place }

@@ -16,7 +16,7 @@ fn is_text(byte: u8) -> bool
     32 <= byte && byte <= 126 && byte != b'(' && byte != b')'
 }
 
-/// The end of the text that stands at `from`.
+// The end of the text that stands at `from`.
 fn text_end(block: &[u8], from: usize) -> usize
     requires { from ≤ length block.now }
     ensures text { TextAt block.now from result }
@@ -29,7 +29,7 @@ fn text_end(block: &[u8], from: usize) -> usize
     to
 }
 
-/// The end of the value that stands at `from`.
+// The end of the value that stands at `from`.
 fn value_end(block: &[u8], from: usize) -> Option<usize>
     requires { from ≤ length block.now }
     ensures some { IfSome result (λ to. ValueAt block.now from to) }
@@ -47,7 +47,7 @@ fn value_end(block: &[u8], from: usize) -> Option<usize>
     }
 }
 
-/// The end of the values that stand at `from`.
+// The end of the values that stand at `from`.
 fn values_end(block: &[u8], from: usize) -> Option<usize>
     requires { from ≤ length block.now }
     ensures some { IfSome result (λ to. (others : ℕ) × ValuesAt block.now (suc others) from to) }

@@ -29,7 +29,7 @@ impl Meaning {
     }
 }
 
-/// Whether a group is absent or the wanted one.
+// Whether a group is absent or the wanted one.
 fn is_absent_or(wanted: u8, group: Option<u8>) -> bool
     ensures { IsTrue result ↔ AbsentOr wanted group }
 {
@@ -39,7 +39,7 @@ fn is_absent_or(wanted: u8, group: Option<u8>) -> bool
     }
 }
 
-/// Whether a group is absent or at most so much.
+// Whether a group is absent or at most so much.
 fn is_absent_or_up_to(most: u8, group: Option<u8>) -> bool
     ensures { IsTrue result ↔ AbsentOrUpTo most group }
 {
@@ -49,7 +49,7 @@ fn is_absent_or_up_to(most: u8, group: Option<u8>) -> bool
     }
 }
 
-/// Whether a code has these groups, and no historical F.
+// Whether a code has these groups, and no historical F.
 fn refers(code: &Code, c: u8, d: u8, e: u8) -> bool
     ensures { IsTrue result ↔ Refers code.now c d e }
 {
@@ -82,14 +82,14 @@ pub fn register(code: &Code) -> Option<Register>
     }
 }
 
-/// Whether a code begins with `0-0:`, as those of a telegram itself do.
+// Whether a code begins with `0-0:`, as those of a telegram itself do.
 fn is_of_telegram(code: &Code, c: u8, d: u8, e: u8) -> bool
     ensures { IsTrue result ↔ OfTelegram code.now c d e }
 {
     code.a == Some(0) && code.b == Some(0) && refers(code, c, d, e)
 }
 
-/// Whether A and B of a code are those of a readout's clock.
+// Whether A and B of a code are those of a readout's clock.
 fn is_of_readout(code: &Code, c: u8, d: u8, e: u8) -> bool
     ensures { IsTrue result ↔ OfReadout code.now c d e }
 {

@@ -29,7 +29,7 @@ pub fn behind_mark(text: &[u8], mark: u8) -> Option<&[u8]>
     }
 }
 
-/// Whether each byte is a digit.
+// Whether each byte is a digit.
 fn are_digits(text: &[u8]) -> bool
     ensures { IsTrue result ↔ AllDigits 10 text.now }
 {

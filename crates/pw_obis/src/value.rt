@@ -19,14 +19,14 @@ pub enum ValueFault {
     TooLarge,
 }
 
-/// A unit in which energy is read.
+// A unit in which energy is read.
 #[derive(Clone, Copy)]
 enum EnergyUnit {
     KilowattHour,
     WattHour,
 }
 
-/// The unit that a text has behind its first `*`, and the number in front.
+// The unit that a text has behind its first `*`, and the number in front.
 fn measured(text: &[u8]) -> Option<(EnergyUnit, &[u8])>
     ensures some { IfSome result (λ m. InUnit text.now m.1.now (unit_text m.0)) }
     ensures none { IfNone result (HasUnit text.now → ⊥) }
@@ -43,7 +43,7 @@ fn measured(text: &[u8]) -> Option<(EnergyUnit, &[u8])>
     None
 }
 
-/// The whole part of 1,000 times a decimal number, from its digits and its decimals.
+// The whole part of 1,000 times a decimal number, from its digits and its decimals.
 fn scaled(whole: &[u8], decimals: &[u8]) -> Option<WattHours>
     requires whole { AllDigits 10 whole.now }
     requires decimals { AllDigits 10 decimals.now }
@@ -60,7 +60,7 @@ fn scaled(whole: &[u8], decimals: &[u8]) -> Option<WattHours>
     WattHours::of(number * place_value(taken.len()))
 }
 
-/// What a number with so many decimals is multiplied by.
+// What a number with so many decimals is multiplied by.
 fn place_value(places: usize) -> u64
     requires { places ≤ 3 }
     ensures value { result ≡ 10 ^ (3 - places) }
@@ -74,7 +74,7 @@ fn place_value(places: usize) -> u64
     }
 }
 
-/// The digits before the point, and those behind it.
+// The digits before the point, and those behind it.
 fn parts(number: &[u8]) -> Option<(&[u8], &[u8])>
     ensures some { IfSome result (λ p. Decimal number.now p.0.now p.1.now) }
     ensures none { IfNone result ((whole decimals : List ℕ) → Decimal number.now whole decimals → ⊥) }
@@ -94,7 +94,7 @@ fn parts(number: &[u8]) -> Option<(&[u8], &[u8])>
     Some((whole, decimals))
 }
 
-/// The energy of a number of kWh.
+// The energy of a number of kWh.
 fn kilowatt_hours(number: &[u8]) -> Result<WattHours, ValueFault>
     ensures { IsCounted EnergyUnit.KilowattHour number.now result }
 {
@@ -107,7 +107,7 @@ fn kilowatt_hours(number: &[u8]) -> Result<WattHours, ValueFault>
     }
 }
 
-/// The energy of a number of Wh.
+// The energy of a number of Wh.
 fn plain_watt_hours(number: &[u8]) -> Result<WattHours, ValueFault>
     ensures { IsCounted EnergyUnit.WattHour number.now result }
 {
@@ -123,7 +123,7 @@ fn plain_watt_hours(number: &[u8]) -> Result<WattHours, ValueFault>
     }
 }
 
-/// The energy of a number in a unit.
+// The energy of a number in a unit.
 fn counted(unit: EnergyUnit, number: &[u8]) -> Result<WattHours, ValueFault>
     ensures { IsCounted unit number.now result }
 {

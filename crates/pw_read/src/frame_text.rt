@@ -48,7 +48,7 @@ pub fn body_text(
     Ok(text)
 }
 
-/// Writes what is printed of a frame behind the text.
+// Writes what is printed of a frame behind the text.
 fn put_frame(
     text: &mut Vec<u8>,
     alloc: Global,
@@ -70,7 +70,7 @@ fn put_frame(
     }
 }
 
-/// Writes the line of an instant, where there is one.
+// Writes the line of an instant, where there is one.
 fn put_instant(text: &mut Vec<u8>, instant: Option<Instant>) -> Result<(), AllocError>
     ensures { OnOk result ((line : List ℕ) × InstantShows instant line × (text.new.items ≡ text.old.items ++ line)) }
 {
@@ -97,7 +97,7 @@ fn put_heading(text: &mut Vec<u8>, frame: &Frame) -> Result<(), AllocError>
     text.extend_from_slice(b"\n")
 }
 
-/// Writes the lines of a block's sets behind the text.
+// Writes the lines of a block's sets behind the text.
 fn put_sets(text: &mut Vec<u8>, alloc: Global, kind: Kind, block: &Block) -> Result<(), Halt>
     ensures ok { OnOk result ((lines : List ℕ) × SetsShow kind block.now lines × (text.new.items ≡ text.old.items ++ lines)) }
     ensures err { IfErr result (SetsHalt kind block.now) }

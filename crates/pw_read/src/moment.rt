@@ -9,7 +9,7 @@ use pw_frame::Kind;
 use pw_obis::{Block, Meaning, first_value};
 use pw_time::{Clock, Instant, StampFault, Zone, readout_instant, stamp};
 
-/// The first value of the first set of a block with a meaning.
+// The first value of the first set of a block with a meaning.
 fn first_told<'a>(block: &Block<'a>, meaning: Meaning) -> Option<&'a [u8]>
     ensures { MatchOption result
         (IsTold meaning block.now None)

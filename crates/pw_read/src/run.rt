@@ -16,7 +16,7 @@ use std::alloc::Global;
 use std::io;
 use std::io::{ErrorKind, Read, Write};
 
-/// What came of a run, beside the text of a body.
+// What came of a run, beside the text of a body.
 #[derive(Drop)]
 enum Failure {
     Body(ReadFault),
@@ -53,7 +53,7 @@ pub fn read_run<R: Read, O: Write, E: Write>(
     }
 }
 
-/// The text of the body that a reader gives, or why there is none.
+// The text of the body that a reader gives, or why there is none.
 fn text_of<R: Read>(alloc: Global, clock: Clock, reader: &mut R) -> Result<Vec<u8>, Failure>
     ensures { (body : List ℕ) → R.remaining reader.old ≡ Some body → MatchResult result
         (λ text. (length body ≤ LONGEST_BODY) × BodyShows clock body text.items)
@@ -72,7 +72,7 @@ fn text_of<R: Read>(alloc: Global, clock: Clock, reader: &mut R) -> Result<Vec<u
     }
 }
 
-/// What came of it where a reader answers an error: want of memory in taking its bytes, or its own failure.
+// What came of it where a reader answers an error: want of memory in taking its bytes, or its own failure.
 fn reading_failed(kind: ErrorKind) -> Failure
     ensures { (clock : Clock) (body : List ℕ) → IsFailure clock body result }
 {
@@ -82,7 +82,7 @@ fn reading_failed(kind: ErrorKind) -> Failure
     }
 }
 
-/// Writes bytes by as many calls as it takes, and flushes. After an error a front of them is written.
+// Writes bytes by as many calls as it takes, and flushes. After an error a front of them is written.
 fn write<W: Write>(writer: &mut W, bytes: &[u8]) -> io::Result<()>
     ensures { Writes (W.contents writer.old) (W.contents writer.new) bytes.now result }
 {
@@ -104,7 +104,7 @@ fn write<W: Write>(writer: &mut W, bytes: &[u8]) -> io::Result<()>
     Err(io::Error::from(ErrorKind::TimedOut))
 }
 
-/// Writes the line of a failure, and answers its exit status. It takes no memory.
+// Writes the line of a failure, and answers its exit status. It takes no memory.
 fn tell<E: Write>(failure: &Failure, err: &mut E) -> u8
     ensures { Tells failure.now (E.contents err.old) (E.contents err.new) result }
 {
@@ -132,7 +132,7 @@ fn status_of(failure: &Failure) -> u8
     }
 }
 
-/// Writes a line, and answers `status`, or 3 where the writer fails.
+// Writes a line, and answers `status`, or 3 where the writer fails.
 fn tell_line<E: Write>(line: &[u8], status: u8, err: &mut E) -> u8
     ensures { TellsLine line.now status (E.contents err.old) (E.contents err.new) result }
 {

@@ -13,8 +13,8 @@ use pw_obis::{
 };
 use std::alloc::{AllocError, Global};
 
-/// The name under which a set's first value is printed as it stands: identifier and stamp belong to telegrams, time and
-/// date to readouts.
+// The name under which a set's first value is printed as it stands: identifier and stamp belong to telegrams, time and
+// date to readouts.
 fn text_name(kind: Kind, code: &Code) -> Option<&'static str>
     ensures some { IfSome result (λ name. IsTextName kind code.now name.now) }
     ensures none { IfNone result ((name : List ℕ) → IsTextName kind code.now name → ⊥) }

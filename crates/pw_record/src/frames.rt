@@ -106,7 +106,7 @@ fn frame_records(
     Ok(in_order(given))
 }
 
-/// Puts the readings of a frame behind the entries.
+// Puts the readings of a frame behind the entries.
 fn put_frame(
     given: &mut Vec<Entry>,
     office: &Office,

@@ -69,7 +69,7 @@ pub fn each_upload_has_one_outcome(office: &Office, upload: UploadBytes)
     }
 }
 
-/// Frames give readings, or one is refused: it reads them to their end or to the first that is refused.
+// Frames give readings, or one is refused: it reads them to their end or to the first that is refused.
 fn frames_have_an_outcome(office: &Office, source: Source, body: &[u8])
     requires { IsSourceOf office.now source }
     ensures { HasBodyOutcome office.now source body.now }

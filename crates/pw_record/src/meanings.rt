@@ -34,7 +34,7 @@ pub fn both_told<'a>(block: &Block<'a>, one: Meaning, other: Meaning) -> (Told<'
     (first, second)
 }
 
-/// What sets tell with one set more.
+// What sets tell with one set more.
 fn joined<'a>(told: Told<'a>, meaning: Meaning, set: &Set<'a>) -> Told<'a>
     requires { IsCodeOf set.now.address.now set.now.code }
     ensures { (sets : List SetText) → AreTelling meaning sets told.entry → AreTelling meaning (sets ++ set_text set.now ∷ []) result }
@@ -59,7 +59,7 @@ fn joined<'a>(told: Told<'a>, meaning: Meaning, set: &Set<'a>) -> Told<'a>
     }
 }
 
-/// Whether two values are the same; of identifiers, in capitals.
+// Whether two values are the same; of identifiers, in capitals.
 fn are_alike(meaning: Meaning, one: &[u8], other: &[u8]) -> bool
     ensures { IsTrue result ↔ (read_as meaning one.now ≡ read_as meaning other.now) }
 {

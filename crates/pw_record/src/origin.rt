@@ -72,7 +72,7 @@ fn telegram_origin(office: &Office, block: &Block) -> Result<Origin, Cause>
     Ok(Origin { meter, instant })
 }
 
-/// The meter that the identifiers of a telegram name. Its clock marks its times.
+// The meter that the identifiers of a telegram name. Its clock marks its times.
 fn telegram_meter(office: &Office, told: Told) -> Result<MeterId, Cause>
     ensures ok { IfOk result (λ meter. (sets : List SetText) → AreTelling Identifier sets told.entry → HasMeter office.now sets meter.0) }
     ensures err { IfErr result (λ cause. (sets : List SetText) → AreTelling Identifier sets told.entry → RefusesMeter office.now sets cause) }
@@ -91,7 +91,7 @@ fn telegram_meter(office: &Office, told: Told) -> Result<MeterId, Cause>
     }
 }
 
-/// The meter whose id an identifier is, its letters a to f read as capitals.
+// The meter whose id an identifier is, its letters a to f read as capitals.
 fn meter_in_capitals(office: &Office, identifier: &[u8]) -> Option<MeterId>
     ensures some { IfSome result (λ meter. HasId office.now (capitals identifier.now) meter.0) }
     ensures none { IfNone result (IsUnknownId office.now (capitals identifier.now)) }
@@ -108,7 +108,7 @@ fn meter_in_capitals(office: &Office, identifier: &[u8]) -> Option<MeterId>
     office.meter(&id[..identifier.len()])
 }
 
-/// The instant that the stamps of a telegram tell.
+// The instant that the stamps of a telegram tell.
 fn telegram_instant(told: Told) -> Result<Instant, Cause>
     ensures ok { IfOk result (λ instant. (sets : List SetText) → AreTelling Stamp sets told.entry → HasStamp sets instant) }
     ensures err { IfErr result (λ cause. (sets : List SetText) → AreTelling Stamp sets told.entry → RefusesStamp sets cause) }
@@ -124,7 +124,7 @@ fn telegram_instant(told: Told) -> Result<Instant, Cause>
     }
 }
 
-/// The instant that the dates and the times of a readout tell.
+// The instant that the dates and the times of a readout tell.
 fn date_and_time(block: &Block, clock: Clock, zone: &Zone) -> Result<Instant, Cause>
     ensures ok { IfOk result (HasDateAndTime clock block.now) }
     ensures err { IfErr result (RefusesDateAndTime clock block.now) }

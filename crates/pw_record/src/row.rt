@@ -93,7 +93,7 @@ pub fn row_entry(office: &Office, kind: RowKind, row: &ByteRecord) -> Result<Ent
     }
 }
 
-/// The withdrawal of the record that a row names.
+// The withdrawal of the record that a row names.
 fn withdrawal(office: &Office, row: &ByteRecord) -> Result<Entry, Cause>
     ensures ok { IfOk result (λ entry. GivesWithdrawal office.now (fields_of row.now) entry) }
     ensures err { IfErr result (λ cause. RefusesWithdrawal office.now (fields_of row.now) cause) }
@@ -110,7 +110,7 @@ fn withdrawal(office: &Office, row: &ByteRecord) -> Result<Entry, Cause>
     }
 }
 
-/// The kind of the record that a row withdraws: its first field has the kind's name.
+// The kind of the record that a row withdraws: its first field has the kind's name.
 fn named_kind(row: &ByteRecord) -> Option<NamedKind>
     ensures some { IfSome result (λ kind. fields_of row.now ≡ kind_name kind ∷ drop 1 (fields_of row.now)) }
     ensures none { IfNone result (HasNoKind (fields_of row.now)) }
@@ -127,7 +127,7 @@ fn named_kind(row: &ByteRecord) -> Option<NamedKind>
     None
 }
 
-/// Whether the first field of a row is this.
+// Whether the first field of a row is this.
 #[tactic(auto, using(crate::proofs::Fields::none_there))]
 fn begins_with(row: &ByteRecord, first: &[u8]) -> bool
     ensures { IsTrue result ↔ (fields_of row.now ≡ first.now ∷ drop 1 (fields_of row.now)) }
@@ -138,7 +138,7 @@ fn begins_with(row: &ByteRecord, first: &[u8]) -> bool
     field == first
 }
 
-/// The record that the fields behind the kind name.
+// The record that the fields behind the kind name.
 fn named_record(office: &Office, kind: NamedKind, row: &ByteRecord) -> Result<Named, Cause>
     ensures ok { IfOk result (λ named. GivesNamed office.now kind (drop 1 (fields_of row.now)) (named_entry named)) }
     ensures err { IfErr result (λ cause. RefusesNamed office.now kind (drop 1 (fields_of row.now)) cause) }
@@ -150,7 +150,7 @@ fn named_record(office: &Office, kind: NamedKind, row: &ByteRecord) -> Result<Na
     }
 }
 
-/// The reading that a row's fields name, from the one at `first` on: meter, register, instant, watt-hours.
+// The reading that a row's fields name, from the one at `first` on: meter, register, instant, watt-hours.
 fn reading(office: &Office, row: &ByteRecord, first: usize) -> Result<Named, Cause>
     requires { first ≤ 1 }
     ensures ok { IfOk result (λ named. GivesReading office.now (drop first (fields_of row.now)) (named_entry named)) }
@@ -180,7 +180,7 @@ fn reading(office: &Office, row: &ByteRecord, first: usize) -> Result<Named, Cau
     })
 }
 
-/// The register that a text names, where it counts for a meter.
+// The register that a text names, where it counts for a meter.
 fn counting_register(office: &Office, meter: MeterId, name: &[u8]) -> Option<Register>
     requires { meter.0 < length office.now.meters }
     ensures some { IfSome result (λ register. HasRegister office.now meter.0 name.now register) }
@@ -195,7 +195,7 @@ fn counting_register(office: &Office, meter: MeterId, name: &[u8]) -> Option<Reg
     Some(register)
 }
 
-/// The register with a name.
+// The register with a name.
 fn register_named(name: &[u8]) -> Option<Register>
     ensures { result ≡ register_of name.now }
 {
@@ -205,7 +205,7 @@ fn register_named(name: &[u8]) -> Option<Register>
         .find(|register| name == register.name().as_bytes())
 }
 
-/// The assignment that a row's fields name, from the one at `first` on: meter, start, account.
+// The assignment that a row's fields name, from the one at `first` on: meter, start, account.
 fn assignment(office: &Office, row: &ByteRecord, first: usize) -> Result<Named, Cause>
     requires { first ≤ 1 }
     ensures ok { IfOk result (λ named. GivesAssignment office.now (drop first (fields_of row.now)) (named_entry named)) }
@@ -231,7 +231,7 @@ fn assignment(office: &Office, row: &ByteRecord, first: usize) -> Result<Named, 
     })
 }
 
-/// The owner that a text names: nobody where it is empty.
+// The owner that a text names: nobody where it is empty.
 fn owner(office: &Office, name: &[u8]) -> Option<Owner>
     ensures some { IfSome result (λ owner. IsOwner office.now name.now owner) }
     ensures none { IfNone result (IsUnknownOwner office.now name.now) }
@@ -245,7 +245,7 @@ fn owner(office: &Office, name: &[u8]) -> Option<Owner>
     }
 }
 
-/// The top-up that a row's fields name, from the one at `first` on: reference, account, cents, instant.
+// The top-up that a row's fields name, from the one at `first` on: reference, account, cents, instant.
 fn top_up(office: &Office, row: &ByteRecord, first: usize) -> Result<Named, Cause>
     requires { first ≤ 1 }
     ensures ok { IfOk result (λ named. GivesTopUp office.now (drop first (fields_of row.now)) (named_entry named)) }
@@ -275,7 +275,7 @@ fn top_up(office: &Office, row: &ByteRecord, first: usize) -> Result<Named, Caus
     })
 }
 
-/// A row's fields from the one at `first` on, where they are three.
+// A row's fields from the one at `first` on, where they are three.
 #[tactic(auto, using(crate::proofs::Fields::three_fields, crate::proofs::Fields::not_so_many, crate::proofs::Fields::field_there))]
 fn three(row: &ByteRecord, first: usize) -> Option<(&[u8], &[u8], &[u8])>
     requires { first ≤ 1 }
@@ -287,7 +287,7 @@ fn three(row: &ByteRecord, first: usize) -> Option<(&[u8], &[u8], &[u8])>
     Some((row.get(first)?, row.get(first + 1)?, row.get(first + 2)?))
 }
 
-/// A row's fields from the one at `first` on, where they are four.
+// A row's fields from the one at `first` on, where they are four.
 #[tactic(auto, using(crate::proofs::Fields::four_fields, crate::proofs::Fields::not_so_many, crate::proofs::Fields::field_there))]
 fn four(row: &ByteRecord, first: usize) -> Option<(&[u8], &[u8], &[u8], &[u8])>
     requires { first ≤ 1 }

@@ -103,7 +103,7 @@ fn rows_records(
     Ok(in_order(given))
 }
 
-/// Puts the entry of a record behind those before it. The record with the number 0 is the header.
+// Puts the entry of a record behind those before it. The record with the number 0 is the header.
 fn put_record(
     given: &mut Vec<Entry>,
     office: &Office,

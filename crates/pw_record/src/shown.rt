@@ -22,7 +22,7 @@ use std::alloc::AllocError;
 /// What is shown of each register, by its place.
 pub type Shown = [Option<WattHours>; 6];
 
-/// A register and what it shows.
+// A register and what it shows.
 #[derive(Clone, Copy, Debug)]
 struct Reading {
     register: Register,
@@ -49,7 +49,7 @@ pub fn all_shown(office: &Office, meter: MeterId, block: &Block) -> Result<Shown
     Ok(shown)
 }
 
-/// What a set shows, if it is of a register that counts for the meter.
+// What a set shows, if it is of a register that counts for the meter.
 fn measured(office: &Office, meter: MeterId, set: &Set) -> Result<Option<Reading>, ValueFault>
     requires meter { meter.0 < length office.now.meters }
     requires code { IsCodeOf set.now.address.now set.now.code }
@@ -73,7 +73,7 @@ fn measured(office: &Office, meter: MeterId, set: &Set) -> Result<Option<Reading
     }
 }
 
-/// Notes what a register shows; `false` where it is shown already, and otherwise.
+// Notes what a register shows; `false` where it is shown already, and otherwise.
 fn note(shown: &mut Shown, reading: Reading) -> bool
     ensures noted { OnTrue result (IsNoted shown.old shown.new reading.register reading.wh) }
     ensures unlike { OnFalse result (IsUnlike shown.old reading.register reading.wh) }

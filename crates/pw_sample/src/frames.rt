@@ -5,7 +5,7 @@ use crate::moment::{day_begin, push_bytes, push_stamp, utc_text};
 use pw_frame::{block_check, crc16};
 use std::alloc::{AllocError, Global};
 
-/// How a register's value is told: in kWh with three decimals, or in whole Wh.
+// How a register's value is told: in kWh with three decimals, or in whole Wh.
 #[derive(Clone, Copy)]
 enum Unit {
     KilowattHours,

@@ -14,7 +14,7 @@ use std::alloc::Global;
 /// The quarter of an hour at which a register is set back.
 const SET_BACK: u32 = 50;
 
-/// A cooperative whose uploads are being made.
+// A cooperative whose uploads are being made.
 #[derive(Drop)]
 struct Cooperative<'a> {
     alloc: Global,

@@ -39,7 +39,7 @@ fn make_all<S: Alter>(conn: &mut Connection<S>) -> Result<(), Error>
     Ok(())
 }
 
-/// Keeps the office's text.
+// Keeps the office's text.
 fn put_office<S: Alter>(conn: &mut Connection<S>, body: &[u8]) -> Result<usize, Error>
     requires { HasCleanDisk (state S.Store conn.old) → IsMaking (ours_with only_one) (state S.Store conn.old) }
     ensures made { HasCleanDisk (state S.Store conn.new) → OnOk result (IsFresh body.now (state S.Store conn.new).now) }

@@ -131,7 +131,7 @@ impl Peer {
     }
 }
 
-/// Takes all bytes away, and the memory too, if it is much.
+// Takes all bytes away, and the memory too, if it is much.
 fn empty(alloc: Global, bytes: &mut Vec<u8>)
     ensures { bytes.new.items ≡ [] }
 {
@@ -142,7 +142,7 @@ fn empty(alloc: Global, bytes: &mut Vec<u8>)
     }
 }
 
-/// Takes the first `n` bytes away.
+// Takes the first `n` bytes away.
 fn drop_front(bytes: &mut Vec<u8>, n: usize)
     requires { n ≤ length bytes.old.items }
     ensures { bytes.new.items ≡ drop n bytes.old.items }

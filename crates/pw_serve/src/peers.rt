@@ -31,7 +31,7 @@ pub(crate) struct Peers {
     turns: u64,
 }
 
-/// The turn of a connection, if it is served.
+// The turn of a connection, if it is served.
 fn visit_row<S: Service, C: Connections>(
     alloc: Global,
     service: &mut S,
@@ -58,7 +58,7 @@ fn visit_row<S: Service, C: Connections>(
     }
 }
 
-/// Ends a connection, and gives its memory back.
+// Ends a connection, and gives its memory back.
 fn end_row<C: Connections>(
     connections: &mut C,
     number: u64,
@@ -74,7 +74,7 @@ fn end_row<C: Connections>(
     connections.end(number, why);
 }
 
-/// Whether the connection has a large reply.
+// Whether the connection has a large reply.
 fn has_large(rows: &BTreeMap<u64, Peer>, number: u64) -> bool {
     match rows.get(&number) {
         Some(peer) => peer.outbox.len() > LARGE,
@@ -82,7 +82,7 @@ fn has_large(rows: &BTreeMap<u64, Peer>, number: u64) -> bool {
     }
 }
 
-/// The connection that has been idle for the longest time.
+// The connection that has been idle for the longest time.
 fn longest_idle(rows: &BTreeMap<u64, Peer>) -> Option<u64> {
     let mut found: Option<(u64, u64)> = None;
     for (number, peer) in rows.iter() {
@@ -99,7 +99,7 @@ fn longest_idle(rows: &BTreeMap<u64, Peer>) -> Option<u64> {
     }
 }
 
-/// Whether the connection is served, and idle.
+// Whether the connection is served, and idle.
 fn is_idle_at(rows: &BTreeMap<u64, Peer>, number: u64) -> bool
     ensures { result ≡ true → (c : Peer) × (get nat_cmp rows.now number ≡ Some c) × IsIdle c }
 {
@@ -124,7 +124,7 @@ impl Peers {
         }
     }
 
-    /// Ends a connection.
+    // Ends a connection.
     fn end<C: Connections>(&mut self, connections: &mut C, number: u64, why: Ending)
         ensures rows { IsSet number None (get nat_cmp self.old.rows) (get nat_cmp self.new.rows) }
         ensures next { self.new.next ≡ self.old.next }

@@ -11,7 +11,7 @@ use crate::peers::Peers;
 use crate::service::Service;
 use std::alloc::Global;
 
-/// Looks at what comes next; tells whether that was the last.
+// Looks at what comes next; tells whether that was the last.
 fn turn_once<S: Service, C: Connections>(
     alloc: Global,
     service: &mut S,

@@ -32,7 +32,7 @@ pub(crate) enum Next {
     Ends(Ending),
 }
 
-/// Writes what waits of the reply.
+// Writes what waits of the reply.
 fn write_some<C: Connections>(
     alloc: Global,
     connections: &mut C,
@@ -55,7 +55,7 @@ fn write_some<C: Connections>(
     }
 }
 
-/// Reads, as far as a request may be long.
+// Reads, as far as a request may be long.
 fn read_some<C: Connections>(
     connections: &mut C,
     number: u64,
@@ -88,7 +88,7 @@ fn read_some<C: Connections>(
     }
 }
 
-/// Answers the first request, if it is wholly there.
+// Answers the first request, if it is wholly there.
 fn answer_one<S: Service>(
     alloc: Global,
     service: &mut S,
@@ -130,7 +130,7 @@ fn answer_one<S: Service>(
     }
 }
 
-/// Writes what waits, answers the first request, or reads: one of the three.
+// Writes what waits, answers the first request, or reads: one of the three.
 fn step<S: Service, C: Connections>(
     alloc: Global,
     service: &mut S,

@@ -88,7 +88,7 @@ impl<K: Ord + Copy, V: Copy> Table<K, V> {
         None
     }
 
-    /// What stood at a key when the upload began.
+    // What stood at a key when the upload began.
     fn before(&self, key: &K) -> Option<V>
         ensures { result ≡ at_begin K.cmp self.now key.now }
     {

@@ -84,7 +84,7 @@ pub(crate) enum Side {
 }
 
 impl Side {
-    /// The text that asks for the nearest point strictly on it.
+    // The text that asks for the nearest point strictly on it.
     fn text(&self) -> &'static str
         ensures { result.now ≡ nearest_text self.now }
     {
@@ -98,7 +98,7 @@ impl Side {
         }
     }
 
-    /// The instant.
+    // The instant.
     fn instant(&self) -> Instant
         ensures { result ≡ instant_of self.now }
     {

@@ -31,13 +31,13 @@ use std::process::Abort;
 
 const OTHER: MeterId = MeterId(1);
 
-/// A new book, or why there is none.
+// A new book, or why there is none.
 type Made<S> = Result<Book<S>, OfficeFault>;
 
-/// A new book over a store that counts its calls, or why there is none.
+// A new book over a store that counts its calls, or why there is none.
 type Failing<S> = Made<CountShelf<S>>;
 
-/// Which call of a store fails, and whether each `abandon` behind it does. No call fails at 0.
+// Which call of a store fails, and whether each `abandon` behind it does. No call fails at 0.
 #[derive(Clone, Copy)]
 struct Fails {
     at: u32,
@@ -89,7 +89,7 @@ fn failing_over<S: Shelf>(
     book_of(rt, office, failing, 2_000)
 }
 
-/// Books over a store in memory.
+// Books over a store in memory.
 struct InMemory;
 
 impl Books for InMemory {
@@ -107,7 +107,7 @@ impl Books for InMemory {
     }
 }
 
-/// Books over a store in memory that counts its calls.
+// Books over a store in memory that counts its calls.
 struct Counting;
 
 impl Books for Counting {

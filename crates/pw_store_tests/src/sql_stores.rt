@@ -24,7 +24,7 @@ pub fn execute<S: Alter>(rt: &impl Abort, connection: &mut Connection<S>, statem
     connection.execute(statement, &[]).expect(rt, "a statement");
 }
 
-/// The store of an office, whose text this is, over a connection.
+// The store of an office, whose text this is, over a connection.
 fn store_on<S: Alter>(
     alloc: Global,
     connection: Connection<S>,
@@ -40,7 +40,7 @@ fn store_on<S: Alter>(
     SqlShelf::open(alloc, connection, text)
 }
 
-/// A book over a store of its office.
+// A book over a store of its office.
 fn book_over<S: Shelf>(office: Office, shelf: S, limit: u32) -> Book<S>
     requires few { S.clean shelf → length (S.state shelf).content.records ≤ most_records }
     requires of_office { S.clean shelf → AllOfOffice (office_of office) (S.state shelf).content.records }
@@ -53,7 +53,7 @@ fn book_over<S: Shelf>(office: Office, shelf: S, limit: u32) -> Book<S>
     Book::new(office, Zone::central(), shelf, limit)
 }
 
-/// A book over a store of its office that counts its calls, one of which fails (`CountShelf::failing`).
+// A book over a store of its office that counts its calls, one of which fails (`CountShelf::failing`).
 fn failing_over<S: Shelf>(
     office: Office,
     shelf: S,
@@ -69,7 +69,7 @@ fn failing_over<S: Shelf>(
     book_over(office, failing, 2_000)
 }
 
-/// The office that a text gives, with its store over a connection; or why there is no store on it.
+// The office that a text gives, with its store over a connection; or why there is no store on it.
 fn office_and_store<S: Alter>(
     alloc: Global,
     connection: Connection<S>,

@@ -7,7 +7,7 @@ use pw_time::Clock;
 use std::alloc::Global;
 use std::io::{self, Read};
 
-/// A reader that never ends, and counts what it has given.
+// A reader that never ends, and counts what it has given.
 #[derive(Drop)]
 struct EndlessReader {
     given: u64,
@@ -21,7 +21,7 @@ impl Read for EndlessReader {
     }
 }
 
-/// A writer that has room for so many bytes, and takes at most seven at a time.
+// A writer that has room for so many bytes, and takes at most seven at a time.
 fn narrow(alloc: Global, room: usize) -> Narrow {
     Narrow {
         text: Vec::new(alloc),
@@ -31,7 +31,7 @@ fn narrow(alloc: Global, room: usize) -> Narrow {
     }
 }
 
-/// How many bytes are taken of a reader that never ends, where its body is told to be too large, and else none.
+// How many bytes are taken of a reader that never ends, where its body is told to be too large, and else none.
 fn given_of_endless(alloc: Global) -> u64 {
     let mut endless = EndlessReader { given: 0 };
     let mut err = Vec::new(alloc);
@@ -51,7 +51,7 @@ fn input_without_end(rt: HostRuntime) {
     assert!(rt; given_of_endless(rt.alloc()) == 262_145);
 }
 
-/// Whether a failure is told, where the streams have so much room: what stands on the first, and what on the last.
+// Whether a failure is told, where the streams have so much room: what stands on the first, and what on the last.
 fn is_failure_told<R: Read>(
     alloc: Global,
     reader: &mut R,
@@ -80,7 +80,7 @@ fn broken_streams(rt: HostRuntime) {
     assert!(rt; is_failure_told(rt.alloc(), &mut empty, (ROOM, 0), (b"", b"")));
 }
 
-/// Whether an output that has room for a front of this text takes it, and is told of.
+// Whether an output that has room for a front of this text takes it, and is told of.
 fn are_outputs_cut(alloc: Global, body: &[u8], text: &[u8]) -> bool {
     for room in 0..text.len() {
         let mut body = body;
@@ -91,7 +91,7 @@ fn are_outputs_cut(alloc: Global, body: &[u8], text: &[u8]) -> bool {
     true
 }
 
-/// Whether a refusal is cut where there is room for a front of its line alone.
+// Whether a refusal is cut where there is room for a front of its line alone.
 fn are_refusals_cut(alloc: Global, body: &[u8], line: &[u8]) -> bool {
     for room in 0..line.len() {
         let mut body = body;

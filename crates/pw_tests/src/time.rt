@@ -7,7 +7,7 @@ use jiff::tz::TimeZone;
 use pw_time::*;
 use std::test::Fail;
 
-/// By how many hours local clocks are ahead of UTC by a rule, one or two.
+// By how many hours local clocks are ahead of UTC by a rule, one or two.
 fn hours_ahead(rule: &TimeZone, second: u32) -> Option<u8>
     ensures { IfSome result (λ hours. hours ≤ 2) }
 {
@@ -20,7 +20,7 @@ fn local_hour(zone: &Zone, second: u32) -> Option<u8> {
     Some(week_hour(instant, zone).hour)
 }
 
-/// Whether a second whose hour is 0 or 1 in UTC is in summer by a rule, where the zone tells the same local hour.
+// Whether a second whose hour is 0 or 1 in UTC is in summer by a rule, where the zone tells the same local hour.
 fn is_summer(rule: &TimeZone, zone: &Zone, second: u32, hour: u8) -> Option<bool>
     requires { hour ≤ 1 }
 {
@@ -32,7 +32,7 @@ fn is_summer(rule: &TimeZone, zone: &Zone, second: u32, hour: u8) -> Option<bool
     }
 }
 
-/// How many are in summer: of 01:00 UTC of each day, when the local hour may change, and a second before it.
+// How many are in summer: of 01:00 UTC of each day, when the local hour may change, and a second before it.
 fn summer_seconds(rule: &TimeZone) -> Option<u32> {
     let zone = Zone::central();
     let mut summer = 0u32;

@@ -43,7 +43,7 @@ impl CivilTime {
         }
     }
 
-    /// The day number of the date from 1970-01-01, if the calendar has it.
+    // The day number of the date from 1970-01-01, if the calendar has it.
     fn day_number(&self) -> Option<i32>
         requires { HasDigits self.now }
         ensures there { IsSome result ↔ HasDate self.now }
@@ -56,7 +56,7 @@ impl CivilTime {
         Some(date.to_plain().to_unix_epoch_day())
     }
 
-    /// The seconds since midnight, if a day has the time.
+    // The seconds since midnight, if a day has the time.
     fn second_of_day(&self) -> Option<u32>
         ensures there { IsSome result ↔ HasTime self.now }
         ensures value { IfSome result (λ n. n ≡ self.now.hour * 3600 + self.now.minute * 60 + self.now.second) }
@@ -70,7 +70,7 @@ impl CivilTime {
         }
     }
 
-    /// How many seconds the clock has shown since it showed 1970-01-01T00:00:00.
+    // How many seconds the clock has shown since it showed 1970-01-01T00:00:00.
     fn second_shown(&self) -> Result<i64, StampFault>
         requires { HasDigits self.now }
         ensures there { OnOk result (Exists self.now) }
@@ -125,7 +125,7 @@ impl CivilTime {
     }
 }
 
-/// The instant of a second, if it is one.
+// The instant of a second, if it is one.
 fn instant_at(second: i64) -> Result<Instant, StampFault>
     ensures value { IfOk result (λ t. (pos t ≡ second) × IsInstant t) }
     ensures range { IfErr result (λ fault. (fault ≡ StampFault.Range) × ((t : ℕ) → IsInstant t → pos t ≢ second)) }

@@ -34,7 +34,7 @@ pub fn month_span(year: u16, month: u8, zone: &Zone) -> Option<(Instant, u32)>
     Some((begin, end_of_month(year, month, zone)))
 }
 
-/// Where a month ends: the first second of the next one, or the one behind all instants.
+// Where a month ends: the first second of the next one, or the one behind all instants.
 fn end_of_month(year: u16, month: u8, zone: &Zone) -> u32
     requires { IsLocalMonth year month }
     ensures ends { BeginsAt (day_behind_month year month) result }
@@ -47,7 +47,7 @@ fn end_of_month(year: u16, month: u8, zone: &Zone) -> u32
     }
 }
 
-/// Where a month begins; January 2100 behind all instants.
+// Where a month begins; January 2100 behind all instants.
 fn begin_of_month(year: u16, month: u8, zone: &Zone) -> u32
     requires { IsLocalMonth year month ⊎ ((year ≡ 2100) × (month ≡ 1)) }
     ensures begins { BeginsAt (day_number year month 1) result }
@@ -59,7 +59,7 @@ fn begin_of_month(year: u16, month: u8, zone: &Zone) -> u32
     }
 }
 
-/// Where the day begins that clocks in UTC begin at an instant.
+// Where the day begins that clocks in UTC begin at an instant.
 fn begin_of(midnight: u32, zone: &Zone) -> u32
     requires { IsInstant midnight }
     ensures begins { (day : ℕ) → midnight ≡ day * 86_400 → BeginsAt day result }
@@ -68,7 +68,7 @@ fn begin_of(midnight: u32, zone: &Zone) -> u32
     from_first(midnight - ahead_at(midnight - 3600, zone))
 }
 
-/// A second, or the first that is an instant where it lies before that.
+// A second, or the first that is an instant where it lies before that.
 fn from_first(second: u32) -> u32
     ensures { ((result ≡ second) × (first ≤ second)) ⊎ ((result ≡ first) × (second < first)) }
 {
@@ -79,7 +79,7 @@ fn from_first(second: u32) -> u32
     }
 }
 
-/// How many seconds local clocks are ahead of UTC at a second.
+// How many seconds local clocks are ahead of UTC at a second.
 fn ahead_at(second: u32, zone: &Zone) -> u32
     ensures value { result ≡ civil_offset second }
     ensures bound { result ≤ 7200 }
@@ -87,7 +87,7 @@ fn ahead_at(second: u32, zone: &Zone) -> u32
     if zone.is_summer(second) { 7200 } else { 3600 }
 }
 
-/// The second at which clocks in UTC show midnight of a date, if it is one of the years 2000 to 2099.
+// The second at which clocks in UTC show midnight of a date, if it is one of the years 2000 to 2099.
 fn utc_midnight(year: u16, month: u8, day: u8) -> Option<u32>
     ensures there { IsSome result ↔ IsLocalDate year month day }
     ensures value { IfSome result (λ second. second ≡ day_number year month day * 86_400) }
@@ -110,7 +110,7 @@ fn utc_midnight(year: u16, month: u8, day: u8) -> Option<u32>
     Some(midnight)
 }
 
-/// Whether a year is one of 2000 to 2099, and month and day have at most two digits.
+// Whether a year is one of 2000 to 2099, and month and day have at most two digits.
 fn is_short(year: u16, month: u8, day: u8) -> bool
     ensures { IsTrue result ↔ (IsShortYear year × (month < 100) × (day < 100)) }
 {

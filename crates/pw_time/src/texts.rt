@@ -78,7 +78,7 @@ pub(crate) fn of_readout(date: &[u8], time: &[u8]) -> Option<CivilTime>
     })
 }
 
-/// Three numbers of two digits each, with a byte between them or with nothing.
+// Three numbers of two digits each, with a byte between them or with nothing.
 fn joined_or_separated(byte: u8, text: &[u8]) -> Option<(u8, u8, u8)>
     ensures { MatchOption result ((a b c : ℕ) → AreTwoDigits a b c → (text.now ≢ run_together a b c) × (text.now ≢ separated byte a b c)) (λ n. AreTwoDigits n.0 n.1 n.2 × ((text.now ≡ run_together n.0 n.1 n.2) ⊎ (text.now ≡ separated byte n.0 n.1 n.2))) }
 {

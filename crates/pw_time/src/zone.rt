@@ -55,7 +55,7 @@ impl Zone {
         Zone { changes: CHANGES }
     }
 
-    /// How many changes lie at or before a second.
+    // How many changes lie at or before a second.
     fn passed(&self, second: u32) -> usize
         ensures before { (k : ℕ) → k < result → slice_index central_changes k ≤ second }
         ensures behind { (k : ℕ) → result ≤ k → k < length central_changes → second < slice_index central_changes k }

@@ -78,7 +78,7 @@ fn answer_lines(rt: &HostRuntime, text: &[u8], office: &Office) -> io::Result<()
     Ok(())
 }
 
-/// Answers one line.
+// Answers one line.
 fn answer<O: Write>(
     alloc: Global,
     text: &[u8],

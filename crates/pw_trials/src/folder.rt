@@ -22,7 +22,7 @@ const MOST_RECORDS: usize = 10_000_000;
 /// The exit status where no figures are told.
 const FAILED: u8 = 3;
 
-/// Why no figures are told.
+// Why no figures are told.
 #[derive(Clone, Copy, Debug, Drop)]
 enum Fault {
     /// A file can't be read.

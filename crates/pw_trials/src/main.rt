@@ -85,7 +85,7 @@ fn trials(rt: &HostRuntime) -> u8 {
     if are_made { 0 } else { NO_MEMORY }
 }
 
-/// The calls that take no memory; whether what they need could be made. (Each store is made by a function that lends it.)
+// The calls that take no memory; whether what they need could be made. (Each store is made by a function that lends it.)
 fn without_memory<O: Write>(out: &mut O, alloc: Global) -> bool {
     let mut begun = MemoryShelf::new(alloc);
     shelves::is_begun(&mut begun) && beside_begun(out, alloc, &mut begun)
@@ -142,7 +142,7 @@ fn tell_made<O: Write>(out: &mut O, alloc: Global, office: Office) {
     tell_trial(out, is_kept, b"book right\n");
 }
 
-/// A book that is shut; whether it could be made.
+// A book that is shut; whether it could be made.
 fn shut_without_memory<O: Write>(out: &mut O, alloc: Global) -> bool {
     match Office::read(alloc, OFFICE.as_bytes()) {
         Ok(office) => tell_shut(out, alloc, &mut shut::failing_book(alloc, office)),
@@ -158,7 +158,7 @@ fn tell_shut<O: Write, S: Shelf>(out: &mut O, alloc: Global, book: &mut Book<S>)
     is_shut
 }
 
-/// The calls that answer that memory was refused, and are right when they are made again; whether their book could be made.
+// The calls that answer that memory was refused, and are right when they are made again; whether their book could be made.
 fn with_one_refused<O: Write>(out: &mut O, alloc: Global) -> bool {
     let is_taken_back = uploads::is_taken_back(alloc, out);
     tell_trial(out, is_taken_back, b"upload given up\n");
@@ -187,12 +187,12 @@ fn posted_with_one_refused<O: Write, S: Shelf>(
     is_filled
 }
 
-/// Writes the line of a trial.
+// Writes the line of a trial.
 fn tell_trial<O: Write>(out: &mut O, is_right: bool, text: &[u8]) {
     tell(out, if is_right { text } else { b"wrong\n" });
 }
 
-/// Writes a line. One that can't be written is missing from the output, which is compared.
+// Writes a line. One that can't be written is missing from the output, which is compared.
 fn tell<O: Write>(out: &mut O, text: &[u8]) {
     let _ = out.write_all(text);
     let _ = out.flush();

@@ -31,7 +31,7 @@ static TABLES: [&str; 8] = [
 /// The names that stand behind `--rename`.
 static OLD_AND_NEW: [&str; 2] = ["OLD", "NEW"];
 
-/// A word that a command takes: by its place, or behind a flag.
+// A word that a command takes: by its place, or behind a flag.
 #[derive(Clone, Copy)]
 enum Word {
     Office,
@@ -60,7 +60,7 @@ enum Word {
     All,
 }
 
-/// A command: its name, what it does, how it ends with an example, and the words that it takes.
+// A command: its name, what it does, how it ends with an example, and the words that it takes.
 #[derive(Clone, Copy)]
 struct Asked {
     name: &'static str,

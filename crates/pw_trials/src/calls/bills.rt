@@ -24,7 +24,7 @@ use std::io::Write;
 /// The most records that the book takes.
 const LIMIT: u32 = 10_000_000;
 
-/// What is asked about an account.
+// What is asked about an account.
 #[derive(Drop)]
 enum Question {
     Bill(Interval),

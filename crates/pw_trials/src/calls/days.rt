@@ -58,7 +58,7 @@ fn tell_second<O: Write>(second: u32, out: &mut O) {
     }
 }
 
-/// Days that last so many hours, counted one behind another.
+// Days that last so many hours, counted one behind another.
 #[derive(Drop)]
 struct Days {
     hours: u16,

@@ -46,7 +46,7 @@ fn tell_level<O: Write>(from: Point, to: Point, second: u32, out: &mut O) -> Opt
     Some(())
 }
 
-/// The energy from a second up to another. Its contract shows what a caller knows of a predicate that is a closure.
+// The energy from a second up to another. Its contract shows what a caller knows of a predicate that is a closure.
 fn energy_within(points: &[Point], from: u32, until: u32) -> u128
     requires rising { AreInTime (λ p. p.at) points.now }
     requires early { All (λ p. p.at < 2 ^ 32) points.now }
