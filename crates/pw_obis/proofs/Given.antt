@@ -1,7 +1,8 @@
 -- A set that is given, among the sets of its block.
 use Rattle.std.proofs.Common.{◌≡◌, ℕ, List, [], ◌∷◌, ◌++◌, sym, ap, ◌∙◌, append_assoc}
 use Rattle.pw_obis.specs.declared.data_set.Set.{Set}
-use Rattle.pw_obis.specs.Answers.{IsGiven, set_text}
+use Rattle.pw_obis.specs.Answers.{IsGiven}
+use Rattle.pw_obis.specs.inner.Given.{set_text}
 use Rattle.pw_obis.specs.Line.{SetText}
 
 abbrev set_of : List ℕ → List ℕ → SetText

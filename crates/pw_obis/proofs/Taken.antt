@@ -5,10 +5,9 @@ use Rattle.std.specs.Option.{unwrap_or}
 use Rattle.std.proofs.lemmas.Bool.{cases_lt}
 use Rattle.pw_obis.specs.Line.{SetText, SetAt, SetsAt}
 use Rattle.pw_obis.specs.Block.{StopsAt, LinesAt}
-use Rattle.pw_obis.specs.inner.Lines.{AreLinesUpTo}
 use Rattle.pw_obis.specs.lemmas.Places.{no_set, one_mid, one_set, sets_rise, line_within}
 use Rattle.pw_obis.specs.lemmas.Found.{FromPlace, found}
-use Rattle.pw_obis.specs.Coming.{Coming, nothing, from_choice, from_place}
+use Rattle.pw_obis.specs.Coming.{AreLinesUpTo, Coming, nothing, from_choice, from_place}
 use Rattle.pw_obis.proofs.EachLine.{one_reading, no_stop}
 
 choice_is : (b : List ℕ) (p : ℕ) (c : (length b < p) ⊎ (p ≤ length b)) → p ≤ length b → (x : FromPlace b p)

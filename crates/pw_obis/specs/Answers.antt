@@ -7,10 +7,6 @@ use Rattle.pw_obis.specs.Coming.{Coming, nothing}
 use Rattle.pw_obis.specs.declared.data_set.Set.{Set}
 use Rattle.pw_obis.specs.declared.fault.LineFault.{LineFault}
 
--- a set without where it lies in memory
-abbrev pub set_text : Set → SetText
-set_text set = record { address = set.address.now; values = set.values.now }
-
 -- a set that is given is one of the block, with the code of its address; it has a first value
 pub record IsGiven (text : SetText) (set : Set) : Type 0 where
   pub address_is : text.address ≡ set.address.now

@@ -1,7 +1,8 @@
 -- What is still to come of a block's sets.
-use Rattle.std.specs.Prelude.{ℕ, ◌<◌, ◌≤◌, ◌⊎◌, Bool, true, false, List, [], length, Option, None}
+use Rattle.std.specs.Prelude.{ℕ, ◌<◌, ◌≤◌, ◌⊎◌, List, [], length, Option, None}
 use Rattle.std.proofs.Common.{inl, inr, arith}
 use Rattle.std.proofs.lemmas.Bool.{cases_lt}
+use Rattle.pw_obis.specs.Block.{StopsAt}
 use Rattle.pw_obis.specs.Line.{SetText}
 use Rattle.pw_obis.specs.lemmas.Found.{found, FromPlace}
 
@@ -23,7 +24,6 @@ from_choice block place (inr within) =
 unfoldable pub from_place : List ℕ → ℕ → Coming
 from_place block place = from_choice block place (cases_lt (length block) place)
 
--- what a reader at a place of a block has to come
-abbrev pub coming : List ℕ → ℕ → Bool → Coming
-coming block place true = nothing
-coming block place false = from_place block place
+-- from a place on, at a line or behind a set in one, lines stand up to `stop`: the block's end, or its first bad line
+abbrev pub AreLinesUpTo : List ℕ → ℕ → ℕ → Type 0
+AreLinesUpTo block place stop = (place ≤ length block) × StopsAt block stop (from_place block place).refusal

@@ -4,9 +4,9 @@ ghost use Rattle.std.specs.Prelude.{◌≡◌, ◌<◌, length, List, None, Some
 ghost use Rattle.std.specs.Iterator.{at_most};
 ghost use Rattle.pw_obis.specs.Answers.{Gives};
 ghost use Rattle.pw_obis.specs.Block.{HasSets};
-ghost use Rattle.pw_obis.specs.Coming.{from_place};
+ghost use Rattle.pw_obis.specs.Coming.{AreLinesUpTo, from_place};
 ghost use Rattle.pw_obis.specs.Line.{SetText};
-ghost use Rattle.pw_obis.specs.inner.Lines.{AreLinesUpTo, HasSet, IsNextPlace, Takes};
+ghost use Rattle.pw_obis.specs.inner.Lines.{HasSet, IsNextPlace, Takes};
 
 use crate::address::code;
 use crate::data_set::Set;
@@ -66,8 +66,7 @@ pub struct BlockSets<'a> {
 impl<'a> Model for BlockSets<'a> {
     ghost use Rattle.std.specs.Prelude.{List};
     ghost use Rattle.pw_obis.specs.Line.{SetText};
-    ghost use Rattle.pw_obis.specs.Coming.{from_place};
-    ghost use Rattle.pw_obis.specs.inner.Lines.{AreLinesUpTo};
+    ghost use Rattle.pw_obis.specs.Coming.{AreLinesUpTo, from_place};
 
     ghost Value = { List SetText };
 

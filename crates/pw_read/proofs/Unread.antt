@@ -9,7 +9,7 @@ use Rattle.pw_obis.specs.Address.{IsCodeOf}
 use Rattle.pw_obis.specs.References.{IsCodeOfRegister}
 use Rattle.pw_obis.proofs.OneCode.{one_code}
 use Rattle.pw_read.specs.Lines.{IsTextName, SetShows, Unread}
-use Rattle.pw_obis.specs.Answers.{set_text}
+use Rattle.pw_obis.specs.inner.Given.{set_text}
 
 -- nothing is written
 abbrev Nothing : Kind → Set → List ℕ → Type 0

@@ -3,7 +3,7 @@
 ghost use Rattle.std.specs.Prelude.{◌≡◌, ℕ, ◌++◌, List, IfSome, IfNone, IfErr, OnOk, Ok};
 ghost use Rattle.pw_obis.specs.Address.{IsCodeOf};
 ghost use Rattle.pw_read.specs.Lines.{IsTextName, line_of, SetShows};
-ghost use Rattle.pw_obis.specs.Answers.{set_text};
+ghost use Rattle.pw_obis.specs.inner.Given.{set_text};
 ghost use Rattle.pw_read.specs.inner.Sets.{SetHalts};
 
 use crate::fault::{Cause, Halt};

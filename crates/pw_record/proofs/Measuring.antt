@@ -19,7 +19,7 @@ use Rattle.pw_obis.proofs.OneUnit.{one_answer}
 use Rattle.pw_tariff.specs.Office.{OfficeFile, counts_at, register_place}
 use Rattle.pw_model.specs.Counting.{Member}
 use Rattle.pw_model.proofs.Same.{register-one}
-use Rattle.pw_obis.specs.Answers.{set_text}
+use Rattle.pw_obis.specs.inner.Given.{set_text}
 use Rattle.pw_record.specs.Shown.{Measures, ShowOne, IsShown, AreShown}
 use Rattle.pw_record.specs.inner.Shown.{IsNoted}
 use Rattle.pw_record.specs.inner.Shown.{shown_in}

@@ -14,7 +14,7 @@ use Rattle.pw_record.specs.declared.meanings.Told.TheVariants.{Nothing, One, Unl
 use Rattle.pw_obis.specs.References.{IsCodeOfMeaning}
 use Rattle.pw_record.specs.Told.{read_as, Tells, IsTold, TellNothing, TellOne, TellUnlike}
 use Rattle.pw_record.specs.inner.Told.{AreTelling}
-use Rattle.pw_obis.specs.Answers.{set_text}
+use Rattle.pw_obis.specs.inner.Given.{set_text}
 use Rattle.pw_record.proofs.Members.{member-left, member-last, member-split}
 
 tells-one : (meaning : Meaning) (set : SetText) (a b : List ℕ) → Tells meaning set a → Tells meaning set b → a ≡ b

@@ -5,7 +5,7 @@ ghost use Rattle.pw_obis.specs.Address.{IsCodeOf};
 ghost use Rattle.pw_obis.specs.Line.{SetText};
 ghost use Rattle.pw_record.specs.Told.{capital as capital_of, capitals, read_as};
 ghost use Rattle.pw_record.specs.inner.Told.{AreTelling};
-ghost use Rattle.pw_obis.specs.Answers.{set_text};
+ghost use Rattle.pw_obis.specs.inner.Given.{set_text};
 
 use pw_obis::{Block, Meaning, Set, first_value};
 

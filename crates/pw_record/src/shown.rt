@@ -9,7 +9,7 @@ ghost use Rattle.pw_record.specs.inner.Shown.{IsUnlike};
 ghost use Rattle.pw_record.specs.inner.Shown.{IsNoted};
 ghost use Rattle.pw_record.specs.inner.Shown.{shown_in};
 ghost use Rattle.pw_record.specs.inner.Shown.{MeasuresNothing};
-ghost use Rattle.pw_obis.specs.Answers.{set_text};
+ghost use Rattle.pw_obis.specs.inner.Given.{set_text};
 
 use crate::fault::Cause;
 use crate::order::put;

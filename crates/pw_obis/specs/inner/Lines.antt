@@ -2,14 +2,9 @@
 use Rattle.std.specs.Prelude.{◌≡◌, ℕ, ◌<◌, ◌≤◌, List, [], ◌∷◌, length, slice_index}
 use Rattle.pw_obis.specs.Bytes.{CR}
 use Rattle.pw_obis.specs.Line.{SetText, SetsAt}
-use Rattle.pw_obis.specs.Block.{StopsAt}
-use Rattle.pw_obis.specs.Coming.{from_place}
+use Rattle.pw_obis.specs.Coming.{AreLinesUpTo, from_place}
 use Rattle.pw_obis.specs.declared.data_set.Set.{Set}
 use Rattle.pw_obis.specs.Answers.{IsGiven}
-
--- from a place on, at a line or in one behind a set, lines stand up to `stop`
-abbrev pub AreLinesUpTo : List ℕ → ℕ → ℕ → Type 0
-AreLinesUpTo block place stop = (place ≤ length block) × StopsAt block stop (from_place block place).refusal
 
 -- a set stands there, of a line
 abbrev pub HasSet : List ℕ → ℕ → Type 0

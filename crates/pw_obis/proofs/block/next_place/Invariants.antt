@@ -1,6 +1,5 @@
 use Rattle.std.proofs.Common.{◌≡◌, ◌-◌, length}
-use Rattle.pw_obis.specs.Coming.{from_place}
-use Rattle.pw_obis.specs.inner.Lines.{AreLinesUpTo}
+use Rattle.pw_obis.specs.Coming.{AreLinesUpTo, from_place}
 use Rattle.pw_obis.proofs.block.next_place.Given as goal
 
 abbrev pub invariant-loop-at : goal.invariant-loop-at

@@ -1,5 +1,5 @@
 use Rattle.std.proofs.Common.{◌++◌, ◌∷◌, [], ap, ◌∙◌, append_assoc}
-use Rattle.pw_obis.specs.Answers.{set_text}
+use Rattle.pw_obis.specs.inner.Given.{set_text}
 use Rattle.pw_obis.proofs.Given.{given_behind}
 use Rattle.pw_read.proofs.Shown.{sets_more}
 use Rattle.pw_read.proofs.frame_text.put_sets.Goals as goal

@@ -1,6 +1,6 @@
 use Rattle.std.proofs.Common.{◌≡◌, ◌++◌, ◌∷◌, [], List, subst, sym, ap, ◌∙◌}
 use Rattle.std.proofs.lemmas.List.{append-nil}
-use Rattle.pw_obis.specs.Answers.{set_text}
+use Rattle.pw_obis.specs.inner.Given.{set_text}
 use Rattle.pw_obis.specs.Line.{SetText}
 use Rattle.pw_obis.proofs.Given.{given_behind}
 use Rattle.pw_record.specs.inner.Told.{AreTelling}

@@ -1,6 +1,6 @@
 use Rattle.std.proofs.Common.{◌≡◌, true, false, refl}
 use Rattle.pw_record.specs.Told.{read_as, TellNothing, TellOne, TellUnlike}
-use Rattle.pw_obis.specs.Answers.{set_text}
+use Rattle.pw_obis.specs.inner.Given.{set_text}
 use Rattle.pw_record.proofs.Telling.{skip, no-code, other-code, first-told, told-again, told-unlike, still-unlike}
 use Rattle.pw_record.proofs.meanings.joined.Goals as goal
 

@@ -1,7 +1,7 @@
 use Rattle.std.proofs.Common.{◌≡◌, ℕ, Option, ◌++◌, ◌∷◌, [], List, subst, sym, ap, ◌∙◌, Ok}
 use Rattle.std.proofs.lemmas.List.{append-nil}
 use Rattle.pw_obis.specs.declared.reference.Register.{Register}
-use Rattle.pw_obis.specs.Answers.{set_text}
+use Rattle.pw_obis.specs.inner.Given.{set_text}
 use Rattle.pw_obis.specs.Line.{SetText}
 use Rattle.pw_obis.proofs.Given.{given_behind, given_here}
 use Rattle.pw_tariff.specs.Office.{OfficeFile}
