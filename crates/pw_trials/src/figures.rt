@@ -11,12 +11,12 @@ use pw_tariff::{AccountId, BandId, Direction, Office, Owner, PeriodId};
 use pw_time::Zone;
 use std::alloc::{AllocError, Global};
 
-// Entries of an office, and the zone.
+/// Entries of an office, and the zone.
 #[derive(Clone, Copy)]
-struct Held<'a> {
-    office: &'a Office,
-    zone: &'a Zone,
-    entries: &'a [Entry],
+pub(crate) struct Held<'a> {
+    pub(crate) office: &'a Office,
+    pub(crate) zone: &'a Zone,
+    pub(crate) entries: &'a [Entry],
 }
 
 // What energies are told apart by.
@@ -29,22 +29,12 @@ struct Class {
 
 /// What the records mean: the energies of nobody and of each account, band by band, in Wh and nano-euro; then what each
 /// account has topped up, in cents, and its balance, in nano-euro.
-pub(crate) fn figures_text(
-    alloc: Global,
-    office: &Office,
-    zone: &Zone,
-    entries: &[Entry],
-) -> Result<String, AllocError>
-    requires entries { AllOfOffice (office_of office.now) entries.now }
-    requires few { length entries.now ≤ most_records }
+pub(crate) fn figures_text(alloc: Global, held: &Held<'_>) -> Result<String, AllocError>
+    requires entries { AllOfOffice (office_of held.now.office.now) held.now.entries.now }
+    requires few { length held.now.entries.now ≤ most_records }
 {
-    let held = Held {
-        office,
-        zone,
-        entries,
-    };
     let mut text = String::from_str(alloc, "owner,band,direction,wh,nano\n")?;
-    put_figures(alloc, &held, &mut text)?;
+    put_figures(alloc, held, &mut text)?;
     Ok(text)
 }
 

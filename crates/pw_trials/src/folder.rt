@@ -4,7 +4,7 @@ ghost use Rattle.std.specs.Prelude.{IfOk};
 ghost use Rattle.pw_model.specs.Office.{AllOfOffice};
 ghost use Rattle.pw_tariff.specs.Office.{office_of};
 
-use crate::figures::figures_text;
+use crate::figures::{Held, figures_text};
 use pw_model::Entry;
 use pw_record::{
     assignment_records, readout_records, telegram_records, topup_records, withdrawal_records,
@@ -21,6 +21,14 @@ const MOST_RECORDS: usize = 10_000_000;
 
 /// The exit status where no figures are told.
 const FAILED: u8 = 3;
+
+// A made cooperative: its folder, its office and the zone.
+#[derive(Clone, Copy)]
+struct Made<'a> {
+    folder: &'a str,
+    office: &'a Office,
+    zone: &'a Zone,
+}
 
 // Why no figures are told.
 #[derive(Clone, Copy, Debug, Drop)]
@@ -58,11 +66,21 @@ fn folder_figures(rt: &HostRuntime, folder: &str) -> Result<String, Fault> {
 
 fn figures_in(rt: &HostRuntime, folder: &str, office: &Office) -> Result<String, Fault> {
     let zone = Zone::central();
-    let entries = entries_in(rt, folder, office, &zone)?;
+    let made = Made {
+        folder,
+        office,
+        zone: &zone,
+    };
+    let entries = entries_in(rt, &made)?;
     if entries.len() > MOST_RECORDS {
         return Err(Fault::Refused);
     }
-    Ok(figures_text(rt.alloc(), office, &zone, &entries)?)
+    let held = Held {
+        office,
+        zone: &zone,
+        entries: &entries,
+    };
+    Ok(figures_text(rt.alloc(), &held)?)
 }
 
 fn office_in(rt: &HostRuntime, folder: &str) -> Result<Office, Fault> {
@@ -82,41 +100,31 @@ fn file_in(rt: &HostRuntime, folder: &str, name: &str) -> Result<Vec<u8>, Fault>
 }
 
 // The records of all uploads that a folder lists, one upload behind the other.
-fn entries_in(
-    rt: &HostRuntime,
-    folder: &str,
-    office: &Office,
-    zone: &Zone,
-) -> Result<Vec<Entry>, Fault>
-    ensures { IfOk result (λ entries. AllOfOffice (office_of office.now) entries.items) }
+fn entries_in(rt: &HostRuntime, made: &Made<'_>) -> Result<Vec<Entry>, Fault>
+    ensures { IfOk result (λ entries. AllOfOffice (office_of made.now.office.now) entries.items) }
 {
-    let list = file_in(rt, folder, "loads")?;
+    let list = file_in(rt, made.folder, "loads")?;
     let Ok(list) = from_utf8(&list) else {
         return Err(Fault::Refused);
     };
     let mut entries = Vec::new(rt.alloc());
     for line in list.lines() {
-        let upload = upload_entries(rt, folder, office, zone, line)?;
+        let upload = upload_entries(rt, made, line)?;
         entries.extend_from_slice(&upload)?;
     }
     Ok(entries)
 }
 
 // The records of an upload, which a line names: its kind, its file, and for readouts its meter.
-fn upload_entries(
-    rt: &HostRuntime,
-    folder: &str,
-    office: &Office,
-    zone: &Zone,
-    line: &str,
-) -> Result<Vec<Entry>, Fault>
-    ensures { IfOk result (λ entries. AllOfOffice (office_of office.now) entries.items) }
+fn upload_entries(rt: &HostRuntime, made: &Made<'_>, line: &str) -> Result<Vec<Entry>, Fault>
+    ensures { IfOk result (λ entries. AllOfOffice (office_of made.now.office.now) entries.items) }
 {
+    let (office, zone) = (made.office, made.zone);
     let mut words = line.split(' ');
     let (Some(kind), Some(file)) = (words.next(), words.next()) else {
         return Err(Fault::Refused);
     };
-    let (alloc, body) = (rt.alloc(), file_in(rt, folder, file)?);
+    let (alloc, body) = (rt.alloc(), file_in(rt, made.folder, file)?);
     let entries = match (kind, words.next()) {
         ("telegrams", None) => telegram_records(alloc, office, zone, &body),
         ("readouts", Some(meter)) => {

@@ -74,10 +74,11 @@ fn is_there(month: Month) -> bool
 
 // Why there is no page of the office, if there is none.
 fn fault_of<S: Shelf>(alloc: Global, book: &mut Book<S>, page: Page) -> Option<BookFault> {
+    let office = book.office();
     let is_of_office = match page {
-        Page::Statement(account) => account.0 < book.office().accounts(),
-        Page::Month(_, account, month) => account.0 < book.office().accounts() && is_there(month),
-        Page::MeterReadings(meter) => meter.0 < book.office().meters(),
+        Page::Statement(account) => account.0 < office.accounts(),
+        Page::Month(_, account, month) => account.0 < office.accounts() && is_there(month),
+        Page::MeterReadings(meter) => meter.0 < office.meters(),
         Page::Table(_) => true,
     };
     if !is_of_office {

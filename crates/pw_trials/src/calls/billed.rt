@@ -1,13 +1,8 @@
-//! What a book answers on the time between two instants.
+//! What a book answers on the time between two instants, told in lines.
 
-use crate::calls::asked::Asked;
 use crate::calls::names::{band_name, meter_name};
-use crate::calls::stretches::{Interval, Stretches};
-use pw_bills::{
-    LastReading, TopUpRow, WhyPiece, bill, days, energy_between, read_up_to, top_ups_between, why,
-};
-use pw_book::{Book, BookFault};
-use pw_shelf::Shelf;
+use crate::calls::stretches::Stretches;
+use pw_bills::{Bill, Energies, LastReading, TopUpRow, WhyPiece};
 use pw_tariff::{BandId, Direction, Office, PeriodId};
 use std::alloc::{AllocError, Global};
 use std::io::Write;
@@ -21,141 +16,34 @@ pub(crate) struct Class {
     pub(crate) direction: Direction,
 }
 
-/// Tells the balances and what was topped up between them, and the energies above 0.
-pub(crate) fn tell_bill<O: Write, S: Shelf>(
-    asked: &Asked<'_>,
-    book: &mut Book<S>,
-    interval: &Interval,
-    out: &mut O,
-) -> Result<(), BookFault> {
-    if interval.account.0 >= book.office().accounts() {
-        return Ok(());
-    }
-    let classes = classes_of(asked.alloc, asked.office)?;
-    let bill = bill(
-        book,
-        asked.alloc,
-        interval.account,
-        interval.from,
-        interval.until,
-    )?;
+/// Tells the balances and what was topped up between them, and the energies above 0 of these classes.
+pub(crate) fn tell_bill<O: Write>(office: &Office, classes: &[Class], bill: &Bill, out: &mut O) {
     let (begin, topped_up, end) = (bill.begin, bill.topped_up, bill.end);
     let _ = writeln!(out, "begin {begin} topped {topped_up} end {end}");
-    for class in &classes {
+    for class in classes {
         let wh = bill.wh(class.period, class.band, class.direction);
-        tell_class(asked.office, *class, wh, out);
+        tell_class(office, *class, wh, out);
     }
-    Ok(())
 }
 
-/// Tells the energies above 0 of each stretch of time, behind its number.
-pub(crate) fn tell_days<O: Write, S: Shelf>(
-    asked: &Asked<'_>,
-    book: &mut Book<S>,
+/// Tells the energies above 0 of these classes in each stretch of time, behind its number.
+pub(crate) fn tell_days<O: Write>(
+    office: &Office,
+    classes: &[Class],
     stretches: &Stretches,
+    energies: &Energies,
     out: &mut O,
-) -> Result<(), BookFault> {
-    let classes = classes_of(asked.alloc, asked.office)?;
-    let energies = days(
-        book,
-        asked.alloc,
-        stretches.account,
-        &stretches.begins,
-        stretches.end,
-    )?;
+) {
     for number in 0..stretches.begins.len() {
-        for class in &classes {
+        for class in classes {
             let wh = energies.wh(number as u16, class.period, class.band, class.direction);
-            tell_class_of(asked.office, number, *class, wh, out);
+            tell_class_of(office, number, *class, wh, out);
         }
     }
-    Ok(())
 }
 
-/// Tells one energy.
-pub(crate) fn tell_energy<O: Write, S: Shelf>(
-    asked: &Asked<'_>,
-    book: &mut Book<S>,
-    interval: &Interval,
-    class: Class,
-    out: &mut O,
-) -> Result<(), BookFault> {
-    let wh = energy_between(
-        book,
-        asked.alloc,
-        interval.account,
-        class.period,
-        class.band,
-        class.direction,
-        interval.from,
-        interval.until,
-    )?;
-    let _ = writeln!(out, "{wh}");
-    Ok(())
-}
-
-/// Tells the pieces that gave something.
-pub(crate) fn tell_why<O: Write, S: Shelf>(
-    asked: &Asked<'_>,
-    book: &mut Book<S>,
-    interval: &Interval,
-    out: &mut O,
-) -> Result<(), BookFault> {
-    let pieces = why(
-        book,
-        asked.alloc,
-        interval.account,
-        interval.from,
-        interval.until,
-    )?;
-    for piece in &pieces {
-        tell_piece(asked.office, piece, out);
-    }
-    Ok(())
-}
-
-/// Tells the top-ups that count.
-pub(crate) fn tell_top_ups<O: Write, S: Shelf>(
-    asked: &Asked<'_>,
-    book: &mut Book<S>,
-    interval: &Interval,
-    out: &mut O,
-) -> Result<(), BookFault> {
-    let rows = top_ups_between(
-        book,
-        asked.alloc,
-        interval.account,
-        interval.from,
-        interval.until,
-    )?;
-    for row in &rows {
-        tell_row(row, out);
-    }
-    Ok(())
-}
-
-/// Tells up to when the meters are read.
-pub(crate) fn tell_latest<O: Write, S: Shelf>(
-    asked: &Asked<'_>,
-    book: &mut Book<S>,
-    interval: &Interval,
-    out: &mut O,
-) -> Result<(), BookFault> {
-    let rows = read_up_to(
-        book,
-        asked.alloc,
-        interval.account,
-        interval.from,
-        interval.until,
-    )?;
-    for row in &rows {
-        tell_last(asked.office, row, out);
-    }
-    Ok(())
-}
-
-// All periods, bands and directions of an office.
-fn classes_of(alloc: Global, office: &Office) -> Result<Vec<Class>, AllocError> {
+/// All periods, bands and directions of an office.
+pub(crate) fn classes_of(alloc: Global, office: &Office) -> Result<Vec<Class>, AllocError> {
     let mut classes = Vec::new(alloc);
     for period in 0..office.periods() {
         for band in office.band_ids() {
@@ -186,8 +74,8 @@ fn tell_class<O: Write>(office: &Office, class: Class, wh: u64, out: &mut O) {
     }
 }
 
-// A meter and a register, the two readings, where the piece begins and ends, and what it gives.
-fn tell_piece<O: Write>(office: &Office, why: &WhyPiece, out: &mut O) {
+/// Tells a piece that gave something: a meter and a register, the two readings, where it begins and ends, and what it gives.
+pub(crate) fn tell_piece<O: Write>(office: &Office, why: &WhyPiece, out: &mut O) {
     let (meter, register) = (meter_name(office, why.meter), why.register.name());
     let (from, low, to, high) = (
         why.span.from,
@@ -201,8 +89,8 @@ fn tell_piece<O: Write>(office: &Office, why: &WhyPiece, out: &mut O) {
     let _ = writeln!(out, "{begin} {until} {period} {band} {wh}");
 }
 
-// A meter and a register, and its latest reading, `-` where there is none.
-fn tell_last<O: Write>(office: &Office, row: &LastReading, out: &mut O) {
+/// Tells a meter and a register, and its latest reading, `-` where there is none.
+pub(crate) fn tell_last<O: Write>(office: &Office, row: &LastReading, out: &mut O) {
     let (meter, register) = (meter_name(office, row.meter), row.register.name());
     let _ = match row.last {
         Some((instant, shown)) => writeln!(out, "{meter} {register} {instant} {}", shown.get()),
@@ -210,7 +98,8 @@ fn tell_last<O: Write>(office: &Office, row: &LastReading, out: &mut O) {
     };
 }
 
-fn tell_row<O: Write>(row: &TopUpRow, out: &mut O) {
+/// Tells a top-up that counts.
+pub(crate) fn tell_row<O: Write>(row: &TopUpRow, out: &mut O) {
     let reference = from_utf8(row.reference.bytes()).unwrap_or("-");
     let (cents, instant) = (row.cents, row.instant);
     let _ = writeln!(out, "{reference} {cents} {instant}");

@@ -7,14 +7,15 @@
 
 use crate::calls::asked::Asked;
 use crate::calls::billed::{
-    Class, tell_bill, tell_days, tell_energy, tell_latest, tell_top_ups, tell_why,
+    Class, classes_of, tell_bill, tell_days, tell_last, tell_piece, tell_row,
 };
 use crate::calls::names::{account, direction};
 use crate::calls::stretches::{Interval, Stretches};
 use crate::calls::words::{end, instant};
 use crate::posts::post;
 use crate::shelves::book_over;
-use pw_book::{Book, PostFault};
+use pw_bills::{bill, days, energy_between, read_up_to, top_ups_between, why};
+use pw_book::{Book, BookFault, PostFault};
 use pw_shelf::{CountShelf, MemoryShelf, Shelf};
 use pw_tariff::{AccountId, BandId, Office, PeriodId};
 use pw_time::Instant;
@@ -123,26 +124,76 @@ fn tell_counted<O: Write, S: Shelf>(
     out: &mut O,
 ) {
     let before = book.shelf.seen();
-    tell_answer(asked, book, question, out);
+    if let Err(fault) = tell_answer(asked, book, question, out) {
+        let _ = writeln!(out, "{fault}");
+    }
     let reads = book.shelf.seen().saturating_sub(before);
     let _ = writeln!(out, "reads {reads}");
 }
 
+// Asks the book, and tells what it answers. There is no bill of an account that the office doesn't have.
 fn tell_answer<O: Write, S: Shelf>(
     asked: &Asked<'_>,
     book: &mut Book<S>,
     question: &Question,
     out: &mut O,
-) {
-    let told = match question {
-        Question::Bill(interval) => tell_bill(asked, book, interval, out),
-        Question::Why(interval) => tell_why(asked, book, interval, out),
-        Question::TopUps(interval) => tell_top_ups(asked, book, interval, out),
-        Question::Latest(interval) => tell_latest(asked, book, interval, out),
-        Question::Energy(interval, class) => tell_energy(asked, book, interval, *class, out),
-        Question::Days(stretches) => tell_days(asked, book, stretches, out),
-    };
-    if let Err(fault) = told {
-        let _ = writeln!(out, "{fault}");
+) -> Result<(), BookFault> {
+    let (alloc, office) = (asked.alloc, asked.office);
+    match question {
+        Question::Bill(it) if it.account.0 >= book.office().accounts() => {}
+        Question::Bill(it) => {
+            let classes = classes_of(alloc, office)?;
+            let bill = bill(book, alloc, it.account, it.from, it.until)?;
+            tell_bill(office, &classes, &bill, out);
+        }
+        Question::Why(it) => {
+            for piece in &why(book, alloc, it.account, it.from, it.until)? {
+                tell_piece(office, piece, out);
+            }
+        }
+        Question::TopUps(it) => {
+            for row in &top_ups_between(book, alloc, it.account, it.from, it.until)? {
+                tell_row(row, out);
+            }
+        }
+        Question::Latest(it) => {
+            for row in &read_up_to(book, alloc, it.account, it.from, it.until)? {
+                tell_last(office, row, out);
+            }
+        }
+        Question::Energy(it, class) => tell_energy(asked, book, it, *class, out)?,
+        Question::Days(it) => {
+            let classes = classes_of(alloc, office)?;
+            let energies = days(book, alloc, it.account, &it.begins, it.end)?;
+            tell_days(office, &classes, it, &energies, out);
+        }
     }
+    Ok(())
+}
+
+fn tell_energy<O: Write, S: Shelf>(
+    asked: &Asked<'_>,
+    book: &mut Book<S>,
+    interval: &Interval,
+    class: Class,
+    out: &mut O,
+) -> Result<(), BookFault> {
+    let Class {
+        period,
+        band,
+        direction,
+    } = class;
+    let (account, from, until) = (interval.account, interval.from, interval.until);
+    let wh = energy_between(
+        book,
+        asked.alloc,
+        account,
+        period,
+        band,
+        direction,
+        from,
+        until,
+    )?;
+    let _ = writeln!(out, "{wh}");
+    Ok(())
 }

@@ -3,4 +3,4 @@ use Rattle.pw_tariff.specs.Office.{office_of}
 use Rattle.pw_trials.proofs.folder.entries_in.Given as goal
 
 abbrev pub invariant-loop-line : goal.invariant-loop-line
-invariant-loop-line l = AllOfOffice (office_of l.office) l.entries.items
+invariant-loop-line l = AllOfOffice (office_of l.made.office.now) l.entries.items
