@@ -1,19 +1,30 @@
--- What the DELETE of totals by band alone, the UPDATE of the version, and that of the office file, leave as it was.
-use Rattle.std.proofs.Common.{◌≡◌, ◌==◌, ℕ, pos, List, [], ◌∷◌, codes, Bool, true, false, cond, None, Ok, Err, Result, OnOk, sym, ap, subst, ◌∙◌, refl, arith}
+-- What the DELETE of totals by band alone, the UPDATE of the version, and that of the office file, leave as it was, and the
+-- row that the last of them makes.
+use Rattle.std.proofs.Common.{◌≡◌, ◌==◌, ℕ, pos, List, [], ◌∷◌, codes, map, Bool, true, false, cond, None, Some, Ok, Err, Result, OnOk, sym, ap, subst, ◌∙◌, refl, arith}
 use Rattle.std.specs.List.{list_any}
+use Rattle.std.specs.List.Sorted.{IsPermutation}
+use Rattle.std.proofs.lemmas.List.Sorted.{IsPermutation-map}
 use Rattle.sqlite.specs.declared.error.Error.{Error}
 use Rattle.sqlite.specs.Order.{Row}
 use Rattle.sqlite.specs.Schema.{Schema}
-use Rattle.sqlite.specs.Tree.{Trees}
+use Rattle.sqlite.specs.Tree.{Trees, has_rowid}
 use Rattle.sqlite.specs.Command.{Command}
 use Rattle.sqlite.specs.Command.TheVariants.{Commit, Delete, Release, Update}
 use Rattle.sqlite.specs.Listing.{understood}
-use Rattle.sqlite.specs.Edit.{Edit, Applies}
+use Rattle.sqlite.specs.Edit.{Edit, Applies, edit_of}
+use Rattle.sqlite.specs.Effect.{Answers}
+use Rattle.sqlite.specs.Program.{overlay}
+use Rattle.sqlite.specs.Query.{Output}
+use Rattle.sqlite.specs.Rowids.TheVariants.{Given}
+use Rattle.sqlite.specs.Ops.{binary, from_truth, is_true}
+use Rattle.sqlite_value.proofs.OrderLemmas.{value_cmp-Int}
+use Rattle.std.specs.Ordering.{is_eq}
 use Rattle.sqlite.specs.Does.{Does}
 use Rattle.sqlite_schema.specs.declared.schema.Keys.{Keys}
 use Rattle.sqlite_schema.specs.declared.program.Program.{Program}
 use Rattle.sqlite.specs.State.{State, Shows, HasCleanDisk, Executes, KeepsCommit, Runs, Survives, CommitsBy, mode_of}
-use Rattle.sqlite.proofs.Callers.{IsPlain, command_of, runs_as, statement_of}
+use Rattle.sqlite.proofs.Callers.{IsPlain, command_of, one_permutation, runs_as, statement_of}
+use Rattle.sqlite_rules.specs.Calls.{ids_of}
 use Rattle.sqlite.proofs.InsideLemmas.{unchanged_keeps}
 use Rattle.sqlite.specs.declared.types.Value.TheVariants.{Blob, Int, Null}
 use Rattle.sqlite.specs.Term.{lit, col, op2}
@@ -21,14 +32,15 @@ use Rattle.sqlite.specs.Collation.TheVariants.{Binary}
 use Rattle.sqlite_sql.specs.declared.ops.BinaryOp.TheVariants.{Compare}
 use Rattle.sqlite_sql.specs.declared.ops.CompareOp.TheVariants.{Eq}
 use Rattle.sqlite_tied.specs.Compute.{everything}
-use Rattle.pw_schema.specs.Fresh.{IsWithin}
+use Rattle.pw_schema.specs.Fresh.{IsWithin, SetsText, office_row}
 use Rattle.pw_schema.specs.Raised.{HasSame, all_but_office, lasting_trees}
 use Rattle.pw_schema.specs.Tables.{office_at, only_one, ours_with, total_at}
 use Rattle.pw_schema.specs.declared.kind.StoreVersion.TheVariants.{Third}
 use Rattle.pw_schema.specs.inner.Stages.{BringsTo}
 use Rattle.pw_schema.proofs.Outcomes.{early, fails, keeps_commit}
-use Rattle.pw_schema.proofs.Scans.{plain_query}
-use Rattle.pw_schema.proofs.Steps.{one_delete, one_update}
+use Rattle.pw_schema.proofs.OfficeRow.{cast_int, cast_null}
+use Rattle.pw_schema.proofs.Scans.{IsScan, outputs, plain_query, scans}
+use Rattle.pw_schema.proofs.Steps.{one_delete, one_update, uncounted}
 
 abbrev own : Schema
 own = ours_with only_one
@@ -135,8 +147,45 @@ pub set_office_means : Means set_office_text (Update 0 set_office)
 unfolding understood everything
 set_office_means = (refl, (refl, refl))
 
-pub sets_office : (body : List ℕ) → Changes set_office_text (Blob body ∷ []) (Update 0 set_office) all_but_office
-sets_office body old new count has it =
-    let done = one_update old.step_limit (mode_of old).keys own (office_at 0 only_one) (Blob body ∷ []) (mode_of old) old.now.trees 0 set_office it.tally new.now (λ _ _. refl)
-    (subst (λ s. Does old.step_limit (mode_of old) (Blob body ∷ []) (record old.now { schema = s }) (statement_of set_office_text (understood own set_office_text)) None (Update 0 set_office) (Ok (it.tally, new.now))) has it.changed) in
-    (it.shown, done.0, beside_office (mode_of old).keys old.now.trees new.now.trees _ done.1.2 refl)
+-- it finds the row by its id
+same_id : is_true (binary (Compare Eq Binary) (Int (pos 1)) (Int (pos 1))) ≡ true
+unfolding binary
+same_id = ap (λ o. is_true (from_truth (Some (is_eq o)))) (value_cmp-Int (pos 1) (pos 1))
+
+module _ (body : List ℕ) where
+  -- what it finds is made anew
+  abbrev SetsFound : State → State → Type 0
+  SetsFound old new = (rows : List Row) × Answers (record { schema = own; trees = old.now.trees }) set_office (Blob body ∷ []) rows
+      × Applies own (mode_of old).keys old.now.trees (edit_of old.now.trees (uncounted (office_at 0 only_one)) (ids_of rows) Given 1 rows) new.now.trees
+
+  updates : (old new : State) (count : ℕ) → old.now.schema ≡ own → Runs old new None (Update 0 set_office) (statement_of set_office_text (understood own set_office_text)) (Blob body ∷ []) count → (new.now.schema ≡ own) × SetsFound old new
+  updates old new count has it =
+      one_update old.step_limit (mode_of old).keys own (office_at 0 only_one) (Blob body ∷ []) (mode_of old) old.now.trees 0 set_office it.tally new.now (λ _ _. refl)
+      (subst (λ s. Does old.step_limit (mode_of old) (Blob body ∷ []) (record old.now { schema = s }) (statement_of set_office_text (understood own set_office_text)) None (Update 0 set_office) (Ok (it.tally, new.now))) has it.changed)
+
+  pub sets_office : Changes set_office_text (Blob body ∷ []) (Update 0 set_office) all_but_office
+  sets_office old new count has it =
+      let done = updates old new count has it in
+      (it.shown, done.0, beside_office (mode_of old).keys old.now.trees new.now.trees _ done.1.2 refl)
+
+  at_id : (told : List ℕ) → has_rowid (pos 1) (office_row told) ≡ true
+  at_id told = ap is_eq (value_cmp-Int (pos 1) (pos 1))
+
+  -- the row that is made of one, as it is found
+  abbrev made : List Row
+  made = (Int (pos 1) ∷ office_row body) ∷ []
+
+  shows : (told : List ℕ) → map (λ (o : Output). o.1) (outputs set_office.body (Blob body ∷ []) (office_row told ∷ [])) ≡ made
+  shows told = rw same_id refl
+
+  found : (told : List ℕ) (all rows : List Row) → all ≡ office_row told ∷ [] → IsScan set_office.body (Blob body ∷ []) all rows → rows ≡ made
+  found told all rows is scan =
+      let shown : map (λ (o : Output). o.1) (outputs set_office.body (Blob body ∷ []) all) ≡ made = ap (λ xs. map (λ (o : Output). o.1) (outputs set_office.body (Blob body ∷ []) xs)) is ∙ shows told in
+      scan.shown ∙ one_permutation _ _ (subst (λ xs. IsPermutation xs (map (λ (o : Output). o.1) scan.ordered)) shown (IsPermutation-map (λ (o : Output). o.1) _ _ scan.same))
+
+  pub sets_text : (old new : State) (r : Result ℕ Error) → IsWithin own old → Executes set_office_text (Blob body ∷ []) old new r → OnOk r (SetsText body old.now.trees new.now.trees)
+  sets_text old new (Err e) at h = tt
+  sets_text old new (Ok count) at h = λ told is.
+      let it = (updates old new count at.schema_is (runs_as set_office_text (Blob body ∷ []) old new own at.schema_is (Update 0 set_office) set_office_means.0 set_office_means.1 count h)).1 in
+      let rows : it.0 ≡ made = found told (old.now.trees 0) it.0 is (scans 0 set_office.body (overlay old.now.trees []) (Blob body ∷ []) it.0 (it.1.answer Null)) in
+      it.2.rows ∙ rw (rows, is, cast_null, cast_int 1, cast_int 3, at_id told) refl

@@ -14,6 +14,10 @@ use Rattle.pw_schema.specs.Tables.{ours_with, only_one}
 abbrev pub office_row : List ℕ → Row
 office_row body = Int (pos 1) ∷ Null ∷ Int (pos 3) ∷ Blob body ∷ []
 
+-- where `office` had one row, of any text, it has that of this text
+abbrev pub SetsText : List ℕ → Trees → Trees → Type 0
+SetsText body before db = (told : List ℕ) → before 0 ≡ office_row told ∷ [] → db 0 ≡ office_row body ∷ []
+
 -- all tables, with the office alone
 pub record IsFresh (body : List ℕ) (db : Database) : Type 0 where
   pub schema_is : db.schema ≡ ours_with only_one
