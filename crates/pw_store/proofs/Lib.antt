@@ -40,6 +40,7 @@ pub mod OfficeFirst
 pub mod OneOffice
 pub mod Openable
 pub mod Others
+pub mod Passed
 pub mod PaymentRows
 pub mod Placing
 pub mod PointRows

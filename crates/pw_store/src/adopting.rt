@@ -18,7 +18,7 @@ ghost use Rattle.pw_store.specs.Left.{AdoptionRefuses, IsOfText, MayBeAdopted};
 ghost use Rattle.pw_store.specs.Opening.{KeepsText};
 ghost use Rattle.pw_store.specs.inner.Opened.{HasAdopted, IsReplaced, RowsRefuse};
 
-use crate::fault::{OpenFault, fault_in};
+use crate::fault::OpenFault;
 use crate::judging::check_rows;
 use crate::opening::{see_office, settle, undo};
 use crate::shelf::SqlShelf;
@@ -123,16 +123,9 @@ fn replace_and_check<S: Alter, W: Watch>(
     ensures kept { HasCleanDisk (state S.Store conn.new) → KeepsCommit (state S.Store conn.old) (state S.Store conn.new) }
     ensures crash { Survives (state S.Store conn.old) (state S.Store conn.new) (λ _. ⊥) }
 {
-    if let Err(error) = replace(conn, text) {
-        return Err(fault_in(error));
-    }
-    let held = match check_rows(alloc, conn, office, watch) {
-        Ok(held) => held,
-        Err(fault) => return Err(fault),
-    };
-    if let Err(error) = see_office(conn, text) {
-        return Err(fault_in(error));
-    }
+    replace(conn, text)?;
+    let held = check_rows(alloc, conn, office, watch)?;
+    see_office(conn, text)?;
     // it says that the file lists these tables
     let _ = conn.schema();
     Ok(held)
@@ -154,14 +147,9 @@ fn replace_and_commit<S: Alter, W: Watch>(
     ensures kept { HasCleanDisk (state S.Store conn.new) → OnErr result (KeepsCommit (state S.Store conn.old) (state S.Store conn.new)) }
     ensures crash { Survives (state S.Store conn.old) (state S.Store conn.new) (MayBeAdopted (office_of office.now) text.now (state S.Store conn.old).now) }
 {
-    let held = match replace_and_check(alloc, conn, office, text, watch) {
-        Ok(held) => held,
-        Err(fault) => return Err(fault),
-    };
-    match commit(conn) {
-        Ok(()) => Ok(held),
-        Err(error) => Err(fault_in(error)),
-    }
+    let held = replace_and_check(alloc, conn, office, text, watch)?;
+    commit(conn)?;
+    Ok(held)
 }
 
 // Gives a store another office file, if its rows are such as that office has, and else undoes what it did: how many records
@@ -207,8 +195,6 @@ fn exchange<S: Alter, W: Watch>(
     ensures kept { HasCleanDisk (state S.Store conn.new) → OnErr result (KeepsCommit (state S.Store conn.old) (state S.Store conn.new)) }
     ensures crash { OnErr result (Survives (state S.Store conn.old) (state S.Store conn.new) (MayBeAdopted (office_of office.now) text.now (state S.Store conn.old).committed)) }
 {
-    if let Err(error) = settle(conn) {
-        return Err(fault_in(error));
-    }
+    settle(conn)?;
     replace_or_undo(alloc, conn, office, text, watch)
 }

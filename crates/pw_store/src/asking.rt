@@ -81,10 +81,9 @@ pub(crate) fn contents<S: Alter>(
         Key::TopUp { reference } => contents_of_record(conn, &RecordKey::TopUp(*reference)),
         Key::Withdrawal { named } => contents_of_withdrawal(conn, named),
     };
-    match asked {
-        Ok(Some(found)) => Ok(found),
-        Ok(None) => Err(AskFault::Unreadable),
-        Err(error) => Err(AskFault::Statement(error)),
+    match asked? {
+        Some(found) => Ok(found),
+        None => Err(AskFault::Unreadable),
     }
 }
 

@@ -29,8 +29,6 @@ pub(crate) fn add_entry<S: Alter>(conn: &mut Connection<S>, entry: &Entry) -> Re
     let Some((form, named)) = form_of(entry) else {
         return Ok(false);
     };
-    match add_named(conn, form, &named) {
-        Ok(_) => Ok(true),
-        Err(error) => Err(error),
-    }
+    add_named(conn, form, &named)?;
+    Ok(true)
 }

@@ -143,12 +143,16 @@ impl fmt::Display for OpenFault {
 }
 
 /// What a refused statement is to an opening.
-pub(crate) fn fault_in(error: Error) -> OpenFault
-    ensures { (result ≡ OpenFault.Memory) ⊎ (result ≡ OpenFault.Store) }
-{
-    match error {
-        Error::SqliteFailure(ErrorCode::OutOfMemory) => OpenFault::Memory,
-        _ => OpenFault::Store,
+impl From<Error> for OpenFault {
+    ghost use Rattle.pw_store.specs.declared.fault.OpenFault.TheVariants.{Memory, Store};
+
+    ghost from_gives = { λ error fault. (fault ≡ Memory) ⊎ (fault ≡ Store) };
+
+    fn from(error: Error) -> Self {
+        match error {
+            Error::SqliteFailure(ErrorCode::OutOfMemory) => OpenFault::Memory,
+            _ => OpenFault::Store,
+        }
     }
 }
 

@@ -14,7 +14,7 @@ ghost use Rattle.pw_store.specs.Left.{IsFilled};
 ghost use Rattle.pw_store.specs.inner.Filling.{AreOfTopUps, IsOfEngine, IsOfTopUps, LeavesTopUps, TellsMore};
 ghost use Rattle.pw_store.specs.inner.Opened.{AreJudged};
 
-use crate::fault::{OpenFault, fault_in};
+use crate::fault::OpenFault;
 use crate::sums::read_energies;
 use crate::total_statements::fill_total;
 use pw_model::TotalKey;
@@ -115,11 +115,6 @@ pub(crate) fn fill<S: Alter>(
     ensures kept { HasCleanDisk (state S.Store conn.new) → KeepsCommit (state S.Store conn.old) (state S.Store conn.new) }
     ensures crash { Survives (state S.Store conn.old) (state S.Store conn.new) (λ _. ⊥) }
 {
-    if let Err(error) = put_all(conn, parts.totals.as_slice()) {
-        return Err(fault_in(error));
-    }
-    match see_filled(conn, office, parts) {
-        Ok(()) => Ok(()),
-        Err(fault) => Err(fault),
-    }
+    put_all(conn, parts.totals.as_slice())?;
+    see_filled(conn, office, parts)
 }

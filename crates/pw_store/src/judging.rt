@@ -14,7 +14,7 @@ ghost use Rattle.pw_store.specs.Opening.{HoldsAllRecords, HoldsTables, HoldsReco
 ghost use Rattle.pw_store.specs.inner.Opened.{AreJudged, IsSound, RecordsRefuse, RefusesUnless, RowRefuses, RowsRefuse, VersionRefuses};
 
 use crate::derived::parts_of;
-use crate::fault::{OpenFault, fault_in};
+use crate::fault::OpenFault;
 use crate::listings::{Listing, judge_listing};
 use crate::office::office_rows;
 use crate::sums::read_sums;
@@ -67,10 +67,7 @@ fn check_records<S: Alter, W: Watch>(
 {
     let mut all = Vec::new(alloc);
     for (kind, part) in &KINDS {
-        let mut found = match check_kind(alloc, conn, office, *kind) {
-            Ok(found) => found,
-            Err(fault) => return Err(fault),
-        };
+        let mut found = check_kind(alloc, conn, office, *kind)?;
         watch.checked(*part, found.len());
         if all.append(&mut found).is_err() {
             return Err(OpenFault::Memory);
@@ -94,10 +91,8 @@ fn check_kind<S: Alter>(
     ensures looks { Looks result (state S.Store conn.old) (state S.Store conn.new) }
 {
     let mut records = Records::new(alloc, office, kind);
-    match judge_listing(conn, Listing::Records(kind), &mut records) {
-        Ok(_) => Ok(records.into_entries()),
-        Err(fault) => Err(fault),
-    }
+    judge_listing(conn, Listing::Records(kind), &mut records)?;
+    Ok(records.into_entries())
 }
 
 // The row of `office`, whose version is judged, whatever stands behind the tables of version 1.
@@ -108,10 +103,7 @@ fn read_office<S: Alter>(conn: &mut Connection<S>) -> Result<(Vec<Row>, StoreVer
     ensures cause { HasCleanDisk (state S.Store conn.new) → IfErr result (VersionRefuses (state S.Store conn.old).now.trees) }
     ensures looks { Looks result (state S.Store conn.old) (state S.Store conn.new) }
 {
-    let rows = match office_rows(conn) {
-        Ok(rows) => rows,
-        Err(error) => return Err(fault_in(error)),
-    };
+    let rows = office_rows(conn)?;
     match judge_version(rows.as_slice()) {
         Ok(version) => Ok((rows, version)),
         Err(fault) => Err(fault_of_office(fault)),
@@ -143,15 +135,8 @@ pub(crate) fn check_office<S: Alter>(
     ensures cause { HasCleanDisk (state S.Store conn.new) → IfErr result (RowRefuses text.now (state S.Store conn.old).now) }
     ensures looks { Looks result (state S.Store conn.old) (state S.Store conn.new) }
 {
-    let (rows, version) = match read_office(conn) {
-        Ok(read) => read,
-        Err(fault) => return Err(fault),
-    };
-    let alone = match holds_tables(conn, version) {
-        Ok(alone) => alone,
-        Err(error) => return Err(fault_in(error)),
-    };
-    if !alone {
+    let (rows, version) = read_office(conn)?;
+    if !holds_tables(conn, version)? {
         return Err(OpenFault::Unclean);
     }
     if !keeps_office(rows.as_slice(), version, text) {
@@ -174,15 +159,10 @@ pub(crate) fn judge_records<S: Alter, W: Watch>(
     ensures cause { HasCleanDisk (state S.Store conn.new) → IfErr result (RecordsRefuse (office_of office.now) (state S.Store conn.old).now.trees) }
     ensures looks { Looks result (state S.Store conn.old) (state S.Store conn.new) }
 {
-    let records = match check_records(alloc, conn, office, watch) {
-        Ok(records) => records,
-        Err(fault) => return Err(fault),
-    };
+    let records = check_records(alloc, conn, office, watch)?;
     let held = records.len();
-    match parts_of(alloc, office, records) {
-        Ok(parts) => Ok((held as u32, parts)),
-        Err(fault) => Err(fault),
-    }
+    let parts = parts_of(alloc, office, records)?;
+    Ok((held as u32, parts))
 }
 
 /// Points, starts and totals, judged and compared with the parts of the records.
@@ -198,10 +178,10 @@ pub(crate) fn check_sums<S: Alter, W: Watch>(
     ensures cause { HasCleanDisk (state S.Store conn.new) → IfErr result (RowsRefuse StoreVersion.Third (office_of office.now) (state S.Store conn.old).now.trees) }
     ensures looks { Looks result (state S.Store conn.old) (state S.Store conn.new) }
 {
-    match read_sums(conn, office, parts, watch) {
-        Ok(true) => Ok(()),
-        Ok(false) => Err(OpenFault::Unclean),
-        Err(fault) => Err(fault),
+    if read_sums(conn, office, parts, watch)? {
+        Ok(())
+    } else {
+        Err(OpenFault::Unclean)
     }
 }
 
@@ -219,12 +199,7 @@ pub(crate) fn check_rows<S: Alter, W: Watch>(
     ensures cause { HasCleanDisk (state S.Store conn.new) → IfErr result (RowsRefuse StoreVersion.Third (office_of office.now) (state S.Store conn.old).now.trees) }
     ensures looks { Looks result (state S.Store conn.old) (state S.Store conn.new) }
 {
-    let (held, parts) = match judge_records(alloc, conn, office, watch) {
-        Ok(judged) => judged,
-        Err(fault) => return Err(fault),
-    };
-    match check_sums(conn, office, &parts, watch) {
-        Ok(()) => Ok(held),
-        Err(fault) => Err(fault),
-    }
+    let (held, parts) = judge_records(alloc, conn, office, watch)?;
+    check_sums(conn, office, &parts, watch)?;
+    Ok(held)
 }

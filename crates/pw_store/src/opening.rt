@@ -15,7 +15,7 @@ ghost use Rattle.pw_store.specs.Left.{IsFilled, MayBeMade, MayBeUpgraded};
 ghost use Rattle.pw_store.specs.Opening.{BegunRefuses, HoldsTables, KeepsText, Refuses};
 ghost use Rattle.pw_store.specs.inner.Opened.{IsOpened, IsReady, IsSettled, IsSound, RowsRefuse};
 
-use crate::fault::{OpenFault, fault_in};
+use crate::fault::OpenFault;
 use crate::filling::fill;
 use crate::judging::{check_office, check_rows, check_sums, judge_records};
 use crate::liveness::wake;
@@ -91,17 +91,10 @@ fn fill_and_check<S: Alter, W: Watch>(
     ensures kept { HasCleanDisk (state S.Store conn.new) → KeepsCommit (state S.Store conn.old) (state S.Store conn.new) }
     ensures crash { Survives (state S.Store conn.old) (state S.Store conn.new) (λ _. ⊥) }
 {
-    let (held, parts) = match judge_records(alloc, conn, office, watch) {
-        Ok(judged) => judged,
-        Err(fault) => return Err(fault),
-    };
-    if let Err(fault) = fill(conn, office, &parts) {
-        return Err(fault);
-    }
-    match check_sums(conn, office, &parts, watch) {
-        Ok(()) => Ok(held),
-        Err(fault) => Err(fault),
-    }
+    let (held, parts) = judge_records(alloc, conn, office, watch)?;
+    fill(conn, office, &parts)?;
+    check_sums(conn, office, &parts, watch)?;
+    Ok(held)
 }
 
 // Brings a store of an earlier version to version 3 within a transaction, if its rows are those of the office: how many
@@ -123,16 +116,9 @@ fn raise_and_check<S: Alter, W: Watch>(
     ensures kept { HasCleanDisk (state S.Store conn.new) → KeepsCommit (state S.Store conn.old) (state S.Store conn.new) }
     ensures crash { Survives (state S.Store conn.old) (state S.Store conn.new) (λ _. ⊥) }
 {
-    if let Err(error) = raise(conn, version) {
-        return Err(fault_in(error));
-    }
-    let held = match fill_and_check(alloc, conn, office, watch) {
-        Ok(held) => held,
-        Err(fault) => return Err(fault),
-    };
-    if let Err(error) = see_office(conn, text) {
-        return Err(fault_in(error));
-    }
+    raise(conn, version)?;
+    let held = fill_and_check(alloc, conn, office, watch)?;
+    see_office(conn, text)?;
     // it says that the file lists these tables
     let _ = conn.schema();
     Ok(held)
@@ -167,13 +153,11 @@ fn upgrade<S: Alter, W: Watch>(
     ensures crash { Survives (state S.Store conn.old) (state S.Store conn.new) (MayBeUpgraded (office_of office.now) text.now (state S.Store conn.old).now) }
 {
     match raise_and_check(alloc, conn, office, text, version, watch) {
-        Ok(held) => match commit(conn) {
-            Ok(()) => {
-                watch.upgraded();
-                Ok(held)
-            }
-            Err(error) => Err(fault_in(error)),
-        },
+        Ok(held) => {
+            commit(conn)?;
+            watch.upgraded();
+            Ok(held)
+        }
         Err(fault) => {
             undo(conn);
             Err(fault)
@@ -199,11 +183,10 @@ fn check<S: Alter, W: Watch>(
     ensures clean { HasCleanDisk (state S.Store conn.new) → HasCleanDisk (state S.Store conn.old) }
     ensures crash { Survives (state S.Store conn.old) (state S.Store conn.new) (MayBeUpgraded (office_of office.now) text.now (state S.Store conn.old).now) }
 {
-    match check_office(conn, text) {
-        Ok(StoreVersion::First) => upgrade(alloc, conn, office, text, StoreVersion::First, watch),
-        Ok(StoreVersion::Second) => upgrade(alloc, conn, office, text, StoreVersion::Second, watch),
-        Ok(StoreVersion::Third) => check_rows(alloc, conn, office, watch),
-        Err(fault) => Err(fault),
+    match check_office(conn, text)? {
+        StoreVersion::First => upgrade(alloc, conn, office, text, StoreVersion::First, watch),
+        StoreVersion::Second => upgrade(alloc, conn, office, text, StoreVersion::Second, watch),
+        StoreVersion::Third => check_rows(alloc, conn, office, watch),
     }
 }
 
@@ -225,10 +208,10 @@ fn make_or_check<S: Alter, W: Watch>(
     ensures crash { OnErr result (Survives (state S.Store conn.old) (state S.Store conn.new) (MayBeMade (office_of office.now) text.now (state S.Store conn.old))) }
 {
     match look(conn) {
-        Found::Nothing => match create(conn, text) {
-            Ok(()) => Ok(0),
-            Err(error) => Err(fault_in(error)),
-        },
+        Found::Nothing => {
+            create(conn, text)?;
+            Ok(0)
+        }
         Found::Begun => check(alloc, conn, office, text, watch),
         Found::Other => Err(OpenFault::Unclean),
     }
@@ -274,8 +257,6 @@ pub(crate) fn prepare<S: Alter, W: Watch>(
     ensures clean { HasCleanDisk (state S.Store conn.new) → HasCleanDisk (state S.Store conn.old) }
     ensures crash { OnErr result (Survives (state S.Store conn.old) (state S.Store conn.new) (MayBeMade (office_of office.now) text.now (state S.Store conn.old))) }
 {
-    if let Err(error) = settle(conn) {
-        return Err(fault_in(error));
-    }
+    settle(conn)?;
     make_or_check(alloc, conn, office, text, watch)
 }

@@ -7,7 +7,7 @@ ghost use Rattle.sqlite.specs.State.{HasCleanDisk, Shown};
 ghost use Rattle.pw_schema.specs.Calls.{Looks};
 ghost use Rattle.pw_store.specs.inner.Scanning.{HasRefused, HasTaken, IsOneQuery, IsOther};
 
-use crate::fault::{OpenFault, fault_in, fault_of_rows};
+use crate::fault::{OpenFault, fault_of_rows};
 use pw_schema::Judge;
 use sqlite::{Alter, Connection};
 
@@ -25,15 +25,11 @@ pub(crate) fn judge_each<S: Alter, J: Judge>(
     ensures others { OnErr result (IsOther result) }
     ensures looks { Looks result (state S.Store conn.old) (state S.Store conn.new) }
 {
-    let mut rows = match conn.query(text, &[]) {
-        Ok(rows) => rows,
-        Err(error) => return Err(fault_in(error)),
-    };
+    let mut rows = conn.query(text, &[])?;
     for count in 0..usize::MAX {
-        let row = match rows.next() {
-            Ok(Some(row)) => row,
-            Ok(None) => return Ok(count),
-            Err(error) => return Err(fault_in(error)),
+        let row = match rows.next()? {
+            Some(row) => row,
+            None => return Ok(count),
         };
         match judge.take(row) {
             Ok(()) => {}

@@ -37,10 +37,8 @@ fn check_rowids<S: Alter>(conn: &mut Connection<S>, rowids: Listing) -> Result<(
     ensures looks { Looks result (state S.Store conn.old) (state S.Store conn.new) }
 {
     let mut judge = Rowids::new();
-    match judge_listing(conn, rowids, &mut judge) {
-        Ok(_) => Ok(()),
-        Err(fault) => Err(fault),
-    }
+    judge_listing(conn, rowids, &mut judge)?;
+    Ok(())
 }
 
 // Points, or starts.
@@ -58,14 +56,9 @@ fn read_kept<S: Alter>(
     ensures looks { Looks result (state S.Store conn.old) (state S.Store conn.new) }
 {
     let mut entries = KeptEntries::new(office, kept.kind(), expected);
-    let count = match judge_listing(conn, Listing::Kept(kept), &mut entries) {
-        Ok(count) => count,
-        Err(fault) => return Err(fault),
-    };
-    match check_rowids(conn, Listing::KeptRowids(kept)) {
-        Ok(()) => Ok((count, entries.is_at_end())),
-        Err(fault) => Err(fault),
-    }
+    let count = judge_listing(conn, Listing::Kept(kept), &mut entries)?;
+    check_rowids(conn, Listing::KeptRowids(kept))?;
+    Ok((count, entries.is_at_end()))
 }
 
 // The totals of energy by period.
@@ -82,14 +75,9 @@ fn read_by_period<'a, S: Alter>(
     ensures looks { Looks result (state S.Store conn.old) (state S.Store conn.new) }
 {
     let mut energies = KeptTotals::new(office, TotalKind::Energies, Some(expected));
-    let count = match judge_listing(conn, Listing::Totals(TotalKind::Energies), &mut energies) {
-        Ok(count) => count,
-        Err(fault) => return Err(fault),
-    };
-    match check_rowids(conn, Listing::EnergyRowids) {
-        Ok(()) => Ok((count, energies.rest())),
-        Err(fault) => Err(fault),
-    }
+    let count = judge_listing(conn, Listing::Totals(TotalKind::Energies), &mut energies)?;
+    check_rowids(conn, Listing::EnergyRowids)?;
+    Ok((count, energies.rest()))
 }
 
 // Sees that no total is kept by band alone.
@@ -100,10 +88,8 @@ fn check_old_totals<S: Alter>(conn: &mut Connection<S>) -> Result<(), OpenFault>
     ensures looks { Looks result (state S.Store conn.old) (state S.Store conn.new) }
 {
     let mut judge = NoRows;
-    match judge_listing(conn, Listing::OldTotals, &mut judge) {
-        Ok(_) => Ok(()),
-        Err(fault) => Err(fault),
-    }
+    judge_listing(conn, Listing::OldTotals, &mut judge)?;
+    Ok(())
 }
 
 /// The totals of energy: how many there are by period, if there is none by band alone, and what of a list stands behind
@@ -121,13 +107,8 @@ pub(crate) fn read_energies<'a, S: Alter>(
     ensures cause { HasCleanDisk (state S.Store conn.new) → IfErr result (RefusesUnless (HoldsEnergies (office_of office.now) (state S.Store conn.old).now.trees)) }
     ensures looks { Looks result (state S.Store conn.old) (state S.Store conn.new) }
 {
-    if let Err(fault) = check_old_totals(conn) {
-        return Err(fault);
-    }
-    match read_by_period(conn, office, expected) {
-        Ok(energies) => Ok(energies),
-        Err(fault) => Err(fault),
-    }
+    check_old_totals(conn)?;
+    read_by_period(conn, office, expected)
 }
 
 // Whether a list has been met whole.
@@ -154,10 +135,8 @@ fn read_payments<S: Alter>(
     ensures looks { Looks result (state S.Store conn.old) (state S.Store conn.new) }
 {
     let mut payments = KeptTotals::new(office, TotalKind::Payments, expected);
-    match judge_listing(conn, Listing::Totals(TotalKind::Payments), &mut payments) {
-        Ok(count) => Ok((count, is_at_end(payments.rest()))),
-        Err(fault) => Err(fault),
-    }
+    let count = judge_listing(conn, Listing::Totals(TotalKind::Payments), &mut payments)?;
+    Ok((count, is_at_end(payments.rest())))
 }
 
 fn are_all(points: bool, starts: bool, totals: bool) -> bool
@@ -180,25 +159,13 @@ pub(crate) fn read_sums<S: Alter, W: Watch>(
     ensures cause { HasCleanDisk (state S.Store conn.new) → IfErr result (RefusesUnless (HoldsSums (office_of office.now) (state S.Store conn.old).now.trees)) }
     ensures looks { Looks result (state S.Store conn.old) (state S.Store conn.new) }
 {
-    let points = match read_kept(conn, office, KeptKind::Points, parts.points.as_slice()) {
-        Ok(points) => points,
-        Err(fault) => return Err(fault),
-    };
+    let points = read_kept(conn, office, KeptKind::Points, parts.points.as_slice())?;
     watch.checked(Part::Points, points.0);
-    let starts = match read_kept(conn, office, KeptKind::Starts, parts.starts.as_slice()) {
-        Ok(starts) => starts,
-        Err(fault) => return Err(fault),
-    };
+    let starts = read_kept(conn, office, KeptKind::Starts, parts.starts.as_slice())?;
     watch.checked(Part::Starts, starts.0);
-    let energies = match read_energies(conn, office, parts.totals.as_slice()) {
-        Ok(energies) => energies,
-        Err(fault) => return Err(fault),
-    };
+    let energies = read_energies(conn, office, parts.totals.as_slice())?;
     watch.checked(Part::Energies, energies.0);
-    let payments = match read_payments(conn, office, energies.1) {
-        Ok(payments) => payments,
-        Err(fault) => return Err(fault),
-    };
+    let payments = read_payments(conn, office, energies.1)?;
     watch.checked(Part::Payments, payments.0);
     Ok(are_all(points.1, starts.1, payments.1))
 }

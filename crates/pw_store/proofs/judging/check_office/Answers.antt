@@ -11,10 +11,10 @@ returns-then-not-keeps_office-clause-cause g c clean =
     let old = state g.S.Store c.args.conn.now in
     let mid = state g.S.Store c.read_office.new.conn in
     let new = state g.S.Store c.holds_tables.new.conn in
-    let before = early mid new c.in-Ok-holds_tables.ensures.crash clean in
-    let rows : List Row = c.in-Ok.read.0.items in
-    text_differs c.args.text.now old mid c.in-Ok.read.1 rows (c.in-Ok.ensures.looks.same before) (c.in-Ok-holds_tables.ensures.is clean c.if-not-alone.false) (c.in-Ok.ensures.rows before) c.in-Ok.ensures.version
-    (λ keeps. (let bad = c.keeps_office.ensures.all (subst (KeepsVersion c.in-Ok.read.1 c.args.text.now) (sym c.as_slice.ensures.value) keeps) in let was = c.if-not-keeps_office.true in cc))
+    let before = early mid new c.in_ok-holds_tables.ensures.crash clean in
+    let rows : List Row = c.in_ok-rows.rows.items in
+    text_differs c.args.text.now old mid c.in_ok-rows.version rows (c.in_ok-rows.ensures.looks.same before) (c.in_ok-holds_tables.ensures.is clean c.if-not-branch.false) (c.in_ok-rows.ensures.rows before) c.in_ok-rows.ensures.version
+    (λ keeps. (let bad = c.keeps_office.ensures.all (subst (KeepsVersion c.in_ok-rows.version c.args.text.now) (sym c.as_slice.ensures.value) keeps) in let was = c.if-not-keeps_office.true in cc))
 
 pub returns-clause-kept_text : goal.returns-clause-kept_text
 returns-clause-kept_text g c = search rules depth 0 fits 100

@@ -16,13 +16,13 @@ loop-kind-preserved g c =
     let now = state g.S.Store c.loop-kind.conn in
     let new = state g.S.Store c.check_kind.new.conn in
     let was = c.loop-kind.invariant in
-    let it = c.in-Ok.ensures in
+    let it = c.in_ok-found.ensures in
     let before : HasCleanDisk new → HasCleanDisk now = early now new {P = λ _. ⊥} it.looks.crash in
-    let grown : c.append.new.self.items ≡ c.loop-kind.all.items ++ c.in-Ok.found.items = search rules in
+    let grown : c.append.new.self.items ≡ c.loop-kind.all.items ++ c.in_ok-found.found.items = search rules in
     record {
       hold = λ clean. one_more_holds office old now (was.same (before clean)) _ c.loop-kind.kind-index (search rules) (was.hold (before clean)) (it.good clean);
-      listed = λ clean. one_more_listed office old now (was.same (before clean)) _ c.loop-kind.kind-index (search rules) c.loop-kind.all.items c.in-Ok.found.items c.append.new.self.items (was.listed (before clean)) (it.listed clean) grown;
-      of_office = subst (AllOfOffice office) (sym grown) (all_both office c.loop-kind.all.items c.in-Ok.found.items was.of_office it.of_office);
+      listed = λ clean. one_more_listed office old now (was.same (before clean)) _ c.loop-kind.kind-index (search rules) c.loop-kind.all.items c.in_ok-found.found.items c.append.new.self.items (was.listed (before clean)) (it.listed clean) grown;
+      of_office = subst (AllOfOffice office) (sym grown) (all_both office c.loop-kind.all.items c.in_ok-found.found.items was.of_office it.of_office);
       same = λ clean. unchanged_then old now new (was.same (before clean)) (it.looks.same clean);
       crash = survives_on old now new was.crash it.looks.crash;
     }

@@ -7,18 +7,20 @@ use Rattle.pw_schema.proofs.Outcomes.{early}
 use Rattle.pw_store.specs.inner.Opened.{RowsRefuse}
 use Rattle.pw_store.proofs.InTurn.{counted_on, trees_same}
 use Rattle.pw_store.proofs.Judged.{rows_refused}
+use Rattle.pw_store.proofs.Passed.{passed}
 use Rattle.pw_store.proofs.judging.check_rows.Goals as goal
 
-pub returns-in-Err-clause-cause : goal.returns-in-Err-clause-cause
-returns-in-Err-clause-cause g c clean = rows_refused (office_of c.args.office.now) (state g.S.Store c.args.conn.now).now.trees c.in-Err.fault (c.in-Err.ensures.cause clean)
+pub returns-in_err-held-clause-cause : goal.returns-in_err-held-clause-cause
+returns-in_err-held-clause-cause g c clean =
+    passed c.from_residual.result (RowsRefuse Third (office_of c.args.office.now) (state g.S.Store c.args.conn.now).now.trees) c.from_residual.ensures.1 (rows_refused (office_of c.args.office.now) (state g.S.Store c.args.conn.now).now.trees c.in_err-held.field-0.0 (c.in_err-held.ensures.cause clean))
 
-pub returns-in-Ok-check_sums-clause-counted : goal.returns-in-Ok-check_sums-clause-counted
-returns-in-Ok-check_sums-clause-counted g c clean =
-    counted_on _ _ _ (c.in-Ok-check_sums.ensures.looks.same clean) (c.in-Ok.ensures.counted (early _ _ c.in-Ok-check_sums.ensures.looks.crash clean))
+pub returns-clause-counted : goal.returns-clause-counted
+returns-clause-counted g c clean =
+    counted_on _ _ _ (c.in_ok-check_sums.ensures.looks.same clean) (c.in_ok-held.ensures.counted (early _ _ c.in_ok-check_sums.ensures.looks.crash clean))
 
-pub returns-clause-cause : goal.returns-clause-cause
-returns-clause-cause g c clean =
+pub returns-in_err-check_sums-clause-cause : goal.returns-in_err-check_sums-clause-cause
+returns-in_err-check_sums-clause-cause g c clean =
     let old = state g.S.Store c.args.conn.now in
     let mid = state g.S.Store c.judge_records.new.conn in
-    let before = early mid (state g.S.Store c.check_sums.new.conn) c.in-Err-check_sums.ensures.looks.crash clean in
-    subst (λ (db : Trees). RowsRefuse Third (office_of c.args.office.now) db c.in-Err-check_sums.fault) (trees_same old mid (c.in-Ok.ensures.looks.same before)) (c.in-Err-check_sums.ensures.cause clean)
+    let before = early mid (state g.S.Store c.check_sums.new.conn) c.in_err-check_sums.ensures.looks.crash clean in
+    passed c.from_residual-in_err-check_sums.result (RowsRefuse Third (office_of c.args.office.now) old.now.trees) c.from_residual-in_err-check_sums.ensures.1 (subst (λ (db : Trees). RowsRefuse Third (office_of c.args.office.now) db c.in_err-check_sums.field-0.0) (trees_same old mid (c.in_ok-held.ensures.looks.same before)) (c.in_err-check_sums.ensures.cause clean))

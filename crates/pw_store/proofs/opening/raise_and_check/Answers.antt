@@ -3,19 +3,21 @@ use Rattle.pw_tariff.specs.Office.{office_of}
 use Rattle.pw_schema.proofs.Outcomes.{early}
 use Rattle.pw_store.proofs.InTurn.{counted_on}
 use Rattle.pw_store.proofs.Raised.{is_ready, refused_before}
+use Rattle.pw_store.proofs.Passed.{passed}
+use Rattle.pw_store.specs.inner.Opened.{RowsRefuse}
 use Rattle.pw_store.proofs.opening.raise_and_check.Goals as goal
 
-pub returns-in-Err-fill_and_check-clause-cause : goal.returns-in-Err-fill_and_check-clause-cause
-returns-in-Err-fill_and_check-clause-cause g c clean =
+pub returns-in_err-held-clause-cause : goal.returns-in_err-held-clause-cause
+returns-in_err-held-clause-cause g c clean =
     let old = state g.S.Store c.args.conn.now in
     let mid = state g.S.Store c.raise.new.conn in
     let new = state g.S.Store c.fill_and_check.new.conn in
-    let raised = c.in_default.ensures.raised (early mid new c.in-Err-fill_and_check.ensures.crash clean) in
-    refused_before (office_of c.args.office.now) old.now.trees mid.now.trees c.args.version c.requires.earlier raised c.in-Err-fill_and_check.fault (c.in-Err-fill_and_check.ensures.cause clean)
+    let raised = c.in_ok-raise.ensures.raised (early mid new c.in_err-held.ensures.crash clean) in
+    passed c.from_residual-in_err-held.result (RowsRefuse c.args.version (office_of c.args.office.now) old.now.trees) c.from_residual-in_err-held.ensures.1 (refused_before (office_of c.args.office.now) old.now.trees mid.now.trees c.args.version c.requires.earlier raised c.in_err-held.field-0.0 (c.in_err-held.ensures.cause clean))
 
 pub returns-clause-counted : goal.returns-clause-counted
 returns-clause-counted g c clean =
-    counted_on _ _ _ (c.in_default-see_office.ensures.looks.same clean) (c.in-Ok.ensures.counted (early _ _ c.in_default-see_office.ensures.looks.crash clean))
+    counted_on _ _ _ (c.in_ok-see_office.ensures.looks.same clean) (c.in_ok-held.ensures.counted (early _ _ c.in_ok-see_office.ensures.looks.crash clean))
 
 pub returns-clause-ready : goal.returns-clause-ready
 returns-clause-ready g c clean =
@@ -23,10 +25,10 @@ returns-clause-ready g c clean =
     let mid = state g.S.Store c.raise.new.conn in
     let new = state g.S.Store c.fill_and_check.new.conn in
     let last = state g.S.Store c.see_office.new.conn in
-    let seen = c.in_default-see_office.ensures in
+    let seen = c.in_ok-see_office.ensures in
     let clean2 = early new last seen.looks.crash clean in
-    let clean1 = early mid new c.in-Ok.ensures.crash clean2 in
-    let before = early old mid c.in_default.ensures.crash clean1 in
-    is_ready c.args.version (office_of c.args.office.now) c.args.text.now old mid new last c.requires.earlier (c.requires.old_tables before) (c.requires.old_text before) (c.in_default.ensures.raised clean1)
-    (c.in-Ok.ensures.lasting clean2) (c.in-Ok.ensures.within clean2) (c.in-Ok.ensures.filled clean2) (c.in-Ok.ensures.sound clean2) (seen.kept_text clean) (seen.plain clean)
+    let clean1 = early mid new c.in_ok-held.ensures.crash clean2 in
+    let before = early old mid c.in_ok-raise.ensures.crash clean1 in
+    is_ready c.args.version (office_of c.args.office.now) c.args.text.now old mid new last c.requires.earlier (c.requires.old_tables before) (c.requires.old_text before) (c.in_ok-raise.ensures.raised clean1)
+    (c.in_ok-held.ensures.lasting clean2) (c.in_ok-held.ensures.within clean2) (c.in_ok-held.ensures.filled clean2) (c.in_ok-held.ensures.sound clean2) (seen.kept_text clean) (seen.plain clean)
     (seen.looks.same clean) (c.schema.ensures.live (seen.looks.same clean).0.is_open).0

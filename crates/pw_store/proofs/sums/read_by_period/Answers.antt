@@ -10,30 +10,33 @@ use Rattle.pw_store.specs.Content.{energy_tree}
 use Rattle.pw_store.specs.inner.Sums.{AreNumbered}
 use Rattle.pw_store.proofs.InTurn.{trees_same}
 use Rattle.pw_store.proofs.Compared.{totals_hold, totals_refuse, totals_tell}
+use Rattle.pw_store.proofs.Passed.{passed}
+use Rattle.pw_store.specs.inner.Opened.{RefusesUnless}
+use Rattle.pw_store.specs.Opening.{HoldsTotals}
 use Rattle.pw_store.proofs.sums.read_by_period.Goals as goal
 
-pub returns-in-Err-clause-cause : goal.returns-in-Err-clause-cause
-returns-in-Err-clause-cause g c clean =
+pub returns-in_err-count-clause-cause : goal.returns-in_err-count-clause-cause
+returns-in_err-count-clause-cause g c clean =
     let table : List Row = (state g.S.Store c.args.conn.now).now.trees energy_tree in
-    totals_refuse (office_of c.args.office.now) Energies table c.new-energies.result (ap office_of c.new-energies.ensures.office) c.new-energies.ensures.kind c.in-Err.fault c.in-Err.ensures.others (c.in-Err.ensures.refused clean)
+    passed c.from_residual.result (RefusesUnless (HoldsTotals (office_of c.args.office.now) Energies table)) c.from_residual.ensures.1 (totals_refuse (office_of c.args.office.now) Energies table c.new-energies.result (ap office_of c.new-energies.ensures.office) c.new-energies.ensures.kind c.in_err-count.field-0.0 c.in_err-count.ensures.others (c.in_err-count.ensures.refused clean))
 
-pub returns-in-Ok-check_rowids-clause-holds : goal.returns-in-Ok-check_rowids-clause-holds
-returns-in-Ok-check_rowids-clause-holds g c clean =
-    let before = early (state g.S.Store c.judge_listing.new.conn) (state g.S.Store c.check_rowids.new.conn) c.in-Ok-check_rowids.ensures.looks.crash clean in
+pub returns-clause-holds : goal.returns-clause-holds
+returns-clause-holds g c clean =
+    let before = early (state g.S.Store c.judge_listing.new.conn) (state g.S.Store c.check_rowids.new.conn) c.in_ok-check_rowids.ensures.looks.crash clean in
     let table : List Row = (state g.S.Store c.args.conn.now).now.trees energy_tree in
-    let it = c.in-Ok.ensures.took in
+    let it = c.in_ok-count.ensures.took in
     totals_hold (office_of c.args.office.now) Energies table c.new-energies.result (ap office_of c.new-energies.ensures.office) c.new-energies.ensures.kind c.judge_listing.new.judge it.0 it.1 (it.2 before)
 
-pub returns-in-Ok-check_rowids-clause-numbered : goal.returns-in-Ok-check_rowids-clause-numbered
-returns-in-Ok-check_rowids-clause-numbered g c clean =
-    let before = early (state g.S.Store c.judge_listing.new.conn) (state g.S.Store c.check_rowids.new.conn) c.in-Ok-check_rowids.ensures.looks.crash clean in
-    let same = trees_same (state g.S.Store c.args.conn.now) (state g.S.Store c.judge_listing.new.conn) (c.in-Ok.ensures.looks.same before) in
-    subst (λ db. AreNumbered (db energy_tree)) same (c.in-Ok-check_rowids.ensures.numbered clean)
+pub returns-clause-numbered : goal.returns-clause-numbered
+returns-clause-numbered g c clean =
+    let before = early (state g.S.Store c.judge_listing.new.conn) (state g.S.Store c.check_rowids.new.conn) c.in_ok-check_rowids.ensures.looks.crash clean in
+    let same = trees_same (state g.S.Store c.args.conn.now) (state g.S.Store c.judge_listing.new.conn) (c.in_ok-count.ensures.looks.same before) in
+    subst (λ db. AreNumbered (db energy_tree)) same (c.in_ok-check_rowids.ensures.numbered clean)
 
-pub returns-in-Ok-check_rowids-clause-tells : goal.returns-in-Ok-check_rowids-clause-tells
-returns-in-Ok-check_rowids-clause-tells g c clean =
-    let before = early (state g.S.Store c.judge_listing.new.conn) (state g.S.Store c.check_rowids.new.conn) c.in-Ok-check_rowids.ensures.looks.crash clean in
+pub returns-clause-tells : goal.returns-clause-tells
+returns-clause-tells g c clean =
+    let before = early (state g.S.Store c.judge_listing.new.conn) (state g.S.Store c.check_rowids.new.conn) c.in_ok-check_rowids.ensures.looks.crash clean in
     let table : List Row = (state g.S.Store c.args.conn.now).now.trees energy_tree in
-    let it = c.in-Ok.ensures.took in
+    let it = c.in_ok-count.ensures.took in
     let told = totals_tell (office_of c.args.office.now) Energies table c.new-energies.result (ap office_of c.new-energies.ensures.office) c.new-energies.ensures.kind c.judge_listing.new.judge it.0 it.1 (it.2 before) (Some c.args.expected.now) (ap option_copied c.new-energies.ensures.rest) in
     (told.0, told.1, subst (λ r. IsRest (Some c.args.expected.now) (filter is_above_zero told.0) (option_copied r)) (sym c.rest.ensures) told.2)

@@ -1,43 +1,48 @@
-use Rattle.std.proofs.Common.{sym, subst}
+use Rattle.std.proofs.Common.{◌≡◌, []}
+use Rattle.std.proofs.lemmas.Result.{IfErr-weaker, on_ok_weaker}
 use Rattle.sqlite.specs.Held.{state}
 use Rattle.pw_tariff.specs.Office.{office_of}
 use Rattle.pw_schema.proofs.Outcomes.{early}
 use Rattle.pw_schema.specs.declared.kind.TotalKind.TheVariants.{Energies}
-use Rattle.pw_store.specs.Content.{energy_tree}
+use Rattle.pw_store.specs.Content.{energy_tree, total_tree}
 use Rattle.pw_store.specs.Opening.{HoldsTotals}
-use Rattle.pw_store.specs.inner.Sums.{AreNumbered, TellsTotals}
+use Rattle.pw_store.specs.inner.Opened.{HoldsEnergies, RefusesUnless}
 use Rattle.pw_store.proofs.InTurn.{trees_same}
+use Rattle.pw_store.proofs.Passed.{passed}
 use Rattle.pw_store.proofs.Scanning.{refuses_more}
 use Rattle.pw_store.proofs.sums.read_energies.Goals as goal
 
-pub returns-in-Err-clause-cause : goal.returns-in-Err-clause-cause
-returns-in-Err-clause-cause g c clean = refuses_more _ _ c.in-Err.fault (λ it. it.old) (c.in-Err.ensures.cause clean)
+pub returns-in_err-check_old_totals-clause-cause : goal.returns-in_err-check_old_totals-clause-cause
+returns-in_err-check_old_totals-clause-cause g c clean =
+    passed c.from_residual.result (RefusesUnless (HoldsEnergies (office_of c.args.office.now) (state g.S.Store c.args.conn.now).now.trees)) c.from_residual.ensures.1 (refuses_more _ _ c.in_err-check_old_totals.field-0.0 (λ it. it.old) (c.in_err-check_old_totals.ensures.cause clean))
 
-pub returns-in-Ok-clause-holds : goal.returns-in-Ok-clause-holds
-returns-in-Ok-clause-holds g c clean =
-    let before = early (state g.S.Store c.check_old_totals.new.conn) (state g.S.Store c.read_by_period.new.conn) c.in-Ok.ensures.looks.crash clean in
-    let same = trees_same (state g.S.Store c.args.conn.now) (state g.S.Store c.check_old_totals.new.conn) (c.in_default.ensures.looks.same before) in
-    subst (λ db. HoldsTotals (office_of c.args.office.now) Energies (db energy_tree)) same (c.in-Ok.ensures.holds clean)
+pub returns-clause-holds : goal.returns-clause-holds
+returns-clause-holds g c clean =
+    let before = early (state g.S.Store c.check_old_totals.new.conn) (state g.S.Store c.read_by_period.new.conn) c.read_by_period.ensures.looks.crash clean in
+    let same = trees_same (state g.S.Store c.args.conn.now) (state g.S.Store c.check_old_totals.new.conn) (c.in_ok-check_old_totals.ensures.looks.same before) in
+    rw same at (c.read_by_period.ensures.holds clean)
 
-pub returns-in-Ok-clause-none : goal.returns-in-Ok-clause-none
-returns-in-Ok-clause-none g c clean =
-    c.in_default.ensures.none (early (state g.S.Store c.check_old_totals.new.conn) (state g.S.Store c.read_by_period.new.conn) c.in-Ok.ensures.looks.crash clean)
+pub returns-clause-none : goal.returns-clause-none
+returns-clause-none g c clean =
+    let before = early (state g.S.Store c.check_old_totals.new.conn) (state g.S.Store c.read_by_period.new.conn) c.read_by_period.ensures.looks.crash clean in
+    on_ok_weaker {Q = (state g.S.Store c.args.conn.now).now.trees total_tree ≡ []} c.read_by_period.result (λ it. c.in_ok-check_old_totals.ensures.none before) (c.read_by_period.ensures.holds clean)
 
-pub returns-in-Ok-clause-numbered : goal.returns-in-Ok-clause-numbered
-returns-in-Ok-clause-numbered g c clean =
-    let before = early (state g.S.Store c.check_old_totals.new.conn) (state g.S.Store c.read_by_period.new.conn) c.in-Ok.ensures.looks.crash clean in
-    let same = trees_same (state g.S.Store c.args.conn.now) (state g.S.Store c.check_old_totals.new.conn) (c.in_default.ensures.looks.same before) in
-    subst (λ db. AreNumbered (db energy_tree)) same (c.in-Ok.ensures.numbered clean)
+pub returns-clause-numbered : goal.returns-clause-numbered
+returns-clause-numbered g c clean =
+    let before = early (state g.S.Store c.check_old_totals.new.conn) (state g.S.Store c.read_by_period.new.conn) c.read_by_period.ensures.looks.crash clean in
+    let same = trees_same (state g.S.Store c.args.conn.now) (state g.S.Store c.check_old_totals.new.conn) (c.in_ok-check_old_totals.ensures.looks.same before) in
+    rw same at (c.read_by_period.ensures.numbered clean)
 
-pub returns-in-Ok-clause-tells : goal.returns-in-Ok-clause-tells
-returns-in-Ok-clause-tells g c clean =
-    let before = early (state g.S.Store c.check_old_totals.new.conn) (state g.S.Store c.read_by_period.new.conn) c.in-Ok.ensures.looks.crash clean in
-    let same = trees_same (state g.S.Store c.args.conn.now) (state g.S.Store c.check_old_totals.new.conn) (c.in_default.ensures.looks.same before) in
-    let told = c.in-Ok.ensures.tells clean in
-    (told.0, subst (λ db. TellsTotals Energies (db energy_tree) told.0) same told.1, told.2)
+pub returns-clause-tells : goal.returns-clause-tells
+returns-clause-tells g c clean =
+    let before = early (state g.S.Store c.check_old_totals.new.conn) (state g.S.Store c.read_by_period.new.conn) c.read_by_period.ensures.looks.crash clean in
+    let same = trees_same (state g.S.Store c.args.conn.now) (state g.S.Store c.check_old_totals.new.conn) (c.in_ok-check_old_totals.ensures.looks.same before) in
+    rw same at (c.read_by_period.ensures.tells clean)
 
-pub returns-in-Err-read_by_period-clause-cause : goal.returns-in-Err-read_by_period-clause-cause
-returns-in-Err-read_by_period-clause-cause g c clean =
-    let before = early (state g.S.Store c.check_old_totals.new.conn) (state g.S.Store c.read_by_period.new.conn) c.in-Err-read_by_period.ensures.looks.crash clean in
-    let same = trees_same (state g.S.Store c.args.conn.now) (state g.S.Store c.check_old_totals.new.conn) (c.in_default.ensures.looks.same before) in
-    refuses_more _ _ c.in-Err-read_by_period.fault (λ it. subst (λ db. HoldsTotals (office_of c.args.office.now) Energies (db energy_tree)) (sym same) it.energies) (c.in-Err-read_by_period.ensures.cause clean)
+pub returns-clause-cause : goal.returns-clause-cause
+returns-clause-cause g c clean =
+    let office = office_of c.args.office.now in
+    let old = (state g.S.Store c.args.conn.now).now.trees in
+    let before = early (state g.S.Store c.check_old_totals.new.conn) (state g.S.Store c.read_by_period.new.conn) c.read_by_period.ensures.looks.crash clean in
+    let same = trees_same (state g.S.Store c.args.conn.now) (state g.S.Store c.check_old_totals.new.conn) (c.in_ok-check_old_totals.ensures.looks.same before) in
+    IfErr-weaker c.read_by_period.result (RefusesUnless (HoldsTotals office Energies (old energy_tree))) (RefusesUnless (HoldsEnergies office old)) (λ fault. refuses_more _ _ fault (λ it. it.energies)) (rw same at (c.read_by_period.ensures.cause clean))

@@ -7,29 +7,32 @@ use Rattle.pw_store.specs.inner.Listings.{kept_as, kept_tree}
 use Rattle.pw_store.specs.inner.Sums.{AreNumbered}
 use Rattle.pw_store.proofs.InTurn.{trees_same}
 use Rattle.pw_store.proofs.Compared.{kept_holds, kept_refuses, kept_tells}
+use Rattle.pw_store.proofs.Passed.{passed}
+use Rattle.pw_store.specs.inner.Opened.{RefusesUnless}
+use Rattle.pw_store.specs.Opening.{HoldsKept}
 use Rattle.pw_store.proofs.sums.read_kept.Goals as goal
 
-pub returns-in-Err-clause-cause : goal.returns-in-Err-clause-cause
-returns-in-Err-clause-cause g c clean =
+pub returns-in_err-count-clause-cause : goal.returns-in_err-count-clause-cause
+returns-in_err-count-clause-cause g c clean =
     let table : List Row = (state g.S.Store c.args.conn.now).now.trees (kept_tree c.args.kept) in
-    kept_refuses (office_of c.args.office.now) (kept_as c.args.kept) table c.new-entries.result (ap office_of c.new-entries.ensures.office) (c.new-entries.ensures.kind ∙ c.kind.ensures) c.in-Err.fault c.in-Err.ensures.others (c.in-Err.ensures.refused clean)
+    passed c.from_residual.result (RefusesUnless (HoldsKept (office_of c.args.office.now) (kept_as c.args.kept) table)) c.from_residual.ensures.1 (kept_refuses (office_of c.args.office.now) (kept_as c.args.kept) table c.new-entries.result (ap office_of c.new-entries.ensures.office) (c.new-entries.ensures.kind ∙ c.kind.ensures) c.in_err-count.field-0.0 c.in_err-count.ensures.others (c.in_err-count.ensures.refused clean))
 
-pub returns-in-Ok-check_rowids-clause-holds : goal.returns-in-Ok-check_rowids-clause-holds
-returns-in-Ok-check_rowids-clause-holds g c clean =
-    let before = early (state g.S.Store c.judge_listing.new.conn) (state g.S.Store c.check_rowids.new.conn) c.in-Ok-check_rowids.ensures.looks.crash clean in
+pub returns-clause-holds : goal.returns-clause-holds
+returns-clause-holds g c clean =
+    let before = early (state g.S.Store c.judge_listing.new.conn) (state g.S.Store c.check_rowids.new.conn) c.in_ok-check_rowids.ensures.looks.crash clean in
     let table : List Row = (state g.S.Store c.args.conn.now).now.trees (kept_tree c.args.kept) in
-    let it = c.in-Ok.ensures.took in
+    let it = c.in_ok-count.ensures.took in
     kept_holds (office_of c.args.office.now) (kept_as c.args.kept) table c.new-entries.result (ap office_of c.new-entries.ensures.office) (c.new-entries.ensures.kind ∙ c.kind.ensures) c.judge_listing.new.judge it.0 it.1 (it.2 before)
 
-pub returns-in-Ok-check_rowids-clause-numbered : goal.returns-in-Ok-check_rowids-clause-numbered
-returns-in-Ok-check_rowids-clause-numbered g c clean =
-    let before = early (state g.S.Store c.judge_listing.new.conn) (state g.S.Store c.check_rowids.new.conn) c.in-Ok-check_rowids.ensures.looks.crash clean in
-    let same = trees_same (state g.S.Store c.args.conn.now) (state g.S.Store c.judge_listing.new.conn) (c.in-Ok.ensures.looks.same before) in
-    subst (λ db. AreNumbered (db (kept_tree c.args.kept))) same (c.in-Ok-check_rowids.ensures.numbered clean)
+pub returns-clause-numbered : goal.returns-clause-numbered
+returns-clause-numbered g c clean =
+    let before = early (state g.S.Store c.judge_listing.new.conn) (state g.S.Store c.check_rowids.new.conn) c.in_ok-check_rowids.ensures.looks.crash clean in
+    let same = trees_same (state g.S.Store c.args.conn.now) (state g.S.Store c.judge_listing.new.conn) (c.in_ok-count.ensures.looks.same before) in
+    subst (λ db. AreNumbered (db (kept_tree c.args.kept))) same (c.in_ok-check_rowids.ensures.numbered clean)
 
-pub returns-in-Ok-check_rowids-clause-tells : goal.returns-in-Ok-check_rowids-clause-tells
-returns-in-Ok-check_rowids-clause-tells g c clean =
-    let before = early (state g.S.Store c.judge_listing.new.conn) (state g.S.Store c.check_rowids.new.conn) c.in-Ok-check_rowids.ensures.looks.crash clean in
+pub returns-clause-tells : goal.returns-clause-tells
+returns-clause-tells g c clean =
+    let before = early (state g.S.Store c.judge_listing.new.conn) (state g.S.Store c.check_rowids.new.conn) c.in_ok-check_rowids.ensures.looks.crash clean in
     let table : List Row = (state g.S.Store c.args.conn.now).now.trees (kept_tree c.args.kept) in
-    let it = c.in-Ok.ensures.took in
+    let it = c.in_ok-count.ensures.took in
     kept_tells (office_of c.args.office.now) (kept_as c.args.kept) table c.new-entries.result (ap office_of c.new-entries.ensures.office) (c.new-entries.ensures.kind ∙ c.kind.ensures) c.judge_listing.new.judge it.0 it.1 (it.2 before) c.args.expected.now c.is_at_end.result c.new-entries.ensures.rest c.is_at_end.ensures
