@@ -27,8 +27,5 @@ pub(crate) fn parts_of(
     if records.len() > MOST_RECORDS as usize {
         return Err(OpenFault::Unclean);
     }
-    match true_parts(alloc, office, &Zone::central(), records.as_slice()) {
-        Ok(parts) => Ok(parts),
-        Err(_) => Err(OpenFault::Memory),
-    }
+    true_parts(alloc, office, &Zone::central(), records.as_slice()).map_err(|_| OpenFault::Memory)
 }

@@ -87,10 +87,7 @@ fn see_filled<S: Alter>(
     ensures engine { IfErr result IsOfEngine }
     ensures looks { Looks result (state S.Store conn.old) (state S.Store conn.new) }
 {
-    let energies = match read_energies(conn, office, parts.totals.as_slice()) {
-        Ok(energies) => energies,
-        Err(fault) => return Err(fault_of_filling(fault)),
-    };
+    let energies = read_energies(conn, office, parts.totals.as_slice()).map_err(fault_of_filling)?;
     if is_met(energies.1) {
         Ok(())
     } else {
