@@ -1,12 +1,14 @@
 -- What a row of a table says, as a query shows it: all columns but the rowid.
 -- (A format of this project.)
-use Rattle.std.specs.Prelude.{◌≡◌, ℕ, zero, suc, ℤ, pos, negsuc, Option, Some, None, List, [], ◌∷◌, map}
+use Rattle.std.specs.Prelude.{◌≡◌, ◌≤◌, ◌<◌, ◌^◌, ⊤, ℕ, zero, suc, ℤ, pos, negsuc, Option, Some, None, List, [], ◌∷◌, map}
 use Rattle.std.specs.List.{AllByRecursion}
 use Rattle.sqlite.specs.declared.types.Value.{Value}
 use Rattle.sqlite.specs.declared.types.Value.TheVariants.{Int, Text}
 use Rattle.sqlite.specs.Order.{Row, column}
+use Rattle.pw_obis.specs.declared.energy.TheConstants.{LARGEST_WATT_HOURS}
 use Rattle.pw_obis.specs.declared.reference.Register.{Register}
 use Rattle.pw_obis.specs.declared.reference.Register.TheVariants.{I0, I1, I2, E0, E1, E2}
+use Rattle.pw_time.specs.Instants.{IsInstant}
 use Rattle.pw_tariff.specs.declared.ids.AccountId.{AccountId}
 use Rattle.pw_tariff.specs.declared.ids.Direction.{Direction}
 use Rattle.pw_tariff.specs.declared.ids.Direction.TheVariants.{Import, Export}
@@ -153,3 +155,16 @@ told_content Readings r = content.Reading (number (column r 0))
 told_content Assignments r = content.Assignment (owner_at (number (column r 0)))
 told_content TopUps r = content.TopUp (record { 0 = number (column r 0) }) (number (column r 1)) (number (column r 2))
 told_content _ r = content.Withdrawal
+
+-- the row shows such a content: values that a record can have
+abbrev pub ShowsContent : RecordKind → Row → Type 0
+ShowsContent Readings r = (wh : ℕ) × (wh ≤ LARGEST_WATT_HOURS) × (column r 0 ≡ Int (pos wh))
+ShowsContent Assignments r = (owner : ℕ) × (owner ≤ 2 ^ 16) × (column r 0 ≡ Int (pos owner))
+ShowsContent TopUps r =
+    ((account : ℕ) × (account < 2 ^ 16) × (column r 0 ≡ Int (pos account)))
+    × (((cents : ℕ) × (cents < 2 ^ 32) × (column r 1 ≡ Int (pos cents))) × ((instant : ℕ) × IsInstant instant × (column r 2 ≡ Int (pos instant))))
+ShowsContent _ r = ⊤
+
+-- one row, which shows none
+abbrev pub ShowsNoContent : RecordKind → List Row → Type 0
+ShowsNoContent k rows = (row : Row) × (rows ≡ row ∷ []) × (ShowsContent k row → ⊥)

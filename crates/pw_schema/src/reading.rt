@@ -6,7 +6,7 @@ ghost use Rattle.pw_tariff.specs.Office.{OfficeRules};
 ghost use Rattle.pw_model.specs.Office.{IsOffice};
 ghost use Rattle.pw_model.specs.Same.{entry_order};
 ghost use Rattle.pw_schema.specs.Judging.{AreInOrder, IsRecord};
-ghost use Rattle.pw_schema.specs.Rows.{ReadsRows, Tells, contents_of, told, told_content, withdrawal};
+ghost use Rattle.pw_schema.specs.Rows.{ReadsRows, ShowsContent, ShowsNoContent, Tells, contents_of, told, told_content, withdrawal};
 ghost use Rattle.pw_schema.specs.inner.Told.{ReadsEntry};
 
 use crate::cells::{
@@ -195,9 +195,11 @@ pub fn read_rows(alloc: Global, kind: RecordKind, rows: &[Row]) -> Result<Vec<En
     Ok(found)
 }
 
-/// What rows that show the contents at a key tell of it, if they tell it: two rows suffice for several.
+/// What rows that show the contents at a key tell of it: two rows suffice for several. One row that shows no content tells
+/// nothing of it.
 pub fn contents_in(kind: RecordKind, rows: &[Row]) -> Option<Contents>
-    ensures { IfSome result (λ found. found ≡ contents_of (map (told_content kind) rows.now)) }
+    ensures some { IfSome result (λ found. found ≡ contents_of (map (told_content kind) rows.now)) }
+    ensures none { IfNone result (ShowsNoContent kind rows.now) }
 {
     match rows {
         [] => Some(Contents::Nothing),
@@ -210,7 +212,8 @@ pub fn contents_in(kind: RecordKind, rows: &[Row]) -> Option<Contents>
 }
 
 fn content_of(kind: RecordKind, row: &Row) -> Option<Content>
-    ensures { IfSome result (λ found. found ≡ told_content kind row.now) }
+    ensures some { IfSome result (λ found. found ≡ told_content kind row.now) }
+    ensures none { IfNone result (ShowsContent kind row.now → ⊥) }
 {
     match kind {
         RecordKind::Readings => {

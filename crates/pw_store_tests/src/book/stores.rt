@@ -60,7 +60,7 @@ fn uploads_with_calls_counted(rt: HostRuntime) {
     with_calls_counted(&rt, rt.alloc(), Group::Uploads);
 }
 
-// bears on: pw_schema reading.rt contents_in ensures
+// bears on: pw_schema reading.rt contents_in some
 // bears on: pw_schema reading.rt read_rows wrong
 // bears on: pw_schema values.rt direction_place ensures
 // bears on: pw_shelf shelf.rt Shelf::assignments_of rows
