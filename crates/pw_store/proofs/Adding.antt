@@ -50,20 +50,13 @@ use Rattle.pw_store.proofs.Others.{SameSums, else_same, same_sums, with_record}
 use Rattle.pw_store.proofs.OfKinds.{by_kind, each_kind, inserted_among, kinds_once}
 use Rattle.pw_store.proofs.Texts.{IsInsert, four_terms, insert_is, kind_as, place_of, terms_of, three_terms, width_of}
 use Rattle.pw_schema.proofs.Outcomes.{fails, keeps_commit}
+pub use Rattle.pw_schema.proofs.OfficeRow.{cast_int, cast_null}
 use Rattle.pw_store.proofs.OneTable.{HasInserted, inserts}
 use Rattle.pw_store.proofs.Placing.{put_inserts}
 
 either : (b : Bool) (x : Value) → cond b x x ≡ x
 either true x = refl
 either false x = refl
-
-pub cast_null : cast Integer Null ≡ Null
-unfolding unary
-cast_null = either _ Null
-
-pub cast_int : (n : ℕ) → cast Integer (Int (pos n)) ≡ Int (pos n)
-unfolding unary
-cast_int n = either _ (Int (pos n))
 
 -- of any rowid
 pub cast_rowid : (n : ℤ) → cast Integer (Int n) ≡ Int n

@@ -144,9 +144,9 @@ impl fmt::Display for OpenFault {
 
 /// What a refused statement is to an opening.
 impl From<Error> for OpenFault {
-    ghost use Rattle.pw_store.specs.declared.fault.OpenFault.TheVariants.{Memory, Store};
+    ghost use Rattle.pw_store.specs.Faults.{IsOfStatement};
 
-    ghost from_gives = { λ error fault. (fault ≡ Memory) ⊎ (fault ≡ Store) };
+    ghost from_gives = { λ error fault. IsOfStatement error fault };
 
     fn from(error: Error) -> Self {
         match error {
