@@ -37,6 +37,7 @@ enum Word {
     Office,
     OfficeOrSample,
     Store,
+    StoreOrNew,
     Kind,
     File,
     List,
@@ -94,7 +95,7 @@ static COMMANDS: [Asked; 13] = [
         end: "With more than one file each line stands behind its file's name, and one that is refused doesn't stop the rest.\nExit status: 0; 1 refused; 2 wrong words; 3 a file, stream, store or memory failed.\nExamples:\n  powerbook load office.toml book.db telegrams day.txt\n  powerbook load office.toml book.db telegrams monday.txt tuesday.txt\n  powerbook load office.toml book.db --list loads",
         words: &[
             Word::Office,
-            Word::Store,
+            Word::StoreOrNew,
             Word::Kind,
             Word::File,
             Word::List,
@@ -138,7 +139,7 @@ static COMMANDS: [Asked; 13] = [
         end: "Exit status: 0; 1 refused; 2 wrong words; 3 a file, socket, store or memory failed.\nExamples:\n  powerbook serve office.toml book.db\n  powerbook serve office.toml book.db --count 100",
         words: &[
             Word::Office,
-            Word::Store,
+            Word::StoreOrNew,
             Word::Count,
             Word::UntilInputEnds,
             Word::Port,
@@ -206,11 +207,12 @@ fn office_or_sample<'a>(alloc: Global) -> Arg<'a> {
 }
 
 fn store<'a>(alloc: Global) -> Arg<'a> {
-    required(
-        alloc,
-        "STORE",
-        "The store file (SQLite); made where nothing is there",
-    )
+    required(alloc, "STORE", "The store file (SQLite)")
+}
+
+fn store_or_new<'a>(alloc: Global) -> Arg<'a> {
+    let help = "The store file (SQLite); made where nothing is there";
+    required(alloc, "STORE", help)
 }
 
 fn kind<'a>(alloc: Global) -> Result<Arg<'a>, AllocError> {
@@ -330,6 +332,7 @@ fn argument<'a>(alloc: Global, word: Word) -> Result<Arg<'a>, AllocError> {
         Word::Office => Ok(required(alloc, "OFFICE", "The office file (TOML)")),
         Word::OfficeOrSample => Ok(office_or_sample(alloc)),
         Word::Store => Ok(store(alloc)),
+        Word::StoreOrNew => Ok(store_or_new(alloc)),
         Word::Kind => kind(alloc),
         Word::File => files(alloc),
         Word::List => list(alloc),
