@@ -1,14 +1,18 @@
 //! The law of books over stores over SQL.
 //!
-//! The function does nothing but call. What counts is its contract.
+//! The public function does nothing but call. What counts is its contract.
 
-ghost use Rattle.std.specs.Prelude.{◌≡◌, ◌⊎◌, IfErr, IfOk};
+ghost use Rattle.std.specs.Prelude.{◌≡◌, ◌≤◌, ◌⊎◌, IfErr, IfOk, false, length};
 ghost use Rattle.std.specs.List.{All};
 ghost use Rattle.sqlite.specs.Held.{state};
 ghost use Rattle.sqlite.specs.State.{HasCleanDisk};
 ghost use Rattle.pw_tariff.specs.Office.{office_of};
 ghost use Rattle.pw_tariff.specs.Text.{IsOfficeOf};
-ghost use Rattle.pw_model.specs.Office.{AllOfOffice};
+ghost use Rattle.pw_model.specs.Office.{AllOfOffice, most_records};
+ghost use Rattle.pw_model.specs.Shelf.{IsTrueContent, ShelfContent};
+ghost use Rattle.pw_shelf.specs.Left.{LeavesOnly};
+ghost use Rattle.pw_store.specs.Kept.{held_of, left_of};
+ghost use Rattle.pw_book.specs.Crashes.{IsLeftWhole};
 ghost use Rattle.pw_words.specs.Words.{IsLimit};
 ghost use Rattle.pw_commands.specs.Crashes.{HoldsWhole, IsCrashed};
 
@@ -48,12 +52,34 @@ pub fn stores_survive_a_crash<S: Alter, T: Alter>(
 {
     match SqlShelf::open(alloc, connection, text) {
         Ok(shelf) => {
-            let mut book = Book::new(office, Zone::central(), shelf, limit);
-            uploads_survive_a_crash(&mut book, alloc, uploads);
-            let left = book.into_shelf();
+            let left = post_in_turn(alloc, office, shelf, limit, uploads);
             let again = left_is_opened_again(alloc, &left, found, text);
             Ok((left, again))
         }
         Err((fault, connection)) => Err((fault, connection, found)),
     }
+}
+
+// Posts uploads, one behind another, to a book over a store: the store behind the last of them.
+fn post_in_turn<S: Alter>(
+    alloc: Global,
+    office: Office,
+    shelf: SqlShelf<S>,
+    limit: u32,
+    uploads: &mut [Sent],
+) -> SqlShelf<S>
+    requires limit { IsLimit limit }
+    requires posted { All (λ sent. AllOfOffice (office_of office) sent.entries.items) uploads.old }
+    requires few { HasCleanDisk (state S.Store shelf.conn) → length (held_of (state S.Store shelf.conn) (state S.Store shelf.base.value)).records ≤ most_records }
+    requires truth { HasCleanDisk (state S.Store shelf.conn) → IsTrueContent (office_of office) (held_of (state S.Store shelf.conn) (state S.Store shelf.base.value)) }
+    requires of_office { HasCleanDisk (state S.Store shelf.conn) → AllOfOffice (office_of office) (held_of (state S.Store shelf.conn) (state S.Store shelf.base.value)).records }
+    requires idle { shelf.begun ≡ false }
+    requires settled { HasCleanDisk (state S.Store shelf.conn) → LeavesOnly (held_of (state S.Store shelf.conn) (state S.Store shelf.base.value)) (left_of (state S.Store shelf.conn)) }
+    ensures clean { HasCleanDisk (state S.Store result.conn) → HasCleanDisk (state S.Store shelf.conn) }
+    ensures opened { result.opened.value ≡ shelf.opened.value }
+    ensures left { HasCleanDisk (state S.Store result.conn) → (c : ShelfContent) → left_of (state S.Store result.conn) c → IsLeftWhole (office_of office) (held_of (state S.Store shelf.conn) (state S.Store shelf.base.value)).records uploads.new c }
+{
+    let mut book = Book::new(office, Zone::central(), shelf, limit);
+    uploads_survive_a_crash(&mut book, alloc, uploads);
+    book.into_shelf()
 }
