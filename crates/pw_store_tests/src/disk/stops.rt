@@ -34,10 +34,10 @@ const NOTHING: Told = Told {
 
 const BEHIND_PAYMENT: Told = Told {
     records: 2,
-    energies: [0; 12],
+    energies: NOTHING.energies,
     first: (5_000, 50_000_000_000),
-    second: (0, 0),
-    readings: &[],
+    second: NOTHING.second,
+    readings: NOTHING.readings,
 };
 
 const PASSED_ON: Told = Told {
@@ -48,29 +48,33 @@ const PASSED_ON: Told = Told {
     readings: BOTH_READINGS,
 };
 
+const THREE_AT_SIX: &[Row] = &[
+    (FIVE, 1_000_000, Standing::Counts),
+    (SIX, 1_001_000, Standing::Disputed),
+    (SIX, 1_001_200, Standing::Disputed),
+    (SIX, 1_001_500, Standing::Disputed),
+    (SEVEN, 1_003_001, Standing::Counts),
+];
+
 // The disputed readings between the two count nothing.
 const IN_DISPUTE: Told = Told {
     records: 7,
-    energies: [0, 0, 0, 0, 1_500, 0, 1_501, 0, 0, 0, 0, 0],
-    first: (5_000, 49_249_700_000),
-    second: (0, 0),
-    readings: &[
-        (FIVE, 1_000_000, Standing::Counts),
-        (SIX, 1_001_000, Standing::Disputed),
-        (SIX, 1_001_200, Standing::Disputed),
-        (SIX, 1_001_500, Standing::Disputed),
-        (SEVEN, 1_003_001, Standing::Counts),
-    ],
+    energies: BEHIND_READINGS.energies,
+    first: BEHIND_READINGS.first,
+    second: BEHIND_READINGS.second,
+    readings: THREE_AT_SIX,
 };
 
-// Each file stops at each of its calls, as the uploads are made with a long log and with a short one.
+// A store that held others is told uploads, with a long log and with a short one, and each file stops at each of its calls.
+// Nothing was copied from the log before.
 fn stops_with_each_log(
     rt: &impl Abort,
     alloc: Global,
-    store: &Image,
+    held: &[Upload],
     uploads: &[Upload],
     [before, behind]: [Told; 2],
 ) {
+    let store = image_of(rt, alloc, &new_files(rt, alloc, held, false));
     for (pages, db_end) in [(LONG, End::NoConnection), (SHORT, End::Refused)] {
         let case = Case {
             uploads,
@@ -78,14 +82,9 @@ fn stops_with_each_log(
             behind,
             pages,
         };
-        stops_at_each(rt, alloc, store, &case, true, End::Refused);
-        stops_at_each(rt, alloc, store, &case, false, db_end);
+        stops_at_each(rt, alloc, &store, &case, true, End::Refused);
+        stops_at_each(rt, alloc, &store, &case, false, db_end);
     }
-}
-
-// What the files of a new store hold behind uploads, where nothing was copied from the log.
-fn stored(rt: &impl Abort, alloc: Global, uploads: &[Upload]) -> Image {
-    image_of(rt, alloc, &new_files(rt, alloc, uploads, false))
 }
 
 #[test]
@@ -108,23 +107,24 @@ fn a_new_store_is_empty_wherever_its_opening_stops(rt: HostRuntime) {
 // bears on: pw_shelf shelf.rt Shelf::commit left
 #[test]
 fn both_readings_are_there_or_none(rt: HostRuntime) {
-    let alloc = rt.alloc();
-    let store = stored(&rt, alloc, &PAYMENT);
     let told = [BEHIND_PAYMENT, BEHIND_READINGS];
-    stops_with_each_log(&rt, alloc, &store, &READINGS, told);
+    stops_with_each_log(&rt, rt.alloc(), &PAYMENT, &READINGS, told);
 }
 
 #[test]
 fn a_meter_passes_on_whole_or_not(rt: HostRuntime) {
-    let alloc = rt.alloc();
-    let store = stored(&rt, alloc, &PAYMENT_AND_READINGS);
-    let told = [BEHIND_READINGS, PASSED_ON];
-    stops_with_each_log(&rt, alloc, &store, &PASSING_ON, told);
+    let held = &PAYMENT_AND_READINGS;
+    stops_with_each_log(
+        &rt,
+        rt.alloc(),
+        held,
+        &PASSING_ON,
+        [BEHIND_READINGS, PASSED_ON],
+    );
 }
 
 #[test]
 fn two_withdrawals_are_there_or_none(rt: HostRuntime) {
-    let alloc = rt.alloc();
-    let store = stored(&rt, alloc, &DISPUTED_READINGS);
-    stops_with_each_log(&rt, alloc, &store, &WITHDRAWALS, [IN_DISPUTE, SETTLED]);
+    let told = [IN_DISPUTE, SETTLED];
+    stops_with_each_log(&rt, rt.alloc(), &DISPUTED_READINGS, &WITHDRAWALS, told);
 }
