@@ -4,7 +4,7 @@ use crate::sql_stores::{execute, memory};
 use pw_model::Entry;
 use pw_schema::{
     Judge, JudgeFault, ReadFault, RecordKind, Records, Rowids, StoreVersion, begin, begins_as_ours,
-    commit, create, is_nothing, is_of, keeps_office, read_rows, roll_back,
+    commit, contents_in, create, is_nothing, is_of, keeps_office, read_rows, roll_back,
 };
 use pw_tariff::Office;
 use pw_tests::offices::SAMPLE;
@@ -181,6 +181,24 @@ fn rows_that_are_no_records_of_the_office_are_foreign(rt: HostRuntime) {
     }
     let twisted = "SELECT 0, 5, 1704067200, 2 UNION ALL SELECT 0, 5, 1704067200, 1";
     assert!(rt; are_in_wrong_order(&rt, rt.alloc(), twisted));
+}
+
+// Rows that show no content at a key.
+const NO_CONTENTS: [(RecordKind, &str); 5] = [
+    (RecordKind::Readings, "SELECT 100000000000"),
+    (RecordKind::Readings, "SELECT 'x'"),
+    (RecordKind::Assignments, "SELECT 65537"),
+    (RecordKind::TopUps, "SELECT 0, -1, 1704067200"),
+    (RecordKind::TopUps, "SELECT 0, 1, 5"),
+];
+
+// bears on: pw_schema reading.rt contents_in none
+#[test]
+fn a_row_that_shows_no_content_tells_nothing(rt: HostRuntime) {
+    for (kind, text) in NO_CONTENTS {
+        let found = rows(&rt, rt.alloc(), text);
+        assert!(rt; contents_in(kind, found.as_slice()).is_none(), "{text}");
+    }
 }
 
 // bears on: pw_schema judge.rt Judge::take took
