@@ -63,10 +63,15 @@ const BOTH_READINGS: &[Row] = &[
     (SEVEN, 1_003_001, Standing::Counts),
 ];
 
+// What the pair gives of energy, and leaves of the payment.
+const BY_THE_PAIR: [u64; 12] = [0, 0, 0, 0, 1_500, 0, 1_501, 0, 0, 0, 0, 0];
+
+const LEFT_BY_THE_PAIR: (u64, i128) = (5_000, 49_249_700_000);
+
 const BEHIND_READINGS: Told = Told {
     records: 4,
-    energies: [0, 0, 0, 0, 1_500, 0, 1_501, 0, 0, 0, 0, 0],
-    first: (5_000, 49_249_700_000),
+    energies: BY_THE_PAIR,
+    first: LEFT_BY_THE_PAIR,
     second: (0, 0),
     readings: BOTH_READINGS,
 };

@@ -1,10 +1,10 @@
 //! A new store is opened, or records are uploaded to one that holds some, as a file stops at each of its calls.
 
-use super::answers::{Standing, Told};
+use super::answers::{Row, Standing, Told};
 use super::{
-    AT_SIX, BEHIND_READINGS, BOTH_READINGS, Case, End, FIRST_OWNER, Image, LONG,
-    PAYMENT_AND_READINGS, SETTLED, SHORT, TOPUP, TWO_READINGS, TWO_WITHDRAWALS, Upload, image_of,
-    new_files, stops_at_each,
+    AT_SIX, BEHIND_READINGS, BOTH_READINGS, BY_THE_PAIR, Case, End, FIRST_OWNER, Image,
+    LEFT_BY_THE_PAIR, LONG, PAYMENT_AND_READINGS, SETTLED, SHORT, TOPUP, TWO_READINGS,
+    TWO_WITHDRAWALS, Upload, image_of, new_files, stops_at_each,
 };
 use crate::entries::Sent;
 use pw_tests::sample::{FIVE, METER, SECOND, SEVEN, SIX};
@@ -24,20 +24,24 @@ const WITHDRAWALS: [Upload; 1] = [TWO_WITHDRAWALS];
 
 const PASSING_ON: [Upload; 1] = [MID_PAIR];
 
+const NO_ENERGY: [u64; 12] = [0; 12];
+
+const NO_MONEY: (u64, i128) = (0, 0);
+
 const NOTHING: Told = Told {
     records: 0,
-    energies: [0; 12],
-    first: (0, 0),
-    second: (0, 0),
+    energies: NO_ENERGY,
+    first: NO_MONEY,
+    second: NO_MONEY,
     readings: &[],
 };
 
 const BEHIND_PAYMENT: Told = Told {
     records: 2,
-    energies: NOTHING.energies,
+    energies: NO_ENERGY,
     first: (5_000, 50_000_000_000),
-    second: NOTHING.second,
-    readings: NOTHING.readings,
+    second: NO_MONEY,
+    readings: &[],
 };
 
 const PASSED_ON: Told = Told {
@@ -59,9 +63,9 @@ const THREE_AT_SIX: &[Row] = &[
 // The disputed readings between the two count nothing.
 const IN_DISPUTE: Told = Told {
     records: 7,
-    energies: BEHIND_READINGS.energies,
-    first: BEHIND_READINGS.first,
-    second: BEHIND_READINGS.second,
+    energies: BY_THE_PAIR,
+    first: LEFT_BY_THE_PAIR,
+    second: NO_MONEY,
     readings: THREE_AT_SIX,
 };
 
