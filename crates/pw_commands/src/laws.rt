@@ -1,8 +1,8 @@
 //! The law of books over stores over SQL.
 //!
-//! The public function does nothing but call. What counts is its contract.
+//! These functions do nothing but call. What counts is the contract of the public one.
 
-ghost use Rattle.std.specs.Prelude.{◌≡◌, ◌≤◌, ◌⊎◌, IfErr, IfOk, false, length};
+ghost use Rattle.std.specs.Prelude.{◌≡◌, ◌≤◌, ◌⊎◌, IfErr, IfOk, false, length, map};
 ghost use Rattle.std.specs.List.{All};
 ghost use Rattle.sqlite.specs.Held.{state};
 ghost use Rattle.sqlite.specs.State.{HasCleanDisk};
@@ -47,6 +47,7 @@ pub fn stores_survive_a_crash<S: Alter, T: Alter>(
     requires office { IsOfficeOf text.now office }
     requires limit { IsLimit limit }
     requires of_office { All (λ sent. AllOfOffice (office_of office) sent.entries.items) uploads.old }
+    ensures entries { map (λ sent. sent.entries) uploads.new ≡ map (λ sent. sent.entries) uploads.old }
     ensures refused { IfOk result (λ it. IsCrashed (state S.Store it.0.conn) (state T.Store found).committed → IfErr it.1 (λ e. HasCleanDisk (state T.Store e.1) → (e.0 ≡ OpenFault.Store) ⊎ (e.0 ≡ OpenFault.Memory))) }
     ensures content { IfOk result (λ it. IsCrashed (state S.Store it.0.conn) (state T.Store found).committed → IfOk it.1 (λ s. HasCleanDisk (state T.Store s.conn) → HoldsWhole (office_of office) (state S.Store connection).committed uploads.new (⟦<SqlShelf<T> as Shelf>⟧.state s).content)) }
 {
@@ -75,6 +76,7 @@ fn post_in_turn<S: Alter>(
     requires of_office { HasCleanDisk (state S.Store shelf.conn) → AllOfOffice (office_of office) (held_of (state S.Store shelf.conn) (state S.Store shelf.base.value)).records }
     requires idle { shelf.begun ≡ false }
     requires settled { HasCleanDisk (state S.Store shelf.conn) → LeavesOnly (held_of (state S.Store shelf.conn) (state S.Store shelf.base.value)) (left_of (state S.Store shelf.conn)) }
+    ensures entries { map (λ sent. sent.entries) uploads.new ≡ map (λ sent. sent.entries) uploads.old }
     ensures clean { HasCleanDisk (state S.Store result.conn) → HasCleanDisk (state S.Store shelf.conn) }
     ensures opened { result.opened.value ≡ shelf.opened.value }
     ensures left { HasCleanDisk (state S.Store result.conn) → (c : ShelfContent) → left_of (state S.Store result.conn) c → IsLeftWhole (office_of office) (held_of (state S.Store shelf.conn) (state S.Store shelf.base.value)).records uploads.new c }

@@ -1,4 +1,4 @@
--- What a new store holds.
+-- What a new store holds, and a text that is set.
 -- (A format of this project.)
 use Rattle.std.specs.Prelude.{◌≡◌, ℕ, pos, false, true, [], ◌∷◌, List, IsTrue}
 use Rattle.sqlite.specs.declared.types.Value.TheVariants.{Null, Int, Blob}
@@ -14,7 +14,7 @@ use Rattle.pw_schema.specs.Tables.{ours_with, only_one}
 abbrev pub office_row : List ℕ → Row
 office_row body = Int (pos 1) ∷ Null ∷ Int (pos 3) ∷ Blob body ∷ []
 
--- where `office` had one row, of any text, it has that of this text
+-- where `office` had one row of version 3, of any text, it has that of this text
 abbrev pub SetsText : List ℕ → Trees → Trees → Type 0
 SetsText body before db = (told : List ℕ) → before 0 ≡ office_row told ∷ [] → db 0 ≡ office_row body ∷ []
 

@@ -156,7 +156,7 @@ told_content Assignments r = content.Assignment (owner_at (number (column r 0)))
 told_content TopUps r = content.TopUp (record { 0 = number (column r 0) }) (number (column r 1)) (number (column r 2))
 told_content _ r = content.Withdrawal
 
--- the row shows such a content: values that a record can have
+-- the row shows such a content: values that fit a record, be it of an office or not; of a withdrawal any row does
 abbrev pub ShowsContent : RecordKind → Row → Type 0
 ShowsContent Readings r = (wh : ℕ) × (wh ≤ LARGEST_WATT_HOURS) × (column r 0 ≡ Int (pos wh))
 ShowsContent Assignments r = (owner : ℕ) × (owner ≤ 2 ^ 16) × (column r 0 ≡ Int (pos owner))

@@ -1,7 +1,8 @@
 //! Records from the rows that a query shows.
 
-ghost use Rattle.std.specs.Prelude.{◌≡◌, ◌↔◌, Err, IfNone, IfOk, IfSome, IsTrue, map};
+ghost use Rattle.std.specs.Prelude.{◌≡◌, ◌↔◌, [], ◌∷◌, Err, IfNone, IfOk, IfSome, IsTrue, map};
 ghost use Rattle.std.specs.declared.cmp.Ordering.TheVariants.{Less};
+ghost use Rattle.sqlite.specs.Order.{Row};
 ghost use Rattle.pw_tariff.specs.Office.{OfficeRules};
 ghost use Rattle.pw_model.specs.Office.{IsOffice};
 ghost use Rattle.pw_model.specs.Same.{entry_order};
@@ -195,10 +196,11 @@ pub fn read_rows(alloc: Global, kind: RecordKind, rows: &[Row]) -> Result<Vec<En
     Ok(found)
 }
 
-/// What rows that show the contents at a key tell of it: two rows suffice for several. One row that shows no content tells
-/// nothing of it.
+/// What rows that show the contents at a key tell of it: two rows suffice for several. Where it answers none there is one
+/// row, and it shows no content.
 pub fn contents_in(kind: RecordKind, rows: &[Row]) -> Option<Contents>
     ensures some { IfSome result (λ found. found ≡ contents_of (map (told_content kind) rows.now)) }
+    ensures shows { IfSome result (λ found. (row : Row) → rows.now ≡ row ∷ [] → ShowsContent kind row) }
     ensures none { IfNone result (ShowsNoContent kind rows.now) }
 {
     match rows {
@@ -213,6 +215,7 @@ pub fn contents_in(kind: RecordKind, rows: &[Row]) -> Option<Contents>
 
 fn content_of(kind: RecordKind, row: &Row) -> Option<Content>
     ensures some { IfSome result (λ found. found ≡ told_content kind row.now) }
+    ensures shows { IfSome result (λ found. ShowsContent kind row.now) }
     ensures none { IfNone result (ShowsContent kind row.now → ⊥) }
 {
     match kind {

@@ -183,21 +183,33 @@ fn rows_that_are_no_records_of_the_office_are_foreign(rt: HostRuntime) {
     assert!(rt; are_in_wrong_order(&rt, rt.alloc(), twisted));
 }
 
-// Rows that show no content at a key.
-const NO_CONTENTS: [(RecordKind, &str); 5] = [
-    (RecordKind::Readings, "SELECT 100000000000"),
-    (RecordKind::Readings, "SELECT 'x'"),
-    (RecordKind::Assignments, "SELECT 65537"),
-    (RecordKind::TopUps, "SELECT 0, -1, 1704067200"),
-    (RecordKind::TopUps, "SELECT 0, 1, 5"),
+// Rows at a key, and whether they show a content: at the ends of what one can have, and behind these.
+const CONTENTS: [(RecordKind, &str, bool); 11] = [
+    (RecordKind::Readings, "SELECT 99999999999", true),
+    (RecordKind::Readings, "SELECT 100000000000", false),
+    (RecordKind::Readings, "SELECT 'x'", false),
+    (RecordKind::Assignments, "SELECT 0", true),
+    (RecordKind::Assignments, "SELECT 65536", true),
+    (RecordKind::Assignments, "SELECT 65537", false),
+    (RecordKind::TopUps, "SELECT 0, 0, 946684800", true),
+    (
+        RecordKind::TopUps,
+        "SELECT 65535, 4294967295, 4102444799",
+        true,
+    ),
+    (RecordKind::TopUps, "SELECT 65536, 1, 1704067200", false),
+    (RecordKind::TopUps, "SELECT 0, -1, 1704067200", false),
+    (RecordKind::TopUps, "SELECT 0, 1, 5", false),
 ];
 
 // bears on: pw_schema reading.rt contents_in none
+// bears on: pw_schema reading.rt contents_in shows
 #[test]
 fn a_row_that_shows_no_content_tells_nothing(rt: HostRuntime) {
-    for (kind, text) in NO_CONTENTS {
+    for (kind, text, shows) in CONTENTS {
         let found = rows(&rt, rt.alloc(), text);
-        assert!(rt; contents_in(kind, found.as_slice()).is_none(), "{text}");
+        let told = contents_in(kind, found.as_slice());
+        assert!(rt; told.is_some() == shows, "{text}");
     }
 }
 
