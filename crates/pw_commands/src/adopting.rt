@@ -95,9 +95,7 @@ fn adopt_store<W: Watch>(
     requires old { IsOfficeOf text.now office }
     requires new { IsOfficeOf new_text.now new }
 {
-    let Ok(words) = respellings(rt.alloc(), asked.renamed) else {
-        return Err(Fault::Memory);
-    };
+    let words = respellings(rt.alloc(), asked.renamed)?;
     let store = asked.store;
     match open_book(rt, store, Purpose::Ask, office, text, MOST_RECORDS, watch) {
         Ok(book) => adopt_in(rt, book, &new, new_text, &words, asked.dry, watch),
@@ -143,10 +141,8 @@ fn has_new<W: Watch>(
 
 fn told_as_new(alloc: Global) -> Result<Weighed, Fault> {
     let mut text = Vec::new(alloc);
-    match text.extend_from_slice(b"the store has this office file\n") {
-        Ok(()) => Ok(Weighed { text, adopts: true }),
-        Err(_) => Err(Fault::Memory),
-    }
+    text.extend_from_slice(b"the store has this office file\n")?;
+    Ok(Weighed { text, adopts: true })
 }
 
 // Weighs a new office file over a store, and puts it in the old one's place where it adopts the records.

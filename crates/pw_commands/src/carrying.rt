@@ -80,9 +80,7 @@ fn carry_store<E: Write, F: Follow>(
     requires old { IsOfficeOf text.now office }
     requires new { IsOfficeOf new_text.now new }
 {
-    let Ok(paths) = paths_of(rt.alloc(), asked.new_store) else {
-        return Err(Fault::Memory);
-    };
+    let paths = paths_of(rt.alloc(), asked.new_store)?;
     see_free(rt, &paths)?;
     let store = asked.store;
     let mut from = open_book(rt, store, Purpose::Ask, office, text, MOST_RECORDS, follow)?;
@@ -238,14 +236,12 @@ fn carry_between<S: Shelf, T: Shelf, E: Write, F: Follow>(
         Err(CarryFault::Memory) => return Err(Fault::Memory),
     };
     follow.clear();
-    let Ok(line) = format!(in alloc; "carried {records} records\n") else {
-        return Err(Fault::Memory);
-    };
+    let line = format!(in alloc; "carried {records} records\n")?;
     let mut text = line.into_bytes();
     let carried = text.len();
     put_balances(&mut text, from, into)?;
-    if text.len() == carried && text.extend_from_slice(b"no balance differs\n").is_err() {
-        return Err(Fault::Memory);
+    if text.len() == carried {
+        text.extend_from_slice(b"no balance differs\n")?;
     }
     Ok(text)
 }

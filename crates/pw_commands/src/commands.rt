@@ -16,7 +16,7 @@ use crate::adopting::{Adoption, adopt};
 use crate::carrying::{Carriage, carry};
 use crate::fault::Fault;
 use crate::files::{LONGEST_OFFICE, read_file};
-use crate::loading::{Target, load};
+use crate::loading::{Loading, Target, load};
 use crate::offices::{office_text, read_office};
 use crate::pipe::pipe_run;
 use crate::progress::{Follow, Progress};
@@ -123,7 +123,7 @@ fn obey<I: Read, O: Write, E: Write, W: Follow>(
                 store,
                 limit,
             };
-            load(rt, target, source, out, err, watch)
+            load(rt, Loading { target, source }, out, err, watch)
         }
         Command::Statement {
             office,
@@ -255,10 +255,7 @@ fn pipe<I: Read, O: Write, E: Write>(
 // How large the office of a file is; where it is asked for, its periods too.
 fn check(rt: &HostRuntime, office: &str, verbose: bool) -> Result<Vec<u8>, Fault> {
     let (office, _text) = read_office(rt, office)?;
-    match office_text(rt.alloc(), &office, verbose) {
-        Ok(text) => Ok(text),
-        Err(_) => Err(Fault::Memory),
-    }
+    Ok(office_text(rt.alloc(), &office, verbose)?)
 }
 
 /// The entries that a file of an upload gives, or why it is refused.

@@ -10,6 +10,7 @@ use pw_line::memory_refused;
 use pw_record::{Cause as UploadCause, UploadFault};
 use pw_store::OpenFault;
 use pw_tariff::OfficeFault;
+use std::alloc::{AllocError, AllocFailed};
 use std::fmt;
 
 /// Why a command is refused.
@@ -161,6 +162,28 @@ impl From<BookFault> for Fault {
 
     fn from(fault: BookFault) -> Fault {
         Fault::Book(fault)
+    }
+}
+
+impl From<AllocError> for Fault {
+    ghost use Rattle.std.specs.Prelude.{◌≡◌};
+    ghost use Rattle.pw_commands.specs.declared.fault.Fault.TheVariants as fault;
+
+    ghost from_gives = { λ _ told. told ≡ fault.Memory };
+
+    fn from(_: AllocError) -> Fault {
+        Fault::Memory
+    }
+}
+
+impl<T: Drop> From<AllocFailed<T>> for Fault {
+    ghost use Rattle.std.specs.Prelude.{◌≡◌};
+    ghost use Rattle.pw_commands.specs.declared.fault.Fault.TheVariants as fault;
+
+    ghost from_gives = { λ _ told. told ≡ fault.Memory };
+
+    fn from(_: AllocFailed<T>) -> Fault {
+        Fault::Memory
     }
 }
 

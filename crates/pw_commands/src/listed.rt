@@ -4,13 +4,15 @@ ghost use Rattle.std.specs.Prelude.{IfErr};
 ghost use Rattle.pw_commands.specs.inner.Listed.{IsOfList};
 
 use crate::fault::Fault;
+use crate::files::read_file;
 use pw_record::UploadKind;
+use pw_words::Source;
 use pw_words::words::kind_named;
 use std::alloc::{AllocError, Global};
 use std::str;
 
-/// The longest list, in bytes.
-pub(crate) const LONGEST_LIST: u32 = 16_777_216;
+// The longest list, in bytes.
+const LONGEST_LIST: u32 = 16_777_216;
 
 /// An upload in a file.
 #[derive(Debug, Drop, PartialEq, Eq)]
@@ -19,8 +21,23 @@ pub(crate) struct Upload<'a> {
     pub(crate) path: String,
 }
 
-/// The uploads of files of one kind.
-pub(crate) fn uploads_in<'a>(
+/// The uploads that a source names; `lines` keeps a list's, of which they borrow.
+pub(crate) fn uploads_from<'a>(
+    rt: &HostRuntime,
+    source: Source<'a>,
+    lines: &'a mut Vec<u8>,
+) -> Result<Vec<Upload<'a>>, Fault> {
+    match source {
+        Source::Files { kind, files } => Ok(uploads_in(rt.alloc(), kind, files.as_slice())?),
+        Source::List { list } => {
+            *lines = read_file(rt, list, LONGEST_LIST)?;
+            uploads_of(rt.alloc(), list, lines.as_slice())
+        }
+    }
+}
+
+// The uploads of files of one kind.
+fn uploads_in<'a>(
     alloc: Global,
     kind: UploadKind<'a>,
     files: &[&str],
@@ -33,15 +50,11 @@ pub(crate) fn uploads_in<'a>(
     Ok(uploads)
 }
 
-/// The uploads that a list names, a line each: kind and file, and of readouts the meter. A word in quotes may have
-/// spaces; a file without a root stands in the folder of the list; an empty line says nothing.
-///
-/// `List` with the number of the first line that names none; `Memory`.
-pub(crate) fn uploads_of<'a>(
-    alloc: Global,
-    list: &str,
-    text: &'a [u8],
-) -> Result<Vec<Upload<'a>>, Fault>
+// The uploads that a list names, a line each: kind and file, and of readouts the meter. A word in quotes may have
+// spaces; a file without a root stands in the folder of the list; an empty line says nothing.
+//
+// `List` with the number of the first line that names none; `Memory`.
+fn uploads_of<'a>(alloc: Global, list: &str, text: &'a [u8]) -> Result<Vec<Upload<'a>>, Fault>
     ensures { IfErr result IsOfList }
 {
     let text = match str::from_utf8(text) {
@@ -58,12 +71,8 @@ pub(crate) fn uploads_of<'a>(
         let Some((kind, file)) = named_in(text) else {
             return Err(Fault::List { line });
         };
-        let Ok(path) = path_from(alloc, list, file) else {
-            return Err(Fault::Memory);
-        };
-        if uploads.push(Upload { kind, path }).is_err() {
-            return Err(Fault::Memory);
-        }
+        let path = path_from(alloc, list, file)?;
+        uploads.push(Upload { kind, path })?;
     }
     Ok(uploads)
 }

@@ -8,7 +8,7 @@ ghost use Rattle.pw_words.specs.Words.{IsLimit};
 use crate::commands::entries_of;
 use crate::fault::Fault;
 use crate::files::read_file;
-use crate::listed::{LONGEST_LIST, Upload, uploads_in, uploads_of};
+use crate::listed::{Upload, uploads_from};
 use crate::offices::read_office;
 use crate::progress::{Follow, Loaded};
 use crate::store::{close_book, open_book};
@@ -37,29 +37,31 @@ pub(crate) struct Target<'a> {
     pub(crate) limit: u32,
 }
 
+/// What is loaded, and where.
+#[derive(Drop)]
+pub(crate) struct Loading<'a> {
+    pub(crate) target: Target<'a>,
+    pub(crate) source: Source<'a>,
+}
+
 /// Loads what a source has, and answers the exit status. Of one file the acceptance line goes to `out`, or the fault's to
 /// `err`; of more each line stands behind its file's name.
 pub(crate) fn load<O: Write, E: Write, F: Follow>(
     rt: &HostRuntime,
-    target: Target<'_>,
-    source: Source<'_>,
+    asked: Loading<'_>,
     out: &mut O,
     err: &mut E,
     follow: &mut F,
 ) -> u8
-    requires { IsLimit target.limit }
+    requires { IsLimit asked.target.limit }
 {
-    let loaded = match source {
-        Source::Files { kind, files } => match files.as_slice() {
-            [file] => {
-                let line = load_file(rt, target, kind, file, follow);
-                return finish(rt.alloc(), line, out, err);
-            }
-            files => load_files(rt, target, kind, files, out, err, follow),
-        },
-        Source::List { list } => load_list(rt, target, list, out, err, follow),
-    };
-    match loaded {
+    if let Source::Files { kind, files } = &asked.source {
+        if let [file] = files.as_slice() {
+            let line = load_file(rt, asked.target, *kind, file, follow);
+            return finish(rt.alloc(), line, out, err);
+        }
+    }
+    match load_all(rt, asked, out, err, follow) {
         Ok(status) => status,
         Err(fault) => tell(rt.alloc(), fault, err),
     }
@@ -116,9 +118,7 @@ fn post<S: Shelf>(rt: &HostRuntime, book: &mut Book<S>, entries: &[Entry]) -> Re
     requires { AllOfOffice (office_of book.old.office) entries.now }
 {
     // Room for the line comes first, so that an upload which was accepted isn't told as refused.
-    let Ok(mut line) = Vec::with_capacity(rt.alloc(), LONGEST_LINE) else {
-        return Err(Fault::Memory);
-    };
+    let mut line = Vec::with_capacity(rt.alloc(), LONGEST_LINE)?;
     let accepted = book.post(rt.alloc(), entries)?;
     match writeln!(line, "{accepted}") {
         Ok(()) => Ok(line),
@@ -126,61 +126,27 @@ fn post<S: Shelf>(rt: &HostRuntime, book: &mut Book<S>, entries: &[Entry]) -> Re
     }
 }
 
-fn load_files<O: Write, E: Write, F: Follow>(
-    rt: &HostRuntime,
-    target: Target<'_>,
-    kind: UploadKind<'_>,
-    files: &[&str],
-    out: &mut O,
-    err: &mut E,
-    follow: &mut F,
-) -> Result<u8, Fault>
-    requires { IsLimit target.limit }
-{
-    let (office, text) = read_office(rt, target.office)?;
-    let Ok(uploads) = uploads_in(rt.alloc(), kind, files) else {
-        return Err(Fault::Memory);
-    };
-    load_all(rt, target, office, &text, &uploads, out, err, follow)
-}
-
-fn load_list<O: Write, E: Write, F: Follow>(
-    rt: &HostRuntime,
-    target: Target<'_>,
-    list: &str,
-    out: &mut O,
-    err: &mut E,
-    follow: &mut F,
-) -> Result<u8, Fault>
-    requires { IsLimit target.limit }
-{
-    let (office, text) = read_office(rt, target.office)?;
-    let lines = read_file(rt, list, LONGEST_LIST)?;
-    let uploads = uploads_of(rt.alloc(), list, lines.as_slice())?;
-    load_all(rt, target, office, &text, &uploads, out, err, follow)
-}
-
-// Loads uploads, each whole or not at all, and answers the exit status. That all files are there is seen before the store
-// is opened.
+// Loads what a source names, each upload whole or not at all, and answers the exit status. That all files are there is seen
+// before the store is opened.
 fn load_all<O: Write, E: Write, F: Follow>(
     rt: &HostRuntime,
-    target: Target<'_>,
-    office: Office,
-    text: &[u8],
-    uploads: &[Upload<'_>],
+    asked: Loading<'_>,
     out: &mut O,
     err: &mut E,
     follow: &mut F,
 ) -> Result<u8, Fault>
-    requires office { IsOfficeOf text.now office }
-    requires limit { IsLimit target.limit }
+    requires { IsLimit asked.target.limit }
 {
-    if !are_there(rt, uploads, err) {
+    let Loading { target, source } = asked;
+    let (office, text) = read_office(rt, target.office)?;
+    let mut lines = Vec::new(rt.alloc());
+    let uploads = uploads_from(rt, source, &mut lines)?;
+    if !are_there(rt, &uploads, err) {
         return Ok(Fault::Device.status());
     }
     let (store, limit) = (target.store, target.limit);
-    let mut book = open_book(rt, store, Purpose::Take, office, text, limit, follow)?;
-    let status = take_to_store(rt, &mut book, uploads, out, err, follow);
+    let mut book = open_book(rt, store, Purpose::Take, office, &text, limit, follow)?;
+    let status = take_to_store(rt, &mut book, &uploads, out, err, follow);
     close_book(book)?;
     Ok(status)
 }

@@ -113,10 +113,9 @@ fn sockets_at<'a>(
         alloc: rt.alloc(),
         err: rt.stderr(),
     };
-    match Sockets::listen(rt, port, term.count, term.until_input_ends, busy, told) {
-        Ok(sockets) => Ok(sockets),
-        Err(error) => Err(fault_of(error.kind())),
-    }
+    Sockets::listen(rt, port, term.count, term.until_input_ends, busy, told).map_err(
+        |error| fault_of(error.kind()),
+    )
 }
 
 // Why nothing is listened to.
@@ -133,10 +132,8 @@ fn fault_of(kind: ErrorKind) -> Fault
 fn listens<O: Write>(alloc: Global, port: u16, out: &mut O) -> Result<(), Fault>
     ensures { IfErr result (λ fault. (fault ≡ Fault.Device) ⊎ (fault ≡ Fault.Memory)) }
 {
-    match format!(in alloc; "listening 127.0.0.1:{port}\n") {
-        Ok(line) => write_whole(out, line.as_bytes()),
-        Err(_) => Err(Fault::Memory),
-    }
+    let line = format!(in alloc; "listening 127.0.0.1:{port}\n")?;
+    write_whole(out, line.as_bytes())
 }
 
 // Serves a port, and answers the exit status.

@@ -58,20 +58,14 @@ pub fn open_book<W: Watch>(
     ensures limit { IfOk result (λ book. book.limit ≡ limit) }
     ensures cause { IfErr result IsOfOpening }
 {
-    let place = match Place::at(rt, path) {
-        Ok(place) => place,
-        Err(refusal) => return Err(Fault::from(refusal)),
-    };
+    let place = Place::at(rt, path)?;
     if let Some(refusal) = refused(place.found(rt), purpose) {
         return Err(Fault::from(refusal));
     }
     let Ok(random) = RandomState::new(rt) else {
         return Err(Fault::Unopened(Cause::Disk));
     };
-    let mut files = match place.open(rt, Wary) {
-        Ok(files) => files,
-        Err(refusal) => return Err(Fault::from(refusal)),
-    };
+    let mut files = place.open(rt, Wary)?;
     let options = options_for(random.hash_one(&0u8), &mut files.db);
     match open_from(
         rt.alloc(),

@@ -5,7 +5,7 @@ ghost use Rattle.pw_tariff.specs.Text.{IsOfficeOf};
 use crate::commands::entries_of;
 use crate::fault::Fault;
 use crate::files::read_file;
-use crate::listed::{LONGEST_LIST, Upload, uploads_in, uploads_of};
+use crate::listed::{Upload, uploads_from};
 use crate::loading::{are_there, is_of_file, tell_of};
 use crate::offices::read_office;
 use crate::records::put_record;
@@ -73,19 +73,9 @@ fn verified<O: Write, E: Write, W: Watch>(
         all,
     } = asked;
     let (office, text) = read_office(rt, office)?;
-    match source {
-        Source::Files { kind, files } => {
-            let Ok(uploads) = uploads_in(rt.alloc(), kind, files.as_slice()) else {
-                return Err(Fault::Memory);
-            };
-            verify_in(rt, store, office, &text, &uploads, all, out, err, watch)
-        }
-        Source::List { list } => {
-            let lines = read_file(rt, list, LONGEST_LIST)?;
-            let uploads = uploads_of(rt.alloc(), list, lines.as_slice())?;
-            verify_in(rt, store, office, &text, &uploads, all, out, err, watch)
-        }
-    }
+    let mut lines = Vec::new(rt.alloc());
+    let uploads = uploads_from(rt, source, &mut lines)?;
+    verify_in(rt, store, office, &text, &uploads, all, out, err, watch)
 }
 
 // Verifies uploads against the store at a path, once all their files are there.
@@ -138,8 +128,8 @@ fn verify_all<S: Shelf, O: Write, E: Write>(
     for upload in uploads {
         match verify_one(rt, book, upload, out, &mut found) {
             Ok(entries) => {
-                if all && sent.extend_from_slice(entries.as_slice()).is_err() {
-                    return Err(Fault::Memory);
+                if all {
+                    sent.extend_from_slice(entries.as_slice())?;
                 }
             }
             Err(fault) if is_of_file(fault) => {
@@ -242,12 +232,9 @@ fn tell_sum<O: Write>(alloc: Global, found: Found, all: bool, out: &mut O) -> Re
         ..
     } = found;
     let line = if all {
-        format!(in alloc; "records {records} lacking {lacking} in no file {unsent}\n")
+        format!(in alloc; "records {records} lacking {lacking} in no file {unsent}\n")?
     } else {
-        format!(in alloc; "records {records} lacking {lacking}\n")
+        format!(in alloc; "records {records} lacking {lacking}\n")?
     };
-    match line {
-        Ok(line) => write_whole(out, line.as_bytes()),
-        Err(_) => Err(Fault::Memory),
-    }
+    write_whole(out, line.as_bytes())
 }
