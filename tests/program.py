@@ -1,5 +1,6 @@
 """What the scripts of this folder share: the built program and its server, telegrams and readouts, a run of tests."""
 import contextlib
+import functools
 import os
 import pty
 import re
@@ -7,6 +8,7 @@ import shutil
 import signal
 import socket
 import sqlite3
+import struct
 import subprocess
 import sys
 import tempfile
@@ -46,6 +48,10 @@ OLDER = {version: f"{TOP}/tests/version_{version}.db" for version in (1, 2)}
 UPGRADED = (
     "powerbook: the store was of an older version and is of version 3 now: an older powerbook won't open it any more\n"
 )
+
+
+# How long the head of a log is, and that of each frame behind it.
+LOG_HEAD, FRAME_HEAD = 32, 24
 
 
 class Late(Exception):
@@ -452,6 +458,53 @@ def rows_of(store, query, *values):
     """The rows that a query gives of a store that nothing has open, by SQLite's own library."""
     with contextlib.closing(sqlite3.connect(f"file:{store}?mode=ro", uri=True)) as connection:
         return connection.execute(query, values).fetchall()
+
+
+def tables_of(store, tables):
+    """The rows of each of these tables of a store that nothing has open, in their order, by SQLite's own library."""
+    with contextlib.closing(sqlite3.connect(f"file:{store}?mode=ro", uri=True)) as connection:
+        return {it: sorted(connection.execute(f"SELECT * FROM {it}").fetchall()) for it in tables}
+
+
+def log_sum(data):
+    """The checksum of a log's bytes, as it stands in the log."""
+    first = second = 0
+    for one, other in struct.iter_unpack("<2I", data):
+        first = (first + one + second) & 0xFFFF_FFFF
+        second = (second + other + first) & 0xFFFF_FFFF
+    return struct.pack(">2I", first, second)
+
+
+def state_of(store):
+    """What decides all that is told of a store that nothing has open: the bytes of its file, of the log beside it and of
+    a journal, None where one isn't there. A log that each closing makes anew has no frame, and salts that were drawn
+    for it: they and their checksum are left away, where that is right."""
+    paths = (store, f"{store}-wal", f"{store}-journal")
+    file, log, journal = (content(it) if os.path.exists(it) else None for it in paths)
+    if log and LOG_HEAD <= len(log) < LOG_HEAD + FRAME_HEAD and log[24:32] == log_sum(log[:24]):
+        log = log[:16] + log[32:]
+    return file, log, journal
+
+
+def of_state(ask):
+    """Has a question about a store, given its path and other words, asked once of each state that a store has: what
+    was told of one is told of all that are the same, byte for byte."""
+    known = {}
+
+    @functools.wraps(ask)
+    def told(store, *words):
+        asked = (*state_of(store), *words)
+        if asked not in known:
+            known[asked] = ask(store, *words)
+        return known[asked]
+
+    return told
+
+
+def in_large_pages():
+    """Has the program take its memory from the kernel in large pages, where that can be: of a short run over a store
+    more than half of the processor's time goes into handing out 8 MB in small ones. It asks for as much as ever."""
+    os.environ.setdefault("GLIBC_TUNABLES", f"glibc.malloc.hugetlb=1:glibc.malloc.top_pad={12 << 20}")
 
 
 def in_memory():
