@@ -6,7 +6,6 @@ mod older_versions;
 mod stops;
 
 use crate::book::post;
-use crate::ends::done;
 use crate::entries::{Sent, entries_of};
 use crate::sql_stores::book_on;
 use answers::{Row, Standing, Told, tells};
@@ -14,6 +13,7 @@ use pw_book::{Book, PostFault};
 use pw_obis::Register;
 use pw_shelf::Shelf;
 use pw_store::{OpenFault, SqlShelf};
+use pw_tests::ends::done;
 use pw_tests::offices::TWO_METERS;
 use pw_tests::sample::{FIRST, FIVE, METER, NEW_YEAR, SEVEN, SIX};
 use sqlite::{Alter, Connection, FileStore, Files, Options};

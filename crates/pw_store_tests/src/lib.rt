@@ -1,5 +1,5 @@
-//! Tests of what reaches SQL's engine, by public calls alone: of the book over each store, of the store over SQL, and of
-//! commands over streams that fail, and over connections. What commands show of files and stores stands in the cases.
+//! Tests of what reaches SQL's engine, by public calls alone: of the book over each store, and of the store over SQL. What
+//! commands show of files and stores stands in the cases.
 #![tactic(auto)]
 
 #[cfg(test)]
@@ -7,15 +7,9 @@ mod book;
 #[cfg(test)]
 mod disk;
 #[cfg(test)]
-mod ends;
-#[cfg(test)]
 mod entries;
 #[cfg(test)]
-mod pipes;
-#[cfg(test)]
 mod schema;
-#[cfg(test)]
-mod server;
 #[cfg(test)]
 mod sql_stores;
 #[cfg(test)]

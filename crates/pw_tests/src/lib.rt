@@ -3,6 +3,7 @@
 #![tactic(auto)]
 
 pub mod books;
+pub mod ends;
 #[cfg(test)]
 mod entries;
 #[cfg(test)]

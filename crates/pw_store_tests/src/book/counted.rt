@@ -3,12 +3,12 @@
 use super::agreeing::all_agree;
 use super::questions::none_is_answered;
 use super::{Books, Fails, InMemory, asking, imported, lengths, money, post, takes};
-use crate::ends::done;
 use crate::entries::{Sent, add, assigned, entry_of, paid, reading};
 use pw_book::{Book, PostFault};
 use pw_model::Entry;
 use pw_obis::Register;
 use pw_shelf::{CountShelf, Shelf};
+use pw_tests::ends::done;
 use pw_tests::sample::{FIRST, FIVE, METER, NEW_YEAR, SECOND, SEVEN};
 use std::alloc::Global;
 use std::process::Abort;

@@ -3,12 +3,12 @@
 
 use super::agreeing::{all_agree, length};
 use super::{Books, asking, imported, lengths, money, post, takes};
-use crate::ends::done;
 use crate::entries::{Sent, entries_of};
 use pw_book::{Book, BookFault, PostFault};
 use pw_model::Entry;
 use pw_obis::Register;
 use pw_shelf::Shelf;
+use pw_tests::ends::done;
 use pw_tests::offices::TWO_METERS;
 use pw_tests::sample::{FIRST, FIVE, METER, NEW_YEAR, SEVEN, SIX};
 use std::alloc::Global;

@@ -2,11 +2,11 @@
 
 use super::counted::upload;
 use super::{Books, Counting, Fails, asking, imported, takes};
-use crate::ends::done;
 use pw_book::{Book, BookFault};
 use pw_obis::Register;
 use pw_shelf::{CountShelf, Shelf};
 use pw_tariff::{Direction, PeriodId};
+use pw_tests::ends::done;
 use pw_tests::offices::{TWO_METERS, rising_office};
 use pw_tests::sample::{FIRST, LOW, METER, PERIOD};
 use std::alloc::Global;

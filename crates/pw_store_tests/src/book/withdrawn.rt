@@ -4,11 +4,11 @@
 use super::agreeing::is_list;
 use super::kept::book_and_store_agree;
 use super::{Books, asking, takes};
-use crate::ends::done;
 use crate::entries::{Sent, entries_of};
 use pw_book::{Book, Entry};
 use pw_obis::Register;
 use pw_shelf::Shelf;
+use pw_tests::ends::done;
 use pw_tests::offices::TWO_METERS;
 use pw_tests::sample::{FIRST, FIVE, METER, NEW_YEAR, SECOND, SEVEN, SIX};
 use std::alloc::Global;

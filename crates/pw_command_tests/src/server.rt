@@ -1,11 +1,11 @@
 //! Connections that are served.
 
-use crate::ends::done;
 use pw_book::Book;
 use pw_commands::serve_on;
 use pw_http::Audience;
 use pw_shelf::{MemoryShelf, Shelf};
 use pw_tests::books::book_of;
+use pw_tests::ends::done;
 use pw_tests::offices::SAMPLE;
 use std::alloc::Global;
 use std::cell::Cell;
