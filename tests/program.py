@@ -113,7 +113,15 @@ class Terminal:
         """What it shows up to a text; without one, until no program has it open any more."""
         if end is None:
             self.hand_over()
-        told = b""
+        told = self.read_up_to(end, b"")
+        if end is None or end not in told:
+            # What was written last may come a moment behind the first refusal to read.
+            time.sleep(0.1)
+            told = self.read_up_to(end, told)
+        return told
+
+    def read_up_to(self, end, told):
+        """What it shows up to a text, behind what was read before; or until nothing can be read."""
         with contextlib.suppress(OSError):
             while (end is None or end not in told) and (part := os.read(self.near, 65_536)):
                 told += part
