@@ -1,12 +1,13 @@
 -- What a file of an upload gives, and why it is refused.
 -- (Definitions of this project.)
-use Rattle.std.specs.Prelude.{ℕ, List}
+use Rattle.std.specs.Prelude.{ℕ, List, ◌++◌, codes, decimal}
 use Rattle.pw_tariff.specs.Office.{OfficeFile}
 use Rattle.pw_model.specs.declared.records.Entry.{Entry}
 use Rattle.pw_record.specs.Laws.{upload_with}
 use Rattle.pw_record.specs.Uploads as upload
 use Rattle.pw_record.specs.declared.fault.UploadFault.{UploadFault}
 use Rattle.pw_record.specs.declared.laws.UploadKind.{UploadKind}
+use Rattle.pw_commands.specs.declared.progress.Loaded.{Loaded}
 
 -- a file of a kind gives the entries that its upload gives
 abbrev pub Gives : OfficeFile → UploadKind → List ℕ → List Entry → Type 0
@@ -15,3 +16,7 @@ Gives office kind body entries = upload.Gives office (upload_with kind body) ent
 -- and is refused as it is
 abbrev pub Refused : OfficeFile → UploadKind → List ℕ → UploadFault → Type 0
 Refused office kind body fault = upload.Refuses office (upload_with kind body) fault
+
+-- how far a load of many files is: `files N of M, records K`
+abbrev pub loaded_line : Loaded → List ℕ
+loaded_line l = codes "files " ++ (decimal l.files ++ (codes " of " ++ (decimal l.all ++ (codes ", records " ++ decimal l.records))))

@@ -1,22 +1,22 @@
 //! Another office file in the place of a store's own.
 
-ghost use Rattle.std.specs.Prelude.{◌≡◌, IfOk, IfErr, IsTrue, false};
+ghost use Rattle.std.specs.Prelude.{◌≡◌, ◌↔◌, All, IfOk, IfErr, IsTrue, false};
 ghost use Rattle.sqlite.specs.Held.{state};
 ghost use Rattle.sqlite.specs.State.{HasCleanDisk, KeepsCommit};
 ghost use Rattle.sqlite.specs.Files.{file_state};
 ghost use Rattle.pw_tariff.specs.Office.{office_of};
 ghost use Rattle.pw_tariff.specs.Text.{IsOfficeOf};
 ghost use Rattle.pw_model.specs.Laws.{HaveSameFigures};
-ghost use Rattle.pw_moving.specs.Adopting.{Adopts};
+ghost use Rattle.pw_moving.specs.Adopting.{IsAdopted, IsMet};
 ghost use Rattle.pw_moving.specs.Changes.{AreChanges};
 ghost use Rattle.pw_moving.specs.Laws.{IsKept};
 ghost use Rattle.pw_book.specs.Questions.{IsQuestion};
 ghost use Rattle.pw_schema.specs.Judging.{KeepsOffice};
 ghost use Rattle.pw_store.specs.Kept.{held_of};
 ghost use Rattle.pw_store.specs.Opening.{KeepsText};
-ghost use Rattle.pw_commands.specs.Adoptions.{MayTake};
+ghost use Rattle.pw_commands.specs.Adoptions.{IsWeighed, MayTake};
 
-use crate::changes::{is_so_named, put_change};
+use crate::changes::put_change;
 use crate::fault::Fault;
 use crate::offices::read_office;
 use crate::store::{FileBook, close_book, close_store, open_book};
@@ -25,7 +25,7 @@ use pw_book::{Book, BookFault};
 use pw_carrying::last_reading;
 use pw_found::Purpose;
 use pw_model::MOST_RECORDS;
-use pw_moving::{Change, Respelling, adopts, changes_between, may_be_adopted};
+use pw_moving::{Change, Respelling, adopts, changes_between, is_met, may_be_adopted};
 use pw_shelf::Shelf;
 use pw_store::{OpenFault, SqlShelf, Watch};
 use pw_tariff::Office;
@@ -215,7 +215,8 @@ pub fn adopt_book<S: Alter, W: Watch>(
     book.into_shelf().adopt(alloc, new_text, watch)
 }
 
-/// Which changes a new office file has, told, and whether it adopts the records of a book.
+/// Which changes a new office file has, told, and whether it is adopted over the records of a book: each change may be
+/// behind their latest reading, and each word for a name is met.
 ///
 /// It asks each register of each meter for its readings once. What it leaves of the store is as before.
 pub fn weigh<S: Shelf>(
@@ -224,7 +225,7 @@ pub fn weigh<S: Shelf>(
     new: &Office,
     words: &[Respelling<'_>],
 ) -> Result<Weighed, BookFault>
-    ensures adopts { S.clean book.new.shelf → IfOk result (λ weighed. IsTrue weighed.adopts → MayTake words.now (record { old = book.old.office; new = new.now }) (S.state book.old.shelf).content.records) }
+    ensures weighed { S.clean book.new.shelf → IfOk result (λ weighed. IsWeighed words.now (record { old = book.old.office; new = new.now }) (S.state book.old.shelf).content.records weighed.adopts) }
     ensures question { IsQuestion S.Shelf result book.old book.new }
 {
     book.still_open()?;
@@ -243,7 +244,7 @@ fn weigh_files(
     words: &[Respelling<'_>],
     last: &Option<Instant>,
 ) -> io::Result<Weighed>
-    ensures { IfOk result (λ weighed. IsTrue weighed.adopts → Adopts words.now last.now (record { old = old.now; new = new.now })) }
+    ensures { IfOk result (λ weighed. IsTrue weighed.adopts ↔ IsAdopted words.now last.now (record { old = old.now; new = new.now })) }
 {
     let changes = changes_between(alloc, old, new)?;
     let mut text = Vec::new(alloc);
@@ -274,32 +275,25 @@ fn put_changes(
     Ok(())
 }
 
-// A line for each word that no change meets; whether there are none of these.
+// A line for each word that isn't met; whether there are none of these.
 fn put_all_unmet(
     text: &mut Vec<u8>,
     words: &[Respelling<'_>],
     old: &Office,
     new: &Office,
     changes: &[Change],
-) -> io::Result<bool> {
+) -> io::Result<bool>
+    requires { AreChanges (record { old = old.now; new = new.now }) changes.now }
+    ensures { IfOk result (λ all_met. IsTrue all_met ↔ All (IsMet (record { old = old.now; new = new.now })) words.now) }
+{
     let mut all_met = true;
     for word in words {
-        if !is_met(old, new, word, changes) {
+        if !is_met(word, old, new, changes) {
             put_unmet(text, word)?;
             all_met = false;
         }
     }
     Ok(all_met)
-}
-
-fn is_met(old: &Office, new: &Office, word: &Respelling<'_>, changes: &[Change]) -> bool {
-    let mut found = false;
-    for change in changes {
-        if is_so_named(old, new, *change, word) {
-            found = true;
-        }
-    }
-    found
 }
 
 fn put_unmet(text: &mut Vec<u8>, word: &Respelling<'_>) -> io::Result<()> {

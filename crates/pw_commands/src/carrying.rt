@@ -18,6 +18,7 @@ use pw_tariff::{AccountId, Office};
 use sqlite::Alter;
 use sqlite_std_file::Wary;
 use std::alloc::{AllocError, Global};
+use std::fmt;
 use std::fs::{self, File};
 use std::io::{self, ErrorKind, Write};
 
@@ -297,21 +298,21 @@ fn put_balance(
     before: i128,
     after: i128,
 ) -> io::Result<()> {
-    write!(text, "{} ", account_name(office, account))?;
-    put_euro(text, before)?;
-    text.write_all(b" ")?;
-    put_euro(text, after)?;
-    text.write_all(b"\n")
+    let (name, before, after) = (account_name(office, account), Nano(before), Nano(after));
+    writeln!(text, "{name} {before} {after}")
 }
 
-// An amount in nano-euro: the greatest whole number of cents that isn't above it, with a point and two digits.
-fn put_euro(text: &mut Vec<u8>, nano: i128) -> io::Result<()> {
-    let cents = nano.div_euclid(NANO_IN_CENT as i128);
-    if cents < 0 {
-        text.write_all(b"-")?;
+// An amount in nano-euro, told in euro: the greatest whole number of cents that isn't above it.
+#[derive(Clone, Copy)]
+struct Nano(i128);
+
+impl fmt::Display for Nano {
+    fn fmt<W: fmt::Write>(&self, f: &mut fmt::Formatter<W>) -> fmt::Result {
+        let cents = self.0.div_euclid(NANO_IN_CENT as i128);
+        let sign = if cents < 0 { "-" } else { "" };
+        let cents = cents.unsigned_abs();
+        write!(f, "{sign}{}.{:02}", cents / 100, cents % 100)
     }
-    let cents = cents.unsigned_abs();
-    write!(text, "{}.{:02}", cents / 100, cents % 100)
 }
 
 // Has a new store that is whole, and closed, be found at its path, whatever comes behind.

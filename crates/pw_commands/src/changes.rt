@@ -1,9 +1,29 @@
 //! What another office file says otherwise, told: a line for each change.
 
-use pw_moving::{Change, Listed, Respelling};
-use pw_tariff::{AccountId, BandId, Direction, MeterId, Office, PeriodId};
-use pw_time::{Instant, write_utc};
+use pw_moving::{Change, Listed};
+use pw_tariff::{AccountId, BandId, MeterId, Office, PeriodId};
+use pw_time::Instant;
+use std::fmt;
 use std::io::{self, Write};
+
+// How a line of a list is called: an account and a meter by its text, a band by its letter.
+#[derive(Clone, Copy)]
+enum Name<'a> {
+    Text(&'a str),
+    Letter(char),
+    // The office has no such line.
+    Nothing,
+}
+
+impl fmt::Display for Name<'_> {
+    fn fmt<W: fmt::Write>(&self, f: &mut fmt::Formatter<W>) -> fmt::Result {
+        match *self {
+            Name::Text(text) => f.write_str(text),
+            Name::Letter(letter) => write!(f, "{letter}"),
+            Name::Nothing => Ok(()),
+        }
+    }
+}
 
 /// The line of a change, which may be adopted or not.
 pub(crate) fn put_change(
@@ -15,26 +35,18 @@ pub(crate) fn put_change(
     may_be: bool,
 ) -> io::Result<()> {
     match change {
-        Change::Added { list, place } => {
-            put_name(text, new, list, place)?;
-            writeln!(text, " is new")
-        }
-        Change::Gone { list, place } => {
-            put_name(text, old, list, place)?;
-            writeln!(text, " is gone")
-        }
+        Change::Added { list, place } => put_line(text, new, list, place, "is new"),
+        Change::Gone { list, place } => put_line(text, old, list, place, "is gone"),
         Change::Renamed { list, place } => put_renamed(text, old, new, list, place, may_be),
         Change::Moved { list, from, .. } => {
-            put_name(text, old, list, from)?;
-            writeln!(text, " stands at another place")
+            put_line(text, old, list, from, "stands at another place")
         }
         Change::Clock { meter } => {
-            put_name(text, old, Listed::Meters, meter.0)?;
-            writeln!(text, " has another clock")
+            put_line(text, old, Listed::Meters, meter.0, "has another clock")
         }
         Change::Register { meter, register } => {
-            put_name(text, old, Listed::Meters, meter.0)?;
-            writeln!(text, " counts {} otherwise", register.name())
+            let name = name_at(old, Listed::Meters, meter.0);
+            writeln!(text, "meter {name} counts {} otherwise", register.name())
         }
         _ => {
             let behind = if may_be { None } else { *last };
@@ -52,47 +64,35 @@ fn put_period_change(
     change: Change,
 ) -> io::Result<()> {
     match change {
-        Change::NewPeriod { period } => {
-            put_period(text, new, period)?;
-            text.write_all(b" is new")?;
-            if let Some(last) = behind {
-                text.write_all(b", but readings stand until ")?;
-                text.write_all(&write_utc(last))?;
-            }
-            writeln!(text, "")
-        }
-        Change::PeriodGone { period } => {
-            put_period(text, old, period)?;
-            writeln!(text, " is gone")
-        }
-        Change::Start { period } => {
-            put_period(text, old, period)?;
-            writeln!(text, " begins otherwise")
-        }
-        Change::Week { period } => {
-            put_period(text, old, period)?;
-            writeln!(text, " has another week")
-        }
+        Change::NewPeriod { period } => put_new_period(text, new, period, behind),
+        Change::PeriodGone { period } => put_period(text, old, period, "is gone"),
+        Change::Start { period } => put_period(text, old, period, "begins otherwise"),
+        Change::Week { period } => put_period(text, old, period, "has another week"),
         Change::Price {
             period,
             band,
             direction,
-        } => put_price(text, old, period, band, direction),
+        } => {
+            let letter = name_at(old, Listed::Bands, u16::from(band.0));
+            let direction = direction.name();
+            put_start(text, old, period)?;
+            writeln!(text, " has another {direction} price of band {letter}")
+        }
         _ => Ok(()),
     }
 }
 
-fn put_price(
+fn put_new_period(
     text: &mut Vec<u8>,
     office: &Office,
     period: PeriodId,
-    band: BandId,
-    direction: Direction,
+    behind: Option<Instant>,
 ) -> io::Result<()> {
-    put_period(text, office, period)?;
-    write!(text, " has another {} price of ", direction.name())?;
-    put_name(text, office, Listed::Bands, u16::from(band.0))?;
-    writeln!(text, "")
+    put_start(text, office, period)?;
+    match behind {
+        Some(last) => writeln!(text, " is new, but readings stand until {last}"),
+        None => writeln!(text, " is new"),
+    }
 }
 
 // `account A1 is called A7`; where no word says so, with the word that would; else with what becomes of kept uploads.
@@ -104,107 +104,78 @@ fn put_renamed(
     place: u16,
     may_be: bool,
 ) -> io::Result<()> {
-    put_name(text, old, list, place)?;
-    text.write_all(b" is called ")?;
-    put_text(text, new, list, place)?;
+    let (before, now) = (name_at(old, list, place), name_at(new, list, place));
+    let kind = kind_of(list);
     if !may_be {
-        text.write_all(b": if so, --rename ")?;
-        put_text(text, old, list, place)?;
-        text.write_all(b" ")?;
-        put_text(text, new, list, place)?;
+        return writeln!(
+            text,
+            "{kind} {before} is called {now}: if so, --rename {before} {now}"
+        );
     }
-    writeln!(text, "")?;
-    if may_be && list != Listed::Bands {
-        put_refused(text, old, new, list, place)?;
+    writeln!(text, "{kind} {before} is called {now}")?;
+    match list {
+        Listed::Accounts => put_refused(text, before, now, "46 UnknownAccount"),
+        Listed::Meters => put_refused(text, before, now, "41 UnknownMeter"),
+        Listed::Bands => Ok(()),
     }
-    Ok(())
 }
 
 // Which kept uploads are refused from now on.
-fn put_refused(
+fn put_refused(text: &mut Vec<u8>, before: Name<'_>, now: Name<'_>, fault: &str) -> io::Result<()> {
+    writeln!(
+        text,
+        "kept uploads that say {before} are refused from now on ({fault}): say {now} in them"
+    )
+}
+
+// What is told of the line at a place of a list: `account A1 is new`.
+fn put_line(
     text: &mut Vec<u8>,
-    old: &Office,
-    new: &Office,
+    office: &Office,
     list: Listed,
     place: u16,
+    told: &str,
 ) -> io::Result<()> {
-    text.write_all(b"kept uploads that say ")?;
-    put_text(text, old, list, place)?;
-    let fault = if list == Listed::Meters {
-        "41 UnknownMeter"
-    } else {
-        "46 UnknownAccount"
-    };
-    write!(text, " are refused from now on ({fault}): say ")?;
-    put_text(text, new, list, place)?;
-    writeln!(text, " in them")
+    let (kind, name) = (kind_of(list), name_at(office, list, place));
+    writeln!(text, "{kind} {name} {told}")
 }
 
-// What stands at a place of a list: `account A1`.
-fn put_name(text: &mut Vec<u8>, office: &Office, list: Listed, place: u16) -> io::Result<()> {
-    let kind = match list {
-        Listed::Accounts => "account ",
-        Listed::Meters => "meter ",
-        Listed::Bands => "band ",
-    };
-    text.write_all(kind.as_bytes())?;
-    put_text(text, office, list, place)
-}
-
-// Its name alone.
-fn put_text(text: &mut Vec<u8>, office: &Office, list: Listed, place: u16) -> io::Result<()> {
-    match list {
-        Listed::Accounts if place < office.accounts() => {
-            text.write_all(office.account_name(AccountId(place)).as_bytes())
-        }
-        Listed::Meters if place < office.meters() => {
-            text.write_all(office.meter_name(MeterId(place)).as_bytes())
-        }
-        Listed::Bands if place < u16::from(office.bands()) => {
-            write!(text, "{}", office.band_name(BandId(place as u8)))
-        }
-        _ => Ok(()),
-    }
+// What is told of a period.
+fn put_period(text: &mut Vec<u8>, office: &Office, period: PeriodId, told: &str) -> io::Result<()> {
+    put_start(text, office, period)?;
+    writeln!(text, " {told}")
 }
 
 // A period, by its start.
-fn put_period(text: &mut Vec<u8>, office: &Office, period: PeriodId) -> io::Result<()> {
-    text.write_all(b"period ")?;
+fn put_start(text: &mut Vec<u8>, office: &Office, period: PeriodId) -> io::Result<()> {
     if period.0 >= office.periods() {
-        return Ok(());
+        return write!(text, "period");
     }
     match Instant::of(office.period_start(period)) {
-        Some(start) => text.write_all(&write_utc(start)),
-        None => Ok(()),
+        Some(start) => write!(text, "period {start}"),
+        None => write!(text, "period"),
     }
 }
 
-/// Whether a change is that the old name is called the new one.
-pub(crate) fn is_so_named(
-    old: &Office,
-    new: &Office,
-    change: Change,
-    word: &Respelling<'_>,
-) -> bool {
-    match change {
-        Change::Renamed { list, place } => {
-            is_named(old, list, place, word.old) && is_named(new, list, place, word.new)
-        }
-        _ => false,
+fn kind_of(list: Listed) -> &'static str {
+    match list {
+        Listed::Accounts => "account",
+        Listed::Meters => "meter",
+        Listed::Bands => "band",
     }
 }
 
-fn is_named(office: &Office, list: Listed, place: u16, name: &[u8]) -> bool {
+fn name_at(office: &Office, list: Listed, place: u16) -> Name<'_> {
     match list {
         Listed::Accounts if place < office.accounts() => {
-            office.account_name(AccountId(place)).as_bytes() == name
+            Name::Text(office.account_name(AccountId(place)))
         }
         Listed::Meters if place < office.meters() => {
-            office.meter_name(MeterId(place)).as_bytes() == name
+            Name::Text(office.meter_name(MeterId(place)))
         }
         Listed::Bands if place < u16::from(office.bands()) => {
-            name == [office.band_name(BandId(place as u8)) as u8].as_slice()
+            Name::Letter(office.band_name(BandId(place as u8)))
         }
-        _ => false,
+        _ => Name::Nothing,
     }
 }

@@ -50,7 +50,13 @@ impl Loaded {
     }
 }
 
+/// The line of a bar, without its end.
 impl fmt::Display for Loaded {
+    ghost use Rattle.std.specs.Prelude.{Some};
+    ghost use Rattle.pw_commands.specs.Loads.{loaded_line};
+
+    ghost output = { λ loaded. Some (loaded_line loaded) };
+
     fn fmt<W: fmt::Write>(&self, f: &mut fmt::Formatter<W>) -> fmt::Result {
         let Loaded {
             files,

@@ -2,7 +2,6 @@
 
 use pw_model::{Entry, Key, Named};
 use pw_tariff::{AccountId, MeterId, Office, Owner};
-use pw_time::write_utc;
 use std::io::{self, Write};
 
 /// What a record says, with spaces between: `reading 4D31 I1 2024-01-02T05:00:00Z 1000000`,
@@ -20,26 +19,23 @@ pub(crate) fn put_record(text: &mut Vec<u8>, office: &Office, entry: &Entry) -> 
 }
 
 fn put_named(text: &mut Vec<u8>, office: &Office, named: &Named) -> io::Result<()> {
-    match named {
+    match *named {
         Named::Reading {
             meter,
             register,
             instant,
             wh,
         } => {
-            let (id, register) = (meter_name(office, *meter), register.name());
-            write!(text, "reading {id} {register} ")?;
-            text.write_all(&write_utc(*instant))?;
-            write!(text, " {}", wh.get())
+            let (id, register, wh) = (meter_name(office, meter), register.name(), wh.get());
+            write!(text, "reading {id} {register} {instant} {wh}")
         }
         Named::Assignment {
             meter,
             start,
             owner,
         } => {
-            write!(text, "assignment {} ", meter_name(office, *meter))?;
-            text.write_all(&write_utc(*start))?;
-            write!(text, " {}", owner_name(office, *owner))
+            let (id, owner) = (meter_name(office, meter), owner_name(office, owner));
+            write!(text, "assignment {id} {start} {owner}")
         }
         Named::TopUp {
             reference,
@@ -49,8 +45,8 @@ fn put_named(text: &mut Vec<u8>, office: &Office, named: &Named) -> io::Result<(
         } => {
             text.write_all(b"topup ")?;
             text.write_all(reference.bytes())?;
-            write!(text, " {} {cents} ", account_name(office, *account))?;
-            text.write_all(&write_utc(*instant))
+            let account = account_name(office, account);
+            write!(text, " {account} {cents} {instant}")
         }
     }
 }

@@ -1,4 +1,5 @@
 pub mod Sums
+pub mod Spelt
 pub mod Points
 pub mod Agreed
 pub mod Placed

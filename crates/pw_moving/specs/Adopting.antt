@@ -1,6 +1,6 @@
 -- When a new office file may take the old one's place over the same records.
 -- (Definitions of this project.)
-use Rattle.std.specs.Prelude.{◌≡◌, ◌&&◌, ℕ, ◌<◌, ◌≤◌, Bool, true, Option, Some, None, List, slice_get}
+use Rattle.std.specs.Prelude.{◌≡◌, ◌&&◌, ℕ, ◌<◌, ◌≤◌, Bool, true, Option, Some, None, List, [], ◌∷◌, All, slice_get}
 use Rattle.std.specs.List.{list_any}
 use Rattle.pw_obis.specs.declared.reference.Register.{Register}
 use Rattle.pw_tariff.specs.Office.{period_starts}
@@ -51,7 +51,22 @@ MayBeAdopted words last o (change.Renamed list place) = IsSpelt words (slice_get
 MayBeAdopted words last o (change.NewPeriod p) = (t : ℕ) → slice_get (period_starts o.new) p.0 ≡ Some t → IsBehind last t
 MayBeAdopted words last o _ = ⊥
 
+-- ---- whether the words are met
+-- a change is what a word says: a name that it spells otherwise
+abbrev pub IsSaid : Respelling → Offices → Change → Type 0
+IsSaid word o (change.Renamed list place) = IsSpelt (word ∷ []) (slice_get (names_in list o.old) place) (slice_get (names_in list o.new) place)
+IsSaid word o _ = ⊥
+
+-- some change of the new file is
+abbrev pub IsMet : Offices → Respelling → Type 0
+IsMet o word = (c : Change) × Differs o c × IsSaid word o c
+
+-- ---- the whole file
 -- the new file adopts the old one's records: each change of it is such a one. Two lines that were swapped are two names that
 -- moved, which no words spell
 abbrev pub Adopts : List Respelling → Option ℕ → Offices → Type 0
 Adopts words last o = (c : Change) → Differs o c → MayBeAdopted words last o c
+
+-- and each word is met
+abbrev pub IsAdopted : List Respelling → Option ℕ → Offices → Type 0
+IsAdopted words last o = Adopts words last o × All (IsMet o) words

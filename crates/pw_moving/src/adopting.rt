@@ -2,7 +2,7 @@
 
 ghost use Rattle.std.specs.Prelude.{◌≡◌, ◌<◌, ◌↔◌, IsTrue, length, slice_get};
 ghost use Rattle.std.specs.List.{list_any};
-ghost use Rattle.pw_moving.specs.Adopting.{Adopts, IsBehind, IsSpelt, MayBeAdopted, spells};
+ghost use Rattle.pw_moving.specs.Adopting.{Adopts, IsBehind, IsMet, IsSaid, IsSpelt, MayBeAdopted, spells};
 ghost use Rattle.pw_moving.specs.Changes.{AreChanges, Differs};
 ghost use Rattle.pw_moving.specs.Names.{names_in};
 
@@ -49,6 +49,31 @@ pub fn adopts(
         }
     }
     true
+}
+
+/// Whether a word, told by all changes of a new office file, is met: at some place of a list stands the name that it
+/// calls old, and in the new file the one that it calls new.
+pub fn is_met(word: &Respelling<'_>, old: &Office, new: &Office, changes: &[Change]) -> bool
+    requires { AreChanges (record { old = old.now; new = new.now }) changes.now }
+    ensures { IsTrue result ↔ IsMet (record { old = old.now; new = new.now }) word.now }
+{
+    for change in changes {
+        if is_said(word, old, new, *change) {
+            return true;
+        }
+    }
+    false
+}
+
+// Whether a change is what a word says.
+fn is_said(word: &Respelling<'_>, old: &Office, new: &Office, change: Change) -> bool
+    requires { Differs (record { old = old.now; new = new.now }) change }
+    ensures { IsTrue result ↔ IsSaid word.now (record { old = old.now; new = new.now }) change }
+{
+    match change {
+        Change::Renamed { list, place } => is_spelt(&[*word], old, new, list, place),
+        _ => false,
+    }
 }
 
 // Whether a second is behind the last one, if there is one.

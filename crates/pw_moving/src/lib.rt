@@ -8,7 +8,7 @@ mod comparing;
 pub mod laws;
 mod renaming;
 
-pub use adopting::{adopts, may_be_adopted};
+pub use adopting::{adopts, is_met, may_be_adopted};
 pub use change::{Change, Listed, Respelling};
 pub use comparing::changes_between;
 pub use renaming::Renaming;

@@ -7,7 +7,7 @@ use Rattle.pw_tariff.specs.Office.{register_place}
 use Rattle.pw_model.specs.Counting.{Member}
 use Rattle.pw_model.specs.Lists.{Lists}
 use Rattle.pw_moving.specs.declared.change.Respelling.{Respelling}
-use Rattle.pw_moving.specs.Adopting.{MayBeAdopted}
+use Rattle.pw_moving.specs.Adopting.{IsSaid, MayBeAdopted}
 use Rattle.pw_moving.specs.declared.change.Listed.{Listed}
 use Rattle.pw_moving.specs.declared.change.Change.{Change}
 use Rattle.pw_moving.specs.declared.change.Change.TheVariants as change
@@ -87,3 +87,7 @@ AreSameDays o p days = (day : ℕ) → day < days → AreSameHours o p day 24
 -- each of the first changes of a list may be adopted
 abbrev pub AreAdopted : List Respelling → Option ℕ → Offices → List Change → Type 0
 AreAdopted words last o changes = (c : Change) → Member c changes → MayBeAdopted words last o c
+
+-- none of the first changes is what a word says
+abbrev pub AreUnsaid : Respelling → Offices → List Change → Type 0
+AreUnsaid word o changes = (c : Change) → Member c changes → IsSaid word o c → ⊥

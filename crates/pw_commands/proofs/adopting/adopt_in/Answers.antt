@@ -9,4 +9,4 @@ take_place-requires-clause-adopted g c = λ clean.
     let book = c.weigh.new.book in
     let asked = c.in-Ok.ensures.question in
     subst (λ office. MayTake c.args.words.now (record { old = office; new = c.args.new.now }) (held_of (file_state book.shelf.conn) (file_state book.shelf.base.value)).records) (sym asked.office)
-    (subst (λ content. MayTake c.args.words.now (record { old = c.args.book.office; new = c.args.new.now }) content.records) (sym (asked.asked.content clean)) (c.in-Ok.ensures.adopts clean c.if-weigh.true))
+    (subst (λ content. MayTake c.args.words.now (record { old = c.args.book.office; new = c.args.new.now }) content.records) (sym (asked.asked.content clean)) (let weighed = c.in-Ok.ensures.weighed clean in (weighed.0, weighed.1.up_to, (weighed.2.0 c.if-weigh.true).0)))

@@ -1,4 +1,3 @@
-use Rattle.pw_moving.specs.Renaming.{Offices}
 use Rattle.pw_moving.proofs.Weekly.{change-there}
 use Rattle.pw_commands.proofs.adopting.put_changes.Goals as goal
 
