@@ -1,4 +1,4 @@
--- Which office file may take the place of a store's own.
+-- Which office file may take the place of a store's own, and what is to be said of one.
 -- (Definitions of this project.)
 use Rattle.std.specs.Prelude.{◌↔◌, ℕ, Bool, IsTrue, Option, List}
 use Rattle.pw_model.specs.declared.records.Entry.{Entry}
@@ -12,7 +12,7 @@ use Rattle.pw_carrying.specs.LastReading.{IsLastReading}
 abbrev pub MayTake : List Respelling → Offices → List Entry → Type 0
 MayTake words o s = (last : Option ℕ) × AreUpTo last s × Adopts words last o
 
--- an answer on a new office file is right for a set: it says that the file is adopted just where it is, behind the latest
--- reading of the set that isn't withdrawn
+-- whether a new office file is adopted over a set is answered rightly: the answer is yes exactly where the file is adopted,
+-- with the latest reading of the set that isn't withdrawn, if there is one, as the last
 abbrev pub IsWeighed : List Respelling → Offices → List Entry → Bool → Type 0
 IsWeighed words o s adopts = (last : Option ℕ) × IsLastReading s last × (IsTrue adopts ↔ IsAdopted words last o)

@@ -1,4 +1,4 @@
--- What a file of an upload gives, and why it is refused.
+-- What a file of an upload gives, why it is refused, and how far a load of many files is.
 -- (Definitions of this project.)
 use Rattle.std.specs.Prelude.{ℕ, List, ◌++◌, codes, decimal}
 use Rattle.pw_tariff.specs.Office.{OfficeFile}
@@ -17,6 +17,6 @@ Gives office kind body entries = upload.Gives office (upload_with kind body) ent
 abbrev pub Refused : OfficeFile → UploadKind → List ℕ → UploadFault → Type 0
 Refused office kind body fault = upload.Refuses office (upload_with kind body) fault
 
--- how far a load of many files is: `files N of M, records K`
+-- how far a load of many files is, `files N of M, records K`: N files of M are through, and K records of theirs were accepted
 abbrev pub loaded_line : Loaded → List ℕ
 loaded_line l = codes "files " ++ (decimal l.files ++ (codes " of " ++ (decimal l.all ++ (codes ", records " ++ decimal l.records))))

@@ -46,7 +46,8 @@ pub(crate) struct Adoption<'a> {
     pub(crate) dry: bool,
 }
 
-/// What a new office file changes, a line for each change, and whether it may take the old one's place.
+/// What a new office file changes, a line for each change; a line for each word that isn't met; and whether the file
+/// may take the old one's place.
 #[derive(Drop)]
 pub struct Weighed {
     pub text: Vec<u8>,
@@ -216,7 +217,7 @@ pub fn adopt_book<S: Alter, W: Watch>(
 }
 
 /// Which changes a new office file has, told, and whether it is adopted over the records of a book: each change may be
-/// behind their latest reading, and each word for a name is met.
+/// adopted, with their latest reading that isn't withdrawn as the last one, and each word for a name is met.
 ///
 /// It asks each register of each meter for its readings once. What it leaves of the store is as before.
 pub fn weigh<S: Shelf>(

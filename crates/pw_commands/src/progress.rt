@@ -50,7 +50,7 @@ impl Loaded {
     }
 }
 
-/// The line of a bar, without its end.
+/// What the line of a bar tells between `powerbook: ` and how fast it is.
 impl fmt::Display for Loaded {
     ghost use Rattle.std.specs.Prelude.{Some};
     ghost use Rattle.pw_commands.specs.Loads.{loaded_line};

@@ -57,16 +57,16 @@ abbrev pub IsSaid : Respelling → Offices → Change → Type 0
 IsSaid word o (change.Renamed list place) = IsSpelt (word ∷ []) (slice_get (names_in list o.old) place) (slice_get (names_in list o.new) place)
 IsSaid word o _ = ⊥
 
--- some change of the new file is
+-- a word is met: some change of the new file is what it says
 abbrev pub IsMet : Offices → Respelling → Type 0
 IsMet o word = (c : Change) × Differs o c × IsSaid word o c
 
 -- ---- the whole file
--- the new file adopts the old one's records: each change of it is such a one. Two lines that were swapped are two names that
+-- the new file adopts the old one's records: each change of it may be adopted. Two lines that were swapped are two names that
 -- moved, which no words spell
 abbrev pub Adopts : List Respelling → Option ℕ → Offices → Type 0
 Adopts words last o = (c : Change) → Differs o c → MayBeAdopted words last o c
 
--- and each word is met
+-- the new file is adopted: it adopts the records, and each word is met
 abbrev pub IsAdopted : List Respelling → Option ℕ → Offices → Type 0
 IsAdopted words last o = Adopts words last o × All (IsMet o) words

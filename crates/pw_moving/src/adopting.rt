@@ -51,8 +51,8 @@ pub fn adopts(
     true
 }
 
-/// Whether a word, told by all changes of a new office file, is met: at some place of a list stands the name that it
-/// calls old, and in the new file the one that it calls new.
+/// Whether a word, told by all changes of a new office file, is met: at some place of a list the old file has the name that
+/// the word calls old, and the new file, at the same place, another name, the one that it calls new.
 pub fn is_met(word: &Respelling<'_>, old: &Office, new: &Office, changes: &[Change]) -> bool
     requires { AreChanges (record { old = old.now; new = new.now }) changes.now }
     ensures { IsTrue result ↔ IsMet (record { old = old.now; new = new.now }) word.now }
