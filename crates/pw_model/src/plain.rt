@@ -26,4 +26,4 @@ pub use payments::topped_up;
 pub use points::points_of;
 pub use reading_list::readings;
 pub use search::{contents_at, owner_at};
-pub use terms::{OfficeTerms, Terms};
+pub use terms::OfficeTerms;

@@ -1,6 +1,7 @@
 //! The balance of an account.
 
 ghost use Rattle.std.specs.Prelude.{◌≡◌, ◌<◌, ◌≤◌, IfOk, Some, length};
+ghost use Rattle.pw_tariff.specs.Office.{office_of};
 ghost use Rattle.pw_model.specs.Counting.{contents_at as held_at};
 ghost use Rattle.pw_model.specs.Energy.{cost as cost_of};
 ghost use Rattle.pw_model.specs.Office.{AllOfOffice, IsOffice, most_records};
@@ -9,7 +10,7 @@ ghost use Rattle.pw_model.specs.inner.Tariff.{period_cost};
 
 use super::energies::energy_in;
 use super::payments::topped_up;
-use super::terms::Terms;
+use super::terms::OfficeTerms;
 use crate::amounts::{left_over, price_of};
 use crate::limits::NANO_IN_CENT;
 use crate::records::Entry;
@@ -17,16 +18,16 @@ use pw_tariff::{AccountId, BandId, Direction, PeriodId};
 use std::alloc::{AllocError, Global};
 
 /// The balance of an account, in nano-euro: what was topped up, less what it took, and what it gave.
-pub fn balance<T: Terms>(
+pub fn balance(
     alloc: Global,
-    terms: &T,
+    terms: &OfficeTerms<'_>,
     entries: &[Entry],
     account: AccountId,
 ) -> Result<i128, AllocError>
-    requires office { IsOffice (T.office terms.now) }
-    requires entries { AllOfOffice (T.office terms.now) entries.now }
+    requires office { IsOffice (office_of terms.now) }
+    requires entries { AllOfOffice (office_of terms.now) entries.now }
     requires few { length entries.now ≤ most_records }
-    ensures { IfOk result (λ nano. nano ≡ balance_of (T.office terms.now) entries.now account.0) }
+    ensures { IfOk result (λ nano. nano ≡ balance_of (office_of terms.now) entries.now account.0) }
 {
     let imported = cost(alloc, terms, entries, account, Direction::Import)?;
     let exported = cost(alloc, terms, entries, account, Direction::Export)?;
@@ -35,17 +36,17 @@ pub fn balance<T: Terms>(
 }
 
 // What an account's energy costs, in nano-euro: that of each period at its prices.
-fn cost<T: Terms>(
+fn cost(
     alloc: Global,
-    terms: &T,
+    terms: &OfficeTerms<'_>,
     entries: &[Entry],
     account: AccountId,
     direction: Direction,
 ) -> Result<u128, AllocError>
-    requires office { IsOffice (T.office terms.now) }
-    requires entries { AllOfOffice (T.office terms.now) entries.now }
+    requires office { IsOffice (office_of terms.now) }
+    requires entries { AllOfOffice (office_of terms.now) entries.now }
     requires few { length entries.now ≤ most_records }
-    ensures cost { IfOk result (λ nano. nano ≡ cost_of (T.office terms.now) (held_at entries.now) (Some account) direction) }
+    ensures cost { IfOk result (λ nano. nano ≡ cost_of (office_of terms.now) (held_at entries.now) (Some account) direction) }
     ensures bound { IfOk result (λ nano. nano ≤ 127999999998720000000000000000) }
 {
     let mut nano = 0;
@@ -57,19 +58,19 @@ fn cost<T: Terms>(
 }
 
 // What an account's energy of a period costs, in nano-euro.
-fn cost_in<T: Terms>(
+fn cost_in(
     alloc: Global,
-    terms: &T,
+    terms: &OfficeTerms<'_>,
     entries: &[Entry],
     account: AccountId,
     period: PeriodId,
     direction: Direction,
 ) -> Result<u128, AllocError>
-    requires office { IsOffice (T.office terms.now) }
-    requires entries { AllOfOffice (T.office terms.now) entries.now }
+    requires office { IsOffice (office_of terms.now) }
+    requires entries { AllOfOffice (office_of terms.now) entries.now }
     requires few { length entries.now ≤ most_records }
-    requires period { period.0 < (T.office terms.now).periods }
-    ensures cost { IfOk result (λ nano. nano ≡ period_cost (T.office terms.now) (held_at entries.now) (Some account) period.0 direction) }
+    requires period { period.0 < (office_of terms.now).periods }
+    ensures cost { IfOk result (λ nano. nano ≡ period_cost (office_of terms.now) (held_at entries.now) (Some account) period.0 direction) }
     ensures bound { IfOk result (λ nano. nano ≤ 7999999999920000000000000000) }
 {
     let mut nano = 0;

@@ -4,6 +4,7 @@ ghost use Rattle.std.specs.Prelude.{◌≡◌, ◌<◌, ◌≤◌, All, IfOk, le
 ghost use Rattle.pw_flow.specs.Energy.{register_energy};
 ghost use Rattle.pw_flow.specs.Plain.{value_at};
 ghost use Rattle.pw_flow.specs.Time.{AreInTime};
+ghost use Rattle.pw_tariff.specs.Office.{office_of};
 ghost use Rattle.pw_model.specs.Counting.{contents_at as held_at};
 ghost use Rattle.pw_model.specs.Energy.{energy as energy_of, energy_in_period, energy_where, meter_share, asked_seconds, share_of};
 ghost use Rattle.pw_model.specs.Office.{AllOfOffice, IsOffice, most_records};
@@ -15,7 +16,7 @@ ghost use Rattle.pw_time.specs.declared.instant.TheConstants.{END_SECOND as the_
 
 use super::points::points_of;
 use super::search::owner_at;
-use super::terms::Terms;
+use super::terms::OfficeTerms;
 use crate::records::Entry;
 use pw_flow::plain::Point;
 use pw_obis::Register;
@@ -24,54 +25,54 @@ use pw_time::Instant;
 use std::alloc::{AllocError, Global};
 
 /// The energy of an owner in a band, in Wh.
-pub fn energy<T: Terms>(
+pub fn energy(
     alloc: Global,
-    terms: &T,
+    terms: &OfficeTerms<'_>,
     entries: &[Entry],
     owner: Owner,
     band: BandId,
     direction: Direction,
 ) -> Result<u64, AllocError>
-    requires office { IsOffice (T.office terms.now) }
-    requires entries { AllOfOffice (T.office terms.now) entries.now }
+    requires office { IsOffice (office_of terms.now) }
+    requires entries { AllOfOffice (office_of terms.now) entries.now }
     requires few { length entries.now ≤ most_records }
-    ensures { IfOk result (λ wh. wh ≡ energy_of (T.office terms.now) entries.now owner band.0 direction) }
+    ensures { IfOk result (λ wh. wh ≡ energy_of (office_of terms.now) entries.now owner band.0 direction) }
 {
     energy_asked(alloc, terms, entries, owner, None, band, direction)
 }
 
 /// The energy of an owner in a band within a period, in Wh.
-pub fn energy_in<T: Terms>(
+pub fn energy_in(
     alloc: Global,
-    terms: &T,
+    terms: &OfficeTerms<'_>,
     entries: &[Entry],
     owner: Owner,
     period: PeriodId,
     band: BandId,
     direction: Direction,
 ) -> Result<u64, AllocError>
-    requires office { IsOffice (T.office terms.now) }
-    requires entries { AllOfOffice (T.office terms.now) entries.now }
+    requires office { IsOffice (office_of terms.now) }
+    requires entries { AllOfOffice (office_of terms.now) entries.now }
     requires few { length entries.now ≤ most_records }
-    ensures { IfOk result (λ wh. wh ≡ energy_in_period (T.office terms.now) entries.now owner period.0 band.0 direction) }
+    ensures { IfOk result (λ wh. wh ≡ energy_in_period (office_of terms.now) entries.now owner period.0 band.0 direction) }
 {
     energy_asked(alloc, terms, entries, owner, Some(period), band, direction)
 }
 
 // The energy of an owner in a band, within a period where one is named.
-fn energy_asked<T: Terms>(
+fn energy_asked(
     alloc: Global,
-    terms: &T,
+    terms: &OfficeTerms<'_>,
     entries: &[Entry],
     owner: Owner,
     period: Option<PeriodId>,
     band: BandId,
     direction: Direction,
 ) -> Result<u64, AllocError>
-    requires office { IsOffice (T.office terms.now) }
-    requires entries { AllOfOffice (T.office terms.now) entries.now }
+    requires office { IsOffice (office_of terms.now) }
+    requires entries { AllOfOffice (office_of terms.now) entries.now }
     requires few { length entries.now ≤ most_records }
-    ensures { IfOk result (λ wh. wh ≡ energy_where (T.office terms.now) (held_at entries.now) direction (asked_of (T.office terms.now) owner period band.0)) }
+    ensures { IfOk result (λ wh. wh ≡ energy_where (office_of terms.now) (held_at entries.now) direction (asked_of (office_of terms.now) owner period band.0)) }
 {
     let mut total = 0;
     for meter in 0..terms.meters() {
@@ -89,9 +90,9 @@ fn energy_asked<T: Terms>(
     Ok(total)
 }
 
-fn meter_energy<T: Terms>(
+fn meter_energy(
     alloc: Global,
-    terms: &T,
+    terms: &OfficeTerms<'_>,
     entries: &[Entry],
     meter: MeterId,
     owner: Owner,
@@ -99,11 +100,11 @@ fn meter_energy<T: Terms>(
     band: BandId,
     direction: Direction,
 ) -> Result<u64, AllocError>
-    requires office { IsOffice (T.office terms.now) }
-    requires entries { AllOfOffice (T.office terms.now) entries.now }
+    requires office { IsOffice (office_of terms.now) }
+    requires entries { AllOfOffice (office_of terms.now) entries.now }
     requires few { length entries.now ≤ most_records }
-    requires meter { meter.0 < (T.office terms.now).meters }
-    ensures { IfOk result (λ wh. wh ≡ meter_share (T.office terms.now) (held_at entries.now) direction (asked_of (T.office terms.now) owner period band.0) meter.0) }
+    requires meter { meter.0 < (office_of terms.now).meters }
+    ensures { IfOk result (λ wh. wh ≡ meter_share (office_of terms.now) (held_at entries.now) direction (asked_of (office_of terms.now) owner period band.0) meter.0) }
 {
     let [total, first, second] = match direction {
         Direction::Import => [Register::I0, Register::I1, Register::I2],
@@ -115,9 +116,9 @@ fn meter_energy<T: Terms>(
     Ok(total + first + second)
 }
 
-fn register_share<T: Terms>(
+fn register_share(
     alloc: Global,
-    terms: &T,
+    terms: &OfficeTerms<'_>,
     entries: &[Entry],
     meter: MeterId,
     register: Register,
@@ -125,11 +126,11 @@ fn register_share<T: Terms>(
     period: Option<PeriodId>,
     band: BandId,
 ) -> Result<u64, AllocError>
-    requires office { IsOffice (T.office terms.now) }
-    requires entries { AllOfOffice (T.office terms.now) entries.now }
+    requires office { IsOffice (office_of terms.now) }
+    requires entries { AllOfOffice (office_of terms.now) entries.now }
     requires few { length entries.now ≤ most_records }
-    requires meter { meter.0 < (T.office terms.now).meters }
-    ensures share { IfOk result (λ wh. wh ≡ share_of (T.office terms.now) (held_at entries.now) (asked_of (T.office terms.now) owner period band.0) meter.0 register) }
+    requires meter { meter.0 < (office_of terms.now).meters }
+    ensures share { IfOk result (λ wh. wh ≡ share_of (office_of terms.now) (held_at entries.now) (asked_of (office_of terms.now) owner period band.0) meter.0 register) }
     ensures bound { IfOk result (λ wh. wh ≤ 999999999990000000) }
 {
     if !terms.counts(meter, register) {
@@ -141,8 +142,8 @@ fn register_share<T: Terms>(
 }
 
 // The energy of points over the seconds of a meter with this owner and band, within a period where one is named.
-fn points_energy<T: Terms>(
-    terms: &T,
+fn points_energy(
+    terms: &OfficeTerms<'_>,
     entries: &[Entry],
     meter: MeterId,
     owner: Owner,
@@ -152,19 +153,19 @@ fn points_energy<T: Terms>(
 ) -> u128
     requires rising { AreInTime (λ p. p.at) points.now }
     requires instants { All (λ p. IsInstant p.at) points.now }
-    ensures { result ≡ register_energy (asked_seconds (held_at entries.now) (asked_of (T.office terms.now) owner period band.0) meter.0) (value_at points.now) the_end }
+    ensures { result ≡ register_energy (asked_seconds (held_at entries.now) (asked_of (office_of terms.now) owner period band.0) meter.0) (value_at points.now) the_end }
 {
     pw_flow::plain::energy(
         points,
         |second: u32| -> bool
-            ensures { result ≡ at_instants (asked_seconds (held_at entries.entry.now) (asked_of (T.office terms.entry.now) owner period band.0) meter.0) second }
+            ensures { result ≡ at_instants (asked_seconds (held_at entries.entry.now) (asked_of (office_of terms.entry.now) owner period band.0) meter.0) second }
         { is_of(terms, entries, meter, owner, period, band, second) },
     )
 }
 
 // Whether a second is an instant of this owner and band, within a period where one is named.
-fn is_of<T: Terms>(
-    terms: &T,
+fn is_of(
+    terms: &OfficeTerms<'_>,
     entries: &[Entry],
     meter: MeterId,
     owner: Owner,
@@ -172,7 +173,7 @@ fn is_of<T: Terms>(
     band: BandId,
     second: u32,
 ) -> bool
-    ensures { result ≡ at_instants (asked_seconds (held_at entries.now) (asked_of (T.office terms.now) owner period band.0) meter.0) second }
+    ensures { result ≡ at_instants (asked_seconds (held_at entries.now) (asked_of (office_of terms.now) owner period band.0) meter.0) second }
 {
     let Some(instant) = Instant::of(second) else {
         return false;
@@ -183,13 +184,13 @@ fn is_of<T: Terms>(
 
 // Whether an instant is one of a band, within a period where one is named.
 #[tactic(auto, unfolding(crate::specs::inner::Tariff::in_tariff))]
-fn is_in_tariff<T: Terms>(
-    terms: &T,
+fn is_in_tariff(
+    terms: &OfficeTerms<'_>,
     period: Option<PeriodId>,
     band: BandId,
     instant: Instant,
 ) -> bool
-    ensures { result ≡ in_tariff (T.office terms.now) period band.0 instant }
+    ensures { result ≡ in_tariff (office_of terms.now) period band.0 instant }
 {
     match period {
         None => terms.band(instant).0 == band.0,

@@ -1,16 +1,17 @@
 //! Whether records are of an office.
 
 ghost use Rattle.std.specs.Prelude.{IsTrue, ◌↔◌};
+ghost use Rattle.pw_tariff.specs.Office.{office_of};
 ghost use Rattle.pw_model.specs.Office.{AllOfOffice, HasOwner, IsNamedOf, IsOfOffice};
 
-use super::terms::Terms;
+use super::terms::OfficeTerms;
 use crate::limits::MOST_CENTS;
 use crate::records::{Content, Entry, Key, Named};
 use pw_tariff::Owner;
 
 /// Whether a record has a content of its key's kind, and all that it names is the office's.
-pub fn is_entry_of_office<T: Terms>(terms: &T, entry: &Entry) -> bool
-    ensures { IsTrue result ↔ IsOfOffice (T.office terms.now) entry.now }
+pub fn is_entry_of_office(terms: &OfficeTerms<'_>, entry: &Entry) -> bool
+    ensures { IsTrue result ↔ IsOfOffice (office_of terms.now) entry.now }
 {
     if let Key::Withdrawal { named } = &entry.key {
         return matches!(entry.content, Content::Withdrawal) && is_named_of_office(terms, named);
@@ -22,8 +23,8 @@ pub fn is_entry_of_office<T: Terms>(terms: &T, entry: &Entry) -> bool
 }
 
 // Whether all that a reading, an assignment or a top-up names is the office's.
-fn is_named_of_office<T: Terms>(terms: &T, named: &Named) -> bool
-    ensures { IsTrue result ↔ IsNamedOf (T.office terms.now) named.now }
+fn is_named_of_office(terms: &OfficeTerms<'_>, named: &Named) -> bool
+    ensures { IsTrue result ↔ IsNamedOf (office_of terms.now) named.now }
 {
     match named {
         Named::Reading {
@@ -58,8 +59,8 @@ fn is_named_of_office<T: Terms>(terms: &T, named: &Named) -> bool
 }
 
 /// Whether all records are.
-pub fn are_of_office<T: Terms>(terms: &T, entries: &[Entry]) -> bool
-    ensures { IsTrue result ↔ AllOfOffice (T.office terms.now) entries.now }
+pub fn are_of_office(terms: &OfficeTerms<'_>, entries: &[Entry]) -> bool
+    ensures { IsTrue result ↔ AllOfOffice (office_of terms.now) entries.now }
 {
     for entry in entries {
         if !is_entry_of_office(terms, entry) {
@@ -69,8 +70,8 @@ pub fn are_of_office<T: Terms>(terms: &T, entries: &[Entry]) -> bool
     true
 }
 
-fn has_owner<T: Terms>(terms: &T, owner: Owner) -> bool
-    ensures { IsTrue result ↔ HasOwner (T.office terms.now) owner }
+fn has_owner(terms: &OfficeTerms<'_>, owner: Owner) -> bool
+    ensures { IsTrue result ↔ HasOwner (office_of terms.now) owner }
 {
     match owner {
         None => true,

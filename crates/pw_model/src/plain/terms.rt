@@ -1,51 +1,13 @@
 //! What is fixed before any record comes.
 
 ghost use Rattle.std.specs.Prelude.{◌≡◌};
-ghost use Rattle.pw_tariff.specs.Office.{OfficeRules, office_of, price_at};
+ghost use Rattle.pw_tariff.specs.Office.{office_of, price_at};
 ghost use Rattle.pw_model.specs.Office.{IsOffice};
 
 use pw_obis::Register;
 use pw_tariff::{BandId, Direction, MeterId, Office, PeriodId};
 use pw_time::{Instant, Zone};
 use std::marker::Model;
-
-/// An office: its meters and the registers that count for them, its bands, periods and prices.
-pub trait Terms {
-    // the office in the words of the definitions
-    ghost office: { Self → OfficeRules };
-
-    /// How many accounts there are.
-    fn accounts(&self) -> u16
-        ensures { result ≡ (office self.now).accounts };
-
-    /// How many meters there are.
-    fn meters(&self) -> u16
-        ensures { result ≡ (office self.now).meters };
-
-    /// How many bands there are.
-    fn bands(&self) -> u8
-        ensures { result ≡ (office self.now).bands };
-
-    /// How many periods there are.
-    fn periods(&self) -> u8
-        ensures { result ≡ (office self.now).periods };
-
-    /// Whether a meter's register counts.
-    fn counts(&self, meter: MeterId, register: Register) -> bool
-        ensures { result ≡ (office self.now).counts meter.0 register };
-
-    /// The band of an instant.
-    fn band(&self, instant: Instant) -> BandId
-        ensures { result.0 ≡ (office self.now).band instant };
-
-    /// The period of an instant.
-    fn period(&self, instant: Instant) -> PeriodId
-        ensures { result.0 ≡ (office self.now).period instant };
-
-    /// The price of a band in a period, in nano-euro per Wh.
-    fn price(&self, period: PeriodId, band: BandId, direction: Direction) -> u32
-        ensures { result ≡ (office self.now).price period.0 band.0 direction };
-}
 
 /// The terms of an office as its file tells them, with the bands that local clocks show in the week of each period.
 ///
@@ -73,40 +35,60 @@ impl<'a> OfficeTerms<'a> {
         let _accounts = office.accounts();
         OfficeTerms { office, zone }
     }
-}
 
-impl<'a> Terms for OfficeTerms<'a> {
-    ghost office = { λ file. office_of file };
-
-    fn accounts(&self) -> u16 {
+    /// How many accounts there are.
+    pub fn accounts(&self) -> u16
+        ensures { result ≡ (office_of self.now).accounts }
+    {
         self.office.accounts()
     }
 
-    fn meters(&self) -> u16 {
+    /// How many meters there are.
+    pub fn meters(&self) -> u16
+        ensures { result ≡ (office_of self.now).meters }
+    {
         self.office.meters()
     }
 
-    fn bands(&self) -> u8 {
+    /// How many bands there are.
+    pub fn bands(&self) -> u8
+        ensures { result ≡ (office_of self.now).bands }
+    {
         self.office.bands()
     }
 
-    fn periods(&self) -> u8 {
+    /// How many periods there are.
+    pub fn periods(&self) -> u8
+        ensures { result ≡ (office_of self.now).periods }
+    {
         self.office.periods()
     }
 
-    fn counts(&self, meter: MeterId, register: Register) -> bool {
+    /// Whether a meter's register counts.
+    pub fn counts(&self, meter: MeterId, register: Register) -> bool
+        ensures { result ≡ (office_of self.now).counts meter.0 register }
+    {
         meter.0 < self.office.meters() && self.office.counts(meter, register)
     }
 
-    fn band(&self, instant: Instant) -> BandId {
+    /// The band of an instant.
+    pub fn band(&self, instant: Instant) -> BandId
+        ensures { result.0 ≡ (office_of self.now).band instant }
+    {
         self.office.band(instant, self.zone)
     }
 
-    fn period(&self, instant: Instant) -> PeriodId {
+    /// The period of an instant.
+    pub fn period(&self, instant: Instant) -> PeriodId
+        ensures { result.0 ≡ (office_of self.now).period instant }
+    {
         self.office.period(instant)
     }
 
-    fn price(&self, period: PeriodId, band: BandId, direction: Direction) -> u32 {
+    /// The price of a band in a period, in nano-euro per Wh.
+    pub fn price(&self, period: PeriodId, band: BandId, direction: Direction) -> u32
+        ensures { result ≡ (office_of self.now).price period.0 band.0 direction }
+    {
         price_held(self.office, period, band, direction)
     }
 }

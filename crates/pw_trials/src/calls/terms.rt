@@ -3,7 +3,7 @@
 use crate::calls::asked::Asked;
 use crate::calls::names::{band_name, direction, meter_name, owner_name};
 use crate::calls::words::{instant, register};
-use pw_model::plain::{OfficeTerms, Terms};
+use pw_model::plain::OfficeTerms;
 use pw_tariff::{BandId, MeterId, Office, PeriodId};
 use pw_time::WeekHour;
 use std::io::Write;

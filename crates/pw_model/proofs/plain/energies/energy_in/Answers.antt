@@ -3,4 +3,4 @@ use Rattle.pw_model.proofs.plain.energies.energy_in.Goals as goal
 
 pub returns : goal.returns
 unfolding in_tariff
-returns g c = c.energy_asked.ensures
+returns c = c.energy_asked.ensures

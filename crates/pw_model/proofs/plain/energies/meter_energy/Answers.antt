@@ -2,4 +2,4 @@ use Rattle.std.proofs.Common.{rules}
 use Rattle.pw_model.proofs.plain.energies.meter_energy.Goals as goal
 
 pub returns : goal.returns
-returns g c = search rules depth 0 fits 100
+returns c = search rules depth 0 fits 100

@@ -1,5 +1,5 @@
 use Rattle.std.proofs.Common.{rules}
-use Rattle.pw_model.proofs.plain.terms.OfficeTermsTerms.band.Goals as goal
+use Rattle.pw_model.proofs.plain.terms.OfficeTerms.meters.Goals as goal
 
 pub returns : goal.returns
 returns c = search rules depth 0 fits 100
