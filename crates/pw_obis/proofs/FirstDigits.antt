@@ -1,7 +1,8 @@
 -- The digits that a text begins with.
-use Rattle.std.proofs.Common.{zero, suc, ◌≡◌, ℕ, ◌+◌, ◌<◌, List, [], ◌∷◌, ◌++◌, length, take, refl, arith, get_or, add-one}
+use Rattle.std.proofs.Common.{zero, suc, ◌≡◌, ℕ, ◌+◌, ◌<◌, ◌≤◌, List, [], ◌∷◌, ◌++◌, length, take, refl, arith, get_or, add-one}
 use Rattle.std.specs.Char.{digit_value}
-use Rattle.std.specs.Str.Parse.{AllDigits}
+use Rattle.std.specs.Str.Parse.{digits_value, AllDigits}
+use Rattle.std.proofs.lemmas.List.{length-take}
 use Rattle.pw_obis.specs.inner.Groups.{StartsWithDigit}
 
 digits_suc : (xs : List ℕ) (i : ℕ) → i < length xs → AllDigits 10 (take i xs) → digit_value (get_or xs i 0) < 10 → AllDigits 10 (take (suc i) xs)
@@ -22,3 +23,14 @@ one_run (c ∷ ds) (d ∷ es) r s f g m n e =
     let w : (ds ≡ es) × (r ≡ s) = one_run ds es r s f.1 g.1 m n tails in
     let heads : c ≡ d = cc in
     (cc (heads, w.0), w.1)
+
+small : (ds : List ℕ) → length ds ≤ 3 → AllDigits 10 ds → digits_value 10 ds < 1000
+small [] l d = omega arith
+small (a ∷ []) l d = omega (arith, d.0)
+small (a ∷ b ∷ []) l d = omega (arith, d.0, d.1.0)
+small (a ∷ b ∷ c ∷ []) l d = omega (arith, d.0, d.1.0, d.1.1.0)
+small (a ∷ b ∷ c ∷ e ∷ ds) l d = absurd (omega (arith, l))
+
+-- up to three digits stay below 1,000
+pub below_thousand : (xs : List ℕ) (i : ℕ) → i ≤ 3 → AllDigits 10 (take i xs) → digits_value 10 (take i xs) < 1000
+below_thousand xs i l d = small (take i xs) (omega (arith, l, length-take i xs)) d

@@ -1,12 +1,12 @@
 -- The parts of an address are read in one way.
-use Rattle.std.proofs.Common.{◌≡◌, ℕ, ◌<◌, inl, inr, List, [], ◌∷◌, ◌++◌, take, drop, Option, Some, None, refl, sym, ap, ◌∙◌, subst, arith, get_or, append_assoc}
-use Rattle.std.specs.Prelude.{slice_index}
+use Rattle.std.proofs.Common.{false, zero, suc, ◌≡◌, ℕ, ◌+◌, ◌-◌, ◌*◌, ◌<◌, ◌≤◌, inl, inr, length, List, [], ◌∷◌, ◌++◌, take, drop, Option, Some, None, refl, sym, ap, ◌∙◌, subst, arith, get_or, append-nil, append_assoc}
+use Rattle.std.specs.Prelude.{◌==◌}
 use Rattle.std.specs.Char.{digit_value}
-use Rattle.std.specs.Str.Parse.{AllDigits, digits_value}
-use Rattle.std.proofs.lemmas.List.{take-append-drop, get_or-drop}
+use Rattle.std.specs.Str.Parse.{AllDigits, digits_value, digits_value_after}
+use Rattle.std.proofs.lemmas.List.{take_rest}
 use Rattle.pw_obis.specs.Address.{Group, Before, Behind, Storage, AddressEnding}
 use Rattle.pw_obis.specs.inner.Groups.{StartsWithDigit, FirstGroup, GroupWith, ReadsBefore, ReadsBehind}
-use Rattle.pw_obis.proofs.Decimals.{digit_in}
+use Rattle.pw_obis.proofs.Decimals.{digit_in, after-ge}
 use Rattle.pw_obis.proofs.FirstDigits.{one_run}
 
 one_value : (ds : List ℕ) (v w : ℕ) → Group ds v → Group ds w → v ≡ w
@@ -17,12 +17,33 @@ one_group text v w r s g h =
     let e : (g.digits ≡ h.digits) × (r ≡ s) = one_run g.digits h.digits r s g.group.digits h.group.digits g.stops h.stops (sym g.spelled ∙ h.spelled) in
     (g.group.is ∙ ap (λ (t : List ℕ). digits_value 10 t) e.0 ∙ sym h.group.is, e.1)
 
-pub no_first_group : (text : List ℕ) (end : ℕ) → AllDigits 10 (take end text) → (digit_value (slice_index text end) < 10 → ⊥)
-    → ((v : ℕ) → Group (take end text) v → ⊥) → (v : ℕ) (rest : List ℕ) → FirstGroup text v rest → ⊥
-no_first_group text end d n f v rest g =
-    let stop : StartsWithDigit (drop end text) → ⊥ = λ h. n (subst (λ (c : ℕ). digit_value c < 10) (get_or-drop end text 0 0 ∙ ap (λ (k : ℕ). get_or text k 0) (omega arith)) h) in
-    let e : (g.digits ≡ take end text) × (rest ≡ drop end text) = one_run g.digits (take end text) rest (drop end text) g.group.digits d g.stops stop (sym g.spelled ∙ sym (take-append-drop end text)) in
-    f v (subst (λ (t : List ℕ). Group t v) e.0 g.group)
+-- digits that a first group begins with are no more than its own, and no larger
+digits_within : (n : ℕ) (ds rest : List ℕ) (end : ℕ) → (StartsWithDigit rest → ⊥) → end ≤ length (ds ++ rest) → AllDigits 10 (take end (ds ++ rest))
+    → (end ≤ length ds) × (digits_value_after 10 n (take end (ds ++ rest)) ≤ digits_value_after 10 n ds)
+digits_within n ds rest zero stops l d = (omega arith, after-ge n ds)
+digits_within n [] [] (suc end) stops l d = absurd (omega (arith, l))
+digits_within n [] (c ∷ cs) (suc end) stops l d = absurd (stops d.0)
+digits_within n (c ∷ ds) rest (suc end) stops l d =
+    let more = digits_within (n * 10 + digit_value c) ds rest end stops (omega (arith, l)) d.1 in
+    (omega (arith, more.0), more.1)
+
+pub begun_group : (text : List ℕ) (end value : ℕ) (rest : List ℕ) → end ≤ length text → AllDigits 10 (take end text) → FirstGroup text value rest
+    → (end ≤ 3) × (digits_value 10 (take end text) ≤ 255)
+begun_group text end value rest l d g =
+    let more = digits_within 0 g.digits rest end g.stops (subst (λ (t : List ℕ). end ≤ length t) g.spelled l) (subst (λ (t : List ℕ). AllDigits 10 (take end t)) g.spelled d) in
+    let same : digits_value 10 (take end text) ≡ digits_value 10 (take end (g.digits ++ rest)) = ap (λ (t : List ℕ). digits_value 10 (take end t)) g.spelled in
+    (omega (arith, more.0, g.group.few), omega (arith, same, more.1, g.group.is, g.group.small))
+
+first_digit : (ds rest : List ℕ) → 0 < length ds → AllDigits 10 ds → (0 < length (ds ++ rest)) × StartsWithDigit (ds ++ rest)
+first_digit [] rest l d = absurd (omega (arith, l))
+first_digit (c ∷ ds) rest l d = (omega arith, d.0)
+
+-- a group begins with a digit
+pub some_digit : (text : List ℕ) (start value : ℕ) (rest : List ℕ) → start ≡ 0 → FirstGroup text value rest
+    → (start < length text) × (digit_value (get_or text start 0) < 10)
+some_digit text start value rest e g =
+    subst (λ (k : ℕ). (k < length text) × (digit_value (get_or text k 0) < 10)) (sym e)
+    (subst (λ (t : List ℕ). (0 < length t) × StartsWithDigit t) (sym g.spelled) (first_digit g.digits rest g.group.some g.group.digits))
 
 -- a group and its mark are a first group
 pub group_first : (mark : ℕ) (text : List ℕ) → (digit_value mark < 10 → ⊥) → (g : GroupWith mark text) → FirstGroup text g.value (mark ∷ g.rest)
@@ -125,6 +146,23 @@ marked text f (inr x) = record { mark = 38; digits = x.0; group = x.1; spelled =
 empty : (text : List ℕ) → Storage text None → text ≡ []
 empty text (inl x) = x
 empty text (inr x) = x
+
+pub some_length : (n : ℕ) → (n == 0) ≡ false → 0 < n
+some_length zero e = absurd cc
+some_length (suc n) e = omega arith
+
+-- behind the mark of the group F stands a first group, and nothing behind that
+marked_group : (text : List ℕ) (f : ℕ) → Marked text f → FirstGroup (drop 1 text) f []
+marked_group text f x = record {
+  digits = x.digits;
+  group = x.group;
+  spelled = ap (λ (t : List ℕ). drop 1 t) x.spelled ∙ sym (append-nil x.digits);
+  stops = λ h. absurd (omega (arith, (digit_in 0 h).0));
+}
+
+pub stored_group : (text : List ℕ) (f : Option ℕ) → 0 < length text → Storage text f → (value : ℕ) × FirstGroup (take (length text - 1) (drop 1 text)) value []
+stored_group text None l x = (let e : length text ≡ 0 = ap length (empty text x) in absurd (omega (arith, l, e)))
+stored_group text (Some f) l x = (f, subst (λ (t : List ℕ). FirstGroup t f []) (sym (take_rest text 1)) (marked_group text f (marked text f x)))
 
 not_both : (text : List ℕ) (f : ℕ) → text ≡ [] → Marked text f → ⊥
 not_both text f e x = (let h : [] ≡ x.mark ∷ x.digits = sym e ∙ x.spelled in cc)

@@ -1,51 +1,34 @@
 //! The code that an address states.
 
-ghost use Rattle.std.specs.Prelude.{◌≡◌, ℕ, ◌∷◌, ◌<◌, ◌≤◌, List, Option, Some, None, length, take, drop, slice_index, IfSome, IfNone, MatchOption};
+ghost use Rattle.std.specs.Prelude.{ℕ, ◌<◌, List, Option, IfSome, IfNone};
 ghost use Rattle.std.specs.Char.{digit_value};
-ghost use Rattle.std.specs.Str.Parse.{AllDigits};
-ghost use Rattle.pw_obis.specs.Address.{Group, Storage, AddressEnding, IsCodeOf};
+ghost use Rattle.pw_obis.specs.Address.{Storage, AddressEnding, IsCodeOf};
 ghost use Rattle.pw_obis.specs.inner.Groups.{FirstGroup, ReadsBefore, ReadsBehind, Unreadable};
 
 use crate::reference::Code;
-use crate::texts::{behind_mark, is_numeral, with_digits};
+use crate::texts::behind_mark;
 
-// The value of a text that is one group: one to three digits, at most 255.
-fn group_value(text: &[u8]) -> Option<u8>
-    ensures some { IfSome result (λ value. Group text.now value) }
-    ensures none { IfNone result ((value : ℕ) → Group text.now value → ⊥) }
-{
-    if text.len() > 3 || !is_numeral(text) {
-        return None;
-    }
-    match with_digits(0, text, 255) {
-        Some(value) => Some(value as u8),
-        None => None,
-    }
-}
-
-// How many digits a text begins with.
-fn digits_end(text: &[u8]) -> usize
-    ensures within { result ≤ length text.now }
-    ensures digits { AllDigits 10 (take result text.now) }
-    ensures stops { digit_value (slice_index text.now result) < 10 → ⊥ }
-{
-    let mut end = 0;
-    while end < text.len() && text[end].is_ascii_digit() {
-        end += 1;
-    }
-    end
-}
-
-// The group that a text begins with, and what stands behind it.
+// The group that a text begins with, and what stands behind it: one to three digits, of a value at most 255.
 fn first_group(text: &[u8]) -> Option<(u8, &[u8])>
     ensures some { IfSome result (λ read. FirstGroup text.now read.0 read.1.now) }
     ensures none { IfNone result ((value : ℕ) (rest : List ℕ) → FirstGroup text.now value rest → ⊥) }
 {
-    let end = digits_end(text);
-    match group_value(&text[..end]) {
-        Some(value) => Some((value, &text[end..])),
-        None => None,
+    let mut value: u32 = 0;
+    let mut end = 0;
+    while end < text.len() && text[end].is_ascii_digit() {
+        if end == 3 {
+            return None;
+        }
+        value = value * 10 + (text[end] - b'0') as u32;
+        end += 1;
     }
+    if end == 0 {
+        return None;
+    }
+    if value > 255 {
+        return None;
+    }
+    Some((value as u8, &text[end..]))
 }
 
 // A group with its mark behind it, where the text begins so, and what stands behind.
@@ -88,9 +71,11 @@ fn storage(text: &[u8]) -> Option<Option<u8>>
     if text[0] != b'*' && text[0] != b'&' {
         return None;
     }
-    match group_value(&text[1..]) {
-        Some(value) => Some(Some(value)),
-        None => None,
+    let (value, rest) = first_group(&text[1..])?;
+    if rest.is_empty() {
+        Some(Some(value))
+    } else {
+        None
     }
 }
 
