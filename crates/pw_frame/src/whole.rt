@@ -95,14 +95,8 @@ pub fn first_frame<'a>(rest: &'a [u8], place: usize) -> Result<(Frame<'a>, usize
 {
     let (kind, end) = head(rest, place)?;
     let start = start_of_block(kind, end);
-    let stop = match block_end(rest, start, place) {
-        Ok(stop) => stop,
-        Err(fault) => return Err(fault),
-    };
-    let size = match frame_size(kind, rest, place, end, stop) {
-        Ok(size) => size,
-        Err(fault) => return Err(fault),
-    };
+    let stop = block_end(rest, start, place)?;
+    let size = frame_size(kind, rest, place, end, stop)?;
     let frame = Frame {
         kind,
         header: &rest[1..end],
