@@ -6,6 +6,7 @@ pub mod Gathered
 pub mod OneCut
 pub mod Listed
 pub mod Order
+pub mod Passed
 pub mod EachTable
 pub mod Parts
 pub mod Behind

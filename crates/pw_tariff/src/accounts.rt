@@ -20,16 +20,9 @@ pub(crate) fn read_accounts(alloc: Global, table: &Table) -> Result<Vec<String>,
         (λ v. Passes (accounts_checks (table_view table.now)) × (map string_bytes v.items ≡ accounts_of (table_view table.now)))
         (λ e. IsRefusal (accounts_checks (table_view table.now)) e) }
 {
-    let names = match texts_at(alloc, table, "accounts") {
-        Ok(names) => names,
-        Err(fault) => return Err(fault),
-    };
-    if let Err(fault) = check_length(names.len(), MOST_ACCOUNTS) {
-        return Err(fault);
-    }
-    if let Err(fault) = check_accounts(&names) {
-        return Err(fault);
-    }
+    let names = texts_at(alloc, table, "accounts")?;
+    check_length(names.len(), MOST_ACCOUNTS)?;
+    check_accounts(&names)?;
     Ok(names)
 }
 
@@ -39,9 +32,7 @@ fn check_accounts(names: &[String]) -> Result<(), OfficeFault>
         (λ e. IsRefusal (accounts_in_turn (map string_bytes names.now)) e) }
 {
     for (i, name) in names.iter().enumerate() {
-        if let Err(fault) = check_account(name.as_bytes(), &names[..i]) {
-            return Err(fault);
-        }
+        check_account(name.as_bytes(), &names[..i])?;
     }
     Ok(())
 }

@@ -32,9 +32,7 @@ pub(crate) fn read_bands(alloc: Global, table: &Table) -> Result<Vec<Band>, Offi
     if !are_tables(array) {
         return Err(OfficeFault::MissingField);
     }
-    if let Err(fault) = check_length(array.len(), MOST_BANDS) {
-        return Err(fault);
-    }
+    check_length(array.len(), MOST_BANDS)?;
     read_each(alloc, array)
 }
 
@@ -50,13 +48,8 @@ fn read_each(alloc: Global, array: &Array) -> Result<Vec<Band>, OfficeFault>
         let Some(table) = value.as_table() else {
             return Err(OfficeFault::MissingField);
         };
-        let band = match read_band(table, &bands) {
-            Ok(band) => band,
-            Err(fault) => return Err(fault),
-        };
-        if bands.push(band).is_err() {
-            return Err(OfficeFault::Memory);
-        }
+        let band = read_band(table, &bands)?;
+        bands.push(band)?;
     }
     Ok(bands)
 }

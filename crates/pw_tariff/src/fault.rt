@@ -1,5 +1,6 @@
 //! Why an office file is refused.
 
+use std::alloc::{AllocError, AllocFailed};
 use std::fmt;
 
 /// Why a text is no office file.
@@ -80,5 +81,27 @@ impl fmt::Display for OfficeFault {
         let number = self.number();
         let name = self.name();
         write!(f, "refused {number} {name}")
+    }
+}
+
+impl From<AllocError> for OfficeFault {
+    ghost use Rattle.std.specs.Prelude.{◌≡◌};
+    ghost use Rattle.pw_tariff.specs.declared.fault.OfficeFault.TheVariants.{Memory};
+
+    ghost from_gives = { λ _ fault. fault ≡ Memory };
+
+    fn from(_: AllocError) -> OfficeFault {
+        OfficeFault::Memory
+    }
+}
+
+impl<T: Drop> From<AllocFailed<T>> for OfficeFault {
+    ghost use Rattle.std.specs.Prelude.{◌≡◌};
+    ghost use Rattle.pw_tariff.specs.declared.fault.OfficeFault.TheVariants.{Memory};
+
+    ghost from_gives = { λ _ fault. fault ≡ Memory };
+
+    fn from(_: AllocFailed<T>) -> OfficeFault {
+        OfficeFault::Memory
     }
 }

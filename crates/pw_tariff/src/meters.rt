@@ -35,9 +35,7 @@ pub(crate) fn read_meters(alloc: Global, table: &Table) -> Result<Vec<Meter>, Of
     if !are_tables(array) {
         return Err(OfficeFault::MissingField);
     }
-    if let Err(fault) = check_length(array.len(), MOST_METERS) {
-        return Err(fault);
-    }
+    check_length(array.len(), MOST_METERS)?;
     read_each(alloc, array)
 }
 
@@ -53,13 +51,8 @@ fn read_each(alloc: Global, array: &Array) -> Result<Vec<Meter>, OfficeFault>
         let Some(table) = value.as_table() else {
             return Err(OfficeFault::MissingField);
         };
-        let meter = match read_meter(alloc, table, &meters) {
-            Ok(meter) => meter,
-            Err(fault) => return Err(fault),
-        };
-        if meters.push(meter).is_err() {
-            return Err(OfficeFault::Memory);
-        }
+        let meter = read_meter(alloc, table, &meters)?;
+        meters.push(meter)?;
     }
     Ok(meters)
 }
@@ -77,10 +70,7 @@ fn read_meter(alloc: Global, table: &Table, earlier: &[Meter]) -> Result<Meter, 
     let Some(clock) = text_at(table, "clock") else {
         return Err(OfficeFault::MissingField);
     };
-    let texts = match texts_at(alloc, table, "registers") {
-        Ok(texts) => texts,
-        Err(fault) => return Err(fault),
-    };
+    let texts = texts_at(alloc, table, "registers")?;
     if !is_name(LONGEST_METER_ID, id.as_bytes()) {
         return Err(OfficeFault::BadName);
     }
@@ -90,13 +80,8 @@ fn read_meter(alloc: Global, table: &Table, earlier: &[Meter]) -> Result<Meter, 
     let Some(clock) = clock_named(clock.as_bytes()) else {
         return Err(OfficeFault::BadName);
     };
-    let registers = match read_registers(alloc, &texts) {
-        Ok(registers) => registers,
-        Err(fault) => return Err(fault),
-    };
-    let Ok(id) = String::from_str(alloc, id) else {
-        return Err(OfficeFault::Memory);
-    };
+    let registers = read_registers(alloc, &texts)?;
+    let id = String::from_str(alloc, id)?;
     Ok(Meter {
         id,
         clock,
@@ -141,10 +126,7 @@ fn read_registers(alloc: Global, texts: &[String]) -> Result<Vec<Register>, Offi
     if texts.is_empty() {
         return Err(OfficeFault::Empty);
     }
-    let registers = match named_registers(alloc, texts) {
-        Ok(registers) => registers,
-        Err(fault) => return Err(fault),
-    };
+    let registers = named_registers(alloc, texts)?;
     if overlap(&registers) {
         return Err(OfficeFault::RegistersOverlap);
     }
@@ -159,13 +141,8 @@ fn named_registers(alloc: Global, texts: &[String]) -> Result<Vec<Register>, Off
 {
     let mut registers = Vec::new(alloc);
     for (i, text) in texts.iter().enumerate() {
-        let register = match read_register(text.as_bytes(), &texts[..i]) {
-            Ok(register) => register,
-            Err(fault) => return Err(fault),
-        };
-        if registers.push(register).is_err() {
-            return Err(OfficeFault::Memory);
-        }
+        let register = read_register(text.as_bytes(), &texts[..i])?;
+        registers.push(register)?;
     }
     Ok(registers)
 }

@@ -61,14 +61,9 @@ fn read_each(alloc: Global, array: &Array, bands: &[Band]) -> Result<Vec<Period>
         let Some(table) = value.as_table() else {
             return Err(OfficeFault::MissingField);
         };
-        let period = match read_period(alloc, table, bands, before) {
-            Ok(period) => period,
-            Err(fault) => return Err(fault),
-        };
+        let period = read_period(alloc, table, bands, before)?;
         before = period.start.seconds();
-        if periods.push(period).is_err() {
-            return Err(OfficeFault::Memory);
-        }
+        periods.push(period)?;
     }
     Ok(periods)
 }
@@ -87,32 +82,17 @@ fn read_period(
     let Some(start) = text_at(table, "start") else {
         return Err(OfficeFault::MissingField);
     };
-    let week = match texts_at(alloc, table, "week") {
-        Ok(week) => week,
-        Err(fault) => return Err(fault),
-    };
-    let import = match integers_at(alloc, table, "import") {
-        Ok(import) => import,
-        Err(fault) => return Err(fault),
-    };
-    let export = match integers_at(alloc, table, "export") {
-        Ok(export) => export,
-        Err(fault) => return Err(fault),
-    };
+    let week = texts_at(alloc, table, "week")?;
+    let import = integers_at(alloc, table, "import")?;
+    let export = integers_at(alloc, table, "export")?;
     let Some(start) = later_hour(start.as_bytes(), before) else {
         return Err(OfficeFault::Period);
     };
     if !is_week(bands, &week) {
         return Err(OfficeFault::Week);
     }
-    let import_prices = match read_prices(alloc, bands, &import) {
-        Ok(prices) => prices,
-        Err(fault) => return Err(fault),
-    };
-    let export_prices = match read_prices(alloc, bands, &export) {
-        Ok(prices) => prices,
-        Err(fault) => return Err(fault),
-    };
+    let import_prices = read_prices(alloc, bands, &import)?;
+    let export_prices = read_prices(alloc, bands, &export)?;
     Ok(Period {
         start,
         week,
@@ -150,9 +130,7 @@ fn read_prices(alloc: Global, bands: &[Band], values: &[i64]) -> Result<Vec<u32>
         let Some(price) = price(*value) else {
             return Err(OfficeFault::Price);
         };
-        if prices.push(price).is_err() {
-            return Err(OfficeFault::Memory);
-        }
+        prices.push(price)?;
     }
     Ok(prices)
 }

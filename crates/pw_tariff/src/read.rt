@@ -23,10 +23,7 @@ impl Office {
     pub fn read(alloc: Global, text: &[u8]) -> Result<Office, OfficeFault>
         ensures { MatchResult result (λ office. IsOfficeOf text.now office) (λ e. IsRefused text.now e) }
     {
-        let table = match table_of(alloc, text) {
-            Ok(table) => table,
-            Err(fault) => return Err(fault),
-        };
+        let table = table_of(alloc, text)?;
         office_of(alloc, &table)
     }
 }
@@ -52,29 +49,12 @@ fn office_of(alloc: Global, table: &Table) -> Result<Office, OfficeFault>
         (λ office. Passes (office_checks (table_view table.now)) × (office ≡ file_of_table (table_view table.now)))
         (λ e. IsRefusal (office_checks (table_view table.now)) e) }
 {
-    let accounts = match read_accounts(alloc, table) {
-        Ok(accounts) => accounts,
-        Err(fault) => return Err(fault),
-    };
-    let bands = match read_bands(alloc, table) {
-        Ok(bands) => bands,
-        Err(fault) => return Err(fault),
-    };
-    let meters = match read_meters(alloc, table) {
-        Ok(meters) => meters,
-        Err(fault) => return Err(fault),
-    };
-    let Ok(by_id) = by_id(alloc, &meters) else {
-        return Err(OfficeFault::Memory);
-    };
-    let week = match read_week(alloc, table, &bands) {
-        Ok(week) => week,
-        Err(fault) => return Err(fault),
-    };
-    let later = match read_periods(alloc, table, &bands) {
-        Ok(later) => later,
-        Err(fault) => return Err(fault),
-    };
+    let accounts = read_accounts(alloc, table)?;
+    let bands = read_bands(alloc, table)?;
+    let meters = read_meters(alloc, table)?;
+    let by_id = by_id(alloc, &meters)?;
+    let week = read_week(alloc, table, &bands)?;
+    let later = read_periods(alloc, table, &bands)?;
     Ok(Office {
         accounts,
         bands,

@@ -61,12 +61,8 @@ fn texts(alloc: Global, array: &Array) -> Result<Vec<String>, OfficeFault>
         let Some(text) = value.as_str() else {
             return Err(OfficeFault::MissingField);
         };
-        let Ok(text) = String::from_str(alloc, text) else {
-            return Err(OfficeFault::Memory);
-        };
-        if texts.push(text).is_err() {
-            return Err(OfficeFault::Memory);
-        }
+        let text = String::from_str(alloc, text)?;
+        texts.push(text)?;
     }
     Ok(texts)
 }
@@ -90,9 +86,7 @@ fn integers(alloc: Global, array: &Array) -> Result<Vec<i64>, OfficeFault>
         let Some(integer) = value.as_integer() else {
             return Err(OfficeFault::MissingField);
         };
-        if integers.push(integer).is_err() {
-            return Err(OfficeFault::Memory);
-        }
+        integers.push(integer)?;
     }
     Ok(integers)
 }

@@ -26,10 +26,7 @@ pub(crate) fn read_week(
         (λ v. Passes (week_checks (table_view table.now)) × (map string_bytes v.items ≡ week_of (table_view table.now)))
         (λ e. IsRefusal (week_checks (table_view table.now)) e) }
 {
-    let week = match texts_at(alloc, table, "week") {
-        Ok(week) => week,
-        Err(fault) => return Err(fault),
-    };
+    let week = texts_at(alloc, table, "week")?;
     if !is_week(bands, &week) {
         return Err(OfficeFault::Week);
     }
