@@ -23,8 +23,9 @@ mod store;
 mod telling;
 mod trail;
 mod verifying;
+mod weighing;
 
-pub use adopting::{Weighed, adopt_book, weigh};
+pub use adopting::adopt_book;
 pub use commands::{entries_of, run, run_watched};
 pub use fault::Fault;
 pub use files::{LONGEST_OFFICE, read_file};
@@ -35,3 +36,4 @@ pub use server::{Term, serve_book};
 pub use serving::{serve, serve_on};
 pub use store::{FileBook, close_book, connection_in, open_book, open_from};
 pub use telling::{finish, tell, write_whole};
+pub use weighing::{Weighed, weigh};

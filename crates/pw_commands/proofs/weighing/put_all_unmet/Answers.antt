@@ -3,8 +3,8 @@ use Rattle.std.proofs.lemmas.Bool.{cases_Bool, true≢false}
 use Rattle.std.proofs.lemmas.List.{take_all}
 use Rattle.std.proofs.lemmas.List.Elements.{All-get_or, All-more}
 use Rattle.pw_moving.specs.Adopting.{IsMet}
-use Rattle.pw_commands.proofs.adopting.put_all_unmet.Goals as goal
-use Rattle.pw_commands.proofs.adopting.put_all_unmet.Goals.{then-not-is_met+in_ok-put_unmet, else-not-is_met}
+use Rattle.pw_commands.proofs.weighing.put_all_unmet.Goals as goal
+use Rattle.pw_commands.proofs.weighing.put_all_unmet.Goals.{then-not-is_met+in_ok-put_unmet, else-not-is_met}
 
 pub loop-word-preserved : goal.loop-word-preserved
 loop-word-preserved c =

@@ -1,6 +1,6 @@
 use Rattle.std.proofs.Common.{◌↔◌, IsTrue, subst}
 use Rattle.pw_moving.specs.Adopting.{IsAdopted}
-use Rattle.pw_commands.proofs.adopting.weigh.Goals as goal
+use Rattle.pw_commands.proofs.weighing.weigh.Goals as goal
 
 pub returns-in-Ok-clause-weighed : goal.returns-in-Ok-clause-weighed
 returns-in-Ok-clause-weighed g c = λ clean. (

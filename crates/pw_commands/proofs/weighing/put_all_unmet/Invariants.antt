@@ -1,6 +1,6 @@
 use Rattle.std.proofs.Common.{All, IsTrue, false, take, ◌≡◌}
 use Rattle.pw_moving.specs.Adopting.{IsMet}
-use Rattle.pw_commands.proofs.adopting.put_all_unmet.Given as goal
+use Rattle.pw_commands.proofs.weighing.put_all_unmet.Given as goal
 
 -- where all are met so far, each of the first words is; else not all words are
 abbrev pub invariant-loop-word : goal.invariant-loop-word
