@@ -163,8 +163,8 @@ fn takes<S: Shelf>(
 
 // What the first account imported in both bands.
 fn imported<S: Shelf>(rt: &impl Abort, book: &mut Book<S>) -> Result<(u64, u64), BookFault> {
-    let low = asking::energy(rt, book, Some(FIRST), BandId(0), Direction::Import)?;
-    let high = asking::energy(rt, book, Some(FIRST), BandId(1), Direction::Import)?;
+    let low = asking::energy(rt, book, (Some(FIRST), BandId(0), Direction::Import))?;
+    let high = asking::energy(rt, book, (Some(FIRST), BandId(1), Direction::Import))?;
     Ok((low, high))
 }
 

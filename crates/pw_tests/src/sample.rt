@@ -35,8 +35,11 @@ pub const METER: MeterId = MeterId(0);
 /// The one period that the sample offices have.
 pub const PERIOD: PeriodId = PeriodId(0);
 
+/// An energy of each office: whose it is, in which band and direction.
+pub type Kind = (Owner, BandId, Direction);
+
 /// The owners' energies in the bands, in the order in which they are listed.
-pub const KINDS: &[(Owner, BandId, Direction)] = &[
+pub const KINDS: &[Kind] = &[
     (None, LOW, Direction::Import),
     (None, LOW, Direction::Export),
     (None, HIGH, Direction::Import),

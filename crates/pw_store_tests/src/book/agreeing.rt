@@ -10,8 +10,8 @@ use pw_model::MOST_RECORDS;
 use pw_model::plain::{self, OfficeTerms};
 use pw_obis::Register;
 use pw_shelf::Shelf;
-use pw_tariff::{AccountId, BandId, Direction, MeterId, Office, Owner, PeriodId};
-use pw_tests::sample::{FIRST, KINDS, METER, SECOND, are_of_office};
+use pw_tariff::{AccountId, MeterId, Office, PeriodId};
+use pw_tests::sample::{FIRST, KINDS, Kind, METER, SECOND, are_of_office};
 use pw_time::Zone;
 use std::alloc::Global;
 use std::process::Abort;
@@ -56,7 +56,7 @@ fn meant_energy(
     zone: &Zone,
     entries: &[Entry],
     within: Option<PeriodId>,
-    (owner, band, direction): (Owner, BandId, Direction),
+    (owner, band, direction): Kind,
 ) -> u64 {
     assert!(rt; have_meaning(office, zone, entries));
     let terms = OfficeTerms::new(office, zone);
@@ -72,11 +72,11 @@ fn told_energy<S: Shelf>(
     rt: &impl Abort,
     book: &mut Book<S>,
     within: Option<PeriodId>,
-    (owner, band, direction): (Owner, BandId, Direction),
+    kind: Kind,
 ) -> Result<u64, BookFault> {
     match within {
-        Some(period) => asking::energy_in(rt, book, owner, period, band, direction),
-        None => asking::energy(rt, book, owner, band, direction),
+        Some(period) => asking::energy_in(rt, book, period, kind),
+        None => asking::energy(rt, book, kind),
     }
 }
 

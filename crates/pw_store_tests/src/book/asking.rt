@@ -4,17 +4,16 @@ use pw_book::{Book, BookFault, Entry};
 use pw_model::{Dispute, Fall, ReadingRow};
 use pw_obis::Register;
 use pw_shelf::Shelf;
-use pw_tariff::{AccountId, BandId, Direction, MeterId, Owner, PeriodId};
+use pw_tariff::{AccountId, MeterId, PeriodId};
+use pw_tests::sample::Kind;
 use std::alloc::Global;
 use std::process::Abort;
 
-pub fn energy<S: Shelf>(
-    rt: &impl Abort,
-    book: &mut Book<S>,
-    owner: Owner,
-    band: BandId,
-    direction: Direction,
-) -> Result<u64, BookFault> {
+/// What a book answers, or why it doesn't.
+pub type Answer<T> = Result<T, BookFault>;
+
+pub fn energy<S: Shelf>(rt: &impl Abort, book: &mut Book<S>, kind: Kind) -> Answer<u64> {
+    let (owner, band, direction) = kind;
     if let Some(account) = owner {
         assert!(rt; account.0 < book.office().accounts());
     }
@@ -25,11 +24,10 @@ pub fn energy<S: Shelf>(
 pub fn energy_in<S: Shelf>(
     rt: &impl Abort,
     book: &mut Book<S>,
-    owner: Owner,
     period: PeriodId,
-    band: BandId,
-    direction: Direction,
-) -> Result<u64, BookFault> {
+    kind: Kind,
+) -> Answer<u64> {
+    let (owner, band, direction) = kind;
     if let Some(account) = owner {
         assert!(rt; account.0 < book.office().accounts());
     }
@@ -38,20 +36,12 @@ pub fn energy_in<S: Shelf>(
     book.energy_in(owner, period, band, direction)
 }
 
-pub fn topped_up<S: Shelf>(
-    rt: &impl Abort,
-    book: &mut Book<S>,
-    account: AccountId,
-) -> Result<u64, BookFault> {
+pub fn topped_up<S: Shelf>(rt: &impl Abort, book: &mut Book<S>, account: AccountId) -> Answer<u64> {
     assert!(rt; account.0 < book.office().accounts());
     book.topped_up(account)
 }
 
-pub fn balance<S: Shelf>(
-    rt: &impl Abort,
-    book: &mut Book<S>,
-    account: AccountId,
-) -> Result<i128, BookFault> {
+pub fn balance<S: Shelf>(rt: &impl Abort, book: &mut Book<S>, account: AccountId) -> Answer<i128> {
     assert!(rt; account.0 < book.office().accounts());
     book.balance(account)
 }
@@ -62,23 +52,23 @@ pub fn readings<S: Shelf>(
     book: &mut Book<S>,
     meter: MeterId,
     register: Register,
-) -> Result<Vec<ReadingRow>, BookFault> {
+) -> Answer<Vec<ReadingRow>> {
     assert!(rt; meter.0 < book.office().meters());
     book.readings(alloc, meter, register)
 }
 
-pub fn falls<S: Shelf>(alloc: Global, book: &mut Book<S>) -> Result<Vec<Fall>, BookFault> {
+pub fn falls<S: Shelf>(alloc: Global, book: &mut Book<S>) -> Answer<Vec<Fall>> {
     book.falls(alloc)
 }
 
-pub fn disputes<S: Shelf>(alloc: Global, book: &mut Book<S>) -> Result<Vec<Dispute>, BookFault> {
+pub fn disputes<S: Shelf>(alloc: Global, book: &mut Book<S>) -> Answer<Vec<Dispute>> {
     book.disputes(alloc)
 }
 
-pub fn withdrawals<S: Shelf>(alloc: Global, book: &mut Book<S>) -> Result<Vec<Entry>, BookFault> {
+pub fn withdrawals<S: Shelf>(alloc: Global, book: &mut Book<S>) -> Answer<Vec<Entry>> {
     book.withdrawals(alloc)
 }
 
-pub fn count<S: Shelf>(book: &mut Book<S>) -> Result<u32, BookFault> {
+pub fn count<S: Shelf>(book: &mut Book<S>) -> Answer<u32> {
     book.count()
 }

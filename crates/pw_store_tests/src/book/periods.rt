@@ -39,8 +39,8 @@ fn imported_in<S: Shelf>(
     book: &mut Book<S>,
     period: PeriodId,
 ) -> Result<(u64, u64), BookFault> {
-    let low = asking::energy_in(rt, book, Some(FIRST), period, LOW, Direction::Import)?;
-    let high = asking::energy_in(rt, book, Some(FIRST), period, HIGH, Direction::Import)?;
+    let low = asking::energy_in(rt, book, period, (Some(FIRST), LOW, Direction::Import))?;
+    let high = asking::energy_in(rt, book, period, (Some(FIRST), HIGH, Direction::Import))?;
     Ok((low, high))
 }
 

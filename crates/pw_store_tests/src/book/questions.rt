@@ -72,10 +72,10 @@ fn fault_of<S: Shelf>(
     match question {
         Question::Imported => imported(rt, book).err(),
         Question::ImportedLow => {
-            asking::energy(rt, book, Some(FIRST), LOW, Direction::Import).err()
+            asking::energy(rt, book, (Some(FIRST), LOW, Direction::Import)).err()
         }
         Question::ImportedLowIn(period) => {
-            asking::energy_in(rt, book, Some(FIRST), period, LOW, Direction::Import).err()
+            asking::energy_in(rt, book, period, (Some(FIRST), LOW, Direction::Import)).err()
         }
         Question::ToppedUp => asking::topped_up(rt, book, FIRST).err(),
         Question::Balance => asking::balance(rt, book, FIRST).err(),

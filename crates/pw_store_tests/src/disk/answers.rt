@@ -5,8 +5,7 @@ use pw_book::{Book, BookFault};
 use pw_model::ReadingRow;
 use pw_obis::Register;
 use pw_shelf::Shelf;
-use pw_tariff::{BandId, Direction, Owner};
-use pw_tests::sample::{FIRST, KINDS, METER, PERIOD, SECOND};
+use pw_tests::sample::{FIRST, KINDS, Kind, METER, PERIOD, SECOND};
 use std::alloc::Global;
 use std::process::Abort;
 
@@ -60,14 +59,9 @@ fn are_rows(told: Result<Vec<ReadingRow>, BookFault>, wanted: &[Row]) -> bool {
 }
 
 // Whether this is an energy, and that of the one period.
-fn is_energy<S: Shelf>(
-    rt: &impl Abort,
-    book: &mut Book<S>,
-    (owner, band, direction): (Owner, BandId, Direction),
-    watt_hours: u64,
-) -> bool {
-    asking::energy(rt, book, owner, band, direction) == Ok(watt_hours)
-        && asking::energy_in(rt, book, owner, PERIOD, band, direction) == Ok(watt_hours)
+fn is_energy<S: Shelf>(rt: &impl Abort, book: &mut Book<S>, kind: Kind, watt_hours: u64) -> bool {
+    asking::energy(rt, book, kind) == Ok(watt_hours)
+        && asking::energy_in(rt, book, PERIOD, kind) == Ok(watt_hours)
 }
 
 // Whether these are the energies of `KINDS`.
