@@ -9,6 +9,7 @@ pub mod Telling
 pub mod Capitals
 pub mod Measuring
 pub mod FrameFacts
+pub mod Stopped
 pub mod OneName
 pub mod OneListed
 pub mod OneOrigin

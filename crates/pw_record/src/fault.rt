@@ -3,11 +3,15 @@
 ghost use Rattle.std.specs.Prelude.{◌≡◌, ◌<◌};
 ghost use Rattle.arrayvec.specs.ArrayString.{array_string_len};
 ghost use Rattle.pw_record.specs.Causes.{cause_told, fault_line};
+ghost use Rattle.pw_record.specs.declared.fault.Cause.TheVariants as cause;
+ghost use Rattle.pw_record.specs.declared.fault.Halt.TheVariants as halt;
+ghost use Rattle.pw_record.specs.inner.Halts.{fault_of_part};
 
 use pw_frame::{FrameFault, part_refused};
 use pw_line::{Line, ROOM};
 use pw_obis::{LineFault, ValueFault};
 use pw_time::StampFault;
+use std::alloc::AllocError;
 use std::fmt;
 
 /// What is wrong with a part of a body, or with the body itself.
@@ -61,6 +65,34 @@ pub enum Halt {
     /// Memory was refused, which says nothing of the part.
     Memory,
     Refused(Cause),
+}
+
+impl Halt {
+    /// The fault of an upload whose part with this number gives no entries.
+    pub fn of_part(self, part: u32) -> UploadFault
+        ensures { result ≡ fault_of_part self part }
+    {
+        match self {
+            Halt::Memory => MEMORY_FAULT,
+            Halt::Refused(cause) => UploadFault { part, cause },
+        }
+    }
+}
+
+impl From<Cause> for Halt {
+    ghost from_gives = { λ given told. told ≡ halt.Refused given };
+
+    fn from(cause: Cause) -> Halt {
+        Halt::Refused(cause)
+    }
+}
+
+impl From<AllocError> for Halt {
+    ghost from_gives = { λ _ told. told ≡ halt.Memory };
+
+    fn from(_: AllocError) -> Halt {
+        Halt::Memory
+    }
 }
 
 /// Want of memory, in whatever part.
@@ -121,6 +153,30 @@ impl Cause {
             Cause::RegisterName => (54, "RegisterName"),
             Cause::Memory => (62, "Memory"),
         }
+    }
+}
+
+impl From<StampFault> for Cause {
+    ghost from_gives = { λ fault told. told ≡ cause.Instant fault };
+
+    fn from(fault: StampFault) -> Cause {
+        Cause::Instant(fault)
+    }
+}
+
+impl From<LineFault> for Cause {
+    ghost from_gives = { λ fault told. told ≡ cause.Line fault };
+
+    fn from(fault: LineFault) -> Cause {
+        Cause::Line(fault)
+    }
+}
+
+impl From<ValueFault> for Cause {
+    ghost from_gives = { λ fault told. told ≡ cause.Value fault };
+
+    fn from(fault: ValueFault) -> Cause {
+        Cause::Value(fault)
     }
 }
 

@@ -9,7 +9,7 @@ ghost use Rattle.pw_record.specs.Shown.{readings_of};
 ghost use Rattle.pw_record.specs.inner.Shown.{shown_in};
 ghost use Rattle.pw_record.specs.inner.Steps.{IsSourceOf};
 
-use crate::fault::{Cause, Halt, MEMORY_FAULT, UploadFault};
+use crate::fault::{Cause, Halt, UploadFault};
 use crate::order::in_order;
 use crate::origin::{Origin, Source, block_origin};
 use crate::shown::{Shown, all_shown, is_nothing_shown, put_readings};
@@ -96,11 +96,7 @@ fn frame_records(
                 return Err(UploadFault { part, cause });
             }
         };
-        match put_frame(&mut given, office, zone, source, &frame) {
-            Ok(()) => {}
-            Err(Halt::Memory) => return Err(MEMORY_FAULT),
-            Err(Halt::Refused(cause)) => return Err(UploadFault { part, cause }),
-        }
+        put_frame(&mut given, office, zone, source, &frame).map_err(|halt| halt.of_part(part))?;
         part += 1;
     }
     Ok(in_order(given))
@@ -118,13 +114,8 @@ fn put_frame(
     ensures ok { OnOk result ((more : List Entry) × FrameGives office.now source (frame_text frame.now) more × (given.new.items ≡ given.old.items ++ more)) }
     ensures err { (cause : Cause) → result ≡ Err (Halt.Refused cause) → RefusesFrame office.now source (frame_text frame.now) cause }
 {
-    let (origin, shown) = match read_frame(office, zone, source, frame) {
-        Ok(read) => read,
-        Err(cause) => return Err(Halt::Refused(cause)),
-    };
-    if put_readings(given, &origin, &shown).is_err() {
-        return Err(Halt::Memory);
-    }
+    let (origin, shown) = read_frame(office, zone, source, frame)?;
+    put_readings(given, &origin, &shown)?;
     Ok(())
 }
 
@@ -142,10 +133,7 @@ pub fn read_frame(
     if frame.kind != source.kind() {
         return Err(Cause::WrongKind);
     }
-    let block = match Block::checked(frame.block) {
-        Ok(block) => block,
-        Err(fault) => return Err(Cause::Line(fault)),
-    };
+    let block = Block::checked(frame.block)?;
     let origin = block_origin(office, zone, source, &block)?;
     let shown = all_shown(office, origin.meter, &block)?;
     if is_nothing_shown(&shown) {

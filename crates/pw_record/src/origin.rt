@@ -118,10 +118,7 @@ fn telegram_instant(told: Told) -> Result<Instant, Cause>
         Told::Unlike => return Err(Cause::TwiceGiven),
         Told::One(text) => text,
     };
-    match stamp(text) {
-        Ok(instant) => Ok(instant),
-        Err(fault) => Err(Cause::Instant(fault)),
-    }
+    Ok(stamp(text)?)
 }
 
 // The instant that the dates and the times of a readout tell.
@@ -134,10 +131,7 @@ fn date_and_time(block: &Block, clock: Clock, zone: &Zone) -> Result<Instant, Ca
         Told::Nothing => Err(Cause::NoInstant),
         Told::One(date) => match time {
             Told::Nothing => Err(Cause::NoInstant),
-            Told::One(time) => match readout_instant(date, time, clock, zone) {
-                Ok(instant) => Ok(instant),
-                Err(fault) => Err(Cause::Instant(fault)),
-            },
+            Told::One(time) => Ok(readout_instant(date, time, clock, zone)?),
             Told::Unlike => Err(Cause::TwiceGiven),
         },
         Told::Unlike => match time {

@@ -87,10 +87,7 @@ pub fn row_entry(office: &Office, kind: RowKind, row: &ByteRecord) -> Result<Ent
         RowKind::TopUp => top_up(office, row, 0),
         RowKind::Withdrawal => return withdrawal(office, row),
     };
-    match named {
-        Ok(named) => Ok(named.entry()),
-        Err(cause) => Err(cause),
-    }
+    Ok(named?.entry())
 }
 
 // The withdrawal of the record that a row names.
@@ -101,13 +98,11 @@ fn withdrawal(office: &Office, row: &ByteRecord) -> Result<Entry, Cause>
     let Some(kind) = named_kind(row) else {
         return Err(Cause::Kind);
     };
-    match named_record(office, kind, row) {
-        Ok(named) => Ok(Entry {
-            key: Key::Withdrawal { named },
-            content: Content::Withdrawal,
-        }),
-        Err(cause) => Err(cause),
-    }
+    let named = named_record(office, kind, row)?;
+    Ok(Entry {
+        key: Key::Withdrawal { named },
+        content: Content::Withdrawal,
+    })
 }
 
 // The kind of the record that a row withdraws: its first field has the kind's name.
@@ -165,10 +160,7 @@ fn reading(office: &Office, row: &ByteRecord, first: usize) -> Result<Named, Cau
     let Some(register) = counting_register(office, meter, name) else {
         return Err(Cause::RegisterName);
     };
-    let instant = match utc(when) {
-        Ok(instant) => instant,
-        Err(fault) => return Err(Cause::Instant(fault)),
-    };
+    let instant = utc(when)?;
     let Some(wh) = watt_hours(amount) else {
         return Err(Cause::Value(ValueFault::Digits));
     };
@@ -217,10 +209,7 @@ fn assignment(office: &Office, row: &ByteRecord, first: usize) -> Result<Named, 
     let Some(meter) = office.meter(id) else {
         return Err(Cause::UnknownMeter);
     };
-    let start = match utc(start) {
-        Ok(start) => start,
-        Err(fault) => return Err(Cause::Instant(fault)),
-    };
+    let start = utc(start)?;
     let Some(owner) = owner(office, account) else {
         return Err(Cause::UnknownAccount);
     };
@@ -263,10 +252,7 @@ fn top_up(office: &Office, row: &ByteRecord, first: usize) -> Result<Named, Caus
     let Some(cents) = cents(amount) else {
         return Err(Cause::Cents);
     };
-    let instant = match utc(when) {
-        Ok(instant) => instant,
-        Err(fault) => return Err(Cause::Instant(fault)),
-    };
+    let instant = utc(when)?;
     Ok(Named::TopUp {
         reference,
         account,

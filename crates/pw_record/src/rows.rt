@@ -89,11 +89,7 @@ fn rows_records(
         let Ok(row) = row else {
             return Err(MEMORY_FAULT);
         };
-        match put_record(&mut given, office, kind, part, &row) {
-            Ok(()) => {}
-            Err(Halt::Memory) => return Err(MEMORY_FAULT),
-            Err(Halt::Refused(cause)) => return Err(UploadFault { part, cause }),
-        }
+        put_record(&mut given, office, kind, part, &row).map_err(|halt| halt.of_part(part))?;
         part += 1;
     }
     if part == 0 {
@@ -128,8 +124,6 @@ fn put_record(
         Ok(entry) => entry,
         Err(cause) => return Err(Halt::Refused(cause)),
     };
-    if put(given, entry.key, entry.content).is_err() {
-        return Err(Halt::Memory);
-    }
+    put(given, entry.key, entry.content)?;
     Ok(())
 }

@@ -37,10 +37,8 @@ pub fn all_shown(office: &Office, meter: MeterId, block: &Block) -> Result<Shown
 {
     let mut shown = [None; 6];
     'sets: for set in block.sets() {
-        let reading = match measured(office, meter, &set) {
-            Ok(Some(reading)) => reading,
-            Ok(None) => continue,
-            Err(fault) => return Err(Cause::Value(fault)),
+        let Some(reading) = measured(office, meter, &set)? else {
+            continue;
         };
         if !note(&mut shown, reading) {
             return Err(Cause::RegisterTwice);
@@ -67,10 +65,8 @@ fn measured(office: &Office, meter: MeterId, set: &Set) -> Result<Option<Reading
     if !office.counts(meter, register) {
         return Ok(None);
     }
-    match watt_hours(first_value(set)) {
-        Ok(wh) => Ok(Some(Reading { register, wh })),
-        Err(fault) => Err(fault),
-    }
+    let wh = watt_hours(first_value(set))?;
+    Ok(Some(Reading { register, wh }))
 }
 
 // Notes what a register shows; `false` where it is shown already, and otherwise.

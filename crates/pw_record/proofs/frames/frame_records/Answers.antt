@@ -1,9 +1,13 @@
 use Rattle.std.proofs.Common.{Err, ◌≡◌, ℕ, List, ◌≤◌, ◌++◌, ◌∷◌, [], length, arith, refl, subst, ap, sym, ◌∙◌, inl, inr, rules}
 use Rattle.std.proofs.lemmas.List.{length-append}
+use Rattle.std.proofs.lemmas.Result.{err_from_is_err_and}
 use Rattle.pw_frame.specs.Frame.{frame_text}
 use Rattle.pw_frame.specs.Body.{Front, BodyFault, BodyReading}
-use Rattle.pw_record.specs.Frames.{FramesGive}
+use Rattle.pw_record.specs.declared.fault.UploadFault.{UploadFault}
+use Rattle.pw_record.specs.Frames.{BodyStops, FramesGive}
+use Rattle.pw_record.specs.inner.Halts.{fault_of_part}
 use Rattle.pw_record.proofs.FrameFacts.{frames-more, frames-of-office, more-behind, stops-because}
+use Rattle.pw_record.proofs.Stopped.{kept, stopped, told-of-part}
 use Rattle.pw_record.proofs.OfOffice.{have-references, listed-of-office}
 use Rattle.pw_record.proofs.frames.frame_records.Goals as goal
 
@@ -18,17 +22,21 @@ returns-in-Err-clause-refused c =
       cause_is = refl;
     }))))
 
-pub returns-in-Err-Refused-clause-refused : goal.returns-in-Err-Refused-clause-refused
-returns-in-Err-Refused-clause-refused c =
+pub returns-in_err-map_err-clause-refused : goal.returns-in_err-map_err-clause-refused
+returns-in_err-map_err-clause-refused c =
     let i = c.frames.invariant in
     let h = rw c.in-Ok.is at (c.in-Some.ensures.next i.2 i.0 i.1) in
     let front = subst (λ (b : List ℕ). Front b (i.0 ++ frame_text c.in-Ok.frame ∷ []) c.next_frame.new.self.place) i.3 h.0 in
-    rw c.in-Err-Refused.field-0-is (inr (stops-because i.0 c.frames.given.items i.4 i.5 (inr (inr (record {
+    let p = err_from_is_err_and c.from_residual.result c.from_residual.ensures.1 in
+    let q = stopped c.put_frame.result c.map_err.result _ c.in_err-map_err.field-0.0 c.map_err.ensures.cases c.in_err-map_err.was in
+    let is : c.in_err-map_err.field-0.0 ≡ fault_of_part q.0 c.frames.part = search rules in
+    let stops = λ (fault : UploadFault). BodyStops c.args.office.now c.args.source c.args.body.now fault.part fault.cause in
+    rw (p.1, p.2, is) (told-of-part q.0 c.frames.part stops (λ cause because. stops-because i.0 c.frames.given.items i.4 i.5 (inr (inr (record {
       frame = frame_text c.in-Ok.frame;
       place = c.next_frame.new.self.place;
       few = omega (arith, i.5, c.if-part-gt-MOST_FRAMES.false);
       front = front;
-      refused = c.in-Err-Refused.ensures.err c.in-Err-Refused.cause (ap Err c.in-Err-Refused.field-0-is);
+      refused = c.put_frame.ensures.err cause (q.1 ∙ ap Err because);
     })))))
 
 pub frames-preserved : goal.frames-preserved
@@ -36,7 +44,7 @@ frames-preserved c =
     let i = c.frames.invariant in
     let h = rw c.in-Ok.is at (c.in-Some.ensures.next i.2 i.0 i.1) in
     let body : c.next_frame.new.self.body ≡ c.frames.frames.body = c.in-Some.ensures.body in
-    let o = c.in-Ok-put_frame.ensures.ok in (
+    let o = kept c.put_frame.result c.map_err.result _ _ c.map_err.ensures.cases c.in_ok-map_err.was c.put_frame.ensures.ok in (
       i.0 ++ frame_text c.in-Ok.frame ∷ [],
       rw body h.0,
       h.1,

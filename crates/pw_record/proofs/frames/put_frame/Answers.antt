@@ -4,4 +4,6 @@ use Rattle.pw_record.specs.inner.Shown.{shown_in}
 use Rattle.pw_record.proofs.frames.put_frame.Goals as goal
 
 pub returns-clause-ok : goal.returns-clause-ok
-returns-clause-ok c = (readings_of c.in-Ok.read.0.meter.0 c.in-Ok.read.0.instant (shown_in c.in-Ok.read.1), c.in-Ok.ensures.ok, search rules)
+returns-clause-ok c =
+    let read = c.in_ok-origin in
+    (readings_of read.origin.meter.0 read.origin.instant (shown_in read.shown), read.ensures.ok, search rules)

@@ -8,23 +8,23 @@ use Rattle.pw_record.proofs.frames.read_frame.Goals as goal
 
 pub returns-then-is_nothing_shown-clause-err : goal.returns-then-is_nothing_shown-clause-err
 returns-then-is_nothing_shown-clause-err c =
-    let sets = c.in-Ok.block in
+    let sets = c.in_ok-block.block in
     let origin = c.in_ok-origin.origin in
     let kind : c.args.frame.now.kind ≡ kind_of c.args.source = search rules in
     let nothing = λ (r : Register). subst (IsShown c.args.office.now origin.meter.0 sets r) (c.if-is_nothing_shown.ensures.nothing r) (c.in_ok-shown.ensures.ok r) in
-    refused-for-readings sets origin.meter.0 origin.instant kind c.in-Ok.ensures.block c.in_ok-origin.ensures.ok (inr (nothing, refl))
+    refused-for-readings sets origin.meter.0 origin.instant kind c.in_ok-block.ensures.block c.in_ok-origin.ensures.ok (inr (nothing, refl))
 
 pub returns-clause-ok : goal.returns-clause-ok
 returns-clause-ok c =
     let origin = c.in_ok-origin.origin in
     let kind : c.args.frame.now.kind ≡ kind_of c.args.source = search rules in
     record {
-      sets = c.in-Ok.block;
+      sets = c.in_ok-block.block;
       meter = origin.meter.0;
       instant = origin.instant;
       shown = shown_in c.in_ok-shown.shown;
       kind_is = kind;
-      has = c.in-Ok.ensures.block;
+      has = c.in_ok-block.ensures.block;
       origin = c.in_ok-origin.ensures.ok;
       shown_are = c.in_ok-shown.ensures.ok;
       some = c.if-is_nothing_shown.ensures.some;

@@ -1,4 +1,5 @@
 use Rattle.std.proofs.Common.{inl, inr}
+use Rattle.std.proofs.lemmas.Result.{err_from_is_err_and}
 use Rattle.pw_obis.specs.declared.meaning.Meaning.TheVariants.{Time}
 use Rattle.pw_record.proofs.Telling.{something}
 use Rattle.pw_record.proofs.origin.date_and_time.Goals as goal
@@ -9,17 +10,18 @@ returns-in-Nothing-clause-err c = inl (rw c.in-Nothing.is at c.both_told.ensures
 pub returns-in-Nothing-time-clause-err : goal.returns-in-Nothing-time-clause-err
 returns-in-Nothing-time-clause-err c = inr (rw c.in-Nothing-time.is at c.both_told.ensures.one)
 
-pub returns-in-Ok-clause-ok : goal.returns-in-Ok-clause-ok
-returns-in-Ok-clause-ok c =
+pub returns-in_ok-readout_instant-in-One-time-clause-ok : goal.returns-in_ok-readout_instant-in-One-time-clause-ok
+returns-in_ok-readout_instant-in-One-time-clause-ok c =
     let date = rw c.in-One.is at c.both_told.ensures.other in
     let time = rw c.in-One-time.is at c.both_told.ensures.one in
-    (c.in-One.date.now, c.in-One-time.time.now, date, time, c.in-Ok.ensures)
+    (c.in-One.date.now, c.in-One-time.time.now, date, time, c.in_ok-readout_instant-in-One-time.ensures)
 
-pub returns-in-Err-clause-err : goal.returns-in-Err-clause-err
-returns-in-Err-clause-err c =
+pub returns-in_err-readout_instant-in-One-time-clause-err : goal.returns-in_err-readout_instant-in-One-time-clause-err
+returns-in_err-readout_instant-in-One-time-clause-err c =
     let date = rw c.in-One.is at c.both_told.ensures.other in
     let time = rw c.in-One-time.is at c.both_told.ensures.one in
-    (c.in-One.date.now, c.in-One-time.time.now, date, time, c.in-Err.ensures)
+    let p = err_from_is_err_and c.from_residual.result c.from_residual.ensures.1 in
+    rw (p.1, p.2) (c.in-One.date.now, c.in-One-time.time.now, date, time, c.in_err-readout_instant-in-One-time.ensures)
 
 pub returns-in-Unlike-time-clause-err : goal.returns-in-Unlike-time-clause-err
 returns-in-Unlike-time-clause-err c =

@@ -1,12 +1,16 @@
-use Rattle.std.proofs.Common.{Bor, List, rules, ℕ, ◌∙◌, sym, refl, inl, inr, Some, Err, ◌∷◌, ◌++◌, [], arith, ap}
+use Rattle.std.proofs.Common.{Bor, List, ◌≡◌, ◌⊎◌, rules, ℕ, ◌∙◌, sym, refl, inl, inr, Some, Err, ◌∷◌, ◌++◌, [], arith, ap}
 use Rattle.std.proofs.lemmas.List.{length-append}
+use Rattle.std.proofs.lemmas.Result.{err_from_is_err_and}
 use Rattle.csv.specs.Reading.{Reached, default_config, strip_bom}
 use Rattle.csv.specs.Records.{fields_of}
 use Rattle.csv.specs.declared.parser.State.TheVariants as st
 use Rattle.csv.proofs.ReadFacts.{rows-end, rows-more}
-use Rattle.pw_record.specs.Rows.{AreRows}
+use Rattle.pw_record.specs.declared.fault.UploadFault.{UploadFault}
+use Rattle.pw_record.specs.Rows.{AreRows, HasNoRecord, RefusedAt}
+use Rattle.pw_record.specs.inner.Halts.{fault_of_part}
 use Rattle.pw_record.proofs.OfOffice.{have-references, listed-of-office}
 use Rattle.pw_record.proofs.RowFacts.{good-more, good-of-office, rows-give}
+use Rattle.pw_record.proofs.Stopped.{kept, stopped, told-of-part}
 use Rattle.pw_record.proofs.rows.rows_records.Goals as goal
 
 pub loop-row-init : goal.loop-row-init
@@ -36,7 +40,7 @@ loop-row-preserved c =
     let inv = c.loop-row.invariant in
     let s = rw (c.in-Some.is, c.in-Ok.is) at ((c.next.ensures.steps inv.2 inv.0).0 inv.1) in
     let m = rows-more (λ (s : Bor (List ℕ)). Some s.now) c.loop-row.row-iterator.rdr c.next.new.self.rdr (fields_of c.in-Ok.row) default_config st.StartRecord (strip_bom c.args.body.now) inv.4 inv.6 inv.3 inv.5 inv.7 s.0 in
-    let taken = c.in-Ok-put_record.ensures.ok in (
+    let taken = kept c.put_record.result c.map_err.result _ _ c.map_err.ensures.cases c.in_ok-map_err.was c.put_record.ensures.ok in (
       s.0.3 ∙ inv.0,
       inl s.1,
       s.2,
@@ -54,19 +58,25 @@ in_order-requires c =
     let inv = c.loop-row.invariant in
     have-references c.args.office.now c.loop-row.given.items (good-of-office c.args.office.now c.args.kind inv.6 c.loop-row.given.items inv.8)
 
-pub returns-in-Err-Refused-clause-refused : goal.returns-in-Err-Refused-clause-refused
-returns-in-Err-Refused-clause-refused c =
+pub returns-in_err-map_err-clause-refused : goal.returns-in_err-map_err-clause-refused
+returns-in_err-map_err-clause-refused c =
     let inv = c.loop-row.invariant in
     let s = rw (c.in-Some.is, c.in-Ok.is) at ((c.next.ensures.steps inv.2 inv.0).0 inv.1) in
     let m = rows-more (λ (s : Bor (List ℕ)). Some s.now) c.loop-row.row-iterator.rdr c.next.new.self.rdr (fields_of c.in-Ok.row) default_config st.StartRecord (strip_bom c.args.body.now) inv.4 inv.6 inv.3 inv.5 inv.7 s.0 in
-    rw c.in-Err-Refused.field-0-is (inr (inr (record {
+    let p = err_from_is_err_and c.from_residual.result c.from_residual.ensures.1 in
+    let q = stopped c.put_record.result c.map_err.result _ c.in_err-map_err.field-0.0 c.map_err.ensures.cases c.in_err-map_err.was in
+    let is : c.in_err-map_err.field-0.0 ≡ fault_of_part q.0 c.loop-row.part = search rules in
+    let file = c.args.office.now in
+    let body = c.args.body.now in
+    let refused = λ (fault : UploadFault). HasNoRecord body fault ⊎ RefusedAt file c.args.kind body fault.part fault.cause in
+    rw (p.1, p.2, is) (told-of-part q.0 c.loop-row.part refused (λ cause because. inr (record {
       before = inv.6;
       given = c.loop-row.given.items;
       row = fields_of c.in-Ok.row;
       front = record { state = c.next.new.self.rdr.state; rest = m.0; reached = m.2 };
       good = inv.8;
       part_is = inv.9;
-      refused = c.in-Err-Refused.ensures.err c.in-Err-Refused.cause (ap Err c.in-Err-Refused.field-0-is);
+      refused = c.put_record.ensures.err cause (q.1 ∙ ap Err because);
     })))
 
 pub returns-clause-entries : goal.returns-clause-entries
@@ -81,6 +91,3 @@ pub returns-clause-of_office : goal.returns-clause-of_office
 returns-clause-of_office c =
     let inv = c.loop-row.invariant in
     listed-of-office c.args.office.now c.loop-row.given.items c.in_order.result.items c.in_order.ensures (good-of-office c.args.office.now c.args.kind inv.6 c.loop-row.given.items inv.8)
-
-pub returns-in-Err-Memory-clause-refused : goal.returns-in-Err-Memory-clause-refused
-returns-in-Err-Memory-clause-refused c = search rules depth 0 fits 100

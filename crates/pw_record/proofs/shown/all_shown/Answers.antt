@@ -1,5 +1,6 @@
 use Rattle.std.proofs.Common.{◌≡◌, ℕ, Option, ◌++◌, ◌∷◌, [], List, subst, sym, ap, ◌∙◌, Ok}
 use Rattle.std.proofs.lemmas.List.{append-nil}
+use Rattle.std.proofs.lemmas.Result.{err_from_is_err_and}
 use Rattle.pw_obis.specs.declared.reference.Register.{Register}
 use Rattle.pw_obis.specs.inner.Given.{set_text}
 use Rattle.pw_obis.specs.Line.{SetText}
@@ -15,40 +16,44 @@ has-wrong : {file : OfficeFile} {meter : ℕ} {sets : List SetText} {cause : Cau
     → sets ≡ before ++ set ∷ behind → AreShown file meter before shown → IsWrongSet file meter shown set cause → HasWrongSet file meter sets cause
 has-wrong before set behind shown sets_are right wrong = record { before = before; set = set; behind = behind; shown = shown; sets_are = sets_are; right = right; wrong = wrong }
 
-pub sets-preserved-in-Ok-None : goal.sets-preserved-in-Ok-None
-sets-preserved-in-Ok-None c =
+pub sets-preserved-in_default : goal.sets-preserved-in_default
+sets-preserved-in_default c =
     let i = c.sets.invariant in
     let h = c.in-Some.ensures.steps in (
       i.0 ++ set_text c.in-Some.set ∷ [],
       given_behind c.args.block.now i.0 c.sets.set-iterator c.next.new.self h.0 c.in-Some.set h.1 i.1 h.2,
-      still-shown c.args.office.now c.args.meter.0 i.0 (set_text c.in-Some.set) (shown_in c.sets.shown) (rw c.in-Ok-None.field-0-is at c.in-Ok-None.ensures.ok) i.2,
+      still-shown c.args.office.now c.args.meter.0 i.0 (set_text c.in-Some.set) (shown_in c.sets.shown) (rw c.in_default.is at c.in_ok-reading.ensures.ok) i.2,
     )
 
-pub returns-in-Err-clause-err : goal.returns-in-Err-clause-err
-returns-in-Err-clause-err c =
+pub returns-in_err-reading-clause-err : goal.returns-in_err-reading-clause-err
+returns-in_err-reading-clause-err c =
     let i = c.sets.invariant in
     let h = c.in-Some.ensures.steps in
-    has-wrong i.0 (set_text c.in-Some.set) c.next.new.self (shown_in c.sets.shown)
-    (given_here c.args.block.now i.0 c.sets.set-iterator c.next.new.self h.0 c.in-Some.set h.1 i.1 h.2) i.2 c.in-Err.ensures.err
+    let p = err_from_is_err_and c.from_residual.result c.from_residual.ensures.1 in
+    rw (p.1, p.2) (has-wrong i.0 (set_text c.in-Some.set) c.next.new.self (shown_in c.sets.shown)
+    (given_here c.args.block.now i.0 c.sets.set-iterator c.next.new.self h.0 c.in-Some.set h.1 i.1 h.2) i.2 c.in_err-reading.ensures.err)
 
 pub returns-then-not-note-clause-err : goal.returns-then-not-note-clause-err
 returns-then-not-note-clause-err c =
     let i = c.sets.invariant in
     let h = c.in-Some.ensures.steps in
-    let measures : Measures c.args.office.now c.args.meter.0 (set_text c.in-Some.set) c.in-Ok-Some.reading.register (Ok c.in-Ok-Some.reading.wh) = rw c.in-Ok-Some.field-0-is at c.in-Ok-Some.ensures.ok in
+    let r = c.in-Some-2.reading in
+    let measures : Measures c.args.office.now c.args.meter.0 (set_text c.in-Some.set) r.register (Ok r.wh) = rw c.in-Some-2.is at c.in_ok-reading.ensures.ok in
     let unlike = c.if-not-note.ensures.unlike in
     has-wrong i.0 (set_text c.in-Some.set) c.next.new.self (shown_in c.sets.shown)
     (given_here c.args.block.now i.0 c.sets.set-iterator c.next.new.self h.0 c.in-Some.set h.1 i.1 h.2)
-    i.2 (c.in-Ok-Some.reading.register, c.in-Ok-Some.reading.wh, unlike.0, measures, unlike.1, unlike.2)
+    i.2 (r.register, r.wh, unlike.0, measures, unlike.1, unlike.2)
 
 pub sets-preserved : goal.sets-preserved
 sets-preserved c =
     let i = c.sets.invariant in
     let h = c.in-Some.ensures.steps in
-    let measures : Measures c.args.office.now c.args.meter.0 (set_text c.in-Some.set) c.in-Ok-Some.reading.register (Ok c.in-Ok-Some.reading.wh) = rw c.in-Ok-Some.field-0-is at c.in-Ok-Some.ensures.ok in (
-      i.0 ++ set_text c.in-Some.set ∷ [],
+    let r = c.in-Some-2.reading in
+    let set = set_text c.in-Some.set in
+    let measures : Measures c.args.office.now c.args.meter.0 set r.register (Ok r.wh) = rw c.in-Some-2.is at c.in_ok-reading.ensures.ok in (
+      i.0 ++ set ∷ [],
       given_behind c.args.block.now i.0 c.sets.set-iterator c.next.new.self h.0 c.in-Some.set h.1 i.1 h.2,
-      now-shown c.args.office.now c.args.meter.0 i.0 (set_text c.in-Some.set) c.sets.shown c.note.new.shown c.in-Ok-Some.reading.register c.in-Ok-Some.reading.wh c.if-not-note.ensures.noted measures i.2,
+      now-shown c.args.office.now c.args.meter.0 i.0 set c.sets.shown c.note.new.shown r.register r.wh c.if-not-note.ensures.noted measures i.2,
     )
 
 pub returns-clause-ok : goal.returns-clause-ok
