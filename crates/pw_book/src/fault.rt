@@ -1,8 +1,10 @@
 //! Why a call of the book fails.
 
-ghost use Rattle.std.specs.Prelude.{◌≡◌, ◌<◌};
+ghost use Rattle.std.specs.Prelude.{◌≡◌, ◌<◌, Some};
 ghost use Rattle.arrayvec.specs.ArrayString.{array_string_len};
-ghost use Rattle.pw_book.specs.Faults.{book_line, book_told, full_line, post_line, post_told};
+ghost use Rattle.pw_book.specs.Faults.{book_fault, book_line, book_told, full_line, post_fault, post_fault_of, post_line, post_told};
+ghost use Rattle.pw_book.specs.declared.fault.BookFault.TheVariants as book;
+ghost use Rattle.pw_book.specs.declared.fault.PostFault.TheVariants as post;
 
 use pw_line::{Line, ROOM, push_number, refused};
 use pw_shelf::ShelfFault;
@@ -126,9 +128,6 @@ impl BookFault {
 
 /// The fault line without its end.
 impl fmt::Display for PostFault {
-    ghost use Rattle.std.specs.Prelude.{Some};
-    ghost use Rattle.pw_book.specs.Faults.{post_line};
-
     ghost output = { λ fault. Some (post_line fault) };
 
     fn fmt<W: fmt::Write>(&self, f: &mut fmt::Formatter<W>) -> fmt::Result {
@@ -138,9 +137,6 @@ impl fmt::Display for PostFault {
 
 /// The fault line without its end.
 impl fmt::Display for BookFault {
-    ghost use Rattle.std.specs.Prelude.{Some};
-    ghost use Rattle.pw_book.specs.Faults.{book_line};
-
     ghost output = { λ fault. Some (book_line fault) };
 
     fn fmt<W: fmt::Write>(&self, f: &mut fmt::Formatter<W>) -> fmt::Result {
@@ -149,9 +145,6 @@ impl fmt::Display for BookFault {
 }
 
 impl From<ShelfFault> for PostFault {
-    ghost use Rattle.std.specs.Prelude.{◌≡◌};
-    ghost use Rattle.pw_book.specs.Faults.{post_fault};
-
     ghost from_gives = { λ fault e. e ≡ post_fault fault };
 
     fn from(fault: ShelfFault) -> Self {
@@ -163,10 +156,7 @@ impl From<ShelfFault> for PostFault {
 }
 
 impl From<AllocError> for PostFault {
-    ghost use Rattle.std.specs.Prelude.{◌≡◌};
-    ghost use Rattle.pw_book.specs.declared.fault.PostFault.TheVariants.{Memory};
-
-    ghost from_gives = { λ _ e. e ≡ Memory };
+    ghost from_gives = { λ _ e. e ≡ post.Memory };
 
     fn from(_: AllocError) -> Self {
         PostFault::Memory
@@ -174,9 +164,6 @@ impl From<AllocError> for PostFault {
 }
 
 impl From<BookFault> for PostFault {
-    ghost use Rattle.std.specs.Prelude.{◌≡◌};
-    ghost use Rattle.pw_book.specs.Faults.{post_fault_of};
-
     ghost from_gives = { λ fault e. e ≡ post_fault_of fault };
 
     fn from(fault: BookFault) -> Self {
@@ -189,9 +176,6 @@ impl From<BookFault> for PostFault {
 }
 
 impl From<ShelfFault> for BookFault {
-    ghost use Rattle.std.specs.Prelude.{◌≡◌};
-    ghost use Rattle.pw_book.specs.Faults.{book_fault};
-
     ghost from_gives = { λ fault e. e ≡ book_fault fault };
 
     fn from(fault: ShelfFault) -> Self {
@@ -203,10 +187,7 @@ impl From<ShelfFault> for BookFault {
 }
 
 impl From<AllocError> for BookFault {
-    ghost use Rattle.std.specs.Prelude.{◌≡◌};
-    ghost use Rattle.pw_book.specs.declared.fault.BookFault.TheVariants.{Memory};
-
-    ghost from_gives = { λ _ e. e ≡ Memory };
+    ghost from_gives = { λ _ e. e ≡ book.Memory };
 
     fn from(_: AllocError) -> Self {
         BookFault::Memory

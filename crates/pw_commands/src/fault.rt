@@ -1,7 +1,8 @@
 //! Why a command is refused: the line that tells it, and the exit status.
 
-ghost use Rattle.std.specs.Prelude.{◌≡◌};
-ghost use Rattle.pw_commands.specs.Faults.{fault_status};
+ghost use Rattle.std.specs.Prelude.{◌≡◌, Some};
+ghost use Rattle.pw_commands.specs.Faults.{fault_of_refusal, fault_status, fault_text};
+ghost use Rattle.pw_commands.specs.declared.fault.Fault.TheVariants as fault;
 
 use pw_book::{BookFault, PostFault};
 use pw_found::{Cause, Refusal};
@@ -89,10 +90,7 @@ impl Fault {
 
 /// The fault's lines without their end.
 impl fmt::Display for Fault {
-    ghost use Rattle.std.specs.Prelude.{Some};
-    ghost use Rattle.pw_commands.specs.Faults.{fault_text};
-
-    ghost output = { λ fault. Some (fault_text fault) };
+    ghost output = { λ told. Some (fault_text told) };
 
     fn fmt<W: fmt::Write>(&self, f: &mut fmt::Formatter<W>) -> fmt::Result {
         match *self {
@@ -122,10 +120,7 @@ impl fmt::Display for Fault {
 }
 
 impl From<OfficeFault> for Fault {
-    ghost use Rattle.std.specs.Prelude.{◌≡◌};
-    ghost use Rattle.pw_commands.specs.declared.fault.Fault.TheVariants.{Office};
-
-    ghost from_gives = { λ fault given. given ≡ Office fault };
+    ghost from_gives = { λ given told. told ≡ fault.Office given };
 
     fn from(fault: OfficeFault) -> Fault {
         Fault::Office(fault)
@@ -133,10 +128,7 @@ impl From<OfficeFault> for Fault {
 }
 
 impl From<UploadFault> for Fault {
-    ghost use Rattle.std.specs.Prelude.{◌≡◌};
-    ghost use Rattle.pw_commands.specs.declared.fault.Fault.TheVariants.{Upload};
-
-    ghost from_gives = { λ fault given. given ≡ Upload fault };
+    ghost from_gives = { λ given told. told ≡ fault.Upload given };
 
     fn from(fault: UploadFault) -> Fault {
         Fault::Upload(fault)
@@ -144,10 +136,7 @@ impl From<UploadFault> for Fault {
 }
 
 impl From<PostFault> for Fault {
-    ghost use Rattle.std.specs.Prelude.{◌≡◌};
-    ghost use Rattle.pw_commands.specs.declared.fault.Fault.TheVariants.{Post};
-
-    ghost from_gives = { λ fault given. given ≡ Post fault };
+    ghost from_gives = { λ given told. told ≡ fault.Post given };
 
     fn from(fault: PostFault) -> Fault {
         Fault::Post(fault)
@@ -155,9 +144,6 @@ impl From<PostFault> for Fault {
 }
 
 impl From<BookFault> for Fault {
-    ghost use Rattle.std.specs.Prelude.{◌≡◌};
-    ghost use Rattle.pw_commands.specs.declared.fault.Fault.TheVariants as fault;
-
     ghost from_gives = { λ given told. told ≡ fault.Book given };
 
     fn from(fault: BookFault) -> Fault {
@@ -166,9 +152,6 @@ impl From<BookFault> for Fault {
 }
 
 impl From<AllocError> for Fault {
-    ghost use Rattle.std.specs.Prelude.{◌≡◌};
-    ghost use Rattle.pw_commands.specs.declared.fault.Fault.TheVariants as fault;
-
     ghost from_gives = { λ _ told. told ≡ fault.Memory };
 
     fn from(_: AllocError) -> Fault {
@@ -177,9 +160,6 @@ impl From<AllocError> for Fault {
 }
 
 impl<T: Drop> From<AllocFailed<T>> for Fault {
-    ghost use Rattle.std.specs.Prelude.{◌≡◌};
-    ghost use Rattle.pw_commands.specs.declared.fault.Fault.TheVariants as fault;
-
     ghost from_gives = { λ _ told. told ≡ fault.Memory };
 
     fn from(_: AllocFailed<T>) -> Fault {
@@ -188,10 +168,7 @@ impl<T: Drop> From<AllocFailed<T>> for Fault {
 }
 
 impl From<Refusal> for Fault {
-    ghost use Rattle.std.specs.Prelude.{◌≡◌};
-    ghost use Rattle.pw_commands.specs.Faults.{fault_of_refusal};
-
-    ghost from_gives = { λ refusal given. given ≡ fault_of_refusal refusal };
+    ghost from_gives = { λ refusal told. told ≡ fault_of_refusal refusal };
 
     fn from(refusal: Refusal) -> Fault {
         match refusal {

@@ -1,8 +1,9 @@
 //! Why words give no command.
 
-ghost use Rattle.std.specs.Prelude.{◌≢◌};
+ghost use Rattle.std.specs.Prelude.{◌≡◌, ◌≢◌};
 ghost use Rattle.clap.specs.Values.{kind_of};
 ghost use Rattle.pw_words.specs.Words.{IsRefusal};
+ghost use Rattle.pw_words.specs.declared.fault.WordsFault.TheVariants.{Memory};
 
 use clap::Error;
 use clap::error::ErrorKind;
@@ -20,9 +21,6 @@ pub enum WordsFault {
 }
 
 impl From<AllocError> for WordsFault {
-    ghost use Rattle.std.specs.Prelude.{◌≡◌};
-    ghost use Rattle.pw_words.specs.declared.fault.WordsFault.TheVariants.{Memory};
-
     ghost from_gives = { λ _ fault. fault ≡ Memory };
 
     fn from(_: AllocError) -> WordsFault {
