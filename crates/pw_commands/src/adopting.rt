@@ -22,6 +22,7 @@ use pw_book::Book;
 use pw_found::Purpose;
 use pw_model::MOST_RECORDS;
 use pw_moving::Respelling;
+use pw_shelf::Shelf;
 use pw_store::{OpenFault, SqlShelf, Watch};
 use pw_tariff::Office;
 use pw_words::Renamed;
