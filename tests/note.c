@@ -1,5 +1,5 @@
-/* What a program has done, in order, preloaded (LD_PRELOAD) into it: each sync of a file or a folder, each name that is
- * taken away or changed and each write to standard output is noted behind it, as a line of the file that NOTES names. */
+/* What a program does, in order, preloaded (LD_PRELOAD) into it: behind each sync of a file or a folder, each name that
+ * is taken away or changed and each write to standard output, a line of it is put to the file that NOTES names. */
 #define _GNU_SOURCE
 #include <fcntl.h>
 #include <stdio.h>
