@@ -199,12 +199,15 @@ class Book:
         for meter, start, owner in records.counting("assignment"):
             self.starts[meter].append((start, owner))
         self.topups = records.counting("topup")
+        # The instants alone, of points and of starts, in which a place is sought.
+        self.read_at = {key: [it[0] for it in points] for key, points in self.points.items()}
+        self.owned_from = {meter: [it[0] for it in starts] for meter, starts in self.starts.items()}
         # What each register rose by up to each of its points, where it didn't fall.
         self.sums = {}
         for key, points in self.points.items():
             rises = [max(0, after[1] - before[1]) for before, after in zip(points, points[1:])]
             self.sums[key] = list(itertools.accumulate(rises, initial=0))
-        self.known, self.balances = {}, {}
+        self.known, self.ends, self.balances = {}, {}, {}
 
     @classmethod
     def exported(cls, office, *exports):
@@ -213,13 +216,13 @@ class Book:
 
     def owner(self, meter, instant):
         """The owner by the latest start that counts."""
-        place = bisect.bisect_right(self.starts[meter], instant, key=lambda it: it[0])
+        place = bisect.bisect_right(self.owned_from.get(meter, ()), instant)
         return self.starts[meter][place - 1][1] if place else None
 
     def pairs(self, meter, register, begin=FIRST, end=END):
         """The pairs that have seconds in an interval."""
         points = self.points[meter, register]
-        first = max(1, bisect.bisect_right(points, begin, key=lambda it: it[0]))
+        first = max(1, bisect.bisect_right(self.read_at.get((meter, register), ()), begin))
         for place in range(first, len(points)):
             if points[place - 1][0] >= end:
                 break
@@ -235,7 +238,7 @@ class Book:
     def risen(self, meter, register, instant):
         """What a register carried in all the seconds before an instant."""
         points = self.points[meter, register]
-        place = bisect.bisect_left(points, instant, key=lambda it: it[0])
+        place = bisect.bisect_left(self.read_at.get((meter, register), ()), instant)
         if place == 0:
             return 0
         whole = self.sums[meter, register][place - 1]
@@ -251,20 +254,20 @@ class Book:
             begin, end = (min(it[0][0] for it in told), max(it[-1][0] for it in told)) if told else (0, 0)
             marks = {*self.office.marks(begin, end), *(it for it, _ in self.starts[meter] if begin < it < end)}
             marks = [begin, *sorted(marks), end]
-            found = []
-            for mark, until in zip(marks, marks[1:]):
+            begun = []
+            for mark in marks[:-1]:
                 of = self.owner(meter, mark), self.office.period(mark), self.office.band(mark)
-                if found and found[-1][2:] == of:
-                    found[-1] = Run(found[-1].begin, until, *of)
-                else:
-                    found.append(Run(mark, until, *of))
-            self.known[meter] = found
+                if not begun or begun[-1][1] != of:
+                    begun.append((mark, of))
+            ends = [*(mark for mark, _ in begun[1:]), end]
+            found = [Run(mark, until, *of) for (mark, of), until in zip(begun, ends)]
+            self.known[meter], self.ends[meter] = found, ends
         return self.known[meter]
 
     def runs(self, meter, begin, end):
         """Those of an interval, the first and the last cut to it."""
         found = self.all_runs(meter)
-        for place in range(bisect.bisect_right(found, begin, key=lambda it: it.end), len(found)):
+        for place in range(bisect.bisect_right(self.ends[meter], begin), len(found)):
             run = found[place]
             if run.begin >= end:
                 break
@@ -336,7 +339,8 @@ class Book:
         for meter, registers in self.office.meters.items():
             if account in self.owners(meter, begin, end):
                 for register in registers:
-                    yield meter, register, max((it for it in self.points[meter, register] if it[0] < end), default=None)
+                    place = bisect.bisect_left(self.read_at.get((meter, register), ()), end)
+                    yield meter, register, self.points[meter, register][place - 1] if place else None
 
 
 def whole(cost, way):

@@ -44,7 +44,7 @@ class Browser:
             stdout=subprocess.DEVNULL, stderr=subprocess.DEVNULL)  # fmt: skip
         for it in (asking, telling, *ends):
             os.close(it)
-        self.number, self.waiting, self.events = 0, b"", []
+        self.number, self.waiting, self.events, self.tabs = 0, b"", [], []
 
     def message(self, end):
         """The next message, up to a moment; None where none comes."""
@@ -96,17 +96,23 @@ def browser():
 
 
 class Tab:
-    """A tab with nothing kept of others: what it shows, what it asked for and what went wrong in it."""
+    """A tab with nothing kept of others: what it shows, what it asked for and what went wrong in it. A tab that was left
+    is taken again, as a window takes the browser half a second of processor time."""
 
     def __init__(self, width=1200, height=900):
         self.browser = browser()
-        self.context = self.browser.call("Target.createBrowserContext")["browserContextId"]
-        place = {"url": "about:blank", "browserContextId": self.context}
-        target = self.browser.call("Target.createTarget", **place)["targetId"]
-        self.session = self.browser.call("Target.attachToTarget", targetId=target, flatten=True)["sessionId"]
-        for domain in ("Page", "Runtime", "Log", "Network", "DOM"):
-            self.call(f"{domain}.enable")
+        self.context, self.session = self.browser.tabs.pop() if self.browser.tabs else self.opened()
         self.resize(width, height)
+
+    def opened(self):
+        """A new window, with nothing kept: its context, and the session by which it's driven."""
+        context = self.browser.call("Target.createBrowserContext")["browserContextId"]
+        place = {"url": "about:blank", "browserContextId": context}
+        target = self.browser.call("Target.createTarget", **place)["targetId"]
+        session = self.browser.call("Target.attachToTarget", targetId=target, flatten=True)["sessionId"]
+        for domain in ("Page", "Runtime", "Log", "Network", "DOM"):
+            self.browser.call(f"{domain}.enable", session)
+        return context, session
 
     def call(self, method, **fields):
         return self.browser.call(method, self.session, **fields)
@@ -126,12 +132,13 @@ class Tab:
         return told["result"].get("value")
 
     def until(self, expression):
-        """Waits until an expression holds in the page, and answers what it gives."""
-        end = time.monotonic() + PATIENCE
-        while time.monotonic() < end:
+        """Waits until an expression holds in the page, and answers what it gives; the longer it waits, the less often it
+        asks, as each time takes the browser a millisecond or two."""
+        begun = time.monotonic()
+        while (waited := time.monotonic() - begun) < PATIENCE:
             if given := self.value(expression):
                 return given
-            time.sleep(0.02)
+            time.sleep(min(max(waited / 10, 0.02), 0.25))
         raise Failed(f"{expression}: still {given!r}; shown is {self.value('document.body.innerText')!r}")
 
     def go(self, url, heading):
@@ -226,8 +233,23 @@ class Tab:
     def close(self):
         self.browser.call("Target.disposeBrowserContext", browserContextId=self.context)
 
+    def leave(self):
+        """Leaves it to the next one: without what it kept of its server, what it was told to be and what came of it."""
+        place = {"origin": self.value("location.origin"), "storageTypes": "all"}
+        self.call("Input.dispatchMouseEvent", type="mouseMoved", x=0, y=0)
+        self.call("Page.navigate", url="about:blank")
+        self.until("location.href === 'about:blank' && document.readyState === 'complete'")
+        self.call("Emulation.setEmulatedMedia", media="")
+        self.call("Storage.clearDataForOrigin", **place)
+        self.call("Network.clearBrowserCache")
+        self.browser.events = [it for it in self.browser.events if it.get("sessionId") != self.session]
+        self.browser.tabs.append((self.context, self.session))
+
     def __enter__(self):
         return self
 
-    def __exit__(self, *_):
-        self.close()
+    def __exit__(self, kind, *_):
+        if kind:
+            self.close()
+        else:
+            self.leave()

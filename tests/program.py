@@ -396,13 +396,8 @@ def talk(server, data, slowly=False):
 
 
 def one_reply(connection):
-    """Reads one reply off a connection: its status and its body."""
-    head = b""
-    while not head.endswith(b"\r\n\r\n"):
-        part = connection.recv(1)
-        if not part:
-            raise ConnectionError(f"the connection ended behind {head!r}")
-        head += part
+    """Reads one reply off a connection, and nothing of the next one: its status and its body."""
+    head = head_of_reply(connection)
     lines = head.decode().split("\r\n")
     length = int(next(it for it in lines if it.startswith("Content-Length: "))[16:])
     body = b""
@@ -412,6 +407,18 @@ def one_reply(connection):
             raise ConnectionError(f"the connection ended behind {body!r}")
         body += part
     return int(lines[0].split()[1]), body.decode()
+
+
+def head_of_reply(connection):
+    """Reads the head of a reply off a connection: what has come is looked at first, and taken up to the head's end."""
+    head = b""
+    while not head.endswith(b"\r\n\r\n"):
+        come = connection.recv(4_096, socket.MSG_PEEK)
+        if not come:
+            raise ConnectionError(f"the connection ended behind {head!r}")
+        before, end, _ = (head + come).partition(b"\r\n\r\n")
+        head += connection.recv(len(before + end) - len(head))
+    return head
 
 
 PAGES = ["/accounts/A1", "/accounts/A2", "/accounts", "/falls", "/disputes", "/export/readings", "/export/energy",

@@ -113,18 +113,38 @@ fn put_renamed(
         );
     }
     writeln!(text, "{kind} {before} is called {now}")?;
+    if is_gone(new, list, before) {
+        put_refused(text, list, before, now)?;
+    }
+    Ok(())
+}
+
+// Whether no account, or no meter, of an office has a name: a band has none that an upload says.
+fn is_gone(office: &Office, list: Listed, name: Name<'_>) -> bool {
+    let Name::Text(name) = name else {
+        return false;
+    };
     match list {
-        Listed::Accounts => put_refused(text, before, now, "46 UnknownAccount"),
-        Listed::Meters => put_refused(text, before, now, "41 UnknownMeter"),
-        Listed::Bands => Ok(()),
+        Listed::Accounts => office.account(name.as_bytes()).is_none(),
+        Listed::Meters => office.meter(name.as_bytes()).is_none(),
+        Listed::Bands => false,
     }
 }
 
-// Which kept uploads are refused from now on.
-fn put_refused(text: &mut Vec<u8>, before: Name<'_>, now: Name<'_>, fault: &str) -> io::Result<()> {
+// Which kept uploads are refused once the file is adopted.
+fn put_refused(
+    text: &mut Vec<u8>,
+    list: Listed,
+    before: Name<'_>,
+    now: Name<'_>,
+) -> io::Result<()> {
+    let fault = match list {
+        Listed::Meters => "41 UnknownMeter",
+        _ => "46 UnknownAccount",
+    };
     writeln!(
         text,
-        "kept uploads that say {before} are refused from now on ({fault}): say {now} in them"
+        "once it is adopted, kept uploads that say {before} are refused ({fault}): say {now} in them"
     )
 }
 

@@ -71,8 +71,14 @@ fn name_source<E: Write>(rt: &HostRuntime, source: &Source<'_>, err: &mut E) {
     }
 }
 
+// What is no plain file, as a pipe, isn't opened: what is written to it is for the command.
 fn name_file<E: Write>(rt: &HostRuntime, path: &str, err: &mut E) {
-    if let Err(error) = File::open(rt, path) {
+    let unread = match fs::metadata(rt, path) {
+        Ok(found) if !found.is_file() => None,
+        Ok(_) => File::open(rt, path).err(),
+        Err(error) => Some(error),
+    };
+    if let Some(error) = unread {
         name(path, &error, err);
     }
 }

@@ -32,7 +32,7 @@ pub use files::{LONGEST_OFFICE, read_file};
 pub use hints::name_unreadable;
 pub use pipe::pipe_run;
 pub use progress::{Follow, Loaded, Progress};
-pub use server::{Term, serve_book};
+pub use server::{Term, serve_book, serve_told};
 pub use serving::{serve, serve_on};
 pub use store::{FileBook, close_book, connection_in, open_book, open_from};
 pub use telling::{finish, tell, write_whole};

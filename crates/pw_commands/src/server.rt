@@ -176,8 +176,9 @@ pub fn serve_book<S: Alter, O: Write, E: Write>(
     serve_at(rt, book, audience, term, port, out, err)
 }
 
-/// The same, with a line on the standard error of `rt` for each upload that was answered.
-pub(crate) fn serve_told<S: Alter, O: Write, E: Write>(
+/// The same, with a line on the standard error of `rt` for each upload that was answered. Takes the book, and answers the
+/// exit status with the book behind it.
+pub fn serve_told<S: Alter, O: Write, E: Write>(
     rt: &HostRuntime,
     book: Book<SqlShelf<S>>,
     audience: Audience<'_>,

@@ -17,6 +17,7 @@ fn ends_at(rest: &[u8], start: usize, i: usize) -> bool
 }
 
 /// Where the block that begins at `start` ends: the place of its `!`.
+// Not inlined: within a larger function its loop would keep its values in memory.
 #[inline(never)]
 pub fn block_end(rest: &[u8], start: usize, place: usize) -> Result<usize, FrameFault>
     requires from { start ≤ length rest.now }

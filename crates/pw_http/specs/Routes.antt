@@ -87,7 +87,8 @@ place_of method target = if is_utf8 target then by_method method (route_at targe
 -- ---- the length of a page
 -- a page that grows with the records, or with the meters of the office
 abbrev pub may_be_large : Route → Bool
-may_be_large (Month month.Why) = true
+may_be_large (Month month.Days) = false
+may_be_large (Month page) = true
 may_be_large MeterReadings = true
 may_be_large (Table table.Accounts) = false
 may_be_large (Table table) = true

@@ -38,8 +38,8 @@ pub enum Route {
 }
 
 impl Route {
-    /// Whether its page grows with the records, or with the meters of the office. (A bill grows with those of its account
-    /// alone.) Replies that may be large are made one at a time.
+    /// Whether its page grows with the records, or with the meters, of the office or of its account. Replies that may be
+    /// large are made one at a time.
     pub fn may_be_large(self) -> bool
         ensures { result ≡ is_large self }
     {
@@ -50,10 +50,12 @@ impl Route {
             | Route::TopUps
             | Route::Withdrawals
             | Route::Account
-            | Route::Month(MonthPage::Bill | MonthPage::Days)
+            | Route::Month(MonthPage::Days)
             | Route::Table(Table::Accounts)
             | Route::File(_) => false,
-            Route::Month(MonthPage::Why) | Route::MeterReadings | Route::Table(_) => true,
+            Route::Month(MonthPage::Bill | MonthPage::Why)
+            | Route::MeterReadings
+            | Route::Table(_) => true,
         }
     }
 }

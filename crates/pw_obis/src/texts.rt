@@ -4,6 +4,8 @@ ghost use Rattle.std.specs.Prelude.{◌≡◌, ℕ, ◌∷◌, ◌<◌, ◌≤�
 ghost use Rattle.pw_obis.specs.declared.energy.TheConstants.{LARGEST_WATT_HOURS};
 ghost use Rattle.std.specs.Str.Parse.{digits_value_after, AllDigits, IsNumeral};
 
+use crate::energy::LARGEST_WATT_HOURS;
+
 /// The first place of a byte, or the text's length.
 pub fn find(text: &[u8], byte: u8) -> usize
     ensures within { result ≤ length text.now }
@@ -48,18 +50,17 @@ pub fn is_numeral(text: &[u8]) -> bool
     !text.is_empty() && are_digits(text)
 }
 
-/// What digits make of a number that they are put behind, up to `most`.
-pub fn with_digits(number: u64, digits: &[u8], most: u64) -> Option<u64>
-    requires start { number ≤ most }
-    requires room { most ≤ LARGEST_WATT_HOURS }
+/// What digits make of a number that they are put behind, up to [`LARGEST_WATT_HOURS`].
+pub fn with_digits(number: u64, digits: &[u8]) -> Option<u64>
+    requires start { number ≤ LARGEST_WATT_HOURS }
     requires digits { AllDigits 10 digits.now }
-    ensures some { IfSome result (λ n. (n ≡ digits_value_after 10 number digits.now) × (n ≤ most)) }
-    ensures none { IfNone result (most < digits_value_after 10 number digits.now) }
+    ensures some { IfSome result (λ n. (n ≡ digits_value_after 10 number digits.now) × (n ≤ LARGEST_WATT_HOURS)) }
+    ensures none { IfNone result (LARGEST_WATT_HOURS < digits_value_after 10 number digits.now) }
 {
     let mut value = number;
     for b in digits {
         value = value * 10 + (*b - b'0') as u64;
-        if value > most {
+        if value > LARGEST_WATT_HOURS {
             return None;
         }
     }

@@ -50,11 +50,11 @@ fn scaled(whole: &[u8], decimals: &[u8]) -> Option<WattHours>
     ensures some { IfSome result (λ wh. (wh ≡ thousandths whole.now decimals.now) × (wh ≤ LARGEST_WATT_HOURS)) }
     ensures none { IfNone result (LARGEST_WATT_HOURS < thousandths whole.now decimals.now) }
 {
-    let Some(kilo) = with_digits(0, whole, LARGEST_WATT_HOURS) else {
+    let Some(kilo) = with_digits(0, whole) else {
         return None;
     };
     let taken = &decimals[..decimals.len().min(3)];
-    let Some(number) = with_digits(kilo, taken, LARGEST_WATT_HOURS) else {
+    let Some(number) = with_digits(kilo, taken) else {
         return None;
     };
     WattHours::of(number * place_value(taken.len()))
@@ -114,7 +114,7 @@ fn plain_watt_hours(number: &[u8]) -> Result<WattHours, ValueFault>
     if !is_numeral(number) {
         return Err(ValueFault::Digits);
     }
-    let Some(value) = with_digits(0, number, LARGEST_WATT_HOURS) else {
+    let Some(value) = with_digits(0, number) else {
         return Err(ValueFault::TooLarge);
     };
     match WattHours::of(value) {

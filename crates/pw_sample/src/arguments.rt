@@ -36,12 +36,8 @@ pub enum Asked<'a> {
     },
 }
 
-/// Words that ask for nothing.
-#[derive(Clone, Copy, Debug, Drop, PartialEq, Eq)]
-pub struct WrongWords;
-
 // What a word that follows stands for.
-#[derive(Clone, Copy)]
+#[derive(Drop)]
 enum Flag {
     Meters,
     Days,
@@ -57,8 +53,8 @@ struct Given<'a> {
     out: Option<&'a str>,
 }
 
-/// What the words behind the program's name ask for.
-pub fn read_words<'a>(words: &[&'a str]) -> Result<Asked<'a>, WrongWords> {
+/// What the words behind the program's name ask for, if they ask for anything.
+pub fn read_words(words: &[String]) -> Option<Asked<'_>> {
     let mut given = Given {
         meters: None,
         days: None,
@@ -69,11 +65,11 @@ pub fn read_words<'a>(words: &[&'a str]) -> Result<Asked<'a>, WrongWords> {
     for word in words {
         flag = match flag {
             Some(flag) => {
-                given = with_number(given, flag, word)?;
+                given = with_number(given, flag, word.as_str())?;
                 None
             }
-            None => match *word {
-                "--help" | "-h" => return Ok(Asked::Help),
+            None => match word.as_str() {
+                "--help" | "-h" => return Some(Asked::Help),
                 "--meters" => Some(Flag::Meters),
                 "--days" => Some(Flag::Days),
                 "--seed" => Some(Flag::Seed),
@@ -85,15 +81,13 @@ pub fn read_words<'a>(words: &[&'a str]) -> Result<Asked<'a>, WrongWords> {
         };
     }
     match flag {
-        Some(_) => Err(WrongWords),
+        Some(_) => None,
         None => sample_of(given),
     }
 }
 
-fn with_number<'a>(given: Given<'a>, flag: Flag, word: &str) -> Result<Given<'a>, WrongWords> {
-    let Ok(number) = word.parse::<u64>() else {
-        return Err(WrongWords);
-    };
+fn with_number<'a>(given: Given<'a>, flag: Flag, word: &str) -> Option<Given<'a>> {
+    let number = word.parse::<u64>().ok()?;
     let mut given = given;
     let before = match flag {
         Flag::Meters => given.meters.replace(number),
@@ -101,38 +95,27 @@ fn with_number<'a>(given: Given<'a>, flag: Flag, word: &str) -> Result<Given<'a>
         Flag::Seed => given.seed.replace(number),
     };
     match before {
-        None => Ok(given),
-        Some(_) => Err(WrongWords),
+        None => Some(given),
+        Some(_) => None,
     }
 }
 
-fn with_folder<'a>(given: Given<'a>, word: &'a str) -> Result<Given<'a>, WrongWords> {
+fn with_folder<'a>(given: Given<'a>, word: &'a str) -> Option<Given<'a>> {
     if given.out.is_some() || word.is_empty() || word.as_bytes()[0] == b'-' {
-        return Err(WrongWords);
+        return None;
     }
     let mut given = given;
     given.out = Some(word);
-    Ok(given)
+    Some(given)
 }
 
-fn sample_of<'a>(given: Given<'a>) -> Result<Asked<'a>, WrongWords> {
-    let (Some(meters), Some(days), Some(seed), Some(out)) = (
-        given.meters,
-        given.days,
-        given.seed,
-        given.out,
-    ) else {
-        return Err(WrongWords);
-    };
-    match (within(meters, MOST_METERS), within(days, MOST_DAYS)) {
-        (Some(meters), Some(days)) => Ok(Asked::Sample {
-            meters,
-            days,
-            seed,
-            out,
-        }),
-        _ => Err(WrongWords),
-    }
+fn sample_of(given: Given<'_>) -> Option<Asked<'_>> {
+    Some(Asked::Sample {
+        meters: within(given.meters?, MOST_METERS)?,
+        days: within(given.days?, MOST_DAYS)?,
+        seed: given.seed?,
+        out: given.out?,
+    })
 }
 
 // A number from 1 up to a bound, if it is one.

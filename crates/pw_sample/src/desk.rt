@@ -51,23 +51,20 @@ impl<'a> Desk<'a> {
     /// Takes what a meter sends at a quarter of an hour: now, late, again or told otherwise, as its plan says.
     pub fn take(&mut self, meter: &Meter, day: u32, quarter: u32) -> Result<(), Fault> {
         let second = quarter_begin(day, quarter);
-        let frame = telegram(self.alloc, meter, &meter.levels, second)?;
         more(&mut self.figures.readings, meter.registers());
         if is_at(meter.plan.again, quarter) {
             more(&mut self.figures.repeated_frames, 1);
-            let again = frame.clone()?;
-            self.again.push(again)?;
+            self.take_at_end(meter, &meter.levels, second)?;
         }
         if is_at(meter.plan.otherwise, quarter) {
             more(&mut self.figures.disputed_readings, 1);
-            self.take_otherwise(meter, &wrong_levels(meter), second)?;
+            more(&mut self.figures.readings, 1);
+            self.take_at_end(meter, &wrong_levels(meter), second)?;
         }
         if is_at(meter.plan.withdrawn, quarter) {
-            let levels = wrong_levels(meter);
-            self.take_otherwise(meter, &levels, second)?;
-            let row = reading_row(self.alloc, meter, &levels, second)?;
-            self.withdraw("reading", row.as_str(), &[Comes::Today])?;
+            self.take_withdrawn(meter, &wrong_levels(meter), second)?;
         }
+        let frame = telegram(self.alloc, meter, &meter.levels, second)?;
         if !is_at(meter.plan.late, quarter) {
             return self.send(frame.as_slice());
         }
@@ -99,10 +96,17 @@ impl<'a> Desk<'a> {
         Ok(())
     }
 
-    // A telegram of the same second with another value of the first register.
-    fn take_otherwise(&mut self, meter: &Meter, levels: &Levels, second: u32) -> Result<(), Fault> {
-        let frame = telegram(self.alloc, meter, levels, second)?;
+    // Another value of the first register, and its withdrawal.
+    fn take_withdrawn(&mut self, meter: &Meter, levels: &Levels, second: u32) -> Result<(), Fault> {
         more(&mut self.figures.readings, 1);
+        self.take_at_end(meter, levels, second)?;
+        let row = reading_row(self.alloc, meter, levels, second)?;
+        self.withdraw("reading", row.as_str(), &[Comes::Today])
+    }
+
+    // A telegram that comes at the end of the day.
+    fn take_at_end(&mut self, meter: &Meter, levels: &Levels, second: u32) -> Result<(), Fault> {
+        let frame = telegram(self.alloc, meter, levels, second)?;
         Ok(self.again.push(frame)?)
     }
 
@@ -141,16 +145,17 @@ impl<'a> Desk<'a> {
     /// Takes the telegrams that are late from the day before.
     pub fn take_late(&mut self) -> Result<(), Fault> {
         let frames = mem::replace(&mut self.late, Vec::new(self.alloc));
-        for frame in frames.iter() {
-            self.send(frame.as_slice())?;
-        }
-        Ok(())
+        self.send_all(frames.as_slice())
     }
 
     /// Takes the telegrams that come at the end of the day.
     pub fn take_again(&mut self) -> Result<(), Fault> {
         let frames = mem::replace(&mut self.again, Vec::new(self.alloc));
-        for frame in frames.iter() {
+        self.send_all(frames.as_slice())
+    }
+
+    fn send_all(&mut self, frames: &[Vec<u8>]) -> Result<(), Fault> {
+        for frame in frames {
             self.send(frame.as_slice())?;
         }
         Ok(())
@@ -165,20 +170,19 @@ impl<'a> Desk<'a> {
         is_late: bool,
         is_again: bool,
     ) -> Result<(), Fault> {
-        let frame = readout(self.alloc, meter, day)?;
         more(&mut self.figures.readings, meter.registers());
         if is_late {
             more(&mut self.figures.late_frames, 1);
             self.make_readouts(meter)?;
-            return wait(meter, frame.as_slice());
+            return wait(self.alloc, meter, day);
         }
-        wait(meter, frame.as_slice())?;
+        wait(self.alloc, meter, day)?;
         self.make_readouts(meter)?;
-        if is_again {
-            more(&mut self.figures.repeated_frames, 1);
-            wait(meter, frame.as_slice())?;
+        if !is_again {
+            return Ok(());
         }
-        Ok(())
+        more(&mut self.figures.repeated_frames, 1);
+        wait(self.alloc, meter, day)
     }
 
     /// Makes a file of a meter's readouts that wait.
@@ -203,10 +207,11 @@ fn wrong_levels(meter: &Meter) -> Levels {
     levels
 }
 
-fn wait(meter: &mut Meter, frame: &[u8]) -> Result<(), Fault> {
-    meter.waiting.extend_from_slice(frame)?;
+// Lets a meter's readout of a day wait.
+fn wait(alloc: Global, meter: &mut Meter, day: u32) -> Result<(), Fault> {
+    let frame = readout(alloc, meter, day)?;
     meter.waiting_frames = meter.waiting_frames.saturating_add(1);
-    Ok(())
+    Ok(meter.waiting.extend_from_slice(frame.as_slice())?)
 }
 
 fn is_at(planned: Option<u32>, quarter: u32) -> bool {

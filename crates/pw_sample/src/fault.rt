@@ -1,6 +1,6 @@
 //! Why a sample can't be made.
 
-use std::alloc::{AllocError, Global};
+use std::alloc::AllocError;
 use std::io::{Error as IoError, ErrorKind};
 use thiserror::Error;
 
@@ -16,12 +16,9 @@ pub enum Fault {
 }
 
 /// The fault of what the system answers for a path.
-pub fn fault_at(alloc: Global, path: &str, error: &IoError) -> Fault {
+pub fn fault_at(path: String, error: &IoError) -> Fault {
     match error.kind() {
         ErrorKind::OutOfMemory => Fault::Memory(AllocError),
-        why => match String::from_str(alloc, path) {
-            Ok(path) => Fault::Device { path, why },
-            Err(refused) => Fault::Memory(refused),
-        },
+        why => Fault::Device { path, why },
     }
 }

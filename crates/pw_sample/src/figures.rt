@@ -46,19 +46,35 @@ impl Figures {
 
     /// A line for each figure: its name and its value. `files` is how many uploads there are.
     pub fn text(&self, alloc: Global, files: u32) -> Result<String, AllocError> {
+        let lines = [
+            ("accounts", self.accounts),
+            ("meters", self.meters),
+            ("marked_meters", self.marked_meters),
+            ("winter_meters", self.winter_meters),
+            ("local_meters", self.local_meters),
+            ("files", files),
+            ("telegram_files", self.telegram_files),
+            ("readout_files", self.readout_files),
+            ("assignment_files", self.assignment_files),
+            ("topup_files", self.topup_files),
+            ("withdrawal_files", self.withdrawal_files),
+            ("frames", self.telegrams.saturating_add(self.readouts)),
+            ("telegrams", self.telegrams),
+            ("readouts", self.readouts),
+            ("late_frames", self.late_frames),
+            ("repeated_frames", self.repeated_frames),
+            ("records", self.records()),
+            ("readings", self.readings),
+            ("assignments", self.assignments),
+            ("topups", self.topups),
+            ("withdrawals", self.withdrawals),
+            ("disputed_readings", self.disputed_readings),
+            ("falls", self.falls),
+        ];
         let mut text = String::new(alloc);
-        line(&mut text, "accounts", self.accounts)?;
-        line(&mut text, "meters", self.meters)?;
-        line(&mut text, "marked_meters", self.marked_meters)?;
-        line(&mut text, "winter_meters", self.winter_meters)?;
-        line(&mut text, "local_meters", self.local_meters)?;
-        line(&mut text, "files", files)?;
-        line(&mut text, "telegram_files", self.telegram_files)?;
-        line(&mut text, "readout_files", self.readout_files)?;
-        line(&mut text, "assignment_files", self.assignment_files)?;
-        line(&mut text, "topup_files", self.topup_files)?;
-        line(&mut text, "withdrawal_files", self.withdrawal_files)?;
-        self.push_records(&mut text)?;
+        for (name, value) in &lines {
+            writeln!(text, "{name} {value}")?;
+        }
         Ok(text)
     }
 
@@ -68,21 +84,6 @@ impl Figures {
             .saturating_add(self.assignments)
             .saturating_add(self.topups)
             .saturating_add(self.withdrawals)
-    }
-
-    fn push_records(&self, text: &mut String) -> Result<(), AllocError> {
-        line(text, "frames", self.telegrams.saturating_add(self.readouts))?;
-        line(text, "telegrams", self.telegrams)?;
-        line(text, "readouts", self.readouts)?;
-        line(text, "late_frames", self.late_frames)?;
-        line(text, "repeated_frames", self.repeated_frames)?;
-        line(text, "records", self.records())?;
-        line(text, "readings", self.readings)?;
-        line(text, "assignments", self.assignments)?;
-        line(text, "topups", self.topups)?;
-        line(text, "withdrawals", self.withdrawals)?;
-        line(text, "disputed_readings", self.disputed_readings)?;
-        line(text, "falls", self.falls)
     }
 }
 
@@ -112,8 +113,4 @@ const NONE: Figures = Figures {
 /// Counts so many more.
 pub fn more(figure: &mut u32, count: u32) {
     *figure = figure.saturating_add(count);
-}
-
-fn line(text: &mut String, name: &str, value: u32) -> Result<(), AllocError> {
-    writeln!(text, "{name} {value}")
 }

@@ -24,7 +24,10 @@ impl<'a> Folder<'a> {
                 list: String::new(rt.alloc()),
                 files: 0,
             }),
-            Err(error) => Err(fault_at(rt.alloc(), path, &error)),
+            Err(error) => {
+                let path = String::from_str(rt.alloc(), path)?;
+                Err(fault_at(path, &error))
+            }
         }
     }
 
@@ -34,32 +37,29 @@ impl<'a> Folder<'a> {
         let path = format!(in alloc; "{folder}/{name}")?;
         match fs::write(self.rt, path.as_str(), bytes) {
             Ok(()) => Ok(()),
-            Err(error) => Err(fault_at(alloc, path.as_str(), &error)),
+            Err(error) => Err(fault_at(path, &error)),
         }
     }
 
     /// Makes the file of an upload behind those before it.
     pub fn put(&mut self, kind: &str, bytes: &[u8]) -> Result<(), Fault> {
-        let name = self.next_name(kind)?;
-        writeln!(self.list, "{kind} {name}")?;
+        let number = self.next_number();
+        writeln!(self.list, "{kind} {number:06}.{kind}")?;
+        let name = format!(in self.rt.alloc(); "{number:06}.{kind}")?;
         self.write(name.as_str(), bytes)
     }
 
     /// Makes the file of a meter's readouts behind the uploads before it.
     pub fn put_readouts(&mut self, meter: &str, bytes: &[u8]) -> Result<(), Fault> {
-        let alloc = self.rt.alloc();
-        let ending = format!(in alloc; "readouts.{meter}")?;
-        let name = self.next_name(ending.as_str())?;
-        writeln!(self.list, "readouts {name} {meter}")?;
+        let number = self.next_number();
+        writeln!(self.list, "readouts {number:06}.readouts.{meter} {meter}")?;
+        let name = format!(in self.rt.alloc(); "{number:06}.readouts.{meter}")?;
         self.write(name.as_str(), bytes)
     }
 
-    // The name of the next upload's file: its number, and an ending.
-    fn next_name(&mut self, ending: &str) -> Result<String, Fault> {
+    fn next_number(&mut self) -> u32 {
         self.files = self.files.saturating_add(1);
-        let (alloc, number) = (self.rt.alloc(), self.files);
-        let name = format!(in alloc; "{number:06}.{ending}")?;
-        Ok(name)
+        self.files
     }
 
     /// Makes the file that lists the uploads.

@@ -31,29 +31,15 @@ fn main(rt: HostRuntime) -> ExitCode {
 }
 
 fn status_of(rt: &HostRuntime) -> u8 {
-    let mut err = rt.stderr();
-    let owned = match words_of(rt) {
-        Ok(words) => words,
+    match words_of(rt) {
+        Ok(words) => match read_words(words.as_slice()) {
+            Some(asked) => obey(rt, asked),
+            None => tell(rt, USAGE, WRONG_WORDS),
+        },
         Err(error) if error.kind() == ErrorKind::OutOfMemory => {
-            return tell(&mut err, "powerbook-sample: no memory\n", FAILED);
+            tell(rt, "powerbook-sample: no memory\n", FAILED)
         }
-        Err(_) => {
-            return tell(
-                &mut err,
-                "powerbook-sample: a word isn't UTF-8\n",
-                WRONG_WORDS,
-            );
-        }
-    };
-    let mut words = Vec::new(rt.alloc());
-    for word in owned.iter() {
-        if words.push(word.as_str()).is_err() {
-            return tell(&mut err, "powerbook-sample: no memory\n", FAILED);
-        }
-    }
-    match read_words(words.as_slice()) {
-        Ok(asked) => obey(rt, asked),
-        Err(_) => tell(&mut err, USAGE, WRONG_WORDS),
+        Err(_) => tell(rt, "powerbook-sample: a word isn't UTF-8\n", WRONG_WORDS),
     }
 }
 
@@ -70,7 +56,7 @@ fn obey(rt: &HostRuntime, asked: Asked<'_>) -> u8 {
     match asked {
         Asked::Help => match rt.stdout().write_all(USAGE.as_bytes()) {
             Ok(()) => 0,
-            Err(_) => tell(&mut rt.stderr(), "powerbook-sample: can't write\n", FAILED),
+            Err(_) => tell(rt, "powerbook-sample: can't write\n", FAILED),
         },
         Asked::Sample {
             meters,
@@ -87,8 +73,8 @@ fn obey(rt: &HostRuntime, asked: Asked<'_>) -> u8 {
     }
 }
 
-// Writes a text, and answers a status.
-fn tell<E: Write>(err: &mut E, text: &str, status: u8) -> u8 {
-    let _ = err.write_all(text.as_bytes());
+// Writes a text to standard error, and answers a status.
+fn tell(rt: &HostRuntime, text: &str, status: u8) -> u8 {
+    let _ = rt.stderr().write_all(text.as_bytes());
     status
 }

@@ -3,11 +3,10 @@
 ghost use Rattle.std.specs.Prelude.{◌<◌};
 
 use crate::draws::Draws;
-use crate::moment::push_bytes;
 use std::alloc::{AllocError, Global};
 
 /// What a meter's clock tells.
-#[derive(Clone, Copy, PartialEq, Eq)]
+#[derive(Clone, Copy)]
 pub enum Clock {
     /// Local time with a season mark: the meter sends telegrams.
     Marked,
@@ -18,7 +17,7 @@ pub enum Clock {
 }
 
 /// What a meter's registers show of a direction: one total, or two rates.
-#[derive(Clone, Copy, PartialEq, Eq)]
+#[derive(Clone, Copy)]
 pub enum Shown {
     Totals,
     Rates,
@@ -84,6 +83,11 @@ impl Meter {
         })
     }
 
+    /// Whether it sends telegrams; else it sends readouts.
+    pub fn sends_telegrams(&self) -> bool {
+        matches!(self.clock, Clock::Marked)
+    }
+
     /// How many registers it shows.
     pub fn registers(&self) -> u32 {
         let directions = if self.exports { 2 } else { 1 };
@@ -117,8 +121,8 @@ impl Meter {
     }
 }
 
-/// Nothing out of the common.
-pub const NO_PLAN: Plan = Plan {
+// Nothing out of the common.
+const NO_PLAN: Plan = Plan {
     late: None,
     again: None,
     otherwise: None,
@@ -139,18 +143,14 @@ fn clock_at(number: u32) -> Clock {
     }
 }
 
-// The identifier: of telegrams the characters `M0000` in hexadecimal, as meters send theirs.
+// The identifier, with the four digits of the number: of telegrams the characters `M0000` in hexadecimal, as meters send
+// theirs.
 fn id_of(alloc: Global, clock: Clock, number: u32) -> Result<String, AllocError> {
     match clock {
         Clock::Marked => {
-            let mut id = String::new(alloc);
-            push_bytes(&mut id, b"4D")?;
-            let digits = format!(in alloc; "{number:04}")?;
-            for digit in digits.chars() {
-                id.push('3')?;
-                id.push(digit)?;
-            }
-            Ok(id)
+            let (thousands, hundreds) = (number / 1000 % 10, number / 100 % 10);
+            let (tens, ones) = (number / 10 % 10, number % 10);
+            format!(in alloc; "4D3{thousands}3{hundreds}3{tens}3{ones}")
         }
         _ => format!(in alloc; "Z{number:04}"),
     }

@@ -2,6 +2,7 @@
 
 use pw_time::{Instant, write_utc};
 use std::alloc::AllocError;
+use std::str::from_utf8;
 
 /// The quarters of an hour in a day.
 pub const QUARTERS: u32 = 96;
@@ -33,7 +34,7 @@ pub fn quarter_begin(day: u32, quarter: u32) -> u32 {
     day_begin(day).saturating_add(quarter.saturating_mul(900))
 }
 
-/// A second as `YYYY-MM-DDThh:mm:ssZ`; as zeros where it is no instant of 2000 to 2099.
+/// The characters of a second, `YYYY-MM-DDThh:mm:ssZ`; zeros where it is no instant of 2000 to 2099.
 pub fn utc_text(second: u32) -> [u8; 20] {
     match Instant::of(second) {
         Some(instant) => write_utc(instant),
@@ -41,24 +42,26 @@ pub fn utc_text(second: u32) -> [u8; 20] {
     }
 }
 
+/// Characters of a second as text.
+pub fn text_of(characters: &[u8]) -> &str {
+    from_utf8(characters).unwrap_or("")
+}
+
 /// Adds the stamp of a telegram at a second: `YYMMDDhhmmss` and the season mark, `S` or `W`.
 pub fn push_stamp(text: &mut String, second: u32) -> Result<(), AllocError> {
     let is_summer = SUMMER[0] <= second && second < SUMMER[1];
     let ahead = if is_summer { 7200 } else { 3600 };
     let local = utc_text(second.saturating_add(ahead));
-    push_bytes(text, &local[2..4])?;
-    push_bytes(text, &local[5..7])?;
-    push_bytes(text, &local[8..10])?;
-    push_bytes(text, &local[11..13])?;
-    push_bytes(text, &local[14..16])?;
-    push_bytes(text, &local[17..19])?;
+    push_digits(text, &local[2..19])?;
     text.push(if is_summer { 'S' } else { 'W' })
 }
 
-/// Adds characters.
-pub fn push_bytes(text: &mut String, bytes: &[u8]) -> Result<(), AllocError> {
-    for byte in bytes {
-        text.push(char::from(*byte))?;
+/// Adds the digits among characters.
+pub fn push_digits(text: &mut String, characters: &[u8]) -> Result<(), AllocError> {
+    for byte in characters {
+        if matches!(*byte, b'0'..=b'9') {
+            text.push(char::from(*byte))?;
+        }
     }
     Ok(())
 }

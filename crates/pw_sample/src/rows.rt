@@ -4,8 +4,7 @@ use crate::fault::Fault;
 use crate::figures::more;
 use crate::folder::Folder;
 use crate::meter::{Levels, Meter};
-use crate::moment::{push_bytes, utc_text};
-use crate::office::push_account;
+use crate::moment::{text_of, utc_text};
 use std::alloc::{AllocError, Global};
 use std::mem;
 
@@ -44,21 +43,19 @@ impl Rows {
             Comes::Today => &mut self.today,
             Comes::Tomorrow => &mut self.tomorrow,
         };
-        rows.push_str(row)?;
-        rows.push('\n')
+        writeln!(rows, "{row}")
     }
 
     /// Makes a file of the rows that come today, and counts it, if there are any; those of tomorrow are the next.
     pub fn make_file(&mut self, folder: &mut Folder<'_>, files: &mut u32) -> Result<(), Fault> {
-        let tomorrow = mem::replace(&mut self.tomorrow, String::new(self.alloc));
-        let rows = mem::replace(&mut self.today, tomorrow);
-        if rows.is_empty() {
-            return Ok(());
+        if !self.today.is_empty() {
+            more(files, 1);
+            let text = format!(in self.alloc; "{}{}", self.header, self.today)?;
+            folder.put(self.kind, text.as_bytes())?;
+            self.today.clear();
         }
-        let mut text = String::from_str(self.alloc, self.header)?;
-        text.push_str(rows.as_str())?;
-        more(files, 1);
-        folder.put(self.kind, text.as_bytes())
+        mem::swap(&mut self.today, &mut self.tomorrow);
+        Ok(())
     }
 }
 
@@ -69,29 +66,28 @@ pub fn assignment_row(
     start: u32,
     owner: Option<u32>,
 ) -> Result<String, AllocError> {
-    let mut row = String::from_str(alloc, meter.id.as_str())?;
-    row.push(',')?;
-    push_bytes(&mut row, &utc_text(start))?;
-    row.push(',')?;
-    if let Some(account) = owner {
-        push_account(&mut row, account)?;
+    let (id, utc) = (meter.id.as_str(), utc_text(start));
+    let start = text_of(&utc);
+    match owner {
+        Some(account) => {
+            let number = account.saturating_add(1);
+            format!(in alloc; "{id},{start},A{number:03}")
+        }
+        None => format!(in alloc; "{id},{start},"),
     }
-    Ok(row)
 }
 
 /// An account's payment of so many cents at a second.
 pub fn topup_row(
     alloc: Global,
-    number: u32,
+    payment: u32,
     account: u32,
     cents: u64,
     second: u32,
 ) -> Result<String, AllocError> {
-    let mut row = format!(in alloc; "P{number:06},")?;
-    push_account(&mut row, account)?;
-    write!(row, ",{cents},")?;
-    push_bytes(&mut row, &utc_text(second))?;
-    Ok(row)
+    let (number, utc) = (account.saturating_add(1), utc_text(second));
+    let instant = text_of(&utc);
+    format!(in alloc; "P{payment:06},A{number:03},{cents},{instant}")
 }
 
 /// A reading of a meter's first register at a second.
@@ -102,9 +98,7 @@ pub fn reading_row(
     second: u32,
 ) -> Result<String, AllocError> {
     let (register, energy) = meter.first_register(levels);
-    let mut row = String::from_str(alloc, meter.id.as_str())?;
-    write!(row, ",{register},")?;
-    push_bytes(&mut row, &utc_text(second))?;
-    write!(row, ",{energy}")?;
-    Ok(row)
+    let (id, utc) = (meter.id.as_str(), utc_text(second));
+    let instant = text_of(&utc);
+    format!(in alloc; "{id},{register},{instant},{energy}")
 }

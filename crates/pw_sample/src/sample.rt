@@ -5,7 +5,7 @@ use crate::draws::Draws;
 use crate::fault::Fault;
 use crate::figures::{Figures, more};
 use crate::folder::Folder;
-use crate::meter::{Clock, Meter, NO_PLAN, Plan, first_account};
+use crate::meter::{Meter, Plan, first_account};
 use crate::moment::{QUARTERS, day_begin, first_midnight, noon};
 use crate::office::{account_list, office_text};
 use crate::rows::{Comes, topup_row};
@@ -39,9 +39,6 @@ pub fn make_sample(
     let mut draws = Draws::new(seed);
     let accounts = first_account(meters.saturating_sub(1)).saturating_add(1);
     let meters = all_meters(alloc, meters, &mut draws)?;
-    let office = office_text(alloc, accounts, noon(days / 2), meters.as_slice())?;
-    folder.write("office.toml", office.as_bytes())?;
-    folder.write("accounts", account_list(alloc, accounts)?.as_bytes())?;
     let figures = Figures::of(accounts, meters.as_slice());
     let mut cooperative = Cooperative {
         alloc,
@@ -51,11 +48,7 @@ pub fn make_sample(
         meters,
         payments: 0,
     };
-    cooperative.open()?;
-    for day in 0..days {
-        cooperative.pass(day, days / 2)?;
-    }
-    cooperative.close()
+    cooperative.make(days)
 }
 
 fn all_meters(alloc: Global, count: u32, draws: &mut Draws) -> Result<Vec<Meter>, Fault> {
@@ -67,6 +60,25 @@ fn all_meters(alloc: Global, count: u32, draws: &mut Draws) -> Result<Vec<Meter>
 }
 
 impl<'a> Cooperative<'a> {
+    // The office file, the accounts and so many days of uploads, with the fall in the middle.
+    fn make(&mut self, days: u32) -> Result<(), Fault> {
+        let fall = days / 2;
+        self.write_office(noon(fall))?;
+        self.open()?;
+        for day in 0..days {
+            self.pass(day, fall)?;
+        }
+        self.close()
+    }
+
+    // The office file, whose second tariff period begins at a second, and the list of the accounts.
+    fn write_office(&self, later: u32) -> Result<(), Fault> {
+        let office = office_text(self.alloc, self.accounts, later, self.meters.as_slice())?;
+        self.desk.folder.write("office.toml", office.as_bytes())?;
+        let accounts = account_list(self.alloc, self.accounts)?;
+        self.desk.folder.write("accounts", accounts.as_bytes())
+    }
+
     // The first assignments, and a top-up of each account.
     fn open(&mut self) -> Result<(), Fault> {
         for meter in self.meters.iter() {
@@ -111,7 +123,7 @@ impl<'a> Cooperative<'a> {
 
     fn take_readouts(&mut self, day: u32) -> Result<(), Fault> {
         for meter in self.meters.iter_mut() {
-            if meter.clock != Clock::Marked {
+            if !meter.sends_telegrams() {
                 let drawn = self.draws.below(6);
                 self.desk.take_readout(meter, day, drawn == 0, drawn == 1)?;
             }
@@ -121,10 +133,9 @@ impl<'a> Cooperative<'a> {
 
     fn make_plans(&mut self, day: u32) {
         for meter in self.meters.iter_mut() {
-            meter.plan = match meter.clock {
-                Clock::Marked => plan_of(day == 0 && meter.number == 0, &mut self.draws),
-                _ => NO_PLAN,
-            };
+            if meter.sends_telegrams() {
+                meter.plan = plan_of(day == 0 && meter.number == 0, &mut self.draws);
+            }
         }
     }
 
@@ -134,7 +145,7 @@ impl<'a> Cooperative<'a> {
                 meter.set_back();
                 more(&mut self.desk.figures.falls, 1);
             }
-            if meter.clock == Clock::Marked {
+            if meter.sends_telegrams() {
                 self.desk.take(meter, day, quarter)?;
             }
             meter.pass(quarter, &mut self.draws);
@@ -215,8 +226,7 @@ impl<'a> Cooperative<'a> {
         let second = self.draws.below(36_000) as u32;
         let instant = day_begin(day).saturating_add(28_800).saturating_add(second);
         let cents = self.draws.below(190).saturating_add(10).saturating_mul(100);
-        let row = topup_row(self.alloc, self.payments, account, cents, instant)?;
-        Ok(row)
+        Ok(topup_row(self.alloc, self.payments, account, cents, instant)?)
     }
 }
 

@@ -192,7 +192,7 @@ impl Peers {
         ensures bounded { C.moves connections.new ≤ C.moves connections.old }
     {
         if has_large(&self.rows, number) {
-            self.place = Some(number);
+            self.place = self.place.or(Some(number));
         } else if self.place == Some(number) {
             self.place = None;
         }

@@ -1,6 +1,6 @@
-//! The book over each kind of store: records of all kinds by the definitions, devices that fail, memory that is refused,
-//! and counts of calls. Each row is a function of what makes such books. (What commands show of worked rows, over a store
-//! in memory and over SQL, stands in cases.)
+//! The book over each kind of store: records of all kinds by the definitions, devices that fail, and counts of calls.
+//! Each row is a function of what makes such books. (What commands show of worked rows, over a store in memory and over
+//! SQL, stands in cases; what they do where memory is refused, in `tests/memory`.)
 
 ghost use Rattle.std.specs.Prelude.{◌≡◌, None, IfOk, false};
 ghost use Rattle.pw_model.specs.Shelf.{no_content};
@@ -10,7 +10,6 @@ pub mod asking;
 mod counted;
 mod kept;
 mod limits;
-mod memory;
 mod periods;
 mod questions;
 mod sql;

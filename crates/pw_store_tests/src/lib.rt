@@ -11,6 +11,8 @@ mod entries;
 #[cfg(test)]
 mod schema;
 #[cfg(test)]
+mod server;
+#[cfg(test)]
 mod sql_stores;
 #[cfg(test)]
 mod store;

@@ -1,14 +1,13 @@
-//! Tables made in memory, and rows of tables judged.
+//! Rows of tables, judged: such as no store that opens has. (How stores that have such are refused: `tests/stores`.)
 
-use crate::sql_stores::{execute, memory};
+use crate::sql_stores::memory;
 use pw_model::Entry;
 use pw_schema::{
-    Judge, JudgeFault, ReadFault, RecordKind, Records, Rowids, StoreVersion, begin, begins_as_ours,
-    commit, contents_in, create, is_nothing, is_of, keeps_office, read_rows, roll_back,
+    Judge, JudgeFault, ReadFault, RecordKind, Records, Rowids, contents_in, read_rows,
 };
 use pw_tariff::Office;
 use pw_tests::offices::SAMPLE;
-use sqlite::{Connection, Error, MemStore, Row};
+use sqlite::Row;
 use std::alloc::Global;
 use std::process::Abort;
 
@@ -33,92 +32,6 @@ fn judged(
         records.take(row)?;
     }
     Ok(records.into_entries())
-}
-
-fn new_store(rt: &impl Abort, alloc: Global) -> Connection<MemStore> {
-    let mut conn = Connection::open_in_memory(alloc).expect(rt, "a connection");
-    create(&mut conn, b"text".as_slice()).expect(rt, "tables");
-    conn
-}
-
-// Whether the tables are ours behind a statement.
-fn are_ours_behind(rt: &impl Abort, conn: &mut Connection<MemStore>, statement: &str) -> bool {
-    execute(rt, conn, statement);
-    is_of(conn.schema(), StoreVersion::Third)
-}
-
-// The rows of `office`.
-fn office_rows(rt: &impl Abort, conn: &mut Connection<MemStore>) -> Vec<Row> {
-    let asked = "SELECT version, body FROM office WHERE id = 1";
-    conn.query_all(asked, &[]).expect(rt, "rows")
-}
-
-// Whether a connection has nothing.
-fn has_nothing(conn: &Connection<MemStore>) -> bool {
-    is_nothing(conn.schema()) && !is_of(conn.schema(), StoreVersion::Third)
-}
-
-// Whether a new store has our tables and the text of its office, and with another table begins as ours.
-fn is_made(rt: &impl Abort, conn: &mut Connection<MemStore>) -> bool {
-    is_of(conn.schema(), StoreVersion::Third)
-        && !is_nothing(conn.schema())
-        && !is_of(conn.schema(), StoreVersion::Second)
-        && is_text_kept(rt, conn)
-        && !are_ours_behind(rt, conn, "CREATE TABLE other (id INTEGER) STRICT")
-        && begins_as_ours(conn.schema())
-}
-
-// Whether the text of the office is kept, and no other.
-fn is_text_kept(rt: &impl Abort, conn: &mut Connection<MemStore>) -> bool {
-    let kept = office_rows(rt, conn);
-    let rows = kept.as_slice();
-    keeps_office(rows, StoreVersion::Third, b"text".as_slice())
-        && !keeps_office(rows, StoreVersion::Third, b"test".as_slice())
-        && !keeps_office(rows, StoreVersion::Second, b"text".as_slice())
-        && !keeps_office(rows, StoreVersion::First, b"text".as_slice())
-}
-
-// bears on: pw_schema make.rt create made
-// bears on: pw_schema make.rt create memory
-// bears on: pw_schema office.rt keeps_office all
-// bears on: pw_schema office.rt keeps_office is
-// bears on: pw_schema shape.rt begins_as_ours ensures
-// bears on: pw_schema shape.rt is_nothing ensures
-// bears on: pw_schema shape.rt is_of ensures
-#[test]
-fn tables_that_are_made_are_ours(rt: HostRuntime) {
-    assert!(rt; has_nothing(&memory(&rt, rt.alloc())));
-    assert!(rt; is_made(&rt, &mut new_store(&rt, rt.alloc())));
-}
-
-// How many rows there are behind an upload of one, which is committed or rolled back.
-fn rows_behind(conn: &mut Connection<MemStore>, is_committed: bool) -> Result<usize, Error> {
-    begin(conn)?;
-    conn.execute(
-        "INSERT INTO start (meter, start, owner) VALUES (0, 1, 2)",
-        &[],
-    )?;
-    if is_committed {
-        commit(conn)?;
-    } else {
-        roll_back(conn)?;
-    }
-    let rows = conn.query_all("SELECT meter FROM start", &[])?;
-    Ok(rows.len())
-}
-
-// bears on: pw_schema make.rt create idle
-// bears on: pw_schema transactions.rt begin begun
-// bears on: pw_schema transactions.rt begin memory
-// bears on: pw_schema transactions.rt commit done
-// bears on: pw_schema transactions.rt commit memory
-// bears on: pw_schema transactions.rt roll_back memory
-// bears on: pw_schema transactions.rt roll_back undone
-#[test]
-fn an_upload_is_rolled_back_or_committed(rt: HostRuntime) {
-    let mut conn = new_store(&rt, rt.alloc());
-    assert!(rt; rows_behind(&mut conn, false).ok() == Some(0));
-    assert!(rt; rows_behind(&mut conn, true).ok() == Some(1));
 }
 
 // Rows that are no records of the office.
@@ -148,24 +61,33 @@ const FOREIGN: [(RecordKind, &str); 17] = [
     (RecordKind::TopUps, "SELECT 'P1', 0, 1, 4102444800"),
 ];
 
-// Whether a row that a text shows is no record of the office.
-fn is_foreign(rt: &impl Abort, alloc: Global, kind: RecordKind, text: &str) -> bool {
-    judged(rt, alloc, kind, text).err() == Some(JudgeFault::Foreign)
+// Records of the office in the wrong order.
+const TWISTED: (RecordKind, &str) = (
+    RecordKind::Readings,
+    "SELECT 0, 5, 1704067200, 2 UNION ALL SELECT 0, 5, 1704067200, 1",
+);
+
+// Whether the rows that a text shows are refused for this cause.
+fn are_refused(
+    rt: &impl Abort,
+    alloc: Global,
+    kind: RecordKind,
+    text: &str,
+    fault: JudgeFault,
+) -> bool {
+    judged(rt, alloc, kind, text).err() == Some(fault)
 }
 
-// Whether two rows that a text shows are records in the wrong order.
-fn are_in_wrong_order(rt: &impl Abort, alloc: Global, text: &str) -> bool {
+// Whether the rows that a text shows can't be read as records in their order.
+fn are_wrong(rt: &impl Abort, alloc: Global, kind: RecordKind, text: &str) -> bool {
     let rows = rows(rt, alloc, text);
-    let read = read_rows(alloc, RecordKind::Readings, rows.as_slice());
-    let judged = judged(rt, alloc, RecordKind::Readings, text);
-    read.err() == Some(ReadFault::Wrong) && judged.err() == Some(JudgeFault::Unordered)
+    read_rows(alloc, kind, rows.as_slice()).err() == Some(ReadFault::Wrong)
 }
 
 // bears on: pw_schema judge.rt Judge::take took
 // bears on: pw_schema judging.rt record_in some
 // bears on: pw_schema reading.rt entry_of kinds
-// bears on: pw_schema reading.rt read_rows found
-// bears on: pw_schema reading.rt read_rows memory
+// bears on: pw_schema reading.rt read_rows wrong
 // bears on: pw_schema records.rt Records::new memory
 // bears on: pw_schema records.rt Records::new kind
 // bears on: pw_schema records.rt Records::new office
@@ -177,10 +99,11 @@ fn are_in_wrong_order(rt: &impl Abort, alloc: Global, text: &str) -> bool {
 #[test]
 fn rows_that_are_no_records_of_the_office_are_foreign(rt: HostRuntime) {
     for (kind, text) in FOREIGN {
-        assert!(rt; is_foreign(&rt, rt.alloc(), kind, text));
+        assert!(rt; are_refused(&rt, rt.alloc(), kind, text, JudgeFault::Foreign));
     }
-    let twisted = "SELECT 0, 5, 1704067200, 2 UNION ALL SELECT 0, 5, 1704067200, 1";
-    assert!(rt; are_in_wrong_order(&rt, rt.alloc(), twisted));
+    let (kind, twisted) = TWISTED;
+    assert!(rt; are_wrong(&rt, rt.alloc(), kind, twisted));
+    assert!(rt; are_refused(&rt, rt.alloc(), kind, twisted, JudgeFault::Unordered));
 }
 
 // Rows at a key, and whether they show a content: at the ends of what one can have, and behind these.

@@ -1,5 +1,5 @@
-//! Tests of the crates below by public calls alone: memory, devices and wires that fail, and calls that no command makes.
-//! (Rows worked out by hand, and texts that are refused, stand in `cases/`.)
+//! Tests of the crates below by public calls alone: memory and devices that fail, and calls that no command makes. (Rows
+//! worked out by hand, and texts that are refused, stand in `cases/`; streams that fail in `tests/words`.)
 #![tactic(auto)]
 
 pub mod books;
@@ -14,8 +14,6 @@ mod http;
 mod new_books;
 pub mod offices;
 #[cfg(test)]
-mod read;
-#[cfg(test)]
 mod record;
 #[cfg(test)]
 mod report;
@@ -26,7 +24,5 @@ mod shelf;
 mod streams;
 #[cfg(test)]
 mod time;
-#[cfg(test)]
-mod uploads;
 #[cfg(test)]
 mod words;

@@ -1,6 +1,6 @@
-//! Readers and writers that fail.
+//! A reader that fails.
 
-use std::io::{self, ErrorKind, Read, Write};
+use std::io::{self, ErrorKind, Read};
 
 /// Gives one byte a call, and so many calls; then it fails. It counts its calls.
 #[derive(Drop)]
@@ -28,31 +28,5 @@ pub fn byte_by_byte(bytes: &[u8], left: usize) -> ByteByByte<'_> {
         bytes,
         left,
         calls: 0,
-    }
-}
-
-/// Keeps what it takes: at most so many bytes a call, as long as it has room. Then it fails, or takes none without a
-/// fault.
-#[derive(Drop)]
-pub struct Narrow {
-    pub text: Vec<u8>,
-    pub room: usize,
-    pub most: usize,
-    pub fails: bool,
-}
-
-impl Write for Narrow {
-    fn write(&mut self, bytes: &[u8]) -> io::Result<usize> {
-        let count = bytes.len().min(self.room).min(self.most);
-        if count == 0 && self.fails && !bytes.is_empty() {
-            return Err(io::Error::from(ErrorKind::StorageFull));
-        }
-        self.text.extend_from_slice(&bytes[..count])?;
-        self.room -= count;
-        Ok(count)
-    }
-
-    fn flush(&mut self) -> io::Result<()> {
-        Ok(())
     }
 }

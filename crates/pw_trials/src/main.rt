@@ -1,8 +1,7 @@
 //! A program for the tests alone. Without words it makes trials: each call that takes no memory, made while none is given.
 //!
-//! `figures FOLDER` tells in place of that the figures of a made cooperative's records, as the plain program of the
-//! definitions computes them: `tests/sample` compares powerbook's with them. `calls OFFICE_FILE` answers each line of the
-//! input, a call in words: cases of `cases/` make calls so that no command shows.
+//! `calls OFFICE_FILE` answers in place of that each line of the input, a call in words: cases of `cases/` make calls so
+//! that no command shows, and `tests/sample` compares powerbook's figures with those of the plain program of the definitions.
 //!
 //! Between the lines `no memory` and `memory again` nothing may ask for memory. Between `one may be refused` and `all is
 //! given` a call answers that memory was refused, and is right when it is made again. The script `tests/no_memory` runs it
@@ -10,19 +9,14 @@
 #![tactic(auto)]
 
 mod calls;
-mod figures;
-mod folder;
-mod frames;
-mod instants;
-mod offices;
 mod posts;
-mod sets;
 mod shelves;
 mod shut;
 mod uploads;
 
 ghost use Rattle.std.specs.Prelude.{IsSome};
 
+use calls::entries::records_of;
 use pw_book::Book;
 use pw_shelf::{MemoryShelf, Shelf};
 use pw_tariff::Office;
@@ -70,7 +64,6 @@ fn status_of(rt: &HostRuntime) -> u8 {
         return trials(rt);
     };
     match (task.as_str(), words.next()) {
-        ("figures", Some(folder)) => folder::tell_figures(rt, &folder),
         ("calls", Some(office)) => calls::answer_calls(rt, &office),
         _ => NOT_UNDERSTOOD,
     }
@@ -88,7 +81,7 @@ fn trials(rt: &HostRuntime) -> u8 {
 // The calls that take no memory; whether what they need could be made. (Each store is made by a function that lends it.)
 fn without_memory<O: Write>(out: &mut O, alloc: Global) -> bool {
     let mut begun = MemoryShelf::new(alloc);
-    shelves::is_begun(&mut begun) && beside_begun(out, alloc, &mut begun)
+    uploads::is_changed(&mut begun) && beside_begun(out, alloc, &mut begun)
 }
 
 fn beside_begun<O: Write, S: Shelf>(out: &mut O, alloc: Global, begun: &mut S) -> bool
@@ -110,7 +103,6 @@ fn beside_changed<O: Write, S: Shelf, T: Shelf>(
     match Office::read(alloc, OFFICE.as_bytes()) {
         Ok(office) => {
             tell(out, b"no memory\n");
-            tell_values(out, &office);
             tell_stores(out, begun, changed);
             tell_made(out, alloc, office);
             tell(out, b"memory again\n");
@@ -118,13 +110,6 @@ fn beside_changed<O: Write, S: Shelf, T: Shelf>(
         }
         Err(_) => false,
     }
-}
-
-fn tell_values<O: Write>(out: &mut O, office: &Office) {
-    tell_trial(out, instants::are_right(), b"instants right\n");
-    tell_trial(out, frames::are_right(), b"frames right\n");
-    tell_trial(out, sets::are_right(), b"data sets right\n");
-    tell_trial(out, offices::is_right(office), b"office right\n");
 }
 
 fn tell_stores<O: Write, S: Shelf, T: Shelf>(out: &mut O, begun: &mut S, changed: &mut T)
@@ -178,10 +163,20 @@ fn posted_with_one_refused<O: Write, S: Shelf>(
     book: &mut Book<S>,
 ) -> bool {
     let is_filled = posts::is_filled(alloc, book);
+    let Some(upload) = records_of(alloc, book.office(), &posts::UPLOAD) else {
+        return false;
+    };
+    let Some(records) = records_of(alloc, book.office(), &posts::RECORDS) else {
+        return false;
+    };
     tell(out, b"one may be refused\n");
-    let are_told = posts::are_told(alloc, book.office(), book.zone());
+    let are_told = posts::are_told(alloc, book.office(), book.zone(), &records);
     tell_trial(out, are_told, b"parts right\n");
-    tell_trial(out, posts::is_taken(alloc, book), b"upload right\n");
+    tell_trial(
+        out,
+        posts::is_taken(alloc, book, &upload),
+        b"upload right\n",
+    );
     tell(out, b"all is given\n");
     tell(out, b"done\n");
     is_filled

@@ -4,75 +4,68 @@ ghost use Rattle.std.specs.Prelude.{IsTrue, ◌↔◌};
 ghost use Rattle.pw_model.specs.Office.{AllOfOffice};
 ghost use Rattle.pw_tariff.specs.Office.{office_of};
 
-use crate::shelves::payment;
+use crate::calls::entries::records_of;
 use pw_book::{Accepted, Book, PostFault, true_parts};
 use pw_model::plain::{self, OfficeTerms};
-use pw_model::{Content, Entry, Key, TotalKey};
-use pw_obis::{Register, WattHours};
+use pw_model::{Entry, TotalKey};
 use pw_shelf::Shelf;
-use pw_tariff::{AccountId, BandId, Direction, MeterId, Office, Owner, PeriodId};
-use pw_time::{Instant, Zone};
+use pw_tariff::{AccountId, BandId, Direction, Office, PeriodId};
+use pw_time::Zone;
 use std::alloc::{AllocError, Global};
 
-// 2024-01-02T05:00:00Z, and the hours behind it.
-const FIVE: u32 = 1_704_171_600;
+// The most records of an office.
+const MOST_RECORDS: usize = 10_000_000;
 
-const SIX: u32 = FIVE + 3_600;
+// An assignment and three readings.
+const FIRST: [&str; 4] = [
+    "assignment 4D31 2024-01-02T04:00:00Z A1",
+    "reading 4D31 I1 2024-01-02T05:00:00Z 1000000",
+    "reading 4D31 I1 2024-01-02T06:00:00Z 1001000",
+    "reading 4D31 I1 2024-01-02T07:00:00Z 1003001",
+];
 
-const SEVEN: u32 = FIVE + 7_200;
+/// A late reading, one that disputes another, and an assignment.
+pub(crate) const UPLOAD: [&str; 3] = [
+    "reading 4D31 I1 2024-01-02T06:30:00Z 1002000",
+    "reading 4D31 I1 2024-01-02T06:00:00Z 1001500",
+    "assignment 4D31 2024-01-02T06:15:00Z A2",
+];
+
+/// A meter that is given back, readings of two hours, two unlike ones between them, and a payment.
+pub(crate) const RECORDS: [&str; 7] = [
+    "assignment 4D31 2024-01-02T04:00:00Z A1",
+    "assignment 4D31 2024-01-02T06:00:00Z -",
+    "reading 4D31 I1 2024-01-02T07:00:00Z 1003001",
+    "reading 4D31 I1 2024-01-02T06:00:00Z 1001000",
+    "reading 4D31 I1 2024-01-02T06:00:00Z 1001500",
+    "reading 4D31 I1 2024-01-02T05:00:00Z 1000000",
+    "topup P1 A1 5000 2000-01-01T00:00:00Z",
+];
+
+// What an account imported in a band.
+type Figure = (AccountId, BandId, u64);
 
 // What the two accounts imported in each band before the upload, and behind it.
-const BEFORE: [u64; 4] = [1_000, 2_001, 0, 0];
+const BEFORE: [Figure; 4] = [
+    (AccountId(0), BandId(0), 1_000),
+    (AccountId(0), BandId(1), 2_001),
+    (AccountId(1), BandId(0), 0),
+    (AccountId(1), BandId(1), 0),
+];
 
-const BEHIND: [u64; 4] = [1_333, 333, 0, 1_335];
+const BEHIND: [Figure; 4] = [
+    (AccountId(0), BandId(0), 1_333),
+    (AccountId(0), BandId(1), 333),
+    (AccountId(1), BandId(0), 0),
+    (AccountId(1), BandId(1), 1_335),
+];
 
 /// Whether a book takes an assignment and three readings.
 pub(crate) fn is_filled<S: Shelf>(alloc: Global, book: &mut Book<S>) -> bool {
-    match first_upload() {
+    match records_of(alloc, book.office(), &FIRST) {
         Some(entries) => post(alloc, book, &entries) == Ok((4, 0)),
         None => false,
     }
-}
-
-fn first_upload() -> Option<[Entry; 4]> {
-    Some([
-        assigned(FIVE - 3_600, Some(AccountId(0)))?,
-        reading(FIVE, 1_000_000)?,
-        reading(SIX, 1_001_000)?,
-        reading(SEVEN, 1_003_001)?,
-    ])
-}
-
-// A late reading, one that disputes another, and an assignment.
-fn upload() -> Option<[Entry; 3]> {
-    Some([
-        reading(SIX + 1_800, 1_002_000)?,
-        reading(SIX, 1_001_500)?,
-        assigned(SIX + 900, Some(AccountId(1)))?,
-    ])
-}
-
-fn reading(second: u32, watt_hours: u64) -> Option<Entry> {
-    Some(Entry {
-        key: Key::Reading {
-            meter: MeterId(0),
-            register: Register::I1,
-            instant: Instant::of(second)?,
-        },
-        content: Content::Reading {
-            wh: WattHours::of(watt_hours)?,
-        },
-    })
-}
-
-fn assigned(second: u32, owner: Owner) -> Option<Entry> {
-    Some(Entry {
-        key: Key::Assignment {
-            meter: MeterId(0),
-            start: Instant::of(second)?,
-        },
-        content: Content::Assignment { owner },
-    })
 }
 
 fn are_of_office(office: &Office, zone: &Zone, entries: &[Entry]) -> bool
@@ -95,13 +88,14 @@ pub(crate) fn post<S: Shelf>(
     Ok((fresh, repeated))
 }
 
-// Whether the two accounts imported this in each band.
-fn are_figures<S: Shelf>(book: &mut Book<S>, figures: [u64; 4]) -> bool {
-    let [low, high, other_low, other_high] = figures;
-    is_imported(book, AccountId(0), BandId(0), low)
-        && is_imported(book, AccountId(0), BandId(1), high)
-        && is_imported(book, AccountId(1), BandId(0), other_low)
-        && is_imported(book, AccountId(1), BandId(1), other_high)
+// Whether the accounts imported this.
+fn are_figures<S: Shelf>(book: &mut Book<S>, figures: &[Figure]) -> bool {
+    for (account, band, wh) in figures {
+        if !is_imported(book, *account, *band, *wh) {
+            return false;
+        }
+    }
+    true
 }
 
 fn is_imported<S: Shelf>(book: &mut Book<S>, account: AccountId, band: BandId, wh: u64) -> bool {
@@ -112,37 +106,16 @@ fn is_imported<S: Shelf>(book: &mut Book<S>, account: AccountId, band: BandId, w
 }
 
 /// Whether an upload is taken: at once, or, where it is refused for want of memory, with all as before, at the next try.
-pub(crate) fn is_taken<S: Shelf>(alloc: Global, book: &mut Book<S>) -> bool {
-    let Some(entries) = upload() else {
-        return false;
+pub(crate) fn is_taken<S: Shelf>(alloc: Global, book: &mut Book<S>, entries: &[Entry]) -> bool {
+    let told = match post(alloc, book, entries) {
+        Err(PostFault::Memory) if is_as_before(book) => post(alloc, book, entries),
+        told => told,
     };
-    match post(alloc, book, &entries) {
-        Ok(both) => both == (3, 0) && are_figures(book, BEHIND),
-        Err(fault) => fault == PostFault::Memory
-            && is_as_before(book)
-            && is_taken_then(alloc, book, &entries),
-    }
+    told == Ok((3, 0)) && book.count() == Ok(7) && are_figures(book, &BEHIND)
 }
 
 fn is_as_before<S: Shelf>(book: &mut Book<S>) -> bool {
-    book.count() == Ok(4) && are_figures(book, BEFORE)
-}
-
-fn is_taken_then<S: Shelf>(alloc: Global, book: &mut Book<S>, entries: &[Entry]) -> bool {
-    post(alloc, book, entries) == Ok((3, 0)) && book.count() == Ok(7) && are_figures(book, BEHIND)
-}
-
-// A meter that is given back, readings of two hours, two unlike ones between them, and a payment.
-fn records() -> Option<[Entry; 7]> {
-    Some([
-        assigned(FIVE - 3_600, Some(AccountId(0)))?,
-        assigned(SIX, None)?,
-        reading(SEVEN, 1_003_001)?,
-        reading(SIX, 1_001_000)?,
-        reading(SIX, 1_001_500)?,
-        reading(FIVE, 1_000_000)?,
-        payment()?,
-    ])
+    book.count() == Ok(4) && are_figures(book, &BEFORE)
 }
 
 // The second hour is of the second period.
@@ -174,13 +147,10 @@ const TOTALS: [(TotalKey, u64); 3] = [
 ];
 
 /// Whether the parts of records are told: at once, or at the next try.
-pub(crate) fn are_told(alloc: Global, office: &Office, zone: &Zone) -> bool {
-    let Some(entries) = records() else {
-        return false;
-    };
-    match are_parts_right(alloc, office, zone, &entries) {
+pub(crate) fn are_told(alloc: Global, office: &Office, zone: &Zone, entries: &[Entry]) -> bool {
+    match are_parts_right(alloc, office, zone, entries) {
         Ok(are_right) => are_right,
-        Err(_) => are_parts_right(alloc, office, zone, &entries) == Ok(true),
+        Err(_) => are_parts_right(alloc, office, zone, entries) == Ok(true),
     }
 }
 
@@ -188,9 +158,9 @@ fn are_parts_right(
     alloc: Global,
     office: &Office,
     zone: &Zone,
-    entries: &[Entry; 7],
+    entries: &[Entry],
 ) -> Result<bool, AllocError> {
-    if !are_of_office(office, zone, entries) {
+    if entries.len() > MOST_RECORDS || !are_of_office(office, zone, entries) {
         return Ok(false);
     }
     let parts = true_parts(alloc, office, zone, entries)?;

@@ -1,47 +1,20 @@
 //! The calls on a store in memory, and on a book over it.
 
-ghost use Rattle.std.specs.Prelude.{◌≡◌, ◌≤◌, IsSome, IsTrue, None};
+ghost use Rattle.std.specs.Prelude.{◌≡◌, ◌≤◌, IsSome, None};
 ghost use Rattle.pw_model.specs.Office.{most_records};
 ghost use Rattle.pw_model.specs.Shelf.{no_content};
 
 use pw_book::Book;
-use pw_model::{Content, Entry, Key, Reference};
 use pw_shelf::{CountShelf, MemoryShelf, Shelf};
-use pw_tariff::{AccountId, Office};
-use pw_time::{FIRST_SECOND, Instant, Zone};
+use pw_tariff::Office;
+use pw_time::Zone;
 use std::alloc::Global;
-
-/// Begins an upload of one record, which is neither ended nor taken back; whether that was done.
-pub(crate) fn is_begun<S: Shelf>(shelf: &mut S) -> bool
-    requires empty { (S.state shelf.old).content ≡ no_content }
-    requires idle { (S.state shelf.old).begun ≡ None }
-    ensures { IsTrue result → IsSome (S.state shelf.new).begun }
-{
-    match payment() {
-        Some(entry) => shelf.begin().is_ok() && shelf.add(&entry).is_ok(),
-        None => false,
-    }
-}
-
-/// A payment of the first account.
-pub(crate) fn payment() -> Option<Entry> {
-    let reference = Reference::of(b"P1")?;
-    let instant = Instant::of(FIRST_SECOND)?;
-    Some(Entry {
-        key: Key::TopUp { reference },
-        content: Content::TopUp {
-            account: AccountId(0),
-            cents: 5_000,
-            instant,
-        },
-    })
-}
 
 /// Whether an upload is taken back.
 pub(crate) fn is_taken_back<S: Shelf>(shelf: &mut S) -> bool
     requires { IsSome (S.state shelf.old).begun }
 {
-    shelf.abandon().is_ok() && shelf.count() == Ok(0)
+    shelf.abandon().is_ok() && shelf.count() == Ok(15)
 }
 
 /// A book over a store that holds nothing.

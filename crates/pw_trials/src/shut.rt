@@ -3,8 +3,9 @@
 ghost use Rattle.std.specs.Prelude.{IsTrue};
 ghost use Rattle.pw_report.specs.Months.{IsThere};
 
+use crate::calls::entries::record_of;
 use crate::posts::post;
-use crate::shelves::{book_over, payment};
+use crate::shelves::book_over;
 use pw_bills::{bill, days, energy_between, top_ups_between, why};
 use pw_book::{Book, BookFault, PostFault};
 use pw_report::{Month, MonthPage, Page, Table, page_text};
@@ -46,7 +47,7 @@ pub(crate) fn failing_book(alloc: Global, office: Office) -> Book<CountShelf<Mem
 
 /// Whether an upload is answered that the book has to be opened again.
 pub(crate) fn is_refused<S: Shelf>(alloc: Global, book: &mut Book<S>) -> bool {
-    match payment() {
+    match record_of(book.office(), "topup P1 A1 5000 2000-01-01T00:00:00Z") {
         Some(entry) => post(alloc, book, &[entry]) == Err(PostFault::Reopen),
         None => false,
     }

@@ -29,13 +29,12 @@ const MOST: u32 = 10_000_000;
 
 const METER: MeterId = MeterId(0);
 
-// All that a store holds.
+// What a store holds beside totals.
 #[derive(Drop)]
 struct Listed {
     topups: Vec<Entry>,
     points: Vec<(Instant, WattHours)>,
     starts: Vec<(Instant, Owner)>,
-    totals: [u64; 3],
 }
 
 // What can't be made is told as a device's failure, which the trial refuses.
@@ -136,7 +135,15 @@ pub(crate) fn is_changed<S: Shelf>(shelf: &mut S) -> bool
     requires { (S.state shelf.old).begun ≡ None }
     ensures { IsTrue result → IsSome (S.state shelf.new).begun }
 {
-    is_filled(shelf) && shelf.begin().is_ok() && change(shelf).is_ok()
+    is_filled(shelf) && is_begun(shelf)
+}
+
+// Whether an upload is begun with all changes.
+fn is_begun<S: Shelf>(shelf: &mut S) -> bool
+    requires { (S.state shelf.old).begun ≡ None }
+    ensures { IsTrue result → IsSome (S.state shelf.new).begun }
+{
+    shelf.begin().is_ok() && change(shelf).is_ok()
 }
 
 /// Whether an upload is kept, and another one begun and given up.
@@ -167,7 +174,6 @@ fn is_passed_over<S: Shelf>(shelf: &mut S) -> Result<bool, ShelfFault> {
 fn told<S: Shelf>(alloc: Global, shelf: &mut S) -> Result<Listed, ShelfFault>
     ensures { (S.state shelf.new).begun ≡ (S.state shelf.old).begun }
 {
-    let totals = totals(shelf)?;
     let topups = shelf.topups(alloc)?;
     let starts = shelf.starts_of(alloc, METER)?;
     let points = points(alloc, shelf)?;
@@ -175,17 +181,7 @@ fn told<S: Shelf>(alloc: Global, shelf: &mut S) -> Result<Listed, ShelfFault>
         topups,
         points,
         starts,
-        totals,
     })
-}
-
-fn totals<S: Shelf>(shelf: &mut S) -> Result<[u64; 3], ShelfFault>
-    ensures { (S.state shelf.new).begun ≡ (S.state shelf.old).begun }
-{
-    let added = shelf.total(&total_key(HELD))?;
-    let changed = shelf.total(&total_key(CHANGED))?;
-    let taken = shelf.total(&total_key(TAKEN))?;
-    Ok([added, changed, taken])
 }
 
 fn points<S: Shelf>(alloc: Global, shelf: &mut S) -> Result<Vec<(Instant, WattHours)>, ShelfFault>
@@ -198,10 +194,7 @@ fn points<S: Shelf>(alloc: Global, shelf: &mut S) -> Result<Vec<(Instant, WattHo
 }
 
 fn is_same(a: &Listed, b: &Listed) -> bool {
-    a.topups.as_slice() == b.topups.as_slice()
-        && a.points.as_slice() == b.points.as_slice()
-        && a.starts.as_slice() == b.starts.as_slice()
-        && a.totals == b.totals
+    a.topups == b.topups && a.points == b.points && a.starts == b.starts
 }
 
 // Makes an upload and gives it up; whether it failed for want of memory, or not at all.
@@ -248,7 +241,11 @@ fn is_as_before<S: Shelf>(alloc: Global, shelf: &mut S, before: &Listed) -> bool
     requires { (S.state shelf.old).begun ≡ None }
 {
     match told(alloc, shelf) {
-        Ok(now) => is_whole(before) && is_same(before, &now) && is_kept_then(shelf),
+        Ok(now) => is_whole(before)
+            && is_same(before, &now)
+            && are_totals_as_before(shelf)
+            && is_begun(shelf)
+            && is_kept(shelf),
         Err(_) => false,
     }
 }
@@ -257,9 +254,9 @@ fn is_whole(listed: &Listed) -> bool {
     listed.points.len() == 15 && listed.starts.len() == 15
 }
 
-// Whether the next upload is kept.
-fn is_kept_then<S: Shelf>(shelf: &mut S) -> bool
-    requires { (S.state shelf.old).begun ≡ None }
+// Whether the total that was added isn't there, and the one that was changed is as it was.
+fn are_totals_as_before<S: Shelf>(shelf: &mut S) -> bool
+    ensures { (S.state shelf.new).begun ≡ (S.state shelf.old).begun }
 {
-    shelf.begin().is_ok() && change(shelf).is_ok() && is_kept(shelf)
+    shelf.total(&total_key(HELD)) == Ok(0) && shelf.total(&total_key(CHANGED)) == Ok(7)
 }

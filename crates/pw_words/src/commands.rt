@@ -5,7 +5,7 @@ use pw_report::{MonthPage, Table};
 use pw_time::Clock;
 
 /// Where the uploads of a load stand.
-#[derive(Debug, Drop, PartialEq, Eq)]
+#[derive(Debug, Drop)]
 pub enum Source<'a> {
     /// Files of one kind: one or more.
     Files {
@@ -19,14 +19,14 @@ pub enum Source<'a> {
 }
 
 /// What an account, a meter or a band of an office file is called in another one.
-#[derive(Clone, Copy, Debug, PartialEq, Eq)]
+#[derive(Clone, Copy, Debug)]
 pub struct Renamed<'a> {
     pub old: &'a str,
     pub new: &'a str,
 }
 
 /// What is to be exported.
-#[derive(Clone, Copy, Debug, PartialEq, Eq)]
+#[derive(Clone, Copy, Debug)]
 pub enum Exported<'a> {
     /// A table of the whole book.
     Table(Table),
@@ -35,7 +35,7 @@ pub enum Exported<'a> {
 }
 
 /// What the program's words ask for. Files are told by their paths; a limit is 1 to 10,000,000 records.
-#[derive(Debug, Drop, PartialEq, Eq)]
+#[derive(Debug, Drop)]
 pub enum Command<'a> {
     /// The frames of a body are printed, with the clock that readouts tell their time by.
     Read {

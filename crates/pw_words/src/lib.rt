@@ -5,6 +5,7 @@ mod commands;
 mod fault;
 mod parser;
 mod sample;
+mod vocabulary;
 pub mod words;
 
 pub use commands::{Command, Exported, Renamed, Source};

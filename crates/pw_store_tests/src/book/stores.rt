@@ -1,7 +1,6 @@
 //! The rows over each kind of store: in memory, in memory with its calls counted, and over SQL.
 
 use super::counted::{failing_device, failing_device_and_abandon};
-use super::memory::memory_refused;
 use super::periods::energies_by_period;
 use super::sql::OverSql;
 use super::uploads::agrees_behind_each;
@@ -15,7 +14,6 @@ use std::process::Abort;
 enum Group {
     Uploads,
     Periods,
-    Memory,
     Failures,
 }
 
@@ -33,7 +31,6 @@ fn try_rows<B: Books>(rt: &impl Abort, alloc: Global, books: &B, group: Group) {
             withdrawn_records(rt, alloc, books);
         }
         Group::Periods => energies_by_period(rt, alloc, books),
-        Group::Memory => memory_refused(rt, alloc, books),
         Group::Failures => failures(rt, alloc, books),
     }
 }
@@ -61,6 +58,8 @@ fn uploads_with_calls_counted(rt: HostRuntime) {
 }
 
 // bears on: pw_schema reading.rt contents_in some
+// bears on: pw_schema reading.rt read_rows found
+// bears on: pw_schema reading.rt read_rows memory
 // bears on: pw_schema reading.rt read_rows wrong
 // bears on: pw_schema values.rt direction_place ensures
 // bears on: pw_shelf shelf.rt Shelf::assignments_of rows
@@ -90,21 +89,6 @@ fn periods_with_calls_counted(rt: HostRuntime) {
 #[test]
 fn periods_over_sql(rt: HostRuntime) {
     over_sql(&rt, rt.alloc(), Group::Periods);
-}
-
-#[test]
-fn memory_refused_in_memory(rt: HostRuntime) {
-    in_memory(&rt, rt.alloc(), Group::Memory);
-}
-
-#[test]
-fn memory_refused_with_calls_counted(rt: HostRuntime) {
-    with_calls_counted(&rt, rt.alloc(), Group::Memory);
-}
-
-#[test]
-fn memory_refused_over_sql(rt: HostRuntime) {
-    over_sql(&rt, rt.alloc(), Group::Memory);
 }
 
 #[test]

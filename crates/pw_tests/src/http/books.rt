@@ -1,24 +1,9 @@
 //! Conversations with a book over a store in memory.
 
-use crate::books::book_of;
-use crate::offices::SAMPLE;
 use pw_book::Book;
-use pw_http::{Audience, Served, WireFault, converse, converse_with};
+use pw_http::{Audience, Served, converse, converse_with};
 use pw_shelf::Shelf;
 use std::alloc::Global;
-use std::io::{Read, Write};
-
-/// A conversation with a new book.
-pub(super) fn talk<R: Read, W: Write>(
-    alloc: Global,
-    reader: &mut R,
-    writer: &mut W,
-) -> Result<Served, WireFault> {
-    match book_of(alloc, SAMPLE, 100) {
-        Ok(mut book) => converse(alloc, &mut book, reader, writer),
-        Err(_) => Err(WireFault::Memory),
-    }
-}
 
 /// Whether a book serves one request of a stream to an audience, and replies this.
 pub(super) fn is_replied<S: Shelf>(

@@ -9,7 +9,7 @@ use crate::calls::asked::Asked;
 use crate::calls::billed::{
     Class, classes_of, tell_bill, tell_days, tell_last, tell_piece, tell_row,
 };
-use crate::calls::names::{account, direction};
+use crate::calls::names::{account, band, direction, period};
 use crate::calls::stretches::{Interval, Stretches};
 use crate::calls::words::{end, instant};
 use crate::posts::post;
@@ -17,7 +17,7 @@ use crate::shelves::book_over;
 use pw_bills::{bill, days, energy_between, read_up_to, top_ups_between, why};
 use pw_book::{Book, BookFault, PostFault};
 use pw_shelf::{CountShelf, MemoryShelf, Shelf};
-use pw_tariff::{AccountId, BandId, Office, PeriodId};
+use pw_tariff::{AccountId, Office};
 use pw_time::Instant;
 use std::alloc::Global;
 use std::io::Write;
@@ -68,28 +68,36 @@ fn instants(alloc: Global, words: &[&str]) -> Option<Vec<Instant>> {
 // A question on one interval.
 fn interval_question(office: &Office, words: &[&str]) -> Option<Question> {
     match words {
-        ["bill", rest @ ..] => Some(Question::Bill(interval(office, rest)?)),
-        ["why", rest @ ..] => Some(Question::Why(interval(office, rest)?)),
-        ["topups", rest @ ..] => Some(Question::TopUps(interval(office, rest)?)),
-        ["latest", rest @ ..] => Some(Question::Latest(interval(office, rest)?)),
-        ["energy", name, period, band, word, from, until] => {
+        ["energy", name, number, letter, word, from, until] => {
             let class = Class {
-                period: PeriodId(period.parse::<u8>().ok()?),
-                band: BandId(band.parse::<u8>().ok()?),
+                period: period(number)?,
+                band: band(letter)?,
                 direction: direction(word)?,
             };
-            let interval = interval(office, &[name, from, until])?;
+            let interval = interval(office, [name, from, until])?;
             Some(Question::Energy(interval, class))
+        }
+        [kind, name, from, until] => {
+            let interval = interval(office, [name, from, until])?;
+            question_of(kind, interval)
         }
         _ => None,
     }
 }
 
-fn interval(office: &Office, words: &[&str]) -> Option<Interval> {
-    match words {
-        [name, from, until] => { Interval::of(account(office, name)?, instant(from)?, end(until)?) }
+fn question_of(kind: &str, interval: Interval) -> Option<Question> {
+    match kind {
+        "bill" => Some(Question::Bill(interval)),
+        "why" => Some(Question::Why(interval)),
+        "topups" => Some(Question::TopUps(interval)),
+        "latest" => Some(Question::Latest(interval)),
         _ => None,
     }
+}
+
+fn interval(office: &Office, words: [&str; 3]) -> Option<Interval> {
+    let [name, from, until] = words;
+    Interval::of(account(office, name)?, instant(from)?, end(until)?)
 }
 
 // Makes the book, lends it to the question, and drops it.

@@ -1,9 +1,9 @@
-//! The calls on what counts at a key, and on how records compare.
+//! The calls on what counts at a key, which a record with any content names, and on how records compare.
 
 use crate::calls::asked::Asked;
-use crate::calls::entries::{entry_of, key_of, tell_content, tell_key};
+use crate::calls::entries::{entry_of, tell_content, tell_key};
 use crate::calls::names::{account, meter, owner_name};
-use crate::calls::words::{bytes_of, instant};
+use crate::calls::words::instant;
 use pw_model::plain::{contents_at, owner_at, topped_up};
 use pw_model::{Contents, Entry, Named, Reference, is_same_content, is_same_entry, is_same_key};
 use pw_tariff::Office;
@@ -12,8 +12,9 @@ use std::io::Write;
 pub(crate) fn answer<O: Write>(asked: &Asked<'_>, words: &[&str], out: &mut O) -> Option<()> {
     let (office, entries) = (asked.office, asked.entries);
     match words {
-        ["contents_at", key @ ..] => {
-            tell_contents(office, contents_at(entries, &key_of(office, key)?), out);
+        ["contents_at", record @ ..] => {
+            let record = entry_of(office, record)?;
+            tell_contents(office, contents_at(entries, &record.key), out);
         }
         ["owner_at", name, at] => {
             let owner = owner_at(entries, meter(office, name)?, instant(at)?.seconds());
@@ -25,7 +26,7 @@ pub(crate) fn answer<O: Write>(asked: &Asked<'_>, words: &[&str], out: &mut O) -
             let _ = writeln!(out, "{cents}");
         }
         ["reference"] => tell_reference(b"", out),
-        ["reference", text] => tell_reference(&bytes_of(asked.alloc, text).ok()?, out),
+        ["reference", text] => tell_reference(text.as_bytes(), out),
         ["compare"] => tell_comparison(entries, out)?,
         ["named", record @ ..] => tell_named(office, &entry_of(office, record)?, out),
         _ => return None,

@@ -3,13 +3,29 @@
 //! whose key they all are.
 
 use crate::calls::names::{account, meter, meter_name, owner, owner_name};
-use crate::calls::words::{instant, register, wh};
+use crate::calls::words::{instant, register, wh, words_of};
 use pw_model::{Content, Entry, Key, Named, Reference};
 use pw_tariff::Office;
+use std::alloc::Global;
 use std::io::Write;
 use std::str::from_utf8;
 
+/// The records of lines, if each is one, and there is memory for them.
+pub(crate) fn records_of(alloc: Global, office: &Office, lines: &[&str]) -> Option<Vec<Entry>> {
+    let mut records = Vec::new(alloc);
+    for line in lines {
+        let record = record_of(office, line)?;
+        records.extend_from_slice(&[record]).ok()?;
+    }
+    Some(records)
+}
+
 /// The record of a line, if it is one.
+pub(crate) fn record_of(office: &Office, line: &str) -> Option<Entry> {
+    entry_of(office, &words_of(line))
+}
+
+/// The record of a line's words, if it is one.
 pub(crate) fn entry_of(office: &Office, words: &[&str]) -> Option<Entry> {
     match words {
         ["withdrawal", record @ ..] => {
@@ -48,42 +64,6 @@ fn named_of(office: &Office, words: &[&str]) -> Option<Named> {
         }),
         _ => None,
     }
-}
-
-/// The key of its words.
-pub(crate) fn key_of(office: &Office, words: &[&str]) -> Option<Key> {
-    match words {
-        ["reading", meter, register, instant] => reading_key(office, [meter, register, instant]),
-        ["assignment", meter, instant] => assignment_key(office, [meter, instant]),
-        ["topup", reference] => topup_key(reference),
-        ["withdrawal", record @ ..] => {
-            let named = named_of(office, record)?;
-            Some(Key::Withdrawal { named })
-        }
-        _ => None,
-    }
-}
-
-fn reading_key(office: &Office, words: [&str; 3]) -> Option<Key> {
-    let [name, of, at] = words;
-    Some(Key::Reading {
-        meter: meter(office, name)?,
-        register: register(of)?,
-        instant: instant(at)?,
-    })
-}
-
-fn assignment_key(office: &Office, words: [&str; 2]) -> Option<Key> {
-    let [name, from] = words;
-    Some(Key::Assignment {
-        meter: meter(office, name)?,
-        start: instant(from)?,
-    })
-}
-
-fn topup_key(word: &str) -> Option<Key> {
-    let reference = Reference::of(word.as_bytes())?;
-    Some(Key::TopUp { reference })
 }
 
 /// Tells a key in its words, without the end of the line.

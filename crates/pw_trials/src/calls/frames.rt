@@ -1,17 +1,15 @@
-//! The calls on checks and frames. In their texts `|` stands for CR LF, and `%03` for a byte.
+//! The calls on checks and frames.
 
-use crate::calls::words::bytes_of;
 use pw_frame::{Frame, Frames, Kind, block_check, crc_update, crc16};
-use std::alloc::Global;
 use std::io::Write;
 
-pub(crate) fn answer<O: Write>(alloc: Global, words: &[&str], out: &mut O) -> Option<()> {
+pub(crate) fn answer<O: Write>(words: &[&str], out: &mut O) -> Option<()> {
     match words {
         ["crc16"] => tell_crc(b"", &[], out),
         ["crc16", text, rest @ ..] => tell_crc(text.as_bytes(), rest, out),
         ["block_check"] => tell_check(b"", out),
-        ["block_check", text] => tell_check(&bytes_of(alloc, text).ok()?, out),
-        ["frames", text] => tell_frames(&bytes_of(alloc, text).ok()?, out),
+        ["block_check", text] => tell_check(text.as_bytes(), out),
+        ["frames", text] => tell_frames(text.as_bytes(), out),
         _ => return None,
     }
     Some(())

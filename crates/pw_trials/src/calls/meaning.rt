@@ -6,7 +6,7 @@ ghost use Rattle.pw_tariff.specs.Office.{office_of};
 
 use crate::calls::asked::Asked;
 use crate::calls::entries::{tell_content, tell_key};
-use crate::calls::names::{account, band_name, owner_name};
+use crate::calls::names::{account, band_name, owner_name, period};
 use crate::calls::shares::tell_cell;
 use pw_model::plain::{OfficeTerms, are_of_office, balance, energy, energy_in};
 use pw_model::{Entry, TotalKey};
@@ -46,12 +46,8 @@ fn answer_sound<O: Write>(asked: &Asked<'_>, words: &[&str], out: &mut O) -> Opt
     requires few { length asked.now.entries.now ≤ most_records }
 {
     match words {
-        ["imported"] => tell_energies(asked, (None, Direction::Import), out),
-        ["exported"] => tell_energies(asked, (None, Direction::Export), out),
-        ["imported", period] => {
-            let period = PeriodId(period.parse::<u8>().ok()?);
-            tell_energies(asked, (Some(period), Direction::Import), out)
-        }
+        ["imported", rest @ ..] => tell_energies(asked, (part_of(rest)?, Direction::Import), out),
+        ["exported", rest @ ..] => tell_energies(asked, (part_of(rest)?, Direction::Export), out),
         ["balance", name] => {
             let terms = OfficeTerms::new(asked.office, asked.zone);
             let account = account(asked.office, name)?;
@@ -60,6 +56,15 @@ fn answer_sound<O: Write>(asked: &Asked<'_>, words: &[&str], out: &mut O) -> Opt
             Some(())
         }
         ["parts"] => tell_parts(asked, out),
+        _ => None,
+    }
+}
+
+// All periods where there is no word, or the one of a number.
+fn part_of(words: &[&str]) -> Option<Option<PeriodId>> {
+    match words {
+        [] => Some(None),
+        [number] => Some(Some(period(number)?)),
         _ => None,
     }
 }

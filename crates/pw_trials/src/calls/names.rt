@@ -1,6 +1,6 @@
 //! Names of an office.
 
-use pw_tariff::{AccountId, BandId, Direction, MeterId, Office, Owner};
+use pw_tariff::{AccountId, BandId, Direction, MeterId, Office, Owner, PeriodId};
 
 /// An account's name, `-` for nobody.
 pub(crate) fn owner_name(office: &Office, owner: Owner) -> &str {
@@ -42,10 +42,21 @@ pub(crate) fn band_name(office: &Office, band: BandId) -> char {
     }
 }
 
+/// The band of a number.
+pub(crate) fn band(word: &str) -> Option<BandId> {
+    Some(BandId(word.parse::<u8>().ok()?))
+}
+
+/// The period of a number.
+pub(crate) fn period(word: &str) -> Option<PeriodId> {
+    Some(PeriodId(word.parse::<u8>().ok()?))
+}
+
 pub(crate) fn direction(word: &str) -> Option<Direction> {
-    match word {
-        "import" => Some(Direction::Import),
-        "export" => Some(Direction::Export),
-        _ => None,
+    for direction in [Direction::Import, Direction::Export] {
+        if direction.name() == word {
+            return Some(direction);
+        }
     }
+    None
 }

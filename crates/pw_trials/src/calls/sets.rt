@@ -1,18 +1,17 @@
-//! The calls on data sets. In the text of a block `|` stands for CR LF.
+//! The calls on data sets.
 
-use crate::calls::words::bytes_of;
 use pw_obis::{
     Code, Register, Set, Sets, code, first_value, is_date, is_identifier, is_stamp, is_time,
-    register,
+    register, watt_hours,
 };
-use std::alloc::Global;
 use std::io::Write;
 
-pub(crate) fn answer<O: Write>(alloc: Global, words: &[&str], out: &mut O) -> Option<()> {
+pub(crate) fn answer<O: Write>(words: &[&str], out: &mut O) -> Option<()> {
     match words {
         ["code"] => tell_code(code(b""), out),
         ["code", address] => tell_code(code(address.as_bytes()), out),
-        ["sets", text] => tell_sets(&bytes_of(alloc, text).ok()?, out),
+        ["sets", text] => tell_sets(text.as_bytes(), out),
+        ["watt_hours", text] => tell_energy(text.as_bytes(), out),
         ["registers"] => {
             for register in Register::ALL {
                 let name = register.name();
@@ -22,6 +21,14 @@ pub(crate) fn answer<O: Write>(alloc: Global, words: &[&str], out: &mut O) -> Op
         _ => return None,
     }
     Some(())
+}
+
+// The Wh that a value states, or why it states none.
+fn tell_energy<O: Write>(value: &[u8], out: &mut O) {
+    let _ = match watt_hours(value) {
+        Ok(energy) => writeln!(out, "{}", energy.get()),
+        Err(fault) => writeln!(out, "{} {}", fault.number(), fault.name()),
+    };
 }
 
 // The value groups from A to F, `-` for one that doesn't stand there, and what the code means.

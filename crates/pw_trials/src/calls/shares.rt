@@ -11,11 +11,13 @@ use std::io::Write;
 
 pub(crate) fn answer<O: Write>(asked: &Asked<'_>, words: &[&str], out: &mut O) -> Option<()> {
     match words {
-        ["owners", rest @ ..] => {
-            let starts = starts_of(asked.alloc, asked.office, rest)?;
-            let is_one = Owners::of(&starts).is_some();
-            let _ = writeln!(out, "{is_one}");
-            Some(())
+        ["owners"] => tell_owners(&[], out),
+        ["owners", first, second] => {
+            let starts = [
+                start_of(asked.office, first)?,
+                start_of(asked.office, second)?,
+            ];
+            tell_owners(&starts, out)
         }
         [what, from, low, to, high, rest @ ..] => {
             let span = span_of([from, low, to, high])?;
@@ -24,6 +26,13 @@ pub(crate) fn answer<O: Write>(asked: &Asked<'_>, words: &[&str], out: &mut O) -
         }
         _ => None,
     }
+}
+
+// Whether there are owners of these starts.
+fn tell_owners<O: Write>(starts: &[(Instant, Owner)], out: &mut O) -> Option<()> {
+    let is_one = Owners::of(starts).is_some();
+    let _ = writeln!(out, "{is_one}");
+    Some(())
 }
 
 fn span_of(words: [&str; 4]) -> Option<Span> {

@@ -1,10 +1,10 @@
 //! The calls on the terms of the office. Meters, periods and bands are told by their numbers, from 0.
 
 use crate::calls::asked::Asked;
-use crate::calls::names::{band_name, direction, meter_name, owner_name};
+use crate::calls::names::{band, band_name, direction, meter_name, owner_name, period};
 use crate::calls::words::{instant, register};
 use pw_model::plain::OfficeTerms;
-use pw_tariff::{BandId, MeterId, Office, PeriodId};
+use pw_tariff::{MeterId, Office, PeriodId};
 use pw_time::WeekHour;
 use std::io::Write;
 
@@ -25,6 +25,7 @@ pub(crate) fn answer<O: Write>(asked: &Asked<'_>, words: &[&str], out: &mut O) -
             let counts = terms.counts(meter, register(of)?);
             let _ = writeln!(out, "{counts}");
         }
+        ["clock", meter] => tell_clock(asked.office, MeterId(meter.parse::<u16>().ok()?), out),
         ["band", at] => {
             let band = band_name(asked.office, terms.band(instant(at)?));
             let _ = writeln!(out, "{band}");
@@ -34,10 +35,9 @@ pub(crate) fn answer<O: Write>(asked: &Asked<'_>, words: &[&str], out: &mut O) -
             let period = terms.period(instant(at)?).0;
             let _ = writeln!(out, "{period}");
         }
-        ["price", period, band, word] => {
-            let period = PeriodId(period.parse::<u8>().ok()?);
-            let band = BandId(band.parse::<u8>().ok()?);
-            let price = terms.price(period, band, direction(word)?);
+        ["period_start", number] => tell_start(asked.office, period(number)?, out),
+        ["price", number, letter, word] => {
+            let price = terms.price(period(number)?, band(letter)?, direction(word)?);
             let _ = writeln!(out, "{price}");
         }
         _ => return None,
@@ -45,12 +45,28 @@ pub(crate) fn answer<O: Write>(asked: &Asked<'_>, words: &[&str], out: &mut O) -
     Some(())
 }
 
+// The clock of a meter that is there.
+fn tell_clock<O: Write>(office: &Office, meter: MeterId, out: &mut O) {
+    if meter.0 < office.meters() {
+        let clock = office.clock(meter);
+        let _ = writeln!(out, "{clock:?}");
+    }
+}
+
+// The second at which a period begins that is there.
+fn tell_start<O: Write>(office: &Office, period: PeriodId, out: &mut O) {
+    if period.0 < office.periods() {
+        let second = office.period_start(period);
+        let _ = writeln!(out, "{second}");
+    }
+}
+
 // The band of an hour of the week, told by a period, a weekday (0 is Monday) and an hour.
 fn tell_band_of_hour<O: Write>(office: &Office, words: &[&str], out: &mut O) -> Option<()> {
-    let [period, day, hour] = words else {
+    let [number, day, hour] = words else {
         return None;
     };
-    let period = PeriodId(period.parse::<u8>().ok()?);
+    let period = period(number)?;
     let (day, hour) = (day.parse::<u8>().ok()?, hour.parse::<u8>().ok()?);
     if period.0 >= office.periods() || day >= 7 || hour >= 24 {
         return None;

@@ -2,9 +2,22 @@
 
 ghost use Rattle.std.specs.Prelude.{◌<◌};
 
+use arrayvec::ArrayVec;
 use pw_obis::{Register, WattHours};
 use pw_time::{END_SECOND, Instant, utc};
 use std::alloc::{AllocError, Global};
+
+// More words than any call has; those behind them are passed over.
+const MOST_WORDS: usize = 16;
+
+/// The words of a line.
+pub(crate) fn words_of(line: &str) -> ArrayVec<&str, MOST_WORDS> {
+    let mut words = ArrayVec::<&str, MOST_WORDS>::new();
+    for word in line.split(' ') {
+        let _ = words.try_push(word);
+    }
+    words
+}
 
 /// An instant, as a text in UTC.
 pub(crate) fn instant(word: &str) -> Option<Instant> {

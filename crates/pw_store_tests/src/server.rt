@@ -1,4 +1,4 @@
-//! Connections that are served.
+//! Connections of a listener, one after the other. (The program serves its own side by side: what it does, scripts show.)
 
 use pw_book::Book;
 use pw_commands::serve_on;
@@ -141,16 +141,8 @@ fn sample_book(rt: &impl Abort, alloc: Global) -> Book<MemoryShelf> {
     book_of(alloc, SAMPLE, LIMIT).expect(rt, "the sample office")
 }
 
-// bears on: pw_commands serving.rt serve_on memory
-#[test]
-fn requests_on_a_connection(rt: HostRuntime) {
-    let mut book = sample_book(&rt, rt.alloc());
-    let is_served = is_served(&rt, &rt, &mut book, REQUESTS, Reply::Both, NOTHING);
-    assert!(rt; is_served.unwrap_or(false));
-    done(book);
-}
-
 // bears on: pw_commands serving.rt serve_on ensures
+// bears on: pw_commands serving.rt serve_on memory
 // bears on: pw_http conversation.rt serve_to talk
 #[test]
 fn two_connections(rt: HostRuntime) {

@@ -1,2 +1,0 @@
--- named by private functions alone
-pub mod inner
