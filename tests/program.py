@@ -21,7 +21,7 @@ PROGRAM = f"{TOP}/crates/powerbook/out/powerbook"
 OFFICE = f"{EXAMPLES}/sample.toml"
 # A test may take so many seconds; each command and each answer has to come within PATIENCE: less than the minute that a
 # server waits for a silent client, so that one which waits in vain is seen.
-LONGEST = 60
+LONGEST = 180
 PATIENCE = 30
 
 # What is told of a store that isn't opened, by its cause: why, and what to do; and then the fault's line.
