@@ -326,6 +326,10 @@ class Server:
         shown = dict(it.split(":", 1) for it in lines if ":" in it)
         return tuple(int(shown[it].split()[0]) for it in ("VmRSS", "VmHWM"))
 
+    def used(self):
+        """The processor time that it has used so far, in seconds."""
+        return int(content(f"/proc/{self.process.pid}/schedstat").split()[0]) / 1_000_000_000
+
     def ended(self):
         """Waits until the server ends by itself: its exit status and what stands behind its first line."""
         out, err = self.process.communicate(timeout=PATIENCE)
