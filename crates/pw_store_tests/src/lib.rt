@@ -9,6 +9,8 @@ mod disk;
 #[cfg(test)]
 mod entries;
 #[cfg(test)]
+mod laws;
+#[cfg(test)]
 mod schema;
 #[cfg(test)]
 mod server;

@@ -1,6 +1,6 @@
 //! Books that hold nothing.
 
-ghost use Rattle.std.specs.Prelude.{◌≡◌, ◌≤◌, None};
+ghost use Rattle.std.specs.Prelude.{◌≡◌, ◌≤◌, None, false};
 ghost use Rattle.pw_model.specs.Office.{most_records};
 ghost use Rattle.pw_model.specs.Shelf.{no_content};
 
@@ -17,6 +17,8 @@ pub fn empty_book<S: Shelf>(office: Office, shelf: S, limit: u32) -> Book<S>
     requires least { 1 ≤ limit }
     requires most { limit ≤ most_records }
     ensures office { result.office ≡ office }
+    ensures shelf { result.shelf ≡ shelf }
+    ensures open_yet { result.shut ≡ false }
 {
     Book::new(office, Zone::central(), shelf, limit)
 }

@@ -11,6 +11,8 @@ mod flow;
 #[cfg(test)]
 mod http;
 #[cfg(test)]
+mod laws;
+#[cfg(test)]
 mod new_books;
 pub mod offices;
 #[cfg(test)]

@@ -1,0 +1,51 @@
+//! The law of a crash over SQL, by a call that meets what it asks.
+
+use crate::entries::entries_of;
+use crate::sql_stores::memory;
+use pw_book::laws::Sent;
+use pw_commands::laws::stores_survive_a_crash;
+use pw_tariff::Office;
+use pw_tests::offices::SAMPLE;
+use pw_tests::sample::{self, FIRST, METER, NEW_YEAR, are_of_office};
+use pw_time::Zone;
+use sqlite::{Alter, Connection};
+use std::alloc::Global;
+use std::process::Abort;
+
+// Whether a store over a connection takes an upload, and what stands in another connection opens.
+fn is_opened_behind<S: Alter, T: Alter>(
+    rt: &impl Abort,
+    alloc: Global,
+    connection: Connection<S>,
+    found: Connection<T>,
+) -> bool {
+    let text = SAMPLE.as_bytes();
+    let office = Office::read(alloc, text).expect(rt, "an office");
+    let owner = sample::Sent::Given(METER, NEW_YEAR, Some(FIRST));
+    let entries = entries_of(rt, alloc, &[owner]);
+    assert!(rt; are_of_office(&office, &Zone::central(), &entries));
+    let mut uploads = [Sent {
+        entries,
+        answer: None,
+    }];
+    match stores_survive_a_crash(
+        alloc,
+        connection,
+        office,
+        text,
+        100,
+        &mut uploads,
+        found,
+    ) {
+        Ok((_, again)) => again.is_ok() && matches!(&uploads[0].answer, Some(Ok(_))),
+        Err(_) => false,
+    }
+}
+
+// bears on: pw_commands laws.rt stores_survive_a_crash entries
+#[test]
+fn a_store_that_a_crash_left_is_opened(rt: HostRuntime) {
+    let alloc = rt.alloc();
+    let found = memory(&rt, alloc);
+    assert!(rt; is_opened_behind(&rt, alloc, memory(&rt, alloc), found));
+}
