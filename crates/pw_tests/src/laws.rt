@@ -42,7 +42,11 @@ fn nothing_is_counted_of_a_new_store(rt: HostRuntime) {
 
 // An upload of the sample office, as it is posted to a book over a new store.
 fn posted(rt: &impl Abort, alloc: Global) -> Sent {
-    let entries = entries_of(rt, alloc, &[sample::Sent::Given(METER, NEW_YEAR, Some(FIRST))]);
+    let entries = entries_of(
+        rt,
+        alloc,
+        &[sample::Sent::Given(METER, NEW_YEAR, Some(FIRST))],
+    );
     let office = sample_office(alloc).expect(rt, "an office");
     assert!(rt; are_of_office(&office, &Zone::central(), &entries));
     let mut book = empty_book(office, new_store(alloc), 100);
