@@ -23,6 +23,9 @@ const REQUESTS: &[u8] =
 
 const HALF_A_HEAD: &[u8] = b"GET /acc";
 
+// A page of another machine may have led a browser here so.
+const OF_ANOTHER_MACHINE: &[u8] = b"GET /accounts HTTP/1.1\r\nHost: meters.example\r\n\r\n";
+
 const NOTHING: &[u8] = b"";
 
 const READ_REFUSED: &[u8] = b"refused 80 Read\n";
@@ -86,11 +89,13 @@ fn are_served<R: Clock, S: Shelf>(
     serve_on(clock, alloc, listener, HERE, count, book, &mut err) == 0 && err.as_slice() == told
 }
 
-// What a client is replied to: both of its requests, that its head is bad, with a head alone, or nothing.
+// What a client is replied to: both of its requests, that its head is bad, that its request isn't for it, with a head
+// alone, or nothing.
 #[derive(Clone, Copy)]
 enum Reply {
     Both,
     BadHead,
+    Forbidden,
     HeadAlone,
     Nothing,
 }
@@ -99,6 +104,7 @@ fn is_reply(reply: Reply, bytes: &[u8]) -> bool {
     match reply {
         Reply::Both => bytes == REPLIES.as_bytes(),
         Reply::BadHead => bytes.ends_with(b"bad head\n"),
+        Reply::Forbidden => bytes.starts_with(b"HTTP/1.1 403 "),
         Reply::HeadAlone => bytes.ends_with(b"\r\n\r\n"),
         Reply::Nothing => bytes.is_empty(),
     }
@@ -168,6 +174,15 @@ fn are_in_time(stop: &impl Abort, rt: &HostRuntime, rows: [Timed; 2]) {
         assert!(stop; is_in_time(rt, &mut book, row).unwrap_or(false));
         done(book);
     }
+}
+
+// bears on: pw_commands serving.rt serve_on audience
+#[test]
+fn a_request_that_names_another_machine_is_forbidden(rt: HostRuntime) {
+    let mut book = sample_book(&rt, rt.alloc());
+    let forbidden: Timed = (1, OF_ANOTHER_MACHINE, Reply::Forbidden, NOTHING);
+    assert!(rt; is_in_time(&rt, &mut book, forbidden).unwrap_or(false));
+    done(book);
 }
 
 // bears on: pw_commands serving.rt serve_on times

@@ -1,4 +1,4 @@
-//! Tests of the crates below by public calls alone: memory and devices that fail, and calls that no command makes. (Rows
+//! Tests of the crates below by public calls alone: devices that fail, and laws and calls that no command makes. (Rows
 //! worked out by hand, and texts that are refused, stand in `cases/`; streams that fail in `tests/words`.)
 #![tactic(auto)]
 
