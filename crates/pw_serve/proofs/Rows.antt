@@ -1,5 +1,5 @@
 -- What a change of a map of peers leaves at each number.
-use Rattle.std.proofs.Common.{◌≡◌, ◌≢◌, ℕ, List, Option, Some, None, Result, Ok, Err, true, false, refl, sym, ap}
+use Rattle.std.proofs.Common.{◌≡◌, ◌≢◌, ℕ, List, Option, Some, None, Result, Ok, Err, true, false, refl, sym, ap, ◌∙◌, ◌⊎◌, inl, inr, subst}
 use Rattle.std.specs.BTreeMap.{BTreeMap, IsEmpty, IsUnchanged, Updates, get, is_at}
 use Rattle.std.specs.Ordering.{is_eq, nat_cmp}
 use Rattle.std.specs.declared.cmp.Ordering.{Ordering}
@@ -7,10 +7,11 @@ use Rattle.std.specs.declared.cmp.Ordering.TheVariants.{Less, Equal, Greater}
 use Rattle.std.specs.Map.{lookup}
 use Rattle.std.specs.Option.{is_some}
 use Rattle.std.specs.Result.{OnErr, OnOk, is_err}
-use Rattle.std.proofs.lemmas.Bool.{true≢false}
+use Rattle.std.proofs.lemmas.Bool.{cases_eq, true≢false}
 use Rattle.std.proofs.lemmas.Map.Lookups.{exact_unsigned}
 use Rattle.pw_serve.specs.declared.peer.Peer.{Peer}
-use Rattle.pw_serve.specs.inner.Now.{AreSame, IsSet}
+use Rattle.pw_serve.specs.inner.Now.{AreSame, HaveLooked, IsSet, Peers}
+use Rattle.pw_serve.specs.inner.Peers.{HasLooked}
 
 not_equal : (o : Ordering) → (o ≡ Equal → ⊥) → is_eq o ≡ false
 not_equal Less h = refl
@@ -45,3 +46,32 @@ row_at (Some c) e = (c, refl)
 
 pub rows_are : (m n : BTreeMap ℕ Peer) → n ≡ m → AreSame (get nat_cmp m) (get nat_cmp n)
 rows_are m n e j = ap (λ (o : BTreeMap ℕ Peer). get nat_cmp o j) e
+
+-- ---- those that were looked at
+some-same : (c d : Peer) (o : Option Peer) → o ≡ Some c → o ≡ Some d → c ≡ d
+some-same c d o x y = let z : Some c ≡ Some d = sym x ∙ y in cc
+
+some-none : (c : Peer) (o : Option Peer) → o ≡ None → o ≡ Some c → ⊥
+some-none c o x y = let z : None ≡ Some c = sym x ∙ y in cc
+
+pub looked-same : (waits : List ℕ → Type 0) (peers others : Peers) → AreSame peers others → HaveLooked waits peers → HaveLooked waits others
+looked-same waits peers others same h = λ j c e. h j c (sym (same j) ∙ e)
+
+-- another one is at k, which was looked at if it says so
+pub looked-set : (waits : List ℕ → Type 0) (k : ℕ) (d : Peer) (peers others : Peers) → IsSet k (Some d) peers others → HasLooked waits d → HaveLooked waits peers → HaveLooked waits others
+looked-set waits k d peers others set new h = λ j c e. elim (cases_eq j k) [
+  | inl same ↦ subst (λ (p : Peer). HasLooked waits p) (some-same d c (others k) set.one (subst (λ (n : ℕ). others n ≡ Some c) same e)) new
+  | inr other ↦ h j c (sym (set.others j other) ∙ e)
+]
+
+pub looked-gone : (waits : List ℕ → Type 0) (k : ℕ) (peers others : Peers) → IsSet k None peers others → HaveLooked waits peers → HaveLooked waits others
+looked-gone waits k peers others set h = λ j c e. elim (cases_eq j k) [
+  | inl same ↦ absurd (some-none c (others k) set.one (subst (λ (n : ℕ). others n ≡ Some c) same e))
+  | inr other ↦ h j c (sym (set.others j other) ∙ e)
+]
+
+pub looked-none : (waits : List ℕ → Type 0) (peers : Peers) → ((j : ℕ) → peers j ≡ None) → HaveLooked waits peers
+looked-none waits peers none = λ j c e. absurd (some-none c (peers j) (none j) e)
+
+pub not-looked : (waits : List ℕ → Type 0) (c : Peer) → c.looked ≡ false → HasLooked waits c
+not-looked waits c new = λ e. absurd (true≢false (sym e ∙ new))

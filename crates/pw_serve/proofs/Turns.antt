@@ -229,9 +229,9 @@ module _ {S : Type 0} (answers : S → Asked → List ℕ → S → Type 0) wher
       let split : c.inbox.items ≡ bytes ++ d.inbox.items = sym same ∙ sym (append-nil bytes) ∙ ap (λ (b : List ℕ). bytes ++ b) (sym inbox) in
       leads-one k old new now c d (Refused bytes ended) text free answered split (waiting-all d sent ∙ outbox) last end (λ x. (inbox, sym was ∙ x))
 
-  pub leads-short : (k : ℕ) (old new : S) (now : Connection) (c d : Peer) (bytes text : List ℕ) (ended may_be_large : Bool)
-      → IsFree c → IsAnswer answers old bytes ended may_be_large new text answer.Short → bytes ≡ c.inbox.items → Leads answers k old now c new (IsAfter (Ends Short) now d)
-  leads-short k old new now c d bytes text ended may_be_large free x same = elim x [
+  pub leads-short : (waits : List ℕ → Type 0) (k : ℕ) (old new : S) (now : Connection) (c d : Peer) (bytes text : List ℕ) (ended may_be_large : Bool)
+      → IsFree c → IsAnswer answers waits old bytes ended may_be_large new text answer.Short → bytes ≡ c.inbox.items → Leads answers k old now c new (IsAfter (Ends Short) now d)
+  leads-short waits k old new now c d bytes text ended may_be_large free x same = elim x [
     | inl e ↦ subst (λ (s : S). Leads answers k old now c s (IsAfter (Ends Short) now d)) (sym e) (leads-none k old now c (IsAfter (Ends Short) now d) (λ first own p. leaving-short first now own c p))
     | inr y ↦ leads-lost k old new now c y.0 y.1 y.2 free (subst (λ (b : List ℕ). answers old (Whole (take y.0 b) y.1) y.2 new) same y.4)
   ]

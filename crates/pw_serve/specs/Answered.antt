@@ -5,11 +5,11 @@ use Rattle.pw_serve.specs.declared.service.Answer.{Answer}
 use Rattle.pw_serve.specs.declared.service.Answer.TheVariants as answer
 use Rattle.pw_serve.specs.Exchanges.{Asked, Whole, Refused}
 
-module _ {S : Type 0} (answers : S → Asked → List ℕ → S → Type 0) where
+module _ {S : Type 0} (answers : S → Asked → List ℕ → S → Type 0) (waits : List ℕ → Type 0) where
   -- `ended` says that no byte follows these, `may_be_large` that the reply may have any length, and `text` is the reply
   abbrev pub IsAnswer : S → List ℕ → Bool → Bool → S → List ℕ → Answer → Type 0
-  -- only while more bytes may come
-  IsAnswer old bytes ended may_be_large new text answer.Waits = (new ≡ old) × (ended ≡ false) × (text ≡ [])
+  -- only while more bytes may come, and these are such that it waits on them
+  IsAnswer old bytes ended may_be_large new text answer.Waits = (new ≡ old) × (ended ≡ false) × (text ≡ []) × waits bytes
   -- only where a large reply has to wait
   IsAnswer old bytes ended may_be_large new text answer.Later = (new ≡ old) × (may_be_large ≡ false) × (text ≡ [])
   -- the first bytes are a request

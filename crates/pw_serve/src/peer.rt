@@ -50,6 +50,7 @@ impl Peer {
         ensures sent { result.sent ≡ 0 }
         ensures ended { result.ended ≡ false }
         ensures closes { result.closes ≡ false }
+        ensures looked { result.looked ≡ false }
     {
         Peer {
             inbox: Vec::new(alloc),

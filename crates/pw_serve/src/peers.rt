@@ -1,10 +1,10 @@
 //! The connections that are served, by their numbers.
 
-ghost use Rattle.std.specs.Prelude.{◌≡◌, ◌≢◌, ◌≤◌, ◌+◌, ℕ, Some, None, true, false};
-ghost use Rattle.std.specs.BTreeMap.{get};
+ghost use Rattle.std.specs.Prelude.{◌≡◌, ◌≢◌, ◌≤◌, ◌<◌, ◌+◌, ℕ, Some, None, true, false};
+ghost use Rattle.std.specs.BTreeMap.{btree_map_len, get};
 ghost use Rattle.std.specs.Ordering.{nat_cmp};
 ghost use Rattle.pw_serve.specs.Connections.{AllStay, IsEnded, OthersStay};
-ghost use Rattle.pw_serve.specs.inner.Now.{IsSet, IsVisit, Onward};
+ghost use Rattle.pw_serve.specs.inner.Now.{HaveLooked, IsSet, IsVisit, Onward, RestsAt};
 ghost use Rattle.pw_serve.specs.inner.Peers.{IsIdle};
 
 use crate::connections::{Connections, Ending};
@@ -42,6 +42,8 @@ fn visit_row<S: Service, C: Connections>(
     turns: u64,
 ) -> Next
     ensures visit { IsVisit S.answers number service.old (C.connection connections.old) (get nat_cmp rows.old) service.new (C.connection connections.new) (get nat_cmp rows.new) result }
+    ensures looked { HaveLooked S.waits (get nat_cmp rows.old) → HaveLooked S.waits (get nat_cmp rows.new) }
+    ensures rests { HaveLooked S.waits (get nat_cmp rows.old) → RestsAt S.waits result (get nat_cmp rows.new) number }
     ensures bounded { S.calls service.new + C.moves connections.new ≤ S.calls service.old + C.moves connections.old + 16 }
 {
     match rows.get_mut(&number) {
@@ -144,6 +146,7 @@ impl Peers {
         number: u64,
     )
         ensures onward { Onward S.answers service.old (C.connection connections.old) (get nat_cmp self.old.rows) self.old.next service.new (C.connection connections.new) (get nat_cmp self.new.rows) self.new.next }
+        ensures looked { HaveLooked S.waits (get nat_cmp self.old.rows) → HaveLooked S.waits (get nat_cmp self.new.rows) }
         ensures bounded { S.calls service.new + C.moves connections.new ≤ S.calls service.old + C.moves connections.old + 16 }
     {
         let may_be_large = self.place.is_none() || self.place == Some(number);
@@ -229,6 +232,7 @@ impl Peers {
         number: u64,
     )
         ensures onward { Onward S.answers service.old (C.connection connections.old) (get nat_cmp self.old.rows) self.old.next service.new (C.connection connections.new) (get nat_cmp self.new.rows) self.new.next }
+        ensures looked { HaveLooked S.waits (get nat_cmp self.old.rows) → HaveLooked S.waits (get nat_cmp self.new.rows) }
         ensures bounded { S.calls service.new + C.moves connections.new ≤ S.calls service.old + C.moves connections.old + 16 }
     {
         self.turns = self.turns.wrapping_add(1);
@@ -245,6 +249,7 @@ impl Peers {
     )
         requires { (C.connection connections.old number).broken ≢ Some false }
         ensures onward { Onward S.answers service.now (C.connection connections.old) (get nat_cmp self.old.rows) self.old.next service.now (C.connection connections.new) (get nat_cmp self.new.rows) self.new.next }
+        ensures looked { HaveLooked S.waits (get nat_cmp self.old.rows) → HaveLooked S.waits (get nat_cmp self.new.rows) }
         ensures bounded { C.moves connections.new ≤ C.moves connections.old }
     {
         let _ = service;
@@ -257,6 +262,7 @@ impl Peers {
     // Ends the connection that has been idle for the longest time, if one is idle; tells whether there was one.
     fn displace<S: Service, C: Connections>(&mut self, service: &S, connections: &mut C) -> bool
         ensures onward { Onward S.answers service.now (C.connection connections.old) (get nat_cmp self.old.rows) self.old.next service.now (C.connection connections.new) (get nat_cmp self.new.rows) self.new.next }
+        ensures looked { HaveLooked S.waits (get nat_cmp self.old.rows) → HaveLooked S.waits (get nat_cmp self.new.rows) }
         ensures bounded { C.moves connections.new ≤ C.moves connections.old }
     {
         let _ = service;
@@ -273,6 +279,8 @@ impl Peers {
     // Takes in the client that knocked.
     fn add<S: Service, C: Connections>(&mut self, alloc: Global, service: &S, connections: &mut C)
         ensures onward { Onward S.answers service.now (C.connection connections.old) (get nat_cmp self.old.rows) self.old.next service.now (C.connection connections.new) (get nat_cmp self.new.rows) self.new.next }
+        ensures looked { HaveLooked S.waits (get nat_cmp self.old.rows) → HaveLooked S.waits (get nat_cmp self.new.rows) }
+        ensures others { OthersStay self.old.next (C.connection connections.old) (C.connection connections.new) }
         ensures bounded { C.moves connections.new ≤ C.moves connections.old }
     {
         let _ = service;
@@ -304,6 +312,8 @@ impl Peers {
         connections: &mut C,
     )
         ensures onward { Onward S.answers service.now (C.connection connections.old) (get nat_cmp self.old.rows) self.old.next service.now (C.connection connections.new) (get nat_cmp self.new.rows) self.new.next }
+        ensures looked { HaveLooked S.waits (get nat_cmp self.old.rows) → HaveLooked S.waits (get nat_cmp self.new.rows) }
+        ensures spares { btree_map_len self.old.rows < MOST_CONNECTIONS → OthersStay self.old.next (C.connection connections.old) (C.connection connections.new) }
         ensures bounded { C.moves connections.new ≤ C.moves connections.old }
     {
         let has_place = self.rows.len() < MOST_CONNECTIONS || self.displace(service, connections);

@@ -4,7 +4,7 @@ ghost use Rattle.std.specs.Prelude.{◌≤◌, ◌+◌, ◌*◌};
 ghost use Rattle.std.specs.BTreeMap.{get};
 ghost use Rattle.std.specs.Ordering.{nat_cmp};
 ghost use Rattle.pw_serve.specs.Served.{IsServed};
-ghost use Rattle.pw_serve.specs.inner.Now.{Onward};
+ghost use Rattle.pw_serve.specs.inner.Now.{HaveLooked, Onward};
 
 use crate::connections::{Connections, Event};
 use crate::peers::Peers;
@@ -19,6 +19,7 @@ fn turn_once<S: Service, C: Connections>(
     peers: &mut Peers,
 ) -> bool
     ensures onward { Onward S.answers service.old (C.connection connections.old) (get nat_cmp peers.old.rows) peers.old.next service.new (C.connection connections.new) (get nat_cmp peers.new.rows) peers.new.next }
+    ensures looked { HaveLooked S.waits (get nat_cmp peers.old.rows) → HaveLooked S.waits (get nat_cmp peers.new.rows) }
     ensures bounded { S.calls service.new + C.moves connections.new ≤ S.calls service.old + C.moves connections.old + 16 }
 {
     match connections.next() {

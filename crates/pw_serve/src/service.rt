@@ -29,6 +29,9 @@ pub trait Service {
     /// What it may answer: its state before, what is asked, the bytes of the reply, its state behind it.
     ghost answers: { Self → Asked → List ℕ → Self → Type 0 };
 
+    /// What it may wait on: bytes in which it finds no whole request, while more may come.
+    ghost waits: { List ℕ → Type 0 };
+
     /// How often it was asked, as far as that is counted.
     ghost calls: { Self → ℕ };
 
@@ -48,6 +51,6 @@ pub trait Service {
         requires some { 0 < length bytes.now }
         requires empty { outbox.old.items ≡ [] }
         requires room { SHORT_REPLY ≤ vec_capacity outbox.old }
-        ensures answered { IsAnswer answers self.old bytes.now ended may_be_large self.new outbox.new.items result }
+        ensures answered { IsAnswer answers waits self.old bytes.now ended may_be_large self.new outbox.new.items result }
         ensures calls { calls self.new ≤ calls self.old + 1 };
 }

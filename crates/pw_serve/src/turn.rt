@@ -1,10 +1,11 @@
 //! The turn of one connection.
 
-ghost use Rattle.std.specs.Prelude.{◌<◌, ◌≤◌, ◌+◌, ℕ, length};
+ghost use Rattle.std.specs.Prelude.{◌≡◌, ◌<◌, ◌≤◌, ◌+◌, ℕ, length};
 ghost use Rattle.pw_serve.specs.Connections.{Connection, OthersStay};
-ghost use Rattle.pw_serve.specs.inner.Peers.{HasTask};
-ghost use Rattle.pw_serve.specs.inner.Turns.{IsAfter, Leads, Moves};
+ghost use Rattle.pw_serve.specs.inner.Peers.{HasLooked, HasTask, KeepsLooked, MayWait};
+ghost use Rattle.pw_serve.specs.inner.Turns.{IsAfter, Leads, Moves, Rests};
 ghost use Rattle.pw_serve.specs.declared.peer.Task.TheVariants.{Answer as AnswerTask, Read as ReadTask};
+ghost use Rattle.pw_serve.specs.declared.turn.Next.TheVariants.{Waits as WaitsNext};
 
 use crate::connections::{Connections, Ending, Stop};
 use crate::peer::{Peer, Task};
@@ -42,6 +43,8 @@ fn write_some<C: Connections>(
 ) -> Next
     requires { peer.old.sent < length peer.old.outbox.items }
     ensures moves { Moves (C.connection connections.old number) peer.old (IsAfter result (C.connection connections.new number) peer.new) }
+    ensures looked { KeepsLooked peer.old peer.new }
+    ensures waits { result ≡ WaitsNext → peer.new.sent < length peer.new.outbox.items }
     ensures others { OthersStay number (C.connection connections.old) (C.connection connections.new) }
     ensures bounded { C.moves connections.new ≤ C.moves connections.old + 1 }
 {
@@ -64,6 +67,8 @@ fn read_some<C: Connections>(
 ) -> Next
     requires { HasTask peer.old ReadTask }
     ensures moves { Moves (C.connection connections.old number) peer.old (IsAfter result (C.connection connections.new number) peer.new) }
+    ensures looked { KeepsLooked peer.old peer.new }
+    ensures waits { result ≡ WaitsNext → MayWait peer.new }
     ensures others { OthersStay number (C.connection connections.old) (C.connection connections.new) }
     ensures bounded { C.moves connections.new ≤ C.moves connections.old + 1 }
 {
@@ -97,6 +102,8 @@ fn answer_one<S: Service>(
 ) -> Next
     requires { HasTask peer.old AnswerTask }
     ensures leads { (k : ℕ) (now : Connection) → Leads S.answers k service.old now peer.old service.new (IsAfter result now peer.new) }
+    ensures looked { HasLooked S.waits peer.old → HasLooked S.waits peer.new }
+    ensures rests { Rests S.waits result peer.new }
     ensures bounded { S.calls service.new ≤ S.calls service.old + 1 }
 {
     peer.release(alloc);
@@ -141,6 +148,8 @@ fn step<S: Service, C: Connections>(
     turns: u64,
 ) -> Next
     ensures leads { Leads S.answers number service.old (C.connection connections.old number) peer.old service.new (IsAfter result (C.connection connections.new number) peer.new) }
+    ensures looked { HasLooked S.waits peer.old → HasLooked S.waits peer.new }
+    ensures rests { HasLooked S.waits peer.old → Rests S.waits result peer.new }
     ensures others { OthersStay number (C.connection connections.old) (C.connection connections.new) }
     ensures bounded { S.calls service.new + C.moves connections.new ≤ S.calls service.old + C.moves connections.old + 1 }
 {
@@ -163,6 +172,8 @@ pub(crate) fn turn<S: Service, C: Connections>(
     turns: u64,
 ) -> Next
     ensures leads { Leads S.answers number service.old (C.connection connections.old number) peer.old service.new (IsAfter result (C.connection connections.new number) peer.new) }
+    ensures looked { HasLooked S.waits peer.old → HasLooked S.waits peer.new }
+    ensures rests { HasLooked S.waits peer.old → Rests S.waits result peer.new }
     ensures others { OthersStay number (C.connection connections.old) (C.connection connections.new) }
     ensures bounded { S.calls service.new + C.moves connections.new ≤ S.calls service.old + C.moves connections.old + 16 }
 {

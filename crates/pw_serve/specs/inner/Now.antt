@@ -7,8 +7,8 @@ use Rattle.pw_serve.specs.declared.turn.Next.TheVariants.{Waits}
 use Rattle.pw_serve.specs.Connections.{AllStay, Connection, OthersStay}
 use Rattle.pw_serve.specs.Exchanges.{Asked, Chain, Exchange, exchanges_of}
 use Rattle.pw_serve.specs.Served.{IsEndOf, Talk}
-use Rattle.pw_serve.specs.inner.Peers.{IsPeer}
-use Rattle.pw_serve.specs.inner.Turns.{IsAfter, Leads}
+use Rattle.pw_serve.specs.inner.Peers.{HasLooked, IsPeer}
+use Rattle.pw_serve.specs.inner.Turns.{IsAfter, Leads, Rests}
 
 -- the peers by their numbers
 abbrev pub Peers : Type 0
@@ -40,6 +40,14 @@ pub record IsSet (k : ℕ) (spot : Option Peer) (old new : Peers) : Type 0 where
 
 abbrev pub AreSame : Peers → Peers → Type 0
 AreSame old new = (j : ℕ) → new j ≡ old j
+
+-- the service waits on what was received of each that was looked at
+abbrev pub HaveLooked : (List ℕ → Type 0) → Peers → Type 0
+HaveLooked waits peers = (j : ℕ) → (c : Peer) → peers j ≡ Some c → HasLooked waits c
+
+-- the one at k, if there is one, rests where it is left to an event
+abbrev pub RestsAt : (List ℕ → Type 0) → Next → Peers → ℕ → Type 0
+RestsAt waits next peers k = (c : Peer) → peers k ≡ Some c → Rests waits next c
 
 module _ {S : Type 0} (answers : S → Asked → List ℕ → S → Type 0) where
   -- up to a moment: the exchanges so far, and where each connection stands

@@ -8,7 +8,7 @@ use Rattle.pw_serve.specs.declared.turn.Next.TheVariants.{Goes, Replied, Waits, 
 use Rattle.pw_serve.specs.Connections.{Connection}
 use Rattle.pw_serve.specs.Exchanges.{Asked, Chain, Exchange}
 use Rattle.pw_serve.specs.Served.{IsOwed, Talk}
-use Rattle.pw_serve.specs.inner.Peers.{IsPeer}
+use Rattle.pw_serve.specs.inner.Peers.{IsPeer, IsResting}
 
 -- a connection that is to be ended, and why it may be
 pub record IsLeaving (why : Ending) (first now : Connection) (own : List Exchange) : Type 0 where
@@ -28,6 +28,14 @@ IsAfter (Ends why) now c first own = IsLeaving why first now own
 -- whatever was asked before
 abbrev pub Moves : Connection → Peer → (Connection → List Exchange → Type 0) → Type 0
 Moves before c P = (first : Connection) (own : List Exchange) → IsPeer first before own c → P first own
+
+-- who is left to an event rests
+abbrev pub Rests : (List ℕ → Type 0) → Next → Peer → Type 0
+Rests waits Waits c = IsResting waits c
+Rests waits Goes c = Unit {0}
+Rests waits Replied c = Unit {0}
+Rests waits Held c = Unit {0}
+Rests waits (Ends why) c = Unit {0}
 
 abbrev pub IsBy : ℕ → Exchange → Type 0
 IsBy k e = e.who ≡ k

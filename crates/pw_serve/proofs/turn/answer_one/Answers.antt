@@ -35,4 +35,4 @@ returns-in-Refused-clause-leads g c = λ k now.
 
 pub returns-in-Short-clause-leads : goal.returns-in-Short-clause-leads
 returns-in-Short-clause-leads g c = λ k now.
-    leads-short g.S.Service.answers k _ _ now c.args.peer.now c.args.peer.now c.deref.result.now c.answer.new.outbox.items c.release.new.self.ended c.args.may_be_large c.requires.0 c.in-Short.ensures.answered (c.deref.ensures.value ∙ ap (λ p. p.inbox.items) c.release.ensures.same)
+    leads-short g.S.Service.answers g.S.Service.waits k _ _ now c.args.peer.now c.args.peer.now c.deref.result.now c.answer.new.outbox.items c.release.new.self.ended c.args.may_be_large c.requires.0 c.in-Short.ensures.answered (c.deref.ensures.value ∙ ap (λ p. p.inbox.items) c.release.ensures.same)

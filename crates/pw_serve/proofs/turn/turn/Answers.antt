@@ -13,6 +13,24 @@ returns-in-Held-clause-leads g c = leads-then g.S.Service.answers _ _ _ _ _ _ _ 
 pub returns-in-Ends-clause-leads : goal.returns-in-Ends-clause-leads
 returns-in-Ends-clause-leads g c = leads-then g.S.Service.answers _ _ _ _ _ _ _ _ _ c.loop.invariant.leads c.in-Ends.ensures.leads
 
+pub returns-then-eq-clause-looked : goal.returns-then-eq-clause-looked
+returns-then-eq-clause-looked g c = c.loop.invariant.looked
+
+pub returns-in-Waits-clause-looked : goal.returns-in-Waits-clause-looked
+returns-in-Waits-clause-looked g c = λ h. c.in-Waits.ensures.looked (c.loop.invariant.looked h)
+
+pub returns-in-Waits-clause-rests : goal.returns-in-Waits-clause-rests
+returns-in-Waits-clause-rests g c = λ h. c.in-Waits.ensures.rests (c.loop.invariant.looked h)
+
+pub returns-in-Held-clause-looked : goal.returns-in-Held-clause-looked
+returns-in-Held-clause-looked g c = λ h. c.in-Held.ensures.looked (c.loop.invariant.looked h)
+
+pub returns-in-Ends-clause-looked : goal.returns-in-Ends-clause-looked
+returns-in-Ends-clause-looked g c = λ h. c.in-Ends.ensures.looked (c.loop.invariant.looked h)
+
+pub returns-clause-looked : goal.returns-clause-looked
+returns-clause-looked g c = c.loop.invariant.looked
+
 pub loop-preserved : goal.loop-preserved
 loop-preserved g c =
     let e : (c.step.result ≡ Goes) ⊎ (c.step.result ≡ Replied) = elim c.match-step.branch [
@@ -21,6 +39,7 @@ loop-preserved g c =
     ] in
     record {
       leads = leads-then g.S.Service.answers _ _ _ _ _ _ _ _ _ c.loop.invariant.leads (leads-goes g.S.Service.answers _ _ _ _ _ _ _ _ e c.step.ensures.leads);
+      looked = λ h. c.step.ensures.looked (c.loop.invariant.looked h);
       bounded = omega arith;
       others = λ j d. stays-then _ _ _ (c.loop.invariant.others j d) (c.step.ensures.others j d);
     }
