@@ -160,8 +160,8 @@ module _ (audience : Audience) where
   pub nothing_yet : (buf : List ℕ) → length buf ≡ 0 → Waits audience buf × (length buf < ROOM)
   nothing_yet buf empty = (inl (nil_from_length buf empty), omega (arith, empty))
 
-  -- where more bytes are waited for, no whole request stands
-  pub none_while_waiting : (buf : List ℕ) → Waits audience buf → HasNoWhole audience buf
-  none_while_waiting buf (inl e) = rw e none_in_nothing
-  none_while_waiting buf (inr (inl h)) = none_without_head buf h.none
-  none_while_waiting buf (inr (inr w)) = none_yet buf w.head w.rest w.size w.is_head w.said w.short
+-- where more bytes are waited for, no whole request stands, whoever is let in
+pub none_while_waiting : (audience anybody : Audience) (buf : List ℕ) → Waits audience buf → HasNoWhole anybody buf
+none_while_waiting audience anybody buf (inl e) = rw e (none_in_nothing anybody)
+none_while_waiting audience anybody buf (inr (inl h)) = none_without_head anybody buf h.none
+none_while_waiting audience anybody buf (inr (inr w)) = none_yet anybody buf w.head w.rest w.size w.is_head w.said w.short

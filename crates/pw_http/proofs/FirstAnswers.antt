@@ -11,9 +11,10 @@ use Rattle.pw_http.specs.declared.requests.Refusal.{Refusal}
 use Rattle.pw_http.specs.Replies.{Reply, refusal_reply, reply_bytes}
 use Rattle.pw_http.specs.Requests.{Request, Whole, Faulty, Stands, request_bytes}
 use Rattle.pw_http.specs.Runs.{Asking}
-use Rattle.pw_http.specs.inner.Answering.{IsAnswered, IsReply}
-use Rattle.pw_http.specs.inner.Received.{IsWholeAt}
+use Rattle.pw_http.specs.inner.Answering.{IsAnswered, IsReply, IsStillCut}
+use Rattle.pw_http.specs.inner.Received.{IsWholeAt, Waits}
 use Rattle.pw_http.specs.inner.Turns.{asking_at}
+use Rattle.pw_http.proofs.Asks.{none_while_waiting}
 use Rattle.pw_http.proofs.ManyTalks.{Answers}
 use Rattle.pw_http.proofs.Turns.{whole_step}
 
@@ -28,6 +29,10 @@ front-is audience buf p q w =
     ap (λ (n : ℕ). take n buf) size
     ∙ ap (take (length (request_bytes q))) w.bytes
     ∙ take-append_seam (request_bytes q) (drop p.len buf)
+
+-- what is waited on is still cut
+pub waited : (audience : Audience) (bytes : List ℕ) → Waits audience bytes → IsStillCut bytes
+waited audience bytes w = λ anybody. none_while_waiting audience anybody bytes w
 
 module _ (audience : Audience) {S : Type 0} (serves : S → Asking → Reply → S → Type 0) where
   pub refused-answered : (old : S) (bytes : List ℕ) (ended : Bool) (why : Refusal) (text : List ℕ) → ((left : List ℕ) → (ended ≡ true → left ≡ []) → Stands audience (bytes ++ left) (Faulty why)) → text ≡ reply_bytes true (refusal_reply why)
@@ -46,7 +51,7 @@ module _ (audience : Audience) {S : Type 0} (serves : S → Asking → Reply →
 
   -- what comes of a whole request is an answer
   pub reply-answer : (old : S) (buf : List ℕ) (p : Places) (q : Request) (ended may_be_large : Bool) (new : S) (text : List ℕ) (r : Answer) → IsWholeAt audience buf p q → IsReply serves old buf p may_be_large new text r
-      → IsAnswer (IsAnswered audience serves) old buf ended may_be_large new text r
+      → IsAnswer (IsAnswered audience serves) IsStillCut old buf ended may_be_large new text r
   reply-answer old buf p q ended may_be_large new text answer.Waits w x = absurd x
   reply-answer old buf p q ended may_be_large new text answer.Later w x = (x.0, x.1, x.3)
   reply-answer old buf p q ended may_be_large new text (answer.Replied n ends) w x =
@@ -58,8 +63,8 @@ module _ (audience : Audience) {S : Type 0} (serves : S → Asking → Reply →
 -- an answer of a part of a state, where the rest stays
 module _ {A N S : Type 0} (name : A → N) (audience : A → Audience) (service : A → S) (serves : S → Asking → Reply → S → Type 0) where
   pub answer-of : (a b : A) (bytes : List ℕ) (ended may_be_large : Bool) (text : List ℕ) (r : Answer) → name b ≡ name a → audience b ≡ audience a → (service b ≡ service a → b ≡ a)
-      → IsAnswer (IsAnswered (audience a) serves) (service a) bytes ended may_be_large (service b) text r → IsAnswer (Answers name audience service serves) a bytes ended may_be_large b text r
-  answer-of a b bytes ended may_be_large text answer.Waits d e f x = (f x.0, x.1, x.2)
+      → IsAnswer (IsAnswered (audience a) serves) IsStillCut (service a) bytes ended may_be_large (service b) text r → IsAnswer (Answers name audience service serves) IsStillCut a bytes ended may_be_large b text r
+  answer-of a b bytes ended may_be_large text answer.Waits d e f x = (f x.0, x.1, x.2, x.3)
   answer-of a b bytes ended may_be_large text answer.Later d e f x = (f x.0, x.1, x.2)
   answer-of a b bytes ended may_be_large text (answer.Replied n ends) d e f x = (x.0, x.1, (d, e, x.2))
   answer-of a b bytes ended may_be_large text answer.Refused d e f x = (d, e, x)

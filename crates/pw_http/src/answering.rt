@@ -4,7 +4,7 @@ ghost use Rattle.std.specs.Prelude.{◌≡◌, ◌≤◌, ◌<◌, ◌+◌, ◌*
 ghost use Rattle.httparse.specs.Spans.{IsWithin};
 ghost use Rattle.pw_serve.specs.Answered.{IsAnswer};
 ghost use Rattle.pw_http.specs.Many.{IsManyTalks};
-ghost use Rattle.pw_http.specs.inner.Answering.{IsAnswered, IsReply, is_large_in};
+ghost use Rattle.pw_http.specs.inner.Answering.{IsAnswered, IsReply, IsStillCut, is_large_in};
 
 use crate::audience::Audience;
 use crate::conversation::answer_whole;
@@ -28,9 +28,11 @@ struct Answering<'a, S> {
 /// It answers whole requests of who is let in, and refuses others.
 impl<S: Service> pw_serve::Service for Answering<'_, S> {
     ghost use Rattle.std.specs.Prelude.{◌≡◌};
-    ghost use Rattle.pw_http.specs.inner.Answering.{IsAnswered};
+    ghost use Rattle.pw_http.specs.inner.Answering.{IsAnswered, IsStillCut};
 
     ghost answers = { λ old sent text new. (new.service.ghost_name ≡ old.service.ghost_name) × (new.audience.now ≡ old.audience.now) × IsAnswered old.audience.now S.serves old.service.now sent text new.service.now };
+
+    ghost waits = { IsStillCut };
 
     ghost calls = { λ _. 0 };
 
@@ -107,7 +109,7 @@ fn answer_first<S: Service>(
 ) -> Answer
     requires some { 0 < length bytes.now }
     requires empty { outbox.old.items ≡ [] }
-    ensures answered { IsAnswer (IsAnswered audience.entry S.serves) service.old bytes.now ended may_be_large service.new outbox.new.items result }
+    ensures answered { IsAnswer (IsAnswered audience.entry S.serves) IsStillCut service.old bytes.now ended may_be_large service.new outbox.new.items result }
 {
     let mut headers = [EMPTY_HEADER_SPAN; MOST_FIELDS];
     match ask_next(audience, bytes, ended, &mut headers) {

@@ -6,7 +6,7 @@ use Rattle.pw_serve.specs.declared.service.Answer.TheVariants as answer
 use Rattle.pw_http.specs.declared.audience.Audience.{Audience}
 use Rattle.pw_http.specs.declared.requests.Places.{Places}
 use Rattle.pw_http.specs.Replies.{Reply, reply_bytes}
-use Rattle.pw_http.specs.Requests.{Asked, Whole, Faulty, IsWhole, Stands, closes, is_last, request_bytes}
+use Rattle.pw_http.specs.Requests.{Asked, Whole, Faulty, HasNoWhole, IsWhole, Stands, closes, is_last, request_bytes}
 use Rattle.pw_http.specs.Routes.{place_of}
 use Rattle.pw_http.specs.Runs.{Asking, Step}
 use Rattle.pw_http.specs.inner.Large.{is_large_at}
@@ -19,6 +19,10 @@ module _ (audience : Audience) where
   Holds (raw.Whole bytes ends) (Faulty why) = ⊥
   Holds (raw.Refused bytes ended) (Whole r) = ⊥
   Holds (raw.Refused bytes ended) (Faulty why) = (left : List ℕ) → (ended ≡ true → left ≡ []) → Stands audience (bytes ++ left) (Faulty why)
+
+-- no whole request stands in front of the bytes, whoever is let in
+abbrev pub IsStillCut : List ℕ → Type 0
+IsStillCut bytes = (audience : Audience) → HasNoWhole audience bytes
 
 module _ (audience : Audience) {S : Type 0} (serves : S → Asking → Reply → S → Type 0) where
   -- the step that answers what the bytes hold, and the bytes of its reply

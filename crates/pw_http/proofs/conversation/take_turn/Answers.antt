@@ -34,4 +34,4 @@ returns-else-whole-clause-turn g c =
 pub returns-in-More-clause-turn : goal.returns-in-More-clause-turn
 returns-in-More-clause-turn g c =
     let n = rw c.unread.ensures.value at c.in-More.ensures.next in
-    (none_while_waiting c.args.audience c.args.inbox.now n.0, n.1, n.2, refl, Appends-nothing _, refl)
+    (none_while_waiting c.args.audience c.args.audience c.args.inbox.now n.0, n.1, n.2, refl, Appends-nothing _, refl)
