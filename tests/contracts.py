@@ -118,7 +118,8 @@ class Block:
             return word
         if self.kind == "impl":
             return "fact" if re.match(r" (output|next_gives|from_gives) =", rest) else "model"
-        return "model" if re.match(r"\{ Self →", text) and self.kind == "trait" else "fact"
+        is_model = re.match(r"\{ Self →", text) or re.search(r"→ Type 0 \}", text)
+        return "model" if is_model and self.kind == "trait" else "fact"
 
 
 def items_of(crate, path, names, modules):
