@@ -1,5 +1,5 @@
-//! Stores over memory: what is kept, by calls that no upload makes; another office and other versions are refused. (What
-//! else is refused when one is opened again stands in `tests/stores`.)
+//! Stores over memory: what is kept, by calls that no upload makes; another office and other versions are refused.
+//! (What else is refused when one is opened stands in `tests/stores`.)
 
 ghost use Rattle.std.specs.Prelude.{◌≡◌, IfOk, None, false};
 ghost use Rattle.pw_tariff.specs.Office.{OfficeFile};
