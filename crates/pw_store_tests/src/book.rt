@@ -16,6 +16,7 @@ mod sql;
 mod stores;
 mod uploads;
 mod withdrawn;
+mod worked;
 
 use agreeing::length;
 use pw_book::{Accepted, Book, BookFault, Entry, PostFault};

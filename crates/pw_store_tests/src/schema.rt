@@ -1,9 +1,11 @@
-//! Rows of tables, judged: such as no store that opens has. (How stores that have such are refused: `tests/stores`.)
+//! Rows of tables, judged: such as no store that opens has, and versions. (How stores that have such are refused:
+//! `tests/stores`.)
 
 use crate::sql_stores::memory;
 use pw_model::Entry;
 use pw_schema::{
-    Judge, JudgeFault, ReadFault, RecordKind, Records, Rowids, contents_in, read_rows,
+    Judge, JudgeFault, OfficeFault, ReadFault, RecordKind, Records, Rowids, StoreVersion,
+    contents_in, judge_version, read_rows,
 };
 use pw_tariff::Office;
 use pw_tests::offices::SAMPLE;
@@ -150,5 +152,32 @@ fn rowids_rise(rt: HostRuntime) {
         let (rows, mut ids) = (rows(&rt, alloc, text), Rowids::new());
         let are_rising = rows.as_slice().iter().all(|row| ids.take(row).is_ok());
         assert!(rt; are_rising == rising, "{text}");
+    }
+}
+
+// The version that the rows of `office` tell, as a text shows them, if it is known.
+fn version_in(rt: &impl Abort, alloc: Global, text: &str) -> Result<StoreVersion, OfficeFault> {
+    let rows = rows(rt, alloc, text);
+    judge_version(rows.as_slice())
+}
+
+// Versions 1 and 2 are older, 3 is the one that stores have now, and no other is known.
+// bears on: pw_schema office.rt judge_version missing
+// bears on: pw_schema office.rt judge_version other
+// bears on: pw_schema office.rt judge_version version
+#[test]
+fn versions_of_stores(rt: HostRuntime) {
+    for (text, told) in [
+        ("SELECT 1", Ok(StoreVersion::First)),
+        ("SELECT 2", Ok(StoreVersion::Second)),
+        ("SELECT 3", Ok(StoreVersion::Third)),
+        ("SELECT 0", Err(OfficeFault::Version)),
+        ("SELECT 4", Err(OfficeFault::Version)),
+        ("SELECT -1", Err(OfficeFault::Version)),
+        ("SELECT '3'", Err(OfficeFault::Version)),
+        ("SELECT NULL", Err(OfficeFault::Version)),
+        ("SELECT 3 UNION ALL SELECT 3", Err(OfficeFault::Missing)),
+    ] {
+        assert!(rt; version_in(&rt, rt.alloc(), text) == told, "{text}");
     }
 }

@@ -1,5 +1,5 @@
-//! Stores over memory: what is kept, by calls that no upload makes. (What is refused when one is opened again stands in
-//! `tests/stores`.)
+//! Stores over memory: what is kept, by calls that no upload makes; another office and other versions are refused.
+//! (What else is refused when one is opened stands in `tests/stores`.)
 
 ghost use Rattle.std.specs.Prelude.{◌≡◌, IfOk, None, false};
 ghost use Rattle.pw_tariff.specs.Office.{OfficeFile};
@@ -8,14 +8,14 @@ ghost use Rattle.pw_tariff.specs.Text.{IsOfficeOf};
 mod no_memory;
 
 use crate::entries::{at, wh};
-use crate::sql_stores::memory;
+use crate::sql_stores::{execute, memory};
 use pw_model::TotalKey;
 use pw_obis::{Register, WattHours};
 use pw_shelf::{Shelf, ShelfFault};
 use pw_store::laws::closed_is_opened_again;
 use pw_store::{OpenFault, SqlShelf};
 use pw_tariff::{AccountId, Office};
-use pw_tests::offices::SAMPLE;
+use pw_tests::offices::{SAMPLE, TWO_METERS};
 use pw_tests::sample::METER;
 use pw_time::Instant;
 use sqlite::{Connection, MemStore};
@@ -145,4 +145,72 @@ fn a_total_of_0_at_any_key_opens_again(rt: HostRuntime) {
     assert!(rt; committed_total_of_0(&mut shelf).is_ok());
     let mut again = shelf_of(&rt, rt.alloc(), shelf.close());
     assert!(rt; has_total(&mut again, &NOBODY, 0));
+}
+
+// Why a new store of the sample office, in which a statement was run, isn't opened for an office, if it isn't.
+fn refusal(rt: &impl Abort, alloc: Global, statement: &str, office: &str) -> Option<OpenFault> {
+    let mut connection = empty_shelf(rt, alloc).close();
+    execute(rt, &mut connection, statement);
+    let text = office.as_bytes();
+    see_office(rt, alloc, text);
+    match SqlShelf::open(alloc, connection, text) {
+        Ok(_) => None,
+        Err((fault, _)) => Some(fault),
+    }
+}
+
+// What is done to a new store, the office that it is opened for, and why it is refused. The version is told first.
+const REFUSED: [(&str, &str, OpenFault, u8); 6] = [
+    (
+        "UPDATE office SET version = 3",
+        TWO_METERS,
+        OpenFault::OfficeDiffers,
+        71,
+    ),
+    (
+        "UPDATE office SET body = X'00'",
+        SAMPLE,
+        OpenFault::OfficeDiffers,
+        71,
+    ),
+    (
+        "UPDATE office SET version = 0",
+        SAMPLE,
+        OpenFault::Version,
+        72,
+    ),
+    (
+        "UPDATE office SET version = 4",
+        SAMPLE,
+        OpenFault::Version,
+        72,
+    ),
+    (
+        "UPDATE office SET version = 9",
+        SAMPLE,
+        OpenFault::Version,
+        72,
+    ),
+    (
+        "UPDATE office SET version = 4",
+        TWO_METERS,
+        OpenFault::Version,
+        72,
+    ),
+];
+
+// bears on: pw_schema office.rt judge_version other
+// bears on: pw_schema office.rt keeps_office is
+// bears on: pw_store connecting.rt SqlShelf::open cause
+// bears on: pw_store connecting.rt SqlShelf::open_watched cause
+// bears on: pw_store fault.rt OpenFault::number ensures
+#[test]
+fn another_office_and_other_versions_are_refused(rt: HostRuntime) {
+    for (statement, office, fault, number) in REFUSED {
+        let told = refusal(&rt, rt.alloc(), statement, office);
+        assert!(rt;
+            told == Some(fault) && fault.number() == number,
+            "{statement}"
+        );
+    }
 }

@@ -160,9 +160,8 @@ fn tell_answer<O: Write>(asked: &Asked<'_>, words: &[&str], out: &mut O) -> Opti
         "contents_at" | "owner_at" | "topped_up" | "reference" | "compare" | "named" => {
             counting::answer(asked, words, out)
         }
-        "bill" | "why" | "topups" | "latest" | "energy" | "days" => bills::answer(
-            asked, words, out,
-        ),
+        "bill" | "why" | "topups" | "latest" | "energy" | "energy_in" | "days" | "empty_book" =>
+            bills::answer(asked, words, out),
         "last" | "falls" | "disputes" | "readings" | "points" => lists::answer(asked, words, out),
         _ => meaning::answer(asked, words, out),
     }

@@ -35,6 +35,19 @@ pub(crate) fn empty_book(alloc: Global, office: Office, limit: u32) -> Book<Memo
     book_over(office, MemoryShelf::new(alloc), limit)
 }
 
+/// One over a store in memory that counts its calls.
+pub(crate) fn counting_book(
+    alloc: Global,
+    office: Office,
+    limit: u32,
+) -> Book<CountShelf<MemoryShelf>>
+    requires least { 1 ≤ limit }
+    requires most { limit ≤ most_records }
+{
+    let shelf = CountShelf::new(MemoryShelf::new(alloc));
+    book_over(office, shelf, limit)
+}
+
 /// Whether a book is made, tells its office, and gives its store back.
 pub(crate) fn is_kept<S: Shelf + Drop>(office: Office, shelf: S) -> bool
     requires empty { (S.state shelf).content ≡ no_content }

@@ -80,7 +80,7 @@ fn takes_each<S: Shelf>(rt: &impl Abort, alloc: Global, book: &mut Book<S>, step
 }
 
 // A book that holds as many records as it may refuses another.
-fn is_full<S: Shelf>(rt: &impl Abort, alloc: Global, book: &mut Book<S>, held: u32) {
+pub(super) fn is_full<S: Shelf>(rt: &impl Abort, alloc: Global, book: &mut Book<S>, held: u32) {
     let full = PostFault::Full { held, limit: held };
     assert!(rt; post(rt, alloc, book, &[paid(rt, b"P3", FIRST, 1)]) == Err(full));
 }
