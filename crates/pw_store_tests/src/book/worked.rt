@@ -402,7 +402,7 @@ fn tells<S: Shelf>(rt: &impl Abort, alloc: Global, book: &mut Book<S>, row: &Row
 
 // Takes the uploads of a row, behind which a book that has room for just what they give is full.
 fn takes_row<S: Shelf>(rt: &impl Abort, alloc: Global, book: &mut Book<S>, row: &Row) {
-    let Row(steps, held, ..) = row;
+    let Row(steps, held, _, _, _) = row;
     takes_each(rt, alloc, book, *steps);
     assert!(rt; tells(rt, alloc, book, row));
     if *held > 0 {
@@ -412,7 +412,7 @@ fn takes_row<S: Shelf>(rt: &impl Abort, alloc: Global, book: &mut Book<S>, row: 
 
 // A row over an empty book.
 fn row_holds<S: Shelf + Drop>(rt: &impl Abort, alloc: Global, mut book: Book<S>, row: &Row) {
-    let Row(steps, held, ..) = row;
+    let Row(steps, held, _, _, _) = row;
     takes_row(rt, alloc, &mut book, row);
     book_and_store_agree(rt, alloc, book, &told_by(rt, alloc, *steps), *held);
 }
@@ -443,7 +443,7 @@ fn row_holds<S: Shelf + Drop>(rt: &impl Abort, alloc: Global, mut book: Book<S>,
 fn worked_rows_with_calls_counted(rt: HostRuntime) {
     let alloc = rt.alloc();
     for row in ROWS {
-        let Row(_, held, ..) = row;
+        let Row(_, held, _, _, _) = row;
         let book = Counting
             .empty(&rt, alloc, TWO_METERS, held.max(1))
             .expect(&rt, "a book");
