@@ -1,18 +1,20 @@
 -- What is answered to the first bytes of a connection.
-use Rattle.std.proofs.Common.{◌≡◌, ℕ, List, [], ◌++◌, length, take, drop, Bool, true, inl, inr, refl, sym, ap, ◌∙◌, arith, length-append, length-drop}
+use Rattle.std.proofs.Common.{◌≡◌, ℕ, List, [], ◌++◌, ◌<◌, ◌⊎◌, length, take, drop, Bool, true, false, inl, inr, refl, subst, sym, ap, ◌∙◌, arith, length-append, length-drop}
 use Rattle.std.proofs.Math.Seq.{take-append_seam}
 use Rattle.pw_serve.specs.Answered.{IsAnswer}
 use Rattle.pw_serve.specs.Exchanges as raw
 use Rattle.pw_serve.specs.declared.service.Answer.{Answer}
 use Rattle.pw_serve.specs.declared.service.Answer.TheVariants as answer
 use Rattle.pw_http.specs.declared.audience.Audience.{Audience}
+use Rattle.pw_http.specs.declared.requests.Next.{Next}
+use Rattle.pw_http.specs.declared.requests.Next.TheVariants.{Nothing, More}
 use Rattle.pw_http.specs.declared.requests.Places.{Places}
 use Rattle.pw_http.specs.declared.requests.Refusal.{Refusal}
 use Rattle.pw_http.specs.Replies.{Reply, refusal_reply, reply_bytes}
 use Rattle.pw_http.specs.Requests.{Request, Whole, Faulty, Stands, request_bytes}
 use Rattle.pw_http.specs.Runs.{Asking}
 use Rattle.pw_http.specs.inner.Answering.{IsAnswered, IsReply, IsStillCut}
-use Rattle.pw_http.specs.inner.Received.{IsWholeAt, Waits}
+use Rattle.pw_http.specs.inner.Received.{IsNext, IsWholeAt, Waits}
 use Rattle.pw_http.specs.inner.Turns.{asking_at}
 use Rattle.pw_http.proofs.Asks.{none_while_waiting}
 use Rattle.pw_http.proofs.ManyTalks.{Answers}
@@ -33,6 +35,15 @@ front-is audience buf p q w =
 -- what is waited on is still cut
 pub waited : (audience : Audience) (bytes : List ℕ) → Waits audience bytes → IsStillCut bytes
 waited audience bytes w = λ anybody. none_while_waiting audience anybody bytes w
+
+-- a look that finds neither a request nor a fault in some bytes finds them cut, while more may come
+pub cut-so-far : (audience : Audience) (bytes : List ℕ) (ended : Bool) (next : Next) → (next ≡ Nothing) ⊎ (next ≡ More) → IsNext audience bytes ended next → 0 < length bytes → (ended ≡ false) × IsStillCut bytes
+cut-so-far audience bytes ended next (inl e) n some =
+    let m : IsNext audience bytes ended Nothing = subst (λ (x : Next). IsNext audience bytes ended x) e n in
+    absurd (omega (arith, ap length m.0, some))
+cut-so-far audience bytes ended next (inr e) n some =
+    let m : IsNext audience bytes ended More = subst (λ (x : Next). IsNext audience bytes ended x) e n in
+    (m.1, waited audience bytes m.0)
 
 module _ (audience : Audience) {S : Type 0} (serves : S → Asking → Reply → S → Type 0) where
   pub refused-answered : (old : S) (bytes : List ℕ) (ended : Bool) (why : Refusal) (text : List ℕ) → ((left : List ℕ) → (ended ≡ true → left ≡ []) → Stands audience (bytes ++ left) (Faulty why)) → text ≡ reply_bytes true (refusal_reply why)
