@@ -14,6 +14,5 @@ pub mod RowsThere
 pub mod RowsListed
 pub mod PaidSums
 pub mod Settled
-pub mod Questions
 pub mod BillAsked
 pub mod LastRead

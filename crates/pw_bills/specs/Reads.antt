@@ -1,12 +1,14 @@
 -- How many calls of the store and rows a question on stretches of time takes.
 -- (A promise of this project: whatever the number of records.)
 use Rattle.std.specs.Prelude.{◌≡◌, ℕ, ◌+◌, ◌<◌, ◌≤◌, Some}
-use Rattle.pw_tariff.specs.Office.{OfficeRules}
+use Rattle.pw_tariff.specs.Office.{OfficeRules, office_of}
 use Rattle.pw_tariff.specs.Owners.{owner_from}
 use Rattle.pw_flow.specs.Time.{last, sum_over}
 use Rattle.pw_model.specs.Energy.{account}
 use Rattle.pw_model.specs.Shelf.{ShelfContent}
-use Rattle.pw_book.specs.Cost.{HasPoints, HasStarts}
+use Rattle.pw_shelf.specs.declared.shelf.Shelf.{Ghosts}
+use Rattle.pw_book.specs.declared.book.Book.{Book}
+use Rattle.pw_book.specs.Cost.{HasPoints, HasStarts, RisesAtMost}
 
 -- a second of the interval
 abbrev pub IsBetween : ℕ → ℕ → ℕ → Type 0
@@ -31,3 +33,10 @@ AreEnoughFor office c a x y most = (m : ℕ) → m < office.meters → IsEnoughF
 -- those of all meters
 abbrev pub all_meters : OfficeRules → (ℕ → ℕ) → ℕ
 all_meters office most = sum_over most 0 office.meters
+
+-- a question on an account in an interval takes no more than is enough for all meters, where the store has returned what
+-- was written
+abbrev pub CostsMeters : {S : Type 0} (shelf : Ghosts S) → ℕ → ℕ → ℕ → Book S shelf → Book S shelf → Type 0
+CostsMeters shelf a x y old new = shelf.clean new.shelf → (most : ℕ → ℕ) →
+    AreEnoughFor (office_of old.office) (shelf.state old.shelf).content a x y most →
+    RisesAtMost (all_meters (office_of old.office) most) (shelf.state old.shelf).tally (shelf.state new.shelf).tally

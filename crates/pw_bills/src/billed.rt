@@ -54,7 +54,11 @@ pub(crate) fn settle(
 ) -> Bill
     requires later { from < until }
     requires ended { until ≤ END_SECOND }
-    ensures { (s : List AnEntry) (a : AnAccount) → AllOfOffice (office_of office.now) s → length s ≤ most_records → balance ≡ balance_of (office_of office.now) s a.0 → AreTopUpRows s a from END_SECOND rows.now → TellsFlows (office_of office.now) s a from until energies → TellsBill (office_of office.now) s a from until result }
+    ensures { (s : List AnEntry) (a : AnAccount) → AllOfOffice (office_of office.now) s
+        → length s ≤ most_records → balance ≡ balance_of (office_of office.now) s a.0
+        → AreTopUpRows s a from END_SECOND rows.now
+        → TellsFlows (office_of office.now) s a from until energies
+        → TellsBill (office_of office.now) s a from until result }
 {
     let end = before(
         near(balance),
@@ -135,7 +139,8 @@ fn cents_in(row: &TopUpRow, from: u32, until: u32) -> u128
 // What the energy of a direction behind an interval costs, in nano-euro: nothing flows where no
 // instant is behind it.
 fn cost_behind(office: &Office, energies: &Energies, until: u32, direction: Direction) -> u128
-    ensures some { until < END_SECOND → result ≡ cost_told (office_of office.now) energies.now 1 direction }
+    ensures some { until < END_SECOND → result
+        ≡ cost_told (office_of office.now) energies.now 1 direction }
     ensures none { END_SECOND ≤ until → result ≡ 0 }
     ensures bound { result < 2 ^ 120 }
 {
@@ -168,7 +173,8 @@ fn cost_in_period(
     direction: Direction,
 ) -> u128
     requires { period.0 < periods_in office.now }
-    ensures cost { result ≡ period_told (office_of office.now) energies.now stretch period.0 direction }
+    ensures cost { result ≡ period_told (office_of office.now) energies.now stretch period.0
+        direction }
     ensures bound { result < 2 ^ 104 }
 {
     let mut nano: u128 = 0;

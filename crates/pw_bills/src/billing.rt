@@ -6,7 +6,7 @@ ghost use Rattle.pw_tariff.specs.Office.{office_of};
 ghost use Rattle.pw_book.specs.Cost.{RisesAtMost};
 ghost use Rattle.pw_book.specs.Questions.{IsQuestion};
 ghost use Rattle.pw_bills.specs.Billed.{AreEnoughForBill, TellsBill};
-ghost use Rattle.pw_bills.specs.Reads.{AreEnoughFor, all_meters};
+ghost use Rattle.pw_bills.specs.Reads.{CostsMeters};
 ghost use Rattle.pw_bills.specs.inner.Settling.{TellsFlows};
 
 use crate::billed::{Bill, settle};
@@ -36,8 +36,12 @@ pub fn bill<S: Shelf>(
     requires account { account.0 < length book.old.office.accounts }
     requires later { from < until }
     requires ended { until ≤ END_SECOND }
-    ensures bill { S.clean book.new.shelf → IfOk result (λ bill. TellsBill (office_of book.old.office) (S.state book.old.shelf).content.records account from until bill) }
-    ensures cost { S.clean book.new.shelf → (most : ℕ) → AreEnoughForBill (office_of book.old.office) (S.state book.old.shelf).content account from most → RisesAtMost most (S.state book.old.shelf).tally (S.state book.new.shelf).tally }
+    ensures bill { S.clean book.new.shelf → IfOk result
+        (λ bill. TellsBill (office_of book.old.office) (S.state book.old.shelf).content.records
+        account from until bill) }
+    ensures cost { S.clean book.new.shelf → (most : ℕ)
+        → AreEnoughForBill (office_of book.old.office) (S.state book.old.shelf).content account
+        from most → RisesAtMost most (S.state book.old.shelf).tally (S.state book.new.shelf).tally }
     ensures question { IsQuestion S.Shelf result book.old book.new }
 {
     let balance = book.balance(account)?;
@@ -56,8 +60,10 @@ fn flowed<S: Shelf>(
 ) -> Result<Energies, BookFault>
     requires later { from < until }
     requires ended { until ≤ END_SECOND }
-    ensures flows { S.clean book.new.shelf → IfOk result (λ energies. TellsFlows (office_of book.old.office) (S.state book.old.shelf).content.records account from until energies) }
-    ensures cost { S.clean book.new.shelf → (most : ℕ → ℕ) → AreEnoughFor (office_of book.old.office) (S.state book.old.shelf).content account.0 from END_SECOND most → RisesAtMost (all_meters (office_of book.old.office) most) (S.state book.old.shelf).tally (S.state book.new.shelf).tally }
+    ensures flows { S.clean book.new.shelf → IfOk result
+        (λ energies. TellsFlows (office_of book.old.office)
+        (S.state book.old.shelf).content.records account from until energies) }
+    ensures cost { CostsMeters S.Shelf account.0 from END_SECOND book.old book.new }
     ensures question { IsQuestion S.Shelf result book.old book.new }
 {
     match Instant::of(until) {

@@ -1,13 +1,12 @@
 //! The energies of an account in stretches of time.
 
-ghost use Rattle.std.specs.Prelude.{◌≡◌, ℕ, ◌-◌, ◌<◌, ◌≤◌, ◌^◌, min, Some, IfOk};
+ghost use Rattle.std.specs.Prelude.{◌≡◌, ◌-◌, ◌<◌, ◌≤◌, ◌^◌, min, Some, IfOk};
 ghost use Rattle.pw_time.specs.declared.instant.TheConstants.{END_SECOND};
 ghost use Rattle.pw_tariff.specs.Office.{office_of};
-ghost use Rattle.pw_book.specs.Cost.{RisesAtMost};
 ghost use Rattle.pw_book.specs.Questions.{IsQuestion};
 ghost use Rattle.pw_months.specs.Between.{energy_between as energy_of};
 ghost use Rattle.pw_bills.specs.Energies.{TellsEnergies, energy_told};
-ghost use Rattle.pw_bills.specs.Reads.{AreEnoughFor, all_meters};
+ghost use Rattle.pw_bills.specs.Reads.{CostsMeters};
 ghost use Rattle.pw_bills.specs.Stretches.{AreStretches, first_of};
 ghost use Rattle.pw_bills.specs.inner.Flows.{AddsEnergy, IsOfRegisters};
 
@@ -103,8 +102,10 @@ pub fn energy_between<S: Shelf>(
 ) -> Result<u64, BookFault>
     requires later { from < until }
     requires ended { until ≤ END_SECOND }
-    ensures energy { S.clean book.new.shelf → IfOk result (λ wh. wh ≡ energy_of (office_of book.old.office) (S.state book.old.shelf).content.records (Some account) period.0 band.0 direction from until) }
-    ensures cost { S.clean book.new.shelf → (most : ℕ → ℕ) → AreEnoughFor (office_of book.old.office) (S.state book.old.shelf).content account.0 from until most → RisesAtMost (all_meters (office_of book.old.office) most) (S.state book.old.shelf).tally (S.state book.new.shelf).tally }
+    ensures energy { S.clean book.new.shelf → IfOk result
+        (λ wh. wh ≡ energy_of (office_of book.old.office) (S.state book.old.shelf).content.records
+        (Some account) period.0 band.0 direction from until) }
+    ensures cost { CostsMeters S.Shelf account.0 from until book.old book.new }
     ensures question { IsQuestion S.Shelf result book.old book.new }
 {
     let begins = [from];
@@ -127,8 +128,10 @@ pub fn days<S: Shelf>(
     end: u32,
 ) -> Result<Energies, BookFault>
     requires { AreStretches begins.now end }
-    ensures energies { S.clean book.new.shelf → IfOk result (λ energies. TellsEnergies (office_of book.old.office) (S.state book.old.shelf).content.records account begins.now end energies) }
-    ensures cost { S.clean book.new.shelf → (most : ℕ → ℕ) → AreEnoughFor (office_of book.old.office) (S.state book.old.shelf).content account.0 (first_of begins.now end) end most → RisesAtMost (all_meters (office_of book.old.office) most) (S.state book.old.shelf).tally (S.state book.new.shelf).tally }
+    ensures energies { S.clean book.new.shelf → IfOk result
+        (λ energies. TellsEnergies (office_of book.old.office)
+        (S.state book.old.shelf).content.records account begins.now end energies) }
+    ensures cost { CostsMeters S.Shelf account.0 (first_of begins.now end) end book.old book.new }
     ensures question { IsQuestion S.Shelf result book.old book.new }
 {
     let changes = Changes::new(alloc);

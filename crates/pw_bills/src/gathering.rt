@@ -1,6 +1,6 @@
 //! One pass over the registers of an account's meters, for questions on stretches of time.
 
-ghost use Rattle.std.specs.Prelude.{◌≡◌, ℕ, ◌+◌, ◌*◌, ◌<◌, ◌≤◌, ◌^◌, true, OnOk, IsNone, length};
+ghost use Rattle.std.specs.Prelude.{◌≡◌, ℕ, ◌+◌, ◌*◌, ◌<◌, ◌≤◌, ◌^◌, true, OnOk, IsNone};
 ghost use Rattle.pw_time.specs.declared.instant.TheConstants.{END_SECOND};
 ghost use Rattle.pw_obis.specs.declared.reference.Register.{Register as AnyRegister};
 ghost use Rattle.pw_tariff.specs.Office.{counts_at, register_place};
@@ -8,7 +8,7 @@ ghost use Rattle.pw_shelf.specs.Calls.{failures_told};
 ghost use Rattle.pw_book.specs.Asking.{IsOnlyAsked};
 ghost use Rattle.pw_book.specs.Questions.{IsQuestion};
 ghost use Rattle.pw_bills.specs.Stretches.{AreStretches};
-ghost use Rattle.pw_bills.specs.inner.Gathering.{AddsHere, AreEnoughToGather, CanAsk, FitsMore, IsEnoughToGather, IsGathered, IsSoundPass, MeterAdds, Pass, PointsAreRead, RegisterAdds, RegistersAdd, counted_reads, meter_reads, office_reads, pass_of};
+ghost use Rattle.pw_bills.specs.inner.Gathering.{AddsHere, AreEnoughToGather, CanAskAt, CanAskOf, FitsMore, IsEnoughToGather, IsGathered, IsSoundPass, MeterAdds, Pass, PointsAreRead, RegisterAdds, RegistersAdd, counted_reads, meter_reads, office_reads, pass_of, pass_over, pass_to};
 
 use crate::shelf_calls::starts_held;
 use crate::stretches::{Stretches, name_somebody, named};
@@ -42,12 +42,17 @@ pub(crate) trait Gathers {
 
     // Adds what a register gives.
     fn add_register<S: Shelf>(&mut self, shelf: &mut S, place: &Place) -> Result<(), ShelfFault>
-        requires able { CanAsk S.Shelf place.now.basis.now.office.now place.now.stretches.now.begins.now (place.now.stretches.now.last + 1) place.now.meter.0 shelf.old }
-        requires counts { counts_at place.now.basis.now.office.now place.now.meter.0 place.now.register ≡ true }
+        requires able { CanAskAt S.Shelf place.now shelf.old }
+        requires counts { counts_at place.now.basis.now.office.now place.now.meter.0
+            place.now.register ≡ true }
         requires few { (n : ℕ) × (n < 6 * 2 ^ 16) × fits n self.old }
         ensures few { (n : ℕ) → fits n self.old → OnOk result (fits (n + 1) self.new) }
-        ensures added { S.clean shelf.new → OnOk result (AddsHere adds (pass_of place.now.basis.now.office.now (S.state shelf.old).content place.now.stretches.now.account place.now.stretches.now.begins.now (place.now.stretches.now.last + 1)) place.now.meter.0 place.now.owners.now place.now.register self.old self.new) }
-        ensures tally { S.clean shelf.new → (most : ℕ) → reads (pass_of place.now.basis.now.office.now (S.state shelf.old).content place.now.stretches.now.account place.now.stretches.now.begins.now (place.now.stretches.now.last + 1)) place.now.meter.0 place.now.register most → (S.state shelf.new).tally ≤ (S.state shelf.old).tally + most }
+        ensures added { S.clean shelf.new → OnOk result
+            (AddsHere adds (pass_to place.now (S.state shelf.old).content) place.now.meter.0
+            place.now.owners.now place.now.register self.old self.new) }
+        ensures tally { S.clean shelf.new → (most : ℕ)
+            → reads (pass_to place.now (S.state shelf.old).content) place.now.meter.0
+            place.now.register most → (S.state shelf.new).tally ≤ (S.state shelf.old).tally + most }
         ensures asked { IsOnlyAsked S.Shelf (failures_told result) shelf.old shelf.new };
 }
 
@@ -66,8 +71,14 @@ pub(crate) fn gather<S: Shelf, G: Gathers>(
 ) -> Result<(), BookFault>
     requires stretches { AreStretches begins.now end }
     requires few { G.fits 0 gathered.old }
-    ensures gathered { S.clean book.new.shelf → OnOk result (IsGathered G.adds (pass_of book.old.office (S.state book.old.shelf).content account begins.now end) gathered.old gathered.new) }
-    ensures cost { S.clean book.new.shelf → (most : ℕ → ℕ) → AreEnoughToGather G.reads (pass_of book.old.office (S.state book.old.shelf).content account begins.now end) most → (S.state book.new.shelf).tally ≤ (S.state book.old.shelf).tally + office_reads book.old.office most }
+    ensures gathered { S.clean book.new.shelf → OnOk result
+        (IsGathered G.adds (pass_of book.old.office (S.state book.old.shelf).content account
+        begins.now end) gathered.old gathered.new) }
+    ensures cost { S.clean book.new.shelf → (most : ℕ → ℕ)
+        → AreEnoughToGather G.reads
+        (pass_of book.old.office (S.state book.old.shelf).content account begins.now end) most
+        → (S.state book.new.shelf).tally
+        ≤ (S.state book.old.shelf).tally + office_reads book.old.office most }
     ensures question { IsQuestion S.Shelf result book.old book.new }
 {
     book.still_open()?;
@@ -105,10 +116,17 @@ fn gather_held<S: Shelf, G: Gathers>(
 ) -> Result<(), ShelfFault>
     requires idle { IsNone (S.state shelf.old).begun }
     requires stretches { AreStretches stretches.now.begins.now (stretches.now.last + 1) }
-    requires sound { S.clean shelf.old → IsSoundPass (pass_of basis.now.office.now (S.state shelf.old).content stretches.now.account stretches.now.begins.now (stretches.now.last + 1)) }
+    requires sound { S.clean shelf.old → IsSoundPass
+        (pass_over basis.now.office.now (S.state shelf.old).content stretches.now) }
     requires few { G.fits 0 gathered.old }
-    ensures gathered { S.clean shelf.new → OnOk result (IsGathered G.adds (pass_of basis.now.office.now (S.state shelf.old).content stretches.now.account stretches.now.begins.now (stretches.now.last + 1)) gathered.old gathered.new) }
-    ensures tally { S.clean shelf.new → (most : ℕ → ℕ) → AreEnoughToGather G.reads (pass_of basis.now.office.now (S.state shelf.old).content stretches.now.account stretches.now.begins.now (stretches.now.last + 1)) most → (S.state shelf.new).tally ≤ (S.state shelf.old).tally + office_reads basis.now.office.now most }
+    ensures gathered { S.clean shelf.new → OnOk result
+        (IsGathered G.adds (pass_over basis.now.office.now (S.state shelf.old).content
+        stretches.now) gathered.old gathered.new) }
+    ensures tally { S.clean shelf.new → (most : ℕ → ℕ)
+        → AreEnoughToGather G.reads
+        (pass_over basis.now.office.now (S.state shelf.old).content stretches.now) most
+        → (S.state shelf.new).tally
+        ≤ (S.state shelf.old).tally + office_reads basis.now.office.now most }
     ensures asked { IsOnlyAsked S.Shelf (failures_told result) shelf.old shelf.new }
 {
     for meter in 0..basis.office.meters() {
@@ -125,11 +143,18 @@ fn gather_meter<S: Shelf, G: Gathers>(
     meter: MeterId,
     gathered: &mut G,
 ) -> Result<(), ShelfFault>
-    requires able { CanAsk S.Shelf basis.now.office.now stretches.now.begins.now (stretches.now.last + 1) meter.0 shelf.old }
+    requires able { CanAskOf S.Shelf basis.now.office.now stretches.now meter.0 shelf.old }
     requires few { (n : ℕ) × (n + 6 ≤ 6 * 2 ^ 16) × G.fits n gathered.old }
-    ensures few { (n : ℕ) → G.fits n gathered.old → OnOk result (FitsMore G.fits (n + 6) gathered.new) }
-    ensures step { S.clean shelf.new → OnOk result (MeterAdds G.adds (pass_of basis.now.office.now (S.state shelf.old).content stretches.now.account stretches.now.begins.now (stretches.now.last + 1)) meter.0 gathered.old gathered.new) }
-    ensures tally { S.clean shelf.new → IsSoundPass (pass_of basis.now.office.now (S.state shelf.old).content stretches.now.account stretches.now.begins.now (stretches.now.last + 1)) → (most : ℕ) → IsEnoughToGather G.reads (pass_of basis.now.office.now (S.state shelf.old).content stretches.now.account stretches.now.begins.now (stretches.now.last + 1)) meter.0 most → (S.state shelf.new).tally ≤ (S.state shelf.old).tally + most }
+    ensures few { (n : ℕ) → G.fits n gathered.old
+        → OnOk result (FitsMore G.fits (n + 6) gathered.new) }
+    ensures step { S.clean shelf.new → OnOk result
+        (MeterAdds G.adds (pass_over basis.now.office.now (S.state shelf.old).content
+        stretches.now) meter.0 gathered.old gathered.new) }
+    ensures tally { S.clean shelf.new → IsSoundPass
+        (pass_over basis.now.office.now (S.state shelf.old).content stretches.now) → (most : ℕ)
+        → IsEnoughToGather G.reads
+        (pass_over basis.now.office.now (S.state shelf.old).content stretches.now) meter.0 most
+        → (S.state shelf.new).tally ≤ (S.state shelf.old).tally + most }
     ensures asked { IsOnlyAsked S.Shelf (failures_told result) shelf.old shelf.new }
 {
     let starts = starts_held(shelf, basis.alloc, meter)?;
@@ -153,11 +178,18 @@ fn gather_registers<'a, S: Shelf, G: Gathers>(
     owners: &'a Owners<'a>,
     gathered: &mut G,
 ) -> Result<(), ShelfFault>
-    requires able { CanAsk S.Shelf basis.now.office.now stretches.now.begins.now (stretches.now.last + 1) meter.0 shelf.old }
+    requires able { CanAskOf S.Shelf basis.now.office.now stretches.now meter.0 shelf.old }
     requires few { (n : ℕ) × (n + 6 ≤ 6 * 2 ^ 16) × G.fits n gathered.old }
-    ensures few { (n : ℕ) → G.fits n gathered.old → OnOk result (FitsMore G.fits (n + 6) gathered.new) }
-    ensures steps { S.clean shelf.new → OnOk result (RegistersAdd G.adds (pass_of basis.now.office.now (S.state shelf.old).content stretches.now.account stretches.now.begins.now (stretches.now.last + 1)) meter.0 owners.now gathered.old gathered.new) }
-    ensures tally { S.clean shelf.new → (each : AnyRegister → ℕ) → ((r : AnyRegister) → G.reads (pass_of basis.now.office.now (S.state shelf.old).content stretches.now.account stretches.now.begins.now (stretches.now.last + 1)) meter.0 r (each r)) → (S.state shelf.new).tally ≤ (S.state shelf.old).tally + meter_reads basis.now.office.now meter.0 each }
+    ensures few { (n : ℕ) → G.fits n gathered.old
+        → OnOk result (FitsMore G.fits (n + 6) gathered.new) }
+    ensures steps { S.clean shelf.new → OnOk result
+        (RegistersAdd G.adds (pass_over basis.now.office.now (S.state shelf.old).content
+        stretches.now) meter.0 owners.now gathered.old gathered.new) }
+    ensures tally { S.clean shelf.new → (each : AnyRegister → ℕ)
+        → ((r : AnyRegister) → G.reads
+        (pass_over basis.now.office.now (S.state shelf.old).content stretches.now) meter.0 r
+        (each r)) → (S.state shelf.new).tally
+        ≤ (S.state shelf.old).tally + meter_reads basis.now.office.now meter.0 each }
     ensures asked { IsOnlyAsked S.Shelf (failures_told result) shelf.old shelf.new }
 {
     for register in &Register::ALL {
@@ -179,11 +211,19 @@ fn gather_register<S: Shelf, G: Gathers>(
     place: &Place,
     gathered: &mut G,
 ) -> Result<(), ShelfFault>
-    requires able { CanAsk S.Shelf place.now.basis.now.office.now place.now.stretches.now.begins.now (place.now.stretches.now.last + 1) place.now.meter.0 shelf.old }
+    requires able { CanAskAt S.Shelf place.now shelf.old }
     requires few { (n : ℕ) × (n < 6 * 2 ^ 16) × G.fits n gathered.old }
-    ensures few { (n : ℕ) → G.fits n gathered.old → OnOk result (FitsMore G.fits (n + 1) gathered.new) }
-    ensures step { S.clean shelf.new → OnOk result (RegisterAdds G.adds (pass_of place.now.basis.now.office.now (S.state shelf.old).content place.now.stretches.now.account place.now.stretches.now.begins.now (place.now.stretches.now.last + 1)) place.now.meter.0 place.now.owners.now (register_place place.now.register) gathered.old gathered.new) }
-    ensures tally { S.clean shelf.new → (each : AnyRegister → ℕ) → G.reads (pass_of place.now.basis.now.office.now (S.state shelf.old).content place.now.stretches.now.account place.now.stretches.now.begins.now (place.now.stretches.now.last + 1)) place.now.meter.0 place.now.register (each place.now.register) → (S.state shelf.new).tally ≤ (S.state shelf.old).tally + counted_reads place.now.basis.now.office.now place.now.meter.0 each place.now.register }
+    ensures few { (n : ℕ) → G.fits n gathered.old
+        → OnOk result (FitsMore G.fits (n + 1) gathered.new) }
+    ensures step { S.clean shelf.new → OnOk result
+        (RegisterAdds G.adds (pass_to place.now (S.state shelf.old).content) place.now.meter.0
+        place.now.owners.now (register_place place.now.register) gathered.old gathered.new) }
+    ensures tally { S.clean shelf.new → (each : AnyRegister → ℕ)
+        → G.reads (pass_to place.now (S.state shelf.old).content) place.now.meter.0
+        place.now.register (each place.now.register)
+        → (S.state shelf.new).tally
+        ≤ (S.state shelf.old).tally
+        + counted_reads place.now.basis.now.office.now place.now.meter.0 each place.now.register }
     ensures asked { IsOnlyAsked S.Shelf (failures_told result) shelf.old shelf.new }
 {
     if place.basis.office.counts(place.meter, place.register) {

@@ -2,17 +2,17 @@
 
 ghost use Rattle.std.specs.Prelude.{◌≡◌, ℕ, ◌+◌, ◌<◌, ◌≤◌, IfOk, IsNone};
 ghost use Rattle.std.specs.List.{sum_by};
-ghost use Rattle.pw_time.specs.declared.instant.TheConstants.{END_SECOND};
 ghost use Rattle.pw_model.specs.Counting.{contents_at as held_at};
 ghost use Rattle.pw_model.specs.Kinds.{IsTopUp, ListsHeld};
 ghost use Rattle.pw_shelf.specs.Calls.{failures_told};
-ghost use Rattle.pw_shelf.specs.Rows.{rows_at, rows_given, rows_listed};
+ghost use Rattle.pw_shelf.specs.Rows.{rows_at, rows_listed};
 ghost use Rattle.pw_book.specs.Asking.{IsOnlyAsked};
 ghost use Rattle.pw_book.specs.Cost.{RisesAtMost};
 ghost use Rattle.pw_book.specs.Questions.{IsQuestion};
 ghost use Rattle.pw_months.specs.Between.{topped_up_between};
 ghost use Rattle.pw_bills.specs.Payments.{AreEnoughForTopUps, AreTopUpRows};
 ghost use Rattle.pw_bills.specs.inner.TopUpRows.{is_alone, reads_among, row_at, row_reads, row_told, rows_among as rows_of};
+ghost use Rattle.pw_bills.specs.inner.Gathering.{TakesRows};
 
 use pw_book::{Book, BookFault};
 use pw_model::{Content, Contents, Entry, Key, Reference, is_same_content};
@@ -45,9 +45,15 @@ pub fn top_ups_between<S: Shelf>(
     from: Instant,
     until: u32,
 ) -> Result<Vec<TopUpRow>, BookFault>
-    ensures top_ups { S.clean book.new.shelf → IfOk result (λ rows. AreTopUpRows (S.state book.old.shelf).content.records account from until rows.items) }
-    ensures sum { S.clean book.new.shelf → IfOk result (λ rows. sum_by (λ row. row.cents) rows.items ≡ topped_up_between (S.state book.old.shelf).content.records account.0 from until) }
-    ensures cost { S.clean book.new.shelf → (most : ℕ) → AreEnoughForTopUps (S.state book.old.shelf).content.records account from until most → RisesAtMost most (S.state book.old.shelf).tally (S.state book.new.shelf).tally }
+    ensures top_ups { S.clean book.new.shelf → IfOk result
+        (λ rows. AreTopUpRows (S.state book.old.shelf).content.records account from until
+        rows.items) }
+    ensures sum { S.clean book.new.shelf → IfOk result
+        (λ rows. sum_by (λ row. row.cents) rows.items
+        ≡ topped_up_between (S.state book.old.shelf).content.records account.0 from until) }
+    ensures cost { S.clean book.new.shelf → (most : ℕ)
+        → AreEnoughForTopUps (S.state book.old.shelf).content.records account from until most
+        → RisesAtMost most (S.state book.old.shelf).tally (S.state book.new.shelf).tally }
     ensures question { IsQuestion S.Shelf result book.old book.new }
 {
     book.still_open()?;
@@ -64,8 +70,11 @@ fn rows_held<S: Shelf>(
     until: u32,
 ) -> Result<Vec<TopUpRow>, ShelfFault>
     requires idle { IsNone (S.state shelf.old).begun }
-    ensures rows { S.clean shelf.new → IfOk result (λ rows. AreTopUpRows (S.state shelf.old).content.records account from until rows.items) }
-    ensures tally { S.clean shelf.new → (most : ℕ) → AreEnoughForTopUps (S.state shelf.old).content.records account from until most → (S.state shelf.new).tally ≤ (S.state shelf.old).tally + most }
+    ensures rows { S.clean shelf.new → IfOk result
+        (λ rows. AreTopUpRows (S.state shelf.old).content.records account from until rows.items) }
+    ensures tally { S.clean shelf.new → (most : ℕ)
+        → AreEnoughForTopUps (S.state shelf.old).content.records account from until most
+        → (S.state shelf.new).tally ≤ (S.state shelf.old).tally + most }
     ensures asked { IsOnlyAsked S.Shelf (failures_told result) shelf.old shelf.new }
 {
     let held = topups_held(shelf, alloc)?;
@@ -83,8 +92,11 @@ fn rows_among<S: Shelf>(
     until: u32,
 ) -> Result<Vec<TopUpRow>, ShelfFault>
     requires idle { IsNone (S.state shelf.old).begun }
-    ensures rows { S.clean shelf.new → IfOk result (λ rows. rows.items ≡ rows_of (held_at (S.state shelf.old).content.records) account from until held.now) }
-    ensures tally { (S.state shelf.new).tally ≤ (S.state shelf.old).tally + reads_among account from until held.now }
+    ensures rows { S.clean shelf.new → IfOk result
+        (λ rows. rows.items ≡ rows_of (held_at (S.state shelf.old).content.records) account from
+        until held.now) }
+    ensures tally { (S.state shelf.new).tally
+        ≤ (S.state shelf.old).tally + reads_among account from until held.now }
     ensures asked { IsOnlyAsked S.Shelf (failures_told result) shelf.old shelf.new }
 {
     let mut rows = Vec::new(alloc);
@@ -106,8 +118,12 @@ fn row_counting<S: Shelf>(
     until: u32,
 ) -> Result<Option<TopUpRow>, ShelfFault>
     requires idle { IsNone (S.state shelf.old).begun }
-    ensures row { S.clean shelf.new → IfOk result (λ row. row ≡ row_told (held_at (S.state shelf.old).content.records) account from until entry.now) }
-    ensures tally { (S.state shelf.new).tally ≤ (S.state shelf.old).tally + row_reads (row_at account from until entry.now.key entry.now.content) }
+    ensures row { S.clean shelf.new → IfOk result
+        (λ row. row ≡ row_told (held_at (S.state shelf.old).content.records) account from until
+        entry.now) }
+    ensures tally { (S.state shelf.new).tally
+        ≤ (S.state shelf.old).tally
+        + row_reads (row_at account from until entry.now.key entry.now.content) }
     ensures asked { IsOnlyAsked S.Shelf (failures_told result) shelf.old shelf.new }
 {
     let Some(row) = row_of(entry, account, from, until) else {
@@ -160,8 +176,9 @@ fn tell_alone(contents: &Contents, content: &Content) -> bool
 // The top-ups held.
 fn topups_held<S: Shelf>(shelf: &mut S, alloc: Global) -> Result<Vec<Entry>, ShelfFault>
     requires { IsNone (S.state shelf.old).begun }
-    ensures rows { S.clean shelf.new → IfOk result (λ held. ListsHeld IsTopUp (S.state shelf.old).content.records held.items) }
-    ensures tally { (S.state shelf.new).tally ≡ (S.state shelf.old).tally + 1 + rows_given rows_listed result }
+    ensures rows { S.clean shelf.new → IfOk result
+        (λ held. ListsHeld IsTopUp (S.state shelf.old).content.records held.items) }
+    ensures tally { TakesRows S.Shelf rows_listed result shelf.old shelf.new }
     ensures asked { IsOnlyAsked S.Shelf (failures_told result) shelf.old shelf.new }
 {
     shelf.topups(alloc)
@@ -170,8 +187,9 @@ fn topups_held<S: Shelf>(shelf: &mut S, alloc: Global) -> Result<Vec<Entry>, She
 // What the records held tell of a key.
 fn contents_held<S: Shelf>(shelf: &mut S, key: &Key) -> Result<Contents, ShelfFault>
     requires { IsNone (S.state shelf.old).begun }
-    ensures told { S.clean shelf.new → IfOk result (λ contents. contents ≡ held_at (S.state shelf.old).content.records key.now) }
-    ensures tally { (S.state shelf.new).tally ≡ (S.state shelf.old).tally + 1 + rows_given rows_at result }
+    ensures told { S.clean shelf.new → IfOk result
+        (λ contents. contents ≡ held_at (S.state shelf.old).content.records key.now) }
+    ensures tally { TakesRows S.Shelf rows_at result shelf.old shelf.new }
     ensures asked { IsOnlyAsked S.Shelf (failures_told result) shelf.old shelf.new }
 {
     shelf.contents_at(key)

@@ -19,7 +19,10 @@ pub(crate) fn add_points(
     points: &[Point],
     rows: &mut Vec<WhyPiece>,
 ) -> Result<(), AllocError>
-    ensures { IsInOrder by_second points.now → OnOk result (Adds (GivenByPoints place.now.basis.now.office.now place.now.owners.now place.now.stretches.now.account place.now.meter place.now.register points.now) rows.old.items rows.new.items) }
+    ensures { IsInOrder by_second points.now
+        → OnOk result (Adds (GivenByPoints place.now.basis.now.office.now place.now.owners.now
+        place.now.stretches.now.account place.now.meter place.now.register points.now)
+        rows.old.items rows.new.items) }
 {
     for pair in points.windows(2) {
         add_pair(place, pair[0], pair[1], rows)?;
@@ -34,7 +37,10 @@ fn add_pair(
     to: Point,
     rows: &mut Vec<WhyPiece>,
 ) -> Result<(), AllocError>
-    ensures { from.0 < to.0 → OnOk result (Adds (GivenBetween place.now.basis.now.office.now place.now.owners.now place.now.stretches.now.account place.now.meter place.now.register from to) rows.old.items rows.new.items) }
+    ensures { from.0 < to.0 → OnOk result
+        (Adds (GivenBetween place.now.basis.now.office.now place.now.owners.now
+        place.now.stretches.now.account place.now.meter place.now.register from to) rows.old.items
+        rows.new.items) }
 {
     if to.0 <= from.0 {
         return Ok(());
@@ -60,7 +66,9 @@ fn add_pieces(
     pieces: &[Piece],
     rows: &mut Vec<WhyPiece>,
 ) -> Result<(), AllocError>
-    ensures { OnOk result (rows.new.items ≡ rows.old.items ++ map (why_of place.now.stretches.now.account place.now.meter place.now.register span.now) (filter gives_something pieces.now)) }
+    ensures { OnOk result (rows.new.items
+        ≡ rows.old.items ++ map (why_of place.now.stretches.now.account place.now.meter
+        place.now.register span.now) (filter gives_something pieces.now)) }
 {
     for piece in pieces {
         if gives(piece) {

@@ -5,8 +5,8 @@ ghost use Rattle.pw_flow.specs.Time.{last as latest_of};
 ghost use Rattle.pw_shelf.specs.Calls.{failures_told};
 ghost use Rattle.pw_book.specs.Asking.{IsOnlyAsked};
 ghost use Rattle.pw_bills.specs.Stretches.{AreStretches};
-ghost use Rattle.pw_bills.specs.inner.Flows.{CoversTime, HasPointsIn};
-ghost use Rattle.pw_bills.specs.inner.Gathering.{CanAsk, PointsAreRead, pass_of};
+ghost use Rattle.pw_bills.specs.inner.Flows.{CoversPlace, HasPointsIn};
+ghost use Rattle.pw_bills.specs.inner.Gathering.{CanAskAt, PointsAreRead, pass_to};
 
 use crate::gathering::Place;
 use crate::shelf_calls::{point_after_held, point_before_held, points_held};
@@ -17,9 +17,12 @@ use pw_shelf::{Shelf, ShelfFault};
 // The points of a register that a pass comes to, as the one before and the one behind tell what flows
 // at its ends: so none of them is left out or moved.
 pub(crate) fn points_over<S: Shelf>(shelf: &mut S, place: &Place) -> Result<Vec<Point>, ShelfFault>
-    requires able { CanAsk S.Shelf place.now.basis.now.office.now place.now.stretches.now.begins.now (place.now.stretches.now.last + 1) place.now.meter.0 shelf.old }
-    ensures points { S.clean shelf.new → IfOk result (λ points. CoversTime ((S.state shelf.old).content.point place.now.meter.0 place.now.register) place.now.stretches.now.begins.now (place.now.stretches.now.last + 1) points.items) }
-    ensures tally { S.clean shelf.new → (most : ℕ) → PointsAreRead (pass_of place.now.basis.now.office.now (S.state shelf.old).content place.now.stretches.now.account place.now.stretches.now.begins.now (place.now.stretches.now.last + 1)) place.now.meter.0 place.now.register most → (S.state shelf.new).tally ≤ (S.state shelf.old).tally + most }
+    requires able { CanAskAt S.Shelf place.now shelf.old }
+    ensures points { S.clean shelf.new → IfOk result
+        (λ points. CoversPlace place.now (S.state shelf.old).content points.items) }
+    ensures tally { S.clean shelf.new → (most : ℕ)
+        → PointsAreRead (pass_to place.now (S.state shelf.old).content) place.now.meter.0
+        place.now.register most → (S.state shelf.new).tally ≤ (S.state shelf.old).tally + most }
     ensures asked { IsOnlyAsked S.Shelf (failures_told result) shelf.old shelf.new }
 {
     points_around(shelf, place)
@@ -29,9 +32,14 @@ pub(crate) fn points_over<S: Shelf>(shelf: &mut S, place: &Place) -> Result<Vec<
 // and the one behind them, where there is one.
 fn points_around<S: Shelf>(shelf: &mut S, place: &Place) -> Result<Vec<Point>, ShelfFault>
     requires idle { IsNone (S.state shelf.old).begun }
-    requires stretches { AreStretches place.now.stretches.now.begins.now (place.now.stretches.now.last + 1) }
-    ensures points { S.clean shelf.new → IfOk result (λ points. CoversTime ((S.state shelf.old).content.point place.now.meter.0 place.now.register) place.now.stretches.now.begins.now (place.now.stretches.now.last + 1) points.items) }
-    ensures tally { S.clean shelf.new → (most : ℕ) → HasPointsIn place.now.stretches.now.begins.now (place.now.stretches.now.last + 1) ((S.state shelf.old).content.point place.now.meter.0 place.now.register) most → (S.state shelf.new).tally ≤ (S.state shelf.old).tally + 5 + most }
+    requires stretches { AreStretches place.now.stretches.now.begins.now
+        (place.now.stretches.now.last + 1) }
+    ensures points { S.clean shelf.new → IfOk result
+        (λ points. CoversPlace place.now (S.state shelf.old).content points.items) }
+    ensures tally { S.clean shelf.new → (most : ℕ)
+        → HasPointsIn place.now.stretches.now.begins.now (place.now.stretches.now.last + 1)
+        ((S.state shelf.old).content.point place.now.meter.0 place.now.register) most
+        → (S.state shelf.new).tally ≤ (S.state shelf.old).tally + 5 + most }
     ensures asked { IsOnlyAsked S.Shelf (failures_told result) shelf.old shelf.new }
 {
     let from = place.stretches.begins[0];
@@ -49,7 +57,10 @@ pub(crate) fn latest_held<S: Shelf>(
     place: &Place,
 ) -> Result<Option<Point>, ShelfFault>
     requires idle { IsNone (S.state shelf.old).begun }
-    ensures point { S.clean shelf.new → IfOk result (λ latest. latest ≡ latest_of ((S.state shelf.old).content.point place.now.meter.0 place.now.register) place.now.stretches.now.last) }
+    ensures point { S.clean shelf.new → IfOk result
+        (λ latest. latest ≡ latest_of
+        ((S.state shelf.old).content.point place.now.meter.0 place.now.register)
+        place.now.stretches.now.last) }
     ensures tally { S.clean shelf.new → (S.state shelf.new).tally ≤ (S.state shelf.old).tally + 3 }
     ensures asked { IsOnlyAsked S.Shelf (failures_told result) shelf.old shelf.new }
 {

@@ -51,8 +51,13 @@ pub fn read_up_to<S: Shelf>(
 ) -> Result<Vec<LastReading>, BookFault>
     requires later { from < until }
     requires ended { until ≤ END_SECOND }
-    ensures readings { S.clean book.new.shelf → IfOk result (λ rows. AreLastReadings (office_of book.old.office) (S.state book.old.shelf).content.records account from until rows.items) }
-    ensures cost { S.clean book.new.shelf → (most : ℕ → ℕ) → AreEnoughToRead (office_of book.old.office) (S.state book.old.shelf).content account.0 from until most → RisesAtMost (all_meters (office_of book.old.office) most) (S.state book.old.shelf).tally (S.state book.new.shelf).tally }
+    ensures readings { S.clean book.new.shelf → IfOk result
+        (λ rows. AreLastReadings (office_of book.old.office)
+        (S.state book.old.shelf).content.records account from until rows.items) }
+    ensures cost { S.clean book.new.shelf → (most : ℕ → ℕ)
+        → AreEnoughToRead (office_of book.old.office) (S.state book.old.shelf).content account.0
+        from until most → RisesAtMost (all_meters (office_of book.old.office) most)
+        (S.state book.old.shelf).tally (S.state book.new.shelf).tally }
     ensures question { IsQuestion S.Shelf result book.old book.new }
 {
     let begins = [from];

@@ -1,11 +1,10 @@
 //! Why a bill is what it is.
 
-ghost use Rattle.std.specs.Prelude.{ℕ, ◌<◌, ◌≤◌, IfOk};
+ghost use Rattle.std.specs.Prelude.{◌<◌, ◌≤◌, IfOk};
 ghost use Rattle.pw_time.specs.declared.instant.TheConstants.{END_SECOND};
 ghost use Rattle.pw_tariff.specs.Office.{office_of};
-ghost use Rattle.pw_book.specs.Cost.{RisesAtMost};
 ghost use Rattle.pw_book.specs.Questions.{IsQuestion};
-ghost use Rattle.pw_bills.specs.Reads.{AreEnoughFor, all_meters};
+ghost use Rattle.pw_bills.specs.Reads.{CostsMeters};
 ghost use Rattle.pw_bills.specs.Why.{TellsWhy};
 ghost use Rattle.pw_bills.specs.inner.Rows.{AddsRows};
 
@@ -55,8 +54,10 @@ pub fn why<S: Shelf>(
 ) -> Result<Vec<WhyPiece>, BookFault>
     requires later { from < until }
     requires ended { until ≤ END_SECOND }
-    ensures rows { S.clean book.new.shelf → IfOk result (λ pieces. TellsWhy (office_of book.old.office) (S.state book.old.shelf).content.records account from until pieces.items) }
-    ensures cost { S.clean book.new.shelf → (most : ℕ → ℕ) → AreEnoughFor (office_of book.old.office) (S.state book.old.shelf).content account.0 from until most → RisesAtMost (all_meters (office_of book.old.office) most) (S.state book.old.shelf).tally (S.state book.new.shelf).tally }
+    ensures rows { S.clean book.new.shelf → IfOk result
+        (λ pieces. TellsWhy (office_of book.old.office) (S.state book.old.shelf).content.records
+        account from until pieces.items) }
+    ensures cost { CostsMeters S.Shelf account.0 from until book.old book.new }
     ensures question { IsQuestion S.Shelf result book.old book.new }
 {
     let begins = [from];

@@ -1,11 +1,12 @@
 //! The shelf's calls that stretches of time are asked by.
 
-ghost use Rattle.std.specs.Prelude.{◌≡◌, ◌+◌, IfOk, IsNone};
+ghost use Rattle.std.specs.Prelude.{IfOk, IsNone};
 ghost use Rattle.pw_model.specs.Seconds.{ListsSeconds};
 ghost use Rattle.pw_shelf.specs.Calls.{failures_told};
-ghost use Rattle.pw_shelf.specs.Rows.{rows_found, rows_given, rows_listed};
+ghost use Rattle.pw_shelf.specs.Rows.{rows_found, rows_listed};
 ghost use Rattle.pw_shelf.specs.Seconds.{IsBefore, IsBehind, ListsSecondsWithin};
 ghost use Rattle.pw_book.specs.Asking.{IsOnlyAsked};
+ghost use Rattle.pw_bills.specs.inner.Gathering.{TakesRows};
 
 use crate::gathering::Place;
 use crate::stretches::Start;
@@ -22,8 +23,9 @@ pub(crate) fn starts_held<S: Shelf>(
     meter: MeterId,
 ) -> Result<Vec<Start>, ShelfFault>
     requires { IsNone (S.state shelf.old).begun }
-    ensures rows { S.clean shelf.new → IfOk result (λ starts. ListsSeconds ((S.state shelf.old).content.start meter.0) starts.items) }
-    ensures tally { (S.state shelf.new).tally ≡ (S.state shelf.old).tally + 1 + rows_given rows_listed result }
+    ensures rows { S.clean shelf.new → IfOk result
+        (λ starts. ListsSeconds ((S.state shelf.old).content.start meter.0) starts.items) }
+    ensures tally { TakesRows S.Shelf rows_listed result shelf.old shelf.new }
     ensures asked { IsOnlyAsked S.Shelf (failures_told result) shelf.old shelf.new }
 {
     shelf.starts_of(alloc, meter)
@@ -36,8 +38,10 @@ pub(crate) fn point_before_held<S: Shelf>(
     instant: Instant,
 ) -> Result<Option<Point>, ShelfFault>
     requires { IsNone (S.state shelf.old).begun }
-    ensures row { S.clean shelf.new → IfOk result (λ found. IsBefore ((S.state shelf.old).content.point place.now.meter.0 place.now.register) instant found) }
-    ensures tally { (S.state shelf.new).tally ≡ (S.state shelf.old).tally + 1 + rows_given rows_found result }
+    ensures row { S.clean shelf.new → IfOk result
+        (λ found. IsBefore ((S.state shelf.old).content.point place.now.meter.0
+        place.now.register) instant found) }
+    ensures tally { TakesRows S.Shelf rows_found result shelf.old shelf.new }
     ensures asked { IsOnlyAsked S.Shelf (failures_told result) shelf.old shelf.new }
 {
     shelf.point_before(place.meter, place.register, instant)
@@ -50,8 +54,10 @@ pub(crate) fn point_after_held<S: Shelf>(
     instant: Instant,
 ) -> Result<Option<Point>, ShelfFault>
     requires { IsNone (S.state shelf.old).begun }
-    ensures row { S.clean shelf.new → IfOk result (λ found. IsBehind ((S.state shelf.old).content.point place.now.meter.0 place.now.register) instant found) }
-    ensures tally { (S.state shelf.new).tally ≡ (S.state shelf.old).tally + 1 + rows_given rows_found result }
+    ensures row { S.clean shelf.new → IfOk result
+        (λ found. IsBehind ((S.state shelf.old).content.point place.now.meter.0
+        place.now.register) instant found) }
+    ensures tally { TakesRows S.Shelf rows_found result shelf.old shelf.new }
     ensures asked { IsOnlyAsked S.Shelf (failures_told result) shelf.old shelf.new }
 {
     shelf.point_after(place.meter, place.register, instant)
@@ -65,8 +71,10 @@ pub(crate) fn points_held<S: Shelf>(
     to: Instant,
 ) -> Result<Vec<Point>, ShelfFault>
     requires { IsNone (S.state shelf.old).begun }
-    ensures rows { S.clean shelf.new → IfOk result (λ points. ListsSecondsWithin from to ((S.state shelf.old).content.point place.now.meter.0 place.now.register) points.items) }
-    ensures tally { (S.state shelf.new).tally ≡ (S.state shelf.old).tally + 1 + rows_given rows_listed result }
+    ensures rows { S.clean shelf.new → IfOk result
+        (λ points. ListsSecondsWithin from to
+        ((S.state shelf.old).content.point place.now.meter.0 place.now.register) points.items) }
+    ensures tally { TakesRows S.Shelf rows_listed result shelf.old shelf.new }
     ensures asked { IsOnlyAsked S.Shelf (failures_told result) shelf.old shelf.new }
 {
     shelf.points_between(place.basis.alloc, place.meter, place.register, from, to)

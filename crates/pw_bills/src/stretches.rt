@@ -30,7 +30,9 @@ pub(crate) fn named(
     stretches: &Stretches,
 ) -> Result<Vec<Start>, AllocError>
     requires { AreStretches stretches.now.begins.now (stretches.now.last + 1) }
-    ensures { IfOk result (λ named. named.items ≡ named_from starts.now stretches.now.account 0 stretches.now.begins.now (stretches.now.last + 1)) }
+    ensures { IfOk result (λ named. named.items
+        ≡ named_from starts.now stretches.now.account 0 stretches.now.begins.now
+        (stretches.now.last + 1)) }
 {
     let mut named = Vec::new(alloc);
     for number in 0..stretches.begins.len() {
@@ -71,7 +73,8 @@ fn add_stretch(
     from: Instant,
     until: u32,
 ) -> Result<(), AllocError>
-    ensures { IfOk result (λ _. named.new.items ≡ named.old.items ++ stretch starts.now account number from until) }
+    ensures { IfOk result (λ _. named.new.items
+        ≡ named.old.items ++ stretch starts.now account number from until) }
 {
     let owner = owner_at(starts, from);
     named.push((from, name_of(owner, account, number)))?;

@@ -24,7 +24,7 @@ use Rattle.pw_book.proofs.Disputed.{held-few, held-stand, standing-count, standi
 use Rattle.pw_book.proofs.Segments.{segment-more, segment-all, segment-none, first-less, then-less, place-few, places-split, places-same}
 
 -- ---- the records of an office
-key-within : (office : OfficeRules) (k : Key) (c : Content) → IsOf office k c → IsWithin office.meters k
+pub key-within : (office : OfficeRules) (k : Key) (c : Content) → IsOf office k c → IsWithin office.meters k
 key-within office (key.Reading m r t) (content.Reading w) h = h.0
 key-within office (key.Reading m r t) (content.Assignment o) h = absurd h
 key-within office (key.Reading m r t) (content.TopUp a c u) h = absurd h
@@ -47,7 +47,7 @@ dispute-within meters s d w h =
     subst (IsWithin meters) some.2 (w.keys some.0 (standing-part s some.0 some.1))
 
 -- ---- the order of keys by their places
-key-before : (meters : ℕ) (k l : Key) → IsWithin meters k → IsWithin meters l → key_place meters k < key_place meters l → key_order k l ≡ Less
+pub key-before : (meters : ℕ) (k l : Key) → IsWithin meters k → IsWithin meters l → key_place meters k < key_place meters l → key_order k l ≡ Less
 unfolding key_numbers
 key-before meters (key.Reading m r t) (key.Reading n q u) a b h = elim (places-split m.0 n.0 (register_place r) (register_place q) (place-few r) (place-few q) h) [
   | inl i ↦ then-less 0 0 (m.0 ∷ register_place r ∷ t ∷ []) (n.0 ∷ register_place q ∷ u ∷ []) refl (first-less m.0 n.0 (register_place r ∷ t ∷ []) (register_place q ∷ u ∷ []) i)

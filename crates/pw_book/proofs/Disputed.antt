@@ -12,7 +12,7 @@ use Rattle.pw_model.specs.Same.{same_key, same_entry, key_order, entry_order}
 use Rattle.pw_model.proofs.Same.{same_key-decides, same_entry-decides}
 use Rattle.pw_model.proofs.Counting.{standing-back, standing-member, standing-to, standing-told}
 use Rattle.pw_model.proofs.Standing.{rising-some}
-use Rattle.pw_model.proofs.Once.{once-same, stands-decides}
+use Rattle.pw_model.proofs.Once.{once-front, once-same, stands-decides}
 use Rattle.pw_model.specs.Kinds.{ListsHeld}
 use Rattle.pw_parts.specs.Groups.{HasSameKey}
 use Rattle.pw_book.specs.inner.Groups.{IsDisputeAmong, IsDisputeOf, one_at, records_with}
@@ -38,15 +38,7 @@ standing-count s k = refl
 -- what stands in front and is told again, or has another key, adds nothing
 pub count-front : (k : Key) (xs ys : List Entry) → ((x : Entry) → Member x xs → (Member x ys → ⊥) → one_at k x ≡ 0) → records_with k (xs ++ ys) ≡ records_with k ys
 unfolding records_with
-count-front k [] ys h = refl
-count-front k (x ∷ xs) ys h =
-    let behind = count-front k xs ys (λ z m n. h z (inr m) n) in
-    elim (cases_Bool (stands_in same_entry x (xs ++ ys))) [
-      | inl t ↦ rw t (omega (arith, behind))
-      | inr u ↦ (
-          let zero : one_at k x ≡ 0 = h x (inl refl) (λ m. true≢false (sym ((stands-decides same_entry same_entry-decides (one_at k) x (xs ++ ys)).1 (member-right x xs ys m)) ∙ u)) in
-          rw (u, zero) (omega (arith, behind)))
-    ]
+count-front k xs ys h = once-front same_entry same_entry-decides (one_at k) xs ys h
 
 -- of records in order each counts by itself
 count-rising : (k : Key) (e : Entry) (es : List Entry) → IsInOrder entry_order (e ∷ es) → records_with k (e ∷ es) ≡ one_at k e + records_with k es

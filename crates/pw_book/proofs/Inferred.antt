@@ -1,5 +1,5 @@
 -- What was told at a record's key before it was added, from what is told there behind.
-use Rattle.std.proofs.Common.{◌≡◌, ◌+◌, ◌≤◌, ℕ, Option, Some, None, true, false, List, [], ◌∷◌, length, refl, ap, sym, subst, ◌∙◌, inl, inr, arith}
+use Rattle.std.proofs.Common.{◌≡◌, ◌+◌, ◌≤◌, ℕ, Option, Some, None, false, List, [], ◌∷◌, length, refl, ap, sym, subst, ◌∙◌, inl, inr, arith}
 use Rattle.std.proofs.lemmas.Bool.{cases_Bool, true≢false}
 use Rattle.std.proofs.lemmas.Option.{none-some, same_Some}
 use Rattle.std.specs.List.{slice_get}
@@ -10,11 +10,12 @@ use Rattle.pw_model.specs.declared.records.Content.TheVariants as content
 use Rattle.pw_model.specs.declared.records.Contents.{Contents}
 use Rattle.pw_model.specs.declared.records.Contents.TheVariants.{Nothing, One, Several}
 use Rattle.pw_model.specs.declared.records.Entry.{Entry}
-use Rattle.pw_model.specs.Counting.{IsInserted, Member, SameMembers, contents_at, is_withdrawn, point, reading_key, standing, wh_of, withdraws}
+use Rattle.pw_model.specs.Counting.{IsInserted, Member, contents_at, point, reading_key, standing, wh_of, withdraws}
 use Rattle.pw_model.specs.Office.{AllOfOffice}
 use Rattle.pw_model.specs.Same.{same_content}
+use Rattle.pw_model.proofs.Bearing.{stands-still, stood}
 use Rattle.pw_model.proofs.Bounded.{ToldOf, contents-of}
-use Rattle.pw_model.proofs.Counting.{Tells, entry, inserted-same, standing-member, standing-told, tells, tells-agree, withdrawn-back, withdrawn-to}
+use Rattle.pw_model.proofs.Counting.{Tells, entry, standing-told, tells, tells-agree}
 use Rattle.pw_model.proofs.Same.{same_content-decides}
 use Rattle.pw_parts.proofs.Chart.{less-is}
 use Rattle.pw_parts.proofs.Seconds.{wh-one}
@@ -23,38 +24,13 @@ use Rattle.pw_book.specs.inner.Inferred.{told_by_point}
 
 -- ---- a record that withdraws none
 module _ (s t : List Entry) (e : Entry) (h : IsInserted e s t) (n : Member e s → ⊥) (w : (x : Entry) → withdraws x e.key ≡ false) where
-  same : SameMembers t (e ∷ s)
-  same = inserted-same s t e h
-
   -- what stood stands behind
   stays : (x : Entry) → Member x (standing s) → Member x (standing t)
-  stays x m =
-      let r = standing-told s x m in
-      standing-member t x ((same x).1 (inr r.0)) (elim (cases_Bool (is_withdrawn t x)) [
-        | inl y ↦ absurd (
-            let v = withdrawn-to t x y in
-            elim ((same v.0).0 v.1.0) [
-              | inl i ↦ true≢false (sym (ap (λ (f : Entry). withdraws x f.key) (sym i) ∙ v.1.1) ∙ w x)
-              | inr k ↦ true≢false (sym (withdrawn-back s x v.0 k v.1.1) ∙ r.1)
-            ])
-        | inr f ↦ f
-      ])
+  stays x m = stands-still s t e h x (λ y. true≢false (sym y ∙ w x)) m
 
   -- and what stands behind with another content stood
   other : (c : Content) → (c ≡ e.content → ⊥) → Member (entry e.key c) (standing t) → Member (entry e.key c) (standing s)
-  other c d m =
-      let x : Entry = entry e.key c in
-      let r = standing-told t x m in
-      elim ((same x).0 r.0) [
-        | inl i ↦ absurd (d (ap (λ (f : Entry). f.content) i))
-        | inr k ↦ standing-member s x k (elim (cases_Bool (is_withdrawn s x)) [
-          | inl y ↦ absurd (
-              let v = withdrawn-to s x y in
-              let u : is_withdrawn t x ≡ true = withdrawn-back t x v.0 ((same v.0).1 (inr v.1.0)) v.1.1 in
-              true≢false (sym u ∙ r.1))
-          | inr f ↦ f
-        ])
-      ]
+  other c d m = stood s t e h (entry e.key c) (λ i. d (ap (λ (f : Entry). f.content) i)) m
 
   -- where the record stands alone, none stood
   alone-by : (a : Contents) → Tells (standing s) e.key a → Tells (standing t) e.key (One e.content) → a ≡ Nothing

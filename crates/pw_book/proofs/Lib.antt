@@ -31,3 +31,4 @@ pub mod Inferred
 pub mod Putting
 pub mod Spending
 pub mod Outcomes
+pub mod Questions

@@ -1,6 +1,6 @@
 -- What an upload does to the records held.
 -- (Definitions of this project.)
-use Rattle.std.specs.Prelude.{◌≡◌, ℕ, ◌+◌, ◌<◌, ◌≤◌, ◌⊎◌, Bool, true, false, cond, List, ◌++◌, Result, Ok, Err, length}
+use Rattle.std.specs.Prelude.{◌≡◌, ℕ, ◌+◌, ◌<◌, ◌≤◌, ◌⊎◌, Bool, true, false, cond, List, ◌++◌, Result, Ok, Err, OnOk, length}
 use Rattle.pw_model.specs.declared.records.Entry.{Entry}
 use Rattle.pw_model.specs.Counting.{EachOnce, SameMembers}
 use Rattle.pw_model.specs.Lists.{record_count}
@@ -10,6 +10,7 @@ use Rattle.pw_model.specs.Office.{AllOfOffice, most_records}
 use Rattle.pw_model.specs.Shelf.{IsTrueContent, ShelfContent}
 use Rattle.pw_tariff.specs.Office.{OfficeRules}
 use Rattle.pw_shelf.specs.Left.{LeavesNoMore, LeavesOnly}
+use Rattle.pw_shelf.specs.declared.shelf.Shelf.{Ghosts}
 use Rattle.pw_book.specs.declared.book.Accepted.{Accepted}
 use Rattle.pw_book.specs.declared.fault.PostFault.{PostFault}
 use Rattle.pw_book.specs.declared.fault.PostFault.TheVariants.{Full, Device, Memory, Reopen}
@@ -70,6 +71,10 @@ LeavesPosted office limit entries old new old_left new_left (Err (Full held stat
 LeavesPosted office limit entries old new old_left new_left (Err Device) = LeavesUpload office limit entries old old_left new_left
 LeavesPosted office limit entries old new old_left new_left (Err Memory) = LeavesUpload office limit entries old old_left new_left
 LeavesPosted office limit entries old new old_left new_left (Err Reopen) = LeavesUpload office limit entries old old_left new_left
+
+-- behind an answer Ok the content alone, where the store has returned what was written
+abbrev pub LeavesOnlyContent : {S T E : Type 0} → Ghosts S → Result T E → S → Type 0
+LeavesOnlyContent shelf answer now = shelf.clean now → OnOk answer (LeavesOnly (shelf.state now).content (shelf.left now))
 
 -- a true content of at most 10,000,000 entries of the office
 pub record IsSoundContent (office : OfficeRules) (c : ShelfContent) : Type 0 where

@@ -10,3 +10,4 @@ pub mod Gathered
 pub mod Added
 pub mod Inferred
 pub mod Withdrawn
+pub mod Steps

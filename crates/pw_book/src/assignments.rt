@@ -1,11 +1,10 @@
 //! The assignments of all meters.
 
-ghost use Rattle.std.specs.Prelude.{◌≡◌, IfOk, IsNone};
+ghost use Rattle.std.specs.Prelude.{IfOk, IsNone};
 ghost use Rattle.pw_model.specs.Kinds.{IsAssignment, ListsHeld};
-ghost use Rattle.pw_model.specs.Office.{AllOfOffice};
 ghost use Rattle.pw_shelf.specs.Calls.{failures_told};
-ghost use Rattle.pw_tariff.specs.Office.{office_of};
 ghost use Rattle.pw_book.specs.Asking.{IsOnlyAsked};
+ghost use Rattle.pw_book.specs.inner.Steps.{HoldsOffice};
 
 use crate::shelf_calls::assignments_held;
 use pw_model::Entry;
@@ -20,8 +19,9 @@ pub(crate) fn all_assignments<S: Shelf>(
     office: &Office,
 ) -> Result<Vec<Entry>, ShelfFault>
     requires idle { IsNone (S.state shelf.old).begun }
-    requires of_office { S.clean shelf.old → AllOfOffice (office_of office.now) (S.state shelf.old).content.records }
-    ensures assignments { S.clean shelf.new → IfOk result (λ found. ListsHeld IsAssignment (S.state shelf.old).content.records found.items) }
+    requires of_office { HoldsOffice S.Shelf office.now shelf.old }
+    ensures assignments { S.clean shelf.new → IfOk result
+        (λ found. ListsHeld IsAssignment (S.state shelf.old).content.records found.items) }
     ensures asked { IsOnlyAsked S.Shelf (failures_told result) shelf.old shelf.new }
 {
     let mut found = Vec::new(alloc);

@@ -3,13 +3,13 @@
 ghost use Rattle.std.specs.Prelude.{◌≡◌, ◌+◌, ◌*◌, ◌<◌, ◌≤◌, ◌^◌, Some, IfOk, IsNone, length};
 ghost use Rattle.pw_model.specs.Counting.{contents_at as held_at};
 ghost use Rattle.pw_model.specs.Energy.{cost as cost_of};
-ghost use Rattle.pw_model.specs.Office.{AllOfOffice, most_records};
+ghost use Rattle.pw_model.specs.Office.{most_records};
 ghost use Rattle.pw_model.specs.Payments.{balance as balance_of};
-ghost use Rattle.pw_model.specs.Shelf.{IsTrueContent};
 ghost use Rattle.pw_model.specs.inner.Tariff.{period_cost};
 ghost use Rattle.pw_shelf.specs.Calls.{failures_told};
 ghost use Rattle.pw_tariff.specs.Office.{office_of, periods_in};
 ghost use Rattle.pw_book.specs.Asking.{IsOnlyAsked};
+ghost use Rattle.pw_book.specs.inner.Steps.{HasTrueContent, HoldsOffice};
 
 use crate::energies::energy_in_held;
 use crate::shelf_calls::total_held;
@@ -26,10 +26,14 @@ pub(crate) fn balance_held<S: Shelf>(
 ) -> Result<i128, ShelfFault>
     requires idle { IsNone (S.state shelf.old).begun }
     requires few { S.clean shelf.old → length (S.state shelf.old).content.records ≤ most_records }
-    requires of_office { S.clean shelf.old → AllOfOffice (office_of office.now) (S.state shelf.old).content.records }
-    requires truth { S.clean shelf.old → IsTrueContent (office_of office.now) (S.state shelf.old).content }
-    ensures balance { S.clean shelf.new → IfOk result (λ nano. nano ≡ balance_of (office_of office.now) (S.state shelf.old).content.records account.0) }
-    ensures tally { (S.state shelf.new).tally ≤ (S.state shelf.old).tally + 2 * (2 * (periods_in office.now * length office.now.bands) + 1) }
+    requires of_office { HoldsOffice S.Shelf office.now shelf.old }
+    requires truth { HasTrueContent S.Shelf office.now shelf.old }
+    ensures balance { S.clean shelf.new → IfOk result
+        (λ nano. nano ≡ balance_of (office_of office.now) (S.state shelf.old).content.records
+        account.0) }
+    ensures tally { (S.state shelf.new).tally
+        ≤ (S.state shelf.old).tally + 2
+        * (2 * (periods_in office.now * length office.now.bands) + 1) }
     ensures asked { IsOnlyAsked S.Shelf (failures_told result) shelf.old shelf.new }
 {
     let imported = cost_held(shelf, office, account, Direction::Import)?;
@@ -47,10 +51,13 @@ fn cost_held<S: Shelf>(
     direction: Direction,
 ) -> Result<u128, ShelfFault>
     requires idle { IsNone (S.state shelf.old).begun }
-    requires truth { S.clean shelf.old → IsTrueContent (office_of office.now) (S.state shelf.old).content }
-    ensures cost { S.clean shelf.new → IfOk result (λ nano. nano ≡ cost_of (office_of office.now) (held_at (S.state shelf.old).content.records) (Some account) direction) }
+    requires truth { HasTrueContent S.Shelf office.now shelf.old }
+    ensures cost { S.clean shelf.new → IfOk result
+        (λ nano. nano ≡ cost_of (office_of office.now)
+        (held_at (S.state shelf.old).content.records) (Some account) direction) }
     ensures bound { IfOk result (λ nano. nano < 2 ^ 120) }
-    ensures tally { (S.state shelf.new).tally ≤ (S.state shelf.old).tally + 2 * (periods_in office.now * length office.now.bands) }
+    ensures tally { (S.state shelf.new).tally
+        ≤ (S.state shelf.old).tally + 2 * (periods_in office.now * length office.now.bands) }
     ensures asked { IsOnlyAsked S.Shelf (failures_told result) shelf.old shelf.new }
 {
     let mut nano: u128 = 0;
@@ -71,10 +78,13 @@ fn cost_in_period<S: Shelf>(
 ) -> Result<u128, ShelfFault>
     requires idle { IsNone (S.state shelf.old).begun }
     requires period { period.0 < periods_in office.now }
-    requires truth { S.clean shelf.old → IsTrueContent (office_of office.now) (S.state shelf.old).content }
-    ensures cost { S.clean shelf.new → IfOk result (λ nano. nano ≡ period_cost (office_of office.now) (held_at (S.state shelf.old).content.records) (Some account) period.0 direction) }
+    requires truth { HasTrueContent S.Shelf office.now shelf.old }
+    ensures cost { S.clean shelf.new → IfOk result
+        (λ nano. nano ≡ period_cost (office_of office.now)
+        (held_at (S.state shelf.old).content.records) (Some account) period.0 direction) }
     ensures bound { IfOk result (λ nano. nano < 2 ^ 104) }
-    ensures tally { (S.state shelf.new).tally ≤ (S.state shelf.old).tally + 2 * length office.now.bands }
+    ensures tally { (S.state shelf.new).tally
+        ≤ (S.state shelf.old).tally + 2 * length office.now.bands }
     ensures asked { IsOnlyAsked S.Shelf (failures_told result) shelf.old shelf.new }
 {
     let mut nano: u128 = 0;

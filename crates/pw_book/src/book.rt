@@ -101,7 +101,8 @@ impl<S: Shelf> Book<S> {
         requires least { 1 ≤ limit }
         requires most { limit ≤ most_records }
         requires few { S.clean shelf → length (S.state shelf).content.records ≤ most_records }
-        requires of_office { S.clean shelf → AllOfOffice (office_of office) (S.state shelf).content.records }
+        requires of_office { S.clean shelf → AllOfOffice (office_of office)
+            (S.state shelf).content.records }
         requires truth { S.clean shelf → IsTrueContent (office_of office) (S.state shelf).content }
         requires idle { (S.state shelf).begun ≡ None }
         ensures office { result.office ≡ office }
@@ -156,19 +157,35 @@ impl<S: Shelf> Book<S> {
     /// the former alone.
     pub fn post(&mut self, alloc: Global, entries: &[Entry]) -> Result<Accepted, PostFault>
         requires { AllOfOffice (office_of self.old.office) entries.now }
-        ensures posted { S.clean self.new.shelf → IsPosted (office_of self.old.office) self.old.limit entries.now (S.state self.old.shelf).content (S.state self.new.shelf).content result }
-        ensures left { S.clean self.new.shelf → LeavesPosted (office_of self.old.office) self.old.limit entries.now (S.state self.old.shelf).content (S.state self.new.shelf).content (S.left self.old.shelf) (S.left self.new.shelf) result }
-        ensures sound { S.clean self.new.shelf → LeavesSound (office_of self.old.office) (S.left self.old.shelf) (S.left self.new.shelf) }
-        ensures cost { S.clean self.new.shelf → IsCheap (office_of self.old.office) entries.now (S.state self.old.shelf).content (S.state self.old.shelf).tally (S.state self.new.shelf).tally }
-        ensures reopen { IsErrOf result PostFault.Reopen ↔ ((self.old.shut ≡ true) ⊎ ((S.state self.old.shelf).failed_abandons < (S.state self.new.shelf).failed_abandons)) }
-        ensures abandons { (S.state self.new.shelf).failed_abandons ≡ (S.state self.old.shelf).failed_abandons + failed_in self.old.shut result }
+        ensures posted { S.clean self.new.shelf → IsPosted (office_of self.old.office)
+            self.old.limit entries.now (S.state self.old.shelf).content
+            (S.state self.new.shelf).content result }
+        ensures left { S.clean self.new.shelf → LeavesPosted (office_of self.old.office)
+            self.old.limit entries.now (S.state self.old.shelf).content
+            (S.state self.new.shelf).content (S.left self.old.shelf) (S.left self.new.shelf)
+            result }
+        ensures sound { S.clean self.new.shelf → LeavesSound (office_of self.old.office)
+            (S.left self.old.shelf) (S.left self.new.shelf) }
+        ensures cost { S.clean self.new.shelf → IsCheap (office_of self.old.office) entries.now
+            (S.state self.old.shelf).content (S.state self.old.shelf).tally
+            (S.state self.new.shelf).tally }
+        ensures reopen { IsErrOf result PostFault.Reopen
+            ↔ ((self.old.shut ≡ true)
+            ⊎ ((S.state self.old.shelf).failed_abandons
+            < (S.state self.new.shelf).failed_abandons)) }
+        ensures abandons { (S.state self.new.shelf).failed_abandons
+            ≡ (S.state self.old.shelf).failed_abandons + failed_in self.old.shut result }
         ensures untouched { self.old.shut ≡ true → self.new.shelf ≡ self.old.shelf }
         ensures shut { (self.new.shut ≡ true) ↔ IsErrOf result PostFault.Reopen }
-        ensures begun { S.clean self.new.shelf → self.old.shut ≡ false → IsErrOf result PostFault.Reopen → (S.state self.new.shelf).begun ≡ Some (S.state self.old.shelf).content }
-        ensures failures { FailuresPosted result (S.state self.old.shelf).failures (S.state self.new.shelf).failures }
+        ensures begun { S.clean self.new.shelf → self.old.shut ≡ false
+            → IsErrOf result PostFault.Reopen
+            → (S.state self.new.shelf).begun ≡ Some (S.state self.old.shelf).content }
+        ensures failures { FailuresPosted result (S.state self.old.shelf).failures
+            (S.state self.new.shelf).failures }
         ensures cleanness { S.clean self.new.shelf → S.clean self.old.shelf }
         ensures store { S.same_store self.old.shelf self.new.shelf }
-        ensures book { (self.new.office ≡ self.old.office) × (self.new.zone ≡ self.old.zone) × (self.new.limit ≡ self.old.limit) }
+        ensures book { (self.new.office ≡ self.old.office) × (self.new.zone ≡ self.old.zone)
+            × (self.new.limit ≡ self.old.limit) }
     {
         if self.shut {
             return Err(PostFault::Reopen);

@@ -4,13 +4,14 @@ ghost use Rattle.std.specs.Prelude.{◌≡◌, ◌+◌, ◌*◌, ◌^◌, ◌<�
 ghost use Rattle.pw_model.specs.declared.records.Key.{Key as AKey};
 ghost use Rattle.pw_model.specs.Counting.{standing_among as standing_of};
 ghost use Rattle.pw_model.specs.Lists.{AreDisputes, IsInOrder, Lists, dispute_order};
-ghost use Rattle.pw_model.specs.Office.{AllOfOffice, most_records};
+ghost use Rattle.pw_model.specs.Office.{most_records};
 ghost use Rattle.pw_model.specs.Same.{entry_order};
 ghost use Rattle.pw_shelf.specs.Calls.{failures_told};
-ghost use Rattle.pw_tariff.specs.Office.{office_of, register_place};
+ghost use Rattle.pw_tariff.specs.Office.{register_place};
 ghost use Rattle.pw_book.specs.Asking.{IsOnlyAsked};
 ghost use Rattle.pw_book.specs.inner.Places.{AreWithin, DisputesBefore};
 ghost use Rattle.pw_book.specs.inner.Groups.{AreBehind, AreOfSharedKeys, IsDisputeAmong, IsDisputeOf, records_with};
+ghost use Rattle.pw_book.specs.inner.Steps.{HoldsOffice};
 
 use crate::shelf_calls::{assignments_held, readings_held, topups_held};
 use crate::withdrawn::standing_among;
@@ -29,8 +30,9 @@ pub(crate) fn disputes_held<S: Shelf>(
 ) -> Result<Vec<Dispute>, ShelfFault>
     requires idle { IsNone (S.state shelf.old).begun }
     requires few { S.clean shelf.old → length (S.state shelf.old).content.records ≤ most_records }
-    requires of_office { S.clean shelf.old → AllOfOffice (office_of office.now) (S.state shelf.old).content.records }
-    ensures disputes { S.clean shelf.new → IfOk result (λ disputes. AreDisputes (S.state shelf.old).content.records disputes.items) }
+    requires of_office { HoldsOffice S.Shelf office.now shelf.old }
+    ensures disputes { S.clean shelf.new → IfOk result
+        (λ disputes. AreDisputes (S.state shelf.old).content.records disputes.items) }
     ensures asked { IsOnlyAsked S.Shelf (failures_told result) shelf.old shelf.new }
 {
     let mut disputes = Vec::new(alloc);
@@ -48,7 +50,11 @@ fn add_readings<S: Shelf>(
     disputes: &mut Vec<Dispute>,
 ) -> Result<(), ShelfFault>
     requires { IsNone (S.state shelf.old).begun }
-    ensures disputes { S.clean shelf.new → (meters : ℕ) → AreWithin meters (S.state shelf.old).content.records → count ≡ meters → DisputesBefore meters (S.state shelf.old).content.records (0) disputes.old.items → OnOk result (DisputesBefore meters (S.state shelf.old).content.records (6 * meters) disputes.new.items) }
+    ensures disputes { S.clean shelf.new → (meters : ℕ)
+        → AreWithin meters (S.state shelf.old).content.records → count ≡ meters
+        → DisputesBefore meters (S.state shelf.old).content.records (0) disputes.old.items
+        → OnOk result (DisputesBefore meters (S.state shelf.old).content.records (6 * meters)
+        disputes.new.items) }
     ensures asked { IsOnlyAsked S.Shelf (failures_told result) shelf.old shelf.new }
 {
     for meter in 0..count {
@@ -65,7 +71,12 @@ fn add_assignments<S: Shelf>(
     disputes: &mut Vec<Dispute>,
 ) -> Result<(), ShelfFault>
     requires { IsNone (S.state shelf.old).begun }
-    ensures disputes { S.clean shelf.new → (meters : ℕ) → AreWithin meters (S.state shelf.old).content.records → count ≡ meters → DisputesBefore meters (S.state shelf.old).content.records (6 * meters) disputes.old.items → OnOk result (DisputesBefore meters (S.state shelf.old).content.records (7 * meters) disputes.new.items) }
+    ensures disputes { S.clean shelf.new → (meters : ℕ)
+        → AreWithin meters (S.state shelf.old).content.records → count ≡ meters
+        → DisputesBefore meters (S.state shelf.old).content.records (6 * meters)
+        disputes.old.items → OnOk result
+        (DisputesBefore meters (S.state shelf.old).content.records (7 * meters)
+        disputes.new.items) }
     ensures asked { IsOnlyAsked S.Shelf (failures_told result) shelf.old shelf.new }
 {
     for meter in 0..count {
@@ -82,7 +93,12 @@ fn add_meter<S: Shelf>(
     disputes: &mut Vec<Dispute>,
 ) -> Result<(), ShelfFault>
     requires { IsNone (S.state shelf.old).begun }
-    ensures disputes { S.clean shelf.new → (meters : ℕ) → AreWithin meters (S.state shelf.old).content.records → meter.0 < meters → DisputesBefore meters (S.state shelf.old).content.records (6 * meter.0) disputes.old.items → OnOk result (DisputesBefore meters (S.state shelf.old).content.records (6 * meter.0 + 6) disputes.new.items) }
+    ensures disputes { S.clean shelf.new → (meters : ℕ)
+        → AreWithin meters (S.state shelf.old).content.records → meter.0 < meters
+        → DisputesBefore meters (S.state shelf.old).content.records (6 * meter.0)
+        disputes.old.items → OnOk result
+        (DisputesBefore meters (S.state shelf.old).content.records (6 * meter.0 + 6)
+        disputes.new.items) }
     ensures asked { IsOnlyAsked S.Shelf (failures_told result) shelf.old shelf.new }
 {
     for register in &Register::ALL {
@@ -100,7 +116,12 @@ fn add_readings_of<S: Shelf>(
     disputes: &mut Vec<Dispute>,
 ) -> Result<(), ShelfFault>
     requires { IsNone (S.state shelf.old).begun }
-    ensures disputes { S.clean shelf.new → (meters : ℕ) → AreWithin meters (S.state shelf.old).content.records → meter.0 < meters → DisputesBefore meters (S.state shelf.old).content.records (6 * meter.0 + register_place register) disputes.old.items → OnOk result (DisputesBefore meters (S.state shelf.old).content.records (6 * meter.0 + register_place register + 1) disputes.new.items) }
+    ensures disputes { S.clean shelf.new → (meters : ℕ)
+        → AreWithin meters (S.state shelf.old).content.records → meter.0 < meters
+        → DisputesBefore meters (S.state shelf.old).content.records
+        (6 * meter.0 + register_place register) disputes.old.items
+        → OnOk result (DisputesBefore meters (S.state shelf.old).content.records
+        (6 * meter.0 + register_place register + 1) disputes.new.items) }
     ensures asked { IsOnlyAsked S.Shelf (failures_told result) shelf.old shelf.new }
 {
     let readings = readings_held(shelf, alloc, meter, register)?;
@@ -116,7 +137,12 @@ fn add_assignments_of<S: Shelf>(
     disputes: &mut Vec<Dispute>,
 ) -> Result<(), ShelfFault>
     requires { IsNone (S.state shelf.old).begun }
-    ensures disputes { S.clean shelf.new → (meters : ℕ) → AreWithin meters (S.state shelf.old).content.records → meter.0 < meters → DisputesBefore meters (S.state shelf.old).content.records (6 * meters + meter.0) disputes.old.items → OnOk result (DisputesBefore meters (S.state shelf.old).content.records (6 * meters + (meter.0 + 1)) disputes.new.items) }
+    ensures disputes { S.clean shelf.new → (meters : ℕ)
+        → AreWithin meters (S.state shelf.old).content.records → meter.0 < meters
+        → DisputesBefore meters (S.state shelf.old).content.records (6 * meters + meter.0)
+        disputes.old.items → OnOk result
+        (DisputesBefore meters (S.state shelf.old).content.records (6 * meters + (meter.0 + 1))
+        disputes.new.items) }
     ensures asked { IsOnlyAsked S.Shelf (failures_told result) shelf.old shelf.new }
 {
     let assignments = assignments_held(shelf, alloc, meter)?;
@@ -131,7 +157,12 @@ fn add_topups<S: Shelf>(
     disputes: &mut Vec<Dispute>,
 ) -> Result<(), ShelfFault>
     requires { IsNone (S.state shelf.old).begun }
-    ensures disputes { S.clean shelf.new → (meters : ℕ) → AreWithin meters (S.state shelf.old).content.records → DisputesBefore meters (S.state shelf.old).content.records (7 * meters) disputes.old.items → OnOk result (DisputesBefore meters (S.state shelf.old).content.records (7 * meters + 1) disputes.new.items) }
+    ensures disputes { S.clean shelf.new → (meters : ℕ)
+        → AreWithin meters (S.state shelf.old).content.records
+        → DisputesBefore meters (S.state shelf.old).content.records (7 * meters)
+        disputes.old.items → OnOk result
+        (DisputesBefore meters (S.state shelf.old).content.records (7 * meters + 1)
+        disputes.new.items) }
     ensures asked { IsOnlyAsked S.Shelf (failures_told result) shelf.old shelf.new }
 {
     let topups = topups_held(shelf, alloc)?;
@@ -147,7 +178,10 @@ fn add_disputes_among<S: Shelf>(
     disputes: &mut Vec<Dispute>,
 ) -> Result<(), ShelfFault>
     requires { IsNone (S.state shelf.old).begun }
-    ensures disputes { S.clean shelf.new → IsInOrder entry_order held.now → ((k : AKey) → records_with k held.now < 2 ^ 32) → OnOk result (AreBehind (standing_of (S.state shelf.old).content.records held.now) disputes.old.items disputes.new.items) }
+    ensures disputes { S.clean shelf.new → IsInOrder entry_order held.now
+        → ((k : AKey) → records_with k held.now < 2 ^ 32)
+        → OnOk result (AreBehind (standing_of (S.state shelf.old).content.records held.now)
+        disputes.old.items disputes.new.items) }
     ensures asked { IsOnlyAsked S.Shelf (failures_told result) shelf.old shelf.new }
 {
     let shared = of_shared_keys(alloc, held)?;
@@ -159,7 +193,8 @@ fn add_disputes_among<S: Shelf>(
 
 // Those of some records whose key another has: only of these is it asked whether they stand.
 fn of_shared_keys(alloc: Global, records: &[Entry]) -> Result<Vec<Entry>, AllocError>
-    ensures { IsInOrder entry_order records.now → IfOk result (λ shared. AreOfSharedKeys records.now shared.items) }
+    ensures { IsInOrder entry_order records.now
+        → IfOk result (λ shared. AreOfSharedKeys records.now shared.items) }
 {
     let mut shared = Vec::new(alloc);
     let mut rest = records;
@@ -176,7 +211,9 @@ fn of_shared_keys(alloc: Global, records: &[Entry]) -> Result<Vec<Entry>, AllocE
 
 // The keys that two or more of some records have, and how many.
 pub(crate) fn disputes_of(alloc: Global, records: &[Entry]) -> Result<Vec<Dispute>, AllocError>
-    ensures { IsInOrder entry_order records.now → ((k : AKey) → records_with k records.now < 2 ^ 32) → IfOk result (λ disputes. Lists dispute_order (IsDisputeAmong records.now) disputes.items) }
+    ensures { IsInOrder entry_order records.now → ((k : AKey) → records_with k records.now < 2 ^ 32)
+        → IfOk result (λ disputes.
+        Lists dispute_order (IsDisputeAmong records.now) disputes.items) }
 {
     let mut disputes = Vec::new(alloc);
     let mut rest = records;

@@ -1,15 +1,14 @@
 //! An entry that is added, and what is told at the key that it bears on, before and behind.
 
-ghost use Rattle.std.specs.Prelude.{◌≡◌, ℕ, ◌+◌, ◌<◌, ◌≤◌, IfOk, OnOk, IsSome, List, length};
+ghost use Rattle.std.specs.Prelude.{◌≡◌, ◌+◌, ◌<◌, ◌≤◌, IfOk, IsSome, List, length};
 ghost use Rattle.pw_model.specs.declared.records.Entry.{Entry as AnEntry};
 ghost use Rattle.pw_model.specs.declared.records.Key.TheVariants as key;
 ghost use Rattle.pw_model.specs.Bearing.{bears_on};
 ghost use Rattle.pw_model.specs.Counting.{IsInserted, Member, contents_at, point as point_told};
 ghost use Rattle.pw_model.specs.Office.{AllOfOffice, most_records};
-ghost use Rattle.pw_shelf.specs.Calls.{GoesOn, failures_told};
-ghost use Rattle.pw_shelf.specs.State.{IsWithRecord};
 ghost use Rattle.pw_tariff.specs.Office.{OfficeRules};
 ghost use Rattle.pw_book.specs.inner.Inferred.{told_by_point};
+ghost use Rattle.pw_book.specs.inner.Steps.{AddsRecord, KeepsContent, UploadGoesOn};
 
 use pw_model::{Content, Contents, Entry, Key, is_same_content};
 use pw_obis::Register;
@@ -36,11 +35,18 @@ pub(crate) fn add_told<S: Shelf>(
     requires bears { key.now ≡ bears_on entry.now }
     requires fresh { S.clean shelf.old → Member entry.now (S.state shelf.old).content.records → ⊥ }
     requires room { S.clean shelf.old → length (S.state shelf.old).content.records < most_records }
-    ensures added { S.clean shelf.new → OnOk result (IsWithRecord (S.state shelf.old).content entry.now (S.state shelf.new).content) }
-    ensures before { S.clean shelf.new → (office : OfficeRules) → AllOfOffice office (S.state shelf.old).content.records → (S.state shelf.old).content.point ≡ point_told (contents_at (S.state shelf.old).content.records) → IfOk result (λ told. told.before ≡ contents_at (S.state shelf.old).content.records (bears_on entry.now)) }
-    ensures behind { S.clean shelf.new → IfOk result (λ told. told.behind ≡ contents_at (S.state shelf.new).content.records (bears_on entry.now)) }
+    ensures added { AddsRecord S.Shelf result entry.now shelf.old shelf.new }
+    ensures before { S.clean shelf.new → (office : OfficeRules)
+        → AllOfOffice office (S.state shelf.old).content.records
+        → (S.state shelf.old).content.point
+        ≡ point_told (contents_at (S.state shelf.old).content.records)
+        → IfOk result (λ told. told.before
+        ≡ contents_at (S.state shelf.old).content.records (bears_on entry.now)) }
+    ensures behind { S.clean shelf.new → IfOk result
+        (λ told. told.behind ≡ contents_at (S.state shelf.new).content.records
+        (bears_on entry.now)) }
     ensures tally { S.clean shelf.new → (S.state shelf.new).tally ≤ (S.state shelf.old).tally + 7 }
-    ensures kept { GoesOn S.state S.left S.clean S.same_store (failures_told result) shelf.old shelf.new }
+    ensures kept { UploadGoesOn S.Shelf result shelf.old shelf.new }
 {
     match &entry.key {
         Key::Reading {
@@ -57,11 +63,13 @@ fn add_other<S: Shelf>(shelf: &mut S, entry: &Entry, key: &Key) -> Result<Told, 
     requires begun { IsSome (S.state shelf.old).begun }
     requires fresh { S.clean shelf.old → Member entry.now (S.state shelf.old).content.records → ⊥ }
     requires room { S.clean shelf.old → length (S.state shelf.old).content.records < most_records }
-    ensures added { S.clean shelf.new → OnOk result (IsWithRecord (S.state shelf.old).content entry.now (S.state shelf.new).content) }
-    ensures before { S.clean shelf.new → IfOk result (λ told. told.before ≡ contents_at (S.state shelf.old).content.records key.now) }
-    ensures behind { S.clean shelf.new → IfOk result (λ told. told.behind ≡ contents_at (S.state shelf.new).content.records key.now) }
+    ensures added { AddsRecord S.Shelf result entry.now shelf.old shelf.new }
+    ensures before { S.clean shelf.new → IfOk result
+        (λ told. told.before ≡ contents_at (S.state shelf.old).content.records key.now) }
+    ensures behind { S.clean shelf.new → IfOk result
+        (λ told. told.behind ≡ contents_at (S.state shelf.new).content.records key.now) }
     ensures tally { (S.state shelf.new).tally ≤ (S.state shelf.old).tally + 7 }
-    ensures kept { GoesOn S.state S.left S.clean S.same_store (failures_told result) shelf.old shelf.new }
+    ensures kept { UploadGoesOn S.Shelf result shelf.old shelf.new }
 {
     let before = shelf.contents_at(key)?;
     shelf.add(entry)?;
@@ -82,11 +90,17 @@ fn add_reading<S: Shelf>(
     requires key { entry.now.key ≡ key.Reading meter register instant }
     requires fresh { S.clean shelf.old → Member entry.now (S.state shelf.old).content.records → ⊥ }
     requires room { S.clean shelf.old → length (S.state shelf.old).content.records < most_records }
-    ensures added { S.clean shelf.new → OnOk result (IsWithRecord (S.state shelf.old).content entry.now (S.state shelf.new).content) }
-    ensures before { S.clean shelf.new → (office : OfficeRules) → AllOfOffice office (S.state shelf.old).content.records → (S.state shelf.old).content.point ≡ point_told (contents_at (S.state shelf.old).content.records) → IfOk result (λ told. told.before ≡ contents_at (S.state shelf.old).content.records entry.now.key) }
-    ensures behind { S.clean shelf.new → IfOk result (λ told. told.behind ≡ contents_at (S.state shelf.new).content.records entry.now.key) }
+    ensures added { AddsRecord S.Shelf result entry.now shelf.old shelf.new }
+    ensures before { S.clean shelf.new → (office : OfficeRules)
+        → AllOfOffice office (S.state shelf.old).content.records
+        → (S.state shelf.old).content.point
+        ≡ point_told (contents_at (S.state shelf.old).content.records)
+        → IfOk result (λ told. told.before
+        ≡ contents_at (S.state shelf.old).content.records entry.now.key) }
+    ensures behind { S.clean shelf.new → IfOk result
+        (λ told. told.behind ≡ contents_at (S.state shelf.new).content.records entry.now.key) }
     ensures tally { S.clean shelf.new → (S.state shelf.new).tally ≤ (S.state shelf.old).tally + 7 }
-    ensures kept { GoesOn S.state S.left S.clean S.same_store (failures_told result) shelf.old shelf.new }
+    ensures kept { UploadGoesOn S.Shelf result shelf.old shelf.new }
 {
     shelf.add(entry)?;
     let behind = shelf.contents_at(&entry.key)?;
@@ -107,10 +121,14 @@ fn told_before<S: Shelf>(
     behind: &Contents,
 ) -> Result<Contents, ShelfFault>
     requires key { entry.now.key ≡ key.Reading meter register instant }
-    ensures before { S.clean shelf.new → (office : OfficeRules) (s : List AnEntry) → IsInserted entry.now s (S.state shelf.old).content.records → (Member entry.now s → ⊥) → AllOfOffice office s → (S.state shelf.old).content.point ≡ point_told (contents_at s) → behind.now ≡ contents_at (S.state shelf.old).content.records entry.now.key → IfOk result (λ before. before ≡ contents_at s entry.now.key) }
-    ensures same { S.clean shelf.new → OnOk result ((S.state shelf.new).content ≡ (S.state shelf.old).content) }
+    ensures before { S.clean shelf.new → (office : OfficeRules) (s : List AnEntry)
+        → IsInserted entry.now s (S.state shelf.old).content.records → (Member entry.now s → ⊥)
+        → AllOfOffice office s → (S.state shelf.old).content.point ≡ point_told (contents_at s)
+        → behind.now ≡ contents_at (S.state shelf.old).content.records entry.now.key
+        → IfOk result (λ before. before ≡ contents_at s entry.now.key) }
+    ensures same { KeepsContent S.Shelf result shelf.old shelf.new }
     ensures tally { S.clean shelf.new → (S.state shelf.new).tally ≤ (S.state shelf.old).tally + 2 }
-    ensures kept { GoesOn S.state S.left S.clean S.same_store (failures_told result) shelf.old shelf.new }
+    ensures kept { UploadGoesOn S.Shelf result shelf.old shelf.new }
 {
     match behind {
         Contents::Several => told_at_point(shelf, alloc, meter, register, instant),
@@ -133,10 +151,12 @@ fn told_at_point<S: Shelf>(
     register: Register,
     instant: Instant,
 ) -> Result<Contents, ShelfFault>
-    ensures told { S.clean shelf.new → IfOk result (λ told. told ≡ told_by_point ((S.state shelf.old).content.point meter.0 register instant)) }
-    ensures same { S.clean shelf.new → OnOk result ((S.state shelf.new).content ≡ (S.state shelf.old).content) }
+    ensures told { S.clean shelf.new → IfOk result
+        (λ told. told ≡ told_by_point
+        ((S.state shelf.old).content.point meter.0 register instant)) }
+    ensures same { KeepsContent S.Shelf result shelf.old shelf.new }
     ensures tally { S.clean shelf.new → (S.state shelf.new).tally ≤ (S.state shelf.old).tally + 2 }
-    ensures kept { GoesOn S.state S.left S.clean S.same_store (failures_told result) shelf.old shelf.new }
+    ensures kept { UploadGoesOn S.Shelf result shelf.old shelf.new }
 {
     let points = shelf.points_between(alloc, meter, register, instant, instant)?;
     match points.first() {

@@ -2,11 +2,11 @@
 
 ghost use Rattle.std.specs.Prelude.{◌≡◌, ◌+◌, ◌*◌, ◌^◌, ◌<◌, ◌≤◌, IfOk, IsNone, length};
 ghost use Rattle.pw_model.specs.Energy.{energy as energy_of, energy_in_period};
-ghost use Rattle.pw_model.specs.Office.{AllOfOffice, most_records};
-ghost use Rattle.pw_model.specs.Shelf.{IsTrueContent};
+ghost use Rattle.pw_model.specs.Office.{most_records};
 ghost use Rattle.pw_shelf.specs.Calls.{failures_told};
 ghost use Rattle.pw_tariff.specs.Office.{office_of, periods_in};
 ghost use Rattle.pw_book.specs.Asking.{IsOnlyAsked};
+ghost use Rattle.pw_book.specs.inner.Steps.{HasTrueContent, HoldsOffice};
 
 use crate::shelf_calls::total_held;
 use pw_model::TotalKey;
@@ -23,10 +23,13 @@ pub(crate) fn energy_held<S: Shelf>(
 ) -> Result<u64, ShelfFault>
     requires idle { IsNone (S.state shelf.old).begun }
     requires few { S.clean shelf.old → length (S.state shelf.old).content.records ≤ most_records }
-    requires of_office { S.clean shelf.old → AllOfOffice (office_of office.now) (S.state shelf.old).content.records }
-    requires truth { S.clean shelf.old → IsTrueContent (office_of office.now) (S.state shelf.old).content }
-    ensures energy { S.clean shelf.new → IfOk result (λ wh. wh ≡ energy_of (office_of office.now) (S.state shelf.old).content.records owner band.0 direction) }
-    ensures tally { (S.state shelf.new).tally ≤ (S.state shelf.old).tally + 2 * periods_in office.now }
+    requires of_office { HoldsOffice S.Shelf office.now shelf.old }
+    requires truth { HasTrueContent S.Shelf office.now shelf.old }
+    ensures energy { S.clean shelf.new → IfOk result
+        (λ wh. wh ≡ energy_of (office_of office.now) (S.state shelf.old).content.records owner
+        band.0 direction) }
+    ensures tally { (S.state shelf.new).tally
+        ≤ (S.state shelf.old).tally + 2 * periods_in office.now }
     ensures asked { IsOnlyAsked S.Shelf (failures_told result) shelf.old shelf.new }
 {
     let mut sum: u128 = 0;
@@ -47,8 +50,10 @@ pub(crate) fn energy_in_held<S: Shelf>(
     direction: Direction,
 ) -> Result<u64, ShelfFault>
     requires idle { IsNone (S.state shelf.old).begun }
-    requires truth { S.clean shelf.old → IsTrueContent (office_of office.now) (S.state shelf.old).content }
-    ensures energy { S.clean shelf.new → IfOk result (λ wh. wh ≡ energy_in_period (office_of office.now) (S.state shelf.old).content.records owner period.0 band.0 direction) }
+    requires truth { HasTrueContent S.Shelf office.now shelf.old }
+    ensures energy { S.clean shelf.new → IfOk result
+        (λ wh. wh ≡ energy_in_period (office_of office.now) (S.state shelf.old).content.records
+        owner period.0 band.0 direction) }
     ensures tally { (S.state shelf.new).tally ≤ (S.state shelf.old).tally + 2 }
     ensures asked { IsOnlyAsked S.Shelf (failures_told result) shelf.old shelf.new }
 {

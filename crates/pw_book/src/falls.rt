@@ -2,14 +2,13 @@
 
 ghost use Rattle.std.specs.Prelude.{◌≡◌, ◌+◌, ◌*◌, ◌<◌, ℕ, Option, Some, IfOk, OnOk, IsNone};
 ghost use Rattle.pw_model.specs.Lists.{AreFalls, Lists, fall_order};
-ghost use Rattle.pw_model.specs.Office.{AllOfOffice};
-ghost use Rattle.pw_model.specs.Shelf.{IsTrueContent};
 ghost use Rattle.pw_shelf.specs.Calls.{failures_told};
-ghost use Rattle.pw_tariff.specs.Office.{office_of, register_place};
+ghost use Rattle.pw_tariff.specs.Office.{register_place};
 ghost use Rattle.pw_book.specs.Asking.{IsOnlyAsked};
 ghost use Rattle.pw_model.specs.Seconds.{ListsSeconds};
 ghost use Rattle.pw_book.specs.inner.Counted.{IsFallOf};
 ghost use Rattle.pw_book.specs.inner.Places.{FallsBefore, TellsPoints};
+ghost use Rattle.pw_book.specs.inner.Steps.{HasTrueContent, HoldsOffice};
 
 use crate::shelf_calls::points_held;
 use pw_model::Fall;
@@ -26,9 +25,10 @@ pub(crate) fn falls_held<S: Shelf>(
     office: &Office,
 ) -> Result<Vec<Fall>, ShelfFault>
     requires idle { IsNone (S.state shelf.old).begun }
-    requires of_office { S.clean shelf.old → AllOfOffice (office_of office.now) (S.state shelf.old).content.records }
-    requires truth { S.clean shelf.old → IsTrueContent (office_of office.now) (S.state shelf.old).content }
-    ensures falls { S.clean shelf.new → IfOk result (λ falls. AreFalls (S.state shelf.old).content.records falls.items) }
+    requires of_office { HoldsOffice S.Shelf office.now shelf.old }
+    requires truth { HasTrueContent S.Shelf office.now shelf.old }
+    ensures falls { S.clean shelf.new → IfOk result
+        (λ falls. AreFalls (S.state shelf.old).content.records falls.items) }
     ensures asked { IsOnlyAsked S.Shelf (failures_told result) shelf.old shelf.new }
 {
     let mut falls = Vec::new(alloc);
@@ -46,7 +46,10 @@ fn add_meter<S: Shelf>(
     falls: &mut Vec<Fall>,
 ) -> Result<(), ShelfFault>
     requires { IsNone (S.state shelf.old).begun }
-    ensures falls { S.clean shelf.new → TellsPoints (S.state shelf.old).content → FallsBefore (S.state shelf.old).content.records (6 * meter.0) falls.old.items → OnOk result (FallsBefore (S.state shelf.old).content.records (6 * meter.0 + 6) falls.new.items) }
+    ensures falls { S.clean shelf.new → TellsPoints (S.state shelf.old).content
+        → FallsBefore (S.state shelf.old).content.records (6 * meter.0) falls.old.items
+        → OnOk result (FallsBefore (S.state shelf.old).content.records (6 * meter.0 + 6)
+        falls.new.items) }
     ensures asked { IsOnlyAsked S.Shelf (failures_told result) shelf.old shelf.new }
 {
     for register in &Register::ALL {
@@ -64,7 +67,11 @@ fn add_register<S: Shelf>(
     falls: &mut Vec<Fall>,
 ) -> Result<(), ShelfFault>
     requires { IsNone (S.state shelf.old).begun }
-    ensures falls { S.clean shelf.new → TellsPoints (S.state shelf.old).content → FallsBefore (S.state shelf.old).content.records (6 * meter.0 + register_place register) falls.old.items → OnOk result (FallsBefore (S.state shelf.old).content.records (6 * meter.0 + register_place register + 1) falls.new.items) }
+    ensures falls { S.clean shelf.new → TellsPoints (S.state shelf.old).content
+        → FallsBefore (S.state shelf.old).content.records (6 * meter.0 + register_place register)
+        falls.old.items → OnOk result
+        (FallsBefore (S.state shelf.old).content.records
+        (6 * meter.0 + register_place register + 1) falls.new.items) }
     ensures asked { IsOnlyAsked S.Shelf (failures_told result) shelf.old shelf.new }
 {
     let points = points_held(shelf, alloc, meter, register)?;
@@ -80,7 +87,9 @@ pub(crate) fn falls_of(
     register: Register,
     points: &[(Instant, WattHours)],
 ) -> Result<Vec<Fall>, AllocError>
-    ensures { (told : ℕ → Option ℕ) (end : ℕ) → ListsSeconds told points.now → ((t w : ℕ) → told t ≡ Some w → t < end) → IfOk result (λ falls. Lists fall_order (IsFallOf meter register told) falls.items) }
+    ensures { (told : ℕ → Option ℕ) (end : ℕ) → ListsSeconds told points.now
+        → ((t w : ℕ) → told t ≡ Some w → t < end)
+        → IfOk result (λ falls. Lists fall_order (IsFallOf meter register told) falls.items) }
 {
     let mut falls = Vec::new(alloc);
     for pair in points.windows(2) {

@@ -1,10 +1,8 @@
 //! What an upload has gathered so far: what energies lose and gain, not yet written, and the starts that it knows.
 
-ghost use Rattle.std.specs.Prelude.{◌≡◌, ℕ, ◌+◌, ◌≤◌, [], None, OnOk};
+ghost use Rattle.std.specs.Prelude.{◌≡◌, [], None, OnOk};
 ghost use Rattle.pw_model.specs.Seconds.{ListsSeconds};
-ghost use Rattle.pw_shelf.specs.Calls.{GoesOn, failures_told};
-ghost use Rattle.pw_book.specs.Cost.{HasStarts};
-ghost use Rattle.pw_book.specs.inner.Gathered.{AreKnown};
+ghost use Rattle.pw_book.specs.inner.Steps.{KeepsContent, KeepsKnown, StillKeepsKnown, TakesStarts, UploadGoesOn};
 
 use crate::starts::Start;
 use pw_parts::Changes;
@@ -50,12 +48,13 @@ pub(crate) fn know_starts<S: Shelf>(
     meter: MeterId,
     known: &mut KnownStarts,
 ) -> Result<(), ShelfFault>
-    requires { S.clean shelf.old → AreKnown (S.state shelf.old).content.start known.old }
-    ensures starts { S.clean shelf.new → OnOk result (ListsSeconds ((S.state shelf.old).content.start meter.0) known.new.starts.items) }
-    ensures known { S.clean shelf.new → OnOk result (AreKnown (S.state shelf.new).content.start known.new) }
-    ensures same { S.clean shelf.new → OnOk result ((S.state shelf.new).content ≡ (S.state shelf.old).content) }
-    ensures tally { S.clean shelf.new → (starts : ℕ) → HasStarts (S.state shelf.old).content meter.0 starts → (S.state shelf.new).tally ≤ (S.state shelf.old).tally + (1 + starts) }
-    ensures kept { GoesOn S.state S.left S.clean S.same_store (failures_told result) shelf.old shelf.new }
+    requires { KeepsKnown S.Shelf known.old shelf.old }
+    ensures starts { S.clean shelf.new → OnOk result
+        (ListsSeconds ((S.state shelf.old).content.start meter.0) known.new.starts.items) }
+    ensures known { StillKeepsKnown S.Shelf result known.new shelf.new }
+    ensures same { KeepsContent S.Shelf result shelf.old shelf.new }
+    ensures tally { TakesStarts S.Shelf 1 meter.0 shelf.old shelf.new }
+    ensures kept { UploadGoesOn S.Shelf result shelf.old shelf.new }
 {
     if known.meter == Some(meter) {
         return Ok(());

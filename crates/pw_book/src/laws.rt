@@ -23,7 +23,12 @@ use pw_tariff::Office;
 /// nobody and all bands, the energies of a direction, which `energy` answers, add up to the rises of all neighbouring
 /// readings that don't fall.
 pub fn conservation_of_energy<S: Shelf>(book: &Book<S>)
-    ensures { book.now.shut ≡ false → S.clean book.now.shelf → (d : Direction) → over_owners (office_of book.now.office) (λ o. over_bands (office_of book.now.office) (λ b. energy (office_of book.now.office) (S.state book.now.shelf).content.records o b d)) ≡ all_rises (office_of book.now.office) (contents_at (S.state book.now.shelf).content.records) d }
+    ensures { book.now.shut ≡ false → S.clean book.now.shelf → (d : Direction)
+        → over_owners (office_of book.now.office)
+        (λ o. over_bands (office_of book.now.office)
+        (λ b. energy (office_of book.now.office) (S.state book.now.shelf).content.records o b d))
+        ≡ all_rises (office_of book.now.office)
+        (contents_at (S.state book.now.shelf).content.records) d }
 {
     let _ = book.office().bands();
 }

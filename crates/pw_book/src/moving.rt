@@ -1,17 +1,15 @@
 //! Totals changed within an upload.
 
 ghost use Rattle.std.specs.Prelude.{◌≡◌, ℕ, ◌+◌, ◌<◌, ◌≤◌, ◌^◌, ◌↔◌, IsTrue, OnOk, IsSome, length};
-ghost use Rattle.pw_model.specs.declared.records.TotalKey.{TotalKey as AnyTotal};
 ghost use Rattle.pw_model.specs.Office.{HasOwner};
-ghost use Rattle.pw_shelf.specs.Calls.{GoesOn, failures_told};
 ghost use Rattle.pw_tariff.specs.Office.{office_of, periods_in};
-ghost use Rattle.pw_parts.specs.declared.changes.Side.{Side as ASide};
 ghost use Rattle.pw_parts.specs.declared.changes.Side.TheVariants.{Gains, Loses};
-ghost use Rattle.pw_book.specs.inner.Gathered.{due};
+ghost use Rattle.pw_book.specs.inner.Gathered.{IsGatheredBelow, due};
 ghost use Rattle.pw_book.specs.inner.Moves.{MovesTotals, OfOwners, most_total};
 ghost use Rattle.pw_parts.specs.Changes.{gathered};
+ghost use Rattle.pw_book.specs.inner.Steps.{UploadGoesOn};
 
-use pw_model::{MOST_RECORDS, TotalKey};
+use pw_model::{MOST_RECORDS, TotalKey, has_owner};
 use pw_obis::LARGEST_WATT_HOURS;
 use pw_parts::Changes;
 use pw_shelf::{Shelf, ShelfFault};
@@ -40,9 +38,11 @@ pub(crate) fn change_total<S: Shelf>(
 ) -> Result<(), ShelfFault>
     requires begun { IsSome (S.state shelf.old).begun }
     requires fits { more < 2 ^ 127 }
-    ensures moved { S.clean shelf.new → OnOk result (MovesTotals (λ k. k ≡ key.now) (λ _. more) (λ _. less) (S.state shelf.old).content (S.state shelf.new).content) }
+    ensures moved { S.clean shelf.new → OnOk result
+        (MovesTotals (λ k. k ≡ key.now) (λ _. more) (λ _. less) (S.state shelf.old).content
+        (S.state shelf.new).content) }
     ensures tally { (S.state shelf.new).tally ≤ (S.state shelf.old).tally + 3 }
-    ensures kept { GoesOn S.state S.left S.clean S.same_store (failures_told result) shelf.old shelf.new }
+    ensures kept { UploadGoesOn S.Shelf result shelf.old shelf.new }
 {
     if more == less {
         return Ok(());
@@ -51,26 +51,18 @@ pub(crate) fn change_total<S: Shelf>(
     shelf.total_put(key, settled(total, more, less))
 }
 
-// Whether an account is one of the office, or none is named.
-fn is_owner_of(office: &Office, owner: Owner) -> bool
-    ensures { IsTrue result ↔ HasOwner (office_of office.now) owner }
-{
-    match owner {
-        None => true,
-        Some(account) => account.0 < office.accounts(),
-    }
-}
-
 // Whether an office has this owner, this period and this band.
 fn has_class(office: &Office, owner: Owner, period: PeriodId, band: BandId) -> bool
-    ensures { IsTrue result ↔ (HasOwner (office_of office.now) owner × (period.0 < periods_in office.now) × (band.0 < length office.now.bands)) }
+    ensures { IsTrue result ↔ (HasOwner (office_of office.now) owner
+        × (period.0 < periods_in office.now) × (band.0 < length office.now.bands)) }
 {
-    is_owner_of(office, owner) && period.0 < office.periods() && band.0 < office.bands()
+    has_owner(office, &owner) && period.0 < office.periods() && band.0 < office.bands()
 }
 
 // Whether a total is an energy of the office.
 fn is_energy_of(office: &Office, key: &TotalKey) -> bool
-    ensures { IsTrue result ↔ OfOwners (periods_in office.now) (length office.now.bands) (length office.now.accounts) key.now }
+    ensures { IsTrue result ↔ OfOwners (periods_in office.now) (length office.now.bands)
+        (length office.now.accounts) key.now }
 {
     match key {
         TotalKey::Energy {
@@ -91,10 +83,14 @@ pub(crate) fn move_energies<S: Shelf>(
     changes: &Changes,
 ) -> Result<(), ShelfFault>
     requires begun { IsSome (S.state shelf.old).begun }
-    requires few { (side : ASide) (k : AnyTotal) → gathered side changes.now.rows k < 2 ^ 127 }
-    ensures moved { S.clean shelf.new → OnOk result (MovesTotals (OfOwners (periods_in office.now) (length office.now.bands) (length office.now.accounts)) (gathered Gains changes.now.rows) (gathered Loses changes.now.rows) (S.state shelf.old).content (S.state shelf.new).content) }
-    ensures tally { (S.state shelf.new).tally ≤ (S.state shelf.old).tally + due (office_of office.now) changes.now.rows.entries }
-    ensures kept { GoesOn S.state S.left S.clean S.same_store (failures_told result) shelf.old shelf.new }
+    requires few { IsGatheredBelow (2 ^ 127) changes.now }
+    ensures moved { S.clean shelf.new → OnOk result
+        (MovesTotals (OfOwners (periods_in office.now) (length office.now.bands)
+        (length office.now.accounts)) (gathered Gains changes.now.rows)
+        (gathered Loses changes.now.rows) (S.state shelf.old).content (S.state shelf.new).content) }
+    ensures tally { (S.state shelf.new).tally
+        ≤ (S.state shelf.old).tally + due (office_of office.now) changes.now.rows.entries }
+    ensures kept { UploadGoesOn S.Shelf result shelf.old shelf.new }
 {
     if changes.rows.is_empty() {
         return Ok(());

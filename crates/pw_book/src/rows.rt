@@ -30,7 +30,8 @@ pub(crate) fn rows_held<S: Shelf>(
 ) -> Result<Vec<ReadingRow>, ShelfFault>
     requires idle { IsNone (S.state shelf.old).begun }
     requires points { S.clean shelf.old → TellsPoints (S.state shelf.old).content }
-    ensures rows { S.clean shelf.new → IfOk result (λ rows. AreReadings (S.state shelf.old).content.records meter.0 register rows.items) }
+    ensures rows { S.clean shelf.new → IfOk result
+        (λ rows. AreReadings (S.state shelf.old).content.records meter.0 register rows.items) }
     ensures asked { IsOnlyAsked S.Shelf (failures_told result) shelf.old shelf.new }
 {
     let readings = readings_held(shelf, alloc, meter, register)?;
@@ -47,7 +48,11 @@ fn rows_of<S: Shelf>(
     points: &[Point],
 ) -> Result<Vec<ReadingRow>, ShelfFault>
     requires { IsNone (S.state shelf.old).begun }
-    ensures rows { S.clean shelf.new → (m : MeterId) (r : Register) → ListsReadings (S.state shelf.old).content.records m r readings.now → ListsSeconds (point_told (contents_at (S.state shelf.old).content.records) m.0 r) points.now → IfOk result (λ rows. AreReadings (S.state shelf.old).content.records m.0 r rows.items) }
+    ensures rows { S.clean shelf.new → (m : MeterId) (r : Register)
+        → ListsReadings (S.state shelf.old).content.records m r readings.now
+        → ListsSeconds (point_told (contents_at (S.state shelf.old).content.records) m.0 r)
+        points.now → IfOk result (λ rows.
+        AreReadings (S.state shelf.old).content.records m.0 r rows.items) }
     ensures asked { IsOnlyAsked S.Shelf (failures_told result) shelf.old shelf.new }
 {
     let mut rows = Vec::new(alloc);
@@ -67,7 +72,9 @@ fn row_of<S: Shelf>(
     points: &[Point],
 ) -> Result<Option<ReadingRow>, ShelfFault>
     requires { IsNone (S.state shelf.old).begun }
-    ensures row { S.clean shelf.new → (told : ℕ → Option ℕ) → ListsSeconds told points.now → IfOk result (λ row. MatchOption row (shown entry.now ≡ None) (IsRowOf told (S.state shelf.old).content.records entry.now)) }
+    ensures row { S.clean shelf.new → (told : ℕ → Option ℕ) → ListsSeconds told points.now
+        → IfOk result (λ row. MatchOption row (shown entry.now ≡ None)
+        (IsRowOf told (S.state shelf.old).content.records entry.now)) }
     ensures asked { IsOnlyAsked S.Shelf (failures_told result) shelf.old shelf.new }
 {
     let Key::Reading { instant, .. } = &entry.key else {
@@ -88,7 +95,8 @@ fn row_of<S: Shelf>(
 
 // Whether a point with this value stands at an instant.
 fn shows(points: &[Point], instant: Instant, wh: WattHours) -> bool
-    ensures { (told : ℕ → Option ℕ) → ListsSeconds told points.now → IsTrue result ↔ (told instant ≡ Some wh) }
+    ensures { (told : ℕ → Option ℕ) → ListsSeconds told points.now
+        → IsTrue result ↔ (told instant ≡ Some wh) }
 {
     match points.get(stand_before(points, instant)) {
         Some(point) => point.0 == instant && point.1 == wh,

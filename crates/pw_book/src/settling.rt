@@ -1,18 +1,16 @@
 //! Points, starts and totals that follow where what is told at a key has changed.
 
-ghost use Rattle.std.specs.Prelude.{◌≡◌, ℕ, ◌+◌, ◌<◌, ◌≤◌, ◌^◌, List, OnOk, IsSome, true, length};
+ghost use Rattle.std.specs.Prelude.{◌≡◌, ◌+◌, ◌<◌, ◌≤◌, ◌^◌, List, OnOk, IsSome, true, length};
 ghost use Rattle.pw_model.specs.declared.records.Entry.{Entry as AnEntry};
 ghost use Rattle.pw_model.specs.declared.records.Key.TheVariants as key;
-ghost use Rattle.pw_model.specs.declared.records.TotalKey.{TotalKey as AnyTotal};
 ghost use Rattle.pw_model.specs.Counting.{owner_of, wh_of};
-ghost use Rattle.pw_shelf.specs.Calls.{GoesOn, failures_told};
-ghost use Rattle.pw_tariff.specs.Office.{IsSound, counts_at, office_of};
+ghost use Rattle.pw_tariff.specs.Office.{IsSound, office_of};
 ghost use Rattle.pw_parts.specs.Changes.{gathered};
-ghost use Rattle.pw_parts.specs.declared.changes.Side.{Side as ASide};
 ghost use Rattle.pw_book.specs.inner.Added.{ChangesOneKey, IsJustChanged, IsKeyOf, IsPaid, IsTrueAgain, IsTrueOf, TakesAtMost, paid_of};
-ghost use Rattle.pw_book.specs.inner.Gathered.{AreKnown, IsTrueAgainBut, IsTrueBut, due};
+ghost use Rattle.pw_book.specs.inner.Gathered.{GathersAtMost, IsGatheredBelow, IsTrueAgainBut, IsTrueBut, due};
 ghost use Rattle.pw_model.specs.Kinds.{IsReading};
-ghost use Rattle.pw_book.specs.Cost.{HasStarts};
+ghost use Rattle.pw_book.specs.inner.Steps.{KeepsKnown, StillKeepsKnown, TakesStarts, UploadGoesOn};
+ghost use Rattle.pw_book.specs.inner.Settling.{CountsAtMeter};
 
 use crate::basis::Basis;
 use crate::gathered::{Gathered, nothing_gathered};
@@ -67,16 +65,26 @@ fn reading_changed<S: Shelf>(
     requires begun { IsSome (S.state shelf.old).begun }
     requires sound { IsSound basis.now.office.now }
     requires meter { reading.now.meter.0 < length basis.now.office.now.meters }
-    requires counts { counts_at basis.now.office.now reading.now.meter.0 reading.now.register ≡ true }
-    requires few { (side : ASide) (k : AnyTotal) → gathered side so_far.old.changes.rows k < 2 ^ 120 }
-    requires known { S.clean shelf.old → AreKnown (S.state shelf.old).content.start so_far.old.known }
-    ensures settled { S.clean shelf.new → (s : List AnEntry) → IsJustChanged (office_of basis.now.office.now) s (key.Reading reading.now.meter reading.now.register reading.now.instant) before.now behind.now (S.state shelf.old).content.records → IsTrueBut (office_of basis.now.office.now) so_far.old.changes.rows s (S.state shelf.old).content → OnOk result (IsTrueAgainBut (office_of basis.now.office.now) so_far.new.changes.rows (S.state shelf.old).content (S.state shelf.new).content) }
-    ensures few { OnOk result ((side : ASide) (k : AnyTotal) → gathered side so_far.new.changes.rows k ≤ gathered side so_far.old.changes.rows k + 2 ^ 39) }
-    ensures start { S.clean shelf.new → OnOk result ((S.state shelf.new).content.start ≡ (S.state shelf.old).content.start) }
-    ensures alone { S.clean shelf.new → OnOk result (ChangesOneKey (key.Reading reading.now.meter reading.now.register reading.now.instant) (S.state shelf.old).content (S.state shelf.new).content) }
-    ensures tally { S.clean shelf.new → (starts : ℕ) → HasStarts (S.state shelf.old).content reading.now.meter.0 starts → (S.state shelf.new).tally ≤ (S.state shelf.old).tally + (6 + starts) }
-    ensures known { S.clean shelf.new → OnOk result (AreKnown (S.state shelf.new).content.start so_far.new.known) }
-    ensures kept { GoesOn S.state S.left S.clean S.same_store (failures_told result) shelf.old shelf.new }
+    requires counts { CountsAtMeter basis.now.office.now reading.now }
+    requires few { IsGatheredBelow (2 ^ 120) so_far.old.changes }
+    requires known { KeepsKnown S.Shelf so_far.old.known shelf.old }
+    ensures settled { S.clean shelf.new → (s : List AnEntry)
+        → IsJustChanged (office_of basis.now.office.now) s
+        (key.Reading reading.now.meter reading.now.register reading.now.instant) before.now
+        behind.now (S.state shelf.old).content.records
+        → IsTrueBut (office_of basis.now.office.now) so_far.old.changes.rows s
+        (S.state shelf.old).content
+        → OnOk result (IsTrueAgainBut (office_of basis.now.office.now) so_far.new.changes.rows
+        (S.state shelf.old).content (S.state shelf.new).content) }
+    ensures few { OnOk result (GathersAtMost (2 ^ 39) so_far.old.changes so_far.new.changes) }
+    ensures start { S.clean shelf.new → OnOk result
+        ((S.state shelf.new).content.start ≡ (S.state shelf.old).content.start) }
+    ensures alone { S.clean shelf.new → OnOk result
+        (ChangesOneKey (key.Reading reading.now.meter reading.now.register reading.now.instant)
+        (S.state shelf.old).content (S.state shelf.new).content) }
+    ensures tally { TakesStarts S.Shelf 6 reading.now.meter.0 shelf.old shelf.new }
+    ensures known { StillKeepsKnown S.Shelf result so_far.new.known shelf.new }
+    ensures kept { UploadGoesOn S.Shelf result shelf.old shelf.new }
 {
     match (counting_wh(before), counting_wh(behind)) {
         (None, Some(wh)) => begin_to_count(shelf, basis, reading, wh, so_far),
@@ -97,10 +105,19 @@ fn assignment_changed<S: Shelf>(
     requires begun { IsSome (S.state shelf.old).begun }
     requires sound { IsSound basis.now.office.now }
     requires meter { meter.0 < length basis.now.office.now.meters }
-    ensures settled { S.clean shelf.new → (s : List AnEntry) → IsJustChanged (office_of basis.now.office.now) s (key.Assignment meter start) before.now behind.now (S.state shelf.old).content.records → IsTrueOf (office_of basis.now.office.now) s (S.state shelf.old).content → OnOk result (IsTrueAgain (office_of basis.now.office.now) (S.state shelf.old).content (S.state shelf.new).content) }
-    ensures alone { S.clean shelf.new → OnOk result (ChangesOneKey (key.Assignment meter start) (S.state shelf.old).content (S.state shelf.new).content) }
-    ensures tally { S.clean shelf.new → TakesAtMost 0 (office_of basis.now.office.now) (S.state shelf.old).content (key.Assignment meter start) (S.state shelf.old).tally (S.state shelf.new).tally }
-    ensures kept { GoesOn S.state S.left S.clean S.same_store (failures_told result) shelf.old shelf.new }
+    ensures settled { S.clean shelf.new → (s : List AnEntry)
+        → IsJustChanged (office_of basis.now.office.now) s (key.Assignment meter start) before.now
+        behind.now (S.state shelf.old).content.records
+        → IsTrueOf (office_of basis.now.office.now) s (S.state shelf.old).content
+        → OnOk result (IsTrueAgain (office_of basis.now.office.now) (S.state shelf.old).content
+        (S.state shelf.new).content) }
+    ensures alone { S.clean shelf.new → OnOk result
+        (ChangesOneKey (key.Assignment meter start) (S.state shelf.old).content
+        (S.state shelf.new).content) }
+    ensures tally { S.clean shelf.new → TakesAtMost 0 (office_of basis.now.office.now)
+        (S.state shelf.old).content (key.Assignment meter start) (S.state shelf.old).tally
+        (S.state shelf.new).tally }
+    ensures kept { UploadGoesOn S.Shelf result shelf.old shelf.new }
 {
     match (counting_owner(before), counting_owner(behind)) {
         (None, Some(owner)) => { change_start(shelf, basis, meter, start, Some(owner)) }
@@ -116,9 +133,11 @@ fn top_up_changed<S: Shelf>(
     behind: &Contents,
 ) -> Result<(), ShelfFault>
     requires begun { IsSome (S.state shelf.old).begun }
-    ensures moved { S.clean shelf.new → OnOk result (IsPaid (paid_of before.now) (paid_of behind.now) (S.state shelf.old).content (S.state shelf.new).content) }
+    ensures moved { S.clean shelf.new → OnOk result
+        (IsPaid (paid_of before.now) (paid_of behind.now) (S.state shelf.old).content
+        (S.state shelf.new).content) }
     ensures tally { (S.state shelf.new).tally ≤ (S.state shelf.old).tally + 3 }
-    ensures kept { GoesOn S.state S.left S.clean S.same_store (failures_told result) shelf.old shelf.new }
+    ensures kept { UploadGoesOn S.Shelf result shelf.old shelf.new }
 {
     match (counting_payment(before), counting_payment(behind)) {
         (None, Some((account, cents))) => {
@@ -147,15 +166,28 @@ pub(crate) fn settle<S: Shelf>(
     requires begun { IsSome (S.state shelf.old).begun }
     requires sound { IsSound basis.now.office.now }
     requires of_office { IsKeyOf (office_of basis.now.office.now) key.now }
-    requires few { (side : ASide) (k : AnyTotal) → gathered side so_far.old.changes.rows k < 2 ^ 120 }
-    requires known { S.clean shelf.old → AreKnown (S.state shelf.old).content.start so_far.old.known }
-    ensures settled { S.clean shelf.new → (s : List AnEntry) → IsJustChanged (office_of basis.now.office.now) s key.now before.now behind.now (S.state shelf.old).content.records → IsTrueBut (office_of basis.now.office.now) so_far.old.changes.rows s (S.state shelf.old).content → OnOk result (IsTrueAgainBut (office_of basis.now.office.now) so_far.new.changes.rows (S.state shelf.old).content (S.state shelf.new).content) }
-    ensures few { OnOk result ((side : ASide) (k : AnyTotal) → gathered side so_far.new.changes.rows k ≤ gathered side so_far.old.changes.rows k + 2 ^ 39) }
-    ensures start { S.clean shelf.new → IsReading key.now → OnOk result ((S.state shelf.new).content.start ≡ (S.state shelf.old).content.start) }
-    ensures alone { S.clean shelf.new → OnOk result (ChangesOneKey key.now (S.state shelf.old).content (S.state shelf.new).content) }
-    ensures tally { S.clean shelf.new → TakesAtMost 0 (office_of basis.now.office.now) (S.state shelf.old).content key.now ((S.state shelf.old).tally + due (office_of basis.now.office.now) so_far.old.changes.rows.entries) ((S.state shelf.new).tally + due (office_of basis.now.office.now) so_far.new.changes.rows.entries) }
-    ensures known { S.clean shelf.new → OnOk result (AreKnown (S.state shelf.new).content.start so_far.new.known) }
-    ensures kept { GoesOn S.state S.left S.clean S.same_store (failures_told result) shelf.old shelf.new }
+    requires few { IsGatheredBelow (2 ^ 120) so_far.old.changes }
+    requires known { KeepsKnown S.Shelf so_far.old.known shelf.old }
+    ensures settled { S.clean shelf.new → (s : List AnEntry)
+        → IsJustChanged (office_of basis.now.office.now) s key.now before.now behind.now
+        (S.state shelf.old).content.records
+        → IsTrueBut (office_of basis.now.office.now) so_far.old.changes.rows s
+        (S.state shelf.old).content
+        → OnOk result (IsTrueAgainBut (office_of basis.now.office.now) so_far.new.changes.rows
+        (S.state shelf.old).content (S.state shelf.new).content) }
+    ensures few { OnOk result (GathersAtMost (2 ^ 39) so_far.old.changes so_far.new.changes) }
+    ensures start { S.clean shelf.new → IsReading key.now
+        → OnOk result ((S.state shelf.new).content.start ≡ (S.state shelf.old).content.start) }
+    ensures alone { S.clean shelf.new → OnOk result
+        (ChangesOneKey key.now (S.state shelf.old).content (S.state shelf.new).content) }
+    ensures tally { S.clean shelf.new → TakesAtMost 0 (office_of basis.now.office.now)
+        (S.state shelf.old).content key.now
+        ((S.state shelf.old).tally
+        + due (office_of basis.now.office.now) so_far.old.changes.rows.entries)
+        ((S.state shelf.new).tally
+        + due (office_of basis.now.office.now) so_far.new.changes.rows.entries) }
+    ensures known { StillKeepsKnown S.Shelf result so_far.new.known shelf.new }
+    ensures kept { UploadGoesOn S.Shelf result shelf.old shelf.new }
 {
     match key {
         Key::Reading {

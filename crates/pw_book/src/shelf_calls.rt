@@ -18,7 +18,8 @@ use std::alloc::Global;
 
 pub(crate) fn count_held<S: Shelf>(shelf: &mut S) -> Result<u32, ShelfFault>
     requires { IsNone (S.state shelf.old).begun }
-    ensures number { S.clean shelf.new → IfOk result (λ held. held ≡ length (S.state shelf.old).content.records) }
+    ensures number { S.clean shelf.new → IfOk result
+        (λ held. held ≡ length (S.state shelf.old).content.records) }
     ensures tally { (S.state shelf.new).tally ≡ (S.state shelf.old).tally + 1 }
     ensures asked { IsOnlyAsked S.Shelf (failures_told result) shelf.old shelf.new }
 {
@@ -32,7 +33,8 @@ pub(crate) fn readings_held<S: Shelf>(
     register: Register,
 ) -> Result<Vec<Entry>, ShelfFault>
     requires { IsNone (S.state shelf.old).begun }
-    ensures rows { S.clean shelf.new → IfOk result (λ found. ListsReadings (S.state shelf.old).content.records meter register found.items) }
+    ensures rows { S.clean shelf.new → IfOk result
+        (λ found. ListsReadings (S.state shelf.old).content.records meter register found.items) }
     ensures asked { IsOnlyAsked S.Shelf (failures_told result) shelf.old shelf.new }
 {
     shelf.readings_of(alloc, meter, register)
@@ -46,7 +48,9 @@ pub(crate) fn points_held<S: Shelf>(
     register: Register,
 ) -> Result<Vec<(Instant, WattHours)>, ShelfFault>
     requires { IsNone (S.state shelf.old).begun }
-    ensures rows { S.clean shelf.new → IfOk result (λ points. ListsSecondsWithin FIRST_SECOND LAST_SECOND ((S.state shelf.old).content.point meter.0 register) points.items) }
+    ensures rows { S.clean shelf.new → IfOk result
+        (λ points. ListsSecondsWithin FIRST_SECOND LAST_SECOND
+        ((S.state shelf.old).content.point meter.0 register) points.items) }
     ensures asked { IsOnlyAsked S.Shelf (failures_told result) shelf.old shelf.new }
 {
     let from = Instant::of(FIRST_SECOND).unwrap();
@@ -56,7 +60,8 @@ pub(crate) fn points_held<S: Shelf>(
 
 pub(crate) fn is_held<S: Shelf>(shelf: &mut S, entry: &Entry) -> Result<bool, ShelfFault>
     requires { IsNone (S.state shelf.old).begun }
-    ensures held { S.clean shelf.new → IfOk result (λ held. held ≡ stands_in same_entry entry.now (S.state shelf.old).content.records) }
+    ensures held { S.clean shelf.new → IfOk result
+        (λ held. held ≡ stands_in same_entry entry.now (S.state shelf.old).content.records) }
     ensures tally { (S.state shelf.new).tally ≡ (S.state shelf.old).tally + 1 }
     ensures asked { IsOnlyAsked S.Shelf (failures_told result) shelf.old shelf.new }
 {
@@ -65,7 +70,8 @@ pub(crate) fn is_held<S: Shelf>(shelf: &mut S, entry: &Entry) -> Result<bool, Sh
 
 pub(crate) fn contents_held<S: Shelf>(shelf: &mut S, key: &Key) -> Result<Contents, ShelfFault>
     requires { IsNone (S.state shelf.old).begun }
-    ensures told { S.clean shelf.new → IfOk result (λ contents. contents ≡ contents_at (S.state shelf.old).content.records key.now) }
+    ensures told { S.clean shelf.new → IfOk result
+        (λ contents. contents ≡ contents_at (S.state shelf.old).content.records key.now) }
     ensures asked { IsOnlyAsked S.Shelf (failures_told result) shelf.old shelf.new }
 {
     shelf.contents_at(key)
@@ -77,7 +83,8 @@ pub(crate) fn assignments_held<S: Shelf>(
     meter: MeterId,
 ) -> Result<Vec<Entry>, ShelfFault>
     requires { IsNone (S.state shelf.old).begun }
-    ensures rows { S.clean shelf.new → IfOk result (λ found. ListsAssignments (S.state shelf.old).content.records meter found.items) }
+    ensures rows { S.clean shelf.new → IfOk result
+        (λ found. ListsAssignments (S.state shelf.old).content.records meter found.items) }
     ensures asked { IsOnlyAsked S.Shelf (failures_told result) shelf.old shelf.new }
 {
     shelf.assignments_of(alloc, meter)
@@ -85,7 +92,8 @@ pub(crate) fn assignments_held<S: Shelf>(
 
 pub(crate) fn topups_held<S: Shelf>(shelf: &mut S, alloc: Global) -> Result<Vec<Entry>, ShelfFault>
     requires { IsNone (S.state shelf.old).begun }
-    ensures rows { S.clean shelf.new → IfOk result (λ found. ListsTopUps (S.state shelf.old).content.records found.items) }
+    ensures rows { S.clean shelf.new → IfOk result
+        (λ found. ListsTopUps (S.state shelf.old).content.records found.items) }
     ensures asked { IsOnlyAsked S.Shelf (failures_told result) shelf.old shelf.new }
 {
     shelf.topups(alloc)
@@ -96,7 +104,8 @@ pub(crate) fn withdrawals_held<S: Shelf>(
     alloc: Global,
 ) -> Result<Vec<Entry>, ShelfFault>
     requires { IsNone (S.state shelf.old).begun }
-    ensures rows { S.clean shelf.new → IfOk result (λ found. ListsWithdrawals (S.state shelf.old).content.records found.items) }
+    ensures rows { S.clean shelf.new → IfOk result
+        (λ found. ListsWithdrawals (S.state shelf.old).content.records found.items) }
     ensures asked { IsOnlyAsked S.Shelf (failures_told result) shelf.old shelf.new }
 {
     shelf.withdrawals(alloc)
@@ -104,7 +113,8 @@ pub(crate) fn withdrawals_held<S: Shelf>(
 
 pub(crate) fn total_held<S: Shelf>(shelf: &mut S, key: &TotalKey) -> Result<u64, ShelfFault>
     requires { IsNone (S.state shelf.old).begun }
-    ensures total { S.clean shelf.new → IfOk result (λ amount. amount ≡ (S.state shelf.old).content.total key.now) }
+    ensures total { S.clean shelf.new → IfOk result
+        (λ amount. amount ≡ (S.state shelf.old).content.total key.now) }
     ensures tally { (S.state shelf.new).tally ≤ (S.state shelf.old).tally + 2 }
     ensures asked { IsOnlyAsked S.Shelf (failures_told result) shelf.old shelf.new }
 {

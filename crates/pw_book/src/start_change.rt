@@ -1,6 +1,6 @@
 //! A start of a meter that begins or ceases to count, and the energies of the pairs from it up to the next.
 
-ghost use Rattle.std.specs.Prelude.{◌≡◌, ℕ, ◌+◌, ◌*◌, ◌<◌, ◌≤◌, ◌^◌, ◌++◌, [], OnOk, IfOk, IsSome, List, length};
+ghost use Rattle.std.specs.Prelude.{◌≡◌, ℕ, ◌+◌, ◌*◌, ◌<◌, ◌≤◌, ◌^◌, ◌++◌, [], OnOk, IfOk, IsSome, length};
 ghost use Rattle.pw_obis.specs.declared.reference.Register.{Register as AnyRegister};
 ghost use Rattle.pw_tariff.specs.declared.ids.Direction.TheVariants.{Import, Export};
 ghost use Rattle.pw_tariff.specs.Office.{office_of};
@@ -10,15 +10,15 @@ ghost use Rattle.pw_model.specs.declared.records.TotalKey.{TotalKey as AnyTotal}
 ghost use Rattle.pw_model.specs.Changes.{IsOtherStart};
 ghost use Rattle.pw_model.specs.Counting.{point as point_told, start as start_told};
 ghost use Rattle.pw_model.specs.Energy.{over_registers};
-ghost use Rattle.pw_shelf.specs.Calls.{GoesOn, failures_told};
 ghost use Rattle.pw_shelf.specs.Changes.{starts_with, with_start as with_start_of};
 ghost use Rattle.pw_book.specs.Cost.{HasStarts, classes_of};
-ghost use Rattle.pw_parts.specs.declared.changes.Side.{Side as ASide};
 ghost use Rattle.pw_parts.specs.declared.changes.Side.TheVariants.{Loses, Gains};
-ghost use Rattle.pw_book.specs.inner.Settling.{EndsBefore, EndsBeforeNext, HavePoints, IsOver, IsSettled, IsStartChanged, ListsUpToNextStart, register_told};
+ghost use Rattle.pw_book.specs.inner.Settling.{EndsBefore, EndsBeforeNext, HavePoints, IsOver, IsSettled, IsStartChanged, register_told};
 ghost use Rattle.pw_parts.specs.Changes.{gathered};
 ghost use Rattle.pw_book.specs.Listed.{point_listed};
 ghost use Rattle.pw_book.specs.inner.Sums.{AreDifferences};
+ghost use Rattle.pw_book.specs.inner.Steps.{KeepsContent, TakesPoints, UploadGoesOn};
+ghost use Rattle.pw_book.specs.inner.Gathered.{GathersAtMost, IsGatheredBelow};
 
 use crate::basis::Basis;
 use crate::moving::move_energies;
@@ -61,10 +61,26 @@ pub(crate) fn change_start<S: Shelf>(
 ) -> Result<(), ShelfFault>
     requires begun { IsSome (S.state shelf.old).begun }
     requires meter { meter.0 < length basis.now.office.now.meters }
-    ensures settled { S.clean shelf.new → (was is : AnyKey → AnyContents) → (S.state shelf.old).content.point ≡ point_told was → (S.state shelf.old).content.start ≡ start_told was → IsOtherStart was is meter.0 start → start_told is meter.0 start ≡ owner → ((r : AnyRegister) → EndsBefore (office_of basis.now.office.now).end (point_told was meter.0 r)) → OnOk result (IsSettled (office_of basis.now.office.now) was is (S.state shelf.old).content (S.state shelf.new).content) }
-    ensures start { S.clean shelf.new → OnOk result (((S.state shelf.new).content.point ≡ (S.state shelf.old).content.point) × ((S.state shelf.new).content.start ≡ starts_with (S.state shelf.old).content.start meter.0 start owner)) }
-    ensures tally { S.clean shelf.new → (starts : ℕ) (points : AnyRegister → ℕ) → HasStarts (S.state shelf.old).content meter.0 starts → HavePoints (S.state shelf.old).content meter.0 start points → (S.state shelf.new).tally ≤ (S.state shelf.old).tally + (32 + starts) + (over_registers Import points + over_registers Export points) + 6 * classes_of (office_of basis.now.office.now) }
-    ensures kept { GoesOn S.state S.left S.clean S.same_store (failures_told result) shelf.old shelf.new }
+    ensures settled { S.clean shelf.new → (was is : AnyKey → AnyContents)
+        → (S.state shelf.old).content.point ≡ point_told was
+        → (S.state shelf.old).content.start ≡ start_told was → IsOtherStart was is meter.0 start
+        → start_told is meter.0 start ≡ owner
+        → ((r : AnyRegister) → EndsBefore (office_of basis.now.office.now).end
+        (point_told was meter.0 r))
+        → OnOk result (IsSettled (office_of basis.now.office.now) was is
+        (S.state shelf.old).content (S.state shelf.new).content) }
+    ensures start { S.clean shelf.new → OnOk result
+        (((S.state shelf.new).content.point ≡ (S.state shelf.old).content.point)
+        × ((S.state shelf.new).content.start
+        ≡ starts_with (S.state shelf.old).content.start meter.0 start owner)) }
+    ensures tally { S.clean shelf.new → (starts : ℕ) (points : AnyRegister → ℕ)
+        → HasStarts (S.state shelf.old).content meter.0 starts
+        → HavePoints (S.state shelf.old).content meter.0 start points
+        → (S.state shelf.new).tally
+        ≤ (S.state shelf.old).tally + (32 + starts)
+        + (over_registers Import points + over_registers Export points) + 6
+        * classes_of (office_of basis.now.office.now) }
+    ensures kept { UploadGoesOn S.Shelf result shelf.old shelf.new }
 {
     let old = shelf.starts_of(basis.alloc, meter)?;
     let new = with_start(basis.alloc, &old, start, owner)?;
@@ -88,9 +104,11 @@ fn keep_start<S: Shelf>(
     owner: Option<Owner>,
 ) -> Result<(), ShelfFault>
     requires { IsSome (S.state shelf.old).begun }
-    ensures kept_start { S.clean shelf.new → OnOk result ((S.state shelf.new).content ≡ with_start_of (S.state shelf.old).content meter.0 start owner) }
+    ensures kept_start { S.clean shelf.new → OnOk result
+        ((S.state shelf.new).content
+        ≡ with_start_of (S.state shelf.old).content meter.0 start owner) }
     ensures tally { (S.state shelf.new).tally ≡ (S.state shelf.old).tally + 1 }
-    ensures kept { GoesOn S.state S.left S.clean S.same_store (failures_told result) shelf.old shelf.new }
+    ensures kept { UploadGoesOn S.Shelf result shelf.old shelf.new }
 {
     match owner {
         Some(owner) => shelf.start_put(meter, start, owner),
@@ -106,11 +124,20 @@ fn weigh_window<S: Shelf>(
 ) -> Result<Changes, ShelfFault>
     requires begun { IsSome (S.state shelf.old).begun }
     requires meter { window.now.meter.0 < length basis.now.office.now.meters }
-    ensures few { IfOk result (λ changes. (side : ASide) (k : AnyTotal) → gathered side changes.rows k < 2 ^ 127) }
-    ensures moved { S.clean shelf.new → (was is : AnyKey → AnyContents) → IsStartChanged (S.state shelf.old).content was is window.now.meter.0 window.now.from window.now.until window.now.before window.now.after → IfOk result (λ changes. AreDifferences (office_of basis.now.office.now) was is changes.rows) }
-    ensures same { S.clean shelf.new → OnOk result ((S.state shelf.new).content ≡ (S.state shelf.old).content) }
-    ensures tally { S.clean shelf.new → (points : AnyRegister → ℕ) → EndsBeforeNext ((S.state shelf.old).content.start window.now.meter.0) window.now.from window.now.until → HavePoints (S.state shelf.old).content window.now.meter.0 window.now.from points → (S.state shelf.new).tally ≤ (S.state shelf.old).tally + 30 + (over_registers Import points + over_registers Export points) }
-    ensures kept { GoesOn S.state S.left S.clean S.same_store (failures_told result) shelf.old shelf.new }
+    ensures few { IfOk result (λ changes. IsGatheredBelow (2 ^ 127) changes) }
+    ensures moved { S.clean shelf.new → (was is : AnyKey → AnyContents)
+        → IsStartChanged (S.state shelf.old).content was is window.now.meter.0 window.now.from
+        window.now.until window.now.before window.now.after
+        → IfOk result (λ changes.
+        AreDifferences (office_of basis.now.office.now) was is changes.rows) }
+    ensures same { KeepsContent S.Shelf result shelf.old shelf.new }
+    ensures tally { S.clean shelf.new → (points : AnyRegister → ℕ)
+        → EndsBeforeNext ((S.state shelf.old).content.start window.now.meter.0) window.now.from
+        window.now.until → HavePoints (S.state shelf.old).content window.now.meter.0
+        window.now.from points → (S.state shelf.new).tally
+        ≤ (S.state shelf.old).tally + 30
+        + (over_registers Import points + over_registers Export points) }
+    ensures kept { UploadGoesOn S.Shelf result shelf.old shelf.new }
 {
     let mut changes = Changes::new(basis.alloc);
     for register in &Register::ALL {
@@ -130,12 +157,19 @@ fn add_register<S: Shelf>(
 ) -> Result<(), ShelfFault>
     requires begun { IsSome (S.state shelf.old).begun }
     requires meter { window.now.meter.0 < length basis.now.office.now.meters }
-    requires few { (side : ASide) (k : AnyTotal) → gathered side changes.old.rows k < 2 ^ 120 }
-    ensures few { OnOk result ((side : ASide) (k : AnyTotal) → gathered side changes.new.rows k ≤ gathered side changes.old.rows k + 2 ^ 110) }
-    ensures moved { S.clean shelf.new → (was is : AnyKey → AnyContents) → IsStartChanged (S.state shelf.old).content was is window.now.meter.0 window.now.from window.now.until window.now.before window.now.after → OnOk result ((k : AnyTotal) → gathered Gains changes.new.rows k + gathered Loses changes.old.rows k + register_told (office_of basis.now.office.now) was window.now.meter.0 k register ≡ gathered Loses changes.new.rows k + gathered Gains changes.old.rows k + register_told (office_of basis.now.office.now) is window.now.meter.0 k register) }
-    ensures same { S.clean shelf.new → OnOk result ((S.state shelf.new).content ≡ (S.state shelf.old).content) }
-    ensures tally { S.clean shelf.new → (most : ℕ) → EndsBeforeNext ((S.state shelf.old).content.start window.now.meter.0) window.now.from window.now.until → ((points : List (ℕ × ℕ)) → ListsUpToNextStart (S.state shelf.old).content window.now.meter.0 register window.now.from points → length points ≤ most) → (S.state shelf.new).tally ≤ (S.state shelf.old).tally + 5 + most }
-    ensures kept { GoesOn S.state S.left S.clean S.same_store (failures_told result) shelf.old shelf.new }
+    requires few { IsGatheredBelow (2 ^ 120) changes.old }
+    ensures few { OnOk result (GathersAtMost (2 ^ 110) changes.old changes.new) }
+    ensures moved { S.clean shelf.new → (was is : AnyKey → AnyContents)
+        → IsStartChanged (S.state shelf.old).content was is window.now.meter.0 window.now.from
+        window.now.until window.now.before window.now.after
+        → OnOk result ((k : AnyTotal)
+        → gathered Gains changes.new.rows k + gathered Loses changes.old.rows k
+        + register_told (office_of basis.now.office.now) was window.now.meter.0 k register
+        ≡ gathered Loses changes.new.rows k + gathered Gains changes.old.rows k
+        + register_told (office_of basis.now.office.now) is window.now.meter.0 k register) }
+    ensures same { KeepsContent S.Shelf result shelf.old shelf.new }
+    ensures tally { TakesPoints S.Shelf 5 window.now register shelf.old shelf.new }
+    ensures kept { UploadGoesOn S.Shelf result shelf.old shelf.new }
 {
     if !basis.office.counts(window.meter, register) {
         return Ok(());
@@ -174,10 +208,13 @@ fn points_over<S: Shelf>(
     register: Register,
 ) -> Result<Over, ShelfFault>
     requires { IsSome (S.state shelf.old).begun }
-    ensures points { S.clean shelf.new → IfOk result (λ over. IsOver window.now.from window.now.until ((S.state shelf.old).content.point window.now.meter.0 register) over.before over.within.items over.after) }
-    ensures same { S.clean shelf.new → OnOk result ((S.state shelf.new).content ≡ (S.state shelf.old).content) }
-    ensures tally { S.clean shelf.new → (most : ℕ) → EndsBeforeNext ((S.state shelf.old).content.start window.now.meter.0) window.now.from window.now.until → ((points : List (ℕ × ℕ)) → ListsUpToNextStart (S.state shelf.old).content window.now.meter.0 register window.now.from points → length points ≤ most) → (S.state shelf.new).tally ≤ (S.state shelf.old).tally + 5 + most }
-    ensures kept { GoesOn S.state S.left S.clean S.same_store (failures_told result) shelf.old shelf.new }
+    ensures points { S.clean shelf.new → IfOk result
+        (λ over. IsOver window.now.from window.now.until
+        ((S.state shelf.old).content.point window.now.meter.0 register) over.before
+        over.within.items over.after) }
+    ensures same { KeepsContent S.Shelf result shelf.old shelf.new }
+    ensures tally { TakesPoints S.Shelf 5 window.now register shelf.old shelf.new }
+    ensures kept { UploadGoesOn S.Shelf result shelf.old shelf.new }
 {
     let before = shelf.point_before(window.meter, register, window.from)?;
     let after = shelf.point_after(window.meter, register, window.until)?;
@@ -196,7 +233,8 @@ pub fn joined(
     within: &[Point],
     after: Option<Point>,
 ) -> Result<Vec<Point>, AllocError>
-    ensures { IfOk result (λ points. points.items ≡ point_listed before (within.now ++ point_listed after [])) }
+    ensures { IfOk result (λ points. points.items
+        ≡ point_listed before (within.now ++ point_listed after [])) }
 {
     let mut points = Vec::new(alloc);
     if let Some(point) = before {

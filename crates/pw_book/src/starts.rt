@@ -21,7 +21,8 @@ pub(crate) fn with_start(
     start: Instant,
     owner: Option<Owner>,
 ) -> Result<Vec<Start>, AllocError>
-    ensures { (told : ℕ → Option (Option AnAccount)) → ListsSeconds told starts.now → IfOk result (λ with. ListsSeconds (λ t. cond (t == start) owner (told t)) with.items) }
+    ensures { (told : ℕ → Option (Option AnAccount)) → ListsSeconds told starts.now
+        → IfOk result (λ with. ListsSeconds (λ t. cond (t == start) owner (told t)) with.items) }
 {
     let mut with = Vec::new(alloc);
     add_before(&mut with, starts, start)?;
@@ -34,7 +35,8 @@ pub(crate) fn with_start(
 
 // Adds the starts that stand before an instant.
 fn add_before(with: &mut Vec<Start>, starts: &[Start], start: Instant) -> Result<(), AllocError>
-    ensures { IfOk result (λ _. with.new.items ≡ with.old.items ++ filter (λ s. nat_lt s.0 start) starts.now) }
+    ensures { IfOk result (λ _. with.new.items
+        ≡ with.old.items ++ filter (λ s. nat_lt s.0 start) starts.now) }
 {
     for held in starts {
         if held.0 < start {
@@ -46,7 +48,8 @@ fn add_before(with: &mut Vec<Start>, starts: &[Start], start: Instant) -> Result
 
 // Adds the starts that stand behind an instant.
 fn add_behind(with: &mut Vec<Start>, starts: &[Start], start: Instant) -> Result<(), AllocError>
-    ensures { IfOk result (λ _. with.new.items ≡ with.old.items ++ filter (λ s. nat_lt start s.0) starts.now) }
+    ensures { IfOk result (λ _. with.new.items
+        ≡ with.old.items ++ filter (λ s. nat_lt start s.0) starts.now) }
 {
     for held in starts {
         if start < held.0 {
@@ -58,7 +61,8 @@ fn add_behind(with: &mut Vec<Start>, starts: &[Start], start: Instant) -> Result
 
 // The last instant before the next start behind an instant: the last of all where none stands behind it.
 pub(crate) fn until_next(starts: &[Start], from: Instant) -> Instant
-    ensures { (told : ℕ → Option (Option AnAccount)) → ListsSeconds told starts.now → EndsBeforeNext told from result }
+    ensures { (told : ℕ → Option (Option AnAccount)) → ListsSeconds told starts.now
+        → EndsBeforeNext told from result }
 {
     for start in starts {
         if from < start.0 {

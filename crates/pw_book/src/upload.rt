@@ -1,22 +1,20 @@
 //! One upload to a shelf, written and committed, or taken back.
 
-ghost use Rattle.std.specs.Prelude.{◌≡◌, ◌+◌, ◌<◌, ◌≤◌, ◌^◌, [], ◌∷◌, None, Some, OnOk, OnErr, IsErrOf, IsNone, IsSome, length};
-ghost use Rattle.pw_model.specs.declared.records.TotalKey.{TotalKey as AnyTotal};
+ghost use Rattle.std.specs.Prelude.{◌≡◌, ◌+◌, ◌<◌, ◌^◌, [], ◌∷◌, None, Some, OnOk, OnErr, IsErrOf, IsNone, IsSome, length};
 ghost use Rattle.pw_model.specs.Bearing.{bears_on};
 ghost use Rattle.pw_model.specs.Counting.{Member};
 ghost use Rattle.pw_model.specs.Kinds.{IsReading};
 ghost use Rattle.pw_model.specs.Office.{AllOfOffice, IsOfOffice, most_records};
-ghost use Rattle.pw_shelf.specs.Left.{LeavesOnly};
-ghost use Rattle.pw_shelf.specs.Calls.{GoesOn, failures_told};
+ghost use Rattle.pw_shelf.specs.Calls.{failures_told};
 ghost use Rattle.pw_shelf.specs.State.{CountsFailures};
 ghost use Rattle.pw_tariff.specs.Office.{IsSound, office_of};
-ghost use Rattle.pw_book.specs.Posting.{IsWithUpload};
-ghost use Rattle.pw_book.specs.inner.Added.{ChangesOneKey, CostsAtMost, IsPut, LeavesWithUpload, MayBeAdded, TakesAtMost};
+ghost use Rattle.pw_book.specs.Posting.{LeavesOnlyContent};
+ghost use Rattle.pw_book.specs.inner.Added.{ChangesOneKey, IsPut, TakesAtMost};
 ghost use Rattle.pw_book.specs.inner.Failures.{FailuresUploaded};
-ghost use Rattle.pw_book.specs.inner.Gathered.{AreKnown, IsTrueBut, due};
+ghost use Rattle.pw_book.specs.inner.Gathered.{GathersAtMost, IsGatheredBelow, IsTrueBut, due};
 ghost use Rattle.pw_parts.specs.Changes.{gathered};
-ghost use Rattle.pw_parts.specs.declared.changes.Side.{Side as ASide};
 ghost use Rattle.pw_book.specs.declared.fault.BookFault.TheVariants.{Reopen};
+ghost use Rattle.pw_book.specs.inner.Steps.{HoldsAll, KeepsKnown, LeavesWhole, MayAdd, StillKeepsKnown, TakesUpload, UploadGoesOn};
 
 use crate::basis::Basis;
 use crate::effect::add_told;
@@ -36,17 +34,22 @@ pub(crate) fn upload<S: Shelf>(
     requires idle { IsNone (S.state shelf.old).begun }
     requires sound { IsSound basis.now.office.now }
     requires of_office { AllOfOffice (office_of basis.now.office.now) entries.now }
-    requires ready { S.clean shelf.old → MayBeAdded (office_of basis.now.office.now) entries.now (S.state shelf.old).content }
-    ensures posted { S.clean shelf.new → OnOk result (IsWithUpload (office_of basis.now.office.now) entries.now (S.state shelf.old).content (S.state shelf.new).content) }
-    ensures back { S.clean shelf.new → OnErr result ((IsErrOf result Reopen → ⊥) → (S.state shelf.new).content ≡ (S.state shelf.old).content) }
+    requires ready { MayAdd S.Shelf basis.now.office.now entries.now shelf.old }
+    ensures posted { HoldsAll S.Shelf basis.now.office.now entries.now result shelf.old shelf.new }
+    ensures back { S.clean shelf.new → OnErr result
+        ((IsErrOf result Reopen → ⊥) → (S.state shelf.new).content ≡ (S.state shelf.old).content) }
     ensures idle { (IsErrOf result Reopen → ⊥) → IsNone (S.state shelf.new).begun }
-    ensures undone { (IsErrOf result Reopen → ⊥) → (S.state shelf.new).failed_abandons ≡ (S.state shelf.old).failed_abandons }
-    ensures reopen { IsErrOf result Reopen → (S.state shelf.new).failed_abandons ≡ (S.state shelf.old).failed_abandons + 1 }
-    ensures begun { IsErrOf result Reopen → (S.state shelf.new).begun ≡ Some (S.state shelf.old).content }
-    ensures failures { FailuresUploaded result (S.state shelf.old).failures (S.state shelf.new).failures }
-    ensures kept { S.clean shelf.new → OnOk result (LeavesOnly (S.state shelf.new).content (S.left shelf.new)) }
-    ensures left { S.clean shelf.new → OnErr result (LeavesWithUpload (office_of basis.now.office.now) entries.now (S.state shelf.old).content (S.left shelf.old) (S.left shelf.new)) }
-    ensures tally { S.clean shelf.new → CostsAtMost 3 (office_of basis.now.office.now) entries.now (S.state shelf.old).content (S.state shelf.old).tally (S.state shelf.new).tally }
+    ensures undone { (IsErrOf result Reopen → ⊥)
+        → (S.state shelf.new).failed_abandons ≡ (S.state shelf.old).failed_abandons }
+    ensures reopen { IsErrOf result Reopen → (S.state shelf.new).failed_abandons
+        ≡ (S.state shelf.old).failed_abandons + 1 }
+    ensures begun { IsErrOf result Reopen → (S.state shelf.new).begun
+        ≡ Some (S.state shelf.old).content }
+    ensures failures { FailuresUploaded result (S.state shelf.old).failures
+        (S.state shelf.new).failures }
+    ensures kept { LeavesOnlyContent S.Shelf result shelf.new }
+    ensures left { LeavesWhole S.Shelf basis.now.office.now entries.now result shelf.old shelf.new }
+    ensures tally { TakesUpload S.Shelf basis.now.office.now entries.now 3 shelf.old shelf.new }
     ensures cleanness { S.clean shelf.new → S.clean shelf.old }
     ensures store { S.same_store shelf.old shelf.new }
 {
@@ -67,14 +70,14 @@ fn write<S: Shelf>(shelf: &mut S, basis: &Basis, entries: &[Entry]) -> Result<()
     requires begun { IsSome (S.state shelf.old).begun }
     requires sound { IsSound basis.now.office.now }
     requires of_office { AllOfOffice (office_of basis.now.office.now) entries.now }
-    requires ready { S.clean shelf.old → MayBeAdded (office_of basis.now.office.now) entries.now (S.state shelf.old).content }
-    ensures posted { S.clean shelf.new → OnOk result (IsWithUpload (office_of basis.now.office.now) entries.now (S.state shelf.old).content (S.state shelf.new).content) }
+    requires ready { MayAdd S.Shelf basis.now.office.now entries.now shelf.old }
+    ensures posted { HoldsAll S.Shelf basis.now.office.now entries.now result shelf.old shelf.new }
     ensures ended { OnOk result ((S.state shelf.new).begun ≡ None) }
     ensures begun { OnErr result ((S.state shelf.new).begun ≡ (S.state shelf.old).begun) }
     ensures counts { CountsFailures (failures_told result) (S.state shelf.old) (S.state shelf.new) }
-    ensures kept { S.clean shelf.new → OnOk result (LeavesOnly (S.state shelf.new).content (S.left shelf.new)) }
-    ensures left { S.clean shelf.new → OnErr result (LeavesWithUpload (office_of basis.now.office.now) entries.now (S.state shelf.old).content (S.left shelf.old) (S.left shelf.new)) }
-    ensures tally { S.clean shelf.new → CostsAtMost 1 (office_of basis.now.office.now) entries.now (S.state shelf.old).content (S.state shelf.old).tally (S.state shelf.new).tally }
+    ensures kept { LeavesOnlyContent S.Shelf result shelf.new }
+    ensures left { LeavesWhole S.Shelf basis.now.office.now entries.now result shelf.old shelf.new }
+    ensures tally { TakesUpload S.Shelf basis.now.office.now entries.now 1 shelf.old shelf.new }
     ensures cleanness { S.clean shelf.new → S.clean shelf.old }
     ensures store { S.same_store shelf.old shelf.new }
 {
@@ -99,15 +102,27 @@ fn put<S: Shelf>(
     requires of_office { IsOfOffice (office_of basis.now.office.now) entry.now }
     requires fresh { S.clean shelf.old → Member entry.now (S.state shelf.old).content.records → ⊥ }
     requires room { S.clean shelf.old → length (S.state shelf.old).content.records < most_records }
-    requires few { (side : ASide) (k : AnyTotal) → gathered side so_far.old.changes.rows k < 2 ^ 120 }
-    requires known { S.clean shelf.old → AreKnown (S.state shelf.old).content.start so_far.old.known }
-    ensures put { S.clean shelf.new → IsTrueBut (office_of basis.now.office.now) so_far.old.changes.rows (S.state shelf.old).content.records (S.state shelf.old).content → AllOfOffice (office_of basis.now.office.now) (S.state shelf.old).content.records → OnOk result (IsPut (office_of basis.now.office.now) so_far.new.changes.rows (entry.now ∷ []) (S.state shelf.old).content (S.state shelf.new).content) }
-    ensures few { OnOk result ((side : ASide) (k : AnyTotal) → gathered side so_far.new.changes.rows k ≤ gathered side so_far.old.changes.rows k + 2 ^ 39) }
-    ensures start { S.clean shelf.new → IsReading (bears_on entry.now) → OnOk result ((S.state shelf.new).content.start ≡ (S.state shelf.old).content.start) }
-    ensures alone { S.clean shelf.new → OnOk result (ChangesOneKey (bears_on entry.now) (S.state shelf.old).content (S.state shelf.new).content) }
-    ensures tally { S.clean shelf.new → TakesAtMost 7 (office_of basis.now.office.now) (S.state shelf.old).content (bears_on entry.now) ((S.state shelf.old).tally + due (office_of basis.now.office.now) so_far.old.changes.rows.entries) ((S.state shelf.new).tally + due (office_of basis.now.office.now) so_far.new.changes.rows.entries) }
-    ensures known { S.clean shelf.new → OnOk result (AreKnown (S.state shelf.new).content.start so_far.new.known) }
-    ensures kept { GoesOn S.state S.left S.clean S.same_store (failures_told result) shelf.old shelf.new }
+    requires few { IsGatheredBelow (2 ^ 120) so_far.old.changes }
+    requires known { KeepsKnown S.Shelf so_far.old.known shelf.old }
+    ensures put { S.clean shelf.new → IsTrueBut (office_of basis.now.office.now)
+        so_far.old.changes.rows (S.state shelf.old).content.records (S.state shelf.old).content
+        → AllOfOffice (office_of basis.now.office.now) (S.state shelf.old).content.records
+        → OnOk result (IsPut (office_of basis.now.office.now) so_far.new.changes.rows
+        (entry.now ∷ []) (S.state shelf.old).content (S.state shelf.new).content) }
+    ensures few { OnOk result (GathersAtMost (2 ^ 39) so_far.old.changes so_far.new.changes) }
+    ensures start { S.clean shelf.new → IsReading (bears_on entry.now)
+        → OnOk result ((S.state shelf.new).content.start ≡ (S.state shelf.old).content.start) }
+    ensures alone { S.clean shelf.new → OnOk result
+        (ChangesOneKey (bears_on entry.now) (S.state shelf.old).content
+        (S.state shelf.new).content) }
+    ensures tally { S.clean shelf.new → TakesAtMost 7 (office_of basis.now.office.now)
+        (S.state shelf.old).content (bears_on entry.now)
+        ((S.state shelf.old).tally
+        + due (office_of basis.now.office.now) so_far.old.changes.rows.entries)
+        ((S.state shelf.new).tally
+        + due (office_of basis.now.office.now) so_far.new.changes.rows.entries) }
+    ensures known { StillKeepsKnown S.Shelf result so_far.new.known shelf.new }
+    ensures kept { UploadGoesOn S.Shelf result shelf.old shelf.new }
 {
     let key = bears_on(entry);
     let told = add_told(shelf, basis.alloc, entry, &key)?;

@@ -18,7 +18,8 @@ pub(crate) fn standing_among<S: Shelf>(
     records: &[Entry],
 ) -> Result<Vec<Entry>, ShelfFault>
     requires { IsNone (S.state shelf.old).begun }
-    ensures standing { S.clean shelf.new → IfOk result (λ all. all.items ≡ standing_of (S.state shelf.old).content.records records.now) }
+    ensures standing { S.clean shelf.new → IfOk result
+        (λ all. all.items ≡ standing_of (S.state shelf.old).content.records records.now) }
     ensures asked { IsOnlyAsked S.Shelf (failures_told result) shelf.old shelf.new }
 {
     let mut all = Vec::new(alloc);
@@ -33,7 +34,8 @@ pub(crate) fn standing_among<S: Shelf>(
 // Whether a record is withdrawn: whether a withdrawal of it is held.
 pub(crate) fn is_withdrawn<S: Shelf>(shelf: &mut S, entry: &Entry) -> Result<bool, ShelfFault>
     requires { IsNone (S.state shelf.old).begun }
-    ensures withdrawn { S.clean shelf.new → IfOk result (λ told. told ≡ is_withdrawn_by (S.state shelf.old).content.records entry.now) }
+    ensures withdrawn { S.clean shelf.new → IfOk result
+        (λ told. told ≡ is_withdrawn_by (S.state shelf.old).content.records entry.now) }
     ensures asked { IsOnlyAsked S.Shelf (failures_told result) shelf.old shelf.new }
 {
     let Some(named) = Named::of(entry) else {

@@ -1,4 +1,3 @@
-pub mod Asking
 pub mod Latest
 pub mod Listing
 pub mod Missing

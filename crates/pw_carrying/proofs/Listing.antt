@@ -4,7 +4,7 @@ use Rattle.std.proofs.lemmas.Bool.{cases_lt, true≢false}
 use Rattle.std.proofs.lemmas.List.{append-nil}
 use Rattle.pw_obis.specs.declared.reference.Register.{Register}
 use Rattle.pw_tariff.specs.declared.ids.MeterId.{MeterId}
-use Rattle.pw_tariff.specs.Office.{OfficeFile, OfficeRules, office_of, register_place}
+use Rattle.pw_tariff.specs.Office.{OfficeFile, OfficeRules, office_of}
 use Rattle.pw_model.specs.declared.records.Key.{Key}
 use Rattle.pw_model.specs.declared.records.Key.TheVariants as key
 use Rattle.pw_model.specs.declared.records.Content.{Content}
@@ -14,13 +14,13 @@ use Rattle.pw_model.specs.Counting.{Member, SameMembers}
 use Rattle.pw_model.specs.Kinds.{IsReadingOf, IsWithdrawal, ListsHeld}
 use Rattle.pw_model.specs.Lists.{IsInOrder, Lists, record_count}
 use Rattle.pw_model.specs.Office.{AllOfOffice, IsOf}
-use Rattle.pw_model.specs.Same.{entry_order, key_numbers, key_order, named_numbers}
+use Rattle.pw_model.specs.Same.{entry_order, key_order}
 use Rattle.pw_model.proofs.EntryOrder.{entry-strict}
 use Rattle.pw_model.proofs.InOrder.{before-member}
 use Rattle.pw_model.proofs.Places.{member-right, member-split}
 use Rattle.pw_book.specs.inner.Places.{IsWithin, key_place}
-use Rattle.pw_book.proofs.Contested.{assignment-place, reading-place, topup-place}
-use Rattle.pw_book.proofs.Segments.{first-less, place-few, places-split, segment-more, then-less}
+use Rattle.pw_book.proofs.Contested.{assignment-place, key-before, key-within, reading-place, topup-place}
+use Rattle.pw_book.proofs.Segments.{place-few, segment-more}
 use Rattle.pw_moving.specs.Renaming.{Offices}
 use Rattle.pw_carrying.specs.Carrying.{HasCarried, HasCarriedSome, IsCarried, IsFirstNotCarried}
 use Rattle.pw_carrying.specs.declared.fault.CarryFault.{CarryFault}
@@ -50,18 +50,6 @@ none-listed office records m r of n = record {
 }
 
 -- ---- the records of an office
-pub within : (office : OfficeRules) (k : Key) (c : Content) → IsOf office k c → IsWithin office.meters k
-within office (key.Reading m r t) (content.Reading w) h = h.0
-within office (key.Reading m r t) (content.Assignment o) h = absurd h
-within office (key.Reading m r t) (content.TopUp a c u) h = absurd h
-within office (key.Reading m r t) content.Withdrawal h = absurd h
-within office (key.Assignment m t) (content.Reading w) h = absurd h
-within office (key.Assignment m t) (content.Assignment o) h = h.0
-within office (key.Assignment m t) (content.TopUp a c u) h = absurd h
-within office (key.Assignment m t) content.Withdrawal h = absurd h
-within office (key.TopUp r) c h = tt
-within office (key.Withdrawal n) c h = tt
-
 -- the last place
 pub placed : (meters : ℕ) (k : Key) → IsWithin meters k → key_place meters k < 7 * meters + 2
 placed meters (key.Reading n q t) w = let f = place-few q in omega (arith, f, w)
@@ -70,29 +58,6 @@ placed meters (key.TopUp x) w = omega arith
 placed meters (key.Withdrawal n) w = omega arith
 
 -- ---- the order of keys by their places
-pub key-before : (meters : ℕ) (k l : Key) → IsWithin meters k → IsWithin meters l → key_place meters k < key_place meters l → key_order k l ≡ Less
-unfolding key_numbers
-key-before meters (key.Reading m r t) (key.Reading n q u) a b h = elim (places-split m.0 n.0 (register_place r) (register_place q) (place-few r) (place-few q) h) [
-  | inl i ↦ then-less 0 0 (m.0 ∷ register_place r ∷ t ∷ []) (n.0 ∷ register_place q ∷ u ∷ []) refl (first-less m.0 n.0 (register_place r ∷ t ∷ []) (register_place q ∷ u ∷ []) i)
-  | inr i ↦ then-less 0 0 (m.0 ∷ register_place r ∷ t ∷ []) (n.0 ∷ register_place q ∷ u ∷ []) refl
-      (then-less m.0 n.0 (register_place r ∷ t ∷ []) (register_place q ∷ u ∷ []) i.0 (first-less (register_place r) (register_place q) (t ∷ []) (u ∷ []) i.1))
-]
-key-before meters (key.Reading m r t) (key.Assignment n u) a b h = first-less 0 1 (m.0 ∷ register_place r ∷ t ∷ []) (n.0 ∷ u ∷ []) (omega arith)
-key-before meters (key.Reading m r t) (key.TopUp x) a b h = first-less 0 2 (m.0 ∷ register_place r ∷ t ∷ []) x (omega arith)
-key-before meters (key.Assignment m t) (key.Reading n q u) a b h = absurd (let f = place-few q in omega (arith, f, b, h))
-key-before meters (key.Assignment m t) (key.Assignment n u) a b h = then-less 1 1 (m.0 ∷ t ∷ []) (n.0 ∷ u ∷ []) refl (first-less m.0 n.0 (t ∷ []) (u ∷ []) (omega (arith, h)))
-key-before meters (key.Assignment m t) (key.TopUp x) a b h = first-less 1 2 (m.0 ∷ t ∷ []) x (omega arith)
-key-before meters (key.TopUp x) (key.Reading n q u) a b h = absurd (let f = place-few q in omega (arith, f, b, h))
-key-before meters (key.TopUp x) (key.Assignment n u) a b h = absurd (omega (arith, b, h))
-key-before meters (key.TopUp x) (key.TopUp y) a b h = absurd (omega (arith, h))
-key-before meters (key.Reading m r t) (key.Withdrawal x) a b h = first-less 0 3 (m.0 ∷ register_place r ∷ t ∷ []) (named_numbers x) (omega arith)
-key-before meters (key.Assignment m t) (key.Withdrawal x) a b h = first-less 1 3 (m.0 ∷ t ∷ []) (named_numbers x) (omega arith)
-key-before meters (key.TopUp r) (key.Withdrawal x) a b h = first-less 2 3 r (named_numbers x) (omega arith)
-key-before meters (key.Withdrawal x) (key.Reading n q u) a b h = absurd (let f = place-few q in omega (arith, f, b, h))
-key-before meters (key.Withdrawal x) (key.Assignment n u) a b h = absurd (omega (arith, b, h))
-key-before meters (key.Withdrawal x) (key.TopUp y) a b h = absurd (omega (arith, h))
-key-before meters (key.Withdrawal x) (key.Withdrawal y) a b h = absurd (omega (arith, h))
-
 pub entry-before : (e f : Entry) → key_order e.key f.key ≡ Less → entry_order e f ≡ Less
 entry-before e f h = rw h refl
 
@@ -122,13 +87,13 @@ module _ (o : Offices) (records : List Entry) where
       AreBefore (list_place (office_of o.old).meters l) given → AreBefore (list_place (office_of o.old).meters l + 1) (given ++ more)
   list-more l given more of h held before =
       segment-more entry_order (λ e. Member e records) (λ e. IsOfList l e.key) (λ e. key_place (office_of o.old).meters e.key) (list_place (office_of o.old).meters l) given more before held
-      (λ e m. list-place (office_of o.old).meters l h e.key (within (office_of o.old) e.key e.content (of e m)))
-      (λ e f m n p. entry-before e f (key-before (office_of o.old).meters e.key f.key (within (office_of o.old) e.key e.content (of e m)) (within (office_of o.old) f.key f.content (of f n)) p))
+      (λ e m. list-place (office_of o.old).meters l h e.key (key-within (office_of o.old) e.key e.content (of e m)))
+      (λ e f m n p. entry-before e f (key-before (office_of o.old).meters e.key f.key (key-within (office_of o.old) e.key e.content (of e m)) (key-within (office_of o.old) f.key f.content (of f n)) p))
 
   -- what stands before a record that is listed is listed before it
   up-to : (e f : Entry) → AllOfOffice (office_of o.old) records → Member e records → Member f records → entry_order f e ≡ Less → key_place (office_of o.old).meters f.key ≤ key_place (office_of o.old).meters e.key
   up-to e f of m n h = elim (cases_lt (key_place (office_of o.old).meters e.key) (key_place (office_of o.old).meters f.key)) [
-    | inl l ↦ absurd (entry-strict.apart e (entry-strict.trans e f e (entry-before e f (key-before (office_of o.old).meters e.key f.key (within (office_of o.old) e.key e.content (of e m)) (within (office_of o.old) f.key f.content (of f n)) l)) h))
+    | inl l ↦ absurd (entry-strict.apart e (entry-strict.trans e f e (entry-before e f (key-before (office_of o.old).meters e.key f.key (key-within (office_of o.old) e.key e.content (of e m)) (key-within (office_of o.old) f.key f.content (of f n)) l)) h))
     | inr l ↦ l
   ]
 
@@ -236,7 +201,7 @@ all-carried o records waiting left before mid after m n last u s count =
     let M : Entry → List Entry → Type 0 = λ x xs. Member x xs in
     let same : SameMembers t.sent records = λ x. (
       λ k. ((u.lists.members x).0 (subst (M x) (sym whole) k)).0,
-      λ k. subst (M x) whole ((u.lists.members x).1 (k, (let l = placed (office_of o.old).meters x.key (within (office_of o.old) x.key x.content (u.of_office x k)) in omega (arith, l, last)))),
+      λ k. subst (M x) whole ((u.lists.members x).1 (k, (let l = placed (office_of o.old).meters x.key (key-within (office_of o.old) x.key x.content (u.of_office x k)) in omega (arith, l, last)))),
     ) in
     record {
       able = λ x m. t.able x ((same x).1 m);

@@ -23,6 +23,7 @@ use Rattle.pw_model.proofs.Same.{same_entry-decides}
 use Rattle.pw_shelf.specs.Orders.{record_order}
 use Rattle.pw_shelf.proofs.InOrder.{order_exact, order_total}
 use Rattle.pw_book.specs.inner.Places.{key_place}
+use Rattle.pw_book.proofs.Contested.{key-before, key-within}
 use Rattle.pw_book.proofs.NotHeld.{fresh-more}
 use Rattle.pw_book.proofs.Segments.{segment-all, segment-more, segment-none}
 use Rattle.pw_carrying.specs.Lacking.{lacking_in}
@@ -30,7 +31,7 @@ use Rattle.pw_carrying.specs.Unsent.{AreUnsent}
 use Rattle.pw_carrying.specs.declared.lists.HeldList.{HeldList}
 use Rattle.pw_carrying.specs.inner.Stages.{IsListOf, IsOfList, list_place}
 use Rattle.pw_carrying.specs.inner.Unsent.{AddsUnsent, UnsentBefore}
-use Rattle.pw_carrying.proofs.Listing.{entry-before, key-before, list-place, placed, within}
+use Rattle.pw_carrying.proofs.Listing.{entry-before, list-place, placed}
 use Rattle.pw_carrying.proofs.Missing.{are-lacking}
 
 -- ---- what a search tells
@@ -103,8 +104,8 @@ module _ (office : OfficeRules) (sent : List Entry) where
       let P : Entry → Type 0 = λ x. Member x records × (Member x sent → ⊥) in
       subst F (sym (f ∙ ap (λ (xs : List Entry). old ++ xs) e))
       (segment-more entry_order P (λ x. IsOfList l x.key) (λ x. key_place office.meters x.key) (list_place office.meters l) old (lacking_in sent held) before (left-of l records held (rows of))
-      (λ x m. list-place office.meters l h x.key (within office x.key x.content (of x m.0)))
-      (λ x y m n p. entry-before x y (key-before office.meters x.key y.key (within office x.key x.content (of x m.0)) (within office y.key y.content (of y n.0)) p)))
+      (λ x m. list-place office.meters l h x.key (key-within office x.key x.content (of x m.0)))
+      (λ x y m n p. entry-before x y (key-before office.meters x.key y.key (key-within office x.key x.content (of x m.0)) (key-within office y.key y.content (of y n.0)) p)))
 
   pub unsent-at : (records : List Entry) (from to from' to' : ℕ) (old new : List Entry) → from ≡ from' → to ≡ to' → AddsUnsent office records sent from to old new → AddsUnsent office records sent from' to' old new
   unsent-at records from to from' to' old new e f a =
@@ -124,4 +125,4 @@ module _ (office : OfficeRules) (sent : List Entry) where
       let P : Entry → Type 0 = λ x. Member x records × (Member x sent → ⊥) in
       let B : List Entry → Type 0 = λ xs. UnsentBefore office records sent 0 xs in
       segment-all entry_order P (λ x. key_place office.meters x.key) (7 * office.meters + 2) new (a of (subst B (sym e) (segment-none entry_order P (λ x. key_place office.meters x.key))))
-      (λ x m. placed office.meters x.key (within office x.key x.content (of x m.0)))
+      (λ x m. placed office.meters x.key (key-within office x.key x.content (of x m.0)))

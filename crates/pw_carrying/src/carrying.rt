@@ -1,13 +1,13 @@
 //! The records of a book, carried into the book of another office.
 
-ghost use Rattle.std.specs.Prelude.{◌≡◌, ◌+◌, ◌*◌, ◌<◌, IfOk, IsErrOf, IsNone, OnOk};
+ghost use Rattle.std.specs.Prelude.{◌+◌, ◌*◌, IsErrOf, IsNone};
 ghost use Rattle.pw_tariff.specs.Office.{office_of};
-ghost use Rattle.pw_shelf.specs.Left.{LeavesOnly};
 ghost use Rattle.pw_book.specs.Asking.{IsOnlyAsked};
 ghost use Rattle.pw_book.specs.Questions.{IsQuestion, failures_asked};
 ghost use Rattle.pw_book.specs.declared.fault.BookFault.TheVariants.{Reopen};
 ghost use Rattle.pw_carrying.specs.Carrying.{HasUploads, IsCarried, asked_of, posted_of};
 ghost use Rattle.pw_carrying.specs.inner.Stages.{CarriesOn, IsListOf, list_place};
+ghost use Rattle.pw_book.specs.Posting.{LeavesOnlyContent};
 
 use crate::fault::CarryFault;
 use crate::lists::{HeldList, list_at, list_count, records_in};
@@ -30,8 +30,11 @@ pub fn carry_into<S: Shelf, T: Shelf, W: Carrying>(
     into: &mut Book<T>,
     watch: &mut W,
 ) -> Result<u32, CarryFault>
-    ensures carried { S.clean from.new.shelf → T.clean into.new.shelf → IsCarried (record { old = from.old.office; new = into.old.office }) (S.state from.old.shelf).content.records (T.state into.old.shelf).content.records (T.state into.new.shelf).content.records result }
-    ensures left { T.clean into.new.shelf → OnOk result (LeavesOnly (T.state into.new.shelf).content (T.left into.new.shelf)) }
+    ensures carried { S.clean from.new.shelf → T.clean into.new.shelf
+        → IsCarried (record { old = from.old.office; new = into.old.office })
+        (S.state from.old.shelf).content.records (T.state into.old.shelf).content.records
+        (T.state into.new.shelf).content.records result }
+    ensures left { LeavesOnlyContent T.Shelf result into.new.shelf }
     ensures asked { IsQuestion S.Shelf (asked_of result) from.old from.new }
     ensures uploads { HasUploads T.Shelf (posted_of result) into.old into.new }
 {
@@ -59,7 +62,11 @@ fn carry_held<S: Shelf, T: Shelf, W: Carrying>(
     watch: &mut W,
 ) -> Result<(), CarryFault>
     requires idle { IsNone (S.state shelf.old).begun }
-    ensures carried { S.clean shelf.new → T.clean into.new.shelf → CarriesOn basis.now.office.now into.old.office (S.state shelf.old).content.records 0 (7 * (office_of basis.now.office.now).meters + 2) (T.state into.old.shelf).content.records waiting.old.entries.items (T.state into.new.shelf).content.records waiting.new.entries.items result }
+    ensures carried { S.clean shelf.new → T.clean into.new.shelf
+        → CarriesOn basis.now.office.now into.old.office (S.state shelf.old).content.records 0
+        (7 * (office_of basis.now.office.now).meters + 2) (T.state into.old.shelf).content.records
+        waiting.old.entries.items (T.state into.new.shelf).content.records
+        waiting.new.entries.items result }
     ensures open_yet { IsErrOf (asked_of result) Reopen → ⊥ }
     ensures asked { IsOnlyAsked S.Shelf (failures_asked (asked_of result)) shelf.old shelf.new }
     ensures uploads { HasUploads T.Shelf (posted_of result) into.old into.new }
@@ -82,7 +89,12 @@ fn carry_list<S: Shelf, T: Shelf, W: Carrying>(
 ) -> Result<(), CarryFault>
     requires idle { IsNone (S.state shelf.old).begun }
     requires list { IsListOf (office_of basis.now.office.now).meters list }
-    ensures carried { S.clean shelf.new → T.clean into.new.shelf → CarriesOn basis.now.office.now into.old.office (S.state shelf.old).content.records (list_place (office_of basis.now.office.now).meters list) (list_place (office_of basis.now.office.now).meters list + 1) (T.state into.old.shelf).content.records waiting.old.entries.items (T.state into.new.shelf).content.records waiting.new.entries.items result }
+    ensures carried { S.clean shelf.new → T.clean into.new.shelf
+        → CarriesOn basis.now.office.now into.old.office (S.state shelf.old).content.records
+        (list_place (office_of basis.now.office.now).meters list)
+        (list_place (office_of basis.now.office.now).meters list + 1)
+        (T.state into.old.shelf).content.records waiting.old.entries.items
+        (T.state into.new.shelf).content.records waiting.new.entries.items result }
     ensures open_yet { IsErrOf (asked_of result) Reopen → ⊥ }
     ensures asked { IsOnlyAsked S.Shelf (failures_asked (asked_of result)) shelf.old shelf.new }
     ensures uploads { HasUploads T.Shelf (posted_of result) into.old into.new }

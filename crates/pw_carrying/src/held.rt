@@ -29,7 +29,8 @@ pub fn unsent<S: Shelf>(
     sent: &[Entry],
 ) -> Result<Vec<Entry>, BookFault>
     requires { IsSorted record_order sent.now }
-    ensures unsent { S.clean book.new.shelf → IfOk result (λ found. AreUnsent (S.state book.old.shelf).content.records sent.now found.items) }
+    ensures unsent { S.clean book.new.shelf → IfOk result
+        (λ found. AreUnsent (S.state book.old.shelf).content.records sent.now found.items) }
     ensures question { IsQuestion S.Shelf result book.old book.new }
 {
     book.still_open()?;
@@ -48,7 +49,9 @@ fn add_held<S: Shelf>(
 ) -> Result<(), ShelfFault>
     requires idle { IsNone (S.state shelf.old).begun }
     requires sorted { IsSorted record_order sent.now }
-    ensures adds { S.clean shelf.new → OnOk result (AddsUnsent (office_of office.now) (S.state shelf.old).content.records sent.now 0 (7 * (office_of office.now).meters + 2) found.old.items found.new.items) }
+    ensures adds { S.clean shelf.new → OnOk result
+        (AddsUnsent (office_of office.now) (S.state shelf.old).content.records sent.now 0
+        (7 * (office_of office.now).meters + 2) found.old.items found.new.items) }
     ensures asked { IsOnlyAsked S.Shelf (failures_told result) shelf.old shelf.new }
 {
     for place in 0..list_count(office) {
@@ -70,7 +73,10 @@ fn add_list<S: Shelf>(
     requires idle { IsNone (S.state shelf.old).begun }
     requires list { IsListOf (office_of office.now).meters list }
     requires sorted { IsSorted record_order sent.now }
-    ensures adds { S.clean shelf.new → OnOk result (AddsUnsent (office_of office.now) (S.state shelf.old).content.records sent.now (list_place (office_of office.now).meters list) (list_place (office_of office.now).meters list + 1) found.old.items found.new.items) }
+    ensures adds { S.clean shelf.new → OnOk result
+        (AddsUnsent (office_of office.now) (S.state shelf.old).content.records sent.now
+        (list_place (office_of office.now).meters list)
+        (list_place (office_of office.now).meters list + 1) found.old.items found.new.items) }
     ensures asked { IsOnlyAsked S.Shelf (failures_told result) shelf.old shelf.new }
 {
     let records = records_in(alloc, shelf, office, list)?;

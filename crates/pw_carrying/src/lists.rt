@@ -65,7 +65,10 @@ pub(crate) fn records_in<S: Shelf>(
 ) -> Result<Vec<Entry>, ShelfFault>
     requires idle { IsNone (S.state shelf.old).begun }
     requires list { IsListOf (office_of office.now).meters list }
-    ensures rows { S.clean shelf.new → AllOfOffice (office_of office.now) (S.state shelf.old).content.records → IfOk result (λ found. ListsHeld (IsOfList list) (S.state shelf.old).content.records found.items) }
+    ensures rows { S.clean shelf.new → AllOfOffice (office_of office.now)
+        (S.state shelf.old).content.records
+        → IfOk result (λ found. ListsHeld (IsOfList list) (S.state shelf.old).content.records
+        found.items) }
     ensures asked { IsOnlyAsked S.Shelf (failures_told result) shelf.old shelf.new }
 {
     match list {
@@ -88,7 +91,10 @@ fn readings_held<S: Shelf>(
 ) -> Result<Vec<Entry>, ShelfFault>
     requires idle { IsNone (S.state shelf.old).begun }
     requires meter { meter.0 < (office_of office.now).meters }
-    ensures rows { S.clean shelf.new → AllOfOffice (office_of office.now) (S.state shelf.old).content.records → IfOk result (λ found. ListsHeld (IsReadingOf meter register) (S.state shelf.old).content.records found.items) }
+    ensures rows { S.clean shelf.new → AllOfOffice (office_of office.now)
+        (S.state shelf.old).content.records
+        → IfOk result (λ found. ListsHeld (IsReadingOf meter register)
+        (S.state shelf.old).content.records found.items) }
     ensures asked { IsOnlyAsked S.Shelf (failures_told result) shelf.old shelf.new }
 {
     if office.counts(meter, register) {

@@ -21,7 +21,8 @@ pub fn last_reading<S: Shelf>(
     alloc: Global,
     book: &mut Book<S>,
 ) -> Result<Option<Instant>, BookFault>
-    ensures last { S.clean book.new.shelf → IfOk result (λ last. IsLastReading (S.state book.old.shelf).content.records last) }
+    ensures last { S.clean book.new.shelf → IfOk result
+        (λ last. IsLastReading (S.state book.old.shelf).content.records last) }
     ensures question { IsQuestion S.Shelf result book.old book.new }
 {
     book.still_open()?;
@@ -41,7 +42,8 @@ fn last_of_meter<S: Shelf>(
 ) -> Result<Option<Instant>, BookFault>
     requires meter { meter.0 < length book.old.office.meters }
     requires open_yet { book.old.shut ≡ false }
-    ensures last { S.clean book.new.shelf → IfOk result (λ last. IsLastOf (IsReadOfMeter (S.state book.old.shelf).content.records meter.0) last) }
+    ensures last { S.clean book.new.shelf → IfOk result
+        (λ last. IsLastOf (IsReadOfMeter (S.state book.old.shelf).content.records meter.0) last) }
     ensures question { IsQuestion S.Shelf result book.old book.new }
 {
     let mut last = None;
@@ -61,7 +63,9 @@ fn last_of_register<S: Shelf>(
 ) -> Result<Option<Instant>, BookFault>
     requires meter { meter.0 < length book.old.office.meters }
     requires open_yet { book.old.shut ≡ false }
-    ensures last { S.clean book.new.shelf → IfOk result (λ last. IsLastOf (IsReadOf (S.state book.old.shelf).content.records meter.0 register) last) }
+    ensures last { S.clean book.new.shelf → IfOk result
+        (λ last. IsLastOf (IsReadOf (S.state book.old.shelf).content.records meter.0 register)
+        last) }
     ensures question { IsQuestion S.Shelf result book.old book.new }
 {
     if !book.office().counts(meter, register) {

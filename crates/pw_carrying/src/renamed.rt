@@ -20,8 +20,12 @@ pub(crate) fn all_carried(
     records: &[Entry],
 ) -> Result<Vec<Entry>, CarryFault>
     ensures of_office { IfOk result (λ found. AllOfOffice (office_of new.now) found.items) }
-    ensures carried { IfOk result (λ found. found.items ≡ carried_all (record { old = basis.now.office.now; new = new.now }) records.now) }
-    ensures able { AllOfOffice (office_of basis.now.office.now) records.now → Leads result (AllCanBeCarried (record { old = basis.now.office.now; new = new.now }) records.now) (StopsAt (record { old = basis.now.office.now; new = new.now }) records.now) (Unit {0}) }
+    ensures carried { IfOk result (λ found. found.items
+        ≡ carried_all (record { old = basis.now.office.now; new = new.now }) records.now) }
+    ensures able { AllOfOffice (office_of basis.now.office.now) records.now
+        → Leads result (AllCanBeCarried (record { old = basis.now.office.now; new = new.now })
+        records.now) (StopsAt (record { old = basis.now.office.now; new = new.now }) records.now)
+        (Unit {0}) }
     ensures fault { IfErr result IsOwnFault }
 {
     let renaming = Renaming::by_names(basis.alloc, basis.office, new)?;
@@ -40,8 +44,10 @@ pub(crate) fn all_carried(
 // store alone that isn't clean.)
 fn carried(terms: &OfficeTerms, renaming: &Renaming, entry: &Entry) -> Option<Entry>
     requires { renaming.now.old ≡ terms.now }
-    ensures some { IfSome result (λ e. (e ≡ carried renaming.now entry.now) × IsOfOffice (office_of renaming.now.new) e) }
-    ensures none { IfNone result (IsOfOffice (office_of terms.now) entry.now → CanBeCarried renaming.now entry.now → ⊥) }
+    ensures some { IfSome result (λ e. (e ≡ carried renaming.now entry.now)
+        × IsOfOffice (office_of renaming.now.new) e) }
+    ensures none { IfNone result (IsOfOffice (office_of terms.now) entry.now
+        → CanBeCarried renaming.now entry.now → ⊥) }
 {
     if !is_entry_of_office(terms, entry) {
         return None;

@@ -20,7 +20,8 @@ pub fn lacking<S: Shelf>(
     book: &mut Book<S>,
     entries: &[Entry],
 ) -> Result<Vec<Entry>, BookFault>
-    ensures lacking { S.clean book.new.shelf → IfOk result (λ found. AreLacking (S.state book.old.shelf).content.records entries.now found.items) }
+    ensures lacking { S.clean book.new.shelf → IfOk result
+        (λ found. AreLacking (S.state book.old.shelf).content.records entries.now found.items) }
     ensures question { IsQuestion S.Shelf result book.old book.new }
 {
     book.still_open()?;
@@ -35,7 +36,8 @@ fn not_held<S: Shelf>(
     entries: &[Entry],
 ) -> Result<Vec<Entry>, ShelfFault>
     requires idle { IsNone (S.state shelf.old).begun }
-    ensures found { S.clean shelf.new → IfOk result (λ found. found.items ≡ lacking_in (S.state shelf.old).content.records entries.now) }
+    ensures found { S.clean shelf.new → IfOk result
+        (λ found. found.items ≡ lacking_in (S.state shelf.old).content.records entries.now) }
     ensures asked { IsOnlyAsked S.Shelf (failures_told result) shelf.old shelf.new }
 {
     let mut found = Vec::new(alloc);

@@ -12,7 +12,8 @@ use pw_shelf::{Shelf, ShelfFault};
 // Whether a record is held.
 pub(crate) fn is_held<S: Shelf>(shelf: &mut S, entry: &Entry) -> Result<bool, ShelfFault>
     requires { IsNone (S.state shelf.old).begun }
-    ensures held { S.clean shelf.new → IfOk result (λ held. held ≡ stands_in same_entry entry.now (S.state shelf.old).content.records) }
+    ensures held { S.clean shelf.new → IfOk result
+        (λ held. held ≡ stands_in same_entry entry.now (S.state shelf.old).content.records) }
     ensures asked { IsOnlyAsked S.Shelf (failures_told result) shelf.old shelf.new }
 {
     shelf.holds(entry)

@@ -1,9 +1,9 @@
 //! Records that wait for an upload to another book.
 
-ghost use Rattle.std.specs.Prelude.{◌≡◌, [], ◌∷◌, IfErr, OnOk};
-ghost use Rattle.pw_shelf.specs.Left.{LeavesOnly};
+ghost use Rattle.std.specs.Prelude.{◌≡◌, [], ◌∷◌, IfErr};
 ghost use Rattle.pw_carrying.specs.Carrying.{HasUploads, posted_of};
 ghost use Rattle.pw_carrying.specs.inner.Stages.{Gives, IsNotAsked, Sends};
+ghost use Rattle.pw_book.specs.Posting.{LeavesOnlyContent};
 
 use crate::fault::CarryFault;
 use crate::progress::Carrying;
@@ -43,7 +43,9 @@ pub(crate) fn give_all<T: Shelf, W: Carrying>(
     waiting: &mut Waiting,
     watch: &mut W,
 ) -> Result<(), CarryFault>
-    ensures gives { T.clean into.new.shelf → Gives basis.now.office.now into.old.office entries.now (T.state into.old.shelf).content.records waiting.old.entries.items (T.state into.new.shelf).content.records waiting.new.entries.items result }
+    ensures gives { T.clean into.new.shelf → Gives basis.now.office.now into.old.office entries.now
+        (T.state into.old.shelf).content.records waiting.old.entries.items
+        (T.state into.new.shelf).content.records waiting.new.entries.items result }
     ensures fault { IfErr result IsNotAsked }
     ensures uploads { HasUploads T.Shelf (posted_of result) into.old into.new }
 {
@@ -61,7 +63,9 @@ fn give<T: Shelf, W: Carrying>(
     waiting: &mut Waiting,
     watch: &mut W,
 ) -> Result<(), CarryFault>
-    ensures gives { T.clean into.new.shelf → Gives basis.now.office.now into.old.office (entry.now ∷ []) (T.state into.old.shelf).content.records waiting.old.entries.items (T.state into.new.shelf).content.records waiting.new.entries.items result }
+    ensures gives { T.clean into.new.shelf → Gives basis.now.office.now into.old.office
+        (entry.now ∷ []) (T.state into.old.shelf).content.records waiting.old.entries.items
+        (T.state into.new.shelf).content.records waiting.new.entries.items result }
     ensures fault { IfErr result IsNotAsked }
     ensures uploads { HasUploads T.Shelf (posted_of result) into.old into.new }
 {
@@ -79,8 +83,10 @@ pub(crate) fn post_waiting<T: Shelf, W: Carrying>(
     waiting: &mut Waiting,
     watch: &mut W,
 ) -> Result<(), CarryFault>
-    ensures sends { T.clean into.new.shelf → Sends basis.now.office.now into.old.office (T.state into.old.shelf).content.records waiting.old.entries.items (T.state into.new.shelf).content.records waiting.new.entries.items result }
-    ensures left { T.clean into.new.shelf → OnOk result (LeavesOnly (T.state into.new.shelf).content (T.left into.new.shelf)) }
+    ensures sends { T.clean into.new.shelf → Sends basis.now.office.now into.old.office
+        (T.state into.old.shelf).content.records waiting.old.entries.items
+        (T.state into.new.shelf).content.records waiting.new.entries.items result }
+    ensures left { LeavesOnlyContent T.Shelf result into.new.shelf }
     ensures fault { IfErr result IsNotAsked }
     ensures uploads { HasUploads T.Shelf (posted_of result) into.old into.new }
 {

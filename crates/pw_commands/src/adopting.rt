@@ -168,7 +168,9 @@ fn take_place<W: Watch>(
 ) -> Result<(), Fault>
     requires text { IsOfficeOf new_text.now new.now }
     requires open_yet { book.shut ≡ false }
-    requires adopted { HasCleanDisk (file_state book.shelf.conn) → MayTake words.now (record { old = book.office; new = new.now }) (held_of (file_state book.shelf.conn) (file_state book.shelf.base.value)).records }
+    requires adopted { HasCleanDisk (file_state book.shelf.conn)
+        → MayTake words.now (record { old = book.office; new = new.now })
+        (held_of (file_state book.shelf.conn) (file_state book.shelf.base.value)).records }
 {
     match adopt_book(alloc, book, new, new_text, words, watch) {
         Ok(shelf) => close_store(shelf.close()),
@@ -191,12 +193,21 @@ pub fn adopt_book<S: Alter, W: Watch>(
 ) -> Result<SqlShelf<S>, (OpenFault, Connection<S>)>
     requires text { IsOfficeOf new_text.now new.now }
     requires open_yet { book.shut ≡ false }
-    requires adopted { HasCleanDisk (state S.Store book.shelf.conn) → MayTake words.now (record { old = book.office; new = new.now }) (⟦<SqlShelf<S> as Shelf>⟧.state book.shelf).content.records }
-    ensures content { IfOk result (λ s. HasCleanDisk (state S.Store s.conn) → (⟦<SqlShelf<S> as Shelf>⟧.state s).content ≡ (⟦<SqlShelf<S> as Shelf>⟧.state book.shelf).content) }
-    ensures kept { IfOk result (λ s. HasCleanDisk (state S.Store s.conn) → IsKept (office_of new.now) (⟦<SqlShelf<S> as Shelf>⟧.state s).content) }
-    ensures kept_text { IfOk result (λ s. HasCleanDisk (state S.Store s.conn) → KeepsText (KeepsOffice new_text.now) (state S.Store s.conn).now.trees) }
-    ensures figures { IfOk result (λ s. HasCleanDisk (state S.Store s.conn) → HaveSameFigures (office_of book.office) (office_of new.now) (⟦<SqlShelf<S> as Shelf>⟧.state s).content.records) }
-    ensures refused { IfErr result (λ e. HasCleanDisk (state S.Store e.1) → KeepsCommit (state S.Store book.shelf.conn) (state S.Store e.1)) }
+    requires adopted { HasCleanDisk (state S.Store book.shelf.conn)
+        → MayTake words.now (record { old = book.office; new = new.now })
+        (⟦<SqlShelf<S> as Shelf>⟧.state book.shelf).content.records }
+    ensures content { IfOk result (λ s. HasCleanDisk (state S.Store s.conn)
+        → (⟦<SqlShelf<S> as Shelf>⟧.state s).content
+        ≡ (⟦<SqlShelf<S> as Shelf>⟧.state book.shelf).content) }
+    ensures kept { IfOk result (λ s. HasCleanDisk (state S.Store s.conn)
+        → IsKept (office_of new.now) (⟦<SqlShelf<S> as Shelf>⟧.state s).content) }
+    ensures kept_text { IfOk result (λ s. HasCleanDisk (state S.Store s.conn)
+        → KeepsText (KeepsOffice new_text.now) (state S.Store s.conn).now.trees) }
+    ensures figures { IfOk result (λ s. HasCleanDisk (state S.Store s.conn)
+        → HaveSameFigures (office_of book.office) (office_of new.now)
+        (⟦<SqlShelf<S> as Shelf>⟧.state s).content.records) }
+    ensures refused { IfErr result (λ e. HasCleanDisk (state S.Store e.1)
+        → KeepsCommit (state S.Store book.shelf.conn) (state S.Store e.1)) }
 {
     let _ = new;
     let _ = words;

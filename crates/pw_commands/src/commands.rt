@@ -103,8 +103,10 @@ fn obey<I: Read, O: Write, E: Write, W: Follow>(
     watch: &mut W,
 ) -> u8
     requires { IsSound asked }
-    ensures read { (clock : Clock) (body : List ℕ) → asked.entry ≡ Read clock → I.remaining input.old ≡ Some body →
-        IsRun clock body (O.contents out.old) (O.contents out.new) (E.contents err.old) (E.contents err.new) result }
+    ensures read { (clock : Clock) (body : List ℕ) → asked.entry ≡ Read clock
+        → I.remaining input.old ≡ Some body →
+        IsRun clock body (O.contents out.old) (O.contents out.new) (E.contents err.old)
+        (E.contents err.new) result }
 {
     match asked {
         Command::Read { clock } => read_run(rt.alloc(), clock, input, out, err),
@@ -324,8 +326,10 @@ fn month_page_of<W: Watch>(
 // The page of an account for a month. The account is looked at first.
 fn month_page(office: &Office, asked: MonthAsked<'_>) -> Result<Page, Fault>
     ensures page { IfOk result (IsPageOf office.now) }
-    ensures known { IfOk result (IsMonthOf office.now asked.entry.what asked.entry.account.now asked.entry.month.now) }
-    ensures refused { IfErr result (IsNoMonth office.now asked.entry.account.now asked.entry.month.now) }
+    ensures known { IfOk result (IsMonthOf office.now asked.entry.what asked.entry.account.now
+        asked.entry.month.now) }
+    ensures refused { IfErr result (IsNoMonth office.now asked.entry.account.now
+        asked.entry.month.now) }
 {
     let Some(account) = office.account(asked.account.as_bytes()) else {
         return Err(Fault::NoSuchAccount);

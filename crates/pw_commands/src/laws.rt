@@ -46,10 +46,19 @@ pub fn stores_survive_a_crash<S: Alter, T: Alter>(
 >
     requires office { IsOfficeOf text.now office }
     requires limit { IsLimit limit }
-    requires of_office { All (λ sent. AllOfOffice (office_of office) sent.entries.items) uploads.old }
-    ensures entries { map (λ sent. sent.entries) uploads.new ≡ map (λ sent. sent.entries) uploads.old }
-    ensures refused { IfOk result (λ it. IsCrashed (state S.Store it.0.conn) (state T.Store found).committed → IfErr it.1 (λ e. HasCleanDisk (state T.Store e.1) → (e.0 ≡ OpenFault.Store) ⊎ (e.0 ≡ OpenFault.Memory))) }
-    ensures content { IfOk result (λ it. IsCrashed (state S.Store it.0.conn) (state T.Store found).committed → IfOk it.1 (λ s. HasCleanDisk (state T.Store s.conn) → HoldsWhole (office_of office) (state S.Store connection).committed uploads.new (⟦<SqlShelf<T> as Shelf>⟧.state s).content)) }
+    requires of_office { All (λ sent. AllOfOffice (office_of office) sent.entries.items)
+        uploads.old }
+    ensures entries { map (λ sent. sent.entries) uploads.new
+        ≡ map (λ sent. sent.entries) uploads.old }
+    ensures refused { IfOk result (λ it. IsCrashed (state S.Store it.0.conn)
+        (state T.Store found).committed
+        → IfErr it.1 (λ e. HasCleanDisk (state T.Store e.1)
+        → (e.0 ≡ OpenFault.Store) ⊎ (e.0 ≡ OpenFault.Memory))) }
+    ensures content { IfOk result (λ it. IsCrashed (state S.Store it.0.conn)
+        (state T.Store found).committed
+        → IfOk it.1 (λ s. HasCleanDisk (state T.Store s.conn)
+        → HoldsWhole (office_of office) (state S.Store connection).committed uploads.new
+        (⟦<SqlShelf<T> as Shelf>⟧.state s).content)) }
 {
     match SqlShelf::open(alloc, connection, text) {
         Ok(shelf) => {
@@ -71,15 +80,29 @@ fn post_in_turn<S: Alter>(
 ) -> SqlShelf<S>
     requires limit { IsLimit limit }
     requires posted { All (λ sent. AllOfOffice (office_of office) sent.entries.items) uploads.old }
-    requires few { HasCleanDisk (state S.Store shelf.conn) → length (held_of (state S.Store shelf.conn) (state S.Store shelf.base.value)).records ≤ most_records }
-    requires truth { HasCleanDisk (state S.Store shelf.conn) → IsTrueContent (office_of office) (held_of (state S.Store shelf.conn) (state S.Store shelf.base.value)) }
-    requires of_office { HasCleanDisk (state S.Store shelf.conn) → AllOfOffice (office_of office) (held_of (state S.Store shelf.conn) (state S.Store shelf.base.value)).records }
+    requires few { HasCleanDisk (state S.Store shelf.conn)
+        → length (held_of (state S.Store shelf.conn) (state S.Store shelf.base.value)).records
+        ≤ most_records }
+    requires truth { HasCleanDisk (state S.Store shelf.conn)
+        → IsTrueContent (office_of office)
+        (held_of (state S.Store shelf.conn) (state S.Store shelf.base.value)) }
+    requires of_office { HasCleanDisk (state S.Store shelf.conn)
+        → AllOfOffice (office_of office)
+        (held_of (state S.Store shelf.conn) (state S.Store shelf.base.value)).records }
     requires idle { shelf.begun ≡ false }
-    requires settled { HasCleanDisk (state S.Store shelf.conn) → LeavesOnly (held_of (state S.Store shelf.conn) (state S.Store shelf.base.value)) (left_of (state S.Store shelf.conn)) }
-    ensures entries { map (λ sent. sent.entries) uploads.new ≡ map (λ sent. sent.entries) uploads.old }
-    ensures clean { HasCleanDisk (state S.Store result.conn) → HasCleanDisk (state S.Store shelf.conn) }
+    requires settled { HasCleanDisk (state S.Store shelf.conn)
+        → LeavesOnly (held_of (state S.Store shelf.conn) (state S.Store shelf.base.value))
+        (left_of (state S.Store shelf.conn)) }
+    ensures entries { map (λ sent. sent.entries) uploads.new
+        ≡ map (λ sent. sent.entries) uploads.old }
+    ensures clean { HasCleanDisk (state S.Store result.conn)
+        → HasCleanDisk (state S.Store shelf.conn) }
     ensures opened { result.opened.value ≡ shelf.opened.value }
-    ensures left { HasCleanDisk (state S.Store result.conn) → (c : ShelfContent) → left_of (state S.Store result.conn) c → IsLeftWhole (office_of office) (held_of (state S.Store shelf.conn) (state S.Store shelf.base.value)).records uploads.new c }
+    ensures left { HasCleanDisk (state S.Store result.conn) → (c : ShelfContent)
+        → left_of (state S.Store result.conn) c
+        → IsLeftWhole (office_of office)
+        (held_of (state S.Store shelf.conn) (state S.Store shelf.base.value)).records uploads.new
+        c }
 {
     let mut book = Book::new(office, Zone::central(), shelf, limit);
     uploads_survive_a_crash(&mut book, alloc, uploads);

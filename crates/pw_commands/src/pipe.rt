@@ -33,9 +33,14 @@ pub fn pipe_run<R: Read, O: Write, E: Write>(
 ) -> u8
     requires { IsLimit limit }
     ensures status { (result ≡ 0) ⊎ ((result ≡ 1) ⊎ (result ≡ 3)) }
-    ensures refused { result ≡ 1 → (out.new ≡ out.old) × RefusesOffice office.now (E.contents err.old) (E.contents err.new) }
-    ensures piped { result ≡ 0 → (err.new ≡ err.old) × IsDone ⟦<MemoryShelf as Shelf>⟧ office.now (R.remaining reader.old) (R.remaining reader.new) (O.contents out.old) (O.contents out.new) }
-    ensures stopped { result ≡ 3 → IsStopped ⟦<MemoryShelf as Shelf>⟧ office.now (R.remaining reader.old) (R.remaining reader.new) (O.contents out.old) (O.contents out.new) (E.contents err.old) (E.contents err.new) }
+    ensures refused { result ≡ 1 → (out.new ≡ out.old)
+        × RefusesOffice office.now (E.contents err.old) (E.contents err.new) }
+    ensures piped { result ≡ 0 → (err.new ≡ err.old)
+        × IsDone ⟦<MemoryShelf as Shelf>⟧ office.now (R.remaining reader.old)
+        (R.remaining reader.new) (O.contents out.old) (O.contents out.new) }
+    ensures stopped { result ≡ 3 → IsStopped ⟦<MemoryShelf as Shelf>⟧ office.now
+        (R.remaining reader.old) (R.remaining reader.new) (O.contents out.old)
+        (O.contents out.new) (E.contents err.old) (E.contents err.new) }
 {
     let office = match Office::read(alloc, office) {
         Ok(office) => office,
@@ -56,7 +61,9 @@ fn pipe_in<R: Read, O: Write>(
     out: &mut O,
 ) -> Result<(), WireFault>
     requires { IsLimit limit }
-    ensures { (text : List ℕ) → IsOfficeOf text office → Pipes ⟦<MemoryShelf as Shelf>⟧ text (R.remaining reader.old) (R.remaining reader.new) (O.contents out.old) (O.contents out.new) result }
+    ensures { (text : List ℕ) → IsOfficeOf text office
+        → Pipes ⟦<MemoryShelf as Shelf>⟧ text (R.remaining reader.old) (R.remaining reader.new)
+        (O.contents out.old) (O.contents out.new) result }
 {
     let mut book = Book::new(office, Zone::central(), MemoryShelf::new(alloc), limit);
     match converse(alloc, &mut book, reader, out) {

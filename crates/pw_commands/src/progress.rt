@@ -3,6 +3,7 @@
 
 use pw_book::Accepted;
 use pw_carrying::Carrying;
+use pw_schema::{RecordKind, TotalKind};
 use pw_store::{Part, Watch};
 use std::fmt;
 use std::io::{self, Write};
@@ -178,15 +179,15 @@ impl<C: Clock, E: Write> Follow for Progress<C, E> {
 // The place of a part in the order of checks, and its name.
 fn told(part: Part) -> (u8, &'static str) {
     match part {
-        Part::Readings => (1, "readings"),
-        Part::Assignments => (2, "assignments"),
-        Part::TopUps => (3, "top-ups"),
-        Part::WithdrawnReadings => (4, "withdrawn readings"),
-        Part::WithdrawnAssignments => (5, "withdrawn assignments"),
-        Part::WithdrawnTopUps => (6, "withdrawn top-ups"),
+        Part::Records(RecordKind::Readings) => (1, "readings"),
+        Part::Records(RecordKind::Assignments) => (2, "assignments"),
+        Part::Records(RecordKind::TopUps) => (3, "top-ups"),
+        Part::Records(RecordKind::WithdrawnReadings) => (4, "withdrawn readings"),
+        Part::Records(RecordKind::WithdrawnAssignments) => (5, "withdrawn assignments"),
+        Part::Records(RecordKind::WithdrawnTopUps) => (6, "withdrawn top-ups"),
         Part::Points => (7, "points"),
         Part::Starts => (8, "starts"),
-        Part::Energies => (9, "totals of energy"),
-        Part::Payments => (PARTS, "totals of top-ups"),
+        Part::Totals(TotalKind::Energies) => (9, "totals of energy"),
+        Part::Totals(TotalKind::Payments) => (PARTS, "totals of top-ups"),
     }
 }

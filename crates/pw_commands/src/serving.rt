@@ -106,7 +106,8 @@ fn serve_client<R: Clock, V: Service>(
     audience: Audience<'_>,
     service: &mut V,
 ) -> Result<Served, WireFault>
-    ensures { IsTalk audience.entry V.serves None None None None service.old service.new MOST_TURNS result }
+    ensures { IsTalk audience.entry V.serves None None None None service.old service.new MOST_TURNS
+        result }
 {
     serve_to(alloc, service, audience, &mut &*client, &mut &*client)
 }

@@ -118,9 +118,12 @@ pub fn open_from<D: Disk + Drop, W: Watch>(
     requires limit { IsLimit limit }
     ensures office { IfOk result (λ book. book.office ≡ office) }
     ensures limit { IfOk result (λ book. book.limit ≡ limit) }
-    ensures content { IfOk result (λ book. HasCleanDisk (file_state book.shelf.conn) → OpensWith (office_of office) purpose (image_of D.Disk files) (⟦<SqlShelf<FileStore<D>> as Shelf>⟧.state book.shelf).content) }
+    ensures content { IfOk result (λ book. HasCleanDisk (file_state book.shelf.conn)
+        → OpensWith (office_of office) purpose (image_of D.Disk files)
+        (⟦<SqlShelf<FileStore<D>> as Shelf>⟧.state book.shelf).content) }
     ensures cause { IfErr result (λ e. IsOfOpening e.0) }
-    ensures untouched { IfErr result (λ e. e.0 ≡ Fault.Unopened Cause.LogAlone → OnlyReads D.Disk files.log e.1.log × OnlyReads D.Disk files.db e.1.db) }
+    ensures untouched { IfErr result (λ e. e.0 ≡ Fault.Unopened Cause.LogAlone
+        → OnlyReads D.Disk files.log e.1.log × OnlyReads D.Disk files.db e.1.db) }
 {
     let connection = match connection_in(alloc, files, options, purpose) {
         Ok(connection) => connection,
@@ -142,13 +145,19 @@ pub fn connection_in<D: Disk + Drop>(
 ) -> Result<Connection<FileStore<D>>, (Fault, Files<D>)>
     requires log { IsTrue (D.Disk.is_usable files.log) }
     requires db { IsTrue (D.Disk.is_usable files.db) }
-    ensures kept { IfOk result (λ c. HasCleanDisk (file_state c) → MayOpen purpose (image_of D.Disk files)) }
-    ensures found { IfOk result (λ c. HasCleanDisk (file_state c) → FindsIn (image_of D.Disk files) (file_state c)) }
-    ensures settled { IfOk result (λ c. HasCleanDisk (file_state c) → (file_state c).now ≡ (file_state c).committed) }
-    ensures database { IfOk result (λ c. HasCleanDisk (file_state c) → IsDatabase (file_state c).committed) }
-    ensures asked { IfOk result (λ c. purpose ≡ Purpose.Ask → (file_state c).now.schema ≢ no_schema) }
+    ensures kept { IfOk result (λ c. HasCleanDisk (file_state c)
+        → MayOpen purpose (image_of D.Disk files)) }
+    ensures found { IfOk result (λ c. HasCleanDisk (file_state c)
+        → FindsIn (image_of D.Disk files) (file_state c)) }
+    ensures settled { IfOk result (λ c. HasCleanDisk (file_state c)
+        → (file_state c).now ≡ (file_state c).committed) }
+    ensures database { IfOk result (λ c. HasCleanDisk (file_state c)
+        → IsDatabase (file_state c).committed) }
+    ensures asked { IfOk result (λ c. purpose ≡ Purpose.Ask
+        → (file_state c).now.schema ≢ no_schema) }
     ensures cause { IfErr result (λ e. IsOfOpening e.0) }
-    ensures untouched { IfErr result (λ e. e.0 ≡ Fault.Unopened Cause.LogAlone → OnlyReads D.Disk files.log e.1.log × OnlyReads D.Disk files.db e.1.db) }
+    ensures untouched { IfErr result (λ e. e.0 ≡ Fault.Unopened Cause.LogAlone
+        → OnlyReads D.Disk files.log e.1.log × OnlyReads D.Disk files.db e.1.db) }
 {
     if let Err(refusal) = admit(alloc, &mut files, purpose) {
         return Err((Fault::from(refusal), files));
@@ -165,7 +174,8 @@ fn if_asked<D: Disk + Drop>(
     purpose: Purpose,
 ) -> Result<Connection<FileStore<D>>, (Fault, Files<D>)>
     ensures same { IfOk result (λ c. c ≡ connection) }
-    ensures asked { OnOk result (purpose ≡ Purpose.Ask → (file_state connection).now.schema ≢ no_schema) }
+    ensures asked { OnOk result (purpose ≡ Purpose.Ask
+        → (file_state connection).now.schema ≢ no_schema) }
     ensures cause { IfErr result (λ e. e.0 ≡ Fault.NoSuchStore) }
 {
     if purpose == Purpose::Ask && is_nothing(connection.schema()) {
@@ -205,7 +215,10 @@ fn book_over<S: Alter, W: Watch>(
     requires limit { IsLimit limit }
     ensures office { IfOk result (λ book. book.office ≡ office) }
     ensures limit { IfOk result (λ book. book.limit ≡ limit) }
-    ensures content { IfOk result (λ book. HasCleanDisk (state S.Store book.shelf.conn) → HasCleanDisk (state S.Store connection) × WasHeld (office_of office) (state S.Store connection).committed (⟦<SqlShelf<S> as Shelf>⟧.state book.shelf).content) }
+    ensures content { IfOk result (λ book. HasCleanDisk (state S.Store book.shelf.conn)
+        → HasCleanDisk (state S.Store connection)
+        × WasHeld (office_of office) (state S.Store connection).committed
+        (⟦<SqlShelf<S> as Shelf>⟧.state book.shelf).content) }
 {
     match SqlShelf::open_watched(alloc, connection, text, watch) {
         Ok(shelf) => Ok(Book::new(office, Zone::central(), shelf, limit)),

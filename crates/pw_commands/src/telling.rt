@@ -19,8 +19,12 @@ pub fn finish<O: Write, E: Write>(
     out: &mut O,
     err: &mut E,
 ) -> u8
-    ensures text { IfOk text (λ text. ((result ≡ 0) × Appends (O.contents out.old) (O.contents out.new) text.items × (err.new ≡ err.old)) ⊎ ((result ≡ 3) × WritesFront (O.contents out.old) (O.contents out.new) text.items × IsTold Fault.Device (E.contents err.old) (E.contents err.new) result)) }
-    ensures fault { IfErr text (λ fault. (out.new ≡ out.old) × IsTold fault (E.contents err.old) (E.contents err.new) result) }
+    ensures text { IfOk text (λ text. ((result ≡ 0)
+        × Appends (O.contents out.old) (O.contents out.new) text.items × (err.new ≡ err.old))
+        ⊎ ((result ≡ 3) × WritesFront (O.contents out.old) (O.contents out.new) text.items
+        × IsTold Fault.Device (E.contents err.old) (E.contents err.new) result)) }
+    ensures fault { IfErr text (λ fault. (out.new ≡ out.old)
+        × IsTold fault (E.contents err.old) (E.contents err.new) result) }
 {
     match text {
         Ok(text) => match write_whole(out, text.as_slice()) {

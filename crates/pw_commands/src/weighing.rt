@@ -34,7 +34,9 @@ pub fn weigh<S: Shelf>(
     new: &Office,
     words: &[Respelling<'_>],
 ) -> Result<Weighed, BookFault>
-    ensures weighed { S.clean book.new.shelf → IfOk result (λ weighed. IsWeighed words.now (record { old = book.old.office; new = new.now }) (S.state book.old.shelf).content.records weighed.adopts) }
+    ensures weighed { S.clean book.new.shelf → IfOk result
+        (λ weighed. IsWeighed words.now (record { old = book.old.office; new = new.now })
+        (S.state book.old.shelf).content.records weighed.adopts) }
     ensures question { IsQuestion S.Shelf result book.old book.new }
 {
     book.still_open()?;
@@ -53,7 +55,8 @@ fn weigh_files(
     words: &[Respelling<'_>],
     last: &Option<Instant>,
 ) -> io::Result<Weighed>
-    ensures { IfOk result (λ weighed. IsTrue weighed.adopts ↔ IsAdopted words.now last.now (record { old = old.now; new = new.now })) }
+    ensures { IfOk result (λ weighed. IsTrue weighed.adopts
+        ↔ IsAdopted words.now last.now (record { old = old.now; new = new.now })) }
 {
     let changes = changes_between(alloc, old, new)?;
     let mut text = Vec::new(alloc);
@@ -93,7 +96,8 @@ fn put_all_unmet(
     changes: &[Change],
 ) -> io::Result<bool>
     requires { AreChanges (record { old = old.now; new = new.now }) changes.now }
-    ensures { IfOk result (λ all_met. IsTrue all_met ↔ All (IsMet (record { old = old.now; new = new.now })) words.now) }
+    ensures { IfOk result (λ all_met. IsTrue all_met
+        ↔ All (IsMet (record { old = old.now; new = new.now })) words.now) }
 {
     let mut all_met = true;
     for word in words {

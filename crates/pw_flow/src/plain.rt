@@ -70,7 +70,8 @@ fn pair_energy<F: Fn(u32) -> bool>(from: Point, to: Point, keeps: &F) -> u64
 pub fn energy<F: Fn(u32) -> bool>(points: &[Point], keeps: F) -> u128
     requires rising { AreInTime (λ p. p.at) points.now }
     requires callable { F.IsAlwaysCallable keeps }
-    ensures { (asked : ℕ → Bool) (end : ℕ) → AnswersBy (F.post keeps) asked → All (λ p. p.at < end) points.now →
+    ensures { (asked : ℕ → Bool) (end : ℕ) → AnswersBy (F.post keeps) asked
+        → All (λ p. p.at < end) points.now →
         result ≡ register_energy asked (value_at points.now) end }
 {
     let mut total = 0;

@@ -39,10 +39,14 @@ pub enum Found {
 pub fn look<D: Disk>(alloc: Global, files: &mut Files<D>) -> Result<Found, Refusal>
     requires log { IsTrue (D.Disk.is_usable files.old.log) }
     requires db { IsTrue (D.Disk.is_usable files.old.db) }
-    ensures nothing { IfOk result (λ found. AreClean D.Disk files.new.log files.new.db → found ≡ Found.Nothing → IsNothing (seen_image D.Disk files.old.log files.old.db)) }
-    ensures alone { IfOk result (λ found. AreClean D.Disk files.new.log files.new.db → found ≡ Found.LogAlone → IsLogAlone (seen_image D.Disk files.old.log files.old.db)) }
-    ensures cut { IfOk result (λ found. AreClean D.Disk files.new.log files.new.db → found ≡ Found.Cut → IsCut (seen_image D.Disk files.old.log files.old.db)) }
-    ensures file { IfOk result (λ found. AreClean D.Disk files.new.log files.new.db → found ≡ Found.File → ¬ IsNoDatabase (seen_image D.Disk files.old.log files.old.db)) }
+    ensures nothing { IfOk result (λ found. AreClean D.Disk files.new.log files.new.db
+        → found ≡ Found.Nothing → IsNothing (seen_image D.Disk files.old.log files.old.db)) }
+    ensures alone { IfOk result (λ found. AreClean D.Disk files.new.log files.new.db
+        → found ≡ Found.LogAlone → IsLogAlone (seen_image D.Disk files.old.log files.old.db)) }
+    ensures cut { IfOk result (λ found. AreClean D.Disk files.new.log files.new.db
+        → found ≡ Found.Cut → IsCut (seen_image D.Disk files.old.log files.old.db)) }
+    ensures file { IfOk result (λ found. AreClean D.Disk files.new.log files.new.db
+        → found ≡ Found.File → ¬ IsNoDatabase (seen_image D.Disk files.old.log files.old.db)) }
     ensures cause { IfErr result IsOfLooking }
     ensures log { OnlyReads D.Disk files.old.log files.new.log }
     ensures db { OnlyReads D.Disk files.old.db files.new.db }
@@ -56,10 +60,14 @@ pub fn look<D: Disk>(alloc: Global, files: &mut Files<D>) -> Result<Found, Refus
 fn found_in<D: Disk>(alloc: Global, files: &mut Files<D>) -> Result<Found, Error>
     requires log { IsTrue (D.Disk.is_usable files.old.log) }
     requires db { IsTrue (D.Disk.is_usable files.old.db) }
-    ensures nothing { IfOk result (λ found. AreClean D.Disk files.new.log files.new.db → found ≡ Found.Nothing → IsNothing (seen_image D.Disk files.old.log files.old.db)) }
-    ensures alone { IfOk result (λ found. AreClean D.Disk files.new.log files.new.db → found ≡ Found.LogAlone → IsLogAlone (seen_image D.Disk files.old.log files.old.db)) }
-    ensures cut { IfOk result (λ found. AreClean D.Disk files.new.log files.new.db → found ≡ Found.Cut → IsCut (seen_image D.Disk files.old.log files.old.db)) }
-    ensures file { IfOk result (λ found. AreClean D.Disk files.new.log files.new.db → found ≡ Found.File → ¬ IsNoDatabase (seen_image D.Disk files.old.log files.old.db)) }
+    ensures nothing { IfOk result (λ found. AreClean D.Disk files.new.log files.new.db
+        → found ≡ Found.Nothing → IsNothing (seen_image D.Disk files.old.log files.old.db)) }
+    ensures alone { IfOk result (λ found. AreClean D.Disk files.new.log files.new.db
+        → found ≡ Found.LogAlone → IsLogAlone (seen_image D.Disk files.old.log files.old.db)) }
+    ensures cut { IfOk result (λ found. AreClean D.Disk files.new.log files.new.db
+        → found ≡ Found.Cut → IsCut (seen_image D.Disk files.old.log files.old.db)) }
+    ensures file { IfOk result (λ found. AreClean D.Disk files.new.log files.new.db
+        → found ≡ Found.File → ¬ IsNoDatabase (seen_image D.Disk files.old.log files.old.db)) }
     ensures log { OnlyReads D.Disk files.old.log files.new.log }
     ensures db { OnlyReads D.Disk files.old.db files.new.db }
 {
@@ -79,7 +87,8 @@ fn found_in<D: Disk>(alloc: Global, files: &mut Files<D>) -> Result<Found, Error
 fn is_no_database<D: Disk>(alloc: Global, files: &mut Files<D>) -> Result<bool, Error>
     requires log { IsTrue (D.Disk.is_usable files.old.log) }
     requires db { IsTrue (D.Disk.is_usable files.old.db) }
-    ensures ok { IfOk result (λ found. AreClean D.Disk files.new.log files.new.db → (IsTrue found ↔ IsNoDatabase (seen_image D.Disk files.old.log files.old.db))) }
+    ensures ok { IfOk result (λ found. AreClean D.Disk files.new.log files.new.db
+        → (IsTrue found ↔ IsNoDatabase (seen_image D.Disk files.old.log files.old.db))) }
     ensures log { OnlyReads D.Disk files.old.log files.new.log }
     ensures db { OnlyReads D.Disk files.old.db files.new.db }
 {
@@ -90,7 +99,9 @@ fn is_no_database<D: Disk>(alloc: Global, files: &mut Files<D>) -> Result<bool, 
 fn is_blank<D: Disk>(alloc: Global, files: &mut Files<D>, has_sums: bool) -> Result<bool, Error>
     requires log { IsTrue (D.Disk.is_usable files.old.log) }
     requires db { IsTrue (D.Disk.is_usable files.old.db) }
-    ensures ok { IfOk result (λ found. AreClean D.Disk files.new.log files.new.db → (IsTrue found ↔ IsBlankFile (used_size 4096 has_sums) (seen_image D.Disk files.old.log files.old.db))) }
+    ensures ok { IfOk result (λ found. AreClean D.Disk files.new.log files.new.db
+        → (IsTrue found ↔ IsBlankFile (used_size 4096 has_sums)
+        (seen_image D.Disk files.old.log files.old.db))) }
     ensures log { OnlyReads D.Disk files.old.log files.new.log }
     ensures db { OnlyReads D.Disk files.old.db files.new.db }
 {
@@ -101,7 +112,9 @@ fn is_blank<D: Disk>(alloc: Global, files: &mut Files<D>, has_sums: bool) -> Res
 // Whether the file has one byte, the letter with which SQLite's begin.
 fn is_cut<D: Disk>(db: &mut D) -> io::Result<bool>
     requires { IsTrue (D.Disk.is_usable db.old) }
-    ensures ok { IfOk result (λ cut. IsClean D.Disk db.new → (IsTrue cut ↔ ((length (D.Disk.seen db.old) ≡ 1) × (slice_index (D.Disk.seen db.old) 0 ≡ 83)))) }
+    ensures ok { IfOk result (λ cut. IsClean D.Disk db.new
+        → (IsTrue cut ↔ ((length (D.Disk.seen db.old) ≡ 1)
+        × (slice_index (D.Disk.seen db.old) 0 ≡ 83)))) }
     ensures same { OnlyReads D.Disk db.old db.new }
 {
     if db.len()? != 1 {

@@ -93,7 +93,8 @@ fn size_at(rt: &HostRuntime, path: &str) -> Option<u64> {
 /// Whether the log has no commit, and the file needs none: where the log is empty, or the file isn't one that a first
 /// opening goes on with.
 pub fn needs_no_log<D: Disk>(alloc: Global, files: &mut Files<D>) -> bool
-    ensures { IsTrue result → AreClean D.Disk files.new.log files.new.db → NeedsNoLog (seen_image D.Disk files.old.log files.old.db) }
+    ensures { IsTrue result → AreClean D.Disk files.new.log files.new.db
+        → NeedsNoLog (seen_image D.Disk files.old.log files.old.db) }
 {
     if !files.may_be_used() {
         return false;
@@ -109,7 +110,8 @@ pub fn needs_no_log<D: Disk>(alloc: Global, files: &mut Files<D>) -> bool
 fn is_file<D: Disk>(alloc: Global, files: &mut Files<D>) -> bool
     requires log { IsTrue (D.Disk.is_usable files.old.log) }
     requires db { IsTrue (D.Disk.is_usable files.old.db) }
-    ensures file { IsTrue result → AreClean D.Disk files.new.log files.new.db → ¬ IsNoDatabase (seen_image D.Disk files.old.log files.old.db) }
+    ensures file { IsTrue result → AreClean D.Disk files.new.log files.new.db
+        → ¬ IsNoDatabase (seen_image D.Disk files.old.log files.old.db) }
     ensures log { OnlyReads D.Disk files.old.log files.new.log }
     ensures db { OnlyReads D.Disk files.old.db files.new.db }
 {

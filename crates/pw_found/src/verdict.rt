@@ -60,8 +60,11 @@ pub fn refused(found: Found, purpose: Purpose) -> Option<Refusal>
 pub fn admit<D: Disk>(alloc: Global, files: &mut Files<D>, purpose: Purpose) -> Result<(), Refusal>
     requires log { IsTrue (D.Disk.is_usable files.old.log) }
     requires db { IsTrue (D.Disk.is_usable files.old.db) }
-    ensures kept { OnOk result (AreClean D.Disk files.new.log files.new.db → MayOpen purpose (seen_image D.Disk files.old.log files.old.db)) }
-    ensures alone { result ≡ Err (Refusal.Unopened Cause.LogAlone) → AreClean D.Disk files.new.log files.new.db → IsLogAlone (seen_image D.Disk files.old.log files.old.db) }
+    ensures kept { OnOk result (AreClean D.Disk files.new.log files.new.db
+        → MayOpen purpose (seen_image D.Disk files.old.log files.old.db)) }
+    ensures alone { result ≡ Err (Refusal.Unopened Cause.LogAlone)
+        → AreClean D.Disk files.new.log files.new.db
+        → IsLogAlone (seen_image D.Disk files.old.log files.old.db) }
     ensures log { OnlyReads D.Disk files.old.log files.new.log }
     ensures db { OnlyReads D.Disk files.old.db files.new.db }
 {

@@ -48,15 +48,19 @@ impl<'a> Frames<'a> {
     pub fn next_frame(&mut self) -> Option<Result<Frame<'a>, FrameFault>>
         ensures body { self.new.body ≡ self.old.body }
         ensures within { self.new.place ≤ length self.new.body }
-        ensures rises { IfSome result (λ answer. IfOk answer (λ _. self.old.place < self.new.place)) }
+        ensures rises { IfSome result (λ answer. IfOk answer
+            (λ _. self.old.place < self.new.place)) }
         ensures ended { self.old.ended ≡ true → IsNone result × (self.new ≡ self.old) }
         ensures end { IfNone result (self.new ≡ self.old) }
-        ensures stops { IfSome result (λ answer. MatchResult answer (λ _. self.new.ended ≡ false) (λ _. self.new.ended ≡ true)) }
-        ensures next { self.old.ended ≡ false → (frames : List FrameText) → Front self.old.body frames self.old.place →
+        ensures stops { IfSome result (λ answer. MatchResult answer (λ _. self.new.ended ≡ false)
+            (λ _. self.new.ended ≡ true)) }
+        ensures next { self.old.ended ≡ false → (frames : List FrameText)
+            → Front self.old.body frames self.old.place →
             MatchOption result
             (BodyReading self.old.body frames × (self.new ≡ self.old))
             (λ answer. MatchResult answer
-            (λ frame. Front self.old.body (frames ++ frame_text frame ∷ []) self.new.place × (self.new.ended ≡ false))
+            (λ frame. Front self.old.body (frames ++ frame_text frame ∷ []) self.new.place
+            × (self.new.ended ≡ false))
             (λ fault. BodyFault self.old.body frames fault × (self.new.ended ≡ true))) }
     {
         if self.ended {

@@ -24,7 +24,8 @@ fn header_end(rest: &[u8]) -> usize
 // The kind of the frame that is opened at a place: by an empty line or by STX.
 fn kind_at(rest: &[u8], at: usize) -> Option<Kind>
     requires { at < 2 ^ 63 }
-    ensures some { IfSome result (λ kind. Opens kind rest.now at × (block_start kind at ≤ length rest.now + 2)) }
+    ensures some { IfSome result (λ kind. Opens kind rest.now at
+        × (block_start kind at ≤ length rest.now + 2)) }
     ensures none { IfNone result ((kind : Kind) → Opens kind rest.now at → ⊥) }
 {
     if byte_at(rest, at) == STX {

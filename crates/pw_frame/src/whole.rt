@@ -22,7 +22,8 @@ fn telegram_size(
     requires framed { Framed rest.now Telegram header_end block_end }
     requires within { block_end < length rest.now }
     ensures size { IfOk result (λ size. (size ≡ block_end + 7) × (size ≤ length rest.now)) }
-    ensures check { IfOk result (λ _. (check : ℕ) × FrameEnding Telegram rest.now block_end check × Checks Telegram rest.now header_end block_end check) }
+    ensures check { IfOk result (λ _. (check : ℕ) × FrameEnding Telegram rest.now block_end check
+        × Checks Telegram rest.now header_end block_end check) }
     ensures fault { IfErr result (λ fault. IsFault rest.now place fault) }
 {
     let Some(stated) = stated_crc(rest, block_end) else {
@@ -49,7 +50,8 @@ fn readout_size(
     requires framed { Framed rest.now Readout header_end block_end }
     requires within { block_end < length rest.now }
     ensures size { IfOk result (λ size. (size ≡ block_end + 5) × (size ≤ length rest.now)) }
-    ensures check { IfOk result (λ _. (check : ℕ) × FrameEnding Readout rest.now block_end check × Checks Readout rest.now header_end block_end check) }
+    ensures check { IfOk result (λ _. (check : ℕ) × FrameEnding Readout rest.now block_end check
+        × Checks Readout rest.now header_end block_end check) }
     ensures fault { IfErr result (λ fault. IsFault rest.now place fault) }
 {
     let Some(stated) = stated_check(rest, block_end) else {
@@ -76,8 +78,10 @@ fn frame_size(
 ) -> Result<usize, FrameFault>
     requires framed { Framed rest.now kind header_end block_end }
     requires within { block_end < length rest.now }
-    ensures size { IfOk result (λ size. (size ≡ block_end + ending_size kind) × (0 < size) × (size ≤ length rest.now)) }
-    ensures check { IfOk result (λ _. (check : ℕ) × FrameEnding kind rest.now block_end check × Checks kind rest.now header_end block_end check) }
+    ensures size { IfOk result (λ size. (size ≡ block_end + ending_size kind) × (0 < size)
+        × (size ≤ length rest.now)) }
+    ensures check { IfOk result (λ _. (check : ℕ) × FrameEnding kind rest.now block_end check
+        × Checks kind rest.now header_end block_end check) }
     ensures fault { IfErr result (λ fault. IsFault rest.now place fault) }
 {
     match kind {
@@ -89,7 +93,8 @@ fn frame_size(
 /// The frame that `rest` begins with, and its size, or what is wrong with it. `rest` begins at `place` in the body.
 pub fn first_frame<'a>(rest: &'a [u8], place: usize) -> Result<(Frame<'a>, usize), FrameFault>
     requires { place + length rest.now < 2 ^ 63 }
-    ensures whole { IfOk result (λ found. Whole rest.now (frame_text found.0) found.1 × (found.1 ≤ length rest.now)) }
+    ensures whole { IfOk result (λ found. Whole rest.now (frame_text found.0) found.1
+        × (found.1 ≤ length rest.now)) }
     ensures some { IfOk result (λ found. 0 < found.1) }
     ensures fault { IfErr result (λ fault. IsFault rest.now place fault) }
 {

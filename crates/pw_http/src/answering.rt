@@ -85,7 +85,8 @@ fn reply_in_turn<S: Service>(
     requires target { IsWithin (length bytes.now) whole.target }
     requires body { whole.start ≤ whole.len }
     requires within { whole.len ≤ length bytes.now }
-    ensures reply { IsReply S.serves service.old bytes.now whole may_be_large service.new outbox.new.items result }
+    ensures reply { IsReply S.serves service.old bytes.now whole may_be_large service.new
+        outbox.new.items result }
 {
     if !may_be_large && has_large_reply(routes, bytes, whole) {
         return Answer::Later;
@@ -109,7 +110,8 @@ fn answer_first<S: Service>(
 ) -> Answer
     requires some { 0 < length bytes.now }
     requires empty { outbox.old.items ≡ [] }
-    ensures answered { IsAnswer (IsAnswered audience.entry S.serves) IsStillCut service.old bytes.now ended may_be_large service.new outbox.new.items result }
+    ensures answered { IsAnswer (IsAnswered audience.entry S.serves) IsStillCut service.old
+        bytes.now ended may_be_large service.new outbox.new.items result }
 {
     let mut headers = [EMPTY_HEADER_SPAN; MOST_FIELDS];
     match ask_next(audience, bytes, ended, &mut headers) {
@@ -131,7 +133,8 @@ fn serve_all<S: Service, C: Connections>(
     connections: &mut C,
     turns: u64,
 )
-    ensures talks { IsManyTalks answering.old.audience.now S.serves answering.old.service.now (C.connection connections.old) (C.connection connections.new) answering.new.service.now }
+    ensures talks { IsManyTalks answering.old.audience.now S.serves answering.old.service.now
+        (C.connection connections.old) (C.connection connections.new) answering.new.service.now }
     ensures same { answering.new.service.ghost_name ≡ answering.old.service.ghost_name }
     ensures bounded { C.moves connections.new ≤ C.moves connections.old + 16 * turns }
 {
@@ -155,7 +158,8 @@ pub fn serve_connections<S: Service, C: Connections>(
     connections: &mut C,
     turns: u64,
 )
-    ensures talks { IsManyTalks audience.entry S.serves service.old (C.connection connections.old) (C.connection connections.new) service.new }
+    ensures talks { IsManyTalks audience.entry S.serves service.old (C.connection connections.old)
+        (C.connection connections.new) service.new }
     ensures bounded { C.moves connections.new ≤ C.moves connections.old + 16 * turns }
 {
     let mut answering = Answering {

@@ -51,7 +51,8 @@ pub(crate) fn reply_to<S: Shelf>(
     target: &[u8],
     body: &[u8],
 ) -> Answer
-    ensures { Answers S.Shelf book.old (record { method = method.now; target = target.now; body = body.now }) (reply_of result) book.new }
+    ensures { Answers S.Shelf book.old (record
+        { method = method.now; target = target.now; body = body.now }) (reply_of result) book.new }
 {
     match routes.place(method, target) {
         Place::NoPage => said(Status::NotFound, "no such page"),
@@ -68,8 +69,12 @@ fn converse_for<S: Shelf, R: Read, W: Write>(
     writer: &mut W,
     turns: u32,
 ) -> Result<Served, WireFault>
-    ensures talk { IsTalk audience.entry (Answers S.Shelf) (R.remaining reader.old) (R.remaining reader.new) (W.contents writer.old) (W.contents writer.new) book.old book.new turns result }
-    ensures headline { HasHeadline S.Shelf audience.entry (R.remaining reader.old) (R.remaining reader.new) (W.contents writer.old) (W.contents writer.new) book.old book.new result }
+    ensures talk { IsTalk audience.entry (Answers S.Shelf) (R.remaining reader.old)
+        (R.remaining reader.new) (W.contents writer.old) (W.contents writer.new) book.old book.new
+        turns result }
+    ensures headline { HasHeadline S.Shelf audience.entry (R.remaining reader.old)
+        (R.remaining reader.new) (W.contents writer.old) (W.contents writer.new) book.old book.new
+        result }
 {
     serve_for(alloc, book, audience, reader, writer, turns)
 }
@@ -94,8 +99,12 @@ pub fn converse_within<S: Shelf, R: Read, W: Write>(
     writer: &mut W,
     turns: u32,
 ) -> Result<Served, WireFault>
-    ensures talk { IsTalk Everybody (Answers S.Shelf) (R.remaining reader.old) (R.remaining reader.new) (W.contents writer.old) (W.contents writer.new) book.old book.new turns result }
-    ensures headline { HasHeadline S.Shelf Everybody (R.remaining reader.old) (R.remaining reader.new) (W.contents writer.old) (W.contents writer.new) book.old book.new result }
+    ensures talk { IsTalk Everybody (Answers S.Shelf) (R.remaining reader.old)
+        (R.remaining reader.new) (W.contents writer.old) (W.contents writer.new) book.old book.new
+        turns result }
+    ensures headline { HasHeadline S.Shelf Everybody (R.remaining reader.old)
+        (R.remaining reader.new) (W.contents writer.old) (W.contents writer.new) book.old book.new
+        result }
 {
     converse_for(alloc, book, Audience::Everybody, reader, writer, turns)
 }
@@ -107,8 +116,12 @@ pub fn converse<S: Shelf, R: Read, W: Write>(
     reader: &mut R,
     writer: &mut W,
 ) -> Result<Served, WireFault>
-    ensures talk { IsTalk Everybody (Answers S.Shelf) (R.remaining reader.old) (R.remaining reader.new) (W.contents writer.old) (W.contents writer.new) book.old book.new MOST_TURNS result }
-    ensures headline { HasHeadline S.Shelf Everybody (R.remaining reader.old) (R.remaining reader.new) (W.contents writer.old) (W.contents writer.new) book.old book.new result }
+    ensures talk { IsTalk Everybody (Answers S.Shelf) (R.remaining reader.old)
+        (R.remaining reader.new) (W.contents writer.old) (W.contents writer.new) book.old book.new
+        MOST_TURNS result }
+    ensures headline { HasHeadline S.Shelf Everybody (R.remaining reader.old)
+        (R.remaining reader.new) (W.contents writer.old) (W.contents writer.new) book.old book.new
+        result }
 {
     converse_within(alloc, book, reader, writer, MOST_TURNS)
 }
@@ -124,8 +137,12 @@ pub fn converse_with<S: Shelf, R: Read, W: Write>(
     reader: &mut R,
     writer: &mut W,
 ) -> Result<Served, WireFault>
-    ensures talk { IsTalk audience.entry (Answers S.Shelf) (R.remaining reader.old) (R.remaining reader.new) (W.contents writer.old) (W.contents writer.new) book.old book.new MOST_TURNS result }
-    ensures headline { HasHeadline S.Shelf audience.entry (R.remaining reader.old) (R.remaining reader.new) (W.contents writer.old) (W.contents writer.new) book.old book.new result }
+    ensures talk { IsTalk audience.entry (Answers S.Shelf) (R.remaining reader.old)
+        (R.remaining reader.new) (W.contents writer.old) (W.contents writer.new) book.old book.new
+        MOST_TURNS result }
+    ensures headline { HasHeadline S.Shelf audience.entry (R.remaining reader.old)
+        (R.remaining reader.new) (W.contents writer.old) (W.contents writer.new) book.old book.new
+        result }
 {
     converse_for(alloc, book, audience, reader, writer, MOST_TURNS)
 }

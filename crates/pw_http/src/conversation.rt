@@ -55,7 +55,8 @@ pub(crate) fn answer_whole<S: Service, W: Write>(
     requires target { IsWithin (length bytes.now) whole.target }
     requires body { whole.start ≤ whole.len }
     requires within { whole.len ≤ length bytes.now }
-    ensures serving { Serving S.serves service.old (asking_at bytes.now whole) whole.closes (W.contents writer.old) (W.contents writer.new) service.new result }
+    ensures serving { Serving S.serves service.old (asking_at bytes.now whole) whole.closes
+        (W.contents writer.old) (W.contents writer.new) service.new result }
     ensures fault { IfErr result (λ e. e ≡ WriteFault) }
 {
     let method = whole.method.of(bytes);
@@ -76,7 +77,8 @@ fn take_turn<S: Service, W: Write>(
     headers: &mut [HeaderSpan],
 ) -> Result<Turn, WireFault>
     requires room { length headers.old ≡ most_fields }
-    ensures turn { IsTurn audience.entry S.serves service.old inbox.old ended (W.contents writer.old) (W.contents writer.new) service.new inbox.new result }
+    ensures turn { IsTurn audience.entry S.serves service.old inbox.old ended
+        (W.contents writer.old) (W.contents writer.new) service.new inbox.new result }
     ensures room { length headers.new ≡ most_fields }
 {
     let whole = match ask_next(audience, inbox.unread(), ended, headers) {
@@ -117,7 +119,8 @@ fn answer_all<S: Service, W: Write>(
 ) -> Result<Batch, WireFault>
     requires room { length headers.old ≡ most_fields }
     requires fits { length inbox.old ≤ ROOM }
-    ensures batch { IsBatch audience.entry S.serves service.old inbox.old ended (W.contents writer.old) (W.contents writer.new) service.new inbox.new result }
+    ensures batch { IsBatch audience.entry S.serves service.old inbox.old ended
+        (W.contents writer.old) (W.contents writer.new) service.new inbox.new result }
     ensures room { length headers.new ≡ most_fields }
     ensures few { IfOk result (λ b. b.replies ≤ ROOM + 1) }
 {
@@ -167,7 +170,8 @@ pub fn serve_within<S: Service, R: Read, W: Write>(
     writer: &mut W,
     turns: u32,
 ) -> Result<Served, WireFault>
-    ensures talk { IsTalk audience.entry S.serves (R.remaining reader.old) (R.remaining reader.new) (W.contents writer.old) (W.contents writer.new) service.old service.new turns result }
+    ensures talk { IsTalk audience.entry S.serves (R.remaining reader.old) (R.remaining reader.new)
+        (W.contents writer.old) (W.contents writer.new) service.old service.new turns result }
 {
     let mut inbox = match Inbox::new(alloc) {
         Ok(inbox) => inbox,
@@ -210,7 +214,8 @@ pub(crate) fn serve_for<S: Service, R: Read, W: Write>(
     writer: &mut W,
     turns: u32,
 ) -> Result<Served, WireFault>
-    ensures talk { IsTalk audience.entry S.serves (R.remaining reader.old) (R.remaining reader.new) (W.contents writer.old) (W.contents writer.new) service.old service.new turns result }
+    ensures talk { IsTalk audience.entry S.serves (R.remaining reader.old) (R.remaining reader.new)
+        (W.contents writer.old) (W.contents writer.new) service.old service.new turns result }
 {
     let Ok(routes) = Routes::new(alloc) else {
         return Err(WireFault::Memory);
@@ -227,7 +232,8 @@ pub fn serve_to<S: Service, R: Read, W: Write>(
     reader: &mut R,
     writer: &mut W,
 ) -> Result<Served, WireFault>
-    ensures talk { IsTalk audience.entry S.serves (R.remaining reader.old) (R.remaining reader.new) (W.contents writer.old) (W.contents writer.new) service.old service.new MOST_TURNS result }
+    ensures talk { IsTalk audience.entry S.serves (R.remaining reader.old) (R.remaining reader.new)
+        (W.contents writer.old) (W.contents writer.new) service.old service.new MOST_TURNS result }
 {
     serve_for(alloc, service, audience, reader, writer, MOST_TURNS)
 }

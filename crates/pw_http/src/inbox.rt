@@ -23,8 +23,10 @@ fn shift(bytes: &mut [u8], filled: usize, n: usize)
 fn read_behind<R: Read>(reader: &mut R, bytes: &mut [u8], filled: usize) -> io::Result<usize>
     requires { filled < length bytes.old }
     ensures count { IfOk result (λ n. filled + n ≤ length bytes.old) }
-    ensures front { IfOk result (λ n. take (filled + n) bytes.new ≡ take filled bytes.old ++ take n (drop filled bytes.new)) }
-    ensures consumed { IfOk result (λ n. Consumes (R.remaining reader.old) (R.remaining reader.new) (take n (drop filled bytes.new))) }
+    ensures front { IfOk result (λ n. take (filled + n) bytes.new
+        ≡ take filled bytes.old ++ take n (drop filled bytes.new)) }
+    ensures consumed { IfOk result (λ n. Consumes (R.remaining reader.old) (R.remaining reader.new)
+        (take n (drop filled bytes.new))) }
     ensures end { IfOk result (λ n. n ≡ 0 → IsAtEnd (R.remaining reader.new)) }
     ensures len { length bytes.new ≡ length bytes.old }
     ensures kept { take filled bytes.new ≡ take filled bytes.old }
@@ -82,7 +84,8 @@ impl Inbox {
     /// Reads once.
     pub(crate) fn fill<R: Read>(&mut self, reader: &mut R) -> io::Result<usize>
         requires { length self.old < ROOM }
-        ensures filled { IfOk result (λ n. IsFilled self.old self.new (R.remaining reader.old) (R.remaining reader.new) n) }
+        ensures filled { IfOk result (λ n. IsFilled self.old self.new (R.remaining reader.old)
+            (R.remaining reader.new) n) }
         ensures err { OnErr result (self.new ≡ self.old) }
         ensures keeps { OnErr result (Keeps (R.remaining reader.old) (R.remaining reader.new)) }
     {

@@ -108,7 +108,8 @@ fn number(text: &[u8]) -> Option<u64>
 // The length of the body.
 fn said_length(buf: &[u8], spans: &[HeaderSpan]) -> Option<u64>
     requires { All (IsHeaderWithin (length buf.now)) spans.now }
-    ensures { result ≡ length_said (values_of (codes "content-length") (map (header_bytes buf.now) spans.now)) }
+    ensures { result ≡ length_said (values_of (codes "content-length")
+        (map (header_bytes buf.now) spans.now)) }
 {
     let mut count = 0usize;
     let mut said = Some(0);

@@ -29,7 +29,8 @@ pub(crate) fn send<W: Write>(writer: &mut W, bytes: &[u8]) -> Result<(), WireFau
 
 // Writes what stands behind the first part of a head: the rest of it, and the body.
 fn send_rest<W: Write>(writer: &mut W, content: ContentType, body: &[u8]) -> Result<(), WireFault>
-    ensures written { Writes (W.contents writer.old) (W.contents writer.new) (rest_of_head content ++ body.now) result }
+    ensures written { Writes (W.contents writer.old) (W.contents writer.new)
+        (rest_of_head content ++ body.now) result }
     ensures fault { IfErr result (λ e. e ≡ WriteFault) }
 {
     match send(writer, behind_head(content).as_bytes()) {
@@ -46,7 +47,9 @@ pub fn send_reply<W: Write>(
     closing: bool,
     body: &[u8],
 ) -> Result<(), WireFault>
-    ensures written { Writes (W.contents writer.old) (W.contents writer.new) (reply_bytes closing (record { status = status; content = content; body = body.now })) result }
+    ensures written { Writes (W.contents writer.old) (W.contents writer.new)
+        (reply_bytes closing (record { status = status; content = content; body = body.now }))
+        result }
     ensures fault { IfErr result (λ e. e ≡ WriteFault) }
 {
     let text = head(status, content, body.len(), closing);
@@ -58,7 +61,8 @@ pub fn send_reply<W: Write>(
 
 /// Writes the reply to what is no whole request. It takes no memory.
 pub(crate) fn refuse<W: Write>(writer: &mut W, why: Refusal) -> Result<(), WireFault>
-    ensures written { Writes (W.contents writer.old) (W.contents writer.new) (reply_bytes true (refusal_reply why)) result }
+    ensures written { Writes (W.contents writer.old) (W.contents writer.new)
+        (reply_bytes true (refusal_reply why)) result }
     ensures fault { IfErr result (λ e. e ≡ WriteFault) }
 {
     let line = line_of(why).as_bytes();

@@ -26,6 +26,8 @@ pub trait Service {
         closing: bool,
         writer: &mut W,
     ) -> Result<(), WireFault>
-        ensures serving { Serving serves self.old (record { method = method.now; target = target.now; body = body.now }) closing (W.contents writer.old) (W.contents writer.new) self.new result }
+        ensures serving { Serving serves self.old (record
+            { method = method.now; target = target.now; body = body.now }) closing
+            (W.contents writer.old) (W.contents writer.new) self.new result }
         ensures fault { IfErr result (λ e. e ≡ WriteFault) };
 }

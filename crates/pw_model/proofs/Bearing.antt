@@ -64,7 +64,7 @@ module _ (s t : List Entry) (e : Entry) (h : IsInserted e s t) where
   same = inserted-same s t e h
 
   -- what stands behind stood before, but for the record
-  stood : (x : Entry) → (x ≡ e → ⊥) → Member x (standing t) → Member x (standing s)
+  pub stood : (x : Entry) → (x ≡ e → ⊥) → Member x (standing t) → Member x (standing s)
   stood x n m =
       let r = standing-told t x m in
       elim ((same x).0 r.0) [
@@ -79,7 +79,7 @@ module _ (s t : List Entry) (e : Entry) (h : IsInserted e s t) where
       ]
 
   -- what stood stands behind, unless the record withdraws it
-  stands-still : (x : Entry) → (withdraws x e.key ≡ true → ⊥) → Member x (standing s) → Member x (standing t)
+  pub stands-still : (x : Entry) → (withdraws x e.key ≡ true → ⊥) → Member x (standing s) → Member x (standing t)
   stands-still x n m =
       let r = standing-told s x m in
       standing-member t x ((same x).1 (inr r.0)) (elim (cases_Bool (is_withdrawn t x)) [

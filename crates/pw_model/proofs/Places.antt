@@ -2,6 +2,9 @@
 use Rattle.std.proofs.Common.{◌≡◌, ◌⊎◌, ◌↔◌, ℕ, zero, suc, ◌+◌, ◌<◌, ◌≤◌, Bool, true, false, not, IsTrue, List, [], ◌∷◌, ◌++◌, length, get_or, take, drop, refl, ap, sym, subst, ◌∙◌, inl, inr, arith}
 use Rattle.std.proofs.lemmas.Bool.{cases_lt, true≢false}
 use Rattle.std.proofs.lemmas.List.{get_or_default, take_more, drop_more}
+use Rattle.std.proofs.lemmas.List.Sorted.{Contains-permutation, IsPermutation-sym}
+use Rattle.std.specs.List.{Contains}
+use Rattle.std.specs.List.Sorted.{IsPermutation}
 use Rattle.std.specs.Ordering.{ordering_then}
 use Rattle.std.specs.declared.cmp.Ordering.{Ordering}
 use Rattle.std.specs.declared.cmp.Ordering.TheVariants.{Less, Equal, Greater}
@@ -28,6 +31,12 @@ member-at (y ∷ ys) x (inl e) = (zero, (omega arith, sym e))
 member-at {X} (y ∷ ys) x (inr m) =
     let r : (i : ℕ) × IsAt ys i x = member-at ys x m in
     (suc r.0, (let l = r.1.0 in omega (arith, l), r.1.1))
+
+pub permuted : {X : Type 0} (xs ys : List X) → IsPermutation xs ys → SameMembers xs ys
+permuted xs ys p = λ x. (
+  λ m. (let a = member-at xs x m in let c : Contains ys x = Contains-permutation xs ys x p (a.0, a.1.0, a.1.1) in at-member ys c.0 x (c.1, c.2)),
+  λ m. (let a = member-at ys x m in let c : Contains xs x = Contains-permutation ys xs x (IsPermutation-sym xs ys p) (a.0, a.1.0, a.1.1) in at-member xs c.0 x (c.1, c.2)),
+)
 
 -- as loops tell it
 pub at-told : {X : Type 0} (xs : List X) (i : ℕ) (x : X) → i < length xs → x ≡ get_or xs i x → IsAt xs i x

@@ -7,6 +7,7 @@ mod in_order;
 pub mod laws;
 mod limits;
 mod named;
+mod of_office;
 pub mod plain;
 mod records;
 mod reference;
@@ -18,6 +19,7 @@ pub use compare::{
 };
 pub use in_order::sorted;
 pub use limits::{MOST_CENTS, MOST_RECORDS, NANO_IN_CENT};
+pub use of_office::{has_owner, is_of_office};
 pub use records::{Content, Contents, Dispute, Entry, Fall, Key, Named, ReadingRow, TotalKey};
 pub use reference::{LONGEST_REFERENCE, Reference};
-pub use registers::direction_of;
+pub use registers::{direction_of, register_place};

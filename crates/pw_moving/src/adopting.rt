@@ -21,7 +21,8 @@ pub fn may_be_adopted(
     change: Change,
 ) -> bool
     requires { Differs (record { old = old.now; new = new.now }) change }
-    ensures { IsTrue result ↔ MayBeAdopted words.now last (record { old = old.now; new = new.now }) change }
+    ensures { IsTrue result ↔ MayBeAdopted words.now last (record { old = old.now; new = new.now })
+        change }
 {
     match change {
         Change::Added { list, .. } => list != Listed::Bands,
@@ -90,7 +91,8 @@ fn is_behind(last: Option<Instant>, second: u32) -> bool
 fn is_spelt(words: &[Respelling<'_>], old: &Office, new: &Office, list: Listed, place: u16) -> bool
     requires old { place < length (names_in list old.now) }
     requires new { place < length (names_in list new.now) }
-    ensures { IsTrue result ↔ IsSpelt words.now (slice_get (names_in list old.now) place) (slice_get (names_in list new.now) place) }
+    ensures { IsTrue result ↔ IsSpelt words.now (slice_get (names_in list old.now) place)
+        (slice_get (names_in list new.now) place) }
 {
     match list {
         Listed::Accounts => {

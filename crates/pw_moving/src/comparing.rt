@@ -18,7 +18,8 @@ use std::alloc::{AllocError, Global};
 /// bands, periods) and of the lines of each. Where there is none, the two differ at most in texts that no rule reads.
 /// It fails only where memory is refused.
 pub fn changes_between(alloc: Global, old: &Office, new: &Office) -> Result<Vec<Change>, AllocError>
-    ensures { IfOk result (λ changes. AreChanges (record { old = old.now; new = new.now }) changes.items) }
+    ensures { IfOk result (λ changes. AreChanges (record { old = old.now; new = new.now })
+        changes.items) }
 {
     let mut changes = Vec::new(alloc);
     put_list(&mut changes, old, new, Listed::Accounts)?;
@@ -55,7 +56,8 @@ pub(crate) fn band_letter(office: &Office, place: u16) -> u8
 fn is_same_name(old: &Office, new: &Office, list: Listed, from: u16, to: u16) -> bool
     requires from { from < length (names_in list old.now) }
     requires to { to < length (names_in list new.now) }
-    ensures { IsTrue result ↔ (slice_get (names_in list old.now) from ≡ slice_get (names_in list new.now) to) }
+    ensures { IsTrue result ↔ (slice_get (names_in list old.now) from
+        ≡ slice_get (names_in list new.now) to) }
 {
     match list {
         Listed::Accounts => { old.account_name(AccountId(from)) == new.account_name(AccountId(to)) }
@@ -67,8 +69,10 @@ fn is_same_name(old: &Office, new: &Office, list: Listed, from: u16, to: u16) ->
 // The other place of the new list at which a name of the old one stands, if there is one.
 fn moved_to(old: &Office, new: &Office, list: Listed, from: u16) -> Option<u16>
     requires { from < length (names_in list old.now) }
-    ensures some { IfSome result (λ to. Differs (record { old = old.now; new = new.now }) (change.Moved list from to)) }
-    ensures none { IfNone result ((to : ℕ) → Differs (record { old = old.now; new = new.now }) (change.Moved list from to) → ⊥) }
+    ensures some { IfSome result (λ to. Differs (record { old = old.now; new = new.now })
+        (change.Moved list from to)) }
+    ensures none { IfNone result ((to : ℕ) → Differs (record { old = old.now; new = new.now })
+        (change.Moved list from to) → ⊥) }
 {
     for to in 0..count(new, list) {
         if to != from && is_same_name(old, new, list, from, to) {
@@ -85,7 +89,8 @@ fn put_list(
     new: &Office,
     list: Listed,
 ) -> Result<(), AllocError>
-    ensures { OnOk result (Puts (AreOfList (record { old = old.now; new = new.now }) (list_place list)) changes.old.items changes.new.items) }
+    ensures { OnOk result (Puts (AreOfList (record { old = old.now; new = new.now })
+        (list_place list)) changes.old.items changes.new.items) }
 {
     for place in 0..count(old, list).max(count(new, list)) {
         put_line(changes, old, new, list, place)?;
@@ -101,7 +106,8 @@ fn put_line(
     list: Listed,
     place: u16,
 ) -> Result<(), AllocError>
-    ensures { OnOk result (Puts (AreOfLine (record { old = old.now; new = new.now }) (list_place list) place) changes.old.items changes.new.items) }
+    ensures { OnOk result (Puts (AreOfLine (record { old = old.now; new = new.now })
+        (list_place list) place) changes.old.items changes.new.items) }
 {
     put_name(changes, old, new, list, place)?;
     match list {
@@ -123,7 +129,8 @@ fn put_name(
     list: Listed,
     place: u16,
 ) -> Result<(), AllocError>
-    ensures { OnOk result (Puts (AreOfName (record { old = old.now; new = new.now }) (list_place list) place) changes.old.items changes.new.items) }
+    ensures { OnOk result (Puts (AreOfName (record { old = old.now; new = new.now })
+        (list_place list) place) changes.old.items changes.new.items) }
 {
     let (olds, news) = (count(old, list), count(new, list));
     if olds <= place {
@@ -152,7 +159,8 @@ fn put_at_place(
     place: u16,
 ) -> Result<(), AllocError>
     requires { place < length (names_in list old.now) }
-    ensures { OnOk result (Puts (AreOfPlace (record { old = old.now; new = new.now }) list place) changes.old.items changes.new.items) }
+    ensures { OnOk result (Puts (AreOfPlace (record { old = old.now; new = new.now }) list place)
+        changes.old.items changes.new.items) }
 {
     if count(new, list) <= place {
         changes.push(Change::Gone { list, place })?;
@@ -171,7 +179,8 @@ fn put_meter(
 ) -> Result<(), AllocError>
     requires old { meter.0 < length old.now.meters }
     requires new { meter.0 < length new.now.meters }
-    ensures { OnOk result (Puts (AreOfMeter (record { old = old.now; new = new.now }) meter.0) changes.old.items changes.new.items) }
+    ensures { OnOk result (Puts (AreOfMeter (record { old = old.now; new = new.now }) meter.0)
+        changes.old.items changes.new.items) }
 {
     if !is_same_clock(old.clock(meter), new.clock(meter)) {
         changes.push(Change::Clock { meter })?;
@@ -195,7 +204,8 @@ fn put_registers(
 ) -> Result<(), AllocError>
     requires old { meter.0 < length old.now.meters }
     requires new { meter.0 < length new.now.meters }
-    ensures { OnOk result (Puts (AreOfRegisters (record { old = old.now; new = new.now }) meter.0 6) changes.old.items changes.new.items) }
+    ensures { OnOk result (Puts (AreOfRegisters (record { old = old.now; new = new.now }) meter.0 6)
+        changes.old.items changes.new.items) }
 {
     for register in &Register::ALL {
         let register = *register;
@@ -210,7 +220,8 @@ fn put_registers(
 
 // Puts the changes of periods.
 fn put_periods(changes: &mut Vec<Change>, old: &Office, new: &Office) -> Result<(), AllocError>
-    ensures { OnOk result (Puts (AreOfList (record { old = old.now; new = new.now }) 3) changes.old.items changes.new.items) }
+    ensures { OnOk result (Puts (AreOfList (record { old = old.now; new = new.now }) 3)
+        changes.old.items changes.new.items) }
 {
     for period in 0..old.periods().max(new.periods()) {
         put_period(changes, old, new, PeriodId(period))?;
@@ -226,7 +237,8 @@ fn put_period(
     period: PeriodId,
 ) -> Result<(), AllocError>
     requires { (period.0 < periods_in old.now) ⊎ (period.0 < periods_in new.now) }
-    ensures { OnOk result (Puts (AreOfLine (record { old = old.now; new = new.now }) 3 period.0) changes.old.items changes.new.items) }
+    ensures { OnOk result (Puts (AreOfLine (record { old = old.now; new = new.now }) 3 period.0)
+        changes.old.items changes.new.items) }
 {
     if old.periods() <= period.0 {
         changes.push(Change::NewPeriod { period })?;
@@ -271,7 +283,8 @@ fn put_prices(
 ) -> Result<(), AllocError>
     requires old { period.0 < periods_in old.now }
     requires new { period.0 < periods_in new.now }
-    ensures { OnOk result (Puts (AreOfBands (record { old = old.now; new = new.now }) period.0 (length old.now.bands)) changes.old.items changes.new.items) }
+    ensures { OnOk result (Puts (AreOfBands (record { old = old.now; new = new.now }) period.0
+        (length old.now.bands)) changes.old.items changes.new.items) }
 {
     for band in 0..old.bands().min(new.bands()) {
         let band = BandId(band);
@@ -292,7 +305,8 @@ fn put_price(
 ) -> Result<(), AllocError>
     requires period { IsOfBoth period.0 (periods_in old.now) (periods_in new.now) }
     requires band { IsOfBoth band.0 (length old.now.bands) (length new.now.bands) }
-    ensures { OnOk result (Puts (AreOfPrice (record { old = old.now; new = new.now }) period band direction) changes.old.items changes.new.items) }
+    ensures { OnOk result (Puts (AreOfPrice (record { old = old.now; new = new.now }) period band
+        direction) changes.old.items changes.new.items) }
 {
     if old.price(period, band, direction) != new.price(period, band, direction) {
         changes.push(Change::Price {

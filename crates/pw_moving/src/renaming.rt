@@ -38,7 +38,8 @@ fn accounts_of(
     old: &Office,
     new: &Office,
 ) -> Result<Vec<Option<AccountId>>, AllocError>
-    ensures { IfOk result (λ table. HasAccounts (record { old = old.now; new = new.now }) (length old.now.accounts) table.items) }
+    ensures { IfOk result (λ table. HasAccounts (record { old = old.now; new = new.now })
+        (length old.now.accounts) table.items) }
 {
     let mut table = Vec::with_capacity(alloc, old.accounts() as usize)?;
     for account in 0..old.accounts() {
@@ -50,7 +51,8 @@ fn accounts_of(
 
 // The place of each meter, likewise.
 fn meters_of(alloc: Global, old: &Office, new: &Office) -> Result<Vec<Option<MeterId>>, AllocError>
-    ensures { IfOk result (λ table. HasMeters (record { old = old.now; new = new.now }) (length old.now.meters) table.items) }
+    ensures { IfOk result (λ table. HasMeters (record { old = old.now; new = new.now })
+        (length old.now.meters) table.items) }
 {
     let mut table = Vec::with_capacity(alloc, old.meters() as usize)?;
     for meter in 0..old.meters() {
@@ -83,7 +85,8 @@ impl<'a> Renaming<'a> {
     /// account or a meter that it names isn't there, or its register doesn't count there. It takes no memory.
     pub fn carry(&self, entry: &Entry) -> Option<Entry>
         requires { IsOfOffice (office_of self.now.old) entry.now }
-        ensures some { IfSome result (λ e. (e ≡ carried self.now entry.now) × IsOfOffice (office_of self.now.new) e) }
+        ensures some { IfSome result (λ e. (e ≡ carried self.now entry.now)
+            × IsOfOffice (office_of self.now.new) e) }
         ensures none { IfNone result (CanBeCarried self.now entry.now → ⊥) }
     {
         if let Key::Withdrawal { named } = &entry.key {
@@ -100,8 +103,10 @@ impl<'a> Renaming<'a> {
     // A reading, an assignment or a top-up in the new office.
     fn carry_named(&self, named: &Named) -> Option<Named>
         requires { IsNamedOf (office_of self.now.old) named.now }
-        ensures some { IfSome result (λ n. (n ≡ named_as (by_names self.now) named.now) × IsNamedOf (office_of self.now.new) n) }
-        ensures none { IfNone result (IsNamedOf (office_of self.now.new) (named_as (by_names self.now) named.now) → ⊥) }
+        ensures some { IfSome result (λ n. (n ≡ named_as (by_names self.now) named.now)
+            × IsNamedOf (office_of self.now.new) n) }
+        ensures none { IfNone result (IsNamedOf (office_of self.now.new)
+            (named_as (by_names self.now) named.now) → ⊥) }
     {
         let mut there = *named;
         match &mut there {
@@ -127,7 +132,8 @@ impl<'a> Renaming<'a> {
     // An account in the new office.
     fn account(&self, account: AccountId) -> Option<AccountId>
         requires { account.0 < length self.now.old.accounts }
-        ensures { result ≡ account_below (length self.now.new.accounts) ((by_names self.now).account account.0) }
+        ensures { result ≡ account_below (length self.now.new.accounts)
+            ((by_names self.now).account account.0) }
     {
         self.accounts[account.0 as usize]
     }
@@ -135,7 +141,8 @@ impl<'a> Renaming<'a> {
     // A meter in the new office.
     fn meter(&self, meter: MeterId) -> Option<MeterId>
         requires { meter.0 < length self.now.old.meters }
-        ensures { result ≡ meter_below (length self.now.new.meters) ((by_names self.now).meter meter.0) }
+        ensures { result ≡ meter_below (length self.now.new.meters)
+            ((by_names self.now).meter meter.0) }
     {
         self.meters[meter.0 as usize]
     }
@@ -143,8 +150,10 @@ impl<'a> Renaming<'a> {
     // An owner in the new office: nobody, or an account.
     fn owner(&self, owner: Owner) -> Option<Owner>
         requires { HasOwner (office_of self.now.old) owner }
-        ensures some { IfSome result (λ o. (o ≡ owner_as (by_names self.now) owner) × HasOwner (office_of self.now.new) o) }
-        ensures none { IfNone result (HasOwner (office_of self.now.new) (owner_as (by_names self.now) owner) → ⊥) }
+        ensures some { IfSome result (λ o. (o ≡ owner_as (by_names self.now) owner)
+            × HasOwner (office_of self.now.new) o) }
+        ensures none { IfNone result (HasOwner (office_of self.now.new)
+            (owner_as (by_names self.now) owner) → ⊥) }
     {
         match owner {
             None => Some(None),

@@ -11,7 +11,8 @@ use crate::texts::behind_mark;
 // The group that a text begins with, and what stands behind it: one to three digits, of a value at most 255.
 fn first_group(text: &[u8]) -> Option<(u8, &[u8])>
     ensures some { IfSome result (λ read. FirstGroup text.now read.0 read.1.now) }
-    ensures none { IfNone result ((value : ℕ) (rest : List ℕ) → FirstGroup text.now value rest → ⊥) }
+    ensures none { IfNone result ((value : ℕ) (rest : List ℕ) → FirstGroup text.now value rest
+        → ⊥) }
 {
     let mut value: u32 = 0;
     let mut end = 0;

@@ -39,7 +39,8 @@ impl<'a> Block<'a> {
     /// 20 at the first line that isn't in the grammar.
     pub fn checked(bytes: &'a [u8]) -> Result<Block<'a>, LineFault>
         ensures block { IfOk result (λ block. HasSets bytes.now block None) }
-        ensures fault { IfErr result (λ fault. (sets : List SetText) × HasSets bytes.now sets (Some fault.at)) }
+        ensures fault { IfErr result (λ fault. (sets : List SetText)
+            × HasSets bytes.now sets (Some fault.at)) }
     {
         match first_bad_line(bytes) {
             None => Ok(Block { bytes }),

@@ -71,7 +71,8 @@ fn values_end(block: &[u8], from: usize) -> Option<usize>
 pub fn set_end(block: &[u8], from: usize) -> Option<(usize, usize)>
     requires { from ≤ length block.now }
     ensures some { IfSome result (λ ends. SetAt block.now from ends.0 ends.1) }
-    ensures within { IfSome result (λ ends. (from ≤ ends.0) × (ends.0 < ends.1) × (ends.1 ≤ length block.now)) }
+    ensures within { IfSome result (λ ends. (from ≤ ends.0) × (ends.0 < ends.1)
+        × (ends.1 ≤ length block.now)) }
     ensures none { IfNone result ((mid to : ℕ) → SetAt block.now from mid to → ⊥) }
 {
     let mid = text_end(block, from);
@@ -86,7 +87,8 @@ pub fn line_end(block: &[u8], from: usize) -> Option<usize>
     requires { from ≤ length block.now }
     ensures some { IfSome result (λ end. (sets : List SetText) × SetsAt block.now from end sets) }
     ensures within { IfSome result (λ end. (from ≤ end) × (end + 2 ≤ length block.now)) }
-    ensures none { IfNone result ((end : ℕ) (sets : List SetText) → SetsAt block.now from end sets → ⊥) }
+    ensures none { IfNone result ((end : ℕ) (sets : List SetText) → SetsAt block.now from end sets
+        → ⊥) }
 {
     let mut at = from;
     while byte_at(block, at) != b'\r' {

@@ -54,7 +54,8 @@ pub fn is_numeral(text: &[u8]) -> bool
 pub fn with_digits(number: u64, digits: &[u8]) -> Option<u64>
     requires start { number ≤ LARGEST_WATT_HOURS }
     requires digits { AllDigits 10 digits.now }
-    ensures some { IfSome result (λ n. (n ≡ digits_value_after 10 number digits.now) × (n ≤ LARGEST_WATT_HOURS)) }
+    ensures some { IfSome result (λ n. (n ≡ digits_value_after 10 number digits.now)
+        × (n ≤ LARGEST_WATT_HOURS)) }
     ensures none { IfNone result (LARGEST_WATT_HOURS < digits_value_after 10 number digits.now) }
 {
     let mut value = number;

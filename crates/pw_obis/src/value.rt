@@ -47,7 +47,8 @@ fn measured(text: &[u8]) -> Option<(EnergyUnit, &[u8])>
 fn scaled(whole: &[u8], decimals: &[u8]) -> Option<WattHours>
     requires whole { AllDigits 10 whole.now }
     requires decimals { AllDigits 10 decimals.now }
-    ensures some { IfSome result (λ wh. (wh ≡ thousandths whole.now decimals.now) × (wh ≤ LARGEST_WATT_HOURS)) }
+    ensures some { IfSome result (λ wh. (wh ≡ thousandths whole.now decimals.now)
+        × (wh ≤ LARGEST_WATT_HOURS)) }
     ensures none { IfNone result (LARGEST_WATT_HOURS < thousandths whole.now decimals.now) }
 {
     let Some(kilo) = with_digits(0, whole) else {
@@ -77,7 +78,8 @@ fn place_value(places: usize) -> u64
 // The digits before the point, and those behind it.
 fn parts(number: &[u8]) -> Option<(&[u8], &[u8])>
     ensures some { IfSome result (λ p. Decimal number.now p.0.now p.1.now) }
-    ensures none { IfNone result ((whole decimals : List ℕ) → Decimal number.now whole decimals → ⊥) }
+    ensures none { IfNone result ((whole decimals : List ℕ) → Decimal number.now whole decimals
+        → ⊥) }
 {
     let point = find(number, b'.');
     let whole = &number[..point];

@@ -1,7 +1,7 @@
 -- What the top-ups that count give together.
-use Rattle.std.proofs.Common.{◌≡◌, ℕ, ◌+◌, List, [], ◌∷◌, ◌++◌, refl, ap, sym, ◌∙◌, subst, inl, inr, ◌⊎◌, arith}
+use Rattle.std.proofs.Common.{◌≡◌, ℕ, ◌+◌, List, [], ◌∷◌, ◌++◌, refl, ap, sym, ◌∙◌, subst, inl, inr, ◌⊎◌}
 use Rattle.std.specs.List.{sum_by}
-use Rattle.std.proofs.lemmas.Bool.{cases_Bool, true≢false}
+use Rattle.std.proofs.lemmas.Bool.{cases_Bool}
 use Rattle.std.proofs.lemmas.List.Sums.{sum_by-cons}
 use Rattle.pw_tariff.specs.Office.{OfficeRules}
 use Rattle.pw_model.specs.declared.records.Key.{Key}
@@ -18,25 +18,13 @@ use Rattle.pw_model.specs.Payments.{stands_in, sum_once, keys, cents_for, topped
 use Rattle.pw_model.specs.Same.{same_key, entry_order}
 use Rattle.pw_model.proofs.Same.{same_key-decides}
 use Rattle.pw_model.proofs.Counting.{entry, standing-part, one-stands, counts-one, one-is_counting}
-use Rattle.pw_model.proofs.Once.{once-same, stands-decides}
+use Rattle.pw_model.proofs.Once.{once-front, once-same, stands-decides}
 use Rattle.pw_model.proofs.Answers.{key-back}
 use Rattle.pw_model.specs.Kinds.{IsTopUp}
 use Rattle.pw_parts.specs.inner.Counted.{ListsCounting}
 use Rattle.pw_parts.proofs.Keys.{entry-apart}
-use Rattle.pw_model.proofs.Places.{member-left, member-right, member-split}
+use Rattle.pw_model.proofs.Places.{member-left, member-split}
 use Rattle.pw_model.proofs.InOrder.{before-member}
-
--- what stands in front and is told again, or tells nothing, adds nothing
-once-front : (f : Key → ℕ) (xs ys : List Key) → ((x : Key) → Member x xs → (Member x ys → ⊥) → f x ≡ 0) → sum_once same_key f (xs ++ ys) ≡ sum_once same_key f ys
-once-front f [] ys h = refl
-once-front f (x ∷ xs) ys h =
-    let behind = once-front f xs ys (λ z m n. h z (inr m) n) in
-    elim (cases_Bool (stands_in same_key x (xs ++ ys))) [
-      | inl t ↦ rw t (omega (arith, behind))
-      | inr u ↦ (
-          let zero : f x ≡ 0 = h x (inl refl) (λ m. true≢false (sym ((stands-decides same_key same_key-decides f x (xs ++ ys)).1 (member-right x xs ys m)) ∙ u)) in
-          rw (u, zero) (omega (arith, behind)))
-    ]
 
 key-of : (k : Key) (es : List Entry) → Member k (keys es) → (e : Entry) × Member e es × (e.key ≡ k)
 key-of k [] m = absurd m
@@ -117,4 +105,4 @@ topped-up-is office s counted a o l =
     let each = once-each f counted l.rising (λ x y m n i. ((l.members y).0 n).0.1 x ((l.members x).0 m).0.0 i) in
     let same : sum_by (λ (e : Entry). cents_for a (One e.content)) counted ≡ sum_by (λ (e : Entry). f e.key) counted =
     sums-agree (λ (e : Entry). cents_for a (One e.content)) (λ (e : Entry). f e.key) counted (λ e m. sym (ap (cents_for a) (counts-one s e ((l.members e).0 m).0))) in
-    same ∙ sym each ∙ sym (once-front f (keys s) (keys counted) zero) ∙ sym (once-same same_key same_key-decides f (keys s) (keys s ++ keys counted) both)
+    same ∙ sym each ∙ sym (once-front same_key same_key-decides f (keys s) (keys counted) zero) ∙ sym (once-same same_key same_key-decides f (keys s) (keys s ++ keys counted) both)

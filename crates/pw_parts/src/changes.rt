@@ -105,8 +105,12 @@ impl Changes {
     // Gathers an amount for a total.
     pub(crate) fn add(&mut self, side: Side, key: TotalKey, amount: u64) -> Result<(), AllocError>
         requires fits { gathered side self.old.rows key + amount < 2 ^ 128 }
-        ensures gathered { OnOk result ((k : AnyTotal) → gathered side self.new.rows k ≡ gathered side self.old.rows k + cond (same_total key k) amount 0) }
-        ensures other { OnOk result ((k : AnyTotal) → gathered (other_side side) self.new.rows k ≡ gathered (other_side side) self.old.rows k) }
+        ensures gathered { OnOk result ((k : AnyTotal)
+            → gathered side self.new.rows k
+            ≡ gathered side self.old.rows k + cond (same_total key k) amount 0) }
+        ensures other { OnOk result ((k : AnyTotal)
+            → gathered (other_side side) self.new.rows k
+            ≡ gathered (other_side side) self.old.rows k) }
     {
         let change = self.at(&key).with(side, u128::from(amount));
         self.rows.insert(key, change)?;
@@ -121,10 +125,17 @@ impl Changes {
         cells: &[Cell],
     ) -> Result<(), AllocError>
         requires in_order { AreInOrder cells.now }
-        requires fits { (k : AnyTotal) → gathered side self.old.rows k + energy_of_all cells.now < 2 ^ 128 }
-        ensures gathered { OnOk result ((k : AnyTotal) → gathered side self.new.rows k ≡ gathered side self.old.rows k + cells_for direction cells.now k) }
-        ensures all { OnOk result ((k : AnyTotal) → gathered side self.new.rows k ≤ gathered side self.old.rows k + energy_of_all cells.now) }
-        ensures other { OnOk result ((k : AnyTotal) → gathered (other_side side) self.new.rows k ≡ gathered (other_side side) self.old.rows k) }
+        requires fits { (k : AnyTotal) → gathered side self.old.rows k + energy_of_all cells.now
+            < 2 ^ 128 }
+        ensures gathered { OnOk result ((k : AnyTotal)
+            → gathered side self.new.rows k
+            ≡ gathered side self.old.rows k + cells_for direction cells.now k) }
+        ensures all { OnOk result ((k : AnyTotal)
+            → gathered side self.new.rows k
+            ≤ gathered side self.old.rows k + energy_of_all cells.now) }
+        ensures other { OnOk result ((k : AnyTotal)
+            → gathered (other_side side) self.new.rows k
+            ≡ gathered (other_side side) self.old.rows k) }
     {
         for cell in cells {
             let key = TotalKey::Energy {
@@ -141,7 +152,8 @@ impl Changes {
     // The totals that gain something, by their keys.
     pub(crate) fn gains(&self, alloc: Global) -> Result<Vec<(TotalKey, u64)>, AllocError>
         requires { (k : AnyTotal) → total_in self.now.rows k < 2 ^ 64 }
-        ensures { IfOk result (λ totals. Lists by_total (λ t. (t.1 ≡ total_in self.now.rows t.0) × (0 < t.1)) totals.items) }
+        ensures { IfOk result (λ totals. Lists by_total
+            (λ t. (t.1 ≡ total_in self.now.rows t.0) × (0 < t.1)) totals.items) }
     {
         let gains = self.told(alloc)?;
         Ok(gains)

@@ -12,7 +12,8 @@ use std::alloc::{AllocError, Global};
 
 // The records of a list that count, in order: those that stand, whose key no other record that stands has.
 pub(crate) fn counting(alloc: Global, entries: &[Entry]) -> Result<Vec<Entry>, AllocError>
-    ensures counting { IfOk result (λ counted. Lists entry_order (Counts entries.now) counted.items) }
+    ensures counting { IfOk result (λ counted. Lists entry_order (Counts entries.now)
+        counted.items) }
     ensures few { IfOk result (λ counted. length counted.items ≤ length entries.now) }
 {
     let standing = standing(alloc, entries)?;
@@ -22,7 +23,8 @@ pub(crate) fn counting(alloc: Global, entries: &[Entry]) -> Result<Vec<Entry>, A
 
 // The records of a list that stand, in order.
 fn standing(alloc: Global, entries: &[Entry]) -> Result<Vec<Entry>, AllocError>
-    ensures standing { IfOk result (λ all. Lists entry_order (λ e. Member e (standing_of entries.now)) all.items) }
+    ensures standing { IfOk result (λ all. Lists entry_order
+        (λ e. Member e (standing_of entries.now)) all.items) }
     ensures few { IfOk result (λ all. length all.items ≤ length entries.now) }
 {
     let in_order = sorted(alloc, entries)?;
@@ -33,7 +35,8 @@ fn standing(alloc: Global, entries: &[Entry]) -> Result<Vec<Entry>, AllocError>
 /// The records that count among records in order: those that stand, whose key no other record that stands has. A
 /// withdrawal doesn't count.
 pub fn counting_among(alloc: Global, records: &[Entry]) -> Result<Vec<Entry>, AllocError>
-    ensures counting { IsInOrder entry_order records.now → IfOk result (λ counted. Lists entry_order (Counts records.now) counted.items) }
+    ensures counting { IsInOrder entry_order records.now
+        → IfOk result (λ counted. Lists entry_order (Counts records.now) counted.items) }
     ensures few { IfOk result (λ counted. length counted.items ≤ length records.now) }
 {
     let standing = standing_among(alloc, records)?;
@@ -43,7 +46,8 @@ pub fn counting_among(alloc: Global, records: &[Entry]) -> Result<Vec<Entry>, Al
 
 // Those of some records in order that stand.
 fn standing_among(alloc: Global, records: &[Entry]) -> Result<Vec<Entry>, AllocError>
-    ensures standing { IsInOrder entry_order records.now → IfOk result (λ all. all.items ≡ standing_of records.now) }
+    ensures standing { IsInOrder entry_order records.now
+        → IfOk result (λ all. all.items ≡ standing_of records.now) }
     ensures few { IfOk result (λ all. length all.items ≤ length records.now) }
 {
     let mut all = Vec::with_capacity(alloc, records.len())?;
@@ -67,7 +71,8 @@ fn is_withdrawn(records: &[Entry], entry: &Entry) -> bool
 
 // Whether one of some records in order has a key.
 fn has_key(records: &[Entry], key: &Key) -> bool
-    ensures { IsInOrder entry_order records.now → result ≡ stands_in same_key key.now (keys records.now) }
+    ensures { IsInOrder entry_order records.now
+        → result ≡ stands_in same_key key.now (keys records.now) }
 {
     let place = records.partition_point(|other| compare_keys(&other.key, key).is_lt());
     place < records.len() && is_same_key(&records[place].key, key)
@@ -75,7 +80,8 @@ fn has_key(records: &[Entry], key: &Key) -> bool
 
 // The records that count among records in order that all stand: those whose key no other record has.
 fn alone_among(alloc: Global, records: &[Entry]) -> Result<Vec<Entry>, AllocError>
-    ensures counting { IsInOrder entry_order records.now → standing_of records.now ≡ records.now → IfOk result (λ counted. Lists entry_order (Counts records.now) counted.items) }
+    ensures counting { IsInOrder entry_order records.now → standing_of records.now ≡ records.now
+        → IfOk result (λ counted. Lists entry_order (Counts records.now) counted.items) }
     ensures few { IfOk result (λ counted. length counted.items ≤ length records.now) }
 {
     let mut counted = Vec::with_capacity(alloc, records.len())?;
@@ -103,7 +109,8 @@ fn counts_with(entry: &Entry, same: usize) -> bool
 /// How many records behind one have its key.
 pub fn same_key_behind(first: &Entry, others: &[Entry]) -> usize
     ensures within { result ≤ length others.now }
-    ensures same { IsInOrder entry_order (first.now ∷ others.now) → HasSameKey first.now others.now result }
+    ensures same { IsInOrder entry_order (first.now ∷ others.now)
+        → HasSameKey first.now others.now result }
 {
     for (i, other) in others.iter().enumerate() {
         if !is_same_key(&first.key, &other.key) {

@@ -28,7 +28,8 @@ pub(crate) fn add_meters(
 ) -> Result<(), AllocError>
     requires counted { AreCounted (office_of office.now) records.now }
     requires room { HasRoom (energies_given (office_of office.now) records.now) totals.old.rows }
-    ensures { OnOk result (IsGiven (energies_given (office_of office.now) records.now) totals.old.rows totals.new.rows) }
+    ensures { OnOk result (IsGiven (energies_given (office_of office.now) records.now)
+        totals.old.rows totals.new.rows) }
 {
     for meter in 0..office.meters() {
         add_meter(totals, alloc, office, zone, records, MeterId(meter))?;
@@ -47,8 +48,10 @@ fn add_meter(
 ) -> Result<(), AllocError>
     requires counted { AreCounted (office_of office.now) records.now }
     requires meter { meter.0 < length office.now.meters }
-    requires room { HasRoom (meter_given (office_of office.now) records.now meter.0) totals.old.rows }
-    ensures { OnOk result (IsGiven (meter_given (office_of office.now) records.now meter.0) totals.old.rows totals.new.rows) }
+    requires room { HasRoom (meter_given (office_of office.now) records.now meter.0)
+        totals.old.rows }
+    ensures { OnOk result (IsGiven (meter_given (office_of office.now) records.now meter.0)
+        totals.old.rows totals.new.rows) }
 {
     let assignments = assignments_of(records, meter);
     let starts = starts_given(alloc, assignments)?;
@@ -77,9 +80,12 @@ fn add_register(
 ) -> Result<(), AllocError>
     requires counted { AreCounted (office_of office.now) records.now }
     requires meter { meter.0 < length office.now.meters }
-    requires owners { (t : ℕ) → owner_by_starts owners.now t ≡ owner_told (held_at records.now) meter.0 t }
-    requires room { HasRoom (register_given (office_of office.now) records.now meter.0 register) totals.old.rows }
-    ensures { OnOk result (IsGiven (register_given (office_of office.now) records.now meter.0 register) totals.old.rows totals.new.rows) }
+    requires owners { (t : ℕ) → owner_by_starts owners.now t
+        ≡ owner_told (held_at records.now) meter.0 t }
+    requires room { HasRoom (register_given (office_of office.now) records.now meter.0 register)
+        totals.old.rows }
+    ensures { OnOk result (IsGiven (register_given (office_of office.now) records.now meter.0
+        register) totals.old.rows totals.new.rows) }
 {
     if !office.counts(meter, register) {
         return Ok(());

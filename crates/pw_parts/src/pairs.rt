@@ -33,9 +33,17 @@ pub fn add_pairs(
     changes: &mut Changes,
 ) -> Result<(), AllocError>
     requires few { (k : AnyTotal) → gathered side changes.old.rows k < 2 ^ 120 }
-    ensures gathered { IsInOrder by_second points.now → OnOk result ((k : AnyTotal) → gathered side changes.new.rows k ≡ gathered side changes.old.rows k + pairs_for office.now owners.now direction points.now k) }
-    ensures other { OnOk result ((k : AnyTotal) → gathered (other_side side) changes.new.rows k ≡ gathered (other_side side) changes.old.rows k) }
-    ensures all { OnOk result ((k : AnyTotal) → gathered side changes.new.rows k ≤ gathered side changes.old.rows k + length points.now * LARGEST_WATT_HOURS) }
+    ensures gathered { IsInOrder by_second points.now
+        → OnOk result ((k : AnyTotal)
+        → gathered side changes.new.rows k
+        ≡ gathered side changes.old.rows k
+        + pairs_for office.now owners.now direction points.now k) }
+    ensures other { OnOk result ((k : AnyTotal)
+        → gathered (other_side side) changes.new.rows k
+        ≡ gathered (other_side side) changes.old.rows k) }
+    ensures all { OnOk result ((k : AnyTotal)
+        → gathered side changes.new.rows k
+        ≤ gathered side changes.old.rows k + length points.now * LARGEST_WATT_HOURS) }
 {
     for pair in points.windows(2) {
         let cells = cells_of_pair(alloc, office, zone, owners, pair[0], pair[1])?;
@@ -53,7 +61,9 @@ fn cells_of_pair(
     from: Point,
     to: Point,
 ) -> Result<Vec<Cell>, AllocError>
-    ensures cells { from.0 < to.0 → IfOk result (λ cells. (o : Option AnAccount) (p b : ℕ) → energy_in cells.items o p b ≡ cell (class_seconds office.now owners.now o p b) from to) }
+    ensures cells { from.0 < to.0 → IfOk result
+        (λ cells. (o : Option AnAccount) (p b : ℕ)
+        → energy_in cells.items o p b ≡ cell (class_seconds office.now owners.now o p b) from to) }
     ensures in_order { IfOk result (λ cells. AreInOrder cells.items) }
     ensures bound { IfOk result (λ cells. energy_of_all cells.items ≤ LARGEST_WATT_HOURS) }
 {

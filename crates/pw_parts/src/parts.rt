@@ -65,7 +65,9 @@ fn totals_of(
 ) -> Result<Vec<(TotalKey, u64)>, AllocError>
     requires counted { AreCounted (office_of office.now) records.now }
     requires few { length records.now ≤ most_records }
-    ensures { IfOk result (λ totals. Lists by_total (λ t. (t.1 ≡ total_among (office_of office.now) records.now t.0) × (0 < t.1)) totals.items) }
+    ensures { IfOk result (λ totals. Lists by_total
+        (λ t. (t.1 ≡ total_among (office_of office.now) records.now t.0) × (0 < t.1))
+        totals.items) }
 {
     // an office is sound, so that no total is too large
     let _meters = office.meters();

@@ -56,7 +56,8 @@ fn put_frame(
     zone: &Zone,
     frame: &Frame,
 ) -> Result<(), Halt>
-    ensures ok { OnOk result ((shown : List ℕ) × FrameShows clock (frame_text frame.now) shown × (text.new.items ≡ text.old.items ++ shown)) }
+    ensures ok { OnOk result ((shown : List ℕ) × FrameShows clock (frame_text frame.now) shown
+        × (text.new.items ≡ text.old.items ++ shown)) }
     ensures err { IfErr result (FrameHalts clock (frame_text frame.now)) }
 {
     let Ok(block) = Block::checked(frame.block) else {
@@ -72,7 +73,8 @@ fn put_frame(
 
 // Writes the line of an instant, where there is one.
 fn put_instant(text: &mut Vec<u8>, instant: Option<Instant>) -> Result<(), AllocError>
-    ensures { OnOk result ((line : List ℕ) × InstantShows instant line × (text.new.items ≡ text.old.items ++ line)) }
+    ensures { OnOk result ((line : List ℕ) × InstantShows instant line
+        × (text.new.items ≡ text.old.items ++ line)) }
 {
     match instant {
         None => Ok(()),
@@ -99,7 +101,8 @@ fn put_heading(text: &mut Vec<u8>, frame: &Frame) -> Result<(), AllocError>
 
 // Writes the lines of a block's sets behind the text.
 fn put_sets(text: &mut Vec<u8>, alloc: Global, kind: Kind, block: &Block) -> Result<(), Halt>
-    ensures ok { OnOk result ((lines : List ℕ) × SetsShow kind block.now lines × (text.new.items ≡ text.old.items ++ lines)) }
+    ensures ok { OnOk result ((lines : List ℕ) × SetsShow kind block.now lines
+        × (text.new.items ≡ text.old.items ++ lines)) }
     ensures err { IfErr result (SetsHalt kind block.now) }
 {
     'sets: for set in block.sets() {

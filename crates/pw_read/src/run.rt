@@ -41,7 +41,8 @@ pub fn read_run<R: Read, O: Write, E: Write>(
 ) -> u8
     ensures status { (result ≡ 0) ⊎ ((result ≡ 1) ⊎ (result ≡ 3)) }
     ensures run { (body : List ℕ) → R.remaining reader.old ≡ Some body →
-        IsRun clock body (O.contents out.old) (O.contents out.new) (E.contents err.old) (E.contents err.new) result }
+        IsRun clock body (O.contents out.old) (O.contents out.new) (E.contents err.old)
+        (E.contents err.new) result }
 {
     let text = match text_of(alloc, clock, reader) {
         Ok(text) => text,

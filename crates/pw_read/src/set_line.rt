@@ -31,7 +31,8 @@ fn text_name(kind: Kind, code: &Code) -> Option<&'static str>
 /// Writes the line of a set behind the text, where its code has one.
 pub fn put_set(text: &mut Vec<u8>, alloc: Global, kind: Kind, set: &Set) -> Result<(), Halt>
     requires { IsCodeOf set.now.address.now set.now.code }
-    ensures ok { OnOk result ((line : List ℕ) × SetShows kind (set_text set.now) (Ok line) × (text.new.items ≡ text.old.items ++ line)) }
+    ensures ok { OnOk result ((line : List ℕ) × SetShows kind (set_text set.now) (Ok line)
+        × (text.new.items ≡ text.old.items ++ line)) }
     ensures err { IfErr result (SetHalts kind (set_text set.now)) }
 {
     let Some(code) = set.code else {

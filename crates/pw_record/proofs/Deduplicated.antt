@@ -1,30 +1,13 @@
 -- What a sort, and then the removal of equal neighbours, leave of a list.
-use Rattle.std.proofs.Common.{◌≡◌, ℕ, zero, suc, ◌+◌, ◌<◌, Bool, true, false, List, [], ◌∷◌, length, get_or, refl, sym, subst, ◌∙◌, inl, inr, ◌⊎◌, ⊎_elim, arith, Ordering, Less, Equal, Greater}
+use Rattle.std.proofs.Common.{◌≡◌, ℕ, suc, ◌+◌, Bool, true, false, List, [], ◌∷◌, length, get_or, refl, sym, subst, ◌∙◌, inl, inr, ◌⊎◌, ⊎_elim, arith, Ordering, Less, Equal, Greater}
 use Rattle.std.specs.Ordering.{is_lt, ordering_reverse}
 use Rattle.std.specs.Cmp.{IsTotalOrder}
-use Rattle.std.specs.List.{Contains, items_where_true}
+use Rattle.std.specs.List.{items_where_true}
 use Rattle.std.specs.List.Sorted.{IsSorted, IsPermutation}
 use Rattle.std.specs.List.Retain.{ReturnsInTurn, IsFiltered, DiffersFromLast}
-use Rattle.std.proofs.lemmas.List.Sorted.{Contains-permutation, IsPermutation-sym}
 use Rattle.pw_model.specs.Counting.{Member, SameMembers}
 use Rattle.pw_model.specs.Lists.{IsBeforeAll, IsInOrder}
-
--- ---- members by place
-pub member-at : {X : Type 0} (x : X) (xs : List X) (k : ℕ) → k < length xs → get_or xs k x ≡ x → Member x xs
-member-at x [] k l e = absurd (omega (arith, l))
-member-at x (y ∷ ys) zero l e = inl (sym e)
-member-at x (y ∷ ys) (suc k) l e = inr (member-at x ys k (omega arith) e)
-
-pub place-of : {X : Type 0} (x : X) (xs : List X) → Member x xs → Contains xs x
-place-of x [] m = absurd m
-place-of x (y ∷ ys) (inl i) = (zero, omega arith, sym i)
-place-of x (y ∷ ys) (inr m) = let r : Contains ys x = place-of x ys m in (suc r.0, omega (arith, r.1), r.2)
-
-pub permuted : {X : Type 0} (xs ys : List X) → IsPermutation xs ys → SameMembers xs ys
-permuted xs ys p = λ x. (
-  λ m. (let c : Contains ys x = Contains-permutation xs ys x p (place-of x xs m) in member-at x ys c.0 c.1 c.2),
-  λ m. (let c : Contains xs x = Contains-permutation ys xs x (IsPermutation-sym xs ys p) (place-of x ys m) in member-at x xs c.0 c.1 c.2),
-)
+use Rattle.pw_model.proofs.Places.{permuted}
 
 module _ {X : Type 0} (R : X → X → Ordering) (E : X → X → Bool) (o : IsTotalOrder R) (apart : (x y : X) → E x y ≡ false → R x y ≡ Equal → ⊥) (alike : (x y : X) → E x y ≡ true → x ≡ y) where
   -- none is less than the one before it, the first not less than y

@@ -7,8 +7,10 @@ ghost use Rattle.pw_obis.specs.declared.energy.TheConstants.{LARGEST_WATT_HOURS}
 /// The number, up to `most`, of a text of 1 to `most_digits` digits.
 pub fn number_of(text: &[u8], most_digits: usize, most: u64) -> Option<u64>
     requires { most ≤ LARGEST_WATT_HOURS }
-    ensures some { IfSome result (λ n. (1 ≤ length text.now) × (length text.now ≤ most_digits) × AllDigits 10 text.now × (n ≡ digits_value 10 text.now) × (n ≤ most)) }
-    ensures none { IfNone result (1 ≤ length text.now → length text.now ≤ most_digits → AllDigits 10 text.now → most < digits_value 10 text.now) }
+    ensures some { IfSome result (λ n. (1 ≤ length text.now) × (length text.now ≤ most_digits)
+        × AllDigits 10 text.now × (n ≡ digits_value 10 text.now) × (n ≤ most)) }
+    ensures none { IfNone result (1 ≤ length text.now → length text.now ≤ most_digits
+        → AllDigits 10 text.now → most < digits_value 10 text.now) }
 {
     if text.is_empty() || text.len() > most_digits {
         return None;
@@ -20,8 +22,10 @@ pub fn number_of(text: &[u8], most_digits: usize, most: u64) -> Option<u64>
 pub fn with_digits(number: u64, digits: &[u8], most: u64) -> Option<u64>
     requires start { number ≤ most }
     requires room { most ≤ LARGEST_WATT_HOURS }
-    ensures some { IfSome result (λ n. AllDigits 10 digits.now × (n ≡ digits_value_after 10 number digits.now) × (n ≤ most)) }
-    ensures none { IfNone result (AllDigits 10 digits.now → most < digits_value_after 10 number digits.now) }
+    ensures some { IfSome result (λ n. AllDigits 10 digits.now
+        × (n ≡ digits_value_after 10 number digits.now) × (n ≤ most)) }
+    ensures none { IfNone result (AllDigits 10 digits.now
+        → most < digits_value_after 10 number digits.now) }
 {
     match digits {
         [] => Some(number),

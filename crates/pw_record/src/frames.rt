@@ -53,7 +53,8 @@ pub fn readout_records(
     zone: &Zone,
     body: &[u8],
 ) -> Result<Vec<Entry>, UploadFault>
-    ensures entries { IfOk result (λ entries. ReadoutsGive office.now meter.now body.now entries.items) }
+    ensures entries { IfOk result (λ entries. ReadoutsGive office.now meter.now body.now
+        entries.items) }
     ensures of_office { IfOk result (λ entries. AllOfOffice (office_of office.now) entries.items) }
     ensures refused { IfErr result (λ fault. ReadoutsRefused office.now meter.now body.now fault) }
 {
@@ -111,8 +112,11 @@ fn put_frame(
     frame: &Frame,
 ) -> Result<(), Halt>
     requires { IsSourceOf office.now source }
-    ensures ok { OnOk result ((more : List Entry) × FrameGives office.now source (frame_text frame.now) more × (given.new.items ≡ given.old.items ++ more)) }
-    ensures err { (cause : Cause) → result ≡ Err (Halt.Refused cause) → RefusesFrame office.now source (frame_text frame.now) cause }
+    ensures ok { OnOk result ((more : List Entry)
+        × FrameGives office.now source (frame_text frame.now) more
+        × (given.new.items ≡ given.old.items ++ more)) }
+    ensures err { (cause : Cause) → result ≡ Err (Halt.Refused cause)
+        → RefusesFrame office.now source (frame_text frame.now) cause }
 {
     let (origin, shown) = read_frame(office, zone, source, frame)?;
     put_readings(given, &origin, &shown)?;
@@ -127,8 +131,10 @@ pub fn read_frame(
     frame: &Frame,
 ) -> Result<(Origin, Shown), Cause>
     requires { IsSourceOf office.now source }
-    ensures ok { IfOk result (λ read. FrameGives office.now source (frame_text frame.now) (readings_of read.0.meter.0 read.0.instant (shown_in read.1))) }
-    ensures err { IfErr result (λ cause. RefusesFrame office.now source (frame_text frame.now) cause) }
+    ensures ok { IfOk result (λ read. FrameGives office.now source (frame_text frame.now)
+        (readings_of read.0.meter.0 read.0.instant (shown_in read.1))) }
+    ensures err { IfErr result (λ cause. RefusesFrame office.now source (frame_text frame.now)
+        cause) }
 {
     if frame.kind != source.kind() {
         return Err(Cause::WrongKind);

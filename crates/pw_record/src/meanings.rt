@@ -37,7 +37,8 @@ pub fn both_told<'a>(block: &Block<'a>, one: Meaning, other: Meaning) -> (Told<'
 // What sets tell with one set more.
 fn joined<'a>(told: Told<'a>, meaning: Meaning, set: &Set<'a>) -> Told<'a>
     requires { IsCodeOf set.now.address.now set.now.code }
-    ensures { (sets : List SetText) → AreTelling meaning sets told.entry → AreTelling meaning (sets ++ set_text set.now ∷ []) result }
+    ensures { (sets : List SetText) → AreTelling meaning sets told.entry
+        → AreTelling meaning (sets ++ set_text set.now ∷ []) result }
 {
     let Some(code) = set.code else {
         return told;

@@ -9,7 +9,8 @@ use std::alloc::AllocError;
 
 /// Puts an entry behind those before it.
 pub fn put(given: &mut Vec<Entry>, key: Key, content: Content) -> Result<(), AllocError>
-    ensures { OnOk result (given.new.items ≡ given.old.items ++ record { key = key; content = content } ∷ []) }
+    ensures { OnOk result (given.new.items
+        ≡ given.old.items ++ record { key = key; content = content } ∷ []) }
 {
     given.extend_from_slice(&[Entry { key, content }])?;
     Ok(())

@@ -50,7 +50,8 @@ pub fn block_origin(
     source: Source,
     block: &Block,
 ) -> Result<Origin, Cause>
-    ensures ok { IfOk result (λ origin. HasOrigin office.now source block.now origin.meter.0 origin.instant) }
+    ensures ok { IfOk result (λ origin. HasOrigin office.now source block.now origin.meter.0
+        origin.instant) }
     ensures err { IfErr result (RefusesOrigin office.now source block.now) }
 {
     match source {
@@ -63,7 +64,8 @@ pub fn block_origin(
 }
 
 fn telegram_origin(office: &Office, block: &Block) -> Result<Origin, Cause>
-    ensures ok { IfOk result (λ origin. HasOrigin office.now Source.Telegrams block.now origin.meter.0 origin.instant) }
+    ensures ok { IfOk result (λ origin. HasOrigin office.now Source.Telegrams block.now
+        origin.meter.0 origin.instant) }
     ensures err { IfErr result (RefusesOrigin office.now Source.Telegrams block.now) }
 {
     let (identifier, stamp) = both_told(block, Meaning::Identifier, Meaning::Stamp);
@@ -74,8 +76,10 @@ fn telegram_origin(office: &Office, block: &Block) -> Result<Origin, Cause>
 
 // The meter that the identifiers of a telegram name. Its clock marks its times.
 fn telegram_meter(office: &Office, told: Told) -> Result<MeterId, Cause>
-    ensures ok { IfOk result (λ meter. (sets : List SetText) → AreTelling Identifier sets told.entry → HasMeter office.now sets meter.0) }
-    ensures err { IfErr result (λ cause. (sets : List SetText) → AreTelling Identifier sets told.entry → RefusesMeter office.now sets cause) }
+    ensures ok { IfOk result (λ meter. (sets : List SetText) → AreTelling Identifier sets told.entry
+        → HasMeter office.now sets meter.0) }
+    ensures err { IfErr result (λ cause. (sets : List SetText)
+        → AreTelling Identifier sets told.entry → RefusesMeter office.now sets cause) }
 {
     let identifier = match told {
         Told::Nothing => return Err(Cause::NoMeter),
@@ -110,8 +114,10 @@ fn meter_in_capitals(office: &Office, identifier: &[u8]) -> Option<MeterId>
 
 // The instant that the stamps of a telegram tell.
 fn telegram_instant(told: Told) -> Result<Instant, Cause>
-    ensures ok { IfOk result (λ instant. (sets : List SetText) → AreTelling Stamp sets told.entry → HasStamp sets instant) }
-    ensures err { IfErr result (λ cause. (sets : List SetText) → AreTelling Stamp sets told.entry → RefusesStamp sets cause) }
+    ensures ok { IfOk result (λ instant. (sets : List SetText) → AreTelling Stamp sets told.entry
+        → HasStamp sets instant) }
+    ensures err { IfErr result (λ cause. (sets : List SetText) → AreTelling Stamp sets told.entry
+        → RefusesStamp sets cause) }
 {
     let text = match told {
         Told::Nothing => return Err(Cause::NoInstant),

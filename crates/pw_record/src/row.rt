@@ -69,7 +69,8 @@ fn is_four(
     fourth: &[u8],
 ) -> bool
     requires { at ≤ 1 }
-    ensures { IsTrue result ↔ (drop at (fields_of row.now) ≡ first.now ∷ second.now ∷ third.now ∷ fourth.now ∷ []) }
+    ensures { IsTrue result ↔ (drop at (fields_of row.now)
+        ≡ first.now ∷ second.now ∷ third.now ∷ fourth.now ∷ []) }
 {
     let Some(fields) = four(row, at) else {
         return false;
@@ -107,7 +108,8 @@ fn withdrawal(office: &Office, row: &ByteRecord) -> Result<Entry, Cause>
 
 // The kind of the record that a row withdraws: its first field has the kind's name.
 fn named_kind(row: &ByteRecord) -> Option<NamedKind>
-    ensures some { IfSome result (λ kind. fields_of row.now ≡ kind_name kind ∷ drop 1 (fields_of row.now)) }
+    ensures some { IfSome result (λ kind. fields_of row.now
+        ≡ kind_name kind ∷ drop 1 (fields_of row.now)) }
     ensures none { IfNone result (HasNoKind (fields_of row.now)) }
 {
     if begins_with(row, b"reading".as_slice()) {
@@ -135,8 +137,10 @@ fn begins_with(row: &ByteRecord, first: &[u8]) -> bool
 
 // The record that the fields behind the kind name.
 fn named_record(office: &Office, kind: NamedKind, row: &ByteRecord) -> Result<Named, Cause>
-    ensures ok { IfOk result (λ named. GivesNamed office.now kind (drop 1 (fields_of row.now)) (named_entry named)) }
-    ensures err { IfErr result (λ cause. RefusesNamed office.now kind (drop 1 (fields_of row.now)) cause) }
+    ensures ok { IfOk result (λ named. GivesNamed office.now kind (drop 1 (fields_of row.now))
+        (named_entry named)) }
+    ensures err { IfErr result (λ cause. RefusesNamed office.now kind (drop 1 (fields_of row.now))
+        cause) }
 {
     match kind {
         NamedKind::Reading => reading(office, row, 1),
@@ -148,8 +152,10 @@ fn named_record(office: &Office, kind: NamedKind, row: &ByteRecord) -> Result<Na
 // The reading that a row's fields name, from the one at `first` on: meter, register, instant, watt-hours.
 fn reading(office: &Office, row: &ByteRecord, first: usize) -> Result<Named, Cause>
     requires { first ≤ 1 }
-    ensures ok { IfOk result (λ named. GivesReading office.now (drop first (fields_of row.now)) (named_entry named)) }
-    ensures err { IfErr result (λ cause. RefusesReading office.now (drop first (fields_of row.now)) cause) }
+    ensures ok { IfOk result (λ named. GivesReading office.now (drop first (fields_of row.now))
+        (named_entry named)) }
+    ensures err { IfErr result (λ cause. RefusesReading office.now (drop first (fields_of row.now))
+        cause) }
 {
     let Some((id, name, when, amount)) = four(row, first) else {
         return Err(Cause::CsvForm);
@@ -200,8 +206,10 @@ fn register_named(name: &[u8]) -> Option<Register>
 // The assignment that a row's fields name, from the one at `first` on: meter, start, account.
 fn assignment(office: &Office, row: &ByteRecord, first: usize) -> Result<Named, Cause>
     requires { first ≤ 1 }
-    ensures ok { IfOk result (λ named. GivesAssignment office.now (drop first (fields_of row.now)) (named_entry named)) }
-    ensures err { IfErr result (λ cause. RefusesAssignment office.now (drop first (fields_of row.now)) cause) }
+    ensures ok { IfOk result (λ named. GivesAssignment office.now (drop first (fields_of row.now))
+        (named_entry named)) }
+    ensures err { IfErr result (λ cause. RefusesAssignment office.now
+        (drop first (fields_of row.now)) cause) }
 {
     let Some((id, start, account)) = three(row, first) else {
         return Err(Cause::CsvForm);
@@ -237,8 +245,10 @@ fn owner(office: &Office, name: &[u8]) -> Option<Owner>
 // The top-up that a row's fields name, from the one at `first` on: reference, account, cents, instant.
 fn top_up(office: &Office, row: &ByteRecord, first: usize) -> Result<Named, Cause>
     requires { first ≤ 1 }
-    ensures ok { IfOk result (λ named. GivesTopUp office.now (drop first (fields_of row.now)) (named_entry named)) }
-    ensures err { IfErr result (λ cause. RefusesTopUp office.now (drop first (fields_of row.now)) cause) }
+    ensures ok { IfOk result (λ named. GivesTopUp office.now (drop first (fields_of row.now))
+        (named_entry named)) }
+    ensures err { IfErr result (λ cause. RefusesTopUp office.now (drop first (fields_of row.now))
+        cause) }
 {
     let Some((reference, name, amount, when)) = four(row, first) else {
         return Err(Cause::CsvForm);
@@ -265,7 +275,8 @@ fn top_up(office: &Office, row: &ByteRecord, first: usize) -> Result<Named, Caus
 #[tactic(auto, using(crate::proofs::Fields::three_fields, crate::proofs::Fields::not_so_many, crate::proofs::Fields::field_there))]
 fn three(row: &ByteRecord, first: usize) -> Option<(&[u8], &[u8], &[u8])>
     requires { first ≤ 1 }
-    ensures { MatchOption result (length (drop first (fields_of row.now)) ≢ 3) (λ f. drop first (fields_of row.now) ≡ f.0.now ∷ f.1.now ∷ f.2.now ∷ []) }
+    ensures { MatchOption result (length (drop first (fields_of row.now)) ≢ 3)
+        (λ f. drop first (fields_of row.now) ≡ f.0.now ∷ f.1.now ∷ f.2.now ∷ []) }
 {
     if row.len() != first + 3 {
         return None;
@@ -277,7 +288,8 @@ fn three(row: &ByteRecord, first: usize) -> Option<(&[u8], &[u8], &[u8])>
 #[tactic(auto, using(crate::proofs::Fields::four_fields, crate::proofs::Fields::not_so_many, crate::proofs::Fields::field_there))]
 fn four(row: &ByteRecord, first: usize) -> Option<(&[u8], &[u8], &[u8], &[u8])>
     requires { first ≤ 1 }
-    ensures { MatchOption result (length (drop first (fields_of row.now)) ≢ 4) (λ f. drop first (fields_of row.now) ≡ f.0.now ∷ f.1.now ∷ f.2.now ∷ f.3.now ∷ []) }
+    ensures { MatchOption result (length (drop first (fields_of row.now)) ≢ 4)
+        (λ f. drop first (fields_of row.now) ≡ f.0.now ∷ f.1.now ∷ f.2.now ∷ f.3.now ∷ []) }
 {
     if row.len() != first + 4 {
         return None;

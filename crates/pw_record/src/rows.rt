@@ -107,8 +107,10 @@ fn put_record(
     part: u32,
     row: &ByteRecord,
 ) -> Result<(), Halt>
-    ensures ok { OnOk result (TakesRecord office.now kind part (fields_of row.now) given.old.items given.new.items) }
-    ensures err { (cause : Cause) → result ≡ Err (Halt.Refused cause) → RefusesRecord office.now kind part (fields_of row.now) cause }
+    ensures ok { OnOk result (TakesRecord office.now kind part (fields_of row.now) given.old.items
+        given.new.items) }
+    ensures err { (cause : Cause) → result ≡ Err (Halt.Refused cause)
+        → RefusesRecord office.now kind part (fields_of row.now) cause }
 {
     if part == 0 {
         return if is_header(kind, row) {

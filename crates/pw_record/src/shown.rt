@@ -3,7 +3,6 @@
 ghost use Rattle.std.specs.Prelude.{◌≡◌, ◌≢◌, ◌<◌, ◌+◌, ◌++◌, ℕ, List, Option, Some, None, IfOk, IfErr, IfSome, OnOk, MatchOption, Ok, Err, length};
 ghost use Rattle.std.specs.Bool.{OnTrue, OnFalse};
 ghost use Rattle.pw_obis.specs.Address.{IsCodeOf};
-ghost use Rattle.pw_tariff.specs.Office.{register_place as place_of};
 ghost use Rattle.pw_record.specs.Shown.{AreShown, HasWrongSet, Measures, reading_of, readings_of};
 ghost use Rattle.pw_record.specs.inner.Shown.{IsUnlike};
 ghost use Rattle.pw_record.specs.inner.Shown.{IsNoted};
@@ -14,7 +13,7 @@ ghost use Rattle.pw_obis.specs.inner.Given.{set_text};
 use crate::fault::Cause;
 use crate::order::put;
 use crate::origin::Origin;
-use pw_model::{Content, Entry, Key};
+use pw_model::{Content, Entry, Key, register_place};
 use pw_obis::{Block, Register, Set, ValueFault, WattHours, first_value, register, watt_hours};
 use pw_tariff::{MeterId, Office};
 use std::alloc::AllocError;
@@ -54,7 +53,8 @@ fn measured(office: &Office, meter: MeterId, set: &Set) -> Result<Option<Reading
     ensures ok { IfOk result (λ reading. MatchOption reading
         (MeasuresNothing office.now meter.0 (set_text set.now))
         (λ r. Measures office.now meter.0 (set_text set.now) r.register (Ok r.wh))) }
-    ensures err { IfErr result (λ fault. (r : Register) × Measures office.now meter.0 (set_text set.now) r (Err fault)) }
+    ensures err { IfErr result (λ fault. (r : Register)
+        × Measures office.now meter.0 (set_text set.now) r (Err fault)) }
 {
     let Some(code) = set.code else {
         return Ok(None);
@@ -74,7 +74,7 @@ fn note(shown: &mut Shown, reading: Reading) -> bool
     ensures noted { OnTrue result (IsNoted shown.old shown.new reading.register reading.wh) }
     ensures unlike { OnFalse result (IsUnlike shown.old reading.register reading.wh) }
 {
-    let place = register_place(reading.register);
+    let place = register_place(reading.register) as usize;
     match shown[place] {
         None => {
             shown[place] = Some(reading.wh);
@@ -84,27 +84,13 @@ fn note(shown: &mut Shown, reading: Reading) -> bool
     }
 }
 
-fn register_place(register: Register) -> usize
-    ensures place { result ≡ place_of register }
-    ensures within { result < 6 }
-{
-    match register {
-        Register::I0 => 0,
-        Register::I1 => 1,
-        Register::I2 => 2,
-        Register::E0 => 3,
-        Register::E1 => 4,
-        Register::E2 => 5,
-    }
-}
-
 /// Whether no register is shown.
 pub fn is_nothing_shown(shown: &Shown) -> bool
     ensures nothing { OnTrue result ((r : Register) → shown_in shown.now r ≡ None) }
     ensures some { OnFalse result ((r : Register) × (wh : ℕ) × (shown_in shown.now r ≡ Some wh)) }
 {
     for register in Register::ALL {
-        if shown[register_place(register)].is_some() {
+        if shown[register_place(register) as usize].is_some() {
             return false;
         }
     }
@@ -117,7 +103,9 @@ pub fn put_readings(
     origin: &Origin,
     shown: &Shown,
 ) -> Result<(), AllocError>
-    ensures { OnOk result (given.new.items ≡ given.old.items ++ readings_of origin.now.meter.0 origin.now.instant (shown_in shown.now)) }
+    ensures { OnOk result (given.new.items
+        ≡ given.old.items ++ readings_of origin.now.meter.0 origin.now.instant
+        (shown_in shown.now)) }
 {
     put_reading(given, origin, shown, Register::I0)?;
     put_reading(given, origin, shown, Register::I1)?;
@@ -134,9 +122,11 @@ fn put_reading(
     shown: &Shown,
     register: Register,
 ) -> Result<(), AllocError>
-    ensures { OnOk result (given.new.items ≡ given.old.items ++ reading_of origin.now.meter.0 origin.now.instant register (shown_in shown.now register)) }
+    ensures { OnOk result (given.new.items
+        ≡ given.old.items ++ reading_of origin.now.meter.0 origin.now.instant register
+        (shown_in shown.now register)) }
 {
-    let Some(wh) = shown[register_place(register)] else {
+    let Some(wh) = shown[register_place(register) as usize] else {
         return Ok(());
     };
     let Origin { meter, instant } = *origin;

@@ -24,7 +24,8 @@ pub fn upload_records(
     zone: &Zone,
     upload: UploadBytes,
 ) -> Result<Vec<Entry>, UploadFault>
-    ensures entries { IfOk result (λ entries. Gives office.now (upload_of upload.entry) entries.items) }
+    ensures entries { IfOk result (λ entries. Gives office.now (upload_of upload.entry)
+        entries.items) }
     ensures of_office { IfOk result (λ entries. AllOfOffice (office_of office.now) entries.items) }
     ensures refused { IfErr result (λ fault. Refuses office.now (upload_of upload.entry) fault) }
 {

@@ -1,6 +1,9 @@
 -- What a report leaves of a book. It asks the book several questions.
 -- (Definitions of this project.)
-use Rattle.std.specs.Prelude.{◌≡◌, ◌↔◌, ℕ, true, Result, IsErrOf}
+use Rattle.std.specs.Prelude.{◌≡◌, ◌↔◌, ℕ, true, List, Vec, Result, IfOk, IsErrOf}
+use Rattle.std.specs.Global.{Global}
+use Rattle.pw_tariff.specs.Office.{OfficeFile}
+use Rattle.pw_model.specs.declared.records.Entry.{Entry}
 use Rattle.pw_shelf.specs.Calls.{GoesOn}
 use Rattle.pw_shelf.specs.declared.shelf.Shelf.{Ghosts}
 use Rattle.pw_book.specs.declared.book.Book.{Book}
@@ -24,3 +27,7 @@ module _ {S : Type 0} (shelf : Ghosts S) where
     pub asked : IsAsked (failures_asked answer) old new
     pub reopen : IsErrOf answer Reopen ↔ (old.shut ≡ true)
     pub untouched : old.shut ≡ true → new.shelf ≡ old.shelf
+
+  -- the text of a report is such a one of the office and the records held, where the store has returned what was written
+  abbrev pub TellsText : {E : Type 0} → (OfficeFile → List Entry → List ℕ → Type 0) → Result (Vec ℕ Global) E → Book S shelf → Book S shelf → Type 0
+  TellsText is_text answer old new = shelf.clean new.shelf → IfOk answer (λ text. is_text old.office (shelf.state old.shelf).content.records text.items)

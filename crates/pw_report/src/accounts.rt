@@ -16,7 +16,9 @@ use std::alloc::{AllocError, Global};
 ///
 /// `Device`, `Memory` and `Reopen` (of a shut book) leave the records as they are.
 pub fn accounts_table<S: Shelf>(book: &mut Book<S>, alloc: Global) -> Result<Vec<u8>, BookFault>
-    ensures text { S.clean book.new.shelf → IfOk result (λ text. text.items ≡ accounts_text book.old.office (S.state book.old.shelf).content.records) }
+    ensures text { S.clean book.new.shelf → IfOk result
+        (λ text. text.items ≡ accounts_text book.old.office
+        (S.state book.old.shelf).content.records) }
     ensures report { IsReport S.Shelf result book.old book.new }
 {
     still_open(book)?;

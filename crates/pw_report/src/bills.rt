@@ -10,7 +10,7 @@ ghost use Rattle.pw_report.specs.Layout.{listed_below, right};
 ghost use Rattle.pw_report.specs.Months.{IsThere};
 ghost use Rattle.pw_report.specs.Names.{period_name};
 ghost use Rattle.pw_report.specs.Pages.{IsBillText};
-ghost use Rattle.pw_report.specs.Reports.{IsReport};
+ghost use Rattle.pw_report.specs.Reports.{IsReport, TellsText};
 ghost use Rattle.pw_report.specs.inner.Told.{AreAmounts, bill_of_sheet};
 
 use crate::months::{Month, last_before, month_text, span_of};
@@ -64,7 +64,8 @@ pub fn bill_page<S: Shelf>(
 ) -> Result<Vec<u8>, BookFault>
     requires account { account.0 < length book.old.office.accounts }
     requires there { IsThere month }
-    ensures text { S.clean book.new.shelf → IfOk result (λ text. IsBillText book.old.office (S.state book.old.shelf).content.records account month text.items) }
+    ensures text { TellsText S.Shelf (λ office records. IsBillText office records account month)
+        result book.old book.new }
     ensures report { IsReport S.Shelf result book.old book.new }
 {
     let (from, until) = span_of(month, book.zone());
@@ -92,7 +93,9 @@ pub fn bill_page<S: Shelf>(
 fn bill_text(sheet: &Sheet) -> Result<Vec<u8>, AllocError>
     requires there { IsThere sheet.now.month }
     requires last { sheet.now.last.0 < periods_in sheet.now.office.now }
-    ensures { IfOk result (λ text. text.items ≡ text_of_bill sheet.now.office.now sheet.now.account.0 sheet.now.month sheet.now.first.0 sheet.now.last.0 (bill_of_sheet sheet.now) sheet.now.read.now sheet.now.records) }
+    ensures { IfOk result (λ text. text.items
+        ≡ text_of_bill sheet.now.office.now sheet.now.account.0 sheet.now.month sheet.now.first.0
+        sheet.now.last.0 (bill_of_sheet sheet.now) sheet.now.read.now sheet.now.records) }
 {
     let amounts = amounts_of(sheet);
     let mut text = Vec::new(sheet.alloc);
@@ -193,7 +196,8 @@ fn whole_cost(sheet: &Sheet, direction: Direction) -> u128
 #[tactic(auto, unfolding(pw_flow::specs::Time::sum_over))]
 fn cost_in(sheet: &Sheet, period: PeriodId, direction: Direction) -> u128
     requires { period.0 < periods_in sheet.now.office.now }
-    ensures cost { result ≡ over_bands (office_of sheet.now.office.now) (λ b. (bill_of_sheet sheet.now).cost period.0 b direction) }
+    ensures cost { result ≡ over_bands (office_of sheet.now.office.now)
+        (λ b. (bill_of_sheet sheet.now).cost period.0 b direction) }
     ensures bound { result ≤ 2 ^ 104 }
 {
     let mut nano: u128 = 0;
@@ -218,7 +222,9 @@ fn class_cost(sheet: &Sheet, period: PeriodId, band: BandId, direction: Directio
 #[tactic(auto, unfolding(crate::specs::Bills::periods_text))]
 fn put_periods(text: &mut Vec<u8>, sheet: &Sheet) -> Result<(), AllocError>
     requires { sheet.now.last.0 < periods_in sheet.now.office.now }
-    ensures { OnOk result (text.new.items ≡ text.old.items ++ periods_text sheet.now.office.now (bill_of_sheet sheet.now) sheet.now.first.0 sheet.now.last.0) }
+    ensures { OnOk result (text.new.items
+        ≡ text.old.items ++ periods_text sheet.now.office.now (bill_of_sheet sheet.now)
+        sheet.now.first.0 sheet.now.last.0) }
 {
     prove!(sheet.last.0 < sheet.office.periods());
     let (first, last) = (sheet.first.0, sheet.last.0);
@@ -230,7 +236,8 @@ fn put_periods(text: &mut Vec<u8>, sheet: &Sheet) -> Result<(), AllocError>
 
 fn put_period(text: &mut Vec<u8>, sheet: &Sheet, period: PeriodId) -> Result<(), AllocError>
     requires { period.0 < periods_in sheet.now.office.now }
-    ensures { OnOk result (text.new.items ≡ text.old.items ++ period_lines sheet.now.office.now (bill_of_sheet sheet.now) period.0) }
+    ensures { OnOk result (text.new.items
+        ≡ text.old.items ++ period_lines sheet.now.office.now (bill_of_sheet sheet.now) period.0) }
 {
     put_start(text, sheet.office, period)?;
     put_header(text)?;
@@ -240,7 +247,8 @@ fn put_period(text: &mut Vec<u8>, sheet: &Sheet, period: PeriodId) -> Result<(),
 // The line of a period, by its start.
 fn put_start(text: &mut Vec<u8>, office: &Office, period: PeriodId) -> Result<(), AllocError>
     requires { period.0 < periods_in office.now }
-    ensures { OnOk result (text.new.items ≡ text.old.items ++ named_line (codes "period") (period_name office.now period.0)) }
+    ensures { OnOk result (text.new.items
+        ≡ text.old.items ++ named_line (codes "period") (period_name office.now period.0)) }
 {
     put_line(text, b"period", &instant_text(start_of(office, period)))
 }
@@ -259,7 +267,9 @@ fn put_header(text: &mut Vec<u8>) -> Result<(), AllocError>
 // What was used in a period, band by band.
 fn put_bands(text: &mut Vec<u8>, sheet: &Sheet, period: PeriodId) -> Result<(), AllocError>
     requires { period.0 < periods_in sheet.now.office.now }
-    ensures { OnOk result (text.new.items ≡ text.old.items ++ listed_below (length sheet.now.office.now.bands) (used_in sheet.now.office.now (bill_of_sheet sheet.now) period.0)) }
+    ensures { OnOk result (text.new.items
+        ≡ text.old.items ++ listed_below (length sheet.now.office.now.bands)
+        (used_in sheet.now.office.now (bill_of_sheet sheet.now) period.0)) }
 {
     for band in 0..sheet.office.bands() {
         put_band(text, sheet, period, BandId(band))?;
@@ -276,7 +286,9 @@ fn put_band(
 ) -> Result<(), AllocError>
     requires period { period.0 < periods_in sheet.now.office.now }
     requires band { band.0 < length sheet.now.office.now.bands }
-    ensures { OnOk result (text.new.items ≡ text.old.items ++ used_in sheet.now.office.now (bill_of_sheet sheet.now) period.0 band.0) }
+    ensures { OnOk result (text.new.items
+        ≡ text.old.items ++ used_in sheet.now.office.now (bill_of_sheet sheet.now) period.0
+        band.0) }
 {
     put_left(text, 4, &[band_letter(sheet.office, band)])?;
     put_used(text, sheet, period, band, Direction::Import)?;
@@ -294,7 +306,10 @@ fn put_used(
 ) -> Result<(), AllocError>
     requires period { period.0 < periods_in sheet.now.office.now }
     requires band { band.0 < length sheet.now.office.now.bands }
-    ensures { OnOk result (text.new.items ≡ text.old.items ++ (right 16 (decimal ((bill_of_sheet sheet.now).energy period.0 band.0 direction)) ++ right 16 (text_of_cost ((bill_of_sheet sheet.now).cost period.0 band.0 direction)))) }
+    ensures { OnOk result (text.new.items
+        ≡ text.old.items ++ (right 16
+        (decimal ((bill_of_sheet sheet.now).energy period.0 band.0 direction))
+        ++ right 16 (text_of_cost ((bill_of_sheet sheet.now).cost period.0 band.0 direction)))) }
 {
     let wh = sheet.bill.wh(period, band, direction);
     let cost = cost_text(sheet.alloc, class_cost(sheet, period, band, direction))?;
@@ -313,7 +328,8 @@ fn cost_text(alloc: Global, nano: u128) -> Result<Vec<u8>, AllocError>
 
 // How far each register is read.
 fn put_read(text: &mut Vec<u8>, office: &Office, read: &[LastReading]) -> Result<(), AllocError>
-    ensures { OnOk result (text.new.items ≡ text.old.items ++ flat_map (read_line office.now) read.now) }
+    ensures { OnOk result (text.new.items
+        ≡ text.old.items ++ flat_map (read_line office.now) read.now) }
 {
     for row in read {
         put_last(text, office, row)?;

@@ -1,12 +1,12 @@
 //! The days of an account's month, as CSV.
 
-ghost use Rattle.std.specs.Prelude.{◌≡◌, ◌++◌, ◌<◌, ◌≤◌, ℕ, List, [], IfErr, IfOk, OnOk, length};
+ghost use Rattle.std.specs.Prelude.{◌≡◌, ◌<◌, ◌≤◌, IfErr, IfOk, length};
 ghost use Rattle.pw_book.specs.declared.fault.BookFault.TheVariants.{Memory};
 ghost use Rattle.pw_report.specs.DaysAndWhy.{day_line, day_lines, day_nano as nano_of_day, day_wh as wh_of_day, days_text as text_of_days};
 ghost use Rattle.pw_report.specs.Months.{IsThere};
 ghost use Rattle.pw_report.specs.Pages.{IsDaysText};
-ghost use Rattle.pw_report.specs.Reports.{IsReport};
-ghost use Rattle.pw_report.specs.inner.Rows.{HasText};
+ghost use Rattle.pw_report.specs.Reports.{IsReport, TellsText};
+ghost use Rattle.pw_report.specs.inner.Rows.{AddsLines};
 ghost use Rattle.pw_report.specs.inner.Told.{day_energies};
 
 use crate::months::{Month, begins_of, date_text, span_of};
@@ -40,7 +40,8 @@ pub fn days_page<S: Shelf>(
     month: Month,
 ) -> Result<Vec<u8>, BookFault>
     requires { IsThere month }
-    ensures text { S.clean book.new.shelf → IfOk result (λ text. IsDaysText book.old.office (S.state book.old.shelf).content.records account month text.items) }
+    ensures text { TellsText S.Shelf (λ office records. IsDaysText office records account month)
+        result book.old book.new }
     ensures report { IsReport S.Shelf result book.old book.new }
 {
     still_open(book)?;
@@ -59,7 +60,9 @@ pub fn days_page<S: Shelf>(
 fn days_text(alloc: Global, told: &MonthDays, count: u8) -> Result<Vec<u8>, BookFault>
     requires there { IsThere told.now.month }
     requires count { count ≤ 31 }
-    ensures text { IfOk result (λ text. text.items ≡ text_of_days told.now.office.now told.now.month (day_energies told.now.energies.now) count) }
+    ensures text { IfOk result (λ text. text.items
+        ≡ text_of_days told.now.office.now told.now.month (day_energies told.now.energies.now)
+        count) }
     ensures fault { IfErr result (λ fault. fault ≡ Memory) }
 {
     let mut rows = Rows::new(alloc);
@@ -74,7 +77,8 @@ fn days_text(alloc: Global, told: &MonthDays, count: u8) -> Result<Vec<u8>, Book
 fn put_day(rows: &mut Rows, told: &MonthDays, day: u8) -> Result<(), BookFault>
     requires there { IsThere told.now.month }
     requires day { day < 31 }
-    ensures text { (before : List ℕ) → HasText rows.old before [] → OnOk result (HasText rows.new (before ++ day_lines told.now.office.now told.now.month (day_energies told.now.energies.now) day) []) }
+    ensures text { AddsLines result (day_lines told.now.office.now told.now.month
+        (day_energies told.now.energies.now) day) rows.old rows.new }
     ensures fault { IfErr result (λ fault. fault ≡ Memory) }
 {
     for band in 0..told.office.bands() {
@@ -96,7 +100,8 @@ fn put_direction(
     requires there { IsThere told.now.month }
     requires day { day < 31 }
     requires band { band.0 < length told.now.office.now.bands }
-    ensures text { (before : List ℕ) → HasText rows.old before [] → OnOk result (HasText rows.new (before ++ day_line told.now.office.now told.now.month (day_energies told.now.energies.now) day band.0 direction) []) }
+    ensures text { AddsLines result (day_line told.now.office.now told.now.month
+        (day_energies told.now.energies.now) day band.0 direction) rows.old rows.new }
     ensures fault { IfErr result (λ fault. fault ≡ Memory) }
 {
     let wh = day_wh(told, day, band, direction);
@@ -112,7 +117,8 @@ fn put_direction(
 // The energy of a day in a band and a direction, of all periods together, in Wh.
 #[tactic(auto, unfolding(pw_flow::specs::Time::sum_over))]
 fn day_wh(told: &MonthDays, day: u8, band: BandId, direction: Direction) -> u128
-    ensures { result ≡ wh_of_day told.now.office.now (day_energies told.now.energies.now) day band.0 direction }
+    ensures { result ≡ wh_of_day told.now.office.now (day_energies told.now.energies.now) day band.0
+        direction }
 {
     let mut wh: u128 = 0;
     for period in 0..told.office.periods() {
@@ -125,7 +131,8 @@ fn day_wh(told: &MonthDays, day: u8, band: BandId, direction: Direction) -> u128
 #[tactic(auto, unfolding(pw_flow::specs::Time::sum_over))]
 fn day_nano(told: &MonthDays, day: u8, band: BandId, direction: Direction) -> u128
     requires { band.0 < length told.now.office.now.bands }
-    ensures { result ≡ nano_of_day told.now.office.now (day_energies told.now.energies.now) day band.0 direction }
+    ensures { result ≡ nano_of_day told.now.office.now (day_energies told.now.energies.now) day
+        band.0 direction }
 {
     let mut nano: u128 = 0;
     for period in 0..told.office.periods() {

@@ -2,7 +2,7 @@
 
 ghost use Rattle.std.specs.Prelude.{◌≡◌, ◌++◌, IfOk, OnOk, codes};
 ghost use Rattle.pw_report.specs.Pages.{IsDisputesText};
-ghost use Rattle.pw_report.specs.Reports.{IsReport};
+ghost use Rattle.pw_report.specs.Reports.{IsReport, TellsText};
 ghost use Rattle.pw_report.specs.Tables.{dispute_line, disputes_text as text_of_disputes, key_text};
 
 use crate::names::meter_name;
@@ -18,7 +18,7 @@ use std::alloc::{AllocError, Global};
 ///
 /// `Device`, `Memory` and `Reopen` (of a shut book) leave the records as they are.
 pub fn disputes_table<S: Shelf>(book: &mut Book<S>, alloc: Global) -> Result<Vec<u8>, BookFault>
-    ensures text { S.clean book.new.shelf → IfOk result (λ text. IsDisputesText book.old.office (S.state book.old.shelf).content.records text.items) }
+    ensures text { TellsText S.Shelf IsDisputesText result book.old book.new }
     ensures report { IsReport S.Shelf result book.old book.new }
 {
     let disputes = book.disputes(alloc)?;

@@ -1,13 +1,13 @@
 //! The export of energies.
 
-ghost use Rattle.std.specs.Prelude.{◌≡◌, ◌++◌, ◌<◌, ℕ, List, [], IfErr, IfOk, OnOk, false, length};
+ghost use Rattle.std.specs.Prelude.{◌≡◌, ◌<◌, IfErr, IfOk, false, length};
 ghost use Rattle.std.specs.List.{flat_map};
 ghost use Rattle.pw_book.specs.declared.fault.BookFault.TheVariants.{Memory};
 ghost use Rattle.pw_model.specs.Office.{HasOwner};
 ghost use Rattle.pw_report.specs.Exports.{energies_text, energy_cost, energy_row, energy_row_line, owner_rows};
 ghost use Rattle.pw_report.specs.Names.{owner_name as name_of_owner};
 ghost use Rattle.pw_report.specs.Reports.{IsReport};
-ghost use Rattle.pw_report.specs.inner.Rows.{HasText};
+ghost use Rattle.pw_report.specs.inner.Rows.{AddsLines};
 ghost use Rattle.pw_tariff.specs.Office.{office_of};
 
 use crate::names::{account_name, band_letter};
@@ -25,7 +25,9 @@ use std::alloc::Global;
 ///
 /// `Device`, `Memory` and `Reopen` (of a shut book) leave the records as they are.
 pub fn export_energy<S: Shelf>(book: &mut Book<S>, alloc: Global) -> Result<Vec<u8>, BookFault>
-    ensures text { S.clean book.new.shelf → IfOk result (λ text. text.items ≡ energies_text book.old.office (S.state book.old.shelf).content.records) }
+    ensures text { S.clean book.new.shelf → IfOk result
+        (λ text. text.items ≡ energies_text book.old.office
+        (S.state book.old.shelf).content.records) }
     ensures report { IsReport S.Shelf result book.old book.new }
 {
     still_open(book)?;
@@ -47,7 +49,10 @@ fn put_owner<S: Shelf>(
 ) -> Result<(), BookFault>
     requires owner { HasOwner (office_of book.old.office) owner }
     requires open_yet { book.old.shut ≡ false }
-    ensures text { S.clean book.new.shelf → (before : List ℕ) → HasText rows.old before [] → OnOk result (HasText rows.new (before ++ flat_map (energy_row_line book.old.office) (owner_rows book.old.office (S.state book.old.shelf).content.records owner)) []) }
+    ensures text { S.clean book.new.shelf → AddsLines result
+        (flat_map (energy_row_line book.old.office)
+        (owner_rows book.old.office (S.state book.old.shelf).content.records owner)) rows.old
+        rows.new }
     ensures report { IsReport S.Shelf result book.old book.new }
 {
     for band in 0..book.office().bands() {
@@ -69,7 +74,10 @@ fn put_direction<S: Shelf>(
     requires owner { HasOwner (office_of book.old.office) owner }
     requires band { band.0 < length book.old.office.bands }
     requires open_yet { book.old.shut ≡ false }
-    ensures text { S.clean book.new.shelf → (before : List ℕ) → HasText rows.old before [] → OnOk result (HasText rows.new (before ++ energy_row_line book.old.office (energy_row book.old.office (S.state book.old.shelf).content.records owner band.0 direction)) []) }
+    ensures text { S.clean book.new.shelf → AddsLines result
+        (energy_row_line book.old.office
+        (energy_row book.old.office (S.state book.old.shelf).content.records owner band.0
+        direction)) rows.old rows.new }
     ensures report { IsReport S.Shelf result book.old book.new }
 {
     let wh = book.energy(owner, band, direction)?;
@@ -88,7 +96,9 @@ fn cost<S: Shelf>(
     requires owner { HasOwner (office_of book.old.office) owner }
     requires band { band.0 < length book.old.office.bands }
     requires open_yet { book.old.shut ≡ false }
-    ensures cost { S.clean book.new.shelf → IfOk result (λ nano. nano ≡ energy_cost book.old.office (S.state book.old.shelf).content.records owner band.0 direction) }
+    ensures cost { S.clean book.new.shelf → IfOk result
+        (λ nano. nano ≡ energy_cost book.old.office (S.state book.old.shelf).content.records owner
+        band.0 direction) }
     ensures report { IsReport S.Shelf result book.old book.new }
 {
     let mut nano: u128 = 0;
@@ -112,7 +122,9 @@ fn put_energy(
 ) -> Result<(), BookFault>
     requires owner { HasOwner (office_of office.now) owner }
     requires band { band.0 < length office.now.bands }
-    ensures text { (before : List ℕ) → HasText rows.old before [] → OnOk result (HasText rows.new (before ++ energy_row_line office.now (record { owner = owner; band = band.0; direction = direction; wh = wh; nano = nano })) []) }
+    ensures text { AddsLines result (energy_row_line office.now
+        (record { owner = owner; band = band.0; direction = direction; wh = wh; nano = nano }))
+        rows.old rows.new }
     ensures fault { IfErr result (λ fault. fault ≡ Memory) }
 {
     rows.put(owner_name(office, owner))?;

@@ -3,7 +3,7 @@
 ghost use Rattle.std.specs.Prelude.{◌≡◌, ◌++◌, IfOk, OnOk, codes, decimal};
 ghost use Rattle.pw_report.specs.Layout.{instant_text as text_of_instant};
 ghost use Rattle.pw_report.specs.Pages.{IsFallsText};
-ghost use Rattle.pw_report.specs.Reports.{IsReport};
+ghost use Rattle.pw_report.specs.Reports.{IsReport, TellsText};
 ghost use Rattle.pw_report.specs.Tables.{fall_line, falls_text as text_of_falls};
 
 use crate::names::meter_name;
@@ -20,7 +20,7 @@ use std::alloc::{AllocError, Global};
 ///
 /// `Device`, `Memory` and `Reopen` (of a shut book) leave the records as they are.
 pub fn falls_table<S: Shelf>(book: &mut Book<S>, alloc: Global) -> Result<Vec<u8>, BookFault>
-    ensures text { S.clean book.new.shelf → IfOk result (λ text. IsFallsText book.old.office (S.state book.old.shelf).content.records text.items) }
+    ensures text { TellsText S.Shelf IsFallsText result book.old book.new }
     ensures report { IsReport S.Shelf result book.old book.new }
 {
     let falls = book.falls(alloc)?;
@@ -52,7 +52,8 @@ fn put_fall(text: &mut Vec<u8>, office: &Office, fall: &Fall) -> Result<(), Allo
 
 // The instant and the Wh of a reading, each behind a space.
 fn put_shown(text: &mut Vec<u8>, instant: Instant, wh: WattHours) -> Result<(), AllocError>
-    ensures { OnOk result (text.new.items ≡ text.old.items ++ (codes " " ++ text_of_instant instant ++ codes " " ++ decimal wh)) }
+    ensures { OnOk result (text.new.items
+        ≡ text.old.items ++ (codes " " ++ text_of_instant instant ++ codes " " ++ decimal wh)) }
 {
     text.extend_from_slice(b" ")?;
     text.extend_from_slice(&instant_text(instant))?;

@@ -37,7 +37,8 @@ pub fn month_of(text: &[u8]) -> Option<Month>
 
 // The two numbers of a text `20YY-MM`.
 fn numbers_in(text: &[u8]) -> Option<(u8, u8)>
-    ensures { MatchOption result ((a b : ℕ) → a < 100 → b < 100 → text.now ≢ of_century a b) (λ n. (n.0 < 100) × (n.1 < 100) × (text.now ≡ of_century n.0 n.1)) }
+    ensures { MatchOption result ((a b : ℕ) → a < 100 → b < 100 → text.now ≢ of_century a b)
+        (λ n. (n.0 < 100) × (n.1 < 100) × (text.now ≡ of_century n.0 n.1)) }
 {
     let [two, zero, tens, ones, dash, ten, one] = *text else {
         return None;
@@ -50,7 +51,8 @@ fn numbers_in(text: &[u8]) -> Option<(u8, u8)>
 
 // The number of two digits.
 fn number_of(tens: u8, ones: u8) -> Option<u8>
-    ensures { MatchOption result (¬ (IsDigit tens × IsDigit ones)) (λ n. (n < 100) × (tens ≡ 48 + n / 10) × (ones ≡ 48 + n % 10)) }
+    ensures { MatchOption result (¬ (IsDigit tens × IsDigit ones))
+        (λ n. (n < 100) × (tens ≡ 48 + n / 10) × (ones ≡ 48 + n % 10)) }
 {
     match (tens, ones) {
         (b'0'..=b'9', b'0'..=b'9') => Some((tens - b'0') * 10 + (ones - b'0')),
@@ -123,7 +125,8 @@ pub(crate) fn begins_of(
     zone: &Zone,
 ) -> Result<Vec<Instant>, AllocError>
     requires { IsThere month }
-    ensures days { IfOk result (λ begins. (from until : ℕ) → IsSpan month from until → AreDays month begins.items until) }
+    ensures days { IfOk result (λ begins. (from until : ℕ) → IsSpan month from until
+        → AreDays month begins.items until) }
     ensures few { IfOk result (λ begins. length begins.items ≤ 31) }
 {
     let mut begins = Vec::new(alloc);

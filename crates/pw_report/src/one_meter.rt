@@ -1,8 +1,8 @@
 //! The export of the readings of one meter.
 
-ghost use Rattle.std.specs.Prelude.{◌<◌, IfOk, length};
+ghost use Rattle.std.specs.Prelude.{◌<◌, length};
 ghost use Rattle.pw_report.specs.Pages.{IsOneMeterText};
-ghost use Rattle.pw_report.specs.Reports.{IsReport};
+ghost use Rattle.pw_report.specs.Reports.{IsReport, TellsText};
 
 use crate::readiness::still_open;
 use crate::readings::{put_header, put_meter};
@@ -22,7 +22,8 @@ pub fn export_meter<S: Shelf>(
     meter: MeterId,
 ) -> Result<Vec<u8>, BookFault>
     requires { meter.0 < length book.old.office.meters }
-    ensures text { S.clean book.new.shelf → IfOk result (λ text. IsOneMeterText book.old.office (S.state book.old.shelf).content.records meter.0 text.items) }
+    ensures text { TellsText S.Shelf (λ office records. IsOneMeterText office records meter.0)
+        result book.old book.new }
     ensures report { IsReport S.Shelf result book.old book.new }
 {
     still_open(book)?;

@@ -1,8 +1,7 @@
 //! The pages of a book.
 
-ghost use Rattle.std.specs.Prelude.{IfOk};
 ghost use Rattle.pw_report.specs.Pages.{IsAnswer, IsPageOf};
-ghost use Rattle.pw_report.specs.Reports.{IsReport};
+ghost use Rattle.pw_report.specs.Reports.{IsReport, TellsText};
 
 use crate::accounts::accounts_table;
 use crate::bills::bill_page;
@@ -75,7 +74,7 @@ pub fn page_text<S: Shelf>(
     page: Page,
 ) -> Result<Vec<u8>, BookFault>
     requires { IsPageOf book.old.office page }
-    ensures text { S.clean book.new.shelf → IfOk result (λ text. IsAnswer page book.old.office (S.state book.old.shelf).content.records text.items) }
+    ensures text { TellsText S.Shelf (IsAnswer page) result book.old book.new }
     ensures report { IsReport S.Shelf result book.old book.new }
 {
     match page {

@@ -1,6 +1,6 @@
 //! The export of readings.
 
-ghost use Rattle.std.specs.Prelude.{◌≡◌, ◌++◌, ◌<◌, ℕ, List, [], IfErr, IfOk, OnOk, false, length};
+ghost use Rattle.std.specs.Prelude.{◌≡◌, ◌<◌, List, IfErr, false, length};
 ghost use Rattle.std.specs.List.{flat_map};
 ghost use Rattle.pw_book.specs.declared.fault.BookFault.TheVariants.{Memory};
 ghost use Rattle.pw_model.specs.Lists.{AreReadings};
@@ -9,8 +9,8 @@ ghost use Rattle.pw_obis.specs.declared.reference.Register.{Register as ARegiste
 ghost use Rattle.pw_report.specs.Exports.{csv_line, mark, meter_lines, reading_line, readings_header};
 ghost use Rattle.pw_report.specs.Names.{meter_name as name_of_meter};
 ghost use Rattle.pw_report.specs.Pages.{IsReadingsText};
-ghost use Rattle.pw_report.specs.Reports.{IsReport};
-ghost use Rattle.pw_report.specs.inner.Rows.{HasText};
+ghost use Rattle.pw_report.specs.Reports.{IsReport, TellsText};
+ghost use Rattle.pw_report.specs.inner.Rows.{AddsLines};
 ghost use Rattle.pw_report.specs.inner.Told.{shown_line};
 
 use crate::names::meter_name;
@@ -36,7 +36,7 @@ struct Shown<'a> {
 ///
 /// `Device`, `Memory` and `Reopen` (of a shut book) leave the records as they are.
 pub fn export_readings<S: Shelf>(book: &mut Book<S>, alloc: Global) -> Result<Vec<u8>, BookFault>
-    ensures text { S.clean book.new.shelf → IfOk result (λ text. IsReadingsText book.old.office (S.state book.old.shelf).content.records text.items) }
+    ensures text { TellsText S.Shelf IsReadingsText result book.old book.new }
     ensures report { IsReport S.Shelf result book.old book.new }
 {
     still_open(book)?;
@@ -50,7 +50,7 @@ pub fn export_readings<S: Shelf>(book: &mut Book<S>, alloc: Global) -> Result<Ve
 
 /// Writes the header.
 pub(crate) fn put_header(rows: &mut Rows) -> Result<(), BookFault>
-    ensures text { (before : List ℕ) → HasText rows.old before [] → OnOk result (HasText rows.new (before ++ csv_line readings_header) []) }
+    ensures text { AddsLines result (csv_line readings_header) rows.old rows.new }
     ensures fault { IfErr result (λ fault. fault ≡ Memory) }
 {
     rows.put_header(&[b"meter", b"register", b"instant", b"wh", b"counted"])
@@ -65,7 +65,10 @@ pub(crate) fn put_meter<S: Shelf>(
 ) -> Result<(), BookFault>
     requires meter { meter.0 < length book.old.office.meters }
     requires open_yet { book.old.shut ≡ false }
-    ensures text { S.clean book.new.shelf → (readings : ARegister → List AReading) → ((r : ARegister) → AreReadings (S.state book.old.shelf).content.records meter.0 r (readings r)) → (before : List ℕ) → HasText rows.old before [] → OnOk result (HasText rows.new (before ++ meter_lines (name_of_meter book.old.office meter.0) readings) []) }
+    ensures text { S.clean book.new.shelf → (readings : ARegister → List AReading)
+        → ((r : ARegister) → AreReadings (S.state book.old.shelf).content.records meter.0 r
+        (readings r)) → AddsLines result
+        (meter_lines (name_of_meter book.old.office meter.0) readings) rows.old rows.new }
     ensures report { IsReport S.Shelf result book.old book.new }
 {
     for register in &Register::ALL {
@@ -84,7 +87,11 @@ fn put_register<S: Shelf>(
 ) -> Result<(), BookFault>
     requires meter { meter.0 < length book.old.office.meters }
     requires open_yet { book.old.shut ≡ false }
-    ensures text { S.clean book.new.shelf → (readings : List AReading) → AreReadings (S.state book.old.shelf).content.records meter.0 register readings → (before : List ℕ) → HasText rows.old before [] → OnOk result (HasText rows.new (before ++ flat_map (reading_line (name_of_meter book.old.office meter.0) register) readings) []) }
+    ensures text { S.clean book.new.shelf → (readings : List AReading)
+        → AreReadings (S.state book.old.shelf).content.records meter.0 register readings
+        → AddsLines result (flat_map
+        (reading_line (name_of_meter book.old.office meter.0) register) readings) rows.old
+        rows.new }
     ensures report { IsReport S.Shelf result book.old book.new }
 {
     let readings = book.readings(alloc, meter, register)?;

@@ -8,8 +8,8 @@ ghost use Rattle.pw_obis.specs.Registers.{register_name};
 ghost use Rattle.pw_report.specs.Exports.{assignment_fields, csv_line, given_name, record_fields, record_line, withdrawal_fields};
 ghost use Rattle.pw_report.specs.Layout.{instant_text as text_of_instant};
 ghost use Rattle.pw_report.specs.Pages.{IsRecordsText};
-ghost use Rattle.pw_report.specs.Reports.{IsReport};
-ghost use Rattle.pw_report.specs.inner.Rows.{HasText};
+ghost use Rattle.pw_report.specs.Reports.{IsReport, TellsText};
+ghost use Rattle.pw_report.specs.inner.Rows.{AddsFields, HasText};
 
 use crate::names::{account_name, meter_name};
 use crate::put::instant_text;
@@ -28,7 +28,7 @@ use std::alloc::Global;
 ///
 /// `Device`, `Memory` and `Reopen` (of a shut book) leave the records as they are.
 pub fn export_assignments<S: Shelf>(book: &mut Book<S>, alloc: Global) -> Result<Vec<u8>, BookFault>
-    ensures text { S.clean book.new.shelf → IfOk result (λ text. IsRecordsText Assignment book.old.office (S.state book.old.shelf).content.records text.items) }
+    ensures text { TellsText S.Shelf (IsRecordsText Assignment) result book.old book.new }
     ensures report { IsReport S.Shelf result book.old book.new }
 {
     let assignments = book.assignments(alloc)?;
@@ -45,7 +45,7 @@ pub fn export_assignments<S: Shelf>(book: &mut Book<S>, alloc: Global) -> Result
 ///
 /// `Device`, `Memory` and `Reopen` (of a shut book) leave the records as they are.
 pub fn export_topups<S: Shelf>(book: &mut Book<S>, alloc: Global) -> Result<Vec<u8>, BookFault>
-    ensures text { S.clean book.new.shelf → IfOk result (λ text. IsRecordsText TopUp book.old.office (S.state book.old.shelf).content.records text.items) }
+    ensures text { TellsText S.Shelf (IsRecordsText TopUp) result book.old book.new }
     ensures report { IsReport S.Shelf result book.old book.new }
 {
     let topups = book.topups(alloc)?;
@@ -63,7 +63,7 @@ pub fn export_topups<S: Shelf>(book: &mut Book<S>, alloc: Global) -> Result<Vec<
 ///
 /// `Device`, `Memory` and `Reopen` (of a shut book) leave the records as they are.
 pub fn export_withdrawals<S: Shelf>(book: &mut Book<S>, alloc: Global) -> Result<Vec<u8>, BookFault>
-    ensures text { S.clean book.new.shelf → IfOk result (λ text. IsRecordsText Withdrawal book.old.office (S.state book.old.shelf).content.records text.items) }
+    ensures text { TellsText S.Shelf (IsRecordsText Withdrawal) result book.old book.new }
     ensures report { IsReport S.Shelf result book.old book.new }
 {
     let withdrawals = book.withdrawals(alloc)?;
@@ -82,7 +82,9 @@ fn records_text(
     header: &[&[u8]],
     records: &[Entry],
 ) -> Result<Vec<u8>, BookFault>
-    ensures text { IfOk result (λ text. text.items ≡ csv_line (map (λ name. name.now) header.now) ++ flat_map (record_line office.now) records.now) }
+    ensures text { IfOk result (λ text. text.items
+        ≡ csv_line (map (λ name. name.now) header.now)
+        ++ flat_map (record_line office.now) records.now) }
     ensures fault { IfErr result (λ fault. fault ≡ Memory) }
 {
     let mut rows = Rows::new(alloc);
@@ -101,7 +103,9 @@ impl Tells<Entry> for Office {
 }
 
 fn put_fields(rows: &mut Rows, office: &Office, entry: &Entry) -> Result<(), BookFault>
-    ensures text { (before : List ℕ) → HasText rows.old before [] → OnOk result (HasText rows.new before (record_fields office.now entry.now.key entry.now.content)) }
+    ensures text { (before : List ℕ) → HasText rows.old before []
+        → OnOk result (HasText rows.new before
+        (record_fields office.now entry.now.key entry.now.content)) }
     ensures fault { IfErr result (λ fault. fault ≡ Memory) }
 {
     match (&entry.key, &entry.content) {
@@ -128,7 +132,8 @@ fn put_fields(rows: &mut Rows, office: &Office, entry: &Entry) -> Result<(), Boo
 }
 
 fn put_withdrawal(rows: &mut Rows, office: &Office, named: &Named) -> Result<(), BookFault>
-    ensures text { (before : List ℕ) → HasText rows.old before [] → OnOk result (HasText rows.new before (withdrawal_fields office.now named.now)) }
+    ensures text { (before : List ℕ) → HasText rows.old before []
+        → OnOk result (HasText rows.new before (withdrawal_fields office.now named.now)) }
     ensures fault { IfErr result (λ fault. fault ≡ Memory) }
 {
     match named {
@@ -174,7 +179,8 @@ fn put_reading(
     instant: Instant,
     wh: WattHours,
 ) -> Result<(), BookFault>
-    ensures text { (before : List ℕ) (fields : List (List ℕ)) → HasText rows.old before fields → OnOk result (HasText rows.new before (fields ++ (meter.now ∷ register_name register ∷ text_of_instant instant ∷ decimal wh ∷ []))) }
+    ensures text { AddsFields result (meter.now ∷ register_name register ∷ text_of_instant instant ∷
+        decimal wh ∷ []) rows.old rows.new }
     ensures fault { IfErr result (λ fault. fault ≡ Memory) }
 {
     rows.put(meter)?;
@@ -190,7 +196,8 @@ fn put_assignment(
     start: Instant,
     owner: Owner,
 ) -> Result<(), BookFault>
-    ensures text { (before : List ℕ) (fields : List (List ℕ)) → HasText rows.old before fields → OnOk result (HasText rows.new before (fields ++ assignment_fields office.now meter start owner)) }
+    ensures text { AddsFields result (assignment_fields office.now meter start owner) rows.old
+        rows.new }
     ensures fault { IfErr result (λ fault. fault ≡ Memory) }
 {
     rows.put(meter_name(office, meter))?;
@@ -206,7 +213,8 @@ pub(crate) fn put_topup(
     cents: u32,
     instant: Instant,
 ) -> Result<(), BookFault>
-    ensures text { (before : List ℕ) (fields : List (List ℕ)) → HasText rows.old before fields → OnOk result (HasText rows.new before (fields ++ (reference.now ∷ account.now ∷ decimal cents ∷ text_of_instant instant ∷ []))) }
+    ensures text { AddsFields result (reference.now ∷ account.now ∷ decimal cents ∷ text_of_instant
+        instant ∷ []) rows.old rows.new }
     ensures fault { IfErr result (λ fault. fault ≡ Memory) }
 {
     rows.put(reference.bytes())?;

@@ -4,7 +4,7 @@ ghost use Rattle.std.specs.Prelude.{◌≡◌, ◌∷◌, ◌++◌, ℕ, List, [
 ghost use Rattle.std.specs.List.{flat_map};
 ghost use Rattle.pw_book.specs.declared.fault.BookFault.TheVariants.{Memory};
 ghost use Rattle.pw_report.specs.Exports.{csv_line};
-ghost use Rattle.pw_report.specs.inner.Rows.{HasText};
+ghost use Rattle.pw_report.specs.inner.Rows.{AddsFields, AddsLines, HasText};
 
 use csv::{ByteRecord, Writer, WriterBuilder};
 use pw_book::BookFault;
@@ -32,7 +32,7 @@ impl Rows {
 
     /// One field more of the row.
     pub(crate) fn put(&mut self, field: &[u8]) -> Result<(), BookFault>
-        ensures text { (text : List ℕ) (fields : List (List ℕ)) → HasText self.old text fields → OnOk result (HasText self.new text (fields ++ (field.now ∷ []))) }
+        ensures text { AddsFields result (field.now ∷ []) self.old self.new }
         ensures fault { IfErr result (λ fault. fault ≡ Memory) }
     {
         self.row.push_field(field)?;
@@ -41,7 +41,8 @@ impl Rows {
 
     /// A header: a row of these names.
     pub(crate) fn put_header(&mut self, names: &[&[u8]]) -> Result<(), BookFault>
-        ensures text { (text : List ℕ) → HasText self.old text [] → OnOk result (HasText self.new (text ++ csv_line (map (λ name. name.now) names.now)) []) }
+        ensures text { AddsLines result (csv_line (map (λ name. name.now) names.now)) self.old
+            self.new }
         ensures fault { IfErr result (λ fault. fault ≡ Memory) }
     {
         for name in names {
@@ -53,7 +54,8 @@ impl Rows {
     /// Ends the row, and begins the next one. It may have another number of fields than the first. (So `csv` refuses nothing
     /// but for want of memory.)
     pub(crate) fn end(&mut self) -> Result<(), BookFault>
-        ensures text { (text : List ℕ) (fields : List (List ℕ)) → HasText self.old text fields → OnOk result (HasText self.new (text ++ csv_line fields) []) }
+        ensures text { (text : List ℕ) (fields : List (List ℕ)) → HasText self.old text fields
+            → OnOk result (HasText self.new (text ++ csv_line fields) []) }
         ensures fault { IfErr result (λ fault. fault ≡ Memory) }
     {
         let Ok(()) = self.writer.write_byte_record(&self.row) else {
@@ -65,7 +67,8 @@ impl Rows {
 
     /// The text of the rows.
     pub(crate) fn finish(self) -> Result<Vec<u8>, BookFault>
-        ensures text { (text : List ℕ) (fields : List (List ℕ)) → HasText self text fields → IfOk result (λ bytes. bytes.items ≡ text) }
+        ensures text { (text : List ℕ) (fields : List (List ℕ)) → HasText self text fields
+            → IfOk result (λ bytes. bytes.items ≡ text) }
         ensures fault { IfErr result (λ fault. fault ≡ Memory) }
     {
         match self.writer.into_inner() {
@@ -82,7 +85,7 @@ pub(crate) trait Tells<T> {
 
     /// Writes the row of a value.
     fn tell(&self, rows: &mut Rows, value: &T) -> Result<(), BookFault>
-        ensures text { (before : List ℕ) → HasText rows.old before [] → OnOk result (HasText rows.new (before ++ line self.now value.now) []) }
+        ensures text { AddsLines result (line self.now value.now) rows.old rows.new }
         ensures fault { IfErr result (λ fault. fault ≡ Memory) };
 }
 
@@ -92,7 +95,8 @@ pub(crate) fn tell_each<T, W: Tells<T>>(
     teller: &W,
     values: &[T],
 ) -> Result<(), BookFault>
-    ensures text { (before : List ℕ) → HasText rows.old before [] → OnOk result (HasText rows.new (before ++ flat_map (W.Tells.line teller.now) values.now) []) }
+    ensures text { AddsLines result (flat_map (W.Tells.line teller.now) values.now) rows.old
+        rows.new }
     ensures fault { IfErr result (λ fault. fault ≡ Memory) }
 {
     for value in values {

@@ -24,7 +24,9 @@ pub fn statement<S: Shelf>(
     account: AccountId,
 ) -> Result<Vec<u8>, BookFault>
     requires { account.0 < length book.old.office.accounts }
-    ensures text { S.clean book.new.shelf → IfOk result (λ text. text.items ≡ statement_text book.old.office (S.state book.old.shelf).content.records account.0) }
+    ensures text { S.clean book.new.shelf → IfOk result
+        (λ text. text.items ≡ statement_text book.old.office
+        (S.state book.old.shelf).content.records account.0) }
     ensures report { IsReport S.Shelf result book.old book.new }
 {
     let cents = book.topped_up(account)?;
@@ -39,7 +41,9 @@ pub fn statement<S: Shelf>(
 
 // Whose statement it is, and the head of its energies.
 fn put_head(text: &mut Vec<u8>, name: &[u8]) -> Result<(), AllocError>
-    ensures { OnOk result (text.new.items ≡ text.old.items ++ codes "account " ++ name.now ++ codes "\n" ++ band_line (codes "band") (codes "import Wh") (codes "export Wh")) }
+    ensures { OnOk result (text.new.items
+        ≡ text.old.items ++ codes "account " ++ name.now ++ codes "\n"
+        ++ band_line (codes "band") (codes "import Wh") (codes "export Wh")) }
 {
     text.extend_from_slice(b"account ")?;
     text.extend_from_slice(name)?;
@@ -49,7 +53,9 @@ fn put_head(text: &mut Vec<u8>, name: &[u8]) -> Result<(), AllocError>
 
 // What was topped up, in cents, and the balance.
 fn put_amounts(text: &mut Vec<u8>, cents: u128, balance: &[u8]) -> Result<(), AllocError>
-    ensures { OnOk result (text.new.items ≡ text.old.items ++ codes "topped up EUR " ++ euro_text cents ++ codes "\n" ++ codes "balance EUR " ++ balance.now ++ codes "\n") }
+    ensures { OnOk result (text.new.items
+        ≡ text.old.items ++ codes "topped up EUR " ++ euro_text cents ++ codes "\n"
+        ++ codes "balance EUR " ++ balance.now ++ codes "\n") }
 {
     text.extend_from_slice(b"topped up EUR ")?;
     put_euro(text, cents)?;
@@ -68,7 +74,10 @@ fn put_energies<S: Shelf>(
 ) -> Result<(), BookFault>
     requires account { account.0 < length book.old.office.accounts }
     requires open_yet { book.old.shut ≡ false }
-    ensures text { S.clean book.new.shelf → OnOk result (text.new.items ≡ text.old.items ++ listed_below (length book.old.office.bands) (energy_line book.old.office (S.state book.old.shelf).content.records account.0)) }
+    ensures text { S.clean book.new.shelf → OnOk result
+        (text.new.items ≡ text.old.items
+        ++ listed_below (length book.old.office.bands)
+        (energy_line book.old.office (S.state book.old.shelf).content.records account.0)) }
     ensures report { IsReport S.Shelf result book.old book.new }
 {
     for band in 0..book.office().bands() {
@@ -88,7 +97,8 @@ fn put_energy(
     imported: u64,
     exported: u64,
 ) -> Result<(), AllocError>
-    ensures { OnOk result (text.new.items ≡ text.old.items ++ band_line name.now (decimal imported) (decimal exported)) }
+    ensures { OnOk result (text.new.items
+        ≡ text.old.items ++ band_line name.now (decimal imported) (decimal exported)) }
 {
     let (mut import, mut export) = (Buffer::new(), Buffer::new());
     put_band(
@@ -105,7 +115,8 @@ fn put_band(
     imported: &[u8],
     exported: &[u8],
 ) -> Result<(), AllocError>
-    ensures { OnOk result (text.new.items ≡ text.old.items ++ band_line name.now imported.now exported.now) }
+    ensures { OnOk result (text.new.items
+        ≡ text.old.items ++ band_line name.now imported.now exported.now) }
 {
     put_left(text, 4, name)?;
     put_right(text, 16, imported)?;

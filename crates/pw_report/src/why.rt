@@ -1,6 +1,6 @@
 //! Why the bill of an account for a month is what it is, as CSV.
 
-ghost use Rattle.std.specs.Prelude.{◌≡◌, ◌*◌, ◌∷◌, ◌++◌, ℕ, List, [], IfErr, IfOk, OnOk, decimal, map};
+ghost use Rattle.std.specs.Prelude.{◌≡◌, ◌*◌, ◌∷◌, [], IfErr, IfOk, decimal, map};
 ghost use Rattle.pw_book.specs.declared.fault.BookFault.TheVariants.{Memory};
 ghost use Rattle.pw_bills.specs.Why.{row_told};
 ghost use Rattle.pw_report.specs.DaysAndWhy.{why_text as text_of_why};
@@ -8,8 +8,8 @@ ghost use Rattle.pw_report.specs.Layout.{instant_text as text_of_instant};
 ghost use Rattle.pw_report.specs.Months.{IsThere};
 ghost use Rattle.pw_report.specs.Names.{band_name, period_name};
 ghost use Rattle.pw_report.specs.Pages.{IsWhyText};
-ghost use Rattle.pw_report.specs.Reports.{IsReport};
-ghost use Rattle.pw_report.specs.inner.Rows.{HasText};
+ghost use Rattle.pw_report.specs.Reports.{IsReport, TellsText};
+ghost use Rattle.pw_report.specs.inner.Rows.{AddsFields};
 ghost use Rattle.pw_report.specs.inner.Told.{payer_line, piece_line};
 ghost use Rattle.pw_tariff.specs.Office.{office_of, price_at};
 
@@ -45,7 +45,8 @@ pub fn why_page<S: Shelf>(
     month: Month,
 ) -> Result<Vec<u8>, BookFault>
     requires { IsThere month }
-    ensures text { S.clean book.new.shelf → IfOk result (λ text. IsWhyText book.old.office (S.state book.old.shelf).content.records account month text.items) }
+    ensures text { TellsText S.Shelf (λ office records. IsWhyText office records account month)
+        result book.old book.new }
     ensures report { IsReport S.Shelf result book.old book.new }
 {
     let (from, until) = span_of(month, book.zone());
@@ -61,7 +62,9 @@ fn why_text(
     pieces: &[WhyPiece],
     payments: &[TopUpRow],
 ) -> Result<Vec<u8>, BookFault>
-    ensures text { IfOk result (λ text. text.items ≡ text_of_why office.now account (map (row_told (office_of office.now)) pieces.now) payments.now) }
+    ensures text { IfOk result (λ text. text.items
+        ≡ text_of_why office.now account (map (row_told (office_of office.now)) pieces.now)
+        payments.now) }
     ensures fault { IfErr result (λ fault. fault ≡ Memory) }
 {
     let mut rows = Rows::new(alloc);
@@ -102,7 +105,8 @@ impl Tells<WhyPiece> for Office {
 
 // Two readings.
 fn put_span(rows: &mut Rows, span: &Span) -> Result<(), BookFault>
-    ensures text { (before : List ℕ) (fields : List (List ℕ)) → HasText rows.old before fields → OnOk result (HasText rows.new before (fields ++ (text_of_instant span.now.from ∷ decimal span.now.low ∷ text_of_instant span.now.to ∷ decimal span.now.high ∷ []))) }
+    ensures text { AddsFields result (text_of_instant span.now.from ∷ decimal span.now.low ∷
+        text_of_instant span.now.to ∷ decimal span.now.high ∷ []) rows.old rows.new }
     ensures fault { IfErr result (λ fault. fault ≡ Memory) }
 {
     rows.put(&instant_text(span.from))?;
@@ -118,7 +122,11 @@ fn put_given(
     direction: Direction,
     piece: &Piece,
 ) -> Result<(), BookFault>
-    ensures text { (before : List ℕ) (fields : List (List ℕ)) → HasText rows.old before fields → OnOk result (HasText rows.new before (fields ++ (text_of_instant piece.now.begin ∷ text_of_instant piece.now.until ∷ period_name office.now piece.now.period.0 ∷ band_name office.now piece.now.band.0 ∷ decimal piece.now.wh ∷ decimal (price_at office.now piece.now.period.0 piece.now.band.0 direction * piece.now.wh) ∷ []))) }
+    ensures text { AddsFields result (text_of_instant piece.now.begin ∷ text_of_instant
+        piece.now.until ∷ period_name office.now piece.now.period.0 ∷ band_name office.now
+        piece.now.band.0 ∷ decimal piece.now.wh ∷ decimal
+        (price_at office.now piece.now.period.0 piece.now.band.0 direction * piece.now.wh) ∷ [])
+        rows.old rows.new }
     ensures fault { IfErr result (λ fault. fault ≡ Memory) }
 {
     let price = price_in(office, piece.period, piece.band, direction);
@@ -132,7 +140,7 @@ fn put_given(
 
 // The name of a period, its start; nothing where the office has no such.
 fn put_period(rows: &mut Rows, office: &Office, period: PeriodId) -> Result<(), BookFault>
-    ensures text { (before : List ℕ) (fields : List (List ℕ)) → HasText rows.old before fields → OnOk result (HasText rows.new before (fields ++ (period_name office.now period.0 ∷ []))) }
+    ensures text { AddsFields result (period_name office.now period.0 ∷ []) rows.old rows.new }
     ensures fault { IfErr result (λ fault. fault ≡ Memory) }
 {
     if period.0 < office.periods() {
@@ -144,7 +152,7 @@ fn put_period(rows: &mut Rows, office: &Office, period: PeriodId) -> Result<(), 
 
 // The letter of a band; nothing where the office has no such.
 fn put_band(rows: &mut Rows, office: &Office, band: BandId) -> Result<(), BookFault>
-    ensures text { (before : List ℕ) (fields : List (List ℕ)) → HasText rows.old before fields → OnOk result (HasText rows.new before (fields ++ (band_name office.now band.0 ∷ []))) }
+    ensures text { AddsFields result (band_name office.now band.0 ∷ []) rows.old rows.new }
     ensures fault { IfErr result (λ fault. fault ≡ Memory) }
 {
     if band.0 < office.bands() {

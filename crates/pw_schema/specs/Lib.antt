@@ -1,5 +1,6 @@
 -- Read these, in this order:
 -- Tables: the tables of each version
+-- Texts: the texts that make them
 -- Calls: what calls leave of a connection, by their answer
 -- Conflicts: whether the texts of a file's objects say what becomes of a row that breaks a rule
 -- Fresh: what a new store holds
@@ -8,6 +9,7 @@
 -- Judging: which rows are of an office, and what the row of `office` says
 -- Judges: what a judge is behind the rows that it took, one at a time
 pub mod Tables
+pub mod Texts
 pub mod Calls
 pub mod Conflicts
 pub mod Fresh

@@ -43,7 +43,8 @@ pub fn amount_at(row: &Row, at: usize) -> Option<u64>
 /// The watt-hours that stand at a place of a row, if they do.
 pub fn wh_at(row: &Row, at: usize) -> Option<WattHours>
     ensures some { IfSome result (λ wh. column row.now at ≡ Int (pos wh)) }
-    ensures none { IfNone result ((n : ℕ) → n ≤ LARGEST_WATT_HOURS → column row.now at ≡ Int (pos n) → ⊥) }
+    ensures none { IfNone result ((n : ℕ) → n ≤ LARGEST_WATT_HOURS → column row.now at ≡ Int (pos n)
+        → ⊥) }
 {
     let amount = amount_at(row, at)?;
     WattHours::of(amount)
@@ -118,7 +119,8 @@ pub fn instant_at(row: &Row, at: usize) -> Option<Instant>
 
 /// The register that stands at a place of a row, by its own place, if one does.
 pub(crate) fn register_at(row: &Row, at: usize) -> Option<Register>
-    ensures some { IfSome result (λ register. (register ≡ register_at (number (column row.now at))) × IsRegister (column row.now at)) }
+    ensures some { IfSome result (λ register.
+        (register ≡ register_at (number (column row.now at))) × IsRegister (column row.now at)) }
     ensures none { IfNone result (IsRegister (column row.now at) → ⊥) }
 {
     let place = number_at(row, at)?;
@@ -126,7 +128,8 @@ pub(crate) fn register_at(row: &Row, at: usize) -> Option<Register>
 }
 
 fn register_of(place: u32) -> Option<Register>
-    ensures some { IfSome result (λ register. (register ≡ register_at place) × (place ≡ register_place register)) }
+    ensures some { IfSome result (λ register.
+        (register ≡ register_at place) × (place ≡ register_place register)) }
     ensures none { IfNone result (6 ≤ place) }
 {
     match place {
@@ -142,7 +145,8 @@ fn register_of(place: u32) -> Option<Register>
 
 /// The owner that stands at a place of a row, by its own place, if one does that fits.
 pub fn owner_at(row: &Row, at: usize) -> Option<Owner>
-    ensures some { IfSome result (λ owner. (owner ≡ owner_at (number (column row.now at))) × IsNumber (column row.now at)) }
+    ensures some { IfSome result (λ owner. (owner ≡ owner_at (number (column row.now at)))
+        × IsNumber (column row.now at)) }
     ensures none { IfNone result ((n : ℕ) → n ≤ 2 ^ 16 → column row.now at ≡ Int (pos n) → ⊥) }
 {
     let place = number_at(row, at)?;
@@ -162,7 +166,8 @@ fn owner_of(place: u32) -> Option<Owner>
 
 /// The direction that stands at a place of a row, by its own place, if one does.
 pub(crate) fn direction_at(row: &Row, at: usize) -> Option<Direction>
-    ensures some { IfSome result (λ direction. (direction ≡ direction_at (number (column row.now at))) × IsDirection (column row.now at)) }
+    ensures some { IfSome result (λ direction.
+        (direction ≡ direction_at (number (column row.now at))) × IsDirection (column row.now at)) }
     ensures none { IfNone result (IsDirection (column row.now at) → ⊥) }
 {
     let place = number_at(row, at)?;
@@ -170,7 +175,8 @@ pub(crate) fn direction_at(row: &Row, at: usize) -> Option<Direction>
 }
 
 fn direction_of(place: u32) -> Option<Direction>
-    ensures some { IfSome result (λ direction. (direction ≡ direction_at place) × (place ≡ direction_place direction)) }
+    ensures some { IfSome result (λ direction.
+        (direction ≡ direction_at place) × (place ≡ direction_place direction)) }
     ensures none { IfNone result (2 ≤ place) }
 {
     match place {

@@ -56,8 +56,11 @@ fn are_integers(columns: &[Column], names: &[&[u8]]) -> bool
 }
 
 fn are_topup_columns(columns: &[Column]) -> bool
-    ensures is { IsTrue result → columns.now ≡ column_of (codes "reference") Kind.Text ∷ of_integers (codes "account" ∷ codes "cents" ∷ codes "instant" ∷ []) }
-    ensures all { columns.now ≡ column_of (codes "reference") Kind.Text ∷ of_integers (codes "account" ∷ codes "cents" ∷ codes "instant" ∷ []) → IsTrue result }
+    ensures is { IsTrue result → columns.now
+        ≡ column_of (codes "reference") Kind.Text ∷ of_integers
+        (codes "account" ∷ codes "cents" ∷ codes "instant" ∷ []) }
+    ensures all { columns.now ≡ column_of (codes "reference") Kind.Text ∷ of_integers
+        (codes "account" ∷ codes "cents" ∷ codes "instant" ∷ []) → IsTrue result }
 {
     let [reference, numbers @ ..] = columns else {
         return false;
@@ -75,8 +78,10 @@ fn are_topup_columns(columns: &[Column]) -> bool
 }
 
 fn are_sum_columns(columns: &[Column]) -> bool
-    ensures is { IsTrue result → columns.now ≡ rowid_column (codes "account") ∷ of_integers (codes "cents" ∷ []) }
-    ensures all { columns.now ≡ rowid_column (codes "account") ∷ of_integers (codes "cents" ∷ []) → IsTrue result }
+    ensures is { IsTrue result → columns.now
+        ≡ rowid_column (codes "account") ∷ of_integers (codes "cents" ∷ []) }
+    ensures all { columns.now ≡ rowid_column (codes "account") ∷ of_integers (codes "cents" ∷ [])
+        → IsTrue result }
 {
     let [account, numbers @ ..] = columns else {
         return false;
@@ -86,8 +91,11 @@ fn are_sum_columns(columns: &[Column]) -> bool
 }
 
 fn are_office_columns(columns: &[Column]) -> bool
-    ensures is { IsTrue result → columns.now ≡ rowid_column (codes "id") ∷ column_of (codes "version") Kind.Integer ∷ column_of (codes "body") Kind.Blob ∷ [] }
-    ensures all { columns.now ≡ rowid_column (codes "id") ∷ column_of (codes "version") Kind.Integer ∷ column_of (codes "body") Kind.Blob ∷ [] → IsTrue result }
+    ensures is { IsTrue result → columns.now
+        ≡ rowid_column (codes "id") ∷ column_of (codes "version") Kind.Integer ∷ column_of
+        (codes "body") Kind.Blob ∷ [] }
+    ensures all { columns.now ≡ rowid_column (codes "id") ∷ column_of (codes "version") Kind.Integer
+        ∷ column_of (codes "body") Kind.Blob ∷ [] → IsTrue result }
 {
     let [id, rest @ ..] = columns else {
         return false;

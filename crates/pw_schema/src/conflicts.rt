@@ -52,8 +52,10 @@ fn are_without_conflict(rows: &[Row]) -> bool
 
 // The texts of all objects.
 fn text_rows<S: Alter>(conn: &mut Connection<S>) -> Result<Vec<Row>, Error>
-    requires known { HasCleanDisk (state S.Store conn.old) → IsKnown (state S.Store conn.old).now.schema }
-    ensures rows { HasCleanDisk (state S.Store conn.new) → IfOk result (λ rows. ShowsTexts (state S.Store conn.old).now.trees rows.items) }
+    requires known { HasCleanDisk (state S.Store conn.old)
+        → IsKnown (state S.Store conn.old).now.schema }
+    ensures rows { HasCleanDisk (state S.Store conn.new)
+        → IfOk result (λ rows. ShowsTexts (state S.Store conn.old).now.trees rows.items) }
     ensures asks { Asks result (state S.Store conn.old) (state S.Store conn.new) }
 {
     conn.query_all("SELECT sql FROM sqlite_schema", &[])
@@ -61,8 +63,11 @@ fn text_rows<S: Alter>(conn: &mut Connection<S>) -> Result<Vec<Row>, Error>
 
 /// Whether no text of the tables of a store, of any version, has an ON CONFLICT clause, or speaks of one.
 pub fn has_no_conflict<S: Alter>(conn: &mut Connection<S>) -> Result<bool, Error>
-    requires known { HasCleanDisk (state S.Store conn.old) → IsKnown (state S.Store conn.old).now.schema }
-    ensures told { HasCleanDisk (state S.Store conn.new) → IfOk result (λ none. IsTrue none ↔ AreWithoutConflict (state S.Store conn.old).now.trees) }
+    requires known { HasCleanDisk (state S.Store conn.old)
+        → IsKnown (state S.Store conn.old).now.schema }
+    ensures told { HasCleanDisk (state S.Store conn.new)
+        → IfOk result (λ none. IsTrue none
+        ↔ AreWithoutConflict (state S.Store conn.old).now.trees) }
     ensures looks { Looks result (state S.Store conn.old) (state S.Store conn.new) }
 {
     let rows = text_rows(conn)?;

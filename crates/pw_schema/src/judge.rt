@@ -28,8 +28,10 @@ pub trait Judge {
 
     /// Takes the next row, or says why it doesn't. Behind a fault nothing is known of the judge.
     fn take(&mut self, row: &Row) -> Result<(), JudgeFault>
-        ensures took { (first : Self) (rows : List RowSpec) → took first rows self.old → OnOk result (took first (rows ++ row.now ∷ []) self.new) }
-        ensures foreign { (first : Self) (rows tail : List RowSpec) → took first rows self.old → result ≡ Err JudgeFault.Foreign → refuses first (rows ++ row.now ∷ tail) };
+        ensures took { (first : Self) (rows : List RowSpec) → took first rows self.old
+            → OnOk result (took first (rows ++ row.now ∷ []) self.new) }
+        ensures foreign { (first : Self) (rows tail : List RowSpec) → took first rows self.old
+            → result ≡ Err JudgeFault.Foreign → refuses first (rows ++ row.now ∷ tail) };
 }
 
 // Whether a row stands behind the last one, by how the last stands to it.

@@ -63,7 +63,8 @@ fn behind_total<'a>(
     rest: Option<&'a [(TotalKey, u64)]>,
     total: &(TotalKey, u64),
 ) -> Option<&'a [(TotalKey, u64)]>
-    ensures { IsRest (option_copied rest.entry) (filter is_above_zero (total.now ∷ [])) (option_copied result) }
+    ensures { IsRest (option_copied rest.entry) (filter is_above_zero (total.now ∷ []))
+        (option_copied result) }
 {
     if total.1 == 0 {
         return rest;

@@ -41,7 +41,8 @@ fn is_indexed_table(table: &Table, places: &[usize]) -> bool
     ensures primary { IsTrue result → table.now.primary ≡ places.now }
     ensures uniques { IsTrue result → table.now.uniques ≡ places.now ∷ [] }
     ensures orders { IsTrue result → table.now.orders ≡ plain ∷ [] }
-    ensures all { table.now.key ≡ None → table.now.primary ≡ places.now → table.now.uniques ≡ places.now ∷ [] → table.now.orders ≡ plain ∷ [] → IsTrue result }
+    ensures all { table.now.key ≡ None → table.now.primary ≡ places.now
+        → table.now.uniques ≡ places.now ∷ [] → table.now.orders ≡ plain ∷ [] → IsTrue result }
 {
     table.key.is_none()
         && same_places(table.primary.as_slice(), places)
@@ -54,7 +55,8 @@ fn is_rowid_table(table: &Table) -> bool
     ensures primary { IsTrue result → table.now.primary ≡ 0 ∷ [] }
     ensures uniques { IsTrue result → table.now.uniques ≡ [] }
     ensures orders { IsTrue result → table.now.orders ≡ [] }
-    ensures all { table.now.key ≡ Some 0 → table.now.primary ≡ 0 ∷ [] → table.now.uniques ≡ [] → table.now.orders ≡ [] → IsTrue result }
+    ensures all { table.now.key ≡ Some 0 → table.now.primary ≡ 0 ∷ [] → table.now.uniques ≡ []
+        → table.now.orders ≡ [] → IsTrue result }
 {
     table.key == Some(0)
         && table.primary.as_slice() == [0].as_slice()
@@ -64,8 +66,13 @@ fn is_rowid_table(table: &Table) -> bool
 
 /// Whether the key is a table's.
 pub(crate) fn has_key(found: &Table, table: StoreTable) -> bool
-    ensures is { IsTrue result → (found.now.key ≡ (stored table).key) × (found.now.primary ≡ (stored table).primary) × (found.now.uniques ≡ (stored table).uniques) × (found.now.orders ≡ (stored table).orders) }
-    ensures all { found.now.key ≡ (stored table).key → found.now.primary ≡ (stored table).primary → found.now.uniques ≡ (stored table).uniques → found.now.orders ≡ (stored table).orders → IsTrue result }
+    ensures is { IsTrue result → (found.now.key ≡ (stored table).key)
+        × (found.now.primary ≡ (stored table).primary)
+        × (found.now.uniques ≡ (stored table).uniques)
+        × (found.now.orders ≡ (stored table).orders) }
+    ensures all { found.now.key ≡ (stored table).key → found.now.primary ≡ (stored table).primary
+        → found.now.uniques ≡ (stored table).uniques → found.now.orders ≡ (stored table).orders
+        → IsTrue result }
 {
     match table {
         StoreTable::Office | StoreTable::TotalTopUps => is_rowid_table(found),

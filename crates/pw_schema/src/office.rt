@@ -22,8 +22,10 @@ pub enum OfficeFault {
 
 // The version that the row tells, if it is known.
 fn version_of(row: &Row) -> Option<StoreVersion>
-    ensures some { IfSome result (λ version. column row.now 0 ≡ Int (pos (version_number version))) }
-    ensures none { IfNone result ((version : StoreVersionSpec) → column row.now 0 ≡ Int (pos (version_number version)) → ⊥) }
+    ensures some { IfSome result (λ version.
+        column row.now 0 ≡ Int (pos (version_number version))) }
+    ensures none { IfNone result ((version : StoreVersionSpec)
+        → column row.now 0 ≡ Int (pos (version_number version)) → ⊥) }
 {
     match row.get_ref(0) {
         Ok(ValueRef::Int(1)) => Some(StoreVersion::First),

@@ -1,9 +1,10 @@
 //! Records from the rows that a query shows.
 
-ghost use Rattle.std.specs.Prelude.{◌≡◌, ◌↔◌, [], ◌∷◌, Err, IfNone, IfOk, IfSome, IsTrue, map};
+ghost use Rattle.std.specs.Prelude.{◌≡◌, ◌↔◌, [], ◌∷◌, Err, IfNone, IfOk, IfSome, IsTrue, map, option_map};
 ghost use Rattle.std.specs.declared.cmp.Ordering.TheVariants.{Less};
 ghost use Rattle.sqlite.specs.Order.{Row};
 ghost use Rattle.pw_tariff.specs.Office.{OfficeRules};
+ghost use Rattle.pw_model.specs.Counting.{named_entry};
 ghost use Rattle.pw_model.specs.Office.{IsOffice};
 ghost use Rattle.pw_model.specs.Same.{entry_order};
 ghost use Rattle.pw_schema.specs.Judging.{AreInOrder, IsRecord};
@@ -50,49 +51,55 @@ impl<T: Drop> From<AllocFailed<T>> for ReadFault {
     }
 }
 
-fn reading_of(row: &Row) -> Option<Entry>
-    ensures { ReadsEntry RecordKind.Readings row.now result }
+// How a withdrawal would name the reading that a row tells.
+fn reading_in(row: &Row) -> Option<Named>
+    ensures held { ReadsEntry RecordKind.Readings row.now (option_map named_entry result) }
+    ensures withdrawn { ReadsEntry RecordKind.WithdrawnReadings row.now
+        (option_map withdrawal result) }
 {
     let meter = meter_at(row, 0)?;
     let register = register_at(row, 1)?;
     let instant = instant_at(row, 2)?;
     let wh = wh_at(row, 3)?;
-    Some(Entry {
-        key: Key::Reading {
-            meter,
-            register,
-            instant,
-        },
-        content: Content::Reading { wh },
+    Some(Named::Reading {
+        meter,
+        register,
+        instant,
+        wh,
     })
 }
 
-fn assignment_of(row: &Row) -> Option<Entry>
-    ensures { ReadsEntry RecordKind.Assignments row.now result }
+// So it does of an assignment.
+fn assignment_in(row: &Row) -> Option<Named>
+    ensures held { ReadsEntry RecordKind.Assignments row.now (option_map named_entry result) }
+    ensures withdrawn { ReadsEntry RecordKind.WithdrawnAssignments row.now
+        (option_map withdrawal result) }
 {
     let meter = meter_at(row, 0)?;
     let start = instant_at(row, 1)?;
     let owner = owner_at(row, 2)?;
-    Some(Entry {
-        key: Key::Assignment { meter, start },
-        content: Content::Assignment { owner },
+    Some(Named::Assignment {
+        meter,
+        start,
+        owner,
     })
 }
 
-fn topup_of(row: &Row) -> Option<Entry>
-    ensures { ReadsEntry RecordKind.TopUps row.now result }
+// And of a top-up.
+fn topup_in(row: &Row) -> Option<Named>
+    ensures held { ReadsEntry RecordKind.TopUps row.now (option_map named_entry result) }
+    ensures withdrawn { ReadsEntry RecordKind.WithdrawnTopUps row.now
+        (option_map withdrawal result) }
 {
     let reference = reference_at(row, 0)?;
     let account = account_at(row, 1)?;
     let cents = number_at(row, 2)?;
     let instant = instant_at(row, 3)?;
-    Some(Entry {
-        key: Key::TopUp { reference },
-        content: Content::TopUp {
-            account,
-            cents,
-            instant,
-        },
+    Some(Named::TopUp {
+        reference,
+        account,
+        cents,
+        instant,
     })
 }
 
@@ -106,62 +113,20 @@ fn withdrawal(named: Named) -> Entry
     }
 }
 
-fn withdrawn_reading_of(row: &Row) -> Option<Entry>
-    ensures { ReadsEntry RecordKind.WithdrawnReadings row.now result }
-{
-    let meter = meter_at(row, 0)?;
-    let register = register_at(row, 1)?;
-    let instant = instant_at(row, 2)?;
-    let wh = wh_at(row, 3)?;
-    Some(withdrawal(Named::Reading {
-        meter,
-        register,
-        instant,
-        wh,
-    }))
-}
-
-fn withdrawn_assignment_of(row: &Row) -> Option<Entry>
-    ensures { ReadsEntry RecordKind.WithdrawnAssignments row.now result }
-{
-    let meter = meter_at(row, 0)?;
-    let start = instant_at(row, 1)?;
-    let owner = owner_at(row, 2)?;
-    Some(withdrawal(Named::Assignment {
-        meter,
-        start,
-        owner,
-    }))
-}
-
-fn withdrawn_topup_of(row: &Row) -> Option<Entry>
-    ensures { ReadsEntry RecordKind.WithdrawnTopUps row.now result }
-{
-    let reference = reference_at(row, 0)?;
-    let account = account_at(row, 1)?;
-    let cents = number_at(row, 2)?;
-    let instant = instant_at(row, 3)?;
-    Some(withdrawal(Named::TopUp {
-        reference,
-        account,
-        cents,
-        instant,
-    }))
-}
-
 /// The record of a kind that a row tells. Where it answers none, the row is no record of any office.
 pub fn entry_of(kind: RecordKind, row: &Row) -> Option<Entry>
     ensures told { IfSome result (λ entry. entry ≡ told kind row.now) }
     ensures kinds { IfSome result (λ entry. Tells kind row.now) }
-    ensures none { IfNone result ((office : OfficeRules) → IsOffice office → IsRecord office kind row.now → ⊥) }
+    ensures none { IfNone result ((office : OfficeRules) → IsOffice office
+        → IsRecord office kind row.now → ⊥) }
 {
     match kind {
-        RecordKind::Readings => reading_of(row),
-        RecordKind::Assignments => assignment_of(row),
-        RecordKind::TopUps => topup_of(row),
-        RecordKind::WithdrawnReadings => withdrawn_reading_of(row),
-        RecordKind::WithdrawnAssignments => withdrawn_assignment_of(row),
-        RecordKind::WithdrawnTopUps => withdrawn_topup_of(row),
+        RecordKind::Readings => Some(reading_in(row)?.entry()),
+        RecordKind::Assignments => Some(assignment_in(row)?.entry()),
+        RecordKind::TopUps => Some(topup_in(row)?.entry()),
+        RecordKind::WithdrawnReadings => Some(withdrawal(reading_in(row)?)),
+        RecordKind::WithdrawnAssignments => Some(withdrawal(assignment_in(row)?)),
+        RecordKind::WithdrawnTopUps => Some(withdrawal(topup_in(row)?)),
     }
 }
 
@@ -179,7 +144,8 @@ fn is_behind(last: &Option<Entry>, entry: &Entry) -> bool
 /// office, in the order of records, aren't wrong.
 pub fn read_rows(alloc: Global, kind: RecordKind, rows: &[Row]) -> Result<Vec<Entry>, ReadFault>
     ensures found { IfOk result (λ found. ReadsRows kind rows.now found.items) }
-    ensures wrong { result ≡ Err ReadFault.Wrong → (office : OfficeRules) → IsOffice office → AreInOrder office kind rows.now → ⊥ }
+    ensures wrong { result ≡ Err ReadFault.Wrong → (office : OfficeRules) → IsOffice office
+        → AreInOrder office kind rows.now → ⊥ }
 {
     let mut found = Vec::new(alloc);
     let mut last = None;
@@ -200,7 +166,8 @@ pub fn read_rows(alloc: Global, kind: RecordKind, rows: &[Row]) -> Result<Vec<En
 /// row, and it shows no content.
 pub fn contents_in(kind: RecordKind, rows: &[Row]) -> Option<Contents>
     ensures some { IfSome result (λ found. found ≡ contents_of (map (told_content kind) rows.now)) }
-    ensures shows { IfSome result (λ found. (row : Row) → rows.now ≡ row ∷ [] → ShowsContent kind row) }
+    ensures shows { IfSome result (λ found. (row : Row) → rows.now ≡ row ∷ []
+        → ShowsContent kind row) }
     ensures none { IfNone result (ShowsNoContent kind rows.now) }
 {
     match rows {

@@ -2,10 +2,9 @@
 
 ghost use Rattle.std.specs.Prelude.{OnOk};
 ghost use Rattle.sqlite.specs.Held.{state};
-ghost use Rattle.sqlite.specs.State.{HasCleanDisk, KeepsCommit, Survives};
-ghost use Rattle.pw_schema.specs.Fresh.{IsWithin, SetsText};
-ghost use Rattle.pw_schema.specs.Raised.{HasSame, all_but_office};
-ghost use Rattle.pw_schema.specs.Tables.{schema_of};
+ghost use Rattle.sqlite.specs.State.{HasCleanDisk, Survives};
+ghost use Rattle.pw_schema.specs.Calls.{CommitStays, IsWithinVersion, KeepsAllButOffice, LeavesVersion};
+ghost use Rattle.pw_schema.specs.Fresh.{SetsText};
 ghost use Rattle.pw_schema.specs.inner.Stages.{BringsTo};
 
 use crate::kind::StoreVersion;
@@ -13,10 +12,13 @@ use sqlite::{Alter, Connection, Error, params};
 
 // Sets the text.
 fn set_text<S: Alter>(conn: &mut Connection<S>, body: &[u8]) -> Result<usize, Error>
-    requires { HasCleanDisk (state S.Store conn.old) → IsWithin (schema_of StoreVersion.Third) (state S.Store conn.old) }
-    ensures tables { BringsTo StoreVersion.Third result (state S.Store conn.old) (state S.Store conn.new) }
-    ensures set { HasCleanDisk (state S.Store conn.new) → OnOk result (SetsText body.now (state S.Store conn.old).now.trees (state S.Store conn.new).now.trees) }
-    ensures others { HasCleanDisk (state S.Store conn.new) → OnOk result (HasSame all_but_office (state S.Store conn.old).now.trees (state S.Store conn.new).now.trees) }
+    requires { IsWithinVersion StoreVersion.Third (state S.Store conn.old) }
+    ensures tables { BringsTo StoreVersion.Third result (state S.Store conn.old)
+        (state S.Store conn.new) }
+    ensures set { HasCleanDisk (state S.Store conn.new)
+        → OnOk result (SetsText body.now (state S.Store conn.old).now.trees
+        (state S.Store conn.new).now.trees) }
+    ensures others { KeepsAllButOffice result (state S.Store conn.old) (state S.Store conn.new) }
 {
     conn.execute("UPDATE office SET body = ?1 WHERE id = 1", params![body])
 }
@@ -25,11 +27,13 @@ fn set_text<S: Alter>(conn: &mut Connection<S>, body: &[u8]) -> Result<usize, Er
 /// it, is the same with these bytes. What becomes of another one is to be read before it is committed. Each other table
 /// keeps its rows.
 pub fn set_office<S: Alter>(conn: &mut Connection<S>, body: &[u8]) -> Result<(), Error>
-    requires { HasCleanDisk (state S.Store conn.old) → IsWithin (schema_of StoreVersion.Third) (state S.Store conn.old) }
-    ensures made { HasCleanDisk (state S.Store conn.new) → OnOk result (IsWithin (schema_of StoreVersion.Third) (state S.Store conn.new)) }
-    ensures set { HasCleanDisk (state S.Store conn.new) → OnOk result (SetsText body.now (state S.Store conn.old).now.trees (state S.Store conn.new).now.trees) }
-    ensures others { HasCleanDisk (state S.Store conn.new) → OnOk result (HasSame all_but_office (state S.Store conn.old).now.trees (state S.Store conn.new).now.trees) }
-    ensures kept { HasCleanDisk (state S.Store conn.new) → KeepsCommit (state S.Store conn.old) (state S.Store conn.new) }
+    requires { IsWithinVersion StoreVersion.Third (state S.Store conn.old) }
+    ensures made { LeavesVersion StoreVersion.Third result (state S.Store conn.new) }
+    ensures set { HasCleanDisk (state S.Store conn.new)
+        → OnOk result (SetsText body.now (state S.Store conn.old).now.trees
+        (state S.Store conn.new).now.trees) }
+    ensures others { KeepsAllButOffice result (state S.Store conn.old) (state S.Store conn.new) }
+    ensures kept { CommitStays (state S.Store conn.old) (state S.Store conn.new) }
     ensures crash { Survives (state S.Store conn.old) (state S.Store conn.new) (λ _. ⊥) }
 {
     set_text(conn, body)?;

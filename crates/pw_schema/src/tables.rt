@@ -21,8 +21,12 @@ fn has_no_stamps(stamps: &Stamps) -> bool
 
 // Whether there is nothing in a table beside its columns, its key and its checks.
 fn is_plain(found: &Table) -> bool
-    ensures is { IsTrue result → (found.now.references ≡ []) × (found.now.computed ≡ []) × (found.now.stamps ≡ record { places = []; terms = []; formats = [] }) × (found.now.is_counted ≡ false) }
-    ensures all { found.now.references ≡ [] → found.now.computed ≡ [] → found.now.stamps ≡ record { places = []; terms = []; formats = [] } → found.now.is_counted ≡ false → IsTrue result }
+    ensures is { IsTrue result → (found.now.references ≡ []) × (found.now.computed ≡ [])
+        × (found.now.stamps ≡ record { places = []; terms = []; formats = [] })
+        × (found.now.is_counted ≡ false) }
+    ensures all { found.now.references ≡ [] → found.now.computed ≡ []
+        → found.now.stamps ≡ record { places = []; terms = []; formats = [] }
+        → found.now.is_counted ≡ false → IsTrue result }
 {
     found.references.is_empty()
         && found.computed.is_empty()

@@ -41,9 +41,11 @@ fn payments_of(row: &Row) -> Option<(TotalKey, u64)>
 
 /// The total of a kind that a row tells, with its key. Where it answers none, the row is no total of any office.
 pub fn total_of(kind: TotalKind, row: &Row) -> Option<(TotalKey, u64)>
-    ensures told { IfSome result (λ total. (total.0 ≡ told_key kind row.now) × (total.1 ≡ told_amount kind row.now)) }
+    ensures told { IfSome result (λ total. (total.0 ≡ told_key kind row.now)
+        × (total.1 ≡ told_amount kind row.now)) }
     ensures kinds { IfSome result (λ total. TellsTotal kind row.now) }
-    ensures none { IfNone result ((office : OfficeRules) → IsOffice office → IsTotal office kind row.now → ⊥) }
+    ensures none { IfNone result ((office : OfficeRules) → IsOffice office
+        → IsTotal office kind row.now → ⊥) }
 {
     match kind {
         TotalKind::Energies => energy_of(row),

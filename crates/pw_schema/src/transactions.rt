@@ -10,7 +10,9 @@ use sqlite::{Alter, Connection, Error};
 
 /// Begins a transaction.
 pub fn begin<S: Alter>(conn: &mut Connection<S>) -> Result<(), Error>
-    ensures begun { HasCleanDisk (state S.Store conn.new) → OnOk result (Shows (state S.Store conn.old) (state S.Store conn.new) (state S.Store conn.old).now (state S.Store conn.old).committed true) }
+    ensures begun { HasCleanDisk (state S.Store conn.new)
+        → OnOk result (Shows (state S.Store conn.old) (state S.Store conn.new)
+        (state S.Store conn.old).now (state S.Store conn.old).committed true) }
     ensures writes { Writes result (state S.Store conn.old) (state S.Store conn.new) }
 {
     conn.execute("BEGIN", &[])?;
@@ -19,11 +21,19 @@ pub fn begin<S: Alter>(conn: &mut Connection<S>) -> Result<(), Error>
 
 /// Commits the transaction.
 pub fn commit<S: Alter>(conn: &mut Connection<S>) -> Result<(), Error>
-    ensures done { HasCleanDisk (state S.Store conn.new) → OnOk result (Shows (state S.Store conn.old) (state S.Store conn.new) (state S.Store conn.old).now (state S.Store conn.old).now false) }
-    ensures failed { HasCleanDisk (state S.Store conn.new) → OnErr result (IsUnchanged (state S.Store conn.old) (state S.Store conn.new) ⊎ IsRolledBack (state S.Store conn.old) (state S.Store conn.new)) }
-    ensures alone { HasCleanDisk (state S.Store conn.new) → OnOk result ((db : Trees) → (state S.Store conn.new).may_leave db → db ≡ (state S.Store conn.old).now.trees) }
-    ensures stays { HasCleanDisk (state S.Store conn.new) → OnOk result ((state S.Store conn.new).may_leave (state S.Store conn.old).now.trees) }
-    ensures crash { Survives (state S.Store conn.old) (state S.Store conn.new) (λ db. db ≡ (state S.Store conn.old).now.trees) }
+    ensures done { HasCleanDisk (state S.Store conn.new)
+        → OnOk result (Shows (state S.Store conn.old) (state S.Store conn.new)
+        (state S.Store conn.old).now (state S.Store conn.old).now false) }
+    ensures failed { HasCleanDisk (state S.Store conn.new)
+        → OnErr result (IsUnchanged (state S.Store conn.old) (state S.Store conn.new)
+        ⊎ IsRolledBack (state S.Store conn.old) (state S.Store conn.new)) }
+    ensures alone { HasCleanDisk (state S.Store conn.new)
+        → OnOk result ((db : Trees) → (state S.Store conn.new).may_leave db
+        → db ≡ (state S.Store conn.old).now.trees) }
+    ensures stays { HasCleanDisk (state S.Store conn.new)
+        → OnOk result ((state S.Store conn.new).may_leave (state S.Store conn.old).now.trees) }
+    ensures crash { Survives (state S.Store conn.old) (state S.Store conn.new)
+        (λ db. db ≡ (state S.Store conn.old).now.trees) }
 {
     conn.execute("COMMIT", &[])?;
     Ok(())
@@ -31,7 +41,8 @@ pub fn commit<S: Alter>(conn: &mut Connection<S>) -> Result<(), Error>
 
 /// Undoes the transaction.
 pub fn roll_back<S: Alter>(conn: &mut Connection<S>) -> Result<(), Error>
-    ensures undone { HasCleanDisk (state S.Store conn.new) → OnOk result (IsRolledBack (state S.Store conn.old) (state S.Store conn.new)) }
+    ensures undone { HasCleanDisk (state S.Store conn.new)
+        → OnOk result (IsRolledBack (state S.Store conn.old) (state S.Store conn.new)) }
     ensures writes { Writes result (state S.Store conn.old) (state S.Store conn.new) }
 {
     conn.execute("ROLLBACK", &[])?;

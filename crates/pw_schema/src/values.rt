@@ -3,12 +3,10 @@
 ghost use Rattle.std.specs.Prelude.{◌≡◌, ◌<◌, ◌^◌, pos};
 ghost use Rattle.sqlite.specs.declared.types.Value.TheVariants.{Int, Text};
 ghost use Rattle.sqlite_value.specs.Value.{owned};
-ghost use Rattle.pw_tariff.specs.Office.{register_place as told_register};
 ghost use Rattle.pw_tariff.specs.Cells.{owner_place as told_owner};
 ghost use Rattle.pw_model.specs.Same.{direction_place as told_direction};
 
 use pw_model::Reference;
-use pw_obis::Register;
 use pw_tariff::{Direction, Owner};
 use sqlite::types::{ToSql, ValueRef};
 
@@ -25,20 +23,6 @@ pub fn wide<'a>(number: u64) -> ValueRef<'a>
     ensures { owned result ≡ Int (pos number) }
 {
     ValueRef::Int(number as i64)
-}
-
-/// The place of a register in the order I0, I1, I2, E0, E1, E2, from 0.
-pub fn register_place(register: Register) -> u32
-    ensures { result ≡ told_register register }
-{
-    match register {
-        Register::I0 => 0,
-        Register::I1 => 1,
-        Register::I2 => 2,
-        Register::E0 => 3,
-        Register::E1 => 4,
-        Register::E2 => 5,
-    }
 }
 
 /// The place of an owner: 0 for nobody, else one more than the account's position.

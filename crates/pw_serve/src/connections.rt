@@ -65,13 +65,15 @@ pub trait Connections {
 
     /// Reads; 0 is the end of what is sent.
     fn read(&mut self, number: u64, bytes: &mut [u8]) -> Result<usize, Stop>
-        ensures one { IsRead bytes.new (connection self.old number) (connection self.new number) result }
+        ensures one { IsRead bytes.new (connection self.old number) (connection self.new number)
+            result }
         ensures others { OthersStay number (connection self.old) (connection self.new) }
         ensures moves { moves self.new ≤ moves self.old + 1 };
 
     /// Writes; `bytes` are all that is known to come of a reply.
     fn write(&mut self, number: u64, bytes: &[u8]) -> Result<usize, Stop>
-        ensures one { IsWrite bytes.now (connection self.old number) (connection self.new number) result }
+        ensures one { IsWrite bytes.now (connection self.old number) (connection self.new number)
+            result }
         ensures others { OthersStay number (connection self.old) (connection self.new) }
         ensures moves { moves self.new ≤ moves self.old + 1 };
 

@@ -107,7 +107,8 @@ impl Peer {
     /// So many bytes of the reply were taken.
     pub(crate) fn took(&mut self, alloc: Global, count: usize, turns: u64)
         requires { self.old.sent + count ≤ length self.old.outbox.items }
-        ensures same { self.new ≡ record self.old { outbox = self.new.outbox; sent = self.new.sent; since = self.new.since } }
+        ensures same { self.new ≡ record self.old
+            { outbox = self.new.outbox; sent = self.new.sent; since = self.new.since } }
         ensures rest { waiting self.new ≡ drop count (waiting self.old) }
     {
         self.sent += count;

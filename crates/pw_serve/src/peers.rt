@@ -3,9 +3,10 @@
 ghost use Rattle.std.specs.Prelude.{◌≡◌, ◌≢◌, ◌≤◌, ◌<◌, ◌+◌, ℕ, Some, None, true, false};
 ghost use Rattle.std.specs.BTreeMap.{btree_map_len, get};
 ghost use Rattle.std.specs.Ordering.{nat_cmp};
-ghost use Rattle.pw_serve.specs.Connections.{AllStay, IsEnded, OthersStay};
-ghost use Rattle.pw_serve.specs.inner.Now.{HaveLooked, IsSet, IsVisit, Onward, RestsAt};
+ghost use Rattle.pw_serve.specs.Connections.{AllStay, IsEnded};
+ghost use Rattle.pw_serve.specs.inner.Now.{HaveLooked, IsSet, IsVisit, KeepOnward, RestsAt, StillHaveLooked};
 ghost use Rattle.pw_serve.specs.inner.Peers.{IsIdle};
+ghost use Rattle.pw_serve.specs.inner.Turns.{LeavesOthers};
 
 use crate::connections::{Connections, Ending};
 use crate::peer::{LARGE, Peer};
@@ -41,10 +42,14 @@ fn visit_row<S: Service, C: Connections>(
     may_be_large: bool,
     turns: u64,
 ) -> Next
-    ensures visit { IsVisit S.answers number service.old (C.connection connections.old) (get nat_cmp rows.old) service.new (C.connection connections.new) (get nat_cmp rows.new) result }
-    ensures looked { HaveLooked S.waits (get nat_cmp rows.old) → HaveLooked S.waits (get nat_cmp rows.new) }
-    ensures rests { HaveLooked S.waits (get nat_cmp rows.old) → RestsAt S.waits result (get nat_cmp rows.new) number }
-    ensures bounded { S.calls service.new + C.moves connections.new ≤ S.calls service.old + C.moves connections.old + 16 }
+    ensures visit { IsVisit S.answers number service.old (C.connection connections.old)
+        (get nat_cmp rows.old) service.new (C.connection connections.new) (get nat_cmp rows.new)
+        result }
+    ensures looked { StillHaveLooked S.waits rows.old rows.new }
+    ensures rests { HaveLooked S.waits (get nat_cmp rows.old)
+        → RestsAt S.waits result (get nat_cmp rows.new) number }
+    ensures bounded { S.calls service.new + C.moves connections.new
+        ≤ S.calls service.old + C.moves connections.old + 16 }
 {
     match rows.get_mut(&number) {
         Some(peer) => turn(
@@ -68,8 +73,9 @@ fn end_row<C: Connections>(
     rows: &mut BTreeMap<u64, Peer>,
 )
     ensures rows { IsSet number None (get nat_cmp rows.old) (get nat_cmp rows.new) }
-    ensures one { IsEnded why (C.connection connections.old number) (C.connection connections.new number) }
-    ensures others { OthersStay number (C.connection connections.old) (C.connection connections.new) }
+    ensures one { IsEnded why (C.connection connections.old number)
+        (C.connection connections.new number) }
+    ensures others { LeavesOthers C.connection number connections.old connections.new }
     ensures bounded { C.moves connections.new ≤ C.moves connections.old }
 {
     let _ = rows.remove(&number);
@@ -130,8 +136,9 @@ impl Peers {
     fn end<C: Connections>(&mut self, connections: &mut C, number: u64, why: Ending)
         ensures rows { IsSet number None (get nat_cmp self.old.rows) (get nat_cmp self.new.rows) }
         ensures next { self.new.next ≡ self.old.next }
-        ensures one { IsEnded why (C.connection connections.old number) (C.connection connections.new number) }
-        ensures others { OthersStay number (C.connection connections.old) (C.connection connections.new) }
+        ensures one { IsEnded why (C.connection connections.old number)
+            (C.connection connections.new number) }
+        ensures others { LeavesOthers C.connection number connections.old connections.new }
         ensures bounded { C.moves connections.new ≤ C.moves connections.old }
     {
         end_row(connections, number, why, &mut self.rows);
@@ -145,9 +152,11 @@ impl Peers {
         connections: &mut C,
         number: u64,
     )
-        ensures onward { Onward S.answers service.old (C.connection connections.old) (get nat_cmp self.old.rows) self.old.next service.new (C.connection connections.new) (get nat_cmp self.new.rows) self.new.next }
-        ensures looked { HaveLooked S.waits (get nat_cmp self.old.rows) → HaveLooked S.waits (get nat_cmp self.new.rows) }
-        ensures bounded { S.calls service.new + C.moves connections.new ≤ S.calls service.old + C.moves connections.old + 16 }
+        ensures onward { KeepOnward S.answers C.connection service.old connections.old self.old
+            service.new connections.new self.new }
+        ensures looked { StillHaveLooked S.waits self.old.rows self.new.rows }
+        ensures bounded { S.calls service.new + C.moves connections.new
+            ≤ S.calls service.old + C.moves connections.old + 16 }
     {
         let may_be_large = self.place.is_none() || self.place == Some(number);
         let turns = self.turns;
@@ -231,9 +240,11 @@ impl Peers {
         connections: &mut C,
         number: u64,
     )
-        ensures onward { Onward S.answers service.old (C.connection connections.old) (get nat_cmp self.old.rows) self.old.next service.new (C.connection connections.new) (get nat_cmp self.new.rows) self.new.next }
-        ensures looked { HaveLooked S.waits (get nat_cmp self.old.rows) → HaveLooked S.waits (get nat_cmp self.new.rows) }
-        ensures bounded { S.calls service.new + C.moves connections.new ≤ S.calls service.old + C.moves connections.old + 16 }
+        ensures onward { KeepOnward S.answers C.connection service.old connections.old self.old
+            service.new connections.new self.new }
+        ensures looked { StillHaveLooked S.waits self.old.rows self.new.rows }
+        ensures bounded { S.calls service.new + C.moves connections.new
+            ≤ S.calls service.old + C.moves connections.old + 16 }
     {
         self.turns = self.turns.wrapping_add(1);
         self.take_turn(alloc, service, connections, number);
@@ -248,8 +259,9 @@ impl Peers {
         number: u64,
     )
         requires { (C.connection connections.old number).broken ≢ Some false }
-        ensures onward { Onward S.answers service.now (C.connection connections.old) (get nat_cmp self.old.rows) self.old.next service.now (C.connection connections.new) (get nat_cmp self.new.rows) self.new.next }
-        ensures looked { HaveLooked S.waits (get nat_cmp self.old.rows) → HaveLooked S.waits (get nat_cmp self.new.rows) }
+        ensures onward { KeepOnward S.answers C.connection service.now connections.old self.old
+            service.now connections.new self.new }
+        ensures looked { StillHaveLooked S.waits self.old.rows self.new.rows }
         ensures bounded { C.moves connections.new ≤ C.moves connections.old }
     {
         let _ = service;
@@ -261,8 +273,9 @@ impl Peers {
 
     // Ends the connection that has been idle for the longest time, if one is idle; tells whether there was one.
     fn displace<S: Service, C: Connections>(&mut self, service: &S, connections: &mut C) -> bool
-        ensures onward { Onward S.answers service.now (C.connection connections.old) (get nat_cmp self.old.rows) self.old.next service.now (C.connection connections.new) (get nat_cmp self.new.rows) self.new.next }
-        ensures looked { HaveLooked S.waits (get nat_cmp self.old.rows) → HaveLooked S.waits (get nat_cmp self.new.rows) }
+        ensures onward { KeepOnward S.answers C.connection service.now connections.old self.old
+            service.now connections.new self.new }
+        ensures looked { StillHaveLooked S.waits self.old.rows self.new.rows }
         ensures bounded { C.moves connections.new ≤ C.moves connections.old }
     {
         let _ = service;
@@ -278,9 +291,10 @@ impl Peers {
 
     // Takes in the client that knocked.
     fn add<S: Service, C: Connections>(&mut self, alloc: Global, service: &S, connections: &mut C)
-        ensures onward { Onward S.answers service.now (C.connection connections.old) (get nat_cmp self.old.rows) self.old.next service.now (C.connection connections.new) (get nat_cmp self.new.rows) self.new.next }
-        ensures looked { HaveLooked S.waits (get nat_cmp self.old.rows) → HaveLooked S.waits (get nat_cmp self.new.rows) }
-        ensures others { OthersStay self.old.next (C.connection connections.old) (C.connection connections.new) }
+        ensures onward { KeepOnward S.answers C.connection service.now connections.old self.old
+            service.now connections.new self.new }
+        ensures looked { StillHaveLooked S.waits self.old.rows self.new.rows }
+        ensures others { LeavesOthers C.connection self.old.next connections.old connections.new }
         ensures bounded { C.moves connections.new ≤ C.moves connections.old }
     {
         let _ = service;
@@ -311,9 +325,11 @@ impl Peers {
         service: &S,
         connections: &mut C,
     )
-        ensures onward { Onward S.answers service.now (C.connection connections.old) (get nat_cmp self.old.rows) self.old.next service.now (C.connection connections.new) (get nat_cmp self.new.rows) self.new.next }
-        ensures looked { HaveLooked S.waits (get nat_cmp self.old.rows) → HaveLooked S.waits (get nat_cmp self.new.rows) }
-        ensures spares { btree_map_len self.old.rows < MOST_CONNECTIONS → OthersStay self.old.next (C.connection connections.old) (C.connection connections.new) }
+        ensures onward { KeepOnward S.answers C.connection service.now connections.old self.old
+            service.now connections.new self.new }
+        ensures looked { StillHaveLooked S.waits self.old.rows self.new.rows }
+        ensures spares { btree_map_len self.old.rows < MOST_CONNECTIONS
+            → LeavesOthers C.connection self.old.next connections.old connections.new }
         ensures bounded { C.moves connections.new ≤ C.moves connections.old }
     {
         let has_place = self.rows.len() < MOST_CONNECTIONS || self.displace(service, connections);

@@ -1,10 +1,8 @@
 //! The loop.
 
 ghost use Rattle.std.specs.Prelude.{◌≤◌, ◌+◌, ◌*◌};
-ghost use Rattle.std.specs.BTreeMap.{get};
-ghost use Rattle.std.specs.Ordering.{nat_cmp};
 ghost use Rattle.pw_serve.specs.Served.{IsServed};
-ghost use Rattle.pw_serve.specs.inner.Now.{HaveLooked, Onward};
+ghost use Rattle.pw_serve.specs.inner.Now.{KeepOnward, StillHaveLooked};
 
 use crate::connections::{Connections, Event};
 use crate::peers::Peers;
@@ -18,9 +16,11 @@ fn turn_once<S: Service, C: Connections>(
     connections: &mut C,
     peers: &mut Peers,
 ) -> bool
-    ensures onward { Onward S.answers service.old (C.connection connections.old) (get nat_cmp peers.old.rows) peers.old.next service.new (C.connection connections.new) (get nat_cmp peers.new.rows) peers.new.next }
-    ensures looked { HaveLooked S.waits (get nat_cmp peers.old.rows) → HaveLooked S.waits (get nat_cmp peers.new.rows) }
-    ensures bounded { S.calls service.new + C.moves connections.new ≤ S.calls service.old + C.moves connections.old + 16 }
+    ensures onward { KeepOnward S.answers C.connection service.old connections.old peers.old
+        service.new connections.new peers.new }
+    ensures looked { StillHaveLooked S.waits peers.old.rows peers.new.rows }
+    ensures bounded { S.calls service.new + C.moves connections.new
+        ≤ S.calls service.old + C.moves connections.old + 16 }
 {
     match connections.next() {
         Event::Quiet => false,
@@ -56,8 +56,10 @@ pub fn serve_many<S: Service, C: Connections>(
     connections: &mut C,
     turns: u64,
 )
-    ensures served { IsServed S.answers service.old (C.connection connections.old) (C.connection connections.new) service.new }
-    ensures bounded { S.calls service.new + C.moves connections.new ≤ S.calls service.old + C.moves connections.old + 16 * turns }
+    ensures served { IsServed S.answers service.old (C.connection connections.old)
+        (C.connection connections.new) service.new }
+    ensures bounded { S.calls service.new + C.moves connections.new
+        ≤ S.calls service.old + C.moves connections.old + 16 * turns }
 {
     let mut peers = Peers::new(alloc);
     for _ in 0..turns {

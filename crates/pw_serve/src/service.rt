@@ -51,6 +51,7 @@ pub trait Service {
         requires some { 0 < length bytes.now }
         requires empty { outbox.old.items ≡ [] }
         requires room { SHORT_REPLY ≤ vec_capacity outbox.old }
-        ensures answered { IsAnswer answers waits self.old bytes.now ended may_be_large self.new outbox.new.items result }
+        ensures answered { IsAnswer answers waits self.old bytes.now ended may_be_large self.new
+            outbox.new.items result }
         ensures calls { calls self.new ≤ calls self.old + 1 };
 }

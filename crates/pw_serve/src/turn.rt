@@ -1,9 +1,9 @@
 //! The turn of one connection.
 
 ghost use Rattle.std.specs.Prelude.{◌≡◌, ◌<◌, ◌≤◌, ◌+◌, ℕ, length};
-ghost use Rattle.pw_serve.specs.Connections.{Connection, OthersStay};
+ghost use Rattle.pw_serve.specs.Connections.{Connection};
 ghost use Rattle.pw_serve.specs.inner.Peers.{HasLooked, HasTask, KeepsLooked, MayWait};
-ghost use Rattle.pw_serve.specs.inner.Turns.{IsAfter, Leads, Moves, Rests};
+ghost use Rattle.pw_serve.specs.inner.Turns.{IsAfter, Leads, LeavesOthers, Moves, Rests};
 ghost use Rattle.pw_serve.specs.declared.peer.Task.TheVariants.{Answer as AnswerTask, Read as ReadTask};
 ghost use Rattle.pw_serve.specs.declared.turn.Next.TheVariants.{Waits as WaitsNext};
 
@@ -42,10 +42,11 @@ fn write_some<C: Connections>(
     turns: u64,
 ) -> Next
     requires { peer.old.sent < length peer.old.outbox.items }
-    ensures moves { Moves (C.connection connections.old number) peer.old (IsAfter result (C.connection connections.new number) peer.new) }
+    ensures moves { Moves (C.connection connections.old number) peer.old
+        (IsAfter result (C.connection connections.new number) peer.new) }
     ensures looked { KeepsLooked peer.old peer.new }
     ensures waits { result ≡ WaitsNext → peer.new.sent < length peer.new.outbox.items }
-    ensures others { OthersStay number (C.connection connections.old) (C.connection connections.new) }
+    ensures others { LeavesOthers C.connection number connections.old connections.new }
     ensures bounded { C.moves connections.new ≤ C.moves connections.old + 1 }
 {
     match connections.write(number, &peer.outbox[peer.sent..]) {
@@ -66,10 +67,11 @@ fn read_some<C: Connections>(
     peer: &mut Peer,
 ) -> Next
     requires { HasTask peer.old ReadTask }
-    ensures moves { Moves (C.connection connections.old number) peer.old (IsAfter result (C.connection connections.new number) peer.new) }
+    ensures moves { Moves (C.connection connections.old number) peer.old
+        (IsAfter result (C.connection connections.new number) peer.new) }
     ensures looked { KeepsLooked peer.old peer.new }
     ensures waits { result ≡ WaitsNext → MayWait peer.new }
-    ensures others { OthersStay number (C.connection connections.old) (C.connection connections.new) }
+    ensures others { LeavesOthers C.connection number connections.old connections.new }
     ensures bounded { C.moves connections.new ≤ C.moves connections.old + 1 }
 {
     if longest <= peer.inbox.len() {
@@ -101,7 +103,8 @@ fn answer_one<S: Service>(
     may_be_large: bool,
 ) -> Next
     requires { HasTask peer.old AnswerTask }
-    ensures leads { (k : ℕ) (now : Connection) → Leads S.answers k service.old now peer.old service.new (IsAfter result now peer.new) }
+    ensures leads { (k : ℕ) (now : Connection)
+        → Leads S.answers k service.old now peer.old service.new (IsAfter result now peer.new) }
     ensures looked { HasLooked S.waits peer.old → HasLooked S.waits peer.new }
     ensures rests { Rests S.waits result peer.new }
     ensures bounded { S.calls service.new ≤ S.calls service.old + 1 }
@@ -147,11 +150,13 @@ fn step<S: Service, C: Connections>(
     may_be_large: bool,
     turns: u64,
 ) -> Next
-    ensures leads { Leads S.answers number service.old (C.connection connections.old number) peer.old service.new (IsAfter result (C.connection connections.new number) peer.new) }
+    ensures leads { Leads S.answers number service.old (C.connection connections.old number)
+        peer.old service.new (IsAfter result (C.connection connections.new number) peer.new) }
     ensures looked { HasLooked S.waits peer.old → HasLooked S.waits peer.new }
     ensures rests { HasLooked S.waits peer.old → Rests S.waits result peer.new }
-    ensures others { OthersStay number (C.connection connections.old) (C.connection connections.new) }
-    ensures bounded { S.calls service.new + C.moves connections.new ≤ S.calls service.old + C.moves connections.old + 1 }
+    ensures others { LeavesOthers C.connection number connections.old connections.new }
+    ensures bounded { S.calls service.new + C.moves connections.new
+        ≤ S.calls service.old + C.moves connections.old + 1 }
 {
     match peer.task() {
         Task::Write => write_some(alloc, connections, number, peer, turns),
@@ -171,11 +176,13 @@ pub(crate) fn turn<S: Service, C: Connections>(
     may_be_large: bool,
     turns: u64,
 ) -> Next
-    ensures leads { Leads S.answers number service.old (C.connection connections.old number) peer.old service.new (IsAfter result (C.connection connections.new number) peer.new) }
+    ensures leads { Leads S.answers number service.old (C.connection connections.old number)
+        peer.old service.new (IsAfter result (C.connection connections.new number) peer.new) }
     ensures looked { HasLooked S.waits peer.old → HasLooked S.waits peer.new }
     ensures rests { HasLooked S.waits peer.old → Rests S.waits result peer.new }
-    ensures others { OthersStay number (C.connection connections.old) (C.connection connections.new) }
-    ensures bounded { S.calls service.new + C.moves connections.new ≤ S.calls service.old + C.moves connections.old + 16 }
+    ensures others { LeavesOthers C.connection number connections.old connections.new }
+    ensures bounded { S.calls service.new + C.moves connections.new
+        ≤ S.calls service.old + C.moves connections.old + 16 }
 {
     let mut replied = false;
     for _ in 0..STEPS {

@@ -194,8 +194,10 @@ impl Shelf for MemoryShelf {
 impl MemoryShelf {
     // All records of a kind, sorted; the tally rises by the rows given.
     fn all_of(&mut self, alloc: Global, kind: Kind) -> Result<Vec<Entry>, ShelfFault>
-        ensures rows { IfOk result (λ found. ListsHeld (IsOfKind kind) (state_of self.old).content.records found.items) }
-        ensures asked { IsAsking state_of left_of clean_of same_of rows_listed result self.old self.new }
+        ensures rows { IfOk result (λ found. ListsHeld (IsOfKind kind)
+            (state_of self.old).content.records found.items) }
+        ensures asked { IsAsking state_of left_of clean_of same_of rows_listed result self.old
+            self.new }
     {
         let found = self.kept.records.all_of(alloc, kind);
         self.tally.tick(rows::of_list(&found));

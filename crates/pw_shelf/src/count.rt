@@ -33,7 +33,8 @@ impl<S: Shelf> CountShelf<S> {
         ensures plan { result.plan ≡ plan_of 0 false }
         ensures made { result.made.value ≡ inner }
         ensures state { ⟦<CountShelf<S> as Shelf>⟧.state result ≡ S.state inner }
-        ensures left { (c : ShelfContent) → ⟦<CountShelf<S> as Shelf>⟧.left result c ↔ S.left inner c }
+        ensures left { (c : ShelfContent) → ⟦<CountShelf<S> as Shelf>⟧.left result c
+            ↔ S.left inner c }
         ensures clean { ⟦<CountShelf<S> as Shelf>⟧.clean result ↔ S.clean inner }
     {
         CountShelf::failing(inner, 0, false)
@@ -46,7 +47,8 @@ impl<S: Shelf> CountShelf<S> {
         ensures plan { result.plan ≡ plan_of fail_at abandon_fails }
         ensures made { result.made.value ≡ inner }
         ensures state { ⟦<CountShelf<S> as Shelf>⟧.state result ≡ S.state inner }
-        ensures left { (c : ShelfContent) → ⟦<CountShelf<S> as Shelf>⟧.left result c ↔ S.left inner c }
+        ensures left { (c : ShelfContent) → ⟦<CountShelf<S> as Shelf>⟧.left result c
+            ↔ S.left inner c }
         ensures clean { ⟦<CountShelf<S> as Shelf>⟧.clean result ↔ S.clean inner }
     {
         let made = Snapshot::of(&inner);
@@ -62,7 +64,8 @@ impl<S: Shelf> CountShelf<S> {
 
     /// The calls made of it and the rows that they gave since it was made, up to the greatest number of 64 bits.
     pub fn seen(&self) -> u64
-        ensures { result ≡ rise_told (S.state self.now.made.value) (⟦<CountShelf<S> as Shelf>⟧.state self.now) }
+        ensures { result ≡ rise_told (S.state self.now.made.value)
+            (⟦<CountShelf<S> as Shelf>⟧.state self.now) }
     {
         self.counter.seen()
     }

@@ -50,7 +50,8 @@ impl Held {
         requires room { length self.old.records.keys < most_records }
         ensures added { OnOk result (IsInserted entry self.old.records.keys self.new.records.keys) }
         ensures same { OnErr result (self.new.records.keys ≡ self.old.records.keys) }
-        ensures begin { without self.new.added.items self.new.records.keys ≡ without self.old.added.items self.old.records.keys }
+        ensures begin { without self.new.added.items self.new.records.keys
+            ≡ without self.old.added.items self.old.records.keys }
         ensures memory { IfErr result (λ e. e ≡ Memory) }
     {
         name_of(&entry.key);

@@ -29,7 +29,8 @@ pub fn a_crash_leaves_something<S: Shelf>(shelf: &S)
 /// Of a store in memory a crash leaves what was committed last, and this alone: so that can always be left. (Of other
 /// stores it isn't said: a device that has failed unseen may leave less.)
 pub fn memory_leaves_what_was_committed(shelf: &MemoryShelf)
-    ensures { (c : ShelfContent) → ⟦<MemoryShelf as Shelf>⟧.left shelf.now c ↔ (c ≡ committed (⟦<MemoryShelf as Shelf>⟧.state shelf.now)) }
+    ensures { (c : ShelfContent) → ⟦<MemoryShelf as Shelf>⟧.left shelf.now c
+        ↔ (c ≡ committed (⟦<MemoryShelf as Shelf>⟧.state shelf.now)) }
 {}
 
 /// Memory returns what was written to it, and no device and no `abandon` of it ever fails.
@@ -44,8 +45,10 @@ pub fn memory_abandons(shelf: &mut MemoryShelf) -> Result<(), ShelfFault>
     requires { IsSome (⟦<MemoryShelf as Shelf>⟧.state shelf.old).begun }
     ensures succeeds { IsOk result }
     ensures ended { (⟦<MemoryShelf as Shelf>⟧.state shelf.new).begun ≡ None }
-    ensures back { (⟦<MemoryShelf as Shelf>⟧.state shelf.old).begun ≡ Some (⟦<MemoryShelf as Shelf>⟧.state shelf.new).content }
-    ensures tally { (⟦<MemoryShelf as Shelf>⟧.state shelf.new).tally ≡ (⟦<MemoryShelf as Shelf>⟧.state shelf.old).tally + 1 }
+    ensures back { (⟦<MemoryShelf as Shelf>⟧.state shelf.old).begun
+        ≡ Some (⟦<MemoryShelf as Shelf>⟧.state shelf.new).content }
+    ensures tally { (⟦<MemoryShelf as Shelf>⟧.state shelf.new).tally
+        ≡ (⟦<MemoryShelf as Shelf>⟧.state shelf.old).tally + 1 }
 {
     shelf.abandon()
 }
@@ -54,14 +57,18 @@ pub fn memory_abandons(shelf: &mut MemoryShelf) -> Result<(), ShelfFault>
 /// returned what was written where that has. Its counts and its tally are those of the inner one, with the calls that it
 /// refused itself.
 pub fn counting_shelf_is_its_inner_one<S: Shelf>(shelf: &CountShelf<S>)
-    ensures state { ⟦<CountShelf<S> as Shelf>⟧.state shelf.now ≡ with_refused (S.state shelf.now.inner) shelf.now.refused.count shelf.now.refused_abandons.count }
-    ensures left { (c : ShelfContent) → ⟦<CountShelf<S> as Shelf>⟧.left shelf.now c ↔ S.left shelf.now.inner c }
+    ensures state { ⟦<CountShelf<S> as Shelf>⟧.state shelf.now
+        ≡ with_refused (S.state shelf.now.inner) shelf.now.refused.count
+        shelf.now.refused_abandons.count }
+    ensures left { (c : ShelfContent) → ⟦<CountShelf<S> as Shelf>⟧.left shelf.now c
+        ↔ S.left shelf.now.inner c }
     ensures clean { ⟦<CountShelf<S> as Shelf>⟧.clean shelf.now ↔ S.clean shelf.now.inner }
 {}
 
 /// A counting shelf is the same behind calls: it was made around the same shelf, and its inner one is the same store.
 pub fn counting_shelf_stays<S: Shelf>(old: &CountShelf<S>, new: &CountShelf<S>)
-    ensures { ⟦<CountShelf<S> as Shelf>⟧.same_store old.now new.now ↔ ((new.now.made.value ≡ old.now.made.value) × S.same_store old.now.inner new.now.inner) }
+    ensures { ⟦<CountShelf<S> as Shelf>⟧.same_store old.now new.now
+        ↔ ((new.now.made.value ≡ old.now.made.value) × S.same_store old.now.inner new.now.inner) }
 {}
 
 /// What a counting shelf has seen behind any calls is how far its tally rose since it was made, up to the greatest number
@@ -69,7 +76,8 @@ pub fn counting_shelf_stays<S: Shelf>(old: &CountShelf<S>, new: &CountShelf<S>)
 pub fn seen_since_it_was_made<S: Shelf>(made: &CountShelf<S>, shelf: &CountShelf<S>) -> u64
     requires made { ⟦<CountShelf<S> as Shelf>⟧.state made.now ≡ S.state made.now.made.value }
     requires store { ⟦<CountShelf<S> as Shelf>⟧.same_store made.now shelf.now }
-    ensures { result ≡ rise_told (⟦<CountShelf<S> as Shelf>⟧.state made.now) (⟦<CountShelf<S> as Shelf>⟧.state shelf.now) }
+    ensures { result ≡ rise_told (⟦<CountShelf<S> as Shelf>⟧.state made.now)
+        (⟦<CountShelf<S> as Shelf>⟧.state shelf.now) }
 {
     let _ = made;
     shelf.seen()

@@ -58,7 +58,8 @@ impl Held {
 
     /// All records of a kind, sorted.
     pub(crate) fn all_of(&self, alloc: Global, kind: Kind) -> Result<Vec<Entry>, ShelfFault>
-        ensures rows { IfOk result (λ found. ListsHeld (IsOfKind kind) self.now.records.keys found.items) }
+        ensures rows { IfOk result (λ found. ListsHeld (IsOfKind kind) self.now.records.keys
+            found.items) }
         ensures memory { IfErr result (λ e. e ≡ Memory) }
     {
         let mut found = Vec::new(alloc);

@@ -40,7 +40,8 @@ impl Plan {
 
     /// One `abandon` more: whether it fails.
     pub(crate) fn fails_abandon(&mut self) -> bool
-        ensures fails { IsTrue result ↔ (self.old.until ≡ 1) ⊎ (IsTrue self.old.failed × IsTrue self.old.abandon_fails) }
+        ensures fails { IsTrue result ↔ (self.old.until ≡ 1)
+            ⊎ (IsTrue self.old.failed × IsTrue self.old.abandon_fails) }
         ensures plan { self.new ≡ plan_behind self.old }
     {
         let again = self.failed && self.abandon_fails;

@@ -45,7 +45,8 @@ impl Points {
         instant: Instant,
         wh: WattHours,
     ) -> Result<(), ShelfFault>
-        ensures put { OnOk result (point_now self.new.table ≡ points_with (point_now self.old.table) meter.0 register instant (Some wh)) }
+        ensures put { OnOk result (point_now self.new.table
+            ≡ points_with (point_now self.old.table) meter.0 register instant (Some wh)) }
         ensures begin { point_then self.new.table ≡ point_then self.old.table }
         ensures memory { IfErr result (λ e. e ≡ Memory) }
     {
@@ -59,7 +60,8 @@ impl Points {
         register: Register,
         instant: Instant,
     ) -> Result<(), ShelfFault>
-        ensures deleted { OnOk result (point_now self.new.table ≡ points_with (point_now self.old.table) meter.0 register instant None) }
+        ensures deleted { OnOk result (point_now self.new.table
+            ≡ points_with (point_now self.old.table) meter.0 register instant None) }
         ensures begin { point_then self.new.table ≡ point_then self.old.table }
         ensures memory { IfErr result (λ e. e ≡ Memory) }
     {
@@ -133,7 +135,8 @@ impl Points {
         from: Instant,
         to: Instant,
     ) -> Result<Vec<(Instant, WattHours)>, ShelfFault>
-        ensures rows { IfOk result (λ found. ListsSecondsWithin from to (point_now self.now.table meter.0 register) found.items) }
+        ensures rows { IfOk result (λ found. ListsSecondsWithin from to
+            (point_now self.now.table meter.0 register) found.items) }
         ensures memory { IfErr result (λ e. e ≡ Memory) }
     {
         if to < from {
@@ -152,7 +155,9 @@ impl Points {
     ) -> Result<Vec<(Instant, WattHours)>, AllocError>
         requires { IsLeBy point_order from to }
         ensures ordered { IsOrdered point_order self.now.table.rows }
-        ensures points { IfOk result (λ found. found.items ≡ map (λ e. (e.0.2, e.1)) (rows_between point_order (Included from) (Included to) self.now.table)) }
+        ensures points { IfOk result (λ found. found.items
+            ≡ map (λ e. (e.0.2, e.1))
+            (rows_between point_order (Included from) (Included to) self.now.table)) }
     {
         let mut rows = self
             .table

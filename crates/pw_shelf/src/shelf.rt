@@ -60,12 +60,15 @@ pub trait Shelf {
         requires { IsSome (state self.old).begun }
         ensures ended { OnOk result ((state self.new).begun ≡ None) }
         ensures begun { OnErr result ((state self.new).begun ≡ (state self.old).begun) }
-        ensures same { clean self.new → OnOk result ((state self.new).content ≡ (state self.old).content) }
+        ensures same { clean self.new → OnOk result
+            ((state self.new).content ≡ (state self.old).content) }
         ensures counts { CountsFailures (failures_told result) (state self.old) (state self.new) }
         ensures tally { (state self.new).tally ≡ (state self.old).tally + 1 }
-        ensures kept { clean self.new → OnOk result (LeavesOnly (state self.old).content (left self.new)) }
+        ensures kept { clean self.new → OnOk result
+            (LeavesOnly (state self.old).content (left self.new)) }
         ensures stays { clean self.new → OnOk result (left self.new (state self.old).content) }
-        ensures left { clean self.new → OnErr result (LeavesNoMoreOr (state self.old).content (left self.old) (left self.new)) }
+        ensures left { clean self.new → OnErr result
+            (LeavesNoMoreOr (state self.old).content (left self.old) (left self.new)) }
         ensures cleanness { clean self.new → clean self.old }
         ensures store { same_store self.old self.new };
 
@@ -74,10 +77,14 @@ pub trait Shelf {
         requires { IsSome (state self.old).begun }
         ensures ended { OnOk result ((state self.new).begun ≡ None) }
         ensures begun { OnErr result ((state self.new).begun ≡ (state self.old).begun) }
-        ensures back { clean self.new → OnOk result ((state self.old).begun ≡ Some (state self.new).content) }
-        ensures done { OnOk result ((state self.new).failed_abandons ≡ (state self.old).failed_abandons) }
-        ensures failed { OnErr result ((state self.new).failed_abandons ≡ (state self.old).failed_abandons + 1) }
-        ensures failures { (state self.new).failures ≡ (state self.old).failures + failures_told result }
+        ensures back { clean self.new → OnOk result
+            ((state self.old).begun ≡ Some (state self.new).content) }
+        ensures done { OnOk result ((state self.new).failed_abandons
+            ≡ (state self.old).failed_abandons) }
+        ensures failed { OnErr result ((state self.new).failed_abandons
+            ≡ (state self.old).failed_abandons + 1) }
+        ensures failures { (state self.new).failures
+            ≡ (state self.old).failures + failures_told result }
         ensures tally { (state self.new).tally ≡ (state self.old).tally + 1 }
         ensures left { clean self.new → LeavesNoMore (left self.old) (left self.new) }
         ensures cleanness { clean self.new → clean self.old }
@@ -85,12 +92,14 @@ pub trait Shelf {
 
     /// Whether a record is held.
     fn holds(&mut self, entry: &Entry) -> Result<bool, ShelfFault>
-        ensures held { clean self.new → IfOk result (λ held. IsTrue held ↔ Member entry.now (state self.old).content.records) }
+        ensures held { clean self.new → IfOk result
+            (λ held. IsTrue held ↔ Member entry.now (state self.old).content.records) }
         ensures asked { IsAsking state left clean same_store no_rows result self.old self.new };
 
     /// What the records held that stand say of a key: whether none has it, one, or several: no row, one, or two.
     fn contents_at(&mut self, key: &Key) -> Result<Contents, ShelfFault>
-        ensures rows { clean self.new → IfOk result (λ found. found ≡ held_at (state self.old).content.records key.now) }
+        ensures rows { clean self.new → IfOk result
+            (λ found. found ≡ held_at (state self.old).content.records key.now) }
         ensures asked { IsAsking state left clean same_store rows_at result self.old self.new };
 
     /// Adds a record that isn't held, and changes nothing else.
@@ -98,7 +107,8 @@ pub trait Shelf {
         requires begun { IsSome (state self.old).begun }
         requires fresh { clean self.old → Member entry.now (state self.old).content.records → ⊥ }
         requires room { clean self.old → length (state self.old).content.records < most_records }
-        ensures added { clean self.new → OnOk result (IsWithRecord (state self.old).content entry.now (state self.new).content) }
+        ensures added { clean self.new → OnOk result
+            (IsWithRecord (state self.old).content entry.now (state self.new).content) }
         ensures written { IsWriting state left clean same_store result self.old self.new };
 
     /// All readings held of a register, sorted.
@@ -108,27 +118,32 @@ pub trait Shelf {
         meter: MeterId,
         register: Register,
     ) -> Result<Vec<Entry>, ShelfFault>
-        ensures rows { clean self.new → IfOk result (λ found. ListsReadings (state self.old).content.records meter register found.items) }
+        ensures rows { clean self.new → IfOk result
+            (λ found. ListsReadings (state self.old).content.records meter register found.items) }
         ensures asked { IsAsking state left clean same_store rows_listed result self.old self.new };
 
     /// All assignments held of a meter, sorted.
     fn assignments_of(&mut self, alloc: Global, meter: MeterId) -> Result<Vec<Entry>, ShelfFault>
-        ensures rows { clean self.new → IfOk result (λ found. ListsAssignments (state self.old).content.records meter found.items) }
+        ensures rows { clean self.new → IfOk result
+            (λ found. ListsAssignments (state self.old).content.records meter found.items) }
         ensures asked { IsAsking state left clean same_store rows_listed result self.old self.new };
 
     /// All top-ups held, sorted.
     fn topups(&mut self, alloc: Global) -> Result<Vec<Entry>, ShelfFault>
-        ensures rows { clean self.new → IfOk result (λ found. ListsTopUps (state self.old).content.records found.items) }
+        ensures rows { clean self.new → IfOk result
+            (λ found. ListsTopUps (state self.old).content.records found.items) }
         ensures asked { IsAsking state left clean same_store rows_listed result self.old self.new };
 
     /// All withdrawals held, sorted.
     fn withdrawals(&mut self, alloc: Global) -> Result<Vec<Entry>, ShelfFault>
-        ensures rows { clean self.new → IfOk result (λ found. ListsWithdrawals (state self.old).content.records found.items) }
+        ensures rows { clean self.new → IfOk result
+            (λ found. ListsWithdrawals (state self.old).content.records found.items) }
         ensures asked { IsAsking state left clean same_store rows_listed result self.old self.new };
 
     /// How many records are held.
     fn count(&mut self) -> Result<u32, ShelfFault>
-        ensures number { clean self.new → IfOk result (λ held. held ≡ length (state self.old).content.records) }
+        ensures number { clean self.new → IfOk result
+            (λ held. held ≡ length (state self.old).content.records) }
         ensures asked { IsAsking state left clean same_store no_rows result self.old self.new };
 
     /// Keeps the value of a register at an instant, in place of the one that is kept there, and changes nothing else.
@@ -140,7 +155,9 @@ pub trait Shelf {
         wh: WattHours,
     ) -> Result<(), ShelfFault>
         requires { IsSome (state self.old).begun }
-        ensures put { clean self.new → OnOk result ((state self.new).content ≡ with_point (state self.old).content meter.0 register instant (Some wh)) }
+        ensures put { clean self.new → OnOk result
+            ((state self.new).content
+            ≡ with_point (state self.old).content meter.0 register instant (Some wh)) }
         ensures written { IsWriting state left clean same_store result self.old self.new };
 
     /// Takes the point of a register at an instant away, if one is kept, and changes nothing else.
@@ -151,7 +168,9 @@ pub trait Shelf {
         instant: Instant,
     ) -> Result<(), ShelfFault>
         requires { IsSome (state self.old).begun }
-        ensures deleted { clean self.new → OnOk result ((state self.new).content ≡ with_point (state self.old).content meter.0 register instant None) }
+        ensures deleted { clean self.new → OnOk result
+            ((state self.new).content
+            ≡ with_point (state self.old).content meter.0 register instant None) }
         ensures written { IsWriting state left clean same_store result self.old self.new };
 
     /// The latest point kept of a register strictly before an instant, if there is one: then it is one row.
@@ -161,7 +180,8 @@ pub trait Shelf {
         register: Register,
         instant: Instant,
     ) -> Result<Option<(Instant, WattHours)>, ShelfFault>
-        ensures row { clean self.new → IfOk result (λ found. IsBefore ((state self.old).content.point meter.0 register) instant found) }
+        ensures row { clean self.new → IfOk result
+            (λ found. IsBefore ((state self.old).content.point meter.0 register) instant found) }
         ensures asked { IsAsking state left clean same_store rows_found result self.old self.new };
 
     /// The earliest point kept of a register strictly behind an instant, if there is one: then it is one row.
@@ -171,7 +191,8 @@ pub trait Shelf {
         register: Register,
         instant: Instant,
     ) -> Result<Option<(Instant, WattHours)>, ShelfFault>
-        ensures row { clean self.new → IfOk result (λ found. IsBehind ((state self.old).content.point meter.0 register) instant found) }
+        ensures row { clean self.new → IfOk result
+            (λ found. IsBehind ((state self.old).content.point meter.0 register) instant found) }
         ensures asked { IsAsking state left clean same_store rows_found result self.old self.new };
 
     /// The points kept of a register from one instant to another, both included, in order; none where the second is
@@ -184,19 +205,24 @@ pub trait Shelf {
         from: Instant,
         to: Instant,
     ) -> Result<Vec<(Instant, WattHours)>, ShelfFault>
-        ensures rows { clean self.new → IfOk result (λ found. ListsSecondsWithin from to ((state self.old).content.point meter.0 register) found.items) }
+        ensures rows { clean self.new → IfOk result
+            (λ found. ListsSecondsWithin from to ((state self.old).content.point meter.0 register)
+            found.items) }
         ensures asked { IsAsking state left clean same_store rows_listed result self.old self.new };
 
     /// Keeps the owner of a meter from an instant on, in place of the one that is kept there, and changes nothing else.
     fn start_put(&mut self, meter: MeterId, start: Instant, owner: Owner) -> Result<(), ShelfFault>
         requires { IsSome (state self.old).begun }
-        ensures put { clean self.new → OnOk result ((state self.new).content ≡ with_start (state self.old).content meter.0 start (Some owner)) }
+        ensures put { clean self.new → OnOk result
+            ((state self.new).content
+            ≡ with_start (state self.old).content meter.0 start (Some owner)) }
         ensures written { IsWriting state left clean same_store result self.old self.new };
 
     /// Takes the start of a meter at an instant away, if one is kept, and changes nothing else.
     fn start_del(&mut self, meter: MeterId, start: Instant) -> Result<(), ShelfFault>
         requires { IsSome (state self.old).begun }
-        ensures deleted { clean self.new → OnOk result ((state self.new).content ≡ with_start (state self.old).content meter.0 start None) }
+        ensures deleted { clean self.new → OnOk result
+            ((state self.new).content ≡ with_start (state self.old).content meter.0 start None) }
         ensures written { IsWriting state left clean same_store result self.old self.new };
 
     /// All starts kept of a meter, in order.
@@ -205,19 +231,22 @@ pub trait Shelf {
         alloc: Global,
         meter: MeterId,
     ) -> Result<Vec<(Instant, Owner)>, ShelfFault>
-        ensures rows { clean self.new → IfOk result (λ found. ListsSeconds ((state self.old).content.start meter.0) found.items) }
+        ensures rows { clean self.new → IfOk result
+            (λ found. ListsSeconds ((state self.old).content.start meter.0) found.items) }
         ensures asked { IsAsking state left clean same_store rows_listed result self.old self.new };
 
     /// The total kept at a key; 0 where none is. It is one row where it is above 0.
     fn total(&mut self, key: &TotalKey) -> Result<u64, ShelfFault>
-        ensures amount { clean self.new → IfOk result (λ amount. amount ≡ (state self.old).content.total key.now) }
+        ensures amount { clean self.new → IfOk result
+            (λ amount. amount ≡ (state self.old).content.total key.now) }
         ensures asked { IsAsking state left clean same_store rows_total result self.old self.new };
 
     /// Keeps a total at a key, in place of the one that is kept there, and changes nothing else.
     fn total_put(&mut self, key: &TotalKey, amount: u64) -> Result<(), ShelfFault>
         requires begun { IsSome (state self.old).begun }
         requires bounded { amount ≤ most_records * LARGEST_WATT_HOURS }
-        ensures put { clean self.new → OnOk result ((state self.new).content ≡ with_total (state self.old).content key.now amount) }
+        ensures put { clean self.new → OnOk result
+            ((state self.new).content ≡ with_total (state self.old).content key.now amount) }
         ensures written { IsWriting state left clean same_store result self.old self.new };
 
     /// Each record is held once.

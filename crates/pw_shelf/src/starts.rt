@@ -46,7 +46,8 @@ impl Starts {
         start: Instant,
         owner: Owner,
     ) -> Result<(), ShelfFault>
-        ensures put { OnOk result (start_now self.new.table ≡ starts_with (start_now self.old.table) meter.0 start (Some owner)) }
+        ensures put { OnOk result (start_now self.new.table
+            ≡ starts_with (start_now self.old.table) meter.0 start (Some owner)) }
         ensures begin { start_then self.new.table ≡ start_then self.old.table }
         ensures memory { IfErr result (λ e. e ≡ Memory) }
     {
@@ -56,7 +57,8 @@ impl Starts {
 
     /// Takes the start of a meter at an instant away, if there is one.
     pub(crate) fn delete(&mut self, meter: MeterId, start: Instant) -> Result<(), ShelfFault>
-        ensures deleted { OnOk result (start_now self.new.table ≡ starts_with (start_now self.old.table) meter.0 start None) }
+        ensures deleted { OnOk result (start_now self.new.table
+            ≡ starts_with (start_now self.old.table) meter.0 start None) }
         ensures begin { start_then self.new.table ≡ start_then self.old.table }
         ensures memory { IfErr result (λ e. e ≡ Memory) }
     {
@@ -85,7 +87,8 @@ impl Starts {
         alloc: Global,
         meter: MeterId,
     ) -> Result<Vec<(Instant, Owner)>, ShelfFault>
-        ensures rows { IfOk result (λ found. ListsSeconds (start_now self.now.table meter.0) found.items) }
+        ensures rows { IfOk result (λ found. ListsSeconds (start_now self.now.table meter.0)
+            found.items) }
         ensures memory { IfErr result (λ e. e ≡ Memory) }
     {
         let Some(first) = Instant::of(FIRST_SECOND) else {
@@ -107,7 +110,9 @@ impl Starts {
     ) -> Result<Vec<(Instant, Owner)>, AllocError>
         requires { IsLeBy start_order from to }
         ensures ordered { IsOrdered start_order self.now.table.rows }
-        ensures starts { IfOk result (λ found. found.items ≡ map (λ e. (e.0.1, e.1)) (rows_between start_order (Included from) (Included to) self.now.table)) }
+        ensures starts { IfOk result (λ found. found.items
+            ≡ map (λ e. (e.0.1, e.1))
+            (rows_between start_order (Included from) (Included to) self.now.table)) }
     {
         let mut rows = self
             .table

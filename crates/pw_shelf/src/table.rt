@@ -103,7 +103,9 @@ impl<K: Ord + Copy, V: Copy> Table<K, V> {
         requires { CanGoBack K.cmp self.old }
         ensures rows { self.new.rows ≡ self.old.rows }
         ensures refused { OnErr result (self.new.changed.entries ≡ self.old.changed.entries) }
-        ensures noted { OnOk result (TellsAt K.cmp key (Some (change_of (at_begin K.cmp self.old key) gone)) (get K.cmp self.old.changed) (get K.cmp self.new.changed)) }
+        ensures noted { OnOk result (TellsAt K.cmp key
+            (Some (change_of (at_begin K.cmp self.old key) gone)) (get K.cmp self.old.changed)
+            (get K.cmp self.new.changed)) }
         ensures begin { (k : K) → at_begin K.cmp self.new k ≡ at_begin K.cmp self.old k }
         ensures back { CanGoBack K.cmp self.new }
         ensures memory { IfErr result (λ e. e ≡ Memory) }
@@ -116,8 +118,10 @@ impl<K: Ord + Copy, V: Copy> Table<K, V> {
     /// Sets what stands at a key.
     pub(crate) fn put(&mut self, key: K, value: V) -> Result<(), ShelfFault>
         requires { CanGoBack K.cmp self.old }
-        ensures put { OnOk result (TellsAt K.cmp key (Some value) (at_now K.cmp self.old) (at_now K.cmp self.new)) }
-        ensures refused { OnErr result ((k : K) → at_now K.cmp self.new k ≡ at_now K.cmp self.old k) }
+        ensures put { OnOk result (TellsAt K.cmp key (Some value) (at_now K.cmp self.old)
+            (at_now K.cmp self.new)) }
+        ensures refused { OnErr result ((k : K) → at_now K.cmp self.new k
+            ≡ at_now K.cmp self.old k) }
         ensures begin { (k : K) → at_begin K.cmp self.new k ≡ at_begin K.cmp self.old k }
         ensures back { CanGoBack K.cmp self.new }
         ensures memory { IfErr result (λ e. e ≡ Memory) }
@@ -130,8 +134,10 @@ impl<K: Ord + Copy, V: Copy> Table<K, V> {
     /// Takes away what stands at a key, if something does.
     pub(crate) fn delete(&mut self, key: K) -> Result<(), ShelfFault>
         requires { CanGoBack K.cmp self.old }
-        ensures deleted { OnOk result (TellsAt K.cmp key None (at_now K.cmp self.old) (at_now K.cmp self.new)) }
-        ensures refused { OnErr result ((k : K) → at_now K.cmp self.new k ≡ at_now K.cmp self.old k) }
+        ensures deleted { OnOk result (TellsAt K.cmp key None (at_now K.cmp self.old)
+            (at_now K.cmp self.new)) }
+        ensures refused { OnErr result ((k : K) → at_now K.cmp self.new k
+            ≡ at_now K.cmp self.old k) }
         ensures begin { (k : K) → at_begin K.cmp self.new k ≡ at_begin K.cmp self.old k }
         ensures back { CanGoBack K.cmp self.new }
         ensures memory { IfErr result (λ e. e ≡ Memory) }
@@ -172,7 +178,8 @@ impl<K: Ord + Copy, V: Copy> Table<K, V> {
     // Sets the row at a key that has one.
     fn put_back(&mut self, key: K, value: V)
         requires { IsSome (get K.cmp self.old.rows key) }
-        ensures rows { TellsAt K.cmp key (Some value) (get K.cmp self.old.rows) (get K.cmp self.new.rows) }
+        ensures rows { TellsAt K.cmp key (Some value) (get K.cmp self.old.rows)
+            (get K.cmp self.new.rows) }
         ensures changed { self.new.changed ≡ self.old.changed }
     {
         if self.rows.insert(key, value).is_err() {

@@ -39,7 +39,8 @@ impl Totals {
 
     /// Sets the total at a key.
     pub(crate) fn put(&mut self, key: &TotalKey, amount: u64) -> Result<(), ShelfFault>
-        ensures put { OnOk result (total_now self.new.table ≡ totals_with (total_now self.old.table) key.now amount) }
+        ensures put { OnOk result (total_now self.new.table
+            ≡ totals_with (total_now self.old.table) key.now amount) }
         ensures begin { total_then self.new.table ≡ total_then self.old.table }
         ensures memory { IfErr result (λ e. e ≡ Memory) }
     {

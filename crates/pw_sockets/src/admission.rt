@@ -38,7 +38,9 @@ impl Door {
 
     /// How long it is until the next try, where it is paused.
     pub(crate) fn pause_left(self, now: Instant) -> Option<Duration>
-        ensures paused { (since : Instant) → self ≡ Paused since → IfSome result (λ left. as_nanos left ≡ what_is_left pause (instant_nanos since) (instant_nanos now)) }
+        ensures paused { (since : Instant) → self ≡ Paused since
+            → IfSome result (λ left. as_nanos left
+            ≡ what_is_left pause (instant_nanos since) (instant_nanos now)) }
         ensures some { IsSome result ↔ IsPaused self }
     {
         match self {

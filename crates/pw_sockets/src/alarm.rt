@@ -26,15 +26,19 @@ impl Alarm {
 
     /// How long it is until then; nothing once it has passed.
     pub(crate) fn left(&self, now: Instant) -> Duration
-        ensures { as_nanos result ≡ what_is_left (as_nanos self.now.span) (instant_nanos self.now.since) (instant_nanos now) }
+        ensures { as_nanos result ≡ what_is_left (as_nanos self.now.span)
+            (instant_nanos self.now.since) (instant_nanos now) }
     {
         left_of(self.span, self.since, now)
     }
 
     /// Sets it to so long from now, where it is later.
     pub(crate) fn hasten(&mut self, span: Duration, now: Instant)
-        ensures sooner { as_nanos span < what_is_left (as_nanos self.old.span) (instant_nanos self.old.since) (instant_nanos now) → self.new ≡ record { since = now; span = span } }
-        ensures same { what_is_left (as_nanos self.old.span) (instant_nanos self.old.since) (instant_nanos now) ≤ as_nanos span → self.new ≡ self.old }
+        ensures sooner { as_nanos span < what_is_left (as_nanos self.old.span)
+            (instant_nanos self.old.since) (instant_nanos now)
+            → self.new ≡ record { since = now; span = span } }
+        ensures same { what_is_left (as_nanos self.old.span) (instant_nanos self.old.since)
+            (instant_nanos now) ≤ as_nanos span → self.new ≡ self.old }
     {
         let sooner = self.left(now).saturating_sub(span);
         if !sooner.is_zero() {

@@ -40,7 +40,8 @@ pub struct Course {
 
 /// What is left of a limit of time; nothing once it has passed.
 pub fn left_of(limit: Duration, begun: Instant, now: Instant) -> Duration
-    ensures { as_nanos result ≡ what_is_left (as_nanos limit) (instant_nanos begun) (instant_nanos now) }
+    ensures { as_nanos result ≡ what_is_left (as_nanos limit) (instant_nanos begun)
+        (instant_nanos now) }
 {
     limit.saturating_sub(now.duration_since(begun))
 }
@@ -70,7 +71,8 @@ impl Course {
 
     /// How long a read may take from now on.
     pub fn to_read(&self, now: Instant) -> Duration
-        ensures { as_nanos result ≡ read_left (option_map instant_nanos self.now.request) (instant_nanos now) }
+        ensures { as_nanos result ≡ read_left (option_map instant_nanos self.now.request)
+            (instant_nanos now) }
     {
         let patience = Duration::from_secs(PATIENCE);
         match self.request {
@@ -81,7 +83,8 @@ impl Course {
 
     /// Bytes came.
     pub fn came(&mut self, now: Instant)
-        ensures first { self.old.request ≡ None → self.new ≡ record self.old { request = Some now } }
+        ensures first { self.old.request ≡ None → self.new
+            ≡ record self.old { request = Some now } }
         ensures later { self.old.request ≢ None → self.new ≡ self.old }
     {
         if self.request.is_none() {
@@ -92,10 +95,14 @@ impl Course {
     /// What is left of a head or a body, with which a reply may begin, is to be written: how many bytes of it at once.
     pub fn goes_on(&mut self, rest: &[u8], now: Instant) -> usize
         ensures count { result ≤ length rest.now }
-        ensures begins { self.old.ahead ≡ 0 → StartsWith rest.now (codes "HTTP/") → (self.new.reply ≡ now) × (self.new.taken ≡ 0) × (self.new.request ≡ None) }
-        ensures goes_on { self.old.ahead ≢ 0 → (self.new.reply ≡ self.old.reply) × (self.new.taken ≡ self.old.taken) }
-        ensures writes { self.old.untaken ≡ 0 → (self.new.write ≡ now) × (self.new.untaken ≡ min (length rest.now) 65_536) }
-        ensures waits { self.old.untaken ≢ 0 → (self.new.write ≡ self.old.write) × (self.new.untaken ≡ self.old.untaken) }
+        ensures begins { self.old.ahead ≡ 0 → StartsWith rest.now (codes "HTTP/")
+            → (self.new.reply ≡ now) × (self.new.taken ≡ 0) × (self.new.request ≡ None) }
+        ensures goes_on { self.old.ahead ≢ 0 → (self.new.reply ≡ self.old.reply)
+            × (self.new.taken ≡ self.old.taken) }
+        ensures writes { self.old.untaken ≡ 0 → (self.new.write ≡ now)
+            × (self.new.untaken ≡ min (length rest.now) 65_536) }
+        ensures waits { self.old.untaken ≢ 0 → (self.new.write ≡ self.old.write)
+            × (self.new.untaken ≡ self.old.untaken) }
     {
         if self.ahead == 0 && rest.starts_with(b"HTTP/") {
             self.request = None;
@@ -111,7 +118,9 @@ impl Course {
 
     /// How long a write may take from now on, where so many bytes are still known to come.
     pub fn to_write(&self, rest: usize, now: Instant) -> Duration
-        ensures { as_nanos result ≡ write_left (min (self.now.taken + rest) 18_446_744_073_709_551_615) (instant_nanos self.now.reply) (instant_nanos self.now.write) (instant_nanos now) }
+        ensures { as_nanos result ≡ write_left
+            (min (self.now.taken + rest) 18_446_744_073_709_551_615)
+            (instant_nanos self.now.reply) (instant_nanos self.now.write) (instant_nanos now) }
     {
         let bytes = self.taken.saturating_add(rest as u64);
         let whole = left_of(reply_limit(bytes), self.reply, now);
@@ -124,7 +133,8 @@ impl Course {
         ensures taken { self.new.taken ≡ min (self.old.taken + count) 18_446_744_073_709_551_615 }
         ensures ahead { self.new.ahead ≡ rest - count }
         ensures untaken { self.new.untaken ≡ self.old.untaken - count }
-        ensures begun { (self.new.reply ≡ self.old.reply) × (self.new.write ≡ self.old.write) × (self.new.request ≡ self.old.request) }
+        ensures begun { (self.new.reply ≡ self.old.reply) × (self.new.write ≡ self.old.write)
+            × (self.new.request ≡ self.old.request) }
     {
         self.taken = self.taken.saturating_add(count as u64);
         self.ahead = rest.saturating_sub(count);
@@ -134,9 +144,13 @@ impl Course {
     /// How long the client may still be waited for, of whom the last byte came or went then: to take what is left of a
     /// reply, to send the rest of a request, or to send a request.
     pub fn left(&self, since: Instant, now: Instant) -> Duration
-        ensures reply { self.now.ahead ≢ 0 → as_nanos result ≡ write_left (min (self.now.taken + self.now.ahead) 18_446_744_073_709_551_615) (instant_nanos self.now.reply) (instant_nanos self.now.write) (instant_nanos now) }
-        ensures request { (begun : Instant) → self.now.ahead ≡ 0 → self.now.request ≡ Some begun → as_nanos result ≡ what_is_left patience (instant_nanos begun) (instant_nanos now) }
-        ensures idle { self.now.ahead ≡ 0 → self.now.request ≡ None → as_nanos result ≡ what_is_left patience (instant_nanos since) (instant_nanos now) }
+        ensures reply { self.now.ahead ≢ 0 → as_nanos result
+            ≡ write_left (min (self.now.taken + self.now.ahead) 18_446_744_073_709_551_615)
+            (instant_nanos self.now.reply) (instant_nanos self.now.write) (instant_nanos now) }
+        ensures request { (begun : Instant) → self.now.ahead ≡ 0 → self.now.request ≡ Some begun
+            → as_nanos result ≡ what_is_left patience (instant_nanos begun) (instant_nanos now) }
+        ensures idle { self.now.ahead ≡ 0 → self.now.request ≡ None
+            → as_nanos result ≡ what_is_left patience (instant_nanos since) (instant_nanos now) }
     {
         if self.ahead > 0 {
             return self.to_write(self.ahead, now);

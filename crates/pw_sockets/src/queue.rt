@@ -44,8 +44,11 @@ impl Queue {
 
     /// Puts a connection behind the others, if it isn't among them and there is room, or memory for it.
     pub(crate) fn put(&mut self, number: u64)
-        ensures once { list_any (λ other. other == number) self.old.numbers.items ≡ true → self.new.numbers ≡ self.old.numbers }
-        ensures last { list_any (λ other. other == number) self.old.numbers.items ≡ false → deque_len self.old.numbers < deque_capacity self.old.numbers → self.new.numbers.items ≡ self.old.numbers.items ++ number ∷ [] }
+        ensures once { list_any (λ other. other == number) self.old.numbers.items ≡ true
+            → self.new.numbers ≡ self.old.numbers }
+        ensures last { list_any (λ other. other == number) self.old.numbers.items ≡ false
+            → deque_len self.old.numbers < deque_capacity self.old.numbers
+            → self.new.numbers.items ≡ self.old.numbers.items ++ number ∷ [] }
         ensures round { self.new.round ≡ self.old.round }
     {
         if !self.has(number) {
@@ -64,7 +67,8 @@ impl Queue {
     /// The first, if it has its turn before clients are waited for again.
     pub(crate) fn take(&mut self) -> Option<u64>
         ensures some { IsSome result ↔ (0 < self.old.round) }
-        ensures first { IfSome result (λ number. self.old.numbers.items ≡ number ∷ self.new.numbers.items) }
+        ensures first { IfSome result (λ number. self.old.numbers.items
+            ≡ number ∷ self.new.numbers.items) }
         ensures round { IfSome result (λ number. self.new.round + 1 ≡ self.old.round) }
     {
         if self.round == 0 {

@@ -1,5 +1,5 @@
 -- What the statements mean, whatever the check of `office` says.
-use Rattle.std.proofs.Common.{◌≡◌, ◌+◌, ◌/◌, ℕ, pos, negsuc, List, [], ◌∷◌, codes, false, None, refl}
+use Rattle.std.proofs.Common.{◌≡◌, ◌+◌, ◌/◌, ℕ, pos, List, [], ◌∷◌, codes, false, refl}
 use Rattle.sqlite.specs.declared.types.Value.TheVariants.{Null, Int}
 use Rattle.sqlite.specs.Term.{Term, lit, col, op1, op2}
 use Rattle.sqlite_value.specs.declared.keys.Key.{Key}
@@ -13,6 +13,7 @@ use Rattle.sqlite.specs.Command.TheVariants.{Insert, Select}
 use Rattle.sqlite_tied.specs.Compute.{everything}
 use Rattle.sqlite.specs.Listing.{understood, reads_listing}
 use Rattle.sqlite.proofs.Callers.{IsPlain, command_of}
+pub use Rattle.pw_schema.proofs.Scans.{plain_query}
 use Rattle.pw_schema.specs.Tables.{ours_with}
 use Rattle.pw_schema.specs.declared.kind.RecordKind.{RecordKind}
 use Rattle.pw_model.specs.declared.records.Named.{Named}
@@ -42,19 +43,6 @@ eq at param = op2 (Compare Eq Binary) (col 1 at) (col 0 param)
 
 abbrev pub up : Key
 up = record { collation = Binary; descending = false }
-
-abbrev pub plain_query : ℕ → List Term → List Term → Query
-plain_query tree filter project = record {
-  from = inner tree end;
-  filter = filter;
-  group = None;
-  project = project;
-  distinct = false;
-  collations = [];
-  order = [];
-  limit = lit (Int (negsuc 0));
-  offset = lit (Int (pos 0));
-}
 
 abbrev pub four_terms : List Term
 four_terms = lit Null ∷ col 0 0 ∷ col 0 1 ∷ col 0 2 ∷ col 0 3 ∷ []

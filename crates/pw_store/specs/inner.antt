@@ -3,6 +3,7 @@ pub mod Given
 pub mod Records
 pub mod Lists
 pub mod Opened
+pub mod Connections
 pub mod Changing
 pub mod AllElse
 pub mod Seconds

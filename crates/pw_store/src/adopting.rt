@@ -7,16 +7,15 @@ ghost use Rattle.pw_tariff.specs.Office.{OfficeFile, office_of};
 ghost use Rattle.pw_tariff.specs.Text.{IsOfficeOf};
 ghost use Rattle.pw_model.specs.Office.{AllOfOffice, most_records};
 ghost use Rattle.pw_model.specs.Shelf.{IsTrueContent};
-ghost use Rattle.pw_shelf.specs.Left.{LeavesOnly};
-ghost use Rattle.pw_schema.specs.Fresh.{IsWithin};
-ghost use Rattle.pw_schema.specs.Judging.{KeepsOffice};
+ghost use Rattle.pw_schema.specs.Calls.{CommitStays, CommitStaysOnErr, KeepsAllButOffice, LeavesVersion};
 ghost use Rattle.pw_schema.specs.Raised.{HasSame, all_but_office};
-ghost use Rattle.pw_schema.specs.Tables.{IsOurs, schema_of};
-ghost use Rattle.pw_store.specs.Content.{content_of, records_of};
-ghost use Rattle.pw_store.specs.Kept.{IsStore, held_of, left_of};
+ghost use Rattle.pw_schema.specs.inner.Calls.{HasOurTables};
+ghost use Rattle.pw_store.specs.Content.{content_of};
+ghost use Rattle.pw_store.specs.Kept.{IsStore, held_of};
 ghost use Rattle.pw_store.specs.Left.{AdoptionRefuses, IsOfText, MayBeAdopted};
-ghost use Rattle.pw_store.specs.Opening.{KeepsText};
-ghost use Rattle.pw_store.specs.inner.Opened.{HasAdopted, IsReplaced, RowsRefuse};
+ghost use Rattle.pw_store.specs.OpenStore.{HasCountedNothing, Holds, HoldsText, IsCleanAndOpen, IsTextOf, LeavesItAlone, WasOpened};
+ghost use Rattle.pw_store.specs.inner.Connections.{CountsRecords, TellsRefusedRows};
+ghost use Rattle.pw_store.specs.inner.Opened.{HasAdopted, IsReplaced};
 
 use crate::fault::OpenFault;
 use crate::judging::check_rows;
@@ -41,20 +40,34 @@ impl<S: Alter> SqlShelf<S> {
     ) -> Result<SqlShelf<S>, (OpenFault, Connection<S>)>
         requires text { (office : OfficeFile) × IsOfficeOf office_text.now office }
         requires idle { self.begun ≡ false }
-        ensures same { IfOk result (λ s. HasCleanDisk (state S.Store s.conn) → held_of (state S.Store s.conn) (state S.Store s.base.value) ≡ held_of (state S.Store self.conn) (state S.Store self.base.value)) }
-        ensures rows { IfOk result (λ s. HasCleanDisk (state S.Store s.conn) → HasSame all_but_office (state S.Store self.conn).committed.trees (state S.Store s.conn).now.trees) }
-        ensures of_office { IfOk result (λ s. HasCleanDisk (state S.Store s.conn) → (office : OfficeFile) × IsOfficeOf office_text.now office × AllOfOffice (office_of office) (held_of (state S.Store s.conn) (state S.Store s.base.value)).records) }
-        ensures truth { IfOk result (λ s. HasCleanDisk (state S.Store s.conn) → (office : OfficeFile) × IsOfficeOf office_text.now office × IsTrueContent (office_of office) (held_of (state S.Store s.conn) (state S.Store s.base.value))) }
-        ensures few { IfOk result (λ s. HasCleanDisk (state S.Store s.conn) → length (held_of (state S.Store s.conn) (state S.Store s.base.value)).records ≤ most_records) }
-        ensures kept_text { IfOk result (λ s. HasCleanDisk (state S.Store s.conn) → IsOurs (state S.Store s.conn).now.schema × KeepsText (KeepsOffice office_text.now) (state S.Store s.conn).now.trees) }
-        ensures opened { IfOk result (λ s. HasCleanDisk (state S.Store s.conn) → (office : OfficeFile) × IsOfficeOf office_text.now office × IsOfText (office_of office) office_text.now (state S.Store s.opened.value).now.trees) }
-        ensures was_clean { IfOk result (λ s. HasCleanDisk (state S.Store s.conn) → HasCleanDisk (state S.Store self.conn) × IsTrue (state S.Store self.conn).is_open) }
+        ensures same { IfOk result (Holds S.Store
+            (λ held. held ≡ held_of (state S.Store self.conn) (state S.Store self.base.value))) }
+        ensures rows { IfOk result (λ s. HasCleanDisk (state S.Store s.conn)
+            → HasSame all_but_office (state S.Store self.conn).committed.trees
+            (state S.Store s.conn).now.trees) }
+        ensures of_office { IfOk result (Holds S.Store
+            (λ held. IsTextOf office_text.now (λ office. AllOfOffice office held.records))) }
+        ensures truth { IfOk result (Holds S.Store
+            (λ held. IsTextOf office_text.now (λ office. IsTrueContent office held))) }
+        ensures few { IfOk result (Holds S.Store (λ held. length held.records ≤ most_records)) }
+        ensures kept_text { IfOk result (HoldsText S.Store office_text.now) }
+        ensures opened { IfOk result (WasOpened S.Store
+            (λ rows. IsTextOf office_text.now (λ office. IsOfText office office_text.now rows))) }
+        ensures was_clean { IfOk result (λ s. HasCleanDisk (state S.Store s.conn)
+            → IsCleanAndOpen (state S.Store self.conn)) }
         ensures idle { IfOk result (λ s. s.begun ≡ false) }
-        ensures counts { IfOk result (λ s. (s.failures.count ≡ 0) × (s.failed_abandons.count ≡ 0) × (s.tally.count ≡ 0)) }
-        ensures left { IfOk result (λ s. HasCleanDisk (state S.Store s.conn) → LeavesOnly (held_of (state S.Store s.conn) (state S.Store s.base.value)) (left_of (state S.Store s.conn))) }
-        ensures cause { IfErr result (λ e. HasCleanDisk (state S.Store e.1) → (office : OfficeFile) × IsOfficeOf office_text.now office × AdoptionRefuses (office_of office) (held_of (state S.Store self.conn) (state S.Store self.base.value)) (state S.Store self.conn).committed.trees e.0) }
-        ensures refused { IfErr result (λ e. HasCleanDisk (state S.Store e.1) → KeepsCommit (state S.Store self.conn) (state S.Store e.1)) }
-        ensures crash { IfErr result (λ e. (office : OfficeFile) × IsOfficeOf office_text.now office × Survives (state S.Store self.conn) (state S.Store e.1) (MayBeAdopted (office_of office) office_text.now (state S.Store self.conn).committed)) }
+        ensures counts { IfOk result (HasCountedNothing S.Store) }
+        ensures left { IfOk result (LeavesItAlone S.Store) }
+        ensures cause { IfErr result (λ e. HasCleanDisk (state S.Store e.1)
+            → IsTextOf office_text.now
+            (λ office. AdoptionRefuses office
+            (held_of (state S.Store self.conn) (state S.Store self.base.value))
+            (state S.Store self.conn).committed.trees e.0)) }
+        ensures refused { IfErr result (λ e. HasCleanDisk (state S.Store e.1)
+            → KeepsCommit (state S.Store self.conn) (state S.Store e.1)) }
+        ensures crash { IfErr result (λ e. IsTextOf office_text.now
+            (λ office. Survives (state S.Store self.conn) (state S.Store e.1)
+            (MayBeAdopted office office_text.now (state S.Store self.conn).committed))) }
     {
         match Office::read(alloc, office_text) {
             Ok(office) => self.adopt_for(alloc, &office, office_text, watch),
@@ -71,20 +84,32 @@ impl<S: Alter> SqlShelf<S> {
         watch: &mut W,
     ) -> Result<SqlShelf<S>, (OpenFault, Connection<S>)>
         requires { self.begun ≡ false }
-        ensures same { IfOk result (λ s. HasCleanDisk (state S.Store s.conn) → held_of (state S.Store s.conn) (state S.Store s.base.value) ≡ held_of (state S.Store self.conn) (state S.Store self.base.value)) }
-        ensures rows { IfOk result (λ s. HasCleanDisk (state S.Store s.conn) → HasSame all_but_office (state S.Store self.conn).committed.trees (state S.Store s.conn).now.trees) }
-        ensures of_office { IfOk result (λ s. HasCleanDisk (state S.Store s.conn) → AllOfOffice (office_of office.now) (held_of (state S.Store s.conn) (state S.Store s.base.value)).records) }
-        ensures truth { IfOk result (λ s. HasCleanDisk (state S.Store s.conn) → IsTrueContent (office_of office.now) (held_of (state S.Store s.conn) (state S.Store s.base.value))) }
-        ensures few { IfOk result (λ s. HasCleanDisk (state S.Store s.conn) → length (held_of (state S.Store s.conn) (state S.Store s.base.value)).records ≤ most_records) }
-        ensures kept_text { IfOk result (λ s. HasCleanDisk (state S.Store s.conn) → IsOurs (state S.Store s.conn).now.schema × KeepsText (KeepsOffice office_text.now) (state S.Store s.conn).now.trees) }
-        ensures opened { IfOk result (λ s. HasCleanDisk (state S.Store s.conn) → IsOfText (office_of office.now) office_text.now (state S.Store s.opened.value).now.trees) }
-        ensures was_clean { IfOk result (λ s. HasCleanDisk (state S.Store s.conn) → HasCleanDisk (state S.Store self.conn) × IsTrue (state S.Store self.conn).is_open) }
+        ensures same { IfOk result (Holds S.Store
+            (λ held. held ≡ held_of (state S.Store self.conn) (state S.Store self.base.value))) }
+        ensures rows { IfOk result (λ s. HasCleanDisk (state S.Store s.conn)
+            → HasSame all_but_office (state S.Store self.conn).committed.trees
+            (state S.Store s.conn).now.trees) }
+        ensures of_office { IfOk result (Holds S.Store
+            (λ held. AllOfOffice (office_of office.now) held.records)) }
+        ensures truth { IfOk result (Holds S.Store (IsTrueContent (office_of office.now))) }
+        ensures few { IfOk result (Holds S.Store (λ held. length held.records ≤ most_records)) }
+        ensures kept_text { IfOk result (HoldsText S.Store office_text.now) }
+        ensures opened { IfOk result (WasOpened S.Store
+            (IsOfText (office_of office.now) office_text.now)) }
+        ensures was_clean { IfOk result (λ s. HasCleanDisk (state S.Store s.conn)
+            → IsCleanAndOpen (state S.Store self.conn)) }
         ensures idle { IfOk result (λ s. s.begun ≡ false) }
-        ensures counts { IfOk result (λ s. (s.failures.count ≡ 0) × (s.failed_abandons.count ≡ 0) × (s.tally.count ≡ 0)) }
-        ensures left { IfOk result (λ s. HasCleanDisk (state S.Store s.conn) → LeavesOnly (held_of (state S.Store s.conn) (state S.Store s.base.value)) (left_of (state S.Store s.conn))) }
-        ensures cause { IfErr result (λ e. HasCleanDisk (state S.Store e.1) → AdoptionRefuses (office_of office.now) (held_of (state S.Store self.conn) (state S.Store self.base.value)) (state S.Store self.conn).committed.trees e.0) }
-        ensures refused { IfErr result (λ e. HasCleanDisk (state S.Store e.1) → KeepsCommit (state S.Store self.conn) (state S.Store e.1)) }
-        ensures crash { IfErr result (λ e. Survives (state S.Store self.conn) (state S.Store e.1) (MayBeAdopted (office_of office.now) office_text.now (state S.Store self.conn).committed)) }
+        ensures counts { IfOk result (HasCountedNothing S.Store) }
+        ensures left { IfOk result (LeavesItAlone S.Store) }
+        ensures cause { IfErr result (λ e. HasCleanDisk (state S.Store e.1)
+            → AdoptionRefuses (office_of office.now)
+            (held_of (state S.Store self.conn) (state S.Store self.base.value))
+            (state S.Store self.conn).committed.trees e.0) }
+        ensures refused { IfErr result (λ e. HasCleanDisk (state S.Store e.1)
+            → KeepsCommit (state S.Store self.conn) (state S.Store e.1)) }
+        ensures crash { IfErr result (λ e. Survives (state S.Store self.conn) (state S.Store e.1)
+            (MayBeAdopted (office_of office.now) office_text.now
+            (state S.Store self.conn).committed)) }
     {
         let mut connection = self.into_connection();
         match exchange(alloc, &mut connection, office, office_text, watch) {
@@ -96,10 +121,10 @@ impl<S: Alter> SqlShelf<S> {
 
 // Sets another office file within a transaction, whatever rows the store has.
 fn replace<S: Alter>(conn: &mut Connection<S>, text: &[u8]) -> Result<(), Error>
-    requires { HasCleanDisk (state S.Store conn.old) → IsOurs (state S.Store conn.old).now.schema }
-    ensures within { HasCleanDisk (state S.Store conn.new) → OnOk result (IsWithin (schema_of StoreVersion.Third) (state S.Store conn.new)) }
-    ensures others { HasCleanDisk (state S.Store conn.new) → OnOk result (HasSame all_but_office (state S.Store conn.old).now.trees (state S.Store conn.new).now.trees) }
-    ensures kept { HasCleanDisk (state S.Store conn.new) → KeepsCommit (state S.Store conn.old) (state S.Store conn.new) }
+    requires { HasOurTables (state S.Store conn.old) }
+    ensures within { LeavesVersion StoreVersion.Third result (state S.Store conn.new) }
+    ensures others { KeepsAllButOffice result (state S.Store conn.old) (state S.Store conn.new) }
+    ensures kept { CommitStays (state S.Store conn.old) (state S.Store conn.new) }
     ensures crash { Survives (state S.Store conn.old) (state S.Store conn.new) (λ _. ⊥) }
 {
     begin(conn)?;
@@ -116,11 +141,14 @@ fn replace_and_check<S: Alter, W: Watch>(
     text: &[u8],
     watch: &mut W,
 ) -> Result<u32, OpenFault>
-    requires { HasCleanDisk (state S.Store conn.old) → IsOurs (state S.Store conn.old).now.schema }
-    ensures counted { HasCleanDisk (state S.Store conn.new) → IfOk result (λ held. length (records_of (state S.Store conn.new).now.trees) ≡ held) }
-    ensures replaced { HasCleanDisk (state S.Store conn.new) → OnOk result (IsReplaced (office_of office.now) text.now (state S.Store conn.old).now (state S.Store conn.new)) }
-    ensures cause { HasCleanDisk (state S.Store conn.new) → IfErr result (RowsRefuse StoreVersion.Third (office_of office.now) (state S.Store conn.old).now.trees) }
-    ensures kept { HasCleanDisk (state S.Store conn.new) → KeepsCommit (state S.Store conn.old) (state S.Store conn.new) }
+    requires { HasOurTables (state S.Store conn.old) }
+    ensures counted { CountsRecords result (state S.Store conn.new) }
+    ensures replaced { HasCleanDisk (state S.Store conn.new)
+        → OnOk result (IsReplaced (office_of office.now) text.now (state S.Store conn.old).now
+        (state S.Store conn.new)) }
+    ensures cause { TellsRefusedRows StoreVersion.Third (office_of office.now) result
+        (state S.Store conn.old) (state S.Store conn.new) }
+    ensures kept { CommitStays (state S.Store conn.old) (state S.Store conn.new) }
     ensures crash { Survives (state S.Store conn.old) (state S.Store conn.new) (λ _. ⊥) }
 {
     replace(conn, text)?;
@@ -140,12 +168,16 @@ fn replace_and_commit<S: Alter, W: Watch>(
     text: &[u8],
     watch: &mut W,
 ) -> Result<u32, OpenFault>
-    requires { HasCleanDisk (state S.Store conn.old) → IsOurs (state S.Store conn.old).now.schema }
-    ensures counted { HasCleanDisk (state S.Store conn.new) → IfOk result (λ held. length (records_of (state S.Store conn.new).now.trees) ≡ held) }
-    ensures adopted { HasCleanDisk (state S.Store conn.new) → OnOk result (HasAdopted (office_of office.now) text.now (state S.Store conn.old).now (state S.Store conn.new)) }
-    ensures cause { HasCleanDisk (state S.Store conn.new) → IfErr result (RowsRefuse StoreVersion.Third (office_of office.now) (state S.Store conn.old).now.trees) }
-    ensures kept { HasCleanDisk (state S.Store conn.new) → OnErr result (KeepsCommit (state S.Store conn.old) (state S.Store conn.new)) }
-    ensures crash { Survives (state S.Store conn.old) (state S.Store conn.new) (MayBeAdopted (office_of office.now) text.now (state S.Store conn.old).now) }
+    requires { HasOurTables (state S.Store conn.old) }
+    ensures counted { CountsRecords result (state S.Store conn.new) }
+    ensures adopted { HasCleanDisk (state S.Store conn.new)
+        → OnOk result (HasAdopted (office_of office.now) text.now (state S.Store conn.old).now
+        (state S.Store conn.new)) }
+    ensures cause { TellsRefusedRows StoreVersion.Third (office_of office.now) result
+        (state S.Store conn.old) (state S.Store conn.new) }
+    ensures kept { CommitStaysOnErr result (state S.Store conn.old) (state S.Store conn.new) }
+    ensures crash { Survives (state S.Store conn.old) (state S.Store conn.new)
+        (MayBeAdopted (office_of office.now) text.now (state S.Store conn.old).now) }
 {
     let held = replace_and_check(alloc, conn, office, text, watch)?;
     commit(conn)?;
@@ -161,12 +193,16 @@ fn replace_or_undo<S: Alter, W: Watch>(
     text: &[u8],
     watch: &mut W,
 ) -> Result<u32, OpenFault>
-    requires { HasCleanDisk (state S.Store conn.old) → IsOurs (state S.Store conn.old).now.schema }
-    ensures counted { HasCleanDisk (state S.Store conn.new) → IfOk result (λ held. length (records_of (state S.Store conn.new).now.trees) ≡ held) }
-    ensures adopted { HasCleanDisk (state S.Store conn.new) → OnOk result (HasAdopted (office_of office.now) text.now (state S.Store conn.old).now (state S.Store conn.new)) }
-    ensures cause { HasCleanDisk (state S.Store conn.new) → IfErr result (RowsRefuse StoreVersion.Third (office_of office.now) (state S.Store conn.old).now.trees) }
-    ensures kept { HasCleanDisk (state S.Store conn.new) → OnErr result (KeepsCommit (state S.Store conn.old) (state S.Store conn.new)) }
-    ensures crash { Survives (state S.Store conn.old) (state S.Store conn.new) (MayBeAdopted (office_of office.now) text.now (state S.Store conn.old).now) }
+    requires { HasOurTables (state S.Store conn.old) }
+    ensures counted { CountsRecords result (state S.Store conn.new) }
+    ensures adopted { HasCleanDisk (state S.Store conn.new)
+        → OnOk result (HasAdopted (office_of office.now) text.now (state S.Store conn.old).now
+        (state S.Store conn.new)) }
+    ensures cause { TellsRefusedRows StoreVersion.Third (office_of office.now) result
+        (state S.Store conn.old) (state S.Store conn.new) }
+    ensures kept { CommitStaysOnErr result (state S.Store conn.old) (state S.Store conn.new) }
+    ensures crash { Survives (state S.Store conn.old) (state S.Store conn.new)
+        (MayBeAdopted (office_of office.now) text.now (state S.Store conn.old).now) }
 {
     match replace_and_commit(alloc, conn, office, text, watch) {
         Ok(held) => Ok(held),
@@ -186,14 +222,24 @@ fn exchange<S: Alter, W: Watch>(
     text: &[u8],
     watch: &mut W,
 ) -> Result<u32, OpenFault>
-    requires { HasCleanDisk (state S.Store conn.old) → IsTrue (state S.Store conn.old).is_open → IsStore (state S.Store conn.old).committed }
-    ensures counted { HasCleanDisk (state S.Store conn.new) → IfOk result (λ held. length (records_of (state S.Store conn.new).now.trees) ≡ held) }
-    ensures adopted { HasCleanDisk (state S.Store conn.new) → OnOk result (HasAdopted (office_of office.now) text.now (state S.Store conn.old).committed (state S.Store conn.new)) }
-    ensures was_open { HasCleanDisk (state S.Store conn.new) → OnOk result (HasCleanDisk (state S.Store conn.old) × IsTrue (state S.Store conn.old).is_open) }
-    ensures cause { HasCleanDisk (state S.Store conn.new) → IfErr result (λ fault. AdoptionRefuses (office_of office.now) (content_of (state S.Store conn.old).committed.trees) (state S.Store conn.old).committed.trees fault) }
-    ensures judged { HasCleanDisk (state S.Store conn.new) → IfErr result (λ fault. fault ≡ OpenFault.Unclean → HasCleanDisk (state S.Store conn.old) × IsTrue (state S.Store conn.old).is_open) }
-    ensures kept { HasCleanDisk (state S.Store conn.new) → OnErr result (KeepsCommit (state S.Store conn.old) (state S.Store conn.new)) }
-    ensures crash { OnErr result (Survives (state S.Store conn.old) (state S.Store conn.new) (MayBeAdopted (office_of office.now) text.now (state S.Store conn.old).committed)) }
+    requires { HasCleanDisk (state S.Store conn.old) → IsTrue (state S.Store conn.old).is_open
+        → IsStore (state S.Store conn.old).committed }
+    ensures counted { CountsRecords result (state S.Store conn.new) }
+    ensures adopted { HasCleanDisk (state S.Store conn.new)
+        → OnOk result (HasAdopted (office_of office.now) text.now
+        (state S.Store conn.old).committed (state S.Store conn.new)) }
+    ensures was_open { HasCleanDisk (state S.Store conn.new)
+        → OnOk result (IsCleanAndOpen (state S.Store conn.old)) }
+    ensures cause { HasCleanDisk (state S.Store conn.new)
+        → IfErr result (λ fault. AdoptionRefuses (office_of office.now)
+        (content_of (state S.Store conn.old).committed.trees)
+        (state S.Store conn.old).committed.trees fault) }
+    ensures judged { HasCleanDisk (state S.Store conn.new)
+        → IfErr result (λ fault. fault ≡ OpenFault.Unclean
+        → IsCleanAndOpen (state S.Store conn.old)) }
+    ensures kept { CommitStaysOnErr result (state S.Store conn.old) (state S.Store conn.new) }
+    ensures crash { OnErr result (Survives (state S.Store conn.old) (state S.Store conn.new)
+        (MayBeAdopted (office_of office.now) text.now (state S.Store conn.old).committed)) }
 {
     settle(conn)?;
     replace_or_undo(alloc, conn, office, text, watch)

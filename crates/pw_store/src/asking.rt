@@ -5,12 +5,12 @@ ghost use Rattle.sqlite.specs.Held.{state};
 ghost use Rattle.sqlite.specs.State.{HasCleanDisk};
 ghost use Rattle.pw_model.specs.Counting.{Member, contents_at};
 ghost use Rattle.pw_shelf.specs.Rows.{ListsAssignments, ListsHeld, ListsReadings, ListsWithdrawals};
-ghost use Rattle.pw_schema.specs.inner.Calls.{Asks};
+ghost use Rattle.pw_schema.specs.inner.Calls.{Asks, HasOurTables};
 ghost use Rattle.pw_schema.specs.Rows.{ReadsRows};
-ghost use Rattle.pw_schema.specs.Tables.{IsOurs};
+ghost use Rattle.pw_store.specs.inner.Connections.{HoldsStore};
 ghost use Rattle.pw_store.specs.inner.Lists.{IsKeptAs, ListsThese};
 ghost use Rattle.pw_store.specs.Content.{records_of};
-ghost use Rattle.pw_store.specs.Kept.{IsAwake, IsStore, NowIsStore};
+ghost use Rattle.pw_store.specs.Kept.{IsAwake, NowIsStore};
 
 use crate::fault::AskFault;
 use crate::keys::{RecordKey, contents_of_record, contents_of_withdrawal};
@@ -33,7 +33,9 @@ fn has_entry<S: Alter>(
 ) -> Result<bool, Error>
     requires awake { IsAwake (state S.Store conn.old) doubtful }
     requires store { NowIsStore (state S.Store conn.old) }
-    ensures found { HasCleanDisk (state S.Store conn.new) → IfOk result (λ held. IsTrue held ↔ Member entry.now (records_of (state S.Store conn.old).now.trees)) }
+    ensures found { HasCleanDisk (state S.Store conn.new)
+        → IfOk result (λ held. IsTrue held
+        ↔ Member entry.now (records_of (state S.Store conn.old).now.trees)) }
     ensures asks { Asks result (state S.Store conn.old) (state S.Store conn.new) }
 {
     wake(conn, doubtful)?;
@@ -51,7 +53,9 @@ pub(crate) fn holds<S: Alter>(
 ) -> Result<bool, AskFault>
     requires awake { IsAwake (state S.Store conn.old) doubtful }
     requires store { NowIsStore (state S.Store conn.old) }
-    ensures found { HasCleanDisk (state S.Store conn.new) → IfOk result (λ held. IsTrue held ↔ Member entry.now (records_of (state S.Store conn.old).now.trees)) }
+    ensures found { HasCleanDisk (state S.Store conn.new)
+        → IfOk result (λ held. IsTrue held
+        ↔ Member entry.now (records_of (state S.Store conn.old).now.trees)) }
     ensures asks { Asks result (state S.Store conn.old) (state S.Store conn.new) }
 {
     Ok(has_entry(conn, doubtful, entry)?)
@@ -65,7 +69,9 @@ pub(crate) fn contents<S: Alter>(
 ) -> Result<Contents, AskFault>
     requires awake { IsAwake (state S.Store conn.old) doubtful }
     requires store { NowIsStore (state S.Store conn.old) }
-    ensures told { HasCleanDisk (state S.Store conn.new) → IfOk result (λ found. found ≡ contents_at (records_of (state S.Store conn.old).now.trees) key.now) }
+    ensures told { HasCleanDisk (state S.Store conn.new)
+        → IfOk result (λ found. found
+        ≡ contents_at (records_of (state S.Store conn.old).now.trees) key.now) }
     ensures asks { Asks result (state S.Store conn.old) (state S.Store conn.new) }
 {
     wake(conn, doubtful)?;
@@ -112,7 +118,9 @@ pub(crate) fn list_records<S: Alter>(
 ) -> Result<Vec<Entry>, AskFault>
     requires awake { IsAwake (state S.Store conn.old) doubtful }
     requires store { NowIsStore (state S.Store conn.old) }
-    ensures rows { HasCleanDisk (state S.Store conn.new) → IfOk result (λ found. ListsThese which (records_of (state S.Store conn.old).now.trees) found.items) }
+    ensures rows { HasCleanDisk (state S.Store conn.new)
+        → IfOk result (λ found. ListsThese which (records_of (state S.Store conn.old).now.trees)
+        found.items) }
     ensures asks { Asks result (state S.Store conn.old) (state S.Store conn.new) }
 {
     wake(conn, doubtful)?;
@@ -131,8 +139,10 @@ fn readings_kept<S: Alter>(
     meter: MeterId,
     register: Register,
 ) -> Result<Vec<Entry>, AskFault>
-    requires store { HasCleanDisk (state S.Store conn.old) → IsStore (state S.Store conn.old).now }
-    ensures rows { HasCleanDisk (state S.Store conn.new) → IfOk result (λ found. ListsReadings (records_of (state S.Store conn.old).now.trees) meter register found.items) }
+    requires store { HoldsStore (state S.Store conn.old) }
+    ensures rows { HasCleanDisk (state S.Store conn.new)
+        → IfOk result (λ found. ListsReadings (records_of (state S.Store conn.old).now.trees)
+        meter register found.items) }
     ensures asks { Asks result (state S.Store conn.old) (state S.Store conn.new) }
 {
     let rows = reading_rows(conn, meter, register)?;
@@ -145,8 +155,10 @@ fn assignments_kept<S: Alter>(
     alloc: Global,
     meter: MeterId,
 ) -> Result<Vec<Entry>, AskFault>
-    requires store { HasCleanDisk (state S.Store conn.old) → IsStore (state S.Store conn.old).now }
-    ensures rows { HasCleanDisk (state S.Store conn.new) → IfOk result (λ found. ListsAssignments (records_of (state S.Store conn.old).now.trees) meter found.items) }
+    requires store { HoldsStore (state S.Store conn.old) }
+    ensures rows { HasCleanDisk (state S.Store conn.new)
+        → IfOk result (λ found. ListsAssignments (records_of (state S.Store conn.old).now.trees)
+        meter found.items) }
     ensures asks { Asks result (state S.Store conn.old) (state S.Store conn.new) }
 {
     let rows = assignment_rows(conn, meter)?;
@@ -159,8 +171,10 @@ fn records_kept<S: Alter>(
     alloc: Global,
     kind: RecordKind,
 ) -> Result<Vec<Entry>, AskFault>
-    requires ours { HasCleanDisk (state S.Store conn.old) → IsOurs (state S.Store conn.old).now.schema }
-    ensures rows { HasCleanDisk (state S.Store conn.new) → IfOk result (λ found. ListsHeld (IsKeptAs kind) (records_of (state S.Store conn.old).now.trees) found.items) }
+    requires ours { HasOurTables (state S.Store conn.old) }
+    ensures rows { HasCleanDisk (state S.Store conn.new)
+        → IfOk result (λ found. ListsHeld (IsKeptAs kind)
+        (records_of (state S.Store conn.old).now.trees) found.items) }
     ensures asks { Asks result (state S.Store conn.old) (state S.Store conn.new) }
 {
     let rows = record_rows(conn, kind)?;
@@ -172,8 +186,10 @@ fn withdrawals_kept<S: Alter>(
     conn: &mut Connection<S>,
     alloc: Global,
 ) -> Result<Vec<Entry>, AskFault>
-    requires ours { HasCleanDisk (state S.Store conn.old) → IsOurs (state S.Store conn.old).now.schema }
-    ensures rows { HasCleanDisk (state S.Store conn.new) → IfOk result (λ found. ListsWithdrawals (records_of (state S.Store conn.old).now.trees) found.items) }
+    requires ours { HasOurTables (state S.Store conn.old) }
+    ensures rows { HasCleanDisk (state S.Store conn.new)
+        → IfOk result (λ found. ListsWithdrawals (records_of (state S.Store conn.old).now.trees)
+        found.items) }
     ensures asks { Asks result (state S.Store conn.old) (state S.Store conn.new) }
 {
     let readings = records_kept(conn, alloc, RecordKind::WithdrawnReadings)?;

@@ -1,11 +1,11 @@
 //! What is changed of points, starts and totals, one row at a time.
 
-ghost use Rattle.std.specs.Prelude.{IfOk, IsTrue};
+ghost use Rattle.std.specs.Prelude.{IfOk};
 ghost use Rattle.sqlite.specs.Held.{state};
 ghost use Rattle.sqlite.specs.State.{HasCleanDisk};
 ghost use Rattle.pw_schema.specs.Calls.{Writes};
-ghost use Rattle.pw_store.specs.Kept.{IsStore};
 ghost use Rattle.pw_store.specs.inner.Changing.{Fits, IsFree, IsTaken, Makes, changed};
+ghost use Rattle.pw_store.specs.inner.Connections.{HasBegun, HoldsStore};
 
 use crate::points::{put_point, take_point};
 use crate::starts::{put_start, take_start};
@@ -56,12 +56,16 @@ pub(crate) enum Change {
 
 /// Makes the change, by one statement, and tells how many rows that has changed.
 pub(crate) fn make<S: Alter>(conn: &mut Connection<S>, change: Change) -> Result<usize, Error>
-    requires inside { HasCleanDisk (state S.Store conn.old) → IsTrue (state S.Store conn.old).in_transaction }
-    requires store { HasCleanDisk (state S.Store conn.old) → IsStore (state S.Store conn.old).now }
-    requires free { HasCleanDisk (state S.Store conn.old) → IsFree change (state S.Store conn.old).now.trees }
+    requires inside { HasBegun (state S.Store conn.old) }
+    requires store { HoldsStore (state S.Store conn.old) }
+    requires free { HasCleanDisk (state S.Store conn.old)
+        → IsFree change (state S.Store conn.old).now.trees }
     requires fits { Fits change }
-    ensures done { HasCleanDisk (state S.Store conn.new) → IfOk result (λ rows. Makes (changed change rows) (state S.Store conn.old) (state S.Store conn.new)) }
-    ensures taken { HasCleanDisk (state S.Store conn.new) → IfOk result (λ rows. IsTaken change rows (state S.Store conn.new).now.trees) }
+    ensures done { HasCleanDisk (state S.Store conn.new)
+        → IfOk result (λ rows. Makes (changed change rows) (state S.Store conn.old)
+        (state S.Store conn.new)) }
+    ensures taken { HasCleanDisk (state S.Store conn.new)
+        → IfOk result (λ rows. IsTaken change rows (state S.Store conn.new).now.trees) }
     ensures writes { Writes result (state S.Store conn.old) (state S.Store conn.new) }
 {
     match change {

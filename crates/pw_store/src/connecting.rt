@@ -8,13 +8,11 @@ ghost use Rattle.pw_tariff.specs.Text.{IsOfficeOf};
 ghost use Rattle.pw_model.specs.Shelf.{IsTrueContent};
 ghost use Rattle.pw_model.specs.Office.{AllOfOffice, most_records};
 ghost use Rattle.pw_shelf.specs.State.{committed};
-ghost use Rattle.pw_shelf.specs.Left.{LeavesOnly};
-ghost use Rattle.pw_schema.specs.Tables.{IsOurs};
 ghost use Rattle.pw_store.specs.Content.{content_of, records_of};
-ghost use Rattle.pw_store.specs.Kept.{held_of, left_of, state_of};
+ghost use Rattle.pw_store.specs.Kept.{state_of};
 ghost use Rattle.pw_store.specs.Left.{IsOfText, MayBeMade};
-ghost use Rattle.pw_store.specs.Opening.{IsFound, KeepsText, Opens, Refuses};
-ghost use Rattle.pw_schema.specs.Judging.{KeepsOffice};
+ghost use Rattle.pw_store.specs.OpenStore.{HasCountedNothing, Holds, HoldsText, IsCleanAndOpen, IsTextOf, LeavesItAlone, WasOpened};
+ghost use Rattle.pw_store.specs.Opening.{IsFound, Opens, Refuses};
 ghost use Rattle.pw_store.specs.inner.Opened.{IsStanding};
 
 use crate::fault::OpenFault;
@@ -39,20 +37,33 @@ impl<S: Alter> SqlShelf<S> {
         office_text: &[u8],
     ) -> Result<SqlShelf<S>, (OpenFault, Connection<S>)>
         requires { (office : OfficeFile) × IsOfficeOf office_text.now office }
-        ensures content { IfOk result (λ s. HasCleanDisk (state S.Store s.conn) → (office : OfficeFile) × IsOfficeOf office_text.now office × IsFound (office_of office) (state S.Store connection).committed (held_of (state S.Store s.conn) (state S.Store s.base.value))) }
-        ensures of_office { IfOk result (λ s. HasCleanDisk (state S.Store s.conn) → (office : OfficeFile) × IsOfficeOf office_text.now office × AllOfOffice (office_of office) (held_of (state S.Store s.conn) (state S.Store s.base.value)).records) }
-        ensures truth { IfOk result (λ s. HasCleanDisk (state S.Store s.conn) → (office : OfficeFile) × IsOfficeOf office_text.now office × IsTrueContent (office_of office) (held_of (state S.Store s.conn) (state S.Store s.base.value))) }
-        ensures few { IfOk result (λ s. HasCleanDisk (state S.Store s.conn) → length (held_of (state S.Store s.conn) (state S.Store s.base.value)).records ≤ most_records) }
-        ensures kept_text { IfOk result (λ s. HasCleanDisk (state S.Store s.conn) → IsOurs (state S.Store s.conn).now.schema × KeepsText (KeepsOffice office_text.now) (state S.Store s.conn).now.trees) }
-        ensures opened { IfOk result (λ s. HasCleanDisk (state S.Store s.conn) → (office : OfficeFile) × IsOfficeOf office_text.now office × IsOfText (office_of office) office_text.now (state S.Store s.opened.value).now.trees) }
-        ensures taken { IfOk result (λ s. HasCleanDisk (state S.Store s.conn) → (office : OfficeFile) × IsOfficeOf office_text.now office × Opens (office_of office) office_text.now (state S.Store connection).committed) }
-        ensures was_open { IfOk result (λ s. HasCleanDisk (state S.Store s.conn) → HasCleanDisk (state S.Store connection) × IsTrue (state S.Store connection).is_open) }
+        ensures content { IfOk result (Holds S.Store
+            (λ held. IsTextOf office_text.now
+            (λ office. IsFound office (state S.Store connection).committed held))) }
+        ensures of_office { IfOk result (Holds S.Store
+            (λ held. IsTextOf office_text.now (λ office. AllOfOffice office held.records))) }
+        ensures truth { IfOk result (Holds S.Store
+            (λ held. IsTextOf office_text.now (λ office. IsTrueContent office held))) }
+        ensures few { IfOk result (Holds S.Store (λ held. length held.records ≤ most_records)) }
+        ensures kept_text { IfOk result (HoldsText S.Store office_text.now) }
+        ensures opened { IfOk result (WasOpened S.Store
+            (λ rows. IsTextOf office_text.now (λ office. IsOfText office office_text.now rows))) }
+        ensures taken { IfOk result (λ s. HasCleanDisk (state S.Store s.conn)
+            → IsTextOf office_text.now
+            (λ office. Opens office office_text.now (state S.Store connection).committed)) }
+        ensures was_open { IfOk result (λ s. HasCleanDisk (state S.Store s.conn)
+            → IsCleanAndOpen (state S.Store connection)) }
         ensures idle { IfOk result (λ s. s.begun ≡ false) }
-        ensures counts { IfOk result (λ s. (s.failures.count ≡ 0) × (s.failed_abandons.count ≡ 0) × (s.tally.count ≡ 0)) }
-        ensures left { IfOk result (λ s. HasCleanDisk (state S.Store s.conn) → LeavesOnly (held_of (state S.Store s.conn) (state S.Store s.base.value)) (left_of (state S.Store s.conn))) }
-        ensures cause { IfErr result (λ e. HasCleanDisk (state S.Store e.1) → (office : OfficeFile) × IsOfficeOf office_text.now office × Refuses (office_of office) office_text.now (state S.Store connection).committed e.0) }
-        ensures refused { IfErr result (λ e. HasCleanDisk (state S.Store e.1) → KeepsCommit (state S.Store connection) (state S.Store e.1) ⊎ (e.1 ≡ connection)) }
-        ensures crash { IfErr result (λ e. (office : OfficeFile) × IsOfficeOf office_text.now office × Survives (state S.Store connection) (state S.Store e.1) (MayBeMade (office_of office) office_text.now (state S.Store connection))) }
+        ensures counts { IfOk result (HasCountedNothing S.Store) }
+        ensures left { IfOk result (LeavesItAlone S.Store) }
+        ensures cause { IfErr result (λ e. HasCleanDisk (state S.Store e.1)
+            → IsTextOf office_text.now
+            (λ office. Refuses office office_text.now (state S.Store connection).committed e.0)) }
+        ensures refused { IfErr result (λ e. HasCleanDisk (state S.Store e.1)
+            → KeepsCommit (state S.Store connection) (state S.Store e.1) ⊎ (e.1 ≡ connection)) }
+        ensures crash { IfErr result (λ e. IsTextOf office_text.now
+            (λ office. Survives (state S.Store connection) (state S.Store e.1)
+            (MayBeMade office office_text.now (state S.Store connection)))) }
     {
         SqlShelf::open_watched(alloc, connection, office_text, &mut Unwatched)
     }
@@ -65,20 +76,33 @@ impl<S: Alter> SqlShelf<S> {
         watch: &mut W,
     ) -> Result<SqlShelf<S>, (OpenFault, Connection<S>)>
         requires { (office : OfficeFile) × IsOfficeOf office_text.now office }
-        ensures content { IfOk result (λ s. HasCleanDisk (state S.Store s.conn) → (office : OfficeFile) × IsOfficeOf office_text.now office × IsFound (office_of office) (state S.Store connection).committed (held_of (state S.Store s.conn) (state S.Store s.base.value))) }
-        ensures of_office { IfOk result (λ s. HasCleanDisk (state S.Store s.conn) → (office : OfficeFile) × IsOfficeOf office_text.now office × AllOfOffice (office_of office) (held_of (state S.Store s.conn) (state S.Store s.base.value)).records) }
-        ensures truth { IfOk result (λ s. HasCleanDisk (state S.Store s.conn) → (office : OfficeFile) × IsOfficeOf office_text.now office × IsTrueContent (office_of office) (held_of (state S.Store s.conn) (state S.Store s.base.value))) }
-        ensures few { IfOk result (λ s. HasCleanDisk (state S.Store s.conn) → length (held_of (state S.Store s.conn) (state S.Store s.base.value)).records ≤ most_records) }
-        ensures kept_text { IfOk result (λ s. HasCleanDisk (state S.Store s.conn) → IsOurs (state S.Store s.conn).now.schema × KeepsText (KeepsOffice office_text.now) (state S.Store s.conn).now.trees) }
-        ensures opened { IfOk result (λ s. HasCleanDisk (state S.Store s.conn) → (office : OfficeFile) × IsOfficeOf office_text.now office × IsOfText (office_of office) office_text.now (state S.Store s.opened.value).now.trees) }
-        ensures taken { IfOk result (λ s. HasCleanDisk (state S.Store s.conn) → (office : OfficeFile) × IsOfficeOf office_text.now office × Opens (office_of office) office_text.now (state S.Store connection).committed) }
-        ensures was_open { IfOk result (λ s. HasCleanDisk (state S.Store s.conn) → HasCleanDisk (state S.Store connection) × IsTrue (state S.Store connection).is_open) }
+        ensures content { IfOk result (Holds S.Store
+            (λ held. IsTextOf office_text.now
+            (λ office. IsFound office (state S.Store connection).committed held))) }
+        ensures of_office { IfOk result (Holds S.Store
+            (λ held. IsTextOf office_text.now (λ office. AllOfOffice office held.records))) }
+        ensures truth { IfOk result (Holds S.Store
+            (λ held. IsTextOf office_text.now (λ office. IsTrueContent office held))) }
+        ensures few { IfOk result (Holds S.Store (λ held. length held.records ≤ most_records)) }
+        ensures kept_text { IfOk result (HoldsText S.Store office_text.now) }
+        ensures opened { IfOk result (WasOpened S.Store
+            (λ rows. IsTextOf office_text.now (λ office. IsOfText office office_text.now rows))) }
+        ensures taken { IfOk result (λ s. HasCleanDisk (state S.Store s.conn)
+            → IsTextOf office_text.now
+            (λ office. Opens office office_text.now (state S.Store connection).committed)) }
+        ensures was_open { IfOk result (λ s. HasCleanDisk (state S.Store s.conn)
+            → IsCleanAndOpen (state S.Store connection)) }
         ensures idle { IfOk result (λ s. s.begun ≡ false) }
-        ensures counts { IfOk result (λ s. (s.failures.count ≡ 0) × (s.failed_abandons.count ≡ 0) × (s.tally.count ≡ 0)) }
-        ensures left { IfOk result (λ s. HasCleanDisk (state S.Store s.conn) → LeavesOnly (held_of (state S.Store s.conn) (state S.Store s.base.value)) (left_of (state S.Store s.conn))) }
-        ensures cause { IfErr result (λ e. HasCleanDisk (state S.Store e.1) → (office : OfficeFile) × IsOfficeOf office_text.now office × Refuses (office_of office) office_text.now (state S.Store connection).committed e.0) }
-        ensures refused { IfErr result (λ e. HasCleanDisk (state S.Store e.1) → KeepsCommit (state S.Store connection) (state S.Store e.1) ⊎ (e.1 ≡ connection)) }
-        ensures crash { IfErr result (λ e. (office : OfficeFile) × IsOfficeOf office_text.now office × Survives (state S.Store connection) (state S.Store e.1) (MayBeMade (office_of office) office_text.now (state S.Store connection))) }
+        ensures counts { IfOk result (HasCountedNothing S.Store) }
+        ensures left { IfOk result (LeavesItAlone S.Store) }
+        ensures cause { IfErr result (λ e. HasCleanDisk (state S.Store e.1)
+            → IsTextOf office_text.now
+            (λ office. Refuses office office_text.now (state S.Store connection).committed e.0)) }
+        ensures refused { IfErr result (λ e. HasCleanDisk (state S.Store e.1)
+            → KeepsCommit (state S.Store connection) (state S.Store e.1) ⊎ (e.1 ≡ connection)) }
+        ensures crash { IfErr result (λ e. IsTextOf office_text.now
+            (λ office. Survives (state S.Store connection) (state S.Store e.1)
+            (MayBeMade office office_text.now (state S.Store connection)))) }
     {
         match Office::read(alloc, office_text) {
             Ok(office) => SqlShelf::open_for(alloc, connection, &office, office_text, watch),
@@ -94,20 +118,29 @@ impl<S: Alter> SqlShelf<S> {
         office_text: &[u8],
         watch: &mut W,
     ) -> Result<SqlShelf<S>, (OpenFault, Connection<S>)>
-        ensures content { IfOk result (λ s. HasCleanDisk (state S.Store s.conn) → IsFound (office_of office.now) (state S.Store connection).committed (held_of (state S.Store s.conn) (state S.Store s.base.value))) }
-        ensures of_office { IfOk result (λ s. HasCleanDisk (state S.Store s.conn) → AllOfOffice (office_of office.now) (held_of (state S.Store s.conn) (state S.Store s.base.value)).records) }
-        ensures truth { IfOk result (λ s. HasCleanDisk (state S.Store s.conn) → IsTrueContent (office_of office.now) (held_of (state S.Store s.conn) (state S.Store s.base.value))) }
-        ensures few { IfOk result (λ s. HasCleanDisk (state S.Store s.conn) → length (held_of (state S.Store s.conn) (state S.Store s.base.value)).records ≤ most_records) }
-        ensures kept_text { IfOk result (λ s. HasCleanDisk (state S.Store s.conn) → IsOurs (state S.Store s.conn).now.schema × KeepsText (KeepsOffice office_text.now) (state S.Store s.conn).now.trees) }
-        ensures opened { IfOk result (λ s. HasCleanDisk (state S.Store s.conn) → IsOfText (office_of office.now) office_text.now (state S.Store s.opened.value).now.trees) }
-        ensures taken { IfOk result (λ s. HasCleanDisk (state S.Store s.conn) → Opens (office_of office.now) office_text.now (state S.Store connection).committed) }
-        ensures was_open { IfOk result (λ s. HasCleanDisk (state S.Store s.conn) → HasCleanDisk (state S.Store connection) × IsTrue (state S.Store connection).is_open) }
+        ensures content { IfOk result (Holds S.Store
+            (IsFound (office_of office.now) (state S.Store connection).committed)) }
+        ensures of_office { IfOk result (Holds S.Store
+            (λ held. AllOfOffice (office_of office.now) held.records)) }
+        ensures truth { IfOk result (Holds S.Store (IsTrueContent (office_of office.now))) }
+        ensures few { IfOk result (Holds S.Store (λ held. length held.records ≤ most_records)) }
+        ensures kept_text { IfOk result (HoldsText S.Store office_text.now) }
+        ensures opened { IfOk result (WasOpened S.Store
+            (IsOfText (office_of office.now) office_text.now)) }
+        ensures taken { IfOk result (λ s. HasCleanDisk (state S.Store s.conn)
+            → Opens (office_of office.now) office_text.now (state S.Store connection).committed) }
+        ensures was_open { IfOk result (λ s. HasCleanDisk (state S.Store s.conn)
+            → IsCleanAndOpen (state S.Store connection)) }
         ensures idle { IfOk result (λ s. s.begun ≡ false) }
-        ensures counts { IfOk result (λ s. (s.failures.count ≡ 0) × (s.failed_abandons.count ≡ 0) × (s.tally.count ≡ 0)) }
-        ensures left { IfOk result (λ s. HasCleanDisk (state S.Store s.conn) → LeavesOnly (held_of (state S.Store s.conn) (state S.Store s.base.value)) (left_of (state S.Store s.conn))) }
-        ensures cause { IfErr result (λ e. HasCleanDisk (state S.Store e.1) → Refuses (office_of office.now) office_text.now (state S.Store connection).committed e.0) }
-        ensures refused { IfErr result (λ e. HasCleanDisk (state S.Store e.1) → KeepsCommit (state S.Store connection) (state S.Store e.1)) }
-        ensures crash { IfErr result (λ e. Survives (state S.Store connection) (state S.Store e.1) (MayBeMade (office_of office.now) office_text.now (state S.Store connection))) }
+        ensures counts { IfOk result (HasCountedNothing S.Store) }
+        ensures left { IfOk result (LeavesItAlone S.Store) }
+        ensures cause { IfErr result (λ e. HasCleanDisk (state S.Store e.1)
+            → Refuses (office_of office.now) office_text.now (state S.Store connection).committed
+            e.0) }
+        ensures refused { IfErr result (λ e. HasCleanDisk (state S.Store e.1)
+            → KeepsCommit (state S.Store connection) (state S.Store e.1)) }
+        ensures crash { IfErr result (λ e. Survives (state S.Store connection) (state S.Store e.1)
+            (MayBeMade (office_of office.now) office_text.now (state S.Store connection))) }
     {
         match prepare(alloc, &mut connection, office, office_text, watch) {
             Ok(held) => Ok(SqlShelf::over(connection, held)),
@@ -117,13 +150,16 @@ impl<S: Alter> SqlShelf<S> {
 
     /// The store over a connection that is ready to be one, with so many records.
     pub(crate) fn over(connection: Connection<S>, held: u32) -> SqlShelf<S>
-        requires standing { HasCleanDisk (state S.Store connection) → IsStanding (state S.Store connection) }
-        requires counted { HasCleanDisk (state S.Store connection) → length (records_of (state S.Store connection).now.trees) ≡ held }
+        requires standing { HasCleanDisk (state S.Store connection)
+            → IsStanding (state S.Store connection) }
+        requires counted { HasCleanDisk (state S.Store connection)
+            → length (records_of (state S.Store connection).now.trees) ≡ held }
         ensures conn { result.conn ≡ connection }
         ensures base { result.base.value ≡ connection }
         ensures opened { result.opened.value ≡ connection }
         ensures idle { result.begun ≡ false }
-        ensures counts { (result.failures.count ≡ 0) × (result.failed_abandons.count ≡ 0) × (result.tally.count ≡ 0) }
+        ensures counts { (result.failures.count ≡ 0) × (result.failed_abandons.count ≡ 0)
+            × (result.tally.count ≡ 0) }
     {
         // it says that the file lists these tables
         let _ = connection.schema();
@@ -146,7 +182,11 @@ impl<S: Alter> SqlShelf<S> {
     /// The connection, with what was committed: what an upload that is still begun has written isn't committed.
     pub fn close(self) -> Connection<S>
         ensures same { result ≡ self.conn }
-        ensures committed { HasCleanDisk (state S.Store result) → IsTrue (state S.Store result).is_open → content_of (state S.Store result).committed.trees ≡ committed (state_of (state S.Store self.conn) (state S.Store self.base.value) self.begun self.failures.count self.failed_abandons.count self.tally.count) }
+        ensures committed { HasCleanDisk (state S.Store result)
+            → IsTrue (state S.Store result).is_open
+            → content_of (state S.Store result).committed.trees
+            ≡ committed (state_of (state S.Store self.conn) (state S.Store self.base.value)
+            self.begun self.failures.count self.failed_abandons.count self.tally.count) }
     {
         self.into_connection()
     }

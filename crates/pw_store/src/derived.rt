@@ -22,7 +22,8 @@ pub(crate) fn parts_of(
     ensures few { OnOk result (length records.items ≤ most_records) }
     ensures parts { IfOk result (λ parts. IsPartsOf (office_of office.now) records.items parts) }
     ensures many { result ≡ Err OpenFault.Unclean → most_records < length records.items }
-    ensures others { OnErr result ((result ≡ Err OpenFault.Unclean) ⊎ (result ≡ Err OpenFault.Memory)) }
+    ensures others { OnErr result ((result ≡ Err OpenFault.Unclean)
+        ⊎ (result ≡ Err OpenFault.Memory)) }
 {
     if records.len() > MOST_RECORDS as usize {
         return Err(OpenFault::Unclean);

@@ -9,6 +9,7 @@ ghost use Rattle.pw_schema.specs.Calls.{Writes};
 ghost use Rattle.pw_store.specs.Content.{content_of, records_of};
 ghost use Rattle.pw_store.specs.Kept.{IsStore};
 ghost use Rattle.pw_store.specs.inner.Changing.{StillKeeps};
+ghost use Rattle.pw_store.specs.inner.Connections.{HasBegun, HoldsStore};
 
 use crate::records::{add_named, form_of};
 use pw_model::Entry;
@@ -16,14 +17,25 @@ use sqlite::{Alter, Connection, Error};
 
 /// Adds a record that isn't held, if its content is of its key's kind; else no statement is run.
 pub(crate) fn add_entry<S: Alter>(conn: &mut Connection<S>, entry: &Entry) -> Result<bool, Error>
-    requires inside { HasCleanDisk (state S.Store conn.old) → IsTrue (state S.Store conn.old).in_transaction }
-    requires store { HasCleanDisk (state S.Store conn.old) → IsStore (state S.Store conn.old).now }
-    requires fresh { HasCleanDisk (state S.Store conn.old) → Member entry.now (records_of (state S.Store conn.old).now.trees) → ⊥ }
-    ensures store { HasCleanDisk (state S.Store conn.new) → OnOk result (IsStore (state S.Store conn.new).now) }
-    ensures keeps { HasCleanDisk (state S.Store conn.new) → OnOk result (StillKeeps (state S.Store conn.old).now.trees (state S.Store conn.new).now.trees) }
-    ensures added { HasCleanDisk (state S.Store conn.new) → IfOk result (λ added. IsTrue added → IsWithRecord (content_of (state S.Store conn.old).now.trees) entry.now (content_of (state S.Store conn.new).now.trees)) }
-    ensures inside { HasCleanDisk (state S.Store conn.new) → IfOk result (λ added. IsTrue added → Shows (state S.Store conn.old) (state S.Store conn.new) (state S.Store conn.new).now (state S.Store conn.old).committed true) }
-    ensures foreign { HasCleanDisk (state S.Store conn.new) → IfOk result (λ added. (added ≡ false) → conn.new ≡ conn.old) }
+    requires inside { HasBegun (state S.Store conn.old) }
+    requires store { HoldsStore (state S.Store conn.old) }
+    requires fresh { HasCleanDisk (state S.Store conn.old)
+        → Member entry.now (records_of (state S.Store conn.old).now.trees) → ⊥ }
+    ensures store { HasCleanDisk (state S.Store conn.new)
+        → OnOk result (IsStore (state S.Store conn.new).now) }
+    ensures keeps { HasCleanDisk (state S.Store conn.new)
+        → OnOk result (StillKeeps (state S.Store conn.old).now.trees
+        (state S.Store conn.new).now.trees) }
+    ensures added { HasCleanDisk (state S.Store conn.new)
+        → IfOk result (λ added. IsTrue added
+        → IsWithRecord (content_of (state S.Store conn.old).now.trees) entry.now
+        (content_of (state S.Store conn.new).now.trees)) }
+    ensures inside { HasCleanDisk (state S.Store conn.new)
+        → IfOk result (λ added. IsTrue added
+        → Shows (state S.Store conn.old) (state S.Store conn.new) (state S.Store conn.new).now
+        (state S.Store conn.old).committed true) }
+    ensures foreign { HasCleanDisk (state S.Store conn.new)
+        → IfOk result (λ added. (added ≡ false) → conn.new ≡ conn.old) }
     ensures writes { Writes result (state S.Store conn.old) (state S.Store conn.new) }
 {
     let Some((form, named)) = form_of(entry) else {

@@ -159,7 +159,8 @@ impl From<Error> for OpenFault {
 /// What rows that a judge refused are to an opening.
 pub(crate) fn fault_of_rows(fault: JudgeFault) -> OpenFault
     ensures foreign { result ≡ OpenFault.Unclean → fault ≡ JudgeFault.Foreign }
-    ensures others { (result ≡ OpenFault.Unclean) ⊎ ((result ≡ OpenFault.Memory) ⊎ (result ≡ OpenFault.Store)) }
+    ensures others { (result ≡ OpenFault.Unclean)
+        ⊎ ((result ≡ OpenFault.Memory) ⊎ (result ≡ OpenFault.Store)) }
 {
     match fault {
         JudgeFault::Memory => OpenFault::Memory,

@@ -3,14 +3,13 @@
 ghost use Rattle.std.specs.Prelude.{IfErr, IsTrue, OnOk};
 ghost use Rattle.std.specs.Option.{option_copied};
 ghost use Rattle.sqlite.specs.Held.{state};
-ghost use Rattle.sqlite.specs.State.{HasCleanDisk, KeepsCommit, Survives};
+ghost use Rattle.sqlite.specs.State.{HasCleanDisk, Survives};
 ghost use Rattle.pw_tariff.specs.Office.{office_of};
-ghost use Rattle.pw_schema.specs.Calls.{Looks};
-ghost use Rattle.pw_schema.specs.Fresh.{IsWithin};
-ghost use Rattle.pw_schema.specs.Raised.{HasSame, lasting_trees};
-ghost use Rattle.pw_schema.specs.Tables.{IsOurs, schema_of};
+ghost use Rattle.pw_schema.specs.Calls.{CommitStays, IsWithinVersion, LeavesVersion, Looks};
 ghost use Rattle.pw_schema.specs.declared.kind.StoreVersion.TheVariants.{Third};
+ghost use Rattle.pw_schema.specs.inner.Calls.{HasOurTables, KeepsLasting};
 ghost use Rattle.pw_store.specs.Left.{IsFilled};
+ghost use Rattle.pw_store.specs.inner.Connections.{HasJudged};
 ghost use Rattle.pw_store.specs.inner.Filling.{AreOfTopUps, IsOfEngine, IsOfTopUps, LeavesTopUps, TellsMore};
 ghost use Rattle.pw_store.specs.inner.Opened.{AreJudged};
 
@@ -24,11 +23,13 @@ use sqlite::{Alter, Connection, Error};
 
 // Puts all totals of energy that are among these.
 fn put_all<S: Alter>(conn: &mut Connection<S>, totals: &[(TotalKey, u64)]) -> Result<(), Error>
-    requires within { HasCleanDisk (state S.Store conn.old) → IsWithin (schema_of Third) (state S.Store conn.old) }
-    ensures within { HasCleanDisk (state S.Store conn.new) → OnOk result (IsWithin (schema_of Third) (state S.Store conn.new)) }
-    ensures lasting { HasCleanDisk (state S.Store conn.new) → OnOk result (HasSame lasting_trees (state S.Store conn.old).now.trees (state S.Store conn.new).now.trees) }
-    ensures told { HasCleanDisk (state S.Store conn.new) → OnOk result (TellsMore totals.now (state S.Store conn.old).now.trees (state S.Store conn.new).now.trees) }
-    ensures kept { HasCleanDisk (state S.Store conn.new) → KeepsCommit (state S.Store conn.old) (state S.Store conn.new) }
+    requires within { IsWithinVersion Third (state S.Store conn.old) }
+    ensures within { LeavesVersion Third result (state S.Store conn.new) }
+    ensures lasting { KeepsLasting result (state S.Store conn.old) (state S.Store conn.new) }
+    ensures told { HasCleanDisk (state S.Store conn.new)
+        → OnOk result (TellsMore totals.now (state S.Store conn.old).now.trees
+        (state S.Store conn.new).now.trees) }
+    ensures kept { CommitStays (state S.Store conn.old) (state S.Store conn.new) }
     ensures crash { Survives (state S.Store conn.old) (state S.Store conn.new) (λ _. ⊥) }
 {
     for (key, amount) in totals {
@@ -81,9 +82,10 @@ fn see_filled<S: Alter>(
     office: &Office,
     parts: &Parts,
 ) -> Result<(), OpenFault>
-    requires ours { HasCleanDisk (state S.Store conn.old) → IsOurs (state S.Store conn.old).now.schema }
-    requires judged { HasCleanDisk (state S.Store conn.old) → AreJudged (office_of office.now) (state S.Store conn.old).now.trees parts.now }
-    ensures filled { HasCleanDisk (state S.Store conn.new) → OnOk result (IsFilled (office_of office.now) (state S.Store conn.old).now.trees) }
+    requires ours { HasOurTables (state S.Store conn.old) }
+    requires judged { HasJudged (office_of office.now) (state S.Store conn.old) parts.now }
+    ensures filled { HasCleanDisk (state S.Store conn.new)
+        → OnOk result (IsFilled (office_of office.now) (state S.Store conn.old).now.trees) }
     ensures engine { IfErr result IsOfEngine }
     ensures looks { Looks result (state S.Store conn.old) (state S.Store conn.new) }
 {
@@ -102,14 +104,17 @@ pub(crate) fn fill<S: Alter>(
     office: &Office,
     parts: &Parts,
 ) -> Result<(), OpenFault>
-    requires within { HasCleanDisk (state S.Store conn.old) → IsWithin (schema_of Third) (state S.Store conn.old) }
-    requires judged { HasCleanDisk (state S.Store conn.old) → AreJudged (office_of office.now) (state S.Store conn.old).now.trees parts.now }
-    ensures within { HasCleanDisk (state S.Store conn.new) → OnOk result (IsWithin (schema_of Third) (state S.Store conn.new)) }
-    ensures lasting { HasCleanDisk (state S.Store conn.new) → OnOk result (HasSame lasting_trees (state S.Store conn.old).now.trees (state S.Store conn.new).now.trees) }
-    ensures judged { HasCleanDisk (state S.Store conn.new) → OnOk result (AreJudged (office_of office.now) (state S.Store conn.new).now.trees parts.now) }
-    ensures filled { HasCleanDisk (state S.Store conn.new) → OnOk result (IsFilled (office_of office.now) (state S.Store conn.new).now.trees) }
+    requires within { IsWithinVersion Third (state S.Store conn.old) }
+    requires judged { HasJudged (office_of office.now) (state S.Store conn.old) parts.now }
+    ensures within { LeavesVersion Third result (state S.Store conn.new) }
+    ensures lasting { KeepsLasting result (state S.Store conn.old) (state S.Store conn.new) }
+    ensures judged { HasCleanDisk (state S.Store conn.new)
+        → OnOk result (AreJudged (office_of office.now) (state S.Store conn.new).now.trees
+        parts.now) }
+    ensures filled { HasCleanDisk (state S.Store conn.new)
+        → OnOk result (IsFilled (office_of office.now) (state S.Store conn.new).now.trees) }
     ensures engine { IfErr result IsOfEngine }
-    ensures kept { HasCleanDisk (state S.Store conn.new) → KeepsCommit (state S.Store conn.old) (state S.Store conn.new) }
+    ensures kept { CommitStays (state S.Store conn.old) (state S.Store conn.new) }
     ensures crash { Survives (state S.Store conn.old) (state S.Store conn.new) (λ _. ⊥) }
 {
     put_all(conn, parts.totals.as_slice())?;

@@ -12,11 +12,18 @@ use sqlite::Alter;
 impl<S: Alter> SqlShelf<S> {
     // No statement is run: the number is kept, also of a connection that is shut.
     pub(crate) fn number_held(&mut self) -> u32
-        ensures number { HasCleanDisk (state S.Store self.new.conn) → result ≡ length (held_of (state S.Store self.old.conn) (state S.Store self.old.base.value)).records }
-        ensures same { held_of (state S.Store self.new.conn) (state S.Store self.new.base.value) ≡ held_of (state S.Store self.old.conn) (state S.Store self.old.base.value) }
-        ensures begun { begun_with self.new.begun (state S.Store self.new.base.value) ≡ begun_with self.old.begun (state S.Store self.old.base.value) }
-        ensures left { HasCleanDisk (state S.Store self.new.conn) → LeavesNoMore (left_of (state S.Store self.old.conn)) (left_of (state S.Store self.new.conn)) }
-        ensures cleanness { HasCleanDisk (state S.Store self.new.conn) → HasCleanDisk (state S.Store self.old.conn) }
+        ensures number { HasCleanDisk (state S.Store self.new.conn)
+            → result ≡ length (held_of (state S.Store self.old.conn)
+            (state S.Store self.old.base.value)).records }
+        ensures same { held_of (state S.Store self.new.conn) (state S.Store self.new.base.value)
+            ≡ held_of (state S.Store self.old.conn) (state S.Store self.old.base.value) }
+        ensures begun { begun_with self.new.begun (state S.Store self.new.base.value)
+            ≡ begun_with self.old.begun (state S.Store self.old.base.value) }
+        ensures left { HasCleanDisk (state S.Store self.new.conn)
+            → LeavesNoMore (left_of (state S.Store self.old.conn))
+            (left_of (state S.Store self.new.conn)) }
+        ensures cleanness { HasCleanDisk (state S.Store self.new.conn)
+            → HasCleanDisk (state S.Store self.old.conn) }
         ensures store { self.new.opened.value ≡ self.old.opened.value }
         ensures failures { self.new.failures.count ≡ self.old.failures.count }
         ensures abandons { self.new.failed_abandons.count ≡ self.old.failed_abandons.count }

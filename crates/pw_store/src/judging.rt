@@ -3,15 +3,16 @@
 ghost use Rattle.std.specs.Prelude.{◌≡◌, IfErr, IfOk, IsTrue, OnOk, length};
 ghost use Rattle.std.specs.List.Sorted.{IsPermutation};
 ghost use Rattle.sqlite.specs.Held.{state};
-ghost use Rattle.sqlite.specs.State.{HasCleanDisk, IsUnchanged, KeepsCommit, Survives};
+ghost use Rattle.sqlite.specs.State.{HasCleanDisk, IsUnchanged, Survives};
 ghost use Rattle.pw_tariff.specs.Office.{office_of};
 ghost use Rattle.pw_model.specs.Office.{AllOfOffice};
-ghost use Rattle.pw_schema.specs.Calls.{Looks};
+ghost use Rattle.pw_schema.specs.Calls.{CommitStays, Looks};
 ghost use Rattle.pw_store.specs.Content.{records_of, entries_of};
 ghost use Rattle.pw_schema.specs.Judging.{HasVersion, KeepsVersion};
-ghost use Rattle.pw_schema.specs.Tables.{BeginsAsOurs, IsOurs};
+ghost use Rattle.pw_schema.specs.inner.Calls.{BeginsWithOurTables, HasOurTables};
 ghost use Rattle.pw_store.specs.Opening.{HoldsAllRecords, HoldsTables, HoldsRecords, KeepsText, offices};
-ghost use Rattle.pw_store.specs.inner.Opened.{AreJudged, IsSound, RecordsRefuse, RefusesUnless, RowRefuses, RowsRefuse, VersionRefuses};
+ghost use Rattle.pw_store.specs.inner.Connections.{CountsRecords, HasJudged, LeavesSound, TellsRefusedRows};
+ghost use Rattle.pw_store.specs.inner.Opened.{AreJudged, RecordsRefuse, RefusesUnless, RowRefuses, VersionRefuses};
 
 use crate::derived::parts_of;
 use crate::fault::OpenFault;
@@ -40,14 +41,14 @@ fn fault_of_office(fault: OfficeFault) -> OpenFault
     }
 }
 
-// The kinds of records in their order, each with the part of an opening that checks it.
-const KINDS: [(RecordKind, Part); 6] = [
-    (RecordKind::Readings, Part::Readings),
-    (RecordKind::Assignments, Part::Assignments),
-    (RecordKind::TopUps, Part::TopUps),
-    (RecordKind::WithdrawnReadings, Part::WithdrawnReadings),
-    (RecordKind::WithdrawnAssignments, Part::WithdrawnAssignments),
-    (RecordKind::WithdrawnTopUps, Part::WithdrawnTopUps),
+// The kinds of records in their order.
+const KINDS: [RecordKind; 6] = [
+    RecordKind::Readings,
+    RecordKind::Assignments,
+    RecordKind::TopUps,
+    RecordKind::WithdrawnReadings,
+    RecordKind::WithdrawnAssignments,
+    RecordKind::WithdrawnTopUps,
 ];
 
 // The records of the six tables, judged.
@@ -57,18 +58,26 @@ fn check_records<S: Alter, W: Watch>(
     office: &Office,
     watch: &mut W,
 ) -> Result<Vec<Entry>, OpenFault>
-    requires is_open { HasCleanDisk (state S.Store conn.old) → IsTrue (state S.Store conn.old).is_open }
-    requires ours { HasCleanDisk (state S.Store conn.old) → IsOurs (state S.Store conn.old).now.schema }
-    ensures sound { HasCleanDisk (state S.Store conn.new) → OnOk result (HoldsAllRecords StoreVersion.Third (office_of office.now) (state S.Store conn.old).now.trees) }
-    ensures listed { HasCleanDisk (state S.Store conn.new) → IfOk result (λ found. IsPermutation (records_of (state S.Store conn.old).now.trees) found.items) }
+    requires is_open { HasCleanDisk (state S.Store conn.old)
+        → IsTrue (state S.Store conn.old).is_open }
+    requires ours { HasOurTables (state S.Store conn.old) }
+    ensures sound { HasCleanDisk (state S.Store conn.new)
+        → OnOk result (HoldsAllRecords StoreVersion.Third (office_of office.now)
+        (state S.Store conn.old).now.trees) }
+    ensures listed { HasCleanDisk (state S.Store conn.new)
+        → IfOk result (λ found. IsPermutation (records_of (state S.Store conn.old).now.trees)
+        found.items) }
     ensures of_office { IfOk result (λ found. AllOfOffice (office_of office.now) found.items) }
-    ensures cause { HasCleanDisk (state S.Store conn.new) → IfErr result (RefusesUnless (HoldsAllRecords StoreVersion.Third (office_of office.now) (state S.Store conn.old).now.trees)) }
+    ensures cause { HasCleanDisk (state S.Store conn.new)
+        → IfErr result (RefusesUnless
+        (HoldsAllRecords StoreVersion.Third (office_of office.now)
+        (state S.Store conn.old).now.trees)) }
     ensures looks { Looks result (state S.Store conn.old) (state S.Store conn.new) }
 {
     let mut all = Vec::new(alloc);
-    for (kind, part) in &KINDS {
+    for kind in &KINDS {
         let mut found = check_kind(alloc, conn, office, *kind)?;
-        watch.checked(*part, found.len());
+        watch.checked(Part::Records(*kind), found.len());
         if all.append(&mut found).is_err() {
             return Err(OpenFault::Memory);
         }
@@ -83,11 +92,17 @@ fn check_kind<S: Alter>(
     office: &Office,
     kind: RecordKind,
 ) -> Result<Vec<Entry>, OpenFault>
-    requires ours { HasCleanDisk (state S.Store conn.old) → IsOurs (state S.Store conn.old).now.schema }
-    ensures good { HasCleanDisk (state S.Store conn.new) → OnOk result (HoldsRecords (office_of office.now) kind (state S.Store conn.old).now.trees) }
-    ensures listed { HasCleanDisk (state S.Store conn.new) → IfOk result (λ found. IsPermutation (entries_of kind (state S.Store conn.old).now.trees) found.items) }
+    requires ours { HasOurTables (state S.Store conn.old) }
+    ensures good { HasCleanDisk (state S.Store conn.new)
+        → OnOk result (HoldsRecords (office_of office.now) kind
+        (state S.Store conn.old).now.trees) }
+    ensures listed { HasCleanDisk (state S.Store conn.new)
+        → IfOk result (λ found. IsPermutation (entries_of kind (state S.Store conn.old).now.trees)
+        found.items) }
     ensures of_office { IfOk result (λ found. AllOfOffice (office_of office.now) found.items) }
-    ensures cause { HasCleanDisk (state S.Store conn.new) → IfErr result (RefusesUnless (HoldsRecords (office_of office.now) kind (state S.Store conn.old).now.trees)) }
+    ensures cause { HasCleanDisk (state S.Store conn.new)
+        → IfErr result (RefusesUnless
+        (HoldsRecords (office_of office.now) kind (state S.Store conn.old).now.trees)) }
     ensures looks { Looks result (state S.Store conn.old) (state S.Store conn.new) }
 {
     let mut records = Records::new(alloc, office, kind);
@@ -97,10 +112,13 @@ fn check_kind<S: Alter>(
 
 // The row of `office`, whose version is judged, whatever stands behind the tables of version 1.
 fn read_office<S: Alter>(conn: &mut Connection<S>) -> Result<(Vec<Row>, StoreVersion), OpenFault>
-    requires begun { HasCleanDisk (state S.Store conn.old) → BeginsAsOurs (state S.Store conn.old).now.schema }
-    ensures rows { HasCleanDisk (state S.Store conn.new) → IfOk result (λ read. IsPermutation (offices (state S.Store conn.old).now.trees) read.0.items) }
+    requires begun { BeginsWithOurTables (state S.Store conn.old) }
+    ensures rows { HasCleanDisk (state S.Store conn.new)
+        → IfOk result (λ read. IsPermutation (offices (state S.Store conn.old).now.trees)
+        read.0.items) }
     ensures version { IfOk result (λ read. HasVersion read.1 read.0.items) }
-    ensures cause { HasCleanDisk (state S.Store conn.new) → IfErr result (VersionRefuses (state S.Store conn.old).now.trees) }
+    ensures cause { HasCleanDisk (state S.Store conn.new)
+        → IfErr result (VersionRefuses (state S.Store conn.old).now.trees) }
     ensures looks { Looks result (state S.Store conn.old) (state S.Store conn.new) }
 {
     let rows = office_rows(conn)?;
@@ -112,10 +130,14 @@ fn read_office<S: Alter>(conn: &mut Connection<S>) -> Result<(Vec<Row>, StoreVer
 
 // Whether there are the tables of a version alone, and no text of theirs speaks of a conflict.
 fn holds_tables<S: Alter>(conn: &mut Connection<S>, version: StoreVersion) -> Result<bool, Error>
-    ensures is { HasCleanDisk (state S.Store conn.new) → IfOk result (λ alone. IsTrue alone → HoldsTables version (state S.Store conn.old).now) }
-    ensures all { HasCleanDisk (state S.Store conn.new) → IfOk result (λ alone. HoldsTables version (state S.Store conn.old).now → IsTrue alone) }
-    ensures same { HasCleanDisk (state S.Store conn.new) → IfOk result (λ alone. IsTrue alone → IsUnchanged (state S.Store conn.old) (state S.Store conn.new)) }
-    ensures kept { HasCleanDisk (state S.Store conn.new) → KeepsCommit (state S.Store conn.old) (state S.Store conn.new) }
+    ensures is { HasCleanDisk (state S.Store conn.new)
+        → IfOk result (λ alone. IsTrue alone → HoldsTables version (state S.Store conn.old).now) }
+    ensures all { HasCleanDisk (state S.Store conn.new)
+        → IfOk result (λ alone. HoldsTables version (state S.Store conn.old).now → IsTrue alone) }
+    ensures same { HasCleanDisk (state S.Store conn.new)
+        → IfOk result (λ alone. IsTrue alone
+        → IsUnchanged (state S.Store conn.old) (state S.Store conn.new)) }
+    ensures kept { CommitStays (state S.Store conn.old) (state S.Store conn.new) }
     ensures crash { Survives (state S.Store conn.old) (state S.Store conn.new) (λ _. ⊥) }
 {
     if !is_of(conn.schema(), version) {
@@ -129,10 +151,14 @@ pub(crate) fn check_office<S: Alter>(
     conn: &mut Connection<S>,
     text: &[u8],
 ) -> Result<StoreVersion, OpenFault>
-    requires begun { HasCleanDisk (state S.Store conn.old) → BeginsAsOurs (state S.Store conn.old).now.schema }
-    ensures ours { HasCleanDisk (state S.Store conn.new) → IfOk result (λ version. HoldsTables version (state S.Store conn.new).now) }
-    ensures kept_text { HasCleanDisk (state S.Store conn.new) → IfOk result (λ version. KeepsText (KeepsVersion version text.now) (state S.Store conn.new).now.trees) }
-    ensures cause { HasCleanDisk (state S.Store conn.new) → IfErr result (RowRefuses text.now (state S.Store conn.old).now) }
+    requires begun { BeginsWithOurTables (state S.Store conn.old) }
+    ensures ours { HasCleanDisk (state S.Store conn.new)
+        → IfOk result (λ version. HoldsTables version (state S.Store conn.new).now) }
+    ensures kept_text { HasCleanDisk (state S.Store conn.new)
+        → IfOk result (λ version.
+        KeepsText (KeepsVersion version text.now) (state S.Store conn.new).now.trees) }
+    ensures cause { HasCleanDisk (state S.Store conn.new)
+        → IfErr result (RowRefuses text.now (state S.Store conn.old).now) }
     ensures looks { Looks result (state S.Store conn.old) (state S.Store conn.new) }
 {
     let (rows, version) = read_office(conn)?;
@@ -152,11 +178,16 @@ pub(crate) fn judge_records<S: Alter, W: Watch>(
     office: &Office,
     watch: &mut W,
 ) -> Result<(u32, Parts), OpenFault>
-    requires is_open { HasCleanDisk (state S.Store conn.old) → IsTrue (state S.Store conn.old).is_open }
-    requires ours { HasCleanDisk (state S.Store conn.old) → IsOurs (state S.Store conn.old).now.schema }
-    ensures counted { HasCleanDisk (state S.Store conn.new) → IfOk result (λ it. length (records_of (state S.Store conn.new).now.trees) ≡ it.0) }
-    ensures judged { HasCleanDisk (state S.Store conn.new) → IfOk result (λ it. AreJudged (office_of office.now) (state S.Store conn.new).now.trees it.1) }
-    ensures cause { HasCleanDisk (state S.Store conn.new) → IfErr result (RecordsRefuse (office_of office.now) (state S.Store conn.old).now.trees) }
+    requires is_open { HasCleanDisk (state S.Store conn.old)
+        → IsTrue (state S.Store conn.old).is_open }
+    requires ours { HasOurTables (state S.Store conn.old) }
+    ensures counted { HasCleanDisk (state S.Store conn.new)
+        → IfOk result (λ it. length (records_of (state S.Store conn.new).now.trees) ≡ it.0) }
+    ensures judged { HasCleanDisk (state S.Store conn.new)
+        → IfOk result (λ it. AreJudged (office_of office.now) (state S.Store conn.new).now.trees
+        it.1) }
+    ensures cause { HasCleanDisk (state S.Store conn.new)
+        → IfErr result (RecordsRefuse (office_of office.now) (state S.Store conn.old).now.trees) }
     ensures looks { Looks result (state S.Store conn.old) (state S.Store conn.new) }
 {
     let records = check_records(alloc, conn, office, watch)?;
@@ -172,10 +203,11 @@ pub(crate) fn check_sums<S: Alter, W: Watch>(
     parts: &Parts,
     watch: &mut W,
 ) -> Result<(), OpenFault>
-    requires ours { HasCleanDisk (state S.Store conn.old) → IsOurs (state S.Store conn.old).now.schema }
-    requires judged { HasCleanDisk (state S.Store conn.old) → AreJudged (office_of office.now) (state S.Store conn.old).now.trees parts.now }
-    ensures sound { HasCleanDisk (state S.Store conn.new) → OnOk result (IsSound (office_of office.now) (state S.Store conn.new).now) }
-    ensures cause { HasCleanDisk (state S.Store conn.new) → IfErr result (RowsRefuse StoreVersion.Third (office_of office.now) (state S.Store conn.old).now.trees) }
+    requires ours { HasOurTables (state S.Store conn.old) }
+    requires judged { HasJudged (office_of office.now) (state S.Store conn.old) parts.now }
+    ensures sound { LeavesSound (office_of office.now) result (state S.Store conn.new) }
+    ensures cause { TellsRefusedRows StoreVersion.Third (office_of office.now) result
+        (state S.Store conn.old) (state S.Store conn.new) }
     ensures looks { Looks result (state S.Store conn.old) (state S.Store conn.new) }
 {
     if read_sums(conn, office, parts, watch)? {
@@ -192,11 +224,13 @@ pub(crate) fn check_rows<S: Alter, W: Watch>(
     office: &Office,
     watch: &mut W,
 ) -> Result<u32, OpenFault>
-    requires is_open { HasCleanDisk (state S.Store conn.old) → IsTrue (state S.Store conn.old).is_open }
-    requires ours { HasCleanDisk (state S.Store conn.old) → IsOurs (state S.Store conn.old).now.schema }
-    ensures counted { HasCleanDisk (state S.Store conn.new) → IfOk result (λ held. length (records_of (state S.Store conn.new).now.trees) ≡ held) }
-    ensures sound { HasCleanDisk (state S.Store conn.new) → OnOk result (IsSound (office_of office.now) (state S.Store conn.new).now) }
-    ensures cause { HasCleanDisk (state S.Store conn.new) → IfErr result (RowsRefuse StoreVersion.Third (office_of office.now) (state S.Store conn.old).now.trees) }
+    requires is_open { HasCleanDisk (state S.Store conn.old)
+        → IsTrue (state S.Store conn.old).is_open }
+    requires ours { HasOurTables (state S.Store conn.old) }
+    ensures counted { CountsRecords result (state S.Store conn.new) }
+    ensures sound { LeavesSound (office_of office.now) result (state S.Store conn.new) }
+    ensures cause { TellsRefusedRows StoreVersion.Third (office_of office.now) result
+        (state S.Store conn.old) (state S.Store conn.new) }
     ensures looks { Looks result (state S.Store conn.old) (state S.Store conn.new) }
 {
     let (held, parts) = judge_records(alloc, conn, office, watch)?;

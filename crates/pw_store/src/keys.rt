@@ -10,8 +10,8 @@ ghost use Rattle.pw_model.specs.declared.records.Content.TheVariants as content;
 ghost use Rattle.pw_model.specs.declared.records.Contents.TheVariants.{Nothing, One};
 ghost use Rattle.pw_schema.specs.Rows.{contents_of, told_content};
 ghost use Rattle.pw_schema.specs.inner.Calls.{Asks};
-ghost use Rattle.pw_store.specs.Kept.{IsStore};
 ghost use Rattle.pw_store.specs.Content.{records_of};
+ghost use Rattle.pw_store.specs.inner.Connections.{HoldsStore};
 ghost use Rattle.pw_store.specs.inner.Given.{values_of};
 ghost use Rattle.pw_store.specs.inner.Keys.{at_row, at_text, key_of};
 ghost use Rattle.pw_store.specs.inner.Lists.{kind_at};
@@ -19,9 +19,9 @@ ghost use Rattle.pw_store.specs.inner.Lists.{kind_at};
 use crate::forms::Form;
 use crate::given::Given;
 use crate::records::has_named;
-use pw_model::{Content, Contents, Named, Reference};
+use pw_model::{Content, Contents, Named, Reference, register_place};
 use pw_obis::Register;
-use pw_schema::{RecordKind, contents_in, integer, register_place, words};
+use pw_schema::{RecordKind, contents_in, integer, words};
 use pw_tariff::MeterId;
 use pw_time::Instant;
 use sqlite::types::ValueRef;
@@ -101,8 +101,11 @@ impl RecordKey {
 
 // The rows that its text shows.
 fn rows_at<S: Alter>(conn: &mut Connection<S>, key: &RecordKey) -> Result<Vec<Row>, Error>
-    requires store { HasCleanDisk (state S.Store conn.old) → IsStore (state S.Store conn.old).now }
-    ensures told { HasCleanDisk (state S.Store conn.new) → IfOk result (λ rows. contents_of (map (told_content (kind_at (key_of key.now))) rows.items) ≡ contents_at (records_of (state S.Store conn.old).now.trees) (key_of key.now)) }
+    requires store { HoldsStore (state S.Store conn.old) }
+    ensures told { HasCleanDisk (state S.Store conn.new)
+        → IfOk result (λ rows. contents_of
+        (map (told_content (kind_at (key_of key.now))) rows.items)
+        ≡ contents_at (records_of (state S.Store conn.old).now.trees) (key_of key.now)) }
     ensures asks { Asks result (state S.Store conn.old) (state S.Store conn.new) }
 {
     let columns = key.columns();
@@ -114,8 +117,11 @@ pub(crate) fn contents_of_record<S: Alter>(
     conn: &mut Connection<S>,
     key: &RecordKey,
 ) -> Result<Option<Contents>, Error>
-    requires store { HasCleanDisk (state S.Store conn.old) → IsStore (state S.Store conn.old).now }
-    ensures told { HasCleanDisk (state S.Store conn.new) → IfOk result (λ found. IfSome found (λ contents. contents ≡ contents_at (records_of (state S.Store conn.old).now.trees) (key_of key.now))) }
+    requires store { HoldsStore (state S.Store conn.old) }
+    ensures told { HasCleanDisk (state S.Store conn.new)
+        → IfOk result (λ found. IfSome found
+        (λ contents. contents ≡ contents_at (records_of (state S.Store conn.old).now.trees)
+        (key_of key.now))) }
     ensures asks { Asks result (state S.Store conn.old) (state S.Store conn.new) }
 {
     let rows = rows_at(conn, key)?;
@@ -138,8 +144,11 @@ pub(crate) fn contents_of_withdrawal<S: Alter>(
     conn: &mut Connection<S>,
     named: &Named,
 ) -> Result<Option<Contents>, Error>
-    requires store { HasCleanDisk (state S.Store conn.old) → IsStore (state S.Store conn.old).now }
-    ensures told { HasCleanDisk (state S.Store conn.new) → IfOk result (λ found. IfSome found (λ contents. contents ≡ contents_at (records_of (state S.Store conn.old).now.trees) (key.Withdrawal named.now))) }
+    requires store { HoldsStore (state S.Store conn.old) }
+    ensures told { HasCleanDisk (state S.Store conn.new)
+        → IfOk result (λ found. IfSome found
+        (λ contents. contents ≡ contents_at (records_of (state S.Store conn.old).now.trees)
+        (key.Withdrawal named.now))) }
     ensures asks { Asks result (state S.Store conn.old) (state S.Store conn.new) }
 {
     let held = has_named(conn, Form::Withdrawal, named)?;

@@ -23,16 +23,21 @@ use std::alloc::Global;
 /// A store over SQL is clean exactly where the disk has returned what was written to it; while the connection is open its
 /// tables are what is held; and a crash leaves exactly the contents of the databases that sqlite may leave.
 pub fn store_is_its_tables<S: Alter>(shelf: SqlShelf<S>) -> SqlShelf<S>
-    ensures clean { ⟦<SqlShelf<S> as Shelf>⟧.clean result ↔ HasCleanDisk (state S.Store result.conn) }
-    ensures content { IsTrue (state S.Store result.conn).is_open → (⟦<SqlShelf<S> as Shelf>⟧.state result).content ≡ content_of (state S.Store result.conn).now.trees }
-    ensures left { (c : ShelfContent) → ⟦<SqlShelf<S> as Shelf>⟧.left result c ↔ ((db : Trees) × (state S.Store result.conn).may_leave db × (content_of db ≡ c)) }
+    ensures clean { ⟦<SqlShelf<S> as Shelf>⟧.clean result
+        ↔ HasCleanDisk (state S.Store result.conn) }
+    ensures content { IsTrue (state S.Store result.conn).is_open
+        → (⟦<SqlShelf<S> as Shelf>⟧.state result).content
+        ≡ content_of (state S.Store result.conn).now.trees }
+    ensures left { (c : ShelfContent) → ⟦<SqlShelf<S> as Shelf>⟧.left result c
+        ↔ ((db : Trees) × (state S.Store result.conn).may_leave db × (content_of db ≡ c)) }
 {
     shelf
 }
 
 /// A store over SQL is the same behind calls: it was opened over the same connection, as that was then.
 pub fn store_stays_as_it_was_opened<S: Alter>(old: &SqlShelf<S>, new: &SqlShelf<S>)
-    ensures { ⟦<SqlShelf<S> as Shelf>⟧.same_store old.entry.now new.entry.now ↔ (new.entry.now.opened.value ≡ old.entry.now.opened.value) }
+    ensures { ⟦<SqlShelf<S> as Shelf>⟧.same_store old.entry.now new.entry.now
+        ↔ (new.entry.now.opened.value ≡ old.entry.now.opened.value) }
 {}
 
 /// Where nothing is there, or the tables are those of a store of this office, of version 1, 2 or 3, and of this text, `open`
@@ -80,8 +85,15 @@ pub fn left_is_opened_again<S: Alter, T: Alter>(
     office_text: &[u8],
 ) -> Result<SqlShelf<T>, (OpenFault, Connection<T>)>
     requires { (office : OfficeFile) × IsOfficeOf office_text.now office }
-    ensures refused { IsLeftBehind (state S.Store shelf.entry.now.conn) (state S.Store shelf.entry.now.opened.value) office_text.now (state T.Store found) → IfErr result (λ e. HasCleanDisk (state T.Store e.1) → (e.0 ≡ OpenFault.Store) ⊎ (e.0 ≡ OpenFault.Memory)) }
-    ensures content { IsLeftBehind (state S.Store shelf.entry.now.conn) (state S.Store shelf.entry.now.opened.value) office_text.now (state T.Store found) → IfOk result (λ s. HasCleanDisk (state T.Store s.conn) → (⟦<SqlShelf<T> as Shelf>⟧.state s).content ≡ content_of (state T.Store found).committed.trees) }
+    ensures refused { IsLeftBehind (state S.Store shelf.entry.now.conn)
+        (state S.Store shelf.entry.now.opened.value) office_text.now (state T.Store found)
+        → IfErr result (λ e. HasCleanDisk (state T.Store e.1)
+        → (e.0 ≡ OpenFault.Store) ⊎ (e.0 ≡ OpenFault.Memory)) }
+    ensures content { IsLeftBehind (state S.Store shelf.entry.now.conn)
+        (state S.Store shelf.entry.now.opened.value) office_text.now (state T.Store found)
+        → IfOk result (λ s. HasCleanDisk (state T.Store s.conn)
+        → (⟦<SqlShelf<T> as Shelf>⟧.state s).content
+        ≡ content_of (state T.Store found).committed.trees) }
 {
     let _ = shelf;
     SqlShelf::open(alloc, found, office_text)
@@ -95,7 +107,9 @@ pub fn closed_is_opened_again<S: Alter>(
     office_text: &[u8],
 ) -> Result<SqlShelf<S>, (OpenFault, Connection<S>)>
     requires { (office : OfficeFile) × IsOfficeOf office_text.now office }
-    ensures { IfOk result (λ s. HasCleanDisk (state S.Store s.conn) → (⟦<SqlShelf<S> as Shelf>⟧.state s).content ≡ committed (⟦<SqlShelf<S> as Shelf>⟧.state shelf)) }
+    ensures { IfOk result (λ s. HasCleanDisk (state S.Store s.conn)
+        → (⟦<SqlShelf<S> as Shelf>⟧.state s).content
+        ≡ committed (⟦<SqlShelf<S> as Shelf>⟧.state shelf)) }
 {
     SqlShelf::open(alloc, shelf.close(), office_text)
 }

@@ -4,8 +4,7 @@ ghost use Rattle.std.specs.Prelude.{◌≡◌, [], Err, IfOk, OnErr, OnOk};
 ghost use Rattle.sqlite.specs.Held.{state};
 ghost use Rattle.sqlite.specs.State.{HasCleanDisk};
 ghost use Rattle.pw_schema.specs.Calls.{Looks};
-ghost use Rattle.pw_schema.specs.Tables.{IsOurs};
-ghost use Rattle.pw_schema.specs.inner.Calls.{Asks};
+ghost use Rattle.pw_schema.specs.inner.Calls.{Asks, HasOurTables};
 ghost use Rattle.pw_store.specs.inner.Listings.{ShowsAll, kept_as, text_of};
 ghost use Rattle.pw_store.specs.inner.Scanning.{HasRefused, HasTaken, IsOther};
 
@@ -94,8 +93,10 @@ pub(crate) fn record_rows<S: Alter>(
     conn: &mut Connection<S>,
     kind: RecordKind,
 ) -> Result<Vec<Row>, Error>
-    requires ours { HasCleanDisk (state S.Store conn.old) → IsOurs (state S.Store conn.old).now.schema }
-    ensures rows { HasCleanDisk (state S.Store conn.new) → IfOk result (λ rows. ShowsAll (Listing.Records kind) (state S.Store conn.old).now.trees rows.items) }
+    requires ours { HasOurTables (state S.Store conn.old) }
+    ensures rows { HasCleanDisk (state S.Store conn.new)
+        → IfOk result (λ rows. ShowsAll (Listing.Records kind) (state S.Store conn.old).now.trees
+        rows.items) }
     ensures asks { Asks result (state S.Store conn.old) (state S.Store conn.new) }
 {
     conn.query_all(Listing::Records(kind).text(), &[])
@@ -107,10 +108,13 @@ pub(crate) fn judge_listing<S: Alter, J: Judge>(
     listing: Listing,
     judge: &mut J,
 ) -> Result<usize, OpenFault>
-    requires ours { HasCleanDisk (state S.Store conn.old) → IsOurs (state S.Store conn.old).now.schema }
+    requires ours { HasOurTables (state S.Store conn.old) }
     requires start { J.took judge.old [] judge.old }
-    ensures took { OnOk result (HasTaken J.took (λ rows. HasCleanDisk (state S.Store conn.new) → ShowsAll listing (state S.Store conn.old).now.trees rows) judge.old judge.new) }
-    ensures refused { HasCleanDisk (state S.Store conn.new) → result ≡ Err OpenFault.Unclean → HasRefused J.refuses (ShowsAll listing (state S.Store conn.old).now.trees) judge.old }
+    ensures took { OnOk result (HasTaken J.took
+        (λ rows. HasCleanDisk (state S.Store conn.new)
+        → ShowsAll listing (state S.Store conn.old).now.trees rows) judge.old judge.new) }
+    ensures refused { HasCleanDisk (state S.Store conn.new) → result ≡ Err OpenFault.Unclean
+        → HasRefused J.refuses (ShowsAll listing (state S.Store conn.old).now.trees) judge.old }
     ensures others { OnErr result (IsOther result) }
     ensures looks { Looks result (state S.Store conn.old) (state S.Store conn.new) }
 {

@@ -5,11 +5,12 @@ ghost use Rattle.sqlite.specs.Held.{state};
 ghost use Rattle.sqlite.specs.State.{HasCleanDisk};
 ghost use Rattle.pw_shelf.specs.Rows.{IsAssignmentOf, IsReadingOf};
 ghost use Rattle.pw_schema.specs.inner.Calls.{Asks};
-ghost use Rattle.pw_store.specs.Kept.{IsStore};
+ghost use Rattle.pw_store.specs.inner.Connections.{HoldsStore};
 ghost use Rattle.pw_store.specs.inner.Lists.{ShowsKept};
 
+use pw_model::register_place;
 use pw_obis::Register;
-use pw_schema::{RecordKind, integer, register_place};
+use pw_schema::{RecordKind, integer};
 use pw_tariff::MeterId;
 use sqlite::{Alter, Connection, Error, Row};
 
@@ -19,8 +20,10 @@ pub(crate) fn reading_rows<S: Alter>(
     meter: MeterId,
     register: Register,
 ) -> Result<Vec<Row>, Error>
-    requires store { HasCleanDisk (state S.Store conn.old) → IsStore (state S.Store conn.old).now }
-    ensures rows { HasCleanDisk (state S.Store conn.new) → IfOk result (λ rows. ShowsKept RecordKind.Readings (IsReadingOf meter register) (state S.Store conn.old).now.trees rows.items) }
+    requires store { HoldsStore (state S.Store conn.old) }
+    ensures rows { HasCleanDisk (state S.Store conn.new)
+        → IfOk result (λ rows. ShowsKept RecordKind.Readings (IsReadingOf meter register)
+        (state S.Store conn.old).now.trees rows.items) }
     ensures asks { Asks result (state S.Store conn.old) (state S.Store conn.new) }
 {
     conn.query_all(
@@ -37,8 +40,10 @@ pub(crate) fn assignment_rows<S: Alter>(
     conn: &mut Connection<S>,
     meter: MeterId,
 ) -> Result<Vec<Row>, Error>
-    requires store { HasCleanDisk (state S.Store conn.old) → IsStore (state S.Store conn.old).now }
-    ensures rows { HasCleanDisk (state S.Store conn.new) → IfOk result (λ rows. ShowsKept RecordKind.Assignments (IsAssignmentOf meter) (state S.Store conn.old).now.trees rows.items) }
+    requires store { HoldsStore (state S.Store conn.old) }
+    ensures rows { HasCleanDisk (state S.Store conn.new)
+        → IfOk result (λ rows. ShowsKept RecordKind.Assignments (IsAssignmentOf meter)
+        (state S.Store conn.old).now.trees rows.items) }
     ensures asks { Asks result (state S.Store conn.old) (state S.Store conn.new) }
 {
     conn.query_all(

@@ -1,19 +1,20 @@
 //! Making a connection ready to be a store, or finding why it can't be one.
 
-ghost use Rattle.std.specs.Prelude.{◌≡◌, IfErr, IfOk, IsTrue, OnErr, OnOk, length};
+ghost use Rattle.std.specs.Prelude.{◌≡◌, IfErr, IsTrue, OnErr, OnOk};
 ghost use Rattle.sqlite.specs.Held.{state};
-ghost use Rattle.sqlite.specs.State.{HasCleanDisk, KeepsCommit, Survives};
+ghost use Rattle.sqlite.specs.State.{HasCleanDisk, Survives};
 ghost use Rattle.pw_tariff.specs.Office.{office_of};
-ghost use Rattle.pw_schema.specs.Calls.{Looks};
+ghost use Rattle.pw_schema.specs.Calls.{CommitStays, CommitStaysOnErr, IsWithinVersion, LeavesVersion, Looks};
 ghost use Rattle.pw_schema.specs.Conflicts.{AreWithoutConflict};
-ghost use Rattle.pw_schema.specs.Fresh.{IsIdleAt, IsWithin};
-ghost use Rattle.pw_schema.specs.Raised.{HasSame, IsRaised, lasting_trees};
-ghost use Rattle.pw_store.specs.Content.{records_of};
+ghost use Rattle.pw_schema.specs.Fresh.{IsIdleAt};
+ghost use Rattle.pw_schema.specs.Raised.{IsRaised};
 ghost use Rattle.pw_schema.specs.Judging.{KeepsOffice, KeepsVersion};
-ghost use Rattle.pw_schema.specs.Tables.{BeginsAsOurs, IsEarlier, IsOurs, no_schema, schema_of};
+ghost use Rattle.pw_schema.specs.Tables.{BeginsAsOurs, IsEarlier, no_schema};
+ghost use Rattle.pw_schema.specs.inner.Calls.{BeginsWithOurTables, HasOurTables, KeepsLasting};
 ghost use Rattle.pw_store.specs.Left.{IsFilled, MayBeMade, MayBeUpgraded};
-ghost use Rattle.pw_store.specs.Opening.{BegunRefuses, HoldsTables, KeepsText, Refuses};
-ghost use Rattle.pw_store.specs.inner.Opened.{IsOpened, IsReady, IsSettled, IsSound, RowsRefuse};
+ghost use Rattle.pw_store.specs.Opening.{BegunRefuses, KeepsText, Refuses};
+ghost use Rattle.pw_store.specs.inner.Connections.{CountsRecords, HasTablesOf, LeavesSound, TellsRefusedRows};
+ghost use Rattle.pw_store.specs.inner.Opened.{IsOpened, IsReady, IsSettled};
 
 use crate::fault::OpenFault;
 use crate::filling::fill;
@@ -31,8 +32,9 @@ use std::alloc::Global;
 
 /// Rolls back what the connection is inside of, and sees that it is open.
 pub(crate) fn settle<S: Alter>(conn: &mut Connection<S>) -> Result<(), Error>
-    ensures settled { HasCleanDisk (state S.Store conn.new) → OnOk result (IsSettled (state S.Store conn.old) (state S.Store conn.new)) }
-    ensures kept { HasCleanDisk (state S.Store conn.new) → KeepsCommit (state S.Store conn.old) (state S.Store conn.new) }
+    ensures settled { HasCleanDisk (state S.Store conn.new)
+        → OnOk result (IsSettled (state S.Store conn.old) (state S.Store conn.new)) }
+    ensures kept { CommitStays (state S.Store conn.old) (state S.Store conn.new) }
     ensures crash { Survives (state S.Store conn.old) (state S.Store conn.new) (λ _. ⊥) }
 {
     if !conn.is_autocommit() {
@@ -43,9 +45,11 @@ pub(crate) fn settle<S: Alter>(conn: &mut Connection<S>) -> Result<(), Error>
 
 /// Sees that the row of `office` and the texts which the engine has kept are such as an opening with this text takes.
 pub(crate) fn see_office<S: Alter>(conn: &mut Connection<S>, text: &[u8]) -> Result<(), Error>
-    requires { HasCleanDisk (state S.Store conn.old) → IsOurs (state S.Store conn.old).now.schema }
-    ensures kept_text { HasCleanDisk (state S.Store conn.new) → OnOk result (KeepsText (KeepsOffice text.now) (state S.Store conn.old).now.trees) }
-    ensures plain { HasCleanDisk (state S.Store conn.new) → OnOk result (AreWithoutConflict (state S.Store conn.old).now.trees) }
+    requires { HasOurTables (state S.Store conn.old) }
+    ensures kept_text { HasCleanDisk (state S.Store conn.new)
+        → OnOk result (KeepsText (KeepsOffice text.now) (state S.Store conn.old).now.trees) }
+    ensures plain { HasCleanDisk (state S.Store conn.new)
+        → OnOk result (AreWithoutConflict (state S.Store conn.old).now.trees) }
     ensures looks { Looks result (state S.Store conn.old) (state S.Store conn.new) }
 {
     let rows = office_rows(conn)?;
@@ -62,10 +66,12 @@ pub(crate) fn see_office<S: Alter>(conn: &mut Connection<S>, text: &[u8]) -> Res
 // Makes a store of an earlier version one of version 3 within a transaction, but for its totals of energy, whatever rows it
 // has.
 fn raise<S: Alter>(conn: &mut Connection<S>, version: StoreVersion) -> Result<(), Error>
-    requires old_tables { HasCleanDisk (state S.Store conn.old) → HoldsTables version (state S.Store conn.old).now }
-    ensures within { HasCleanDisk (state S.Store conn.new) → OnOk result (IsWithin (schema_of StoreVersion.Third) (state S.Store conn.new)) }
-    ensures raised { HasCleanDisk (state S.Store conn.new) → OnOk result (IsRaised version (state S.Store conn.old).now.trees (state S.Store conn.new).now.trees) }
-    ensures kept { HasCleanDisk (state S.Store conn.new) → KeepsCommit (state S.Store conn.old) (state S.Store conn.new) }
+    requires old_tables { HasTablesOf version (state S.Store conn.old) }
+    ensures within { LeavesVersion StoreVersion.Third result (state S.Store conn.new) }
+    ensures raised { HasCleanDisk (state S.Store conn.new)
+        → OnOk result (IsRaised version (state S.Store conn.old).now.trees
+        (state S.Store conn.new).now.trees) }
+    ensures kept { CommitStays (state S.Store conn.old) (state S.Store conn.new) }
     ensures crash { Survives (state S.Store conn.old) (state S.Store conn.new) (λ _. ⊥) }
 {
     begin(conn)?;
@@ -81,14 +87,16 @@ fn fill_and_check<S: Alter, W: Watch>(
     office: &Office,
     watch: &mut W,
 ) -> Result<u32, OpenFault>
-    requires { HasCleanDisk (state S.Store conn.old) → IsWithin (schema_of StoreVersion.Third) (state S.Store conn.old) }
-    ensures within { HasCleanDisk (state S.Store conn.new) → OnOk result (IsWithin (schema_of StoreVersion.Third) (state S.Store conn.new)) }
-    ensures lasting { HasCleanDisk (state S.Store conn.new) → OnOk result (HasSame lasting_trees (state S.Store conn.old).now.trees (state S.Store conn.new).now.trees) }
-    ensures filled { HasCleanDisk (state S.Store conn.new) → OnOk result (IsFilled (office_of office.now) (state S.Store conn.new).now.trees) }
-    ensures sound { HasCleanDisk (state S.Store conn.new) → OnOk result (IsSound (office_of office.now) (state S.Store conn.new).now) }
-    ensures counted { HasCleanDisk (state S.Store conn.new) → IfOk result (λ held. length (records_of (state S.Store conn.new).now.trees) ≡ held) }
-    ensures cause { HasCleanDisk (state S.Store conn.new) → IfErr result (RowsRefuse StoreVersion.Second (office_of office.now) (state S.Store conn.old).now.trees) }
-    ensures kept { HasCleanDisk (state S.Store conn.new) → KeepsCommit (state S.Store conn.old) (state S.Store conn.new) }
+    requires { IsWithinVersion StoreVersion.Third (state S.Store conn.old) }
+    ensures within { LeavesVersion StoreVersion.Third result (state S.Store conn.new) }
+    ensures lasting { KeepsLasting result (state S.Store conn.old) (state S.Store conn.new) }
+    ensures filled { HasCleanDisk (state S.Store conn.new)
+        → OnOk result (IsFilled (office_of office.now) (state S.Store conn.new).now.trees) }
+    ensures sound { LeavesSound (office_of office.now) result (state S.Store conn.new) }
+    ensures counted { CountsRecords result (state S.Store conn.new) }
+    ensures cause { TellsRefusedRows StoreVersion.Second (office_of office.now) result
+        (state S.Store conn.old) (state S.Store conn.new) }
+    ensures kept { CommitStays (state S.Store conn.old) (state S.Store conn.new) }
     ensures crash { Survives (state S.Store conn.old) (state S.Store conn.new) (λ _. ⊥) }
 {
     let (held, parts) = judge_records(alloc, conn, office, watch)?;
@@ -108,12 +116,16 @@ fn raise_and_check<S: Alter, W: Watch>(
     watch: &mut W,
 ) -> Result<u32, OpenFault>
     requires earlier { IsEarlier version }
-    requires old_tables { HasCleanDisk (state S.Store conn.old) → HoldsTables version (state S.Store conn.old).now }
-    requires old_text { HasCleanDisk (state S.Store conn.old) → KeepsText (KeepsVersion version text.now) (state S.Store conn.old).now.trees }
-    ensures counted { HasCleanDisk (state S.Store conn.new) → IfOk result (λ held. length (records_of (state S.Store conn.new).now.trees) ≡ held) }
-    ensures ready { HasCleanDisk (state S.Store conn.new) → OnOk result (IsReady version (office_of office.now) text.now (state S.Store conn.old).now (state S.Store conn.new)) }
-    ensures cause { HasCleanDisk (state S.Store conn.new) → IfErr result (RowsRefuse version (office_of office.now) (state S.Store conn.old).now.trees) }
-    ensures kept { HasCleanDisk (state S.Store conn.new) → KeepsCommit (state S.Store conn.old) (state S.Store conn.new) }
+    requires old_tables { HasTablesOf version (state S.Store conn.old) }
+    requires old_text { HasCleanDisk (state S.Store conn.old)
+        → KeepsText (KeepsVersion version text.now) (state S.Store conn.old).now.trees }
+    ensures counted { CountsRecords result (state S.Store conn.new) }
+    ensures ready { HasCleanDisk (state S.Store conn.new)
+        → OnOk result (IsReady version (office_of office.now) text.now
+        (state S.Store conn.old).now (state S.Store conn.new)) }
+    ensures cause { TellsRefusedRows version (office_of office.now) result (state S.Store conn.old)
+        (state S.Store conn.new) }
+    ensures kept { CommitStays (state S.Store conn.old) (state S.Store conn.new) }
     ensures crash { Survives (state S.Store conn.old) (state S.Store conn.new) (λ _. ⊥) }
 {
     raise(conn, version)?;
@@ -126,7 +138,7 @@ fn raise_and_check<S: Alter, W: Watch>(
 
 /// Undoes the transaction, if it still stands.
 pub(crate) fn undo<S: Alter>(conn: &mut Connection<S>)
-    ensures kept { HasCleanDisk (state S.Store conn.new) → KeepsCommit (state S.Store conn.old) (state S.Store conn.new) }
+    ensures kept { CommitStays (state S.Store conn.old) (state S.Store conn.new) }
     ensures crash { Survives (state S.Store conn.old) (state S.Store conn.new) (λ _. ⊥) }
 {
     let _ = roll_back(conn);
@@ -143,14 +155,19 @@ fn upgrade<S: Alter, W: Watch>(
 ) -> Result<u32, OpenFault>
     requires idle { HasCleanDisk (state S.Store conn.old) → IsIdleAt (state S.Store conn.old) }
     requires earlier { IsEarlier version }
-    requires old_tables { HasCleanDisk (state S.Store conn.old) → HoldsTables version (state S.Store conn.old).now }
-    requires old_text { HasCleanDisk (state S.Store conn.old) → KeepsText (KeepsVersion version text.now) (state S.Store conn.old).now.trees }
-    ensures counted { HasCleanDisk (state S.Store conn.new) → IfOk result (λ held. length (records_of (state S.Store conn.new).now.trees) ≡ held) }
-    ensures opened { HasCleanDisk (state S.Store conn.new) → OnOk result (IsOpened (office_of office.now) text.now (state S.Store conn.old).now (state S.Store conn.new)) }
-    ensures cause { HasCleanDisk (state S.Store conn.new) → IfErr result (RowsRefuse version (office_of office.now) (state S.Store conn.old).now.trees) }
-    ensures kept { HasCleanDisk (state S.Store conn.new) → OnErr result (KeepsCommit (state S.Store conn.old) (state S.Store conn.new)) }
+    requires old_tables { HasTablesOf version (state S.Store conn.old) }
+    requires old_text { HasCleanDisk (state S.Store conn.old)
+        → KeepsText (KeepsVersion version text.now) (state S.Store conn.old).now.trees }
+    ensures counted { CountsRecords result (state S.Store conn.new) }
+    ensures opened { HasCleanDisk (state S.Store conn.new)
+        → OnOk result (IsOpened (office_of office.now) text.now (state S.Store conn.old).now
+        (state S.Store conn.new)) }
+    ensures cause { TellsRefusedRows version (office_of office.now) result (state S.Store conn.old)
+        (state S.Store conn.new) }
+    ensures kept { CommitStaysOnErr result (state S.Store conn.old) (state S.Store conn.new) }
     ensures clean { HasCleanDisk (state S.Store conn.new) → HasCleanDisk (state S.Store conn.old) }
-    ensures crash { Survives (state S.Store conn.old) (state S.Store conn.new) (MayBeUpgraded (office_of office.now) text.now (state S.Store conn.old).now) }
+    ensures crash { Survives (state S.Store conn.old) (state S.Store conn.new)
+        (MayBeUpgraded (office_of office.now) text.now (state S.Store conn.old).now) }
 {
     match raise_and_check(alloc, conn, office, text, version, watch) {
         Ok(held) => {
@@ -175,13 +192,17 @@ fn check<S: Alter, W: Watch>(
     watch: &mut W,
 ) -> Result<u32, OpenFault>
     requires idle { HasCleanDisk (state S.Store conn.old) → IsIdleAt (state S.Store conn.old) }
-    requires begun { HasCleanDisk (state S.Store conn.old) → BeginsAsOurs (state S.Store conn.old).now.schema }
-    ensures counted { HasCleanDisk (state S.Store conn.new) → IfOk result (λ held. length (records_of (state S.Store conn.new).now.trees) ≡ held) }
-    ensures opened { HasCleanDisk (state S.Store conn.new) → OnOk result (IsOpened (office_of office.now) text.now (state S.Store conn.old).now (state S.Store conn.new)) }
-    ensures cause { HasCleanDisk (state S.Store conn.new) → IfErr result (BegunRefuses (office_of office.now) text.now (state S.Store conn.old).now) }
-    ensures kept { HasCleanDisk (state S.Store conn.new) → OnErr result (KeepsCommit (state S.Store conn.old) (state S.Store conn.new)) }
+    requires begun { BeginsWithOurTables (state S.Store conn.old) }
+    ensures counted { CountsRecords result (state S.Store conn.new) }
+    ensures opened { HasCleanDisk (state S.Store conn.new)
+        → OnOk result (IsOpened (office_of office.now) text.now (state S.Store conn.old).now
+        (state S.Store conn.new)) }
+    ensures cause { HasCleanDisk (state S.Store conn.new)
+        → IfErr result (BegunRefuses (office_of office.now) text.now (state S.Store conn.old).now) }
+    ensures kept { CommitStaysOnErr result (state S.Store conn.old) (state S.Store conn.new) }
     ensures clean { HasCleanDisk (state S.Store conn.new) → HasCleanDisk (state S.Store conn.old) }
-    ensures crash { Survives (state S.Store conn.old) (state S.Store conn.new) (MayBeUpgraded (office_of office.now) text.now (state S.Store conn.old).now) }
+    ensures crash { Survives (state S.Store conn.old) (state S.Store conn.new)
+        (MayBeUpgraded (office_of office.now) text.now (state S.Store conn.old).now) }
 {
     match check_office(conn, text)? {
         StoreVersion::First => upgrade(alloc, conn, office, text, StoreVersion::First, watch),
@@ -200,12 +221,17 @@ fn make_or_check<S: Alter, W: Watch>(
     watch: &mut W,
 ) -> Result<u32, OpenFault>
     requires { HasCleanDisk (state S.Store conn.old) → IsIdleAt (state S.Store conn.old) }
-    ensures counted { HasCleanDisk (state S.Store conn.new) → IfOk result (λ held. length (records_of (state S.Store conn.new).now.trees) ≡ held) }
-    ensures opened { HasCleanDisk (state S.Store conn.new) → OnOk result (IsOpened (office_of office.now) text.now (state S.Store conn.old).committed (state S.Store conn.new)) }
-    ensures cause { HasCleanDisk (state S.Store conn.new) → IfErr result (Refuses (office_of office.now) text.now (state S.Store conn.old).committed) }
-    ensures kept { HasCleanDisk (state S.Store conn.new) → OnErr result (KeepsCommit (state S.Store conn.old) (state S.Store conn.new)) }
+    ensures counted { CountsRecords result (state S.Store conn.new) }
+    ensures opened { HasCleanDisk (state S.Store conn.new)
+        → OnOk result (IsOpened (office_of office.now) text.now (state S.Store conn.old).committed
+        (state S.Store conn.new)) }
+    ensures cause { HasCleanDisk (state S.Store conn.new)
+        → IfErr result (Refuses (office_of office.now) text.now
+        (state S.Store conn.old).committed) }
+    ensures kept { CommitStaysOnErr result (state S.Store conn.old) (state S.Store conn.new) }
     ensures clean { HasCleanDisk (state S.Store conn.new) → HasCleanDisk (state S.Store conn.old) }
-    ensures crash { OnErr result (Survives (state S.Store conn.old) (state S.Store conn.new) (MayBeMade (office_of office.now) text.now (state S.Store conn.old))) }
+    ensures crash { OnErr result (Survives (state S.Store conn.old) (state S.Store conn.new)
+        (MayBeMade (office_of office.now) text.now (state S.Store conn.old))) }
 {
     match look(conn) {
         Found::Nothing => {
@@ -228,8 +254,10 @@ enum Found {
 fn look<S: Alter>(conn: &Connection<S>) -> Found
     ensures nothing { result ≡ Found.Nothing → (state S.Store conn.now).now.schema ≡ no_schema }
     ensures begun { result ≡ Found.Begun → BeginsAsOurs (state S.Store conn.now).now.schema }
-    ensures not_nothing { result ≡ Found.Other → (state S.Store conn.now).now.schema ≡ no_schema → ⊥ }
-    ensures not_begun { result ≡ Found.Other → BeginsAsOurs (state S.Store conn.now).now.schema → ⊥ }
+    ensures not_nothing { result ≡ Found.Other → (state S.Store conn.now).now.schema ≡ no_schema
+        → ⊥ }
+    ensures not_begun { result ≡ Found.Other → BeginsAsOurs (state S.Store conn.now).now.schema
+        → ⊥ }
 {
     let schema = conn.schema();
     if is_nothing(schema) {
@@ -249,13 +277,19 @@ pub(crate) fn prepare<S: Alter, W: Watch>(
     text: &[u8],
     watch: &mut W,
 ) -> Result<u32, OpenFault>
-    ensures counted { HasCleanDisk (state S.Store conn.new) → IfOk result (λ held. length (records_of (state S.Store conn.new).now.trees) ≡ held) }
-    ensures opened { HasCleanDisk (state S.Store conn.new) → OnOk result (IsOpened (office_of office.now) text.now (state S.Store conn.old).committed (state S.Store conn.new)) }
-    ensures cause { HasCleanDisk (state S.Store conn.new) → IfErr result (Refuses (office_of office.now) text.now (state S.Store conn.old).committed) }
-    ensures was_open { HasCleanDisk (state S.Store conn.new) → OnOk result (IsTrue (state S.Store conn.old).is_open) }
-    ensures kept { HasCleanDisk (state S.Store conn.new) → OnErr result (KeepsCommit (state S.Store conn.old) (state S.Store conn.new)) }
+    ensures counted { CountsRecords result (state S.Store conn.new) }
+    ensures opened { HasCleanDisk (state S.Store conn.new)
+        → OnOk result (IsOpened (office_of office.now) text.now (state S.Store conn.old).committed
+        (state S.Store conn.new)) }
+    ensures cause { HasCleanDisk (state S.Store conn.new)
+        → IfErr result (Refuses (office_of office.now) text.now
+        (state S.Store conn.old).committed) }
+    ensures was_open { HasCleanDisk (state S.Store conn.new)
+        → OnOk result (IsTrue (state S.Store conn.old).is_open) }
+    ensures kept { CommitStaysOnErr result (state S.Store conn.old) (state S.Store conn.new) }
     ensures clean { HasCleanDisk (state S.Store conn.new) → HasCleanDisk (state S.Store conn.old) }
-    ensures crash { OnErr result (Survives (state S.Store conn.old) (state S.Store conn.new) (MayBeMade (office_of office.now) text.now (state S.Store conn.old))) }
+    ensures crash { OnErr result (Survives (state S.Store conn.old) (state S.Store conn.new)
+        (MayBeMade (office_of office.now) text.now (state S.Store conn.old))) }
 {
     settle(conn)?;
     make_or_check(alloc, conn, office, text, watch)

@@ -1,20 +1,21 @@
 //! Points, each statement run by its own text.
 
-ghost use Rattle.std.specs.Prelude.{◌≡◌, ◌↔◌, ◌≤◌, ℕ, Some, IfErr, IfOk, IsTrue, false, map};
+ghost use Rattle.std.specs.Prelude.{◌≡◌, ◌↔◌, ◌≤◌, ℕ, Some, IfErr, IfOk, false, map};
 ghost use Rattle.sqlite.specs.Held.{state};
 ghost use Rattle.sqlite.specs.State.{HasCleanDisk};
 ghost use Rattle.pw_model.specs.Counting.{Member};
 ghost use Rattle.pw_schema.specs.Calls.{Writes};
 ghost use Rattle.pw_schema.specs.inner.Calls.{Asks};
 ghost use Rattle.pw_store.specs.Content.{point_in, point_tree};
-ghost use Rattle.pw_store.specs.Kept.{IsStore};
 ghost use Rattle.pw_store.specs.inner.Changing.{Makes, changed, refuses_key};
+ghost use Rattle.pw_store.specs.inner.Connections.{HasBegun, HoldsStore};
 ghost use Rattle.pw_store.specs.inner.Seconds.{IsNearest, first_point, instant_of, nearest_text, point_told};
 
 use crate::changes::Change;
 use crate::fault::is_key_taken;
+use pw_model::register_place;
 use pw_obis::{Register, WattHours};
-use pw_schema::{integer, register_place, wide};
+use pw_schema::{integer, wide};
 use pw_tariff::MeterId;
 use pw_time::Instant;
 use sqlite::{Alter, Connection, Error, Row};
@@ -26,9 +27,11 @@ pub(crate) fn take_point<S: Alter>(
     register: Register,
     instant: Instant,
 ) -> Result<usize, Error>
-    requires inside { HasCleanDisk (state S.Store conn.old) → IsTrue (state S.Store conn.old).in_transaction }
-    requires store { HasCleanDisk (state S.Store conn.old) → IsStore (state S.Store conn.old).now }
-    ensures done { HasCleanDisk (state S.Store conn.new) → IfOk result (λ rows. Makes (changed (Change.TakePoint meter register instant) rows) (state S.Store conn.old) (state S.Store conn.new)) }
+    requires inside { HasBegun (state S.Store conn.old) }
+    requires store { HoldsStore (state S.Store conn.old) }
+    ensures done { HasCleanDisk (state S.Store conn.new)
+        → IfOk result (λ rows. Makes (changed (Change.TakePoint meter register instant) rows)
+        (state S.Store conn.old) (state S.Store conn.new)) }
     ensures writes { Writes result (state S.Store conn.old) (state S.Store conn.new) }
 {
     conn.execute(
@@ -49,9 +52,11 @@ pub(crate) fn put_point<S: Alter>(
     instant: Instant,
     wh: WattHours,
 ) -> Result<usize, Error>
-    requires inside { HasCleanDisk (state S.Store conn.old) → IsTrue (state S.Store conn.old).in_transaction }
-    requires store { HasCleanDisk (state S.Store conn.old) → IsStore (state S.Store conn.old).now }
-    ensures done { HasCleanDisk (state S.Store conn.new) → IfOk result (λ rows. Makes (changed (Change.PutPoint meter register instant wh) rows) (state S.Store conn.old) (state S.Store conn.new)) }
+    requires inside { HasBegun (state S.Store conn.old) }
+    requires store { HoldsStore (state S.Store conn.old) }
+    ensures done { HasCleanDisk (state S.Store conn.new)
+        → IfOk result (λ rows. Makes (changed (Change.PutPoint meter register instant wh) rows)
+        (state S.Store conn.old) (state S.Store conn.new)) }
     ensures refused { IfErr result (λ e. refuses_key e ≡ false) }
     ensures writes { Writes result (state S.Store conn.old) (state S.Store conn.new) }
 {
@@ -116,8 +121,11 @@ pub(crate) fn nearest_rows<S: Alter>(
     register: Register,
     side: Side,
 ) -> Result<Vec<Row>, Error>
-    requires store { HasCleanDisk (state S.Store conn.old) → IsStore (state S.Store conn.old).now }
-    ensures row { HasCleanDisk (state S.Store conn.new) → IfOk result (λ rows. IsNearest side (point_in ((state S.Store conn.old).now.trees point_tree) meter.0 register) (first_point rows.items)) }
+    requires store { HoldsStore (state S.Store conn.old) }
+    ensures row { HasCleanDisk (state S.Store conn.new)
+        → IfOk result (λ rows. IsNearest side
+        (point_in ((state S.Store conn.old).now.trees point_tree) meter.0 register)
+        (first_point rows.items)) }
     ensures asks { Asks result (state S.Store conn.old) (state S.Store conn.new) }
 {
     let instant = side.instant();
@@ -139,8 +147,13 @@ pub(crate) fn between_rows<S: Alter>(
     from: Instant,
     to: Instant,
 ) -> Result<Vec<Row>, Error>
-    requires store { HasCleanDisk (state S.Store conn.old) → IsStore (state S.Store conn.old).now }
-    ensures rows { HasCleanDisk (state S.Store conn.new) → IfOk result (λ rows. (x : ℕ × ℕ) → Member x (map point_told rows.items) ↔ ((from ≤ x.0) × (x.0 ≤ to) × ((point_in ((state S.Store conn.old).now.trees point_tree) meter.0 register) x.0 ≡ Some x.1))) }
+    requires store { HoldsStore (state S.Store conn.old) }
+    ensures rows { HasCleanDisk (state S.Store conn.new)
+        → IfOk result (λ rows. (x : ℕ × ℕ)
+        → Member x (map point_told rows.items)
+        ↔ ((from ≤ x.0) × (x.0 ≤ to)
+        × ((point_in ((state S.Store conn.old).now.trees point_tree) meter.0 register) x.0
+        ≡ Some x.1))) }
     ensures asks { Asks result (state S.Store conn.old) (state S.Store conn.new) }
 {
     conn.query_all(

@@ -66,7 +66,9 @@ pub(crate) fn nearest<S: Alter>(
 ) -> Result<Option<(Instant, WattHours)>, AskFault>
     requires awake { IsAwake (state S.Store conn.old) doubtful }
     requires store { NowIsStore (state S.Store conn.old) }
-    ensures row { HasCleanDisk (state S.Store conn.new) → IfOk result (λ found. IsNearest side (point_in ((state S.Store conn.old).now.trees point_tree) meter.0 register) found) }
+    ensures row { HasCleanDisk (state S.Store conn.new)
+        → IfOk result (λ found. IsNearest side
+        (point_in ((state S.Store conn.old).now.trees point_tree) meter.0 register) found) }
     ensures asks { Asks result (state S.Store conn.old) (state S.Store conn.new) }
 {
     wake(conn, doubtful)?;
@@ -86,7 +88,9 @@ pub(crate) fn points_between<S: Alter>(
 ) -> Result<Vec<(Instant, WattHours)>, AskFault>
     requires awake { IsAwake (state S.Store conn.old) doubtful }
     requires store { NowIsStore (state S.Store conn.old) }
-    ensures rows { HasCleanDisk (state S.Store conn.new) → IfOk result (λ found. ListsSecondsWithin from to (point_in ((state S.Store conn.old).now.trees point_tree) meter.0 register) found.items) }
+    ensures rows { HasCleanDisk (state S.Store conn.new)
+        → IfOk result (λ found. ListsSecondsWithin from to
+        (point_in ((state S.Store conn.old).now.trees point_tree) meter.0 register) found.items) }
     ensures asks { Asks result (state S.Store conn.old) (state S.Store conn.new) }
 {
     wake(conn, doubtful)?;
@@ -103,7 +107,9 @@ pub(crate) fn starts_of<S: Alter>(
 ) -> Result<Vec<(Instant, Owner)>, AskFault>
     requires awake { IsAwake (state S.Store conn.old) doubtful }
     requires store { NowIsStore (state S.Store conn.old) }
-    ensures rows { HasCleanDisk (state S.Store conn.new) → IfOk result (λ found. ListsSeconds (start_in ((state S.Store conn.old).now.trees start_tree) meter.0) found.items) }
+    ensures rows { HasCleanDisk (state S.Store conn.new)
+        → IfOk result (λ found. ListsSeconds
+        (start_in ((state S.Store conn.old).now.trees start_tree) meter.0) found.items) }
     ensures asks { Asks result (state S.Store conn.old) (state S.Store conn.new) }
 {
     wake(conn, doubtful)?;
@@ -119,7 +125,8 @@ pub(crate) fn total<S: Alter>(
 ) -> Result<u64, AskFault>
     requires awake { IsAwake (state S.Store conn.old) doubtful }
     requires store { NowIsStore (state S.Store conn.old) }
-    ensures amount { HasCleanDisk (state S.Store conn.new) → IfOk result (λ found. found ≡ total_in (state S.Store conn.old).now.trees key.now) }
+    ensures amount { HasCleanDisk (state S.Store conn.new)
+        → IfOk result (λ found. found ≡ total_in (state S.Store conn.old).now.trees key.now) }
     ensures asks { Asks result (state S.Store conn.old) (state S.Store conn.new) }
 {
     wake(conn, doubtful)?;

@@ -9,15 +9,15 @@ ghost use Rattle.pw_model.specs.Counting.{Member};
 ghost use Rattle.pw_schema.specs.Calls.{Writes};
 ghost use Rattle.pw_schema.specs.inner.Calls.{Asks};
 ghost use Rattle.pw_store.specs.Content.{records_of};
-ghost use Rattle.pw_store.specs.Kept.{IsStore};
 ghost use Rattle.pw_store.specs.inner.Changing.{Adds};
+ghost use Rattle.pw_store.specs.inner.Connections.{HasBegun, HoldsStore};
 ghost use Rattle.pw_store.specs.inner.Given.{values_of};
 ghost use Rattle.pw_store.specs.inner.Records.{IsForeign, entry_as, named_row};
 
 use crate::forms::Form;
 use crate::given::Given;
-use pw_model::{Content, Entry, Key, Named};
-use pw_schema::{integer, owner_place, register_place, wide, words};
+use pw_model::{Content, Entry, Key, Named, register_place};
+use pw_schema::{integer, owner_place, wide, words};
 use sqlite::types::ValueRef;
 use sqlite::{Alter, Connection, Error, Row};
 
@@ -94,10 +94,13 @@ pub(crate) fn add_named<S: Alter>(
     form: Form,
     named: &Named,
 ) -> Result<usize, Error>
-    requires inside { HasCleanDisk (state S.Store conn.old) → IsTrue (state S.Store conn.old).in_transaction }
-    requires store { HasCleanDisk (state S.Store conn.old) → IsStore (state S.Store conn.old).now }
-    requires fresh { HasCleanDisk (state S.Store conn.old) → Member (entry_as form named.now) (records_of (state S.Store conn.old).now.trees) → ⊥ }
-    ensures done { HasCleanDisk (state S.Store conn.new) → OnOk result (Adds (entry_as form named.now) (state S.Store conn.old) (state S.Store conn.new)) }
+    requires inside { HasBegun (state S.Store conn.old) }
+    requires store { HoldsStore (state S.Store conn.old) }
+    requires fresh { HasCleanDisk (state S.Store conn.old)
+        → Member (entry_as form named.now) (records_of (state S.Store conn.old).now.trees) → ⊥ }
+    ensures done { HasCleanDisk (state S.Store conn.new)
+        → OnOk result (Adds (entry_as form named.now) (state S.Store conn.old)
+        (state S.Store conn.new)) }
     ensures writes { Writes result (state S.Store conn.old) (state S.Store conn.new) }
 {
     let columns = columns_of(named);
@@ -110,8 +113,10 @@ fn rows_of_named<S: Alter>(
     form: Form,
     named: &Named,
 ) -> Result<Vec<Row>, Error>
-    requires store { HasCleanDisk (state S.Store conn.old) → IsStore (state S.Store conn.old).now }
-    ensures found { HasCleanDisk (state S.Store conn.new) → IfOk result (λ rows. 0 < length rows.items ↔ Member (entry_as form named.now) (records_of (state S.Store conn.old).now.trees)) }
+    requires store { HoldsStore (state S.Store conn.old) }
+    ensures found { HasCleanDisk (state S.Store conn.new)
+        → IfOk result (λ rows. 0 < length rows.items
+        ↔ Member (entry_as form named.now) (records_of (state S.Store conn.old).now.trees)) }
     ensures asks { Asks result (state S.Store conn.old) (state S.Store conn.new) }
 {
     let columns = columns_of(named);
@@ -124,8 +129,10 @@ pub(crate) fn has_named<S: Alter>(
     form: Form,
     named: &Named,
 ) -> Result<bool, Error>
-    requires store { HasCleanDisk (state S.Store conn.old) → IsStore (state S.Store conn.old).now }
-    ensures found { HasCleanDisk (state S.Store conn.new) → IfOk result (λ held. IsTrue held ↔ Member (entry_as form named.now) (records_of (state S.Store conn.old).now.trees)) }
+    requires store { HoldsStore (state S.Store conn.old) }
+    ensures found { HasCleanDisk (state S.Store conn.new)
+        → IfOk result (λ held. IsTrue held
+        ↔ Member (entry_as form named.now) (records_of (state S.Store conn.old).now.trees)) }
     ensures asks { Asks result (state S.Store conn.old) (state S.Store conn.new) }
 {
     let rows = rows_of_named(conn, form, named)?;

@@ -18,10 +18,16 @@ pub(crate) fn judge_each<S: Alter, J: Judge>(
     text: &str,
     judge: &mut J,
 ) -> Result<usize, OpenFault>
-    requires query { HasCleanDisk (state S.Store conn.old) → IsOneQuery (understood (state S.Store conn.old).now.schema text.now) }
+    requires query { HasCleanDisk (state S.Store conn.old)
+        → IsOneQuery (understood (state S.Store conn.old).now.schema text.now) }
     requires start { J.took judge.old [] judge.old }
-    ensures took { OnOk result (HasTaken J.took (λ rows. HasCleanDisk (state S.Store conn.new) → Shown text.now [] (state S.Store conn.old) (state S.Store conn.new) rows) judge.old judge.new) }
-    ensures refused { HasCleanDisk (state S.Store conn.new) → result ≡ Err OpenFault.Unclean → HasRefused J.refuses (Shown text.now [] (state S.Store conn.old) (state S.Store conn.new)) judge.old }
+    ensures took { OnOk result (HasTaken J.took
+        (λ rows. HasCleanDisk (state S.Store conn.new)
+        → Shown text.now [] (state S.Store conn.old) (state S.Store conn.new) rows) judge.old
+        judge.new) }
+    ensures refused { HasCleanDisk (state S.Store conn.new) → result ≡ Err OpenFault.Unclean
+        → HasRefused J.refuses (Shown text.now [] (state S.Store conn.old)
+        (state S.Store conn.new)) judge.old }
     ensures others { OnErr result (IsOther result) }
     ensures looks { Looks result (state S.Store conn.old) (state S.Store conn.new) }
 {

@@ -9,7 +9,7 @@ ghost use Rattle.pw_model.specs.declared.records.Entry.{Entry as EntrySpec};
 ghost use Rattle.pw_model.specs.declared.records.TotalKey.{TotalKey as TotalKeySpec};
 ghost use Rattle.pw_schema.specs.Calls.{Looks};
 ghost use Rattle.pw_schema.specs.Judges.{IsRest, is_above_zero};
-ghost use Rattle.pw_schema.specs.Tables.{IsOurs};
+ghost use Rattle.pw_schema.specs.inner.Calls.{HasOurTables};
 ghost use Rattle.pw_store.specs.Content.{energy_tree, payment_tree, total_tree};
 ghost use Rattle.pw_store.specs.Opening.{HoldsKept, HoldsSums, HoldsTotals};
 ghost use Rattle.pw_store.specs.inner.Listings.{kept_as, kept_tree, listed_tree, shown_by};
@@ -29,9 +29,10 @@ use sqlite::{Alter, Connection};
 
 // Sees that rows have rowids, none of them twice.
 fn check_rowids<S: Alter>(conn: &mut Connection<S>, rowids: Listing) -> Result<(), OpenFault>
-    requires ours { HasCleanDisk (state S.Store conn.old) → IsOurs (state S.Store conn.old).now.schema }
+    requires ours { HasOurTables (state S.Store conn.old) }
     requires shown { shown_by rowids ≡ shown_id }
-    ensures numbered { HasCleanDisk (state S.Store conn.new) → OnOk result (AreNumbered ((state S.Store conn.old).now.trees (listed_tree rowids))) }
+    ensures numbered { HasCleanDisk (state S.Store conn.new)
+        → OnOk result (AreNumbered ((state S.Store conn.old).now.trees (listed_tree rowids))) }
     ensures refused { HasCleanDisk (state S.Store conn.new) → result ≡ Err OpenFault.Unclean → ⊥ }
     ensures others { OnErr result (IsOther result) }
     ensures looks { Looks result (state S.Store conn.old) (state S.Store conn.new) }
@@ -48,11 +49,20 @@ fn read_kept<S: Alter>(
     kept: KeptKind,
     expected: &[Entry],
 ) -> Result<(usize, bool), OpenFault>
-    requires ours { HasCleanDisk (state S.Store conn.old) → IsOurs (state S.Store conn.old).now.schema }
-    ensures holds { HasCleanDisk (state S.Store conn.new) → OnOk result (HoldsKept (office_of office.now) (kept_as kept) ((state S.Store conn.old).now.trees (kept_tree kept))) }
-    ensures numbered { HasCleanDisk (state S.Store conn.new) → OnOk result (AreNumbered ((state S.Store conn.old).now.trees (kept_tree kept))) }
-    ensures tells { HasCleanDisk (state S.Store conn.new) → IfOk result (λ read. (found : List EntrySpec) × TellsKept (kept_as kept) ((state S.Store conn.old).now.trees (kept_tree kept)) found × (IsTrue read.1 ↔ expected.now ≡ found)) }
-    ensures cause { HasCleanDisk (state S.Store conn.new) → IfErr result (RefusesUnless (HoldsKept (office_of office.now) (kept_as kept) ((state S.Store conn.old).now.trees (kept_tree kept)))) }
+    requires ours { HasOurTables (state S.Store conn.old) }
+    ensures holds { HasCleanDisk (state S.Store conn.new)
+        → OnOk result (HoldsKept (office_of office.now) (kept_as kept)
+        ((state S.Store conn.old).now.trees (kept_tree kept))) }
+    ensures numbered { HasCleanDisk (state S.Store conn.new)
+        → OnOk result (AreNumbered ((state S.Store conn.old).now.trees (kept_tree kept))) }
+    ensures tells { HasCleanDisk (state S.Store conn.new)
+        → IfOk result (λ read. (found : List EntrySpec)
+        × TellsKept (kept_as kept) ((state S.Store conn.old).now.trees (kept_tree kept)) found
+        × (IsTrue read.1 ↔ expected.now ≡ found)) }
+    ensures cause { HasCleanDisk (state S.Store conn.new)
+        → IfErr result (RefusesUnless
+        (HoldsKept (office_of office.now) (kept_as kept)
+        ((state S.Store conn.old).now.trees (kept_tree kept)))) }
     ensures looks { Looks result (state S.Store conn.old) (state S.Store conn.new) }
 {
     let mut entries = KeptEntries::new(office, kept.kind(), expected);
@@ -67,11 +77,20 @@ fn read_by_period<'a, S: Alter>(
     office: &'a Office,
     expected: &'a [(TotalKey, u64)],
 ) -> Result<(usize, Option<&'a [(TotalKey, u64)]>), OpenFault>
-    requires ours { HasCleanDisk (state S.Store conn.old) → IsOurs (state S.Store conn.old).now.schema }
-    ensures holds { HasCleanDisk (state S.Store conn.new) → OnOk result (HoldsTotals (office_of office.now) TotalKind.Energies ((state S.Store conn.old).now.trees energy_tree)) }
-    ensures numbered { HasCleanDisk (state S.Store conn.new) → OnOk result (AreNumbered ((state S.Store conn.old).now.trees energy_tree)) }
-    ensures tells { HasCleanDisk (state S.Store conn.new) → IfOk result (λ read. (found : List (TotalKeySpec × ℕ)) × TellsTotals TotalKind.Energies ((state S.Store conn.old).now.trees energy_tree) found × IsRest (Some expected.now) (filter is_above_zero found) (option_copied read.1)) }
-    ensures cause { HasCleanDisk (state S.Store conn.new) → IfErr result (RefusesUnless (HoldsTotals (office_of office.now) TotalKind.Energies ((state S.Store conn.old).now.trees energy_tree))) }
+    requires ours { HasOurTables (state S.Store conn.old) }
+    ensures holds { HasCleanDisk (state S.Store conn.new)
+        → OnOk result (HoldsTotals (office_of office.now) TotalKind.Energies
+        ((state S.Store conn.old).now.trees energy_tree)) }
+    ensures numbered { HasCleanDisk (state S.Store conn.new)
+        → OnOk result (AreNumbered ((state S.Store conn.old).now.trees energy_tree)) }
+    ensures tells { HasCleanDisk (state S.Store conn.new)
+        → IfOk result (λ read. (found : List (TotalKeySpec × ℕ))
+        × TellsTotals TotalKind.Energies ((state S.Store conn.old).now.trees energy_tree) found
+        × IsRest (Some expected.now) (filter is_above_zero found) (option_copied read.1)) }
+    ensures cause { HasCleanDisk (state S.Store conn.new)
+        → IfErr result (RefusesUnless
+        (HoldsTotals (office_of office.now) TotalKind.Energies
+        ((state S.Store conn.old).now.trees energy_tree))) }
     ensures looks { Looks result (state S.Store conn.old) (state S.Store conn.new) }
 {
     let mut energies = KeptTotals::new(office, TotalKind::Energies, Some(expected));
@@ -82,9 +101,11 @@ fn read_by_period<'a, S: Alter>(
 
 // Sees that no total is kept by band alone.
 fn check_old_totals<S: Alter>(conn: &mut Connection<S>) -> Result<(), OpenFault>
-    requires ours { HasCleanDisk (state S.Store conn.old) → IsOurs (state S.Store conn.old).now.schema }
-    ensures none { HasCleanDisk (state S.Store conn.new) → OnOk result ((state S.Store conn.old).now.trees total_tree ≡ []) }
-    ensures cause { HasCleanDisk (state S.Store conn.new) → IfErr result (RefusesUnless ((state S.Store conn.old).now.trees total_tree ≡ [])) }
+    requires ours { HasOurTables (state S.Store conn.old) }
+    ensures none { HasCleanDisk (state S.Store conn.new)
+        → OnOk result ((state S.Store conn.old).now.trees total_tree ≡ []) }
+    ensures cause { HasCleanDisk (state S.Store conn.new)
+        → IfErr result (RefusesUnless ((state S.Store conn.old).now.trees total_tree ≡ [])) }
     ensures looks { Looks result (state S.Store conn.old) (state S.Store conn.new) }
 {
     let mut judge = NoRows;
@@ -99,12 +120,21 @@ pub(crate) fn read_energies<'a, S: Alter>(
     office: &'a Office,
     expected: &'a [(TotalKey, u64)],
 ) -> Result<(usize, Option<&'a [(TotalKey, u64)]>), OpenFault>
-    requires ours { HasCleanDisk (state S.Store conn.old) → IsOurs (state S.Store conn.old).now.schema }
-    ensures holds { HasCleanDisk (state S.Store conn.new) → OnOk result (HoldsTotals (office_of office.now) TotalKind.Energies ((state S.Store conn.old).now.trees energy_tree)) }
-    ensures none { HasCleanDisk (state S.Store conn.new) → OnOk result ((state S.Store conn.old).now.trees total_tree ≡ []) }
-    ensures numbered { HasCleanDisk (state S.Store conn.new) → OnOk result (AreNumbered ((state S.Store conn.old).now.trees energy_tree)) }
-    ensures tells { HasCleanDisk (state S.Store conn.new) → IfOk result (λ read. (found : List (TotalKeySpec × ℕ)) × TellsTotals TotalKind.Energies ((state S.Store conn.old).now.trees energy_tree) found × IsRest (Some expected.now) (filter is_above_zero found) (option_copied read.1)) }
-    ensures cause { HasCleanDisk (state S.Store conn.new) → IfErr result (RefusesUnless (HoldsEnergies (office_of office.now) (state S.Store conn.old).now.trees)) }
+    requires ours { HasOurTables (state S.Store conn.old) }
+    ensures holds { HasCleanDisk (state S.Store conn.new)
+        → OnOk result (HoldsTotals (office_of office.now) TotalKind.Energies
+        ((state S.Store conn.old).now.trees energy_tree)) }
+    ensures none { HasCleanDisk (state S.Store conn.new)
+        → OnOk result ((state S.Store conn.old).now.trees total_tree ≡ []) }
+    ensures numbered { HasCleanDisk (state S.Store conn.new)
+        → OnOk result (AreNumbered ((state S.Store conn.old).now.trees energy_tree)) }
+    ensures tells { HasCleanDisk (state S.Store conn.new)
+        → IfOk result (λ read. (found : List (TotalKeySpec × ℕ))
+        × TellsTotals TotalKind.Energies ((state S.Store conn.old).now.trees energy_tree) found
+        × IsRest (Some expected.now) (filter is_above_zero found) (option_copied read.1)) }
+    ensures cause { HasCleanDisk (state S.Store conn.new)
+        → IfErr result (RefusesUnless
+        (HoldsEnergies (office_of office.now) (state S.Store conn.old).now.trees)) }
     ensures looks { Looks result (state S.Store conn.old) (state S.Store conn.new) }
 {
     check_old_totals(conn)?;
@@ -127,11 +157,20 @@ fn read_payments<S: Alter>(
     office: &Office,
     expected: Option<&[(TotalKey, u64)]>,
 ) -> Result<(usize, bool), OpenFault>
-    requires ours { HasCleanDisk (state S.Store conn.old) → IsOurs (state S.Store conn.old).now.schema }
-    ensures holds { HasCleanDisk (state S.Store conn.new) → OnOk result (HoldsTotals (office_of office.now) TotalKind.Payments ((state S.Store conn.old).now.trees payment_tree)) }
-    ensures numbered { HasCleanDisk (state S.Store conn.new) → OnOk result (AreNumbered ((state S.Store conn.old).now.trees payment_tree)) }
-    ensures tells { HasCleanDisk (state S.Store conn.new) → IfOk result (λ read. (found : List (TotalKeySpec × ℕ)) × TellsTotals TotalKind.Payments ((state S.Store conn.old).now.trees payment_tree) found × (IsTrue read.1 ↔ option_copied expected.entry ≡ Some (filter is_above_zero found))) }
-    ensures cause { HasCleanDisk (state S.Store conn.new) → IfErr result (RefusesUnless (HoldsTotals (office_of office.now) TotalKind.Payments ((state S.Store conn.old).now.trees payment_tree))) }
+    requires ours { HasOurTables (state S.Store conn.old) }
+    ensures holds { HasCleanDisk (state S.Store conn.new)
+        → OnOk result (HoldsTotals (office_of office.now) TotalKind.Payments
+        ((state S.Store conn.old).now.trees payment_tree)) }
+    ensures numbered { HasCleanDisk (state S.Store conn.new)
+        → OnOk result (AreNumbered ((state S.Store conn.old).now.trees payment_tree)) }
+    ensures tells { HasCleanDisk (state S.Store conn.new)
+        → IfOk result (λ read. (found : List (TotalKeySpec × ℕ))
+        × TellsTotals TotalKind.Payments ((state S.Store conn.old).now.trees payment_tree) found
+        × (IsTrue read.1 ↔ option_copied expected.entry ≡ Some (filter is_above_zero found))) }
+    ensures cause { HasCleanDisk (state S.Store conn.new)
+        → IfErr result (RefusesUnless
+        (HoldsTotals (office_of office.now) TotalKind.Payments
+        ((state S.Store conn.old).now.trees payment_tree))) }
     ensures looks { Looks result (state S.Store conn.old) (state S.Store conn.new) }
 {
     let mut payments = KeptTotals::new(office, TotalKind::Payments, expected);
@@ -152,11 +191,17 @@ pub(crate) fn read_sums<S: Alter, W: Watch>(
     parts: &Parts,
     watch: &mut W,
 ) -> Result<bool, OpenFault>
-    requires ours { HasCleanDisk (state S.Store conn.old) → IsOurs (state S.Store conn.old).now.schema }
-    ensures holds { HasCleanDisk (state S.Store conn.new) → OnOk result (HoldsSums (office_of office.now) (state S.Store conn.old).now.trees) }
-    ensures numbered { HasCleanDisk (state S.Store conn.new) → OnOk result (AreAllNumbered (state S.Store conn.old).now.trees) }
-    ensures tells { HasCleanDisk (state S.Store conn.new) → IfOk result (λ same. (sums : Listed) × TellsSums (state S.Store conn.old).now.trees sums × (IsTrue same ↔ AreRead parts.now sums)) }
-    ensures cause { HasCleanDisk (state S.Store conn.new) → IfErr result (RefusesUnless (HoldsSums (office_of office.now) (state S.Store conn.old).now.trees)) }
+    requires ours { HasOurTables (state S.Store conn.old) }
+    ensures holds { HasCleanDisk (state S.Store conn.new)
+        → OnOk result (HoldsSums (office_of office.now) (state S.Store conn.old).now.trees) }
+    ensures numbered { HasCleanDisk (state S.Store conn.new)
+        → OnOk result (AreAllNumbered (state S.Store conn.old).now.trees) }
+    ensures tells { HasCleanDisk (state S.Store conn.new)
+        → IfOk result (λ same. (sums : Listed) × TellsSums (state S.Store conn.old).now.trees sums
+        × (IsTrue same ↔ AreRead parts.now sums)) }
+    ensures cause { HasCleanDisk (state S.Store conn.new)
+        → IfErr result (RefusesUnless
+        (HoldsSums (office_of office.now) (state S.Store conn.old).now.trees)) }
     ensures looks { Looks result (state S.Store conn.old) (state S.Store conn.new) }
 {
     let points = read_kept(conn, office, KeptKind::Points, parts.points.as_slice())?;
@@ -164,8 +209,8 @@ pub(crate) fn read_sums<S: Alter, W: Watch>(
     let starts = read_kept(conn, office, KeptKind::Starts, parts.starts.as_slice())?;
     watch.checked(Part::Starts, starts.0);
     let energies = read_energies(conn, office, parts.totals.as_slice())?;
-    watch.checked(Part::Energies, energies.0);
+    watch.checked(Part::Totals(TotalKind::Energies), energies.0);
     let payments = read_payments(conn, office, energies.1)?;
-    watch.checked(Part::Payments, payments.0);
+    watch.checked(Part::Totals(TotalKind::Payments), payments.0);
     Ok(are_all(points.1, starts.1, payments.1))
 }

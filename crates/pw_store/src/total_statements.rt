@@ -2,17 +2,14 @@
 
 ghost use Rattle.std.specs.Prelude.{◌≡◌, ◌<◌, ◌≤◌, ◌^◌, [], ◌∷◌, Some, IfOk, IfSome, IsTrue, OnOk, length};
 ghost use Rattle.sqlite.specs.Held.{state};
-ghost use Rattle.sqlite.specs.State.{HasCleanDisk, KeepsCommit, Survives};
+ghost use Rattle.sqlite.specs.State.{HasCleanDisk, Survives};
 ghost use Rattle.sqlite.specs.Values.{bound};
-ghost use Rattle.pw_schema.specs.Calls.{Writes};
-ghost use Rattle.pw_schema.specs.Fresh.{IsWithin};
-ghost use Rattle.pw_schema.specs.Raised.{HasSame, lasting_trees};
-ghost use Rattle.pw_schema.specs.Tables.{IsOurs, schema_of};
+ghost use Rattle.pw_schema.specs.Calls.{CommitStays, IsWithinVersion, LeavesVersion, Writes};
 ghost use Rattle.pw_schema.specs.declared.kind.StoreVersion.TheVariants.{Third};
-ghost use Rattle.pw_schema.specs.inner.Calls.{Asks};
+ghost use Rattle.pw_schema.specs.inner.Calls.{Asks, HasOurTables, KeepsLasting};
 ghost use Rattle.pw_store.specs.Content.{total_in};
-ghost use Rattle.pw_store.specs.Kept.{IsStore};
 ghost use Rattle.pw_store.specs.inner.Changing.{Fits, IsFree, IsTaken, Makes, PutsEnergy, changed, text_by, total_row};
+ghost use Rattle.pw_store.specs.inner.Connections.{HasBegun, HoldsStore};
 ghost use Rattle.pw_store.specs.inner.Filling.{TellsMore, is_of_energy};
 ghost use Rattle.pw_store.specs.inner.Given.{values_of};
 ghost use Rattle.pw_store.specs.inner.Seconds.{first_amount};
@@ -29,9 +26,11 @@ const TOO_WIDE: u64 = 0x8000_0000_0000_0000;
 
 /// Takes the row of a total away, if there is one.
 pub(crate) fn take_total<S: Alter>(conn: &mut Connection<S>, key: TotalKey) -> Result<usize, Error>
-    requires inside { HasCleanDisk (state S.Store conn.old) → IsTrue (state S.Store conn.old).in_transaction }
-    requires store { HasCleanDisk (state S.Store conn.old) → IsStore (state S.Store conn.old).now }
-    ensures done { HasCleanDisk (state S.Store conn.new) → IfOk result (λ rows. Makes (changed (Change.TakeTotal key) rows) (state S.Store conn.old) (state S.Store conn.new)) }
+    requires inside { HasBegun (state S.Store conn.old) }
+    requires store { HoldsStore (state S.Store conn.old) }
+    ensures done { HasCleanDisk (state S.Store conn.new)
+        → IfOk result (λ rows. Makes (changed (Change.TakeTotal key) rows)
+        (state S.Store conn.old) (state S.Store conn.new)) }
     ensures writes { Writes result (state S.Store conn.old) (state S.Store conn.new) }
 {
     let text = text_of(
@@ -48,11 +47,15 @@ pub(crate) fn set_total<S: Alter>(
     key: TotalKey,
     amount: u64,
 ) -> Result<usize, Error>
-    requires inside { HasCleanDisk (state S.Store conn.old) → IsTrue (state S.Store conn.old).in_transaction }
-    requires store { HasCleanDisk (state S.Store conn.old) → IsStore (state S.Store conn.old).now }
+    requires inside { HasBegun (state S.Store conn.old) }
+    requires store { HoldsStore (state S.Store conn.old) }
     requires fits { Fits (Change.SetTotal key amount) }
-    ensures done { HasCleanDisk (state S.Store conn.new) → IfOk result (λ rows. Makes (changed (Change.SetTotal key amount) rows) (state S.Store conn.old) (state S.Store conn.new)) }
-    ensures taken { HasCleanDisk (state S.Store conn.new) → IfOk result (λ rows. IsTaken (Change.SetTotal key amount) rows (state S.Store conn.new).now.trees) }
+    ensures done { HasCleanDisk (state S.Store conn.new)
+        → IfOk result (λ rows. Makes (changed (Change.SetTotal key amount) rows)
+        (state S.Store conn.old) (state S.Store conn.new)) }
+    ensures taken { HasCleanDisk (state S.Store conn.new)
+        → IfOk result (λ rows. IsTaken (Change.SetTotal key amount) rows
+        (state S.Store conn.new).now.trees) }
     ensures writes { Writes result (state S.Store conn.old) (state S.Store conn.new) }
 {
     let text = text_of(
@@ -69,11 +72,14 @@ pub(crate) fn put_total<S: Alter>(
     key: TotalKey,
     amount: u64,
 ) -> Result<usize, Error>
-    requires inside { HasCleanDisk (state S.Store conn.old) → IsTrue (state S.Store conn.old).in_transaction }
-    requires store { HasCleanDisk (state S.Store conn.old) → IsStore (state S.Store conn.old).now }
-    requires free { HasCleanDisk (state S.Store conn.old) → IsFree (Change.PutTotal key amount) (state S.Store conn.old).now.trees }
+    requires inside { HasBegun (state S.Store conn.old) }
+    requires store { HoldsStore (state S.Store conn.old) }
+    requires free { HasCleanDisk (state S.Store conn.old)
+        → IsFree (Change.PutTotal key amount) (state S.Store conn.old).now.trees }
     requires fits { Fits (Change.PutTotal key amount) }
-    ensures done { HasCleanDisk (state S.Store conn.new) → IfOk result (λ rows. Makes (changed (Change.PutTotal key amount) rows) (state S.Store conn.old) (state S.Store conn.new)) }
+    ensures done { HasCleanDisk (state S.Store conn.new)
+        → IfOk result (λ rows. Makes (changed (Change.PutTotal key amount) rows)
+        (state S.Store conn.old) (state S.Store conn.new)) }
     ensures writes { Writes result (state S.Store conn.old) (state S.Store conn.new) }
 {
     match key {
@@ -90,8 +96,10 @@ pub(crate) fn total_rows<S: Alter>(
     conn: &mut Connection<S>,
     key: &TotalKey,
 ) -> Result<Vec<Row>, Error>
-    requires store { HasCleanDisk (state S.Store conn.old) → IsStore (state S.Store conn.old).now }
-    ensures amount { HasCleanDisk (state S.Store conn.new) → IfOk result (λ rows. length rows.items ≤ 1 → first_amount rows.items ≡ total_in (state S.Store conn.old).now.trees key.now) }
+    requires store { HoldsStore (state S.Store conn.old) }
+    ensures amount { HasCleanDisk (state S.Store conn.new)
+        → IfOk result (λ rows. length rows.items ≤ 1
+        → first_amount rows.items ≡ total_in (state S.Store conn.old).now.trees key.now) }
     ensures asks { Asks result (state S.Store conn.old) (state S.Store conn.new) }
 {
     let text = text_of(
@@ -153,11 +161,13 @@ fn columns_of(key: &TotalKey, amount: Option<u64>) -> Given<'static>
 
 // Puts a row of a total of energy, whatever rows there are.
 fn put_energy<S: Alter>(conn: &mut Connection<S>, key: &TotalKey, wh: u64) -> Result<usize, Error>
-    requires inside { HasCleanDisk (state S.Store conn.old) → IsTrue (state S.Store conn.old).in_transaction }
-    requires ours { HasCleanDisk (state S.Store conn.old) → IsOurs (state S.Store conn.old).now.schema }
+    requires inside { HasBegun (state S.Store conn.old) }
+    requires ours { HasOurTables (state S.Store conn.old) }
     requires energy { IsTrue (is_of_energy key.now) }
     requires fits { wh < 2 ^ 63 }
-    ensures put { HasCleanDisk (state S.Store conn.new) → OnOk result (PutsEnergy (total_row key.now (Some wh)) (state S.Store conn.old) (state S.Store conn.new)) }
+    ensures put { HasCleanDisk (state S.Store conn.new)
+        → OnOk result (PutsEnergy (total_row key.now (Some wh)) (state S.Store conn.old)
+        (state S.Store conn.new)) }
     ensures writes { Writes result (state S.Store conn.old) (state S.Store conn.new) }
 {
     conn.execute(
@@ -172,11 +182,13 @@ pub(crate) fn fill_total<S: Alter>(
     key: &TotalKey,
     amount: u64,
 ) -> Result<usize, Error>
-    requires within { HasCleanDisk (state S.Store conn.old) → IsWithin (schema_of Third) (state S.Store conn.old) }
-    ensures within { HasCleanDisk (state S.Store conn.new) → OnOk result (IsWithin (schema_of Third) (state S.Store conn.new)) }
-    ensures lasting { HasCleanDisk (state S.Store conn.new) → OnOk result (HasSame lasting_trees (state S.Store conn.old).now.trees (state S.Store conn.new).now.trees) }
-    ensures told { HasCleanDisk (state S.Store conn.new) → OnOk result (TellsMore ((key.now, amount) ∷ []) (state S.Store conn.old).now.trees (state S.Store conn.new).now.trees) }
-    ensures kept { HasCleanDisk (state S.Store conn.new) → KeepsCommit (state S.Store conn.old) (state S.Store conn.new) }
+    requires within { IsWithinVersion Third (state S.Store conn.old) }
+    ensures within { LeavesVersion Third result (state S.Store conn.new) }
+    ensures lasting { KeepsLasting result (state S.Store conn.old) (state S.Store conn.new) }
+    ensures told { HasCleanDisk (state S.Store conn.new)
+        → OnOk result (TellsMore ((key.now, amount) ∷ []) (state S.Store conn.old).now.trees
+        (state S.Store conn.new).now.trees) }
+    ensures kept { CommitStays (state S.Store conn.old) (state S.Store conn.new) }
     ensures crash { Survives (state S.Store conn.old) (state S.Store conn.new) (λ _. ⊥) }
 {
     if amount >= TOO_WIDE {

@@ -18,14 +18,22 @@ impl<S: Alter> SqlShelf<S> {
     // Begins an upload.
     pub(crate) fn begin_upload(&mut self) -> Result<(), ShelfFault>
         requires { begun_with self.old.begun (state S.Store self.old.base.value) ≡ None }
-        ensures begun { OnOk result (begun_with self.new.begun (state S.Store self.new.base.value) ≡ Some (held_of (state S.Store self.old.conn) (state S.Store self.old.base.value))) }
-        ensures unbegun { OnErr result (begun_with self.new.begun (state S.Store self.new.base.value) ≡ None) }
-        ensures same { HasCleanDisk (state S.Store self.new.conn) → held_of (state S.Store self.new.conn) (state S.Store self.new.base.value) ≡ held_of (state S.Store self.old.conn) (state S.Store self.old.base.value) }
-        ensures failures { self.new.failures.count ≡ self.old.failures.count + failures_told result }
+        ensures begun { OnOk result (begun_with self.new.begun (state S.Store self.new.base.value)
+            ≡ Some (held_of (state S.Store self.old.conn) (state S.Store self.old.base.value))) }
+        ensures unbegun { OnErr result (begun_with self.new.begun
+            (state S.Store self.new.base.value) ≡ None) }
+        ensures same { HasCleanDisk (state S.Store self.new.conn)
+            → held_of (state S.Store self.new.conn) (state S.Store self.new.base.value)
+            ≡ held_of (state S.Store self.old.conn) (state S.Store self.old.base.value) }
+        ensures failures { self.new.failures.count ≡ self.old.failures.count
+            + failures_told result }
         ensures abandons { self.new.failed_abandons.count ≡ self.old.failed_abandons.count }
         ensures tally { self.new.tally.count ≡ self.old.tally.count + 1 }
-        ensures left { HasCleanDisk (state S.Store self.new.conn) → LeavesNoMore (left_of (state S.Store self.old.conn)) (left_of (state S.Store self.new.conn)) }
-        ensures cleanness { HasCleanDisk (state S.Store self.new.conn) → HasCleanDisk (state S.Store self.old.conn) }
+        ensures left { HasCleanDisk (state S.Store self.new.conn)
+            → LeavesNoMore (left_of (state S.Store self.old.conn))
+            (left_of (state S.Store self.new.conn)) }
+        ensures cleanness { HasCleanDisk (state S.Store self.new.conn)
+            → HasCleanDisk (state S.Store self.old.conn) }
         ensures store { self.new.opened.value ≡ self.old.opened.value }
     {
         self.tally.tick(0);
@@ -46,16 +54,31 @@ impl<S: Alter> SqlShelf<S> {
     // Ends the upload, and keeps what it wrote.
     pub(crate) fn commit_upload(&mut self) -> Result<(), ShelfFault>
         requires { IsSome (begun_with self.old.begun (state S.Store self.old.base.value)) }
-        ensures ended { OnOk result (begun_with self.new.begun (state S.Store self.new.base.value) ≡ None) }
-        ensures begun { OnErr result (begun_with self.new.begun (state S.Store self.new.base.value) ≡ begun_with self.old.begun (state S.Store self.old.base.value)) }
-        ensures same { HasCleanDisk (state S.Store self.new.conn) → OnOk result (held_of (state S.Store self.new.conn) (state S.Store self.new.base.value) ≡ held_of (state S.Store self.old.conn) (state S.Store self.old.base.value)) }
-        ensures failures { self.new.failures.count ≡ self.old.failures.count + failures_told result }
+        ensures ended { OnOk result (begun_with self.new.begun (state S.Store self.new.base.value)
+            ≡ None) }
+        ensures begun { OnErr result (begun_with self.new.begun (state S.Store self.new.base.value)
+            ≡ begun_with self.old.begun (state S.Store self.old.base.value)) }
+        ensures same { HasCleanDisk (state S.Store self.new.conn)
+            → OnOk result (held_of (state S.Store self.new.conn)
+            (state S.Store self.new.base.value)
+            ≡ held_of (state S.Store self.old.conn) (state S.Store self.old.base.value)) }
+        ensures failures { self.new.failures.count ≡ self.old.failures.count
+            + failures_told result }
         ensures abandons { self.new.failed_abandons.count ≡ self.old.failed_abandons.count }
         ensures tally { self.new.tally.count ≡ self.old.tally.count + 1 }
-        ensures kept { HasCleanDisk (state S.Store self.new.conn) → OnOk result (LeavesOnly (held_of (state S.Store self.old.conn) (state S.Store self.old.base.value)) (left_of (state S.Store self.new.conn))) }
-        ensures stays { HasCleanDisk (state S.Store self.new.conn) → OnOk result (left_of (state S.Store self.new.conn) (held_of (state S.Store self.old.conn) (state S.Store self.old.base.value))) }
-        ensures left { HasCleanDisk (state S.Store self.new.conn) → OnErr result (LeavesNoMoreOr (held_of (state S.Store self.old.conn) (state S.Store self.old.base.value)) (left_of (state S.Store self.old.conn)) (left_of (state S.Store self.new.conn))) }
-        ensures cleanness { HasCleanDisk (state S.Store self.new.conn) → HasCleanDisk (state S.Store self.old.conn) }
+        ensures kept { HasCleanDisk (state S.Store self.new.conn)
+            → OnOk result (LeavesOnly
+            (held_of (state S.Store self.old.conn) (state S.Store self.old.base.value))
+            (left_of (state S.Store self.new.conn))) }
+        ensures stays { HasCleanDisk (state S.Store self.new.conn)
+            → OnOk result (left_of (state S.Store self.new.conn)
+            (held_of (state S.Store self.old.conn) (state S.Store self.old.base.value))) }
+        ensures left { HasCleanDisk (state S.Store self.new.conn)
+            → OnErr result (LeavesNoMoreOr
+            (held_of (state S.Store self.old.conn) (state S.Store self.old.base.value))
+            (left_of (state S.Store self.old.conn)) (left_of (state S.Store self.new.conn))) }
+        ensures cleanness { HasCleanDisk (state S.Store self.new.conn)
+            → HasCleanDisk (state S.Store self.old.conn) }
         ensures store { self.new.opened.value ≡ self.old.opened.value }
     {
         self.tally.tick(0);

@@ -25,10 +25,16 @@ impl<S: Alter> SqlShelf<S> {
     // run.
     pub(crate) fn change(&mut self, change: Change) -> Result<usize, ShelfFault>
         requires begun { self.old.begun ≡ true }
-        requires free { HasCleanDisk (state S.Store self.old.conn) → IsFree change (state S.Store self.old.conn).now.trees }
+        requires free { HasCleanDisk (state S.Store self.old.conn)
+            → IsFree change (state S.Store self.old.conn).now.trees }
         requires fits { Fits change }
-        ensures content { HasCleanDisk (state S.Store self.new.conn) → IfOk result (λ rows. held_of (state S.Store self.new.conn) (state S.Store self.new.base.value) ≡ changed change rows (held_of (state S.Store self.old.conn) (state S.Store self.old.base.value))) }
-        ensures taken { HasCleanDisk (state S.Store self.new.conn) → IfOk result (λ rows. IsTaken change rows (state S.Store self.new.conn).now.trees) }
+        ensures content { HasCleanDisk (state S.Store self.new.conn)
+            → IfOk result (λ rows. held_of (state S.Store self.new.conn)
+            (state S.Store self.new.base.value)
+            ≡ changed change rows (held_of (state S.Store self.old.conn)
+            (state S.Store self.old.base.value))) }
+        ensures taken { HasCleanDisk (state S.Store self.new.conn)
+            → IfOk result (λ rows. IsTaken change rows (state S.Store self.new.conn).now.trees) }
         ensures keeps_else { KeepsElse S.Store result self.old self.new }
     {
         if self.conn.is_autocommit() {
@@ -52,8 +58,13 @@ impl<S: Alter> SqlShelf<S> {
         requires first { (db : Trees) → IsFree take db }
         requires free { (rows : ℕ) (db : Trees) → IsTaken take rows db → IsFree put db }
         requires fits { Fits take × Fits put }
-        requires steady { (rows : ℕ) (c : ShelfContent) → (changed take rows c ≡ changed take 1 c) × (changed put rows c ≡ changed put 1 c) }
-        ensures content { HasCleanDisk (state S.Store self.new.conn) → OnOk result (held_of (state S.Store self.new.conn) (state S.Store self.new.base.value) ≡ changed put 1 (changed take 1 (held_of (state S.Store self.old.conn) (state S.Store self.old.base.value)))) }
+        requires steady { (rows : ℕ) (c : ShelfContent)
+            → (changed take rows c ≡ changed take 1 c) × (changed put rows c ≡ changed put 1 c) }
+        ensures content { HasCleanDisk (state S.Store self.new.conn)
+            → OnOk result (held_of (state S.Store self.new.conn)
+            (state S.Store self.new.base.value)
+            ≡ changed put 1 (changed take 1
+            (held_of (state S.Store self.old.conn) (state S.Store self.old.base.value)))) }
         ensures keeps_else { KeepsElse S.Store result self.old self.new }
     {
         self.change(take)?;
@@ -70,7 +81,11 @@ impl<S: Alter> SqlShelf<S> {
         wh: WattHours,
     ) -> Result<(), ShelfFault>
         requires { self.old.begun ≡ true }
-        ensures content { HasCleanDisk (state S.Store self.new.conn) → OnOk result (held_of (state S.Store self.new.conn) (state S.Store self.new.base.value) ≡ with_point (held_of (state S.Store self.old.conn) (state S.Store self.old.base.value)) meter.0 register instant (Some wh)) }
+        ensures content { HasCleanDisk (state S.Store self.new.conn)
+            → OnOk result (held_of (state S.Store self.new.conn)
+            (state S.Store self.new.base.value)
+            ≡ with_point (held_of (state S.Store self.old.conn)
+            (state S.Store self.old.base.value)) meter.0 register instant (Some wh)) }
         ensures keeps_else { KeepsElse S.Store result self.old self.new }
     {
         let put = Change::PutPoint {
@@ -98,7 +113,11 @@ impl<S: Alter> SqlShelf<S> {
     pub(crate) fn put_total(&mut self, key: TotalKey, amount: u64) -> Result<(), ShelfFault>
         requires begun { self.old.begun ≡ true }
         requires fits { Fits (Change.PutTotal key amount) }
-        ensures content { HasCleanDisk (state S.Store self.new.conn) → OnOk result (held_of (state S.Store self.new.conn) (state S.Store self.new.base.value) ≡ with_total (held_of (state S.Store self.old.conn) (state S.Store self.old.base.value)) key amount) }
+        ensures content { HasCleanDisk (state S.Store self.new.conn)
+            → OnOk result (held_of (state S.Store self.new.conn)
+            (state S.Store self.new.base.value)
+            ≡ with_total (held_of (state S.Store self.old.conn)
+            (state S.Store self.old.base.value)) key amount) }
         ensures keeps_else { KeepsElse S.Store result self.old self.new }
     {
         if self.change(Change::SetTotal { key, amount })? > 0 {

@@ -1,18 +1,14 @@
 //! How far an opening is.
 
+use pw_schema::{RecordKind, TotalKind};
+
 /// What an opening checks, in its order.
 #[derive(Clone, Copy, Debug, PartialEq, Eq)]
 pub enum Part {
-    Readings,
-    Assignments,
-    TopUps,
-    WithdrawnReadings,
-    WithdrawnAssignments,
-    WithdrawnTopUps,
+    Records(RecordKind),
     Points,
     Starts,
-    Energies,
-    Payments,
+    Totals(TotalKind),
 }
 
 /// Who is told how far an opening is, and what it changed.

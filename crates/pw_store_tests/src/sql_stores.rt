@@ -32,9 +32,12 @@ fn store_on<S: Alter>(
     text: &[u8],
 ) -> Result<SqlShelf<S>, (OpenFault, Connection<S>)>
     requires { IsOfficeOf text.now office.now }
-    ensures few { IfOk result (λ s. ⟦<SqlShelf<S> as Shelf>⟧.clean s → length (⟦<SqlShelf<S> as Shelf>⟧.state s).content.records ≤ most_records) }
-    ensures of_office { IfOk result (λ s. ⟦<SqlShelf<S> as Shelf>⟧.clean s → AllOfOffice (office_of office.now) (⟦<SqlShelf<S> as Shelf>⟧.state s).content.records) }
-    ensures truth { IfOk result (λ s. ⟦<SqlShelf<S> as Shelf>⟧.clean s → IsTrueContent (office_of office.now) (⟦<SqlShelf<S> as Shelf>⟧.state s).content) }
+    ensures few { IfOk result (λ s. ⟦<SqlShelf<S> as Shelf>⟧.clean s
+        → length (⟦<SqlShelf<S> as Shelf>⟧.state s).content.records ≤ most_records) }
+    ensures of_office { IfOk result (λ s. ⟦<SqlShelf<S> as Shelf>⟧.clean s
+        → AllOfOffice (office_of office.now) (⟦<SqlShelf<S> as Shelf>⟧.state s).content.records) }
+    ensures truth { IfOk result (λ s. ⟦<SqlShelf<S> as Shelf>⟧.clean s
+        → IsTrueContent (office_of office.now) (⟦<SqlShelf<S> as Shelf>⟧.state s).content) }
     ensures idle { IfOk result (λ s. (⟦<SqlShelf<S> as Shelf>⟧.state s).begun ≡ None) }
 {
     SqlShelf::open(alloc, connection, text)
@@ -43,7 +46,8 @@ fn store_on<S: Alter>(
 // A book over a store of its office.
 fn book_over<S: Shelf>(office: Office, shelf: S, limit: u32) -> Book<S>
     requires few { S.clean shelf → length (S.state shelf).content.records ≤ most_records }
-    requires of_office { S.clean shelf → AllOfOffice (office_of office) (S.state shelf).content.records }
+    requires of_office { S.clean shelf → AllOfOffice (office_of office)
+        (S.state shelf).content.records }
     requires truth { S.clean shelf → IsTrueContent (office_of office) (S.state shelf).content }
     requires idle { (S.state shelf).begun ≡ None }
     requires least { 1 ≤ limit }
@@ -61,7 +65,8 @@ fn failing_over<S: Shelf>(
     abandon_fails: bool,
 ) -> Book<CountShelf<S>>
     requires few { S.clean shelf → length (S.state shelf).content.records ≤ most_records }
-    requires of_office { S.clean shelf → AllOfOffice (office_of office) (S.state shelf).content.records }
+    requires of_office { S.clean shelf → AllOfOffice (office_of office)
+        (S.state shelf).content.records }
     requires truth { S.clean shelf → IsTrueContent (office_of office) (S.state shelf).content }
     requires idle { (S.state shelf).begun ≡ None }
 {
@@ -75,9 +80,12 @@ fn office_and_store<S: Alter>(
     connection: Connection<S>,
     text: &[u8],
 ) -> Result<(Office, SqlShelf<S>), (OpenFault, Connection<S>)>
-    ensures few { IfOk result (λ r. ⟦<SqlShelf<S> as Shelf>⟧.clean r.1 → length (⟦<SqlShelf<S> as Shelf>⟧.state r.1).content.records ≤ most_records) }
-    ensures of_office { IfOk result (λ r. ⟦<SqlShelf<S> as Shelf>⟧.clean r.1 → AllOfOffice (office_of r.0) (⟦<SqlShelf<S> as Shelf>⟧.state r.1).content.records) }
-    ensures truth { IfOk result (λ r. ⟦<SqlShelf<S> as Shelf>⟧.clean r.1 → IsTrueContent (office_of r.0) (⟦<SqlShelf<S> as Shelf>⟧.state r.1).content) }
+    ensures few { IfOk result (λ r. ⟦<SqlShelf<S> as Shelf>⟧.clean r.1
+        → length (⟦<SqlShelf<S> as Shelf>⟧.state r.1).content.records ≤ most_records) }
+    ensures of_office { IfOk result (λ r. ⟦<SqlShelf<S> as Shelf>⟧.clean r.1
+        → AllOfOffice (office_of r.0) (⟦<SqlShelf<S> as Shelf>⟧.state r.1).content.records) }
+    ensures truth { IfOk result (λ r. ⟦<SqlShelf<S> as Shelf>⟧.clean r.1
+        → IsTrueContent (office_of r.0) (⟦<SqlShelf<S> as Shelf>⟧.state r.1).content) }
     ensures idle { IfOk result (λ r. (⟦<SqlShelf<S> as Shelf>⟧.state r.1).begun ≡ None) }
 {
     let Ok(office) = Office::read(alloc, text) else {

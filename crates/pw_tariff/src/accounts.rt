@@ -17,7 +17,8 @@ use toml::Table;
 // The names of the accounts, or the first refusal.
 pub(crate) fn read_accounts(alloc: Global, table: &Table) -> Result<Vec<String>, OfficeFault>
     ensures { MatchResult result
-        (λ v. Passes (accounts_checks (table_view table.now)) × (map string_bytes v.items ≡ accounts_of (table_view table.now)))
+        (λ v. Passes (accounts_checks (table_view table.now))
+        × (map string_bytes v.items ≡ accounts_of (table_view table.now)))
         (λ e. IsRefusal (accounts_checks (table_view table.now)) e) }
 {
     let names = texts_at(alloc, table, "accounts")?;

@@ -23,7 +23,8 @@ use toml::value::Array;
 // The bands, or the first refusal.
 pub(crate) fn read_bands(alloc: Global, table: &Table) -> Result<Vec<Band>, OfficeFault>
     ensures { MatchResult result
-        (λ v. Passes (bands_checks (table_view table.now)) × (bands_of v.items ≡ bands_of_table (table_view table.now)))
+        (λ v. Passes (bands_checks (table_view table.now))
+        × (bands_of v.items ≡ bands_of_table (table_view table.now)))
         (λ e. IsRefusal (bands_checks (table_view table.now)) e) }
 {
     let Some(array) = list_at(table, "band") else {
@@ -40,7 +41,8 @@ pub(crate) fn read_bands(alloc: Global, table: &Table) -> Result<Vec<Band>, Offi
 fn read_each(alloc: Global, array: &Array) -> Result<Vec<Band>, OfficeFault>
     requires { tables_of (array_view array.now) ≡ Some (map table_in array.now.items) }
     ensures { MatchResult result
-        (λ v. Passes (bands_in_turn (map table_in array.now.items)) × (bands_of v.items ≡ map band_of_table (map table_in array.now.items)))
+        (λ v. Passes (bands_in_turn (map table_in array.now.items))
+        × (bands_of v.items ≡ map band_of_table (map table_in array.now.items)))
         (λ e. IsRefusal (bands_in_turn (map table_in array.now.items)) e) }
 {
     let mut bands = Vec::new(alloc);
@@ -58,7 +60,8 @@ fn read_each(alloc: Global, array: &Array) -> Result<Vec<Band>, OfficeFault>
 fn read_band(table: &Table, earlier: &[Band]) -> Result<Band, OfficeFault>
     ensures { MatchResult result
         (λ b. Passes (band_checks (letters_of earlier.now) (table_view table.now))
-        × (band_of b ≡ band_of_table (table_view table.now)) × (band_name_of (table_view table.now) ≡ b.name ∷ []))
+        × (band_of b ≡ band_of_table (table_view table.now))
+        × (band_name_of (table_view table.now) ≡ b.name ∷ []))
         (λ e. IsRefusal (band_checks (letters_of earlier.now) (table_view table.now)) e) }
 {
     let Some(name) = text_at(table, "name") else {
@@ -91,7 +94,8 @@ fn read_band(table: &Table, earlier: &[Band]) -> Result<Band, OfficeFault>
 
 // The letter that is a band's name.
 fn letter(text: &[u8]) -> Option<u8>
-    ensures { MatchOption result (is_band_name text.now ≡ false) (λ c. (is_band_name text.now ≡ true) × (text.now ≡ c ∷ [])) }
+    ensures { MatchOption result (is_band_name text.now ≡ false)
+        (λ c. (is_band_name text.now ≡ true) × (text.now ≡ c ∷ [])) }
 {
     match text {
         [letter] if is_capital(*letter) => Some(*letter),
@@ -113,7 +117,8 @@ fn is_new_letter(letter: u8, earlier: &[Band]) -> bool
 
 // A price in nano-euro per Wh, if it is in range.
 pub(crate) fn price(value: i64) -> Option<u32>
-    ensures { MatchOption result (is_price value ≡ false) (λ p. (is_price value ≡ true) × (p ≡ whole_of value)) }
+    ensures { MatchOption result (is_price value ≡ false)
+        (λ p. (is_price value ≡ true) × (p ≡ whole_of value)) }
 {
     if value < 0 || value > i64::from(MOST_PRICE) {
         return None;

@@ -57,8 +57,10 @@ impl Cell {
 // How many cells from the first on stand before that of a share.
 fn before(cells: &[Cell], share: &Cell) -> usize
     ensures bound { result ≤ length cells.now }
-    ensures before { (k : ℕ) (d : Cell) → k < result → IsBeforeCell (slice_index_or cells.now k d) share.now }
-    ensures there { (d : Cell) → result < length cells.now → ¬ (IsBeforeCell (slice_index_or cells.now result d) share.now) }
+    ensures before { (k : ℕ) (d : Cell) → k < result
+        → IsBeforeCell (slice_index_or cells.now k d) share.now }
+    ensures there { (d : Cell) → result < length cells.now
+        → ¬ (IsBeforeCell (slice_index_or cells.now result d) share.now) }
 {
     for (i, cell) in cells.iter().enumerate() {
         if !cell.is_before(share) {

@@ -26,7 +26,8 @@ use toml::value::Array;
 // The meters, or the first refusal.
 pub(crate) fn read_meters(alloc: Global, table: &Table) -> Result<Vec<Meter>, OfficeFault>
     ensures { MatchResult result
-        (λ v. Passes (meters_checks (table_view table.now)) × (map meter_of v.items ≡ meters_of_table (table_view table.now)))
+        (λ v. Passes (meters_checks (table_view table.now))
+        × (map meter_of v.items ≡ meters_of_table (table_view table.now)))
         (λ e. IsRefusal (meters_checks (table_view table.now)) e) }
 {
     let Some(array) = list_at(table, "meter") else {
@@ -43,7 +44,8 @@ pub(crate) fn read_meters(alloc: Global, table: &Table) -> Result<Vec<Meter>, Of
 fn read_each(alloc: Global, array: &Array) -> Result<Vec<Meter>, OfficeFault>
     requires { tables_of (array_view array.now) ≡ Some (map table_in array.now.items) }
     ensures { MatchResult result
-        (λ v. Passes (meters_in_turn (map table_in array.now.items)) × (map meter_of v.items ≡ map meter_of_table (map table_in array.now.items)))
+        (λ v. Passes (meters_in_turn (map table_in array.now.items))
+        × (map meter_of v.items ≡ map meter_of_table (map table_in array.now.items)))
         (λ e. IsRefusal (meters_in_turn (map table_in array.now.items)) e) }
 {
     let mut meters = Vec::new(alloc);
@@ -61,7 +63,8 @@ fn read_each(alloc: Global, array: &Array) -> Result<Vec<Meter>, OfficeFault>
 fn read_meter(alloc: Global, table: &Table, earlier: &[Meter]) -> Result<Meter, OfficeFault>
     ensures { MatchResult result
         (λ m. Passes (meter_checks (ids_of earlier.now) (table_view table.now))
-        × (meter_of m ≡ meter_of_table (table_view table.now)) × (id_of (table_view table.now) ≡ string_bytes m.id))
+        × (meter_of m ≡ meter_of_table (table_view table.now))
+        × (id_of (table_view table.now) ≡ string_bytes m.id))
         (λ e. IsRefusal (meter_checks (ids_of earlier.now) (table_view table.now)) e) }
 {
     let Some(id) = text_at(table, "id") else {
@@ -120,7 +123,8 @@ fn is_new_id(id: &[u8], earlier: &[Meter]) -> bool
 // The registers of a meter that count, or the first refusal of their list.
 fn read_registers(alloc: Global, texts: &[String]) -> Result<Vec<Register>, OfficeFault>
     ensures { MatchResult result
-        (λ v. Passes (registers_checks (map string_bytes texts.now)) × (v.items ≡ registers_of (map string_bytes texts.now)))
+        (λ v. Passes (registers_checks (map string_bytes texts.now))
+        × (v.items ≡ registers_of (map string_bytes texts.now)))
         (λ e. IsRefusal (registers_checks (map string_bytes texts.now)) e) }
 {
     if texts.is_empty() {
@@ -136,7 +140,8 @@ fn read_registers(alloc: Global, texts: &[String]) -> Result<Vec<Register>, Offi
 // The registers of a list of texts, each once.
 fn named_registers(alloc: Global, texts: &[String]) -> Result<Vec<Register>, OfficeFault>
     ensures { MatchResult result
-        (λ v. Passes (registers_in_turn (map string_bytes texts.now)) × (v.items ≡ registers_of (map string_bytes texts.now)))
+        (λ v. Passes (registers_in_turn (map string_bytes texts.now))
+        × (v.items ≡ registers_of (map string_bytes texts.now)))
         (λ e. IsRefusal (registers_in_turn (map string_bytes texts.now)) e) }
 {
     let mut registers = Vec::new(alloc);
@@ -150,7 +155,8 @@ fn named_registers(alloc: Global, texts: &[String]) -> Result<Vec<Register>, Off
 // One register behind the earlier ones, or its first refusal.
 fn read_register(text: &[u8], earlier: &[String]) -> Result<Register, OfficeFault>
     ensures { MatchResult result
-        (λ r. Passes (register_checks (map string_bytes earlier.now) text.now) × (r ≡ register_of text.now))
+        (λ r. Passes (register_checks (map string_bytes earlier.now) text.now)
+        × (r ≡ register_of text.now))
         (λ e. IsRefusal (register_checks (map string_bytes earlier.now) text.now) e) }
 {
     let Some(register) = register_named(text) else {
@@ -172,7 +178,8 @@ fn overlap(registers: &[Register]) -> bool
 }
 
 fn has_both(registers: &[Register], total: Register, first: Register, second: Register) -> bool
-    ensures { result ≡ (has_register registers.now total && (has_register registers.now first || has_register registers.now second)) }
+    ensures { result ≡ (has_register registers.now total &&
+        (has_register registers.now first || has_register registers.now second)) }
 {
     let total = holds(registers, total);
     let first = holds(registers, first);

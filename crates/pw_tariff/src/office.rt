@@ -156,7 +156,8 @@ impl Office {
     /// The account of a name.
     pub fn account(&self, name: &[u8]) -> Option<AccountId>
         ensures some { IfSome result (λ a. slice_get self.now.accounts a.0 ≡ Some name.now) }
-        ensures only { IfSome result (λ a. (i : ℕ) → slice_get self.now.accounts i ≡ Some name.now → i ≡ a.0) }
+        ensures only { IfSome result (λ a. (i : ℕ) → slice_get self.now.accounts i ≡ Some name.now
+            → i ≡ a.0) }
         ensures none { IfNone result ((i : ℕ) → slice_get self.now.accounts i ≢ Some name.now) }
     {
         for (i, own) in self.accounts.iter().enumerate() {
@@ -169,9 +170,12 @@ impl Office {
 
     /// The meter of an id.
     pub fn meter(&self, id: &[u8]) -> Option<MeterId>
-        ensures some { IfSome result (λ m. option_map (λ t. t.id) (slice_get self.now.meters m.0) ≡ Some id.now) }
-        ensures only { IfSome result (λ m. (i : ℕ) → option_map (λ t. t.id) (slice_get self.now.meters i) ≡ Some id.now → i ≡ m.0) }
-        ensures none { IfNone result ((i : ℕ) → option_map (λ t. t.id) (slice_get self.now.meters i) ≢ Some id.now) }
+        ensures some { IfSome result (λ m. option_map (λ t. t.id) (slice_get self.now.meters m.0)
+            ≡ Some id.now) }
+        ensures only { IfSome result (λ m. (i : ℕ)
+            → option_map (λ t. t.id) (slice_get self.now.meters i) ≡ Some id.now → i ≡ m.0) }
+        ensures none { IfNone result ((i : ℕ) → option_map (λ t. t.id) (slice_get self.now.meters i)
+            ≢ Some id.now) }
     {
         self.by_id.get(id).copied()
     }
@@ -232,7 +236,8 @@ impl Office {
         requires day { hour.day < 7 }
         requires hour { hour.hour < 24 }
         ensures band { result.0
-            ≡ band_named self.now.bands (letter (week_of_period self.now period.0) hour.day hour.hour) }
+            ≡ band_named self.now.bands
+            (letter (week_of_period self.now period.0) hour.day hour.hour) }
         ensures within { result.0 < length self.now.bands }
     {
         let week = self.week_of(period);

@@ -29,7 +29,8 @@ pub(crate) fn read_periods(
 ) -> Result<Vec<Period>, OfficeFault>
     requires { bands_of bands.now ≡ bands_of_table (table_view table.now) }
     ensures { MatchResult result
-        (λ v. Passes (periods_checks (table_view table.now)) × (map period_of v.items ≡ later_of_table (table_view table.now)))
+        (λ v. Passes (periods_checks (table_view table.now))
+        × (map period_of v.items ≡ later_of_table (table_view table.now)))
         (λ e. IsRefusal (periods_checks (table_view table.now)) e) }
 {
     if !has_key(table, "period") {
@@ -51,9 +52,11 @@ pub(crate) fn read_periods(
 fn read_each(alloc: Global, array: &Array, bands: &[Band]) -> Result<Vec<Period>, OfficeFault>
     requires { tables_of (array_view array.now) ≡ Some (map table_in array.now.items) }
     ensures { MatchResult result
-        (λ v. Passes (periods_in_turn (bands_of bands.now) FIRST_SECOND (map table_in array.now.items))
+        (λ v. Passes (periods_in_turn (bands_of bands.now) FIRST_SECOND
+        (map table_in array.now.items))
         × (map period_of v.items ≡ map period_of_table (map table_in array.now.items)))
-        (λ e. IsRefusal (periods_in_turn (bands_of bands.now) FIRST_SECOND (map table_in array.now.items)) e) }
+        (λ e. IsRefusal (periods_in_turn (bands_of bands.now) FIRST_SECOND
+        (map table_in array.now.items)) e) }
 {
     let mut periods = Vec::new(alloc);
     let mut before = FIRST_SECOND;
@@ -76,7 +79,8 @@ fn read_period(
     before: u32,
 ) -> Result<Period, OfficeFault>
     ensures { MatchResult result
-        (λ p. Passes (period_checks (bands_of bands.now) before (table_view table.now)) × (period_of p ≡ period_of_table (table_view table.now)))
+        (λ p. Passes (period_checks (bands_of bands.now) before (table_view table.now))
+        × (period_of p ≡ period_of_table (table_view table.now)))
         (λ e. IsRefusal (period_checks (bands_of bands.now) before (table_view table.now)) e) }
 {
     let Some(start) = text_at(table, "start") else {
@@ -105,7 +109,8 @@ fn read_period(
 fn later_hour(text: &[u8], before: u32) -> Option<Instant>
     ensures { MatchOption result
         (is_later before (whole_hour text.now) ≡ false)
-        (λ start. (is_later before (whole_hour text.now) ≡ true) × (whole_hour text.now ≡ Some start)) }
+        (λ start. (is_later before (whole_hour text.now) ≡ true)
+        × (whole_hour text.now ≡ Some start)) }
 {
     let Some(start) = whole_hour(text) else {
         return None;
@@ -119,7 +124,8 @@ fn later_hour(text: &[u8], before: u32) -> Option<Instant>
 // A price for each band, or the first refusal of their list.
 fn read_prices(alloc: Global, bands: &[Band], values: &[i64]) -> Result<Vec<u32>, OfficeFault>
     ensures { MatchResult result
-        (λ v. Passes (prices_checks (bands_of bands.now) values.now) × (v.items ≡ map whole_of values.now))
+        (λ v. Passes (prices_checks (bands_of bands.now) values.now)
+        × (v.items ≡ map whole_of values.now))
         (λ e. IsRefusal (prices_checks (bands_of bands.now) values.now) e) }
 {
     if values.len() != bands.len() {

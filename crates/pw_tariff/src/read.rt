@@ -21,7 +21,8 @@ impl Office {
     ///
     /// `Memory` says nothing of the text: memory was refused while it was read.
     pub fn read(alloc: Global, text: &[u8]) -> Result<Office, OfficeFault>
-        ensures { MatchResult result (λ office. IsOfficeOf text.now office) (λ e. IsRefused text.now e) }
+        ensures { MatchResult result (λ office. IsOfficeOf text.now office)
+            (λ e. IsRefused text.now e) }
     {
         let table = table_of(alloc, text)?;
         office_of(alloc, &table)
@@ -30,7 +31,8 @@ impl Office {
 
 // The table of a text.
 fn table_of(alloc: Global, text: &[u8]) -> Result<Table, OfficeFault>
-    ensures { MatchResult result (λ t. IsTable text.now (table_view t)) (λ e. IsNoTable text.now e) }
+    ensures { MatchResult result (λ t. IsTable text.now (table_view t))
+        (λ e. IsNoTable text.now e) }
 {
     match toml::table_from_slice(alloc, text) {
         Ok(table) => Ok(table),
@@ -46,7 +48,8 @@ fn table_of(alloc: Global, text: &[u8]) -> Result<Table, OfficeFault>
 // The office of a table, or the first refusal.
 fn office_of(alloc: Global, table: &Table) -> Result<Office, OfficeFault>
     ensures { MatchResult result
-        (λ office. Passes (office_checks (table_view table.now)) × (office ≡ file_of_table (table_view table.now)))
+        (λ office. Passes (office_checks (table_view table.now))
+        × (office ≡ file_of_table (table_view table.now)))
         (λ e. IsRefusal (office_checks (table_view table.now)) e) }
 {
     let accounts = read_accounts(alloc, table)?;

@@ -104,7 +104,8 @@ pub fn pieces_of(
 ) -> Result<Vec<Piece>, AllocError>
     requires earlier { span.from < span.to }
     requires rising { span.low ≤ span.high }
-    ensures { IfOk result (λ pieces. ListsPieces office.now owners.now span span.from pieces.items) }
+    ensures { IfOk result (λ pieces. ListsPieces office.now owners.now span span.from
+        pieces.items) }
 {
     let mut pieces = Vec::new(alloc);
     let mut at = span.from;

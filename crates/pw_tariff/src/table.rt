@@ -54,7 +54,8 @@ pub(crate) fn list_at<'t>(table: &'t Table, key: &str) -> Option<&'t Array>
 
 // The texts of a list, each of whose elements has to be one.
 fn texts(alloc: Global, array: &Array) -> Result<Vec<String>, OfficeFault>
-    ensures { MatchResult result (λ v. texts_of (array_view array.now) ≡ Some (map string_bytes v.items)) (λ e. IsListFault (texts_of (array_view array.now)) e) }
+    ensures { MatchResult result (λ v. texts_of (array_view array.now)
+        ≡ Some (map string_bytes v.items)) (λ e. IsListFault (texts_of (array_view array.now)) e) }
 {
     let mut texts = Vec::new(alloc);
     for value in array {
@@ -69,7 +70,9 @@ fn texts(alloc: Global, array: &Array) -> Result<Vec<String>, OfficeFault>
 
 // The texts of the list at a key.
 pub(crate) fn texts_at(alloc: Global, table: &Table, key: &str) -> Result<Vec<String>, OfficeFault>
-    ensures { MatchResult result (λ v. texts_at key.now (table_view table.now) ≡ Some (map string_bytes v.items)) (λ e. IsListFault (texts_at key.now (table_view table.now)) e) }
+    ensures { MatchResult result (λ v. texts_at key.now (table_view table.now)
+        ≡ Some (map string_bytes v.items))
+        (λ e. IsListFault (texts_at key.now (table_view table.now)) e) }
 {
     let Some(array) = list_at(table, key) else {
         return Err(OfficeFault::MissingField);
@@ -79,7 +82,8 @@ pub(crate) fn texts_at(alloc: Global, table: &Table, key: &str) -> Result<Vec<St
 
 // The whole numbers of a list, each of whose elements has to be one.
 fn integers(alloc: Global, array: &Array) -> Result<Vec<i64>, OfficeFault>
-    ensures { MatchResult result (λ v. integers_of (array_view array.now) ≡ Some v.items) (λ e. IsListFault (integers_of (array_view array.now)) e) }
+    ensures { MatchResult result (λ v. integers_of (array_view array.now) ≡ Some v.items)
+        (λ e. IsListFault (integers_of (array_view array.now)) e) }
 {
     let mut integers = Vec::new(alloc);
     for value in array {
@@ -93,7 +97,8 @@ fn integers(alloc: Global, array: &Array) -> Result<Vec<i64>, OfficeFault>
 
 // The whole numbers of the list at a key.
 pub(crate) fn integers_at(alloc: Global, table: &Table, key: &str) -> Result<Vec<i64>, OfficeFault>
-    ensures { MatchResult result (λ v. integers_at key.now (table_view table.now) ≡ Some v.items) (λ e. IsListFault (integers_at key.now (table_view table.now)) e) }
+    ensures { MatchResult result (λ v. integers_at key.now (table_view table.now) ≡ Some v.items)
+        (λ e. IsListFault (integers_at key.now (table_view table.now)) e) }
 {
     let Some(array) = list_at(table, key) else {
         return Err(OfficeFault::MissingField);
@@ -103,7 +108,8 @@ pub(crate) fn integers_at(alloc: Global, table: &Table, key: &str) -> Result<Vec
 
 // Whether each element of a list is a table.
 pub(crate) fn are_tables(array: &Array) -> bool
-    ensures yes { IsTrue result → tables_of (array_view array.now) ≡ Some (map table_in array.now.items) }
+    ensures yes { IsTrue result → tables_of (array_view array.now)
+        ≡ Some (map table_in array.now.items) }
     ensures no { result ≡ false → tables_of (array_view array.now) ≡ None }
 {
     for value in array {
@@ -116,7 +122,8 @@ pub(crate) fn are_tables(array: &Array) -> bool
 
 // A list isn't empty, and not too long.
 pub(crate) fn check_length(length: usize, most: usize) -> Result<(), OfficeFault>
-    ensures { MatchResult result (λ _. Passes (length_checks length most)) (λ e. IsRefusal (length_checks length most) e) }
+    ensures { MatchResult result (λ _. Passes (length_checks length most))
+        (λ e. IsRefusal (length_checks length most) e) }
 {
     if length == 0 {
         return Err(OfficeFault::Empty);

@@ -23,7 +23,8 @@ pub(crate) fn read_week(
 ) -> Result<Vec<String>, OfficeFault>
     requires { bands_of bands.now ≡ bands_of_table (table_view table.now) }
     ensures { MatchResult result
-        (λ v. Passes (week_checks (table_view table.now)) × (map string_bytes v.items ≡ week_of (table_view table.now)))
+        (λ v. Passes (week_checks (table_view table.now))
+        × (map string_bytes v.items ≡ week_of (table_view table.now)))
         (λ e. IsRefusal (week_checks (table_view table.now)) e) }
 {
     let week = texts_at(alloc, table, "week")?;
@@ -62,7 +63,8 @@ fn is_day(bands: &[Band], day: &[u8]) -> bool
 }
 
 fn are_letters(bands: &[Band], day: &[u8]) -> bool
-    ensures { result ≡ list_all (λ c. nat_lt (band_named (bands_of bands.now) c) (length (bands_of bands.now))) day.now }
+    ensures { result ≡ list_all (λ c. nat_lt (band_named (bands_of bands.now) c)
+        (length (bands_of bands.now))) day.now }
 {
     for letter in day {
         if named(bands, *letter) >= bands.len() {

@@ -88,7 +88,8 @@ pub(crate) fn register_named(text: &[u8]) -> Option<Register>
 
 // The whole hour of UTC that a text tells.
 pub(crate) fn whole_hour(text: &[u8]) -> Option<Instant>
-    ensures { MatchOption result (whole_hour text.now ≡ None) (λ instant. whole_hour text.now ≡ Some instant) }
+    ensures { MatchOption result (whole_hour text.now ≡ None)
+        (λ instant. whole_hour text.now ≡ Some instant) }
 {
     let Ok(instant) = utc(text) else {
         return None;

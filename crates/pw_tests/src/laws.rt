@@ -21,7 +21,8 @@ use std::process::Abort;
 fn new_store(alloc: Global) -> MemoryShelf
     ensures content { (⟦<MemoryShelf as Shelf>⟧.state result).content ≡ no_content }
     ensures idle { (⟦<MemoryShelf as Shelf>⟧.state result).begun ≡ None }
-    ensures settled { LeavesOnly (⟦<MemoryShelf as Shelf>⟧.state result).content (⟦<MemoryShelf as Shelf>⟧.left result) }
+    ensures settled { LeavesOnly (⟦<MemoryShelf as Shelf>⟧.state result).content
+        (⟦<MemoryShelf as Shelf>⟧.left result) }
 {
     let shelf = MemoryShelf::new(alloc);
     memory_never_fails(&shelf);

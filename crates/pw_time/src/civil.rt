@@ -47,7 +47,8 @@ impl CivilTime {
     fn day_number(&self) -> Option<i32>
         requires { HasDigits self.now }
         ensures there { IsSome result ↔ HasDate self.now }
-        ensures value { IfSome result (λ n. n ≡ days_from_civil (pos self.now.year) self.now.month self.now.day) }
+        ensures value { IfSome result (λ n. n ≡ days_from_civil (pos self.now.year) self.now.month
+            self.now.day) }
         ensures bound { IfSome result IsEpochDay }
     {
         let Ok(date) = Date::new(self.year as i16, self.month as i8, self.day as i8) else {
@@ -59,7 +60,8 @@ impl CivilTime {
     // The seconds since midnight, if a day has the time.
     fn second_of_day(&self) -> Option<u32>
         ensures there { IsSome result ↔ HasTime self.now }
-        ensures value { IfSome result (λ n. n ≡ self.now.hour * 3600 + self.now.minute * 60 + self.now.second) }
+        ensures value { IfSome result (λ n. n ≡ self.now.hour * 3600 + self.now.minute * 60
+            + self.now.second) }
         ensures bound { IfSome result (λ n. n < 86_400) }
     {
         if self.hour < 24 && self.minute < 60 && self.second < 60 {
@@ -128,7 +130,8 @@ impl CivilTime {
 // The instant of a second, if it is one.
 fn instant_at(second: i64) -> Result<Instant, StampFault>
     ensures value { IfOk result (λ t. (pos t ≡ second) × IsInstant t) }
-    ensures range { IfErr result (λ fault. (fault ≡ StampFault.Range) × ((t : ℕ) → IsInstant t → pos t ≢ second)) }
+    ensures range { IfErr result (λ fault. (fault ≡ StampFault.Range)
+        × ((t : ℕ) → IsInstant t → pos t ≢ second)) }
 {
     let Ok(second) = u32::try_from(second) else {
         return Err(StampFault::Range);

@@ -10,7 +10,8 @@ use crate::digits;
 
 /// What the text of a stamp tells, and its last byte: the season mark.
 pub(crate) fn of_stamp(text: &[u8]) -> Option<(CivilTime, u8)>
-    ensures { MatchOption result ((c : CivilTime) (mark : ℕ) → ¬ (IsStampText text.now c mark)) (λ told. IsStampText text.now told.0 told.1) }
+    ensures { MatchOption result ((c : CivilTime) (mark : ℕ) → ¬ (IsStampText text.now c mark))
+        (λ told. IsStampText text.now told.0 told.1) }
 {
     if text.len() != 13 {
         return None;
@@ -60,7 +61,8 @@ pub(crate) fn of_utc(text: &[u8]) -> Option<CivilTime>
 
 /// What the date and the time of a readout tell.
 pub(crate) fn of_readout(date: &[u8], time: &[u8]) -> Option<CivilTime>
-    ensures { MatchOption result ((c : CivilTime) → ¬ (AreReadoutTexts date.now time.now c)) (AreReadoutTexts date.now time.now) }
+    ensures { MatchOption result ((c : CivilTime) → ¬ (AreReadoutTexts date.now time.now c))
+        (AreReadoutTexts date.now time.now) }
 {
     let Some((year, month, day)) = joined_or_separated(b'-', date) else {
         return None;
@@ -80,7 +82,10 @@ pub(crate) fn of_readout(date: &[u8], time: &[u8]) -> Option<CivilTime>
 
 // Three numbers of two digits each, with a byte between them or with nothing.
 fn joined_or_separated(byte: u8, text: &[u8]) -> Option<(u8, u8, u8)>
-    ensures { MatchOption result ((a b c : ℕ) → AreTwoDigits a b c → (text.now ≢ run_together a b c) × (text.now ≢ separated byte a b c)) (λ n. AreTwoDigits n.0 n.1 n.2 × ((text.now ≡ run_together n.0 n.1 n.2) ⊎ (text.now ≡ separated byte n.0 n.1 n.2))) }
+    ensures { MatchOption result ((a b c : ℕ) → AreTwoDigits a b c
+        → (text.now ≢ run_together a b c) × (text.now ≢ separated byte a b c))
+        (λ n. AreTwoDigits n.0 n.1 n.2
+        × ((text.now ≡ run_together n.0 n.1 n.2) ⊎ (text.now ≡ separated byte n.0 n.1 n.2))) }
 {
     match digits::joined(text) {
         Some(numbers) => Some(numbers),

@@ -58,7 +58,8 @@ impl Zone {
     // How many changes lie at or before a second.
     fn passed(&self, second: u32) -> usize
         ensures before { (k : ℕ) → k < result → slice_index central_changes k ≤ second }
-        ensures behind { (k : ℕ) → result ≤ k → k < length central_changes → second < slice_index central_changes k }
+        ensures behind { (k : ℕ) → result ≤ k → k < length central_changes
+            → second < slice_index central_changes k }
         ensures bound { result ≤ length central_changes }
     {
         self.changes.partition_point(|change| *change <= second)

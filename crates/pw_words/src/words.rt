@@ -33,8 +33,10 @@ const METER_ALONE: &str = "the argument '--meter <ID>' goes with 'readings' alon
 /// for no command; `Memory`.
 pub fn command<'a>(alloc: Global, words: &'a [&'a str]) -> Result<Command<'a>, WordsFault>
     ensures sound { IfOk result IsSound }
-    ensures read { (clock : Clock) → StatesClock (map (λ word. word.now) words.now) clock → result ≡ Ok (asks.Read clock) }
-    ensures pipe { AsksToPipe (map (λ word. word.now) words.now) → result ≡ Ok (asks.Pipe None 1_000_000) }
+    ensures read { (clock : Clock) → StatesClock (map (λ word. word.now) words.now) clock
+        → result ≡ Ok (asks.Read clock) }
+    ensures pipe { AsksToPipe (map (λ word. word.now) words.now)
+        → result ≡ Ok (asks.Pipe None 1_000_000) }
 {
     if asks_to_pipe(words) {
         return Ok(Command::Pipe {
@@ -121,7 +123,8 @@ fn is_word(word: &str, text: &str) -> bool
 // The clock of readouts, where the words are those of `read` and state no more than it.
 fn stated_clock(words: &[&str]) -> Option<Clock>
     ensures some { IfSome result (λ clock. StatesClock (map (λ word. word.now) words.now) clock) }
-    ensures none { IfNone result ((clock : Clock) → StatesClock (map (λ word. word.now) words.now) clock → ⊥) }
+    ensures none { IfNone result ((clock : Clock)
+        → StatesClock (map (λ word. word.now) words.now) clock → ⊥) }
 {
     match words {
         [command] if is_word(command, "read") => Some(Clock::Winter),
@@ -343,8 +346,10 @@ fn clock_named(name: &str) -> Option<Clock>
 /// The kind of upload that a word names: `telegrams`, `readouts` of a meter with this id, `assignments`, `topups` or
 /// `withdrawals`. None where it names none, or readouts without a meter.
 pub fn kind_named<'a>(name: &str, meter: Option<&'a str>) -> Option<UploadKind<'a>>
-    ensures some { IfSome result (λ kind. IsKindWord kind name.now (option_map (λ id. id.now) meter.entry)) }
-    ensures none { IfNone result ((kind : UploadKind) → IsKindWord kind name.now (option_map (λ id. id.now) meter.entry) → ⊥) }
+    ensures some { IfSome result (λ kind. IsKindWord kind name.now
+        (option_map (λ id. id.now) meter.entry)) }
+    ensures none { IfNone result ((kind : UploadKind)
+        → IsKindWord kind name.now (option_map (λ id. id.now) meter.entry) → ⊥) }
 {
     match name {
         "telegrams" => Some(UploadKind::Telegrams),

@@ -11,12 +11,14 @@ use Rattle.pw_model.specs.declared.records.TotalKey.TheVariants.{Energy, TopUps}
 use Rattle.pw_model.specs.Changes.{in_direction}
 use Rattle.pw_model.specs.Counting.{contents_at}
 use Rattle.pw_model.specs.Energy.{Asked, energy_where, meter_share, share_of}
+use Rattle.pw_model.specs.Shelf.{ShelfContent}
 use Rattle.pw_parts.specs.Changes.{gathered}
 use Rattle.pw_parts.specs.declared.changes.Side.TheVariants.{Gains}
 use Rattle.pw_book.specs.Cost.{HasPointsAt}
 use Rattle.pw_months.specs.Between.{class_between}
 use Rattle.pw_months.specs.Window.{Spans}
 use Rattle.pw_bills.specs.declared.energies.SharedOut.{SharedOut}
+use Rattle.pw_bills.specs.declared.gathering.Place.{Place}
 use Rattle.pw_bills.specs.Reads.{IsBetween}
 use Rattle.pw_bills.specs.Stretches.{end_of, first_of}
 use Rattle.pw_bills.specs.inner.Gathering.{Pass}
@@ -30,6 +32,10 @@ Covers told x y (a ∷ ps) = Spans told x y a ps
 -- the points of stretches of time
 abbrev pub CoversTime : (ℕ → Option ℕ) → List ℕ → ℕ → List (ℕ × ℕ) → Type 0
 CoversTime told begins end ps = Covers told (first_of begins end) end ps
+
+-- those of the register that a pass comes to
+abbrev pub CoversPlace : Place → ShelfContent → List (ℕ × ℕ) → Type 0
+CoversPlace place c points = CoversTime (c.point place.meter.0 place.register) place.stretches.now.begins.now (place.stretches.now.last + 1) points
 
 abbrev pub HasPointsIn : List ℕ → ℕ → (ℕ → Option ℕ) → ℕ → Type 0
 HasPointsIn begins end told most = HasPointsAt (IsBetween (first_of begins end) end) told most

@@ -1,6 +1,7 @@
--- What is gathered in a pass over meters and their registers, step by step. It serves `src/gathering.rt`.
+-- What is gathered in a pass over meters and their registers, step by step. It serves `src/gathering.rt`,
+-- `src/payments.rt`, `src/points.rt` and `src/shelf_calls.rt`.
 -- (Definitions of this project.)
-use Rattle.std.specs.Prelude.{◌≡◌, ◌⊎◌, ℕ, zero, suc, ◌+◌, ◌<◌, ◌≤◌, true, false, cond, IsNone, List, length}
+use Rattle.std.specs.Prelude.{◌≡◌, ◌⊎◌, ℕ, zero, suc, ◌+◌, ◌<◌, ◌≤◌, true, false, cond, IsNone, List, Result, length}
 use Rattle.std.specs.List.{sum_by}
 use Rattle.pw_obis.specs.Registers.{registers}
 use Rattle.pw_obis.specs.declared.reference.Register.{Register}
@@ -8,9 +9,13 @@ use Rattle.pw_tariff.specs.declared.ids.AccountId.{AccountId}
 use Rattle.pw_tariff.specs.Office.{IsSound, OfficeFile, counts_at, office_of, register_place}
 use Rattle.pw_model.specs.Counting.{contents_at}
 use Rattle.pw_model.specs.Shelf.{ShelfContent}
+use Rattle.pw_shelf.specs.declared.fault.ShelfFault.{ShelfFault}
 use Rattle.pw_shelf.specs.declared.shelf.Shelf.{Ghosts}
+use Rattle.pw_shelf.specs.Rows.{rows_given}
 use Rattle.pw_book.specs.Cost.{HasPointsAt, HasStarts}
 use Rattle.pw_book.specs.Posting.{IsSoundContent}
+use Rattle.pw_bills.specs.declared.gathering.Place.{Place}
+use Rattle.pw_bills.specs.declared.stretches.Stretches.{Stretches}
 use Rattle.pw_bills.specs.ReadUpTo.{IsAccountsIn}
 use Rattle.pw_bills.specs.Reads.{IsBetween, IsOwned, all_meters}
 use Rattle.pw_bills.specs.Stretches.{AreStretches, first_of}
@@ -27,6 +32,13 @@ pub record Pass : Type 0 where
 
 abbrev pub pass_of : OfficeFile → ShelfContent → AccountId → List ℕ → ℕ → Pass
 pass_of file c a begins end = record { file = file; content = c; account = a; begins = begins; end = end }
+
+-- the pass over stretches, and the one that comes to a place
+abbrev pub pass_over : OfficeFile → ShelfContent → Stretches → Pass
+pass_over file c stretches = pass_of file c stretches.account stretches.begins.now (stretches.last + 1)
+
+abbrev pub pass_to : Place → ShelfContent → Pass
+pass_to place c = pass_over place.basis.now.office.now c place.stretches.now
 
 abbrev pub first_second : Pass → ℕ
 first_second q = first_of q.begins q.end
@@ -47,6 +59,13 @@ pub record CanAsk {S : Type 0} (shelf : Ghosts S) (file : OfficeFile) (begins : 
   pub idle : IsNone (shelf.state now).begun
   pub stretches : AreStretches begins end
   pub meter : m < length file.meters
+
+-- so it is of a meter, in stretches, and of the meter of a place
+abbrev pub CanAskOf : {S : Type 0} → Ghosts S → OfficeFile → Stretches → ℕ → S → Type 0
+CanAskOf shelf file stretches m now = CanAsk shelf file stretches.begins.now (stretches.last + 1) m now
+
+abbrev pub CanAskAt : {S : Type 0} → Ghosts S → Place → S → Type 0
+CanAskAt shelf place now = CanAskOf shelf place.basis.now.office.now place.stretches.now place.meter.0 now
 
 -- ---- what is gathered
 -- one step after another, by their numbers from 0 on, as many as a number tells
@@ -91,6 +110,10 @@ abbrev pub FitsMore : {T : Type 0} → (ℕ → T → Type 0) → ℕ → T → 
 FitsMore fits most x = (n : ℕ) × (n ≤ most) × fits n x
 
 -- ---- how much is read
+-- by one call: it, and the rows that its answer gives
+abbrev pub TakesRows : {S T : Type 0} → Ghosts S → (T → ℕ) → Result T ShelfFault → S → S → Type 0
+TakesRows shelf rows answer old new = (shelf.state new).tally ≡ (shelf.state old).tally + 1 + rows_given rows answer
+
 -- for the points of a register with a neighbour at both sides: three calls, and the points
 abbrev pub PointsAreRead : Pass → ℕ → Register → ℕ → Type 0
 PointsAreRead q m r most =

@@ -1,7 +1,7 @@
 -- What an upload has gathered, and not yet written, and the starts that it knows. It serves `src/gathered.rt`,
 -- `src/moving.rt`, `src/reading_change.rt`, `src/settling.rt` and `src/upload.rt`.
 -- (Definitions of this project.)
-use Rattle.std.specs.Prelude.{◌≡◌, ℕ, ◌+◌, ◌*◌, Option, Some, List, [], ◌∷◌}
+use Rattle.std.specs.Prelude.{◌≡◌, ℕ, ◌+◌, ◌*◌, ◌<◌, ◌≤◌, Option, Some, List, [], ◌∷◌}
 use Rattle.std.specs.BTreeMap.{BTreeMap}
 use Rattle.pw_tariff.specs.declared.ids.AccountId.{AccountId}
 use Rattle.pw_tariff.specs.declared.ids.MeterId.{MeterId}
@@ -15,6 +15,8 @@ use Rattle.pw_model.specs.Seconds.{ListsSeconds}
 use Rattle.pw_model.specs.Shelf.{ShelfContent, total_among}
 use Rattle.pw_parts.specs.Changes.{gathered}
 use Rattle.pw_parts.specs.declared.changes.Change.{Change}
+use Rattle.pw_parts.specs.declared.changes.Changes.{Changes}
+use Rattle.pw_parts.specs.declared.changes.Side.{Side}
 use Rattle.pw_parts.specs.declared.changes.Side.TheVariants.{Loses, Gains}
 use Rattle.pw_book.specs.Cost.{classes_of}
 use Rattle.pw_book.specs.declared.gathered.KnownStarts.{KnownStarts}
@@ -39,6 +41,14 @@ pub record IsTrueAgainBut (office : OfficeRules) (rows : BTreeMap TotalKey Chang
 abbrev pub AreGathered : OfficeRules → (Key → Contents) → (Key → Contents) → BTreeMap TotalKey Change → BTreeMap TotalKey Change → Type 0
 AreGathered office was is old new = (k : TotalKey) →
     energy_told office was k + gathered Gains new k + gathered Loses old k ≡ energy_told office is k + gathered Loses new k + gathered Gains old k
+
+-- of each total less than a bound is gathered on each side
+abbrev pub IsGatheredBelow : ℕ → Changes → Type 0
+IsGatheredBelow bound changes = (side : Side) (k : TotalKey) → gathered side changes.rows k < bound
+
+-- of each total no more than so much is gathered anew on each side
+abbrev pub GathersAtMost : ℕ → Changes → Changes → Type 0
+GathersAtMost most old new = (side : Side) (k : TotalKey) → gathered side new.rows k ≤ gathered side old.rows k + most
 
 -- how many calls and rows are enough to write what is gathered, where something is: of each energy of the office it is
 -- asked, with a row, and put

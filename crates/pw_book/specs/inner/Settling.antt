@@ -1,10 +1,10 @@
 -- What follows in points, starts and totals where one record more is held. It serves `src/reading_change.rt`, `src/start_change.rt` and
 -- `src/settling.rt`.
 -- (Definitions of this project.)
-use Rattle.std.specs.Prelude.{◌≡◌, ℕ, ◌+◌, ◌<◌, ◌≤◌, ◌⊎◌, Option, None, Some, List, length}
+use Rattle.std.specs.Prelude.{◌≡◌, ℕ, ◌+◌, ◌<◌, ◌≤◌, ◌⊎◌, true, Option, None, Some, List, length}
 use Rattle.pw_obis.specs.declared.reference.Register.{Register}
 use Rattle.pw_tariff.specs.declared.ids.AccountId.{AccountId}
-use Rattle.pw_tariff.specs.Office.{OfficeRules}
+use Rattle.pw_tariff.specs.Office.{OfficeFile, OfficeRules, counts_at}
 use Rattle.pw_tariff.specs.Owners.{owner_by_starts}
 use Rattle.pw_time.specs.declared.instant.TheConstants.{END_SECOND, LAST_SECOND}
 use Rattle.pw_model.specs.declared.records.Key.{Key}
@@ -19,6 +19,7 @@ use Rattle.pw_model.specs.Shelf.{ShelfContent}
 use Rattle.pw_model.specs.Seconds.{by_second}
 use Rattle.pw_shelf.specs.Seconds.{IsBefore, IsBehind, ListsSecondsWithin}
 use Rattle.pw_book.specs.Cost.{IsBeforeNextStart}
+use Rattle.pw_book.specs.declared.reading_change.ReadingAt.{ReadingAt}
 use Rattle.pw_book.specs.inner.Moves.{OfOwners, most_total}
 use Rattle.pw_book.specs.inner.Sums.{energy_told}
 
@@ -28,6 +29,10 @@ pub record IsSettled (office : OfficeRules) (was is : Key → Contents) (old new
   pub energies : (k : TotalKey) → OfOwners office.periods office.bands office.accounts k → old.total k ≡ energy_told office was k → energy_told office is k ≤ most_total →
       new.total k ≡ energy_told office is k
   pub elsewhere : (k : TotalKey) → (OfOwners office.periods office.bands office.accounts k → ⊥) → new.total k ≡ old.total k
+
+-- the register of a reading counts at its meter
+abbrev pub CountsAtMeter : OfficeFile → ReadingAt → Type 0
+CountsAtMeter file reading = counts_at file reading.meter.0 reading.register ≡ true
 
 -- the points of a register all lie before the end of all instants
 abbrev pub EndsBefore : ℕ → (ℕ → Option ℕ) → Type 0

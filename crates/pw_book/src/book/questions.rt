@@ -38,8 +38,11 @@ impl<S: Shelf> Book<S> {
     ) -> Result<u64, BookFault>
         requires owner { HasOwner (office_of self.old.office) owner }
         requires band { band.0 < length self.old.office.bands }
-        ensures energy { S.clean self.new.shelf → IfOk result (λ wh. wh ≡ energy_of (office_of self.old.office) (S.state self.old.shelf).content.records owner band.0 direction) }
-        ensures cost { RisesAtMost (2 * periods_in self.old.office) (S.state self.old.shelf).tally (S.state self.new.shelf).tally }
+        ensures energy { S.clean self.new.shelf → IfOk result
+            (λ wh. wh ≡ energy_of (office_of self.old.office)
+            (S.state self.old.shelf).content.records owner band.0 direction) }
+        ensures cost { RisesAtMost (2 * periods_in self.old.office) (S.state self.old.shelf).tally
+            (S.state self.new.shelf).tally }
         ensures question { IsQuestion S.Shelf result self.old self.new }
     {
         self.still_open()?;
@@ -59,7 +62,9 @@ impl<S: Shelf> Book<S> {
         requires owner { HasOwner (office_of self.old.office) owner }
         requires period { period.0 < periods_in self.old.office }
         requires band { band.0 < length self.old.office.bands }
-        ensures energy { S.clean self.new.shelf → IfOk result (λ wh. wh ≡ energy_in_period (office_of self.old.office) (S.state self.old.shelf).content.records owner period.0 band.0 direction) }
+        ensures energy { S.clean self.new.shelf → IfOk result
+            (λ wh. wh ≡ energy_in_period (office_of self.old.office)
+            (S.state self.old.shelf).content.records owner period.0 band.0 direction) }
         ensures cost { RisesAtMost 2 (S.state self.old.shelf).tally (S.state self.new.shelf).tally }
         ensures question { IsQuestion S.Shelf result self.old self.new }
     {
@@ -78,7 +83,8 @@ impl<S: Shelf> Book<S> {
     /// What was topped up for an account, in cents, by the records held. It asks for an account of the office.
     pub fn topped_up(&mut self, account: AccountId) -> Result<u64, BookFault>
         requires { account.0 < length self.old.office.accounts }
-        ensures topped_up { S.clean self.new.shelf → IfOk result (λ cents. cents ≡ cents_of (S.state self.old.shelf).content.records account.0) }
+        ensures topped_up { S.clean self.new.shelf → IfOk result
+            (λ cents. cents ≡ cents_of (S.state self.old.shelf).content.records account.0) }
         ensures cost { RisesAtMost 2 (S.state self.old.shelf).tally (S.state self.new.shelf).tally }
         ensures question { IsQuestion S.Shelf result self.old self.new }
     {
@@ -91,8 +97,12 @@ impl<S: Shelf> Book<S> {
     /// office.
     pub fn balance(&mut self, account: AccountId) -> Result<i128, BookFault>
         requires { account.0 < length self.old.office.accounts }
-        ensures balance { S.clean self.new.shelf → IfOk result (λ nano. nano ≡ balance_of (office_of self.old.office) (S.state self.old.shelf).content.records account.0) }
-        ensures cost { RisesAtMost (2 * (2 * (periods_in self.old.office * length self.old.office.bands) + 1)) (S.state self.old.shelf).tally (S.state self.new.shelf).tally }
+        ensures balance { S.clean self.new.shelf → IfOk result
+            (λ nano. nano ≡ balance_of (office_of self.old.office)
+            (S.state self.old.shelf).content.records account.0) }
+        ensures cost { RisesAtMost
+            (2 * (2 * (periods_in self.old.office * length self.old.office.bands) + 1))
+            (S.state self.old.shelf).tally (S.state self.new.shelf).tally }
         ensures question { IsQuestion S.Shelf result self.old self.new }
     {
         self.still_open()?;
@@ -109,7 +119,9 @@ impl<S: Shelf> Book<S> {
         register: Register,
     ) -> Result<Vec<ReadingRow>, BookFault>
         requires { meter.0 < length self.old.office.meters }
-        ensures readings { S.clean self.new.shelf → IfOk result (λ rows. AreReadings (S.state self.old.shelf).content.records meter.0 register rows.items) }
+        ensures readings { S.clean self.new.shelf → IfOk result
+            (λ rows. AreReadings (S.state self.old.shelf).content.records meter.0 register
+            rows.items) }
         ensures question { IsQuestion S.Shelf result self.old self.new }
     {
         self.still_open()?;
@@ -119,7 +131,8 @@ impl<S: Shelf> Book<S> {
 
     /// The assignments held of all meters, disputed ones too: by meter, start and owner.
     pub fn assignments(&mut self, alloc: Global) -> Result<Vec<Entry>, BookFault>
-        ensures assignments { S.clean self.new.shelf → IfOk result (λ held. ListsHeld IsAssignment (S.state self.old.shelf).content.records held.items) }
+        ensures assignments { S.clean self.new.shelf → IfOk result
+            (λ held. ListsHeld IsAssignment (S.state self.old.shelf).content.records held.items) }
         ensures question { IsQuestion S.Shelf result self.old self.new }
     {
         self.still_open()?;
@@ -129,7 +142,8 @@ impl<S: Shelf> Book<S> {
 
     /// The top-ups held, disputed ones too: by reference, account, cents and instant.
     pub fn topups(&mut self, alloc: Global) -> Result<Vec<Entry>, BookFault>
-        ensures topups { S.clean self.new.shelf → IfOk result (λ held. ListsHeld IsTopUp (S.state self.old.shelf).content.records held.items) }
+        ensures topups { S.clean self.new.shelf → IfOk result
+            (λ held. ListsHeld IsTopUp (S.state self.old.shelf).content.records held.items) }
         ensures question { IsQuestion S.Shelf result self.old self.new }
     {
         self.still_open()?;
@@ -140,7 +154,8 @@ impl<S: Shelf> Book<S> {
     /// The withdrawals held, whether the records that they name are held or not: those of readings first, then those of
     /// assignments, then those of top-ups; each by the fields of the record that it names.
     pub fn withdrawals(&mut self, alloc: Global) -> Result<Vec<Entry>, BookFault>
-        ensures withdrawals { S.clean self.new.shelf → IfOk result (λ held. ListsHeld IsWithdrawal (S.state self.old.shelf).content.records held.items) }
+        ensures withdrawals { S.clean self.new.shelf → IfOk result
+            (λ held. ListsHeld IsWithdrawal (S.state self.old.shelf).content.records held.items) }
         ensures question { IsQuestion S.Shelf result self.old self.new }
     {
         self.still_open()?;
@@ -151,7 +166,8 @@ impl<S: Shelf> Book<S> {
     /// The falls of all registers, by the records held: neighbouring readings of which the later shows less. By meter, register
     /// and instant.
     pub fn falls(&mut self, alloc: Global) -> Result<Vec<Fall>, BookFault>
-        ensures falls { S.clean self.new.shelf → IfOk result (λ falls. AreFalls (S.state self.old.shelf).content.records falls.items) }
+        ensures falls { S.clean self.new.shelf → IfOk result
+            (λ falls. AreFalls (S.state self.old.shelf).content.records falls.items) }
         ensures question { IsQuestion S.Shelf result self.old self.new }
     {
         self.still_open()?;
@@ -162,7 +178,8 @@ impl<S: Shelf> Book<S> {
     /// The disputes: the keys that two or more of the records held have that aren't withdrawn, and how many. Readings first,
     /// then assignments, then top-ups; each by its key.
     pub fn disputes(&mut self, alloc: Global) -> Result<Vec<Dispute>, BookFault>
-        ensures disputes { S.clean self.new.shelf → IfOk result (λ disputes. AreDisputes (S.state self.old.shelf).content.records disputes.items) }
+        ensures disputes { S.clean self.new.shelf → IfOk result
+            (λ disputes. AreDisputes (S.state self.old.shelf).content.records disputes.items) }
         ensures question { IsQuestion S.Shelf result self.old self.new }
     {
         self.still_open()?;
@@ -172,7 +189,8 @@ impl<S: Shelf> Book<S> {
 
     /// The number of records held, each counted once.
     pub fn count(&mut self) -> Result<u32, BookFault>
-        ensures count { S.clean self.new.shelf → IfOk result (λ held. held ≡ record_count (S.state self.old.shelf).content.records) }
+        ensures count { S.clean self.new.shelf → IfOk result
+            (λ held. held ≡ record_count (S.state self.old.shelf).content.records) }
         ensures question { IsQuestion S.Shelf result self.old self.new }
     {
         self.still_open()?;
@@ -181,7 +199,8 @@ impl<S: Shelf> Book<S> {
 
     /// Whether the book answers questions: a shut one answers `Reopen`.
     pub fn still_open(&self) -> Result<(), BookFault>
-        ensures { MatchResult result (λ _. self.now.shut ≡ false) (λ fault. (self.now.shut ≡ true) × (fault ≡ BookFault.Reopen)) }
+        ensures { MatchResult result (λ _. self.now.shut ≡ false)
+            (λ fault. (self.now.shut ≡ true) × (fault ≡ BookFault.Reopen)) }
     {
         if self.shut {
             Err(BookFault::Reopen)

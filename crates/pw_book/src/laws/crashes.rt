@@ -31,11 +31,18 @@ pub struct Sent {
 /// that what was known of its making or opening is known still.
 pub fn uploads_survive_a_crash<S: Shelf>(book: &mut Book<S>, alloc: Global, uploads: &mut [Sent])
     requires open_yet { book.old.shut ≡ false }
-    requires of_office { All (λ sent. AllOfOffice (office_of book.old.office) sent.entries.items) uploads.old }
-    requires settled { S.clean book.old.shelf → LeavesOnly (S.state book.old.shelf).content (S.left book.old.shelf) }
-    ensures entries { map (λ sent. sent.entries) uploads.new ≡ map (λ sent. sent.entries) uploads.old }
-    ensures held { S.clean book.new.shelf → book.new.shut ≡ false → SameMembers (S.state book.new.shelf).content.records (acknowledged (S.state book.old.shelf).content.records uploads.new) }
-    ensures left { S.clean book.new.shelf → (c : ShelfContent) → S.left book.new.shelf c → IsLeftWhole (office_of book.old.office) (S.state book.old.shelf).content.records uploads.new c }
+    requires of_office { All (λ sent. AllOfOffice (office_of book.old.office) sent.entries.items)
+        uploads.old }
+    requires settled { S.clean book.old.shelf → LeavesOnly (S.state book.old.shelf).content
+        (S.left book.old.shelf) }
+    ensures entries { map (λ sent. sent.entries) uploads.new
+        ≡ map (λ sent. sent.entries) uploads.old }
+    ensures held { S.clean book.new.shelf → book.new.shut ≡ false
+        → SameMembers (S.state book.new.shelf).content.records
+        (acknowledged (S.state book.old.shelf).content.records uploads.new) }
+    ensures left { S.clean book.new.shelf → (c : ShelfContent) → S.left book.new.shelf c
+        → IsLeftWhole (office_of book.old.office) (S.state book.old.shelf).content.records
+        uploads.new c }
     ensures cleanness { S.clean book.new.shelf → S.clean book.old.shelf }
     ensures store { S.same_store book.old.shelf book.new.shelf }
 {

@@ -15,7 +15,8 @@ pub(crate) fn stands_alone(in_order: &[Entry], index: usize) -> bool
     requires rising { IsInOrder entry_order in_order.now }
     requires standing { AllStand in_order.now }
     requires within { index < length in_order.now }
-    ensures { (e : Entry) → IsAt in_order.now index e → IsNoWithdrawal e.content → IsTrue result ↔ Counts in_order.now e }
+    ensures { (e : Entry) → IsAt in_order.now index e → IsNoWithdrawal e.content
+        → IsTrue result ↔ Counts in_order.now e }
 {
     if index > 0 && has_key_behind(in_order, index - 1) {
         return false;

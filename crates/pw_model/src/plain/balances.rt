@@ -46,7 +46,8 @@ fn cost(
     requires office { IsOffice (office_of terms.now) }
     requires entries { AllOfOffice (office_of terms.now) entries.now }
     requires few { length entries.now ≤ most_records }
-    ensures cost { IfOk result (λ nano. nano ≡ cost_of (office_of terms.now) (held_at entries.now) (Some account) direction) }
+    ensures cost { IfOk result (λ nano. nano
+        ≡ cost_of (office_of terms.now) (held_at entries.now) (Some account) direction) }
     ensures bound { IfOk result (λ nano. nano ≤ 127999999998720000000000000000) }
 {
     let mut nano = 0;
@@ -70,7 +71,9 @@ fn cost_in(
     requires entries { AllOfOffice (office_of terms.now) entries.now }
     requires few { length entries.now ≤ most_records }
     requires period { period.0 < (office_of terms.now).periods }
-    ensures cost { IfOk result (λ nano. nano ≡ period_cost (office_of terms.now) (held_at entries.now) (Some account) period.0 direction) }
+    ensures cost { IfOk result (λ nano. nano
+        ≡ period_cost (office_of terms.now) (held_at entries.now) (Some account) period.0
+        direction) }
     ensures bound { IfOk result (λ nano. nano ≤ 7999999999920000000000000000) }
 {
     let mut nano = 0;

@@ -36,7 +36,8 @@ pub fn energy(
     requires office { IsOffice (office_of terms.now) }
     requires entries { AllOfOffice (office_of terms.now) entries.now }
     requires few { length entries.now ≤ most_records }
-    ensures { IfOk result (λ wh. wh ≡ energy_of (office_of terms.now) entries.now owner band.0 direction) }
+    ensures { IfOk result (λ wh. wh ≡ energy_of (office_of terms.now) entries.now owner band.0
+        direction) }
 {
     energy_asked(alloc, terms, entries, owner, None, band, direction)
 }
@@ -54,7 +55,8 @@ pub fn energy_in(
     requires office { IsOffice (office_of terms.now) }
     requires entries { AllOfOffice (office_of terms.now) entries.now }
     requires few { length entries.now ≤ most_records }
-    ensures { IfOk result (λ wh. wh ≡ energy_in_period (office_of terms.now) entries.now owner period.0 band.0 direction) }
+    ensures { IfOk result (λ wh. wh ≡ energy_in_period (office_of terms.now) entries.now owner
+        period.0 band.0 direction) }
 {
     energy_asked(alloc, terms, entries, owner, Some(period), band, direction)
 }
@@ -72,7 +74,8 @@ fn energy_asked(
     requires office { IsOffice (office_of terms.now) }
     requires entries { AllOfOffice (office_of terms.now) entries.now }
     requires few { length entries.now ≤ most_records }
-    ensures { IfOk result (λ wh. wh ≡ energy_where (office_of terms.now) (held_at entries.now) direction (asked_of (office_of terms.now) owner period band.0)) }
+    ensures { IfOk result (λ wh. wh ≡ energy_where (office_of terms.now) (held_at entries.now)
+        direction (asked_of (office_of terms.now) owner period band.0)) }
 {
     let mut total = 0;
     for meter in 0..terms.meters() {
@@ -104,7 +107,8 @@ fn meter_energy(
     requires entries { AllOfOffice (office_of terms.now) entries.now }
     requires few { length entries.now ≤ most_records }
     requires meter { meter.0 < (office_of terms.now).meters }
-    ensures { IfOk result (λ wh. wh ≡ meter_share (office_of terms.now) (held_at entries.now) direction (asked_of (office_of terms.now) owner period band.0) meter.0) }
+    ensures { IfOk result (λ wh. wh ≡ meter_share (office_of terms.now) (held_at entries.now)
+        direction (asked_of (office_of terms.now) owner period band.0) meter.0) }
 {
     let [total, first, second] = match direction {
         Direction::Import => [Register::I0, Register::I1, Register::I2],
@@ -130,7 +134,8 @@ fn register_share(
     requires entries { AllOfOffice (office_of terms.now) entries.now }
     requires few { length entries.now ≤ most_records }
     requires meter { meter.0 < (office_of terms.now).meters }
-    ensures share { IfOk result (λ wh. wh ≡ share_of (office_of terms.now) (held_at entries.now) (asked_of (office_of terms.now) owner period band.0) meter.0 register) }
+    ensures share { IfOk result (λ wh. wh ≡ share_of (office_of terms.now) (held_at entries.now)
+        (asked_of (office_of terms.now) owner period band.0) meter.0 register) }
     ensures bound { IfOk result (λ wh. wh ≤ 999999999990000000) }
 {
     if !terms.counts(meter, register) {
@@ -153,12 +158,15 @@ fn points_energy(
 ) -> u128
     requires rising { AreInTime (λ p. p.at) points.now }
     requires instants { All (λ p. IsInstant p.at) points.now }
-    ensures { result ≡ register_energy (asked_seconds (held_at entries.now) (asked_of (office_of terms.now) owner period band.0) meter.0) (value_at points.now) the_end }
+    ensures { result ≡ register_energy (asked_seconds (held_at entries.now)
+        (asked_of (office_of terms.now) owner period band.0) meter.0) (value_at points.now)
+        the_end }
 {
     pw_flow::plain::energy(
         points,
         |second: u32| -> bool
-            ensures { result ≡ at_instants (asked_seconds (held_at entries.entry.now) (asked_of (office_of terms.entry.now) owner period band.0) meter.0) second }
+            ensures { result ≡ at_instants (asked_seconds (held_at entries.entry.now)
+                (asked_of (office_of terms.entry.now) owner period band.0) meter.0) second }
         { is_of(terms, entries, meter, owner, period, band, second) },
     )
 }
@@ -173,7 +181,8 @@ fn is_of(
     band: BandId,
     second: u32,
 ) -> bool
-    ensures { result ≡ at_instants (asked_seconds (held_at entries.now) (asked_of (office_of terms.now) owner period band.0) meter.0) second }
+    ensures { result ≡ at_instants (asked_seconds (held_at entries.now)
+        (asked_of (office_of terms.now) owner period band.0) meter.0) second }
 {
     let Some(instant) = Instant::of(second) else {
         return false;

@@ -46,8 +46,10 @@ fn fall_from(in_order: &[Entry], index: usize) -> Option<Fall>
     requires rising { IsInOrder entry_order in_order.now }
     requires standing { AllStand in_order.now }
     requires within { index < length in_order.now }
-    ensures some { IfSome result (λ f. IsFall (held_at in_order.now) f × IsAt in_order.now index (high_reading f)) }
-    ensures none { IfNone result ((f : Fall) → IsFall (held_at in_order.now) f → IsAt in_order.now index (high_reading f) → ⊥) }
+    ensures some { IfSome result (λ f. IsFall (held_at in_order.now) f
+        × IsAt in_order.now index (high_reading f)) }
+    ensures none { IfNone result ((f : Fall) → IsFall (held_at in_order.now) f
+        → IsAt in_order.now index (high_reading f) → ⊥) }
 {
     let entry = &in_order[index];
     let Key::Reading {
@@ -91,8 +93,10 @@ fn next_point(
     requires rising { IsInOrder entry_order in_order.now }
     requires standing { AllStand in_order.now }
     requires within { index < length in_order.now }
-    requires reading { (e : Entry) → IsAt in_order.now index e → e.key ≡ reading_key meter.0 register instant }
-    ensures { (y : ℕ) → the_end ≤ y → IsEarliestAmong (held_at in_order.now) meter.0 register (instant + 1) y in_order.now result }
+    requires reading { (e : Entry) → IsAt in_order.now index e
+        → e.key ≡ reading_key meter.0 register instant }
+    ensures { (y : ℕ) → the_end ≤ y → IsEarliestAmong (held_at in_order.now) meter.0 register
+        (instant + 1) y in_order.now result }
 {
     for place in index + 1..in_order.len() {
         let entry = &in_order[place];

@@ -23,7 +23,8 @@ pub fn points_of(
 ) -> Result<Vec<Point>, AllocError>
     ensures rising { IfOk result (λ points. AreInTime (λ p. p.at) points.items) }
     ensures instants { IfOk result (λ points. All (λ p. IsInstant p.at) points.items) }
-    ensures values { IfOk result (λ points. (t : ℕ) → t < the_end → value_at points.items t ≡ point (held_at entries.now) meter.0 register t) }
+    ensures values { IfOk result (λ points. (t : ℕ) → t < the_end
+        → value_at points.items t ≡ point (held_at entries.now) meter.0 register t) }
 {
     let rows = readings(alloc, entries, meter, register)?;
     let mut points = Vec::new(alloc);

@@ -40,7 +40,8 @@ fn rows_among(
     requires rising { IsInOrder entry_order in_order.now }
     requires standing_rise { IsInOrder entry_order standing.now }
     requires standing { AllStand standing.now }
-    ensures { IfOk result (λ rows. RowsOf standing.now in_order.now meter.0 register in_order.now rows.items) }
+    ensures { IfOk result (λ rows. RowsOf standing.now in_order.now meter.0 register in_order.now
+        rows.items) }
 {
     let mut rows = Vec::new(alloc);
     for entry in in_order {
@@ -61,7 +62,9 @@ fn row_of(
     counted: bool,
     withdrawn: bool,
 ) -> Option<ReadingRow>
-    ensures some { IfSome result (λ row. (entry.now ≡ reading_entry meter.0 register row.instant row.wh) × (row.counted ≡ counted) × (row.withdrawn ≡ withdrawn)) }
+    ensures some { IfSome result (λ row. (entry.now
+        ≡ reading_entry meter.0 register row.instant row.wh) × (row.counted ≡ counted)
+        × (row.withdrawn ≡ withdrawn)) }
     ensures none { IfNone result ((t w : ℕ) → entry.now ≡ reading_entry meter.0 register t w → ⊥) }
 {
     let Some(instant) = instant_of(&entry.key, meter, register) else {

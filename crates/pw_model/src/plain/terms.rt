@@ -36,6 +36,13 @@ impl<'a> OfficeTerms<'a> {
         OfficeTerms { office, zone }
     }
 
+    /// The office.
+    pub(super) fn office(&self) -> &'a Office
+        ensures { result.now ≡ self.now }
+    {
+        self.office
+    }
+
     /// How many accounts there are.
     pub fn accounts(&self) -> u16
         ensures { result ≡ (office_of self.now).accounts }

@@ -15,15 +15,10 @@ use Rattle.pw_schema.specs.declared.table.StoreTable.TheVariants.{Office, Readin
 use Rattle.pw_schema.specs.declared.kind.StoreVersion.{StoreVersion}
 use Rattle.pw_schema.specs.Fresh.{IsWithin}
 use Rattle.pw_schema.specs.Raised.{IsRaised}
+pub use Rattle.pw_schema.specs.Texts.{all_tables, text_of}
 use Rattle.pw_schema.specs.Tables.{no_schema, only_one, office_at, reading_at, assignment_at, topup_at, point_at, start_at, total_at, total_topup_at, withdrawn_reading_at, withdrawn_assignment_at, withdrawn_topup_at, period_total_at, index_of, schema_of}
 
--- the tables in the order in which they are made
-abbrev pub all_tables : List StoreTable
-all_tables =
-    Office ∷ Readings ∷ Assignments ∷ TopUps ∷ Points ∷ Starts ∷ Totals ∷ TotalTopUps
-    ∷ WithdrawnReadings ∷ WithdrawnAssignments ∷ WithdrawnTopUps ∷ PeriodTotals ∷ []
-
--- the place of a table among them, and the tree at which it stands in a store, both from 0
+-- the place of a table in the order in which they are made, and the tree at which it stands in a store, both from 0
 abbrev pub places : StoreTable → ℕ × ℕ
 places Office = (0, 0)
 places Readings = (1, 1)
@@ -43,21 +38,6 @@ place t = (places t).0
 
 abbrev pub tree_of : StoreTable → ℕ
 tree_of t = (places t).1
-
--- the text that makes it
-abbrev pub text_of : StoreTable → List ℕ
-text_of Office = codes "CREATE TABLE office (id INTEGER PRIMARY KEY CHECK (id = 1), version INTEGER NOT NULL, body BLOB NOT NULL) STRICT"
-text_of Readings = codes "CREATE TABLE record_reading (meter INTEGER NOT NULL, register INTEGER NOT NULL, instant INTEGER NOT NULL, wh INTEGER NOT NULL, PRIMARY KEY (meter, register, instant, wh)) STRICT"
-text_of Assignments = codes "CREATE TABLE record_assignment (meter INTEGER NOT NULL, start INTEGER NOT NULL, owner INTEGER NOT NULL, PRIMARY KEY (meter, start, owner)) STRICT"
-text_of TopUps = codes "CREATE TABLE record_topup (reference TEXT NOT NULL, account INTEGER NOT NULL, cents INTEGER NOT NULL, instant INTEGER NOT NULL, PRIMARY KEY (reference, account, cents, instant)) STRICT"
-text_of Points = codes "CREATE TABLE point (meter INTEGER NOT NULL, register INTEGER NOT NULL, instant INTEGER NOT NULL, wh INTEGER NOT NULL, PRIMARY KEY (meter, register, instant)) STRICT"
-text_of Starts = codes "CREATE TABLE start (meter INTEGER NOT NULL, start INTEGER NOT NULL, owner INTEGER NOT NULL, PRIMARY KEY (meter, start)) STRICT"
-text_of Totals = codes "CREATE TABLE total (owner INTEGER NOT NULL, band INTEGER NOT NULL, direction INTEGER NOT NULL, wh INTEGER NOT NULL, PRIMARY KEY (owner, band, direction)) STRICT"
-text_of TotalTopUps = codes "CREATE TABLE total_topup (account INTEGER PRIMARY KEY, cents INTEGER NOT NULL) STRICT"
-text_of WithdrawnReadings = codes "CREATE TABLE withdrawn_reading (meter INTEGER NOT NULL, register INTEGER NOT NULL, instant INTEGER NOT NULL, wh INTEGER NOT NULL, PRIMARY KEY (meter, register, instant, wh)) STRICT"
-text_of WithdrawnAssignments = codes "CREATE TABLE withdrawn_assignment (meter INTEGER NOT NULL, start INTEGER NOT NULL, owner INTEGER NOT NULL, PRIMARY KEY (meter, start, owner)) STRICT"
-text_of WithdrawnTopUps = codes "CREATE TABLE withdrawn_topup (reference TEXT NOT NULL, account INTEGER NOT NULL, cents INTEGER NOT NULL, instant INTEGER NOT NULL, PRIMARY KEY (reference, account, cents, instant)) STRICT"
-text_of PeriodTotals = codes "CREATE TABLE period_total (owner INTEGER NOT NULL, period INTEGER NOT NULL, band INTEGER NOT NULL, direction INTEGER NOT NULL, wh INTEGER NOT NULL, PRIMARY KEY (owner, period, band, direction)) STRICT"
 
 -- the table itself, at a tree
 abbrev pub table_at : StoreTable → ℕ → Table

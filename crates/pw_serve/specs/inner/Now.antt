@@ -1,7 +1,10 @@
 -- How all connections stand in the loop. It serves `src/peers.rt` and `src/serve.rt`.
 use Rattle.std.specs.Prelude.{◌≡◌, ◌≢◌, ◌≤◌, ◌⊎◌, ℕ, List, [], Option, Some, None}
+use Rattle.std.specs.BTreeMap.{BTreeMap, get}
 use Rattle.std.specs.Io.KnownBytes.{Keeps}
+use Rattle.std.specs.Ordering.{nat_cmp}
 use Rattle.pw_serve.specs.declared.peer.Peer.{Peer}
+use Rattle.pw_serve.specs.declared.peers.Peers.{Peers as InLoop}
 use Rattle.pw_serve.specs.declared.turn.Next.{Next}
 use Rattle.pw_serve.specs.declared.turn.Next.TheVariants.{Waits}
 use Rattle.pw_serve.specs.Connections.{AllStay, Connection, OthersStay}
@@ -45,6 +48,10 @@ AreSame old new = (j : ℕ) → new j ≡ old j
 abbrev pub HaveLooked : (List ℕ → Type 0) → Peers → Type 0
 HaveLooked waits peers = (j : ℕ) → (c : Peer) → peers j ≡ Some c → HasLooked waits c
 
+-- it does so of those in the loop, where it did before
+abbrev pub StillHaveLooked : (List ℕ → Type 0) → BTreeMap ℕ Peer → BTreeMap ℕ Peer → Type 0
+StillHaveLooked waits old new = HaveLooked waits (get nat_cmp old) → HaveLooked waits (get nat_cmp new)
+
 -- the one at k, if there is one, rests where it is left to an event
 abbrev pub RestsAt : (List ℕ → Type 0) → Next → Peers → ℕ → Type 0
 RestsAt waits next peers k = (c : Peer) → peers k ≡ Some c → Rests waits next c
@@ -60,6 +67,11 @@ module _ {S : Type 0} (answers : S → Asked → List ℕ → S → Type 0) wher
   -- a step keeps all that, whatever was before it
   abbrev pub Onward : S → (ℕ → Connection) → Peers → ℕ → S → (ℕ → Connection) → Peers → ℕ → Type 0
   Onward b now peers next c after others behind = (a : S) (first : ℕ → Connection) → Now a first now b peers next → Now a first after c others behind
+
+  -- so does one from the loop's peers to others, where this is known of the connections
+  abbrev pub KeepOnward : {C : Type 0} → (C → ℕ → Connection) → S → C → InLoop → S → C → InLoop → Type 0
+  KeepOnward connection b now peers c after others =
+      Onward b (connection now) (get nat_cmp peers.rows) peers.next c (connection after) (get nat_cmp others.rows) others.next
 
   -- the turn of the peer at k, if there is one
   pub record IsTurn (k : ℕ) (c d : Peer) (old : S) (now : ℕ → Connection) (peers : Peers) (new : S) (after : ℕ → Connection) (others : Peers) (next : Next) : Type 0 where

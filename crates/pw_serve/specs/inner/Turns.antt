@@ -1,14 +1,18 @@
--- What a step and a turn do. It serves `src/turn.rt`.
+-- What a step and a turn do. It serves `src/turn.rt` and `src/peers.rt`.
 use Rattle.std.specs.Prelude.{◌≡◌, ℕ, List, ◌++◌}
 use Rattle.std.specs.List.{AllByRecursion}
 use Rattle.pw_serve.specs.declared.connections.Ending.{Ending}
 use Rattle.pw_serve.specs.declared.peer.Peer.{Peer}
 use Rattle.pw_serve.specs.declared.turn.Next.{Next}
 use Rattle.pw_serve.specs.declared.turn.Next.TheVariants.{Goes, Replied, Waits, Held, Ends}
-use Rattle.pw_serve.specs.Connections.{Connection}
+use Rattle.pw_serve.specs.Connections.{Connection, OthersStay}
 use Rattle.pw_serve.specs.Exchanges.{Asked, Chain, Exchange}
 use Rattle.pw_serve.specs.Served.{IsOwed, Talk}
 use Rattle.pw_serve.specs.inner.Peers.{IsPeer, IsResting}
+
+-- all other connections stay as they are, as far as it is known of them
+abbrev pub LeavesOthers : {C : Type 0} → (C → ℕ → Connection) → ℕ → C → C → Type 0
+LeavesOthers connection k old new = OthersStay k (connection old) (connection new)
 
 -- a connection that is to be ended, and why it may be
 pub record IsLeaving (why : Ending) (first now : Connection) (own : List Exchange) : Type 0 where

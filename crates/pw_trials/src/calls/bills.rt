@@ -22,6 +22,7 @@ use crate::posts::post;
 use crate::shelves::counting_book;
 use pw_bills::{bill, days, energy_between, read_up_to, top_ups_between, why};
 use pw_book::{Book, BookFault, PostFault};
+use pw_model::has_owner;
 use pw_shelf::{CountShelf, Shelf};
 use pw_tariff::{AccountId, Office, Owner};
 use pw_time::Instant;
@@ -248,23 +249,13 @@ fn tell_energy<O: Write, S: Shelf>(
     Ok(())
 }
 
-// Whether an account is one of the office, or none is named.
-fn is_owner_of(office: &Office, owner: Owner) -> bool
-    ensures { IsTrue result → HasOwner (office_of office.now) owner }
-{
-    match owner {
-        None => true,
-        Some(account) => account.0 < office.accounts(),
-    }
-}
-
 // Whether an office has this owner, this period and this band.
 fn has_class(office: &Office, owner: Owner, class: Class) -> bool
     ensures owner { IsTrue result → HasOwner (office_of office.now) owner }
     ensures period { IsTrue result → class.period.0 < periods_in office.now }
     ensures band { IsTrue result → class.band.0 < length office.now.bands }
 {
-    is_owner_of(office, owner) && class.period.0 < office.periods() && class.band.0 < office.bands()
+    has_owner(office, &owner) && class.period.0 < office.periods() && class.band.0 < office.bands()
 }
 
 // Tells the energy of an owner within a period. There is none of what the office doesn't have.

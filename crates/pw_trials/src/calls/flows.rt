@@ -50,7 +50,8 @@ fn tell_level<O: Write>(from: Point, to: Point, second: u32, out: &mut O) -> Opt
 fn energy_within(points: &[Point], from: u32, until: u32) -> u128
     requires rising { AreInTime (λ p. p.at) points.now }
     requires early { All (λ p. p.at < 2 ^ 32) points.now }
-    ensures { result ≡ register_energy (λ t. nat_le from t && nat_lt t until) (value_at points.now) (2 ^ 32) }
+    ensures { result ≡ register_energy (λ t. nat_le from t && nat_lt t until) (value_at points.now)
+        (2 ^ 32) }
 {
     energy(points, |second| from <= second && second < until)
 }

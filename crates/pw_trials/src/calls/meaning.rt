@@ -34,7 +34,8 @@ pub(crate) fn answer<O: Write>(asked: &Asked<'_>, words: &[&str], out: &mut O) -
 
 // Whether these can be the records of an office.
 fn is_sound(asked: &Asked<'_>) -> bool
-    ensures of_office { IsTrue result → AllOfOffice (office_of asked.now.office.now) asked.now.entries.now }
+    ensures of_office { IsTrue result → AllOfOffice (office_of asked.now.office.now)
+        asked.now.entries.now }
     ensures few { IsTrue result → length asked.now.entries.now ≤ most_records }
 {
     let terms = OfficeTerms::new(asked.office, asked.zone);

@@ -5,7 +5,7 @@ use Rattle.pw_tariff.specs.Office.{office_of}
 use Rattle.pw_model.proofs.PlainEnergy.{balance-fits}
 use Rattle.pw_model.proofs.SoundOffice.{sound-office}
 use Rattle.pw_bills.proofs.BillAsked.{bill-read, bill-there, top-ups_there, two-read}
-use Rattle.pw_bills.proofs.Questions.{answered-open, question-then, question-told}
+use Rattle.pw_book.proofs.Questions.{answered-open, question-then, question-told}
 use Rattle.pw_bills.proofs.billing.bill.Goals as goal
 
 pub returns-in_err-rows-clause-cost : goal.returns-in_err-rows-clause-cost

@@ -1,7 +1,7 @@
 use Rattle.std.proofs.Common.{arith}
 use Rattle.pw_parts.specs.declared.changes.Side.TheVariants.{Gains}
 use Rattle.pw_bills.specs.inner.Gathering.{Pass, pass_of}
-use Rattle.pw_bills.proofs.Questions.{question-told}
+use Rattle.pw_book.proofs.Questions.{question-told}
 use Rattle.pw_bills.proofs.Reading.{points-enough}
 use Rattle.pw_bills.proofs.Single.{energies-gathered}
 use Rattle.pw_bills.proofs.energies.days.Goals as goal

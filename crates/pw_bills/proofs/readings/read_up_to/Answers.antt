@@ -1,7 +1,7 @@
 use Rattle.std.proofs.Common.{[], ◌∷◌}
 use Rattle.pw_bills.specs.inner.Gathering.{Pass, pass_of}
 use Rattle.pw_bills.proofs.LastRead.{readings-told}
-use Rattle.pw_bills.proofs.Questions.{question-told}
+use Rattle.pw_book.proofs.Questions.{question-told}
 use Rattle.pw_bills.proofs.Reading.{three-enough}
 use Rattle.pw_bills.proofs.Single.{one-stretch}
 use Rattle.pw_bills.proofs.readings.read_up_to.Goals as goal

@@ -1,7 +1,7 @@
 use Rattle.std.proofs.Common.{[], ◌∷◌, refl}
 use Rattle.pw_bills.specs.inner.Gathering.{Pass, pass_of}
 use Rattle.pw_bills.proofs.RowsThere.{rows-told}
-use Rattle.pw_bills.proofs.Questions.{question-told}
+use Rattle.pw_book.proofs.Questions.{question-told}
 use Rattle.pw_bills.proofs.Reading.{points-enough}
 use Rattle.pw_bills.proofs.Single.{one-stretch}
 use Rattle.pw_bills.proofs.reasons.why.Goals as goal

@@ -3,7 +3,7 @@ use Rattle.std.proofs.lemmas.Result.{err_from_is_err_and}
 use Rattle.pw_tariff.specs.Office.{OfficeFile}
 use Rattle.pw_model.specs.Shelf.{ShelfContent}
 use Rattle.pw_moving.specs.Renaming.{Offices}
-use Rattle.pw_carrying.proofs.Asking.{answered-open}
+use Rattle.pw_book.proofs.Questions.{answered-open}
 use Rattle.pw_carrying.proofs.Listing.{all-carried, carried-failed, last-failed, up-to-none, waits-of-office}
 use Rattle.pw_carrying.proofs.Uploads.{uploads-failed, uploads-then}
 use Rattle.pw_carrying.proofs.carrying.carry_into.Goals as goal

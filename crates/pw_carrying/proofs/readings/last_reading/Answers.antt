@@ -2,7 +2,7 @@ use Rattle.std.proofs.Common.{◌≡◌, ◌+◌, ℕ, Option, ap, length, sym, 
 use Rattle.pw_tariff.specs.Office.{OfficeFile, office_of}
 use Rattle.pw_model.specs.Shelf.{ShelfContent}
 use Rattle.pw_carrying.specs.inner.Latest.{IsLastOf, IsReadOfMeter}
-use Rattle.pw_carrying.proofs.Asking.{question-then, question-told}
+use Rattle.pw_book.proofs.Questions.{question-then, question-told}
 use Rattle.pw_carrying.proofs.Latest.{IsReadOfMeters, meter-next, meters-all}
 use Rattle.pw_carrying.proofs.readings.last_reading.Goals as goal
 
@@ -17,7 +17,7 @@ loop-meter-preserved g c =
           let one = subst O (was.question.asked.content before) (c.in_ok-here.ensures.last k) in
           let L : Option ℕ → Type 0 = λ last. IsLastOf (IsReadOfMeters records (c.loop-meter.meter + 1)) last in
           subst L (sym c.later-last.ensures) (meter-next records c.loop-meter.meter c.loop-meter.last c.in_ok-here.here (was.last before) one);
-      question = question-told g.S.Shelf g.met.S.Shelf.same_yet g.met.S.Shelf.same_then c.in_ok-here.here c.later-last.result _ _ (question-then g.S.Shelf g.met.S.Shelf.same_then c.loop-meter.last _ _ _ _ was.question c.in_ok-here.ensures.question);
+      question = question-told g.S.Shelf c.in_ok-here.here c.later-last.result _ _ (question-then g.S.Shelf g.met.S.Shelf.same_then c.loop-meter.last _ _ _ _ was.question c.in_ok-here.ensures.question);
     }
 
 pub returns-clause-last : goal.returns-clause-last

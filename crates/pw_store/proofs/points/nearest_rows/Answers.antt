@@ -9,7 +9,7 @@ pub returns-clause-row : goal.returns-clause-row
 returns-clause-row g c clean =
     let before = early (state g.S.Store c.args.conn.now) (state g.S.Store c.query_all.new.self) c.query_all.ensures.survives clean in
     nearest_if c.args.side (state g.S.Store c.args.conn.now) (state g.S.Store c.query_all.new.self) c.args.meter.0 c.args.register c.query_all.result (c.requires.store before)
-    (rw (c.text.ensures, c.integer.ensures, c.integer-2.ensures, c.integer-3.ensures, c.from.ensures, c.register_place.ensures, c.seconds.ensures.value, c.instant-instant.ensures) at (c.query_all.ensures.ok clean))
+    (rw (c.text.ensures, c.integer.ensures, c.integer-2.ensures, c.integer-3.ensures, c.from.ensures, c.register_place.ensures.place, c.seconds.ensures.value, c.instant-instant.ensures) at (c.query_all.ensures.ok clean))
 
 pub returns-clause-asks : goal.returns-clause-asks
 returns-clause-asks g c =

@@ -12,7 +12,7 @@ pub returns-in-Ok-clause-done : goal.returns-in-Ok-clause-done
 returns-in-Ok-clause-done g c clean =
     let before = early (state g.S.Store c.args.conn.now) (state g.S.Store c.execute-put.new.self) c.execute-put.ensures.survives clean in
     puts (state g.S.Store c.args.conn.now) (state g.S.Store c.execute-put.new.self) c.args.meter.0 c.args.register c.args.instant c.args.wh c.in-Ok.field-0 (c.requires.store before) (c.requires.inside before)
-    (rw (c.integer.ensures, c.integer-2.ensures, c.integer-3.ensures, c.wide.ensures, c.from.ensures, c.register_place.ensures, c.seconds.ensures.value, c.get.ensures.value) at (c.in-Ok.ensures.runs clean))
+    (rw (c.integer.ensures, c.integer-2.ensures, c.integer-3.ensures, c.wide.ensures, c.from.ensures, c.register_place.ensures.place, c.seconds.ensures.value, c.get.ensures.value) at (c.in-Ok.ensures.runs clean))
 
 pub returns-in-Ok-clause-writes : goal.returns-in-Ok-clause-writes
 returns-in-Ok-clause-writes g c = record {

@@ -36,10 +36,18 @@ module _ {S : Type 0} (shelf : Ghosts S) where
     limit = g.limit ∙ f.limit;
   }
 
+  -- a question that is answered otherwise
+  pub question-told : {T U : Type 0} (x : T) (y : U) (a b : Book S shelf) → IsQuestion shelf {T = T} (Ok x) a b → IsQuestion shelf {T = U} (Ok y) a b
+  question-told x y a b f = record {
+    asked = f.asked;
+    reopen = (λ e. absurd (not-failed y Reopen e), λ s. absurd (not-failed x Reopen (f.reopen.1 s)));
+    untouched = f.untouched;
+    shut = f.shut;
+    office = f.office;
+    zone = f.zone;
+    limit = f.limit;
+  }
+
   -- a book that answers is open
   pub answered-open : {T : Type 0} (x : T) (a b : Book S shelf) → IsQuestion shelf {T = T} (Ok x) a b → a.shut ≡ false
   answered-open x a b f = elim (cases_Bool a.shut) [ inl t ↦ absurd (not-failed x Reopen (f.reopen.1 t)) | inr n ↦ n ]
-
-  -- a question that is answered otherwise
-  pub question-told : {T U : Type 0} (yet : (s : S) → shelf.same_store s s) (joined : Joins shelf.same_store) (x : T) (y : U) (a b : Book S shelf) → IsQuestion shelf {T = T} (Ok x) a b → IsQuestion shelf {T = U} (Ok y) a b
-  question-told yet joined x y a b f = question-then joined x (Ok y) a b b f (question-none yet y b (f.shut ∙ answered-open x a b f))

@@ -1,5 +1,0 @@
-use Rattle.std.proofs.Common.{rules}
-use Rattle.pw_schema.proofs.reading.withdrawn_topup_of.Goals as goal
-
-pub returns : goal.returns
-returns c = search rules depth 0 fits 100
