@@ -243,7 +243,7 @@ pub(crate) fn close_store(connection: Connection<FileStore<FileFrom<Wary>>>) -> 
     }
 }
 
-// The connection that a book's store stands on.
-fn connection_under<S: Alter>(book: Book<SqlShelf<S>>) -> Connection<S> {
+/// The connection that a book's store stands on.
+pub(crate) fn connection_under<S: Alter>(book: Book<SqlShelf<S>>) -> Connection<S> {
     book.into_shelf().close()
 }
