@@ -44,7 +44,7 @@ impl Bill {
 
 // The bill, from the balance of all time, and from what was topped up and flowed from the
 // interval's begin on.
-pub(crate) fn settle(
+pub(crate) fn bill_from(
     office: &Office,
     balance: i128,
     rows: &[TopUpRow],

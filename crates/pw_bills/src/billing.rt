@@ -9,7 +9,7 @@ ghost use Rattle.pw_bills.specs.Billed.{AreEnoughForBill, TellsBill};
 ghost use Rattle.pw_bills.specs.Reads.{CostsMeters};
 ghost use Rattle.pw_bills.specs.inner.Settling.{TellsFlows};
 
-use crate::billed::{Bill, settle};
+use crate::billed::{Bill, bill_from};
 use crate::energies::{Energies, days};
 use crate::payments::top_ups_between;
 use pw_book::{Book, BookFault};
@@ -47,7 +47,7 @@ pub fn bill<S: Shelf>(
     let balance = book.balance(account)?;
     let rows = top_ups_between(book, alloc, account, from, END_SECOND)?;
     let energies = flowed(book, alloc, account, from, until)?;
-    Ok(settle(&book.office, balance, &rows, energies, from, until))
+    Ok(bill_from(&book.office, balance, &rows, energies, from, until))
 }
 
 // The energies of an account from an instant on: up to a second, and from that on.

@@ -10,7 +10,7 @@ ghost use Rattle.pw_bills.specs.inner.Gathering.{CanAskAt, PointsAreRead, pass_t
 
 use crate::gathering::Place;
 use crate::shelf_calls::{point_after_held, point_before_held, points_held};
-use pw_book::joined;
+use pw_book::with_neighbours;
 use pw_parts::Point;
 use pw_shelf::{Shelf, ShelfFault};
 
@@ -47,7 +47,7 @@ fn points_around<S: Shelf>(shelf: &mut S, place: &Place) -> Result<Vec<Point>, S
     let before = point_before_held(shelf, place, from)?;
     let after = point_after_held(shelf, place, last)?;
     let within = points_held(shelf, place, from, last)?;
-    let points = joined(place.basis.alloc, before, &within, after)?;
+    let points = with_neighbours(place.basis.alloc, before, &within, after)?;
     Ok(points)
 }
 

@@ -9,7 +9,7 @@ ghost use Rattle.pw_book.specs.Asking.{IsOnlyAsked};
 ghost use Rattle.pw_bills.specs.inner.Gathering.{TakesRows};
 
 use crate::gathering::Place;
-use crate::stretches::Start;
+use pw_book::Start;
 use pw_parts::Point;
 use pw_shelf::{Shelf, ShelfFault};
 use pw_tariff::MeterId;

@@ -5,12 +5,10 @@ ghost use Rattle.std.specs.List.{list_any};
 ghost use Rattle.pw_bills.specs.Stretches.{AreStretches};
 ghost use Rattle.pw_bills.specs.inner.Naming.{is_behind, name_in, named_from, names_somebody, owner_begun, stretch};
 
+use pw_book::Start;
 use pw_tariff::{AccountId, Owner};
 use pw_time::Instant;
 use std::alloc::{AllocError, Global};
-
-// From when on a meter is whose.
-pub(crate) type Start = (Instant, Owner);
 
 // The stretches of time that are asked for, and whose: where each begins, and the last instant of
 // the last one.

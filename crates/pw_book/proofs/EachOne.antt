@@ -1,25 +1,15 @@
 -- Records of a list, each counted once.
-use Rattle.std.proofs.Common.{◌≡◌, ℕ, zero, suc, ◌+◌, ◌<◌, ◌≤◌, Bool, true, cond, ◌||◌, List, [], ◌∷◌, ◌++◌, length, take, get_or, refl, ap, sym, subst, ◌∙◌, arith, inl, inr}
-use Rattle.std.specs.List.{Contains, AllByRecursion, dedup}
-use Rattle.std.specs.List.Sorted.{IsPermutation, IsSorted, IsStrictlySortedBy}
+use Rattle.std.proofs.Common.{◌≡◌, ℕ, zero, suc, ◌+◌, ◌<◌, ◌≤◌, Bool, true, cond, ◌||◌, List, [], ◌∷◌, ◌++◌, length, take, get_or, refl, sym, subst, arith, inl, inr}
+use Rattle.std.specs.List.{Contains}
 use Rattle.std.specs.Cmp.{both_ways}
-use Rattle.std.specs.declared.cmp.Ordering.TheVariants.{Less, Equal}
 use Rattle.std.proofs.lemmas.Bool.{cases_Bool}
-use Rattle.std.proofs.lemmas.Cmp.{tied_itself}
-use Rattle.std.proofs.lemmas.List.Kept.{Contains-dedup, Contains-from_dedup, IsStrictlySortedBy-dedup}
-use Rattle.std.proofs.lemmas.List.Sorted.{IsPermutation-sym, Contains-permutation}
 use Rattle.pw_model.specs.declared.records.Entry.{Entry}
-use Rattle.pw_model.specs.contracts.records.EntryPartialEq.TheImpl as derived
-use Rattle.pw_model.specs.contracts.records.EntryOrd.TheImpl.Laws.{matches_eq-law}
-use Rattle.pw_model.specs.contracts.records.EntryEq.TheImpl.Laws.{laws-law}
 use Rattle.pw_model.specs.Counting.{Member, EachOnce, SameMembers}
 use Rattle.pw_model.specs.Lists.{record_count}
 use Rattle.pw_model.specs.Payments.{stands_in, sum_once}
 use Rattle.pw_model.specs.Same.{same_entry}
-use Rattle.pw_model.proofs.Alike.{entries-alike}
 use Rattle.pw_model.proofs.Once.{stands-decides, once-same}
 use Rattle.pw_model.proofs.Same.{same_entry-decides}
-use Rattle.pw_shelf.proofs.InOrder.{order, order_total}
 use Rattle.pw_book.specs.Posting.{fresh_in, repeated_in}
 use Rattle.pw_model.proofs.Places.{member-left, member-right, member-split}
 
@@ -128,41 +118,11 @@ once-push f xs e d =
 pub fresh-same : (held xs ys : List Entry) → SameMembers xs ys → fresh_in held xs ≡ fresh_in held ys
 fresh-same held xs ys h = once-same same_entry same_entry-decides (λ e. cond (stands_in same_entry e held) 0 1) xs ys h
 
--- ---- a sorted list without doubles
-pub contains-member : {X : Type 0} (xs : List X) (x : X) → Contains xs x → Member x xs
+-- ---- members
+contains-member : {X : Type 0} (xs : List X) (x : X) → Contains xs x → Member x xs
 contains-member [] x c = absurd (let l = c.1 in omega (arith, l))
 contains-member (y ∷ ys) x (zero, l, e) = inl (sym e)
 contains-member (y ∷ ys) x (suc k, l, e) = inr (contains-member ys x (k, omega (arith, l), e))
-
-pub member-contains : {X : Type 0} (xs : List X) (x : X) → Member x xs → Contains xs x
-member-contains [] x m = absurd m
-member-contains (y ∷ ys) x (inl i) = (zero, omega arith, sym i)
-member-contains (y ∷ ys) x (inr m) = let c = member-contains ys x m in (suc c.0, let l = c.1 in omega (arith, l), c.2)
-
-above-apart : (x : Entry) (xs : List Entry) → AllByRecursion (λ y. order x y ≡ Less) xs → Member x xs → ⊥
-above-apart x [] h m = m
-above-apart x (y ∷ ys) h (inl i) =
-    let a : order x y ≡ Equal = ap (order x) (sym i) ∙ tied_itself order_total x in
-    let b : order x y ≡ Less = h.0 in
-    cc
-above-apart x (y ∷ ys) h (inr m) = above-apart x ys h.1 m
-
-pub strict-once : (xs : List Entry) → IsStrictlySortedBy order xs → EachOnce xs
-unfolding IsStrictlySortedBy
-strict-once [] h = tt
-strict-once (x ∷ xs) h = (above-apart x xs h.0, strict-once xs h.1)
-
-same-one : (x y : Entry) → derived.ghosts.eq x y ≡ true → x ≡ y
-same-one x y h = (same_entry-decides x y).0 (sym (entries-alike x y) ∙ h)
-
-pub deduped-once : (xs : List Entry) → IsSorted order xs → EachOnce (dedup derived.ghosts.eq xs)
-deduped-once xs h = strict-once (dedup derived.ghosts.eq xs) (IsStrictlySortedBy-dedup order_total (λ x y. matches_eq-law x y) xs h)
-
-pub deduped-same : (entries sorted : List Entry) → IsPermutation entries sorted → SameMembers (dedup derived.ghosts.eq sorted) entries
-deduped-same entries sorted p x = (
-  λ m. contains-member entries x (Contains-permutation sorted entries x (IsPermutation-sym entries sorted p) (Contains-from_dedup derived.ghosts.eq sorted x (member-contains (dedup derived.ghosts.eq sorted) x m))),
-  λ m. contains-member (dedup derived.ghosts.eq sorted) x (Contains-dedup laws-law same-one sorted x (Contains-permutation entries sorted x p (member-contains entries x m))),
-)
 
 -- ---- entries counted one after the other
 pub taken-apart : (xs : List Entry) (i : ℕ) (e : Entry) → EachOnce xs → i < length xs → e ≡ get_or xs i e → Member e (take i xs) → ⊥

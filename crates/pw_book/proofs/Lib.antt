@@ -3,6 +3,7 @@ pub mod NotHeld
 pub mod Joining
 pub mod Chains
 pub mod Answering
+pub mod SameEntries
 pub mod Keeping
 pub mod Disputed
 pub mod Shared

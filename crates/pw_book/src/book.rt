@@ -19,7 +19,7 @@ use crate::basis::Basis;
 use crate::fault::PostFault;
 use crate::posting::post_to;
 use pw_line::{Line, ROOM, line_of, push_number};
-use pw_model::Entry;
+use pw_model::{Distinct, Entry};
 use pw_shelf::Shelf;
 use pw_tariff::Office;
 use pw_time::Zone;
@@ -120,7 +120,7 @@ impl<S: Shelf> Book<S> {
         }
     }
 
-    /// The office.
+    /// The office whose records the book takes, as its file tells it.
     pub fn office(&self) -> &Office
         ensures { result.now ≡ self.now.office }
     {
@@ -156,6 +156,48 @@ impl<S: Shelf> Book<S> {
     /// crash leaves what it could leave before, or the content with the whole upload; after Ok the latter alone, after `Full`
     /// the former alone.
     pub fn post(&mut self, alloc: Global, entries: &[Entry]) -> Result<Accepted, PostFault>
+        requires { AllOfOffice (office_of self.old.office) entries.now }
+        ensures posted { S.clean self.new.shelf → IsPosted (office_of self.old.office)
+            self.old.limit entries.now (S.state self.old.shelf).content
+            (S.state self.new.shelf).content result }
+        ensures left { S.clean self.new.shelf → LeavesPosted (office_of self.old.office)
+            self.old.limit entries.now (S.state self.old.shelf).content
+            (S.state self.new.shelf).content (S.left self.old.shelf) (S.left self.new.shelf)
+            result }
+        ensures sound { S.clean self.new.shelf → LeavesSound (office_of self.old.office)
+            (S.left self.old.shelf) (S.left self.new.shelf) }
+        ensures cost { S.clean self.new.shelf → IsCheap (office_of self.old.office) entries.now
+            (S.state self.old.shelf).content (S.state self.old.shelf).tally
+            (S.state self.new.shelf).tally }
+        ensures reopen { IsErrOf result PostFault.Reopen
+            ↔ ((self.old.shut ≡ true)
+            ⊎ ((S.state self.old.shelf).failed_abandons
+            < (S.state self.new.shelf).failed_abandons)) }
+        ensures abandons { (S.state self.new.shelf).failed_abandons
+            ≡ (S.state self.old.shelf).failed_abandons + failed_in self.old.shut result }
+        ensures untouched { self.old.shut ≡ true → self.new.shelf ≡ self.old.shelf }
+        ensures shut { (self.new.shut ≡ true) ↔ IsErrOf result PostFault.Reopen }
+        ensures begun { S.clean self.new.shelf → self.old.shut ≡ false
+            → IsErrOf result PostFault.Reopen
+            → (S.state self.new.shelf).begun ≡ Some (S.state self.old.shelf).content }
+        ensures failures { FailuresPosted result (S.state self.old.shelf).failures
+            (S.state self.new.shelf).failures }
+        ensures cleanness { S.clean self.new.shelf → S.clean self.old.shelf }
+        ensures store { S.same_store self.old.shelf self.new.shelf }
+        ensures book { (self.new.office ≡ self.old.office) × (self.new.zone ≡ self.old.zone)
+            × (self.new.limit ≡ self.old.limit) }
+    {
+        self.still_open()?;
+        let distinct = Distinct::of(alloc, entries)?;
+        self.post_distinct(alloc, &distinct)
+    }
+
+    /// Takes an upload whose entries are in order, each once, as `post` does one of any list. It copies none of them.
+    pub fn post_distinct(
+        &mut self,
+        alloc: Global,
+        entries: &Distinct,
+    ) -> Result<Accepted, PostFault>
         requires { AllOfOffice (office_of self.old.office) entries.now }
         ensures posted { S.clean self.new.shelf → IsPosted (office_of self.old.office)
             self.old.limit entries.now (S.state self.old.shelf).content

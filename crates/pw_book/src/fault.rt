@@ -78,6 +78,7 @@ impl PostFault {
     }
 }
 
+// The line of a fault that tells how many records are held, and the limit.
 fn full_line_of(fault: PostFault, held: u32, limit: u32) -> Line
     ensures text { result.bytes ≡ full_line (post_told fault).0 (post_told fault).1 held limit }
     ensures fits { array_string_len result < ROOM }

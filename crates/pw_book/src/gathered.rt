@@ -25,7 +25,7 @@ pub(crate) struct Gathered {
     pub(crate) known: KnownStarts,
 }
 
-// Nothing that is gathered.
+// What an upload begins with: no total changes yet, and no meter's starts are known.
 pub(crate) fn nothing_gathered(alloc: Global) -> Gathered
     ensures changes { result.changes.rows.entries ≡ [] }
     ensures known { result.known.meter ≡ None }

@@ -16,11 +16,10 @@ ghost use Rattle.pw_book.specs.declared.fault.PostFault.TheVariants.{Full, Reope
 
 use crate::basis::Basis;
 use crate::book::Accepted;
-use crate::distinct::distinct;
 use crate::fault::PostFault;
 use crate::shelf_calls::{count_held, is_held};
 use crate::upload::upload;
-use pw_model::Entry;
+use pw_model::{Distinct, Entry};
 use pw_shelf::{Shelf, ShelfFault};
 use std::alloc::Global;
 
@@ -29,7 +28,7 @@ pub(crate) fn post_to<S: Shelf>(
     shelf: &mut S,
     basis: &Basis,
     limit: u32,
-    entries: &[Entry],
+    entries: &Distinct,
 ) -> Result<Accepted, PostFault>
     requires idle { IsNone (S.state shelf.old).begun }
     requires most { limit ≤ most_records }
@@ -56,8 +55,8 @@ pub(crate) fn post_to<S: Shelf>(
     ensures cleanness { S.clean shelf.new → S.clean shelf.old }
     ensures store { S.same_store shelf.old shelf.new }
 {
-    let distinct = distinct(basis.alloc, entries)?;
-    let (held, fresh) = weigh(shelf, basis.alloc, &distinct)?;
+    let distinct = entries.entries();
+    let (held, fresh) = weigh(shelf, basis.alloc, distinct)?;
     let repeated = distinct.len() - fresh.len();
     let accepted = admitted(held, fresh.len(), repeated, limit)?;
     upload(shelf, basis, &fresh)?;

@@ -172,6 +172,7 @@ fn listed(
     Ok(points)
 }
 
+// Puts a point behind those before it, where there is one.
 fn add_if_there(points: &mut Vec<Point>, point: &Option<Point>) -> Result<(), AllocError>
     ensures { IfOk result (λ _. points.new.items ≡ points.old.items ++ point_listed point.now []) }
 {

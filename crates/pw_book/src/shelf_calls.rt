@@ -1,4 +1,4 @@
-//! The shelf's reading calls outside an upload.
+//! The shelf's reading calls outside an upload. Each says here what it says where none is begun.
 
 ghost use Rattle.std.specs.Prelude.{◌≡◌, ◌+◌, ◌≤◌, IfOk, IsNone, length};
 ghost use Rattle.pw_model.specs.Counting.{contents_at};
@@ -16,6 +16,7 @@ use pw_tariff::MeterId;
 use pw_time::{FIRST_SECOND, Instant, LAST_SECOND};
 use std::alloc::Global;
 
+// How many records are held.
 pub(crate) fn count_held<S: Shelf>(shelf: &mut S) -> Result<u32, ShelfFault>
     requires { IsNone (S.state shelf.old).begun }
     ensures number { S.clean shelf.new → IfOk result
@@ -26,6 +27,7 @@ pub(crate) fn count_held<S: Shelf>(shelf: &mut S) -> Result<u32, ShelfFault>
     shelf.count()
 }
 
+// The readings that are held of a register.
 pub(crate) fn readings_held<S: Shelf>(
     shelf: &mut S,
     alloc: Global,
@@ -58,6 +60,7 @@ pub(crate) fn points_held<S: Shelf>(
     shelf.points_between(alloc, meter, register, from, to)
 }
 
+// Whether an entry is held.
 pub(crate) fn is_held<S: Shelf>(shelf: &mut S, entry: &Entry) -> Result<bool, ShelfFault>
     requires { IsNone (S.state shelf.old).begun }
     ensures held { S.clean shelf.new → IfOk result
@@ -68,6 +71,7 @@ pub(crate) fn is_held<S: Shelf>(shelf: &mut S, entry: &Entry) -> Result<bool, Sh
     shelf.holds(entry)
 }
 
+// What the records held that stand say of a key.
 pub(crate) fn contents_held<S: Shelf>(shelf: &mut S, key: &Key) -> Result<Contents, ShelfFault>
     requires { IsNone (S.state shelf.old).begun }
     ensures told { S.clean shelf.new → IfOk result
@@ -77,6 +81,7 @@ pub(crate) fn contents_held<S: Shelf>(shelf: &mut S, key: &Key) -> Result<Conten
     shelf.contents_at(key)
 }
 
+// The assignments that are held of a meter.
 pub(crate) fn assignments_held<S: Shelf>(
     shelf: &mut S,
     alloc: Global,
@@ -90,6 +95,7 @@ pub(crate) fn assignments_held<S: Shelf>(
     shelf.assignments_of(alloc, meter)
 }
 
+// The top-ups that are held.
 pub(crate) fn topups_held<S: Shelf>(shelf: &mut S, alloc: Global) -> Result<Vec<Entry>, ShelfFault>
     requires { IsNone (S.state shelf.old).begun }
     ensures rows { S.clean shelf.new → IfOk result
@@ -99,6 +105,7 @@ pub(crate) fn topups_held<S: Shelf>(shelf: &mut S, alloc: Global) -> Result<Vec<
     shelf.topups(alloc)
 }
 
+// The withdrawals that are held.
 pub(crate) fn withdrawals_held<S: Shelf>(
     shelf: &mut S,
     alloc: Global,
@@ -111,6 +118,7 @@ pub(crate) fn withdrawals_held<S: Shelf>(
     shelf.withdrawals(alloc)
 }
 
+// The total that is kept at a key: 0 where none is.
 pub(crate) fn total_held<S: Shelf>(shelf: &mut S, key: &TotalKey) -> Result<u64, ShelfFault>
     requires { IsNone (S.state shelf.old).begun }
     ensures total { S.clean shelf.new → IfOk result

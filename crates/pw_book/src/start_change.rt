@@ -175,7 +175,7 @@ fn add_register<S: Shelf>(
         return Ok(());
     }
     let over = points_over(shelf, basis.alloc, window, register)?;
-    let points = joined(basis.alloc, over.before, &over.within, over.after)?;
+    let points = with_neighbours(basis.alloc, over.before, &over.within, over.after)?;
     let direction = direction_of(register);
     add_pairs(
         basis.alloc,
@@ -227,7 +227,7 @@ fn points_over<S: Shelf>(
 }
 
 /// A list of points, with the one before them and the one behind them, where there is one.
-pub fn joined(
+pub fn with_neighbours(
     alloc: Global,
     before: Option<Point>,
     within: &[Point],

@@ -11,8 +11,8 @@ use pw_tariff::{Owner, Owners};
 use pw_time::{Instant, LAST_SECOND};
 use std::alloc::{AllocError, Global};
 
-// From when on a meter is whose.
-pub(crate) type Start = (Instant, Owner);
+/// From when on a meter is whose.
+pub type Start = (Instant, Owner);
 
 // The starts where from an instant on the meter is this owner's, or where none stands at that instant.
 pub(crate) fn with_start(

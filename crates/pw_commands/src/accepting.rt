@@ -8,8 +8,8 @@ use std::net::{TcpListener, TcpStream};
 use std::thread;
 use std::time::{Clock, Duration};
 
-/// The next connection. One that is gone before it is accepted isn't waited for; where no descriptor or memory is free,
-/// there is another try behind a tenth of a second, as often as it takes (up to 2^64 times); else `Device`.
+// The next connection. One that is gone before it is accepted isn't waited for; where no descriptor or memory is free,
+// there is another try behind a tenth of a second, as often as it takes (up to 2^64 times); else `Device`.
 pub(crate) fn next_connection<R: Clock>(
     clock: &R,
     listener: &TcpListener,

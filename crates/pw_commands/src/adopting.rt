@@ -28,8 +28,8 @@ use sqlite::{Alter, Connection};
 use std::alloc::{AllocError, Global};
 use std::io::Write;
 
-/// What is to be adopted: the paths of the office file, the store and the new office file, and the names that are spelt
-/// otherwise; where it is `dry`, nothing is changed.
+// What is to be adopted: the paths of the office file, the store and the new office file, and the names that are spelt
+// otherwise; where it is `dry`, nothing is changed.
 #[derive(Clone, Copy)]
 pub(crate) struct Adoption<'a> {
     pub(crate) office: &'a str,
@@ -39,8 +39,8 @@ pub(crate) struct Adoption<'a> {
     pub(crate) dry: bool,
 }
 
-/// Gives a store another office file, where that adopts its records, and answers the exit status. What changes is told to
-/// `out`; where it isn't adopted to `err`, with the fault's line.
+// Gives a store another office file, where that adopts its records, and answers the exit status. What changes is told to
+// `out`; where it isn't adopted to `err`, with the fault's line.
 pub(crate) fn adopt<O: Write, E: Write, W: Watch>(
     rt: &HostRuntime,
     asked: Adoption<'_>,

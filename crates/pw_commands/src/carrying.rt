@@ -22,7 +22,7 @@ use std::fmt;
 use std::fs::{self, File};
 use std::io::{self, ErrorKind, Write};
 
-/// What is to be carried: the paths of the office file, the store, the new office file and the new store.
+// What is to be carried: the paths of the office file, the store, the new office file and the new store.
 #[derive(Clone, Copy)]
 pub(crate) struct Carriage<'a> {
     pub(crate) office: &'a str,
@@ -41,8 +41,8 @@ struct Paths {
     part_log: String,
 }
 
-/// Takes all records of a store into a new one, and answers the exit status. How many they were, and each account whose
-/// balance is another one, is told to `out`; the first record that the new office can't hold to `err`.
+// Takes all records of a store into a new one, and answers the exit status. How many they were, and each account whose
+// balance is another one, is told to `out`; the first record that the new office can't hold to `err`.
 pub(crate) fn carry<O: Write, E: Write, F: Follow>(
     rt: &HostRuntime,
     asked: Carriage<'_>,

@@ -25,7 +25,7 @@ impl fmt::Display for Name<'_> {
     }
 }
 
-/// The line of a change, which may be adopted or not.
+// The line of a change, which may be adopted or not.
 pub(crate) fn put_change(
     text: &mut Vec<u8>,
     old: &Office,

@@ -6,7 +6,7 @@ use std::io::{self, ErrorKind, Read, Write};
 use std::net::{Shutdown, TcpStream};
 use std::time::{Clock, Duration, Instant};
 
-/// A connection that was accepted: reads and writes of `&Client` fail with `TimedOut` once a limit of time has passed.
+// A connection that was accepted: reads and writes of `&Client` fail with `TimedOut` once a limit of time has passed.
 #[derive(Drop)]
 pub(crate) struct Client<'a, R: Clock> {
     clock: &'a R,
@@ -15,7 +15,7 @@ pub(crate) struct Client<'a, R: Clock> {
 }
 
 impl<'a, R: Clock> Client<'a, R> {
-    /// An error where the clock can't be read.
+    // An error where the clock can't be read.
     pub(crate) fn new(clock: &'a R, stream: &'a TcpStream) -> io::Result<Client<'a, R>> {
         let course = Cell::new(Course::new(Instant::now(clock)?));
         Ok(Client {
@@ -25,8 +25,8 @@ impl<'a, R: Clock> Client<'a, R> {
         })
     }
 
-    /// Ends the connection so that the client still gets the last reply: what it goes on sending is read for 2 seconds,
-    /// and 4 MB of it at most.
+    // Ends the connection so that the client still gets the last reply: what it goes on sending is read for 2 seconds,
+    // and 4 MB of it at most.
     pub(crate) fn part(&self) {
         let Ok(begun) = Instant::now(self.clock) else {
             return;

@@ -1,4 +1,4 @@
-//! The commands.
+//! What each command of the program does with the words that it is given, and with which exit status it ends.
 
 ghost use Rattle.std.specs.Prelude.{◌≡◌, ◌⊎◌, ◌<◌, List, Some, ℕ, IfOk, IfErr};
 ghost use Rattle.pw_time.specs.declared.zone.Clock.{Clock};
@@ -28,7 +28,7 @@ use crate::verifying::{Verification, verify};
 use pw_book::{Book, BookFault};
 use pw_found::Purpose;
 use pw_http::Audience;
-use pw_model::{Entry, MOST_RECORDS};
+use pw_model::{Distinct, MOST_RECORDS};
 use pw_read::read_run;
 use pw_record::{UploadBytes, UploadFault, UploadKind, upload_records};
 use pw_report::{MonthPage, Page, month_of, page_text};
@@ -41,7 +41,7 @@ use sqlite::Alter;
 use std::alloc::Global;
 use std::io::{Read, Write};
 
-/// The exit status for words that no command has.
+// The exit status for words that no command has.
 const WRONG_WORDS: u8 = 2;
 
 /// Does what the words behind the program's name ask for, and answers the exit status: 0; 1 where what was given is
@@ -265,15 +265,15 @@ fn check(rt: &HostRuntime, office: &str, verbose: bool) -> Result<Vec<u8>, Fault
     Ok(office_text(rt.alloc(), &office, verbose)?)
 }
 
-/// The entries that a file of an upload gives, or why it is refused.
+/// The entries that a file of an upload gives, in order, each once, or why it is refused.
 pub fn entries_of(
     rt: &HostRuntime,
     office: &Office,
     kind: UploadKind<'_>,
     body: &[u8],
-) -> Result<Vec<Entry>, UploadFault>
-    ensures entries { IfOk result (λ entries. Gives office.now kind.entry body.now entries.items) }
-    ensures of_office { IfOk result (λ entries. AllOfOffice (office_of office.now) entries.items) }
+) -> Result<Distinct, UploadFault>
+    ensures entries { IfOk result (λ entries. Gives office.now kind.entry body.now entries) }
+    ensures of_office { IfOk result (λ entries. AllOfOffice (office_of office.now) entries) }
     ensures refused { IfErr result (λ fault. Refused office.now kind.entry body.now fault) }
 {
     let upload = UploadBytes { kind, body };

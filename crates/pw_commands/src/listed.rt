@@ -14,14 +14,14 @@ use std::str;
 // The longest list, in bytes.
 const LONGEST_LIST: u32 = 16_777_216;
 
-/// An upload in a file.
+// An upload in a file.
 #[derive(Debug, Drop, PartialEq, Eq)]
 pub(crate) struct Upload<'a> {
     pub(crate) kind: UploadKind<'a>,
     pub(crate) path: String,
 }
 
-/// The uploads that a source names; `lines` keeps a list's, of which they borrow.
+// The uploads that a source names; `lines` keeps a list's, of which they borrow.
 pub(crate) fn uploads_from<'a>(
     rt: &HostRuntime,
     source: Source<'a>,

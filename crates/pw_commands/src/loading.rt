@@ -16,7 +16,7 @@ use crate::telling::{finish, tell};
 use pw_book::{Accepted, Book};
 use pw_found::Purpose;
 use pw_http::LONGEST_BODY;
-use pw_model::Entry;
+use pw_model::Distinct;
 use pw_record::UploadKind;
 use pw_shelf::Shelf;
 use pw_store::{SqlShelf, Watch};
@@ -26,10 +26,10 @@ use sqlite::Alter;
 use std::io::Write;
 use std::{fs, io};
 
-/// No line of an accepted upload is longer, in bytes.
+// No line of an accepted upload is longer, in bytes.
 const LONGEST_LINE: usize = 64;
 
-/// Where uploads are loaded: the paths of the office file and of the store, and the most records of its book.
+// Where uploads are loaded: the paths of the office file and of the store, and the most records of its book.
 #[derive(Clone, Copy)]
 pub(crate) struct Target<'a> {
     pub(crate) office: &'a str,
@@ -37,15 +37,15 @@ pub(crate) struct Target<'a> {
     pub(crate) limit: u32,
 }
 
-/// What is loaded, and where.
+// What is loaded, and where.
 #[derive(Drop)]
 pub(crate) struct Loading<'a> {
     pub(crate) target: Target<'a>,
     pub(crate) source: Source<'a>,
 }
 
-/// Loads what a source has, and answers the exit status. Of one file the acceptance line goes to `out`, or the fault's to
-/// `err`; of more each line stands behind its file's name.
+// Loads what a source has, and answers the exit status. Of one file the acceptance line goes to `out`, or the fault's to
+// `err`; of more each line stands behind its file's name.
 pub(crate) fn load<O: Write, E: Write, F: Follow>(
     rt: &HostRuntime,
     asked: Loading<'_>,
@@ -89,7 +89,7 @@ fn post_into<W: Watch>(
     target: Target<'_>,
     office: Office,
     text: &[u8],
-    entries: &[Entry],
+    entries: &Distinct,
     watch: &mut W,
 ) -> Result<Vec<u8>, Fault>
     requires office { IsOfficeOf text.now office }
@@ -107,19 +107,23 @@ fn post_into<W: Watch>(
 fn post_to_store<S: Alter>(
     rt: &HostRuntime,
     book: &mut Book<SqlShelf<S>>,
-    entries: &[Entry],
+    entries: &Distinct,
 ) -> Result<Vec<u8>, Fault>
     requires { AllOfOffice (office_of book.old.office) entries.now }
 {
     post(rt, book, entries)
 }
 
-fn post<S: Shelf>(rt: &HostRuntime, book: &mut Book<S>, entries: &[Entry]) -> Result<Vec<u8>, Fault>
+fn post<S: Shelf>(
+    rt: &HostRuntime,
+    book: &mut Book<S>,
+    entries: &Distinct,
+) -> Result<Vec<u8>, Fault>
     requires { AllOfOffice (office_of book.old.office) entries.now }
 {
     // Room for the line comes first, so that an upload which was accepted isn't told as refused.
     let mut line = Vec::with_capacity(rt.alloc(), LONGEST_LINE)?;
-    let accepted = book.post(rt.alloc(), entries)?;
+    let accepted = book.post_distinct(rt.alloc(), entries)?;
     match writeln!(line, "{accepted}") {
         Ok(()) => Ok(line),
         Err(_) => Err(Fault::Memory),
@@ -151,7 +155,7 @@ fn load_all<O: Write, E: Write, F: Follow>(
     Ok(status)
 }
 
-/// Whether each upload's file is there. Those that aren't are told.
+// Whether each upload's file is there. Those that aren't are told.
 pub(crate) fn are_there<E: Write>(rt: &HostRuntime, uploads: &[Upload<'_>], err: &mut E) -> bool {
     let mut all = true;
     for upload in uploads {
@@ -235,10 +239,10 @@ fn take<S: Shelf>(
 ) -> Result<Accepted, Fault> {
     let body = read_file(rt, upload.path.as_str(), LONGEST_BODY as u32)?;
     let entries = entries_of(rt, book.office(), upload.kind, body.as_slice())?;
-    Ok(book.post(rt.alloc(), entries.as_slice())?)
+    Ok(book.post_distinct(rt.alloc(), &entries)?)
 }
 
-/// Whether a fault says only that the file of an upload is wrong.
+// Whether a fault says only that the file of an upload is wrong.
 pub(crate) fn is_of_file(fault: Fault) -> bool {
     match fault {
         Fault::Upload(_) | Fault::TooLarge => fault.status() == 1,
@@ -251,7 +255,7 @@ fn told_of<O: Write>(upload: &Upload<'_>, accepted: Accepted, out: &mut O) -> io
     out.flush()
 }
 
-/// Tells why an upload is refused, behind its file's name.
+// Tells why an upload is refused, behind its file's name.
 pub(crate) fn tell_of<E: Write>(upload: &Upload<'_>, fault: Fault, err: &mut E) {
     let _ = writeln!(err, "{}: {fault}", upload.path);
 }

@@ -10,7 +10,7 @@ use pw_tariff::{BandId, Direction, Office, PeriodId};
 use pw_time::{Instant, write_utc};
 use std::alloc::{AllocError, Global};
 
-/// The office of a file, and the file's text.
+// The office of a file, and the file's text.
 pub(crate) fn read_office(rt: &HostRuntime, path: &str) -> Result<(Office, Vec<u8>), Fault>
     ensures { IfOk result (λ read. IsOfficeOf read.1.items read.0) }
 {
@@ -19,8 +19,8 @@ pub(crate) fn read_office(rt: &HostRuntime, path: &str) -> Result<(Office, Vec<u
     Ok((office, text))
 }
 
-/// `office`, and how many accounts, meters, bands and periods it has; behind that, where it is `verbose`, a line for each
-/// period.
+// `office`, and how many accounts, meters, bands and periods it has; behind that, where it is `verbose`, a line for each
+// period.
 pub(crate) fn office_text(
     alloc: Global,
     office: &Office,

@@ -1,4 +1,4 @@
-//! The command `pipe`.
+//! The command `pipe`: requests from one stream are answered on another, by a book in memory that ends with them.
 
 ghost use Rattle.std.specs.Prelude.{◌≡◌, ◌⊎◌, List, ℕ};
 ghost use Rattle.std.specs.Io.KnownBytes.{Appends};

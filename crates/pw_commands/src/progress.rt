@@ -9,16 +9,16 @@ use std::fmt;
 use std::io::{self, Write};
 use std::time::{Clock, Instant};
 
-/// From how many records on a person is told.
+// From how many records on a person is told.
 const MANY: usize = 100_000;
 
-/// The parts of a store.
+// How many parts of a store an opening checks.
 const PARTS: u8 = 10;
 
 const UPGRADED: &[u8] =
     b"powerbook: the store was of an older version and is of version 3 now: an older powerbook won't open it any more\n";
 
-/// Takes what stands in a terminal's line away, and goes to its begin.
+// Takes what stands in a terminal's line away, and goes to its begin.
 const CLEARED: &[u8] = b"\r\x1b[K";
 
 /// How far a load of many files is: the files that are through, of how many, and their records, fresh and repeated.
@@ -38,14 +38,14 @@ impl Loaded {
         }
     }
 
-    /// A file was accepted.
+    // A file was accepted.
     pub(crate) fn add(&mut self, accepted: Accepted) {
         let records = u64::from(accepted.fresh) + u64::from(accepted.repeated);
         self.records = self.records.saturating_add(records);
         self.pass();
     }
 
-    /// A file is through.
+    // A file is through.
     pub(crate) fn pass(&mut self) {
         self.files = self.files.saturating_add(1);
     }

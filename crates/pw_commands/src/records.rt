@@ -4,9 +4,9 @@ use pw_model::{Entry, Key, Named};
 use pw_tariff::{AccountId, MeterId, Office, Owner};
 use std::io::{self, Write};
 
-/// What a record says, with spaces between: `reading 4D31 I1 2024-01-02T05:00:00Z 1000000`,
-/// `assignment 4D31 2024-01-01T00:00:00Z A1` (of nobody `-`), `topup P1 A1 5000 2024-01-01T00:00:00Z`; a withdrawal has
-/// the record that it names behind `withdrawal`.
+// What a record says, with spaces between: `reading 4D31 I1 2024-01-02T05:00:00Z 1000000`,
+// `assignment 4D31 2024-01-01T00:00:00Z A1` (of nobody `-`), `topup P1 A1 5000 2024-01-01T00:00:00Z`; a withdrawal has
+// the record that it names behind `withdrawal`.
 pub(crate) fn put_record(text: &mut Vec<u8>, office: &Office, entry: &Entry) -> io::Result<()> {
     if let Key::Withdrawal { named } = &entry.key {
         text.write_all(b"withdrawal ")?;
@@ -60,7 +60,7 @@ fn meter_name(office: &Office, meter: MeterId) -> &str {
     }
 }
 
-/// The name of an account of the office.
+// The name of an account of the office.
 pub(crate) fn account_name(office: &Office, account: AccountId) -> &str {
     if account.0 < office.accounts() {
         office.account_name(account)

@@ -21,10 +21,10 @@ use sqlite::Alter;
 use std::alloc::Global;
 use std::io::{ErrorKind, Stderr, Write};
 
-/// What a client is told for whom no place is free.
+// What a client is told for whom no place is free.
 const TOO_MANY: &str = "too many clients\n";
 
-/// The most turns of the server.
+// The most turns of the server.
 const MOST_TURNS: u64 = u64::MAX;
 
 /// How long a port is served: up to the first of the ends that are stated; for ever, where none is.

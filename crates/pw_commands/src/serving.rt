@@ -44,7 +44,7 @@ pub fn serve<S: Alter, O: Write, E: Write>(
     (status, connection_under(book))
 }
 
-/// The exit status behind a server, whose store was closed or couldn't be.
+// The exit status behind a server, whose store was closed or couldn't be.
 pub(crate) fn closed<E: Write>(
     alloc: Global,
     closed: Result<(), Fault>,

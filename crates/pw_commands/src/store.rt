@@ -32,10 +32,10 @@ use sqlite_store::FileStore;
 use std::alloc::Global;
 use std::hash::{BuildHasher, RandomState};
 
-/// The size of a page, in bytes.
+// The size of a page, in bytes.
 const PAGE: usize = 4_096;
 
-/// The most pages of a store that are kept in memory.
+// The most pages of a store that are kept in memory.
 const MOST_KEPT: usize = 16_000;
 
 /// A book whose records stand in a file.
@@ -233,7 +233,7 @@ pub fn close_book(book: FileBook) -> Result<(), Fault>
     close_store(connection_under(book))
 }
 
-/// Closes the connection to a store's files, likewise.
+// Closes the connection to a store's files, likewise.
 pub(crate) fn close_store(connection: Connection<FileStore<FileFrom<Wary>>>) -> Result<(), Fault>
     ensures { IfErr result (λ fault. fault ≡ Fault.Device) }
 {
@@ -243,7 +243,7 @@ pub(crate) fn close_store(connection: Connection<FileStore<FileFrom<Wary>>>) -> 
     }
 }
 
-/// The connection that a book's store stands on.
+// The connection that a book's store stands on.
 pub(crate) fn connection_under<S: Alter>(book: Book<SqlShelf<S>>) -> Connection<S> {
     book.into_shelf().close()
 }

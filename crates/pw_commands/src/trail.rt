@@ -5,7 +5,7 @@ use pw_time::{Instant, write_utc};
 use std::io::{self, Write};
 use std::time::Clock;
 
-/// Writes a line for each upload that was answered: the instant in UTC, the target of the request, the status line.
+// Writes a line for each upload that was answered: the instant in UTC, the target of the request, the status line.
 #[derive(Drop)]
 pub(crate) struct Lines<C: Clock, E: Write> {
     clock: C,
@@ -13,7 +13,7 @@ pub(crate) struct Lines<C: Clock, E: Write> {
 }
 
 impl<C: Clock, E: Write> Lines<C, E> {
-    /// Lines go to `err`, with the instants of a clock; `-` stands where that tells none.
+    // Lines go to `err`, with the instants of a clock; `-` stands where that tells none.
     pub(crate) fn new(clock: C, err: E) -> Lines<C, E> {
         Lines { clock, err }
     }

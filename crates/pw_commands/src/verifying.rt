@@ -24,8 +24,8 @@ use sqlite::Alter;
 use std::alloc::Global;
 use std::io::{self, Write};
 
-/// What is to be verified: the paths of the office file and of the store, the uploads; and whether records that stand in
-/// none of these are told too.
+// What is to be verified: the paths of the office file and of the store, the uploads; and whether records that stand in
+// none of these are told too.
 #[derive(Drop)]
 pub(crate) struct Verification<'a> {
     pub(crate) office: &'a str,
@@ -44,8 +44,8 @@ struct Found {
     is_refused: bool,
 }
 
-/// Reads uploads again, tells the records that the store lacks, and answers the exit status: 0 where none is lacking, 1
-/// where some are or a file is refused, 3 where something failed.
+// Reads uploads again, tells the records that the store lacks, and answers the exit status: 0 where none is lacking, 1
+// where some are or a file is refused, 3 where something failed.
 pub(crate) fn verify<O: Write, E: Write, W: Watch>(
     rt: &HostRuntime,
     asked: Verification<'_>,
@@ -170,7 +170,7 @@ fn verify_one<S: Shelf, O: Write>(
     found: &mut Found,
 ) -> Result<Vec<Entry>, Fault> {
     let body = read_file(rt, upload.path.as_str(), LONGEST_BODY as u32)?;
-    let entries = entries_of(rt, book.office(), upload.kind, body.as_slice())?;
+    let entries = entries_of(rt, book.office(), upload.kind, body.as_slice())?.into_entries();
     let lacking = lacking(rt.alloc(), book, entries.as_slice())?;
     found.records = found.records.saturating_add(entries.len() as u64);
     found.lacking = found.lacking.saturating_add(lacking.len() as u64);

@@ -74,7 +74,7 @@ fn cause_of(kind: ErrorKind) -> Cause {
     }
 }
 
-/// What a file that isn't opened is to a command.
+// What a file that isn't opened is to a command.
 pub(crate) fn refusal_of(error: OpenError) -> Refusal
     ensures memory { error ≡ OpenError.OutOfMemory → result ≡ Refusal.Memory }
     ensures in_use { error ≡ OpenError.Busy → result ≡ Refusal.Unopened Cause.InUse }
@@ -89,7 +89,7 @@ pub(crate) fn refusal_of(error: OpenError) -> Refusal
     }
 }
 
-/// What a log that can't be read is to a command.
+// What a log that can't be read is to a command.
 pub(crate) fn refusal_of_log(error: Error) -> Refusal
     ensures cause { IsOfLooking result }
     ensures memory { error ≡ log.OutOfMemory → result ≡ Refusal.Memory }

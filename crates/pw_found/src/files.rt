@@ -19,7 +19,7 @@ use std::io;
 /// A log of so many bytes has no commit.
 pub const LONGEST_EMPTY_LOG: usize = 41;
 
-/// The size of a new store's pages, in bytes.
+// The size of a new store's pages, in bytes.
 const PAGE: usize = 4_096;
 
 /// What the two files are to an opening.

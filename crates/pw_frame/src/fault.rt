@@ -64,6 +64,7 @@ impl FrameFault {
     }
 }
 
+// A place as it is told: `at` and its number.
 fn place(at: usize) -> Line
     ensures text { result.bytes ≡ place_text at }
     ensures fits { array_string_len result ≤ 23 }
@@ -74,6 +75,7 @@ fn place(at: usize) -> Line
     line
 }
 
+// A place, and behind it the check that stands in the frame and the one that its bytes have.
 fn place_and_checks(at: usize, stated: &Line, computed: &Line) -> Line
     requires stated { array_string_len stated.now ≤ 4 }
     requires computed { array_string_len computed.now ≤ 4 }

@@ -27,6 +27,7 @@ pub fn four_digits(word: u16) -> Line
     digits
 }
 
+// Puts the digit of a value behind those that stand there.
 fn push_digit(line: &mut Line, value: u8)
     requires digit { value < 16 }
     requires room { array_string_len line.old < ROOM }
@@ -36,6 +37,7 @@ fn push_digit(line: &mut Line, value: u8)
     line.push(digit(value) as char);
 }
 
+// The character of a digit's value: from ten on a capital letter.
 fn digit(value: u8) -> u8
     requires { value < 16 }
     ensures text { result ≡ digit_character value }

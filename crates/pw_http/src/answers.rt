@@ -20,7 +20,7 @@ use pw_shelf::Shelf;
 use pw_tariff::AccountId;
 use std::alloc::Global;
 
-/// The body of an answer. Only a page takes memory.
+// The body of an answer. Only a page takes memory.
 #[derive(Drop)]
 pub(crate) enum Body {
     Line(Line),
@@ -28,7 +28,7 @@ pub(crate) enum Body {
     File(&'static str),
 }
 
-/// An answer that wasn't written yet.
+// An answer that wasn't written yet.
 #[derive(Drop)]
 pub(crate) struct Answer {
     pub(crate) status: Status,
@@ -49,7 +49,7 @@ impl Answer {
         }
     }
 
-    /// The bytes of the body.
+    // The bytes of the body.
     pub(crate) fn bytes(&self) -> &[u8]
         ensures { result.now ≡ body_text self.now.body }
     {
@@ -61,7 +61,7 @@ impl Answer {
     }
 }
 
-/// What is said where nothing is asked of the book.
+// What is said where nothing is asked of the book.
 pub(crate) fn said(status: Status, text: &str) -> Answer
     requires { length text.now ≤ 40 }
     ensures { reply_of result ≡ line_reply status text.now }
@@ -69,7 +69,7 @@ pub(crate) fn said(status: Status, text: &str) -> Answer
     Answer::of_line(status, line_of(text))
 }
 
-// A file of the page.
+// The answer with a file of the page to look at: the book is asked nothing.
 fn given(file: File) -> Answer
     ensures { reply_of result ≡ file_reply file }
 {
@@ -115,14 +115,14 @@ fn posted(answer: Result<Accepted, PostFault>) -> Answer
     }
 }
 
-// Takes an upload.
+// What the book answers to a body that is uploaded.
 fn take<S: Shelf>(book: &mut Book<S>, alloc: Global, kind: UploadKind, body: &[u8]) -> Answer
     ensures { Takes S.Shelf (upload_with kind.entry body.now) book.old (reply_of result) book.new }
 {
     let upload = UploadBytes { kind, body };
     match upload_records(alloc, book.office(), book.zone(), upload) {
         Err(fault) => refused(fault),
-        Ok(entries) => posted(book.post(alloc, &entries)),
+        Ok(entries) => posted(book.post_distinct(alloc, &entries)),
     }
 }
 
@@ -146,7 +146,7 @@ fn content_of(page: Page) -> ContentType
     }
 }
 
-// Asks for a page.
+// What the book answers where a page is asked for.
 fn show<S: Shelf>(book: &mut Book<S>, alloc: Global, page: Page) -> Answer
     requires { IsPageOf book.old.office page }
     ensures { Shows S.Shelf page book.old (reply_of result) book.new }
@@ -214,7 +214,7 @@ fn show_meter<S: Shelf>(book: &mut Book<S>, alloc: Global, id: &[u8]) -> Answer
     }
 }
 
-/// What a book answers to a request that goes to a route.
+// What a book answers to a request that goes to a route.
 pub(crate) fn answer_at<S: Shelf>(
     book: &mut Book<S>,
     alloc: Global,

@@ -198,7 +198,7 @@ fn is_known_page(origins: &[Origin], host: &[u8], page: &[u8]) -> bool
     (is_here(host) && is_page_of(Scheme::Http, host, page)) || is_let_by_any(origins, host, page)
 }
 
-/// Whether a header has this name, in any letter case.
+// Whether a header has this name, in any letter case.
 pub(crate) fn is_name(buf: &[u8], span: HeaderSpan, name: &[u8]) -> bool
     requires { IsHeaderWithin (length buf.now) span }
     ensures { result ≡ is_named name.now (header_bytes buf.now span) }
@@ -238,7 +238,7 @@ fn value_of<'b>(buf: &'b [u8], spans: &[HeaderSpan], name: &[u8]) -> &'b [u8]
     value
 }
 
-/// Whether a request with these headers is let in.
+// Whether a request with these headers is let in.
 pub(crate) fn is_let_in(audience: Audience, buf: &[u8], spans: &[HeaderSpan]) -> bool
     requires { All (IsHeaderWithin (length buf.now)) spans.now }
     ensures { result ≡ lets_in audience.entry (map (header_bytes buf.now) spans.now) }

@@ -42,7 +42,7 @@ impl<S: Shelf> Service for Book<S> {
     }
 }
 
-/// What a book replies to a request.
+// What a book replies to a request.
 pub(crate) fn reply_to<S: Shelf>(
     book: &mut Book<S>,
     alloc: Global,

@@ -23,7 +23,7 @@ use std::io::{Read, Write};
 /// The most calls of `read` in a conversation.
 pub const MOST_TURNS: u32 = 16_777_216;
 
-/// What one look at the bytes received led to.
+// What one look at the bytes received led to.
 #[derive(Clone, Copy, Debug, PartialEq, Eq)]
 pub(crate) enum Turn {
     /// More bytes are needed.
@@ -42,7 +42,7 @@ pub(crate) struct Batch {
     pub(crate) is_over: bool,
 }
 
-/// Answers a whole request, whose parts stand at these places.
+// Answers a whole request, whose parts stand at these places.
 pub(crate) fn answer_whole<S: Service, W: Write>(
     alloc: Global,
     service: &mut S,
@@ -205,7 +205,7 @@ pub fn serve_within<S: Service, R: Read, W: Write>(
     Err(WireFault::TooManyTurns)
 }
 
-/// The same by the routes of this project.
+// The same by the routes of this project.
 pub(crate) fn serve_for<S: Service, R: Read, W: Write>(
     alloc: Global,
     service: &mut S,

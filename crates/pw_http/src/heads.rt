@@ -1,4 +1,4 @@
-//! Request heads.
+//! Request heads: whether the bytes read so far begin with a whole one, and where its parts stand.
 
 ghost use Rattle.std.specs.Prelude.{◌≡◌, ◌≤◌, length};
 ghost use Rattle.pw_http.specs.Heads.{longest_head, most_fields};
@@ -13,7 +13,7 @@ pub const LONGEST_HEAD: usize = 8_192;
 /// The most header fields of a head.
 pub const MOST_FIELDS: usize = 64;
 
-/// What the bytes read so far say of the next request's head.
+// What the bytes read so far say of the next request's head.
 #[derive(Clone, Copy, Debug)]
 pub(crate) enum Outcome {
     /// A head, with the places of its parts.
@@ -24,7 +24,7 @@ pub(crate) enum Outcome {
     Bad,
 }
 
-/// Looks for a head at the front of `buf`, which is at most 8,192 bytes of what is left.
+// Looks for a head at the front of `buf`, which is at most 8,192 bytes of what is left.
 pub(crate) fn look(buf: &[u8], headers: &mut [HeaderSpan]) -> Outcome
     requires room { length headers.old ≡ most_fields }
     requires limit { length buf.now ≤ longest_head }

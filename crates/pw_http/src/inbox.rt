@@ -73,7 +73,7 @@ impl Inbox {
         &self.bytes[self.start..self.filled]
     }
 
-    /// Takes the first `n` bytes away.
+    // Takes the first `n` bytes away.
     pub(crate) fn consume(&mut self, n: usize)
         requires { n ≤ length self.old }
         ensures { self.new ≡ drop n self.old }
@@ -81,7 +81,7 @@ impl Inbox {
         self.start += n;
     }
 
-    /// Reads once.
+    // Reads once, behind the bytes that are there; 0 is the end of what is sent.
     pub(crate) fn fill<R: Read>(&mut self, reader: &mut R) -> io::Result<usize>
         requires { length self.old < ROOM }
         ensures filled { IfOk result (λ n. IsFilled self.old self.new (R.remaining reader.old)

@@ -102,7 +102,7 @@ fn first_end(content: ContentType) -> &'static str
     }
 }
 
-/// The first part of the head of a reply with a body of this size.
+// The first part of the head of a reply with a body of this size.
 pub(crate) fn head(status: Status, content: ContentType, size: usize, closing: bool) -> Line
     ensures { result.bytes ++ rest_of_head content ≡ reply_head status content size closing }
 {
@@ -120,7 +120,7 @@ pub(crate) fn head(status: Status, content: ContentType, size: usize, closing: b
     line
 }
 
-/// What the first part of a head leaves: the headers of a file of the page, which are longer than a line may be.
+// What the first part of a head leaves: the headers of a file of the page, which are longer than a line may be.
 pub(crate) fn behind_head(content: ContentType) -> &'static str
     ensures { result.now ≡ rest_of_head content }
 {
@@ -135,7 +135,7 @@ pub(crate) fn behind_head(content: ContentType) -> &'static str
     }
 }
 
-/// The status of the reply to what is no whole request.
+// The status of the reply to what is no whole request.
 pub(crate) fn status_of(why: Refusal) -> Status
     ensures { result ≡ refusal_status why }
 {
@@ -147,7 +147,7 @@ pub(crate) fn status_of(why: Refusal) -> Status
     }
 }
 
-/// The body of the reply to what is no whole request.
+// The body of the reply to what is no whole request.
 pub(crate) fn line_of(why: Refusal) -> &'static str
     ensures { result.now ≡ refusal_line why }
 {

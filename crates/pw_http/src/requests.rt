@@ -30,7 +30,7 @@ pub enum Refusal {
     BadBody,
 }
 
-/// The places of a whole request's parts.
+// The places of a whole request's parts.
 #[derive(Clone, Copy, Debug)]
 pub(crate) struct Places {
     pub(crate) method: Span,
@@ -42,7 +42,7 @@ pub(crate) struct Places {
     pub(crate) closes: bool,
 }
 
-/// What the bytes received so far say.
+// What the bytes received so far say.
 #[derive(Clone, Copy, Debug)]
 pub(crate) enum Next {
     /// No byte is left.
@@ -105,7 +105,7 @@ fn number(text: &[u8]) -> Option<u64>
     Some(value)
 }
 
-// The length of the body.
+// What a header says of the length of the body: 0 where no header does, nothing where several do or it says no number.
 fn said_length(buf: &[u8], spans: &[HeaderSpan]) -> Option<u64>
     requires { All (IsHeaderWithin (length buf.now)) spans.now }
     ensures { result ≡ length_said (values_of (codes "content-length")
@@ -126,7 +126,7 @@ fn said_length(buf: &[u8], spans: &[HeaderSpan]) -> Option<u64>
     said
 }
 
-/// The next request, where `ended` says that no more bytes come.
+// The next request, where `ended` says that no more bytes come.
 pub(crate) fn ask_next(
     audience: Audience,
     buf: &[u8],

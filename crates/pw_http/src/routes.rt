@@ -1,4 +1,4 @@
-//! The routes.
+//! The routes: to which upload, page or file a method and a path go, and what a path names.
 
 ghost use Rattle.std.specs.Prelude.{◌≡◌, ◌==◌, ◌≤◌, IfOk, drop, length};
 ghost use Rattle.std.specs.List.{position_or_len};
@@ -131,7 +131,7 @@ fn add_pages(router: &mut Router<Route>) -> Result<(), InsertError>
     Ok(())
 }
 
-// The exports.
+// What is exported as CSV: lists of the whole book, and the readings of one meter.
 fn add_exports(router: &mut Router<Route>) -> Result<(), InsertError>
     ensures { IfOk result (λ done. router.new ≡ all_added router.old exports) }
 {
@@ -213,7 +213,7 @@ fn method_of(route: Route) -> &'static [u8]
     }
 }
 
-/// Whether the reply to a request that goes there may be a large one.
+// Whether the reply to a request that goes there may be a large one.
 pub(crate) fn is_large_at(place: Place) -> bool
     ensures { result ≡ is_place_large place }
 {
@@ -223,21 +223,21 @@ pub(crate) fn is_large_at(place: Place) -> bool
     }
 }
 
-/// The account that a target of it, or of a month of it, names.
+// The account that a target of it, or of a month of it, names.
 pub(crate) fn account_in(target: &[u8]) -> &[u8]
     ensures { result.now ≡ account_of target.now }
 {
     up_to_slash(behind(target, b"/accounts/".len()))
 }
 
-/// What a target of an account's month names behind the account.
+// What a target of an account's month names behind the account.
 pub(crate) fn month_in(target: &[u8]) -> &[u8]
     ensures { result.now ≡ month_of target.now }
 {
     up_to_slash(behind_slash(behind(target, b"/accounts/".len())))
 }
 
-/// What a target of a meter's readouts names.
+// What a target of a meter's readouts names.
 pub(crate) fn meter_in(target: &[u8]) -> &[u8]
     ensures { result.now ≡ meter_of target.now }
 {
@@ -245,7 +245,7 @@ pub(crate) fn meter_in(target: &[u8]) -> &[u8]
     behind(&target[..end], b"/meters/".len())
 }
 
-/// What a target of a meter's readings names.
+// What a target of a meter's readings names.
 pub(crate) fn exported_meter_in(target: &[u8]) -> &[u8]
     ensures { result.now ≡ exported_meter_of target.now }
 {

@@ -11,7 +11,7 @@ use crate::replies::{ContentType, Status, behind_head, head, line_of, status_of}
 use crate::requests::Refusal;
 use std::io::Write;
 
-/// Writes the bytes, by as many calls as it takes.
+// Writes the bytes, by as many calls as it takes.
 pub(crate) fn send<W: Write>(writer: &mut W, bytes: &[u8]) -> Result<(), WireFault>
     ensures written { Writes (W.contents writer.old) (W.contents writer.new) bytes.now result }
     ensures fault { IfErr result (λ e. e ≡ WriteFault) }
@@ -33,10 +33,8 @@ fn send_rest<W: Write>(writer: &mut W, content: ContentType, body: &[u8]) -> Res
         (rest_of_head content ++ body.now) result }
     ensures fault { IfErr result (λ e. e ≡ WriteFault) }
 {
-    match send(writer, behind_head(content).as_bytes()) {
-        Ok(()) => send(writer, body),
-        Err(fault) => Err(fault),
-    }
+    send(writer, behind_head(content).as_bytes())?;
+    send(writer, body)
 }
 
 /// Writes a reply. It takes no memory.
@@ -59,7 +57,7 @@ pub fn send_reply<W: Write>(
     }
 }
 
-/// Writes the reply to what is no whole request. It takes no memory.
+// Writes the reply to what is no whole request. It takes no memory.
 pub(crate) fn refuse<W: Write>(writer: &mut W, why: Refusal) -> Result<(), WireFault>
     ensures written { Writes (W.contents writer.old) (W.contents writer.new)
         (reply_bytes true (refusal_reply why)) result }

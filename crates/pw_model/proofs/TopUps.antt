@@ -116,7 +116,7 @@ picked-there_are s a (x ∷ some) o =
       ]
     ]
 
-rising-once : (xs : List Entry) → IsInOrder entry_order xs → EachOnce xs
+pub rising-once : (xs : List Entry) → IsInOrder entry_order xs → EachOnce xs
 rising-once [] r = tt
 rising-once (x ∷ xs) r = (λ m. entry-strict.apart x (before-member entry_order x x xs r.0 m), rising-once xs r.1)
 

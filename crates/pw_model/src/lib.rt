@@ -17,7 +17,7 @@ pub use amounts::{left_over, price_of};
 pub use compare::{
     compare_entries, compare_keys, compare_totals, is_same_content, is_same_entry, is_same_key,
 };
-pub use in_order::sorted;
+pub use in_order::Distinct;
 pub use limits::{MOST_CENTS, MOST_RECORDS, NANO_IN_CENT};
 pub use of_office::{has_owner, is_of_office};
 pub use records::{Content, Contents, Dispute, Entry, Fall, Key, Named, ReadingRow, TotalKey};

@@ -62,12 +62,14 @@ impl Reference {
     }
 }
 
+// Whether a reference may have each of these bytes.
 fn are_reference_bytes(text: &[u8]) -> bool
     ensures { IsTrue result ↔ AllPass is_reference_byte text.now }
 {
     text.iter().all(|byte| is_reference_letter(*byte))
 }
 
+// Whether a byte is a letter, a digit, `-` or `.`.
 fn is_reference_letter(byte: u8) -> bool
     ensures { result ≡ is_reference_byte byte }
 {

@@ -55,10 +55,8 @@ fn group_behind(text: &[u8], mark: u8) -> Option<(Option<u8>, &[u8])>
     let Some(behind) = behind_mark(text, mark) else {
         return Some((None, text));
     };
-    match first_group(behind) {
-        Some((value, rest)) => Some((Some(value), rest)),
-        None => None,
-    }
+    let (value, rest) = first_group(behind)?;
+    Some((Some(value), rest))
 }
 
 // The last group, `*F` or `&F`, of which the text may be.
@@ -85,15 +83,9 @@ fn ending(text: &[u8]) -> Option<(u8, Option<u8>, Option<u8>)>
     ensures some { IfSome result (λ groups. AddressEnding text.now groups.0 groups.1 groups.2) }
     ensures none { IfNone result ((d : ℕ) (e f : Option ℕ) → AddressEnding text.now d e f → ⊥) }
 {
-    let Some((d, behind)) = first_group(text) else {
-        return None;
-    };
-    let Some((e, rest)) = group_behind(behind, b'.') else {
-        return None;
-    };
-    let Some(f) = storage(rest) else {
-        return None;
-    };
+    let (d, behind) = first_group(text)?;
+    let (e, rest) = group_behind(behind, b'.')?;
+    let f = storage(rest)?;
     Some((d, e, f))
 }
 
@@ -107,11 +99,7 @@ pub fn code(address: &[u8]) -> Option<Code>
     let (a, behind_a) = group_before(address, b'-');
     let (b, behind_b) = group_before(behind_a, b':');
     let (c, behind_c) = group_before(behind_b, b'.');
-    let Some(c) = c else {
-        return None;
-    };
-    let Some((d, e, f)) = ending(behind_c) else {
-        return None;
-    };
+    let c = c?;
+    let (d, e, f) = ending(behind_c)?;
     Some(Code { a, b, c, d, e, f })
 }

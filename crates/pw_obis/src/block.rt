@@ -110,7 +110,7 @@ impl<'a> Iterator for BlockSets<'a> {
     }
 }
 
-/// Where the first line begins that isn't in the grammar; none where all are.
+// Where the first line begins that isn't in the grammar; none where all are.
 pub(crate) fn first_bad_line(block: &[u8]) -> Option<usize>
     ensures { result ≡ (from_place block.now 0).refusal }
 {

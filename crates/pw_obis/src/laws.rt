@@ -22,28 +22,28 @@ pub fn each_block_has_one_outcome(block: &[u8])
     let _ = Sets::new(block);
 }
 
-/// Each address has one code, or none.
+/// One code meets the definition of an address's code, or none does: whoever reads the address reads the same.
 pub fn each_address_has_one_code_or_none(address: &[u8])
     ensures { ExactlyOne (IsCodeOf address.now) }
 {
     let _ = code(address);
 }
 
-/// Each code is of one register, or of none.
+/// A code is of one register, or of none: no set counts in two.
 pub fn each_code_has_one_register_or_none(code: &Code)
     ensures { ExactlyOne (IsRegisterOf code.now) }
 {
     let _ = register(code);
 }
 
-/// Each set has one first value.
+/// One value of a set is its first, the one that counts; a set that was made by hand may have none.
 pub fn each_set_has_one_first_value(set: &Set)
     ensures { ExactlyOne (IsFirstValue set.now.values.now) }
 {
     let _ = first_value(set);
 }
 
-/// Each value of a register has one energy, or one fault.
+/// One energy meets the definition of a value's, or one fault: no text is read as two, or refused for two reasons.
 pub fn each_value_has_one_energy_or_fault(value: &[u8])
     ensures { ExactlyOne (IsEnergy value.now) }
 {

@@ -10,6 +10,7 @@ pub fn byte_at(bytes: &[u8], i: usize) -> u8
     if i < bytes.len() { bytes[i] } else { 0 }
 }
 
+// Whether a byte may stand in an address or a value: it is printed, and no parenthesis.
 fn is_text(byte: u8) -> bool
     ensures { IsTrue result ↔ IsText byte }
 {
@@ -54,15 +55,9 @@ fn values_end(block: &[u8], from: usize) -> Option<usize>
     ensures within { IfSome result (λ to. (from < to) × (to ≤ length block.now)) }
     ensures none { IfNone result ((others to : ℕ) → ValuesAt block.now (suc others) from to → ⊥) }
 {
-    let Some(first) = value_end(block, from) else {
-        return None;
-    };
-    let mut to = first;
+    let mut to = value_end(block, from)?;
     while byte_at(block, to) == b'(' {
-        let Some(next) = value_end(block, to) else {
-            return None;
-        };
-        to = next;
+        to = value_end(block, to)?;
     }
     Some(to)
 }
@@ -76,9 +71,7 @@ pub fn set_end(block: &[u8], from: usize) -> Option<(usize, usize)>
     ensures none { IfNone result ((mid to : ℕ) → SetAt block.now from mid to → ⊥) }
 {
     let mid = text_end(block, from);
-    let Some(to) = values_end(block, mid) else {
-        return None;
-    };
+    let to = values_end(block, mid)?;
     Some((mid, to))
 }
 
@@ -92,10 +85,7 @@ pub fn line_end(block: &[u8], from: usize) -> Option<usize>
 {
     let mut at = from;
     while byte_at(block, at) != b'\r' {
-        let Some((_mid, to)) = set_end(block, at) else {
-            return None;
-        };
-        at = to;
+        at = set_end(block, at)?.1;
     }
     if byte_at(block, at + 1) == b'\n' {
         Some(at)

@@ -51,9 +51,7 @@ impl<'a> Sets<'a> {
         if let Some(set) = self.sets.next() {
             return Some(Ok(set));
         }
-        match self.refusal.take() {
-            Some(at) => Some(Err(LineFault { at })),
-            None => None,
-        }
+        let at = self.refusal.take()?;
+        Some(Err(LineFault { at }))
     }
 }

@@ -51,13 +51,9 @@ fn scaled(whole: &[u8], decimals: &[u8]) -> Option<WattHours>
         × (wh ≤ LARGEST_WATT_HOURS)) }
     ensures none { IfNone result (LARGEST_WATT_HOURS < thousandths whole.now decimals.now) }
 {
-    let Some(kilo) = with_digits(0, whole) else {
-        return None;
-    };
+    let kilo = with_digits(0, whole)?;
     let taken = &decimals[..decimals.len().min(3)];
-    let Some(number) = with_digits(kilo, taken) else {
-        return None;
-    };
+    let number = with_digits(kilo, taken)?;
     WattHours::of(number * place_value(taken.len()))
 }
 
@@ -119,10 +115,7 @@ fn plain_watt_hours(number: &[u8]) -> Result<WattHours, ValueFault>
     let Some(value) = with_digits(0, number) else {
         return Err(ValueFault::TooLarge);
     };
-    match WattHours::of(value) {
-        Some(energy) => Ok(energy),
-        None => Err(ValueFault::TooLarge),
-    }
+    WattHours::of(value).ok_or(ValueFault::TooLarge)
 }
 
 // The energy of a number in a unit.

@@ -27,6 +27,7 @@ pub fn readings_shown(
     Ok(told)
 }
 
+// When and what a record shows, where it is a reading.
 fn reading_shown(entry: &Entry) -> Option<(Instant, WattHours)>
     ensures { result ≡ shown entry.now }
 {
@@ -55,6 +56,7 @@ pub(crate) fn starts_given(
     Ok(told)
 }
 
+// From when on and whom a record gives its meter to, where it is an assignment.
 fn start_given(entry: &Entry) -> Option<(Instant, Owner)>
     ensures { result ≡ given entry.now }
 {

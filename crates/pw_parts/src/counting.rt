@@ -7,7 +7,7 @@ ghost use Rattle.pw_model.specs.Payments.{keys, stands_in};
 ghost use Rattle.pw_model.specs.Same.{entry_order, same_key};
 ghost use Rattle.pw_parts.specs.Groups.{HasSameKey};
 
-use pw_model::{Content, Entry, Key, Named, compare_keys, is_same_key, sorted};
+use pw_model::{Content, Distinct, Entry, Key, Named, compare_keys, is_same_key};
 use std::alloc::{AllocError, Global};
 
 // The records of a list that count, in order: those that stand, whose key no other record that stands has.
@@ -27,8 +27,8 @@ fn standing(alloc: Global, entries: &[Entry]) -> Result<Vec<Entry>, AllocError>
         (λ e. Member e (standing_of entries.now)) all.items) }
     ensures few { IfOk result (λ all. length all.items ≤ length entries.now) }
 {
-    let in_order = sorted(alloc, entries)?;
-    let standing = standing_among(alloc, &in_order)?;
+    let in_order = Distinct::of(alloc, entries)?;
+    let standing = standing_among(alloc, in_order.entries())?;
     Ok(standing)
 }
 

@@ -1,6 +1,7 @@
 //! The points, starts and totals of a set of records, from the records alone.
 #![tactic(auto)]
 
+mod basis;
 mod by_second;
 mod changes;
 mod counting;

@@ -11,6 +11,7 @@ ghost use Rattle.pw_tariff.specs.Shares.{class_seconds};
 ghost use Rattle.pw_model.specs.Seconds.{by_second};
 ghost use Rattle.pw_parts.specs.Changes.{gathered, other_side, pairs_for};
 
+use crate::basis::Basis;
 use crate::changes::{Changes, Side};
 use pw_obis::WattHours;
 use pw_tariff::{Cell, Direction, Office, Owners, Span, apportion};
@@ -45,8 +46,13 @@ pub fn add_pairs(
         → gathered side changes.new.rows k
         ≤ gathered side changes.old.rows k + length points.now * LARGEST_WATT_HOURS) }
 {
+    let basis = Basis {
+        alloc,
+        office,
+        zone,
+    };
     for pair in points.windows(2) {
-        let cells = cells_of_pair(alloc, office, zone, owners, pair[0], pair[1])?;
+        let cells = cells_of_pair(&basis, owners, pair[0], pair[1])?;
         changes.add_cells(side, direction, &cells)?;
     }
     Ok(())
@@ -54,24 +60,23 @@ pub fn add_pairs(
 
 // What each owner gets in each period and band of what flows between two readings: nothing where the later shows less.
 fn cells_of_pair(
-    alloc: Global,
-    office: &Office,
-    zone: &Zone,
+    basis: &Basis,
     owners: &Owners,
     from: Point,
     to: Point,
 ) -> Result<Vec<Cell>, AllocError>
     ensures cells { from.0 < to.0 → IfOk result
         (λ cells. (o : Option AnAccount) (p b : ℕ)
-        → energy_in cells.items o p b ≡ cell (class_seconds office.now owners.now o p b) from to) }
+        → energy_in cells.items o p b
+        ≡ cell (class_seconds basis.now.office.now owners.now o p b) from to) }
     ensures in_order { IfOk result (λ cells. AreInOrder cells.items) }
     ensures bound { IfOk result (λ cells. energy_of_all cells.items ≤ LARGEST_WATT_HOURS) }
 {
     if to.0 <= from.0 {
-        return Ok(Vec::new(alloc));
+        return Ok(Vec::new(basis.alloc));
     }
     if to.1.get() < from.1.get() {
-        return Ok(Vec::new(alloc));
+        return Ok(Vec::new(basis.alloc));
     }
     let span = Span {
         from: from.0,
@@ -79,5 +84,5 @@ fn cells_of_pair(
         low: from.1,
         high: to.1,
     };
-    apportion(alloc, office, zone, owners, span)
+    apportion(basis.alloc, basis.office, basis.zone, owners, span)
 }

@@ -8,6 +8,7 @@ ghost use Rattle.pw_tariff.specs.Office.{office_of};
 ghost use Rattle.pw_parts.specs.Parts.{IsPartsOf, by_total};
 ghost use Rattle.pw_parts.specs.inner.Given.{AreCounted};
 
+use crate::basis::Basis;
 use crate::changes::Changes;
 use crate::counting::counting;
 use crate::energies::add_meters;
@@ -46,7 +47,12 @@ pub fn true_parts(
     ensures { IfOk result (λ parts. IsPartsOf (office_of office.now) entries.now parts) }
 {
     let counted = counting(alloc, entries)?;
-    let totals = totals_of(alloc, office, zone, &counted)?;
+    let basis = Basis {
+        alloc,
+        office,
+        zone,
+    };
+    let totals = totals_of(&basis, &counted)?;
     let points = Vec::from_slice(alloc, readings_among(&counted))?;
     let starts = Vec::from_slice(alloc, assignments_among(&counted))?;
     Ok(Parts {
@@ -57,22 +63,17 @@ pub fn true_parts(
 }
 
 // The totals above 0 of records in order that all count.
-fn totals_of(
-    alloc: Global,
-    office: &Office,
-    zone: &Zone,
-    records: &[Entry],
-) -> Result<Vec<(TotalKey, u64)>, AllocError>
-    requires counted { AreCounted (office_of office.now) records.now }
+fn totals_of(basis: &Basis, records: &[Entry]) -> Result<Vec<(TotalKey, u64)>, AllocError>
+    requires counted { AreCounted (office_of basis.now.office.now) records.now }
     requires few { length records.now ≤ most_records }
     ensures { IfOk result (λ totals. Lists by_total
-        (λ t. (t.1 ≡ total_among (office_of office.now) records.now t.0) × (0 < t.1))
+        (λ t. (t.1 ≡ total_among (office_of basis.now.office.now) records.now t.0) × (0 < t.1))
         totals.items) }
 {
     // an office is sound, so that no total is too large
-    let _meters = office.meters();
-    let mut totals = Changes::new(alloc);
-    add_meters(&mut totals, alloc, office, zone, records)?;
+    let _meters = basis.office.meters();
+    let mut totals = Changes::new(basis.alloc);
+    add_meters(&mut totals, basis, records)?;
     add_payments(&mut totals, top_ups_among(records))?;
-    totals.gains(alloc)
+    totals.gains(basis.alloc)
 }

@@ -11,6 +11,7 @@ use pw_model::{Entry, Key};
 use pw_obis::Register;
 use pw_tariff::MeterId;
 
+// The meter that stands first, and so the place where the assignments begin.
 const FIRST_METER: MeterId = MeterId(0);
 
 // The readings among records in order.
@@ -77,18 +78,21 @@ fn parted(records: &[Entry], place: Place) -> (&[Entry], &[Entry])
     records.split_at(count)
 }
 
+// Whether the record of a key stands before a place.
 fn stands_before(key: &Key, place: Place) -> bool
     ensures { result ≡ is_before place key.now }
 {
     place_of(key).cmp(&place).is_lt()
 }
 
+// Whether the record of a key stands at a place.
 fn stands_at(key: &Key, place: Place) -> bool
     ensures { result ≡ is_at place key.now }
 {
     place_of(key).cmp(&place).is_eq()
 }
 
+// Where the record of a key stands.
 fn place_of(key: &Key) -> Place
     ensures { result ≡ place_told key.now }
 {

@@ -27,6 +27,6 @@ frames_more clock (f ∷ frames) frame text shown x y =
 pub stops_at : (clock : Clock) (body : List ℕ) (frames : List FrameText) (frame : FrameText) (place : ℕ) (cause : Cause) → Front body (frames ++ frame ∷ []) place
     → FrameRefused clock frame cause → Stops clock body frames cause
 stops_at clock body frames frame place (Frame fault) x y = absurd y
-stops_at clock body frames frame place Line x y = record { frame = frame; place = place; front = x; refused = y }
+stops_at clock body frames frame place (Line fault) x y = record { frame = frame; place = place; front = x; refused = y }
 stops_at clock body frames frame place (Value fault) x y = record { frame = frame; place = place; front = x; refused = y }
 stops_at clock body frames frame place (Instant fault) x y = record { frame = frame; place = place; front = x; refused = y }

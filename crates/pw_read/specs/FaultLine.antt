@@ -12,14 +12,14 @@ use Rattle.pw_read.specs.declared.fault.Refusal.{Refusal}
 
 abbrev pub cause_told : Cause → ℕ × List ℕ
 cause_told (Frame fault) = frame_fault.frame_fault_told fault
-cause_told Line = obis_fault.line_fault_told
+cause_told (Line fault) = obis_fault.line_fault_told
 cause_told (Value fault) = obis_fault.value_fault_told fault
 cause_told (Instant fault) = stamp_fault.stamp_fault_told fault
 
 -- the fault of a part where no frame stands
 abbrev pub missing_frame : Cause → Option FrameFault
 missing_frame (Frame fault) = Some fault
-missing_frame Line = None
+missing_frame (Line fault) = None
 missing_frame (Value fault) = None
 missing_frame (Instant fault) = None
 

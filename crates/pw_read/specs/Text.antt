@@ -54,7 +54,7 @@ pub record FirstWrong (kind : Kind) (sets : List SetText) (fault : ValueFault) :
 -- a frame is refused for a line of its block, and else for the first wrong value, and else for its instant
 abbrev pub FrameRefused : Clock → FrameText → Cause → Type 0
 FrameRefused clock frame (FrameCause fault) = ⊥
-FrameRefused clock frame Line = (sets : List SetText) × (at : ℕ) × HasSets frame.block sets (Some at)
+FrameRefused clock frame (Line fault) = (sets : List SetText) × HasSets frame.block sets (Some fault.at)
 FrameRefused clock frame (Value fault) = (sets : List SetText) × HasSets frame.block sets None × FirstWrong frame.kind sets fault
 FrameRefused clock frame (Instant fault) =
     (sets : List SetText) × (lines : List ℕ) × HasSets frame.block sets None × SetsShow frame.kind sets lines × IsFrameInstant frame.kind clock sets (Err fault)
@@ -75,7 +75,7 @@ pub record NextRefused (clock : Clock) (body : List ℕ) (frames : List FrameTex
 -- behind the frames stands no frame, or one that is refused
 abbrev pub Stops : Clock → List ℕ → List FrameText → Cause → Type 0
 Stops clock body frames (FrameCause fault) = BodyFault body frames fault
-Stops clock body frames Line = NextRefused clock body frames Line
+Stops clock body frames (Line fault) = NextRefused clock body frames (Line fault)
 Stops clock body frames (Value fault) = NextRefused clock body frames (Value fault)
 Stops clock body frames (Instant fault) = NextRefused clock body frames (Instant fault)
 

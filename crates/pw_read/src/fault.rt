@@ -3,10 +3,12 @@
 ghost use Rattle.std.specs.Prelude.{◌≡◌, ◌<◌};
 ghost use Rattle.arrayvec.specs.ArrayString.{array_string_len};
 ghost use Rattle.pw_read.specs.FaultLine.{cause_told, fault_line};
+ghost use Rattle.pw_read.specs.declared.fault.Cause.TheVariants as cause;
+ghost use Rattle.pw_read.specs.declared.fault.Halt.TheVariants as halt;
 
 use pw_frame::{FrameFault, part_refused};
 use pw_line::{Line, ROOM};
-use pw_obis::ValueFault;
+use pw_obis::{LineFault, ValueFault};
 use pw_time::StampFault;
 use std::alloc::AllocError;
 use std::fmt;
@@ -17,7 +19,7 @@ pub enum Cause {
     /// 10 to 15: no frame stands there.
     Frame(FrameFault),
     /// 20: a line of the block isn't in the grammar of data sets.
-    Line,
+    Line(LineFault),
     /// 21 to 23: a register's value.
     Value(ValueFault),
     /// 1 to 7: the stamp of a telegram, or date and time of a readout.
@@ -32,13 +34,34 @@ pub enum Halt {
 }
 
 impl From<AllocError> for Halt {
-    ghost use Rattle.std.specs.Prelude.{◌≡◌};
-    ghost use Rattle.pw_read.specs.declared.fault.Halt.TheVariants.{Memory};
+    ghost from_gives = { λ _ told. told ≡ halt.Memory };
 
-    ghost from_gives = { λ _ halt. halt ≡ Memory };
-
-    fn from(_error: AllocError) -> Halt {
+    fn from(_: AllocError) -> Halt {
         Halt::Memory
+    }
+}
+
+impl From<LineFault> for Halt {
+    ghost from_gives = { λ fault told. told ≡ halt.Refused (cause.Line fault) };
+
+    fn from(fault: LineFault) -> Halt {
+        Halt::Refused(Cause::Line(fault))
+    }
+}
+
+impl From<ValueFault> for Halt {
+    ghost from_gives = { λ fault told. told ≡ halt.Refused (cause.Value fault) };
+
+    fn from(fault: ValueFault) -> Halt {
+        Halt::Refused(Cause::Value(fault))
+    }
+}
+
+impl From<StampFault> for Halt {
+    ghost from_gives = { λ fault told. told ≡ halt.Refused (cause.Instant fault) };
+
+    fn from(fault: StampFault) -> Halt {
+        Halt::Refused(Cause::Instant(fault))
     }
 }
 
@@ -59,12 +82,14 @@ pub enum ReadFault {
 }
 
 impl Cause {
+    // The number under which the cause is reported.
     fn number(self) -> u8
         ensures { result ≡ (cause_told self).0 }
     {
         self.told().0
     }
 
+    // The name under which it is reported: that of the fault that it holds.
     fn name(self) -> &'static str
         ensures { result.now ≡ (cause_told self).1 }
     {
@@ -78,7 +103,7 @@ impl Cause {
     {
         match self {
             Cause::Frame(fault) => (fault.number(), fault.name()),
-            Cause::Line => (20, "Line"),
+            Cause::Line(fault) => (fault.number(), fault.name()),
             Cause::Value(fault) => (fault.number(), fault.name()),
             Cause::Instant(fault) => (fault.number(), fault.name()),
         }

@@ -60,15 +60,12 @@ fn put_frame(
         × (text.new.items ≡ text.old.items ++ shown)) }
     ensures err { IfErr result (FrameHalts clock (frame_text frame.now)) }
 {
-    let Ok(block) = Block::checked(frame.block) else {
-        return Err(Halt::Refused(Cause::Line));
-    };
+    let block = Block::checked(frame.block)?;
     put_heading(text, frame)?;
     put_sets(text, alloc, frame.kind, &block)?;
-    match frame_instant(frame.kind, &block, clock, zone) {
-        Ok(instant) => Ok(put_instant(text, instant)?),
-        Err(fault) => Err(Halt::Refused(Cause::Instant(fault))),
-    }
+    let instant = frame_instant(frame.kind, &block, clock, zone)?;
+    put_instant(text, instant)?;
+    Ok(())
 }
 
 // Writes the line of an instant, where there is one.
@@ -82,6 +79,7 @@ fn put_instant(text: &mut Vec<u8>, instant: Option<Instant>) -> Result<(), Alloc
     }
 }
 
+// What the first line of a frame begins with; the header follows.
 fn kind_name(kind: Kind) -> &'static [u8]
     ensures { result.now ≡ name_of kind }
 {
@@ -91,6 +89,7 @@ fn kind_name(kind: Kind) -> &'static [u8]
     }
 }
 
+// Writes the first line of a frame behind the text.
 fn put_heading(text: &mut Vec<u8>, frame: &Frame) -> Result<(), AllocError>
     ensures { OnOk result (text.new.items ≡ text.old.items ++ heading (frame_text frame.now)) }
 {

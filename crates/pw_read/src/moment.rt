@@ -42,18 +42,17 @@ pub fn frame_instant(
     }
 }
 
+// By its first stamp, which has a mark of its own: the meter's clock doesn't bear on it.
 fn telegram_instant(block: &Block) -> Result<Option<Instant>, StampFault>
     ensures { (clock : Clock) → IsFrameInstant Telegram clock block.now result }
 {
     let Some(text) = first_told(block, Meaning::Stamp) else {
         return Ok(None);
     };
-    match stamp(text) {
-        Ok(instant) => Ok(Some(instant)),
-        Err(fault) => Err(fault),
-    }
+    Ok(Some(stamp(text)?))
 }
 
+// By its first date and its first time, as the meter's clock tells them.
 fn instant_of_readout(
     block: &Block,
     clock: Clock,
@@ -67,8 +66,5 @@ fn instant_of_readout(
     let Some(time) = first_told(block, Meaning::Time) else {
         return Ok(None);
     };
-    match readout_instant(date, time, clock, zone) {
-        Ok(instant) => Ok(Some(instant)),
-        Err(fault) => Err(fault),
-    }
+    Ok(Some(readout_instant(date, time, clock, zone)?))
 }

@@ -113,6 +113,7 @@ fn tell<E: Write>(failure: &Failure, err: &mut E) -> u8
     tell_line(line.as_str().as_bytes(), status_of(failure), err)
 }
 
+// The line of a failure as it is written, its end included.
 fn line_with_end(failure: &Failure) -> Line
     ensures { result.bytes ≡ failure_line failure.now }
 {
@@ -124,6 +125,7 @@ fn line_with_end(failure: &Failure) -> Line
     }
 }
 
+// The exit status that tells whose the failure is: the body's, or the device's and the memory's.
 fn status_of(failure: &Failure) -> u8
     ensures { result ≡ failure_status failure.now }
 {

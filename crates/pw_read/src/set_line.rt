@@ -6,7 +6,7 @@ ghost use Rattle.pw_read.specs.Lines.{IsTextName, line_of, SetShows};
 ghost use Rattle.pw_obis.specs.inner.Given.{set_text};
 ghost use Rattle.pw_read.specs.inner.Sets.{SetHalts};
 
-use crate::fault::{Cause, Halt};
+use crate::fault::Halt;
 use pw_frame::Kind;
 use pw_obis::{
     Code, Set, first_value, is_date, is_identifier, is_stamp, is_time, register, watt_hours,
@@ -46,14 +46,10 @@ pub fn put_set(text: &mut Vec<u8>, alloc: Global, kind: Kind, set: &Set) -> Resu
     let Some(register) = register(&code) else {
         return Ok(());
     };
-    match watt_hours(value) {
-        Ok(energy) => {
-            let digits = format!(in alloc; "{}", energy.get())?;
-            put_line(text, register.name().as_bytes(), digits.as_bytes())?;
-            Ok(())
-        }
-        Err(fault) => Err(Halt::Refused(Cause::Value(fault))),
-    }
+    let energy = watt_hours(value)?;
+    let digits = format!(in alloc; "{}", energy.get())?;
+    put_line(text, register.name().as_bytes(), digits.as_bytes())?;
+    Ok(())
 }
 
 /// Writes a name, a space and a value as a line.

@@ -1,5 +1,3 @@
-pub mod Deduplicated
-pub mod EntryOrder
 pub mod Fields
 pub mod ElevenDigits
 pub mod OfOffice

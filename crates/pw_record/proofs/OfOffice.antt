@@ -5,23 +5,19 @@ use Rattle.pw_tariff.specs.declared.ids.AccountId.{AccountId}
 use Rattle.pw_tariff.specs.Office.{OfficeFile, MeterText, office_of}
 use Rattle.pw_time.specs.Instants.{IsInstant}
 use Rattle.pw_time.specs.Outcomes.{IsUtcOutcome}
-use Rattle.pw_model.specs.declared.records.Key.{Key}
 use Rattle.pw_model.specs.declared.records.Key.TheVariants as key
 use Rattle.pw_model.specs.declared.records.Named.{Named}
 use Rattle.pw_model.specs.declared.records.Named.TheVariants as named
-use Rattle.pw_model.specs.declared.records.Content.{Content}
 use Rattle.pw_model.specs.declared.records.Content.TheVariants as content
 use Rattle.pw_model.specs.declared.records.Entry.{Entry}
 use Rattle.pw_model.specs.Counting.{Member, assignment_key, named_entry}
 use Rattle.pw_model.specs.Lists.{reading_entry}
-use Rattle.pw_model.specs.Office.{IsNamedOf, IsOf, IsOfOffice, AllOfOffice, HasOwner}
-use Rattle.pw_model.specs.inner.Keys.{HasReference}
+use Rattle.pw_model.specs.Office.{IsNamedOf, IsOfOffice, AllOfOffice, HasOwner}
 use Rattle.pw_record.specs.declared.row.RowKind.{RowKind}
 use Rattle.pw_record.specs.declared.row.RowKind.TheVariants.{Assignment, TopUp, Withdrawal}
 use Rattle.pw_record.specs.declared.row.NamedKind.{NamedKind}
 use Rattle.pw_record.specs.declared.row.NamedKind.TheVariants as of
 use Rattle.pw_record.specs.Listed.{AreListed}
-use Rattle.pw_record.specs.inner.Steps.{HaveReferences}
 use Rattle.pw_record.specs.Names.{IsOwner}
 use Rattle.pw_record.specs.Row.{Row, GivesAssignment, GivesTopUp, GivesReading, GivesNamed, GivesEntry}
 use Rattle.pw_record.proofs.ElevenDigits.{few-watt_hours}
@@ -84,23 +80,6 @@ all-of-office file kind (row ∷ rows) (g ∷ given) x e m = ⊎_elim
     (λ (i : e ≡ g). given-by file e g i (of-office file kind row g x.0))
     (λ (n : Member e given). all-of-office file kind rows given x.1 e n)
     m
-
-reference-of : (file : OfficeFile) (k : Key) (c : Content) → IsOf (office_of file) k c → HasReference k
-reference-of file (key.Reading m r t) c x = tt
-reference-of file (key.Assignment m t) c x = tt
-reference-of file (key.TopUp r) (content.TopUp a n t) x = x.0
-reference-of file (key.TopUp r) (content.Reading w) x = absurd x
-reference-of file (key.TopUp r) (content.Assignment o) x = absurd x
-reference-of file (key.TopUp r) content.Withdrawal x = absurd x
-reference-of file (key.Withdrawal (named.Reading m r t w)) c x = tt
-reference-of file (key.Withdrawal (named.Assignment m t o)) c x = tt
-reference-of file (key.Withdrawal (named.TopUp r a n t)) content.Withdrawal x = x.0
-reference-of file (key.Withdrawal (named.TopUp r a n t)) (content.Reading w) x = absurd x
-reference-of file (key.Withdrawal (named.TopUp r a n t)) (content.Assignment o) x = absurd x
-reference-of file (key.Withdrawal (named.TopUp r a n t)) (content.TopUp b m u) x = absurd x
-
-pub have-references : (file : OfficeFile) (given : List Entry) → AllOfOffice (office_of file) given → HaveReferences given
-have-references file given a e m = reference-of file e.key e.content (a e m)
 
 pub listed-of-office : (file : OfficeFile) (given listed : List Entry) → AreListed given listed → AllOfOffice (office_of file) given → AllOfOffice (office_of file) listed
 listed-of-office file given listed l a e m = a e ((l.same e).1 m)

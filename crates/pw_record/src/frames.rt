@@ -11,10 +11,10 @@ ghost use Rattle.pw_record.specs.inner.Steps.{IsSourceOf};
 
 use crate::fault::{Cause, Halt, UploadFault};
 use crate::order::in_order;
-use crate::origin::{Origin, Source, block_origin};
+use crate::origin::{FrameBasis, Origin, Source, block_origin};
 use crate::shown::{Shown, all_shown, is_nothing_shown, put_readings};
 use pw_frame::{Frame, Frames};
-use pw_model::Entry;
+use pw_model::{Distinct, Entry};
 use pw_obis::Block;
 use pw_tariff::Office;
 use pw_time::{Clock, Zone};
@@ -38,7 +38,7 @@ pub fn telegram_records(
     ensures of_office { IfOk result (λ entries. AllOfOffice (office_of office.now) entries.items) }
     ensures refused { IfErr result (λ fault. TelegramsRefused office.now body.now fault) }
 {
-    frame_records(alloc, office, zone, Source::Telegrams, body)
+    Ok(telegrams_in(alloc, office, zone, body)?.into_entries())
 }
 
 /// The entries of a body of readouts (IEC 62056-21) of the meter with an id, or the first refusal.
@@ -58,6 +58,40 @@ pub fn readout_records(
     ensures of_office { IfOk result (λ entries. AllOfOffice (office_of office.now) entries.items) }
     ensures refused { IfErr result (λ fault. ReadoutsRefused office.now meter.now body.now fault) }
 {
+    Ok(readouts_in(alloc, meter, office, zone, body)?.into_entries())
+}
+
+/// The entries of a body of telegrams, in order, each once, or the first refusal.
+pub fn telegrams_in(
+    alloc: Global,
+    office: &Office,
+    zone: &Zone,
+    body: &[u8],
+) -> Result<Distinct, UploadFault>
+    ensures entries { IfOk result (λ entries. TelegramsGive office.now body.now entries) }
+    ensures of_office { IfOk result (λ entries. AllOfOffice (office_of office.now) entries) }
+    ensures refused { IfErr result (λ fault. TelegramsRefused office.now body.now fault) }
+{
+    let telegrams = FrameBasis {
+        office,
+        zone,
+        source: Source::Telegrams,
+    };
+    frame_records(alloc, &telegrams, body)
+}
+
+/// The entries of a body of readouts of the meter with an id, in order, each once, or the first refusal.
+pub fn readouts_in(
+    alloc: Global,
+    meter: &[u8],
+    office: &Office,
+    zone: &Zone,
+    body: &[u8],
+) -> Result<Distinct, UploadFault>
+    ensures entries { IfOk result (λ entries. ReadoutsGive office.now meter.now body.now entries) }
+    ensures of_office { IfOk result (λ entries. AllOfOffice (office_of office.now) entries) }
+    ensures refused { IfErr result (λ fault. ReadoutsRefused office.now meter.now body.now fault) }
+{
     let Some(meter) = office.meter(meter) else {
         let cause = Cause::UnknownMeter;
         return Err(UploadFault { part: 0, cause });
@@ -67,20 +101,23 @@ pub fn readout_records(
         let cause = Cause::WrongKind;
         return Err(UploadFault { part: 0, cause });
     }
-    frame_records(alloc, office, zone, Source::Readouts(meter, clock), body)
+    let readouts = FrameBasis {
+        office,
+        zone,
+        source: Source::Readouts(meter, clock),
+    };
+    frame_records(alloc, &readouts, body)
 }
 
-fn frame_records(
-    alloc: Global,
-    office: &Office,
-    zone: &Zone,
-    source: Source,
-    body: &[u8],
-) -> Result<Vec<Entry>, UploadFault>
-    requires { IsSourceOf office.now source }
-    ensures entries { IfOk result (λ entries. BodyGives office.now source body.now entries.items) }
-    ensures of_office { IfOk result (λ entries. AllOfOffice (office_of office.now) entries.items) }
-    ensures refused { IfErr result (λ fault. BodyRefused office.now source body.now fault) }
+// The entries of a body's frames, or the first refusal.
+fn frame_records(alloc: Global, basis: &FrameBasis, body: &[u8]) -> Result<Distinct, UploadFault>
+    requires { IsSourceOf basis.now.office.now basis.now.source }
+    ensures entries { IfOk result (λ entries. BodyGives basis.now.office.now basis.now.source
+        body.now entries) }
+    ensures of_office { IfOk result (λ entries. AllOfOffice (office_of basis.now.office.now)
+        entries) }
+    ensures refused { IfErr result (λ fault. BodyRefused basis.now.office.now basis.now.source
+        body.now fault) }
 {
     let mut given = Vec::new(alloc);
     let mut frames = Frames::new(body);
@@ -97,51 +134,40 @@ fn frame_records(
                 return Err(UploadFault { part, cause });
             }
         };
-        put_frame(&mut given, office, zone, source, &frame).map_err(|halt| halt.of_part(part))?;
+        put_frame(&mut given, basis, &frame).map_err(|halt| halt.of_part(part))?;
         part += 1;
     }
     Ok(in_order(given))
 }
 
 // Puts the readings of a frame behind the entries.
-fn put_frame(
-    given: &mut Vec<Entry>,
-    office: &Office,
-    zone: &Zone,
-    source: Source,
-    frame: &Frame,
-) -> Result<(), Halt>
-    requires { IsSourceOf office.now source }
+fn put_frame(given: &mut Vec<Entry>, basis: &FrameBasis, frame: &Frame) -> Result<(), Halt>
+    requires { IsSourceOf basis.now.office.now basis.now.source }
     ensures ok { OnOk result ((more : List Entry)
-        × FrameGives office.now source (frame_text frame.now) more
+        × FrameGives basis.now.office.now basis.now.source (frame_text frame.now) more
         × (given.new.items ≡ given.old.items ++ more)) }
     ensures err { (cause : Cause) → result ≡ Err (Halt.Refused cause)
-        → RefusesFrame office.now source (frame_text frame.now) cause }
+        → RefusesFrame basis.now.office.now basis.now.source (frame_text frame.now) cause }
 {
-    let (origin, shown) = read_frame(office, zone, source, frame)?;
+    let (origin, shown) = read_frame(basis, frame)?;
     put_readings(given, &origin, &shown)?;
     Ok(())
 }
 
 /// Whose the readings of a frame are and when they were taken, and what it shows; or why it is refused.
-pub fn read_frame(
-    office: &Office,
-    zone: &Zone,
-    source: Source,
-    frame: &Frame,
-) -> Result<(Origin, Shown), Cause>
-    requires { IsSourceOf office.now source }
-    ensures ok { IfOk result (λ read. FrameGives office.now source (frame_text frame.now)
-        (readings_of read.0.meter.0 read.0.instant (shown_in read.1))) }
-    ensures err { IfErr result (λ cause. RefusesFrame office.now source (frame_text frame.now)
-        cause) }
+pub fn read_frame(basis: &FrameBasis, frame: &Frame) -> Result<(Origin, Shown), Cause>
+    requires { IsSourceOf basis.now.office.now basis.now.source }
+    ensures ok { IfOk result (λ read. FrameGives basis.now.office.now basis.now.source
+        (frame_text frame.now) (readings_of read.0.meter.0 read.0.instant (shown_in read.1))) }
+    ensures err { IfErr result (λ cause. RefusesFrame basis.now.office.now basis.now.source
+        (frame_text frame.now) cause) }
 {
-    if frame.kind != source.kind() {
+    if frame.kind != basis.source.kind() {
         return Err(Cause::WrongKind);
     }
     let block = Block::checked(frame.block)?;
-    let origin = block_origin(office, zone, source, &block)?;
-    let shown = all_shown(office, origin.meter, &block)?;
+    let origin = block_origin(basis, &block)?;
+    let shown = all_shown(basis.office, origin.meter, &block)?;
     if is_nothing_shown(&shown) {
         return Err(Cause::NoRegister);
     }

@@ -8,7 +8,7 @@ ghost use Rattle.pw_record.specs.inner.Outcomes.{HasBodyOutcome};
 ghost use Rattle.pw_record.specs.inner.Steps.{IsSourceOf};
 
 use crate::frames::{MOST_FRAMES, read_frame};
-use crate::origin::Source;
+use crate::origin::{FrameBasis, Source};
 use pw_frame::Frames;
 use pw_tariff::Office;
 use pw_time::{Clock, Zone};
@@ -28,7 +28,7 @@ pub enum UploadKind<'a> {
     Withdrawals,
 }
 
-/// An upload as bytes.
+/// What is sent for an upload: what it is told to hold, and its body, of which nothing is read yet.
 #[derive(Clone, Copy, Debug)]
 pub struct UploadBytes<'a> {
     pub kind: UploadKind<'a>,
@@ -75,6 +75,11 @@ fn frames_have_an_outcome(office: &Office, source: Source, body: &[u8])
     ensures { HasBodyOutcome office.now source body.now }
 {
     let zone = Zone::central();
+    let basis = FrameBasis {
+        office,
+        zone: &zone,
+        source,
+    };
     let mut frames = Frames::new(body);
     let mut part = 1;
     'frames: while let Some(next) = frames.next_frame() {
@@ -85,7 +90,7 @@ fn frames_have_an_outcome(office: &Office, source: Source, body: &[u8])
             Ok(frame) => frame,
             Err(_) => return,
         };
-        match read_frame(office, &zone, source, &frame) {
+        match read_frame(&basis, &frame) {
             Ok(_) => {}
             Err(_) => return,
         }

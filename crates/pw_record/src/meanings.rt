@@ -28,14 +28,14 @@ pub fn both_told<'a>(block: &Block<'a>, one: Meaning, other: Meaning) -> (Told<'
     let mut first = Told::Nothing;
     let mut second = Told::Nothing;
     'sets: for set in block.sets() {
-        first = joined(first, one, &set);
-        second = joined(second, other, &set);
+        first = with_set(first, one, &set);
+        second = with_set(second, other, &set);
     }
     (first, second)
 }
 
 // What sets tell with one set more.
-fn joined<'a>(told: Told<'a>, meaning: Meaning, set: &Set<'a>) -> Told<'a>
+fn with_set<'a>(told: Told<'a>, meaning: Meaning, set: &Set<'a>) -> Told<'a>
     requires { IsCodeOf set.now.address.now set.now.code }
     ensures { (sets : List SetText) → AreTelling meaning sets told.entry
         → AreTelling meaning (sets ++ set_text set.now ∷ []) result }
@@ -70,6 +70,7 @@ fn are_alike(meaning: Meaning, one: &[u8], other: &[u8]) -> bool
     }
 }
 
+// Whether two identifiers differ at most in whether letters a to f are capitals.
 fn are_alike_in_capitals(one: &[u8], other: &[u8]) -> bool
     ensures { IsTrue result ↔ (capitals one.now ≡ capitals other.now) }
 {

@@ -24,6 +24,14 @@ pub enum Source {
     Readouts(MeterId, Clock),
 }
 
+/// What a body's frames are read by: the office, the zone of clocks that tell local time, and where they come from.
+#[derive(Drop)]
+pub struct FrameBasis<'a> {
+    pub office: &'a Office,
+    pub zone: &'a Zone,
+    pub source: Source,
+}
+
 /// Whose the readings of a frame are, and when they were taken.
 #[derive(Clone, Copy, Debug)]
 pub struct Origin {
@@ -44,25 +52,21 @@ impl Source {
 }
 
 /// The meter and the instant of a frame's block.
-pub fn block_origin(
-    office: &Office,
-    zone: &Zone,
-    source: Source,
-    block: &Block,
-) -> Result<Origin, Cause>
-    ensures ok { IfOk result (λ origin. HasOrigin office.now source block.now origin.meter.0
-        origin.instant) }
-    ensures err { IfErr result (RefusesOrigin office.now source block.now) }
+pub fn block_origin(basis: &FrameBasis, block: &Block) -> Result<Origin, Cause>
+    ensures ok { IfOk result (λ origin. HasOrigin basis.now.office.now basis.now.source block.now
+        origin.meter.0 origin.instant) }
+    ensures err { IfErr result (RefusesOrigin basis.now.office.now basis.now.source block.now) }
 {
-    match source {
-        Source::Telegrams => telegram_origin(office, block),
+    match basis.source {
+        Source::Telegrams => telegram_origin(basis.office, block),
         Source::Readouts(meter, clock) => {
-            let instant = date_and_time(block, clock, zone)?;
+            let instant = date_and_time(block, clock, basis.zone)?;
             Ok(Origin { meter, instant })
         }
     }
 }
 
+// By its identifiers and its stamps.
 fn telegram_origin(office: &Office, block: &Block) -> Result<Origin, Cause>
     ensures ok { IfOk result (λ origin. HasOrigin office.now Source.Telegrams block.now
         origin.meter.0 origin.instant) }

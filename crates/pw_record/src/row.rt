@@ -50,6 +50,7 @@ pub fn is_header(kind: RowKind, row: &ByteRecord) -> bool
     }
 }
 
+// A header of withdrawals has one name more: that of the kind, and then four that fit each kind of record.
 fn is_withdrawals_header(row: &ByteRecord) -> bool
     ensures { IsTrue result ↔ (fields_of row.now ≡ header_of RowKind.Withdrawal) }
 {
@@ -78,7 +79,7 @@ fn is_four(
     fields.0 == first && fields.1 == second && fields.2 == third && fields.3 == fourth
 }
 
-/// The entry of a row.
+/// What a row records, its fields read in the order of its kind; or the first of them that is wrong.
 pub fn row_entry(office: &Office, kind: RowKind, row: &ByteRecord) -> Result<Entry, Cause>
     ensures ok { IfOk result (λ entry. GivesEntry office.now kind (fields_of row.now) entry) }
     ensures err { IfErr result (λ cause. RefusesRow office.now kind (fields_of row.now) cause) }
@@ -184,9 +185,7 @@ fn counting_register(office: &Office, meter: MeterId, name: &[u8]) -> Option<Reg
     ensures some { IfSome result (λ register. HasRegister office.now meter.0 name.now register) }
     ensures none { IfNone result (IsUnknownRegister office.now meter.0 name.now) }
 {
-    let Some(register) = register_named(name) else {
-        return None;
-    };
+    let register = register_named(name)?;
     if !office.counts(meter, register) {
         return None;
     }
@@ -236,10 +235,8 @@ fn owner(office: &Office, name: &[u8]) -> Option<Owner>
     if name.is_empty() {
         return Some(None);
     }
-    match office.account(name) {
-        Some(account) => Some(Some(account)),
-        None => None,
-    }
+    let account = office.account(name)?;
+    Some(Some(account))
 }
 
 // The top-up that a row's fields name, from the one at `first` on: reference, account, cents, instant.

@@ -9,10 +9,10 @@ ghost use Rattle.pw_record.specs.Rows.{AssignmentsGive, AssignmentsRefused, Refu
 ghost use Rattle.pw_record.specs.inner.Steps.{TakesRecord};
 
 use crate::fault::{Cause, Halt, MEMORY_FAULT, UploadFault};
-use crate::order::{in_order, put};
+use crate::order::{append, in_order};
 use crate::row::{RowKind, is_header, row_entry};
 use csv::{ByteRecord, ReaderBuilder};
-use pw_model::Entry;
+use pw_model::{Distinct, Entry};
 use pw_tariff::Office;
 use pw_time::Zone;
 use std::alloc::Global;
@@ -34,7 +34,7 @@ pub fn assignment_records(
     ensures of_office { IfOk result (λ entries. AllOfOffice (office_of office.now) entries.items) }
     ensures refused { IfErr result (λ fault. AssignmentsRefused office.now body.now fault) }
 {
-    rows_records(alloc, office, RowKind::Assignment, body)
+    Ok(rows_in(alloc, office, RowKind::Assignment, body)?.into_entries())
 }
 
 /// The entries of a body of top-up rows, `reference,account,cents,instant` below this header, or the first refusal.
@@ -46,7 +46,7 @@ pub fn topup_records(alloc: Global, office: &Office, body: &[u8]) -> Result<Vec<
     ensures of_office { IfOk result (λ entries. AllOfOffice (office_of office.now) entries.items) }
     ensures refused { IfErr result (λ fault. TopUpsRefused office.now body.now fault) }
 {
-    rows_records(alloc, office, RowKind::TopUp, body)
+    Ok(rows_in(alloc, office, RowKind::TopUp, body)?.into_entries())
 }
 
 /// The entries of a body of rows that withdraw records, `kind,first,second,third,fourth` below this header, or the
@@ -66,17 +66,18 @@ pub fn withdrawal_records(
     ensures of_office { IfOk result (λ entries. AllOfOffice (office_of office.now) entries.items) }
     ensures refused { IfErr result (λ fault. WithdrawalsRefused office.now body.now fault) }
 {
-    rows_records(alloc, office, RowKind::Withdrawal, body)
+    Ok(rows_in(alloc, office, RowKind::Withdrawal, body)?.into_entries())
 }
 
-fn rows_records(
+/// The entries of a body of rows of a kind below its header, in order, each once, or the first refusal.
+pub fn rows_in(
     alloc: Global,
     office: &Office,
     kind: RowKind,
     body: &[u8],
-) -> Result<Vec<Entry>, UploadFault>
-    ensures entries { IfOk result (λ entries. RowsGive office.now kind body.now entries.items) }
-    ensures of_office { IfOk result (λ entries. AllOfOffice (office_of office.now) entries.items) }
+) -> Result<Distinct, UploadFault>
+    ensures entries { IfOk result (λ entries. RowsGive office.now kind body.now entries) }
+    ensures of_office { IfOk result (λ entries. AllOfOffice (office_of office.now) entries) }
     ensures refused { IfErr result (λ fault. RowsRefused office.now kind body.now fault) }
 {
     let reader = ReaderBuilder::new()
@@ -126,6 +127,6 @@ fn put_record(
         Ok(entry) => entry,
         Err(cause) => return Err(Halt::Refused(cause)),
     };
-    put(given, entry.key, entry.content)?;
+    append(given, entry.key, entry.content)?;
     Ok(())
 }

@@ -11,7 +11,7 @@ ghost use Rattle.pw_record.specs.inner.Shown.{MeasuresNothing};
 ghost use Rattle.pw_obis.specs.inner.Given.{set_text};
 
 use crate::fault::Cause;
-use crate::order::put;
+use crate::order::append;
 use crate::origin::Origin;
 use pw_model::{Content, Entry, Key, register_place};
 use pw_obis::{Block, Register, Set, ValueFault, WattHours, first_value, register, watt_hours};
@@ -116,6 +116,7 @@ pub fn put_readings(
     Ok(())
 }
 
+// Puts the reading of one register behind the entries, where it is shown.
 fn put_reading(
     given: &mut Vec<Entry>,
     origin: &Origin,
@@ -135,5 +136,5 @@ fn put_reading(
         register,
         instant,
     };
-    put(given, key, Content::Reading { wh })
+    append(given, key, Content::Reading { wh })
 }

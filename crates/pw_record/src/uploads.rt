@@ -7,15 +7,16 @@ ghost use Rattle.pw_record.specs.Laws.{upload_of};
 ghost use Rattle.pw_record.specs.Uploads.{Gives, Refuses};
 
 use crate::fault::UploadFault;
-use crate::frames::{readout_records, telegram_records};
+use crate::frames::{readouts_in, telegrams_in};
 use crate::laws::{UploadBytes, UploadKind};
-use crate::rows::{assignment_records, topup_records, withdrawal_records};
-use pw_model::Entry;
+use crate::row::RowKind;
+use crate::rows::rows_in;
+use pw_model::Distinct;
 use pw_tariff::Office;
 use pw_time::Zone;
 use std::alloc::Global;
 
-/// The entries that an upload gives, or why it is refused: each kind is read by its own call.
+/// The entries that an upload gives, in order, each once, or why it is refused.
 ///
 /// `Memory` says nothing of the upload: memory was refused while it was read.
 pub fn upload_records(
@@ -23,18 +24,18 @@ pub fn upload_records(
     office: &Office,
     zone: &Zone,
     upload: UploadBytes,
-) -> Result<Vec<Entry>, UploadFault>
+) -> Result<Distinct, UploadFault>
     ensures entries { IfOk result (λ entries. Gives office.now (upload_of upload.entry)
-        entries.items) }
-    ensures of_office { IfOk result (λ entries. AllOfOffice (office_of office.now) entries.items) }
+        entries) }
+    ensures of_office { IfOk result (λ entries. AllOfOffice (office_of office.now) entries) }
     ensures refused { IfErr result (λ fault. Refuses office.now (upload_of upload.entry) fault) }
 {
     let body = upload.body;
     match upload.kind {
-        UploadKind::Telegrams => telegram_records(alloc, office, zone, body),
-        UploadKind::Readouts(meter) => readout_records(alloc, meter, office, zone, body),
-        UploadKind::Assignments => assignment_records(alloc, office, body),
-        UploadKind::TopUps => topup_records(alloc, office, body),
-        UploadKind::Withdrawals => withdrawal_records(alloc, office, zone, body),
+        UploadKind::Telegrams => telegrams_in(alloc, office, zone, body),
+        UploadKind::Readouts(meter) => readouts_in(alloc, meter, office, zone, body),
+        UploadKind::Assignments => rows_in(alloc, office, RowKind::Assignment, body),
+        UploadKind::TopUps => rows_in(alloc, office, RowKind::TopUp, body),
+        UploadKind::Withdrawals => rows_in(alloc, office, RowKind::Withdrawal, body),
     }
 }

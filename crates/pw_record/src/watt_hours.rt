@@ -11,8 +11,6 @@ pub fn watt_hours(text: &[u8]) -> Option<WattHours>
     ensures some { IfSome result (λ wh. IsWattHours text.now wh) }
     ensures none { IfNone result ((wh : ℕ) → IsWattHours text.now wh → ⊥) }
 {
-    let Some(number) = number_of(text, 11, LARGEST_WATT_HOURS) else {
-        return None;
-    };
+    let number = number_of(text, 11, LARGEST_WATT_HOURS)?;
     WattHours::of(number)
 }

@@ -1,4 +1,4 @@
-//! The table of accounts.
+//! The table of accounts, as text: each with its balance in euro, by whole cents that aren't above it.
 
 ghost use Rattle.std.specs.Prelude.{◌≡◌, ◌++◌, IfOk, OnOk};
 ghost use Rattle.pw_report.specs.Reports.{IsReport};

@@ -56,7 +56,7 @@ pub fn days_page<S: Shelf>(
     days_text(alloc, &told, begins.len() as u8)
 }
 
-// So many days.
+// The rows of the first days of a month, so many, below the header.
 fn days_text(alloc: Global, told: &MonthDays, count: u8) -> Result<Vec<u8>, BookFault>
     requires there { IsThere told.now.month }
     requires count { count ≤ 31 }
@@ -106,11 +106,11 @@ fn put_direction(
 {
     let wh = day_wh(told, day, band, direction);
     let nano = day_nano(told, day, band, direction);
-    rows.put(&date_text(told.month, day + 1))?;
-    rows.put(&[band_letter(told.office, band)])?;
-    rows.put(direction.name().as_bytes())?;
-    rows.put(Buffer::new().format(wh).as_bytes())?;
-    rows.put(Buffer::new().format(nano).as_bytes())?;
+    rows.put_field(&date_text(told.month, day + 1))?;
+    rows.put_field(&[band_letter(told.office, band)])?;
+    rows.put_field(direction.name().as_bytes())?;
+    rows.put_field(Buffer::new().format(wh).as_bytes())?;
+    rows.put_field(Buffer::new().format(nano).as_bytes())?;
     rows.end()
 }
 

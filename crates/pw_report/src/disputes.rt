@@ -1,4 +1,4 @@
-//! The table of disputes.
+//! The table of disputes, as text: each key that several records have which aren't withdrawn, and how many they are.
 
 ghost use Rattle.std.specs.Prelude.{◌≡◌, ◌++◌, IfOk, OnOk, codes};
 ghost use Rattle.pw_report.specs.Pages.{IsDisputesText};

@@ -1,4 +1,4 @@
-//! The export of energies.
+//! The export of energies, as CSV: what each owner used and gave in each band, and what that costs over all periods.
 
 ghost use Rattle.std.specs.Prelude.{◌≡◌, ◌<◌, IfErr, IfOk, false, length};
 ghost use Rattle.std.specs.List.{flat_map};
@@ -127,11 +127,11 @@ fn put_energy(
         rows.old rows.new }
     ensures fault { IfErr result (λ fault. fault ≡ Memory) }
 {
-    rows.put(owner_name(office, owner))?;
-    rows.put(&[band_letter(office, band)])?;
-    rows.put(direction.name().as_bytes())?;
-    rows.put(Buffer::new().format(wh).as_bytes())?;
-    rows.put(Buffer::new().format(nano).as_bytes())?;
+    rows.put_field(owner_name(office, owner))?;
+    rows.put_field(&[band_letter(office, band)])?;
+    rows.put_field(direction.name().as_bytes())?;
+    rows.put_field(Buffer::new().format(wh).as_bytes())?;
+    rows.put_field(Buffer::new().format(nano).as_bytes())?;
     rows.end()
 }
 

@@ -1,4 +1,4 @@
-//! The table of falls.
+//! The table of falls, as text: each two neighbouring readings of a register of which the later shows less.
 
 ghost use Rattle.std.specs.Prelude.{◌≡◌, ◌++◌, IfOk, OnOk, codes, decimal};
 ghost use Rattle.pw_report.specs.Layout.{instant_text as text_of_instant};

@@ -25,9 +25,7 @@ pub fn month_of(text: &[u8]) -> Option<Month>
     ensures some { IfSome result (λ month. IsMonthText text.now month) }
     ensures none { IfNone result ((month : AMonth) → IsMonthText text.now month → ⊥) }
 {
-    let Some((short, month)) = numbers_in(text) else {
-        return None;
-    };
+    let (short, month) = numbers_in(text)?;
     if month < 1 || 12 < month {
         return None;
     }
@@ -68,7 +66,7 @@ fn digits_of(number: u8) -> [u8; 2]
     [b'0' + number / 10, b'0' + number % 10]
 }
 
-/// The text of a month, `YYYY-MM`.
+// The text of a month, `YYYY-MM`.
 pub(crate) fn month_text(month: Month) -> [u8; 7]
     requires { IsThere month }
     ensures { result ≡ text_of_month month }
@@ -81,7 +79,7 @@ pub(crate) fn month_text(month: Month) -> [u8; 7]
     ]
 }
 
-/// The text of a date of a month, `YYYY-MM-DD`.
+// The text of a date of a month, `YYYY-MM-DD`.
 pub(crate) fn date_text(month: Month, day: u8) -> [u8; 10]
     requires there { IsThere month }
     requires day { day < 100 }
@@ -94,7 +92,7 @@ pub(crate) fn date_text(month: Month, day: u8) -> [u8; 10]
     ]
 }
 
-/// The first instant of a month, and the first second behind its last.
+// The first instant of a month, and the first second behind its last.
 pub(crate) fn span_of(month: Month, zone: &Zone) -> (Instant, u32)
     requires { IsThere month }
     ensures { IsSpan month result.0 result.1 }
@@ -108,7 +106,7 @@ pub(crate) fn span_of(month: Month, zone: &Zone) -> (Instant, u32)
     }
 }
 
-/// The last instant of a month.
+// The last instant of a month.
 pub(crate) fn last_before(from: Instant, until: u32) -> Instant
     requires later { from < until }
     requires ended { until ≤ END_SECOND }
@@ -118,7 +116,7 @@ pub(crate) fn last_before(from: Instant, until: u32) -> Instant
     Instant::of(until - 1).unwrap()
 }
 
-/// Where each day of a month begins.
+// Where each day of a month begins.
 pub(crate) fn begins_of(
     alloc: Global,
     month: Month,

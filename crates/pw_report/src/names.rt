@@ -7,7 +7,7 @@ ghost use Rattle.pw_tariff.specs.Office.{period_starts, periods_in};
 use pw_tariff::{AccountId, BandId, MeterId, Office, PeriodId};
 use pw_time::Instant;
 
-/// The name of an account, nothing where the office has no such.
+// The name of an account, nothing where the office has no such.
 pub(crate) fn account_name(office: &Office, account: AccountId) -> &[u8]
     ensures { result.now ≡ name_of_account office.now account.0 }
 {
@@ -18,7 +18,7 @@ pub(crate) fn account_name(office: &Office, account: AccountId) -> &[u8]
     }
 }
 
-/// The id of a meter, nothing where the office has no such.
+// The id of a meter, nothing where the office has no such.
 pub(crate) fn meter_name(office: &Office, meter: MeterId) -> &[u8]
     ensures { result.now ≡ name_of_meter office.now meter.0 }
 {
@@ -29,7 +29,7 @@ pub(crate) fn meter_name(office: &Office, meter: MeterId) -> &[u8]
     }
 }
 
-/// The letter of a band.
+// The letter by which texts name a band of the office.
 pub(crate) fn band_letter(office: &Office, band: BandId) -> u8
     requires { band.0 < length office.now.bands }
     ensures { result ∷ [] ≡ band_name office.now band.0 }
@@ -38,7 +38,7 @@ pub(crate) fn band_letter(office: &Office, band: BandId) -> u8
     office.band_name(band) as u8
 }
 
-/// The first instant of a period.
+// The first instant of a period.
 pub(crate) fn start_of(office: &Office, period: PeriodId) -> Instant
     requires { period.0 < periods_in office.now }
     ensures { slice_get (period_starts office.now) period.0 ≡ Some result }

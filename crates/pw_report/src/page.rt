@@ -1,4 +1,5 @@
-//! The pages of a book.
+//! The pages of a book: each statement, table, export and page of a month under one name, and the one call that makes
+//! their texts.
 
 ghost use Rattle.pw_report.specs.Pages.{IsAnswer, IsPageOf};
 ghost use Rattle.pw_report.specs.Reports.{IsReport, TellsText};

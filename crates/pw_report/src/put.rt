@@ -10,7 +10,7 @@ use pw_model::NANO_IN_CENT;
 use pw_time::{Instant, write_utc};
 use std::alloc::{AllocError, Global};
 
-/// A text in so many places at least, with spaces behind it.
+// A text in so many places at least, with spaces behind it.
 pub(crate) fn put_left(text: &mut Vec<u8>, width: usize, field: &[u8]) -> Result<(), AllocError>
     ensures { OnOk result (text.new.items ≡ text.old.items ++ left width field.now) }
 {
@@ -18,7 +18,7 @@ pub(crate) fn put_left(text: &mut Vec<u8>, width: usize, field: &[u8]) -> Result
     put_spaces(text, width.saturating_sub(field.len()))
 }
 
-/// A text in so many places at least, with spaces before it.
+// A text in so many places at least, with spaces before it.
 pub(crate) fn put_right(text: &mut Vec<u8>, width: usize, field: &[u8]) -> Result<(), AllocError>
     ensures { OnOk result (text.new.items ≡ text.old.items ++ right width field.now) }
 {
@@ -36,7 +36,7 @@ fn put_spaces(text: &mut Vec<u8>, count: usize) -> Result<(), AllocError>
     Ok(())
 }
 
-/// An instant in UTC.
+// An instant in UTC.
 #[tactic(auto, unfolding(crate::specs::Layout::instant_text))]
 pub(crate) fn instant_text(instant: Instant) -> [u8; 20]
     ensures { result ≡ text_of_instant instant }
@@ -44,14 +44,14 @@ pub(crate) fn instant_text(instant: Instant) -> [u8; 20]
     write_utc(instant)
 }
 
-/// A number.
+// A number, in decimal digits.
 pub(crate) fn put_number(text: &mut Vec<u8>, number: u64) -> Result<(), AllocError>
     ensures { OnOk result (text.new.items ≡ text.old.items ++ decimal number) }
 {
     text.extend_from_slice(Buffer::new().format(number).as_bytes())
 }
 
-/// Cents as euro, a point, and two digits.
+// Cents as euro, a point, and two digits.
 pub(crate) fn put_euro(text: &mut Vec<u8>, cents: u128) -> Result<(), AllocError>
     ensures { OnOk result (text.new.items ≡ text.old.items ++ euro_text cents) }
 {
@@ -63,7 +63,7 @@ pub(crate) fn put_euro(text: &mut Vec<u8>, cents: u128) -> Result<(), AllocError
     Ok(())
 }
 
-/// Cents, which may be below 0, as euro.
+// Cents, which may be below 0, as euro.
 pub(crate) fn put_cents(text: &mut Vec<u8>, cents: i128) -> Result<(), AllocError>
     ensures { OnOk result (text.new.items ≡ text.old.items ++ signed_euro_text cents) }
 {
@@ -73,7 +73,7 @@ pub(crate) fn put_cents(text: &mut Vec<u8>, cents: i128) -> Result<(), AllocErro
     put_euro(text, cents.unsigned_abs())
 }
 
-/// An amount of nano-euro as the greatest whole cents that aren't above it.
+// An amount of nano-euro as the greatest whole cents that aren't above it.
 pub(crate) fn balance_text(alloc: Global, nano: i128) -> Result<Vec<u8>, AllocError>
     ensures { IfOk result (λ text. text.items ≡ text_of_balance nano) }
 {

@@ -1,4 +1,4 @@
-//! The export of readings.
+//! The export of readings, as CSV: each reading held, with a mark that says whether it counts, doesn't, or is withdrawn.
 
 ghost use Rattle.std.specs.Prelude.{◌≡◌, ◌<◌, List, IfErr, false, length};
 ghost use Rattle.std.specs.List.{flat_map};
@@ -48,7 +48,7 @@ pub fn export_readings<S: Shelf>(book: &mut Book<S>, alloc: Global) -> Result<Ve
     rows.finish()
 }
 
-/// Writes the header.
+// Writes the header, which all readings and those of one meter have in common.
 pub(crate) fn put_header(rows: &mut Rows) -> Result<(), BookFault>
     ensures text { AddsLines result (csv_line readings_header) rows.old rows.new }
     ensures fault { IfErr result (λ fault. fault ≡ Memory) }
@@ -56,7 +56,7 @@ pub(crate) fn put_header(rows: &mut Rows) -> Result<(), BookFault>
     rows.put_header(&[b"meter", b"register", b"instant", b"wh", b"counted"])
 }
 
-/// Writes the readings of a meter, register by register.
+// Writes the readings of a meter, register by register.
 pub(crate) fn put_meter<S: Shelf>(
     book: &mut Book<S>,
     alloc: Global,
@@ -77,7 +77,7 @@ pub(crate) fn put_meter<S: Shelf>(
     Ok(())
 }
 
-// The readings of a register.
+// Writes the readings of a meter's register.
 fn put_register<S: Shelf>(
     book: &mut Book<S>,
     alloc: Global,
@@ -106,11 +106,11 @@ impl Tells<ReadingRow> for Shown<'_> {
     ghost line = { shown_line };
 
     fn tell(&self, rows: &mut Rows, reading: &ReadingRow) -> Result<(), BookFault> {
-        rows.put(self.meter)?;
-        rows.put(self.register.name().as_bytes())?;
-        rows.put(&instant_text(reading.instant))?;
-        rows.put(Buffer::new().format(reading.wh.get()).as_bytes())?;
-        rows.put(mark_of(reading))?;
+        rows.put_field(self.meter)?;
+        rows.put_field(self.register.name().as_bytes())?;
+        rows.put_field(&instant_text(reading.instant))?;
+        rows.put_field(Buffer::new().format(reading.wh.get()).as_bytes())?;
+        rows.put_field(mark_of(reading))?;
         rows.end()
     }
 }

@@ -143,7 +143,7 @@ fn put_withdrawal(rows: &mut Rows, office: &Office, named: &Named) -> Result<(),
             instant,
             wh,
         } => {
-            rows.put(b"reading")?;
+            rows.put_field(b"reading")?;
             put_reading(rows, meter_name(office, *meter), *register, *instant, *wh)
         }
         Named::Assignment {
@@ -151,7 +151,7 @@ fn put_withdrawal(rows: &mut Rows, office: &Office, named: &Named) -> Result<(),
             start,
             owner,
         } => {
-            rows.put(b"assignment")?;
+            rows.put_field(b"assignment")?;
             put_assignment(rows, office, *meter, *start, *owner)
         }
         Named::TopUp {
@@ -160,7 +160,7 @@ fn put_withdrawal(rows: &mut Rows, office: &Office, named: &Named) -> Result<(),
             cents,
             instant,
         } => {
-            rows.put(b"topup")?;
+            rows.put_field(b"topup")?;
             put_topup(
                 rows,
                 reference,
@@ -183,10 +183,10 @@ fn put_reading(
         decimal wh ∷ []) rows.old rows.new }
     ensures fault { IfErr result (λ fault. fault ≡ Memory) }
 {
-    rows.put(meter)?;
-    rows.put(register.name().as_bytes())?;
-    rows.put(&instant_text(instant))?;
-    rows.put(Buffer::new().format(wh.get()).as_bytes())
+    rows.put_field(meter)?;
+    rows.put_field(register.name().as_bytes())?;
+    rows.put_field(&instant_text(instant))?;
+    rows.put_field(Buffer::new().format(wh.get()).as_bytes())
 }
 
 fn put_assignment(
@@ -200,12 +200,12 @@ fn put_assignment(
         rows.new }
     ensures fault { IfErr result (λ fault. fault ≡ Memory) }
 {
-    rows.put(meter_name(office, meter))?;
-    rows.put(&instant_text(start))?;
-    rows.put(given_name(office, owner))
+    rows.put_field(meter_name(office, meter))?;
+    rows.put_field(&instant_text(start))?;
+    rows.put_field(given_name(office, owner))
 }
 
-/// Writes the fields of a top-up.
+// Writes the fields of a top-up.
 pub(crate) fn put_topup(
     rows: &mut Rows,
     reference: &Reference,
@@ -217,10 +217,10 @@ pub(crate) fn put_topup(
         instant ∷ []) rows.old rows.new }
     ensures fault { IfErr result (λ fault. fault ≡ Memory) }
 {
-    rows.put(reference.bytes())?;
-    rows.put(account)?;
-    rows.put(Buffer::new().format(cents).as_bytes())?;
-    rows.put(&instant_text(instant))
+    rows.put_field(reference.bytes())?;
+    rows.put_field(account)?;
+    rows.put_field(Buffer::new().format(cents).as_bytes())?;
+    rows.put_field(&instant_text(instant))
 }
 
 // The name of an account, nothing for nobody.

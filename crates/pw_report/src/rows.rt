@@ -10,7 +10,7 @@ use csv::{ByteRecord, Writer, WriterBuilder};
 use pw_book::BookFault;
 use std::alloc::Global;
 
-/// Rows of CSV, each ended by LF, and the fields of the row that is being made.
+// Rows of CSV, each ended by LF, and the fields of the row that is being made.
 #[derive(Drop)]
 pub(crate) struct Rows {
     writer: Writer<Vec<u8>>,
@@ -18,7 +18,7 @@ pub(crate) struct Rows {
 }
 
 impl Rows {
-    /// No row yet. It takes no memory.
+    // No row yet. It takes no memory.
     pub(crate) fn new(alloc: Global) -> Rows
         ensures { HasText result [] [] }
     {
@@ -30,8 +30,8 @@ impl Rows {
         }
     }
 
-    /// One field more of the row.
-    pub(crate) fn put(&mut self, field: &[u8]) -> Result<(), BookFault>
+    // One field more of the row.
+    pub(crate) fn put_field(&mut self, field: &[u8]) -> Result<(), BookFault>
         ensures text { AddsFields result (field.now ∷ []) self.old self.new }
         ensures fault { IfErr result (λ fault. fault ≡ Memory) }
     {
@@ -39,20 +39,20 @@ impl Rows {
         Ok(())
     }
 
-    /// A header: a row of these names.
+    // A header: a row of these names.
     pub(crate) fn put_header(&mut self, names: &[&[u8]]) -> Result<(), BookFault>
         ensures text { AddsLines result (csv_line (map (λ name. name.now) names.now)) self.old
             self.new }
         ensures fault { IfErr result (λ fault. fault ≡ Memory) }
     {
         for name in names {
-            self.put(name)?;
+            self.put_field(name)?;
         }
         self.end()
     }
 
-    /// Ends the row, and begins the next one. It may have another number of fields than the first. (So `csv` refuses nothing
-    /// but for want of memory.)
+    // Ends the row, and begins the next one. It may have another number of fields than the first. (So `csv` refuses nothing
+    // but for want of memory.)
     pub(crate) fn end(&mut self) -> Result<(), BookFault>
         ensures text { (text : List ℕ) (fields : List (List ℕ)) → HasText self.old text fields
             → OnOk result (HasText self.new (text ++ csv_line fields) []) }
@@ -65,7 +65,7 @@ impl Rows {
         Ok(())
     }
 
-    /// The text of the rows.
+    // The text of all rows that were ended.
     pub(crate) fn finish(self) -> Result<Vec<u8>, BookFault>
         ensures text { (text : List ℕ) (fields : List (List ℕ)) → HasText self text fields
             → IfOk result (λ bytes. bytes.items ≡ text) }
@@ -78,7 +78,7 @@ impl Rows {
     }
 }
 
-/// What tells values of a type, each in a row.
+// What tells values of a type, each in a row.
 pub(crate) trait Tells<T> {
     /// The line of a value.
     ghost line: { Self → T → List ℕ };
@@ -89,7 +89,7 @@ pub(crate) trait Tells<T> {
         ensures fault { IfErr result (λ fault. fault ≡ Memory) };
 }
 
-/// Writes the row of each value.
+// Writes the row of each value.
 pub(crate) fn tell_each<T, W: Tells<T>>(
     rows: &mut Rows,
     teller: &W,

@@ -1,4 +1,4 @@
-//! The statement of an account.
+//! The statement of an account, as text: its energies band by band, what was topped up, and its balance.
 
 ghost use Rattle.std.specs.Prelude.{◌≡◌, ◌++◌, ◌<◌, IfOk, OnOk, Some, codes, decimal, false, length};
 ghost use Rattle.pw_report.specs.Amounts.{euro_text};

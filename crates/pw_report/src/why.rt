@@ -26,7 +26,7 @@ use pw_shelf::Shelf;
 use pw_tariff::{AccountId, BandId, Direction, Office, PeriodId, Piece, Span};
 use std::alloc::Global;
 
-// Who paid what is told.
+// The account whose top-ups are told, and its office.
 #[derive(Drop)]
 struct Payer<'a> {
     office: &'a Office,
@@ -94,25 +94,25 @@ impl Tells<WhyPiece> for Office {
 
     fn tell(&self, rows: &mut Rows, piece: &WhyPiece) -> Result<(), BookFault> {
         let direction = direction_of(piece.register);
-        rows.put(direction.name().as_bytes())?;
-        rows.put(meter_name(self, piece.meter))?;
-        rows.put(piece.register.name().as_bytes())?;
+        rows.put_field(direction.name().as_bytes())?;
+        rows.put_field(meter_name(self, piece.meter))?;
+        rows.put_field(piece.register.name().as_bytes())?;
         put_span(rows, &piece.span)?;
         put_given(rows, self, direction, &piece.piece)?;
         rows.end()
     }
 }
 
-// Two readings.
+// The two readings of a pair: when each was taken, and what it shows.
 fn put_span(rows: &mut Rows, span: &Span) -> Result<(), BookFault>
     ensures text { AddsFields result (text_of_instant span.now.from ∷ decimal span.now.low ∷
         text_of_instant span.now.to ∷ decimal span.now.high ∷ []) rows.old rows.new }
     ensures fault { IfErr result (λ fault. fault ≡ Memory) }
 {
-    rows.put(&instant_text(span.from))?;
-    rows.put(Buffer::new().format(span.low.get()).as_bytes())?;
-    rows.put(&instant_text(span.to))?;
-    rows.put(Buffer::new().format(span.high.get()).as_bytes())
+    rows.put_field(&instant_text(span.from))?;
+    rows.put_field(Buffer::new().format(span.low.get()).as_bytes())?;
+    rows.put_field(&instant_text(span.to))?;
+    rows.put_field(Buffer::new().format(span.high.get()).as_bytes())
 }
 
 // The piece of them, and what it gives: Wh, and nano-euro at the price of its period and band.
@@ -130,12 +130,12 @@ fn put_given(
     ensures fault { IfErr result (λ fault. fault ≡ Memory) }
 {
     let price = price_in(office, piece.period, piece.band, direction);
-    rows.put(&instant_text(piece.begin))?;
-    rows.put(&instant_text(piece.until))?;
+    rows.put_field(&instant_text(piece.begin))?;
+    rows.put_field(&instant_text(piece.until))?;
     put_period(rows, office, piece.period)?;
     put_band(rows, office, piece.band)?;
-    rows.put(Buffer::new().format(piece.wh).as_bytes())?;
-    rows.put(Buffer::new().format(price_of(piece.wh, price)).as_bytes())
+    rows.put_field(Buffer::new().format(piece.wh).as_bytes())?;
+    rows.put_field(Buffer::new().format(price_of(piece.wh, price)).as_bytes())
 }
 
 // The name of a period, its start; nothing where the office has no such.
@@ -144,9 +144,9 @@ fn put_period(rows: &mut Rows, office: &Office, period: PeriodId) -> Result<(), 
     ensures fault { IfErr result (λ fault. fault ≡ Memory) }
 {
     if period.0 < office.periods() {
-        rows.put(&instant_text(start_of(office, period)))
+        rows.put_field(&instant_text(start_of(office, period)))
     } else {
-        rows.put(b"")
+        rows.put_field(b"")
     }
 }
 
@@ -156,9 +156,9 @@ fn put_band(rows: &mut Rows, office: &Office, band: BandId) -> Result<(), BookFa
     ensures fault { IfErr result (λ fault. fault ≡ Memory) }
 {
     if band.0 < office.bands() {
-        rows.put(&[band_letter(office, band)])
+        rows.put_field(&[band_letter(office, band)])
     } else {
-        rows.put(b"")
+        rows.put_field(b"")
     }
 }
 
@@ -178,7 +178,7 @@ impl Tells<TopUpRow> for Payer<'_> {
     ghost line = { payer_line };
 
     fn tell(&self, rows: &mut Rows, payment: &TopUpRow) -> Result<(), BookFault> {
-        rows.put(b"topup")?;
+        rows.put_field(b"topup")?;
         put_topup(
             rows,
             &payment.reference,

@@ -2,10 +2,10 @@
 
 ghost use Rattle.std.specs.Prelude.{◌≤◌, IfSome};
 
-/// The most meters of a sample.
+// The most meters of a sample.
 const MOST_METERS: u32 = 250;
 
-/// The most days of a sample.
+// The most days of a sample.
 const MOST_DAYS: u32 = 366;
 
 /// How the words are, for whoever asks or has others.

@@ -10,10 +10,10 @@ use crate::rows::{Comes, Rows, assignment_row, reading_row};
 use std::alloc::Global;
 use std::mem;
 
-/// The most frames of a file.
+// The most frames of a file.
 const MOST_FRAMES: u32 = 64;
 
-/// What stands on the desk.
+/// What stands on the desk: the files that are made, and what came and stands in none yet.
 #[derive(Drop)]
 pub struct Desk<'a> {
     alloc: Global,
@@ -136,7 +136,7 @@ impl<'a> Desk<'a> {
             return Ok(());
         }
         more(&mut self.figures.telegram_files, 1);
-        self.folder.put("telegrams", self.body.as_slice())?;
+        self.folder.add_upload("telegrams", self.body.as_slice())?;
         self.body.clear();
         self.frames = 0;
         Ok(())
@@ -193,7 +193,7 @@ impl<'a> Desk<'a> {
         more(&mut self.figures.readout_files, 1);
         more(&mut self.figures.readouts, meter.waiting_frames);
         self.folder
-            .put_readouts(meter.id.as_str(), meter.waiting.as_slice())?;
+            .add_readouts(meter.id.as_str(), meter.waiting.as_slice())?;
         meter.waiting.clear();
         meter.waiting_frames = 0;
         Ok(())

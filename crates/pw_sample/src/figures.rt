@@ -29,7 +29,7 @@ pub struct Figures {
 }
 
 impl Figures {
-    /// Those of an office.
+    /// The figures of an office of which no record came yet.
     pub fn of(accounts: u32, meters: &[Meter]) -> Figures {
         let mut figures = NONE;
         figures.accounts = accounts;

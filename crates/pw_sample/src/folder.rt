@@ -1,4 +1,4 @@
-//! The folder of a sample.
+//! The folder of a sample: its uploads, numbered in the order in which they are loaded, and the list of them.
 
 use crate::fault::{Fault, fault_at};
 use std::fs;
@@ -42,7 +42,7 @@ impl<'a> Folder<'a> {
     }
 
     /// Makes the file of an upload behind those before it.
-    pub fn put(&mut self, kind: &str, bytes: &[u8]) -> Result<(), Fault> {
+    pub fn add_upload(&mut self, kind: &str, bytes: &[u8]) -> Result<(), Fault> {
         let number = self.next_number();
         writeln!(self.list, "{kind} {number:06}.{kind}")?;
         let name = format!(in self.rt.alloc(); "{number:06}.{kind}")?;
@@ -50,7 +50,7 @@ impl<'a> Folder<'a> {
     }
 
     /// Makes the file of a meter's readouts behind the uploads before it.
-    pub fn put_readouts(&mut self, meter: &str, bytes: &[u8]) -> Result<(), Fault> {
+    pub fn add_readouts(&mut self, meter: &str, bytes: &[u8]) -> Result<(), Fault> {
         let number = self.next_number();
         writeln!(self.list, "readouts {number:06}.readouts.{meter} {meter}")?;
         let name = format!(in self.rt.alloc(); "{number:06}.readouts.{meter}")?;

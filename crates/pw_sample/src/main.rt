@@ -20,10 +20,10 @@ use std::io::{ErrorKind, Write};
 use std::process::ExitCode;
 use std::{env, io};
 
-/// The exit status for words that ask for nothing.
+// The exit status for words that ask for nothing.
 const WRONG_WORDS: u8 = 2;
 
-/// The exit status where a folder, a file, a stream or memory failed.
+// The exit status where a folder, a file, a stream or memory failed.
 const FAILED: u8 = 3;
 
 fn main(rt: HostRuntime) -> ExitCode {

@@ -40,7 +40,7 @@ pub struct Plan {
     pub withdrawn: Option<u32>,
 }
 
-/// A meter.
+/// A meter as the sample has it: what it shows, whose it is, and what is out of the common with it.
 #[derive(Drop)]
 pub struct Meter {
     /// Its place in the office file, from 0.

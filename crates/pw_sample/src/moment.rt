@@ -7,11 +7,11 @@ use std::str::from_utf8;
 /// The quarters of an hour in a day.
 pub const QUARTERS: u32 = 96;
 
-/// The second of 2024-03-25T00:00:00Z.
+// The second of 2024-03-25T00:00:00Z.
 const BEGIN: u32 = 1_711_324_800;
 
-/// Summer time of 2024, from 2024-03-31T01:00:00Z to 2024-10-27T01:00:00Z. (EU directive 2000/84/EC; that of 2025 begins
-/// behind the last day of a sample.)
+// Summer time of 2024, from 2024-03-31T01:00:00Z to 2024-10-27T01:00:00Z. (EU directive 2000/84/EC; that of 2025 begins
+// behind the last day of a sample.)
 const SUMMER: [u32; 2] = [1_711_846_800, 1_729_990_800];
 
 /// The second at which a day of a sample begins in UTC. The first is day 0.

@@ -37,7 +37,7 @@ impl Rows {
         }
     }
 
-    /// Adds a row.
+    /// Adds a row to those that come today, or tomorrow.
     pub fn add(&mut self, comes: Comes, row: &str) -> Result<(), AllocError> {
         let rows = match comes {
             Comes::Today => &mut self.today,
@@ -51,7 +51,7 @@ impl Rows {
         if !self.today.is_empty() {
             more(files, 1);
             let text = format!(in self.alloc; "{}{}", self.header, self.today)?;
-            folder.put(self.kind, text.as_bytes())?;
+            folder.add_upload(self.kind, text.as_bytes())?;
             self.today.clear();
         }
         mem::swap(&mut self.today, &mut self.tomorrow);

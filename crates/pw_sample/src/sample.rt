@@ -11,7 +11,7 @@ use crate::office::{account_list, office_text};
 use crate::rows::{Comes, topup_row};
 use std::alloc::Global;
 
-/// The quarter of an hour at which a register is set back.
+// The quarter of an hour at which a register is set back.
 const SET_BACK: u32 = 50;
 
 // A cooperative whose uploads are being made.

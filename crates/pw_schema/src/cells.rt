@@ -50,7 +50,7 @@ pub fn wh_at(row: &Row, at: usize) -> Option<WattHours>
     WattHours::of(amount)
 }
 
-/// The reference that stands at a place of a row, if one does.
+// The reference that stands at a place of a row, if one does.
 pub(crate) fn reference_at(row: &Row, at: usize) -> Option<Reference>
     ensures some { IfSome result (λ reference. column row.now at ≡ Text reference) }
     ensures none { IfNone result ((t : List ℕ) → IsReference t → column row.now at ≡ Text t → ⊥) }
@@ -70,7 +70,7 @@ fn position_at(row: &Row, at: usize) -> Option<u16>
     u16::try_from(number).ok()
 }
 
-/// The account that stands at a place of a row, by its position, if one does that fits.
+// The account that stands at a place of a row, by its position, if one does that fits.
 pub(crate) fn account_at(row: &Row, at: usize) -> Option<AccountId>
     ensures some { IfSome result (λ account. column row.now at ≡ Int (pos account.0)) }
     ensures none { IfNone result ((n : ℕ) → n < 2 ^ 16 → column row.now at ≡ Int (pos n) → ⊥) }
@@ -79,7 +79,7 @@ pub(crate) fn account_at(row: &Row, at: usize) -> Option<AccountId>
     Some(AccountId(position))
 }
 
-/// The meter that stands at a place of a row, by its position, if one does that fits.
+// The meter that stands at a place of a row, by its position, if one does that fits.
 pub(crate) fn meter_at(row: &Row, at: usize) -> Option<MeterId>
     ensures some { IfSome result (λ meter. column row.now at ≡ Int (pos meter.0)) }
     ensures none { IfNone result ((n : ℕ) → n < 2 ^ 16 → column row.now at ≡ Int (pos n) → ⊥) }
@@ -88,7 +88,7 @@ pub(crate) fn meter_at(row: &Row, at: usize) -> Option<MeterId>
     Some(MeterId(position))
 }
 
-/// The period that stands at a place of a row, by its position, if one does that fits.
+// The period that stands at a place of a row, by its position, if one does that fits.
 pub(crate) fn period_at(row: &Row, at: usize) -> Option<PeriodId>
     ensures some { IfSome result (λ period. column row.now at ≡ Int (pos period.0)) }
     ensures none { IfNone result ((n : ℕ) → n < 2 ^ 8 → column row.now at ≡ Int (pos n) → ⊥) }
@@ -98,7 +98,7 @@ pub(crate) fn period_at(row: &Row, at: usize) -> Option<PeriodId>
     Some(PeriodId(position))
 }
 
-/// The band that stands at a place of a row, by its position, if one does that fits.
+// The band that stands at a place of a row, by its position, if one does that fits.
 pub(crate) fn band_at(row: &Row, at: usize) -> Option<BandId>
     ensures some { IfSome result (λ band. column row.now at ≡ Int (pos band.0)) }
     ensures none { IfNone result ((n : ℕ) → n < 2 ^ 8 → column row.now at ≡ Int (pos n) → ⊥) }
@@ -117,7 +117,7 @@ pub fn instant_at(row: &Row, at: usize) -> Option<Instant>
     Instant::of(seconds)
 }
 
-/// The register that stands at a place of a row, by its own place, if one does.
+// The register that stands at a place of a row, by its own place, if one does.
 pub(crate) fn register_at(row: &Row, at: usize) -> Option<Register>
     ensures some { IfSome result (λ register.
         (register ≡ register_at (number (column row.now at))) × IsRegister (column row.now at)) }
@@ -164,7 +164,7 @@ fn owner_of(place: u32) -> Option<Owner>
     Some(Some(AccountId(position)))
 }
 
-/// The direction that stands at a place of a row, by its own place, if one does.
+// The direction that stands at a place of a row, by its own place, if one does.
 pub(crate) fn direction_at(row: &Row, at: usize) -> Option<Direction>
     ensures some { IfSome result (λ direction.
         (direction ≡ direction_at (number (column row.now at))) × IsDirection (column row.now at)) }

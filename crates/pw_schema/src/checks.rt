@@ -42,7 +42,7 @@ fn is_comparison(nodes: &[Op], root: usize) -> bool
     }
 }
 
-/// Whether there is one check, and it is `id = 1`.
+// Whether there is one check, and it is `id = 1`.
 pub(crate) fn is_only_one(checks: &Terms) -> bool
     ensures is { IsTrue result → checks.now ≡ only_one }
     ensures all { checks.now ≡ only_one → IsTrue result }

@@ -111,7 +111,7 @@ fn are_office_columns(columns: &[Column]) -> bool
         && is_column(body, b"body".as_slice(), Kind::Blob)
 }
 
-/// Whether the columns are a table's.
+// Whether the columns are a table's.
 pub(crate) fn are_columns(columns: &[Column], table: StoreTable) -> bool
     ensures is { IsTrue result → columns.now ≡ (stored table).columns }
     ensures all { columns.now ≡ (stored table).columns → IsTrue result }

@@ -3,7 +3,7 @@
 use crate::judge::{Judge, JudgeFault};
 use sqlite::Row;
 
-/// Takes no row.
+/// The judge of a table that has to be empty: it refuses each row.
 #[derive(Drop)]
 pub struct NoRows;
 

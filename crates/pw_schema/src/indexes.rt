@@ -47,7 +47,7 @@ fn are_these(found: &[Index], tables: &[StoreTable]) -> bool
     is_index(first, *table) && are_these(found, tables)
 }
 
-/// Whether the indexes are those of a store of this version.
+// Whether the indexes are those of a store of this version.
 pub(crate) fn are_indexes(found: &[Index], version: StoreVersion) -> bool
     ensures is { IsTrue result → found.now ≡ (schema_of version).indexes }
     ensures all { found.now ≡ (schema_of version).indexes → IsTrue result }

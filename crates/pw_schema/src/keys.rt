@@ -64,7 +64,7 @@ fn is_rowid_table(table: &Table) -> bool
         && table.orders.is_empty()
 }
 
-/// Whether the key is a table's.
+// Whether the key is a table's.
 pub(crate) fn has_key(found: &Table, table: StoreTable) -> bool
     ensures is { IsTrue result → (found.now.key ≡ (stored table).key)
         × (found.now.primary ≡ (stored table).primary)

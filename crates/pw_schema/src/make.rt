@@ -16,7 +16,7 @@ use crate::table::StoreTable;
 use crate::transactions::{begin, commit};
 use sqlite::{Alter, Connection, Error, ErrorCode, params};
 
-/// Makes a table behind those before it, whatever rows these have.
+// Makes a table behind those before it, whatever rows these have.
 pub(crate) fn make<S: Alter>(conn: &mut Connection<S>, table: StoreTable) -> Result<usize, Error>
     requires { HasCleanDisk (state S.Store conn.old)
         → IsWithin (before table) (state S.Store conn.old) }

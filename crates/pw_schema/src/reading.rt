@@ -85,7 +85,7 @@ fn assignment_in(row: &Row) -> Option<Named>
     })
 }
 
-// And of a top-up.
+// The top-up that a row tells, if it tells one.
 fn topup_in(row: &Row) -> Option<Named>
     ensures held { ReadsEntry RecordKind.TopUps row.now (option_map named_entry result) }
     ensures withdrawn { ReadsEntry RecordKind.WithdrawnTopUps row.now

@@ -10,7 +10,7 @@ ghost use Rattle.pw_schema.specs.inner.Stages.{BringsTo};
 use crate::kind::StoreVersion;
 use sqlite::{Alter, Connection, Error, params};
 
-// Sets the text.
+// Sets the text in the row of `office`, and tells how many rows there were.
 fn set_text<S: Alter>(conn: &mut Connection<S>, body: &[u8]) -> Result<usize, Error>
     requires { IsWithinVersion StoreVersion.Third (state S.Store conn.old) }
     ensures tables { BringsTo StoreVersion.Third result (state S.Store conn.old)

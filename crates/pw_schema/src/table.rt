@@ -3,7 +3,7 @@
 ghost use Rattle.std.specs.Prelude.{◌≡◌, ◌<◌};
 ghost use Rattle.pw_schema.specs.inner.Stages.{stored, text_of, tree_of};
 
-/// A table of a store.
+// The tables of stores of all versions; the text that makes each, its name, its tree and its key are told from here.
 #[derive(Clone, Copy, Debug, PartialEq, Eq)]
 pub(crate) enum StoreTable {
     Office,
@@ -21,7 +21,7 @@ pub(crate) enum StoreTable {
 }
 
 impl StoreTable {
-    /// The tables in the order in which they are made.
+    // The tables in the order in which they are made.
     pub(crate) const ALL: [StoreTable; 12] = [
         StoreTable::Office,
         StoreTable::Readings,
@@ -37,7 +37,7 @@ impl StoreTable {
         StoreTable::PeriodTotals,
     ];
 
-    /// Those whose key has an index: the others' keys are rowids.
+    // Those whose key has an index: the others' keys are rowids.
     pub(crate) const INDEXED: [StoreTable; 10] = [
         StoreTable::Readings,
         StoreTable::Assignments,
@@ -51,7 +51,7 @@ impl StoreTable {
         StoreTable::PeriodTotals,
     ];
 
-    /// The text that makes the table.
+    // The text that makes the table.
     pub(crate) fn text(self) -> &'static str
         ensures { result.now ≡ text_of self }
     {
@@ -95,7 +95,7 @@ impl StoreTable {
         }
     }
 
-    /// The table's name.
+    // The name that the file lists it by.
     pub(crate) fn name(self) -> &'static [u8]
         ensures { result.now ≡ (stored self).name }
     {
@@ -115,7 +115,7 @@ impl StoreTable {
         }
     }
 
-    /// The tree at which the table stands in a store.
+    // The tree at which the table stands in a store.
     pub(crate) fn tree(self) -> u32
         ensures is { result ≡ tree_of self }
         ensures low { result < 100 }
@@ -136,7 +136,7 @@ impl StoreTable {
         }
     }
 
-    /// The places of the columns that are the table's key: 0 is the rowid.
+    // The places of the columns that are the table's key: 0 is the rowid.
     pub(crate) fn key(self) -> &'static [usize]
         ensures { result.now ≡ (stored self).primary }
     {

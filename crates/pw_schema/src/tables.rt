@@ -70,7 +70,7 @@ fn are_these(found: &[Table], tables: &[StoreTable]) -> bool
     is_table(first, *table) && are_these(found, tables)
 }
 
-/// Whether the tables are those of a store of this version.
+// Whether the tables are those of a store of this version.
 pub(crate) fn are_tables(found: &[Table], version: StoreVersion) -> bool
     ensures is { IsTrue result → found.now ≡ (schema_of version).tables }
     ensures all { found.now ≡ (schema_of version).tables → IsTrue result }

@@ -10,14 +10,14 @@ use pw_model::Reference;
 use pw_tariff::{Direction, Owner};
 use sqlite::types::{ToSql, ValueRef};
 
-/// A number.
+/// A number, as the value of a parameter.
 pub fn integer<'a>(number: u32) -> ValueRef<'a>
     ensures { owned result ≡ Int (pos number) }
 {
     number.to_sql()
 }
 
-/// A number of watt-hours or cents.
+/// A number of watt-hours or cents, likewise.
 pub fn wide<'a>(number: u64) -> ValueRef<'a>
     requires { number < 2 ^ 63 }
     ensures { owned result ≡ Int (pos number) }

@@ -8,10 +8,10 @@ use std::alloc::Global;
 /// The most bytes of a reply that isn't large: large ones are made one at a time.
 pub const LARGE: usize = 262_144;
 
-/// The most bytes that an empty box keeps.
+// The most bytes that an empty box keeps.
 const KEPT: usize = 16_384;
 
-/// A connection in the loop.
+// What the loop keeps of a connection between its turns.
 #[derive(Drop)]
 pub(crate) struct Peer {
     /// What was received, and is of no request that was answered.
@@ -30,7 +30,7 @@ pub(crate) struct Peer {
     pub(crate) since: u64,
 }
 
-/// What is to be done of a connection.
+// What is to be done of a connection.
 #[derive(Clone, Copy, Debug, PartialEq, Eq)]
 pub(crate) enum Task {
     /// The reply isn't wholly taken yet.
@@ -43,7 +43,7 @@ pub(crate) enum Task {
 }
 
 impl Peer {
-    /// A new one.
+    // A connection that was just taken in: nothing was received, and no reply waits.
     pub(crate) fn new(alloc: Global, since: u64) -> Peer
         ensures inbox { result.inbox.items ≡ [] }
         ensures outbox { result.outbox.items ≡ [] }
@@ -63,7 +63,7 @@ impl Peer {
         }
     }
 
-    /// What is to be done next.
+    // What is to be done next.
     #[tactic(auto, using(std::proofs::lemmas::List::drop_all))]
     pub(crate) fn task(&self) -> Task
         ensures { HasTask self.now result }
@@ -87,7 +87,7 @@ impl Peer {
         }
     }
 
-    /// Whether no byte of a request was received behind its last reply, which is taken.
+    // Whether no byte of a request was received behind its last reply, which is taken.
     #[tactic(auto, using(std::proofs::lemmas::List::drop_all))]
     pub(crate) fn is_idle(&self) -> bool
         ensures { result ≡ true → IsIdle self.now }
@@ -95,7 +95,7 @@ impl Peer {
         !self.ended && !self.closes && self.inbox.is_empty() && self.outbox.len() <= self.sent
     }
 
-    /// Lets the reply go, which is taken.
+    // Lets the reply go, which is taken.
     pub(crate) fn release(&mut self, alloc: Global)
         ensures same { self.new ≡ record self.old { outbox = self.new.outbox; sent = 0 } }
         ensures empty { self.new.outbox.items ≡ [] }
@@ -104,7 +104,7 @@ impl Peer {
         self.sent = 0;
     }
 
-    /// So many bytes of the reply were taken.
+    // So many bytes of the reply were taken.
     pub(crate) fn took(&mut self, alloc: Global, count: usize, turns: u64)
         requires { self.old.sent + count ≤ length self.old.outbox.items }
         ensures same { self.new ≡ record self.old
@@ -118,7 +118,7 @@ impl Peer {
         }
     }
 
-    /// Takes the first `n` bytes away.
+    // Takes the first `n` bytes away.
     pub(crate) fn take_front(&mut self, alloc: Global, n: usize)
         requires { n ≤ length self.old.inbox.items }
         ensures same { self.new ≡ record self.old { inbox = self.new.inbox; looked = false } }

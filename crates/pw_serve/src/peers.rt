@@ -18,7 +18,7 @@ use std::collections::{BTreeMap, VecDeque};
 /// The most connections at once.
 pub const MOST_CONNECTIONS: usize = 256;
 
-/// The connections that are served.
+// The connections that are served.
 #[derive(Drop)]
 pub(crate) struct Peers {
     pub(crate) rows: BTreeMap<u64, Peer>,
@@ -118,7 +118,7 @@ fn is_idle_at(rows: &BTreeMap<u64, Peer>, number: u64) -> bool
 }
 
 impl Peers {
-    /// None.
+    // No connection is served yet.
     pub(crate) fn new(alloc: Global) -> Peers
         ensures rows { (j : ℕ) → get nat_cmp result.rows j ≡ None }
         ensures next { result.next ≡ 0 }
@@ -197,7 +197,7 @@ impl Peers {
     }
 
     // The place of the large reply is kept, given up, or given to the next that waits for it.
-    fn settle<C: Connections>(&mut self, connections: &mut C, number: u64)
+    fn pass_place_on<C: Connections>(&mut self, connections: &mut C, number: u64)
         ensures rows { self.new.rows ≡ self.old.rows }
         ensures next { self.new.next ≡ self.old.next }
         ensures stay { AllStay (C.connection connections.old) (C.connection connections.new) }
@@ -232,7 +232,7 @@ impl Peers {
         }
     }
 
-    /// The turn of a connection.
+    // The turn of a connection.
     pub(crate) fn visit<S: Service, C: Connections>(
         &mut self,
         alloc: Global,
@@ -248,10 +248,10 @@ impl Peers {
     {
         self.turns = self.turns.wrapping_add(1);
         self.take_turn(alloc, service, connections, number);
-        self.settle(connections, number);
+        self.pass_place_on(connections, number);
     }
 
-    /// The client of a connection was waited for too long.
+    // The client of a connection was waited for too long.
     pub(crate) fn expire<S: Service, C: Connections>(
         &mut self,
         service: &S,
@@ -267,7 +267,7 @@ impl Peers {
         let _ = service;
         if self.rows.contains_key(&number) {
             self.end(connections, number, Ending::Broken);
-            self.settle(connections, number);
+            self.pass_place_on(connections, number);
         }
     }
 
@@ -318,7 +318,7 @@ impl Peers {
         connections.again(number);
     }
 
-    /// A client knocked: it is taken in, or turned away where no place is free and none idle.
+    // A client knocked: it is taken in, or turned away where no place is free and none idle.
     pub(crate) fn knock<S: Service, C: Connections>(
         &mut self,
         alloc: Global,

@@ -1,4 +1,5 @@
-//! The loop.
+//! The loop over all connections: each turn takes what comes next, which is a client, an event of one connection or the
+//! end, and does what is due then.
 
 ghost use Rattle.std.specs.Prelude.{◌≤◌, ◌+◌, ◌*◌};
 ghost use Rattle.pw_serve.specs.Served.{IsServed};

@@ -1,4 +1,5 @@
-//! The turn of one connection.
+//! The turn of one connection: in a bounded number of steps what waits is written, one request is answered, and more is
+//! read, so that no client holds up the others.
 
 ghost use Rattle.std.specs.Prelude.{◌≡◌, ◌<◌, ◌≤◌, ◌+◌, ℕ, length};
 ghost use Rattle.pw_serve.specs.Connections.{Connection};
@@ -12,13 +13,13 @@ use crate::peer::{Peer, Task};
 use crate::service::{Answer, SHORT_REPLY, Service};
 use std::alloc::Global;
 
-/// The most bytes that one read takes.
+// The most bytes that one read takes.
 const ROOM: usize = 16_384;
 
-/// The most steps of one turn.
+// The most steps of one turn.
 const STEPS: u32 = 16;
 
-/// What a step or a turn came to.
+// What a step or a turn came to.
 #[derive(Clone, Copy, Debug, PartialEq, Eq)]
 pub(crate) enum Next {
     /// There may be more to do at once.
@@ -166,7 +167,7 @@ fn step<S: Service, C: Connections>(
     }
 }
 
-/// A turn of one connection: a bounded number of steps, of which one answers a request at most.
+// A turn of one connection: a bounded number of steps, of which one answers a request at most.
 pub(crate) fn turn<S: Service, C: Connections>(
     alloc: Global,
     service: &mut S,

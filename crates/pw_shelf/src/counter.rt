@@ -13,7 +13,7 @@ pub struct Counter {
 }
 
 impl Counter {
-    /// Nothing counted yet.
+    // Nothing counted yet.
     pub(crate) fn new() -> Counter
         ensures { result.rise.count ≡ 0 }
     {
@@ -23,7 +23,7 @@ impl Counter {
         }
     }
 
-    /// One call more, and the rows that it gave.
+    // One call more, and the rows that it gave.
     pub(crate) fn tick(&mut self, rows: u64)
         ensures { self.new.rise.count ≡ self.old.rise.count + 1 + rows }
     {
@@ -31,7 +31,7 @@ impl Counter {
         self.rise.tick(rows);
     }
 
-    /// What is counted.
+    // What is counted.
     pub(crate) fn seen(&self) -> u64
         ensures { result ≡ min self.now.rise.count (2 ^ 64 - 1) }
     {

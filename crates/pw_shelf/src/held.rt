@@ -14,7 +14,7 @@ use pw_model::{Entry, Key, Named};
 use std::alloc::Global;
 use std::collections::BTreeSet;
 
-/// What is held.
+/// The records of a store in memory, and which of them an upload has added, as it may be taken back.
 #[derive(Drop)]
 pub struct Held {
     pub(crate) records: BTreeSet<Entry>,
@@ -26,7 +26,7 @@ pub struct Held {
 }
 
 impl Held {
-    /// Nothing.
+    // Nothing.
     pub(crate) fn new(alloc: Global) -> Held
         ensures records { result.records.keys ≡ [] }
         ensures added { result.added.items ≡ [] }
@@ -37,14 +37,14 @@ impl Held {
         }
     }
 
-    /// Whether a record is held.
+    // Whether a record is held.
     pub(crate) fn has(&self, entry: &Entry) -> bool
         ensures { IsTrue result ↔ Member entry.now self.now.records.keys }
     {
         self.records.contains(entry)
     }
 
-    /// Holds a record more.
+    // Holds a record more.
     pub(crate) fn insert(&mut self, entry: Entry) -> Result<(), ShelfFault>
         requires fresh { Member entry self.old.records.keys → ⊥ }
         requires room { length self.old.records.keys < most_records }
@@ -60,7 +60,7 @@ impl Held {
         Ok(())
     }
 
-    /// Keeps what was added. It takes no memory.
+    // Keeps what was added. It takes no memory.
     pub(crate) fn keep(&mut self)
         ensures same { self.new.records.keys ≡ self.old.records.keys }
         ensures done { self.new.added.items ≡ [] }
@@ -68,7 +68,7 @@ impl Held {
         self.added.clear();
     }
 
-    /// Goes back to what was held when the upload began. It takes no memory.
+    // Goes back to what was held when the upload began. It takes no memory.
     pub(crate) fn go_back(&mut self)
         ensures back { self.new.records.keys ≡ without self.old.added.items self.old.records.keys }
         ensures done { self.new.added.items ≡ [] }
@@ -78,7 +78,7 @@ impl Held {
         }
     }
 
-    /// How many records are held.
+    // How many records are held.
     pub(crate) fn count(&self) -> u32
         ensures { result ≡ length self.now.records.keys }
     {

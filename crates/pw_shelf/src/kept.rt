@@ -20,7 +20,7 @@ pub struct Kept {
 }
 
 impl Kept {
-    /// Nothing.
+    // Nothing.
     pub(crate) fn new(alloc: Global) -> Kept
         ensures now { content_now result ≡ no_content }
         ensures begin { content_then result ≡ no_content }
@@ -33,7 +33,7 @@ impl Kept {
         }
     }
 
-    /// Keeps what the upload changed. It takes no memory.
+    // Keeps what the upload changed. It takes no memory.
     pub(crate) fn keep(&mut self)
         ensures same { content_now self.new ≡ content_now self.old }
         ensures begin { content_then self.new ≡ content_now self.old }
@@ -44,7 +44,7 @@ impl Kept {
         self.totals.keep();
     }
 
-    /// Goes back to what was kept when the upload began. It takes no memory.
+    // Goes back to what was kept when the upload began. It takes no memory.
     pub(crate) fn go_back(&mut self)
         ensures back { content_now self.new ≡ content_then self.old }
         ensures begin { content_then self.new ≡ content_then self.old }

@@ -17,7 +17,7 @@ use pw_time::{FIRST_SECOND, Instant};
 use std::alloc::Global;
 
 impl Held {
-    /// What the records that stand say of a key.
+    // What the records that stand say of a key.
     pub(crate) fn contents_at(&self, key: &Key) -> Contents
         ensures { result ≡ held_at self.now.records.keys key.now }
     {
@@ -56,7 +56,7 @@ impl Held {
         }
     }
 
-    /// All records of a kind, sorted.
+    // All records of a kind, sorted.
     pub(crate) fn all_of(&self, alloc: Global, kind: Kind) -> Result<Vec<Entry>, ShelfFault>
         ensures rows { IfOk result (λ found. ListsHeld (IsOfKind kind) self.now.records.keys
             found.items) }
@@ -73,19 +73,20 @@ impl Held {
     }
 }
 
-/// Which records a list has.
+// Which records a list has.
 #[derive(Clone, Copy)]
 pub(crate) enum Kind {
-    /// The readings of a register.
+    // The readings of a register.
     Readings(MeterId, Register),
-    /// The assignments of a meter.
+    // The assignments of a meter.
     Assignments(MeterId),
-    /// The top-ups.
+    // The top-ups.
     TopUps,
-    /// The withdrawals.
+    // The withdrawals.
     Withdrawals,
 }
 
+// Whether the record of a key is one of a kind.
 fn is_of_kind(key: &Key, kind: Kind) -> bool
     ensures { IsTrue result ↔ IsOfKind kind key.now }
 {
@@ -97,6 +98,7 @@ fn is_of_kind(key: &Key, kind: Kind) -> bool
     }
 }
 
+// Whether the record of a key is a reading of this register.
 fn is_reading_of(key: &Key, meter: MeterId, register: Register) -> bool
     ensures { IsTrue result ↔ IsReadingOf meter register key.now }
 {
@@ -110,6 +112,7 @@ fn is_reading_of(key: &Key, meter: MeterId, register: Register) -> bool
     }
 }
 
+// Whether the record of a key is an assignment of this meter.
 fn is_assignment_of(key: &Key, meter: MeterId) -> bool
     ensures { IsTrue result ↔ IsAssignmentOf meter key.now }
 {
@@ -165,6 +168,7 @@ fn lowest_at(key: Key) -> Entry
     }
 }
 
+// 0 Wh: no register shows less.
 fn no_energy() -> WattHours
     ensures { result ≡ 0 }
 {

@@ -16,7 +16,7 @@ pub struct Plan {
 }
 
 impl Plan {
-    /// The call number `fail_at`, counted from 1; none at 0.
+    // The call number `fail_at`, counted from 1; none at 0.
     pub(crate) fn new(fail_at: u32, abandon_fails: bool) -> Plan
         ensures { result ≡ plan_of fail_at abandon_fails }
     {
@@ -27,7 +27,7 @@ impl Plan {
         }
     }
 
-    /// One call more: whether it is the one that fails.
+    // One call more: whether it is the one that fails.
     pub(crate) fn fails(&mut self) -> bool
         ensures fails { IsTrue result ↔ (self.old.until ≡ 1) }
         ensures plan { self.new ≡ plan_behind self.old }
@@ -38,7 +38,7 @@ impl Plan {
         fails
     }
 
-    /// One `abandon` more: whether it fails.
+    // One `abandon` more: whether it fails.
     pub(crate) fn fails_abandon(&mut self) -> bool
         ensures fails { IsTrue result ↔ (self.old.until ≡ 1)
             ⊎ (IsTrue self.old.failed × IsTrue self.old.abandon_fails) }

@@ -27,7 +27,7 @@ pub struct Points {
 }
 
 impl Points {
-    /// None.
+    // None.
     pub(crate) fn new(alloc: Global) -> Points
         ensures now { point_now result.table ≡ (λ m r t. None) }
         ensures begin { point_then result.table ≡ (λ m r t. None) }
@@ -37,7 +37,7 @@ impl Points {
         }
     }
 
-    /// Sets the point of a register at an instant.
+    // Sets the point of a register at an instant.
     pub(crate) fn put(
         &mut self,
         meter: MeterId,
@@ -53,7 +53,7 @@ impl Points {
         self.table.put((meter, register, instant), wh)
     }
 
-    /// Takes the point of a register at an instant away, if there is one.
+    // Takes the point of a register at an instant away, if there is one.
     pub(crate) fn delete(
         &mut self,
         meter: MeterId,
@@ -68,7 +68,7 @@ impl Points {
         self.table.delete((meter, register, instant))
     }
 
-    /// Keeps what the upload changed. It takes no memory.
+    // Keeps what the upload changed. It takes no memory.
     pub(crate) fn keep(&mut self)
         ensures same { point_now self.new.table ≡ point_now self.old.table }
         ensures begin { point_then self.new.table ≡ point_now self.old.table }
@@ -76,7 +76,7 @@ impl Points {
         self.table.keep();
     }
 
-    /// Goes back to what stood when the upload began. It takes no memory.
+    // Goes back to what stood when the upload began. It takes no memory.
     pub(crate) fn go_back(&mut self)
         ensures back { point_now self.new.table ≡ point_then self.old.table }
         ensures begin { point_then self.new.table ≡ point_then self.old.table }
@@ -84,7 +84,7 @@ impl Points {
         self.table.go_back();
     }
 
-    /// The latest point of a register strictly before an instant.
+    // The latest point of a register strictly before an instant.
     pub(crate) fn before(
         &self,
         meter: MeterId,
@@ -105,7 +105,7 @@ impl Points {
         }
     }
 
-    /// The earliest point of a register strictly behind an instant.
+    // The earliest point of a register strictly behind an instant.
     pub(crate) fn behind(
         &self,
         meter: MeterId,
@@ -126,7 +126,7 @@ impl Points {
         }
     }
 
-    /// The points of a register from one instant to another, both included, in order.
+    // The points of a register from one instant to another, both included, in order.
     pub(crate) fn within(
         &self,
         alloc: Global,
@@ -173,6 +173,7 @@ impl Points {
     }
 }
 
+// Whether a key is one of this register.
 fn is_of_register(key: &(MeterId, Register, Instant), meter: MeterId, register: Register) -> bool
     ensures { IsTrue result ↔ (key.now.0 ≡ meter) × (key.now.1 ≡ register) }
 {

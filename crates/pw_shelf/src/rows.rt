@@ -6,6 +6,7 @@ ghost use Rattle.pw_shelf.specs.Rows.{rows_at, rows_found, rows_given, rows_list
 use crate::fault::ShelfFault;
 use pw_model::Contents;
 
+// A row for each of a list.
 pub(crate) fn of_list<T>(answer: &Result<Vec<T>, ShelfFault>) -> u64
     ensures { result ≡ rows_given rows_listed answer.now }
 {
@@ -15,6 +16,7 @@ pub(crate) fn of_list<T>(answer: &Result<Vec<T>, ShelfFault>) -> u64
     }
 }
 
+// A row for each content that is told, where two stand for several.
 pub(crate) fn of_contents(answer: &Result<Contents, ShelfFault>) -> u64
     ensures { result ≡ rows_given rows_at answer.now }
 {
@@ -25,6 +27,7 @@ pub(crate) fn of_contents(answer: &Result<Contents, ShelfFault>) -> u64
     }
 }
 
+// One row, where there is one.
 pub(crate) fn of_option<T>(answer: &Result<Option<T>, ShelfFault>) -> u64
     ensures { result ≡ rows_given rows_found answer.now }
 {
@@ -34,6 +37,7 @@ pub(crate) fn of_option<T>(answer: &Result<Option<T>, ShelfFault>) -> u64
     }
 }
 
+// One row for a total above 0; none for 0, as what isn't kept is 0 too.
 pub(crate) fn of_total(answer: &Result<u64, ShelfFault>) -> u64
     ensures { result ≡ rows_given rows_total answer.now }
 {

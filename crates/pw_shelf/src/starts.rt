@@ -29,7 +29,7 @@ pub struct Starts {
 }
 
 impl Starts {
-    /// None.
+    // None.
     pub(crate) fn new(alloc: Global) -> Starts
         ensures now { start_now result.table ≡ (λ m t. None) }
         ensures begin { start_then result.table ≡ (λ m t. None) }
@@ -39,7 +39,7 @@ impl Starts {
         }
     }
 
-    /// Sets whose a meter is from an instant on.
+    // Sets whose a meter is from an instant on.
     pub(crate) fn put(
         &mut self,
         meter: MeterId,
@@ -55,7 +55,7 @@ impl Starts {
         self.table.put((meter, start), owner)
     }
 
-    /// Takes the start of a meter at an instant away, if there is one.
+    // Takes the start of a meter at an instant away, if there is one.
     pub(crate) fn delete(&mut self, meter: MeterId, start: Instant) -> Result<(), ShelfFault>
         ensures deleted { OnOk result (start_now self.new.table
             ≡ starts_with (start_now self.old.table) meter.0 start None) }
@@ -65,7 +65,7 @@ impl Starts {
         self.table.delete((meter, start))
     }
 
-    /// Keeps what the upload changed. It takes no memory.
+    // Keeps what the upload changed. It takes no memory.
     pub(crate) fn keep(&mut self)
         ensures same { start_now self.new.table ≡ start_now self.old.table }
         ensures begin { start_then self.new.table ≡ start_now self.old.table }
@@ -73,7 +73,7 @@ impl Starts {
         self.table.keep();
     }
 
-    /// Goes back to what stood when the upload began. It takes no memory.
+    // Goes back to what stood when the upload began. It takes no memory.
     pub(crate) fn go_back(&mut self)
         ensures back { start_now self.new.table ≡ start_then self.old.table }
         ensures begin { start_then self.new.table ≡ start_then self.old.table }
@@ -81,7 +81,7 @@ impl Starts {
         self.table.go_back();
     }
 
-    /// All starts of a meter, in order.
+    // All starts of a meter, in order.
     pub(crate) fn of(
         &self,
         alloc: Global,

@@ -29,7 +29,7 @@ pub struct Table<K: Ord + Copy, V: Copy> {
 }
 
 impl<K: Ord + Copy, V: Copy> Table<K, V> {
-    /// No rows, and nothing changed.
+    // No rows, and nothing changed.
     pub(crate) fn new(alloc: Global) -> Table<K, V>
         ensures rows { result.rows.entries ≡ [] }
         ensures changed { result.changed.entries ≡ [] }
@@ -40,7 +40,7 @@ impl<K: Ord + Copy, V: Copy> Table<K, V> {
         }
     }
 
-    /// Whether the row at a key was taken away.
+    // Whether the row at a key was taken away.
     pub(crate) fn is_taken(&self, key: &K) -> bool
         ensures { result ≡ is_taken K.cmp self.now key.now }
     {
@@ -50,7 +50,7 @@ impl<K: Ord + Copy, V: Copy> Table<K, V> {
         }
     }
 
-    /// What stands at a key.
+    // What stands at a key.
     pub(crate) fn at(&self, key: &K) -> Option<V>
         ensures { result ≡ at_now K.cmp self.now key.now }
     {
@@ -60,7 +60,7 @@ impl<K: Ord + Copy, V: Copy> Table<K, V> {
         self.rows.get(key).copied()
     }
 
-    /// The last row before a key that wasn't taken away.
+    // The last row before a key that wasn't taken away.
     pub(crate) fn last_before(&self, key: K) -> Option<(K, V)>
         ensures last { IsLast (rows_between K.cmp Unbounded (Excluded key) self.now) result }
         ensures ordered { IsOrdered K.cmp self.now.rows }
@@ -74,7 +74,7 @@ impl<K: Ord + Copy, V: Copy> Table<K, V> {
         None
     }
 
-    /// The first row behind a key that wasn't taken away.
+    // The first row behind a key that wasn't taken away.
     pub(crate) fn first_behind(&self, key: K) -> Option<(K, V)>
         ensures first { IsFirst (rows_between K.cmp (Excluded key) Unbounded self.now) result }
         ensures ordered { IsOrdered K.cmp self.now.rows }
@@ -115,7 +115,7 @@ impl<K: Ord + Copy, V: Copy> Table<K, V> {
         Ok(())
     }
 
-    /// Sets what stands at a key.
+    // Sets what stands at a key.
     pub(crate) fn put(&mut self, key: K, value: V) -> Result<(), ShelfFault>
         requires { CanGoBack K.cmp self.old }
         ensures put { OnOk result (TellsAt K.cmp key (Some value) (at_now K.cmp self.old)
@@ -131,7 +131,7 @@ impl<K: Ord + Copy, V: Copy> Table<K, V> {
         Ok(())
     }
 
-    /// Takes away what stands at a key, if something does.
+    // Takes away what stands at a key, if something does.
     pub(crate) fn delete(&mut self, key: K) -> Result<(), ShelfFault>
         requires { CanGoBack K.cmp self.old }
         ensures deleted { OnOk result (TellsAt K.cmp key None (at_now K.cmp self.old)
@@ -145,7 +145,7 @@ impl<K: Ord + Copy, V: Copy> Table<K, V> {
         self.note(key, true)
     }
 
-    /// Keeps what was changed. It takes no memory.
+    // Keeps what was changed. It takes no memory.
     pub(crate) fn keep(&mut self)
         ensures same { (k : K) → at_now K.cmp self.new k ≡ at_now K.cmp self.old k }
         ensures begin { (k : K) → at_begin K.cmp self.new k ≡ at_now K.cmp self.old k }
@@ -158,7 +158,7 @@ impl<K: Ord + Copy, V: Copy> Table<K, V> {
         }
     }
 
-    /// Goes back to what stood when the upload began. It takes no memory: nothing is put where no row is.
+    // Goes back to what stood when the upload began. It takes no memory: nothing is put where no row is.
     pub(crate) fn go_back(&mut self)
         requires { CanGoBack K.cmp self.old }
         ensures went { (k : K) → at_now K.cmp self.new k ≡ at_begin K.cmp self.old k }

@@ -19,6 +19,7 @@ impl Model for Tally {
     ghost also_owns = { λ _. ftrue };
 }
 
+// Nothing counted yet. (It is a function of its own for its proof, written by hand, as `later` is.)
 fn zero() -> Tally
     ensures { result.count ≡ 0 }
 {
@@ -27,6 +28,7 @@ fn zero() -> Tally
     }
 }
 
+// One call more than before, and the rows that it gave.
 fn later(old: Tally, rows: u64) -> Tally
     ensures { result.count ≡ old.count + 1 + rows }
 {

@@ -20,7 +20,7 @@ pub struct Totals {
 }
 
 impl Totals {
-    /// None.
+    // None.
     pub(crate) fn new(alloc: Global) -> Totals
         ensures now { total_now result.table ≡ (λ k. 0) }
         ensures begin { total_then result.table ≡ (λ k. 0) }
@@ -30,14 +30,14 @@ impl Totals {
         }
     }
 
-    /// The total at a key.
+    // The total at a key.
     pub(crate) fn at(&self, key: &TotalKey) -> u64
         ensures { result ≡ total_now self.now.table key.now }
     {
         self.table.at(key).unwrap_or(0)
     }
 
-    /// Sets the total at a key.
+    // Sets the total at a key.
     pub(crate) fn put(&mut self, key: &TotalKey, amount: u64) -> Result<(), ShelfFault>
         ensures put { OnOk result (total_now self.new.table
             ≡ totals_with (total_now self.old.table) key.now amount) }
@@ -47,7 +47,7 @@ impl Totals {
         self.table.put(*key, amount)
     }
 
-    /// Keeps what the upload changed. It takes no memory.
+    // Keeps what the upload changed. It takes no memory.
     pub(crate) fn keep(&mut self)
         ensures same { total_now self.new.table ≡ total_now self.old.table }
         ensures begin { total_then self.new.table ≡ total_now self.old.table }
@@ -55,7 +55,7 @@ impl Totals {
         self.table.keep();
     }
 
-    /// Goes back to what stood when the upload began. It takes no memory.
+    // Goes back to what stood when the upload began. It takes no memory.
     pub(crate) fn go_back(&mut self)
         ensures back { total_now self.new.table ≡ total_then self.old.table }
         ensures begin { total_then self.new.table ≡ total_then self.old.table }

@@ -1,4 +1,4 @@
-//! Why no connection is accepted.
+//! Why no connection is accepted, and for how long none is tried then.
 
 ghost use Rattle.pw_sockets.specs.Accepting.{Hinders};
 

@@ -1,4 +1,4 @@
-//! Whether clients are accepted.
+//! Whether clients are accepted: those that knock at once, the next behind an event or a pause, or no more.
 
 ghost use Rattle.std.specs.Prelude.{◌≡◌, ◌≢◌, ◌↔◌, IfSome, IsSome};
 ghost use Rattle.std.specs.Time.{instant_nanos};
@@ -11,7 +11,7 @@ use crate::accepting::PAUSE;
 use crate::limits::left_of;
 use std::time::{Duration, Instant};
 
-/// Whether clients are accepted.
+// Whether clients are accepted.
 #[derive(Clone, Copy, Debug, PartialEq, Eq)]
 pub(crate) enum Door {
     /// One may be there.
@@ -25,7 +25,7 @@ pub(crate) enum Door {
 }
 
 impl Door {
-    /// An event told of a client.
+    // An event told of a client.
     pub(crate) fn knocked(self) -> Door
         ensures opens { self ≡ Quiet → result ≡ Open }
         ensures same { self ≢ Quiet → result ≡ self }
@@ -36,7 +36,7 @@ impl Door {
         }
     }
 
-    /// How long it is until the next try, where it is paused.
+    // How long it is until the next try, where it is paused.
     pub(crate) fn pause_left(self, now: Instant) -> Option<Duration>
         ensures paused { (since : Instant) → self ≡ Paused since
             → IfSome result (λ left. as_nanos left
@@ -49,7 +49,7 @@ impl Door {
         }
     }
 
-    /// The pause is over, if its time is.
+    // The pause is over, if its time is.
     pub(crate) fn resumed(self, now: Instant) -> Door
         ensures same { (IsPaused self → ⊥) → result ≡ self }
     {
@@ -59,7 +59,7 @@ impl Door {
         }
     }
 
-    /// No more are accepted than those that are there.
+    // No more are accepted than those that are there.
     pub(crate) fn closing(self) -> Door
         ensures open { self ≡ Open → result ≡ Open }
         ensures shut { self ≢ Open → result ≡ Shut }

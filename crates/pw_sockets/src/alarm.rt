@@ -8,7 +8,7 @@ ghost use Rattle.pw_sockets.specs.Limits.{left_of as what_is_left};
 use crate::limits::left_of;
 use std::time::{Duration, Instant};
 
-/// When the clock is to be asked whether a client was waited for too long: a span from an instant on.
+// When the clock is to be asked whether a client was waited for too long: a span from an instant on.
 #[derive(Clone, Copy, Debug, PartialEq, Eq)]
 pub(crate) struct Alarm {
     since: Instant,
@@ -16,7 +16,7 @@ pub(crate) struct Alarm {
 }
 
 impl Alarm {
-    /// So long from now.
+    // So long from now.
     pub(crate) fn after(span: Duration, now: Instant) -> Alarm
         ensures since { result.since ≡ now }
         ensures span { result.span ≡ span }
@@ -24,7 +24,7 @@ impl Alarm {
         Alarm { since: now, span }
     }
 
-    /// How long it is until then; nothing once it has passed.
+    // How long it is until then; nothing once it has passed.
     pub(crate) fn left(&self, now: Instant) -> Duration
         ensures { as_nanos result ≡ what_is_left (as_nanos self.now.span)
             (instant_nanos self.now.since) (instant_nanos now) }
@@ -32,7 +32,7 @@ impl Alarm {
         left_of(self.span, self.since, now)
     }
 
-    /// Sets it to so long from now, where it is later.
+    // Sets it to so long from now, where it is later.
     pub(crate) fn hasten(&mut self, span: Duration, now: Instant)
         ensures sooner { as_nanos span < what_is_left (as_nanos self.old.span)
             (instant_nanos self.old.since) (instant_nanos now)

@@ -1,4 +1,4 @@
-//! A connection that is served.
+//! A connection that is served: what is read from its socket and written to it, and how long its client is waited for.
 
 ghost use Rattle.std.specs.Prelude.{◌≡◌, ◌≢◌, ◌≤◌, false, length, IfOk};
 ghost use Rattle.pw_sockets.specs.declared.observer.Broke.TheVariants.{Read, Write};
@@ -10,10 +10,10 @@ use pw_serve::Stop;
 use std::io::{self, ErrorKind, Read, Write};
 use std::time::{Duration, Instant};
 
-/// How long a request that isn't whole is waited for once the server ends, in milliseconds.
+// How long a request that isn't whole is waited for once the server ends, in milliseconds.
 pub(crate) const HURRY: u64 = 100;
 
-/// A connection that is served.
+// A connection that is served.
 #[derive(Drop)]
 pub(crate) struct Client {
     stream: TcpStream,
@@ -35,7 +35,7 @@ fn stop_of(error: &io::Error) -> Stop {
 }
 
 impl Client {
-    /// One that was accepted.
+    // A connection that was accepted now.
     pub(crate) fn new(stream: TcpStream, now: Instant) -> Client
         ensures held { result.held ≡ false }
         ensures failed { result.failed ≡ false }
@@ -50,7 +50,7 @@ impl Client {
         }
     }
 
-    /// Reads what is there; 0 is the end of what is sent.
+    // Reads what is there; 0 is the end of what is sent.
     pub(crate) fn read(&mut self, bytes: &mut [u8], now: Instant) -> Result<usize, Stop>
         ensures { IfOk result (λ count. count ≤ length bytes.new) }
     {
@@ -66,7 +66,7 @@ impl Client {
         }
     }
 
-    /// Writes what goes of all that is known to come of a reply.
+    // Writes what goes of all that is known to come of a reply.
     pub(crate) fn write(&mut self, bytes: &[u8], now: Instant) -> Result<usize, Stop>
         ensures { IfOk result (λ count. count ≤ length bytes.now) }
     {
@@ -91,8 +91,8 @@ impl Client {
         stop
     }
 
-    /// How long it is still waited for, within its own limits; and where the server began to end then, within those of the
-    /// end: a tenth of a second for a request that isn't whole, and 2 seconds for bytes of a reply.
+    // How long it is still waited for, within its own limits; and where the server began to end then, within those of the
+    // end: a tenth of a second for a request that isn't whole, and 2 seconds for bytes of a reply.
     pub(crate) fn left(&self, closing: Option<Instant>, now: Instant) -> Duration {
         let own = self.own_left(now);
         match closing {
@@ -101,7 +101,7 @@ impl Client {
         }
     }
 
-    /// How long it is still waited for within its own limits.
+    // How long it is still waited for within its own limits.
     pub(crate) fn own_left(&self, now: Instant) -> Duration {
         self.course.left(self.since, now)
     }
@@ -118,7 +118,7 @@ impl Client {
         left_of(Duration::from_secs(PARTING), since, now)
     }
 
-    /// What its client is waited for to do: to take what is left of a reply, or else to send.
+    // What its client is waited for to do: to take what is left of a reply, or else to send.
     pub(crate) fn awaits(&self) -> Broke
         ensures write { self.now.course.ahead ≢ 0 → result ≡ Write }
         ensures read { self.now.course.ahead ≡ 0 → result ≡ Read }
@@ -130,7 +130,7 @@ impl Client {
         }
     }
 
-    /// Its socket.
+    // The socket alone, which goes on to where what its client still sends is read.
     pub(crate) fn into_stream(self) -> TcpStream {
         let Client {
             stream,
@@ -143,7 +143,7 @@ impl Client {
     }
 }
 
-/// The shorter of two spans.
+// The shorter of two spans.
 pub(crate) fn shorter(one: Duration, other: Duration) -> Duration {
     if one <= other { one } else { other }
 }

@@ -4,13 +4,13 @@ use mio::unix::SourceFd;
 use mio::{Interest, Poll, Token};
 use std::io::{ErrorKind, Read};
 
-/// The token of standard input.
+// The token of standard input.
 pub(crate) const INPUT: Token = Token(usize::MAX - 1);
 
-/// The descriptor of standard input.
+// The descriptor of standard input.
 const STDIN: i32 = 0;
 
-/// How standard input stands.
+// How standard input stands.
 #[derive(Clone, Copy, Debug, PartialEq, Eq)]
 pub(crate) enum Input {
     /// It isn't looked at, or has ended.
@@ -24,7 +24,7 @@ pub(crate) enum Input {
 }
 
 impl Input {
-    /// Has events tell of it, if it has any.
+    // Has events tell of it, if it has any.
     pub(crate) fn watch(poll: &Poll) -> Input {
         match poll
             .registry()
@@ -35,7 +35,7 @@ impl Input {
         }
     }
 
-    /// An event told of it.
+    // An event told of it.
     pub(crate) fn told(self) -> Input {
         match self {
             Input::Watched => Input::Due,
@@ -43,12 +43,12 @@ impl Input {
         }
     }
 
-    /// Whether it has something, and is to be read.
+    // Whether it has something, and is to be read.
     pub(crate) fn is_due(self) -> bool {
         matches!(self, Input::Due | Input::Plain)
     }
 
-    /// Reads once, and tells how it stands behind that: what is read counts for nothing.
+    // Reads once, and tells how it stands behind that: what is read counts for nothing.
     pub(crate) fn read<R: Read>(self, poll: &Poll, source: &mut R) -> Input {
         let mut unread = [0u8; 4_096];
         match source.read(&mut unread) {

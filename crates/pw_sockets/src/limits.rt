@@ -12,7 +12,7 @@ use std::time::{Duration, Instant};
 /// How long a read, a write, a whole request, and a reply without its bytes may take, in seconds.
 pub const PATIENCE: u64 = 60;
 
-/// The bytes of a reply for each of which so many it may take a second more; and the most bytes of one write.
+// The bytes of a reply for each of which so many it may take a second more; and the most bytes of one write.
 const BYTES_A_SECOND: u64 = 65_536;
 
 /// How long what a client still sends behind the last reply is read, in seconds.

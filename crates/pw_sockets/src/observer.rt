@@ -13,6 +13,6 @@ pub enum Broke {
 
 /// Who is told of connections that broke.
 pub trait Told: Drop {
-    /// One broke.
+    /// Tells why a connection broke, right before it is ended.
     fn broke(&mut self, why: Broke);
 }

@@ -6,10 +6,10 @@ use std::io::{ErrorKind, Read};
 use std::net::Shutdown;
 use std::time::{Duration, Instant};
 
-/// The most reads in one turn.
+// The most reads in one turn.
 const READS: u32 = 16;
 
-/// A connection that is ended, and of which what its client still sends is read.
+// A connection that is ended, and of which what its client still sends is read.
 #[derive(Drop)]
 pub(crate) struct Parting {
     stream: TcpStream,
@@ -18,7 +18,7 @@ pub(crate) struct Parting {
     reads: u32,
 }
 
-/// What reading came to.
+// What reading came to.
 #[derive(Clone, Copy, Debug, PartialEq, Eq)]
 pub(crate) enum Rest {
     /// Its client sends no more, or too much.
@@ -30,7 +30,7 @@ pub(crate) enum Rest {
 }
 
 impl Parting {
-    /// Tells the client that nothing more comes. None where the connection is gone.
+    // Tells the client that nothing more comes. None where the connection is gone.
     pub(crate) fn begin(stream: TcpStream, now: Instant) -> Option<Parting> {
         if stream.shutdown(Shutdown::Write).is_err() {
             return None;
@@ -42,7 +42,7 @@ impl Parting {
         })
     }
 
-    /// Reads what the client still sends, for one turn.
+    // Reads what the client still sends, for one turn.
     pub(crate) fn read_off(&mut self) -> Rest {
         let mut unread = [0u8; 4_096];
         for _ in 0..READS {
@@ -65,7 +65,7 @@ impl Parting {
         Rest::More
     }
 
-    /// How long its client may still send.
+    // How long its client may still send.
     pub(crate) fn left(&self, now: Instant) -> Duration {
         left_of(Duration::from_secs(PARTING), self.begun, now)
     }

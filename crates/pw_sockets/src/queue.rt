@@ -7,8 +7,8 @@ ghost use Rattle.std.specs.VecDeque.{deque_capacity, deque_len};
 use std::alloc::{AllocError, Global};
 use std::collections::VecDeque;
 
-/// The connections that are ready, each once, in the order in which they became so; and how many of them have their turn
-/// before clients are waited for again.
+// The connections that are ready, each once, in the order in which they became so; and how many of them have their turn
+// before clients are waited for again.
 #[derive(Drop)]
 pub(crate) struct Queue {
     numbers: VecDeque<u64>,
@@ -17,7 +17,7 @@ pub(crate) struct Queue {
 }
 
 impl Queue {
-    /// None, and room for so many.
+    // None, and room for so many.
     pub(crate) fn new(alloc: Global, room: usize) -> Result<Queue, AllocError>
         ensures empty { IfOk result (λ queue. queue.numbers.items ≡ []) }
         ensures room { IfOk result (λ queue. deque_capacity queue.numbers ≡ room) }
@@ -29,7 +29,7 @@ impl Queue {
         })
     }
 
-    /// Whether a connection is among them.
+    // Whether a connection is among them.
     pub(crate) fn has(&self, number: u64) -> bool
         ensures { result ≡ list_any (λ other. other == number) self.now.numbers.items }
     {
@@ -42,8 +42,8 @@ impl Queue {
         self.numbers.is_empty()
     }
 
-    /// Puts a connection behind the others, if it isn't among them and there is room, or memory for it.
-    pub(crate) fn put(&mut self, number: u64)
+    // Puts a connection behind the others, if it isn't among them and there is room, or memory for it.
+    pub(crate) fn queue_up(&mut self, number: u64)
         ensures once { list_any (λ other. other == number) self.old.numbers.items ≡ true
             → self.new.numbers ≡ self.old.numbers }
         ensures last { list_any (λ other. other == number) self.old.numbers.items ≡ false
@@ -56,7 +56,7 @@ impl Queue {
         }
     }
 
-    /// Those that are there now are to have their turn, one each.
+    // Those that are there now are to have their turn, one each.
     pub(crate) fn begin_round(&mut self)
         ensures numbers { self.new.numbers ≡ self.old.numbers }
         ensures round { self.new.round ≡ deque_len self.old.numbers }
@@ -64,7 +64,7 @@ impl Queue {
         self.round = self.numbers.len();
     }
 
-    /// The first, if it has its turn before clients are waited for again.
+    // The first, if it has its turn before clients are waited for again.
     pub(crate) fn take(&mut self) -> Option<u64>
         ensures some { IsSome result ↔ (0 < self.old.round) }
         ensures first { IfSome result (λ number. self.old.numbers.items

@@ -23,22 +23,22 @@ use std::io::{self, ErrorKind, Read, Write};
 use std::net::{Ipv4Addr, Shutdown, SocketAddr};
 use std::time::{Duration, Instant};
 
-/// The listener's token.
+// The listener's token.
 const LISTENER: Token = Token(usize::MAX);
 
-/// The first number that no connection has.
+// The first number that no connection has.
 const NUMBERS: u64 = u64::MAX - 1;
 
-/// The most connections whose end is waited for.
+// The most connections whose end is waited for.
 const MOST_PARTINGS: usize = 256;
 
-/// The most events of one wait: more than there are sources.
+// The most events of one wait: more than there are sources.
 const EVENTS: usize = 1_024;
 
-/// The room for connections that are ready: more than become so in a round.
+// The room for connections that are ready: more than become so in a round.
 const READY: usize = 2_048;
 
-/// The most clients that are accepted in a round.
+// The most clients that are accepted in a round.
 const KNOCKS: u32 = 16;
 
 /// The connections of a port of 127.0.0.1, none of which is waited for alone.
@@ -319,7 +319,7 @@ impl<T: Told> Connections for Sockets<'_, T> {
         if let Some(client) = self.clients.get_mut(&number) {
             client.held = false;
             self.alarm.hasten(Duration::from_secs(PATIENCE), now);
-            self.queue.put(number);
+            self.queue.queue_up(number);
         }
     }
 

@@ -19,7 +19,7 @@ ghost use Rattle.pw_store.specs.inner.Opened.{HasAdopted, IsReplaced};
 
 use crate::fault::OpenFault;
 use crate::judging::check_rows;
-use crate::opening::{see_office, settle, undo};
+use crate::opening::{roll_back_and_wake, see_office, undo};
 use crate::shelf::SqlShelf;
 use crate::watch::Watch;
 use pw_schema::{StoreVersion, begin, commit, set_office};
@@ -241,6 +241,6 @@ fn exchange<S: Alter, W: Watch>(
     ensures crash { OnErr result (Survives (state S.Store conn.old) (state S.Store conn.new)
         (MayBeAdopted (office_of office.now) text.now (state S.Store conn.old).committed)) }
 {
-    settle(conn)?;
+    roll_back_and_wake(conn)?;
     replace_or_undo(alloc, conn, office, text, watch)
 }

@@ -45,7 +45,7 @@ fn has_entry<S: Alter>(
     }
 }
 
-/// Whether a record is held.
+// Whether a record is held.
 pub(crate) fn holds<S: Alter>(
     conn: &mut Connection<S>,
     doubtful: bool,
@@ -61,7 +61,7 @@ pub(crate) fn holds<S: Alter>(
     Ok(has_entry(conn, doubtful, entry)?)
 }
 
-/// What the records held say of a key.
+// What the records held say of a key.
 pub(crate) fn contents<S: Alter>(
     conn: &mut Connection<S>,
     doubtful: bool,
@@ -100,7 +100,7 @@ fn read(alloc: Global, kind: RecordKind, rows: &[Row]) -> Result<Vec<Entry>, Ask
     Ok(read_rows(alloc, kind, rows)?)
 }
 
-/// Which records are listed.
+// Which records are listed.
 #[derive(Clone, Copy)]
 pub(crate) enum Listed {
     Readings(MeterId, Register),
@@ -109,7 +109,7 @@ pub(crate) enum Listed {
     Withdrawals,
 }
 
-/// All of these that are held, sorted.
+// All of these that are held, sorted.
 pub(crate) fn list_records<S: Alter>(
     conn: &mut Connection<S>,
     doubtful: bool,

@@ -16,9 +16,9 @@ use pw_tariff::{MeterId, Owner};
 use pw_time::Instant;
 use sqlite::{Alter, Connection, Error};
 
-/// One row that is taken away by its key, one that is put where none has its key, or an amount that is set in the row
-/// that has its key. Where no row has the key of what is to be taken or set, or where one has the key of a point that is
-/// to be put, nothing changes.
+// One row that is taken away by its key, one that is put where none has its key, or an amount that is set in the row
+// that has its key. Where no row has the key of what is to be taken or set, or where one has the key of a point that is
+// to be put, nothing changes.
 #[derive(Clone, Copy)]
 pub(crate) enum Change {
     TakePoint {
@@ -54,7 +54,7 @@ pub(crate) enum Change {
     },
 }
 
-/// Makes the change, by one statement, and tells how many rows that has changed.
+// Makes the change, by one statement, and tells how many rows that has changed.
 pub(crate) fn make<S: Alter>(conn: &mut Connection<S>, change: Change) -> Result<usize, Error>
     requires inside { HasBegun (state S.Store conn.old) }
     requires store { HoldsStore (state S.Store conn.old) }

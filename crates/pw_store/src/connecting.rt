@@ -148,7 +148,7 @@ impl<S: Alter> SqlShelf<S> {
         }
     }
 
-    /// The store over a connection that is ready to be one, with so many records.
+    // The store over a connection that is ready to be one, with so many records.
     pub(crate) fn over(connection: Connection<S>, held: u32) -> SqlShelf<S>
         requires standing { HasCleanDisk (state S.Store connection)
             → IsStanding (state S.Store connection) }

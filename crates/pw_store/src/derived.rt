@@ -12,7 +12,7 @@ use pw_tariff::Office;
 use pw_time::Zone;
 use std::alloc::Global;
 
-/// The points, starts and totals of the records of an office, if these are not too many. The records aren't kept.
+// The points, starts and totals of the records of an office, if these are not too many. The records aren't kept.
 pub(crate) fn parts_of(
     alloc: Global,
     office: &Office,

@@ -15,7 +15,7 @@ use crate::records::{add_named, form_of};
 use pw_model::Entry;
 use sqlite::{Alter, Connection, Error};
 
-/// Adds a record that isn't held, if its content is of its key's kind; else no statement is run.
+// Adds a record that isn't held, if its content is of its key's kind; else no statement is run.
 pub(crate) fn add_entry<S: Alter>(conn: &mut Connection<S>, entry: &Entry) -> Result<bool, Error>
     requires inside { HasBegun (state S.Store conn.old) }
     requires store { HoldsStore (state S.Store conn.old) }

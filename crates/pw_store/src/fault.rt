@@ -13,7 +13,7 @@ use pw_shelf::{ShelfFault, Tally};
 use sqlite::{Constraint, Error, ErrorCode};
 use std::fmt;
 
-/// Why a question has no answer.
+// Why a question has no answer.
 pub(crate) enum AskFault {
     /// A statement was refused.
     Statement(Error),
@@ -42,7 +42,7 @@ impl From<ReadFault> for AskFault {
     }
 }
 
-/// Want of memory, or a failure of the device, which is counted.
+// Want of memory, or a failure of the device, which is counted.
 pub(crate) fn fault_of(error: Error, failures: &mut Tally) -> ShelfFault
     ensures { failures.new.count ≡ failures.old.count + failures_in result }
 {
@@ -52,7 +52,7 @@ pub(crate) fn fault_of(error: Error, failures: &mut Tally) -> ShelfFault
     }
 }
 
-/// A failure of the device, counted.
+// A failure of the device, counted.
 pub(crate) fn device_fault(failures: &mut Tally) -> ShelfFault
     ensures device { result ≡ Device }
     ensures counted { failures.new.count ≡ failures.old.count + 1 }
@@ -61,7 +61,7 @@ pub(crate) fn device_fault(failures: &mut Tally) -> ShelfFault
     ShelfFault::Device
 }
 
-/// Whether a row was refused because another has its key.
+// Whether a row was refused because another has its key.
 pub(crate) fn is_key_taken(error: Error) -> bool
     ensures { result ≡ refuses_key error }
 {
@@ -71,7 +71,7 @@ pub(crate) fn is_key_taken(error: Error) -> bool
     }
 }
 
-/// What a question that has no answer is to a shelf: a failure of the device is counted.
+// What a question that has no answer is to a shelf: a failure of the device is counted.
 pub(crate) fn fault_of_ask(fault: AskFault, failures: &mut Tally) -> ShelfFault
     ensures { failures.new.count ≡ failures.old.count + failures_in result }
 {
@@ -156,7 +156,7 @@ impl From<Error> for OpenFault {
     }
 }
 
-/// What rows that a judge refused are to an opening.
+// What rows that a judge refused are to an opening.
 pub(crate) fn fault_of_rows(fault: JudgeFault) -> OpenFault
     ensures foreign { result ≡ OpenFault.Unclean → fault ≡ JudgeFault.Foreign }
     ensures others { (result ≡ OpenFault.Unclean)

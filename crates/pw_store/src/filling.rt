@@ -97,8 +97,8 @@ fn see_filled<S: Alter>(
     }
 }
 
-/// Puts the totals of energy of the parts of the records, and sees that they are there. What it finds amiss then is told as a
-/// failure of the engine.
+// Puts the totals of energy of the parts of the records, and sees that they are there. What it finds amiss then is told as a
+// failure of the engine.
 pub(crate) fn fill<S: Alter>(
     conn: &mut Connection<S>,
     office: &Office,

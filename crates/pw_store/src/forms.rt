@@ -5,7 +5,7 @@ ghost use Rattle.pw_store.specs.inner.Forms as texts;
 
 use pw_model::Named;
 
-/// As what it is that something named is kept.
+// As what it is that something named is kept.
 #[derive(Clone, Copy, Debug, PartialEq, Eq)]
 pub(crate) enum Form {
     /// As a record.
@@ -15,7 +15,7 @@ pub(crate) enum Form {
 }
 
 impl Form {
-    /// The text that adds what is named.
+    // The text that adds what is named.
     pub(crate) fn insert(self, named: &Named) -> &'static str
         ensures { result.now ≡ texts.insert self named.now }
     {
@@ -41,7 +41,7 @@ impl Form {
         }
     }
 
-    /// The text that finds what is named.
+    // The text that finds what is named.
     pub(crate) fn find(self, named: &Named) -> &'static str
         ensures { result.now ≡ texts.find self named.now }
     {

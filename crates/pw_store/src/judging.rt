@@ -146,7 +146,7 @@ fn holds_tables<S: Alter>(conn: &mut Connection<S>, version: StoreVersion) -> Re
     has_no_conflict(conn)
 }
 
-/// The version, what stands beside its tables, and the text of the office, judged: which version it is.
+// The version, what stands beside its tables, and the text of the office, judged: which version it is.
 pub(crate) fn check_office<S: Alter>(
     conn: &mut Connection<S>,
     text: &[u8],
@@ -171,7 +171,7 @@ pub(crate) fn check_office<S: Alter>(
     Ok(version)
 }
 
-/// The records of our tables, judged, and the parts that they have: how many records there are.
+// The records of our tables, judged, and the parts that they have: how many records there are.
 pub(crate) fn judge_records<S: Alter, W: Watch>(
     alloc: Global,
     conn: &mut Connection<S>,
@@ -196,7 +196,7 @@ pub(crate) fn judge_records<S: Alter, W: Watch>(
     Ok((held as u32, parts))
 }
 
-/// Points, starts and totals, judged and compared with the parts of the records.
+// Points, starts and totals, judged and compared with the parts of the records.
 pub(crate) fn check_sums<S: Alter, W: Watch>(
     conn: &mut Connection<S>,
     office: &Office,
@@ -217,7 +217,7 @@ pub(crate) fn check_sums<S: Alter, W: Watch>(
     }
 }
 
-/// The rows of our tables, judged: how many records there are.
+// The rows of our tables, judged: how many records there are.
 pub(crate) fn check_rows<S: Alter, W: Watch>(
     alloc: Global,
     conn: &mut Connection<S>,

@@ -27,7 +27,7 @@ use pw_time::Instant;
 use sqlite::types::ValueRef;
 use sqlite::{Alter, Connection, Error, Row};
 
-/// The key of a record: of a reading, an assignment or a top-up.
+// The key of a record: of a reading, an assignment or a top-up.
 #[derive(Clone, Copy)]
 pub(crate) enum RecordKey {
     Reading(MeterId, Register, Instant),
@@ -112,7 +112,7 @@ fn rows_at<S: Alter>(conn: &mut Connection<S>, key: &RecordKey) -> Result<Vec<Ro
     conn.query_all(key.text(), columns.values())
 }
 
-/// What the records tell of a key, if the rows tell it.
+// What the records tell of a key, if the rows tell it.
 pub(crate) fn contents_of_record<S: Alter>(
     conn: &mut Connection<S>,
     key: &RecordKey,
@@ -139,7 +139,7 @@ fn told_of(held: bool) -> Contents
     }
 }
 
-/// What the records tell of a withdrawal's key: the withdrawal, if it is held.
+// What the records tell of a withdrawal's key: the withdrawal, if it is held.
 pub(crate) fn contents_of_withdrawal<S: Alter>(
     conn: &mut Connection<S>,
     named: &Named,

@@ -13,7 +13,7 @@ use crate::scan::judge_each;
 use pw_schema::{Judge, RecordKind, TotalKind};
 use sqlite::{Alter, Connection, Error, Row};
 
-/// What is kept of counting records, each in a table of its own.
+// What is kept of counting records, each in a table of its own.
 #[derive(Clone, Copy)]
 pub(crate) enum KeptKind {
     Points,
@@ -21,7 +21,7 @@ pub(crate) enum KeptKind {
 }
 
 impl KeptKind {
-    /// The kind of records as which it is kept.
+    // The kind of records as which it is kept.
     pub(crate) fn kind(self) -> RecordKind
         ensures { result ≡ kept_as self }
     {
@@ -32,8 +32,8 @@ impl KeptKind {
     }
 }
 
-/// A listing of a whole table: of its rows in the order of their keys, or of their rowids alone. Old totals are those by band
-/// alone, of which version 3 has none.
+// A listing of a whole table: of its rows in the order of their keys, or of their rowids alone. Old totals are those by band
+// alone, of which version 3 has none.
 #[derive(Clone, Copy)]
 pub(crate) enum Listing {
     Records(RecordKind),
@@ -45,7 +45,7 @@ pub(crate) enum Listing {
 }
 
 impl Listing {
-    /// The text that asks for it.
+    // The text that asks for it.
     pub(crate) fn text(self) -> &'static str
         ensures { result.now ≡ text_of self }
     {
@@ -88,7 +88,7 @@ impl Listing {
     }
 }
 
-/// The rows of all records of a kind, in order.
+// The rows of all records of a kind, in order.
 pub(crate) fn record_rows<S: Alter>(
     conn: &mut Connection<S>,
     kind: RecordKind,
@@ -102,7 +102,7 @@ pub(crate) fn record_rows<S: Alter>(
     conn.query_all(Listing::Records(kind).text(), &[])
 }
 
-/// Hands each row of a listing to a judge, up to the first that it refuses, and answers how many they were.
+// Hands each row of a listing to a judge, up to the first that it refuses, and answers how many they were.
 pub(crate) fn judge_listing<S: Alter, J: Judge>(
     conn: &mut Connection<S>,
     listing: Listing,

@@ -14,7 +14,7 @@ use pw_schema::{RecordKind, integer};
 use pw_tariff::MeterId;
 use sqlite::{Alter, Connection, Error, Row};
 
-/// All readings of a register, in order.
+// All readings of a register, in order.
 pub(crate) fn reading_rows<S: Alter>(
     conn: &mut Connection<S>,
     meter: MeterId,
@@ -35,7 +35,7 @@ pub(crate) fn reading_rows<S: Alter>(
     )
 }
 
-/// All assignments of a meter, in order.
+// All assignments of a meter, in order.
 pub(crate) fn assignment_rows<S: Alter>(
     conn: &mut Connection<S>,
     meter: MeterId,

@@ -1,4 +1,4 @@
-//! The office's row.
+//! The row that says of what version a store is, and by which office file it was made.
 
 ghost use Rattle.std.specs.Prelude.{IfOk};
 ghost use Rattle.std.specs.List.Sorted.{IsPermutation};
@@ -9,7 +9,7 @@ ghost use Rattle.pw_store.specs.Opening.{offices};
 
 use sqlite::{Alter, Connection, Error, Row};
 
-/// The version and the text of the office, whatever stands behind our tables.
+// The version and the text of the office, whatever stands behind our tables.
 pub(crate) fn office_rows<S: Alter>(conn: &mut Connection<S>) -> Result<Vec<Row>, Error>
     requires begun { BeginsWithOurTables (state S.Store conn.old) }
     ensures rows { HasCleanDisk (state S.Store conn.new)

@@ -30,8 +30,8 @@ use pw_tariff::Office;
 use sqlite::{Alter, Connection, Error, ErrorCode};
 use std::alloc::Global;
 
-/// Rolls back what the connection is inside of, and sees that it is open.
-pub(crate) fn settle<S: Alter>(conn: &mut Connection<S>) -> Result<(), Error>
+// Rolls back what the connection is inside of, and sees that it is open.
+pub(crate) fn roll_back_and_wake<S: Alter>(conn: &mut Connection<S>) -> Result<(), Error>
     ensures settled { HasCleanDisk (state S.Store conn.new)
         → OnOk result (IsSettled (state S.Store conn.old) (state S.Store conn.new)) }
     ensures kept { CommitStays (state S.Store conn.old) (state S.Store conn.new) }
@@ -43,7 +43,7 @@ pub(crate) fn settle<S: Alter>(conn: &mut Connection<S>) -> Result<(), Error>
     wake(conn, true)
 }
 
-/// Sees that the row of `office` and the texts which the engine has kept are such as an opening with this text takes.
+// Sees that the row of `office` and the texts which the engine has kept are such as an opening with this text takes.
 pub(crate) fn see_office<S: Alter>(conn: &mut Connection<S>, text: &[u8]) -> Result<(), Error>
     requires { HasOurTables (state S.Store conn.old) }
     ensures kept_text { HasCleanDisk (state S.Store conn.new)
@@ -136,7 +136,7 @@ fn raise_and_check<S: Alter, W: Watch>(
     Ok(held)
 }
 
-/// Undoes the transaction, if it still stands.
+// Undoes the transaction, if it still stands.
 pub(crate) fn undo<S: Alter>(conn: &mut Connection<S>)
     ensures kept { CommitStays (state S.Store conn.old) (state S.Store conn.new) }
     ensures crash { Survives (state S.Store conn.old) (state S.Store conn.new) (λ _. ⊥) }
@@ -269,7 +269,7 @@ fn look<S: Alter>(conn: &Connection<S>) -> Found
     Found::Other
 }
 
-/// Makes a connection ready to be a store, and says how many records it holds, or why it can't be one.
+// Makes a connection ready to be a store, and says how many records it holds, or why it can't be one.
 pub(crate) fn prepare<S: Alter, W: Watch>(
     alloc: Global,
     conn: &mut Connection<S>,
@@ -291,6 +291,6 @@ pub(crate) fn prepare<S: Alter, W: Watch>(
     ensures crash { OnErr result (Survives (state S.Store conn.old) (state S.Store conn.new)
         (MayBeMade (office_of office.now) text.now (state S.Store conn.old))) }
 {
-    settle(conn)?;
+    roll_back_and_wake(conn)?;
     make_or_check(alloc, conn, office, text, watch)
 }

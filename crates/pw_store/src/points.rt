@@ -20,7 +20,7 @@ use pw_tariff::MeterId;
 use pw_time::Instant;
 use sqlite::{Alter, Connection, Error, Row};
 
-/// Takes the row of a point away, if there is one.
+// Takes the row of a point away, if there is one.
 pub(crate) fn take_point<S: Alter>(
     conn: &mut Connection<S>,
     meter: MeterId,
@@ -44,7 +44,7 @@ pub(crate) fn take_point<S: Alter>(
     )
 }
 
-/// Puts the row of a point, and tells how many it has put: none where a row has its key.
+// Puts the row of a point, and tells how many it has put: none where a row has its key.
 pub(crate) fn put_point<S: Alter>(
     conn: &mut Connection<S>,
     meter: MeterId,
@@ -81,7 +81,7 @@ pub(crate) fn put_point<S: Alter>(
     }
 }
 
-/// A side of an instant.
+// A side of an instant.
 #[derive(Clone, Copy)]
 pub(crate) enum Side {
     Before(Instant),
@@ -103,7 +103,7 @@ impl Side {
         }
     }
 
-    // The instant.
+    // The instant whose side it is.
     fn instant(&self) -> Instant
         ensures { result ≡ instant_of self.now }
     {
@@ -114,7 +114,7 @@ impl Side {
     }
 }
 
-/// The nearest point strictly on a side: one row at most.
+// The nearest point strictly on a side: one row at most.
 pub(crate) fn nearest_rows<S: Alter>(
     conn: &mut Connection<S>,
     meter: MeterId,
@@ -139,7 +139,7 @@ pub(crate) fn nearest_rows<S: Alter>(
     )
 }
 
-/// The points from one instant to another, both included.
+// The points from one instant to another, both included.
 pub(crate) fn between_rows<S: Alter>(
     conn: &mut Connection<S>,
     meter: MeterId,

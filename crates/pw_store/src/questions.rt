@@ -56,7 +56,7 @@ fn read_amount(rows: &[Row]) -> Result<u64, AskFault>
     }
 }
 
-/// The nearest point strictly on a side, if there is one.
+// The nearest point strictly on a side, if there is one.
 pub(crate) fn nearest<S: Alter>(
     conn: &mut Connection<S>,
     doubtful: bool,
@@ -76,7 +76,7 @@ pub(crate) fn nearest<S: Alter>(
     read_point(rows.as_slice())
 }
 
-/// The points from one instant to another, both included, in order.
+// The points from one instant to another, both included, in order.
 pub(crate) fn points_between<S: Alter>(
     conn: &mut Connection<S>,
     doubtful: bool,
@@ -98,7 +98,7 @@ pub(crate) fn points_between<S: Alter>(
     read_points(alloc, rows.as_slice())
 }
 
-/// All starts of a meter, in order.
+// All starts of a meter, in order.
 pub(crate) fn starts_of<S: Alter>(
     conn: &mut Connection<S>,
     doubtful: bool,
@@ -117,7 +117,7 @@ pub(crate) fn starts_of<S: Alter>(
     read_starts(alloc, rows.as_slice())
 }
 
-/// The total kept at a key; 0 where none is.
+// The total kept at a key; 0 where none is.
 pub(crate) fn total<S: Alter>(
     conn: &mut Connection<S>,
     doubtful: bool,

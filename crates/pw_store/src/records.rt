@@ -21,7 +21,7 @@ use pw_schema::{integer, owner_place, wide, words};
 use sqlite::types::ValueRef;
 use sqlite::{Alter, Connection, Error, Row};
 
-/// As what an entry is kept, and what it names; none where its content isn't of its key's kind.
+// As what an entry is kept, and what it names; none where its content isn't of its key's kind.
 pub(crate) fn form_of(entry: &Entry) -> Option<(Form, Named)>
     ensures some { IfSome result (λ it. entry.now ≡ entry_as it.0 it.1) }
     ensures none { IfNone result (IsForeign entry.now) }
@@ -88,7 +88,7 @@ fn columns_of<'a>(named: &'a Named) -> Given<'a>
     }
 }
 
-/// Adds what is named, in a form in which it isn't held.
+// Adds what is named, in a form in which it isn't held.
 pub(crate) fn add_named<S: Alter>(
     conn: &mut Connection<S>,
     form: Form,
@@ -123,7 +123,7 @@ fn rows_of_named<S: Alter>(
     conn.query_all(form.find(named), columns.values())
 }
 
-/// Whether what is named is held in a form.
+// Whether what is named is held in a form.
 pub(crate) fn has_named<S: Alter>(
     conn: &mut Connection<S>,
     form: Form,

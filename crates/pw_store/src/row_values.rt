@@ -28,7 +28,7 @@ fn start_of(row: &Row) -> Option<(Instant, Owner)>
     Some((instant, owner))
 }
 
-/// The point that rows tell, of which there is one at most, if they tell it.
+// The point that rows tell, of which there is one at most, if they tell it.
 pub(crate) fn one_point(rows: &[Row]) -> Option<Option<(Instant, WattHours)>>
     ensures { IfSome result (λ found. found ≡ first_point rows.now) }
 {
@@ -42,7 +42,7 @@ pub(crate) fn one_point(rows: &[Row]) -> Option<Option<(Instant, WattHours)>>
     }
 }
 
-/// The amount that rows tell, of which there is one at most, if they tell it; 0 where there is none.
+// The amount that rows tell, of which there is one at most, if they tell it; 0 where there is none.
 pub(crate) fn one_amount(rows: &[Row]) -> Option<u64>
     ensures few { IfSome result (λ amount. length rows.now ≤ 1) }
     ensures told { IfSome result (λ amount. first_amount rows.now ≡ amount) }
@@ -64,7 +64,7 @@ fn is_behind(last: &Option<Instant>, instant: Instant) -> bool
     }
 }
 
-/// The points that rows tell, if each tells one and stands behind the one before.
+// The points that rows tell, if each tells one and stands behind the one before.
 pub(crate) fn all_points(
     alloc: Global,
     rows: &[Row],
@@ -88,7 +88,7 @@ pub(crate) fn all_points(
     Ok(found)
 }
 
-/// The starts that rows tell, if each tells one and stands behind the one before.
+// The starts that rows tell, if each tells one and stands behind the one before.
 pub(crate) fn all_starts(alloc: Global, rows: &[Row]) -> Result<Vec<(Instant, Owner)>, ReadFault>
     ensures told { IfOk result (λ found. found.items ≡ map start_told rows.now) }
     ensures rising { IfOk result (λ found. IsInOrder by_second found.items) }

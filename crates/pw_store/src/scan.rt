@@ -11,8 +11,8 @@ use crate::fault::{OpenFault, fault_of_rows};
 use pw_schema::Judge;
 use sqlite::{Alter, Connection};
 
-/// Hands the rows that a query shows to a judge, up to the first that it refuses, and answers how many they were. None
-/// of them is kept.
+// Hands the rows that a query shows to a judge, up to the first that it refuses, and answers how many they were. None
+// of them is kept.
 pub(crate) fn judge_each<S: Alter, J: Judge>(
     conn: &mut Connection<S>,
     text: &str,

@@ -18,7 +18,7 @@ use pw_tariff::{MeterId, Owner};
 use pw_time::Instant;
 use sqlite::{Alter, Connection, Error, Row};
 
-/// Takes the row of a start away, if there is one.
+// Takes the row of a start away, if there is one.
 pub(crate) fn take_start<S: Alter>(
     conn: &mut Connection<S>,
     meter: MeterId,
@@ -40,7 +40,7 @@ pub(crate) fn take_start<S: Alter>(
     )
 }
 
-/// Puts the row of a start where none has its key.
+// Puts the row of a start where none has its key.
 pub(crate) fn put_start<S: Alter>(
     conn: &mut Connection<S>,
     meter: MeterId,
@@ -66,7 +66,7 @@ pub(crate) fn put_start<S: Alter>(
     )
 }
 
-/// All starts of a meter.
+// The rows of all starts of a meter.
 pub(crate) fn start_rows<S: Alter>(
     conn: &mut Connection<S>,
     meter: MeterId,

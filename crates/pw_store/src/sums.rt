@@ -113,8 +113,8 @@ fn check_old_totals<S: Alter>(conn: &mut Connection<S>) -> Result<(), OpenFault>
     Ok(())
 }
 
-/// The totals of energy: how many there are by period, if there is none by band alone, and what of a list stands behind
-/// them, where it begins with those above 0.
+// The totals of energy: how many there are by period, if there is none by band alone, and what of a list stands behind
+// them, where it begins with those above 0.
 pub(crate) fn read_energies<'a, S: Alter>(
     conn: &mut Connection<S>,
     office: &'a Office,
@@ -151,7 +151,7 @@ fn is_at_end(rest: Option<&[(TotalKey, u64)]>) -> bool
     }
 }
 
-// The totals of top-ups.
+// The totals of top-ups, judged: how many they are, and whether those above 0 are the expected ones.
 fn read_payments<S: Alter>(
     conn: &mut Connection<S>,
     office: &Office,
@@ -184,7 +184,7 @@ fn are_all(points: bool, starts: bool, totals: bool) -> bool
     points && starts && totals
 }
 
-/// Whether points, starts and totals are these parts of records, if they are of the office, with no key twice.
+// Whether points, starts and totals are these parts of records, if they are of the office, with no key twice.
 pub(crate) fn read_sums<S: Alter, W: Watch>(
     conn: &mut Connection<S>,
     office: &Office,

@@ -24,7 +24,7 @@ use sqlite::{Alter, Connection, Error, ErrorCode, Row};
 // No column takes it, nor more.
 const TOO_WIDE: u64 = 0x8000_0000_0000_0000;
 
-/// Takes the row of a total away, if there is one.
+// Takes the row of a total away, if there is one.
 pub(crate) fn take_total<S: Alter>(conn: &mut Connection<S>, key: TotalKey) -> Result<usize, Error>
     requires inside { HasBegun (state S.Store conn.old) }
     requires store { HoldsStore (state S.Store conn.old) }
@@ -41,7 +41,7 @@ pub(crate) fn take_total<S: Alter>(conn: &mut Connection<S>, key: TotalKey) -> R
     conn.execute(text, columns_of(&key, None).values())
 }
 
-/// Sets a total in its row, if there is one, and tells how many rows there were.
+// Sets a total in its row, if there is one, and tells how many rows there were.
 pub(crate) fn set_total<S: Alter>(
     conn: &mut Connection<S>,
     key: TotalKey,
@@ -66,7 +66,7 @@ pub(crate) fn set_total<S: Alter>(
     conn.execute(text, columns_of(&key, Some(amount)).values())
 }
 
-/// Puts the row of a total where none has its key.
+// Puts the row of a total where none has its key.
 pub(crate) fn put_total<S: Alter>(
     conn: &mut Connection<S>,
     key: TotalKey,
@@ -91,7 +91,7 @@ pub(crate) fn put_total<S: Alter>(
     }
 }
 
-/// The rows of the total at a key: one at most.
+// The rows of the total at a key: one at most.
 pub(crate) fn total_rows<S: Alter>(
     conn: &mut Connection<S>,
     key: &TotalKey,
@@ -176,7 +176,7 @@ fn put_energy<S: Alter>(conn: &mut Connection<S>, key: &TotalKey, wh: u64) -> Re
     )
 }
 
-/// Puts a total where a store is brought to version 3, if it is one of energy.
+// Puts a total where a store is brought to version 3, if it is one of energy.
 pub(crate) fn fill_total<S: Alter>(
     conn: &mut Connection<S>,
     key: &TotalKey,

@@ -15,7 +15,7 @@ use sqlite::Alter;
 use std::snapshot::Snapshot;
 
 impl<S: Alter> SqlShelf<S> {
-    // Begins an upload.
+    // Begins an upload: what is held now is kept, to be taken back to.
     pub(crate) fn begin_upload(&mut self) -> Result<(), ShelfFault>
         requires { begun_with self.old.begun (state S.Store self.old.base.value) ≡ None }
         ensures begun { OnOk result (begun_with self.new.begun (state S.Store self.new.base.value)

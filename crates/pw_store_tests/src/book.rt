@@ -51,7 +51,7 @@ impl Fails {
     };
 }
 
-/// Makes empty books over stores of one kind.
+// Makes empty books over stores of one kind.
 trait Books {
     type Store: Shelf + Drop;
 
@@ -168,7 +168,7 @@ fn imported<S: Shelf>(rt: &impl Abort, book: &mut Book<S>) -> Result<(u64, u64),
     Ok((low, high))
 }
 
-// What was topped up for an account, in cents, and its balance, in nano-euro.
+/// What was topped up for an account, in cents, and its balance, in nano-euro.
 pub fn money<S: Shelf>(
     rt: &impl Abort,
     book: &mut Book<S>,

@@ -36,19 +36,19 @@ type Stopping = Fuse<Memory>;
 // The records of an upload.
 type Upload = &'static [Sent];
 
-const FIRST_OWNER: Upload = &[Sent::Given(METER, NEW_YEAR, Some(FIRST))];
+const FIRST_OWNER: Upload = &[Sent::Assignment(METER, NEW_YEAR, Some(FIRST))];
 
-const TOPUP: Upload = &[Sent::Paid(b"P1", FIRST, 5_000)];
+const TOPUP: Upload = &[Sent::TopUp(b"P1", FIRST, 5_000)];
 
 const TWO_READINGS: Upload = &[
-    Sent::Shown(METER, Register::I1, FIVE, 1_000_000),
-    Sent::Shown(METER, Register::I1, SEVEN, 1_003_001),
+    Sent::Reading(METER, Register::I1, FIVE, 1_000_000),
+    Sent::Reading(METER, Register::I1, SEVEN, 1_003_001),
 ];
 
 const AT_SIX: Upload = &[
-    Sent::Shown(METER, Register::I1, SIX, 1_001_000),
-    Sent::Shown(METER, Register::I1, SIX, 1_001_200),
-    Sent::Shown(METER, Register::I1, SIX, 1_001_500),
+    Sent::Reading(METER, Register::I1, SIX, 1_001_000),
+    Sent::Reading(METER, Register::I1, SIX, 1_001_200),
+    Sent::Reading(METER, Register::I1, SIX, 1_001_500),
 ];
 
 const TWO_WITHDRAWALS: Upload = &[

@@ -19,16 +19,16 @@ pub fn wh(rt: &impl Abort, watt_hours: u64) -> WattHours {
 
 /// A reading of the first register of the first meter.
 pub fn reading(rt: &impl Abort, second: u32, watt_hours: u64) -> Entry {
-    entry_of(rt, Sent::Shown(METER, Register::I1, second, watt_hours))
+    entry_of(rt, Sent::Reading(METER, Register::I1, second, watt_hours))
 }
 
 /// An assignment of the first meter.
 pub fn assigned(rt: &impl Abort, second: u32, owner: Owner) -> Entry {
-    entry_of(rt, Sent::Given(METER, second, owner))
+    entry_of(rt, Sent::Assignment(METER, second, owner))
 }
 
-pub fn paid(rt: &impl Abort, reference: &[u8], account: AccountId, cents: u32) -> Entry {
-    sample::paid(reference, account, cents).expect(rt, "a payment")
+pub fn top_up(rt: &impl Abort, reference: &[u8], account: AccountId, cents: u32) -> Entry {
+    sample::top_up(reference, account, cents).expect(rt, "a top-up")
 }
 
 pub fn entry_of(rt: &impl Abort, sent: Sent) -> Entry {

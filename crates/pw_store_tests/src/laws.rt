@@ -45,7 +45,7 @@ fn a_store_that_a_crash_left_is_opened(rt: HostRuntime) {
     let alloc = rt.alloc();
     let text = SAMPLE.as_bytes();
     let office = Office::read(alloc, text).expect(&rt, "an office");
-    let owner = sample::Sent::Given(METER, NEW_YEAR, Some(FIRST));
+    let owner = sample::Sent::Assignment(METER, NEW_YEAR, Some(FIRST));
     let entries = entries_of(&rt, alloc, &[owner]);
     assert!(rt; are_of_office(&office, &Zone::central(), &entries));
     let connection = memory(&rt, alloc);

@@ -27,6 +27,7 @@ pub(crate) fn read_accounts(alloc: Global, table: &Table) -> Result<Vec<String>,
     Ok(names)
 }
 
+// Each name is sound beside those before it.
 fn check_accounts(names: &[String]) -> Result<(), OfficeFault>
     ensures { MatchResult result
         (λ _. Passes (accounts_in_turn (map string_bytes names.now)))
@@ -38,6 +39,7 @@ fn check_accounts(names: &[String]) -> Result<(), OfficeFault>
     Ok(())
 }
 
+// A name has the form of one, and no account before has it.
 fn check_account(name: &[u8], earlier: &[String]) -> Result<(), OfficeFault>
     ensures { MatchResult result
         (λ _. Passes (account_checks (map string_bytes earlier.now) name.now))

@@ -177,6 +177,7 @@ fn overlap(registers: &[Register]) -> bool
     import || export
 }
 
+// A total beside the first or the second of its rates.
 fn has_both(registers: &[Register], total: Register, first: Register, second: Register) -> bool
     ensures { result ≡ (has_register registers.now total &&
         (has_register registers.now first || has_register registers.now second)) }

@@ -129,7 +129,7 @@ impl Office {
         BandIds::below(self.bands())
     }
 
-    /// The name of an account.
+    /// What rows of assignments and of top-ups call an account, and statements print.
     pub fn account_name(&self, account: AccountId) -> &str
         requires { account.0 < length self.now.accounts }
         ensures { slice_get self.now.accounts account.0 ≡ Some result.now }
@@ -137,7 +137,7 @@ impl Office {
         self.accounts[account.0 as usize].as_str()
     }
 
-    /// The id of a meter.
+    /// What a meter's telegrams call it, and the path that its readouts are sent to.
     pub fn meter_name(&self, meter: MeterId) -> &str
         requires { meter.0 < length self.now.meters }
         ensures { option_map (λ m. m.id) (slice_get self.now.meters meter.0) ≡ Some result.now }
@@ -153,7 +153,7 @@ impl Office {
         char::from(self.bands[band.0 as usize].name)
     }
 
-    /// The account of a name.
+    /// The account that is meant by a name, if the office has it.
     pub fn account(&self, name: &[u8]) -> Option<AccountId>
         ensures some { IfSome result (λ a. slice_get self.now.accounts a.0 ≡ Some name.now) }
         ensures only { IfSome result (λ a. (i : ℕ) → slice_get self.now.accounts i ≡ Some name.now
@@ -168,7 +168,7 @@ impl Office {
         None
     }
 
-    /// The meter of an id.
+    /// The meter that is meant by an id, if the office has it.
     pub fn meter(&self, id: &[u8]) -> Option<MeterId>
         ensures some { IfSome result (λ m. option_map (λ t. t.id) (slice_get self.now.meters m.0)
             ≡ Some id.now) }

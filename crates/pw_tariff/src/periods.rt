@@ -112,9 +112,7 @@ fn later_hour(text: &[u8], before: u32) -> Option<Instant>
         (λ start. (is_later before (whole_hour text.now) ≡ true)
         × (whole_hour text.now ≡ Some start)) }
 {
-    let Some(start) = whole_hour(text) else {
-        return None;
-    };
+    let start = whole_hour(text)?;
     if start.seconds() <= before {
         return None;
     }

@@ -24,19 +24,27 @@ pub(crate) struct Run {
     pub(crate) until: u32,
 }
 
+// What classes are told by: the office, the zone that its bands are told in, and the owners of a meter.
+#[derive(Drop)]
+pub(crate) struct ClassBasis<'a> {
+    pub(crate) office: &'a Office,
+    pub(crate) zone: &'a Zone,
+    pub(crate) owners: &'a Owners<'a>,
+}
+
 // The owner, the period and the band of a second.
-pub(crate) fn class_at(office: &Office, zone: &Zone, owners: &Owners, second: u32) -> Class
+pub(crate) fn class_at(basis: &ClassBasis, second: u32) -> Class
     requires { IsInstant second }
-    ensures class { IsClassAt office.now owners.now second result }
-    ensures sound { IsSound office.now }
+    ensures class { IsClassAt basis.now.office.now basis.now.owners.now second result }
+    ensures sound { IsSound basis.now.office.now }
 {
     let Some(instant) = Instant::of(second) else {
         unreachable!();
     };
     Class {
-        owner: owners.at(second),
-        period: office.period(instant),
-        band: office.band(instant, zone),
+        owner: basis.owners.at(second),
+        period: basis.office.period(instant),
+        band: basis.office.band(instant, basis.zone),
     }
 }
 
@@ -51,20 +59,20 @@ fn part_end(owners: &Owners, second: u32, end: u32) -> u32
 }
 
 // The run of the seconds of one class that begins at a second: parts of that class, joined.
-pub(crate) fn run_at(office: &Office, zone: &Zone, owners: &Owners, second: u32, end: u32) -> Run
+pub(crate) fn run_at(basis: &ClassBasis, second: u32, end: u32) -> Run
     requires begun { IsInstant second }
     requires ended { IsInstant end }
     requires under_way { second < end }
-    ensures { IsRun office.now owners.now second end result }
+    ensures { IsRun basis.now.office.now basis.now.owners.now second end result }
 {
-    let class = class_at(office, zone, owners, second);
-    let mut until = part_end(owners, second, end);
+    let class = class_at(basis, second);
+    let mut until = part_end(basis.owners, second, end);
     while until < end {
-        let next = class_at(office, zone, owners, until);
+        let next = class_at(basis, until);
         if next != class {
             return Run { class, until };
         }
-        until = part_end(owners, until, end);
+        until = part_end(basis.owners, until, end);
     }
     Run { class, until }
 }

@@ -6,7 +6,7 @@ ghost use Rattle.pw_tariff.specs.Pieces.{IsPieceOf, ListsPieces, level_of};
 ghost use Rattle.pw_tariff.specs.Shares.{AreShares};
 
 use crate::cells::add;
-use crate::pieces::{Class, run_at};
+use crate::pieces::{Class, ClassBasis, run_at};
 use crate::{BandId, Cell, Office, Owner, Owners, PeriodId};
 use pw_flow::plain::{Point, level_at};
 use pw_obis::WattHours;
@@ -61,15 +61,15 @@ impl Span {
 
 // The piece of a span that begins at an instant.
 #[tactic(auto, using(crate::proofs::Gathered::rising))]
-fn piece_at(office: &Office, zone: &Zone, owners: &Owners, span: &Span, begin: Instant) -> Piece
+fn piece_at(basis: &ClassBasis, span: &Span, begin: Instant) -> Piece
     requires rising { span.now.low ≤ span.now.high }
     requires begun { span.now.from ≤ begin }
     requires under_way { begin < span.now.to }
     ensures begin { result.begin ≡ begin }
-    ensures piece { IsPieceOf office.now owners.now span.now result }
+    ensures piece { IsPieceOf basis.now.office.now basis.now.owners.now span.now result }
     ensures bound { level_of span.now result.until ≤ LARGEST_WATT_HOURS }
 {
-    let run = run_at(office, zone, owners, begin.seconds(), span.to.seconds());
+    let run = run_at(basis, begin.seconds(), span.to.seconds());
     let Some(until) = Instant::of(run.until) else {
         unreachable!();
     };
@@ -107,10 +107,15 @@ pub fn pieces_of(
     ensures { IfOk result (λ pieces. ListsPieces office.now owners.now span span.from
         pieces.items) }
 {
+    let basis = ClassBasis {
+        office,
+        zone,
+        owners,
+    };
     let mut pieces = Vec::new(alloc);
     let mut at = span.from;
     while at.seconds() < span.to.seconds() {
-        let piece = piece_at(office, zone, owners, &span, at);
+        let piece = piece_at(&basis, &span, at);
         at = piece.until;
         pieces.push(piece)?;
     }
@@ -133,10 +138,15 @@ pub fn apportion(
     requires rising { span.low ≤ span.high }
     ensures { IfOk result (λ cells. AreShares office.now owners.now span cells.items) }
 {
+    let basis = ClassBasis {
+        office,
+        zone,
+        owners,
+    };
     let mut cells = Vec::new(alloc);
     let mut at = span.from;
     while at.seconds() < span.to.seconds() {
-        let piece = piece_at(office, zone, owners, &span, at);
+        let piece = piece_at(&basis, &span, at);
         at = piece.until;
         if piece.wh > 0 {
             let share = Cell {

@@ -26,30 +26,21 @@ pub(crate) fn has_key(table: &Table, key: &str) -> bool
 pub(crate) fn text_at<'t>(table: &'t Table, key: &str) -> Option<&'t str>
     ensures { option_copied result ≡ text_at key.now (table_view table.now) }
 {
-    let Some(value) = table.get(key) else {
-        return None;
-    };
-    value.as_str()
+    table.get(key)?.as_str()
 }
 
 // The whole number at a key.
 pub(crate) fn integer_at(table: &Table, key: &str) -> Option<i64>
     ensures { result ≡ integer_at key.now (table_view table.now) }
 {
-    let Some(value) = table.get(key) else {
-        return None;
-    };
-    value.as_integer()
+    table.get(key)?.as_integer()
 }
 
 // The list at a key.
 pub(crate) fn list_at<'t>(table: &'t Table, key: &str) -> Option<&'t Array>
     ensures { option_map (λ v. array_view v.now) result ≡ list_at key.now (table_view table.now) }
 {
-    let Some(value) = table.get(key) else {
-        return None;
-    };
-    value.as_array()
+    table.get(key)?.as_array()
 }
 
 // The texts of a list, each of whose elements has to be one.

@@ -34,6 +34,7 @@ pub(crate) fn read_week(
     Ok(week)
 }
 
+// Seven days, from Monday on.
 pub(crate) fn is_week(bands: &[Band], week: &[String]) -> bool
     ensures { result ≡ is_week (bands_of bands.now) (map string_bytes week.now) }
 {
@@ -42,6 +43,7 @@ pub(crate) fn is_week(bands: &[Band], week: &[String]) -> bool
     seven && days
 }
 
+// Nothing but days.
 fn are_days(bands: &[Band], week: &[String]) -> bool
     ensures { result ≡ list_all (is_day (bands_of bands.now)) (map string_bytes week.now) }
 {
@@ -62,6 +64,7 @@ fn is_day(bands: &[Band], day: &[u8]) -> bool
     whole && letters
 }
 
+// Nothing but letters of bands.
 fn are_letters(bands: &[Band], day: &[u8]) -> bool
     ensures { result ≡ list_all (λ c. nat_lt (band_named (bands_of bands.now) c)
         (length (bands_of bands.now))) day.now }

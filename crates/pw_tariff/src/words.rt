@@ -8,6 +8,7 @@ use crate::limits::HOUR;
 use pw_obis::Register;
 use pw_time::{Clock, Instant, utc};
 
+// From the lowest of two bytes to the highest.
 fn is_between(low: u8, high: u8, byte: u8) -> bool
     ensures { result ≡ is_between low high byte }
 {
@@ -39,12 +40,14 @@ pub(crate) fn is_name(most: usize, text: &[u8]) -> bool
     has_length(most, text) && are_name_characters(text)
 }
 
+// One byte or more, at most so many.
 fn has_length(most: usize, text: &[u8]) -> bool
     ensures { result ≡ (nat_le 1 (length text.now) && nat_le (length text.now) most) }
 {
     1 <= text.len() && text.len() <= most
 }
 
+// Nothing but characters of names.
 fn are_name_characters(text: &[u8]) -> bool
     ensures { result ≡ list_all is_name_character text.now }
 {
@@ -63,6 +66,7 @@ pub(crate) fn is_new(name: &[u8], earlier: &[String]) -> bool
     true
 }
 
+// What a meter's clock tells, by its word in the file.
 pub(crate) fn clock_named(text: &[u8]) -> Option<Clock>
     ensures { result ≡ clock_named text.now }
 {
@@ -77,6 +81,7 @@ pub(crate) fn clock_named(text: &[u8]) -> Option<Clock>
     }
 }
 
+// The register of a name, as the file lists those that count.
 pub(crate) fn register_named(text: &[u8]) -> Option<Register>
     ensures { result ≡ register_named text.now }
 {

@@ -46,7 +46,7 @@ fn posted(rt: &impl Abort, alloc: Global) -> Sent {
     let entries = entries_of(
         rt,
         alloc,
-        &[sample::Sent::Given(METER, NEW_YEAR, Some(FIRST))],
+        &[sample::Sent::Assignment(METER, NEW_YEAR, Some(FIRST))],
     );
     let office = sample_office(alloc).expect(rt, "an office");
     assert!(rt; are_of_office(&office, &Zone::central(), &entries));

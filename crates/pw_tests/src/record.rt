@@ -14,8 +14,8 @@ const SECOND_THEN_FIRST: &[u8] =
     b"/PWB5X\r\n\r\n0-0:1.0.0(240102060000W)\r\n0-0:96.1.1(4D31)\r\n1-0:1.8.1(001000.001*kWh)\r\n!879D\r\n/PWB5X\r\n\r\n0-0:1.0.0(240102060000W)\r\n0-0:96.1.1(4D31)\r\n1-0:1.8.1(001000.000*kWh)\r\n!1790\r\n";
 
 const IN_ORDER: [Sent; 2] = [
-    Sent::Shown(METER, Register::I1, FIVE, 1_000_000),
-    Sent::Shown(METER, Register::I1, FIVE, 1_000_001),
+    Sent::Reading(METER, Register::I1, FIVE, 1_000_000),
+    Sent::Reading(METER, Register::I1, FIVE, 1_000_001),
 ];
 
 // Whether the entries of a body of telegrams stand in their order, whatever the order of its frames.
@@ -28,6 +28,7 @@ fn are_in_order(rt: &impl Abort, alloc: Global, office: &Office) -> bool {
     }
 }
 
+// bears on: pw_model in_order.rt Distinct::into_entries ensures
 #[test]
 fn entries_in_order(rt: HostRuntime) {
     let office = sample_office(rt.alloc()).expect(&rt, "an office");

@@ -67,43 +67,45 @@ pub fn are_of_office(office: &Office, zone: &Zone, entries: &[Entry]) -> bool
     plain::are_of_office(&terms, entries)
 }
 
-/// What is told of meters and accounts.
+/// A record, by what is written for it.
 #[derive(Clone, Copy)]
 pub enum Sent {
     /// the owner of a meter from a second on
-    Given(MeterId, u32, Owner),
+    Assignment(MeterId, u32, Owner),
     /// what a register of a meter shows at a second
-    Shown(MeterId, Register, u32, u64),
-    /// cents of an account under a reference, paid at the new year
-    Paid(&'static [u8], AccountId, u32),
-    /// the withdrawal of such an owner
-    OwnerWithdrawn(MeterId, u32, Owner),
-    /// the withdrawal of what a register of a meter shows at a second
+    Reading(MeterId, Register, u32, u64),
+    /// cents that an account topped up at the new year, under a reference
+    TopUp(&'static [u8], AccountId, u32),
+    /// the withdrawal of such an assignment
+    AssignmentWithdrawn(MeterId, u32, Owner),
+    /// the withdrawal of such a reading
     ReadingWithdrawn(MeterId, Register, u32, u64),
-    /// the withdrawal of such cents
-    PaymentWithdrawn(&'static [u8], AccountId, u32),
+    /// the withdrawal of such a top-up
+    TopUpWithdrawn(&'static [u8], AccountId, u32),
 }
 
 /// The entry of what is told, if there is such a one.
 pub fn entry_of(sent: Sent) -> Option<Entry> {
     match sent {
-        Sent::Given(meter, second, owner) => given(meter, second, owner),
-        Sent::Shown(meter, register, second, watt_hours) => {
-            shown(meter, register, second, watt_hours)
+        Sent::Assignment(meter, second, owner) => assignment(meter, second, owner),
+        Sent::Reading(meter, register, second, watt_hours) => {
+            reading(meter, register, second, watt_hours)
         }
-        Sent::Paid(reference, account, cents) => paid(reference, account, cents),
-        Sent::OwnerWithdrawn(meter, second, owner) => withdrawn(given(meter, second, owner)),
+        Sent::TopUp(reference, account, cents) => top_up(reference, account, cents),
+        Sent::AssignmentWithdrawn(meter, second, owner) => withdrawn(assignment(
+            meter, second, owner,
+        )),
         Sent::ReadingWithdrawn(meter, register, second, watt_hours) => {
-            withdrawn(shown(meter, register, second, watt_hours))
+            withdrawn(reading(meter, register, second, watt_hours))
         }
-        Sent::PaymentWithdrawn(reference, account, cents) => {
-            withdrawn(paid(reference, account, cents))
+        Sent::TopUpWithdrawn(reference, account, cents) => {
+            withdrawn(top_up(reference, account, cents))
         }
     }
 }
 
-/// A reading.
-pub fn shown(meter: MeterId, register: Register, second: u32, watt_hours: u64) -> Option<Entry> {
+/// The record of a reading, where the second is an instant and the watt-hours are within their limit.
+pub fn reading(meter: MeterId, register: Register, second: u32, watt_hours: u64) -> Option<Entry> {
     let instant = Instant::of(second)?;
     let wh = WattHours::of(watt_hours)?;
     Some(Entry {
@@ -116,8 +118,8 @@ pub fn shown(meter: MeterId, register: Register, second: u32, watt_hours: u64) -
     })
 }
 
-/// An assignment.
-pub fn given(meter: MeterId, second: u32, owner: Owner) -> Option<Entry> {
+/// The record of an assignment, where the second is an instant.
+pub fn assignment(meter: MeterId, second: u32, owner: Owner) -> Option<Entry> {
     let start = Instant::of(second)?;
     Some(Entry {
         key: Key::Assignment { meter, start },
@@ -125,8 +127,8 @@ pub fn given(meter: MeterId, second: u32, owner: Owner) -> Option<Entry> {
     })
 }
 
-/// A top-up.
-pub fn paid(reference: &[u8], account: AccountId, cents: u32) -> Option<Entry> {
+/// The record of a top-up at the new year, where the reference is one.
+pub fn top_up(reference: &[u8], account: AccountId, cents: u32) -> Option<Entry> {
     let reference = Reference::of(reference)?;
     let instant = Instant::of(NEW_YEAR)?;
     Some(Entry {

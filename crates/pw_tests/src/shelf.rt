@@ -323,21 +323,21 @@ fn passes_in_memory(rt: &impl Abort, alloc: Global, stages: &[Stage]) -> bool {
 }
 
 // Two readings of the first register, an owner and a payment.
-const EARLY: Sent = Sent::Shown(METER, Register::I1, FIVE, 1_000_000);
+const EARLY: Sent = Sent::Reading(METER, Register::I1, FIVE, 1_000_000);
 
-const LATE: Sent = Sent::Shown(METER, Register::I1, SIX, 1_001_000);
+const LATE: Sent = Sent::Reading(METER, Register::I1, SIX, 1_001_000);
 
-const OWNER: Sent = Sent::Given(METER, FIVE, Some(SECOND));
+const OWNER: Sent = Sent::Assignment(METER, FIVE, Some(SECOND));
 
-const PAYMENT: Sent = Sent::Paid(b"P1", FIRST, 2_000);
+const PAYMENT: Sent = Sent::TopUp(b"P1", FIRST, 2_000);
 
 // Another content at the key of the first.
-const BESIDE: Sent = Sent::Shown(METER, Register::I1, FIVE, 1_000_500);
+const BESIDE: Sent = Sent::Reading(METER, Register::I1, FIVE, 1_000_500);
 
 // The withdrawals of a reading and of an assignment, neither of which is held, in their order.
 const NO_READING: Sent = Sent::ReadingWithdrawn(METER, Register::I1, SIX, 1_000_000);
 
-const NO_OWNER: Sent = Sent::OwnerWithdrawn(METER, FIVE, None);
+const NO_OWNER: Sent = Sent::AssignmentWithdrawn(METER, FIVE, None);
 
 // Two points of a register, two starts of a meter and a total.
 const KEPT: Stage = Stage::Uploaded(&[

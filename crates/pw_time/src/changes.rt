@@ -1,7 +1,7 @@
 //! Both changes of the clocks in each year, written out.
 
-/// The seconds at which Central European time changes, from 2000 to 2099: each year to summer time
-/// and back. That it holds the last Sundays of March and October is proved where a zone is made.
+// The seconds at which Central European time changes, from 2000 to 2099: each year to summer time
+// and back. That it holds the last Sundays of March and October is proved where a zone is made.
 pub(crate) const CHANGES: [u32; 200] = [
     954032400, 972781200, 985482000, 1004230800, 1017536400, 1035680400, 1048986000, 1067130000,
     1080435600, 1099184400, 1111885200, 1130634000, 1143334800, 1162083600, 1174784400, 1193533200,

@@ -13,7 +13,7 @@ use crate::{Instant, StampFault, Zone};
 use jiff::civil::Date;
 use jiff_core::civil::Date as PlainDate;
 
-/// A date and a time of day, as a clock shows them: each number is as it was read, in range or not.
+// A date and a time of day, as a clock shows them: each number is as it was read, in range or not.
 #[derive(Clone, Copy)]
 pub(crate) struct CivilTime {
     pub(crate) year: u16,
@@ -25,7 +25,7 @@ pub(crate) struct CivilTime {
 }
 
 impl CivilTime {
-    /// What a clock in UTC shows at an instant.
+    // What a clock in UTC shows at an instant.
     pub(crate) fn at(instant: Instant) -> CivilTime
         ensures digits { HasDigits result }
         ensures there { Exists result }
@@ -89,7 +89,7 @@ impl CivilTime {
         Ok(i64::from(days) * 86_400 + i64::from(seconds))
     }
 
-    /// The instant at which a clock that is always so many seconds ahead of UTC shows this.
+    // The instant at which a clock that is always so many seconds ahead of UTC shows this.
     pub(crate) fn at_offset(&self, ahead: u32) -> Result<Instant, StampFault>
         requires { HasDigits self.now }
         ensures { IsCivilOutcome (always ahead) self.now result }
@@ -98,7 +98,7 @@ impl CivilTime {
         instant_at(shown - i64::from(ahead))
     }
 
-    /// The second that a clock shows in the years 2000 to 2099.
+    // The second that a clock shows in the years 2000 to 2099.
     pub(crate) fn second_of_century(&self) -> Result<u32, StampFault>
         requires digits { HasDigits self.now }
         requires year { IsShortYear self.now.year }
@@ -110,7 +110,7 @@ impl CivilTime {
         Ok(self.second_shown()? as u32)
     }
 
-    /// The instant at which local clocks show this, if there is just one.
+    // The instant at which local clocks show this, if there is just one.
     pub(crate) fn in_zone(&self, zone: &Zone) -> Result<Instant, StampFault>
         requires digits { HasDigits self.now }
         requires year { IsShortYear self.now.year }
@@ -139,7 +139,7 @@ fn instant_at(second: i64) -> Result<Instant, StampFault>
     Instant::of(second).ok_or(StampFault::Range)
 }
 
-/// The date of a day number from 1970-01-01 on.
+// The date of a day number from 1970-01-01 on.
 pub(crate) fn date_of_day(day: u32) -> PlainDate
     requires { day < 100_000 }
     ensures { epoch_day result ≡ pos day }

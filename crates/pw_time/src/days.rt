@@ -104,10 +104,7 @@ fn utc_midnight(year: u16, month: u8, day: u8) -> Option<u32>
         minute: 0,
         second: 0,
     };
-    let Ok(midnight) = civil.second_of_century() else {
-        return None;
-    };
-    Some(midnight)
+    civil.second_of_century().ok()
 }
 
 // Whether a year is one of 2000 to 2099, and month and day have at most two digits.

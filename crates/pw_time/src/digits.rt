@@ -5,7 +5,7 @@ ghost use Rattle.pw_time.specs.Texts.{run_together, separated, two_digits};
 ghost use Rattle.pw_time.specs.inner.Texts.{IsDecimalDigit};
 ghost use Rattle.pw_time.specs.inner.Texts.{AreTwoDigits};
 
-/// The number of two digits.
+// The number of two digits.
 pub(crate) fn two_digits(tens: u8, ones: u8) -> Option<u8>
     ensures { MatchOption result (¬ (IsDecimalDigit tens × IsDecimalDigit ones))
         (λ n. (n < 100) × (tens ≡ 48 + n / 10) × (ones ≡ 48 + n % 10)) }
@@ -16,8 +16,8 @@ pub(crate) fn two_digits(tens: u8, ones: u8) -> Option<u8>
     }
 }
 
-/// Three numbers of two digits each, one directly after the other.
-pub(crate) fn joined(text: &[u8]) -> Option<(u8, u8, u8)>
+// Three numbers of two digits each, one directly after the other.
+pub(crate) fn run_together(text: &[u8]) -> Option<(u8, u8, u8)>
     ensures { MatchOption result ((a b c : ℕ) → AreTwoDigits a b c → text.now ≢ run_together a b c)
         (λ n. AreTwoDigits n.0 n.1 n.2 × (text.now ≡ run_together n.0 n.1 n.2)) }
 {
@@ -27,7 +27,7 @@ pub(crate) fn joined(text: &[u8]) -> Option<(u8, u8, u8)>
     Some((two_digits(a, b)?, two_digits(c, d)?, two_digits(e, f)?))
 }
 
-/// Three numbers of two digits each, with a byte between them.
+// Three numbers of two digits each, with a byte between them.
 pub(crate) fn separated(byte: u8, text: &[u8]) -> Option<(u8, u8, u8)>
     ensures { MatchOption result ((a b c : ℕ) → AreTwoDigits a b c
         → text.now ≢ separated byte a b c)
@@ -42,7 +42,7 @@ pub(crate) fn separated(byte: u8, text: &[u8]) -> Option<(u8, u8, u8)>
     Some((two_digits(a, b)?, two_digits(c, d)?, two_digits(e, f)?))
 }
 
-/// The two digits of a number below 100.
+// The two digits of a number below 100.
 pub(crate) fn digits_of(number: u8) -> [u8; 2]
     requires { number < 100 }
     ensures { result ≡ two_digits number }

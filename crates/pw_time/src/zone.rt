@@ -65,7 +65,7 @@ impl Zone {
         self.changes.partition_point(|change| *change <= second)
     }
 
-    /// Whether local clocks show summer time.
+    // Whether local clocks show summer time.
     pub(crate) fn is_summer(&self, second: u32) -> bool
         ensures { result ≡ is_summer second }
     {

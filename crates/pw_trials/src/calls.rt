@@ -39,10 +39,10 @@ use std::io::{self, Write};
 use std::str::from_utf8;
 use words::{bytes_of, words_of};
 
-/// The exit status where the calls can't be made.
+// The exit status where the calls can't be made.
 const FAILED: u8 = 3;
 
-/// Answers the lines of the input for the office of a file, and tells the exit status.
+// Answers the lines of the input for the office of a file, and tells the exit status.
 pub(crate) fn answer_calls(rt: &HostRuntime, path: &str) -> u8 {
     let answered = match fs::read(rt, path) {
         Ok(text) => answer_for(rt, &text),

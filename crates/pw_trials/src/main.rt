@@ -45,10 +45,10 @@ import = [250000, 350000]
 export = [60000, 60000]
 "#;
 
-/// The exit status where what the trials need can't be made.
+// The exit status where what the trials need can't be made.
 const NO_MEMORY: u8 = 3;
 
-/// The exit status where the words ask for nothing that is done here.
+// The exit status where the words ask for nothing that is done here.
 const NOT_UNDERSTOOD: u8 = 2;
 
 fn main(rt: HostRuntime) -> ExitCode {

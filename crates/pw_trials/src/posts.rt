@@ -24,14 +24,14 @@ const FIRST: [&str; 4] = [
     "reading 4D31 I1 2024-01-02T07:00:00Z 1003001",
 ];
 
-/// A late reading, one that disputes another, and an assignment.
+// A late reading, one that disputes another, and an assignment.
 pub(crate) const UPLOAD: [&str; 3] = [
     "reading 4D31 I1 2024-01-02T06:30:00Z 1002000",
     "reading 4D31 I1 2024-01-02T06:00:00Z 1001500",
     "assignment 4D31 2024-01-02T06:15:00Z A2",
 ];
 
-/// A meter that is given back, readings of two hours, two unlike ones between them, and a payment.
+// A meter that is given back, readings of two hours, two unlike ones between them, and a payment.
 pub(crate) const RECORDS: [&str; 7] = [
     "assignment 4D31 2024-01-02T04:00:00Z A1",
     "assignment 4D31 2024-01-02T06:00:00Z -",
@@ -60,7 +60,7 @@ const BEHIND: [Figure; 4] = [
     (AccountId(1), BandId(1), 1_335),
 ];
 
-/// Whether a book takes an assignment and three readings.
+// Whether a book takes an assignment and three readings.
 pub(crate) fn is_filled<S: Shelf>(alloc: Global, book: &mut Book<S>) -> bool {
     match records_of(alloc, book.office(), &FIRST) {
         Some(entries) => post(alloc, book, &entries) == Ok((4, 0)),
@@ -105,7 +105,7 @@ fn is_imported<S: Shelf>(book: &mut Book<S>, account: AccountId, band: BandId, w
     book.energy(Some(account), band, Direction::Import) == Ok(wh)
 }
 
-/// Whether an upload is taken: at once, or, where it is refused for want of memory, with all as before, at the next try.
+// Whether an upload is taken: at once, or, where it is refused for want of memory, with all as before, at the next try.
 pub(crate) fn is_taken<S: Shelf>(alloc: Global, book: &mut Book<S>, entries: &[Entry]) -> bool {
     let told = match post(alloc, book, entries) {
         Err(PostFault::Memory) if is_as_before(book) => post(alloc, book, entries),
@@ -146,7 +146,7 @@ const TOTALS: [(TotalKey, u64); 3] = [
     ),
 ];
 
-/// Whether the parts of records are told: at once, or at the next try.
+// Whether the parts of records are told: at once, or at the next try.
 pub(crate) fn are_told(alloc: Global, office: &Office, zone: &Zone, entries: &[Entry]) -> bool {
     match are_parts_right(alloc, office, zone, entries) {
         Ok(are_right) => are_right,

@@ -10,14 +10,14 @@ use pw_tariff::Office;
 use pw_time::Zone;
 use std::alloc::Global;
 
-/// Whether an upload is taken back.
+// Whether an upload is taken back.
 pub(crate) fn is_taken_back<S: Shelf>(shelf: &mut S) -> bool
     requires { IsSome (S.state shelf.old).begun }
 {
     shelf.abandon().is_ok() && shelf.count() == Ok(15)
 }
 
-/// A book over a store that holds nothing.
+// A book over a store that holds nothing.
 pub(crate) fn book_over<S: Shelf>(office: Office, shelf: S, limit: u32) -> Book<S>
     requires empty { (S.state shelf).content ≡ no_content }
     requires idle { (S.state shelf).begun ≡ None }
@@ -27,7 +27,7 @@ pub(crate) fn book_over<S: Shelf>(office: Office, shelf: S, limit: u32) -> Book<
     Book::new(office, Zone::central(), shelf, limit)
 }
 
-/// A book over a store in memory that holds nothing.
+// A book over a store in memory that holds nothing.
 pub(crate) fn empty_book(alloc: Global, office: Office, limit: u32) -> Book<MemoryShelf>
     requires least { 1 ≤ limit }
     requires most { limit ≤ most_records }
@@ -35,7 +35,7 @@ pub(crate) fn empty_book(alloc: Global, office: Office, limit: u32) -> Book<Memo
     book_over(office, MemoryShelf::new(alloc), limit)
 }
 
-/// One over a store in memory that counts its calls.
+// One over a store in memory that counts its calls.
 pub(crate) fn counting_book(
     alloc: Global,
     office: Office,
@@ -48,7 +48,7 @@ pub(crate) fn counting_book(
     book_over(office, shelf, limit)
 }
 
-/// Whether a book is made, tells its office, and gives its store back.
+// Whether a book is made, tells its office, and gives its store back.
 pub(crate) fn is_kept<S: Shelf + Drop>(office: Office, shelf: S) -> bool
     requires empty { (S.state shelf).content ≡ no_content }
     requires idle { (S.state shelf).begun ≡ None }
@@ -60,7 +60,7 @@ pub(crate) fn is_kept<S: Shelf + Drop>(office: Office, shelf: S) -> bool
     accounts == 2 && shelf.count() == Ok(0)
 }
 
-/// Whether calls are counted, and one fails where it is told to.
+// Whether calls are counted, and one fails where it is told to.
 pub(crate) fn is_counted(alloc: Global) -> bool {
     let mut counted = CountShelf::new(MemoryShelf::new(alloc));
     let mut failing = CountShelf::failing(MemoryShelf::new(alloc), 2, false);

@@ -39,13 +39,13 @@ const PAGES: [Page; 13] = [
     Page::Table(Table::Withdrawals),
 ];
 
-/// A book whose first upload fails, and can't be taken back.
+// A book whose first upload fails, and can't be taken back.
 pub(crate) fn failing_book(alloc: Global, office: Office) -> Book<CountShelf<MemoryShelf>> {
     let shelf = CountShelf::failing(MemoryShelf::new(alloc), FAILING, true);
     book_over(office, shelf, 100)
 }
 
-/// Whether an upload is answered that the book has to be opened again.
+// Whether an upload is answered that the book has to be opened again.
 pub(crate) fn is_refused<S: Shelf>(alloc: Global, book: &mut Book<S>) -> bool {
     match record_of(book.office(), "topup P1 A1 5000 2000-01-01T00:00:00Z") {
         Some(entry) => post(alloc, book, &[entry]) == Err(PostFault::Reopen),
@@ -53,7 +53,7 @@ pub(crate) fn is_refused<S: Shelf>(alloc: Global, book: &mut Book<S>) -> bool {
     }
 }
 
-/// Whether a shut book answers uploads, questions and pages with this alone.
+// Whether a shut book answers uploads, questions and pages with this alone.
 pub(crate) fn is_still_shut<S: Shelf>(alloc: Global, book: &mut Book<S>) -> bool {
     for page in PAGES {
         if fault_of(alloc, book, page) != Some(BookFault::Reopen) {

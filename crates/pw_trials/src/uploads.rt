@@ -82,8 +82,8 @@ fn add<S: Shelf>(shelf: &mut S, number: u8) -> Result<(), ShelfFault>
     shelf.add(&entry)
 }
 
-// Puts a row of each part.
-fn put<S: Shelf>(shelf: &mut S, number: u8) -> Result<(), ShelfFault>
+// Puts a record, and a row of each part: a point, a start and a total.
+fn put_each_part<S: Shelf>(shelf: &mut S, number: u8) -> Result<(), ShelfFault>
     requires { IsSome (S.state shelf.old).begun }
     ensures { (S.state shelf.new).begun ≡ (S.state shelf.old).begun }
 {
@@ -100,7 +100,7 @@ fn change<S: Shelf>(shelf: &mut S) -> Result<(), ShelfFault>
     ensures { (S.state shelf.new).begun ≡ (S.state shelf.old).begun }
 {
     for number in HELD..HELD + ADDED {
-        put(shelf, number)?;
+        put_each_part(shelf, number)?;
     }
     let (changed, taken) = (second(CHANGED)?, second(TAKEN)?);
     shelf.point_put(METER, Register::I1, changed, watt_hours(HELD)?)?;
@@ -127,10 +127,10 @@ fn is_put_alone<S: Shelf>(shelf: &mut S, number: u8) -> bool
     requires { (S.state shelf.old).begun ≡ None }
     ensures { IsTrue result → (S.state shelf.new).begun ≡ None }
 {
-    shelf.begin().is_ok() && put(shelf, number).is_ok() && shelf.commit().is_ok()
+    shelf.begin().is_ok() && put_each_part(shelf, number).is_ok() && shelf.commit().is_ok()
 }
 
-/// Whether a store takes some rows, and the changes of an upload that is begun then.
+// Whether a store takes some rows, and the changes of an upload that is begun then.
 pub(crate) fn is_changed<S: Shelf>(shelf: &mut S) -> bool
     requires { (S.state shelf.old).begun ≡ None }
     ensures { IsTrue result → IsSome (S.state shelf.new).begun }
@@ -146,7 +146,7 @@ fn is_begun<S: Shelf>(shelf: &mut S) -> bool
     shelf.begin().is_ok() && change(shelf).is_ok()
 }
 
-/// Whether an upload is kept, and another one begun and given up.
+// Whether an upload is kept, and another one begun and given up.
 pub(crate) fn is_kept<S: Shelf>(shelf: &mut S) -> bool
     requires { IsSome (S.state shelf.old).begun }
 {
@@ -209,8 +209,8 @@ fn is_given_up(shelf: &mut MemoryShelf) -> bool
     memory_abandons(shelf).is_ok() && changed != Err(ShelfFault::Device)
 }
 
-/// Whether a store holds what it held before when an upload was given up one of whose requests may have been refused, and
-/// the next upload is kept.
+// Whether a store holds what it held before when an upload was given up one of whose requests may have been refused, and
+// the next upload is kept.
 pub(crate) fn is_taken_back<O: Write>(alloc: Global, out: &mut O) -> bool {
     let mut shelf = MemoryShelf::new(alloc);
     is_filled(&mut shelf) && is_filled_taken_back(alloc, out, &mut shelf)

@@ -28,7 +28,7 @@ impl From<AllocError> for WordsFault {
     }
 }
 
-/// What an error of the parser means: help where the parser would end well, else wrong words.
+// What an error of the parser means: help where the parser would end well, else wrong words.
 pub(crate) fn fault_of(alloc: Global, error: &Error) -> WordsFault
     ensures { (kind_of error.now ≢ ErrorKind.DisplayHelp)
         → (kind_of error.now ≢ ErrorKind.DisplayVersion) → IsRefusal result }

@@ -5,10 +5,10 @@ use clap::{Arg, ArgAction, Command, value_parser};
 use pw_model::MOST_RECORDS;
 use std::alloc::{AllocError, Global};
 
-/// The words of the two clocks that a readout may tell its time by.
+// The words of the two clocks that a readout may tell its time by.
 static CLOCKS: [&str; 2] = ["winter", "local"];
 
-/// The words of the kinds of upload.
+// The words of the kinds of upload.
 static KINDS: [&str; 5] = [
     "telegrams",
     "readouts",
@@ -17,7 +17,7 @@ static KINDS: [&str; 5] = [
     "withdrawals",
 ];
 
-/// The words of what can be exported.
+// The words of what can be exported.
 static TABLES: [&str; 8] = [
     "readings",
     "energy",
@@ -29,7 +29,7 @@ static TABLES: [&str; 8] = [
     "disputes",
 ];
 
-/// The names that stand behind `--rename`.
+// The names that stand behind `--rename`.
 static OLD_AND_NEW: [&str; 2] = ["OLD", "NEW"];
 
 // What the parser is told of a word.
@@ -106,7 +106,7 @@ fn empty_parser<'a>(alloc: Global) -> Result<Command<'a>, AllocError> {
         .bin_name("powerbook")
 }
 
-/// The parser of the program's words.
+// The parser of the program's words.
 pub(crate) fn parser<'a>(alloc: Global) -> Result<Command<'a>, AllocError> {
     let mut parser = empty_parser(alloc)?;
     for asked in &COMMANDS {

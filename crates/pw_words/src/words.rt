@@ -18,13 +18,13 @@ use pw_report::{MonthPage, Table};
 use pw_time::Clock;
 use std::alloc::{AllocError, Global};
 
-/// The most records of a book, where the words don't state it.
+// The most records of a book, where the words don't state it.
 const USUAL_LIMIT: u32 = 1_000_000;
 
-/// What an origin is.
+// Told where a word stands as an origin and is none.
 const ORIGIN_FORM: &str = "an origin is http:// or https://, a host, and its port, if any";
 
-/// What a meter stands beside.
+// Told where a meter is named beside another export.
 const METER_ALONE: &str = "the argument '--meter <ID>' goes with 'readings' alone";
 
 /// The command that the words behind the program's name ask for. No word asks for `pipe`.

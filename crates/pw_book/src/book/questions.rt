@@ -1,4 +1,5 @@
-//! The questions to a book.
+//! What a book answers of the records that it holds. A question changes nothing in the store, and a shut book answers
+//! none.
 
 ghost use Rattle.std.specs.Prelude.{◌≡◌, ◌+◌, ◌*◌, ◌<◌, IfOk, MatchResult, true, false, length};
 ghost use Rattle.pw_tariff.specs.Office.{office_of, periods_in};

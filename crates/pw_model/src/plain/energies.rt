@@ -93,6 +93,7 @@ fn energy_asked(
     Ok(total)
 }
 
+// What an owner gets of the registers of a meter that show a direction: of the whole one and of both rates.
 fn meter_energy(
     alloc: Global,
     terms: &OfficeTerms<'_>,
@@ -120,6 +121,7 @@ fn meter_energy(
     Ok(total + first + second)
 }
 
+// What an owner gets of a register of a meter: nothing where the register doesn't count.
 fn register_share(
     alloc: Global,
     terms: &OfficeTerms<'_>,
@@ -207,6 +209,7 @@ fn is_in_tariff(
     }
 }
 
+// Whether two owners are one: the same account, or nobody both.
 fn is_same_owner(a: Owner, b: Owner) -> bool
     ensures { result ≡ same_owner a b }
 {

@@ -66,9 +66,7 @@ fn fall_from(in_order: &[Entry], index: usize) -> Option<Fall>
     if !stands_alone(in_order, index) {
         return None;
     }
-    let Some(next) = next_point(in_order, index, *meter, *register, *instant) else {
-        return None;
-    };
+    let next = next_point(in_order, index, *meter, *register, *instant)?;
     if next.1.get() >= wh.get() {
         return None;
     }
@@ -100,9 +98,7 @@ fn next_point(
 {
     for place in index + 1..in_order.len() {
         let entry = &in_order[place];
-        let Some(instant) = instant_of(&entry.key, meter, register) else {
-            return None;
-        };
+        let instant = instant_of(&entry.key, meter, register)?;
         let Content::Reading { wh } = &entry.content else {
             continue;
         };

@@ -49,6 +49,7 @@ fn cents_at(entries: &[Entry], key: &Key, account: AccountId) -> u32
     }
 }
 
+// The cents of a content, where it is a top-up of this account.
 fn cents_in(content: &Content, account: AccountId) -> u32
     ensures { result ≡ cents_for account.0 (One content.now) }
 {

@@ -8,7 +8,7 @@ ghost use Rattle.pw_model.specs.inner.Search.{AllStand, RowsOf};
 use super::alone::counts_among;
 use super::search::instant_of;
 use super::standing::{is_withdrawn, standing};
-use crate::in_order::sorted;
+use crate::in_order::Distinct;
 use crate::records::{Content, Entry, ReadingRow};
 use pw_obis::Register;
 use pw_tariff::MeterId;
@@ -23,9 +23,9 @@ pub fn readings(
 ) -> Result<Vec<ReadingRow>, AllocError>
     ensures { IfOk result (λ rows. AreReadings entries.now meter.0 register rows.items) }
 {
-    let in_order = sorted(alloc, entries)?;
+    let in_order = Distinct::of(alloc, entries)?;
     let standing = standing(alloc, entries)?;
-    rows_among(alloc, &in_order, &standing, meter, register)
+    rows_among(alloc, in_order.entries(), &standing, meter, register)
 }
 
 // The rows of some records in order, each marked where it counts among those that stand, and where one of the records
@@ -67,9 +67,7 @@ fn row_of(
         × (row.withdrawn ≡ withdrawn)) }
     ensures none { IfNone result ((t w : ℕ) → entry.now ≡ reading_entry meter.0 register t w → ⊥) }
 {
-    let Some(instant) = instant_of(&entry.key, meter, register) else {
-        return None;
-    };
+    let instant = instant_of(&entry.key, meter, register)?;
     let Content::Reading { wh } = &entry.content else {
         return None;
     };

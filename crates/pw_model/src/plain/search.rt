@@ -18,13 +18,14 @@ pub fn contents_at(entries: &[Entry], key: &Key) -> Contents
     let mut contents = Contents::Nothing;
     for entry in entries {
         if is_same_key(&entry.key, key) && !is_withdrawn(entries, entry) {
-            contents = joined(entry.content, contents);
+            contents = with_one_more(entry.content, contents);
         }
     }
     contents
 }
 
-fn joined(content: Content, behind: Contents) -> Contents
+// What the records say of a key where one more of them stands, with this content.
+fn with_one_more(content: Content, behind: Contents) -> Contents
     ensures { result ≡ one_more content behind }
 {
     match behind {
@@ -77,6 +78,7 @@ pub fn owner_at(entries: &[Entry], meter: MeterId, second: u32) -> Owner
     None
 }
 
+// Whose a meter is by what counts at the key of an assignment, if one counts there.
 fn owner_in(contents: &Contents) -> Option<Owner>
     ensures { result ≡ owner_of contents.now }
 {
@@ -117,6 +119,7 @@ fn start_in(entry: &Entry, meter: MeterId, until: u32) -> Option<Instant>
     Some(start)
 }
 
+// The later of two instants, or the one that is there.
 fn later(found: Option<Instant>, here: Option<Instant>) -> Option<Instant>
     ensures { result ≡ later_of found here }
 {

@@ -8,7 +8,7 @@ ghost use Rattle.pw_model.specs.Same.{entry_order, same_key};
 ghost use Rattle.pw_model.specs.inner.Search.{AreStanding};
 
 use crate::compare::{compare_keys, is_same_key};
-use crate::in_order::sorted;
+use crate::in_order::Distinct;
 use crate::records::{Entry, Key, Named};
 use std::alloc::{AllocError, Global};
 
@@ -17,8 +17,8 @@ pub(crate) fn standing(alloc: Global, entries: &[Entry]) -> Result<Vec<Entry>, A
     ensures standing { IfOk result (λ all. AreStanding entries.now all.items) }
     ensures few { IfOk result (λ all. length all.items ≤ length entries.now) }
 {
-    let in_order = sorted(alloc, entries)?;
-    standing_among(alloc, &in_order)
+    let in_order = Distinct::of(alloc, entries)?;
+    standing_among(alloc, in_order.entries())
 }
 
 // Those of some records in order that stand.

@@ -36,7 +36,7 @@ impl<'a> OfficeTerms<'a> {
         OfficeTerms { office, zone }
     }
 
-    /// The office.
+    // The office itself, for the balances, which ask which of its registers a meter has.
     pub(super) fn office(&self) -> &'a Office
         ensures { result.now ≡ self.now }
     {

@@ -14,7 +14,7 @@ use Rattle.pw_read.specs.Text.{FirstWrong, FrameRefused}
 abbrev pub SetHalts : Kind → SetText → Halt → Type 0
 SetHalts kind set Memory = Unit {0}
 SetHalts kind set (Refused (Frame fault)) = ⊥
-SetHalts kind set (Refused Line) = ⊥
+SetHalts kind set (Refused (Line fault)) = ⊥
 SetHalts kind set (Refused (Value fault)) = SetShows kind set (Err fault)
 SetHalts kind set (Refused (Instant fault)) = ⊥
 
@@ -22,7 +22,7 @@ SetHalts kind set (Refused (Instant fault)) = ⊥
 abbrev pub SetsHalt : Kind → List SetText → Halt → Type 0
 SetsHalt kind sets Memory = Unit {0}
 SetsHalt kind sets (Refused (Frame fault)) = ⊥
-SetsHalt kind sets (Refused Line) = ⊥
+SetsHalt kind sets (Refused (Line fault)) = ⊥
 SetsHalt kind sets (Refused (Value fault)) = FirstWrong kind sets fault
 SetsHalt kind sets (Refused (Instant fault)) = ⊥
 

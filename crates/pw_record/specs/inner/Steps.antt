@@ -1,18 +1,12 @@
--- What one step of reading rows, or the way to a frame's origin, is given. It serves `src/rows.rt`, `src/origin.rt`, `src/order.rt`.
+-- What one step of reading rows, or the way to a frame's origin, is given. It serves `src/rows.rt`, `src/origin.rt`.
 use Rattle.std.specs.Prelude.{List, ◌≡◌, ℕ, ◌<◌, ◌⊎◌, length, ◌≤◌, [], ◌∷◌, ◌++◌}
 use Rattle.pw_model.specs.declared.records.Entry.{Entry}
-use Rattle.pw_model.specs.Counting.{Member}
-use Rattle.pw_model.specs.inner.Keys.{HasReference}
 use Rattle.pw_tariff.specs.Office.{OfficeFile}
 use Rattle.pw_record.specs.declared.origin.Source.{Source}
 use Rattle.pw_record.specs.declared.origin.Source.TheVariants.{Telegrams, Readouts}
 use Rattle.pw_record.specs.declared.row.RowKind.{RowKind}
 use Rattle.pw_record.specs.declared.rows.TheConstants.{MOST_ROWS}
 use Rattle.pw_record.specs.Row.{Row, header_of, GivesEntry}
-
--- each entry that names a top-up names a reference
-abbrev pub HaveReferences : List Entry → Type 0
-HaveReferences entries = (e : Entry) → Member e entries → HasReference e.key
 
 -- the source's meter is one of the office's
 abbrev pub IsSourceOf : OfficeFile → Source → Type 0

@@ -9,7 +9,7 @@ use pw_serve::Event;
 use std::time::Duration;
 
 impl<T: Told> Sockets<'_, T> {
-    /// The turn of a connection: that of an ended one is to be read.
+    // The turn of a connection: that of an ended one is to be read.
     pub(super) fn turn_of(&mut self, number: u64) -> Event {
         if self.clients.contains_key(&number) {
             return Event::Ready(number);
@@ -22,13 +22,13 @@ impl<T: Told> Sockets<'_, T> {
             Rest::Over => {
                 let _ = self.partings.remove(&number);
             }
-            Rest::More => self.queue.put(number),
+            Rest::More => self.queue.queue_up(number),
             Rest::Waits => {}
         }
         Event::Quiet
     }
 
-    /// Ends a connection so that its client still gets the last reply.
+    // Ends a connection so that its client still gets the last reply.
     pub(super) fn part(&mut self, number: u64, stream: TcpStream) {
         let now = self.tick();
         let Some(mut parting) = Parting::begin(stream, now) else {
@@ -36,7 +36,7 @@ impl<T: Told> Sockets<'_, T> {
         };
         match parting.read_off() {
             Rest::Over => return,
-            Rest::More => self.queue.put(number),
+            Rest::More => self.queue.queue_up(number),
             Rest::Waits => {}
         }
         if self.partings.len() >= MOST_PARTINGS {

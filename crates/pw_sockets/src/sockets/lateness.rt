@@ -45,7 +45,7 @@ impl<T: Told> Sockets<'_, T> {
         least
     }
 
-    /// A client that was waited for too long; if there is none, the clock is asked again when there may be one.
+    // A client that was waited for too long; if there is none, the clock is asked again when there may be one.
     pub(super) fn expired(&mut self) -> Option<u64> {
         let now = self.tick();
         if let Some(number) = self.late_client() {
@@ -79,7 +79,7 @@ impl<T: Told> Sockets<'_, T> {
         }
     }
 
-    /// Whether the server began to end, and accepts no more.
+    // Whether the server began to end, and accepts no more.
     pub(super) fn hurry_is_over(&self, now: Instant) -> bool {
         match self.closing {
             Some(begun) => left_of(Duration::from_millis(HURRY), begun, now).is_zero(),

@@ -23,7 +23,7 @@ impl<T: Told> Sockets<'_, T> {
         }
     }
 
-    /// Waits until something is ready, or may be late, and begins a round.
+    // Waits until something is ready, or may be late, and begins a round.
     pub(super) fn wait(&mut self) -> Event {
         self.tick();
         let time_out = self.time_out();
@@ -52,7 +52,7 @@ impl<T: Told> Sockets<'_, T> {
             } else if token == INPUT {
                 self.input = self.input.told();
             } else if is_awaited(&self.clients, &self.partings, token.0 as u64) {
-                self.queue.put(token.0 as u64);
+                self.queue.queue_up(token.0 as u64);
             }
         }
     }

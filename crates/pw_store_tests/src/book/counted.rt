@@ -3,7 +3,7 @@
 use super::agreeing::all_agree;
 use super::questions::none_is_answered;
 use super::{Books, Fails, InMemory, asking, imported, lengths, money, post, takes};
-use crate::entries::{Sent, add, assigned, entry_of, paid, reading};
+use crate::entries::{Sent, add, assigned, entry_of, reading, top_up};
 use pw_book::{Book, PostFault};
 use pw_model::Entry;
 use pw_obis::Register;
@@ -90,6 +90,7 @@ fn assignment_cost(rt: &impl Abort, alloc: Global, number: u32) -> u64 {
 // its row, the start with its row, the point before with its row, none behind, `point_put`, a total with its row,
 // `total_put` and `commit`.
 // bears on: pw_book book.rt Book::post cost
+// bears on: pw_book book.rt Book::post_distinct cost
 #[test]
 fn calls_and_rows_of_a_reading(rt: HostRuntime) {
     let fresh = reading(&rt, MIDDLE + 900, 1_300);
@@ -108,7 +109,7 @@ fn same_count_among_few_and_many(rt: HostRuntime) {
 
 fn payment(rt: &impl Abort, alloc: Global, place: u32) -> Entry {
     let reference = format!(in alloc; "P{place}").expect(rt, "a reference");
-    paid(rt, reference.as_bytes(), FIRST, 1)
+    top_up(rt, reference.as_bytes(), FIRST, 1)
 }
 
 // So many payments.
@@ -122,7 +123,7 @@ fn payments(rt: &impl Abort, alloc: Global, number: u32) -> Vec<Entry> {
 
 // A top-up among those held takes at most 24 calls and rows.
 fn topup_cost(rt: &impl Abort, alloc: Global, held: &[Entry]) {
-    let cost = cost_of(rt, alloc, held, paid(rt, b"P", FIRST, 1));
+    let cost = cost_of(rt, alloc, held, top_up(rt, b"P", FIRST, 1));
     assert!(rt; 0 < cost && cost <= 24);
 }
 
@@ -182,7 +183,7 @@ pub(super) fn upload(rt: &impl Abort) -> [Entry; 4] {
         assigned(rt, NEW_YEAR, Some(FIRST)),
         reading(rt, FIVE, 1_000_000),
         reading(rt, SEVEN, 1_003_001),
-        paid(rt, b"P1", FIRST, 5_000),
+        top_up(rt, b"P1", FIRST, 5_000),
     ]
 }
 
@@ -267,6 +268,7 @@ fn taken_at_last<B: Books>(
 // bears on: pw_book book.rt Book::post failures
 // bears on: pw_book book.rt Book::post posted
 // bears on: pw_book book.rt Book::post reopen
+// bears on: pw_book book.rt Book::post_distinct reopen
 // bears on: pw_shelf shelf.rt Shelf::begin unbegun
 // bears on: pw_shelf shelf.rt Shelf::commit begun
 pub(super) fn failing_device<B: Books>(rt: &impl Abort, alloc: Global, books: &B) {
@@ -277,7 +279,9 @@ pub(super) fn failing_device<B: Books>(rt: &impl Abort, alloc: Global, books: &B
 // bears on: pw_book book.rt Book idle
 // bears on: pw_book book.rt Book::post reopen
 // bears on: pw_book book.rt Book::post shut
+// bears on: pw_book book.rt Book::post_distinct shut
 // bears on: pw_book book.rt Book::post untouched
+// bears on: pw_book book.rt Book::post_distinct untouched
 // bears on: pw_book book/questions.rt Book::balance question
 // bears on: pw_book book/questions.rt Book::count question
 // bears on: pw_book book/questions.rt Book::disputes question

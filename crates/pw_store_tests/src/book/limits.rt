@@ -7,7 +7,7 @@ ghost use Rattle.pw_model.specs.Shelf.{no_content};
 use super::agreeing::all_agree;
 use super::counted::seen_by;
 use super::{book_of, counting_shelf, post};
-use crate::entries::paid;
+use crate::entries::top_up;
 use pw_book::{Book, BookFault, Entry, PostFault};
 use pw_shelf::{MemoryShelf, Shelf};
 use pw_tariff::{Office, OfficeFault};
@@ -38,7 +38,7 @@ fn with_limit<S: Shelf>(book: Book<S>, office: Office, limit: u32) -> Book<S>
 fn over_limit<S: Shelf + Drop>(rt: &impl Abort, alloc: Global, mut book: Book<S>, office: Office)
     requires { office ≡ book.office }
 {
-    let two = [paid(rt, b"P1", FIRST, 1), paid(rt, b"P2", FIRST, 1)];
+    let two = [top_up(rt, b"P1", FIRST, 1), top_up(rt, b"P2", FIRST, 1)];
     let told = post(rt, alloc, &mut book, &two).expect(rt, "an upload that is taken");
     assert!(rt; told == (2, 0));
     stays_over_limit(rt, alloc, &mut with_limit(book, office, 1), &two);

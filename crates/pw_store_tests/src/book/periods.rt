@@ -14,13 +14,13 @@ use pw_tests::sample::{FIRST, FIVE, HIGH, LOW, METER, NEW_YEAR, SEVEN};
 use std::alloc::Global;
 use std::process::Abort;
 
-const OWNER: Sent = Sent::Given(METER, NEW_YEAR, Some(FIRST));
+const OWNER: Sent = Sent::Assignment(METER, NEW_YEAR, Some(FIRST));
 
-const PAYMENT: Sent = Sent::Paid(b"P1", FIRST, 5_000);
+const PAYMENT: Sent = Sent::TopUp(b"P1", FIRST, 5_000);
 
-const EARLY: Sent = Sent::Shown(METER, Register::I1, FIVE, 1_000_000);
+const EARLY: Sent = Sent::Reading(METER, Register::I1, FIVE, 1_000_000);
 
-const LATE: Sent = Sent::Shown(METER, Register::I1, SEVEN, 1_003_001);
+const LATE: Sent = Sent::Reading(METER, Register::I1, SEVEN, 1_003_001);
 
 const EARLY_FIRST: [Sent; 4] = [OWNER, PAYMENT, EARLY, LATE];
 

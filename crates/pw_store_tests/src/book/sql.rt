@@ -9,7 +9,7 @@ use sqlite::{Connection, MemStore};
 use std::alloc::Global;
 use std::process::Abort;
 
-/// Books over a store over SQL, in memory.
+// Books over a store over SQL, in memory.
 pub(super) struct OverSql;
 
 // What was made; else there was no memory for it.

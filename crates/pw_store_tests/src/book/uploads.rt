@@ -3,7 +3,7 @@
 
 use super::kept::book_and_store_agree;
 use super::{Books, OTHER, post, takes};
-use crate::entries::{Sent, add, entry_of, paid};
+use crate::entries::{Sent, add, entry_of, top_up};
 use pw_book::{Book, Entry, PostFault};
 use pw_obis::Register;
 use pw_shelf::Shelf;
@@ -27,31 +27,31 @@ const HALF_PAST_SIX: u32 = SIX + 1_800;
 // Of the first meter a late reading, which then is disputed, and owners of whom two dispute each other; of the other one
 // exported energy, with a fall that a dispute settles and one that stays; and payments of which two dispute each other.
 const STEPS: [Step; 22] = [
-    Step(Sent::Given(METER, NEW_YEAR, Some(FIRST)), FRESH),
-    Step(Sent::Shown(METER, Register::I1, SEVEN, 1_003_001), FRESH),
-    Step(Sent::Paid(b"P1", FIRST, 5_000), FRESH),
-    Step(Sent::Shown(METER, Register::I1, FIVE, 1_000_000), FRESH),
-    Step(Sent::Shown(METER, Register::I1, SIX, 1_001_000), FRESH),
-    Step(Sent::Given(METER, HALF_PAST_SIX, Some(SECOND)), FRESH),
-    Step(Sent::Given(METER, HALF_PAST_SIX, None), FRESH),
-    Step(Sent::Shown(METER, Register::I1, SIX, 1_001_500), FRESH),
-    Step(Sent::Shown(METER, Register::I1, SIX, 1_001_000), REPEATED),
-    Step(Sent::Shown(METER, Register::I1, SIX, 1_001_200), FRESH),
-    Step(Sent::Given(METER, HALF_PAST_FIVE, None), FRESH),
-    Step(Sent::Shown(OTHER, Register::E1, FIVE, 100_000), FRESH),
-    Step(Sent::Shown(OTHER, Register::E1, SIX, 50_000), FRESH),
-    Step(Sent::Shown(OTHER, Register::E1, SEVEN, 120_000), FRESH),
-    Step(Sent::Given(OTHER, NEW_YEAR, Some(SECOND)), FRESH),
-    Step(Sent::Shown(OTHER, Register::E1, SIX, 60_000), FRESH),
+    Step(Sent::Assignment(METER, NEW_YEAR, Some(FIRST)), FRESH),
+    Step(Sent::Reading(METER, Register::I1, SEVEN, 1_003_001), FRESH),
+    Step(Sent::TopUp(b"P1", FIRST, 5_000), FRESH),
+    Step(Sent::Reading(METER, Register::I1, FIVE, 1_000_000), FRESH),
+    Step(Sent::Reading(METER, Register::I1, SIX, 1_001_000), FRESH),
+    Step(Sent::Assignment(METER, HALF_PAST_SIX, Some(SECOND)), FRESH),
+    Step(Sent::Assignment(METER, HALF_PAST_SIX, None), FRESH),
+    Step(Sent::Reading(METER, Register::I1, SIX, 1_001_500), FRESH),
+    Step(Sent::Reading(METER, Register::I1, SIX, 1_001_000), REPEATED),
+    Step(Sent::Reading(METER, Register::I1, SIX, 1_001_200), FRESH),
+    Step(Sent::Assignment(METER, HALF_PAST_FIVE, None), FRESH),
+    Step(Sent::Reading(OTHER, Register::E1, FIVE, 100_000), FRESH),
+    Step(Sent::Reading(OTHER, Register::E1, SIX, 50_000), FRESH),
+    Step(Sent::Reading(OTHER, Register::E1, SEVEN, 120_000), FRESH),
+    Step(Sent::Assignment(OTHER, NEW_YEAR, Some(SECOND)), FRESH),
+    Step(Sent::Reading(OTHER, Register::E1, SIX, 60_000), FRESH),
     Step(
-        Sent::Shown(OTHER, Register::E1, HALF_PAST_FIVE, 110_000),
+        Sent::Reading(OTHER, Register::E1, HALF_PAST_FIVE, 110_000),
         FRESH,
     ),
-    Step(Sent::Shown(OTHER, Register::E2, SIX, 6), FRESH),
-    Step(Sent::Shown(OTHER, Register::E2, SEVEN, 5), FRESH),
-    Step(Sent::Paid(b"P2", SECOND, 150), FRESH),
-    Step(Sent::Paid(b"P1", FIRST, 3_000), FRESH),
-    Step(Sent::Paid(b"P1", FIRST, 5_000), REPEATED),
+    Step(Sent::Reading(OTHER, Register::E2, SIX, 6), FRESH),
+    Step(Sent::Reading(OTHER, Register::E2, SEVEN, 5), FRESH),
+    Step(Sent::TopUp(b"P2", SECOND, 150), FRESH),
+    Step(Sent::TopUp(b"P1", FIRST, 3_000), FRESH),
+    Step(Sent::TopUp(b"P1", FIRST, 5_000), REPEATED),
 ];
 
 fn entries_of(rt: &impl Abort, alloc: Global, steps: &[Step]) -> Vec<Entry> {
@@ -82,7 +82,7 @@ fn takes_each<S: Shelf>(rt: &impl Abort, alloc: Global, book: &mut Book<S>, step
 // A book that holds as many records as it may refuses another.
 pub(super) fn is_full<S: Shelf>(rt: &impl Abort, alloc: Global, book: &mut Book<S>, held: u32) {
     let full = PostFault::Full { held, limit: held };
-    assert!(rt; post(rt, alloc, book, &[paid(rt, b"P3", FIRST, 1)]) == Err(full));
+    assert!(rt; post(rt, alloc, book, &[top_up(rt, b"P3", FIRST, 1)]) == Err(full));
 }
 
 // Takes all steps, behind which a book that has room for just what they give is full.

@@ -21,19 +21,19 @@ const HALF_PAST_FIVE: u32 = FIVE + 1_800;
 // comes: its reference is free.
 const TOLD: [Sent; 14] = [
     Sent::ReadingWithdrawn(METER, Register::I1, SIX, 1_001_500),
-    Sent::Given(METER, NEW_YEAR, Some(FIRST)),
-    Sent::Shown(METER, Register::I1, FIVE, 1_000_000),
-    Sent::Shown(METER, Register::I1, SEVEN, 1_003_001),
-    Sent::Shown(METER, Register::I1, SIX, 1_001_000),
-    Sent::Shown(METER, Register::I1, SIX, 1_001_500),
-    Sent::Shown(METER, Register::I1, SIX, 1_001_200),
+    Sent::Assignment(METER, NEW_YEAR, Some(FIRST)),
+    Sent::Reading(METER, Register::I1, FIVE, 1_000_000),
+    Sent::Reading(METER, Register::I1, SEVEN, 1_003_001),
+    Sent::Reading(METER, Register::I1, SIX, 1_001_000),
+    Sent::Reading(METER, Register::I1, SIX, 1_001_500),
+    Sent::Reading(METER, Register::I1, SIX, 1_001_200),
     Sent::ReadingWithdrawn(METER, Register::I1, SIX, 1_001_200),
     Sent::ReadingWithdrawn(METER, Register::I1, SIX, 1_001_000),
-    Sent::Given(METER, HALF_PAST_FIVE, Some(SECOND)),
-    Sent::OwnerWithdrawn(METER, HALF_PAST_FIVE, Some(SECOND)),
-    Sent::PaymentWithdrawn(b"P1", FIRST, 5_000),
-    Sent::Paid(b"P1", FIRST, 5_000),
-    Sent::Paid(b"P1", SECOND, 700),
+    Sent::Assignment(METER, HALF_PAST_FIVE, Some(SECOND)),
+    Sent::AssignmentWithdrawn(METER, HALF_PAST_FIVE, Some(SECOND)),
+    Sent::TopUpWithdrawn(b"P1", FIRST, 5_000),
+    Sent::TopUp(b"P1", FIRST, 5_000),
+    Sent::TopUp(b"P1", SECOND, 700),
 ];
 
 // The withdrawals among these, in the order of what they name.
@@ -41,8 +41,8 @@ const WITHDRAWALS: [Sent; 5] = [
     Sent::ReadingWithdrawn(METER, Register::I1, SIX, 1_001_000),
     Sent::ReadingWithdrawn(METER, Register::I1, SIX, 1_001_200),
     Sent::ReadingWithdrawn(METER, Register::I1, SIX, 1_001_500),
-    Sent::OwnerWithdrawn(METER, HALF_PAST_FIVE, Some(SECOND)),
-    Sent::PaymentWithdrawn(b"P1", FIRST, 5_000),
+    Sent::AssignmentWithdrawn(METER, HALF_PAST_FIVE, Some(SECOND)),
+    Sent::TopUpWithdrawn(b"P1", FIRST, 5_000),
 ];
 
 // Whether a book lists the withdrawals behind an upload of all that is told.

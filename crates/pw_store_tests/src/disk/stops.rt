@@ -12,7 +12,7 @@ use std::alloc::Global;
 use std::process::Abort;
 
 // The meter passes to the second account between the two readings.
-const MID_PAIR: Upload = &[Sent::Given(METER, FIVE + 1_800, Some(SECOND))];
+const MID_PAIR: Upload = &[Sent::Assignment(METER, FIVE + 1_800, Some(SECOND))];
 
 const PAYMENT: [Upload; 2] = [FIRST_OWNER, TOPUP];
 

@@ -5,7 +5,7 @@ use pw_http::{Audience, Served, converse, converse_with};
 use pw_shelf::Shelf;
 use std::alloc::Global;
 
-/// Whether a book serves one request of a stream to an audience, and replies this.
+// Whether a book serves one request of a stream to an audience, and replies this.
 pub(super) fn is_replied<S: Shelf>(
     alloc: Global,
     book: &mut Book<S>,
@@ -19,7 +19,7 @@ pub(super) fn is_replied<S: Shelf>(
     served == Ok(Served { requests: 1 }) && text.as_slice() == expected
 }
 
-/// Whether a book serves so many requests of a stream, and replies this.
+// Whether a book serves so many requests of a stream, and replies this.
 pub(super) fn is_served<S: Shelf>(
     alloc: Global,
     book: &mut Book<S>,

@@ -15,13 +15,13 @@ use std::alloc::Global;
 use std::process::Abort;
 
 // A second payment, which is listed behind the first.
-const PAYMENT_BEHIND: Sent = Sent::Paid(b"P10", FIRST, 5_000);
+const PAYMENT_BEHIND: Sent = Sent::TopUp(b"P10", FIRST, 5_000);
 
-const OTHER_REGISTER: Sent = Sent::Shown(METER, Register::I2, FIVE, 7);
+const OTHER_REGISTER: Sent = Sent::Reading(METER, Register::I2, FIVE, 7);
 
-const EXPORTED: Sent = Sent::Shown(METER, Register::E1, FIVE, 1);
+const EXPORTED: Sent = Sent::Reading(METER, Register::E1, FIVE, 1);
 
-const NEVER: Sent = Sent::Given(METER, SIX, Some(FIRST));
+const NEVER: Sent = Sent::Assignment(METER, SIX, Some(FIRST));
 
 // Six records in three uploads, and a second content of a key, which is seen within an upload, and gone behind it.
 const RECORDS: [Stage; 4] = [
@@ -103,9 +103,9 @@ fn each_call(rt: HostRuntime) {
 }
 
 // The withdrawal of a payment that isn't held, which is listed behind those of readings and of assignments.
-const NO_PAYMENT: Sent = Sent::PaymentWithdrawn(b"P1", FIRST, 2_000);
+const NO_PAYMENT: Sent = Sent::TopUpWithdrawn(b"P1", FIRST, 2_000);
 
-const OTHER_PAYMENT: Sent = Sent::Paid(b"P2", FIRST, 5_000);
+const OTHER_PAYMENT: Sent = Sent::TopUp(b"P2", FIRST, 5_000);
 
 // Withdrawals are listed in their order, which isn't the one in which they come; and a payment isn't among them.
 const WITHDRAWALS: [Stage; 3] = [

@@ -106,7 +106,7 @@ fn nothing_changed<S: Shelf + Drop>(rt: &impl Abort, alloc: Global, mut shelf: S
         && added_or_refused(&mut shelf, &entry_of(rt, PAYMENT))
         && added_or_refused(
             &mut shelf,
-            &entry_of(rt, Sent::PaymentWithdrawn(b"P2", FIRST, 2_000)),
+            &entry_of(rt, Sent::TopUpWithdrawn(b"P2", FIRST, 2_000)),
         )
         && lists_change_nothing(alloc, &mut shelf)
 }

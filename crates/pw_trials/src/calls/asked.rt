@@ -5,7 +5,7 @@ use pw_tariff::Office;
 use pw_time::Zone;
 use std::alloc::Global;
 
-/// An office, the text of its file, its zone and the records that are held.
+// An office, the text of its file, its zone and the records that are held.
 #[derive(Drop)]
 pub(crate) struct Asked<'a> {
     pub(crate) alloc: Global,

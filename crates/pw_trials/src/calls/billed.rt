@@ -8,7 +8,7 @@ use std::alloc::{AllocError, Global};
 use std::io::Write;
 use std::str::from_utf8;
 
-/// Of which energies: of a period, a band and a direction.
+// Of which energies: of a period, a band and a direction.
 #[derive(Clone, Copy)]
 pub(crate) struct Class {
     pub(crate) period: PeriodId,
@@ -16,7 +16,7 @@ pub(crate) struct Class {
     pub(crate) direction: Direction,
 }
 
-/// Tells the balances and what was topped up between them, and the energies above 0 of these classes.
+// Tells the balances and what was topped up between them, and the energies above 0 of these classes.
 pub(crate) fn tell_bill<O: Write>(office: &Office, classes: &[Class], bill: &Bill, out: &mut O) {
     let (begin, topped_up, end) = (bill.begin, bill.topped_up, bill.end);
     let _ = writeln!(out, "begin {begin} topped {topped_up} end {end}");
@@ -26,7 +26,7 @@ pub(crate) fn tell_bill<O: Write>(office: &Office, classes: &[Class], bill: &Bil
     }
 }
 
-/// Tells the energies above 0 of these classes in each stretch of time, behind its number.
+// Tells the energies above 0 of these classes in each stretch of time, behind its number.
 pub(crate) fn tell_days<O: Write>(
     office: &Office,
     classes: &[Class],
@@ -42,7 +42,7 @@ pub(crate) fn tell_days<O: Write>(
     }
 }
 
-/// All periods, bands and directions of an office.
+// All periods, bands and directions of an office.
 pub(crate) fn classes_of(alloc: Global, office: &Office) -> Result<Vec<Class>, AllocError> {
     let mut classes = Vec::new(alloc);
     for period in 0..office.periods() {
@@ -74,7 +74,7 @@ fn tell_class<O: Write>(office: &Office, class: Class, wh: u64, out: &mut O) {
     }
 }
 
-/// Tells a piece that gave something: a meter and a register, the two readings, where it begins and ends, and what it gives.
+// Tells a piece that gave something: a meter and a register, the two readings, where it begins and ends, and what it gives.
 pub(crate) fn tell_piece<O: Write>(office: &Office, why: &WhyPiece, out: &mut O) {
     let (meter, register) = (meter_name(office, why.meter), why.register.name());
     let (from, low, to, high) = (
@@ -89,7 +89,7 @@ pub(crate) fn tell_piece<O: Write>(office: &Office, why: &WhyPiece, out: &mut O)
     let _ = writeln!(out, "{begin} {until} {period} {band} {wh}");
 }
 
-/// Tells a meter and a register, and its latest reading, `-` where there is none.
+// Tells a meter and a register, and its latest reading, `-` where there is none.
 pub(crate) fn tell_last<O: Write>(office: &Office, row: &LastReading, out: &mut O) {
     let (meter, register) = (meter_name(office, row.meter), row.register.name());
     let _ = match row.last {
@@ -98,7 +98,7 @@ pub(crate) fn tell_last<O: Write>(office: &Office, row: &LastReading, out: &mut 
     };
 }
 
-/// Tells a top-up that counts.
+// Tells a top-up that counts.
 pub(crate) fn tell_row<O: Write>(row: &TopUpRow, out: &mut O) {
     let reference = from_utf8(row.reference.bytes()).unwrap_or("-");
     let (cents, instant) = (row.cents, row.instant);

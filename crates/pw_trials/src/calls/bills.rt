@@ -29,7 +29,7 @@ use pw_time::Instant;
 use std::alloc::Global;
 use std::io::Write;
 
-/// The most records that the book takes.
+// The most records that the book takes.
 const LIMIT: u32 = 10_000_000;
 
 // What is asked about an account.

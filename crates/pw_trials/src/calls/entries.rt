@@ -10,7 +10,7 @@ use std::alloc::Global;
 use std::io::Write;
 use std::str::from_utf8;
 
-/// The records of lines, if each is one, and there is memory for them.
+// The records of lines, if each is one, and there is memory for them.
 pub(crate) fn records_of(alloc: Global, office: &Office, lines: &[&str]) -> Option<Vec<Entry>> {
     let mut records = Vec::new(alloc);
     for line in lines {
@@ -20,12 +20,12 @@ pub(crate) fn records_of(alloc: Global, office: &Office, lines: &[&str]) -> Opti
     Some(records)
 }
 
-/// The record of a line, if it is one.
+// The record of a line, if it is one.
 pub(crate) fn record_of(office: &Office, line: &str) -> Option<Entry> {
     entry_of(office, &words_of(line))
 }
 
-/// The record of a line's words, if it is one.
+// The record of a line's words, if it is one.
 pub(crate) fn entry_of(office: &Office, words: &[&str]) -> Option<Entry> {
     match words {
         ["withdrawal", record @ ..] => {
@@ -66,7 +66,7 @@ fn named_of(office: &Office, words: &[&str]) -> Option<Named> {
     }
 }
 
-/// Tells a key in its words, without the end of the line.
+// Tells a key in its words, without the end of the line.
 pub(crate) fn tell_key<O: Write>(office: &Office, key: &Key, out: &mut O) {
     let _ = match *key {
         Key::Reading {
@@ -89,7 +89,7 @@ pub(crate) fn tell_key<O: Write>(office: &Office, key: &Key, out: &mut O) {
     };
 }
 
-/// Tells a content in its words, with the end of the line.
+// Tells a content in its words, with the end of the line.
 pub(crate) fn tell_content<O: Write>(office: &Office, content: &Content, out: &mut O) {
     let _ = match *content {
         Content::Reading { wh } => {

@@ -1,4 +1,4 @@
-//! The calls on checks and frames.
+//! The calls on frames: a CRC16 and a block check of given bytes, and the frames of a body up to its fault.
 
 use pw_frame::{Frame, Frames, Kind, block_check, crc_update, crc16};
 use std::io::Write;

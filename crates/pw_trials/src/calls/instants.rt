@@ -1,4 +1,4 @@
-//! The calls on instants.
+//! The calls on instants: what a stamp or a text in UTC means, an instant's text and its hour of the week.
 
 use pw_time::{
     Clock, Instant, StampFault, Zone, readout_instant, stamp, utc, week_hour, write_utc,

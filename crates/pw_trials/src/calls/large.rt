@@ -30,7 +30,7 @@ const OF_BLOCK: [(u8, u8); 8] = [
     (4, 30),
 ];
 
-/// Adds the records of all blocks.
+// Adds the records of all blocks.
 pub(crate) fn push_blocks(alloc: Global, entries: &mut Vec<Entry>) -> Result<(), AllocError> {
     for step in 0..10_000_u32 {
         let block = step * 7_919 % 10_000;

@@ -17,7 +17,7 @@ use std::io::Write;
 // Of which energies: of all periods or of one, and the direction.
 type Part = (Option<PeriodId>, Direction);
 
-/// The most records of an office.
+// The most records of an office.
 pub(crate) const MOST_RECORDS: usize = 10_000_000;
 
 pub(crate) fn answer<O: Write>(asked: &Asked<'_>, words: &[&str], out: &mut O) -> Option<()> {

@@ -2,7 +2,7 @@
 
 use pw_tariff::{AccountId, BandId, Direction, MeterId, Office, Owner, PeriodId};
 
-/// An account's name, `-` for nobody.
+// An account's name, `-` for nobody.
 pub(crate) fn owner_name(office: &Office, owner: Owner) -> &str {
     match owner {
         Some(account) if account.0 < office.accounts() => office.account_name(account),
@@ -10,7 +10,7 @@ pub(crate) fn owner_name(office: &Office, owner: Owner) -> &str {
     }
 }
 
-/// The owner of a name, `-` for nobody.
+// The owner of a name, `-` for nobody.
 pub(crate) fn owner(office: &Office, word: &str) -> Option<Owner> {
     if word == "-" {
         return Some(None);
@@ -42,12 +42,12 @@ pub(crate) fn band_name(office: &Office, band: BandId) -> char {
     }
 }
 
-/// The band of a number.
+// The band of a number.
 pub(crate) fn band(word: &str) -> Option<BandId> {
     Some(BandId(word.parse::<u8>().ok()?))
 }
 
-/// The period of a number.
+// The period of a number.
 pub(crate) fn period(word: &str) -> Option<PeriodId> {
     Some(PeriodId(word.parse::<u8>().ok()?))
 }

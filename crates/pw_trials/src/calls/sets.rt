@@ -1,4 +1,4 @@
-//! The calls on data sets.
+//! The calls on data sets: what a code means, the sets of a block up to its fault, and the energy that a value states.
 
 use pw_obis::{
     Code, Register, Set, Sets, code, first_value, is_date, is_identifier, is_stamp, is_time,

@@ -88,7 +88,7 @@ fn tell_shares<O: Write>(
     Some(())
 }
 
-/// Tells what an owner gets in a band; behind the first period its number stands before the band.
+// Tells what an owner gets in a band; behind the first period its number stands before the band.
 pub(crate) fn tell_cell<O: Write>(office: &Office, cell: &Cell, out: &mut O) {
     let (owner, band) = (owner_name(office, cell.owner), band_name(office, cell.band));
     let (period, wh) = (cell.period.0, cell.wh);

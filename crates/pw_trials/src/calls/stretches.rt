@@ -7,7 +7,7 @@ ghost use Rattle.pw_bills.specs.Stretches.{AreStretches};
 use pw_tariff::AccountId;
 use pw_time::{END_SECOND, Instant};
 
-/// From an instant on, up to and without a later second.
+// From an instant on, up to and without a later second.
 #[derive(Drop)]
 pub(crate) struct Interval {
     pub(crate) account: AccountId,
@@ -30,7 +30,7 @@ impl Interval {
     }
 }
 
-/// Where each begins, and where the last one ends.
+// Where each begins, and where the last one ends.
 #[derive(Drop)]
 pub(crate) struct Stretches {
     pub(crate) account: AccountId,

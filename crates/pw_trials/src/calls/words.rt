@@ -10,7 +10,7 @@ use std::alloc::{AllocError, Global};
 // More words than any call has; those behind them are passed over.
 const MOST_WORDS: usize = 16;
 
-/// The words of a line.
+// The words of a line.
 pub(crate) fn words_of(line: &str) -> ArrayVec<&str, MOST_WORDS> {
     let mut words = ArrayVec::<&str, MOST_WORDS>::new();
     for word in line.split(' ') {
@@ -19,12 +19,12 @@ pub(crate) fn words_of(line: &str) -> ArrayVec<&str, MOST_WORDS> {
     words
 }
 
-/// An instant, as a text in UTC.
+// An instant, as a text in UTC.
 pub(crate) fn instant(word: &str) -> Option<Instant> {
     utc(word.as_bytes()).ok()
 }
 
-/// The second at which an interval ends: an instant's, or by `end` the one behind all instants.
+// The second at which an interval ends: an instant's, or by `end` the one behind all instants.
 pub(crate) fn end(word: &str) -> Option<u32> {
     if word == "end" {
         return Some(END_SECOND);
@@ -45,7 +45,7 @@ pub(crate) fn register(word: &str) -> Option<Register> {
     None
 }
 
-/// The bytes of a text in which `|` stands for the end of a line, CR LF, and `%03` for a byte.
+// The bytes of a text in which `|` stands for the end of a line, CR LF, and `%03` for a byte.
 pub(crate) fn bytes_of(alloc: Global, text: &str) -> Result<Vec<u8>, AllocError> {
     let mut bytes = Vec::new(alloc);
     for (place, part) in text.split('%').enumerate() {

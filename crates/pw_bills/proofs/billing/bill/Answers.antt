@@ -38,11 +38,11 @@ returns-clause-bill g c = λ k.
     let nano = c.in_ok-balance.ensures.balance first in
     let fits : FitsSigned w128 c.in_ok-balance.balance = subst (FitsSigned w128) (sym nano) (balance-fits (office_of book.office) records c.args.account.0 (sound-office book.office book.sound) (book.of_office opened before) (book.few opened before)) in
     bill-there c.args.book.now.office c.top_ups_between.new.book.office c.flowed.new.book.office (g.S.Shelf.state c.args.book.now.shelf).content _ _ c.args.account c.args.from c.args.until
-    (to_z w128 (of_z w128 c.in_ok-balance.balance)) c.in_ok-rows.rows.items c.deref.result.now c.in_ok-energies.energies c.settle.result
+    (to_z w128 (of_z w128 c.in_ok-balance.balance)) c.in_ok-rows.rows.items c.deref.result.now c.in_ok-energies.energies c.bill_from.result
     office (c.flowed.ensures.question.office ∙ office) same later c.deref.ensures.value
-    (book.of_office opened before) (book.few opened before) (to_z-of_z w128 c.in_ok-balance.balance fits ∙ nano) (c.in_ok-rows.ensures.top_ups second) (c.in_ok-energies.ensures.flows k) c.settle.ensures
+    (book.of_office opened before) (book.few opened before) (to_z-of_z w128 c.in_ok-balance.balance fits ∙ nano) (c.in_ok-rows.ensures.top_ups second) (c.in_ok-energies.ensures.flows k) c.bill_from.ensures
 
 pub returns-clause-question : goal.returns-clause-question
 returns-clause-question g c =
-    let later = question-then g.S.Shelf g.met.S.Shelf.same_then c.in_ok-rows.rows _ _ _ _ c.in_ok-rows.ensures.question (question-told g.S.Shelf c.in_ok-energies.energies c.settle.result _ _ c.in_ok-energies.ensures.question) in
+    let later = question-then g.S.Shelf g.met.S.Shelf.same_then c.in_ok-rows.rows _ _ _ _ c.in_ok-rows.ensures.question (question-told g.S.Shelf c.in_ok-energies.energies c.bill_from.result _ _ c.in_ok-energies.ensures.question) in
     question-then g.S.Shelf g.met.S.Shelf.same_then c.in_ok-balance.balance _ _ _ _ c.in_ok-balance.ensures.question later

@@ -7,24 +7,24 @@ returns-in-Err g c = (Refused c.in-Err.fault, c.refused.ensures, (rw c.office.en
 
 pub returns-in-Ok : goal.returns-in-Ok
 returns-in-Ok g c = (
-  Posted c.post.result,
+  Posted c.post_distinct.result,
   c.posted.ensures,
   (
-    c.in-Ok.entries.items,
+    c.in-Ok.entries,
     rw c.office.ensures at c.in-Ok.ensures.entries,
     record {
-      posted = rw c.deref.ensures.value at c.post.ensures.posted;
-      left = rw c.deref.ensures.value at c.post.ensures.left;
-      failures = c.post.ensures.failures;
-      reopen = c.post.ensures.reopen;
-      abandons = c.post.ensures.abandons;
-      shut = c.post.ensures.shut;
-      untouched = c.post.ensures.untouched;
-      clean = c.post.ensures.cleanness;
-      store = c.post.ensures.store;
-      office = c.post.ensures.book.0;
-      zone = c.post.ensures.book.1;
-      limit = c.post.ensures.book.2;
+      posted = c.post_distinct.ensures.posted;
+      left = c.post_distinct.ensures.left;
+      failures = c.post_distinct.ensures.failures;
+      reopen = c.post_distinct.ensures.reopen;
+      abandons = c.post_distinct.ensures.abandons;
+      shut = c.post_distinct.ensures.shut;
+      untouched = c.post_distinct.ensures.untouched;
+      clean = c.post_distinct.ensures.cleanness;
+      store = c.post_distinct.ensures.store;
+      office = c.post_distinct.ensures.book.0;
+      zone = c.post_distinct.ensures.book.1;
+      limit = c.post_distinct.ensures.book.2;
     },
   ),
 )

@@ -2,15 +2,16 @@ use Rattle.std.proofs.Common.{◌∙◌, sym, arith}
 use Rattle.pw_obis.specs.lemmas.Places.{ahead_more, ahead_end, ahead_stuck, ahead_no_line}
 use Rattle.pw_obis.proofs.line.line_end.Goals as goal
 
-pub returns-in_default-clause-none : goal.returns-in_default-clause-none
-returns-in_default-clause-none c =
-    ahead_stuck c.args.block.now c.args.from c.loop-at.at c.loop-at.invariant.2 (λ e. c.loop-at-test.true (c.byte_at.ensures ∙ e)) c.in_default.ensures.none
+pub returns-in_err-at-clause-none : goal.returns-in_err-at-clause-none
+returns-in_err-at-clause-none c =
+    rw c.from_residual.ensures
+    (ahead_stuck c.args.block.now c.args.from c.loop-at.at c.loop-at.invariant.2 (λ e. c.loop-at-test.true (c.byte_at.ensures ∙ e)) c.in_err-at.ensures.none)
 
 pub loop-at-preserved : goal.loop-at-preserved
 loop-at-preserved c = (
-  omega (arith, c.in-Some.ensures.within),
-  c.in-Some.ensures.within.2,
-  ahead_more c.args.block.now c.args.from c.loop-at.at c.in-Some._mid c.in-Some.to c.in-Some.ensures.some c.loop-at.invariant.2,
+  omega (arith, c.in_ok-at.ensures.within),
+  c.in_ok-at.ensures.within.2,
+  ahead_more c.args.block.now c.args.from c.loop-at.at c.in_ok-at.field-0.0 c.in_ok-at.field-0.1 c.in_ok-at.ensures.some c.loop-at.invariant.2,
 )
 
 pub returns-then-byte_at-eq10-clause-some : goal.returns-then-byte_at-eq10-clause-some

@@ -7,4 +7,4 @@ use Rattle.pw_parts.proofs.energies.add_meter.Given as goal
 
 -- what the registers so far gave, with what is still to come
 abbrev pub invariant-loop-register : goal.invariant-loop-register
-invariant-loop-register l = (k : TotalKey) → total_in l.totals.rows k + registers_given (office_of l.office) l.records l.meter.0 (drop l.register-index l.register-items) k ≡ total_in l.initial.totals.rows k + meter_given (office_of l.office) l.records l.meter.0 k
+invariant-loop-register l = (k : TotalKey) → total_in l.totals.rows k + registers_given (office_of l.basis.office.now) l.records l.meter.0 (drop l.register-index l.register-items) k ≡ total_in l.initial.totals.rows k + meter_given (office_of l.basis.office.now) l.records l.meter.0 k

@@ -7,4 +7,4 @@ use Rattle.pw_parts.specs.inner.Totals.{total_in}
 use Rattle.pw_parts.proofs.energies.add_meters.Given as goal
 
 abbrev pub invariant-loop-meter : goal.invariant-loop-meter
-invariant-loop-meter l = (k : TotalKey) → total_in l.totals.rows k ≡ total_in l.initial.totals.rows k + sum_over (λ m. meter_given (office_of l.office) l.records m k) 0 l.meter
+invariant-loop-meter l = (k : TotalKey) → total_in l.totals.rows k ≡ total_in l.initial.totals.rows k + sum_over (λ m. meter_given (office_of l.basis.office.now) l.records m k) 0 l.meter

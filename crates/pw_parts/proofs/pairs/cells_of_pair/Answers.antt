@@ -10,7 +10,7 @@ returns-then-le-clause-bound c = none-in-all c.new.result.items c.new.ensures.it
 pub returns-then-get-clause-cells : goal.returns-then-get-clause-cells
 returns-then-get-clause-cells c = λ later o p b.
     let lower : c.args.to.1 < c.args.from.1 = rw (c.get.ensures.value, c.get-2.ensures.value) at c.if-get.true in
-    none-for c.new-then-get.result.items o p b c.new-then-get.ensures.items ∙ sym (cell-fall (class_seconds c.args.office.now c.args.owners.now o p b) c.args.from.0 c.args.from.1 c.args.to.0 c.args.to.1 lower)
+    none-for c.new-then-get.result.items o p b c.new-then-get.ensures.items ∙ sym (cell-fall (class_seconds c.args.basis.now.office.now c.args.owners.now o p b) c.args.from.0 c.args.from.1 c.args.to.0 c.args.to.1 lower)
 
 pub returns-then-get-clause-bound : goal.returns-then-get-clause-bound
 returns-then-get-clause-bound c = none-in-all c.new-then-get.result.items c.new-then-get.ensures.items

@@ -13,31 +13,31 @@ use Rattle.pw_parts.proofs.parts.totals_of.Goals as goal
 pub add_meters-requires-clause-room : goal.add_meters-requires-clause-room
 add_meters-requires-clause-room c = λ k.
     let z = c.new-totals.ensures Gains k in
-    let f = energies-fit (office_of c.args.office.now) c.args.records.now k (sound-office c.args.office.now c.meters-meters.ensures.sound) c.requires.counted.of_office c.requires.few in
+    let f = energies-fit (office_of c.args.basis.now.office.now) c.args.records.now k (sound-office c.args.basis.now.office.now c.meters-meters.ensures.sound) c.requires.counted.of_office c.requires.few in
     omega (arith, z, f)
 
 pub add_payments-requires : goal.add_payments-requires
 add_payments-requires c = λ k.
-    let office = office_of c.args.office.now in
+    let office = office_of c.args.basis.now.office.now in
     let z = c.new-totals.ensures Gains k in
     let a = c.in_ok-add_meters.ensures k in
     let w = totals-whole office c.args.records.now c.top_ups_among.result.now k c.requires.counted c.top_ups_among.ensures in
-    let f = total-fits office c.args.records.now k (sound-office c.args.office.now c.meters-meters.ensures.sound) c.requires.counted.of_office c.requires.few in
+    let f = total-fits office c.args.records.now k (sound-office c.args.basis.now.office.now c.meters-meters.ensures.sound) c.requires.counted.of_office c.requires.few in
     omega (arith, z, a, w, f)
 
 pub gains-requires : goal.gains-requires
 gains-requires c = λ k.
-    let office = office_of c.args.office.now in
+    let office = office_of c.args.basis.now.office.now in
     let z = c.new-totals.ensures Gains k in
     let a = c.in_ok-add_meters.ensures k in
     let b = c.in_ok-add_payments.ensures k in
     let w = totals-whole office c.args.records.now c.top_ups_among.result.now k c.requires.counted c.top_ups_among.ensures in
-    let f = total-fits office c.args.records.now k (sound-office c.args.office.now c.meters-meters.ensures.sound) c.requires.counted.of_office c.requires.few in
+    let f = total-fits office c.args.records.now k (sound-office c.args.basis.now.office.now c.meters-meters.ensures.sound) c.requires.counted.of_office c.requires.few in
     omega (arith, z, a, b, w, f)
 
 pub returns : goal.returns
 returns c =
-    let office = office_of c.args.office.now in
+    let office = office_of c.args.basis.now.office.now in
     let rows = c.add_payments.new.totals.rows in
     let same : (k : TotalKey) → total_in rows k ≡ total_among office c.args.records.now k = λ k.
     (let z = c.new-totals.ensures Gains k in

@@ -8,7 +8,7 @@ use Rattle.pw_record.specs.Frames.{BodyStops, FramesGive}
 use Rattle.pw_record.specs.inner.Halts.{fault_of_part}
 use Rattle.pw_record.proofs.FrameFacts.{frames-more, frames-of-office, more-behind, stops-because}
 use Rattle.pw_record.proofs.Stopped.{kept, stopped, told-of-part}
-use Rattle.pw_record.proofs.OfOffice.{have-references, listed-of-office}
+use Rattle.pw_record.proofs.OfOffice.{listed-of-office}
 use Rattle.pw_record.proofs.frames.frame_records.Goals as goal
 
 pub returns-in-Err-clause-refused : goal.returns-in-Err-clause-refused
@@ -30,7 +30,7 @@ returns-in_err-map_err-clause-refused c =
     let p = err_from_is_err_and c.from_residual.result c.from_residual.ensures.1 in
     let q = stopped c.put_frame.result c.map_err.result _ c.in_err-map_err.field-0.0 c.map_err.ensures.cases c.in_err-map_err.was in
     let is : c.in_err-map_err.field-0.0 ≡ fault_of_part q.0 c.frames.part = search rules in
-    let stops = λ (fault : UploadFault). BodyStops c.args.office.now c.args.source c.args.body.now fault.part fault.cause in
+    let stops = λ (fault : UploadFault). BodyStops c.args.basis.now.office.now c.args.basis.now.source c.args.body.now fault.part fault.cause in
     rw (p.1, p.2, is) (told-of-part q.0 c.frames.part stops (λ cause because. stops-because i.0 c.frames.given.items i.4 i.5 (inr (inr (record {
       frame = frame_text c.in-Ok.frame;
       place = c.next_frame.new.self.place;
@@ -49,22 +49,17 @@ frames-preserved c =
       rw body h.0,
       h.1,
       body ∙ i.3,
-      subst (FramesGive c.args.office.now c.args.source (i.0 ++ frame_text c.in-Ok.frame ∷ [])) (sym o.2)
-          (frames-more c.args.office.now c.args.source i.0 (frame_text c.in-Ok.frame) c.frames.given.items o.0 i.4 o.1),
+      subst (FramesGive c.args.basis.now.office.now c.args.basis.now.source (i.0 ++ frame_text c.in-Ok.frame ∷ [])) (sym o.2)
+          (frames-more c.args.basis.now.office.now c.args.basis.now.source i.0 (frame_text c.in-Ok.frame) c.frames.given.items o.0 i.4 o.1),
       simp length-append (omega (arith, i.5)),
       omega (arith, i.6, c.if-part-gt-MOST_FRAMES.false),
     )
 
-pub in_order-requires : goal.in_order-requires
-in_order-requires c =
-    let i = c.frames.invariant in
-    have-references c.args.office.now c.frames.given.items (frames-of-office c.args.office.now c.args.source i.0 c.frames.given.items c.requires i.4)
-
 pub returns-clause-of_office : goal.returns-clause-of_office
 returns-clause-of_office c =
     let i = c.frames.invariant in
-    listed-of-office c.args.office.now c.frames.given.items c.in_order.result.items c.in_order.ensures
-    (frames-of-office c.args.office.now c.args.source i.0 c.frames.given.items c.requires i.4)
+    listed-of-office c.args.basis.now.office.now c.frames.given.items c.in_order.result c.in_order.ensures
+    (frames-of-office c.args.basis.now.office.now c.args.basis.now.source i.0 c.frames.given.items c.requires i.4)
 
 pub returns-clause-entries : goal.returns-clause-entries
 returns-clause-entries c =

@@ -9,7 +9,7 @@ use Rattle.pw_record.proofs.laws.frames_have_an_outcome.Given as goal
 abbrev pub invariant-frames : goal.invariant-frames
 invariant-frames l =
     (before : List FrameText) × (given : List Entry) × Front l.frames.body before l.frames.place × (l.frames.ended ≡ false) × (l.frames.body ≡ l.body)
-    × FramesGive l.office l.source before given × (l.part ≡ length before + 1) × (l.part ≤ MOST_FRAMES + 1)
+    × FramesGive l.office l.fn.source before given × (l.part ≡ length before + 1) × (l.part ≤ MOST_FRAMES + 1)
 
 abbrev pub decreases-frames : goal.decreases-frames
 decreases-frames l = length l.frames.body - l.frames.place

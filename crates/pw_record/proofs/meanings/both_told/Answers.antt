@@ -12,8 +12,8 @@ sets-preserved c =
     let h = c.in-Some.ensures.steps in (
       i.0 ++ set_text c.in-Some.set ∷ [],
       given_behind c.args.block.now i.0 c.sets.set-iterator c.next.new.self h.0 c.in-Some.set h.1 i.1 h.2,
-      c.joined-first.ensures i.0 i.2,
-      c.joined-second.ensures i.0 i.3,
+      c.with_set-first.ensures i.0 i.2,
+      c.with_set-second.ensures i.0 i.3,
     )
 
 pub returns-clause-one : goal.returns-clause-one

@@ -1,5 +1,7 @@
-use Rattle.pw_record.proofs.EntryOrder.{listed}
 use Rattle.pw_record.proofs.order.in_order.Goals as goal
 
 pub returns : goal.returns
-returns c = listed c.args.given.items c.sort_unstable.new.self.items c.dedup.new.self.items c.requires c.sort_unstable.ensures.permutation c.sort_unstable.ensures.sorted c.dedup.ensures.filtered
+returns c = record {
+  rising = c.of_vec.ensures.sorted.rising;
+  same = λ e. (let m = c.of_vec.ensures.sorted.members e in (m.1, m.0));
+}

@@ -1,5 +1,5 @@
 use Rattle.std.proofs.Common.{rules}
 use Rattle.pw_record.proofs.row.owner.Goals as goal
 
-pub returns-in-Some-clause-some : goal.returns-in-Some-clause-some
-returns-in-Some-clause-some c = search rules depth 0 fits 100
+pub returns-clause-some : goal.returns-clause-some
+returns-clause-some c = search rules depth 0 fits 100

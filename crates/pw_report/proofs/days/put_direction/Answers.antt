@@ -12,7 +12,7 @@ pub returns-clause-text : goal.returns-clause-text
 returns-clause-text c = λ before h.
     let file = c.args.told.now.office.now in
     let each = day_energies c.args.told.now.energies.now in
-    let all = c.end.ensures.text before _ (c.in_ok-put-5.ensures.text before _ (c.in_ok-put-4.ensures.text before _ (c.in_ok-put-3.ensures.text before _ (c.in_ok-put-2.ensures.text before _ (c.in_ok-put.ensures.text before [] h))))) in
+    let all = c.end.ensures.text before _ (c.in_ok-put_field-5.ensures.text before _ (c.in_ok-put_field-4.ensures.text before _ (c.in_ok-put_field-3.ensures.text before _ (c.in_ok-put_field-2.ensures.text before _ (c.in_ok-put_field.ensures.text before [] h))))) in
     let day : c.date_text.result ≡ date_text c.args.told.now.month (c.args.day + 1) = c.date_text.ensures in
     let band : c.band_letter.result ∷ [] ≡ band_name file c.args.band.0 = c.band_letter.ensures in
     let direction : c.as_bytes.result.now ≡ direction_name c.args.direction = c.as_bytes.ensures.value ∙ c.name.ensures in

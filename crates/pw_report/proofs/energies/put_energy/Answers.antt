@@ -7,7 +7,7 @@ use Rattle.pw_report.proofs.energies.put_energy.Goals as goal
 
 pub returns-clause-text : goal.returns-clause-text
 returns-clause-text c = λ before h.
-    let all = c.end.ensures.text before _ (c.in_ok-put-5.ensures.text before _ (c.in_ok-put-4.ensures.text before _ (c.in_ok-put-3.ensures.text before _ (c.in_ok-put-2.ensures.text before _ (c.in_ok-put.ensures.text before [] h))))) in
+    let all = c.end.ensures.text before _ (c.in_ok-put_field-5.ensures.text before _ (c.in_ok-put_field-4.ensures.text before _ (c.in_ok-put_field-3.ensures.text before _ (c.in_ok-put_field-2.ensures.text before _ (c.in_ok-put_field.ensures.text before [] h))))) in
     let owner : c.owner_name.result.now ≡ owner_name c.args.office.now c.args.owner = c.owner_name.ensures in
     let band : c.band_letter.result ∷ [] ≡ band_name c.args.office.now c.args.band.0 = c.band_letter.ensures in
     let direction : c.as_bytes.result.now ≡ direction_name c.args.direction = c.as_bytes.ensures.value ∙ c.name.ensures in

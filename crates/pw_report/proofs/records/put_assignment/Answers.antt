@@ -7,7 +7,7 @@ use Rattle.pw_report.proofs.records.put_assignment.Goals as goal
 
 pub returns-clause-text : goal.returns-clause-text
 returns-clause-text c = λ before fields h.
-    let all = c.put-3.ensures.text before _ (c.in_ok-put-2.ensures.text before _ (c.in_ok-put.ensures.text before fields h)) in
+    let all = c.put_field-3.ensures.text before _ (c.in_ok-put_field-2.ensures.text before _ (c.in_ok-put_field.ensures.text before fields h)) in
     let meter : c.meter_name.result.now ≡ meter_name c.args.office.now c.args.meter.0 = c.meter_name.ensures in
     let start : c.instant_text.result ≡ instant_text c.args.start = c.instant_text.ensures in
     let owner : c.given_name.result.now ≡ given_name c.args.office.now c.args.owner = c.given_name.ensures in

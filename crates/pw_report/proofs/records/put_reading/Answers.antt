@@ -7,7 +7,7 @@ use Rattle.pw_report.proofs.records.put_reading.Goals as goal
 
 pub returns-clause-text : goal.returns-clause-text
 returns-clause-text c = λ before fields h.
-    let all = c.put-4.ensures.text before _ (c.in_ok-put-3.ensures.text before _ (c.in_ok-put-2.ensures.text before _ (c.in_ok-put.ensures.text before fields h))) in
+    let all = c.put_field-4.ensures.text before _ (c.in_ok-put_field-3.ensures.text before _ (c.in_ok-put_field-2.ensures.text before _ (c.in_ok-put_field.ensures.text before fields h))) in
     let name : c.as_bytes.result.now ≡ register_name c.args.register = c.as_bytes.ensures.value ∙ c.name.ensures in
     let instant : c.instant_text.result ≡ instant_text c.args.instant = c.instant_text.ensures in
     let wh : c.as_bytes-2.result.now ≡ decimal c.args.wh = c.as_bytes-2.ensures.value ∙ c.format.ensures.text ∙ ap decimal c.get.ensures.value in

@@ -10,7 +10,7 @@ pub returns-clause-text : goal.returns-clause-text
 returns-clause-text c = λ before fields h.
     let p = c.args.piece.now in
     let file = c.args.office.now in
-    let all = c.put-4.ensures.text before _ (c.in_ok-put-3.ensures.text before _ (c.in_ok-put_band.ensures.text before _ (c.in_ok-put_period.ensures.text before _ (c.in_ok-put-2.ensures.text before _ (c.in_ok-put.ensures.text before fields h))))) in
+    let all = c.put_field-4.ensures.text before _ (c.in_ok-put_field-3.ensures.text before _ (c.in_ok-put_band.ensures.text before _ (c.in_ok-put_period.ensures.text before _ (c.in_ok-put_field-2.ensures.text before _ (c.in_ok-put_field.ensures.text before fields h))))) in
     let begin : c.instant_text.result ≡ instant_text p.begin = c.instant_text.ensures in
     let until : c.instant_text-2.result ≡ instant_text p.until = c.instant_text-2.ensures in
     let wh : c.as_bytes.result.now ≡ decimal p.wh = c.as_bytes.ensures.value ∙ c.format.ensures.text in

@@ -6,7 +6,7 @@ use Rattle.pw_report.proofs.why.put_span.Goals as goal
 
 pub returns-clause-text : goal.returns-clause-text
 returns-clause-text c = λ before fields h.
-    let all = c.put-4.ensures.text before _ (c.in_ok-put-3.ensures.text before _ (c.in_ok-put-2.ensures.text before _ (c.in_ok-put.ensures.text before fields h))) in
+    let all = c.put_field-4.ensures.text before _ (c.in_ok-put_field-3.ensures.text before _ (c.in_ok-put_field-2.ensures.text before _ (c.in_ok-put_field.ensures.text before fields h))) in
     let span = c.args.span.now in
     let from : c.instant_text.result ≡ instant_text span.from = c.instant_text.ensures in
     let low : c.as_bytes.result.now ≡ decimal span.low = c.as_bytes.ensures.value ∙ c.format.ensures.text ∙ ap decimal c.get.ensures.value in

@@ -13,48 +13,48 @@ const FRESH: (u32, u32) = (1, 0);
 
 const REPEATED: (u32, u32) = (0, 1);
 
-const OWNER: Sent = Sent::Given(METER, NEW_YEAR, Some(FIRST));
+const OWNER: Sent = Sent::Assignment(METER, NEW_YEAR, Some(FIRST));
 
 // Half of 3,001 Wh, rounded down, is of the low band, and the other half of the high one.
-const EARLY: Sent = Sent::Shown(METER, Register::I1, FIVE, 1_000_000);
+const EARLY: Sent = Sent::Reading(METER, Register::I1, FIVE, 1_000_000);
 
-const LATE: Sent = Sent::Shown(METER, Register::I1, SEVEN, 1_003_001);
+const LATE: Sent = Sent::Reading(METER, Register::I1, SEVEN, 1_003_001);
 
-const PAYMENT: Sent = Sent::Paid(b"P1", FIRST, 5_000);
+const PAYMENT: Sent = Sent::TopUp(b"P1", FIRST, 5_000);
 
-const AT_SIX: Sent = Sent::Shown(METER, Register::I1, SIX, 1_001_000);
+const AT_SIX: Sent = Sent::Reading(METER, Register::I1, SIX, 1_001_000);
 
-const MORE_AT_SIX: Sent = Sent::Shown(METER, Register::I1, SIX, 1_001_200);
+const MORE_AT_SIX: Sent = Sent::Reading(METER, Register::I1, SIX, 1_001_200);
 
-const MOST_AT_SIX: Sent = Sent::Shown(METER, Register::I1, SIX, 1_001_500);
+const MOST_AT_SIX: Sent = Sent::Reading(METER, Register::I1, SIX, 1_001_500);
 
-const EXPORT_EARLY: Sent = Sent::Shown(METER, Register::E1, FIVE, 1_000_000);
+const EXPORT_EARLY: Sent = Sent::Reading(METER, Register::E1, FIVE, 1_000_000);
 
-const EXPORT_LATE: Sent = Sent::Shown(METER, Register::E1, SEVEN, 1_003_001);
+const EXPORT_LATE: Sent = Sent::Reading(METER, Register::E1, SEVEN, 1_003_001);
 
-const BEFORE_FALL: Sent = Sent::Shown(METER, Register::I1, FIVE, 100_000);
+const BEFORE_FALL: Sent = Sent::Reading(METER, Register::I1, FIVE, 100_000);
 
-const FALLEN: Sent = Sent::Shown(METER, Register::I1, SIX, 50_000);
+const FALLEN: Sent = Sent::Reading(METER, Register::I1, SIX, 50_000);
 
-const RISEN: Sent = Sent::Shown(METER, Register::I1, SEVEN, 120_000);
+const RISEN: Sent = Sent::Reading(METER, Register::I1, SEVEN, 120_000);
 
-const UNLIKE_FALLEN: Sent = Sent::Shown(METER, Register::I1, SIX, 60_000);
+const UNLIKE_FALLEN: Sent = Sent::Reading(METER, Register::I1, SIX, 60_000);
 
-const BETWEEN: Sent = Sent::Shown(METER, Register::I1, FIVE + 1_800, 110_000);
+const BETWEEN: Sent = Sent::Reading(METER, Register::I1, FIVE + 1_800, 110_000);
 
-const TO_SECOND: Sent = Sent::Given(METER, FIVE + 1_800, Some(SECOND));
+const TO_SECOND: Sent = Sent::Assignment(METER, FIVE + 1_800, Some(SECOND));
 
-const TO_NOBODY: Sent = Sent::Given(METER, FIVE + 1_800, None);
+const TO_NOBODY: Sent = Sent::Assignment(METER, FIVE + 1_800, None);
 
-const LATER_TO_SECOND: Sent = Sent::Given(METER, SIX + 1_800, Some(SECOND));
+const LATER_TO_SECOND: Sent = Sent::Assignment(METER, SIX + 1_800, Some(SECOND));
 
-const LATER_TO_NOBODY: Sent = Sent::Given(METER, SIX + 1_800, None);
+const LATER_TO_NOBODY: Sent = Sent::Assignment(METER, SIX + 1_800, None);
 
-const LESS_PAID: Sent = Sent::Paid(b"P1", FIRST, 2_000);
+const LESS_PAID: Sent = Sent::TopUp(b"P1", FIRST, 2_000);
 
-const MORE_PAID: Sent = Sent::Paid(b"P1", FIRST, 3_000);
+const MORE_PAID: Sent = Sent::TopUp(b"P1", FIRST, 3_000);
 
-// A late reading, and two more of its second, which dispute it.
+/// A late reading, and two more of its second, which dispute it.
 pub const LATE_READINGS: &[Step] = &[
     Step(&[OWNER], FRESH, (0, 0)),
     Step(&[LATE], FRESH, (0, 0)),
@@ -65,7 +65,7 @@ pub const LATE_READINGS: &[Step] = &[
     Step(&[MORE_AT_SIX], FRESH, (1_500, 1_501)),
 ];
 
-// An owner that is told behind the readings, and a payment that comes again.
+/// An owner that is told behind the readings, and a payment that comes again.
 pub const OWNER_BEHIND: &[Step] = &[
     Step(&[LATE], FRESH, (0, 0)),
     Step(&[PAYMENT], FRESH, (0, 0)),
@@ -80,7 +80,7 @@ pub const EXPORTED: &[Step] = &[
     Step(&[EXPORT_LATE], FRESH, (0, 0)),
 ];
 
-// A fall and the rise behind it.
+/// A fall and the rise behind it.
 pub const FALL: &[Step] = &[
     Step(&[OWNER], FRESH, (0, 0)),
     Step(&[BEFORE_FALL], FRESH, (0, 0)),
@@ -88,7 +88,7 @@ pub const FALL: &[Step] = &[
     Step(&[RISEN], FRESH, (0, 70_000)),
 ];
 
-// Another reading at its end, which settles it.
+/// Another reading at its end, which settles it.
 pub const FALL_DISPUTED: &[Step] = &[
     Step(&[OWNER], FRESH, (0, 0)),
     Step(&[BEFORE_FALL], FRESH, (0, 0)),
@@ -97,7 +97,7 @@ pub const FALL_DISPUTED: &[Step] = &[
     Step(&[UNLIKE_FALLEN], FRESH, (10_000, 10_000)),
 ];
 
-// A reading between, and two payments of one reference.
+/// A reading between, and two payments of one reference.
 pub const FALL_SETTLED: &[Step] = &[
     Step(&[OWNER], FRESH, (0, 0)),
     Step(&[BEFORE_FALL], FRESH, (0, 0)),
@@ -109,15 +109,15 @@ pub const FALL_SETTLED: &[Step] = &[
     Step(&[MORE_PAID], FRESH, (13_333, 6_667)),
 ];
 
-// Three falls and five disputes, over both meters and of all kinds, from the last to the first.
+/// Three falls and five disputes, over both meters and of all kinds, from the last to the first.
 pub const LISTS: &[Step] = &[
     Step(
         &[
-            Sent::Paid(b"P1", FIRST, 2),
-            Sent::Paid(b"P1", FIRST, 1),
-            Sent::Given(OTHER, NEW_YEAR, Some(FIRST)),
-            Sent::Given(OTHER, NEW_YEAR, None),
-            Sent::Given(METER, NEW_YEAR, Some(SECOND)),
+            Sent::TopUp(b"P1", FIRST, 2),
+            Sent::TopUp(b"P1", FIRST, 1),
+            Sent::Assignment(OTHER, NEW_YEAR, Some(FIRST)),
+            Sent::Assignment(OTHER, NEW_YEAR, None),
+            Sent::Assignment(METER, NEW_YEAR, Some(SECOND)),
             OWNER,
         ],
         (6, 0),
@@ -125,28 +125,28 @@ pub const LISTS: &[Step] = &[
     ),
     Step(
         &[
-            Sent::Shown(OTHER, Register::I1, SEVEN, 2),
-            Sent::Shown(OTHER, Register::I1, SEVEN, 1),
-            Sent::Shown(OTHER, Register::I1, SIX, 10),
-            Sent::Shown(OTHER, Register::I1, FIVE, 20),
+            Sent::Reading(OTHER, Register::I1, SEVEN, 2),
+            Sent::Reading(OTHER, Register::I1, SEVEN, 1),
+            Sent::Reading(OTHER, Register::I1, SIX, 10),
+            Sent::Reading(OTHER, Register::I1, FIVE, 20),
         ],
         (4, 0),
         (0, 0),
     ),
     Step(
         &[
-            Sent::Shown(METER, Register::E2, SEVEN, 5),
-            Sent::Shown(METER, Register::E2, SIX, 6),
+            Sent::Reading(METER, Register::E2, SEVEN, 5),
+            Sent::Reading(METER, Register::E2, SIX, 6),
         ],
         (2, 0),
         (0, 0),
     ),
     Step(
         &[
-            Sent::Shown(METER, Register::I1, SEVEN, 4),
-            Sent::Shown(METER, Register::I1, SEVEN, 3),
-            Sent::Shown(METER, Register::I1, SIX, 10),
-            Sent::Shown(METER, Register::I1, FIVE, 20),
+            Sent::Reading(METER, Register::I1, SEVEN, 4),
+            Sent::Reading(METER, Register::I1, SEVEN, 3),
+            Sent::Reading(METER, Register::I1, SIX, 10),
+            Sent::Reading(METER, Register::I1, FIVE, 20),
         ],
         (4, 0),
         (0, 0),
@@ -189,7 +189,7 @@ pub const PAYMENT_READINGS_OWNER: &[Step] = &[
     Step(&[OWNER], FRESH, (1_500, 1_501)),
 ];
 
-// A meter that passes to the second account between two readings.
+/// A meter that passes to the second account between two readings.
 pub const PASSED_TO_SECOND: &[Step] = &[
     Step(&[OWNER], FRESH, (0, 0)),
     Step(&[PAYMENT], FRESH, (0, 0)),
@@ -198,7 +198,7 @@ pub const PASSED_TO_SECOND: &[Step] = &[
     Step(&[TO_SECOND], FRESH, (750, 0)),
 ];
 
-// One that passes to nobody.
+/// A meter that passes to nobody between two readings.
 pub const PASSED_TO_NOBODY: &[Step] = &[
     Step(&[OWNER], FRESH, (0, 0)),
     Step(&[PAYMENT], FRESH, (0, 0)),
@@ -207,7 +207,7 @@ pub const PASSED_TO_NOBODY: &[Step] = &[
     Step(&[TO_NOBODY], FRESH, (750, 0)),
 ];
 
-// One that passes on behind a late reading.
+/// A meter that passes on behind a late reading.
 pub const PASSED: &[Step] = &[
     Step(&[OWNER], FRESH, (0, 0)),
     Step(&[LATE], FRESH, (0, 0)),
@@ -216,7 +216,7 @@ pub const PASSED: &[Step] = &[
     Step(&[LATER_TO_SECOND], FRESH, (1_000, 1_000)),
 ];
 
-// In dispute it stays where it was.
+/// In dispute it stays where it was.
 pub const PASSED_BACK: &[Step] = &[
     Step(&[OWNER], FRESH, (0, 0)),
     Step(&[LATE], FRESH, (0, 0)),
@@ -231,7 +231,7 @@ pub const PAID_ONCE: &[Step] = &[
     Step(&[LESS_PAID], REPEATED, (0, 0)),
 ];
 
-// Two payments of one reference, in either order.
+/// Two payments of one reference, in either order.
 pub const PAID_LESS_FIRST: &[Step] = &[
     Step(&[LESS_PAID], FRESH, (0, 0)),
     Step(&[MORE_PAID], FRESH, (0, 0)),
@@ -245,12 +245,12 @@ pub const PAID_MORE_FIRST: &[Step] = &[
 pub const THREE_PAID: &[Step] = &[
     Step(
         &[
-            Sent::Paid(b"P1", FIRST, 1),
-            Sent::Paid(b"P2", FIRST, 2),
-            Sent::Paid(b"P3", FIRST, 3),
+            Sent::TopUp(b"P1", FIRST, 1),
+            Sent::TopUp(b"P2", FIRST, 2),
+            Sent::TopUp(b"P3", FIRST, 3),
         ],
         (3, 0),
         (0, 0),
     ),
-    Step(&[Sent::Paid(b"P2", FIRST, 2)], REPEATED, (0, 0)),
+    Step(&[Sent::TopUp(b"P2", FIRST, 2)], REPEATED, (0, 0)),
 ];

@@ -6,7 +6,7 @@ abbrev pub invariant-loop-until : goal.invariant-loop-until
 invariant-loop-until l = record {
   begun : l.second < l.until;
   within : l.until ≤ l.end;
-  same : AreOf l.office l.owners l.class l.second l.until;
+  same : AreOf l.basis.office.now l.basis.owners.now l.class l.second l.until;
 }
 
 abbrev pub decreases-loop-until : goal.decreases-loop-until

@@ -2,38 +2,38 @@ use Rattle.std.proofs.Common.{arith}
 use Rattle.pw_tariff.proofs.Gathered.{nothing-yet, nothing-more, share-more, all-shared}
 use Rattle.pw_tariff.proofs.spread.apportion.Goals as goal
 
-pub loop-span-init : goal.loop-span-init
-loop-span-init c = record {
+pub loop-basis-init : goal.loop-basis-init
+loop-basis-init c = record {
   begun = omega arith;
   within = omega arith;
   so_far = rw c.new-cells.ensures.items (nothing-yet c.args.office.now c.args.owners.now c.args.span);
 }
 
-pub loop-span-preserved-in-Continue-1 : goal.loop-span-preserved-in-Continue-1
-loop-span-preserved-in-Continue-1 c =
+pub loop-basis-preserved-in-Continue-1 : goal.loop-basis-preserved-in-Continue-1
+loop-basis-preserved-in-Continue-1 c =
     let p = c.piece_at-piece.ensures.piece in
     let g = p.begun in
     let e = c.piece_at-piece.ensures.begin in
     record {
-      begun = let b = c.loop-span.invariant.begun in omega (arith, b, g, e);
+      begun = let b = c.loop-basis.invariant.begun in omega (arith, b, g, e);
       within = p.within;
-      so_far = share-more c.args.office.now c.args.owners.now c.args.span c.loop-span.at c.piece_at-piece.result c.loop-span.cells.items c.add.new.cells.items
-          c.requires.earlier c.requires.rising c.loop-span.invariant.begun e p c.in_ok-add.ensures c.loop-span.invariant.so_far;
+      so_far = share-more c.args.office.now c.args.owners.now c.args.span c.loop-basis.at c.piece_at-piece.result c.loop-basis.cells.items c.add.new.cells.items
+          c.requires.earlier c.requires.rising c.loop-basis.invariant.begun e p c.in_ok-add.ensures c.loop-basis.invariant.so_far;
     }
 
-pub loop-span-preserved : goal.loop-span-preserved
-loop-span-preserved c =
+pub loop-basis-preserved : goal.loop-basis-preserved
+loop-basis-preserved c =
     let p = c.piece_at-piece.ensures.piece in
     let g = p.begun in
     let e = c.piece_at-piece.ensures.begin in
     record {
-      begun = let b = c.loop-span.invariant.begun in omega (arith, b, g, e);
+      begun = let b = c.loop-basis.invariant.begun in omega (arith, b, g, e);
       within = p.within;
-      so_far = nothing-more c.args.office.now c.args.owners.now c.args.span c.loop-span.at c.piece_at-piece.result c.loop-span.cells.items
-          c.requires.earlier c.requires.rising c.loop-span.invariant.begun e p c.if-piece-gt0.false c.loop-span.invariant.so_far;
+      so_far = nothing-more c.args.office.now c.args.owners.now c.args.span c.loop-basis.at c.piece_at-piece.result c.loop-basis.cells.items
+          c.requires.earlier c.requires.rising c.loop-basis.invariant.begun e p c.if-piece-gt0.false c.loop-basis.invariant.so_far;
     }
 
 pub returns : goal.returns
 returns c =
-    all-shared c.args.office.now c.args.owners.now c.args.span c.loop-span.at c.loop-span.cells.items
-    c.requires.earlier c.requires.rising (omega arith) c.loop-span.invariant.so_far
+    all-shared c.args.office.now c.args.owners.now c.args.span c.loop-basis.at c.loop-basis.cells.items
+    c.requires.earlier c.requires.rising (omega arith) c.loop-basis.invariant.so_far

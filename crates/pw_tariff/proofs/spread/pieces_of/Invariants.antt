@@ -2,12 +2,12 @@ use Rattle.std.proofs.Common.{◌≤◌, ◌-◌}
 use Rattle.pw_tariff.proofs.Gathered.{GoOn}
 use Rattle.pw_tariff.proofs.spread.pieces_of.Given as goal
 
-abbrev pub invariant-loop-span : goal.invariant-loop-span
-invariant-loop-span l = record {
+abbrev pub invariant-loop-basis : goal.invariant-loop-basis
+invariant-loop-basis l = record {
   begun : l.span.from ≤ l.at;
   within : l.at ≤ l.span.to;
-  listed : GoOn l.office l.owners l.span l.at l.pieces.items;
+  listed : GoOn l.office l.fn.owners l.span l.at l.pieces.items;
 }
 
-abbrev pub decreases-loop-span : goal.decreases-loop-span
-decreases-loop-span l = l.span.to - l.at
+abbrev pub decreases-loop-basis : goal.decreases-loop-basis
+decreases-loop-basis l = l.span.to - l.at

@@ -15,7 +15,7 @@ loop-entry-preserved c =
     elim c.if-is_same_key.branch [
       | then-is_same_key+then-not-is_withdrawn w ↦ (
           let n = contents-next c.args.entries.now c.loop-entry.entry-index c.entry-item.result c.args.key.now at (sym c.is_same_key.ensures ∙ w.if-is_same_key.true) (sym w.is_withdrawn.ensures ∙ w.if-not-is_withdrawn.true) in
-          w.contents-is ∙ w.joined-contents.ensures ∙ ap (joined c.entry-item.result.content) c.loop-entry.invariant ∙ sym n)
+          w.contents-is ∙ w.with_one_more-contents.ensures ∙ ap (joined c.entry-item.result.content) c.loop-entry.invariant ∙ sym n)
       | else-is_same_key w ↦ (
           let n = contents-pass c.args.entries.now c.loop-entry.entry-index c.entry-item.result c.args.key.now at (elim w.else-is_same_key.branch [
             | else-is_same_key-via-then-is_same_key+else-not-is_withdrawn v ↦ inr (sym v.is_withdrawn.ensures ∙ v.if-not-is_withdrawn.false)

@@ -8,7 +8,7 @@ use Rattle.pw_report.proofs.readings.ShownTellsReadingRow.tell.Goals as goal
 
 pub returns-clause-text : goal.returns-clause-text
 returns-clause-text c = λ before h.
-    let all = c.end.ensures.text before _ (c.in_ok-put-5.ensures.text before _ (c.in_ok-put-4.ensures.text before _ (c.in_ok-put-3.ensures.text before _ (c.in_ok-put-2.ensures.text before _ (c.in_ok-put.ensures.text before [] h))))) in
+    let all = c.end.ensures.text before _ (c.in_ok-put_field-5.ensures.text before _ (c.in_ok-put_field-4.ensures.text before _ (c.in_ok-put_field-3.ensures.text before _ (c.in_ok-put_field-2.ensures.text before _ (c.in_ok-put_field.ensures.text before [] h))))) in
     let name : c.as_bytes.result.now ≡ register_name c.args.self.now.register = c.as_bytes.ensures.value ∙ c.name.ensures in
     let instant : c.instant_text.result ≡ instant_text c.args.reading.now.instant = c.instant_text.ensures in
     let wh : c.as_bytes-2.result.now ≡ decimal c.args.reading.now.wh = c.as_bytes-2.ensures.value ∙ c.format.ensures.text ∙ ap decimal c.get.ensures.value in

@@ -7,9 +7,9 @@ use Rattle.pw_report.proofs.rows.Rows.put_header.Goals as goal
 
 pub loop-name-preserved : goal.loop-name-preserved
 loop-name-preserved c = λ text h.
-    subst (λ (fields : List (List ℕ)). HasText c.put.new.self text fields)
+    subst (λ (fields : List (List ℕ)). HasText c.put_field.new.self text fields)
     (mapped-next (λ name. name.now) c.args.names.now c.loop-name.name-index _ c.loop-name-test.true)
-    (c.in_ok-put.ensures.text text _ (c.loop-name.invariant text h))
+    (c.in_ok-put_field.ensures.text text _ (c.loop-name.invariant text h))
 
 pub returns-clause-text : goal.returns-clause-text
 returns-clause-text c = λ text h.

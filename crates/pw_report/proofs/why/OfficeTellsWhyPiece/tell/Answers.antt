@@ -14,7 +14,7 @@ pub returns-clause-text : goal.returns-clause-text
 returns-clause-text c = λ before h.
     let file = c.args.self.now in
     let w = c.args.piece.now in
-    let all = c.end.ensures.text before _ (c.in_ok-put_given.ensures.text before _ (c.in_ok-put_span.ensures.text before _ (c.in_ok-put-3.ensures.text before _ (c.in_ok-put-2.ensures.text before _ (c.in_ok-put.ensures.text before [] h))))) in
+    let all = c.end.ensures.text before _ (c.in_ok-put_given.ensures.text before _ (c.in_ok-put_span.ensures.text before _ (c.in_ok-put_field-3.ensures.text before _ (c.in_ok-put_field-2.ensures.text before _ (c.in_ok-put_field.ensures.text before [] h))))) in
     let way : c.direction_of-direction.result ≡ direction_of w.register = c.direction_of-direction.ensures in
     let kind : c.as_bytes.result.now ≡ direction_name (direction_of w.register) = c.as_bytes.ensures.value ∙ c.name.ensures ∙ ap direction_name way in
     let meter : c.meter_name.result.now ≡ meter_name file w.meter.0 = c.meter_name.ensures in

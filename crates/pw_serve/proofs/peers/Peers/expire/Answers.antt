@@ -9,4 +9,4 @@ returns-then-contains_key-clause-onward g c =
     let row = row_at _ (sym c.contains_key.ensures ∙ c.if-contains_key.true) in
     onward-settled g.S.Service.answers _ _ _ _ _ _ _ _ _ _ _
     (onward-ended g.S.Service.answers _ _ _ _ _ _ _ _ row.0 row.1 (λ first own p. leaving-expired first _ own row.0 c.requires p) c.end.ensures.one c.end.ensures.others c.end.ensures.rows)
-    c.settle.ensures.stay (rows_are _ _ c.settle.ensures.rows) (c.settle.ensures.next ∙ c.end.ensures.next)
+    c.pass_place_on.ensures.stay (rows_are _ _ c.pass_place_on.ensures.rows) (c.pass_place_on.ensures.next ∙ c.end.ensures.next)

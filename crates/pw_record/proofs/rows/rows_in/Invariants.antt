@@ -4,7 +4,7 @@ use Rattle.csv.specs.declared.parser.State.TheVariants as st
 use Rattle.csv.specs.declared.reader.Trim.TheVariants as trim
 use Rattle.pw_record.specs.Row.{Row}
 use Rattle.pw_record.specs.Rows.{AreGoodRecords}
-use Rattle.pw_record.proofs.rows.rows_records.Given as goal
+use Rattle.pw_record.proofs.rows.rows_in.Given as goal
 
 abbrev pub invariant-loop-row : goal.invariant-loop-row
 invariant-loop-row l = (l.row-iterator.rdr.trim ≡ trim.None) × Ready l.row-iterator.rdr × (0 < l.row-iterator.left) × (l.row-iterator.rdr.config ≡ default_config)

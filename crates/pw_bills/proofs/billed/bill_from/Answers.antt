@@ -11,7 +11,7 @@ use Rattle.pw_months.specs.Between.{topped_up_between}
 use Rattle.pw_bills.specs.inner.TopUpRows.{cents_within}
 use Rattle.pw_bills.proofs.PaidSums.{rows-add_up}
 use Rattle.pw_bills.proofs.Settled.{balance-near, begin-told, cost-behind, cost-within, end-told, topped-capped}
-use Rattle.pw_bills.proofs.billed.settle.Goals as goal
+use Rattle.pw_bills.proofs.billed.bill_from.Goals as goal
 
 pub returns : goal.returns
 returns c = λ s a all few balance rows flows.

@@ -1,6 +1,6 @@
 use Rattle.std.specs.Prelude.{◌≡◌, ◌≤◌}
 use Rattle.pw_serve.specs.Connections.{AllStay}
-use Rattle.pw_serve.proofs.peers.Peers.settle.Given as goal
+use Rattle.pw_serve.proofs.peers.Peers.pass_place_on.Given as goal
 
 abbrev pub invariant-loop : goal.invariant-loop
 invariant-loop g l = record {

@@ -8,10 +8,10 @@ use Rattle.csv.proofs.ReadFacts.{rows-end, rows-more}
 use Rattle.pw_record.specs.declared.fault.UploadFault.{UploadFault}
 use Rattle.pw_record.specs.Rows.{AreRows, HasNoRecord, RefusedAt}
 use Rattle.pw_record.specs.inner.Halts.{fault_of_part}
-use Rattle.pw_record.proofs.OfOffice.{have-references, listed-of-office}
+use Rattle.pw_record.proofs.OfOffice.{listed-of-office}
 use Rattle.pw_record.proofs.RowFacts.{good-more, good-of-office, rows-give}
 use Rattle.pw_record.proofs.Stopped.{kept, stopped, told-of-part}
-use Rattle.pw_record.proofs.rows.rows_records.Goals as goal
+use Rattle.pw_record.proofs.rows.rows_in.Goals as goal
 
 pub loop-row-init : goal.loop-row-init
 unfolding Reached
@@ -53,11 +53,6 @@ loop-row-preserved c =
       simp length-append (omega (arith, inv.9)),
     )
 
-pub in_order-requires : goal.in_order-requires
-in_order-requires c =
-    let inv = c.loop-row.invariant in
-    have-references c.args.office.now c.loop-row.given.items (good-of-office c.args.office.now c.args.kind inv.6 c.loop-row.given.items inv.8)
-
 pub returns-in_err-map_err-clause-refused : goal.returns-in_err-map_err-clause-refused
 returns-in_err-map_err-clause-refused c =
     let inv = c.loop-row.invariant in
@@ -85,9 +80,9 @@ returns-clause-entries c =
     let s = rw c.in-None.is at ((c.next.ensures.steps inv.2 inv.0).0 inv.1) in
     let all : AreRows c.args.body.now inv.6 =
     (c.loop-row.row-iterator.rdr.state, inv.4, inv.7, rows-end (λ (s : Bor (List ℕ)). Some s.now) c.loop-row.row-iterator.rdr c.next.new.self.rdr [] default_config inv.4 inv.3 inv.5 s) in
-    rows-give c.args.office.now c.args.kind c.args.body.now inv.6 c.loop-row.given.items c.in_order.result.items (λ n. omega (arith, n, inv.9, c.if-part-eq0.false)) all inv.8 c.in_order.ensures
+    rows-give c.args.office.now c.args.kind c.args.body.now inv.6 c.loop-row.given.items c.in_order.result (λ n. omega (arith, n, inv.9, c.if-part-eq0.false)) all inv.8 c.in_order.ensures
 
 pub returns-clause-of_office : goal.returns-clause-of_office
 returns-clause-of_office c =
     let inv = c.loop-row.invariant in
-    listed-of-office c.args.office.now c.loop-row.given.items c.in_order.result.items c.in_order.ensures (good-of-office c.args.office.now c.args.kind inv.6 c.loop-row.given.items inv.8)
+    listed-of-office c.args.office.now c.loop-row.given.items c.in_order.result c.in_order.ensures (good-of-office c.args.office.now c.args.kind inv.6 c.loop-row.given.items inv.8)

@@ -2,7 +2,7 @@ use Rattle.std.proofs.Common.{◌≡◌, true, false, refl}
 use Rattle.pw_record.specs.Told.{read_as, TellNothing, TellOne, TellUnlike}
 use Rattle.pw_obis.specs.inner.Given.{set_text}
 use Rattle.pw_record.proofs.Telling.{skip, no-code, other-code, first-told, told-again, told-unlike, still-unlike}
-use Rattle.pw_record.proofs.meanings.joined.Goals as goal
+use Rattle.pw_record.proofs.meanings.with_set.Goals as goal
 
 pub returns-in_default : goal.returns-in_default
 returns-in_default c = λ sets x. skip c.args.meaning sets (set_text c.args.set.now) c.args.told (no-code c.args.meaning c.args.set.now c.requires c.in_default.is) x
