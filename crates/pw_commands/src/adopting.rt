@@ -3,20 +3,22 @@
 ghost use Rattle.std.specs.Prelude.{◌≡◌, IfOk, IfErr, false};
 ghost use Rattle.sqlite.specs.Held.{state};
 ghost use Rattle.sqlite.specs.State.{HasCleanDisk, KeepsCommit};
+ghost use Rattle.sqlite.specs.Files.{file_state};
 ghost use Rattle.pw_tariff.specs.Office.{office_of};
 ghost use Rattle.pw_tariff.specs.Text.{IsOfficeOf};
 ghost use Rattle.pw_model.specs.Laws.{HaveSameFigures};
 ghost use Rattle.pw_moving.specs.Laws.{IsKept};
 ghost use Rattle.pw_schema.specs.Judging.{KeepsOffice};
+ghost use Rattle.pw_store.specs.Kept.{held_of};
 ghost use Rattle.pw_store.specs.Opening.{KeepsText};
 ghost use Rattle.pw_commands.specs.Adoptions.{MayTake};
 
 use crate::fault::Fault;
 use crate::offices::read_office;
-use crate::store::{close_book, close_store, connection_under, open_book};
+use crate::store::{FileBook, close_book, close_store, open_book};
 use crate::telling::{finish, tell, write_whole};
 use crate::weighing::{Weighed, weigh};
-use pw_book::{Book, BookFault};
+use pw_book::Book;
 use pw_found::Purpose;
 use pw_model::MOST_RECORDS;
 use pw_moving::Respelling;
@@ -84,18 +86,7 @@ fn adopt_store<W: Watch>(
     let words = respellings(rt.alloc(), asked.renamed)?;
     let store = asked.store;
     match open_book(rt, store, Purpose::Ask, office, text, MOST_RECORDS, watch) {
-        Ok(book) => {
-            let (told, connection) = adopt_in(
-                rt.alloc(),
-                book,
-                &new,
-                new_text,
-                &words,
-                asked.dry,
-                watch,
-            );
-            told_behind(told, close_store(connection))
-        }
+        Ok(book) => adopt_in(rt, book, &new, new_text, &words, asked.dry, watch),
         Err(fault) if fault == Fault::Store(OpenFault::OfficeDiffers) => {
             has_new(rt, store, new, new_text, watch)
         }
@@ -142,44 +133,50 @@ fn told_as_new(alloc: Global) -> Result<Weighed, Fault> {
     Ok(Weighed { text, adopts: true })
 }
 
-// Weighs a new office file over a store, and puts it in the old one's place where it adopts the records. The store's
-// connection is left to be closed.
-fn adopt_in<S: Alter, W: Watch>(
-    alloc: Global,
-    mut book: Book<SqlShelf<S>>,
+// Weighs a new office file over a store, and puts it in the old one's place where it adopts the records.
+fn adopt_in<W: Watch>(
+    rt: &HostRuntime,
+    mut book: FileBook,
     new: &Office,
     new_text: &[u8],
     words: &[Respelling<'_>],
     dry: bool,
     watch: &mut W,
-) -> (Result<Weighed, Fault>, Connection<S>)
+) -> Result<Weighed, Fault>
     requires { IsOfficeOf new_text.now new.now }
 {
-    match weigh(alloc, &mut book, new, words) {
+    match weigh(rt.alloc(), &mut book, new, words) {
         Ok(weighed) if weighed.adopts && !dry => {
-            match adopt_book(alloc, book, new, new_text, words, watch) {
-                Ok(shelf) => (Ok(weighed), shelf.close()),
-                Err((fault, connection)) => (Err(Fault::Store(fault)), connection),
-            }
+            take_place(rt.alloc(), book, new, new_text, words, watch)?;
+            Ok(weighed)
         }
-        weighed => (or_fault(weighed), connection_under(book)),
+        weighed => {
+            close_book(book)?;
+            Ok(weighed?)
+        }
     }
 }
 
-fn or_fault(weighed: Result<Weighed, BookFault>) -> Result<Weighed, Fault> {
-    match weighed {
-        Ok(weighed) => Ok(weighed),
-        Err(fault) => Err(Fault::from(fault)),
-    }
-}
-
-// What is told of a store behind its closing: that it refused the new file, or, before all else, that it can't be closed.
-fn told_behind(told: Result<Weighed, Fault>, closed: Result<(), Fault>) -> Result<Weighed, Fault> {
-    match told {
-        Err(Fault::Store(fault)) => Err(Fault::Store(fault)),
-        told => {
-            closed?;
-            told
+// Puts a new office file in the place of a store's own, and closes the store.
+fn take_place<W: Watch>(
+    alloc: Global,
+    book: FileBook,
+    new: &Office,
+    new_text: &[u8],
+    words: &[Respelling<'_>],
+    watch: &mut W,
+) -> Result<(), Fault>
+    requires text { IsOfficeOf new_text.now new.now }
+    requires open_yet { book.shut ≡ false }
+    requires adopted { HasCleanDisk (file_state book.shelf.conn)
+        → MayTake words.now (record { old = book.office; new = new.now })
+        (held_of (file_state book.shelf.conn) (file_state book.shelf.base.value)).records }
+{
+    match adopt_book(alloc, book, new, new_text, words, watch) {
+        Ok(shelf) => close_store(shelf.close()),
+        Err((fault, connection)) => {
+            let _ = close_store(connection);
+            Err(Fault::Store(fault))
         }
     }
 }

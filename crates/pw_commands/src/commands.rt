@@ -21,8 +21,8 @@ use crate::offices::{office_text, read_office};
 use crate::pipe::pipe_run;
 use crate::progress::{Follow, Progress};
 use crate::server::Term;
-use crate::serving::{closed, origins_of, serve};
-use crate::store::{FileBook, close_book, close_store, open_book};
+use crate::serving::{origins_of, serve};
+use crate::store::{FileBook, close_book, open_book};
 use crate::telling::{finish, tell};
 use crate::verifying::{Verification, verify};
 use pw_book::{Book, BookFault};
@@ -183,12 +183,7 @@ fn obey<I: Read, O: Write, E: Write, W: Follow>(
                 until_input_ends,
             };
             match book_at(rt, office, store, Purpose::Take, limit, watch) {
-                Ok(book) => {
-                    let (status, connection) = serve(
-                        rt, book, audience, term, port, tells, out, err,
-                    );
-                    closed(rt.alloc(), close_store(connection), status, err)
-                }
+                Ok(book) => serve(rt, book, audience, term, port, tells, out, err),
                 Err(fault) => tell(rt.alloc(), fault, err),
             }
         }

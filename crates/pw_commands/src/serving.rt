@@ -1,4 +1,4 @@
-//! The server; the exit status behind it, whose store is closed; and connections of a listener, one after the other.
+//! The server, whose book is closed behind it; and connections of a listener, one after the other.
 
 ghost use Rattle.std.specs.Prelude.{◌≡◌, ◌⊎◌, None, IfErr};
 ghost use Rattle.pw_http.specs.Runs.{IsTalk};
@@ -8,54 +8,45 @@ use crate::accepting::next_connection;
 use crate::client::Client;
 use crate::fault::Fault;
 use crate::server::{Term, serve_book, serve_told};
-use crate::store::connection_under;
+use crate::store::{FileBook, close_book};
 use crate::telling::tell;
-use pw_book::Book;
 use pw_http::{Audience, MOST_TURNS, Origin, Served, Service, WireFault, serve_to};
-use pw_store::SqlShelf;
 use pw_words::WordsFault;
 use pw_words::words::no_origin;
-use sqlite::{Alter, Connection};
 use std::alloc::Global;
 use std::io::Write;
 use std::net::{TcpListener, TcpStream};
 use std::time::Clock;
 
-/// Listens on a port of 127.0.0.1, says so on `out`, and serves connections of a book to whom it is for, side by side until
-/// a term is over. A connection that broke is a line on the standard error of `rt`; and where `tells` says so, each upload
-/// that was answered. Answers the exit status, and the store's connection, which is to be closed.
-pub fn serve<S: Alter, O: Write, E: Write>(
+/// Listens on a port of 127.0.0.1, says so on `out`, serves connections of a book to whom it is for, side by side until a
+/// term is over, and closes it. A connection that broke is a line on the standard error of `rt`; and where `tells` says so,
+/// each upload that was answered.
+pub fn serve<O: Write, E: Write>(
     rt: &HostRuntime,
-    mut book: Book<SqlShelf<S>>,
+    mut book: FileBook,
     audience: Audience<'_>,
     term: Term,
     port: u16,
     tells: bool,
     out: &mut O,
     err: &mut E,
-) -> (u8, Connection<S>)
-    ensures { (result.0 ≡ 0) ⊎ (result.0 ≡ 3) }
+) -> u8
+    ensures { (result ≡ 0) ⊎ (result ≡ 3) }
 {
     if tells {
         let (status, book) = serve_told(rt, book, audience, term, port, out, err);
-        return (status, connection_under(book));
+        return closed(rt.alloc(), book, status, err);
     }
     let status = serve_book(rt, &mut book, audience, term, port, out, err);
-    (status, connection_under(book))
+    closed(rt.alloc(), book, status, err)
 }
 
-// The exit status behind a server, whose store was closed or couldn't be.
-pub(crate) fn closed<E: Write>(
-    alloc: Global,
-    closed: Result<(), Fault>,
-    status: u8,
-    err: &mut E,
-) -> u8
-    requires status { (status ≡ 0) ⊎ (status ≡ 3) }
-    requires fault { IfErr closed (λ fault. fault ≡ Fault.Device) }
+// The exit status behind a server, whose book is closed.
+fn closed<E: Write>(alloc: Global, book: FileBook, status: u8, err: &mut E) -> u8
+    requires { (status ≡ 0) ⊎ (status ≡ 3) }
     ensures { (result ≡ 0) ⊎ (result ≡ 3) }
 {
-    match closed {
+    match close_book(book) {
         Err(fault) if status == 0 => tell(alloc, fault, err),
         _ => status,
     }

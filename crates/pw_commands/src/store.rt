@@ -244,6 +244,6 @@ pub(crate) fn close_store(connection: Connection<FileStore<FileFrom<Wary>>>) -> 
 }
 
 // The connection that a book's store stands on.
-pub(crate) fn connection_under<S: Alter>(book: Book<SqlShelf<S>>) -> Connection<S> {
+fn connection_under<S: Alter>(book: Book<SqlShelf<S>>) -> Connection<S> {
     book.into_shelf().close()
 }
